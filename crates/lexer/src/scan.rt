@@ -1,0 +1,267 @@
+//! What stands at the front of a text.
+
+ghost use Rattle.std.specs.Prelude.{◌≡◌, ◌+◌, ◌^◌, ◌<◌, ◌≤◌, length, drop, Some, None, false, slice_index};
+ghost use Rattle.lexer.specs.Kinds.{kind_of_word, symbol_of_one, symbol_of_two};
+ghost use Rattle.lexer.specs.Reading.{line_piece, block_piece, string_piece, word_of, word_piece, symbol_piece, slash_piece, piece};
+
+use crate::bytes::{escaped_byte, is_allowed, is_blank, is_break, is_word_byte};
+use crate::fault::LexFault;
+use crate::token::{Span, TokenKind};
+use crate::value::number_value;
+
+/// A separator or a token with its number of bytes, or the fault.
+#[derive(Clone, Copy, Debug, PartialEq, Eq)]
+pub enum Piece {
+    Gap(usize),
+    Token(TokenKind, usize),
+    Fault(LexFault),
+}
+
+fn kind_of_word(word: &[u8]) -> TokenKind
+    ensures { result ≡ kind_of_word word.now }
+{
+    if word == b"int".as_slice() {
+        TokenKind::Int
+    } else if word == b"string".as_slice() {
+        TokenKind::String
+    } else if word == b"boolean".as_slice() {
+        TokenKind::Boolean
+    } else if word == b"if".as_slice() {
+        TokenKind::If
+    } else if word == b"else".as_slice() {
+        TokenKind::Else
+    } else if word == b"foreach".as_slice() {
+        TokenKind::Foreach
+    } else if word == b"in".as_slice() {
+        TokenKind::In
+    } else if word == b"wait".as_slice() {
+        TokenKind::Wait
+    } else if word == b"import".as_slice() {
+        TokenKind::Import
+    } else if word == b"true".as_slice() {
+        TokenKind::True
+    } else if word == b"false".as_slice() {
+        TokenKind::False
+    } else {
+        TokenKind::Name
+    }
+}
+
+fn symbol_of_one(byte: u8) -> Option<TokenKind>
+    ensures { result ≡ symbol_of_one byte }
+{
+    match byte {
+        b'(' => Some(TokenKind::OpenRound),
+        b')' => Some(TokenKind::CloseRound),
+        b'{' => Some(TokenKind::OpenCurly),
+        b'}' => Some(TokenKind::CloseCurly),
+        b'[' => Some(TokenKind::OpenSquare),
+        b']' => Some(TokenKind::CloseSquare),
+        b',' => Some(TokenKind::Comma),
+        b';' => Some(TokenKind::Semicolon),
+        b':' => Some(TokenKind::Colon),
+        b'=' => Some(TokenKind::Assign),
+        b'<' => Some(TokenKind::Less),
+        b'>' => Some(TokenKind::Greater),
+        b'+' => Some(TokenKind::Plus),
+        b'-' => Some(TokenKind::Minus),
+        b'*' => Some(TokenKind::Times),
+        b'!' => Some(TokenKind::Not),
+        b'@' => Some(TokenKind::At),
+        _ => None,
+    }
+}
+
+fn symbol_of_two(first: u8, second: u8) -> Option<TokenKind>
+    ensures { result ≡ symbol_of_two first second }
+{
+    match (first, second) {
+        (b'=', b'=') => Some(TokenKind::Equal),
+        (b'!', b'=') => Some(TokenKind::NotEqual),
+        (b'<', b'=') => Some(TokenKind::AtMost),
+        (b'>', b'=') => Some(TokenKind::AtLeast),
+        (b'%', b'/') => Some(TokenKind::Quotient),
+        (b'%', b'%') => Some(TokenKind::Remainder),
+        (b'&', b'&') => Some(TokenKind::And),
+        (b'|', b'|') => Some(TokenKind::Or),
+        _ => None,
+    }
+}
+
+/// The comment from `//` to the next line feed or the end.
+fn line_comment(at: usize, bytes: &[u8]) -> Piece
+    requires room { at + length bytes.now < 2 ^ 64 }
+    requires begun { 2 ≤ length bytes.now }
+    ensures { result ≡ line_piece at 2 (drop 2 bytes.now) }
+{
+    let mut n = 2;
+    while n < bytes.len() {
+        if bytes[n] == b'\n' {
+            return Piece::Gap(n);
+        }
+        if !is_allowed(bytes[n]) {
+            return Piece::Fault(LexFault::BadByte(Span {
+                from: at + n,
+                to: at + n + 1,
+            }));
+        }
+        n += 1;
+    }
+    Piece::Gap(n)
+}
+
+/// The comment from `/*` to the next `*/`.
+fn block_comment(at: usize, bytes: &[u8]) -> Piece
+    requires room { at + length bytes.now < 2 ^ 64 }
+    requires begun { 2 ≤ length bytes.now }
+    ensures { result ≡ block_piece at 2 false (drop 2 bytes.now) }
+{
+    let mut n = 2;
+    let mut star = false;
+    while n < bytes.len() {
+        let byte = bytes[n];
+        if star && byte == b'/' {
+            return Piece::Gap(n + 1);
+        }
+        if !is_allowed(byte) {
+            return Piece::Fault(LexFault::BadByte(Span {
+                from: at + n,
+                to: at + n + 1,
+            }));
+        }
+        star = byte == b'*';
+        n += 1;
+    }
+    Piece::Fault(LexFault::OpenComment(Span {
+        from: at,
+        to: at + n,
+    }))
+}
+
+/// The string from its opening quote to its closing one.
+fn string(at: usize, bytes: &[u8]) -> Piece
+    requires room { at + length bytes.now < 2 ^ 64 }
+    requires begun { 1 ≤ length bytes.now }
+    ensures { result ≡ string_piece at 1 false (drop 1 bytes.now) }
+{
+    let mut n = 1;
+    let mut escaped = false;
+    while n < bytes.len() {
+        let byte = bytes[n];
+        if is_break(byte) {
+            return Piece::Fault(LexFault::OpenString(Span {
+                from: at,
+                to: at + n,
+            }));
+        }
+        if escaped {
+            if escaped_byte(byte).is_none() {
+                return Piece::Fault(LexFault::BadEscape(Span {
+                    from: at + n - 1,
+                    to: at + n + 1,
+                }));
+            }
+            escaped = false;
+        } else {
+            if byte == b'"' {
+                return Piece::Token(TokenKind::Text, n + 1);
+            }
+            if !is_allowed(byte) {
+                return Piece::Fault(LexFault::BadByte(Span {
+                    from: at + n,
+                    to: at + n + 1,
+                }));
+            }
+            escaped = byte == b'\\';
+        }
+        n += 1;
+    }
+    Piece::Fault(LexFault::OpenString(Span {
+        from: at,
+        to: at + n,
+    }))
+}
+
+/// The run of letters, digits and `_` at the front.
+fn word(bytes: &[u8]) -> &[u8]
+    ensures run { result.now ≡ word_of bytes.now }
+    ensures within { length result.now ≤ length bytes.now }
+{
+    let mut n = 0;
+    while n < bytes.len() && is_word_byte(bytes[n]) {
+        n += 1;
+    }
+    &bytes[..n]
+}
+
+/// The keyword, name or number, or the word that begins as a number and is none.
+fn name_or_number(at: usize, bytes: &[u8]) -> Piece
+    requires room { at + length bytes.now < 2 ^ 64 }
+    requires begun { 1 ≤ length bytes.now }
+    ensures { result ≡ word_piece at (slice_index bytes.now 0) (word_of bytes.now) }
+{
+    let word = word(bytes);
+    if !bytes[0].is_ascii_digit() {
+        return Piece::Token(kind_of_word(word), word.len());
+    }
+    match number_value(word) {
+        Some(_) => Piece::Token(TokenKind::Number, word.len()),
+        None => Piece::Fault(LexFault::BadNumber(Span {
+            from: at,
+            to: at + word.len(),
+        })),
+    }
+}
+
+/// The longest symbol, or the byte that begins none.
+fn symbol(at: usize, bytes: &[u8]) -> Piece
+    requires room { at + length bytes.now < 2 ^ 64 }
+    requires begun { 1 ≤ length bytes.now }
+    ensures { result ≡ symbol_piece at (slice_index bytes.now 0) (drop 1 bytes.now) }
+{
+    if bytes.len() > 1
+        && let Some(kind) = symbol_of_two(bytes[0], bytes[1])
+    {
+        return Piece::Token(kind, 2);
+    }
+    match symbol_of_one(bytes[0]) {
+        Some(kind) => Piece::Token(kind, 1),
+        None => Piece::Fault(LexFault::BadByte(Span {
+            from: at,
+            to: at + 1,
+        })),
+    }
+}
+
+/// The comment that a `/` begins, or the `/` that begins none.
+fn comment(at: usize, bytes: &[u8]) -> Piece
+    requires room { at + length bytes.now < 2 ^ 64 }
+    requires begun { 1 ≤ length bytes.now }
+    ensures { result ≡ slash_piece at (drop 1 bytes.now) }
+{
+    if bytes.len() > 1 && bytes[1] == b'/' {
+        return line_comment(at, bytes);
+    }
+    if bytes.len() > 1 && bytes[1] == b'*' {
+        return block_comment(at, bytes);
+    }
+    Piece::Fault(LexFault::BadByte(Span {
+        from: at,
+        to: at + 1,
+    }))
+}
+
+/// What stands at the front of a text that stands at an offset.
+pub fn first_piece(at: usize, bytes: &[u8]) -> Piece
+    requires room { at + length bytes.now < 2 ^ 64 }
+    requires begun { 1 ≤ length bytes.now }
+    ensures { result ≡ piece at bytes.now }
+{
+    match bytes[0] {
+        byte if is_blank(byte) => Piece::Gap(1),
+        byte if is_word_byte(byte) => name_or_number(at, bytes),
+        b'"' => string(at, bytes),
+        b'/' => comment(at, bytes),
+        _ => symbol(at, bytes),
+    }
+}

@@ -1,0 +1,183 @@
+//! Texts with their tokens and their faults.
+
+use crate::fault::LexFault;
+use crate::lexer::Lexer;
+use crate::token::{Span, TokenKind};
+use crate::value::{number_value, string_content};
+use std::process::Abort;
+use std::test::Fail;
+
+/// The text has these tokens at these places, then this fault or its end.
+fn expect(
+    rt: &impl Abort,
+    text: &[u8],
+    tokens: &[(TokenKind, usize, usize)],
+    fault: Option<LexFault>,
+) {
+    let mut lexer = Lexer::new(text);
+    for (kind, from, to) in tokens {
+        let item = lexer.next();
+        let token = item.expect(rt, "a token").ok().expect(rt, "no fault");
+        assert_eq!(rt; token.kind, *kind);
+        assert_eq!(rt;
+            token.span,
+            Span {
+                from: *from,
+                to: *to
+            }
+        );
+        assert_eq!(rt; Some(token.text), text.get(*from..*to));
+    }
+    match fault {
+        Some(fault) => {
+            let item = lexer.next();
+            assert_eq!(rt; item.expect(rt, "a fault").err(), Some(fault));
+        }
+        None => {}
+    }
+    assert!(rt; lexer.next().is_none());
+    assert!(rt; lexer.next().is_none());
+}
+
+#[test]
+fn reads_names_numbers_and_strings(rt: HostRuntime) {
+    let text = b"int n_1=90; _x @ \"a\\\"b\"//end";
+    let tokens = [
+        (TokenKind::Int, 0, 3),
+        (TokenKind::Name, 4, 7),
+        (TokenKind::Assign, 7, 8),
+        (TokenKind::Number, 8, 10),
+        (TokenKind::Semicolon, 10, 11),
+        (TokenKind::Name, 12, 14),
+        (TokenKind::At, 15, 16),
+        (TokenKind::Text, 17, 23),
+    ];
+    expect(&rt, text.as_slice(), tokens.as_slice(), None);
+}
+
+#[test]
+fn reads_keywords(rt: HostRuntime) {
+    let text = b"string boolean if else foreach in wait import true false integer If";
+    let tokens = [
+        (TokenKind::String, 0, 6),
+        (TokenKind::Boolean, 7, 14),
+        (TokenKind::If, 15, 17),
+        (TokenKind::Else, 18, 22),
+        (TokenKind::Foreach, 23, 30),
+        (TokenKind::In, 31, 33),
+        (TokenKind::Wait, 34, 38),
+        (TokenKind::Import, 39, 45),
+        (TokenKind::True, 46, 50),
+        (TokenKind::False, 51, 56),
+        (TokenKind::Name, 57, 64),
+        (TokenKind::Name, 65, 67),
+    ];
+    expect(&rt, text.as_slice(), tokens.as_slice(), None);
+}
+
+#[test]
+fn reads_symbols(rt: HostRuntime) {
+    let text = b"(){}[],:===!=<<=>>=+-*%/%%!&&||/**/!/***/";
+    let tokens = [
+        (TokenKind::OpenRound, 0, 1),
+        (TokenKind::CloseRound, 1, 2),
+        (TokenKind::OpenCurly, 2, 3),
+        (TokenKind::CloseCurly, 3, 4),
+        (TokenKind::OpenSquare, 4, 5),
+        (TokenKind::CloseSquare, 5, 6),
+        (TokenKind::Comma, 6, 7),
+        (TokenKind::Colon, 7, 8),
+        (TokenKind::Equal, 8, 10),
+        (TokenKind::Assign, 10, 11),
+        (TokenKind::NotEqual, 11, 13),
+        (TokenKind::Less, 13, 14),
+        (TokenKind::AtMost, 14, 16),
+        (TokenKind::Greater, 16, 17),
+        (TokenKind::AtLeast, 17, 19),
+        (TokenKind::Plus, 19, 20),
+        (TokenKind::Minus, 20, 21),
+        (TokenKind::Times, 21, 22),
+        (TokenKind::Quotient, 22, 24),
+        (TokenKind::Remainder, 24, 26),
+        (TokenKind::Not, 26, 27),
+        (TokenKind::And, 27, 29),
+        (TokenKind::Or, 29, 31),
+        (TokenKind::Not, 35, 36),
+    ];
+    expect(&rt, text.as_slice(), tokens.as_slice(), None);
+}
+
+/// The text has no token, and this fault.
+fn expect_fault(rt: &impl Abort, text: &[u8], fault: LexFault) {
+    expect(rt, text, [].as_slice(), Some(fault));
+}
+
+#[test]
+fn finds_faults(rt: HostRuntime) {
+    let at = |from: usize, to: usize| Span { from, to };
+    expect_fault(&rt, b"#".as_slice(), LexFault::BadByte(at(0, 1)));
+    expect_fault(&rt, b" /".as_slice(), LexFault::BadByte(at(1, 2)));
+    expect_fault(&rt, b"//a\x01".as_slice(), LexFault::BadByte(at(3, 4)));
+    expect_fault(&rt, b"/*\x7f*/".as_slice(), LexFault::BadByte(at(2, 3)));
+    expect_fault(&rt, b"\"a\xc3\"".as_slice(), LexFault::BadByte(at(2, 3)));
+    expect_fault(&rt, b"007".as_slice(), LexFault::BadNumber(at(0, 3)));
+    expect_fault(&rt, b"12a_ ".as_slice(), LexFault::BadNumber(at(0, 4)));
+    expect_fault(
+        &rt,
+        b"9223372036854775808".as_slice(),
+        LexFault::BadNumber(at(0, 19)),
+    );
+    expect_fault(&rt, b"\"a\n\"".as_slice(), LexFault::OpenString(at(0, 2)));
+    expect_fault(&rt, b"\"a\\".as_slice(), LexFault::OpenString(at(0, 3)));
+    expect_fault(&rt, b"/* /*".as_slice(), LexFault::OpenComment(at(0, 5)));
+    expect_fault(&rt, b"\n/*/".as_slice(), LexFault::OpenComment(at(1, 4)));
+    expect_fault(&rt, b"\"ab\\q\"".as_slice(), LexFault::BadEscape(at(3, 5)));
+    expect_fault(&rt, b"\"\\\xff\"".as_slice(), LexFault::BadEscape(at(1, 3)));
+}
+
+#[test]
+fn finds_faults_behind_tokens(rt: HostRuntime) {
+    let call = [(TokenKind::Name, 0, 6), (TokenKind::OpenRound, 6, 7)];
+    let open = LexFault::OpenString(Span { from: 7, to: 9 });
+    expect(&rt, b"printf(\"a".as_slice(), call.as_slice(), Some(open));
+    let divide = [(TokenKind::Quotient, 0, 2)];
+    let slash = LexFault::BadByte(Span { from: 2, to: 3 });
+    expect(&rt, b"%//".as_slice(), divide.as_slice(), Some(slash));
+}
+
+#[test]
+fn names_faults(rt: HostRuntime) -> Result<(), Fail> {
+    let span = Span { from: 0, to: 1 };
+    let texts = [
+        (LexFault::BadByte(span), "L1 BadByte"),
+        (LexFault::BadNumber(span), "L2 BadNumber"),
+        (LexFault::OpenString(span), "L3 OpenString"),
+        (LexFault::OpenComment(span), "L4 OpenComment"),
+        (LexFault::BadEscape(span), "L5 BadEscape"),
+    ];
+    for (fault, text) in texts {
+        assert_eq!(rt; format!(in rt.alloc(); "{fault}")?.as_str(), text);
+        assert_eq!(rt; fault.span(), span);
+    }
+    Ok(())
+}
+
+#[test]
+fn gives_values(rt: HostRuntime) -> Result<(), Fail> {
+    assert_eq!(rt; number_value(b"0".as_slice()), Some(0));
+    assert_eq!(rt;
+        number_value(b"9223372036854775807".as_slice()),
+        Some(9_223_372_036_854_775_807)
+    );
+    assert_eq!(rt; number_value(b"9223372036854775808".as_slice()), None);
+    let mut lexer = Lexer::new(b"\"a\\n\\t\\\\\\\"b\"".as_slice());
+    let token = lexer
+        .next()
+        .expect(&rt, "a token")
+        .ok()
+        .expect(&rt, "no fault");
+    assert!(rt; token.kind == TokenKind::Text);
+    let content = string_content(rt.alloc(), token.text)?;
+    assert_eq!(rt; content.as_slice(), b"a\n\t\\\"b".as_slice());
+    Ok(())
+}
