@@ -1,0 +1,9 @@
+// A composite function calls itself; both calls run at once. Prints: 55
+(int r) fib(int n) {
+  if (n < 2) {
+    r = n;
+  } else {
+    r = fib(n - 1) + fib(n - 2);
+  }
+}
+printf("%i", fib(10));
