@@ -95,10 +95,10 @@ permutation_of (x ∷ xs) ys same =
     let there = standing x ys (omega arith) in
     let rest : List (ℕ × ℕ) = there.0 ++ there.1 in
     let fewer : (h : ℕ → ℕ → ℕ) → weigh h xs ≡ weigh h rest =
-        λ h. let all = same h in
-          let split = ap (weigh h) there.2 ∙ weigh_append h there.0 (x ∷ there.1) in
-          let joined = weigh_append h there.0 there.1 in
-          omega (arith, all, split, joined) in
+    λ h. let all = same h in
+    let split = ap (weigh h) there.2 ∙ weigh_append h there.0 (x ∷ there.1) in
+    let joined = weigh_append h there.0 there.1 in
+    omega (arith, all, split, joined) in
     let put_back = IsPermutation-trans _ _ _ (IsPermutation-cons x xs rest (permutation_of xs rest fewer)) (IsPermutation-sym _ _ (IsPermutation-middle there.0 x there.1)) in
     subst (IsPermutation (x ∷ xs)) (sym there.2) put_back
 
@@ -126,12 +126,12 @@ numbers_of words views same =
     let off : List (ℕ × ℕ) = gathered (λ v. v.offered) views in
     let tak : List (ℕ × ℕ) = gathered (λ v. v.taken) views in
     permutation_of off (tak ++ lying 0 words) (λ h.
-      let s = same h in
-      let a = weigh_gathered h (λ v. v.offered) views in
-      let b = weigh_gathered h (λ v. v.taken) views in
-      let d = weigh_append h tak (lying 0 words) in
-      let e = weigh_lying h 0 words in
-      omega (arith, s, a, b, d, e))
+    let s = same h in
+    let a = weigh_gathered h (λ v. v.offered) views in
+    let b = weigh_gathered h (λ v. v.taken) views in
+    let d = weigh_append h tak (lying 0 words) in
+    let e = weigh_lying h 0 words in
+    omega (arith, s, a, b, d, e))
 
 -- and back
 pub balanced : (seats : ℕ) (words : List ℕ) (views : List SeatView) → Weighed seats words views → Balanced seats words views
