@@ -3,7 +3,7 @@ use Rattle.std.proofs.Common.{◌≡◌, ℕ, ◌+◌, ◌-◌, ◌<◌, ◌≤�
 use Rattle.std.specs.Prelude.{Option, Some, None, IsTrue, not, ◌&&◌, codes, if◌then◌else◌, unwrap_or, nat_eq, slice_range}
 use Rattle.std.proofs.lemmas.Bool.Decides.{nat_tests}
 use Rattle.lexer.specs.declared.token.TokenKind.{TokenKind}
-use Rattle.lexer.specs.declared.token.TokenKind.TheVariants.{Number, Text, Name, Int, String, Boolean, If, Else, Foreach, In, Wait, Import, True, False, OpenRound, CloseRound, OpenCurly, CloseCurly, OpenSquare, CloseSquare, Comma, Semicolon, Colon, Assign, Equal, NotEqual, Less, AtMost, Greater, AtLeast, Plus, Minus, Times, Quotient, Remainder, Not, And, Or, At}
+use Rattle.lexer.specs.declared.token.TokenKind.TheVariants.{Number, Text, Name, Int, String, Boolean, If, Else, Foreach, In, Wait, Import, True, False, OpenRound, CloseRound, OpenCurly, CloseCurly, OpenSquare, CloseSquare, Comma, Semicolon, Colon, Assign, Equal, NotEqual, Less, AtMost, Greater, AtLeast, Plus, Minus, Times, Quotient, Remainder, Not, And, Or, At, End}
 use Rattle.lexer.specs.declared.scan.Piece.{Piece}
 use Rattle.lexer.specs.declared.scan.Piece.TheVariants.{Gap, Token, Fault}
 use Rattle.lexer.specs.Bytes.{is_number, escaped_byte}
@@ -16,10 +16,11 @@ use Rattle.std.specs.Str.{bytes_eq}
 use Rattle.lexer.proofs.Pieces.{and_left, and_right, append-nil}
 use Rattle.lexer.proofs.Items.{stands_of, empty_text}
 
--- a kind that says more than its spelling
+-- a kind of many spellings beside the names, or of none
 abbrev is_open : TokenKind → Bool
 is_open Number = true
 is_open Text = true
+is_open End = true
 is_open _ = false
 
 abbrev is_open_in : Option TokenKind → Bool
@@ -67,6 +68,7 @@ closed_form : (k : TokenKind) (w : List ℕ) → is_open k ≡ false → HasForm
 closed_form k w e = record {
   number = λ is. let wrong : true ≡ false = sym (ap is_open is) ∙ e in cc;
   string = λ is. let wrong : true ≡ false = sym (ap is_open is) ∙ e in cc;
+  no_end = λ is. let wrong : true ≡ false = sym (ap is_open is) ∙ e in cc;
 }
 
 take_front : (w rest : List ℕ) → take (length w) (w ++ rest) ≡ w
@@ -74,10 +76,10 @@ take_front [] rest = refl
 take_front (c ∷ w) rest = ap (λ v. c ∷ v) (take_front w rest)
 
 number_form : (w : List ℕ) → IsTrue (is_number w) → HasForm Number w
-number_form w is = record { number = λ e. is; string = λ e. cc }
+number_form w is = record { number = λ e. is; string = λ e. cc; no_end = λ e. cc }
 
 string_form : (w : List ℕ) → IsString w → HasForm Text w
-string_form w is = record { number = λ e. cc; string = λ e. is }
+string_form w is = record { number = λ e. cc; string = λ e. is; no_end = λ e. cc }
 
 -- the token of a piece
 abbrev FormOf : List ℕ → Piece → Type 0

@@ -100,10 +100,7 @@ fn line_comment(at: usize, bytes: &[u8]) -> Piece
             return Piece::Gap(n);
         }
         if !is_allowed(bytes[n]) {
-            return Piece::Fault(LexFault::BadByte(Span {
-                from: at + n,
-                to: at + n + 1,
-            }));
+            return Piece::Fault(LexFault::BadByte(Span::at(at + n, 1)));
         }
         n += 1;
     }
@@ -124,18 +121,12 @@ fn block_comment(at: usize, bytes: &[u8]) -> Piece
             return Piece::Gap(n + 1);
         }
         if !is_allowed(byte) {
-            return Piece::Fault(LexFault::BadByte(Span {
-                from: at + n,
-                to: at + n + 1,
-            }));
+            return Piece::Fault(LexFault::BadByte(Span::at(at + n, 1)));
         }
         star = byte == b'*';
         n += 1;
     }
-    Piece::Fault(LexFault::OpenComment(Span {
-        from: at,
-        to: at + n,
-    }))
+    Piece::Fault(LexFault::OpenComment(Span::at(at, n)))
 }
 
 /// The string from its opening quote to its closing one.
@@ -149,17 +140,11 @@ fn string(at: usize, bytes: &[u8]) -> Piece
     while n < bytes.len() {
         let byte = bytes[n];
         if is_break(byte) {
-            return Piece::Fault(LexFault::OpenString(Span {
-                from: at,
-                to: at + n,
-            }));
+            return Piece::Fault(LexFault::OpenString(Span::at(at, n)));
         }
         if escaped {
             if escaped_byte(byte).is_none() {
-                return Piece::Fault(LexFault::BadEscape(Span {
-                    from: at + n - 1,
-                    to: at + n + 1,
-                }));
+                return Piece::Fault(LexFault::BadEscape(Span::at(at + n - 1, 2)));
             }
             escaped = false;
         } else {
@@ -167,19 +152,13 @@ fn string(at: usize, bytes: &[u8]) -> Piece
                 return Piece::Token(TokenKind::Text, n + 1);
             }
             if !is_allowed(byte) {
-                return Piece::Fault(LexFault::BadByte(Span {
-                    from: at + n,
-                    to: at + n + 1,
-                }));
+                return Piece::Fault(LexFault::BadByte(Span::at(at + n, 1)));
             }
             escaped = byte == b'\\';
         }
         n += 1;
     }
-    Piece::Fault(LexFault::OpenString(Span {
-        from: at,
-        to: at + n,
-    }))
+    Piece::Fault(LexFault::OpenString(Span::at(at, n)))
 }
 
 /// The run of letters, digits and `_` at the front.
@@ -206,10 +185,7 @@ fn name_or_number(at: usize, bytes: &[u8]) -> Piece
     }
     match number_value(word) {
         Some(_) => Piece::Token(TokenKind::Number, word.len()),
-        None => Piece::Fault(LexFault::BadNumber(Span {
-            from: at,
-            to: at + word.len(),
-        })),
+        None => Piece::Fault(LexFault::BadNumber(Span::at(at, word.len()))),
     }
 }
 
@@ -226,10 +202,7 @@ fn symbol(at: usize, bytes: &[u8]) -> Piece
     }
     match symbol_of_one(bytes[0]) {
         Some(kind) => Piece::Token(kind, 1),
-        None => Piece::Fault(LexFault::BadByte(Span {
-            from: at,
-            to: at + 1,
-        })),
+        None => Piece::Fault(LexFault::BadByte(Span::at(at, 1))),
     }
 }
 
@@ -245,10 +218,7 @@ fn comment(at: usize, bytes: &[u8]) -> Piece
     if bytes.len() > 1 && bytes[1] == b'*' {
         return block_comment(at, bytes);
     }
-    Piece::Fault(LexFault::BadByte(Span {
-        from: at,
-        to: at + 1,
-    }))
+    Piece::Fault(LexFault::BadByte(Span::at(at, 1)))
 }
 
 /// What stands at the front of a text that stands at an offset.

@@ -107,6 +107,17 @@ fn reads_symbols(rt: HostRuntime) {
     expect(&rt, text.as_slice(), tokens.as_slice(), None);
 }
 
+#[test]
+fn reads_past_comments(rt: HostRuntime) {
+    let text = b"//\r#\nx /* // \" */ y /***/ z//";
+    let tokens = [
+        (TokenKind::Name, 5, 6),
+        (TokenKind::Name, 18, 19),
+        (TokenKind::Name, 26, 27),
+    ];
+    expect(&rt, text.as_slice(), tokens.as_slice(), None);
+}
+
 /// The text has no token, and this fault.
 fn expect_fault(rt: &impl Abort, text: &[u8], fault: LexFault) {
     expect(rt, text, [].as_slice(), Some(fault));
@@ -117,6 +128,9 @@ fn finds_faults(rt: HostRuntime) {
     let at = |from: usize, to: usize| Span { from, to };
     expect_fault(&rt, b"#".as_slice(), LexFault::BadByte(at(0, 1)));
     expect_fault(&rt, b" /".as_slice(), LexFault::BadByte(at(1, 2)));
+    expect_fault(&rt, b"&".as_slice(), LexFault::BadByte(at(0, 1)));
+    expect_fault(&rt, b"\"\x80".as_slice(), LexFault::BadByte(at(1, 2)));
+    expect_fault(&rt, b"/*\0".as_slice(), LexFault::BadByte(at(2, 3)));
     expect_fault(&rt, b"//a\x01".as_slice(), LexFault::BadByte(at(3, 4)));
     expect_fault(&rt, b"/*\x7f*/".as_slice(), LexFault::BadByte(at(2, 3)));
     expect_fault(&rt, b"\"a\xc3\"".as_slice(), LexFault::BadByte(at(2, 3)));
@@ -128,7 +142,9 @@ fn finds_faults(rt: HostRuntime) {
         LexFault::BadNumber(at(0, 19)),
     );
     expect_fault(&rt, b"\"a\n\"".as_slice(), LexFault::OpenString(at(0, 2)));
+    expect_fault(&rt, b"\"a\tb\"".as_slice(), LexFault::OpenString(at(0, 2)));
     expect_fault(&rt, b"\"a\\".as_slice(), LexFault::OpenString(at(0, 3)));
+    expect_fault(&rt, b"\"a\\\r\"".as_slice(), LexFault::OpenString(at(0, 3)));
     expect_fault(&rt, b"/* /*".as_slice(), LexFault::OpenComment(at(0, 5)));
     expect_fault(&rt, b"\n/*/".as_slice(), LexFault::OpenComment(at(1, 4)));
     expect_fault(&rt, b"\"ab\\q\"".as_slice(), LexFault::BadEscape(at(3, 5)));
@@ -157,7 +173,7 @@ fn names_faults(rt: HostRuntime) -> Result<(), Fail> {
     ];
     for (fault, text) in texts {
         assert_eq!(rt; format!(in rt.alloc(); "{fault}")?.as_str(), text);
-        assert_eq!(rt; fault.span(), span);
+        assert_eq!(rt; fault.span(), Span::at(0, 1));
     }
     Ok(())
 }

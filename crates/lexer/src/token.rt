@@ -1,20 +1,37 @@
 //! Tokens and their places.
 
-/// A place in a text: from its first byte to the one after its last.
+ghost use Rattle.std.specs.Prelude.{◌≡◌, ◌+◌, ◌^◌, ◌<◌};
+
+/// A place in a text, in bytes: from its first byte to the one after its last.
 #[derive(Clone, Copy, Debug, PartialEq, Eq)]
 pub struct Span {
     pub from: usize,
     pub to: usize,
 }
 
-/// What a token is: one of three forms with many spellings, a keyword or a symbol.
+impl Span {
+    ghost use Rattle.lexer.specs.Items.{span};
+
+    /// The place of so many bytes from an offset on.
+    pub fn at(from: usize, len: usize) -> Span
+        requires { from + len < 2 ^ 64 }
+        ensures { result ≡ span from len }
+    {
+        Span {
+            from,
+            to: from + len,
+        }
+    }
+}
+
+/// What a token is: a name, a number, a string, a keyword or a symbol.
 #[derive(Clone, Copy, Debug, PartialEq, Eq)]
 pub enum TokenKind {
     /// A letter or `_`, then letters, digits and `_`, and no keyword.
     Name,
     /// A whole number from 0 to 9223372036854775807.
     Number,
-    /// A string in quotes.
+    /// A string with its quotes: bytes 32 to 126 and the escapes `\n`, `\t`, `\\` and `\"`.
     Text,
     Int,
     String,
@@ -65,9 +82,9 @@ pub enum TokenKind {
     Minus,
     /// `*`
     Times,
-    /// `%/`
+    /// `%/`, the division of whole numbers
     Quotient,
-    /// `%%`
+    /// `%%`, its remainder
     Remainder,
     /// `!`
     Not,
@@ -77,7 +94,7 @@ pub enum TokenKind {
     Or,
     /// `@`
     At,
-    /// What stands behind the last token. No token has this kind: a parser's look-ahead answers it.
+    /// What stands behind the last token, for a parser's look-ahead. No token has this kind.
     End,
 }
 
