@@ -32,3 +32,6 @@ below_differs (Number a) (Number b) p = grind (arith, ints)
 
 pub above_differs : (a b : Key) → key_below b a ≡ true → same_key a b ≡ false
 above_differs (Number a) (Number b) p = grind (arith, ints)
+
+pub key_below-asymmetric : (a b : Key) → key_below a b ≡ true → key_below b a ≡ false
+key_below-asymmetric (Number a) (Number b) p = grind (arith, ints)

@@ -1,6 +1,7 @@
 -- Look-up and insertion in lists of elements whose keys rise.
-use Rattle.std.proofs.Common.{◌≡◌, ap, inl, inr, ℕ, zero, suc, ◌<◌, ◌≤◌, List, [], ◌∷◌, length, get_or, None, Some, true, false, arith, rules, refl}
+use Rattle.std.proofs.Common.{◌≡◌, ◌∙◌, sym, ap, inl, inr, ℕ, zero, suc, ◌<◌, ◌≤◌, List, [], ◌∷◌, length, get_or, None, Some, true, false, arith, rules, refl}
 use Rattle.std.specs.Prelude.{Bool, Option, IsTrue, slice_get, if◌then◌else◌}
+use Rattle.std.specs.List.{insert}
 use Rattle.std.specs.List.Sorted.{IsPartitionedBy, IsPartitionPoint}
 use Rattle.std.proofs.lemmas.Bool.{cases_lt, cases_Bool}
 use Rattle.std.proofs.lemmas.Grind.{common_steps}
@@ -9,7 +10,7 @@ use Rattle.values.specs.declared.map.Element.{Element}
 use Rattle.values.specs.declared.value.Scalar.{Scalar}
 use Rattle.values.specs.Keys.{key_below, same_key}
 use Rattle.values.specs.Maps.{rising, found, found_at, inserted, element}
-use Rattle.values.proofs.Keys.{key_below-irreflexive, key_below-trans, same_key-refl, same_key-eq, same_key-other, key_below-other, below_differs, above_differs}
+use Rattle.values.proofs.Keys.{key_below-irreflexive, key_below-trans, same_key-refl, same_key-eq, same_key-other, key_below-other, key_below-asymmetric, below_differs, above_differs}
 
 -- nothing is found where every key is another
 pub found-none : (k : Key) (es : List Element) → ((j : ℕ) (d : Element) → j < length es → same_key (get_or es j d).key k ≡ false) → found k es ≡ None
@@ -110,3 +111,30 @@ found-inserted_other k j v (e ∷ es) h = elim (cases_Bool (same_key e.key k)) [
     | inr more ↦ rw other (rw more (ap (λ r. if same_key e.key j then Some e.value else r) (found-inserted_other k j v es h)))
   ]
 ]
+
+-- a key that is nowhere is put where the keys below it end
+pub inserted-gap : (k : Key) (v : Scalar) (es : List Element) (i : ℕ) → i ≤ length es → ((j : ℕ) (d : Element) → j < i → key_below (get_or es j d).key k ≡ true) → ((d : Element) → i < length es → key_below k (get_or es i d).key ≡ true) → inserted k v es ≡ insert es i (element k v)
+inserted-gap k v [] zero l low high = refl
+inserted-gap k v [] (suc i) l low high = absurd (omega arith)
+inserted-gap k v (e ∷ es) zero l low high =
+    let above : key_below k e.key ≡ true = high e (omega arith) in
+    rw (above_differs e.key k above, above) refl
+inserted-gap k v (e ∷ es) (suc i) l low high =
+    let below : key_below e.key k ≡ true = low 0 e (omega arith) in
+    rw (below_differs e.key k below, key_below-asymmetric e.key k below)
+        (ap (λ rest. e ∷ rest) (inserted-gap k v es i (omega arith) (λ j d m. low (suc j) d (omega arith)) (λ d m. high d (omega arith))))
+
+at-none : (k : Key) (es : List Element) (i : ℕ) (d : Element) → i < length es → found_at k (slice_get es i) ≡ None → same_key (get_or es i d).key k ≡ false
+at-none k [] i d l h = absurd (omega arith)
+at-none k (e ∷ es) zero d l h = elim (cases_Bool (same_key e.key k)) [
+  | inl same ↦ grind (arith, common_steps, same, h)
+  | inr other ↦ other
+]
+at-none k (e ∷ es) (suc i) d l h = at-none k es i d (omega arith) h
+
+-- the same, from where a search by halving ended
+pub inserted-parted : (k : Key) (es : List Element) (i : ℕ) → IsTrue (rising es) → i ≤ length es → IsPartitionPoint (λ (e : Element). key_below e.key k ≡ true) (λ (e : Element). key_below e.key k ≡ false) es i → found k es ≡ None → (v : Scalar) → inserted k v es ≡ insert es i (element k v)
+inserted-parted k es i r l point none v =
+    let here : found_at k (slice_get es i) ≡ None = sym (found-parted k es i r l point) ∙ none in
+    inserted-gap k v es i l (λ j d m. point.0 j d (omega arith) m)
+        (λ d m. key_below-other (get_or es i d).key k (at-none k es i d m here) (point.1 i d (omega arith) m))
