@@ -1,0 +1,61 @@
+-- Lists of entries as they are taken.
+use Rattle.std.specs.Prelude.{◌≡◌, ◌≤◌, ◌<ℤ◌, ◌⊎◌, All, Contains, ℕ, ℤ, Bool, true, false, cond, Option, Some, None, ◌||◌, List, [], ◌∷◌}
+use Rattle.std.specs.List.{AllByRecursion}
+use Rattle.std.specs.List.Sorted.{IsSortedByKey}
+use Rattle.work_queue.specs.declared.entry.Entry.{Entry}
+use Rattle.work_queue.specs.declared.entry.Kind.{Kind}
+use Rattle.work_queue.specs.Order.{order, precedes, same}
+
+-- none of these is taken before x
+abbrev pub IsFirst : Entry → List Entry → Type 0
+IsFirst x ys = AllByRecursion (λ y. precedes y x ≡ false) ys
+
+-- no entry stands behind one that is taken after it
+abbrev pub IsInOrder : List Entry → Type 0
+IsInOrder [] = Unit {0}
+IsInOrder (x ∷ xs) = IsFirst x xs × IsInOrder xs
+
+-- the entries with x in its place, behind any that are the same
+abbrev pub inserted : Entry → List Entry → List Entry
+inserted x [] = x ∷ []
+inserted x (y ∷ ys) = cond (precedes x y) (x ∷ y ∷ ys) (y ∷ inserted x ys)
+
+-- the entries without x, once
+abbrev pub erased : Entry → List Entry → List Entry
+erased x [] = []
+erased x (y ∷ ys) = cond (same x y) ys (y ∷ erased x ys)
+
+-- whether x is among the entries
+abbrev pub holds : Entry → List Entry → Bool
+holds x [] = false
+holds x (y ∷ ys) = same x y || holds x ys
+
+-- the entry that is taken first
+abbrev pub first_of : List Entry → Option Entry
+first_of [] = None
+first_of (x ∷ xs) = Some x
+
+-- an entry of a kind as a list of both kinds shows it
+abbrev pub listed : Kind → Entry → Kind × ℤ × ℕ
+listed kind e = (kind, e.priority, e.no)
+
+-- x is taken no later than y: it has a greater priority, or the same one and no greater number
+abbrev pub ComesNoLater : Entry → Entry → Type 0
+ComesNoLater x y = (y.priority <ℤ x.priority) ⊎ ((x.priority ≡ y.priority) × (x.no ≤ y.no))
+
+-- one of the entries has this number, and is taken no later than each of them
+abbrev pub IsTakenFirst : ℕ → List Entry → Type 0
+IsTakenFirst n xs = (x : Entry) × (x.no ≡ n) × Contains xs x × All (ComesNoLater x) xs
+
+-- the number of the entry that is taken first
+abbrev pub first_number : List Entry → Option ℕ
+first_number [] = None
+first_number (x ∷ xs) = Some x.no
+
+-- an entry as a list of both kinds shows it
+abbrev pub entry_of : Kind × ℤ × ℕ → Entry
+entry_of l = record { priority = l.1; no = l.2 }
+
+-- each item of the list is taken no later than those behind it, whatever their kinds
+abbrev pub IsListedInOrder : List (Kind × ℤ × ℕ) → Type 0
+IsListedInOrder ls = IsSortedByKey entry_of order ls

@@ -1,0 +1,58 @@
+//! What a queue holds, and which kinds of it there are.
+ghost use Rattle.std.specs.Prelude.{◌≡◌};
+ghost use Rattle.std.proofs.Common.{rules};
+ghost use Rattle.std.specs.Cmp.{partial_order_from_own_ties};
+ghost use Rattle.std.specs.Cmp.Rules.{comparing};
+ghost use Rattle.std.specs.Ordering.{nat_cmp, int_cmp, on, flip_args, then_cmp, as_partial_cmp};
+
+ghost use Rattle.work_queue.specs.Order.{precedes};
+
+use std::cmp::Ordering;
+
+/// What an item does: a control item changes what other items there are, a leaf item computes a value.
+#[derive(Clone, Copy, PartialEq, Eq, Debug)]
+pub enum Kind {
+    Control,
+    Leaf,
+}
+
+/// An item that waits to be taken.
+#[derive(Clone, Copy, PartialEq, Eq, Debug)]
+pub struct Entry {
+    pub priority: i32,
+    pub no: u64,
+}
+
+/// The entry that is taken first is the least.
+impl Ord for Entry {
+    ghost cmp = { then_cmp (flip_args (on (λ e. e.priority) int_cmp)) (on (λ e. e.no) nat_cmp) };
+
+    ghost total = { Prim.search (comparing, rules) };
+
+    ghost matches_partial_cmp = { Prim.search (comparing, rules) };
+
+    ghost matches_eq = { Prim.search (comparing, rules) };
+
+    fn cmp(&self, other: &Entry) -> Ordering {
+        other.priority.cmp(&self.priority).then(self.no.cmp(&other.no))
+    }
+}
+
+impl PartialOrd for Entry {
+    ghost partial_cmp = { as_partial_cmp (then_cmp (flip_args (on (λ e. e.priority) int_cmp)) (on (λ e. e.no) nat_cmp)) };
+
+    ghost laws = { partial_order_from_own_ties (Prim.search (comparing, rules)) (Prim.search (comparing, rules)) };
+
+    fn partial_cmp(&self, other: &Entry) -> Option<Ordering> {
+        Some(self.cmp(other))
+    }
+}
+
+impl Entry {
+    /// Whether this one is taken first.
+    pub fn precedes(&self, other: &Entry) -> bool
+        ensures { result ≡ precedes self.now other.now }
+    {
+        self.cmp(other).is_lt()
+    }
+}

@@ -1,0 +1,196 @@
+//! A queue of the items that wait for a worker.
+ghost use Rattle.std.specs.Prelude.{◌≡◌, ◌<◌, ◌≤◌, ◌↔◌, ◌++◌, map, OnOk, OnErr, IfOk, IfSome, IsOk, IsTrue, Contains, IsPermutation};
+ghost use Rattle.std.specs.Bool.{OnTrue, OnFalse};
+ghost use Rattle.work_queue.specs.Entries.{IsInOrder, IsTakenFirst, IsListedInOrder, first_number, listed};
+ghost use Rattle.work_queue.specs.Waiting.{with_put, with_room, without_first, without};
+ghost use Rattle.work_queue.specs.Both.{of, with_changed, empty};
+
+use crate::entry::{Entry, Kind};
+use crate::pile::Pile;
+use std::alloc::{AllocError, Global};
+use std::marker::Model;
+
+/// The items of each kind that wait, by their priorities and numbers.
+#[derive(Drop)]
+pub struct Queue {
+    control: Pile,
+    leaf: Pile,
+}
+
+impl Model for Queue {
+    ghost use Rattle.work_queue.specs.Both.{Both};
+
+    ghost Value = { Both };
+
+    ghost view = { λ a. record { control = a.control; leaf = a.leaf } };
+}
+
+impl Queue {
+    /// Takes no memory.
+    pub fn new(alloc: Global) -> Queue
+        ensures { result ≡ empty }
+    {
+        Queue {
+            control: Pile::new(alloc),
+            leaf: Pile::new(alloc),
+        }
+    }
+
+    fn pile(&self, kind: Kind) -> &Pile
+        ensures { result.now ≡ of kind self.now }
+    {
+        match kind {
+            Kind::Control => &self.control,
+            Kind::Leaf => &self.leaf,
+        }
+    }
+
+    /// Adds an item, whose number the caller has not put in yet.
+    pub fn put(&mut self, kind: Kind, priority: i32, no: u64) -> Result<(), AllocError>
+        ensures ok { OnOk result (self.new ≡ with_changed kind (with_put (record { priority = priority; no = no })) self.old) }
+        ensures succeeds { 0 < (of kind self.old).room → IsOk result }
+        ensures err { OnErr result (self.new ≡ self.old) }
+    {
+        let entry = Entry { priority, no };
+        match kind {
+            Kind::Control => self.control.put(entry),
+            Kind::Leaf => self.leaf.put(entry),
+        }
+    }
+
+    /// The number that `take` would give. Takes no memory.
+    pub fn first(&self, kind: Kind) -> Option<u64>
+        ensures { result ≡ first_number (of kind self.now).entries }
+    {
+        let entry = match kind {
+            Kind::Control => self.control.first(),
+            Kind::Leaf => self.leaf.first(),
+        };
+        Some(entry?.no)
+    }
+
+    /// Takes out the item of the greatest priority, and of those the one of the smallest number.
+    /// Takes no memory.
+    pub fn take(&mut self, kind: Kind) -> Option<u64>
+        ensures first { result ≡ first_number (of kind self.old).entries }
+        ensures rest { self.new ≡ with_changed kind without_first self.old }
+    {
+        let entry = match kind {
+            Kind::Control => self.control.take(),
+            Kind::Leaf => self.leaf.take(),
+        };
+        Some(entry?.no)
+    }
+
+    /// Takes an item out, if it is there. Takes no memory.
+    pub fn remove(&mut self, kind: Kind, priority: i32, no: u64) -> bool
+        ensures found { IsTrue result ↔ Contains (of kind self.old).entries (record { priority = priority; no = no }) }
+        ensures removed { OnTrue result (self.new ≡ with_changed kind (without (record { priority = priority; no = no })) self.old) }
+        ensures absent { OnFalse result (self.new ≡ self.old) }
+    {
+        let entry = Entry { priority, no };
+        match kind {
+            Kind::Control => self.control.remove(entry),
+            Kind::Leaf => self.leaf.remove(entry),
+        }
+    }
+
+    /// Makes the next `n` calls of `put` of the kind succeed.
+    pub fn reserve(&mut self, kind: Kind, n: usize) -> Result<(), AllocError>
+        ensures ok { OnOk result (self.new ≡ with_changed kind (with_room n) self.old) }
+        ensures succeeds { n ≤ (of kind self.old).room → IsOk result }
+        ensures err { OnErr result (self.new ≡ self.old) }
+    {
+        match kind {
+            Kind::Control => self.control.reserve(n),
+            Kind::Leaf => self.leaf.reserve(n),
+        }
+    }
+
+    /// All items of both kinds, the greatest priority first, and at one priority the smallest number.
+    pub fn list(&self) -> Result<Vec<(Kind, i32, u64)>, AllocError>
+        ensures all { IfOk result (λ v. IsPermutation (map (listed Kind.Control) self.now.control.entries ++ map (listed Kind.Leaf) self.now.leaf.entries) v.items) }
+        ensures in_order { IfOk result (λ v. IsListedInOrder v.items) }
+    {
+        let mut list = Vec::new(self.control.allocator());
+        self.control.append_to(Kind::Control, &mut list)?;
+        self.leaf.append_to(Kind::Leaf, &mut list)?;
+        list.sort_by_key(|&(_, priority, no)| Entry { priority, no })?;
+        Ok(list)
+    }
+}
+
+#[cfg(test)]
+mod tests {
+    use super::*;
+    use std::test::Fail;
+
+    #[test]
+    fn greatest_priority_then_smallest_number(rt: HostRuntime) -> Result<(), Fail> {
+        let mut queue = Queue::new(rt.alloc());
+        queue.put(Kind::Leaf, 0, 4)?;
+        queue.put(Kind::Leaf, 5, 9)?;
+        queue.put(Kind::Leaf, 5, 7)?;
+        queue.put(Kind::Control, 9, 1)?;
+        assert_eq!(rt; queue.first(Kind::Leaf), Some(7));
+        assert_eq!(rt; queue.take(Kind::Leaf), Some(7));
+        assert_eq!(rt; queue.take(Kind::Leaf), Some(9));
+        assert_eq!(rt; queue.take(Kind::Leaf), Some(4));
+        assert_eq!(rt; queue.take(Kind::Leaf), None);
+        assert_eq!(rt; queue.take(Kind::Control), Some(1));
+        Ok(())
+    }
+
+    #[test]
+    fn listed_by_priority_and_number(rt: HostRuntime) -> Result<(), Fail> {
+        let mut queue = Queue::new(rt.alloc());
+        queue.put(Kind::Leaf, 0, 4)?;
+        queue.put(Kind::Leaf, 5, 9)?;
+        queue.put(Kind::Leaf, -3, 2)?;
+        queue.put(Kind::Control, 5, 8)?;
+        queue.put(Kind::Control, 9, 1)?;
+        let list = queue.list()?;
+        assert_eq!(rt; list.len(), 5);
+        assert!(rt; list[0] == (Kind::Control, 9, 1));
+        assert!(rt; list[1] == (Kind::Control, 5, 8));
+        assert!(rt; list[2] == (Kind::Leaf, 5, 9));
+        assert!(rt; list[3] == (Kind::Leaf, 0, 4));
+        assert!(rt; list[4] == (Kind::Leaf, -3, 2));
+        Ok(())
+    }
+
+    #[test]
+    fn removed_only_where_it_is(rt: HostRuntime) -> Result<(), Fail> {
+        let mut queue = Queue::new(rt.alloc());
+        queue.put(Kind::Leaf, 5, 7)?;
+        queue.put(Kind::Leaf, 5, 9)?;
+        assert!(rt; !queue.remove(Kind::Control, 5, 7));
+        assert!(rt; !queue.remove(Kind::Leaf, 4, 7));
+        assert!(rt; queue.remove(Kind::Leaf, 5, 7));
+        assert!(rt; !queue.remove(Kind::Leaf, 5, 7));
+        assert_eq!(rt; queue.first(Kind::Leaf), Some(9));
+        Ok(())
+    }
+
+    // Room for a thousand, then puts, takes and removes in turn, none of which asks for memory.
+    #[test]
+    fn room_comes_back(rt: HostRuntime) -> Result<(), Fail> {
+        let mut queue = Queue::new(rt.alloc());
+        queue.reserve(Kind::Leaf, 1000)?;
+        for round in 0..20u64 {
+            for no in 0..1000u64 {
+                queue.put(Kind::Leaf, (no * 7919 % 31) as i32, no)?;
+            }
+            for no in 0..1000u64 {
+                if no % 2 == round % 2 {
+                    assert!(rt; queue.remove(Kind::Leaf, (no * 7919 % 31) as i32, no));
+                }
+            }
+            for _ in 0..500u64 {
+                assert!(rt; queue.take(Kind::Leaf).is_some());
+            }
+            assert_eq!(rt; queue.take(Kind::Leaf), None);
+        }
+        Ok(())
+    }
+}
