@@ -1,8 +1,8 @@
 -- What can be told of a list: where a member stands, whether a key is stored, who uses a place.
-use Rattle.std.proofs.Common.{◌≡◌, ◌⊎◌, inl, inr, ℕ, ◌≤◌, Bool, true, false, List, [], ◌∷◌, ◌++◌, refl, sym, ap, ◌∙◌, subst, length, arith, length-append}
+use Rattle.std.proofs.Common.{◌≡◌, ◌⊎◌, inl, inr, ◌≤◌, Bool, true, false, List, [], ◌∷◌, ◌++◌, refl, sym, ap, ◌∙◌, subst, length, arith, length-append}
 use Rattle.dataflow.specs.System.{In, Distinct, Write, Effect, System}
 use Rattle.dataflow.specs.Laws.{Laws}
-use Rattle.dataflow.specs.Machine.{Item, State, Free, Holds, Clashes}
+use Rattle.dataflow.specs.Machine.{Item, State, Holds, Clashes}
 use Rattle.dataflow.proofs.Lists.{in_seam}
 use Rattle.dataflow.proofs.Follows.{Uses}
 
@@ -85,7 +85,7 @@ module _ {T D K V E : Type 0} (S : System T D K V E) (L : Laws S) where
         (λ k v h. inr (r.2 k v h)),
       )
 
-  in_is : (a : D) (ds : List D) → In a ds ⊎ (In a ds → ⊥)
+  pub in_is : (a : D) (ds : List D) → In a ds ⊎ (In a ds → ⊥)
   in_is a [] = inr (λ h. h)
   in_is a (d ∷ ds) = by (L.place_is a d) (in_is a ds)
     where

@@ -4,7 +4,7 @@ use Rattle.dataflow.specs.System.{In, Input, Scalar, Whole, Element, ElementAt, 
 use Rattle.dataflow.specs.Facts.{Written}
 use Rattle.dataflow.specs.Laws.{Laws}
 use Rattle.dataflow.specs.Log.{Logged, ReadsAll}
-use Rattle.dataflow.specs.Machine.{Item, State, ClosedByRights, Holds, IsElementKnown, IsKnown, Enabled, HasContent, SeesElement, Sees, SeesAll}
+use Rattle.dataflow.specs.Machine.{State, ClosedByRights, Holds, IsElementKnown, IsKnown, Enabled, HasContent, SeesElement, Sees, SeesAll}
 use Rattle.dataflow.specs.Data.{AnswersAreOne}
 use Rattle.dataflow.proofs.Settled.{Settled, can_of_comes, same_value, all_same}
 use Rattle.dataflow.proofs.Runs.{run_settled, all_given}
@@ -16,7 +16,7 @@ module _ {T D K V E : Type 0} (S : System T D K V E) (L : Laws S) where
     settled : Settled S (Logged S log)
     settled = (run_settled S L f.run).0
 
-    one_value : (a : D) (k : K) (v w : V) → Holds S s a k v → Holds S s a k w → v ≡ w
+    pub one_value : (a : D) (k : K) (v w : V) → Holds S s a k v → Holds S s a k w → v ≡ w
     one_value a k v w h g =
         let x : Written S (Logged S log) a k v = f.store.stored_in (record { place = a; key = k; value = v }) h in
         let y : Written S (Logged S log) a k w = f.store.stored_in (record { place = a; key = k; value = w }) g in

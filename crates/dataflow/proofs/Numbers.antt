@@ -2,10 +2,9 @@
 use Rattle.std.proofs.Common.{◌≡◌, ◌⊎◌, inl, inr, ℕ, suc, ◌+◌, ◌<◌, ◌≤◌, List, [], ◌∷◌, ◌++◌, length, map, refl, ap, sym, ◌∙◌, subst, arith}
 use Rattle.dataflow.specs.System.{In, Distinct, tasks_of, Outcome, Good, Bad, System}
 use Rattle.dataflow.specs.Machine.{Item, State, Event, Begin, End, Back, new_items, Leaves, ended, After, Step, Steps, Run, start}
-use Rattle.dataflow.specs.Promises.{numbers_of}
 use Rattle.dataflow.proofs.Lists.{in_split, map_append, seam_distinct, seam_in, distinct_append, in_map, in_unmap}
 
-abbrev number_of_item : {T : Type 0} → Item T → ℕ
+abbrev pub number_of_item : {T : Type 0} → Item T → ℕ
 number_of_item i = i.number
 
 -- the numbers of new items rise from the next one

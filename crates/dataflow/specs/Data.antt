@@ -30,6 +30,15 @@ module _ {T D K V E : Type 0} (S : System T D K V E) where
     pub exact : (a : D) → Made S (Logged S log) a → (Free S s a → ⊥) → In a s.places
     pub none_left : s.items ≡ [] → s.places ≡ []
 
+  -- two states with the same items, lines and fault, which differ only in data that are free
+  pub record SameButFree (s s' : State T D K V E) : Type 0 where
+    pub items : s.items ≡ s'.items
+    pub next : s.next ≡ s'.next
+    pub lines : s.lines ≡ s'.lines
+    pub fault : s.fault ≡ s'.fault
+    pub places : (a : D) → In a s.places → In a s'.places ⊎ Free S s a
+    pub values : (w : Write D K V) → In w s.stored → In w s'.stored ⊎ Free S s w.place
+
   -- the list has every task that is ever live
   abbrev pub HasAllLive : List T → Type 0
   HasAllLive all = (n : ℕ) (t : T) → Live S (Known S n) t → In t all

@@ -1,5 +1,5 @@
 -- The log of a run: what its items did, read off the steps.
-use Rattle.std.specs.Prelude.{◌≡◌, ◌⊎◌, ℕ, suc, ◌+◌, List, [], ◌∷◌, ◌++◌, length}
+use Rattle.std.specs.Prelude.{◌≡◌, suc, ◌+◌, List, [], ◌∷◌, ◌++◌, length}
 use Rattle.std.proofs.Common.{inl, inr}
 use Rattle.dataflow.specs.System.{In, Effect, Outcome, Good, Bad, System}
 use Rattle.dataflow.specs.Log.{Waits, IsLog}
