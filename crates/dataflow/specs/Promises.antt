@@ -1,0 +1,74 @@
+-- What every state that a run reaches promises.
+use Rattle.std.specs.Prelude.{◌≡◌, ℕ, ◌<◌, false, List, [], ◌∷◌, ◌++◌, map, None, Some, suc, length}
+use Rattle.dataflow.specs.System.{In, Distinct, Answer, Write, Effect, Good, System}
+use Rattle.dataflow.specs.Facts.{Live, Written, Closed, Known, Ever, Faulty, Clean}
+use Rattle.dataflow.specs.Machine.{Item, State, Fault, OfTask, Begin, End, ClosedByRights, Holds, Enabled, SeesAll, Step}
+
+module _ {T D K V E : Type 0} (S : System T D K V E) where
+  -- the lines that these facts print; the latest fact stands first in the list
+  abbrev pub lines_of : List (T × Effect T D K V) → List V
+  lines_of [] = []
+  lines_of (p ∷ log) = lines_of log ++ p.1.lines
+
+  -- the tasks of these facts
+  abbrev pub tasks_in_log : List (T × Effect T D K V) → List T
+  tasks_in_log log = map (λ (p : T × Effect T D K V). p.0) log
+
+  -- the tasks of these items, and their numbers
+  abbrev pub tasks_in_items : List (Item T) → List T
+  tasks_in_items items = map (λ (i : Item T). i.task) items
+
+  abbrev pub numbers_of : List (Item T) → List ℕ
+  numbers_of items = map (λ (i : Item T). i.number) items
+
+  -- a part of the lines of the meaning: those of some facts, each fact taken once
+  pub record IsPartOfLines (xs : List V) : Type 0 where
+    pub facts : List (T × Effect T D K V)
+    pub once : Distinct (tasks_in_log facts)
+    pub known : (t : T) (e : Effect T D K V) → In (t, e) facts → Ever S t e
+    pub is : xs ≡ lines_of facts
+
+  -- all lines of the meaning: those of all facts, each fact taken once
+  pub record IsAllLines (xs : List V) : Type 0 where
+    pub facts : List (T × Effect T D K V)
+    pub once : Distinct (tasks_in_log facts)
+    pub known : (t : T) (e : Effect T D K V) → In (t, e) facts → Ever S t e
+    pub all : (t : T) (e : Effect T D K V) → Ever S t e → In (t, e) facts
+    pub is : xs ≡ lines_of facts
+
+  -- what is stored, closed, printed and reported is what the meaning has after some round
+  pub record Agrees (s : State T D K V E) : Type 0 where
+    pub round : ℕ
+    pub stored : (w : Write D K V) → In w s.stored → Written S (Known S round) w.place w.key w.value
+    pub closed : (a : D) → ClosedByRights S s a → Closed S (Known S round) a
+    pub items : (i : Item T) → In i s.items → Live S (Known S round) i.task
+    pub lines : IsPartOfLines s.lines
+    -- a fault is the task's own and one of the meaning's; no element is ever there twice
+    pub fault : (t : T) (f : Fault E) → s.fault ≡ Some (t, f) → (own : E) × (f ≡ OfTask own) × Faulty S t own
+    -- the items that were ever made are different live tasks
+    pub made : List T
+    pub made_once : Distinct made
+    pub made_all : s.next ≡ suc (length made)
+    pub made_live : (t : T) → In t made → Live S (Known S round) t
+
+  -- the state has the whole meaning: it is clean and without fault, all lines are printed, and the items left are the live tasks that never have a fact
+  pub record Complete (s : State T D K V E) : Type 0 where
+    pub clean : Clean S
+    pub no_fault : (t : T) (f : E) → Faulty S t f → ⊥
+    pub lines : IsAllLines s.lines
+    pub blocked_live : (i : Item T) → In i s.items → (n : ℕ) × Live S (Known S n) i.task
+    pub blocked_never : (i : Item T) → In i s.items → (e : Effect T D K V) → Ever S i.task e → ⊥
+    pub blocked_all : (n : ℕ) (t : T) → Live S (Known S n) t → ((e : Effect T D K V) → Ever S t e → ⊥) → In t (tasks_in_items s.items)
+
+  -- the machine is never stuck, and has each item once
+  pub record GoesOn (s : State T D K V E) : Type 0 where
+    -- while there is no fault, a running item can end
+    pub ends : (i : Item T) (w : ℕ) → s.fault ≡ None → In i s.items → i.runs ≡ Some w → (new : State T D K V E) × Step S s (End w i.number) new
+    -- and an enabled one that does not run can begin
+    pub begins : (i : Item T) (w : ℕ) → s.fault ≡ None → In i s.items → i.runs ≡ None → Enabled S s i.task → (new : State T D K V E) × Step S s (Begin w i.number) new
+    -- no enabled item would write a scalar that has a value
+    pub unset : (i : Item T) (xs : List (Answer K V)) (e : Effect T D K V) → In i s.items → SeesAll S s (S.inputs i.task) xs → S.effect i.task xs ≡ Good e → (d : D) (k : K) (v u : V) → S.is_array d ≡ false → In (record { place = d; key = k; value = v }) e.writes → Holds S s d k u → ⊥
+    -- no task is there twice, and no number
+    pub once : Distinct (tasks_in_items s.items)
+    pub one_number : Distinct (numbers_of s.items)
+    pub below_next : (i : Item T) → In i s.items → i.number < s.next
