@@ -1,0 +1,410 @@
+//! The same tree in other memory.
+
+ghost use Rattle.std.specs.Prelude.{◌≡◌, IfOk, OnOk, ◌++◌, map, option_map};
+ghost use Rattle.syntax_trees.specs.View.{word_of, expression_view, form_view, expressions_view, words_view, declaration_of, declarations_view, right_of, calling_of, range_of, over_of, statement_view, command_view, body_view, composite_of, part_of, tree_of};
+
+use crate::tree::{
+    Block, Call, Decl, Expr, ExprKind, Function, Item, ListOf, Name, Range, Right, Script, Source,
+    Stmt, StmtKind,
+};
+use std::alloc::{AllocError, Allocator};
+
+impl<A: Allocator> Script<A> {
+    /// The same tree, with all that it holds in memory of `alloc`.
+    ///
+    /// # Errors
+    ///
+    /// `AllocError` where `alloc` refuses a growth.
+    pub fn copy_to<B: Allocator + Clone>(&self, alloc: B) -> Result<Script<B>, AllocError>
+        ensures { IfOk result (λ t. tree_of t ≡ tree_of self.now) }
+    {
+        let mut items = Vec::new(alloc.clone()?);
+        append_items(&mut items, &self.items, &alloc)?;
+        Ok(Script { items })
+    }
+}
+
+fn copy_name<A: Allocator, B: Allocator + Clone>(
+    name: &Name<A>,
+    alloc: &B,
+) -> Result<Name<B>, AllocError>
+    ensures { IfOk result (λ n. word_of n ≡ word_of name.now) }
+{
+    Ok(Name {
+        number: name.number,
+        span: name.span,
+        text: Vec::from_slice(alloc.clone()?, name.text.as_slice())?,
+    })
+}
+
+fn copy_names<A: Allocator, B: Allocator + Clone>(
+    names: &Vec<Name<A>, A>,
+    alloc: &B,
+) -> Result<Vec<Name<B>, B>, AllocError>
+    ensures { IfOk result (λ v. words_view v ≡ words_view names.now) }
+{
+    let mut copies = Vec::new(alloc.clone()?);
+    for name in names {
+        copies.push(copy_name(name, alloc)?)?;
+    }
+    Ok(copies)
+}
+
+// EXPRESSIONS
+
+#[cycle(copy)]
+fn copy_expr<A: Allocator, B: Allocator + Clone>(
+    expr: &Expr<A>,
+    alloc: &B,
+) -> Result<Expr<B>, AllocError>
+    ensures { IfOk result (λ e. expression_view e ≡ expression_view expr.now) }
+{
+    Ok(Expr {
+        number: expr.number,
+        first: expr.first,
+        to: expr.to,
+        kind: copy_kind(&expr.kind, alloc)?,
+    })
+}
+
+#[cycle(copy)]
+fn copy_kind<A: Allocator, B: Allocator + Clone>(
+    kind: &ExprKind<A>,
+    alloc: &B,
+) -> Result<ExprKind<B>, AllocError>
+    ensures { IfOk result (λ k. form_view k ≡ form_view kind.now) }
+{
+    match kind {
+        ExprKind::Number(n) => Ok(ExprKind::Number(*n)),
+        ExprKind::Text(text) => Ok(ExprKind::Text(Vec::from_slice(
+            alloc.clone()?,
+            text.as_slice(),
+        )?)),
+        ExprKind::Truth(b) => Ok(ExprKind::Truth(*b)),
+        ExprKind::Variable(name) => Ok(ExprKind::Variable(copy_name(name, alloc)?)),
+        ExprKind::Element(name, index) => Ok(ExprKind::Element(
+            copy_name(name, alloc)?,
+            Box::new(alloc.clone()?, copy_expr(index, alloc)?)?,
+        )),
+        ExprKind::Call(name, arguments) => Ok(ExprKind::Call(
+            copy_name(name, alloc)?,
+            copy_exprs(arguments, alloc)?,
+        )),
+        ExprKind::Prefixed(sign, operand) => Ok(ExprKind::Prefixed(
+            *sign,
+            Box::new(alloc.clone()?, copy_expr(operand, alloc)?)?,
+        )),
+        ExprKind::Chain(operators, operands) => Ok(ExprKind::Chain(
+            Vec::from_slice(alloc.clone()?, operators.as_slice())?,
+            copy_exprs(operands, alloc)?,
+        )),
+    }
+}
+
+#[cycle(copy)]
+fn copy_exprs<A: Allocator, B: Allocator + Clone>(
+    exprs: &Vec<Expr<A>, A>,
+    alloc: &B,
+) -> Result<Vec<Expr<B>, B>, AllocError>
+    ensures { IfOk result (λ v. expressions_view v ≡ expressions_view exprs.now) }
+{
+    let mut copies = Vec::new(alloc.clone()?);
+    for expr in exprs {
+        copies.push(copy_expr(expr, alloc)?)?;
+    }
+    Ok(copies)
+}
+
+fn copy_boxed<A: Allocator, B: Allocator + Clone>(
+    expr: &Expr<A>,
+    alloc: &B,
+) -> Result<Box<Expr<B>, B>, AllocError>
+    ensures { IfOk result (λ e. expression_view e.value ≡ expression_view expr.now) }
+{
+    Ok(Box::new(alloc.clone()?, copy_expr(expr, alloc)?)?)
+}
+
+// DECLARATIONS, RIGHT SIDES, CALLS, SOURCES
+
+fn copy_decl<A: Allocator, B: Allocator + Clone>(
+    decl: &Decl<A>,
+    alloc: &B,
+) -> Result<Decl<B>, AllocError>
+    ensures { IfOk result (λ d. declaration_of d ≡ declaration_of decl.now) }
+{
+    Ok(Decl {
+        base: decl.base,
+        name: copy_name(&decl.name, alloc)?,
+        shape: decl.shape,
+    })
+}
+
+fn copy_decls<A: Allocator, B: Allocator + Clone>(
+    decls: &Vec<Decl<A>, A>,
+    alloc: &B,
+) -> Result<Vec<Decl<B>, B>, AllocError>
+    ensures { IfOk result (λ v. declarations_view v ≡ declarations_view decls.now) }
+{
+    let mut copies = Vec::new(alloc.clone()?);
+    for decl in decls {
+        copies.push(copy_decl(decl, alloc)?)?;
+    }
+    Ok(copies)
+}
+
+fn copy_right<A: Allocator, B: Allocator + Clone>(
+    right: &Right<A>,
+    alloc: &B,
+) -> Result<Right<B>, AllocError>
+    ensures { IfOk result (λ r. right_of r ≡ right_of right.now) }
+{
+    match right {
+        Right::Value(expr) => Ok(Right::Value(copy_boxed(expr, alloc)?)),
+        Right::List(list) => Ok(Right::List(Box::new(
+            alloc.clone()?,
+            ListOf {
+                number: list.number,
+                first: list.first,
+                to: list.to,
+                elements: copy_exprs(&list.elements, alloc)?,
+            },
+        )?)),
+    }
+}
+
+fn copy_initial<A: Allocator, B: Allocator + Clone>(
+    right: &Option<Right<A>>,
+    alloc: &B,
+) -> Result<Option<Right<B>>, AllocError>
+    ensures { IfOk result (λ r. option_map right_of r ≡ option_map right_of right.now) }
+{
+    match right {
+        None => Ok(None),
+        Some(right) => Ok(Some(copy_right(right, alloc)?)),
+    }
+}
+
+fn copy_call<A: Allocator, B: Allocator + Clone>(
+    call: &Call<A>,
+    alloc: &B,
+) -> Result<Box<Call<B>, B>, AllocError>
+    ensures { IfOk result (λ c. calling_of c.value ≡ calling_of call.now) }
+{
+    let name = copy_name(&call.name, alloc)?;
+    let arguments = copy_exprs(&call.arguments, alloc)?;
+    Ok(Box::new(
+        alloc.clone()?,
+        Call {
+            number: call.number,
+            first: call.first,
+            to: call.to,
+            name,
+            arguments,
+        },
+    )?)
+}
+
+fn copy_key<A: Allocator, B: Allocator + Clone>(
+    key: &Option<Name<A>>,
+    alloc: &B,
+) -> Result<Option<Name<B>>, AllocError>
+    ensures { IfOk result (λ k. option_map word_of k ≡ option_map word_of key.now) }
+{
+    match key {
+        None => Ok(None),
+        Some(name) => Ok(Some(copy_name(name, alloc)?)),
+    }
+}
+
+fn copy_step<A: Allocator, B: Allocator + Clone>(
+    step: &Option<Expr<A>>,
+    alloc: &B,
+) -> Result<Option<Expr<B>>, AllocError>
+    ensures { IfOk result (λ e. option_map expression_view e ≡ option_map expression_view step.now) }
+{
+    match step {
+        None => Ok(None),
+        Some(expr) => Ok(Some(copy_expr(expr, alloc)?)),
+    }
+}
+
+fn copy_range<A: Allocator, B: Allocator + Clone>(
+    range: &Range<A>,
+    alloc: &B,
+) -> Result<Range<B>, AllocError>
+    ensures { IfOk result (λ r. range_of r ≡ range_of range.now) }
+{
+    Ok(Range {
+        low: copy_expr(&range.low, alloc)?,
+        high: copy_expr(&range.high, alloc)?,
+        step: copy_step(&range.step, alloc)?,
+    })
+}
+
+fn copy_source<A: Allocator, B: Allocator + Clone>(
+    source: &Source<A>,
+    alloc: &B,
+) -> Result<Source<B>, AllocError>
+    ensures { IfOk result (λ s. over_of s ≡ over_of source.now) }
+{
+    match source {
+        Source::Array(name) => Ok(Source::Array(copy_name(name, alloc)?)),
+        Source::Range(range) => Ok(Source::Range(Box::new(
+            alloc.clone()?,
+            copy_range(range, alloc)?,
+        )?)),
+    }
+}
+
+// STATEMENTS
+
+#[cycle(copy_stmt)]
+fn copy_stmt<A: Allocator, B: Allocator + Clone>(
+    stmt: &Stmt<A>,
+    alloc: &B,
+) -> Result<Stmt<B>, AllocError>
+    ensures { IfOk result (λ s. statement_view s ≡ statement_view stmt.now) }
+{
+    Ok(Stmt {
+        number: stmt.number,
+        first: stmt.first,
+        to: stmt.to,
+        kind: copy_command(&stmt.kind, alloc)?,
+    })
+}
+
+#[cycle(copy_stmt)]
+fn copy_command<A: Allocator, B: Allocator + Clone>(
+    kind: &StmtKind<A>,
+    alloc: &B,
+) -> Result<StmtKind<B>, AllocError>
+    ensures { IfOk result (λ k. command_view k ≡ command_view kind.now) }
+{
+    match kind {
+        StmtKind::Declare(decl, right) => Ok(StmtKind::Declare(
+            copy_decl(decl, alloc)?,
+            copy_initial(right, alloc)?,
+        )),
+        StmtKind::Assign(name, right) => Ok(StmtKind::Assign(
+            copy_name(name, alloc)?,
+            copy_right(right, alloc)?,
+        )),
+        StmtKind::Write(name, index, value) => Ok(StmtKind::Write(
+            copy_name(name, alloc)?,
+            copy_boxed(index, alloc)?,
+            copy_boxed(value, alloc)?,
+        )),
+        StmtKind::AssignAll(names, call) => Ok(StmtKind::AssignAll(
+            copy_names(names, alloc)?,
+            copy_call(call, alloc)?,
+        )),
+        StmtKind::Call(priority, call) => Ok(StmtKind::Call(*priority, copy_call(call, alloc)?)),
+        StmtKind::If(test, then, None) => Ok(StmtKind::If(
+            copy_boxed(test, alloc)?,
+            boxed_block(then, alloc)?,
+            None,
+        )),
+        StmtKind::If(test, then, Some(other)) => Ok(StmtKind::If(
+            copy_boxed(test, alloc)?,
+            boxed_block(then, alloc)?,
+            Some(boxed_block(other, alloc)?),
+        )),
+        StmtKind::Foreach(value, key, source, body) => Ok(StmtKind::Foreach(
+            copy_name(value, alloc)?,
+            copy_key(key, alloc)?,
+            copy_source(source, alloc)?,
+            boxed_block(body, alloc)?,
+        )),
+        StmtKind::Wait(names, body) => Ok(StmtKind::Wait(
+            copy_names(names, alloc)?,
+            boxed_block(body, alloc)?,
+        )),
+    }
+}
+
+#[cycle(copy_stmt)]
+fn boxed_block<A: Allocator, B: Allocator + Clone>(
+    block: &Block<A>,
+    alloc: &B,
+) -> Result<Box<Block<B>, B>, AllocError>
+    ensures { IfOk result (λ b. body_view b.value ≡ body_view block.now) }
+{
+    Ok(Box::new(alloc.clone()?, copy_block(block, alloc)?)?)
+}
+
+#[cycle(copy_stmt)]
+fn copy_block<A: Allocator, B: Allocator + Clone>(
+    block: &Block<A>,
+    alloc: &B,
+) -> Result<Block<B>, AllocError>
+    ensures { IfOk result (λ b. body_view b ≡ body_view block.now) }
+{
+    let mut statements = Vec::new(alloc.clone()?);
+    append_stmts(&mut statements, &block.statements, alloc)?;
+    Ok(crate::block(block.from, statements))
+}
+
+#[cycle(copy_stmt)]
+fn append_stmts<A: Allocator, B: Allocator + Clone>(
+    copies: &mut Vec<Stmt<B>, B>,
+    stmts: &Vec<Stmt<A>, A>,
+    alloc: &B,
+) -> Result<(), AllocError>
+    ensures { OnOk result (map statement_view copies.new.items ≡ map statement_view copies.old.items ++ map statement_view stmts.now.items) }
+{
+    for stmt in stmts {
+        copies.push(copy_stmt(stmt, alloc)?)?;
+    }
+    Ok(())
+}
+
+// SCRIPTS
+
+fn copy_function<A: Allocator, B: Allocator + Clone>(
+    function: &Function<A>,
+    alloc: &B,
+) -> Result<Function<B>, AllocError>
+    ensures { IfOk result (λ f. composite_of f ≡ composite_of function.now) }
+{
+    Ok(Function {
+        number: function.number,
+        first: function.first,
+        to: function.to,
+        outputs: copy_decls(&function.outputs, alloc)?,
+        name: copy_name(&function.name, alloc)?,
+        inputs: copy_decls(&function.inputs, alloc)?,
+        body: copy_block(&function.body, alloc)?,
+    })
+}
+
+fn copy_item<A: Allocator, B: Allocator + Clone>(
+    item: &Item<A>,
+    alloc: &B,
+) -> Result<Item<B>, AllocError>
+    ensures { IfOk result (λ i. part_of i ≡ part_of item.now) }
+{
+    match item {
+        Item::Import(span) => Ok(Item::Import(*span)),
+        Item::Function(function) => Ok(Item::Function(Box::new(
+            alloc.clone()?,
+            copy_function(function, alloc)?,
+        )?)),
+        Item::Statement(stmt) => Ok(Item::Statement(Box::new(
+            alloc.clone()?,
+            copy_stmt(stmt, alloc)?,
+        )?)),
+    }
+}
+
+fn append_items<A: Allocator, B: Allocator + Clone>(
+    copies: &mut Vec<Item<B>, B>,
+    items: &Vec<Item<A>, A>,
+    alloc: &B,
+) -> Result<(), AllocError>
+    ensures { OnOk result (map part_of copies.new.items ≡ map part_of copies.old.items ++ map part_of items.now.items) }
+{
+    for item in items {
+        copies.push(copy_item(item, alloc)?)?;
+    }
+    Ok(())
+}
