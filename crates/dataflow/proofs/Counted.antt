@@ -1,6 +1,6 @@
 -- How often items can newly begin in a run: there is such a number, and the events alone tell it.
 use Rattle.std.proofs.Common.{◌≡◌, ◌⊎◌, inl, inr, ℕ, ◌+◌, ◌≤◌, List, [], ◌∷◌, map, refl, sym, ◌∙◌, subst, Option, None, Some, length, arith}
-use Rattle.dataflow.specs.System.{In, Distinct, Input, Scalar, Whole, Element, ElementAt, Effect, System}
+use Rattle.dataflow.specs.System.{In, Distinct, Input, StoredScalar, ClosedArray, ElementOf, ElementAt, Effect, System}
 use Rattle.dataflow.specs.Laws.{Laws}
 use Rattle.dataflow.specs.Machine.{Item, State, Event, Holds, ClosedByRights, IsElementKnown, IsKnown, Enabled, Steps, Run, start}
 use Rattle.dataflow.specs.History.{log_of_step}
@@ -84,9 +84,9 @@ module _ {T D K V E : Type 0} (S : System T D K V E) (L : Laws S) where
         by (inl h) = elim (element_is s a (S.key_of h.0)) [ inl g ↦ inl (h.0, h.1, g) | inr n ↦ inr (λ x. n (subst (λ (v : V). IsElementKnown S s a (S.key_of v)) (one_value S L s log f d S.only x.0 h.0 x.1 h.1) x.2)) ]
 
     known_is : (n : Input D K) → IsKnown S s n ⊎ (IsKnown S s n → ⊥)
-    known_is (Scalar d) = elim (value_is S L d S.only s.stored) [ inl h ↦ inl h | inr n ↦ inr (λ x. n x.0 x.1) ]
-    known_is (Whole a) = closed_is s a
-    known_is (Element a k) = element_is s a k
+    known_is (StoredScalar d) = elim (value_is S L d S.only s.stored) [ inl h ↦ inl h | inr n ↦ inr (λ x. n x.0 x.1) ]
+    known_is (ClosedArray a) = closed_is s a
+    known_is (ElementOf a k) = element_is s a k
     known_is (ElementAt a d) = element_at_is a d
 
     all_known_is : (is : List (Input D K)) → ((n : Input D K) → In n is → IsKnown S s n) ⊎ (((n : Input D K) → In n is → IsKnown S s n) → ⊥)

@@ -1,6 +1,6 @@
 -- What the items of a state see: an enabled item has one list of answers, a closed array one content.
 use Rattle.std.proofs.Common.{◌≡◌, ◌⊎◌, inl, inr, List, [], ◌∷◌, refl, sym, subst}
-use Rattle.dataflow.specs.System.{In, Input, Scalar, Whole, Element, ElementAt, Answer, Value, Missing, Content, Effect, System}
+use Rattle.dataflow.specs.System.{In, Input, StoredScalar, ClosedArray, ElementOf, ElementAt, Answer, Found, Missing, Content, Effect, System}
 use Rattle.dataflow.specs.Facts.{Written}
 use Rattle.dataflow.specs.Laws.{Laws}
 use Rattle.dataflow.specs.Log.{Logged, ReadsAll}
@@ -30,17 +30,17 @@ module _ {T D K V E : Type 0} (S : System T D K V E) (L : Laws S) where
         (l.0, record { closed = c; in_order = l.1; all = λ k v h. l.2 (k, v) (r.1 k v h); only = λ k v h. r.2 k v (l.3 (k, v) h) })
 
     element_seen : (a : D) (k : K) → IsElementKnown S s a k → (x : Answer K V) × SeesElement S s a k x
-    element_seen a k (inl h) = (Value h.0, h.1)
+    element_seen a k (inl h) = (Found h.0, h.1)
     element_seen a k (inr c) = by (value_is S L a k s.stored)
       where
         by : (((v : V) × Holds S s a k v) ⊎ ((v : V) → Holds S s a k v → ⊥)) → (x : Answer K V) × SeesElement S s a k x
-        by (inl h) = (Value h.0, h.1)
+        by (inl h) = (Found h.0, h.1)
         by (inr n) = (Missing, record { closed = c; none = n })
 
     seen : (i : Input D K) → IsKnown S s i → (x : Answer K V) × Sees S s i x
-    seen (Scalar d) h = (Value h.0, (h.0, h.1, refl))
-    seen (Whole a) c = (let r = closed_content a c in (Content r.0, (r.0, r.1, refl)))
-    seen (Element a k) h = element_seen a k h
+    seen (StoredScalar d) h = (Found h.0, (h.0, h.1, refl))
+    seen (ClosedArray a) c = (let r = closed_content a c in (Content r.0, (r.0, r.1, refl)))
+    seen (ElementOf a k) h = element_seen a k h
     seen (ElementAt a d) h = (let r = element_seen a (S.key_of h.0) h.2 in (r.0, (h.0, h.1, r.1)))
 
     all_seen : (is : List (Input D K)) → ((n : Input D K) → In n is → IsKnown S s n) → (xs : List (Answer K V)) × SeesAll S s is xs
@@ -51,14 +51,14 @@ module _ {T D K V E : Type 0} (S : System T D K V E) (L : Laws S) where
         (x.0 ∷ r.0, (x.1, r.1))
 
     element_known : (a : D) (k : K) (x : Answer K V) → SeesElement S s a k x → IsElementKnown S s a k
-    element_known a k (Value v) h = inl (v, h)
+    element_known a k (Found v) h = inl (v, h)
     element_known a k Missing h = inr h.closed
     element_known a k (Content xs) h = absurd h
 
     known : (i : Input D K) (x : Answer K V) → Sees S s i x → IsKnown S s i
-    known (Scalar d) x h = (h.0, h.1)
-    known (Whole a) x h = h.1.closed
-    known (Element a k) x h = element_known a k x h
+    known (StoredScalar d) x h = (h.0, h.1)
+    known (ClosedArray a) x h = h.1.closed
+    known (ElementOf a k) x h = element_known a k x h
     known (ElementAt a d) x h = (h.0, h.1, element_known a (S.key_of h.0) x h.2)
 
     all_known : (is : List (Input D K)) (xs : List (Answer K V)) → SeesAll S s is xs → (n : Input D K) → In n is → IsKnown S s n

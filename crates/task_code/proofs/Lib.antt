@@ -1,0 +1,9 @@
+mod Equal
+mod Places
+mod Chunks
+mod Listed
+mod Opens
+mod Rights
+mod Kept
+mod Counted
+mod Checked

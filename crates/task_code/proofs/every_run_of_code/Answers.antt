@@ -1,0 +1,30 @@
+use Rattle.std.specs.Prelude.{ℕ, ◌+◌, ◌*◌, ◌≤◌, length}
+use Rattle.std.proofs.Common.{subst}
+use Rattle.dataflow.specs.Events.{backs}
+use Rattle.dataflow.specs.History.{log_of}
+use Rattle.dataflow.proofs.Bound.{events_bound}
+use Rattle.dataflow.proofs.Steps.{run_follows}
+use Rattle.dataflow.proofs.Numbers.{run_numbered}
+use Rattle.dataflow.proofs.Headline.{agrees_with, complete, goes_on}
+use Rattle.dataflow.proofs.Keeping.{live_bound}
+use Rattle.task_code.specs.System.{code_system}
+use Rattle.task_code.proofs.Kept.{code_laws}
+use Rattle.task_code.proofs.Counted.{all_items, live_in, items_counted}
+use Rattle.task_code.proofs.every_run_of_code.Goals as goal
+
+pub returns-clause-agrees : goal.returns-clause-agrees
+returns-clause-agrees g = λ C I clean es s x. agrees_with (code_system C) (code_laws C I) s (log_of (code_system C) es s x) (run_follows (code_system C) (code_laws C I) es s x) clean
+
+pub returns-clause-complete : goal.returns-clause-complete
+returns-clause-complete g = λ C I es s x q. complete (code_system C) (code_laws C I) s (log_of (code_system C) es s x) (run_follows (code_system C) (code_laws C I) es s x) q
+
+pub returns-clause-goes_on : goal.returns-clause-goes_on
+returns-clause-goes_on g = λ C I es s x. goes_on (code_system C) (code_laws C I) s (log_of (code_system C) es s x) (run_follows (code_system C) (code_laws C I) es s x) (run_numbered (code_system C) es s x)
+
+pub returns-clause-bound : goal.returns-clause-bound
+returns-clause-bound g = λ C es s x. events_bound (code_system C) es s x
+
+pub returns-clause-bound_by_blocks : goal.returns-clause-bound_by_blocks
+returns-clause-bound_by_blocks g = λ C I clean blocks loops hb hl es s x.
+    subst (λ (n : ℕ). length es ≤ 2 * (n + backs es)) (items_counted C I clean blocks loops hb hl)
+    (live_bound (code_system C) (code_laws C I) clean (all_items C I clean blocks loops hb hl) (λ n t l. live_in C I clean blocks loops hb hl n l) es s x)

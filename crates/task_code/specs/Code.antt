@@ -1,0 +1,241 @@
+-- Code: bodies of entries, laid flat.
+use Rattle.std.specs.Prelude.{ℕ, zero, suc, Bool, true, false, ◌&&◌, List, [], ◌∷◌, Option, Some, None, ℤ, pos, nat_eq}
+use Rattle.values.specs.declared.key.Key.{Key}
+use Rattle.values.specs.declared.value.Scalar.{Scalar}
+use Rattle.values.specs.declared.value.Scalar.TheVariants.{Number}
+use Rattle.values.specs.Values.{same_truth}
+use Rattle.values.specs.Operators.{Operation}
+
+-- what has a datum in each instance of its block: the node of the source that it belongs to, and whether it is an array
+pub record Variable : Type 0 where
+  pub node : ℕ
+  pub array : Bool
+
+-- what a block can name as its own: a variable of it, or, in a function's body, an input or output of the function by its place in the call's arguments
+pub data Owned : Type 0 where
+  Local : Variable → Owned
+  Parameter : (index : ℕ) → (array : Bool) → Owned
+
+-- a name, seen from a block: the owner lies so many steps of the path further out
+pub record Name : Type 0 where
+  pub up : ℕ
+  pub owned : Owned
+
+-- what an entry waits for: a scalar that is stored, an array that is closed, or an element of an array, at a scalar's value or at a key
+pub data Need : Type 0 where
+  Stored : Name → Need
+  Closed : Name → Need
+  At : (array index : Name) → Need
+  AtKey : (array : Name) → (key : Key) → Need
+
+-- an expression over constants and over what the needs gave, told by their places in the entry's list
+mutual
+  pub data Expr : Type 0 where
+    constant : Scalar → Expr
+    need : ℕ → Expr
+    operation : Operation → Exprs → Expr
+
+  pub data Exprs : Type 0 where
+    no_operand : Exprs
+    operand : Expr → Exprs → Exprs
+
+-- what a call hands over for a parameter: a name of the caller, or a literal that stands for itself and has no datum
+pub data Argument : Type 0 where
+  Named : Name → Argument
+  Fixed : Scalar → Argument
+
+-- a loop's body, and the nodes of its variables: the value, and the key or number of the turn
+pub record Loop : Type 0 where
+  pub body : ℕ
+  pub value : ℕ
+  pub turn : Option ℕ
+
+-- one `wait` of those that were merged into one: its statement's offset, and what it waits for
+pub record Header : Type 0 where
+  pub at : ℕ
+  pub needs : List Need
+
+-- what an entry does when it ends
+pub data Act : Type 0 where
+  Cell : Expr → Act
+  Read : Act
+  Call : (body : ℕ) → (arguments : List Argument) → Act
+  Set : (target : Name) → Expr → Act
+  Fill : (target : Name) → Exprs → Act
+  Copy : (target : Name) → Act
+  Put : (target : Name) → (index right : Expr) → Act
+  Print : Expr → Act
+  Assert : Expr → Act
+  If : Expr → (then_body : ℕ) → (else_body : Option ℕ) → Act
+  Range : (low high step : Expr) → Loop → Act
+  Each : Loop → Act
+  Wait : (headers : List Header) → (body : ℕ) → Act
+
+-- an entry of a body
+pub record Entry : Type 0 where
+  pub node : ℕ  -- the variable of this node gets the value of a cell or an element read
+  pub at : ℕ  -- the offset of its statement, where its faults are reported
+  pub mark : ℕ  -- the offset that a listing shows, and that the paths of the blocks that it opens have
+  pub priority : ℤ
+  pub needs : List Need
+  pub act : Act
+  pub reads : List Name  -- what it may read, by itself or through entries that it leads to
+  pub writes : List Name  -- what it may write, likewise
+
+-- engines run control items, workers run leaf items
+pub data Kind : Type 0 where
+  Control Leaf : Kind
+
+-- what opens a body: nothing but the start, a wait, a branch or loop, or the calls of its function
+pub data Opener : Type 0 where
+  ByMain : Opener
+  ByWait : (entry : ℕ) → Opener
+  ByStep : (entry : ℕ) → Opener
+  ByCalls : Opener
+
+-- a block of the source: what opens it, the variables that it declares, and its entries in order
+pub record Body : Type 0 where
+  pub opener : Opener
+  pub makes : List Variable
+  pub entries : List ℕ
+
+-- the body of number 0 is the script
+pub record Code : Type 0 where
+  pub entries : List Entry
+  pub bodies : List Body
+
+-- a variable, seen from its own block
+abbrev pub here : Variable → Name
+here v = record { up = 0; owned = Local v }
+
+-- the scalar of a node
+abbrev pub scalar : ℕ → Variable
+scalar n = record { node = n; array = false }
+
+abbrev pub is_array_owned : Owned → Bool
+is_array_owned (Local v) = v.array
+is_array_owned (Parameter k b) = b
+
+-- a name tells whether it is an array's
+abbrev pub is_array_name : Name → Bool
+is_array_name r = is_array_owned r.owned
+
+-- which entries are run by engines
+abbrev pub kind_of : Act → Kind
+kind_of (Cell e) = Leaf
+kind_of Read = Control
+kind_of (Call b rs) = Control
+kind_of (Set r e) = Leaf
+kind_of (Fill r es) = Leaf
+kind_of (Copy r) = Control
+kind_of (Put r i e) = Control
+kind_of (Print e) = Leaf
+kind_of (Assert e) = Leaf
+kind_of (If e b d) = Control
+kind_of (Range l h s w) = Control
+kind_of (Each w) = Control
+kind_of (Wait hs b) = Control
+
+abbrev pub blank_entry : Entry
+blank_entry = record { node = 0; at = 0; mark = 0; priority = pos 0; needs = []; act = Print (constant (Number (pos 0))); reads = []; writes = [] }
+
+abbrev pub blank_body : Body
+blank_body = record { opener = ByMain; makes = []; entries = [] }
+
+abbrev pub nth : {X : Type 0} → X → List X → ℕ → X
+nth d [] n = d
+nth d (x ∷ xs) zero = x
+nth d (x ∷ xs) (suc n) = nth d xs n
+
+-- the entry and the body of a number; a number that there is not has a blank one
+abbrev pub entry : Code → ℕ → Entry
+entry C i = nth blank_entry C.entries i
+
+abbrev pub body : Code → ℕ → Body
+body C b = nth blank_body C.bodies b
+
+-- the entry of the call whose function's name stands at an offset
+abbrev pub call_from : ℕ → List Entry → ℕ → ℕ
+call_from i [] at = 0
+call_from i (e ∷ es) at = elim (is_call e.act && nat_eq e.mark at) [ true ↦ i | false ↦ call_from (suc i) es at ]
+  where
+    is_call : Act → Bool
+    is_call (Call b rs) = true
+    is_call _ = false
+
+abbrev pub call_at : Code → ℕ → ℕ
+call_at C at = call_from 0 C.entries at
+
+abbrev pub arguments : Act → List Argument
+arguments (Call b rs) = rs
+arguments _ = []
+
+-- what a parameter stands for: the argument at its place, if it is of its kind; a literal is a scalar's
+abbrev pub argument_in : List Argument → ℕ → Bool → Option Argument
+argument_in [] k b = None
+argument_in (Named r ∷ rs) zero b = elim (same_truth (is_array_name r) b) [ true ↦ Some (Named r) | false ↦ None ]
+argument_in (Fixed v ∷ rs) zero b = elim b [ true ↦ None | false ↦ Some (Fixed v) ]
+argument_in (x ∷ rs) (suc k) b = argument_in rs k b
+
+abbrev pub argument : Code → ℕ → ℕ → Bool → Option Argument
+argument C at k b = argument_in (arguments (entry C (call_at C at)).act) k b
+
+-- how an entry opens a body: at its own path, by a step, or by a call's step
+pub data Way : Type 0 where
+  InPlace Through Calling : Way
+
+-- the bodies that an act can open
+abbrev pub ways : Act → List (Way × ℕ)
+ways (Cell e) = []
+ways Read = []
+ways (Call b rs) = (Calling, b) ∷ []
+ways (Set r e) = []
+ways (Fill r es) = []
+ways (Copy r) = []
+ways (Put r i e) = []
+ways (Print e) = []
+ways (Assert e) = []
+ways (If e b None) = (Through, b) ∷ []
+ways (If e b (Some d)) = (Through, b) ∷ (Through, d) ∷ []
+ways (Range l h s w) = (Through, w.body) ∷ []
+ways (Each w) = (Through, w.body) ∷ []
+ways (Wait hs b) = (InPlace, b) ∷ []
+
+-- what an entry of a node stores into, but for a loop's variables
+abbrev pub targets_of : ℕ → Act → List Name
+targets_of n (Cell e) = here (scalar n) ∷ []
+targets_of n Read = here (scalar n) ∷ []
+targets_of n (Call b rs) = []
+targets_of n (Set r e) = r ∷ []
+targets_of n (Fill r es) = r ∷ []
+targets_of n (Copy r) = r ∷ []
+targets_of n (Put r i e) = r ∷ []
+targets_of n (Print e) = []
+targets_of n (Assert e) = []
+targets_of n (If e b d) = []
+targets_of n (Range l h s w) = []
+targets_of n (Each w) = []
+targets_of n (Wait hs b) = []
+
+abbrev pub targets : Entry → List Name
+targets e = targets_of e.node e.act
+
+abbrev pub loop_of : Act → Option Loop
+loop_of (Range l h s w) = Some w
+loop_of (Each w) = Some w
+loop_of _ = None
+
+abbrev pub turn_variables : Option ℕ → List Variable
+turn_variables None = []
+turn_variables (Some n) = scalar n ∷ []
+
+-- a loop's variables are data of the block of each turn
+abbrev pub loop_variables : Loop → List Variable
+loop_variables w = scalar w.value ∷ turn_variables w.turn
+
+-- the names that a need has
+abbrev pub needed : Need → List Name
+needed (Stored r) = r ∷ []
+needed (Closed r) = r ∷ []
+needed (At a r) = a ∷ r ∷ []
+needed (AtKey a k) = a ∷ []

@@ -1,0 +1,10 @@
+pub mod Code
+pub mod Places
+pub mod Compute
+pub mod Effects
+pub mod System
+pub mod Shape
+pub mod Whole
+pub mod Check
+pub mod Count
+pub mod Worked

@@ -1,0 +1,359 @@
+-- Worked scripts as code, bad codes, and what items of them do.
+use Rattle.std.specs.Prelude.{◌≡◌, ℕ, true, false, length, [], ◌∷◌, Option, None, Some, pos}
+use Rattle.dataflow.specs.System.{Answer, Bad, Found, Good, Missing, Outcome}
+use Rattle.task_code.specs.Code.{At, AtKey, ByCalls, ByMain, ByStep, ByWait, Call, Cell, Closed, Code, Expr, Fill, Fixed, If, Local, Name, Named, Parameter, Print, Put, Range, Read, Set, Stored, Variable, Wait, constant, here, need, no_operand, operand, operation, scalar}
+use Rattle.task_code.specs.Compute.{EntryFault, InOperation, NoElement, range_turns}
+use Rattle.task_code.specs.Effects.{Item, Task, chunk, only}
+use Rattle.task_code.specs.Places.{Constant, Datum, Place, Step, place_at}
+use Rattle.task_code.specs.System.{code_system}
+use Rattle.values.specs.Operators.{Operation, compare, printf, product_of, size, sum_of}
+use Rattle.values.specs.declared.fault.OpFault.TheVariants.{Overflow}
+use Rattle.values.specs.declared.key.Key.{Key}
+use Rattle.values.specs.declared.key.Key.TheVariants.{Number as number_key}
+use Rattle.values.specs.declared.value.Scalar.{Scalar}
+use Rattle.values.specs.declared.value.Scalar.TheVariants.{Number, Text, Truth}
+use Rattle.values.specs.declared.format.Piece.TheVariants.{Byte, Number as digits}
+use Rattle.values.specs.declared.op.Sign.TheVariants.{Plus, Minus}
+use Rattle.values.specs.declared.op.Factor.TheVariants.{Times}
+use Rattle.values.specs.declared.op.Order.TheVariants.{Less}
+
+-- an array of a node
+abbrev array : ℕ → Variable
+array n = record { node = n; array = true }
+
+-- a variable of the block that lies one step further out
+abbrev outer : Variable → Name
+outer v = record { up = 1; owned = Local v }
+
+-- a scalar or an array parameter
+abbrev parameter : ℕ → ℕ → Name
+parameter up k = record { up = up; owned = Parameter k false }
+
+abbrev array_parameter : ℕ → ℕ → Name
+array_parameter up k = record { up = up; owned = Parameter k true }
+
+abbrev two : Operation → Expr → Expr → Expr
+two o a b = operation o (operand a (operand b no_operand))
+
+abbrev num : ℕ → Expr
+num n = constant (Number (pos n))
+
+-- printf("%i", ..) of the first need
+abbrev print_number : Expr
+print_number = operation (printf (digits ∷ [])) (operand (need 0) no_operand)
+
+-- printf("hello");
+abbrev pub hello : Code
+hello =
+    record {
+      entries =
+          record { node = 1; at = 0; mark = 0; priority = pos 0; needs = []; act = Print (operation (printf (Byte 104 ∷ Byte 101 ∷ Byte 108 ∷ Byte 108 ∷ Byte 111 ∷ [])) no_operand); reads = []; writes = [] }
+          ∷ [];
+      bodies =
+          record { opener = ByMain; makes = []; entries = 0 ∷ [] }
+          ∷ [];
+    }
+
+-- int x; int y; x = y + 1; y = 2; printf("%i", x);
+abbrev pub used_before_assigned : Code
+used_before_assigned =
+    let x = scalar 1 in
+    let y = scalar 2 in
+    record {
+      entries =
+          record { node = 3; at = 14; mark = 14; priority = pos 0; needs = Stored (here y) ∷ []; act = Set (here x) (two (sum_of (Plus ∷ [])) (need 0) (num 1)); reads = here y ∷ []; writes = here x ∷ [] }
+          ∷ record { node = 4; at = 25; mark = 25; priority = pos 0; needs = []; act = Set (here y) (num 2); reads = []; writes = here y ∷ [] }
+          ∷ record { node = 5; at = 32; mark = 32; priority = pos 0; needs = Stored (here x) ∷ []; act = Print print_number; reads = here x ∷ []; writes = [] }
+          ∷ [];
+      bodies =
+          record { opener = ByMain; makes = x ∷ y ∷ []; entries = 0 ∷ 1 ∷ 2 ∷ [] }
+          ∷ [];
+    }
+
+-- int A[]; A[0] = 1; foreach i in [1:5] { A[i] = A[i-1] * 2; } printf("%i", A[5]);
+abbrev pub filled_by_loop : Code
+filled_by_loop =
+    let a = array 1 in
+    let i = scalar 3 in
+    let before = scalar 5 in
+    let found = scalar 6 in
+    let double = scalar 7 in
+    let last = scalar 9 in
+    record {
+      entries =
+          record { node = 2; at = 9; mark = 9; priority = pos 0; needs = []; act = Put (here a) (num 0) (num 1); reads = []; writes = here a ∷ [] }
+          ∷ record { node = 4; at = 19; mark = 19; priority = pos 0; needs = []; act = Range (num 1) (num 5) (num 1) (record { body = 1; value = 3; turn = None }); reads = here a ∷ []; writes = here a ∷ [] }
+          ∷ record { node = 9; at = 61; mark = 74; priority = pos 0; needs = AtKey (here a) (number_key (pos 5)) ∷ []; act = Read; reads = here a ∷ []; writes = here last ∷ [] }
+          ∷ record { node = 10; at = 61; mark = 61; priority = pos 0; needs = Stored (here last) ∷ []; act = Print print_number; reads = here last ∷ []; writes = [] }
+          ∷ record { node = 5; at = 40; mark = 49; priority = pos 0; needs = Stored (here i) ∷ []; act = Cell (two (sum_of (Minus ∷ [])) (need 0) (num 1)); reads = here i ∷ []; writes = here before ∷ [] }
+          ∷ record { node = 6; at = 40; mark = 47; priority = pos 0; needs = At (outer a) (here before) ∷ []; act = Read; reads = outer a ∷ here before ∷ []; writes = here found ∷ [] }
+          ∷ record { node = 7; at = 40; mark = 47; priority = pos 0; needs = Stored (here found) ∷ []; act = Cell (two (product_of (Times ∷ [])) (need 0) (num 2)); reads = here found ∷ []; writes = here double ∷ [] }
+          ∷ record { node = 8; at = 40; mark = 40; priority = pos 0; needs = Stored (here i) ∷ Stored (here double) ∷ []; act = Put (outer a) (need 0) (need 1); reads = here i ∷ here double ∷ []; writes = outer a ∷ [] }
+          ∷ [];
+      bodies =
+          record { opener = ByMain; makes = a ∷ last ∷ []; entries = 0 ∷ 1 ∷ 2 ∷ 3 ∷ [] }
+          ∷ record { opener = ByStep 1; makes = i ∷ before ∷ found ∷ double ∷ []; entries = 4 ∷ 5 ∷ 6 ∷ 7 ∷ [] }
+          ∷ [];
+    }
+
+-- int A[]; A[0] = 1; A[0] = 2; printf("%i", A[0]);
+abbrev pub key_written_twice : Code
+key_written_twice =
+    let a = array 1 in
+    let found = scalar 4 in
+    record {
+      entries =
+          record { node = 2; at = 9; mark = 9; priority = pos 0; needs = []; act = Put (here a) (num 0) (num 1); reads = []; writes = here a ∷ [] }
+          ∷ record { node = 3; at = 19; mark = 19; priority = pos 0; needs = []; act = Put (here a) (num 0) (num 2); reads = []; writes = here a ∷ [] }
+          ∷ record { node = 4; at = 29; mark = 42; priority = pos 0; needs = AtKey (here a) (number_key (pos 0)) ∷ []; act = Read; reads = here a ∷ []; writes = here found ∷ [] }
+          ∷ record { node = 5; at = 29; mark = 29; priority = pos 0; needs = Stored (here found) ∷ []; act = Print print_number; reads = here found ∷ []; writes = [] }
+          ∷ [];
+      bodies =
+          record { opener = ByMain; makes = a ∷ found ∷ []; entries = 0 ∷ 1 ∷ 2 ∷ 3 ∷ [] }
+          ∷ [];
+    }
+
+-- (int r) fib(int n) { if (n < 2) { r = n; } else { r = fib(n-1) + fib(n-2); } } printf("%i", fib(10));
+-- the parameters of fib are its input n, 0, and its output r, 1
+abbrev pub fibonacci : Code
+fibonacci =
+    let result = scalar 1 in
+    let small = scalar 3 in
+    let below1 = scalar 6 in
+    let fib1 = scalar 7 in
+    let below2 = scalar 8 in
+    let fib2 = scalar 9 in
+    let n = parameter 0 0 in
+    let n1 = parameter 1 0 in
+    let r1 = parameter 1 1 in
+    record {
+      entries =
+          record { node = 1; at = 79; mark = 92; priority = pos 0; needs = []; act = Call 1 (Fixed (Number (pos 10)) ∷ Named (here result) ∷ []); reads = []; writes = here result ∷ [] }
+          ∷ record { node = 2; at = 79; mark = 79; priority = pos 0; needs = Stored (here result) ∷ []; act = Print print_number; reads = here result ∷ []; writes = [] }
+          ∷ record { node = 3; at = 21; mark = 25; priority = pos 0; needs = Stored n ∷ []; act = Cell (two (compare Less) (need 0) (num 2)); reads = n ∷ []; writes = here small ∷ [] }
+          ∷ record { node = 4; at = 21; mark = 21; priority = pos 0; needs = Stored (here small) ∷ []; act = If (need 0) 2 (Some 3); reads = here small ∷ n ∷ []; writes = parameter 0 1 ∷ [] }
+          ∷ record { node = 5; at = 34; mark = 34; priority = pos 0; needs = Stored n1 ∷ []; act = Set r1 (need 0); reads = n1 ∷ []; writes = r1 ∷ [] }
+          ∷ record { node = 6; at = 50; mark = 58; priority = pos 0; needs = Stored n1 ∷ []; act = Cell (two (sum_of (Minus ∷ [])) (need 0) (num 1)); reads = n1 ∷ []; writes = here below1 ∷ [] }
+          ∷ record { node = 7; at = 50; mark = 54; priority = pos 0; needs = []; act = Call 1 (Named (here below1) ∷ Named (here fib1) ∷ []); reads = here below1 ∷ []; writes = here fib1 ∷ [] }
+          ∷ record { node = 8; at = 50; mark = 69; priority = pos 0; needs = Stored n1 ∷ []; act = Cell (two (sum_of (Minus ∷ [])) (need 0) (num 2)); reads = n1 ∷ []; writes = here below2 ∷ [] }
+          ∷ record { node = 9; at = 50; mark = 65; priority = pos 0; needs = []; act = Call 1 (Named (here below2) ∷ Named (here fib2) ∷ []); reads = here below2 ∷ []; writes = here fib2 ∷ [] }
+          ∷ record { node = 10; at = 50; mark = 50; priority = pos 0; needs = Stored (here fib1) ∷ Stored (here fib2) ∷ []; act = Set r1 (two (sum_of (Plus ∷ [])) (need 0) (need 1)); reads = here fib1 ∷ here fib2 ∷ []; writes = r1 ∷ [] }
+          ∷ [];
+      bodies =
+          record { opener = ByMain; makes = result ∷ []; entries = 0 ∷ 1 ∷ [] }
+          ∷ record { opener = ByCalls; makes = small ∷ []; entries = 2 ∷ 3 ∷ [] }
+          ∷ record { opener = ByStep 3; makes = []; entries = 4 ∷ [] }
+          ∷ record { opener = ByStep 3; makes = below1 ∷ fib1 ∷ below2 ∷ fib2 ∷ []; entries = 5 ∷ 6 ∷ 7 ∷ 8 ∷ 9 ∷ [] }
+          ∷ [];
+    }
+
+-- (int B[]) fill(int n) { B[0] = n; B[1] = n + 1; } int A[]; A = fill(5); printf("%i", size(A));
+-- the parameters of fill are its input n, 0, and its output B, 1
+abbrev pub filled_by_call : Code
+filled_by_call =
+    let a = array 1 in
+    let next = scalar 5 in
+    let n = parameter 0 0 in
+    let b = array_parameter 0 1 in
+    record {
+      entries =
+          record { node = 2; at = 59; mark = 63; priority = pos 0; needs = []; act = Call 1 (Fixed (Number (pos 5)) ∷ Named (here a) ∷ []); reads = []; writes = here a ∷ [] }
+          ∷ record { node = 3; at = 72; mark = 72; priority = pos 0; needs = Closed (here a) ∷ []; act = Print (operation (printf (digits ∷ [])) (operand (operation size (operand (need 0) no_operand)) no_operand)); reads = here a ∷ []; writes = [] }
+          ∷ record { node = 4; at = 24; mark = 24; priority = pos 0; needs = Stored n ∷ []; act = Put b (num 0) (need 0); reads = n ∷ []; writes = b ∷ [] }
+          ∷ record { node = 5; at = 34; mark = 41; priority = pos 0; needs = Stored n ∷ []; act = Cell (two (sum_of (Plus ∷ [])) (need 0) (num 1)); reads = n ∷ []; writes = here next ∷ [] }
+          ∷ record { node = 6; at = 34; mark = 34; priority = pos 0; needs = Stored (here next) ∷ []; act = Put b (num 1) (need 0); reads = here next ∷ []; writes = b ∷ [] }
+          ∷ [];
+      bodies =
+          record { opener = ByMain; makes = a ∷ []; entries = 0 ∷ 1 ∷ [] }
+          ∷ record { opener = ByCalls; makes = next ∷ []; entries = 2 ∷ 3 ∷ 4 ∷ [] }
+          ∷ [];
+    }
+
+-- int x; x = 1; x = 2;
+abbrev pub assigned_twice : Code
+assigned_twice =
+    let x = scalar 1 in
+    record {
+      entries =
+          record { node = 2; at = 7; mark = 7; priority = pos 0; needs = []; act = Set (here x) (num 1); reads = []; writes = here x ∷ [] }
+          ∷ record { node = 3; at = 14; mark = 14; priority = pos 0; needs = []; act = Set (here x) (num 2); reads = []; writes = here x ∷ [] }
+          ∷ [];
+      bodies =
+          record { opener = ByMain; makes = x ∷ []; entries = 0 ∷ 1 ∷ [] }
+          ∷ [];
+    }
+
+-- int A[]; foreach i in [1:5] { A[i] = i; }, with a loop that lacks its body's right to write A
+abbrev pub loop_without_right : Code
+loop_without_right =
+    let a = array 1 in
+    let i = scalar 3 in
+    record {
+      entries =
+          record { node = 2; at = 9; mark = 9; priority = pos 0; needs = []; act = Range (num 1) (num 5) (num 1) (record { body = 1; value = 3; turn = None }); reads = []; writes = [] }
+          ∷ record { node = 4; at = 30; mark = 30; priority = pos 0; needs = Stored (here i) ∷ []; act = Put (outer a) (need 0) (need 0); reads = here i ∷ []; writes = outer a ∷ [] }
+          ∷ [];
+      bodies =
+          record { opener = ByMain; makes = a ∷ []; entries = 0 ∷ [] }
+          ∷ record { opener = ByStep 0; makes = i ∷ []; entries = 1 ∷ [] }
+          ∷ [];
+    }
+
+-- (int a, int b) two() { a = 1; b = 2; } int p; (p, p) = two();
+abbrev pub one_output_twice : Code
+one_output_twice =
+    let p = scalar 1 in
+    record {
+      entries =
+          record { node = 2; at = 46; mark = 55; priority = pos 0; needs = []; act = Call 1 (Named (here p) ∷ Named (here p) ∷ []); reads = []; writes = here p ∷ [] }
+          ∷ record { node = 3; at = 23; mark = 23; priority = pos 0; needs = []; act = Set (parameter 0 0) (num 1); reads = []; writes = parameter 0 0 ∷ [] }
+          ∷ record { node = 4; at = 30; mark = 30; priority = pos 0; needs = []; act = Set (parameter 0 1) (num 2); reads = []; writes = parameter 0 1 ∷ [] }
+          ∷ [];
+      bodies =
+          record { opener = ByMain; makes = p ∷ []; entries = 0 ∷ [] }
+          ∷ record { opener = ByCalls; makes = []; entries = 1 ∷ 2 ∷ [] }
+          ∷ [];
+    }
+
+-- printf("%i", x);, with an x that nothing declares
+abbrev pub name_undeclared : Code
+name_undeclared =
+    let x = scalar 1 in
+    record {
+      entries =
+          record { node = 2; at = 0; mark = 0; priority = pos 0; needs = Stored (here x) ∷ []; act = Print print_number; reads = here x ∷ []; writes = [] }
+          ∷ [];
+      bodies =
+          record { opener = ByMain; makes = []; entries = 0 ∷ [] }
+          ∷ [];
+    }
+
+-- int x; foreach i in [1:3] { x = i; }
+abbrev pub assigned_in_loop : Code
+assigned_in_loop =
+    let x = scalar 1 in
+    let i = scalar 3 in
+    record {
+      entries =
+          record { node = 2; at = 7; mark = 7; priority = pos 0; needs = []; act = Range (num 1) (num 3) (num 1) (record { body = 1; value = 3; turn = None }); reads = []; writes = here x ∷ [] }
+          ∷ record { node = 4; at = 28; mark = 28; priority = pos 0; needs = Stored (here i) ∷ []; act = Set (outer x) (need 0); reads = here i ∷ []; writes = outer x ∷ [] }
+          ∷ [];
+      bodies =
+          record { opener = ByMain; makes = x ∷ []; entries = 0 ∷ [] }
+          ∷ record { opener = ByStep 0; makes = i ∷ []; entries = 1 ∷ [] }
+          ∷ [];
+    }
+
+-- foreach i in [1:3] { i = 1; }
+abbrev pub loop_variable_assigned : Code
+loop_variable_assigned =
+    let i = scalar 3 in
+    record {
+      entries =
+          record { node = 2; at = 0; mark = 0; priority = pos 0; needs = []; act = Range (num 1) (num 3) (num 1) (record { body = 1; value = 3; turn = None }); reads = []; writes = [] }
+          ∷ record { node = 4; at = 21; mark = 21; priority = pos 0; needs = []; act = Set (here i) (num 1); reads = []; writes = here i ∷ [] }
+          ∷ [];
+      bodies =
+          record { opener = ByMain; makes = []; entries = 0 ∷ [] }
+          ∷ record { opener = ByStep 0; makes = i ∷ []; entries = 1 ∷ [] }
+          ∷ [];
+    }
+
+-- int x; x = 1;, with an entry that stands twice in its body
+abbrev pub entry_twice : Code
+entry_twice =
+    let x = scalar 1 in
+    record {
+      entries =
+          record { node = 2; at = 7; mark = 7; priority = pos 0; needs = []; act = Set (here x) (num 1); reads = []; writes = here x ∷ [] }
+          ∷ [];
+      bodies =
+          record { opener = ByMain; makes = x ∷ []; entries = 0 ∷ 0 ∷ [] }
+          ∷ [];
+    }
+
+-- int x; x = 1; wait (x) { printf("hello"); }, with a content that names another opener
+abbrev pub opened_by_another : Code
+opened_by_another =
+    let x = scalar 1 in
+    record {
+      entries =
+          record { node = 2; at = 7; mark = 7; priority = pos 0; needs = []; act = Set (here x) (num 1); reads = []; writes = here x ∷ [] }
+          ∷ record { node = 3; at = 14; mark = 14; priority = pos 0; needs = Stored (here x) ∷ []; act = Wait (record { at = 14; needs = Stored (here x) ∷ [] } ∷ []) 1; reads = here x ∷ []; writes = [] }
+          ∷ record { node = 4; at = 25; mark = 25; priority = pos 0; needs = []; act = Print (operation (printf (Byte 104 ∷ [])) no_operand); reads = []; writes = [] }
+          ∷ [];
+      bodies =
+          record { opener = ByMain; makes = x ∷ []; entries = 0 ∷ 1 ∷ [] }
+          ∷ record { opener = ByWait 0; makes = []; entries = 2 ∷ [] }
+          ∷ [];
+    }
+
+-- int x; x = [1];, which stores elements into a scalar
+abbrev pub scalar_filled : Code
+scalar_filled =
+    let x = scalar 1 in
+    record {
+      entries =
+          record { node = 2; at = 7; mark = 7; priority = pos 0; needs = []; act = Fill (here x) (operand (num 1) no_operand); reads = []; writes = here x ∷ [] }
+          ∷ [];
+      bodies =
+          record { opener = ByMain; makes = x ∷ []; entries = 0 ∷ [] }
+          ∷ [];
+    }
+
+-- what items of these codes do
+abbrev pub step : ℕ → ℕ → Step
+step at k = record { offset = at; key = number_key (pos k) }
+
+abbrev pub gives : ℕ → Answer Key Scalar
+gives n = Found (Number (pos n))
+
+-- x = y + 1 with 2 for y stores 3
+abbrev pub StoresThree : Type 0
+StoresThree = (code_system used_before_assigned).effect (Item 0 [] 0) (gives 2 ∷ []) ≡ Good (record { writes = record { place = Datum [] (scalar 1); key = only; value = Number (pos 3) } ∷ []; lines = []; opens = [] })
+
+-- the greatest number and 1 are no number
+abbrev pub Overflows : Type 0
+Overflows = (code_system used_before_assigned).effect (Item 0 [] 0) (gives 9223372036854775807 ∷ []) ≡ Bad (InOperation Overflow)
+
+-- printf prints the text
+abbrev pub PrintsHello : Type 0
+PrintsHello = (code_system hello).effect (Item 0 [] 0) [] ≡ Good (record { writes = []; lines = Text (104 ∷ 101 ∷ 108 ∷ 108 ∷ 111 ∷ []) ∷ []; opens = [] })
+
+-- an element that a closed array lacks is a fault
+abbrev pub LacksElement : Type 0
+LacksElement = (code_system key_written_twice).effect (Item 2 [] 0) (Missing ∷ []) ≡ Bad NoElement
+
+abbrev pub opened_by : Outcome Task Place Key Scalar EntryFault → Option ℕ
+opened_by (Bad f) = None
+opened_by (Good e) = Some (length e.opens)
+
+-- a loop of five turns opens five blocks, and leaves nothing to another item
+abbrev pub OpensTurns : Type 0
+OpensTurns = opened_by ((code_system filled_by_loop).effect (Item 1 [] 0) []) ≡ Some 5
+
+-- fib's input at its first call is 10, and its output the caller's node
+abbrev pub MeansTen : Type 0
+MeansTen = place_at fibonacci (step 21 1 ∷ step 92 0 ∷ []) (parameter 1 0) ≡ Constant (Number (pos 10))
+
+abbrev pub MeansResult : Type 0
+MeansResult = place_at fibonacci (step 21 1 ∷ step 92 0 ∷ []) (parameter 1 1) ≡ Datum [] (scalar 1)
+
+-- inside the first inner call it is a node of the block that calls
+abbrev pub MeansInner : Type 0
+MeansInner = place_at fibonacci (step 21 0 ∷ step 54 0 ∷ step 21 1 ∷ step 92 0 ∷ []) (parameter 1 1) ≡ Datum (step 21 1 ∷ step 92 0 ∷ []) (scalar 7)
+
+-- a called function writes its caller's array
+abbrev pub MeansCallersArray : Type 0
+MeansCallersArray = place_at filled_by_call (step 63 0 ∷ []) (array_parameter 0 1) ≡ Datum [] (array 1)
+
+-- a parameter that is a literal is no input of an item: n < 2 with 10 for n is false
+abbrev pub ComparesTen : Type 0
+ComparesTen = (code_system fibonacci).effect (Item 2 (step 92 0 ∷ []) 0) [] ≡ Good (record { writes = record { place = Datum (step 92 0 ∷ []) (scalar 3); key = only; value = Truth false } ∷ []; lines = []; opens = [] })
+
+-- 65 turns are a chunk of 64 and a chunk of one
+abbrev pub Chunks : Type 0
+Chunks =
+    (length (chunk 0 (range_turns (pos 1) (pos 1) 0 65)) ≡ 64)
+    × (length (chunk 1 (range_turns (pos 1) (pos 1) 0 65)) ≡ 1)
+    × (length (chunk 2 (range_turns (pos 1) (pos 1) 0 65)) ≡ 0)
