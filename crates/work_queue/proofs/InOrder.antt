@@ -1,5 +1,5 @@
 -- Lists of entries in order, round an entry k.
-use Rattle.std.proofs.Common.{◌≡◌, Bool, true, false, cond, ◌||◌, List, [], ◌∷◌, ◌++◌, refl, sym, ◌∙◌, ap, subst, append_assoc, arith, rules, length, length-append, ◌<◌, ◌+◌, ◌↔◌, IsTrue, Contains, IfSome, ℕ, zero, suc, slice_index_or}
+use Rattle.std.proofs.Common.{◌≡◌, Bool, true, false, cond, ◌||◌, List, [], ◌∷◌, ◌++◌, refl, sym, ◌∙◌, ap, subst, arith, length, length-append, ◌<◌, ◌+◌, ◌↔◌, IsTrue, Contains, IfSome, ℕ, zero, suc, slice_index_or}
 use Rattle.std.specs.List.{AllByRecursion}
 use Rattle.std.proofs.lemmas.List.Elements.{All-cons, All-from_recursion}
 use Rattle.work_queue.specs.declared.entry.Entry.{Entry}

@@ -1,5 +1,5 @@
 -- Entries are ordered totally, and those that the order does not tell apart are equal.
-use Rattle.std.proofs.Common.{◌≡◌, Bool, true, false, sym, ◌∙◌, ap, refl, rules, arith, ℕ, ◌≤◌, ◌<ℤ◌, inl, inr}
+use Rattle.std.proofs.Common.{◌≡◌, true, false, sym, ◌∙◌, ap, refl, rules, arith, ℕ, ◌≤◌, ◌<ℤ◌, inl, inr}
 use Rattle.std.specs.Cmp.{IsTotalOrder, IsStrictWeakOrder, int_ranks, tied_itself}
 use Rattle.std.specs.Cmp.Rules.{comparing}
 use Rattle.std.specs.declared.cmp.Ordering.{Ordering}

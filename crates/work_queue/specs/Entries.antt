@@ -1,5 +1,5 @@
 -- Lists of entries as they are taken.
-use Rattle.std.specs.Prelude.{◌≡◌, ◌≤◌, ◌<ℤ◌, ◌⊎◌, All, Contains, ℕ, ℤ, Bool, true, false, cond, Option, Some, None, ◌||◌, List, [], ◌∷◌}
+use Rattle.std.specs.Prelude.{◌≡◌, ◌≤◌, ◌<ℤ◌, ◌⊎◌, All, Contains, ℕ, ℤ, Bool, false, cond, Option, Some, None, ◌||◌, List, [], ◌∷◌}
 use Rattle.std.specs.List.{AllByRecursion}
 use Rattle.std.specs.List.Sorted.{IsSortedByKey}
 use Rattle.work_queue.specs.declared.entry.Entry.{Entry}

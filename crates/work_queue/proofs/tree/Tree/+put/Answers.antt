@@ -1,6 +1,5 @@
-use Rattle.std.proofs.Common.{arith, ◌≡◌, ◌∷◌, ◌++◌, true, false, sym, ◌∙◌, ◌<◌, length}
+use Rattle.std.proofs.Common.{arith, ◌≡◌, true, false, sym, ◌∙◌}
 use Rattle.work_queue.specs.Order.{precedes}
-use Rattle.work_queue.specs.Entries.{IsInOrder, inserted}
 use Rattle.work_queue.proofs.InOrder.{in_order_left, in_order_right, inserted_left, inserted_right, left_shorter, right_shorter}
 use Rattle.work_queue.proofs.tree.Tree.+put.Goals as goal
 use Rattle.work_queue.proofs.tree.Tree.+put.Goals.{then-precedes, else-precedes}

@@ -1,7 +1,6 @@
-use Rattle.std.proofs.Common.{arith, ◌≡◌, ◌∷◌, ◌++◌, true, false, is_some, sym, subst, ap, ◌∙◌, ◌<◌, length}
+use Rattle.std.proofs.Common.{arith, ◌≡◌, sym, ◌∙◌}
 use Rattle.std.specs.declared.cmp.Ordering.TheVariants.{Less, Equal, Greater}
-use Rattle.work_queue.specs.Order.{order, precedes, same}
-use Rattle.work_queue.specs.Entries.{IsInOrder, erased, holds}
+use Rattle.work_queue.specs.Order.{order}
 use Rattle.work_queue.proofs.OrderLaws.{less_precedes, greater_follows, equal_is_same}
 use Rattle.work_queue.proofs.InOrder.{in_order_left, in_order_right, erased_left, erased_right, erased_here, holds_left, holds_right, holds_here, left_shorter, right_shorter}
 use Rattle.work_queue.proofs.tree.Tree.+remove.Goals as goal
