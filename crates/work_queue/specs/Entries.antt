@@ -1,5 +1,5 @@
 -- Lists of entries as they are taken.
-use Rattle.std.specs.Prelude.{◌≡◌, ◌≤◌, ◌<ℤ◌, ◌⊎◌, All, Contains, ℕ, ℤ, Bool, true, false, cond, Option, Some, None, ◌||◌, List, [], ◌∷◌}
+use Rattle.std.specs.Prelude.{◌≡◌, ◌≤◌, ◌<ℤ◌, ◌⊎◌, All, Contains, ℕ, ℤ, Bool, false, cond, Option, Some, None, ◌||◌, List, [], ◌∷◌}
 use Rattle.std.specs.List.{AllByRecursion}
 use Rattle.std.specs.List.Sorted.{IsSortedByKey}
 use Rattle.work_queue.specs.declared.entry.Entry.{Entry}
@@ -43,9 +43,13 @@ listed kind e = (kind, e.priority, e.no)
 abbrev pub ComesNoLater : Entry → Entry → Type 0
 ComesNoLater x y = (y.priority <ℤ x.priority) ⊎ ((x.priority ≡ y.priority) × (x.no ≤ y.no))
 
--- one of the entries has this number, and is taken no later than each of them
+-- x is one of the entries, and is taken no later than each of them
+abbrev pub IsForemost : Entry → List Entry → Type 0
+IsForemost x xs = Contains xs x × All (ComesNoLater x) xs
+
+-- an entry of this number is the foremost
 abbrev pub IsTakenFirst : ℕ → List Entry → Type 0
-IsTakenFirst n xs = (x : Entry) × (x.no ≡ n) × Contains xs x × All (ComesNoLater x) xs
+IsTakenFirst n xs = (x : Entry) × (x.no ≡ n) × IsForemost x xs
 
 -- the number of the entry that is taken first
 abbrev pub first_number : List Entry → Option ℕ

@@ -1,7 +1,7 @@
 //! The entries of one kind, with nodes laid by for further ones.
-ghost use Rattle.std.specs.Prelude.{◌≡◌, ◌+◌, ◌<◌, ◌≤◌, ◌++◌, ◌↔◌, map, Contains, OnOk, OnErr, IsOk, IsTrue};
+ghost use Rattle.std.specs.Prelude.{◌≡◌, ◌+◌, ◌<◌, ◌≤◌, ◌++◌, ◌↔◌, map, Contains, OnOk, OnErr, IfSome, IsOk, IsTrue};
 ghost use Rattle.std.specs.Bool.{OnTrue, OnFalse};
-ghost use Rattle.work_queue.specs.Entries.{first_of, listed};
+ghost use Rattle.work_queue.specs.Entries.{IsForemost, first_of, listed};
 ghost use Rattle.work_queue.specs.Waiting.{none, with_put, with_room, without_first, without};
 
 use crate::entry::{Entry, Kind};
@@ -9,11 +9,13 @@ use crate::tree::{Node, Tree};
 use std::alloc::{AllocError, Global};
 use std::marker::Model;
 
+/// The entries that wait, and nodes that stand nowhere. A node that is laid by is one more entry that
+/// needs no memory, and an entry that leaves lays its node by.
 #[derive(Drop)]
 pub struct Pile {
     tree: Tree,
     len: usize,
-    // The place for these is never less than for all nodes, so that each finds its way back.
+    // Has place for all nodes there are, so that each can be laid by without asking for memory.
     spare: Vec<Box<Node>>,
 }
 
@@ -45,10 +47,8 @@ impl Pile {
         ensures ok { OnOk result (self.new ≡ record self.old { room = self.old.room + 1 }) }
         ensures err { OnErr result (self.new ≡ self.old) }
     {
-        let alloc = self.allocator();
-        let wanted = self.len.checked_add(1).ok_or(AllocError)?;
-        self.spare.reserve(wanted)?;
-        let node = Box::new(alloc, Node::blank())?;
+        self.spare.reserve(self.len + 1)?;
+        let node = Box::new(*self.spare.allocator(), Node::blank())?;
         self.spare.push_reserved(node);
         Ok(())
     }
@@ -84,7 +84,8 @@ impl Pile {
     }
 
     pub fn first(&self) -> Option<Entry>
-        ensures { result ≡ first_of self.now.entries }
+        ensures first { result ≡ first_of self.now.entries }
+        ensures foremost { IfSome result (λ e. IsForemost e self.now.entries) }
     {
         self.tree.first()
     }
@@ -102,6 +103,7 @@ impl Pile {
 
     pub fn take(&mut self) -> Option<Entry>
         ensures first { result ≡ first_of self.old.entries }
+        ensures foremost { IfSome result (λ e. IsForemost e self.old.entries) }
         ensures rest { self.new ≡ without_first self.old }
     {
         let node = self.tree.take_first()?;
