@@ -7,3 +7,6 @@ mod Rights
 mod Kept
 mod Counted
 mod Checked
+mod Decided
+mod Exactly
+mod WorkedRuns

@@ -2,6 +2,7 @@
 #![tactic(auto)]
 
 ghost use Rattle.std.specs.Prelude.{◌≡◌, ℕ, true, false, List, length, ◌+◌, ◌*◌, ◌≤◌};
+ghost use Rattle.dataflow.specs.System.{In};
 ghost use Rattle.dataflow.specs.Facts.{Clean};
 ghost use Rattle.dataflow.specs.Machine.{State, Event, Step as MachineStep, Run, Quiet};
 ghost use Rattle.dataflow.specs.Events.{backs, Newly};
@@ -11,17 +12,18 @@ ghost use Rattle.dataflow.specs.Data.{AnswersAreOne, DataAreKept, IsTidy, DataAr
 ghost use Rattle.dataflow.specs.Names.{NamedState, IsNaming, NamedStep, NamedSteps, named_start, IsFresh};
 ghost use Rattle.values.specs.declared.key.Key.{Key};
 ghost use Rattle.values.specs.declared.value.Scalar.{Scalar};
-ghost use Rattle.task_code.specs.Code.{Code};
+ghost use Rattle.task_code.specs.Code.{Code, Name, entry, targets};
 ghost use Rattle.task_code.specs.Places.{Step, Place};
 ghost use Rattle.task_code.specs.Effects.{Task};
 ghost use Rattle.task_code.specs.Compute.{EntryFault};
 ghost use Rattle.task_code.specs.System.{code_system};
 ghost use Rattle.task_code.specs.Whole.{IsCode};
 ghost use Rattle.task_code.specs.Check.{is_code};
+ghost use Rattle.task_code.specs.Exact.{needs_of, Leads, IsExact, is_exact};
 ghost use Rattle.task_code.specs.Count.{HasAllBlocks, HasAllLoops, items_in};
 ghost use Rattle.task_code.specs.Worked.{hello, used_before_assigned, filled_by_loop, key_written_twice, fibonacci, filled_by_call};
 ghost use Rattle.task_code.specs.Worked.{assigned_twice, loop_without_right, one_output_twice, name_undeclared, assigned_in_loop, loop_variable_assigned, entry_twice, opened_by_another, scalar_filled};
-ghost use Rattle.task_code.specs.Worked.{StoresThree, Overflows, PrintsHello, LacksElement, OpensTurns, MeansTen, MeansResult, MeansInner, MeansCallersArray, ComparesTen, Chunks};
+ghost use Rattle.task_code.specs.Worked.{right_without_use, HelloRuns, SecondWriteFaults, StoresThree, Overflows, PrintsHello, LacksElement, OpensTurns, MeansTen, MeansResult, MeansInner, MeansCallersArray, ComparesTen, Chunks};
 
 /// The theorem for every list of events of whole code. If no key is written twice in any round, each state agrees with
 /// the code's meaning; a quiet state without fault has all of it, with that premise or without; no item is ever stuck,
@@ -90,11 +92,12 @@ pub fn every_naming_of_code<N>()
         (named : NamedState (code_system C) N) × (named.state ≡ new) × NamedStep (code_system C) N old event named }
 {}
 
-/// Whether code is whole is found by a test that computes. The worked scripts are whole: `printf("hello");`, a scalar
+/// Whether code is whole is decided by a test that computes. The worked scripts are whole: `printf("hello");`, a scalar
 /// that is used before its assignment, an array that a loop fills, a key that is written twice, a recursive function,
 /// and a function that fills its caller's array.
 pub fn whole_code()
     ensures tested { (C : Code) → is_code C ≡ true → IsCode C }
+    ensures passes { (C : Code) → IsCode C → is_code C ≡ true }
     ensures hello { IsCode hello }
     ensures used_before_assigned { IsCode used_before_assigned }
     ensures filled_by_loop { IsCode filled_by_loop }
@@ -103,17 +106,34 @@ pub fn whole_code()
     ensures filled_by_call { IsCode filled_by_call }
 {}
 
-/// Codes that the test refuses.
+/// Codes that are not whole, each for one reason: a scalar with two assigners, a loop that lacks its body's right, a call
+/// with one variable for two outputs, a name that nothing declares, an assignment inside a loop from outside, an assigned
+/// loop variable, an entry that stands twice, a body with another opener, and elements stored into a scalar.
 pub fn bad_code()
-    ensures assigned_twice { is_code assigned_twice ≡ false }
-    ensures loop_without_right { is_code loop_without_right ≡ false }
-    ensures one_output_twice { is_code one_output_twice ≡ false }
-    ensures name_undeclared { is_code name_undeclared ≡ false }
-    ensures assigned_in_loop { is_code assigned_in_loop ≡ false }
-    ensures loop_variable_assigned { is_code loop_variable_assigned ≡ false }
-    ensures entry_twice { is_code entry_twice ≡ false }
-    ensures opened_by_another { is_code opened_by_another ≡ false }
-    ensures scalar_filled { is_code scalar_filled ≡ false }
+    ensures assigned_twice { IsCode assigned_twice → ⊥ }
+    ensures loop_without_right { IsCode loop_without_right → ⊥ }
+    ensures one_output_twice { IsCode one_output_twice → ⊥ }
+    ensures name_undeclared { IsCode name_undeclared → ⊥ }
+    ensures assigned_in_loop { IsCode assigned_in_loop → ⊥ }
+    ensures loop_variable_assigned { IsCode loop_variable_assigned → ⊥ }
+    ensures entry_twice { IsCode entry_twice → ⊥ }
+    ensures opened_by_another { IsCode opened_by_another → ⊥ }
+    ensures scalar_filled { IsCode scalar_filled → ⊥ }
+{}
+
+/// Rights. Whole code has each right that an entry, or an entry that it leads to, has a use for; exact code has no other.
+/// Exactness is found by a test that looks through so many bodies, and the worked codes are exact.
+pub fn exact_rights()
+    ensures reads { (C : Code) → IsCode C → (i : ℕ) (r : Name) → Leads C needs_of i r → In r (entry C i).reads }
+    ensures writes { (C : Code) → IsCode C → (i : ℕ) (r : Name) → Leads C targets i r → In r (entry C i).writes }
+    ensures tested { (C : Code) (depth : ℕ) → is_exact C depth ≡ true → IsExact C }
+    ensures hello { IsExact hello }
+    ensures used_before_assigned { IsExact used_before_assigned }
+    ensures filled_by_loop { IsExact filled_by_loop }
+    ensures key_written_twice { IsExact key_written_twice }
+    ensures fibonacci { IsExact fibonacci }
+    ensures filled_by_call { IsExact filled_by_call }
+    ensures right_without_use { IsCode right_without_use × (IsExact right_without_use → ⊥) }
 {}
 
 /// What items of the worked codes do.
@@ -129,4 +149,11 @@ pub fn worked_items()
     ensures array_output { MeansCallersArray }
     ensures compares { ComparesTen }
     ensures chunks { Chunks }
+{}
+
+/// Runs of the worked codes: one of `printf("hello");` that ends quiet with its line, and two of a script that writes a
+/// key twice, which end in a fault at the second write, whichever that is.
+pub fn worked_runs()
+    ensures hello { HelloRuns }
+    ensures second_write { SecondWriteFaults }
 {}
