@@ -10,3 +10,4 @@ mod Checked
 mod Decided
 mod Exactly
 mod WorkedRuns
+mod Faults

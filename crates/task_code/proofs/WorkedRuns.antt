@@ -11,7 +11,7 @@ use Rattle.task_code.specs.Code.{Code, scalar}
 use Rattle.task_code.specs.Places.{Place, Datum}
 use Rattle.task_code.specs.Effects.{Task, Main, Item, block}
 use Rattle.task_code.specs.System.{code_system}
-use Rattle.task_code.specs.Runs.{CodeState}
+use Rattle.task_code.specs.Machine.{CodeState}
 use Rattle.task_code.specs.Worked.{hello, key_written_twice, HelloRuns, SecondWriteFaults}
 
 -- an item with a mark

@@ -6,6 +6,7 @@ pub mod System
 pub mod Shape
 pub mod Whole
 pub mod Check
+pub mod Machine
 pub mod Exact
 pub mod Runs
 pub mod Count

@@ -1,18 +1,14 @@
 -- What a state of code shows: its blocked statements, and where its fault stands.
 use Rattle.std.specs.Prelude.{◌≡◌, ◌⊎◌, ℕ, Bool, true, false, List, [], ◌∷◌, Some}
 use Rattle.dataflow.specs.System.{In, Input}
-use Rattle.dataflow.specs.Machine.{Item as MachineItem, Fault, State, IsKnown}
+use Rattle.dataflow.specs.Machine.{Item as MachineItem, Fault, IsKnown}
 use Rattle.values.specs.declared.key.Key.{Key}
-use Rattle.values.specs.declared.value.Scalar.{Scalar}
 use Rattle.task_code.specs.Code.{Need, Header, Act, Cell, Read, Call, Set, Fill, Copy, Put, Print, Assert, If, Range, Each, Wait, Code, entry}
 use Rattle.task_code.specs.Compute.{EntryFault}
 use Rattle.task_code.specs.Places.{Step, Place}
 use Rattle.task_code.specs.Effects.{Task, Item}
 use Rattle.task_code.specs.System.{inputs_at, code_system}
-
--- a state of code
-abbrev pub CodeState : Type 0
-CodeState = State Task Place Key Scalar EntryFault
+use Rattle.task_code.specs.Machine.{CodeState}
 
 -- the statements that can be blocked: assignments, `printf`, `assert`, and the headers of `if`, `foreach` and `wait`
 abbrev pub counts : Act → Bool

@@ -6,7 +6,7 @@ use Rattle.task_code.specs.Code.{At, AtKey, ByCalls, ByMain, ByStep, ByWait, Cal
 use Rattle.task_code.specs.Compute.{EntryFault, InOperation, NoElement, range_turns}
 use Rattle.task_code.specs.Effects.{Item, Task, chunk, only}
 use Rattle.task_code.specs.Places.{Constant, Datum, Place, Step, place_at}
-use Rattle.task_code.specs.Runs.{CodeState}
+use Rattle.task_code.specs.Machine.{CodeState}
 use Rattle.task_code.specs.System.{code_system}
 use Rattle.values.specs.Operators.{Operation, compare, printf, product_of, size, sum_of}
 use Rattle.values.specs.declared.fault.OpFault.TheVariants.{Overflow}

@@ -3,20 +3,16 @@
 
 ghost use Rattle.std.specs.Prelude.{◌≡◌, ℕ, true, false, List, length, ◌+◌, ◌*◌, ◌≤◌};
 ghost use Rattle.dataflow.specs.System.{In};
-ghost use Rattle.dataflow.specs.Facts.{Clean};
-ghost use Rattle.dataflow.specs.Machine.{State, Event, Step as MachineStep, Run, Quiet};
-ghost use Rattle.dataflow.specs.Events.{backs, Newly};
-ghost use Rattle.dataflow.specs.Promises.{Agrees, Complete, GoesOn};
-ghost use Rattle.dataflow.specs.History.{log_of, LeadsTo};
-ghost use Rattle.dataflow.specs.Data.{AnswersAreOne, DataAreKept, IsTidy, DataAreExact, SameButFree};
+ghost use Rattle.dataflow.specs.Machine.{Event, OfTask};
+ghost use Rattle.dataflow.specs.Events.{backs};
 ghost use Rattle.dataflow.specs.Names.{NamedState, IsNaming, NamedStep, NamedSteps, named_start, IsFresh};
-ghost use Rattle.values.specs.declared.key.Key.{Key};
-ghost use Rattle.values.specs.declared.value.Scalar.{Scalar};
 ghost use Rattle.task_code.specs.Code.{Code, Name, entry, targets};
-ghost use Rattle.task_code.specs.Places.{Step, Place};
+ghost use Rattle.task_code.specs.Places.{Step};
 ghost use Rattle.task_code.specs.Effects.{Task};
-ghost use Rattle.task_code.specs.Compute.{EntryFault};
+ghost use Rattle.task_code.specs.Compute.{InOperation};
+ghost use Rattle.values.specs.declared.fault.OpFault.TheVariants.{Memory};
 ghost use Rattle.task_code.specs.System.{code_system};
+ghost use Rattle.task_code.specs.Machine.{CodeState, CleanCode, CodeStep, Run, Quiet, Newly, Agrees, Complete, GoesOn, AnswersAreOne, run_log, LeadsTo, DataAreKept, IsTidy, DataAreExact, SameButFree};
 ghost use Rattle.task_code.specs.Whole.{IsCode};
 ghost use Rattle.task_code.specs.Check.{is_code};
 ghost use Rattle.task_code.specs.Exact.{needs_of, Leads, IsExact, is_exact};
@@ -27,68 +23,71 @@ ghost use Rattle.task_code.specs.Worked.{right_without_use, HelloRuns, SecondWri
 
 /// The theorem for every list of events of whole code. If no key is written twice in any round, each state agrees with
 /// the code's meaning; a quiet state without fault has all of it, with that premise or without; no item is ever stuck,
-/// and none is there twice. A run has at most two events for each item that was made and for each that was given back,
+/// and none is there twice; no fault is that memory was refused. A run has at most two events for each item that was made and for each that was given back,
 /// and the items are counted by the blocks that are opened and the loops that run.
 pub fn every_run_of_code()
-    ensures agrees { (C : Code) → IsCode C → Clean (code_system C) →
-        (events : List Event) (s : State Task Place Key Scalar EntryFault) → Run (code_system C) events s →
-        Agrees (code_system C) s }
+    ensures agrees { (C : Code) → IsCode C → CleanCode C →
+        (events : List Event) (s : CodeState) → Run C events s →
+        Agrees C s }
     ensures complete { (C : Code) → IsCode C →
-        (events : List Event) (s : State Task Place Key Scalar EntryFault) → Run (code_system C) events s →
-        Quiet (code_system C) s → Complete (code_system C) s }
+        (events : List Event) (s : CodeState) → Run C events s →
+        Quiet C s → Complete C s }
     ensures goes_on { (C : Code) → IsCode C →
-        (events : List Event) (s : State Task Place Key Scalar EntryFault) → Run (code_system C) events s →
-        GoesOn (code_system C) s }
+        (events : List Event) (s : CodeState) → Run C events s →
+        GoesOn C s }
+    ensures no_memory_fault { (C : Code) → IsCode C →
+        (events : List Event) (s : CodeState) → Run C events s →
+        (t : Task) → s.fault ≡ Some (t, OfTask (InOperation Memory)) → ⊥ }
     ensures bound { (C : Code) →
-        (events : List Event) (s : State Task Place Key Scalar EntryFault) → Run (code_system C) events s →
+        (events : List Event) (s : CodeState) → Run C events s →
         length events + 2 ≤ 2 * s.next + 2 * backs events }
-    ensures bound_by_blocks { (C : Code) → IsCode C → Clean (code_system C) →
+    ensures bound_by_blocks { (C : Code) → IsCode C → CleanCode C →
         (blocks : List (ℕ × List Step)) (loops : List (ℕ × List Step × ℕ)) →
         HasAllBlocks C blocks → HasAllLoops C loops →
-        (events : List Event) (s : State Task Place Key Scalar EntryFault) → Run (code_system C) events s →
+        (events : List Event) (s : CodeState) → Run C events s →
         length events ≤ 2 * (items_in C blocks loops + backs events) }
 {}
 
 /// What the states of whole code keep: answers, the log of the run, how often items became able to begin, and the data.
 pub fn every_state_of_code()
     ensures answers { (C : Code) → IsCode C →
-        (events : List Event) (s : State Task Place Key Scalar EntryFault) → Run (code_system C) events s →
-        AnswersAreOne (code_system C) s }
+        (events : List Event) (s : CodeState) → Run C events s →
+        AnswersAreOne C s }
     ensures log { (C : Code) → IsCode C →
-        (events : List Event) (s : State Task Place Key Scalar EntryFault) (run : Run (code_system C) events s) →
-        LeadsTo (code_system C) (log_of (code_system C) events s run) s }
+        (events : List Event) (s : CodeState) (run : Run C events s) →
+        LeadsTo C (run_log C events s run) s }
     ensures determined { (C : Code) → IsCode C →
-        (events : List Event) (s t : State Task Place Key Scalar EntryFault)
-        (run : Run (code_system C) events s) (again : Run (code_system C) events t) →
-        (log_of (code_system C) events s run ≡ log_of (code_system C) events t again) × SameButFree (code_system C) s t }
+        (events : List Event) (s t : CodeState)
+        (run : Run C events s) (again : Run C events t) →
+        (run_log C events s run ≡ run_log C events t again) × SameButFree C s t }
     ensures counted { (C : Code) → IsCode C →
-        (events : List Event) (s : State Task Place Key Scalar EntryFault) → Run (code_system C) events s →
-        (n : ℕ) × Newly (code_system C) events n × ((m : ℕ) → Newly (code_system C) events m → m ≡ n) }
+        (events : List Event) (s : CodeState) → Run C events s →
+        (n : ℕ) × Newly C events n × ((m : ℕ) → Newly C events m → m ≡ n) }
     ensures kept { (C : Code) → IsCode C →
-        (events : List Event) (s : State Task Place Key Scalar EntryFault) (run : Run (code_system C) events s) →
-        DataAreKept (code_system C) s (log_of (code_system C) events s run) }
+        (events : List Event) (s : CodeState) (run : Run C events s) →
+        DataAreKept C s (run_log C events s run) }
     ensures exact { (C : Code) → IsCode C →
-        (events : List Event) (s : State Task Place Key Scalar EntryFault) (run : Run (code_system C) events s) →
-        IsTidy (code_system C) s → DataAreExact (code_system C) s (log_of (code_system C) events s run) }
+        (events : List Event) (s : CodeState) (run : Run C events s) →
+        IsTidy C s → DataAreExact C s (run_log C events s run) }
     ensures can_be_tidy { (C : Code) → IsCode C →
-        (old : State Task Place Key Scalar EntryFault) (event : Event) (new : State Task Place Key Scalar EntryFault) →
-        MachineStep (code_system C) old event new →
-        (tidy : State Task Place Key Scalar EntryFault) × MachineStep (code_system C) old event tidy × IsTidy (code_system C) tidy }
+        (old : CodeState) (event : Event) (new : CodeState) →
+        CodeStep C old event new →
+        (tidy : CodeState) × CodeStep C old event tidy × IsTidy C tidy }
 {}
 
 /// The same for code whose data have names, for every choice of names.
 pub fn every_naming_of_code<N>()
-    ensures agrees { (C : Code) → IsCode C → Clean (code_system C) →
+    ensures agrees { (C : Code) → IsCode C → CleanCode C →
         (events : List Event) (s : NamedState (code_system C) N) →
-        NamedSteps (code_system C) N (named_start (code_system C) N) events s → Agrees (code_system C) s.state }
+        NamedSteps (code_system C) N (named_start (code_system C) N) events s → Agrees C s.state }
     ensures complete { (C : Code) → IsCode C →
         (events : List Event) (s : NamedState (code_system C) N) →
         NamedSteps (code_system C) N (named_start (code_system C) N) events s →
-        Quiet (code_system C) s.state → Complete (code_system C) s.state }
+        Quiet C s.state → Complete C s.state }
     ensures found { (C : Code) → IsCode C → (fresh : List N → N) → IsFresh N fresh →
         (old : NamedState (code_system C) N) → IsNaming (code_system C) N old.names old.state.places →
-        (event : Event) (new : State Task Place Key Scalar EntryFault) →
-        MachineStep (code_system C) old.state event new →
+        (event : Event) (new : CodeState) →
+        CodeStep C old.state event new →
         (named : NamedState (code_system C) N) × (named.state ≡ new) × NamedStep (code_system C) N old event named }
 {}
 
