@@ -68,6 +68,8 @@ module _ {T D K V E : Type 0} (S : System T D K V E) where
     pub begins : (i : Item T) (w : ℕ) → s.fault ≡ None → In i s.items → i.runs ≡ None → Enabled S s i.task → (new : State T D K V E) × Step S s (Begin w i.number) new
     -- no enabled item would write a scalar that has a value
     pub unset : (i : Item T) (xs : List (Answer K V)) (e : Effect T D K V) → In i s.items → SeesAll S s (S.inputs i.task) xs → S.effect i.task xs ≡ Good e → (d : D) (k : K) (v u : V) → S.is_array d ≡ false → In (record { place = d; key = k; value = v }) e.writes → Holds S s d k u → ⊥
+    -- nor an element into an array that is closed
+    pub still_open : (i : Item T) (xs : List (Answer K V)) (e : Effect T D K V) → In i s.items → SeesAll S s (S.inputs i.task) xs → S.effect i.task xs ≡ Good e → (w : Write D K V) → In w e.writes → ClosedByRights S s w.place → ⊥
     -- no task is there twice, and no number
     pub once : Distinct (tasks_in_items s.items)
     pub one_number : Distinct (numbers_of s.items)

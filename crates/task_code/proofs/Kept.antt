@@ -1,4 +1,4 @@
--- Whole code keeps list_all law of a system of tasks.
+-- Whole code keeps each law of a system of tasks.
 use Rattle.std.proofs.Common.{◌≡◌, ◌⊎◌, inl, inr, ℕ, zero, suc, Bool, true, false, List, [], ◌∷◌, ◌++◌, map, refl, sym, ap, ◌∙◌, subst, Option, None, Some, arith}
 use Rattle.dataflow.specs.Laws.{Can, Coherent, Laws}
 use Rattle.dataflow.specs.System.{Answer, Distinct, Effect, Good, In, Input, Opening, Outcome, Write, reads_of, tasks_of}

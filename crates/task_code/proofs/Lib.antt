@@ -7,3 +7,7 @@ mod Rights
 mod Kept
 mod Counted
 mod Checked
+mod Decided
+mod Exactly
+mod WorkedRuns
+mod Faults

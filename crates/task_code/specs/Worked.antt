@@ -1,10 +1,12 @@
 -- Worked scripts as code, bad codes, and what items of them do.
 use Rattle.std.specs.Prelude.{◌≡◌, ℕ, true, false, length, [], ◌∷◌, Option, None, Some, pos}
+use Rattle.dataflow.specs.Machine.{Begin, ElementTwice, End, Quiet, Run}
 use Rattle.dataflow.specs.System.{Answer, Bad, Found, Good, Missing, Outcome}
-use Rattle.task_code.specs.Code.{At, AtKey, ByCalls, ByMain, ByStep, ByWait, Call, Cell, Closed, Code, Expr, Fill, Fixed, If, Local, Name, Named, Parameter, Print, Put, Range, Read, Set, Stored, Variable, Wait, constant, here, need, no_operand, operand, operation, scalar}
+use Rattle.task_code.specs.Code.{At, AtKey, ByCalls, ByMain, ByStep, ByWait, Call, Cell, Closed, Code, Expr, Fill, Fixed, If, Local, Name, Named, Parameter, Print, Put, Range, Read, Set, Stored, Variable, Wait, body, constant, here, need, no_operand, operand, operation, scalar}
 use Rattle.task_code.specs.Compute.{EntryFault, InOperation, NoElement, range_turns}
 use Rattle.task_code.specs.Effects.{Item, Task, chunk, only}
 use Rattle.task_code.specs.Places.{Constant, Datum, Place, Step, place_at}
+use Rattle.task_code.specs.Machine.{CodeState}
 use Rattle.task_code.specs.System.{code_system}
 use Rattle.values.specs.Operators.{Operation, compare, printf, product_of, size, sum_of}
 use Rattle.values.specs.declared.fault.OpFault.TheVariants.{Overflow}
@@ -301,6 +303,19 @@ scalar_filled =
           ∷ [];
     }
 
+-- printf("hello"); beside int x;, with a right to read x that the entry has no use for
+abbrev pub right_without_use : Code
+right_without_use =
+    let x = scalar 1 in
+    record {
+      entries =
+          record { node = 2; at = 0; mark = 0; priority = pos 0; needs = []; act = Print (operation (printf (Byte 104 ∷ [])) no_operand); reads = here x ∷ []; writes = [] }
+          ∷ [];
+      bodies =
+          record { opener = ByMain; makes = x ∷ []; entries = 0 ∷ [] }
+          ∷ [];
+    }
+
 -- what items of these codes do
 abbrev pub step : ℕ → ℕ → Step
 step at k = record { offset = at; key = number_key (pos k) }
@@ -357,3 +372,17 @@ Chunks =
     (length (chunk 0 (range_turns (pos 1) (pos 1) 0 65)) ≡ 64)
     × (length (chunk 1 (range_turns (pos 1) (pos 1) 0 65)) ≡ 1)
     × (length (chunk 2 (range_turns (pos 1) (pos 1) 0 65)) ≡ 0)
+
+-- worker 0 begins and ends the item that opens the script, worker 1 the one that prints: then the code is quiet, and the line is there
+abbrev pub HelloRuns : Type 0
+HelloRuns =
+    (s : CodeState)
+    × Run (code_system hello) (Begin 0 1 ∷ End 0 1 ∷ Begin 1 2 ∷ End 1 2 ∷ []) s
+    × Quiet (code_system hello) s
+    × (s.lines ≡ Text (104 ∷ 101 ∷ 108 ∷ 108 ∷ 111 ∷ []) ∷ [])
+
+-- of two writes of one key the second is a fault, whichever item comes first
+abbrev pub SecondWriteFaults : Type 0
+SecondWriteFaults =
+    ((s : CodeState) × Run (code_system key_written_twice) (Begin 0 1 ∷ End 0 1 ∷ Begin 1 2 ∷ End 1 2 ∷ Begin 1 3 ∷ End 1 3 ∷ []) s × (s.fault ≡ Some (Item 1 [] 0, ElementTwice)))
+    × ((s : CodeState) × Run (code_system key_written_twice) (Begin 0 1 ∷ End 0 1 ∷ Begin 1 3 ∷ End 1 3 ∷ Begin 1 2 ∷ End 1 2 ∷ []) s × (s.fault ≡ Some (Item 0 [] 0, ElementTwice)))

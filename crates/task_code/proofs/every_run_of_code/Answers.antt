@@ -9,6 +9,7 @@ use Rattle.dataflow.proofs.Headline.{agrees_with, complete, goes_on}
 use Rattle.dataflow.proofs.Keeping.{live_bound}
 use Rattle.task_code.specs.System.{code_system}
 use Rattle.task_code.proofs.Kept.{code_laws}
+use Rattle.task_code.proofs.Faults.{never_memory}
 use Rattle.task_code.proofs.Counted.{all_items, live_in, items_counted}
 use Rattle.task_code.proofs.every_run_of_code.Goals as goal
 
@@ -28,3 +29,6 @@ pub returns-clause-bound_by_blocks : goal.returns-clause-bound_by_blocks
 returns-clause-bound_by_blocks g = λ C I clean blocks loops hb hl es s x.
     subst (λ (n : ℕ). length es ≤ 2 * (n + backs es)) (items_counted C I clean blocks loops hb hl)
     (live_bound (code_system C) (code_laws C I) clean (all_items C I clean blocks loops hb hl) (λ n t l. live_in C I clean blocks loops hb hl n l) es s x)
+
+pub returns-clause-no_memory_fault : goal.returns-clause-no_memory_fault
+returns-clause-no_memory_fault g = λ C I es s x t h. never_memory C s (log_of (code_system C) es s x) (run_follows (code_system C) (code_laws C I) es s x) t h
