@@ -120,7 +120,7 @@ abbrev pub numbered_calling : ℕ → Calling → Calling
 numbered_calling n c = record {
   node = numbered_node n c.node;
   name = numbered_word (n + 1) c.name;
-  arguments = numbered_each numbered_expression expression_size (n + 2) c.arguments;
+  arguments = numbered_each numbered_expression expression_size (n + 1 + 1) c.arguments;
 }
 
 abbrev pub numbered_over : ℕ → Over → Over
