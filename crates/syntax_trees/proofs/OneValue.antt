@@ -160,7 +160,7 @@ err_same h = let e : _ ≡ _ = cc (h) in ap (λ (f : OpFault). Err (operation f)
 ok_err : {A : Type 0} {v : Value} {f : OpFault} → ◌≡◌ {A = Result Value OpFault} (Ok v) (Err f) → A
 ok_err h = absurd (cc (h))
 
-key_same : {v u : Value} {k l : Key} → IsKey v k → IsKey u l → v ≡ u → k ≡ l
+pub key_same : {v u : Value} {k l : Key} → IsKey v k → IsKey u l → v ≡ u → k ≡ l
 key_same a_number a_number h = let e : _ ≡ _ = cc (h) in ap Key.Number e
 
 -- a cell has one value or fault, also as knowledge grows
