@@ -48,7 +48,7 @@ inner_opened (range lo hi st v k b) m = one_of (blocks_below b) m
 inner_opened (each a v k b) m = one_of (blocks_below b) m
 inner_opened (wait ns b) m = one_of (blocks_below b) m
 
-inner_below : (b : Block) {at n : ℕ} {a : Action} {c : Block} → stmt at n a ∈ block_list b → c ∈ inner_blocks a → c ∈ blocks_below b
+pub inner_below : (b : Block) {at n : ℕ} {a : Action} {c : Block} → stmt at n a ∈ block_list b → c ∈ inner_blocks a → c ∈ blocks_below b
 inner_below no_stmts i m = elim i [ ]
 inner_below (stmts (stmt at' n' a') b) {at} {n} {a} {c} i m =
     elim (split_in i) [
@@ -56,13 +56,13 @@ inner_below (stmts (stmt at' n' a') b) {at} {n} {a} {c} i m =
       | inr j ↦ to_right (blocks_inside a') (blocks_below b) (inner_below b j m)
     ]
 
-of_below : (b : Block) {d c : Block} → (d ∈ blocks_below b → c ∈ blocks_below b) → d ∈ (b ∷ blocks_below b) → c ∈ blocks_below d → c ∈ (b ∷ blocks_below b)
+pub of_below : (b : Block) {d c : Block} → (d ∈ blocks_below b → c ∈ blocks_below b) → d ∈ (b ∷ blocks_below b) → c ∈ blocks_below d → c ∈ (b ∷ blocks_below b)
 of_below b {d} {c} rec m h =
     elim (split_in m) [ inl e ↦ later (subst (λ (x : Block). c ∈ blocks_below x) e h) | inr i ↦ later (rec i) ]
 
 -- a block's inner blocks, and theirs
 mutual
-  below_below : (b : Block) {d c : Block} → d ∈ blocks_below b → c ∈ blocks_below d → c ∈ blocks_below b
+  pub below_below : (b : Block) {d c : Block} → d ∈ blocks_below b → c ∈ blocks_below d → c ∈ blocks_below b
   below_below no_stmts m h = elim m [ ]
   below_below (stmts s b) m h =
       elim (either (blocks_in s) (blocks_below b) m) [ inl i ↦ to_left (blocks_in s) (blocks_below b) (in_below s i h) | inr i ↦ to_right (blocks_in s) (blocks_below b) (below_below b i h) ]
@@ -195,7 +195,7 @@ uses_target {b} (in_wait i u n) = target_in b i (uses_target u)
 pub inside_target : (a : Action) (at n : ℕ) {c : Block} {up : ℕ} {what : Owned} → c ∈ header_blocks a → Uses c up what → what ∈ targets (stmt at n a)
 inside_target a at n m u = header_target a m (uses_target u)
 
-among : (bs : List Block) {b : Block} {st : Stmt} → b ∈ bs → st ∈ block_list b → st ∈ stmts_among bs
+pub among : (bs : List Block) {b : Block} {st : Stmt} → b ∈ bs → st ∈ block_list b → st ∈ stmts_among bs
 among [] m i = elim m [ ]
 among (b ∷ bs) first i = to_left (block_list b) (stmts_among bs) i
 among (b ∷ bs) (later m) i = to_right (block_list b) (stmts_among bs) (among bs m i)

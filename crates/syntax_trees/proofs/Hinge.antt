@@ -7,7 +7,7 @@ use Rattle.values.specs.declared.map.Element.{Element}
 use Rattle.values.specs.declared.value.Scalar.{Scalar}
 use Rattle.values.specs.declared.value.Value.{Value}
 use Rattle.values.specs.declared.value.Value.TheVariants.{One, Many}
-use Rattle.syntax_trees.specs.Core.{Owned, local, input, output, Name, Cell, Call, Part, Outer, Awaited, Stmt, stmt, Action, declare, call_alone, assign, fill, insert, wait, Block, Function, Core}
+use Rattle.syntax_trees.specs.Core.{Owned, local, input, output, Name, here, Cell, Call, Part, Outer, Awaited, Stmt, stmt, Action, declare, call_alone, assign, fill, insert, wait, Block, Function, Core}
 use Rattle.syntax_trees.specs.Facts.{Fact, value, element, Knowledge, Elements, KnownAll, no_cell, next_cell}
 use Rattle.syntax_trees.specs.Meaning.{IsTarget, Live, script, opened, waited, called, Closed, closed, Finished, no_target, value_known, write_known, body_finished, blocks_finished, content_finished, Ready, cells_known, source_closed, names_known, LiveStmt, in_block}
 use Rattle.syntax_trees.specs.Members.{◌∈◌, first, later}
@@ -42,6 +42,10 @@ pub record Later (s : Core) (K K' : Knowledge) : Type 0 where
       → K (value (path, c.cell.node) v) → LiveStmt s K' path (stmt at n (fill x c)) → K' (element (place s path x) k (path, n) u) → K (element (place s path x) k (path, n) u)
   pub inserted : (path : Path) (at n : ℕ) (x : Name) (i c : Outer) (k l : Key) (u v : Scalar)
       → K (element (place s path x) l (path, n) v) → LiveStmt s K' path (stmt at n (insert x i c)) → K' (element (place s path x) k (path, n) u) → K (element (place s path x) k (path, n) u)
+
+only_one : {X : Type 0} {x y : X} → x ∈ (y ∷ []) → x ≡ y
+only_one first = refl
+only_one (later m) = elim m [ ]
 
 module _ (s : Core) (w : WellFormed s) (K K' : Knowledge) (g : Later s K K') where
   -- a statement is finished for an array, and later knowledge opens no other blocks in it
@@ -150,10 +154,9 @@ module _ (s : Core) (w : WellFormed s) (K K' : Knowledge) (g : Later s K K') whe
               let st_in : st ∈ function_body s x.function = subst (λ (o : Option Function). st ∈ stmts_of o) (sym q) i in
               subst (λ (z : Owned). FinishedIn z ((x.at, Key.Number (pos 0)) ∷ path) st) (sym ej) (below_call j out.0 st fin (owner_of i') out.1 refl st_in)
           kind (inr h) =
-              let i' : out.0 ∈ x.outputs = output_in x.outputs j out.0 out.1 in
-              let y = h.is_here out.0 i' in
-              let spot : p ≡ (path, h.node out.0 i') = sym place_out ∙ ap (λ (z : Name). place_of s path z.up z.what) y ∙ place_here s path (h.node out.0 i') in
-              absurd (h.undeclared out.0 i' c.block c.there (subst (λ (z : Place). Declares c.block (local z.1)) spot c.declares))
+              let y : out.0 ≡ here h.node = only_one (subst (λ (os : List Name). out.0 ∈ os) h.is (output_in x.outputs j out.0 out.1)) in
+              let spot : p ≡ (path, h.node) = sym place_out ∙ ap (λ (z : Name). place_of s path z.up z.what) y ∙ place_here s path h.node in
+              absurd (h.undeclared c.block c.there (subst (λ (z : Place). Declares c.block (local z.1)) spot c.declares))
 
       by : ((up ≡ 0) × (Declares f.body what ⊎ ((j : ℕ) × (what ≡ output j)))) → ((up' : ℕ) (what' : Owned) → Uses b up' what' → place_of s path up' what' ≡ p → (st' : Stmt) → st' ∈ block_list b → FinishedIn what' path st') → FinishedIn what ((x.at, Key.Number (pos 0)) ∷ path) st
       by r rec =

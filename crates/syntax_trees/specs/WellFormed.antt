@@ -1,5 +1,5 @@
 -- What the core of an accepted script keeps: where its names stand, which calls are found, and which nodes are of one thing.
-use Rattle.std.specs.Prelude.{◌≡◌, ◌⊎◌, ℕ, suc, ◌<◌, List, [], ◌∷◌, Option, Some, slice_get, ℤ, Bool, true, false}
+use Rattle.std.specs.Prelude.{◌≡◌, ◌⊎◌, ℕ, suc, ◌<◌, List, [], ◌∷◌, length, Option, Some, slice_get, ℤ, Bool, true, false}
 use Rattle.syntax_trees.specs.Core.{Owned, local, output, Name, here, Expr, whole, operator, Exprs, Form, compute, Cell, Call, Part, Outer, Stmt, stmt, Action, declare, call_alone, assign, fill, insert, when, choose, range, each, wait, Awaited, Block, Function, Core}
 use Rattle.syntax_trees.specs.Members.{◌∈◌}
 use Rattle.syntax_trees.specs.Parts.{block_list, script_blocks, script_stmts, cells, stmt_calls, call_at, by_name, by_element}
@@ -35,11 +35,11 @@ pub data Uses : Block → ℕ → Owned → Type 0 where
   in_wait : {b c : Block} {at n up : ℕ} {what : Owned} {ns : List Awaited}
       → stmt at n (wait ns c) ∈ block_list b → Uses c up what → (Declares c what → ⊥) → Uses b up what
 
--- the outputs of a call in an expression are variables of the statement, which nothing declares
+-- a call in an expression: its one output is a variable of the statement, which nothing declares
 pub record IsHidden (s : Core) (c : Call) : Type 0 where
-  pub node : (x : Name) → x ∈ c.outputs → ℕ
-  pub is_here : (x : Name) (i : x ∈ c.outputs) → x ≡ here (node x i)
-  pub undeclared : (x : Name) (i : x ∈ c.outputs) (b : Block) → b ∈ script_blocks s → Declares b (local (node x i)) → ⊥
+  pub node : ℕ
+  pub is : c.outputs ≡ here node ∷ []
+  pub undeclared : (b : Block) → b ∈ script_blocks s → Declares b (local node) → ⊥
 
 -- a statement that is this call alone
 pub record IsAlone (st : Stmt) (c : Call) : Type 0 where
@@ -64,7 +64,14 @@ pub record WellFormed (s : Core) : Type 0 where
   pub call_found : (b : Block) (st : Stmt) (c : Call) → b ∈ script_blocks s → st ∈ block_list b → c ∈ stmt_calls st → call_at s c.at ≡ Some c
   pub call_outputs : (b : Block) (st : Stmt) (c : Call) (f : Function) (j : ℕ) → b ∈ script_blocks s → st ∈ block_list b → c ∈ stmt_calls st
       → slice_get s.functions c.function ≡ Some f → Uses f.body 0 (output j) → (x : Name) × (slice_get c.outputs j ≡ Some x)
+  pub call_count : (b : Block) (st : Stmt) (c : Call) (f : Function) → b ∈ script_blocks s → st ∈ block_list b → c ∈ stmt_calls st
+      → slice_get s.functions c.function ≡ Some f → length c.outputs ≡ f.outputs
   pub call_kinds : (b : Block) (st : Stmt) (c : Call) → b ∈ script_blocks s → st ∈ block_list b → c ∈ stmt_calls st → IsAlone st c ⊎ IsHidden s c
+
+-- the output of a call in an expression is of no other call
+pub record CallsApart (s : Core) : Type 0 where
+  pub hidden_once : (st st' : Stmt) (c c' : Call) (h : IsHidden s c) (h' : IsHidden s c') → st ∈ script_stmts s → st' ∈ script_stmts s
+      → c ∈ stmt_calls st → c' ∈ stmt_calls st' → h.node ≡ h'.node → c ≡ c'
 
 -- a form that gives a whole array
 pub data IsMany : Form → Type 0 where
