@@ -14,7 +14,7 @@ use Rattle.syntax_trees.specs.Members.{◌∈◌, first, later}
 use Rattle.syntax_trees.specs.Openings.{Opens, Branches}
 use Rattle.syntax_trees.specs.Parts.{block_list, script_blocks, stmts_of, function_body, output_name}
 use Rattle.syntax_trees.specs.Places.{Path, Place, place, place_of}
-use Rattle.syntax_trees.specs.WellFormed.{IsOwnTarget, header_blocks, Declares, Uses, own, inside, in_wait, IsHidden, IsAlone, WellFormed}
+use Rattle.syntax_trees.specs.WellFormed.{IsOwnTarget, header_blocks, Declares, Uses, own, inside, in_wait, IsHidden, IsAlone, NamesFound}
 use Rattle.syntax_trees.proofs.Blocks.{header_inner, inner_block, main_block, function_block, own_is_target, owner_of, inside_target, uses_target}
 use Rattle.syntax_trees.proofs.Declared.{header_of, place_here, output_found, output_in, declared, live_block}
 use Rattle.syntax_trees.proofs.Growth.{Grows}
@@ -47,7 +47,7 @@ only_one : {X : Type 0} {x y : X} → x ∈ (y ∷ []) → x ≡ y
 only_one first = refl
 only_one (later m) = elim m [ ]
 
-module _ (s : Core) (w : WellFormed s) (K K' : Knowledge) (g : Later s K K') where
+module _ (s : Core) (w : NamesFound s) (K K' : Knowledge) (g : Later s K K') where
   -- a statement is finished for an array, and later knowledge opens no other blocks in it
   pub data FinishedIn : Owned → Path → Stmt → Type 0 where
     no_target_in : {a : Owned} {path : Path} {st : Stmt} → (IsTarget a st → ⊥) → FinishedIn a path st

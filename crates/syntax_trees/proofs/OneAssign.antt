@@ -12,7 +12,7 @@ use Rattle.syntax_trees.specs.Openings.{Opens, then_alone, then_first, else_seco
 use Rattle.syntax_trees.specs.Parts.{block_list, script_blocks, script_stmts, stmts_among, stmts_within, blocks_of, blocks_below, stmt_calls, stmt_action, by_name, output_name}
 use Rattle.syntax_trees.specs.Places.{Path, Place, place, place_of}
 use Rattle.syntax_trees.specs.Single.{SinglyAssigned, Way, StmtWay, simple, IsNamed, Owns, declared_here, an_output, LoopBody, of_range, of_each}
-use Rattle.syntax_trees.specs.WellFormed.{header_blocks, Declares, Uses, own, inside, in_wait, IsHidden, IsAlone, WellFormed, CallsApart}
+use Rattle.syntax_trees.specs.WellFormed.{header_blocks, Declares, Uses, own, inside, in_wait, IsHidden, IsAlone, NamesFound, CallsApart}
 use Rattle.syntax_trees.proofs.Blocks.{header_inner, inner_blocks, inner_below, of_below, below_below, among, among_script, inner_block, main_block, function_block}
 use Rattle.syntax_trees.proofs.Declared.{header_of, place_here, output_found, output_in, declared, live_block, stmt_in}
 use Rattle.syntax_trees.proofs.Hinge.{Later, choice_stays}
@@ -122,13 +122,13 @@ only_name {x} {n} (suc j) h e = let q : slice_get (here n ∷ []) (suc j) ≡ So
 some_same : {A : Type 0} {x y : A} → ◌≡◌ {A = Option A} (Some x) (Some y) → x ≡ y
 some_same h = cc
 
-found_below : (xs : List Name) (j : ℕ) (x : Name) → slice_get xs j ≡ Some x → j < length xs
+pub found_below : (xs : List Name) (j : ℕ) (x : Name) → slice_get xs j ≡ Some x → j < length xs
 found_below [] zero x e = absurd (cc (e))
 found_below [] (suc j) x e = absurd (cc (e))
 found_below (y ∷ xs) zero x e = omega arith
 found_below (y ∷ xs) (suc j) x e = let h = found_below xs j x e in omega arith
 
-module _ (s : Core) (w : WellFormed s) (K : Knowledge) where
+module _ (s : Core) (w : NamesFound s) (K : Knowledge) where
   own_top : (p : Place) {path : Path} {b : Block} {up : ℕ} {what : Owned} → b ∈ script_blocks s → Declares b what → up ≡ 0 → place_of s path up what ≡ p → Leads s K p path b up what
   own_top p {path} {b} {up} {what} m d z e =
       let d' : Declares b (local d.node) = subst (λ (o : Owned). Declares b o) d.is d in
@@ -274,7 +274,7 @@ named_count at n (range lo hi st v k b) m = elim m [ ]
 named_count at n (each x v k b) m = elim m [ ]
 named_count at n (wait ns b) m = elim m [ ]
 
-module _ (s : Core) (w : WellFormed s) (calls : CallsApart s) (single : SinglyAssigned s) where
+module _ (s : Core) (w : NamesFound s) (calls : CallsApart s) (single : SinglyAssigned s) where
   -- a header round an assignment of a name that it does not declare is no loop
   inside_of : {o b : Block} {what : Owned} {at n up : ℕ} {a : Action} {c : Block} → Owns s what o → Reach o b → stmt at n a ∈ block_list b → c ∈ header_blocks a → Assigns c up what → Inside a c
   inside_of {a = declare v} h r i m u = elim m [ ]

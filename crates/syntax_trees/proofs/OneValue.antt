@@ -19,7 +19,7 @@ use Rattle.syntax_trees.specs.Members.{◌∈◌}
 use Rattle.syntax_trees.specs.Openings.{Bounds, bounds, Opens, InTurn, range_value, range_turn, each_value, each_key}
 use Rattle.syntax_trees.specs.Parts.{script_stmts}
 use Rattle.syntax_trees.specs.Places.{Path, Place, Step, place}
-use Rattle.syntax_trees.specs.WellFormed.{WellFormed, LoopsApart, Role, range_value_role, range_turn_role, each_value_role, each_key_role}
+use Rattle.syntax_trees.specs.WellFormed.{NamesFound, LoopsApart, Role, range_value_role, range_turn_role, each_value_role, each_key_role}
 use Rattle.syntax_trees.proofs.Growth.{Grows, keeps_value, keeps_closed, keeps_elements}
 use Rattle.syntax_trees.proofs.Hinge.{Later, choice_stays, grows}
 use Rattle.syntax_trees.proofs.Rising.{rising_same, rising_once}
@@ -71,7 +71,7 @@ ready_rising : {s : Core} {K : Knowledge} {path : Path} {a : Name} {x : ℕ} {t 
 ready_rising (cells_known ks d) = elim d [ ]
 ready_rising (source_closed c x) = x.in_order
 
-module _ (s : Core) (w : WellFormed s) (apart : LoopsApart s) (K : Knowledge) (g : OneEach s K) (l : Later s K K) where
+module _ (s : Core) (w : NamesFound s) (apart : LoopsApart s) (K : Knowledge) (g : OneEach s K) (l : Later s K K) where
   one_role : {A : Type 0} {st : Stmt} {x y : ℕ} → st ∈ script_stmts s → Role st x true → Role st y false → x ≡ y → A
   one_role {st = st} {x = x} {y = y} m a b e = true_false ((apart.role_once st st y true false m m (subst (λ (z : ℕ). Role st z true) e a) b).1)
 
@@ -147,7 +147,7 @@ module _ (s : Core) (K K' : Knowledge) (g : Grows s K K') where
     keeps_answer (of_array c x) = of_array (keeps_closed s K K' g c) (keeps_elements s K K' g c x)
     keeps_answer (of_operator es q) = of_operator (keeps_answers es) q
 
-    keeps_answers : {path : Path} {es : Exprs} {rs : List (Result Value OpFault)} → ValuesUnder s K path es rs → ValuesUnder s K' path es rs
+    pub keeps_answers : {path : Path} {es : Exprs} {rs : List (Result Value OpFault)} → ValuesUnder s K path es rs → ValuesUnder s K' path es rs
     keeps_answers no_operand = no_operand
     keeps_answers (operand e es) = operand (keeps_answer e) (keeps_answers es)
 
@@ -164,7 +164,7 @@ pub key_same : {v u : Value} {k l : Key} → IsKey v k → IsKey u l → v ≡ u
 key_same a_number a_number h = let e : _ ≡ _ = cc (h) in ap Key.Number e
 
 -- a cell has one value or fault, also as knowledge grows
-module _ (s : Core) (w : WellFormed s) (apart : LoopsApart s) (K K' : Knowledge) (g : OneEach s K') (l : Later s K K') (l' : Later s K' K') where
+module _ (s : Core) (w : NamesFound s) (apart : LoopsApart s) (K K' : Knowledge) (g : OneEach s K') (l : Later s K K') (l' : Later s K' K') where
   grown : Grows s K K'
   grown = grows s w K K' l
 

@@ -14,7 +14,7 @@ use Rattle.syntax_trees.specs.Meaning.{IsTarget, Closed, Gives, Comes, before, n
 use Rattle.syntax_trees.specs.Members.{◌∈◌, first}
 use Rattle.syntax_trees.specs.Parts.{script_stmts, cells}
 use Rattle.syntax_trees.specs.Places.{Path, Place, place}
-use Rattle.syntax_trees.specs.WellFormed.{WellFormed, CellsApart, LoopsApart, WritersApart, Role}
+use Rattle.syntax_trees.specs.WellFormed.{NamesFound, CellsApart, LoopsApart, WritersApart, Role}
 use Rattle.syntax_trees.proofs.Declared.{stmt_in}
 use Rattle.syntax_trees.proofs.Growth.{Grows, keeps_stmt}
 use Rattle.syntax_trees.proofs.Hinge.{Later, Wrote, FinishedIn, no_target_in, value_in, write_in, blocks_in, closed_in, live_finished, grows}
@@ -100,7 +100,7 @@ ok_values h = cc
 le_either : (n m : ℕ) → (n ≤ m) ⊎ (m ≤ n)
 le_either n m = grind arith
 
-module _ (s : Core) (w : WellFormed s) (apart : CellsApart s) (loops : LoopsApart s) (writers : WritersApart s) where
+module _ (s : Core) (w : NamesFound s) (apart : CellsApart s) (loops : LoopsApart s) (writers : WritersApart s) where
   -- a statement that fills an array inserts nothing
   fill_not_insert : {L L' K K' : Knowledge} {a b : Place} {k l : Key} {u : Place} {v x : Scalar} {A : Type 0} → FromFill s L K a k u v → FromInsert s L' K' b l u x → A
   fill_not_insert e f =

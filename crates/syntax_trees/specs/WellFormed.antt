@@ -50,7 +50,7 @@ pub record IsAlone (st : Stmt) (c : Call) : Type 0 where
   pub is : st ≡ stmt at node (call_alone priority parts c)
 
 -- names stand where they are declared, and calls are found
-pub record WellFormed (s : Core) : Type 0 where
+pub record NamesFound (s : Core) : Type 0 where
   -- a node is declared in one block
   pub one_block : (b b' : Block) (what : Owned) → b ∈ script_blocks s → b' ∈ script_blocks s → Declares b what → Declares b' what → b ≡ b'
   -- a name stands in the block that declares it, or in a wait of it; a function's body knows its outputs too
@@ -108,3 +108,11 @@ pub record WritersApart (s : Core) : Type 0 where
       → stmt at' n (insert x' i' c') ∈ script_stmts s → (i ≡ i') × (c ≡ c')
   pub fill_insert : (at n at' : ℕ) (x x' : Name) (i c c' : Outer) → stmt at n (fill x c) ∈ script_stmts s
       → stmt at' n (insert x' i c') ∈ script_stmts s → ⊥
+
+-- what the core of each accepted script keeps
+pub record WellFormed (s : Core) : Type 0 where
+  pub names : NamesFound s
+  pub calls : CallsApart s
+  pub cells : CellsApart s
+  pub loops : LoopsApart s
+  pub writers : WritersApart s
