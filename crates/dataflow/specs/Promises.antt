@@ -1,8 +1,8 @@
 -- What every state that a run reaches promises.
 use Rattle.std.specs.Prelude.{◌≡◌, ℕ, ◌<◌, false, List, [], ◌∷◌, ◌++◌, map, None, Some, suc, length}
-use Rattle.dataflow.specs.System.{In, Distinct, Answer, Write, Effect, Good, System}
-use Rattle.dataflow.specs.Facts.{Live, Written, Closed, Known, Ever, Faulty, Clean}
-use Rattle.dataflow.specs.Machine.{Item, State, Fault, OfTask, Begin, End, ClosedByRights, Holds, Enabled, SeesAll, Step}
+use Rattle.dataflow.specs.System.{In, Distinct, Input, Answer, Write, Effect, Good, System}
+use Rattle.dataflow.specs.Facts.{Live, Written, Closed, Known, Ever, Faulty, Clean, EverGiven}
+use Rattle.dataflow.specs.Machine.{Item, State, Fault, OfTask, Begin, End, ClosedByRights, Holds, IsKnown, Enabled, SeesAll, Step}
 
 module _ {T D K V E : Type 0} (S : System T D K V E) where
   -- the lines that these facts print; the latest fact stands first in the list
@@ -58,6 +58,9 @@ module _ {T D K V E : Type 0} (S : System T D K V E) where
     pub lines : IsAllLines s.lines
     pub blocked_live : (i : Item T) → In i s.items → (n : ℕ) × Live S (Known S n) i.task
     pub blocked_never : (i : Item T) → In i s.items → (e : Effect T D K V) → Ever S i.task e → ⊥
+    -- of their inputs those are known that are known in the meaning
+    pub blocked_known : (i : Item T) (n : Input D K) → In i s.items → In n (S.inputs i.task) → IsKnown S s n → EverGiven S n
+    pub blocked_unknown : (i : Item T) (n : Input D K) → In i s.items → In n (S.inputs i.task) → EverGiven S n → IsKnown S s n
     pub blocked_all : (n : ℕ) (t : T) → Live S (Known S n) t → ((e : Effect T D K V) → Ever S t e → ⊥) → In t (tasks_in_items s.items)
 
   -- the machine is never stuck, and has each item once

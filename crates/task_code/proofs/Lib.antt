@@ -11,3 +11,4 @@ mod Decided
 mod Exactly
 mod WorkedRuns
 mod Faults
+mod Blocks
