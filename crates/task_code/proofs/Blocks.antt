@@ -1,16 +1,16 @@
 -- The blocked statements of a quiet state are those of the code's meaning.
-use Rattle.std.proofs.Common.{◌≡◌, ◌⊎◌, inl, inr, ℕ, Bool, true, false, ◌&&◌, List, [], ◌∷◌, refl, sym, ap, ◌∙◌, subst}
+use Rattle.std.proofs.Common.{◌≡◌, ◌⊎◌, inl, inr, ℕ, Bool, true, List, [], ◌∷◌, refl, sym, ap, subst}
 use Rattle.std.specs.List.{list_all, list_any}
-use Rattle.dataflow.specs.System.{In, Input, Effect}
+use Rattle.dataflow.specs.System.{In, Input}
 use Rattle.dataflow.specs.Facts.{Live, Known, Ever, EverGiven}
 use Rattle.dataflow.specs.Machine.{IsKnown}
-use Rattle.dataflow.specs.Promises.{Complete, tasks_in_items}
+use Rattle.dataflow.specs.Promises.{Complete}
 use Rattle.dataflow.proofs.Lists.{in_unmap}
 use Rattle.values.specs.declared.key.Key.{Key}
-use Rattle.task_code.specs.Code.{Name, Need, Stored, Closed, At, AtKey, Header, Act, Cell, Read, Call, Set, Fill, Copy, Put, Print, Assert, If, Range, Each, Wait, Code, entry}
-use Rattle.task_code.specs.Places.{Step, Place, name_eq}
+use Rattle.task_code.specs.Code.{Need, Stored, Closed, At, AtKey, Header, Act, Cell, Read, Call, Set, Fill, Copy, Put, Print, Assert, If, Range, Each, Wait, Code, entry}
+use Rattle.task_code.specs.Places.{Step, Place}
 use Rattle.task_code.specs.Shape.{fits_kinds, has_headers, has_shape, is_same_plain}
-use Rattle.task_code.specs.Effects.{Task, Main, Item}
+use Rattle.task_code.specs.Effects.{Task, Item}
 use Rattle.task_code.specs.System.{inputs_at, code_system}
 use Rattle.task_code.specs.Whole.{IsCode}
 use Rattle.task_code.specs.Machine.{CodeItem, CodeState}

@@ -1,13 +1,13 @@
 -- A whole run of the code of `printf("hello");`, and two of one that writes a key twice.
-use Rattle.std.proofs.Common.{◌≡◌, ◌⊎◌, inl, inr, ℕ, List, [], ◌∷◌, ◌++◌, refl, Option, None, Some}
+use Rattle.std.proofs.Common.{◌≡◌, inl, inr, ℕ, List, [], ◌∷◌, ◌++◌, refl, Option, None, Some}
 use Rattle.std.specs.Prelude.{pos, true}
-use Rattle.dataflow.specs.System.{In, Answer, Effect, Good}
-use Rattle.dataflow.specs.Machine.{Item as MachineItem, OfTask, ElementTwice, Begin, End, Step as MachineStep, Enabled, SeesAll, Clashes, Leaves, ended, start}
+use Rattle.dataflow.specs.System.{Answer, Effect, Good}
+use Rattle.dataflow.specs.Machine.{Item as MachineItem, ElementTwice, Begin, End, Step as MachineStep, Enabled, SeesAll, Clashes, Leaves, ended, start}
 use Rattle.values.specs.declared.key.Key.{Key}
 use Rattle.values.specs.declared.key.Key.TheVariants.{Number as number_key}
 use Rattle.values.specs.declared.value.Scalar.{Scalar}
 use Rattle.values.specs.declared.value.Scalar.TheVariants.{Number, Text}
-use Rattle.task_code.specs.Code.{Code, scalar}
+use Rattle.task_code.specs.Code.{Code}
 use Rattle.task_code.specs.Places.{Place, Datum}
 use Rattle.task_code.specs.Effects.{Task, Main, Item, block}
 use Rattle.task_code.specs.System.{code_system}

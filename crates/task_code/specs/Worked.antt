@@ -2,7 +2,7 @@
 use Rattle.std.specs.Prelude.{◌≡◌, ℕ, true, false, length, [], ◌∷◌, Option, None, Some, pos}
 use Rattle.dataflow.specs.Machine.{Begin, ElementTwice, End, Quiet, Run}
 use Rattle.dataflow.specs.System.{Answer, Bad, Found, Good, Missing, Outcome}
-use Rattle.task_code.specs.Code.{At, AtKey, ByCalls, ByMain, ByStep, ByWait, Call, Cell, Closed, Code, Expr, Fill, Fixed, If, Local, Name, Named, Parameter, Print, Put, Range, Read, Set, Stored, Variable, Wait, body, constant, here, need, no_operand, operand, operation, scalar}
+use Rattle.task_code.specs.Code.{At, AtKey, ByCalls, ByMain, ByStep, ByWait, Call, Cell, Closed, Code, Expr, Fill, Fixed, If, Local, Name, Named, Parameter, Print, Put, Range, Read, Set, Stored, Variable, Wait, constant, here, need, no_operand, operand, operation, scalar}
 use Rattle.task_code.specs.Compute.{EntryFault, InOperation, NoElement, range_turns}
 use Rattle.task_code.specs.Effects.{Item, Task, chunk, only}
 use Rattle.task_code.specs.Places.{Constant, Datum, Place, Step, place_at}
