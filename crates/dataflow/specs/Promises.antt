@@ -18,6 +18,7 @@ module _ {T D K V E : Type 0} (S : System T D K V E) where
   abbrev pub tasks_in_items : List (Item T) → List T
   tasks_in_items items = map (λ (i : Item T). i.task) items
 
+  -- the numbers of these items
   abbrev pub numbers_of : List (Item T) → List ℕ
   numbers_of items = map (λ (i : Item T). i.number) items
 

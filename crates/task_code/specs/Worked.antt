@@ -34,9 +34,11 @@ parameter up k = record { up = up; owned = Parameter k false }
 abbrev array_parameter : ℕ → ℕ → Name
 array_parameter up k = record { up = up; owned = Parameter k true }
 
+-- an operation on two operands
 abbrev two : Operation → Expr → Expr → Expr
 two o a b = operation o (operand a (operand b no_operand))
 
+-- a number
 abbrev num : ℕ → Expr
 num n = constant (Number (pos n))
 
@@ -320,6 +322,7 @@ right_without_use =
 abbrev pub step : ℕ → ℕ → Step
 step at k = record { offset = at; key = number_key (pos k) }
 
+-- the answer that a scalar is
 abbrev pub gives : ℕ → Answer Key Scalar
 gives n = Found (Number (pos n))
 
@@ -339,6 +342,7 @@ PrintsHello = (code_system hello).effect (Item 0 [] 0) [] ≡ Good (record { wri
 abbrev pub LacksElement : Type 0
 LacksElement = (code_system key_written_twice).effect (Item 2 [] 0) (Missing ∷ []) ≡ Bad NoElement
 
+-- how many blocks are opened
 abbrev pub opened_by : Outcome Task Place Key Scalar EntryFault → Option ℕ
 opened_by (Bad f) = None
 opened_by (Good e) = Some (length e.opens)
