@@ -1,6 +1,6 @@
 -- A number's text is read back as the number.
-use Rattle.std.proofs.Common.{◌≡◌, ◌∙◌, ap, rules, ◌≢◌, ℕ, zero, suc, ◌+◌, ◌-◌, ◌*◌, ◌/◌, ◌%◌, ◌^◌, ◌<◌, ◌≤◌, List, [], ◌∷◌, ◌++◌, length, arith, refl, Some, None, true, false}
-use Rattle.std.specs.Prelude.{ℤ, pos, negsuc, Bool, Result, Ok, Err, IfOk, nat_le, nat_eq, ◌&&◌}
+use Rattle.std.proofs.Common.{◌≡◌, ◌∙◌, ap, rules, ℕ, suc, ◌+◌, ◌-◌, ◌*◌, ◌/◌, ◌%◌, ◌^◌, ◌<◌, ◌≤◌, List, [], ◌∷◌, ◌++◌, length, arith, refl, Some, true, false}
+use Rattle.std.specs.Prelude.{ℤ, pos, negsuc, Result, Ok, Err, IfOk, nat_eq}
 use mir.Syntax.{w64}
 use mir.Val.{SFits}
 use Rattle.std.specs.Fmt.{decimal, signed_decimal}

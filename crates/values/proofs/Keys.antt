@@ -1,6 +1,5 @@
 -- The order of keys.
 use Rattle.std.proofs.Common.{◌≡◌, arith, true, false}
-use Rattle.std.specs.Prelude.{Bool}
 use Rattle.std.proofs.lemmas.Int.{ints}
 use Rattle.values.specs.declared.key.Key.{Key}
 use Rattle.values.specs.declared.key.Key.TheVariants.{Number}

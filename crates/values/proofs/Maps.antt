@@ -10,7 +10,7 @@ use Rattle.values.specs.declared.map.Element.{Element}
 use Rattle.values.specs.declared.value.Scalar.{Scalar}
 use Rattle.values.specs.Keys.{key_below, same_key}
 use Rattle.values.specs.Maps.{rising, found, found_at, inserted, element}
-use Rattle.values.proofs.Keys.{key_below-irreflexive, key_below-trans, same_key-refl, same_key-eq, same_key-other, key_below-other, key_below-asymmetric, below_differs, above_differs}
+use Rattle.values.proofs.Keys.{key_below-trans, same_key-refl, same_key-eq, same_key-other, key_below-other, key_below-asymmetric, below_differs, above_differs}
 
 -- nothing is found where every key is another
 pub found-none : (k : Key) (es : List Element) → ((j : ℕ) (d : Element) → j < length es → same_key (get_or es j d).key k ≡ false) → found k es ≡ None
@@ -122,7 +122,7 @@ inserted-gap k v (e ∷ es) zero l low high =
 inserted-gap k v (e ∷ es) (suc i) l low high =
     let below : key_below e.key k ≡ true = low 0 e (omega arith) in
     rw (below_differs e.key k below, key_below-asymmetric e.key k below)
-        (ap (λ rest. e ∷ rest) (inserted-gap k v es i (omega arith) (λ j d m. low (suc j) d (omega arith)) (λ d m. high d (omega arith))))
+    (ap (λ rest. e ∷ rest) (inserted-gap k v es i (omega arith) (λ j d m. low (suc j) d (omega arith)) (λ d m. high d (omega arith))))
 
 at-none : (k : Key) (es : List Element) (i : ℕ) (d : Element) → i < length es → found_at k (slice_get es i) ≡ None → same_key (get_or es i d).key k ≡ false
 at-none k [] i d l h = absurd (omega arith)
@@ -137,4 +137,4 @@ pub inserted-parted : (k : Key) (es : List Element) (i : ℕ) → IsTrue (rising
 inserted-parted k es i r l point none v =
     let here : found_at k (slice_get es i) ≡ None = sym (found-parted k es i r l point) ∙ none in
     inserted-gap k v es i l (λ j d m. point.0 j d (omega arith) m)
-        (λ d m. key_below-other (get_or es i d).key k (at-none k es i d m here) (point.1 i d (omega arith) m))
+    (λ d m. key_below-other (get_or es i d).key k (at-none k es i d m here) (point.1 i d (omega arith) m))
