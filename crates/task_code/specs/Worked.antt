@@ -6,7 +6,7 @@ use Rattle.task_code.specs.Code.{At, AtKey, ByCalls, ByMain, ByStep, ByWait, Cal
 use Rattle.task_code.specs.Compute.{EntryFault, InOperation, NoElement, range_turns}
 use Rattle.task_code.specs.Effects.{Item, Task, chunk, only}
 use Rattle.task_code.specs.Places.{Constant, Datum, Place, Step, place_at}
-use Rattle.task_code.specs.Machine.{CodeState}
+use Rattle.task_code.specs.Machine.{CodeState, Enabled}
 use Rattle.task_code.specs.System.{code_system}
 use Rattle.values.specs.Operators.{Operation, compare, printf, product_of, size, sum_of}
 use Rattle.values.specs.declared.fault.OpFault.TheVariants.{Overflow}
@@ -384,6 +384,17 @@ HelloRuns =
     × Run (code_system hello) (Begin 0 1 ∷ End 0 1 ∷ Begin 1 2 ∷ End 1 2 ∷ []) s
     × Quiet (code_system hello) s
     × (s.lines ≡ Text (104 ∷ 101 ∷ 108 ∷ 108 ∷ 111 ∷ []) ∷ [])
+
+-- x = y + 1 is not enabled when the script has been opened; once y = 2 has ended it is, and 3 is printed
+abbrev pub WaitsForAssignment : Type 0
+WaitsForAssignment =
+    (opened : CodeState)
+    × Run (code_system used_before_assigned) (Begin 0 1 ∷ End 0 1 ∷ []) opened
+    × (Enabled used_before_assigned opened (Item 0 [] 0) → ⊥)
+    × ((s : CodeState)
+    × Run (code_system used_before_assigned) (Begin 0 1 ∷ End 0 1 ∷ Begin 1 3 ∷ End 1 3 ∷ Begin 1 2 ∷ End 1 2 ∷ Begin 1 4 ∷ End 1 4 ∷ []) s
+    × Quiet (code_system used_before_assigned) s
+    × (s.lines ≡ Text (51 ∷ []) ∷ []))
 
 -- of two writes of one key the second is a fault, whichever item comes first
 abbrev pub SecondWriteFaults : Type 0

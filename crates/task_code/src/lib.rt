@@ -20,7 +20,7 @@ ghost use Rattle.task_code.specs.Exact.{needs_of, Leads, IsExact, is_exact};
 ghost use Rattle.task_code.specs.Count.{HasAllBlocks, HasAllLoops, items_in};
 ghost use Rattle.task_code.specs.Worked.{hello, used_before_assigned, filled_by_loop, key_written_twice, fibonacci, filled_by_call};
 ghost use Rattle.task_code.specs.Worked.{assigned_twice, loop_without_right, one_output_twice, name_undeclared, assigned_in_loop, loop_variable_assigned, entry_twice, opened_by_another, scalar_filled};
-ghost use Rattle.task_code.specs.Worked.{right_without_use, HelloRuns, SecondWriteFaults, StoresThree, Overflows, PrintsHello, LacksElement, OpensTurns, MeansTen, MeansResult, MeansInner, MeansCallersArray, ComparesTen, Chunks};
+ghost use Rattle.task_code.specs.Worked.{right_without_use, HelloRuns, WaitsForAssignment, SecondWriteFaults, StoresThree, Overflows, PrintsHello, LacksElement, OpensTurns, MeansTen, MeansResult, MeansInner, MeansCallersArray, ComparesTen, Chunks};
 
 /// The theorem for every list of events of whole code. If no key is written twice in any round, each state agrees with
 /// the code's meaning. A quiet state without fault has all of it, with that premise or without, and its blocked
@@ -155,9 +155,11 @@ pub fn worked_items()
     ensures chunks { Chunks }
 {}
 
-/// Runs of the worked codes: one of `printf("hello");` that ends quiet with its line, and two of a script that writes a
-/// key twice, which end in a fault at the second write, whichever that is.
+/// Runs of the worked codes: one of `printf("hello");` that ends quiet with its line, one in which an assignment waits for
+/// the one behind it, and two of a script that writes a key twice, which end in a fault at the second write, whichever
+/// that is.
 pub fn worked_runs()
     ensures hello { HelloRuns }
+    ensures waits { WaitsForAssignment }
     ensures second_write { SecondWriteFaults }
 {}
