@@ -2,7 +2,8 @@
 use Rattle.std.specs.Prelude.{◌≡◌, ℕ, ◌<◌, false, List, [], ◌∷◌, ◌++◌, map, None, Some, suc, length}
 use Rattle.dataflow.specs.System.{In, Distinct, Input, Answer, Write, Effect, Good, System}
 use Rattle.dataflow.specs.Facts.{Live, Written, Closed, Known, Ever, Faulty, Clean, EverGiven}
-use Rattle.dataflow.specs.Machine.{Item, State, Fault, OfTask, Begin, End, ClosedByRights, Holds, IsKnown, Enabled, SeesAll, Step}
+use Rattle.dataflow.specs.Machine.{Item, State, Fault, OfTask, Begin, End, Back, ClosedByRights, Holds, IsKnown, Enabled, SeesAll, Step}
+use Rattle.dataflow.specs.Events.{CanBegin, RunsOn}
 
 module _ {T D K V E : Type 0} (S : System T D K V E) where
   -- the lines that these facts print; the latest fact stands first in the list
@@ -78,3 +79,12 @@ module _ {T D K V E : Type 0} (S : System T D K V E) where
     pub once : Distinct (tasks_in_items s.items)
     pub one_number : Distinct (numbers_of s.items)
     pub below_next : (i : Item T) → In i s.items → i.number < s.next
+
+  -- which events have a step: without a fault, Begin of an enabled item that does not run, and End and Back of one that runs on that worker; no others
+  pub record HasSteps (s : State T D K V E) : Type 0 where
+    pub begin : (w n : ℕ) → s.fault ≡ None → CanBegin S s n → (new : State T D K V E) × Step S s (Begin w n) new
+    pub begin_only : (w n : ℕ) (new : State T D K V E) → Step S s (Begin w n) new → (s.fault ≡ None) × CanBegin S s n
+    pub end : (w n : ℕ) → s.fault ≡ None → RunsOn S s w n → (new : State T D K V E) × Step S s (End w n) new
+    pub end_only : (w n : ℕ) (new : State T D K V E) → Step S s (End w n) new → (s.fault ≡ None) × RunsOn S s w n
+    pub back : (w n : ℕ) → s.fault ≡ None → RunsOn S s w n → (new : State T D K V E) × Step S s (Back w n) new
+    pub back_only : (w n : ℕ) (new : State T D K V E) → Step S s (Back w n) new → (s.fault ≡ None) × RunsOn S s w n
