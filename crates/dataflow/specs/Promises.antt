@@ -1,8 +1,9 @@
 -- What every state that a run reaches promises.
 use Rattle.std.specs.Prelude.{◌≡◌, ℕ, ◌<◌, false, List, [], ◌∷◌, ◌++◌, map, None, Some, suc, length}
-use Rattle.dataflow.specs.System.{In, Distinct, Answer, Write, Effect, Good, System}
-use Rattle.dataflow.specs.Facts.{Live, Written, Closed, Known, Ever, Faulty, Clean}
-use Rattle.dataflow.specs.Machine.{Item, State, Fault, OfTask, Begin, End, ClosedByRights, Holds, Enabled, SeesAll, Step}
+use Rattle.dataflow.specs.System.{In, Distinct, Input, Answer, Write, Effect, Good, System}
+use Rattle.dataflow.specs.Facts.{Live, Written, Closed, Known, Ever, Faulty, Clean, EverGiven}
+use Rattle.dataflow.specs.Machine.{Item, State, Fault, OfTask, Begin, End, Back, ClosedByRights, Holds, IsKnown, Enabled, SeesAll, Step}
+use Rattle.dataflow.specs.Events.{CanBegin, RunsOn}
 
 module _ {T D K V E : Type 0} (S : System T D K V E) where
   -- the lines that these facts print; the latest fact stands first in the list
@@ -18,6 +19,7 @@ module _ {T D K V E : Type 0} (S : System T D K V E) where
   abbrev pub tasks_in_items : List (Item T) → List T
   tasks_in_items items = map (λ (i : Item T). i.task) items
 
+  -- the numbers of these items
   abbrev pub numbers_of : List (Item T) → List ℕ
   numbers_of items = map (λ (i : Item T). i.number) items
 
@@ -58,6 +60,9 @@ module _ {T D K V E : Type 0} (S : System T D K V E) where
     pub lines : IsAllLines s.lines
     pub blocked_live : (i : Item T) → In i s.items → (n : ℕ) × Live S (Known S n) i.task
     pub blocked_never : (i : Item T) → In i s.items → (e : Effect T D K V) → Ever S i.task e → ⊥
+    -- of their inputs those are known that are known in the meaning
+    pub blocked_known : (i : Item T) (n : Input D K) → In i s.items → In n (S.inputs i.task) → IsKnown S s n → EverGiven S n
+    pub blocked_unknown : (i : Item T) (n : Input D K) → In i s.items → In n (S.inputs i.task) → EverGiven S n → IsKnown S s n
     pub blocked_all : (n : ℕ) (t : T) → Live S (Known S n) t → ((e : Effect T D K V) → Ever S t e → ⊥) → In t (tasks_in_items s.items)
 
   -- the machine is never stuck, and has each item once
@@ -74,3 +79,12 @@ module _ {T D K V E : Type 0} (S : System T D K V E) where
     pub once : Distinct (tasks_in_items s.items)
     pub one_number : Distinct (numbers_of s.items)
     pub below_next : (i : Item T) → In i s.items → i.number < s.next
+
+  -- which events have a step: without a fault, Begin of an enabled item that does not run, and End and Back of one that runs on that worker; no others
+  pub record HasSteps (s : State T D K V E) : Type 0 where
+    pub begin : (w n : ℕ) → s.fault ≡ None → CanBegin S s n → (new : State T D K V E) × Step S s (Begin w n) new
+    pub begin_only : (w n : ℕ) (new : State T D K V E) → Step S s (Begin w n) new → (s.fault ≡ None) × CanBegin S s n
+    pub end : (w n : ℕ) → s.fault ≡ None → RunsOn S s w n → (new : State T D K V E) × Step S s (End w n) new
+    pub end_only : (w n : ℕ) (new : State T D K V E) → Step S s (End w n) new → (s.fault ≡ None) × RunsOn S s w n
+    pub back : (w n : ℕ) → s.fault ≡ None → RunsOn S s w n → (new : State T D K V E) × Step S s (Back w n) new
+    pub back_only : (w n : ℕ) (new : State T D K V E) → Step S s (Back w n) new → (s.fault ≡ None) × RunsOn S s w n

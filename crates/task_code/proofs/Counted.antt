@@ -30,7 +30,7 @@ sum_same f g h (x ∷ xs) = sum_by-cons f x xs ∙ (λ i. h x i + sum_same f g h
 one_more : (n m : ℕ) → n ≡ m → suc n ≡ 1 + m
 one_more n m h = omega arith
 
-gather_in : {A B : Type 0} (f : A → List B) (xs : List A) (x : A) (y : B) → In x xs → In y (f x) → In y (flat_map f xs)
+pub gather_in : {A B : Type 0} (f : A → List B) (xs : List A) (x : A) (y : B) → In x xs → In y (f x) → In y (flat_map f xs)
 gather_in f [] x y h i = absurd h
 gather_in {A} f (z ∷ xs) x y h i =
     elim h [

@@ -2,15 +2,13 @@
 use Rattle.std.proofs.Common.{◌≡◌, ◌⊎◌, inl, inr, ℕ, zero, suc, ◌<◌, Bool, true, false, not, ◌&&◌, ◌||◌, List, [], ◌∷◌, refl, sym, ap, ◌∙◌, subst, Option, None, Some, length, arith}
 use Rattle.std.specs.Prelude.{nat_eq, nat_lt}
 use Rattle.dataflow.specs.System.{Distinct, In}
-use Rattle.values.specs.declared.value.Scalar.{Scalar}
-use Rattle.task_code.specs.Code.{Argument, Body, ByCalls, ByMain, ByStep, ByWait, Calling, Code, Entry, Fixed, InPlace, Local, Loop, Name, Named, Need, Opener, Owned, Parameter, Through, Variable, Way, argument, blank_body, blank_entry, body, call_at, entry, here, is_array_name, loop_of, loop_variables, needed, nth, targets, ways}
+use Rattle.task_code.specs.Code.{Argument, ByMain, Calling, Code, Entry, Fixed, InPlace, Local, Loop, Name, Named, Opener, Owned, Parameter, Through, Variable, Way, argument, blank_body, blank_entry, body, call_at, entry, here, is_array_name, loop_of, loop_variables, needed, nth, targets, ways}
 use Rattle.std.specs.List.{list_all}
-use Rattle.task_code.specs.Places.{name_eq}
 use Rattle.task_code.specs.Shape.{is_shaped}
 use Rattle.task_code.specs.Whole.{Declared, Fits, FitsLoop, Fixes, IsCode, OpenedBy, Seen, SeenFrom}
 use Rattle.task_code.specs.Check.{distinct_numbers, distinct_variables, every_at, has_outputs, is_body, is_code, is_covered, is_declared, is_entry, is_fit, is_fit_if_loop, is_fit_loop, is_fixed, is_inside, is_main, is_opened_by, is_script, is_seen, name_in, number_in, outputs_apart, reads_covered, same_argument, variable_in}
-use Rattle.task_code.proofs.Equal.{both_true, in_every, name_same, name_sound, nat_same, nat_sound, variable_sound}
-use Rattle.task_code.proofs.Checked.{true_or, or_true, name_in_sound, in_name_in, variable_in_sound, in_variable_in, not_true}
+use Rattle.task_code.proofs.Equal.{both_true, in_every, name_sound, nat_same, nat_sound}
+use Rattle.task_code.proofs.Checked.{true_or, or_true, name_in_sound, in_name_in, variable_in_sound, in_variable_in}
 
 -- what does not hold is not found
 not_by : (a : Bool) → (a ≡ true → ⊥) → not a ≡ true

@@ -1,13 +1,13 @@
 -- Rights that cover are all that entries lead to, and exact ones are no more.
-use Rattle.std.proofs.Common.{◌≡◌, ◌⊎◌, inl, inr, ℕ, zero, suc, Bool, true, false, List, [], ◌∷◌, ◌++◌, refl, sym, ap, ◌∙◌, subst, Option, None, Some, arith}
+use Rattle.std.proofs.Common.{◌≡◌, ◌⊎◌, inl, inr, ℕ, zero, suc, Bool, true, false, List, [], ◌∷◌, refl, sym, ap, ◌∙◌, subst, Option, None, Some, arith}
 use Rattle.std.specs.Prelude.{if◌then◌else◌, ◌&&◌}
 use Rattle.std.specs.List.{list_all, flat_map}
 use Rattle.dataflow.specs.System.{In}
 use Rattle.dataflow.proofs.Lists.{in_split}
 use Rattle.values.specs.declared.value.Scalar.{Scalar}
-use Rattle.task_code.specs.Code.{Argument, Named, Fixed, Owned, Local, Parameter, Name, Need, Entry, Code, Way, InPlace, Through, Calling, blank_entry, entry, body, argument, here, nth, scalar, ways, targets, needed}
+use Rattle.task_code.specs.Code.{Argument, Named, Fixed, Owned, Local, Parameter, Name, Entry, Code, Way, InPlace, Through, Calling, blank_entry, entry, body, argument, here, scalar, ways, targets, needed}
 use Rattle.task_code.specs.Whole.{Seen, Declared, SeenFrom, Fixes, IsCode}
-use Rattle.task_code.specs.Check.{name_in, every_at, is_declared}
+use Rattle.task_code.specs.Check.{name_in, is_declared}
 use Rattle.task_code.specs.Exact.{needs_of, Leads, itself, through, IsExact, outward, led_to, is_exact}
 use Rattle.task_code.specs.Worked.{right_without_use}
 use Rattle.task_code.proofs.Equal.{every_in, true_and}

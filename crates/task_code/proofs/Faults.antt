@@ -1,7 +1,7 @@
 -- No entry has the fault that memory was refused: what it computes asks for none.
-use Rattle.std.proofs.Common.{◌≡◌, ◌⊎◌, inl, inr, ℕ, Bool, true, false, List, [], ◌∷◌, refl, sym, ap, ◌∙◌, subst, Option, None, Some}
+use Rattle.std.proofs.Common.{◌≡◌, ℕ, Bool, true, false, List, [], ◌∷◌, subst, Option, None, Some}
 use Rattle.std.specs.Prelude.{ℤ, pos, neg_ℤ, Result, Ok, Err, length, if◌then◌else◌, nat_eq, nat_le, int_lt, int_div, int_rem, ◌+ℤ◌, ◌-ℤ◌, ◌*ℤ◌}
-use Rattle.dataflow.specs.System.{Answer, Found, Missing, Content, Effect, Outcome, Good, Bad}
+use Rattle.dataflow.specs.System.{Answer, Found, Missing, Content, Effect, Outcome, Bad}
 use Rattle.dataflow.specs.Log.{Ready}
 use Rattle.dataflow.specs.Machine.{Fault, OfTask}
 use Rattle.dataflow.proofs.Follows.{FaultIs, Follows}
@@ -14,13 +14,13 @@ use Rattle.values.specs.declared.op.Sign.{Sign}
 use Rattle.values.specs.declared.op.Sign.TheVariants.{Plus, Minus}
 use Rattle.values.specs.declared.value.Scalar.{Scalar}
 use Rattle.values.specs.declared.value.Value.{Value}
-use Rattle.values.specs.declared.value.Value.TheVariants.{One, Many}
-use Rattle.values.specs.Numbers.{fits, in_range, is_zero, number_in, number_or_not, quotient, remainder, signed, spelled}
+use Rattle.values.specs.declared.value.Value.TheVariants.{Many}
+use Rattle.values.specs.Numbers.{fits, in_range, is_zero, number_in, number_or_not, signed, spelled}
 use Rattle.values.specs.Operators.{Operation, sum_of, product_of, compare, equal, unequal, all_true, any_true, not_true, negate, join, from_int, to_int, size, printf, assert, literal, added, all_values, applied, chain, chained, evaluated, from_there, joined, numbered, on_all, scaled, spelling, whole, with_value, yes_or_no}
-use Rattle.values.specs.Ranges.{at_most_most, range_count, values_in}
+use Rattle.values.specs.Ranges.{range_count, values_in}
 use Rattle.values.specs.Values.{first, is_text, number_of, size_of, text_of, truth_of}
 use Rattle.task_code.specs.Code.{Act, Cell, Read, Call, Set, Fill, Copy, Put, Print, Assert, If, Range, Each, Wait, Code, Expr, constant, need, operation, Exprs, no_operand, operand, entry}
-use Rattle.task_code.specs.Compute.{EntryFault, InOperation, NoElement, TooDeep, Computed, Fails, Gives, Inserts, Takes, Turns, Opens, answer_at, branched, compute, content, eval, evals, filled, given, put, ranged, read, turns_or}
+use Rattle.task_code.specs.Compute.{EntryFault, InOperation, TooDeep, Computed, Fails, Gives, Inserts, Takes, Turns, Opens, answer_at, branched, compute, eval, evals, filled, given, put, ranged, read, turns_or}
 use Rattle.task_code.specs.Effects.{Task, Main, Item, effect_at, instances, is_too_deep, limited, outcome_of}
 use Rattle.task_code.specs.Places.{Place}
 use Rattle.task_code.specs.System.{answered, code_system, task_effect}
@@ -181,7 +181,7 @@ most_free : (b : Bool) (n : ℕ) → IsFree (if b then Ok n else Err Overflow)
 most_free true n = tt
 most_free false n = λ h. absurd (cc)
 
-count_free : (b : Bool) (n : ℕ) → IsFree (if b then Err BadStep else at_most_most n)
+count_free : (b : Bool) (n : ℕ) → IsFree (if b then Err BadStep else (if nat_le n 4294967296 then Ok n else Err Overflow))
 count_free true n = λ h. absurd (cc)
 count_free false n = most_free (nat_le n 4294967296) n
 

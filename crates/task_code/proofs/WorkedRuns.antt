@@ -1,18 +1,20 @@
 -- A whole run of the code of `printf("hello");`, and two of one that writes a key twice.
-use Rattle.std.proofs.Common.{◌≡◌, ◌⊎◌, inl, inr, ℕ, List, [], ◌∷◌, ◌++◌, refl, Option, None, Some}
-use Rattle.std.specs.Prelude.{pos, true}
-use Rattle.dataflow.specs.System.{In, Answer, Effect, Good}
-use Rattle.dataflow.specs.Machine.{Item as MachineItem, OfTask, ElementTwice, Begin, End, Step as MachineStep, Enabled, SeesAll, Clashes, Leaves, ended, start}
+use Rattle.std.proofs.Common.{◌≡◌, inl, inr, ℕ, List, [], ◌∷◌, ◌++◌, refl, sym, ap, subst, Option, None, Some, true, false}
+use Rattle.std.proofs.Common.{arith}
+use Rattle.std.specs.Prelude.{pos}
+use Rattle.std.proofs.lemmas.Fmt.{decimal_digit}
+use Rattle.dataflow.specs.System.{Answer, Effect, Found, Good, In, Input, StoredScalar, Write}
+use Rattle.dataflow.specs.Machine.{Item as MachineItem, ElementTwice, Begin, End, Step as MachineStep, Enabled, Holds, IsKnown, SeesAll, Clashes, Leaves, ended, start}
 use Rattle.values.specs.declared.key.Key.{Key}
 use Rattle.values.specs.declared.key.Key.TheVariants.{Number as number_key}
 use Rattle.values.specs.declared.value.Scalar.{Scalar}
 use Rattle.values.specs.declared.value.Scalar.TheVariants.{Number, Text}
 use Rattle.task_code.specs.Code.{Code, scalar}
-use Rattle.task_code.specs.Places.{Place, Datum}
+use Rattle.task_code.specs.Places.{Place, Datum, place_array}
 use Rattle.task_code.specs.Effects.{Task, Main, Item, block}
 use Rattle.task_code.specs.System.{code_system}
 use Rattle.task_code.specs.Machine.{CodeState}
-use Rattle.task_code.specs.Worked.{hello, key_written_twice, HelloRuns, SecondWriteFaults}
+use Rattle.task_code.specs.Worked.{hello, key_written_twice, used_before_assigned, HelloRuns, SecondWriteFaults, WaitsForAssignment}
 
 -- an item with a mark
 abbrev one : ℕ → Task → Option ℕ → MachineItem Task
@@ -175,6 +177,103 @@ second_write_faults = (
         ),
       ),
     ),
+    refl,
+  ),
+)
+
+-- the second script: its items are 2 for x = y + 1, 3 for y = 2, 4 for printf
+abbrev x_place : Place
+x_place = Datum [] (scalar 1)
+
+abbrev y_place : Place
+y_place = Datum [] (scalar 2)
+
+abbrev stores : Place → ℕ → Effect Task Place Key Scalar
+stores d n = record { writes = record { place = d; key = number_key (pos 0); value = Number (pos n) } ∷ []; lines = []; opens = [] }
+
+abbrev prints_three : Effect Task Place Key Scalar
+prints_three = record { writes = []; lines = Text (51 ∷ []) ∷ []; opens = [] }
+
+abbrev sets_x : MachineItem Task
+sets_x = one 2 (Item 0 [] 0) None
+
+abbrev prints_x : MachineItem Task
+prints_x = one 4 (Item 2 [] 0) None
+
+abbrev c0 : CodeState
+c0 = opened used_before_assigned
+
+abbrev c1 : CodeState
+c1 = begun used_before_assigned c0 1 3 (Item 1 [] 0) (sets_x ∷ []) (prints_x ∷ [])
+
+abbrev c2 : CodeState
+c2 = ended (code_system used_before_assigned) c1 (sets_x ∷ prints_x ∷ []) (stores y_place 2)
+
+abbrev c3 : CodeState
+c3 = begun used_before_assigned c2 1 2 (Item 0 [] 0) [] (prints_x ∷ [])
+
+abbrev c4 : CodeState
+c4 = ended (code_system used_before_assigned) c3 (prints_x ∷ []) (stores x_place 3)
+
+abbrev c5 : CodeState
+c5 = begun used_before_assigned c4 1 4 (Item 2 [] 0) [] []
+
+abbrev c6 : CodeState
+c6 = ended (code_system used_before_assigned) c5 [] prints_three
+
+-- the one input of an item is known
+one_known : (s : CodeState) (d : Place) (n : ℕ) (t : Task) → (code_system used_before_assigned).inputs t ≡ StoredScalar d ∷ [] → Holds (code_system used_before_assigned) s d (number_key (pos 0)) (Number (pos n)) → Enabled (code_system used_before_assigned) s t
+one_known s d n t e h = λ i m. by i (subst (λ (is : List (Input Place Key)). In i is) e m)
+  where
+    by : (i : Input Place Key) → In i (StoredScalar d ∷ []) → IsKnown (code_system used_before_assigned) s i
+    by i (inl p) = subst (λ (z : Input Place Key). IsKnown (code_system used_before_assigned) s z) (sym p) (Number (pos n), h)
+    by i (inr x) = absurd x
+
+scalar_clash : (a : Place) (k : Key) (v : Scalar) (n : ℕ) → place_array a ≡ true → In (record { place = a; key = k; value = v }) (stores x_place n).writes → ⊥
+scalar_clash a k v n h i = elim i [ inl p ↦ (let q : a ≡ x_place = ap (λ (w : Write Place Key Scalar). w.place) p in let no : false ≡ true = subst (λ (z : Place). place_array z ≡ true) q h in absurd (cc)) | inr x ↦ x ]
+
+-- 3 is printed as a digit
+three_printed : (code_system used_before_assigned).effect (Item 2 [] 0) (Found (Number (pos 3)) ∷ []) ≡ Good prints_three
+three_printed =
+    ap (λ (l : List ℕ). Good (record { writes = []; lines = Text (l ++ []) ∷ []; opens = [] })) (decimal_digit 3 (omega arith))
+
+pub waits_for_assignment : WaitsForAssignment
+waits_for_assignment = (
+  c0,
+  (first used_before_assigned, first_step used_before_assigned, (c0, opening_step used_before_assigned, refl)),
+  (λ h. (h (StoredScalar y_place) (inl refl)).1),
+  (
+    c6,
+    (
+      first used_before_assigned,
+      first_step used_before_assigned,
+      (
+        c0,
+        opening_step used_before_assigned,
+        (
+          c1,
+          begins used_before_assigned c0 1 3 (Item 1 [] 0) (sets_x ∷ []) (prints_x ∷ []) refl refl (λ n i. absurd i),
+          (
+            c2,
+            ends used_before_assigned c1 1 3 (Item 1 [] 0) (sets_x ∷ []) (prints_x ∷ []) [] (stores y_place 2) refl refl tt refl (λ x. x.6),
+            (
+              c3,
+              begins used_before_assigned c2 1 2 (Item 0 [] 0) [] (prints_x ∷ []) refl refl (one_known c2 y_place 2 (Item 0 [] 0) refl (inl refl)),
+              (
+                c4,
+                ends used_before_assigned c3 1 2 (Item 0 [] 0) [] (prints_x ∷ []) (Found (Number (pos 2)) ∷ []) (stores x_place 3) refl refl ((Number (pos 2), inl refl, refl), tt) refl (λ x. scalar_clash x.0 x.1 x.2 3 x.4 x.5),
+                (
+                  c5,
+                  begins used_before_assigned c4 1 4 (Item 2 [] 0) [] [] refl refl (one_known c4 x_place 3 (Item 2 [] 0) refl (inl refl)),
+                  (c6, ends used_before_assigned c5 1 4 (Item 2 [] 0) [] [] (Found (Number (pos 3)) ∷ []) prints_three refl refl ((Number (pos 3), inl refl, refl), tt) three_printed (λ x. x.5), refl),
+                ),
+              ),
+            ),
+          ),
+        ),
+      ),
+    ),
+    record { no_fault = refl; idle = λ i h. absurd h; none_enabled = λ i h. absurd h },
     refl,
   ),
 )

@@ -18,6 +18,7 @@ pub data Task : Type 0 where
 abbrev pub only : Key
 only = number_key (pos 0)
 
+-- in the first chunk alone
 abbrev pub at_first : {X : Type 0} → ℕ → List X → List X
 at_first zero xs = xs
 at_first (suc c) xs = []
@@ -31,10 +32,12 @@ left_at (suc c) xs = left_at c (drop 64 xs)
 abbrev pub chunk : {X : Type 0} → ℕ → List X → List X
 chunk c xs = take 64 (left_at c xs)
 
+-- the list has a member
 abbrev pub is_some_list : {X : Type 0} → List X → Bool
 is_some_list [] = false
 is_some_list (x ∷ xs) = true
 
+-- a loop's turns
 abbrev pub turns_of : Computed → Elements
 turns_of (Turns ts) = ts
 turns_of _ = []
@@ -44,18 +47,22 @@ module _ (C : Code) where
   abbrev pub block : ℕ × List Step → Opening Task Place
   block s = record { makes = map (Datum s.1) (body C s.0).makes; tasks = map (λ j. Item j s.1 0) (body C s.0).entries }
 
+  -- the path with one step more
   abbrev pub step_at : ℕ → Key → List Step → List Step
   step_at mark k p = record { offset = mark; key = k } ∷ p
 
+  -- the block of an `else`, where there is one
   abbrev pub else_instance : Option ℕ → List Step → List (ℕ × List Step)
   else_instance None q = []
   else_instance (Some b) q = (b, q) ∷ []
 
+  -- the block that a condition opens
   abbrev pub branch_instances : Computed → ℕ → Option ℕ → ℕ → List Step → List (ℕ × List Step)
   branch_instances (Takes true) b d mark p = (b, step_at mark (number_key (pos 0)) p) ∷ []
   branch_instances (Takes false) b d mark p = else_instance d (step_at mark (number_key (pos 1)) p)
   branch_instances _ b d mark p = []
 
+  -- the blocks of turns
   abbrev pub turn_instances : Loop → ℕ → List Step → Elements → List (ℕ × List Step)
   turn_instances w mark p ts = map (λ (t : Key × Scalar). (w.body, step_at mark t.0 p)) ts
 
@@ -80,10 +87,12 @@ module _ (C : Code) where
   rest_if true i p c = record { makes = []; tasks = Item i p (suc c) ∷ [] } ∷ []
   rest_if false i p c = []
 
+  -- the rest of a loop, where some turns are left
   abbrev pub rest : Option Loop → ℕ → List Step → ℕ → Computed → List (Opening Task Place)
   rest None i p c x = []
   rest (Some w) i p c x = rest_if (is_some_list (left_at (suc c) (turns_of x))) i p c
 
+  -- a scalar is stored at a place
   abbrev pub stored_at : Place → Computed → List (Write Place Key Scalar)
   stored_at d (Fails f) = []
   stored_at d (Gives v) = record { place = d; key = only; value = v } ∷ []
@@ -92,6 +101,7 @@ module _ (C : Code) where
   stored_at d (Turns ts) = []
   stored_at d Opens = []
 
+  -- elements are stored at a place
   abbrev pub inserted_at : Place → Computed → List (Write Place Key Scalar)
   inserted_at d (Fails f) = []
   inserted_at d (Gives v) = []
@@ -105,10 +115,12 @@ module _ (C : Code) where
   turn_bound None q k = []
   turn_bound (Some n) q k = record { place = Datum q (scalar n); key = only; value = key_scalar k } ∷ []
 
+  -- the variables of a turn are stored in its block
   abbrev pub bound : Loop → ℕ → List Step → Key × Scalar → List (Write Place Key Scalar)
   bound w mark p t =
       record { place = Datum (step_at mark t.0 p) (scalar w.value); key = only; value = t.1 } ∷ turn_bound w.turn (step_at mark t.0 p) t.0
 
+  -- what an entry stores
   abbrev pub stores : Act → ℕ → ℕ → List Step → ℕ → Computed → List (Write Place Key Scalar)
   stores (Cell e) node mark p c x = stored_at (place_at C p (here (scalar node))) x
   stores Read node mark p c x = stored_at (place_at C p (here (scalar node))) x
@@ -124,6 +136,7 @@ module _ (C : Code) where
   stores (Each w) node mark p c x = flat_map (bound w mark p) (chunk c (turns_of x))
   stores (Wait hs b) node mark p c x = []
 
+  -- what an entry prints
   abbrev pub prints : Act → Computed → List Scalar
   prints (Print e) (Gives v) = v ∷ []
   prints _ _ = []
@@ -140,6 +153,7 @@ module _ (C : Code) where
   abbrev pub is_too_deep : Act → List Step → List (ℕ × List Step) → Bool
   is_too_deep a p ss = nat_le 512 (length p) && (steps_on a && is_some_list ss)
 
+  -- the whole effect of an item that computed this
   abbrev pub effect_at : ℕ → List Step → ℕ → Computed → Effect Task Place Key Scalar
   effect_at i p c x =
       let e = entry C i in
@@ -149,10 +163,12 @@ module _ (C : Code) where
         opens = map block (instances e.act e.mark p c x) ++ rest (loop_of e.act) i p c x;
       }
 
+  -- an effect, or TooDeep in its place
   abbrev pub limited : Bool → Effect Task Place Key Scalar → Outcome Task Place Key Scalar EntryFault
   limited true e = Bad TooDeep
   limited false e = Good e
 
+  -- what comes of an item: its own fault first, then TooDeep
   abbrev pub outcome_of : Computed → Bool → Effect Task Place Key Scalar → Outcome Task Place Key Scalar EntryFault
   outcome_of (Fails f) b e = Bad f
   outcome_of (Gives v) b e = limited b e

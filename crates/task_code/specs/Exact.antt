@@ -1,8 +1,8 @@
 -- Exact rights: what an entry may read or write is what it, or an entry that it leads to, reads or writes.
-use Rattle.std.specs.Prelude.{ℕ, zero, suc, Bool, true, false, ◌&&◌, List, [], ◌∷◌, ◌++◌, Option, Some, None, if◌then◌else◌}
+use Rattle.std.specs.Prelude.{ℕ, zero, suc, Bool, ◌&&◌, List, [], ◌∷◌, ◌++◌, Some, None, if◌then◌else◌}
 use Rattle.std.specs.List.{list_all, flat_map}
 use Rattle.dataflow.specs.System.{In}
-use Rattle.task_code.specs.Code.{Argument, Named, Fixed, Owned, Local, Parameter, Name, Entry, Code, Way, InPlace, Through, Calling, entry, body, argument, ways, targets, needed}
+use Rattle.task_code.specs.Code.{Named, Fixed, Owned, Local, Parameter, Name, Entry, Code, Way, InPlace, Through, Calling, entry, body, argument, ways, targets, needed}
 use Rattle.task_code.specs.Whole.{Seen, Declared}
 use Rattle.task_code.specs.Check.{name_in, every_at, is_declared}
 

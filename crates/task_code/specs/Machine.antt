@@ -3,8 +3,8 @@ use Rattle.std.specs.Prelude.{ℕ, List}
 use Rattle.dataflow.specs.System.{Effect}
 use Rattle.dataflow.specs.Facts.{Clean}
 use Rattle.dataflow.specs.Machine.{Item as MachineItem, State, Event, Enabled as EnabledIn, ClosedByRights as ClosedIn, Free as FreeIn, Step as StepOf, Run as RunOf, Quiet as QuietIn}
-use Rattle.dataflow.specs.Events.{Newly as NewlyOf}
-use Rattle.dataflow.specs.Promises.{Agrees as AgreesWith, Complete as CompleteIn, GoesOn as GoesOnIn}
+use Rattle.dataflow.specs.Events.{CanBegin as CanBeginIn, RunsOn as RunsIn, Newly as NewlyOf}
+use Rattle.dataflow.specs.Promises.{Agrees as AgreesWith, Complete as CompleteIn, GoesOn as GoesOnIn, HasSteps as HasStepsIn}
 use Rattle.dataflow.specs.History.{log_of, LeadsTo as LeadsToIn}
 use Rattle.dataflow.specs.Data.{AnswersAreOne as AnswersIn, DataAreKept as KeptIn, IsTidy as TidyIn, DataAreExact as ExactIn, SameButFree as SameIn}
 use Rattle.values.specs.declared.key.Key.{Key}
@@ -50,6 +50,14 @@ module _ (C : Code) where
   -- steps along the events, from the state in which item 1 alone is enabled
   abbrev pub Run : List Event → CodeState → Type 0
   Run events s = RunOf (code_system C) events s
+
+  -- an item of this number is enabled and does not run
+  abbrev pub CanBegin : CodeState → ℕ → Type 0
+  CanBegin s number = CanBeginIn (code_system C) s number
+
+  -- an item of this number runs on the worker
+  abbrev pub RunsOn : CodeState → ℕ → ℕ → Type 0
+  RunsOn s worker number = RunsIn (code_system C) s worker number
 
   -- no fault stands, and no item is enabled or runs
   abbrev pub Quiet : CodeState → Type 0
@@ -97,3 +105,7 @@ module _ (C : Code) where
   -- the states differ only in free data
   abbrev pub SameButFree : CodeState → CodeState → Type 0
   SameButFree s t = SameIn (code_system C) s t
+
+  -- which events have a step
+  abbrev pub HasSteps : CodeState → Type 0
+  HasSteps s = HasStepsIn (code_system C) s

@@ -16,6 +16,7 @@ module _ (C : Code) where
   literal_at (Constant v) = Some v
   literal_at Nowhere = None
 
+  -- a scalar need that is a literal
   abbrev pub literal_need : List Step → Need → Option Scalar
   literal_need p (Stored r) = literal_at (place_at C p r)
   literal_need p (Closed r) = None
@@ -32,12 +33,14 @@ module _ (C : Code) where
   answered p [] xs = []
   answered p (n ∷ ns) xs = with_answer (literal_need p n) xs (λ ys. answered p ns ys)
 
+  -- what comes of a task, told by its inputs' answers
   abbrev pub task_effect : Task → List (Answer Key Scalar) → Outcome Task Place Key Scalar EntryFault
   task_effect Main xs = Good (record { writes = []; lines = []; opens = block C (0, []) ∷ [] })
   task_effect (Item i p c) xs =
       let x = compute (entry C i).act (answered p (entry C i).needs xs) in
       outcome_of C x (is_too_deep C (entry C i).act p (instances C (entry C i).act (entry C i).mark p c x)) (effect_at C i p c x)
 
+  -- a place as an input: a scalar, an array, an element at a key, an element at a scalar's value
   abbrev pub scalar_input : Place → List (Input Place Key)
   scalar_input (Datum p v) = StoredScalar (Datum p v) ∷ []
   scalar_input (Constant v) = []
@@ -76,14 +79,17 @@ module _ (C : Code) where
   data_among (Constant v ∷ ds) = data_among ds
   data_among (Nowhere ∷ ds) = Nowhere ∷ data_among ds
 
+  -- what a task waits for
   abbrev pub task_inputs : Task → List (Input Place Key)
   task_inputs Main = []
   task_inputs (Item i p c) = flat_map (inputs_at p) (entry C i).needs
 
+  -- what a task may read
   abbrev pub task_reads : Task → List Place
   task_reads Main = []
   task_reads (Item i p c) = data_among (map (place_at C p) (entry C i).reads)
 
+  -- what a task may write
   abbrev pub task_writes : Task → List Place
   task_writes Main = []
   task_writes (Item i p c) = map (place_at C p) (entry C i).writes
@@ -92,18 +98,22 @@ module _ (C : Code) where
   abbrev pub apart_at : List Step → Name → Name → Bool
   apart_at p r s = name_eq r s || (place_array (place_at C p r) || not (place_eq (place_at C p r) (place_at C p s)))
 
+  -- a task whose names of scalars are different places
   abbrev pub is_valid : Task → Bool
   is_valid Main = true
   is_valid (Item i p c) = list_all (λ r. list_all (apart_at p r) (entry C i).writes) (entry C i).writes
 
+  -- who runs a task
   abbrev pub task_kind : Task → Kind
   task_kind Main = Control
   task_kind (Item i p c) = kind_of (entry C i).act
 
+  -- the priority of a task
   abbrev pub task_priority : Task → ℤ
   task_priority Main = pos 0
   task_priority (Item i p c) = (entry C i).priority
 
+  -- the system that code is
   abbrev pub code_system : System Task Place Key Scalar EntryFault
   code_system = record {
     inputs = task_inputs;

@@ -12,19 +12,21 @@ ghost use Rattle.task_code.specs.Effects.{Task};
 ghost use Rattle.task_code.specs.Compute.{InOperation};
 ghost use Rattle.values.specs.declared.fault.OpFault.TheVariants.{Memory};
 ghost use Rattle.task_code.specs.System.{code_system};
-ghost use Rattle.task_code.specs.Machine.{CodeState, CleanCode, CodeStep, Run, Quiet, Newly, Agrees, Complete, GoesOn, AnswersAreOne, run_log, LeadsTo, DataAreKept, IsTidy, DataAreExact, SameButFree};
+ghost use Rattle.task_code.specs.Machine.{CodeState, CleanCode, CodeStep, Run, Quiet, Newly, Agrees, Complete, GoesOn, AnswersAreOne, run_log, LeadsTo, DataAreKept, IsTidy, DataAreExact, SameButFree, HasSteps};
+ghost use Rattle.task_code.specs.Runs.{Blocked, EverBlocked};
 ghost use Rattle.task_code.specs.Whole.{IsCode};
 ghost use Rattle.task_code.specs.Check.{is_code};
 ghost use Rattle.task_code.specs.Exact.{needs_of, Leads, IsExact, is_exact};
 ghost use Rattle.task_code.specs.Count.{HasAllBlocks, HasAllLoops, items_in};
 ghost use Rattle.task_code.specs.Worked.{hello, used_before_assigned, filled_by_loop, key_written_twice, fibonacci, filled_by_call};
 ghost use Rattle.task_code.specs.Worked.{assigned_twice, loop_without_right, one_output_twice, name_undeclared, assigned_in_loop, loop_variable_assigned, entry_twice, opened_by_another, scalar_filled};
-ghost use Rattle.task_code.specs.Worked.{right_without_use, HelloRuns, SecondWriteFaults, StoresThree, Overflows, PrintsHello, LacksElement, OpensTurns, MeansTen, MeansResult, MeansInner, MeansCallersArray, ComparesTen, Chunks};
+ghost use Rattle.task_code.specs.Worked.{right_without_use, HelloRuns, WaitsForAssignment, SecondWriteFaults, StoresThree, Overflows, PrintsHello, LacksElement, OpensTurns, MeansTen, MeansResult, MeansInner, MeansCallersArray, ComparesTen, Chunks};
 
 /// The theorem for every list of events of whole code. If no key is written twice in any round, each state agrees with
-/// the code's meaning; a quiet state without fault has all of it, with that premise or without; no item is ever stuck,
-/// and none is there twice; no fault is that memory was refused. A run has at most two events for each item that was made and for each that was given back,
-/// and the items are counted by the blocks that are opened and the loops that run.
+/// the code's meaning. A quiet state without fault has all of it, with that premise or without, and its blocked
+/// statements are those of the meaning. No item is ever stuck, none is there twice, which events have a step is told by
+/// the items, and no fault is that memory was refused. A run has at most two events for each item that was made and for each that was given back, and the items are
+/// counted by the blocks that are opened and the loops that run.
 pub fn every_run_of_code()
     ensures agrees { (C : Code) → IsCode C → CleanCode C →
         (events : List Event) (s : CodeState) → Run C events s →
@@ -35,6 +37,11 @@ pub fn every_run_of_code()
     ensures goes_on { (C : Code) → IsCode C →
         (events : List Event) (s : CodeState) → Run C events s →
         GoesOn C s }
+    ensures steps { (C : Code) → IsCode C →
+        (events : List Event) (s : CodeState) → Run C events s → HasSteps C s }
+    ensures blocked { (C : Code) → IsCode C →
+        (events : List Event) (s : CodeState) → Run C events s → Quiet C s →
+        (at : ℕ) (path : List Step) → (Blocked C s at path → EverBlocked C at path) × (EverBlocked C at path → Blocked C s at path) }
     ensures no_memory_fault { (C : Code) → IsCode C →
         (events : List Event) (s : CodeState) → Run C events s →
         (t : Task) → s.fault ≡ Some (t, OfTask (InOperation Memory)) → ⊥ }
@@ -150,9 +157,11 @@ pub fn worked_items()
     ensures chunks { Chunks }
 {}
 
-/// Runs of the worked codes: one of `printf("hello");` that ends quiet with its line, and two of a script that writes a
-/// key twice, which end in a fault at the second write, whichever that is.
+/// Runs of the worked codes: one of `printf("hello");` that ends quiet with its line, one in which an assignment waits for
+/// the one behind it, and two of a script that writes a key twice, which end in a fault at the second write, whichever
+/// that is.
 pub fn worked_runs()
     ensures hello { HelloRuns }
+    ensures waits { WaitsForAssignment }
     ensures second_write { SecondWriteFaults }
 {}
