@@ -37,11 +37,13 @@ bound_list P keeps [] f = (0, λ x m. elim m [ ])
 bound_list P keeps (x ∷ xs) f =
     let r = f x first in
     let q = bound_list P keeps xs (λ y m. f y (later m)) in
-    let n = max r.0 q.0 in
-    (n, λ y m. elim (split_in m) [
-      | inl e ↦ subst (λ (z : _). P n z) (sym e) (keeps x r.0 n (omega arith) r.1)
-      | inr k ↦ keeps y q.0 n (omega arith) (q.1 y k)
-    ])
+    let n = max r.0 q.0 in (
+      n,
+      λ y m. elim (split_in m) [
+        | inl e ↦ subst (λ (z : _). P n z) (sym e) (keeps x r.0 n (omega arith) r.1)
+        | inr k ↦ keeps y q.0 n (omega arith) (q.1 y k)
+      ],
+    )
 
 below_next : (i n : ℕ) → i < suc n → (i < n) ⊎ (i ≡ n)
 below_next i n h = grind arith
@@ -52,11 +54,13 @@ bound_below P keeps zero f = (0, λ i h. absurd (omega arith))
 bound_below P keeps (suc k) f =
     let r = f k (omega arith) in
     let q = bound_below P keeps k (λ i h. f i (omega arith)) in
-    let n = max r.0 q.0 in
-    (n, λ i h. elim (below_next i k h) [
-      | inl l ↦ keeps i q.0 n (omega arith) (q.1 i l)
-      | inr e ↦ subst (λ (z : ℕ). P n z) (sym e) (keeps k r.0 n (omega arith) r.1)
-    ])
+    let n = max r.0 q.0 in (
+      n,
+      λ i h. elim (below_next i k h) [
+        | inl l ↦ keeps i q.0 n (omega arith) (q.1 i l)
+        | inr e ↦ subst (λ (z : ℕ). P n z) (sym e) (keeps k r.0 n (omega arith) r.1)
+      ],
+    )
 
 bounds_same : {r q : Bounds} → ◌≡◌ {A = Option Bounds} (Some r) (Some q) → r ≡ q
 bounds_same h = cc
@@ -120,12 +124,14 @@ module _ (s : Core) (grow : (n m : ℕ) → n ≤ m → Grows s (Known s n) (Kno
   elements_round : {a : Place} {es : List Element} → Elements (Meaning s) a es → (n : ℕ) × ((m : ℕ) → n ≤ m → Elements (Known s m) a es)
   elements_round {a} {es} x =
       let r = bound_list (λ n (e : Element). (w : Place) × Known s n (element a e.key w e.value)) (λ e n m h k. (k.0, known_up n m _ h k.1)) es
-          (λ e i. (let z = x.written e.key e.value i in (z.1.0, (z.0, z.1.1)))) in
-      (r.0, λ m h. record {
-        in_order = x.in_order;
-        written = λ k v i. (let z = r.1 (entry k v) i in (z.0, known_up r.0 m _ h z.1));
-        all = λ k w v f. x.all k w v (m, f);
-      })
+      (λ e i. (let z = x.written e.key e.value i in (z.1.0, (z.0, z.1.1)))) in (
+        r.0,
+        λ m h. record {
+          in_order = x.in_order;
+          written = λ k v i. (let z = r.1 (entry k v) i in (z.0, known_up r.0 m _ h z.1));
+          all = λ k w v f. x.all k w v (m, f);
+        },
+      )
 
   one_writer_round : {a : Place} (m : ℕ) → OneWriter (Meaning s) a → OneWriter (Known s m) a
   one_writer_round m o = λ k w w' v v' x y. o k w w' v v' (m, x) (m, y)
@@ -160,7 +166,7 @@ module _ (s : Core) (grow : (n m : ℕ) → n ≤ m → Grows s (Known s n) (Kno
       → (n : ℕ) × ((k : Key) (b : Block) (st : Stmt) → Opens header vs k b → st ∈ block_list b → Finished s (Known s n) a ((at, k) ∷ path) st)
   header_round {a = a} {path = path} {at = at} r f =
       let q = bound_opens (λ n k b. (st : Stmt) → st ∈ block_list b → Finished s (Known s n) a ((at, k) ∷ path) st)
-          (λ k b n m h x st i. keeps_finished s (Known s n) (Known s m) (grow n m h) (x st i)) r (λ k b o. stmts_round (block_list b) (λ st i. f k b st o i)) in
+      (λ k b n m h x st i. keeps_finished s (Known s n) (Known s m) (grow n m h) (x st i)) r (λ k b o. stmts_round (block_list b) (λ st i. f k b st o i)) in
       (q.0, λ k b st o i. q.1 k b o st i)
 
   mutual
@@ -194,9 +200,11 @@ module _ (s : Core) (grow : (n m : ℕ) → n ≤ m → Grows s (Known s n) (Kno
     finished_round (blocks_finished h r d fs) =
         let a = ready_round r in
         let b = header_round r (λ k b st o i. finished_round (fs k b st o i)) in
-        let n = max a.0 b.0 in
-        (n, blocks_finished h (keeps_ready s (Known s a.0) (Known s n) (grow a.0 n (omega arith)) a.1) d
-        (λ k c st o i. keeps_finished s (Known s b.0) (Known s n) (grow b.0 n (omega arith)) (b.1 k c st o i)))
+        let n = max a.0 b.0 in (
+          n,
+          blocks_finished h (keeps_ready s (Known s a.0) (Known s n) (grow a.0 n (omega arith)) a.1) d
+              (λ k c st o i. keeps_finished s (Known s b.0) (Known s n) (grow b.0 n (omega arith)) (b.1 k c st o i)),
+        )
     finished_round (content_finished {b = b} r fs) =
         let a = ready_round r in
         let q = stmts_round (block_list b) (λ st i. finished_round (fs st i)) in

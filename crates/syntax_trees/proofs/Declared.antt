@@ -103,7 +103,6 @@ live_block s (opened {header = a} l i r o d) = inner_block s (live_block s l) i 
 live_block s (waited l i r) = inner_block s (live_block s l) i first
 live_block s (called {f = f} {c = c} l i m e d) = function_block s c.function f e
 
-
 -- a live statement is one of the script's
 pub stmt_in : (s : Core) {K : Knowledge} {path : Path} {st : Stmt} → LiveStmt s K path st → st ∈ script_stmts s
 stmt_in s (in_block l i) = among_script s (live_block s l) i

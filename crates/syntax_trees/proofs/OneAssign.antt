@@ -191,7 +191,7 @@ module _ (s : Core) (w : NamesFound s) (K : Knowledge) where
               let y : here h.node ≡ out.0 = some_same first_out in
               let spot : p ≡ (path, h.node) = sym place_out ∙ ap (λ (o : Name). place_of s path o.up o.what) (sym y) ∙ place_here s path h.node in
               let c : Leads s K p ((x.at, Key.Number (pos 0)) ∷ path) f.body 0 (output 0) =
-                  record { depth = top; owner = f.body; chain = start (hidden_top (among_script s (live_block s l) m) n h spot q (subst (λ (i : ℕ). i < f.outputs) z below_count)) } in
+              record { depth = top; owner = f.body; chain = start (hidden_top (among_script s (live_block s l) m) n h spot q (subst (λ (i : ℕ). i < f.outputs) z below_count)) } in
               subst (λ (i : ℕ). Leads s K p ((x.at, Key.Number (pos 0)) ∷ path) f.body 0 (output i)) (sym z) c
 
       by : ((up ≡ 0) × (Declares f.body what ⊎ ((j : ℕ) × (what ≡ output j)))) → ((up' : ℕ) (what' : Owned) → Assigns b up' what' → place_of s path up' what' ≡ p → Leads s K p path b up' what') → Leads s K p ((x.at, Key.Number (pos 0)) ∷ path) f.body up what

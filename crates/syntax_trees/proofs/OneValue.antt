@@ -106,11 +106,11 @@ module _ (s : Core) (w : NamesFound s) (apart : LoopsApart s) (K : Knowledge) (g
           let rt = role_of {at = t.at} {n = t.node} t.turn in
           let rm = role_of {at = m.at} {n = m.node} m.turn in
           let same = apart.role_once (stmt t.at t.node t.header) (stmt m.at m.node m.header) m.variable rt.0 rm.0 t.there m.there
-              (subst (λ (z : ℕ). Role (stmt t.at t.node t.header) z rt.0) en rt.1) rm.1 in
+          (subst (λ (z : ℕ). Role (stmt t.at t.node t.header) z rt.0) en rt.1) rm.1 in
           let ea : t.header ≡ m.header = action_same same.0 in
           let ready : Ready s K m.path m.header t.values = subst (λ (z : Path). Ready s K z m.header t.values) et (subst (λ (z : Action). Ready s K t.path z t.values) ea t.ready) in
           let turn : InTurn m.header t.values m.key m.variable v =
-              subst (λ (z : ℕ). InTurn m.header t.values m.key z v) en (subst (λ (z : Key). InTurn m.header t.values z t.variable v) ek (subst (λ (z : Action). InTurn z t.values t.key t.variable v) ea t.turn)) in
+          subst (λ (z : ℕ). InTurn m.header t.values m.key z v) en (subst (λ (z : Key). InTurn m.header t.values z t.variable v) ek (subst (λ (z : Action). InTurn z t.values t.key t.variable v) ea t.turn)) in
           let values : t.values ≡ m.values = choice_stays s w K K l ready m.ready in
           turn_same m.there m.ready (subst (λ (z : List Value). InTurn m.header z m.key m.variable v) values turn) m.turn refl
 

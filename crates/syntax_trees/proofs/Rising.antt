@@ -37,8 +37,8 @@ rising_same (x ∷ xs) [] r q f g = elim (f x first) [ ]
 rising_same (x ∷ xs) (y ∷ ys) r q f g =
     let same : x ≡ y = heads (f x first) (g y first) in
     let rest = rising_same xs ys (rising_tail x xs r) (rising_tail y ys q)
-        (λ p m. tail_of p ys (λ e. not_below x.key (subst (λ (z : Element). key_below x.key z.key ≡ true) (e ∙ sym same) (above_head x p xs r m))) (f p (later m)))
-        (λ p m. tail_of p xs (λ e. not_below y.key (subst (λ (z : Element). key_below y.key z.key ≡ true) (e ∙ same) (above_head y p ys q m))) (g p (later m))) in
+    (λ p m. tail_of p ys (λ e. not_below x.key (subst (λ (z : Element). key_below x.key z.key ≡ true) (e ∙ sym same) (above_head x p xs r m))) (f p (later m)))
+    (λ p m. tail_of p xs (λ e. not_below y.key (subst (λ (z : Element). key_below y.key z.key ≡ true) (e ∙ same) (above_head y p ys q m))) (g p (later m))) in
     λ i. same i ∷ rest i
   where
     tail_of : {z : Element} (p : Element) (zs : List Element) → (p ≡ z → ⊥) → p ∈ (z ∷ zs) → p ∈ zs

@@ -102,7 +102,7 @@ le_either n m = grind arith
 
 module _ (s : Core) (w : NamesFound s) (apart : CellsApart s) (loops : LoopsApart s) (writers : WritersApart s) where
   -- a statement that fills an array inserts nothing
-  fill_not_insert : {L L' K K' : Knowledge} {a b : Place} {k l : Key} {u : Place} {v x : Scalar} {A : Type 0} → FromFill s L K a k u v → FromInsert s L' K' b l u x → A
+  pub fill_not_insert : {L L' K K' : Knowledge} {a b : Place} {k l : Key} {u : Place} {v x : Scalar} {A : Type 0} → FromFill s L K a k u v → FromInsert s L' K' b l u x → A
   fill_not_insert e f =
       let q : ◌≡◌ {A = Place} (f.path, f.node) (e.path, e.node) = f.writer_is ∙ sym e.writer_is in
       let m : stmt f.at e.node (insert f.array f.index f.right) ∈ script_stmts s = subst (λ (n : ℕ). stmt f.at n (insert f.array f.index f.right) ∈ script_stmts s) (ap (λ (z : Place). z.1) q) (stmt_in s f.live) in
@@ -126,9 +126,10 @@ module _ (s : Core) (w : NamesFound s) (apart : CellsApart s) (loops : LoopsApar
         let m : stmt f.at e.node (insert f.array f.index f.right) ∈ script_stmts s = subst (λ (n : ℕ). stmt f.at n (insert f.array f.index f.right) ∈ script_stmts s) (ap (λ (z : Place). z.1) q) (stmt_in s f.live) in
         let r = writers.insert_once e.at e.node f.at e.array f.array e.index f.index e.right f.right (stmt_in s e.live) m in
         let i : K (value (e.path, e.index.cell.node) f.index_value) = subst (λ (z : Path). K (value (z, e.index.cell.node) f.index_value)) ep (subst (λ (z : Outer). K (value (f.path, z.cell.node) f.index_value)) (sym r.0) f.known_index) in
-        let h : K (value (e.path, e.right.cell.node) (One x)) = subst (λ (z : Path). K (value (z, e.right.cell.node) (One x))) ep (subst (λ (z : Outer). K (value (f.path, z.cell.node) (One x))) (sym r.1) f.known) in
-        (key_same e.is_key f.is_key (one_value (e.path, e.index.cell.node) e.index_value f.index_value e.known_index i),
-        one_same (one_value (e.path, e.right.cell.node) (One v) (One x) e.known h))
+        let h : K (value (e.path, e.right.cell.node) (One x)) = subst (λ (z : Path). K (value (z, e.right.cell.node) (One x))) ep (subst (λ (z : Outer). K (value (f.path, z.cell.node) (One x))) (sym r.1) f.known) in (
+          key_same e.is_key f.is_key (one_value (e.path, e.index.cell.node) e.index_value f.index_value e.known_index i),
+          one_same (one_value (e.path, e.right.cell.node) (One v) (One x) e.known h),
+        )
 
   moved : (K : Knowledge) {a b u p : Place} {k : Key} {v : Scalar} → a ≡ b → u ≡ p → K (element a k u v) → K (element b k p v)
   moved K {a} {b} {u} {p} {k} {v} e h f = subst (λ (z : Place). K (element z k p v)) e (subst (λ (z : Place). K (element a k z v)) h f)
@@ -238,7 +239,7 @@ module _ (s : Core) (w : NamesFound s) (apart : CellsApart s) (loops : LoopsApar
             let lb = b.below in
             let m = max a.round b.round in
             let r = once m (omega arith) e.path f.path e.at e.node f.at f.node e.target f.target e.right f.right
-                (live_later a.round m (omega arith) (omega arith) e.live) (live_later b.round m (omega arith) (omega arith) f.live) (sym e.is ∙ f.is) in
+            (live_later a.round m (omega arith) (omega arith) e.live) (live_later b.round m (omega arith) (omega arith) f.live) (sym e.is ∙ f.is) in
             let x = comes_known a.round (omega arith) e.live (outer_in e.right.parts e.right.cell) e.comes in
             let y = comes_known b.round (omega arith) f.live (outer_in f.right.parts f.right.cell) f.comes in
             cell_one (stmt_in s f.live) (outer_in f.right.parts f.right.cell)

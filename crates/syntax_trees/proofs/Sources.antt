@@ -101,13 +101,36 @@ pub element_view : {s : Core} {K : Knowledge} {f : Fact} {a : Place} {k : Key} {
     → FillElement s K a k u v ⊎ InsertElement s K a k u v
 element_view (filled {path = path} {at = at} {n = n} {a = x} {c = c} {es = es} h g i) q =
     let r = element_parts q in
-    inl (record { path = path; at = at; node = n; array = x; right = c; elements = es; live = h; comes = g;
-        there = subst (λ (z : Element). z ∈ es) (λ j. entry (r.1 j) (r.3 j)) i; array_is = r.0; writer_is = r.2 })
+    inl (record {
+      path = path;
+      at = at;
+      node = n;
+      array = x;
+      right = c;
+      elements = es;
+      live = h;
+      comes = g;
+      there = subst (λ (z : Element). z ∈ es) (λ j. entry (r.1 j) (r.3 j)) i;
+      array_is = r.0;
+      writer_is = r.2;
+    })
 element_view {s} {K} (inserted {path = path} {at = at} {n = n} {a = x} {i = i} {c = c} {u = u} h g k m) q =
     let r = element_parts q in
-    inr (record { path = path; at = at; node = n; array = x; index = i; right = c; index_value = u; live = h; comes_index = g;
-        is_key = subst (λ (z : Key). IsKey u z) r.1 k;
-        comes = subst (λ (y : Scalar). Comes s K path c.cell (One y)) r.3 m; array_is = r.0; writer_is = r.2 })
+    inr (record {
+      path = path;
+      at = at;
+      node = n;
+      array = x;
+      index = i;
+      right = c;
+      index_value = u;
+      live = h;
+      comes_index = g;
+      is_key = subst (λ (z : Key). IsKey u z) r.1 k;
+      comes = subst (λ (y : Scalar). Comes s K path c.cell (One y)) r.3 m;
+      array_is = r.0;
+      writer_is = r.2;
+    })
 element_view (cell_value h i g) q = absurd (cc (q))
 element_view (assigned h g) q = absurd (cc (q))
 element_view (cell_fault h i g) q = absurd (cc (q))
@@ -173,9 +196,10 @@ module _ (s : Core) (apart : CellsApart s) where
       by : (CellValue s K (path, c.node) v ⊎ AssignValue s K (path, c.node) v) → LiveStmt s K path st × Gives s K path c.form (Ok v)
       by (inl a) =
           let same = apart.cell_once a.st st a.cell c (stmt_in s a.live) m a.there i (sym (ap (λ (z : Place). z.1) a.is)) in
-          let ep : a.path ≡ path = sym (ap (λ (z : Place). z.0) a.is) in
-          (subst (λ (z : Path). LiveStmt s K z st) ep (subst (λ (z : Stmt). LiveStmt s K a.path z) same.0 a.live),
-          subst (λ (z : Path). Gives s K z c.form (Ok v)) ep (subst (λ (z : Cell). Gives s K a.path z.form (Ok v)) same.1 a.gives))
+          let ep : a.path ≡ path = sym (ap (λ (z : Place). z.0) a.is) in (
+            subst (λ (z : Path). LiveStmt s K z st) ep (subst (λ (z : Stmt). LiveStmt s K a.path z) same.0 a.live),
+            subst (λ (z : Path). Gives s K z c.form (Ok v)) ep (subst (λ (z : Cell). Gives s K a.path z.form (Ok v)) same.1 a.gives),
+          )
       by (inr a) = absurd (apart.assign_apart a.at a.node a.target a.right st c a.path path (stmt_in s a.live) m i (sym a.is))
 
   new_full : (K : Knowledge) (path : Path) (at n : ℕ) (x : Name) (c : Outer) (v : Value) → stmt at n (fill x c) ∈ script_stmts s → New s K (value (path, c.cell.node) v)
