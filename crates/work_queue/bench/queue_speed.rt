@@ -1,4 +1,4 @@
-//! Times the queue: how long n puts, then n takes, last, with numbers in order and scattered.
+//! Times the queue: n puts, removes of every other item, and takes of the rest, at few priorities and at many.
 #![tactic(auto)]
 
 use std::io;
