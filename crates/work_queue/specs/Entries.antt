@@ -35,7 +35,7 @@ abbrev pub first_of : List Entry → Option Entry
 first_of [] = None
 first_of (x ∷ xs) = Some x
 
--- an entry of a kind as a list of both kinds shows it
+-- the item of a list of both kinds that stands for an entry of this kind
 abbrev pub listed : Kind → Entry → Kind × ℤ × ℕ
 listed kind e = (kind, e.priority, e.no)
 
@@ -56,10 +56,10 @@ abbrev pub first_number : List Entry → Option ℕ
 first_number [] = None
 first_number (x ∷ xs) = Some x.no
 
--- an entry as a list of both kinds shows it
+-- the entry that an item of a list of both kinds stands for
 abbrev pub entry_of : Kind × ℤ × ℕ → Entry
 entry_of l = record { priority = l.1; no = l.2 }
 
--- each item of the list is taken no later than those behind it, whatever their kinds
+-- no item of the list is taken before the one in front of it, whatever their kinds
 abbrev pub IsListedInOrder : List (Kind × ℤ × ℕ) → Type 0
 IsListedInOrder ls = IsSortedByKey entry_of order ls

@@ -1,5 +1,5 @@
 //! The entries of one kind, with nodes laid by for further ones.
-ghost use Rattle.std.specs.Prelude.{◌≡◌, ◌+◌, ◌<◌, ◌≤◌, ◌++◌, ◌↔◌, map, Contains, OnOk, OnErr, IfSome, IsOk, IsTrue};
+ghost use Rattle.std.specs.Prelude.{◌≡◌, ◌+◌, ◌<◌, ◌≤◌, ◌++◌, ◌↔◌, map, Contains, OnOk, OnErr, IfSome, IfOk, IsOk, IsTrue};
 ghost use Rattle.std.specs.Bool.{OnTrue, OnFalse};
 ghost use Rattle.work_queue.specs.Entries.{IsForemost, first_of, listed};
 ghost use Rattle.work_queue.specs.Waiting.{none, with_put, with_room, without_first, without};
@@ -8,6 +8,9 @@ use crate::entry::{Entry, Kind};
 use crate::tree::{Node, Tree};
 use std::alloc::{AllocError, Global};
 use std::marker::Model;
+
+// What a node holds that stands nowhere. It means nothing.
+const NOTHING: Entry = Entry { priority: 0, no: 0 };
 
 /// The entries that wait, and nodes that stand nowhere. A node that is laid by is one more entry that
 /// needs no memory, and an entry that leaves lays its node by.
@@ -48,7 +51,7 @@ impl Pile {
         ensures err { OnErr result (self.new ≡ self.old) }
     {
         self.spare.reserve(self.len + 1)?;
-        let node = Box::new(*self.spare.allocator(), Node::blank())?;
+        let node = Box::new(*self.spare.allocator(), Node::single(NOTHING))?;
         self.spare.push_reserved(node);
         Ok(())
     }
@@ -97,8 +100,13 @@ impl Pile {
         self.tree.append_to(kind, list)
     }
 
-    pub fn allocator(&self) -> Global {
-        *self.spare.allocator()
+    /// A list of all, in order.
+    pub fn list(&self, kind: Kind) -> Result<Vec<(Kind, i32, u64)>, AllocError>
+        ensures { IfOk result (λ list. list.items ≡ map (listed kind) self.now.entries) }
+    {
+        let mut list = Vec::new(*self.spare.allocator());
+        self.append_to(kind, &mut list)?;
+        Ok(list)
     }
 
     pub fn take(&mut self) -> Option<Entry>

@@ -123,8 +123,7 @@ impl Queue {
         ensures all { IfOk result (λ v. IsPermutation (map (listed Kind.Control) self.now.control.entries ++ map (listed Kind.Leaf) self.now.leaf.entries) v.items) }
         ensures in_order { IfOk result (λ v. IsListedInOrder v.items) }
     {
-        let mut list = Vec::new(self.control.allocator());
-        self.control.append_to(Kind::Control, &mut list)?;
+        let mut list = self.control.list(Kind::Control)?;
         self.leaf.append_to(Kind::Leaf, &mut list)?;
         list.sort_by_key(|&(_, priority, no)| Entry { priority, no })?;
         Ok(list)

@@ -183,12 +183,8 @@ impl Tree {
 }
 
 impl Node {
-    /// A node that stands nowhere, whose entry means nothing.
-    pub fn blank() -> Node {
-        Node::single(Entry { priority: 0, no: 0 })
-    }
-
-    fn single(entry: Entry) -> Node
+    /// A node with nothing below it.
+    pub fn single(entry: Entry) -> Node
         ensures { of_node result ≡ entry ∷ [] }
     {
         Node {
