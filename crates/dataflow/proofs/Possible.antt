@@ -1,6 +1,6 @@
 -- Which events have a step from a state that a run reaches.
-use Rattle.std.proofs.Common.{◌≡◌, ℕ, List, ◌∷◌, ◌++◌, refl, sym, subst, Option, None, Some}
-use Rattle.dataflow.specs.System.{In, Effect, System}
+use Rattle.std.proofs.Common.{◌≡◌, ℕ, List, ◌∷◌, ◌++◌, sym, subst, None}
+use Rattle.dataflow.specs.System.{In, System}
 use Rattle.dataflow.specs.Laws.{Laws}
 use Rattle.dataflow.specs.Machine.{Item, State, Begin, End, Back, At, Step}
 use Rattle.dataflow.specs.Events.{CanBegin, RunsOn}

@@ -1,8 +1,9 @@
 -- What every state that a run reaches promises.
-use Rattle.std.specs.Prelude.{◌≡◌, ℕ, ◌<◌, false, List, [], ◌∷◌, ◌++◌, map, None, Some, suc, length}
+use Rattle.std.specs.List.Sorted.{IsPermutation}
+use Rattle.std.specs.Prelude.{◌⊎◌, ◌≡◌, ℕ, ◌<◌, false, List, [], ◌∷◌, ◌++◌, map, None, Some, suc, length}
 use Rattle.dataflow.specs.System.{In, Distinct, Input, Answer, Write, Effect, Good, System}
 use Rattle.dataflow.specs.Facts.{Live, Written, Closed, Known, Ever, Faulty, Clean, EverGiven}
-use Rattle.dataflow.specs.Machine.{Item, State, Fault, OfTask, Begin, End, Back, ClosedByRights, Holds, IsKnown, Enabled, SeesAll, Step}
+use Rattle.dataflow.specs.Machine.{Item, State, Fault, OfTask, Begin, End, Back, ClosedByRights, Free, Holds, IsKnown, Enabled, SeesAll, Step}
 use Rattle.dataflow.specs.Events.{CanBegin, RunsOn}
 
 module _ {T D K V E : Type 0} (S : System T D K V E) where
@@ -88,3 +89,10 @@ module _ {T D K V E : Type 0} (S : System T D K V E) where
     pub end_only : (w n : ℕ) (new : State T D K V E) → Step S s (End w n) new → (s.fault ≡ None) × RunsOn S s w n
     pub back : (w n : ℕ) → s.fault ≡ None → RunsOn S s w n → (new : State T D K V E) × Step S s (Back w n) new
     pub back_only : (w n : ℕ) (new : State T D K V E) → Step S s (Back w n) new → (s.fault ≡ None) × RunsOn S s w n
+
+  -- two ends of runs that are the same: the lines are the same up to their order, the same tasks are left, and what one has stored the other has too, unless it is free there
+  pub record SameEnd (s t : State T D K V E) : Type 0 where
+    pub lines : IsPermutation s.lines t.lines
+    pub blocked : (u : T) → In u (tasks_in_items s.items) → In u (tasks_in_items t.items)
+    pub places : (a : D) → In a s.places → In a t.places ⊎ Free S t a
+    pub stored : (w : Write D K V) → In w s.stored → In w t.stored ⊎ Free S t w.place

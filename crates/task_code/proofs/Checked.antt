@@ -155,9 +155,9 @@ module _ (C : Code) where
       let x2 = every_in (λ j'. list_all (λ r. list_all (λ s. outputs_apart C m r s) (entry C j').writes) (entry C j).writes) es x1 j' ij' in
       let x3 = every_in (λ r. list_all (λ s. outputs_apart C m r s) (entry C j').writes) (entry C j).writes x2 (record { up = 0; owned = Parameter k false }) ik in
       let x4 = every_in (λ s. outputs_apart C m (record { up = 0; owned = Parameter k false }) s) (entry C j').writes x3 (record { up = 0; owned = Parameter k' false }) ik' in
-      elim (or_true (nat_eq k k') (not (same_argument C (argument C m k false) (argument C m k' false))) x4) [
+      elim (or_true (nat_eq k k') (not (same_argument (argument C m k false) (argument C m k' false))) x4) [
         | inl p ↦ nat_sound k k' p
-        | inr n ↦ absurd (not_true (same_argument C (argument C m k false) (argument C m k' false)) n (subst (λ (o : Option Argument). same_argument C o (argument C m k' false) ≡ true) (sym ak) (subst (λ (o : Option Argument). same_argument C (Some (Named r)) o ≡ true) (sym ak') (name_same r))))
+        | inr n ↦ absurd (not_true (same_argument (argument C m k false) (argument C m k' false)) n (subst (λ (o : Option Argument). same_argument o (argument C m k' false) ≡ true) (sym ak) (subst (λ (o : Option Argument). same_argument (Some (Named r)) o ≡ true) (sym ak') (name_same r))))
       ]
 
   fits_sound : (i : ℕ) (w : Way) (b : ℕ) → is_fit C i (entry C i) (w, b) ≡ true → Fits C i w b
@@ -187,7 +187,7 @@ module _ (C : Code) where
         kept = λ v j iv ij iw. not_true (name_in (here v) (entry C j).writes) (every_in (λ j. not (name_in (here v) (entry C j).writes)) (body C l.body).entries (every_in (λ v. list_all (λ j. not (name_in (here v) (entry C j).writes)) (body C l.body).entries) (loop_variables l) z.1 v iv) j ij) (in_name_in (here v) (entry C j).writes iw);
       }
 
-  main_sound : (o : Opener) → is_main C o ≡ true → o ≡ ByMain
+  main_sound : (o : Opener) → is_main o ≡ true → o ≡ ByMain
   main_sound ByMain h = refl
   main_sound (ByWait i) h = absurd (cc)
   main_sound (ByStep i) h = absurd (cc)
@@ -200,9 +200,9 @@ module _ (C : Code) where
         let y = true_and (every_at (is_entry C) C.entries) (every_at (is_body C) C.bodies) x.1 in
         (x.0, y.0, y.1)
 
-    script : (is_main C (body C 0).opener ≡ true) × (list_all (λ j. list_all (is_declared C 0) (entry C j).reads) (body C 0).entries ≡ true) × (list_all (λ j. list_all (is_declared C 0) (entry C j).writes) (body C 0).entries ≡ true)
+    script : (is_main (body C 0).opener ≡ true) × (list_all (λ j. list_all (is_declared C 0) (entry C j).reads) (body C 0).entries ≡ true) × (list_all (λ j. list_all (is_declared C 0) (entry C j).writes) (body C 0).entries ≡ true)
     script =
-        let x = true_and (is_main C (body C 0).opener) _ parts.0 in
+        let x = true_and (is_main (body C 0).opener) _ parts.0 in
         let y = true_and (list_all (λ j. list_all (is_declared C 0) (entry C j).reads) (body C 0).entries) _ x.1 in
         (x.0, y.0, y.1)
 

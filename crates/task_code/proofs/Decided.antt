@@ -93,7 +93,7 @@ module _ (C : Code) where
   inside_is i Calling b f = refl
 
   -- two outputs of one call are two variables, or one output
-  same_named : (o p : Option Argument) → same_argument C o p ≡ true → (r : Name) × (o ≡ Some (Named r)) × (p ≡ Some (Named r))
+  same_named : (o p : Option Argument) → same_argument o p ≡ true → (r : Name) × (o ≡ Some (Named r)) × (p ≡ Some (Named r))
   same_named None p h = absurd (cc)
   same_named (Some (Fixed v)) p h = absurd (cc)
   same_named (Some (Named r)) None h = absurd (cc)
@@ -115,7 +115,7 @@ module _ (C : Code) where
 
       by : (j j' : ℕ) → In j (body C b).entries → In j' (body C b).entries → (up : ℕ) (x : Owned) (up' : ℕ) (y : Owned) → In (record { up = up; owned = x }) (entry C j).writes → In (record { up = up'; owned = y }) (entry C j').writes → outputs_apart C (entry C i).mark (record { up = up; owned = x }) (record { up = up'; owned = y }) ≡ true
       by j j' ij ij' zero (Parameter k false) zero (Parameter l false) ir is =
-          nat_by k l (same_argument C (argument C (entry C i).mark k false) (argument C (entry C i).mark l false)) (λ h.
+          nat_by k l (same_argument (argument C (entry C i).mark k false) (argument C (entry C i).mark l false)) (λ h.
           (let n = same_named (argument C (entry C i).mark k false) (argument C (entry C i).mark l false) h in
           f.outputs refl j j' k l n.0 ij ij' ir is n.1 n.2))
       by j j' ij ij' zero (Parameter k true) up' y ir is = refl
@@ -147,8 +147,8 @@ module _ (C : Code) where
   if_loop_is i None h = refl
   if_loop_is i (Some l) h = loop_is i l (h l refl)
 
-  main_is : (o : Opener) → o ≡ ByMain → is_main C o ≡ true
-  main_is o h = subst (λ (x : Opener). is_main C x ≡ true) (sym h) refl
+  main_is : (o : Opener) → o ≡ ByMain → is_main o ≡ true
+  main_is o h = subst (λ (x : Opener). is_main x ≡ true) (sym h) refl
 
   module _ (I : IsCode C) where
     entry_is : (i : ℕ) → is_entry C i (entry C i) ≡ true
@@ -189,7 +189,7 @@ module _ (C : Code) where
 
     script_is : is_script C ≡ true
     script_is =
-        both_true (is_main C (body C 0).opener) _ (main_is (body C 0).opener I.script)
+        both_true (is_main (body C 0).opener) _ (main_is (body C 0).opener I.script)
         (both_true (list_all (λ j. list_all (is_declared C 0) (entry C j).reads) (body C 0).entries) _
         (in_every _ (body C 0).entries (λ j ij. in_every (is_declared C 0) (entry C j).reads (λ r ir. declared_is 0 r (I.script_reads j r ij ir))))
         (in_every _ (body C 0).entries (λ j ij. in_every (is_declared C 0) (entry C j).writes (λ r ir. declared_is 0 r (I.script_writes j r ij ir)))))

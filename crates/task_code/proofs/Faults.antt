@@ -212,11 +212,11 @@ computed_free (Each w) xs = tt
 computed_free (Wait hs b) xs = tt
 
 module _ (C : Code) where
-  limited_free : (b : Bool) (e : Effect Task Place Key Scalar) → ◌≡◌ {A = Outcome Task Place Key Scalar EntryFault} (limited C b e) (Bad (InOperation Memory)) → ⊥
+  limited_free : (b : Bool) (e : Effect Task Place Key Scalar) → ◌≡◌ {A = Outcome Task Place Key Scalar EntryFault} (limited b e) (Bad (InOperation Memory)) → ⊥
   limited_free true e h = (let q : TooDeep ≡ InOperation Memory = cc (h) in absurd (cc))
   limited_free false e h = absurd (cc)
 
-  outcome_free : (x : Computed) (b : Bool) (e : Effect Task Place Key Scalar) → IsFreeOf x → ◌≡◌ {A = Outcome Task Place Key Scalar EntryFault} (outcome_of C x b e) (Bad (InOperation Memory)) → ⊥
+  outcome_free : (x : Computed) (b : Bool) (e : Effect Task Place Key Scalar) → IsFreeOf x → ◌≡◌ {A = Outcome Task Place Key Scalar EntryFault} (outcome_of x b e) (Bad (InOperation Memory)) → ⊥
   outcome_free (Fails f) b e h q = h (cc (q))
   outcome_free (Gives v) b e h q = limited_free b e q
   outcome_free (Inserts xs) b e h q = limited_free b e q
@@ -228,7 +228,7 @@ module _ (C : Code) where
   effect_free Main xs h = absurd (cc)
   effect_free (Item i p c) xs h =
       let x = compute (entry C i).act (answered C p (entry C i).needs xs) in
-      outcome_free x (is_too_deep C (entry C i).act p (instances C (entry C i).act (entry C i).mark p c x)) (effect_at C i p c x) (computed_free (entry C i).act (answered C p (entry C i).needs xs)) h
+      outcome_free x (is_too_deep (entry C i).act p (instances (entry C i).act (entry C i).mark p c x)) (effect_at C i p c x) (computed_free (entry C i).act (answered C p (entry C i).needs xs)) h
 
   -- so no run has
   pub never_memory : (s : CodeState) (log : List (Task × Effect Task Place Key Scalar)) → Follows (code_system C) s log → (t : Task) → s.fault ≡ Some (t, OfTask (InOperation Memory)) → ⊥

@@ -35,6 +35,18 @@ abbrev pub every_at : {X : Type 0} → (ℕ → X → Bool) → List X → Bool
 every_at f [] = true
 every_at f (x ∷ xs) = f 0 x && every_at (λ i. f (suc i)) xs
 
+-- both are one name
+abbrev pub same_argument : Option Argument → Option Argument → Bool
+same_argument (Some (Named r)) (Some (Named s)) = name_eq r s
+same_argument _ _ = false
+
+-- nothing opens the body but the start
+abbrev pub is_main : Opener → Bool
+is_main ByMain = true
+is_main (ByWait i) = false
+is_main (ByStep i) = false
+is_main ByCalls = false
+
 module _ (C : Code) where
   -- the body declares the name
   abbrev pub is_declared : ℕ → Name → Bool
@@ -92,11 +104,6 @@ module _ (C : Code) where
   is_inside e Through b = true
   is_inside e Calling b = true
 
-  -- both are one name
-  abbrev pub same_argument : Option Argument → Option Argument → Bool
-  same_argument (Some (Named r)) (Some (Named s)) = name_eq r s
-  same_argument _ _ = false
-
   -- two parameters of scalars that are not one variable of the caller
   abbrev pub outputs_apart : ℕ → Name → Name → Bool
   outputs_apart mark r s = by r.up r.owned s.up s.owned
@@ -143,13 +150,6 @@ module _ (C : Code) where
       (distinct_numbers x.entries && list_all (λ j. nat_lt j (length C.entries)) x.entries)
       && (list_all (λ j. list_all (λ j'. list_all (λ r. nat_eq j j' || (is_array_name r || not (name_in r (entry C j').writes))) (entry C j).writes) x.entries) x.entries
       && every_at (λ b' y. nat_eq b b' || (list_all (λ v. not (variable_in v y.makes)) x.makes && list_all (λ j. not (number_in j y.entries)) x.entries)) C.bodies)
-
-  -- nothing opens the body but the start
-  abbrev pub is_main : Opener → Bool
-  is_main ByMain = true
-  is_main (ByWait i) = false
-  is_main (ByStep i) = false
-  is_main ByCalls = false
 
   -- the first body is the script
   abbrev pub is_script : Bool

@@ -4,7 +4,7 @@ use Rattle.dataflow.specs.System.{Effect}
 use Rattle.dataflow.specs.Facts.{Clean}
 use Rattle.dataflow.specs.Machine.{Item as MachineItem, State, Event, Enabled as EnabledIn, ClosedByRights as ClosedIn, Free as FreeIn, Step as StepOf, Run as RunOf, Quiet as QuietIn}
 use Rattle.dataflow.specs.Events.{CanBegin as CanBeginIn, RunsOn as RunsIn, Newly as NewlyOf}
-use Rattle.dataflow.specs.Promises.{Agrees as AgreesWith, Complete as CompleteIn, GoesOn as GoesOnIn, HasSteps as HasStepsIn}
+use Rattle.dataflow.specs.Promises.{Agrees as AgreesWith, Complete as CompleteIn, GoesOn as GoesOnIn, HasSteps as HasStepsIn, SameEnd as SameEndIn}
 use Rattle.dataflow.specs.History.{log_of, LeadsTo as LeadsToIn}
 use Rattle.dataflow.specs.Data.{AnswersAreOne as AnswersIn, DataAreKept as KeptIn, IsTidy as TidyIn, DataAreExact as ExactIn, SameButFree as SameIn}
 use Rattle.values.specs.declared.key.Key.{Key}
@@ -109,3 +109,7 @@ module _ (C : Code) where
   -- which events have a step
   abbrev pub HasSteps : CodeState → Type 0
   HasSteps s = HasStepsIn (code_system C) s
+
+  -- two ends of runs that are the same, but for the order of the lines and for free data
+  abbrev pub SameEnd : CodeState → CodeState → Type 0
+  SameEnd s t = SameEndIn (code_system C) s t

@@ -12,7 +12,7 @@ ghost use Rattle.task_code.specs.Effects.{Task};
 ghost use Rattle.task_code.specs.Compute.{InOperation};
 ghost use Rattle.values.specs.declared.fault.OpFault.TheVariants.{Memory};
 ghost use Rattle.task_code.specs.System.{code_system};
-ghost use Rattle.task_code.specs.Machine.{CodeState, CleanCode, CodeStep, Run, Quiet, Newly, Agrees, Complete, GoesOn, AnswersAreOne, run_log, LeadsTo, DataAreKept, IsTidy, DataAreExact, SameButFree, HasSteps};
+ghost use Rattle.task_code.specs.Machine.{CodeState, CleanCode, CodeStep, Run, Quiet, Newly, Agrees, Complete, GoesOn, AnswersAreOne, run_log, LeadsTo, DataAreKept, IsTidy, DataAreExact, SameButFree, HasSteps, SameEnd};
 ghost use Rattle.task_code.specs.Runs.{Blocked, EverBlocked};
 ghost use Rattle.task_code.specs.Whole.{IsCode};
 ghost use Rattle.task_code.specs.Check.{is_code};
@@ -24,7 +24,7 @@ ghost use Rattle.task_code.specs.Worked.{right_without_use, HelloRuns, WaitsForA
 
 /// The theorem for every list of events of whole code. If no key is written twice in any round, each state agrees with
 /// the code's meaning. A quiet state without fault has all of it, with that premise or without, and its blocked
-/// statements are those of the meaning. No item is ever stuck, none is there twice, which events have a step is told by
+/// statements are those of the meaning; so all runs that end quiet end the same. No item is ever stuck, none is there twice, which events have a step is told by
 /// the items, and no fault is that memory was refused. A run has at most two events for each item that was made and for each that was given back, and the items are
 /// counted by the blocks that are opened and the loops that run.
 pub fn every_run_of_code()
@@ -34,6 +34,9 @@ pub fn every_run_of_code()
     ensures complete { (C : Code) → IsCode C →
         (events : List Event) (s : CodeState) → Run C events s →
         Quiet C s → Complete C s }
+    ensures one_end { (C : Code) → IsCode C →
+        (events others : List Event) (s t : CodeState) → Run C events s → Run C others t →
+        Quiet C s → Quiet C t → SameEnd C s t }
     ensures goes_on { (C : Code) → IsCode C →
         (events : List Event) (s : CodeState) → Run C events s →
         GoesOn C s }

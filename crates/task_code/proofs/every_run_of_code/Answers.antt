@@ -7,6 +7,7 @@ use Rattle.dataflow.proofs.Steps.{run_follows}
 use Rattle.dataflow.proofs.Numbers.{run_numbered}
 use Rattle.dataflow.proofs.Headline.{agrees_with, complete, goes_on}
 use Rattle.dataflow.proofs.Keeping.{live_bound}
+use Rattle.dataflow.proofs.Ends.{same_end}
 use Rattle.dataflow.proofs.Possible.{has_steps}
 use Rattle.task_code.specs.System.{code_system}
 use Rattle.task_code.proofs.Kept.{code_laws}
@@ -42,3 +43,6 @@ returns-clause-blocked g = λ C I es s x q at path.
 
 pub returns-clause-steps : goal.returns-clause-steps
 returns-clause-steps g = λ C I es s x. has_steps (code_system C) (code_laws C I) s (goes_on (code_system C) (code_laws C I) s (log_of (code_system C) es s x) (run_follows (code_system C) (code_laws C I) es s x) (run_numbered (code_system C) es s x))
+
+pub returns-clause-one_end : goal.returns-clause-one_end
+returns-clause-one_end g = λ C I es fs s t x y qs qt. same_end (code_system C) (code_laws C I) s t (log_of (code_system C) es s x) (log_of (code_system C) fs t y) (run_follows (code_system C) (code_laws C I) es s x) (run_follows (code_system C) (code_laws C I) fs t y) qs qt
