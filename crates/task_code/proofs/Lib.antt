@@ -7,3 +7,4 @@ mod Rights
 mod Kept
 mod Counted
 mod Checked
+mod Numbers

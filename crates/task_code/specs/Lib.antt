@@ -8,3 +8,5 @@ pub mod Whole
 pub mod Check
 pub mod Count
 pub mod Worked
+pub mod View
+pub mod Tokens
