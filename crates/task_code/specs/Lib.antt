@@ -11,3 +11,5 @@ pub mod Exact
 pub mod Runs
 pub mod Count
 pub mod Worked
+pub mod View
+pub mod Tokens

@@ -22,6 +22,11 @@ ghost use Rattle.task_code.specs.Worked.{hello, used_before_assigned, filled_by_
 ghost use Rattle.task_code.specs.Worked.{assigned_twice, loop_without_right, one_output_twice, name_undeclared, assigned_in_loop, loop_variable_assigned, entry_twice, opened_by_another, scalar_filled};
 ghost use Rattle.task_code.specs.Worked.{right_without_use, HelloRuns, WaitsForAssignment, SecondWriteFaults, StoresThree, Overflows, PrintsHello, LacksElement, OpensTurns, MeansTen, MeansResult, MeansInner, MeansCallersArray, ComparesTen, Chunks};
 
+pub mod code;
+pub mod entry;
+pub mod event;
+pub mod expr;
+
 /// The theorem for every list of events of whole code. If no key is written twice in any round, each state agrees with
 /// the code's meaning. A quiet state without fault has all of it, with that premise or without, and its blocked
 /// statements are those of the meaning; so all runs that end quiet end the same. No item is ever stuck, none is there twice, which events have a step is told by

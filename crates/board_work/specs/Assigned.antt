@@ -1,0 +1,44 @@
+-- What an item is given to do, and what comes of it.
+use Rattle.std.specs.Prelude.{ℕ, List, Option, Some, None, Result}
+use Rattle.std.specs.Arc.{arc_value}
+use Rattle.dataflow.specs.System.{Answer}
+use Rattle.values.specs.declared.fault.OpFault.{OpFault}
+use Rattle.values.specs.declared.key.Key.{Key}
+use Rattle.values.specs.declared.value.Scalar.{Scalar}
+use Rattle.values.specs.declared.value.Value.{Value}
+use Rattle.task_code.specs.Code.{Entry, Kind, Control, kind_of}
+use Rattle.task_code.specs.Compute as Pure
+use Rattle.task_code.specs.View.{entry_view}
+use Rattle.board_work.specs.declared.work.Job.{Job}
+use Rattle.board_work.specs.declared.work.Job.TheVariants as Does
+use Rattle.board_work.specs.Outcome.{control_result}
+
+-- what an item is for: it opens the script, or it is an entry's
+pub data Task : Type 0 where
+  opens_script : Task
+  runs : Entry → Task
+
+-- an item that runs, with the answers to its needs
+pub record Assigned : Type 0 where
+  pub item : ℕ
+  pub job : Task
+  pub answers : List (Answer Key Scalar)
+
+abbrev pub job_view : Job → Task
+job_view Does.Script = opens_script
+job_view (Does.Entry e) = runs (entry_view (arc_value e))
+
+-- who runs it
+abbrev pub job_kind : Task → Kind
+job_kind opens_script = Control
+job_kind (runs e) = kind_of e.act
+
+-- what a leaf item stores or prints, or its fault
+abbrev pub job_result : Task → List (Answer Key Scalar) → Option (Result Value OpFault)
+job_result opens_script xs = None
+job_result (runs e) xs = Pure.leaf_result e.act xs
+
+-- what the end of a control item needs
+abbrev pub job_control : Task → List (Answer Key Scalar) → Option Pure.Computed
+job_control opens_script xs = Some Pure.Opens
+job_control (runs e) xs = control_result e.act xs

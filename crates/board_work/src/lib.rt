@@ -1,0 +1,7 @@
+//! The work of an item: what is worked out of its entry and of the answers to its needs, apart from the machine that runs it.
+#![tactic(auto)]
+
+pub mod answer;
+pub mod evaluation;
+pub mod outcome;
+pub mod work;

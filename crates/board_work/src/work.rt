@@ -1,0 +1,157 @@
+//! Items that run, and what they come to.
+ghost use Rattle.std.specs.Prelude.{◌≡◌, IfOk, IfErr};
+ghost use Rattle.std.specs.Option.{option_copied};
+ghost use Rattle.task_code.specs.View.{kind_view};
+ghost use Rattle.board_work.specs.View.{answers_view};
+ghost use Rattle.board_work.specs.Outcome.{result_in, control_in};
+ghost use Rattle.board_work.specs.Assigned.{job_view, job_kind, job_result, job_control};
+
+use crate::answer::Answer;
+use crate::outcome::{Computed, Outcome, outcome_of};
+use std::alloc::{AllocError, Global};
+use std::marker::Model;
+use std::sync::Arc;
+use task_code::entry::{Entry, Kind};
+use values::fault::OpFault;
+use values::value::Value;
+
+/// What an item is for: the opening of the script, or an entry.
+#[derive(Drop)]
+pub enum Job {
+    Script,
+    Entry(Arc<Entry>),
+}
+
+/// An item that runs, with the answers to its entry's needs. Any thread can compute it.
+#[derive(Drop)]
+pub struct Work {
+    item: u64,
+    job: Job,
+    answers: Vec<Answer>,
+}
+
+impl Model for Work {
+    ghost use Rattle.std.specs.Coded.{codes};
+    ghost use Rattle.task_code.specs.Tokens.{expr_code, exprs_code};
+    ghost use Rattle.board_work.specs.View.{answers_view};
+    ghost use Rattle.board_work.specs.Assigned.{Assigned, job_view};
+
+    ghost Value = { Assigned };
+
+    ghost coded = { Prim.hlevel (codes, expr_code (Prim.hlevel codes), exprs_code (Prim.hlevel codes)) };
+
+    ghost view = { λ w. record { item = w.item; job = job_view w.job; answers = answers_view w.answers.items } };
+}
+
+/// Work with what it comes to. Only `Work::compute` makes one.
+#[derive(Drop)]
+pub struct Done {
+    item: u64,
+    job: Job,
+    answers: Vec<Answer>,
+    outcome: Outcome,
+}
+
+impl Model for Done {
+    ghost use Rattle.std.specs.Prelude.{◌≡◌};
+    ghost use Rattle.std.specs.Coded.{codes};
+    ghost use Rattle.task_code.specs.Tokens.{expr_code, exprs_code};
+    ghost use Rattle.board_work.specs.View.{answers_view};
+    ghost use Rattle.board_work.specs.Outcome.{result_in, control_in};
+    ghost use Rattle.board_work.specs.Assigned.{Assigned, job_view, job_result, job_control};
+
+    ghost Value = { Assigned };
+
+    ghost coded = { Prim.hlevel (codes, expr_code (Prim.hlevel codes), exprs_code (Prim.hlevel codes)) };
+
+    ghost view = { λ d. record { item = d.item; job = job_view d.job; answers = answers_view d.answers.items } };
+
+    ghost invariant = { λ d. (result_in d.outcome ≡ job_result (job_view d.job) (answers_view d.answers.items)) × (control_in d.outcome ≡ job_control (job_view d.job) (answers_view d.answers.items)) };
+}
+
+impl Work {
+    /// The work of an item.
+    pub fn new(item: u64, job: Job, answers: Vec<Answer>) -> Work
+        ensures { result ≡ record { item = item; job = job_view job; answers = answers_view answers.items } }
+    {
+        Work { item, job, answers }
+    }
+
+    /// The item's number.
+    pub fn item(&self) -> u64
+        ensures { result ≡ self.now.item }
+    {
+        self.item
+    }
+
+    /// Who runs the item.
+    pub fn kind(&self) -> Kind
+        ensures { kind_view result ≡ job_kind self.now.job }
+    {
+        match &self.job {
+            Job::Script => Kind::Control,
+            Job::Entry(entry) => entry.act.kind(),
+        }
+    }
+
+    /// Does the work: it works out what the entry computes from its answers.
+    ///
+    /// # Errors
+    ///
+    /// `AllocError`, beside the same work, where memory that was asked for was refused.
+    pub fn compute(self) -> Result<Done, (Work, AllocError)>
+        ensures ok { IfOk result (λ done. done ≡ self) }
+        ensures err { IfErr result (λ refused. refused.0 ≡ self) }
+    {
+        let Work { item, job, answers } = self;
+        let alloc = *answers.allocator();
+        match job_outcome(alloc, &job, &answers) {
+            Ok(outcome) => Ok(Done {
+                item,
+                job,
+                answers,
+                outcome,
+            }),
+            Err(refused) => Err((Work { item, job, answers }, refused)),
+        }
+    }
+}
+
+/// What an item computes for its job.
+fn job_outcome(alloc: Global, job: &Job, answers: &[Answer]) -> Result<Outcome, AllocError>
+    ensures leaf { IfOk result (λ o. result_in o ≡ job_result (job_view job.now) (answers_view answers.now)) }
+    ensures control { IfOk result (λ o. control_in o ≡ job_control (job_view job.now) (answers_view answers.now)) }
+{
+    match job {
+        Job::Script => Ok(Outcome::Control(Computed::Opens)),
+        Job::Entry(entry) => outcome_of(alloc, &entry.act, answers),
+    }
+}
+
+impl Done {
+    /// The item's number.
+    pub fn item(&self) -> u64
+        ensures { result ≡ self.now.item }
+    {
+        self.item
+    }
+
+    /// For a leaf item what its end stores or prints, or its fault; else none. A literal's elements are a map, an `assert`
+    /// that holds is true.
+    pub fn result(&self) -> Option<&Result<Value, OpFault>>
+        ensures { option_copied result ≡ job_result self.now.job self.now.answers }
+    {
+        match &self.outcome {
+            Outcome::Leaf(result) => Some(result),
+            Outcome::Control(_) => None,
+        }
+    }
+
+    /// What the item computed.
+    pub fn outcome(&self) -> &Outcome
+        ensures leaf { result_in result.now ≡ job_result self.now.job self.now.answers }
+        ensures control { control_in result.now ≡ job_control self.now.job self.now.answers }
+    {
+        &self.outcome
+    }
+}
