@@ -12,13 +12,4 @@ pub mod Exactly
 pub mod WorkedRuns
 pub mod Faults
 pub mod Blocks
-mod Equal
-mod Places
-mod Chunks
-mod Listed
-mod Opens
-mod Rights
-mod Kept
-mod Counted
-mod Checked
 mod Numbers
