@@ -23,11 +23,11 @@ many_extends test r zero xs s ys u h = absurd (cc)
 many_extends {A} test r (suc n) xs s ys u h = cases (λ a v. many_extends test r n (xs ++ a ∷ []) v ys u) (test s) h
   where
     cases : ((a : A) (v : Place) → many_over test r n (xs ++ a ∷ []) v ≡ got ys u → (zs : List A) × (ys ≡ (xs ++ a ∷ []) ++ zs)) → (b : Bool)
-      → cond b (r s >>= λ a v. many_over test r n (xs ++ a ∷ []) v) (got xs s) ≡ got ys u → (zs : List A) × (ys ≡ xs ++ zs)
+        → cond b (r s >>= λ a v. many_over test r n (xs ++ a ∷ []) v) (got xs s) ≡ got ys u → (zs : List A) × (ys ≡ xs ++ zs)
     cases more true g =
-      let p = bind_got (r s) (λ a v. many_over test r n (xs ++ a ∷ []) v) ys u g in
-      let q = more p.0 p.1 p.3 in
-      (p.0 ∷ q.0, q.1 ∙ append_assoc xs (p.0 ∷ []) q.0)
+        let p = bind_got (r s) (λ a v. many_over test r n (xs ++ a ∷ []) v) ys u g in
+        let q = more p.0 p.1 p.3 in
+        (p.0 ∷ q.0, q.1 ∙ append_assoc xs (p.0 ∷ []) q.0)
     cases more false g = ([], sym (got_value xs ys s u g) ∙ sym (append-nil xs))
 
 -- one more where one begins

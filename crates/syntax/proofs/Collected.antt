@@ -29,7 +29,7 @@ pub tokens_more : (bytes : List ℕ) (ts us : List Lexeme) (t : Lexeme) (now res
     → Tokens bytes (map Ok us ++ rest)
 tokens_more bytes ts us t now rest lexed next is =
     let same : ◌≡◌ {A = List Item} (map Ok ts ++ now) (map Ok us ++ rest) =
-      ap (λ n. map Ok ts ++ n) next ∙ sym (append_assoc (map Ok ts) (Ok t ∷ []) rest) ∙ ap (λ n. n ++ rest) (sym (map-append Ok ts (t ∷ []))) ∙ ap (λ xs. map Ok xs ++ rest) (sym is) in
+    ap (λ n. map Ok ts ++ n) next ∙ sym (append_assoc (map Ok ts) (Ok t ∷ []) rest) ∙ ap (λ n. n ++ rest) (sym (map-append Ok ts (t ∷ []))) ∙ ap (λ xs. map Ok xs ++ rest) (sym is) in
     subst (Tokens bytes) same lexed
 
 pub tokens_end : (bytes : List ℕ) (ts : List Lexeme) (now rest : List Item) → Tokens bytes (map Ok ts ++ now) → now ≡ rest → Tokens bytes (map Ok ts ++ rest)

@@ -71,15 +71,16 @@ escaped_body c cs (Some d) e some more = escape_body c d cs e more
 -- with and without a `\` before them
 bodies : (cs : List ℕ) → (closes false cs ≡ true → Body cs) × (closes true cs ≡ true → Body (92 ∷ cs))
 bodies [] = (λ e. absurd (cc), λ e. absurd (cc))
-bodies (c ∷ cs) =
-    (elim (nat_eq c 34) as (λ b. nat_eq c 34 ≡ b → (if b then is_empty cs else (if nat_eq c 92 then closes true cs else is_plain c && closes false cs)) ≡ true → Body (c ∷ cs)) [
-      | true ↦ λ quote empty. let is : c ≡ 34 = eqb-true c 34 quote in let none : cs ≡ [] = no_bytes cs empty in ([], [], cc, ended)
-      | false ↦ λ no_quote. elim (nat_eq c 92) as (λ b. nat_eq c 92 ≡ b → (if b then closes true cs else is_plain c && closes false cs) ≡ true → Body (c ∷ cs)) [
-        | true ↦ λ slash h. let is : c ≡ 92 = eqb-true c 92 slash in subst (λ d. Body (d ∷ cs)) (sym is) ((bodies cs).1 h)
-        | false ↦ λ no_slash h. let p = and_both (is_plain c) (closes false cs) h in plain_body c cs p.0 ((bodies cs).0 p.1)
-      ] refl
-    ] refl,
-    λ e. let p = and_both (is_some (escaped_byte c)) (closes false cs) e in escaped_body c cs (escaped_byte c) refl p.0 ((bodies cs).0 p.1))
+bodies (c ∷ cs) = (
+  elim (nat_eq c 34) as (λ b. nat_eq c 34 ≡ b → (if b then is_empty cs else (if nat_eq c 92 then closes true cs else is_plain c && closes false cs)) ≡ true → Body (c ∷ cs)) [
+    | true ↦ λ quote empty. let is : c ≡ 34 = eqb-true c 34 quote in let none : cs ≡ [] = no_bytes cs empty in ([], [], cc, ended)
+    | false ↦ λ no_quote. elim (nat_eq c 92) as (λ b. nat_eq c 92 ≡ b → (if b then closes true cs else is_plain c && closes false cs) ≡ true → Body (c ∷ cs)) [
+      | true ↦ λ slash h. let is : c ≡ 92 = eqb-true c 92 slash in subst (λ d. Body (d ∷ cs)) (sym is) ((bodies cs).1 h)
+      | false ↦ λ no_slash h. let p = and_both (is_plain c) (closes false cs) h in plain_body c cs p.0 ((bodies cs).0 p.1)
+    ] refl
+  ] refl,
+  λ e. let p = and_both (is_some (escaped_byte c)) (closes false cs) e in escaped_body c cs (escaped_byte c) refl p.0 ((bodies cs).0 p.1),
+)
 
 pub quoted_string : (text : List ℕ) → IsTrue (is_quoted text) → IsString text
 quoted_string [] e = absurd (cc)

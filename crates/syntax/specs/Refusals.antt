@@ -1,6 +1,7 @@
 -- What a refusal says of a text.
-use Rattle.std.specs.Prelude.{◌≡◌, ℕ, ◌<◌, ◌≤◌, List, [], ◌∷◌, ◌++◌, map, length, Ok, Err}
-use Rattle.lexer.specs.Items.{Lexeme}
+use Rattle.std.specs.Prelude.{◌≡◌, ℕ, ◌<◌, ◌≤◌, List, [], ◌∷◌, ◌++◌, map, length, Ok, Err, Option, Some, None}
+use Rattle.lexer.specs.Items.{Lexeme, span_of}
+use Rattle.lexer.specs.declared.token.Span.{Span}
 use Rattle.lexer.specs.Tokens.{Tokens}
 use Rattle.lexer.specs.declared.fault.LexFault.{LexFault}
 use Rattle.syntax_trees.specs.Tree.{Tree}
@@ -23,3 +24,11 @@ Refuses bytes (Unexpected s) = (length bytes ≤ 1048576) × HasNone bytes
 Refuses bytes (TooNested s) = (length bytes ≤ 1048576) × HasNone bytes
 Refuses bytes (TooLong s) = (1048576 < length bytes) × HasNone bytes × (s ≡ record { from = 1048576; to = 1048576 })
 Refuses bytes Memory = length bytes ≤ 1048576
+
+-- the place of a fault
+abbrev pub place_of : ParseFault → Option Span
+place_of (Lex f) = Some (span_of f)
+place_of (Unexpected s) = Some s
+place_of (TooNested s) = Some s
+place_of (TooLong s) = Some s
+place_of Memory = None

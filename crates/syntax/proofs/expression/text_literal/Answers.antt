@@ -14,4 +14,4 @@ returns-clause-reads g c =
     let same = spelled_as c.in_ok-token.token.text.now c.in_ok-content.content.items c.in_ok-content.ensures in
     literal_got Kind.Text (λ t. text (spelled t)) c.args.cursor.now (lexeme_of c.in_ok-token.token) c.take.new.self c.in_ok-token.ensures.reads
     ∙ ap (λ e. got e c.take.new.self) (sym (spans_view c.args.cursor.now c.take.new.self c.first-start.result c.before-2.result _ c.expr.result (text (spelled (lexeme_of c.in_ok-token.token)))
-        c.first-start.ensures c.before-2.ensures c.expr.ensures (view-Text c.in_ok-content.content ∙ ap text (sym same))))
+    c.first-start.ensures c.before-2.ensures c.expr.ensures (view-Text c.in_ok-content.content ∙ ap text (sym same))))

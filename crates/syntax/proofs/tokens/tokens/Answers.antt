@@ -12,6 +12,7 @@ loop-item-preserved g c =
     let inv = c.loop-item.invariant in
     let more : map lexeme_of c.push.new.self.items ≡ map lexeme_of c.loop-item.list.items ++ lexeme_of c.in-Ok.token ∷ [] = grind (arith, common_steps) in
     let next : ◌≡◌ {A = List Item} c.loop-item.lexer (Ok (lexeme_of c.in-Ok.token) ∷ c.next.new.self) = c.in-Some.ensures.item ∙ ap (λ x. item_of x ∷ c.next.new.self) c.in-Ok.is in
-    let form : HasForm c.in-Ok.token.kind c.in-Ok.token.text.now = subst (λ x. IfOk x (λ t. HasForm t.kind t.text.now)) c.in-Ok.is c.in-Some.ensures.form in
-    (tokens_more c.args.source.now (map lexeme_of c.loop-item.list.items) (map lexeme_of c.push.new.self.items) (lexeme_of c.in-Ok.token) c.loop-item.lexer c.next.new.self inv.0 next more,
-     formed_more (map lexeme_of c.loop-item.list.items) (map lexeme_of c.push.new.self.items) (lexeme_of c.in-Ok.token) more inv.1 (form_of c.in-Ok.token.kind c.in-Ok.token.text.now form))
+    let form : HasForm c.in-Ok.token.kind c.in-Ok.token.text.now = subst (λ x. IfOk x (λ t. HasForm t.kind t.text.now)) c.in-Ok.is c.in-Some.ensures.form in (
+      tokens_more c.args.source.now (map lexeme_of c.loop-item.list.items) (map lexeme_of c.push.new.self.items) (lexeme_of c.in-Ok.token) c.loop-item.lexer c.next.new.self inv.0 next more,
+      formed_more (map lexeme_of c.loop-item.list.items) (map lexeme_of c.push.new.self.items) (lexeme_of c.in-Ok.token) more inv.1 (form_of c.in-Ok.token.kind c.in-Ok.token.text.now form),
+    )
