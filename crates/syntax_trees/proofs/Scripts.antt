@@ -91,11 +91,11 @@ f_body = block_of (
     (record { at = 23; function = 0; inputs = here 9 ∷ []; outputs = record { up = 0; what = output 0 } ∷ [] })) ∷ [])
 
 -- the path of d calls behind the first
-abbrev calls_deep : ℕ → Path
+abbrev pub calls_deep : ℕ → Path
 calls_deep zero = (48, Key.Number (pos 0)) ∷ []
 calls_deep (suc d) = (23, Key.Number (pos 0)) ∷ calls_deep d
 
-deep_length : (d : ℕ) → length (calls_deep d) ≡ suc d
+pub deep_length : (d : ℕ) → length (calls_deep d) ≡ suc d
 deep_length zero = refl
 deep_length (suc d) = ap suc (deep_length d)
 
@@ -111,7 +111,7 @@ too_deep_at_last = let l = deep_length 511 in inr (too_deep_call (in_block (deep
 waits_x : Known example.nested_waits 1 (value ([], 2) (One (Number (pos 1))))
 waits_x = inr (assigned (in_block script (later first)) (now (computed of_literal)))
 
-abbrev inner_wait : Stmt
+abbrev pub inner_wait : Stmt
 inner_wait = stmt 50 18 (wait (scalar (here 5) ∷ []) (block_of (stmt 61 20 (print (pos 0) (plain 21 (operator (op.printf (Piece.Byte 113 ∷ [])) none))) ∷ [])))
 
 waits_names : (x : Awaited) → x ∈ (scalar (here 2) ∷ []) → Come example.nested_waits (Known example.nested_waits 1) [] x
