@@ -44,7 +44,7 @@ not_true : (a : Bool) {A : Type 0} → not a ≡ true → a ≡ true → A
 not_true true h k = absurd (cc (h))
 not_true false h k = absurd (cc (k))
 
-self_eq : (n : ℕ) → nat_eq n n ≡ true
+pub self_eq : (n : ℕ) → nat_eq n n ≡ true
 self_eq n = grind arith
 
 pub has_in : {n : ℕ} {xs : List ℕ} → n ∈ xs → has n xs ≡ true
@@ -107,7 +107,7 @@ every_in p [] h m = elim m [ ]
 every_in p (x ∷ xs) h first = (both (p x) (every p xs) h).0
 every_in p (x ∷ xs) h (later m) = every_in p xs (both (p x) (every p xs) h).1 m
 
-among_split : (bs : List Block) {st : Stmt} → st ∈ stmts_among bs → (b : Block) × (b ∈ bs) × (st ∈ block_list b)
+pub among_split : (bs : List Block) {st : Stmt} → st ∈ stmts_among bs → (b : Block) × (b ∈ bs) × (st ∈ block_list b)
 among_split [] m = elim m [ ]
 among_split (b ∷ bs) m = elim (either (block_list b) (stmts_among bs) m) [ inl i ↦ (b, first, i) | inr i ↦ (let r = among_split bs i in (r.0, later r.1, r.2)) ]
 
@@ -205,6 +205,9 @@ two_of_one {v} {t} h e = distinct_apart (v ∷ []) (t ∷ []) h first (subst (λ
 
 roles_distinct : (a : Action) → distinct (action_nodes a) ≡ true → distinct (roles_of a) ≡ true
 roles_distinct a h = distinct_left (roles_of a) (hidden_of a) (distinct_right (cell_nodes (part_cells (parts a))) (roles_of a ++ hidden_of a) (distinct_right (declared_of a) (cell_nodes (part_cells (parts a)) ++ (roles_of a ++ hidden_of a)) h))
+
+pub hidden_distinct : (a : Action) → distinct (action_nodes a) ≡ true → distinct (hidden_of a) ≡ true
+hidden_distinct a h = distinct_right (roles_of a) (hidden_of a) (distinct_right (cell_nodes (part_cells (parts a))) (roles_of a ++ hidden_of a) (distinct_right (declared_of a) (cell_nodes (part_cells (parts a)) ++ (roles_of a ++ hidden_of a)) h))
 
 role_same : {at n x y : ℕ} {a : Action} {r r' : Bool} → distinct (roles_of a) ≡ true → Role (stmt at n a) x r → Role (stmt at n a) y r' → x ≡ y → r ≡ r'
 role_same h range_value_role range_value_role e = refl
@@ -355,7 +358,7 @@ module _ (s : Core) (fine : every (targets_fine s) (script_stmts s) ≡ true) wh
   place_node (t ∷ path) zero (input i) h = absurd (cc (h))
   place_node (t ∷ path) zero (output j) h = place_node path (output_name (call_at s t.0) j).up (output_name (call_at s t.0) j).what (output_fine (call_at s t.0) t.0 j refl)
 
-split_flat : {X : Type 0} (f : X → List ℕ) (xs : List X) {n : ℕ} → n ∈ flat f xs → (x : X) × (x ∈ xs) × (n ∈ f x)
+pub split_flat : {X : Type 0} (f : X → List ℕ) (xs : List X) {n : ℕ} → n ∈ flat f xs → (x : X) × (x ∈ xs) × (n ∈ f x)
 split_flat f [] m = elim m [ ]
 split_flat f (x ∷ xs) m = elim (either (f x) (flat f xs) m) [ inl i ↦ (x, first, i) | inr i ↦ (let r = split_flat f xs i in (r.0, later r.1, r.2)) ]
 
