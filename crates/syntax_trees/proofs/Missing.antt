@@ -36,7 +36,7 @@ M = example.missing_element
 the_write : Known M 1 (element ([], 2) (Key.Number (pos 0)) ([], 3) (Number (pos 1)))
 the_write = inr (inserted (in_block script (later first)) (now (computed of_literal)) a_number (now (computed of_literal)))
 
-the_index : Known M 1 (value ([], 12) (One (Number (pos 3))))
+the_index : Known M 1 (value ([], 13) (One (Number (pos 3))))
 the_index = inr (cell_value (in_block script (later (later first))) first (computed of_literal))
 
 -- each statement of the block is finished for A after one round
@@ -69,7 +69,7 @@ one_write (inl h) = absurd h
 three_zero : Key.Number (pos 3) ≡ Key.Number (pos 0) → ⊥
 three_zero h = grind arith
 
-pub none_at_three : Known M 2 (fault no_element 19 ([], 10))
+pub none_at_three : Known M 2 (fault no_element 19 ([], 11))
 none_at_three = inr (cell_fault (in_block script (later (later first))) (later first)
     (missing the_index a_number (closed script first all_finished (λ k w w' v v' x y. (one_write x).1 ∙ sym (one_write y).1)) (λ w v x. three_zero (one_write x).0)))
 
