@@ -208,7 +208,7 @@ record Owned_ (s : Core) (x : Spot) : Type 0 where
   owns : Owns s x.what x.owner
   reach : Reach x.owner x.block
 
-function_in : (fs : List Function) (i : ℕ) (f : Function) → slice_get fs i ≡ Some f → f ∈ fs
+pub function_in : (fs : List Function) (i : ℕ) (f : Function) → slice_get fs i ≡ Some f → f ∈ fs
 function_in [] zero f e = absurd (cc (e))
 function_in [] (suc i) f e = absurd (cc (e))
 function_in (g ∷ fs) zero f e = let same : g ≡ f = cc (e) in subst (λ (z : Function). f ∈ (z ∷ fs)) (sym same) first

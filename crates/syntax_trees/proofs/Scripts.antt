@@ -55,7 +55,7 @@ twice_at_second = inr (written_twice (in_block script (later (later first))) twi
 
 -- FAULTS
 
-pub index_fault : Known example.fault_in_index 1 (fault (operation DivideByZero) 47 ([], 25))
+pub index_fault : Known example.fault_in_index 1 (fault (operation DivideByZero) 47 ([], 26))
 index_fault = inr (cell_fault (in_block script (later (later (later (later (later (later first))))))) first (faulty (of_operator (operand of_literal (operand of_literal no_operand)) refl)))
 
 pub and_fault : Known example.strict_and 1 (fault (operation DivideByZero) 0 ([], 3))
@@ -70,16 +70,16 @@ sum_fault = inr (cell_fault (in_block script (later first)) first (faulty (of_op
 abbrev in_two : Path
 in_two = (75, Key.Number (pos 0)) ∷ []
 
-two_argument : Known example.outputs_are_the_callers 1 (value ([], 25) (One (Number (pos 3))))
+two_argument : Known example.outputs_are_the_callers 1 (value ([], 27) (One (Number (pos 3))))
 two_argument = inr (cell_value (in_block script (later (later first))) first (computed of_literal))
 
-two_p : Known example.outputs_are_the_callers 2 (value ([], 17) (One (Number (pos 4))))
+two_p : Known example.outputs_are_the_callers 2 (value ([], 19) (One (Number (pos 4))))
 two_p = inr (assigned (in_block (called script (later (later first)) first refl (omega arith)) first) (now (computed (of_operator (operand (of_name (stored two_argument)) (operand of_literal no_operand)) refl))))
 
-two_q : Known example.outputs_are_the_callers 3 (value ([], 19) (One (Number (pos 8))))
+two_q : Known example.outputs_are_the_callers 3 (value ([], 21) (One (Number (pos 8))))
 two_q = inr (assigned (in_block (called script (later (later first)) first refl (omega arith)) (later first)) (now (computed (of_operator (operand (of_name (stored two_p)) (operand of_literal no_operand)) refl))))
 
-pub prints_both : Known example.outputs_are_the_callers 4 (line ([], 26) (codes "4 8"))
+pub prints_both : Known example.outputs_are_the_callers 4 (line ([], 28) (codes "4 8"))
 unfolding digits
 prints_both = inr (printed (in_block script (later (later (later first)))) (now (computed (of_operator (operand (of_name (stored (inl two_p))) (operand (of_name (stored two_q)) no_operand)) refl))))
 
@@ -91,11 +91,11 @@ f_body = block_of (
     (record { at = 23; function = 0; inputs = here 9 ∷ []; outputs = record { up = 0; what = output 0 } ∷ [] })) ∷ [])
 
 -- the path of d calls behind the first
-abbrev calls_deep : ℕ → Path
+abbrev pub calls_deep : ℕ → Path
 calls_deep zero = (48, Key.Number (pos 0)) ∷ []
 calls_deep (suc d) = (23, Key.Number (pos 0)) ∷ calls_deep d
 
-deep_length : (d : ℕ) → length (calls_deep d) ≡ suc d
+pub deep_length : (d : ℕ) → length (calls_deep d) ≡ suc d
 deep_length zero = refl
 deep_length (suc d) = ap suc (deep_length d)
 
@@ -111,7 +111,7 @@ too_deep_at_last = let l = deep_length 511 in inr (too_deep_call (in_block (deep
 waits_x : Known example.nested_waits 1 (value ([], 2) (One (Number (pos 1))))
 waits_x = inr (assigned (in_block script (later first)) (now (computed of_literal)))
 
-abbrev inner_wait : Stmt
+abbrev pub inner_wait : Stmt
 inner_wait = stmt 50 18 (wait (scalar (here 5) ∷ []) (block_of (stmt 61 20 (print (pos 0) (plain 21 (operator (op.printf (Piece.Byte 113 ∷ [])) none))) ∷ [])))
 
 waits_names : (x : Awaited) → x ∈ (scalar (here 2) ∷ []) → Come example.nested_waits (Known example.nested_waits 1) [] x

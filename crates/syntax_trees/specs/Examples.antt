@@ -52,13 +52,13 @@ loop_reads_what_it_writes = script_of (
     ∷ stmt 9 3 (insert (here 2) (plain 5 (num 0)) (plain 6 (num 1)))
     ∷ stmt 19 7 (range (plain 9 (num 1)) (plain 10 (num 2)) None 8 None (block_of (
       stmt 40 11 (insert (record { up = 1; what = local 2 }) (plain 13 (variable 8)) (record {
-        parts = inner (record { node = 19; form = compute (operator (sum_of (Sign.Minus ∷ [])) (two (variable 8) (num 1))) })
-            ∷ inner (record { node = 17; form = read (record { up = 1; what = local 2 }) 19 }) ∷ [];
-        cell = record { node = 16; form = compute (operator (product_of (Factor.Times ∷ [])) (two (variable 17) (num 2))) };
+        parts = inner (record { node = 18; form = compute (operator (sum_of (Sign.Minus ∷ [])) (two (variable 8) (num 1))) })
+            ∷ inner (record { node = 16; form = read (record { up = 1; what = local 2 }) 18 }) ∷ [];
+        cell = record { node = 15; form = compute (operator (product_of (Factor.Times ∷ [])) (two (variable 16) (num 2))) };
       })) ∷ [])))
-    ∷ stmt 62 23 (print (pos 0) (record {
-        parts = inner (record { node = 28; form = compute (num 2) }) ∷ inner (record { node = 26; form = read (here 2) 28 }) ∷ [];
-        cell = record { node = 24; form = compute (print_number (variable 26)) };
+    ∷ stmt 61 23 (print (pos 0) (record {
+        parts = inner (record { node = 29; form = compute (num 2) }) ∷ inner (record { node = 27; form = read (here 2) 29 }) ∷ [];
+        cell = record { node = 24; form = compute (print_number (variable 27)) };
       }))
     ∷ [])
 
@@ -76,8 +76,8 @@ missing_element = script_of (
     stmt 0 1 (declare 2)
     ∷ stmt 9 3 (insert (here 2) (plain 5 (num 0)) (plain 6 (num 1)))
     ∷ stmt 19 7 (print (pos 0) (record {
-        parts = inner (record { node = 12; form = compute (num 3) }) ∷ inner (record { node = 10; form = read (here 2) 12 }) ∷ [];
-        cell = record { node = 8; form = compute (print_number (variable 10)) };
+        parts = inner (record { node = 13; form = compute (num 3) }) ∷ inner (record { node = 11; form = read (here 2) 13 }) ∷ [];
+        cell = record { node = 8; form = compute (print_number (variable 11)) };
       }))
     ∷ [])
 
@@ -111,8 +111,8 @@ fault_in_index = script_of (
     ∷ stmt 30 11 (assign (here 6) (plain 13 (variable 4)))
     ∷ stmt 37 15 (insert (here 2) (plain 17 (num 0)) (plain 18 (num 1)))
     ∷ stmt 47 19 (print (pos 0) (record {
-        parts = inner (record { node = 25; form = compute (operator (product_of (Factor.Divide ∷ [])) (two (num 1) (num 0))) }) ∷ inner (record { node = 23; form = read (here 2) 25 }) ∷ [];
-        cell = record { node = 20; form = compute (print_number (operator (sum_of (Sign.Plus ∷ [])) (two (variable 23) (variable 4)))) };
+        parts = inner (record { node = 26; form = compute (operator (product_of (Factor.Divide ∷ [])) (two (num 1) (num 0))) }) ∷ inner (record { node = 24; form = read (here 2) 26 }) ∷ [];
+        cell = record { node = 20; form = compute (print_number (operator (sum_of (Sign.Plus ∷ [])) (two (variable 24) (variable 4)))) };
       }))
     ∷ [])
 
@@ -135,17 +135,17 @@ too_large = script_of (
 abbrev pub outputs_are_the_callers : Core
 outputs_are_the_callers = record {
   body = block_of (
-      stmt 52 16 (declare 17)
-      ∷ stmt 59 18 (declare 19)
-      ∷ stmt 66 20 (call_alone (pos 0) (inner (record { node = 25; form = compute (num 3) }) ∷ []) (record { at = 75; function = 0; inputs = here 25 ∷ []; outputs = here 17 ∷ here 19 ∷ [] }))
-      ∷ stmt 83 26 (print (pos 0) (plain 27 (operator (printf (Piece.Number ∷ Piece.Byte 32 ∷ Piece.Number ∷ [])) (two (variable 17) (variable 19)))))
+      stmt 52 18 (declare 19)
+      ∷ stmt 59 20 (declare 21)
+      ∷ stmt 66 22 (call_alone (pos 0) (inner (record { node = 27; form = compute (num 3) }) ∷ []) (record { at = 75; function = 0; inputs = here 27 ∷ []; outputs = here 19 ∷ here 21 ∷ [] }))
+      ∷ stmt 83 28 (print (pos 0) (plain 29 (operator (printf (Piece.Number ∷ Piece.Byte 32 ∷ Piece.Number ∷ [])) (two (variable 19) (variable 21)))))
       ∷ []);
   functions = record {
     inputs = 1;
     outputs = 2;
     body = block_of (
         stmt 28 6 (assign (record { up = 0; what = output 0 }) (plain 8 (operator (sum_of (Sign.Plus ∷ [])) (two (name (record { up = 0; what = input 0 })) (num 1)))))
-        ∷ stmt 39 11 (assign (record { up = 0; what = output 1 }) (plain 13 (operator (product_of (Factor.Times ∷ [])) (two (name (record { up = 0; what = output 0 })) (num 2)))))
+        ∷ stmt 39 12 (assign (record { up = 0; what = output 1 }) (plain 14 (operator (product_of (Factor.Times ∷ [])) (two (name (record { up = 0; what = output 0 })) (num 2)))))
         ∷ []);
   } ∷ [];
 }
@@ -154,9 +154,9 @@ outputs_are_the_callers = record {
 abbrev pub calls_without_end : Core
 calls_without_end = record {
   body = block_of (
-      stmt 35 12 (print (pos 0) (record {
-        parts = inner (record { node = 18; form = compute (num 0) }) ∷ calls (record { at = 48; function = 0; inputs = here 18 ∷ []; outputs = here 17 ∷ [] }) ∷ [];
-        cell = record { node = 13; form = compute (print_number (variable 17)) };
+      stmt 35 13 (print (pos 0) (record {
+        parts = inner (record { node = 19; form = compute (num 0) }) ∷ calls (record { at = 48; function = 0; inputs = here 19 ∷ []; outputs = here 18 ∷ [] }) ∷ [];
+        cell = record { node = 14; form = compute (print_number (variable 18)) };
       })) ∷ []);
   functions = record {
     inputs = 1;
