@@ -37,7 +37,7 @@ module _ {T D K V E : Type 0} (S : System T D K V E) (L : Laws S) where
         by (inl h) = (Found h.0, h.1)
         by (inr n) = (Missing, record { closed = c; none = n })
 
-    seen : (i : Input D K) → IsKnown S s i → (x : Answer K V) × Sees S s i x
+    pub seen : (i : Input D K) → IsKnown S s i → (x : Answer K V) × Sees S s i x
     seen (StoredScalar d) h = (Found h.0, (h.0, h.1, refl))
     seen (ClosedArray a) c = (let r = closed_content a c in (Content r.0, (r.0, r.1, refl)))
     seen (ElementOf a k) h = element_seen a k h
@@ -65,6 +65,9 @@ module _ {T D K V E : Type 0} (S : System T D K V E) (L : Laws S) where
     all_known [] xs h n i = absurd i
     all_known (j ∷ is) [] h n i = absurd h
     all_known (j ∷ is) (x ∷ xs) h n i = elim i [ inl p ↦ subst (λ (z : Input D K). IsKnown S s z) (sym p) (known j x h.0) | inr g ↦ all_known is xs h.1 n g ]
+
+    pub known_by : (i : Input D K) (x : Answer K V) → Sees S s i x → IsKnown S s i
+    known_by i x h = known i x h
 
     -- an enabled task has answers
     pub sees : (t : T) → Enabled S s t → (xs : List (Answer K V)) × SeesAll S s (S.inputs t) xs

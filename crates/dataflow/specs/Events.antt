@@ -1,5 +1,5 @@
 -- Counts over a list of events: those of a worker, those that give an item back, and the items that they enable.
-use Rattle.std.specs.Prelude.{◌≡◌, ℕ, suc, ◌+◌, nat_eq, if◌then◌else◌, List, [], ◌∷◌, length, None}
+use Rattle.std.specs.Prelude.{◌≡◌, ℕ, suc, ◌+◌, nat_eq, if◌then◌else◌, List, [], ◌∷◌, length, None, Some}
 use Rattle.dataflow.specs.System.{In, Distinct, System}
 use Rattle.dataflow.specs.Machine.{Item, State, Event, Begin, End, Back, Enabled, Step, start}
 
@@ -29,6 +29,13 @@ module _ {T D K V E : Type 0} (S : System T D K V E) where
     pub number_is : item.number ≡ number
     pub idle : item.runs ≡ None
     pub enabled : Enabled S s item.task
+
+  -- an item of this number runs on the worker
+  pub record RunsOn (s : State T D K V E) (worker number : ℕ) : Type 0 where
+    pub item : Item T
+    pub there : In item s.items
+    pub number_is : item.number ≡ number
+    pub runs : item.runs ≡ Some worker
 
   -- the items that can begin after a step and could not before it, each once
   pub record NewlyAt (old new : State T D K V E) (numbers : List ℕ) : Type 0 where

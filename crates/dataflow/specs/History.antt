@@ -1,9 +1,9 @@
 -- The log of a run: what its items did, read off the steps.
 use Rattle.std.specs.Prelude.{◌≡◌, suc, ◌+◌, List, [], ◌∷◌, ◌++◌, length}
 use Rattle.std.proofs.Common.{inl, inr}
-use Rattle.dataflow.specs.System.{In, Effect, Outcome, Good, Bad, System}
+use Rattle.dataflow.specs.System.{In, Distinct, Effect, Outcome, Good, Bad, System}
 use Rattle.dataflow.specs.Log.{Waits, IsLog}
-use Rattle.dataflow.specs.Promises.{lines_of, tasks_in_items}
+use Rattle.dataflow.specs.Promises.{lines_of, tasks_in_log, tasks_in_items}
 use Rattle.dataflow.specs.Machine.{Item, State, Event, Begin, End, Back, After, Step, Steps, Run, start}
 
 module _ {T D K V E : Type 0} (S : System T D K V E) where
@@ -36,6 +36,8 @@ module _ {T D K V E : Type 0} (S : System T D K V E) where
     pub count : s.next ≡ suc (length log + length s.items)
     -- the lines are those that it prints
     pub lines : s.lines ≡ lines_of S log
+    -- no task was opened twice: those that have ended and those that are left all differ
+    pub once : Distinct (tasks_in_log S log ++ tasks_in_items S s.items)
     -- the items left are the tasks that wait after it
     pub waits : (i : Item T) → In i s.items → Waits S log i.task
     pub has : (t : T) → Waits S log t → In t (tasks_in_items S s.items)

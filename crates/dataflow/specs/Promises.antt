@@ -1,8 +1,10 @@
 -- What every state that a run reaches promises.
-use Rattle.std.specs.Prelude.{◌≡◌, ℕ, ◌<◌, false, List, [], ◌∷◌, ◌++◌, map, None, Some, suc, length}
-use Rattle.dataflow.specs.System.{In, Distinct, Answer, Write, Effect, Good, System}
-use Rattle.dataflow.specs.Facts.{Live, Written, Closed, Known, Ever, Faulty, Clean}
-use Rattle.dataflow.specs.Machine.{Item, State, Fault, OfTask, Begin, End, ClosedByRights, Holds, Enabled, SeesAll, Step}
+use Rattle.std.specs.List.Sorted.{IsPermutation}
+use Rattle.std.specs.Prelude.{◌⊎◌, ◌≡◌, ℕ, ◌<◌, false, List, [], ◌∷◌, ◌++◌, map, None, Some, suc, length}
+use Rattle.dataflow.specs.System.{In, Distinct, Input, Answer, Write, Effect, Good, System}
+use Rattle.dataflow.specs.Facts.{Live, Written, Closed, Known, Ever, Faulty, Clean, EverGiven}
+use Rattle.dataflow.specs.Machine.{Item, State, Fault, OfTask, Begin, End, Back, ClosedByRights, Free, Holds, IsKnown, Enabled, SeesAll, Step}
+use Rattle.dataflow.specs.Events.{CanBegin, RunsOn}
 
 module _ {T D K V E : Type 0} (S : System T D K V E) where
   -- the lines that these facts print; the latest fact stands first in the list
@@ -18,6 +20,7 @@ module _ {T D K V E : Type 0} (S : System T D K V E) where
   abbrev pub tasks_in_items : List (Item T) → List T
   tasks_in_items items = map (λ (i : Item T). i.task) items
 
+  -- the numbers of these items
   abbrev pub numbers_of : List (Item T) → List ℕ
   numbers_of items = map (λ (i : Item T). i.number) items
 
@@ -58,6 +61,9 @@ module _ {T D K V E : Type 0} (S : System T D K V E) where
     pub lines : IsAllLines s.lines
     pub blocked_live : (i : Item T) → In i s.items → (n : ℕ) × Live S (Known S n) i.task
     pub blocked_never : (i : Item T) → In i s.items → (e : Effect T D K V) → Ever S i.task e → ⊥
+    -- of their inputs those are known that are known in the meaning
+    pub blocked_known : (i : Item T) (n : Input D K) → In i s.items → In n (S.inputs i.task) → IsKnown S s n → EverGiven S n
+    pub blocked_unknown : (i : Item T) (n : Input D K) → In i s.items → In n (S.inputs i.task) → EverGiven S n → IsKnown S s n
     pub blocked_all : (n : ℕ) (t : T) → Live S (Known S n) t → ((e : Effect T D K V) → Ever S t e → ⊥) → In t (tasks_in_items s.items)
 
   -- the machine is never stuck, and has each item once
@@ -68,7 +74,25 @@ module _ {T D K V E : Type 0} (S : System T D K V E) where
     pub begins : (i : Item T) (w : ℕ) → s.fault ≡ None → In i s.items → i.runs ≡ None → Enabled S s i.task → (new : State T D K V E) × Step S s (Begin w i.number) new
     -- no enabled item would write a scalar that has a value
     pub unset : (i : Item T) (xs : List (Answer K V)) (e : Effect T D K V) → In i s.items → SeesAll S s (S.inputs i.task) xs → S.effect i.task xs ≡ Good e → (d : D) (k : K) (v u : V) → S.is_array d ≡ false → In (record { place = d; key = k; value = v }) e.writes → Holds S s d k u → ⊥
+    -- nor an element into an array that is closed
+    pub still_open : (i : Item T) (xs : List (Answer K V)) (e : Effect T D K V) → In i s.items → SeesAll S s (S.inputs i.task) xs → S.effect i.task xs ≡ Good e → (w : Write D K V) → In w e.writes → ClosedByRights S s w.place → ⊥
     -- no task is there twice, and no number
     pub once : Distinct (tasks_in_items s.items)
     pub one_number : Distinct (numbers_of s.items)
     pub below_next : (i : Item T) → In i s.items → i.number < s.next
+
+  -- which events have a step: without a fault, Begin of an enabled item that does not run, and End and Back of one that runs on that worker; no others
+  pub record HasSteps (s : State T D K V E) : Type 0 where
+    pub begin : (w n : ℕ) → s.fault ≡ None → CanBegin S s n → (new : State T D K V E) × Step S s (Begin w n) new
+    pub begin_only : (w n : ℕ) (new : State T D K V E) → Step S s (Begin w n) new → (s.fault ≡ None) × CanBegin S s n
+    pub end : (w n : ℕ) → s.fault ≡ None → RunsOn S s w n → (new : State T D K V E) × Step S s (End w n) new
+    pub end_only : (w n : ℕ) (new : State T D K V E) → Step S s (End w n) new → (s.fault ≡ None) × RunsOn S s w n
+    pub back : (w n : ℕ) → s.fault ≡ None → RunsOn S s w n → (new : State T D K V E) × Step S s (Back w n) new
+    pub back_only : (w n : ℕ) (new : State T D K V E) → Step S s (Back w n) new → (s.fault ≡ None) × RunsOn S s w n
+
+  -- two ends of runs that are the same: the lines are the same up to their order, the same tasks are left, and what one has stored the other has too, unless it is free there
+  pub record SameEnd (s t : State T D K V E) : Type 0 where
+    pub lines : IsPermutation s.lines t.lines
+    pub blocked : (u : T) → In u (tasks_in_items s.items) → In u (tasks_in_items t.items)
+    pub places : (a : D) → In a s.places → In a t.places ⊎ Free S t a
+    pub stored : (w : Write D K V) → In w s.stored → In w t.stored ⊎ Free S t w.place

@@ -5,6 +5,7 @@ use Rattle.syntax_trees.specs.Tree.{Word, Node, Expression, expression, Form, nu
 
 -- SIZES: how many numbers each thing takes
 
+-- an expression: its node, and its parts
 abbrev mutual
   pub expression_size : Expression → ℕ
   expression_size (expression node f) = 1 + form_size f
@@ -23,16 +24,20 @@ abbrev mutual
   expressions_size no_expressions = 0
   expressions_size (and_expression e es) = expression_size e + expressions_size es
 
+-- a name
 abbrev pub word_size : Word → ℕ
 word_size w = 1
 
+-- a declaration: its name
 abbrev pub declaration_size : Declaration → ℕ
 declaration_size d = 1
 
+-- a right side: its expression, or the literal and its elements
 abbrev pub right_size : RightSide → ℕ
 right_size (value e) = expression_size e
 right_size (list node es) = 1 + sum_by expression_size es
 
+-- a call that is no expression: its node, its name and its arguments
 abbrev pub calling_size : Calling → ℕ
 calling_size c = 2 + sum_by expression_size c.arguments
 
@@ -41,10 +46,12 @@ abbrev pub option_size : {X : Type 0} → (X → ℕ) → Option X → ℕ
 option_size size None = 0
 option_size size (Some x) = size x
 
+-- what a loop goes over: a name, or a range's ends and its step
 abbrev pub over_size : Over → ℕ
 over_size (array w) = 1
 over_size (range low high step) = expression_size low + expression_size high + option_size expression_size step
 
+-- a statement: its node, and its parts
 abbrev mutual
   pub statement_size : Statement → ℕ
   statement_size (statement node c) = 1 + command_size c
@@ -67,30 +74,36 @@ abbrev mutual
   statements_size no_statements = 0
   statements_size (and_statement s ss) = statement_size s + statements_size ss
 
+-- a function: its node, its outputs, its name, its inputs and its body
 abbrev pub composite_size : Composite → ℕ
 composite_size f = 1 + sum_by declaration_size f.outputs + 1 + sum_by declaration_size f.inputs + body_size f.body
 
+-- a part of a script
 abbrev pub part_size : Part → ℕ
 part_size (import s) = 0
 part_size (function f) = composite_size f
 part_size (single s) = statement_size s
 
+-- a script
 abbrev pub tree_size : Tree → ℕ
 tree_size t = sum_by part_size t
 
 -- NUMBERED: the same thing, with its numbers in reading order from n on
 
+-- a name
 abbrev pub numbered_word : ℕ → Word → Word
 numbered_word n w = record { number = n; span = w.span; text = w.text }
 
+-- a node
 abbrev pub numbered_node : ℕ → Node → Node
 numbered_node n node = record { number = n; first = node.first; to = node.to }
 
--- a list, each behind the one before, which takes so many numbers
+-- a list: each from the number behind those of the one before
 abbrev pub numbered_each : {X : Type 0} → (ℕ → X → X) → (X → ℕ) → ℕ → List X → List X
 numbered_each numbered size n [] = []
 numbered_each numbered size n (x ∷ xs) = numbered n x ∷ numbered_each numbered size (n + size x) xs
 
+-- an expression: its node, then its parts
 abbrev mutual
   pub numbered_expression : ℕ → Expression → Expression
   numbered_expression n (expression node f) = expression (numbered_node n node) (numbered_form (n + 1) f)
@@ -109,20 +122,24 @@ abbrev mutual
   numbered_expressions n no_expressions = no_expressions
   numbered_expressions n (and_expression e es) = and_expression (numbered_expression n e) (numbered_expressions (n + expression_size e) es)
 
+-- a declaration
 abbrev pub numbered_declaration : ℕ → Declaration → Declaration
 numbered_declaration n d = record { base = d.base; name = numbered_word n d.name; shape = d.shape }
 
+-- a right side
 abbrev pub numbered_right : ℕ → RightSide → RightSide
 numbered_right n (value e) = value (numbered_expression n e)
 numbered_right n (list node es) = list (numbered_node n node) (numbered_each numbered_expression expression_size (n + 1) es)
 
+-- a call that is no expression
 abbrev pub numbered_calling : ℕ → Calling → Calling
 numbered_calling n c = record {
   node = numbered_node n c.node;
   name = numbered_word (n + 1) c.name;
-  arguments = numbered_each numbered_expression expression_size (n + 2) c.arguments;
+  arguments = numbered_each numbered_expression expression_size (n + 1 + 1) c.arguments;
 }
 
+-- what a loop goes over
 abbrev pub numbered_over : ℕ → Over → Over
 numbered_over n (array w) = array (numbered_word n w)
 numbered_over n (range low high step) =
@@ -130,6 +147,7 @@ numbered_over n (range low high step) =
     (numbered_expression (n + expression_size low) high)
     (option_map (numbered_expression (n + expression_size low + expression_size high)) step)
 
+-- a statement: its node, then its parts
 abbrev mutual
   pub numbered_statement : ℕ → Statement → Statement
   numbered_statement n (statement node c) = statement (numbered_node n node) (numbered_command (n + 1) c)
@@ -157,6 +175,7 @@ abbrev mutual
   numbered_statements n no_statements = no_statements
   numbered_statements n (and_statement s ss) = and_statement (numbered_statement n s) (numbered_statements (n + statement_size s) ss)
 
+-- a function
 abbrev pub numbered_composite : ℕ → Composite → Composite
 numbered_composite n f = record {
   node = numbered_node n f.node;
@@ -166,16 +185,19 @@ numbered_composite n f = record {
   body = numbered_body (n + 1 + sum_by declaration_size f.outputs + 1 + sum_by declaration_size f.inputs) f.body;
 }
 
+-- a part of a script: imports have no number
 abbrev pub numbered_part : ℕ → Part → Part
 numbered_part n (import s) = import s
 numbered_part n (function f) = function (numbered_composite n f)
 numbered_part n (single s) = single (numbered_statement n s)
 
+-- a script
 abbrev pub numbered : ℕ → Tree → Tree
 numbered n t = numbered_each numbered_part part_size n t
 
 -- NUMBERS: all numbers of a thing, in reading order
 
+-- an expression
 abbrev mutual
   pub expression_numbers : Expression → List ℕ
   expression_numbers (expression node f) = node.number ∷ form_numbers f
@@ -194,27 +216,34 @@ abbrev mutual
   expressions_numbers no_expressions = []
   expressions_numbers (and_expression e es) = expression_numbers e ++ expressions_numbers es
 
+-- a name
 abbrev pub word_numbers : Word → List ℕ
 word_numbers w = w.number ∷ []
 
+-- a declaration
 abbrev pub declaration_numbers : Declaration → List ℕ
 declaration_numbers d = d.name.number ∷ []
 
+-- a right side
 abbrev pub right_numbers : RightSide → List ℕ
 right_numbers (value e) = expression_numbers e
 right_numbers (list node es) = node.number ∷ flat_map expression_numbers es
 
+-- a call that is no expression
 abbrev pub calling_numbers : Calling → List ℕ
 calling_numbers c = c.node.number ∷ c.name.number ∷ flat_map expression_numbers c.arguments
 
+-- nothing has none
 abbrev pub option_numbers : {X : Type 0} → (X → List ℕ) → Option X → List ℕ
 option_numbers numbers None = []
 option_numbers numbers (Some x) = numbers x
 
+-- what a loop goes over
 abbrev pub over_numbers : Over → List ℕ
 over_numbers (array w) = w.number ∷ []
 over_numbers (range low high step) = expression_numbers low ++ expression_numbers high ++ option_numbers expression_numbers step
 
+-- a statement
 abbrev mutual
   pub statement_numbers : Statement → List ℕ
   statement_numbers (statement node c) = node.number ∷ command_numbers c
@@ -237,14 +266,17 @@ abbrev mutual
   statements_numbers no_statements = []
   statements_numbers (and_statement s ss) = statement_numbers s ++ statements_numbers ss
 
+-- a function
 abbrev pub composite_numbers : Composite → List ℕ
 composite_numbers f = f.node.number ∷ flat_map declaration_numbers f.outputs ++ f.name.number ∷ flat_map declaration_numbers f.inputs ++ body_numbers f.body
 
+-- a part of a script
 abbrev pub part_numbers : Part → List ℕ
 part_numbers (import s) = []
 part_numbers (function f) = composite_numbers f
 part_numbers (single s) = statement_numbers s
 
+-- a script
 abbrev pub numbers : Tree → List ℕ
 numbers t = flat_map part_numbers t
 

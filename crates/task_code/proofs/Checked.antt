@@ -1,4 +1,4 @@
--- Code that passes the test is number_key.
+-- Code that passes the test is whole.
 use Rattle.std.proofs.Common.{◌≡◌, ◌⊎◌, inl, inr, ℕ, zero, suc, Bool, true, false, not, ◌&&◌, ◌||◌, List, [], ◌∷◌, refl, sym, ap, ◌∙◌, subst, Option, None, Some, arith}
 use Rattle.std.specs.Prelude.{nat_eq, nat_lt, ◌<◌, length}
 use Rattle.dataflow.specs.System.{Distinct, In}
@@ -13,41 +13,41 @@ use Rattle.task_code.specs.Whole.{Declared, Fits, FitsLoop, Fixes, IsCode, Opene
 below_sound : (a b : ℕ) → nat_lt a b ≡ true → a < b
 below_sound a b h = grind arith
 
-or_true : (a b : Bool) → (a || b) ≡ true → (a ≡ true) ⊎ (b ≡ true)
+pub or_true : (a b : Bool) → (a || b) ≡ true → (a ≡ true) ⊎ (b ≡ true)
 or_true true b h = inl refl
 or_true false b h = inr h
 
-true_or : (a b : Bool) → (a ≡ true) ⊎ (b ≡ true) → (a || b) ≡ true
+pub true_or : (a b : Bool) → (a ≡ true) ⊎ (b ≡ true) → (a || b) ≡ true
 true_or true b h = refl
 true_or false b (inl h) = absurd (cc)
 true_or false b (inr h) = h
 
-not_true : (a : Bool) → not a ≡ true → a ≡ true → ⊥
+pub not_true : (a : Bool) → not a ≡ true → a ≡ true → ⊥
 not_true true h k = absurd (cc)
 not_true false h k = absurd (cc)
 
 not_both : (a : Bool) → a ≡ true → a ≡ false → ⊥
 not_both a h k = (let n : true ≡ false = sym h ∙ k in absurd (cc))
 
-name_in_sound : (r : Name) (rs : List Name) → name_in r rs ≡ true → In r rs
+pub name_in_sound : (r : Name) (rs : List Name) → name_in r rs ≡ true → In r rs
 name_in_sound r [] h = absurd (cc)
 name_in_sound r (s ∷ ss) h = elim (or_true (name_eq r s) (name_in r ss) h) [ inl p ↦ inl (name_sound r s p) | inr q ↦ inr (name_in_sound r ss q) ]
 
-in_name_in : (r : Name) (rs : List Name) → In r rs → name_in r rs ≡ true
+pub in_name_in : (r : Name) (rs : List Name) → In r rs → name_in r rs ≡ true
 in_name_in r [] h = absurd h
 in_name_in r (s ∷ ss) h =
     true_or (name_eq r s) (name_in r ss) (elim h [ inl p ↦ inl (subst (λ (x : Name). name_eq r x ≡ true) p (name_same r)) | inr i ↦ inr (in_name_in r ss i) ])
 
-variable_in_sound : (v : Variable) (vs : List Variable) → variable_in v vs ≡ true → In v vs
+pub variable_in_sound : (v : Variable) (vs : List Variable) → variable_in v vs ≡ true → In v vs
 variable_in_sound v [] h = absurd (cc)
 variable_in_sound v (w ∷ ws) h = elim (or_true (variable_eq v w) (variable_in v ws) h) [ inl p ↦ inl (variable_sound v w p) | inr q ↦ inr (variable_in_sound v ws q) ]
 
-in_variable_in : (v : Variable) (vs : List Variable) → In v vs → variable_in v vs ≡ true
+pub in_variable_in : (v : Variable) (vs : List Variable) → In v vs → variable_in v vs ≡ true
 in_variable_in v [] h = absurd h
 in_variable_in v (w ∷ ws) h =
     true_or (variable_eq v w) (variable_in v ws) (elim h [ inl p ↦ inl (subst (λ (x : Variable). variable_eq v x ≡ true) p (variable_same v)) | inr i ↦ inr (in_variable_in v ws i) ])
 
-in_number_in : (n : ℕ) (ns : List ℕ) → In n ns → number_in n ns ≡ true
+pub in_number_in : (n : ℕ) (ns : List ℕ) → In n ns → number_in n ns ≡ true
 in_number_in n [] h = absurd h
 in_number_in n (m ∷ ms) h =
     true_or (nat_eq n m) (number_in n ms) (elim h [ inl p ↦ inl (subst (λ (x : ℕ). nat_eq n x ≡ true) p (nat_same n)) | inr i ↦ inr (in_number_in n ms i) ])
@@ -64,7 +64,7 @@ distinct_variables_sound (v ∷ vs) h =
     let x = true_and (not (variable_in v vs)) (distinct_variables vs) h in
     (λ i. not_true (variable_in v vs) x.0 (in_variable_in v vs i), distinct_variables_sound vs x.1)
 
-every_at_sound : {X : Type 0} (d : X) (f : ℕ → X → Bool) (xs : List X) → every_at f xs ≡ true → (i : ℕ) → (f i (nth d xs i) ≡ true) ⊎ (nth d xs i ≡ d)
+pub every_at_sound : {X : Type 0} (d : X) (f : ℕ → X → Bool) (xs : List X) → every_at f xs ≡ true → (i : ℕ) → (f i (nth d xs i) ≡ true) ⊎ (nth d xs i ≡ d)
 every_at_sound d f [] h i = inr refl
 every_at_sound d f (x ∷ xs) h zero = inl (true_and (f 0 x) (every_at (λ i. f (suc i)) xs) h).0
 every_at_sound d f (x ∷ xs) h (suc i) = every_at_sound d (λ i. f (suc i)) xs (true_and (f 0 x) (every_at (λ i. f (suc i)) xs) h).1 i
@@ -155,9 +155,9 @@ module _ (C : Code) where
       let x2 = every_in (λ j'. list_all (λ r. list_all (λ s. outputs_apart C m r s) (entry C j').writes) (entry C j).writes) es x1 j' ij' in
       let x3 = every_in (λ r. list_all (λ s. outputs_apart C m r s) (entry C j').writes) (entry C j).writes x2 (record { up = 0; owned = Parameter k false }) ik in
       let x4 = every_in (λ s. outputs_apart C m (record { up = 0; owned = Parameter k false }) s) (entry C j').writes x3 (record { up = 0; owned = Parameter k' false }) ik' in
-      elim (or_true (nat_eq k k') (not (same_argument C (argument C m k false) (argument C m k' false))) x4) [
+      elim (or_true (nat_eq k k') (not (same_argument (argument C m k false) (argument C m k' false))) x4) [
         | inl p ↦ nat_sound k k' p
-        | inr n ↦ absurd (not_true (same_argument C (argument C m k false) (argument C m k' false)) n (subst (λ (o : Option Argument). same_argument C o (argument C m k' false) ≡ true) (sym ak) (subst (λ (o : Option Argument). same_argument C (Some (Named r)) o ≡ true) (sym ak') (name_same r))))
+        | inr n ↦ absurd (not_true (same_argument (argument C m k false) (argument C m k' false)) n (subst (λ (o : Option Argument). same_argument o (argument C m k' false) ≡ true) (sym ak) (subst (λ (o : Option Argument). same_argument (Some (Named r)) o ≡ true) (sym ak') (name_same r))))
       ]
 
   fits_sound : (i : ℕ) (w : Way) (b : ℕ) → is_fit C i (entry C i) (w, b) ≡ true → Fits C i w b
@@ -187,7 +187,7 @@ module _ (C : Code) where
         kept = λ v j iv ij iw. not_true (name_in (here v) (entry C j).writes) (every_in (λ j. not (name_in (here v) (entry C j).writes)) (body C l.body).entries (every_in (λ v. list_all (λ j. not (name_in (here v) (entry C j).writes)) (body C l.body).entries) (loop_variables l) z.1 v iv) j ij) (in_name_in (here v) (entry C j).writes iw);
       }
 
-  main_sound : (o : Opener) → is_main C o ≡ true → o ≡ ByMain
+  main_sound : (o : Opener) → is_main o ≡ true → o ≡ ByMain
   main_sound ByMain h = refl
   main_sound (ByWait i) h = absurd (cc)
   main_sound (ByStep i) h = absurd (cc)
@@ -200,9 +200,9 @@ module _ (C : Code) where
         let y = true_and (every_at (is_entry C) C.entries) (every_at (is_body C) C.bodies) x.1 in
         (x.0, y.0, y.1)
 
-    script : (is_main C (body C 0).opener ≡ true) × (list_all (λ j. list_all (is_declared C 0) (entry C j).reads) (body C 0).entries ≡ true) × (list_all (λ j. list_all (is_declared C 0) (entry C j).writes) (body C 0).entries ≡ true)
+    script : (is_main (body C 0).opener ≡ true) × (list_all (λ j. list_all (is_declared C 0) (entry C j).reads) (body C 0).entries ≡ true) × (list_all (λ j. list_all (is_declared C 0) (entry C j).writes) (body C 0).entries ≡ true)
     script =
-        let x = true_and (is_main C (body C 0).opener) _ parts.0 in
+        let x = true_and (is_main (body C 0).opener) _ parts.0 in
         let y = true_and (list_all (λ j. list_all (is_declared C 0) (entry C j).reads) (body C 0).entries) _ x.1 in
         (x.0, y.0, y.1)
 

@@ -30,7 +30,7 @@ sum_same f g h (x ∷ xs) = sum_by-cons f x xs ∙ (λ i. h x i + sum_same f g h
 one_more : (n m : ℕ) → n ≡ m → suc n ≡ 1 + m
 one_more n m h = omega arith
 
-gather_in : {A B : Type 0} (f : A → List B) (xs : List A) (x : A) (y : B) → In x xs → In y (f x) → In y (flat_map f xs)
+pub gather_in : {A B : Type 0} (f : A → List B) (xs : List A) (x : A) (y : B) → In x xs → In y (f x) → In y (flat_map f xs)
 gather_in f [] x y h i = absurd h
 gather_in {A} f (z ∷ xs) x y h i =
     elim h [
@@ -89,7 +89,7 @@ module _ (C : Code) (I : IsCode C) (clean : Clean (code_system C)) (blocks : Lis
       good_is : {x y : Effect Task Place Key Scalar} → ◌≡◌ {A = Outcome Task Place Key Scalar EntryFault} (Good x) (Good y) → x ≡ y
       good_is h = cc
   live_in n (live_opened (Item i p c) u e o l f io iu) =
-      by (in_split o (map (block C) (instances C (entry C i).act (entry C i).mark p c (found C (can_at n i c p e comes)))) (rest C (loop_of (entry C i).act) i p c (found C (can_at n i c p e comes))) (subst (λ (x : Effect Task Place Key Scalar). In o x.opens) (sym (effect_is C i c p e (can_at n i c p e comes))) io))
+      by (in_split o (map (block C) (instances (entry C i).act (entry C i).mark p c (found C (can_at n i c p e comes)))) (rest (loop_of (entry C i).act) i p c (found C (can_at n i c p e comes))) (subst (λ (x : Effect Task Place Key Scalar). In o x.opens) (sym (effect_is C i c p e (can_at n i c p e comes))) io))
     where
       settled : Settled (code_system C) (Known (code_system C) n)
       settled = known_settled (code_system C) (code_laws C I) clean n
@@ -97,11 +97,11 @@ module _ (C : Code) (I : IsCode C) (clean : Clean (code_system C)) (blocks : Lis
       comes : Comes (code_system C) (Known (code_system C) n) (Item i p c) (Good e)
       comes = settled.comes (Item i p c) e f
 
-      by_rest : (k : Option Loop) → loop_of (entry C i).act ≡ k → In o (rest C k i p c (found C (can_at n i c p e comes))) → In u all_items
+      by_rest : (k : Option Loop) → loop_of (entry C i).act ≡ k → In o (rest k i p c (found C (can_at n i c p e comes))) → In u all_items
       by_rest None q h = absurd h
       by_rest (Some w) q h = by_left (is_some_list (left_at (suc c) (turns_of (found C (can_at n i c p e comes))))) refl h
         where
-          by_left : (b : Bool) → is_some_list (left_at (suc c) (turns_of (found C (can_at n i c p e comes)))) ≡ b → In o (rest_if C b i p c) → In u all_items
+          by_left : (b : Bool) → is_some_list (left_at (suc c) (turns_of (found C (can_at n i c p e comes)))) ≡ b → In o (rest_if b i p c) → In u all_items
           by_left false z h = absurd h
           by_left true z h =
               let oq : o ≡ record { makes = []; tasks = Item i p (suc c) ∷ [] } = elim h [ inl y ↦ y | inr y ↦ absurd y ] in
@@ -110,8 +110,8 @@ module _ (C : Code) (I : IsCode C) (clean : Clean (code_system C)) (blocks : Lis
               let there = in_rests i p c (rests_of m) (few_rests c m (left_long (suc c) (turns_of (found C (can_at n i c p e comes))) z)) in
               inr (in_right u (flat_map block_items blocks) (flat_map rest_items loops) (gather_in rest_items loops (i, p, m) u (has_loops n i c p (Good e) w q comes) (subst (λ (x : Task). In x (rest_from i p (rests_of m))) (sym uq) there)))
 
-      by : In o (map (block C) (instances C (entry C i).act (entry C i).mark p c (found C (can_at n i c p e comes)))) ⊎ In o (rest C (loop_of (entry C i).act) i p c (found C (can_at n i c p e comes))) → In u all_items
-      by (inl g) = (let r = in_unmap (block C) o (instances C (entry C i).act (entry C i).mark p c (found C (can_at n i c p e comes))) g in in_instance n (Item i p c) u e o r.0 f io (sym r.2) iu)
+      by : In o (map (block C) (instances (entry C i).act (entry C i).mark p c (found C (can_at n i c p e comes)))) ⊎ In o (rest (loop_of (entry C i).act) i p c (found C (can_at n i c p e comes))) → In u all_items
+      by (inl g) = (let r = in_unmap (block C) o (instances (entry C i).act (entry C i).mark p c (found C (can_at n i c p e comes))) g in in_instance n (Item i p c) u e o r.0 f io (sym r.2) iu)
       by (inr g) = by_rest (loop_of (entry C i).act) refl g
 
   pub items_counted : length all_items ≡ items_in C blocks loops

@@ -1,4 +1,4 @@
--- Whole code keeps list_all law of a system of tasks.
+-- Whole code keeps each law of a system of tasks.
 use Rattle.std.proofs.Common.{◌≡◌, ◌⊎◌, inl, inr, ℕ, zero, suc, Bool, true, false, List, [], ◌∷◌, ◌++◌, map, refl, sym, ap, ◌∙◌, subst, Option, None, Some, arith}
 use Rattle.dataflow.specs.Laws.{Can, Coherent, Laws}
 use Rattle.dataflow.specs.System.{Answer, Distinct, Effect, Good, In, Input, Opening, Outcome, Write, reads_of, tasks_of}
@@ -70,10 +70,10 @@ module _ (C : Code) (I : IsCode C) where
   bound_made i c p x w b =
       let at = bound_at C b.loop (entry C i).mark p b.turn w b.bound in
       let s : ℕ × List Step = (b.loop.body, stepped (entry C i).mark b.turn.0 p) in
-      let is : In s (turn_instances C b.loop (entry C i).mark p (chunk c (turns_of x))) = in_map (λ (t : Key × Scalar). (b.loop.body, stepped (entry C i).mark t.0 p)) b.turn (chunk c (turns_of x)) b.there in
-      let is' : In s (instances C (entry C i).act (entry C i).mark p c x) = subst (λ (l : List (ℕ × List Step)). In s l) (sym (loop_instances C (entry C i).act b.loop (entry C i).mark p c x b.loops)) is in (
+      let is : In s (turn_instances b.loop (entry C i).mark p (chunk c (turns_of x))) = in_map (λ (t : Key × Scalar). (b.loop.body, stepped (entry C i).mark t.0 p)) b.turn (chunk c (turns_of x)) b.there in
+      let is' : In s (instances (entry C i).act (entry C i).mark p c x) = subst (λ (l : List (ℕ × List Step)). In s l) (sym (loop_instances C (entry C i).act b.loop (entry C i).mark p c x b.loops)) is in (
         block C s,
-        in_left (block C s) (map (block C) (instances C (entry C i).act (entry C i).mark p c x)) (rest C (loop_of (entry C i).act) i p c x) (in_map (block C) s _ is'),
+        in_left (block C s) (map (block C) (instances (entry C i).act (entry C i).mark p c x)) (rest (loop_of (entry C i).act) i p c x) (in_map (block C) s _ is'),
         subst (λ (a : Place). In a (map (Datum s.1) (body C s.0).makes)) (sym at.2) (in_map (Datum s.1) at.0 (body C s.0).makes ((I.loops i b.loop b.loops).made at.0 at.1)),
       )
 
@@ -94,7 +94,7 @@ module _ (C : Code) (I : IsCode C) where
     spot_datum : (p : List Step) (v : Variable) → IsDatum (Datum p v)
     nowhere_datum : IsDatum Nowhere
 
-  in_data : (a : Place) (ds : List Place) → IsDatum a → In a ds → In a (data_among C ds)
+  in_data : (a : Place) (ds : List Place) → IsDatum a → In a ds → In a (data_among ds)
   in_data a [] d h = absurd h
   in_data a (Datum p v ∷ ds) d h = elim h [ inl q ↦ inl q | inr i ↦ inr (in_data a ds d i) ]
   in_data a (Constant v ∷ ds) d h = elim h [ inl q ↦ absurd (not_literal (subst (λ (x : Place). IsDatum x) q d)) | inr i ↦ in_data a ds d i ]
@@ -103,7 +103,7 @@ module _ (C : Code) (I : IsCode C) where
       not_literal x = elim x [ ]
   in_data a (Nowhere ∷ ds) d h = elim h [ inl q ↦ inl q | inr i ↦ inr (in_data a ds d i) ]
 
-  data_in : (a : Place) (ds : List Place) → In a (data_among C ds) → In a ds × IsDatum a
+  data_in : (a : Place) (ds : List Place) → In a (data_among ds) → In a ds × IsDatum a
   data_in a [] h = absurd h
   data_in a (Datum p v ∷ ds) h = elim h [ inl q ↦ (inl q, subst (λ (x : Place). IsDatum x) (sym q) (spot_datum p v)) | inr i ↦ (let r = data_in a ds i in (inr r.0, r.1)) ]
   data_in a (Constant v ∷ ds) h = (let r = data_in a ds h in (inr r.0, r.1))
@@ -118,22 +118,22 @@ module _ (C : Code) (I : IsCode C) where
   two_data : (a d e : Place) → IsDatum d → IsDatum e → In a (d ∷ e ∷ []) → In a (d ∷ e ∷ []) × IsDatum a
   two_data a d e x y h = (h, elim h [ inl q ↦ subst (λ (z : Place). IsDatum z) (sym q) x | inr g ↦ elim g [ inl q ↦ subst (λ (z : Place). IsDatum z) (sym q) y | inr n ↦ absurd n ] ])
 
-  scalar_reads : (d : Place) (i : Input Place Key) (a : Place) → In i (scalar_input C d) → In a (reads_of i) → In a (d ∷ []) × IsDatum a
+  scalar_reads : (d : Place) (i : Input Place Key) (a : Place) → In i (scalar_input d) → In a (reads_of i) → In a (d ∷ []) × IsDatum a
   scalar_reads (Datum p v) i a h m = of_one i _ a (Datum p v ∷ []) h m (λ a g. one_datum a (Datum p v) (spot_datum p v) g)
   scalar_reads (Constant v) i a h m = absurd h
   scalar_reads Nowhere i a h m = of_one i _ a (Nowhere ∷ []) h m (λ a g. one_datum a Nowhere nowhere_datum g)
 
-  whole_reads : (d : Place) (i : Input Place Key) (a : Place) → In i (whole_input C d) → In a (reads_of i) → In a (d ∷ []) × IsDatum a
+  whole_reads : (d : Place) (i : Input Place Key) (a : Place) → In i (whole_input d) → In a (reads_of i) → In a (d ∷ []) × IsDatum a
   whole_reads (Datum p v) i a h m = of_one i _ a (Datum p v ∷ []) h m (λ a g. one_datum a (Datum p v) (spot_datum p v) g)
   whole_reads (Constant v) i a h m = absurd h
   whole_reads Nowhere i a h m = of_one i _ a (Nowhere ∷ []) h m (λ a g. one_datum a Nowhere nowhere_datum g)
 
-  key_reads : (d : Place) (k : Key) (i : Input Place Key) (a : Place) → In i (key_input C d k) → In a (reads_of i) → In a (d ∷ []) × IsDatum a
+  key_reads : (d : Place) (k : Key) (i : Input Place Key) (a : Place) → In i (key_input d k) → In a (reads_of i) → In a (d ∷ []) × IsDatum a
   key_reads (Datum p v) k i a h m = of_one i _ a (Datum p v ∷ []) h m (λ a g. one_datum a (Datum p v) (spot_datum p v) g)
   key_reads (Constant v) k i a h m = absurd h
   key_reads Nowhere k i a h m = of_one i _ a (Nowhere ∷ []) h m (λ a g. one_datum a Nowhere nowhere_datum g)
 
-  element_reads : (d e : Place) (i : Input Place Key) (a : Place) → In i (element_input C d e) → In a (reads_of i) → In a (d ∷ e ∷ []) × IsDatum a
+  element_reads : (d e : Place) (i : Input Place Key) (a : Place) → In i (element_input d e) → In a (reads_of i) → In a (d ∷ e ∷ []) × IsDatum a
   element_reads (Datum p v) (Constant w) i a h m = (let x = key_reads (Datum p v) _ i a h m in (in_left a (Datum p v ∷ []) (Constant w ∷ []) x.0, x.1))
   element_reads (Constant v) (Constant w) i a h m = absurd h
   element_reads Nowhere (Constant w) i a h m = (let x = key_reads Nowhere _ i a h m in (in_left a (Nowhere ∷ []) (Constant w ∷ []) x.0, x.1))
@@ -180,7 +180,7 @@ module _ (C : Code) (I : IsCode C) where
       inl (subst (λ (x : O). In a x.makes) (sym q) (subst (λ (x : Place). In x (map (Datum []) (body C 0).makes)) (sym at) (in_map (Datum []) d.variable (body C 0).makes d.made)))
   opens_reads (Item i p c) u e o a can io iu h = by (opened C i c p e can o io)
     where
-      by : OpensBlock C i p c (found C can) o ⊎ IsRest C i p c o → In a o.makes ⊎ In a (data_among C (map (place_at C p) (entry C i).reads))
+      by : OpensBlock C i p c (found C can) o ⊎ IsRest C i p c o → In a o.makes ⊎ In a (data_among (map (place_at C p) (entry C i).reads))
       by (inr r) = inr (subst (λ (x : Task). In a (task_reads C x)) (in_rest C i c p o u r iu) h)
       by (inl b) = by_cover ((I.fits i b.by.way b.instance.0 b.by.is_way).reads m.0 r.0 m.1 r.1)
         where
@@ -193,7 +193,7 @@ module _ (C : Code) (I : IsCode C) where
           r : (r : Name) × In r (entry C m.0).reads × (place_at C b.instance.1 r ≡ a)
           r = named (λ e. e.reads) b.instance.1 m.0 a x.0
 
-          by_cover : (Declared C b.instance.0 r.0 ⊎ SeenFrom C (λ e. e.reads) i b.by.way r.0) ⊎ Fixes C (entry C i).mark b.by.way r.0 → In a o.makes ⊎ In a (data_among C (map (place_at C p) (entry C i).reads))
+          by_cover : (Declared C b.instance.0 r.0 ⊎ SeenFrom C (λ e. e.reads) i b.by.way r.0) ⊎ Fixes C (entry C i).mark b.by.way r.0 → In a o.makes ⊎ In a (data_among (map (place_at C p) (entry C i).reads))
           by_cover (inl (inl d)) =
               let at : a ≡ Datum b.instance.1 d.variable = sym r.2 ∙ declared_place C b.instance.0 b.instance.1 r.0 d in
               inl (subst (λ (x : O). In a x.makes) (sym b.is) (subst (λ (x : Place). In x (map (Datum b.instance.1) (body C b.instance.0).makes)) (sym at) (in_map (Datum b.instance.1) d.variable (body C b.instance.0).makes d.made)))
@@ -320,7 +320,7 @@ module _ (C : Code) (I : IsCode C) where
   distinct_one zero s = ((λ h. h), tt)
   distinct_one (suc c) s = tt
 
-  distinct_branches : (c : ℕ) (x : Computed) (b : ℕ) (d : Option ℕ) (mark : ℕ) (p : List Step) → Distinct (at_first c (branch_instances C x b d mark p))
+  distinct_branches : (c : ℕ) (x : Computed) (b : ℕ) (d : Option ℕ) (mark : ℕ) (p : List Step) → Distinct (at_first c (branch_instances x b d mark p))
   distinct_branches (suc c) x b d mark p = tt
   distinct_branches zero (Takes true) b d mark p = ((λ h. h), tt)
   distinct_branches zero (Takes false) b None mark p = tt
@@ -331,7 +331,7 @@ module _ (C : Code) (I : IsCode C) where
   distinct_branches zero (Turns ts) b d mark p = tt
   distinct_branches zero Opens b d mark p = tt
 
-  distinct_turn_instances : (l : Loop) (mark : ℕ) (p : List Step) (ts : Elements) → Distinct (keys ts) → Distinct (turn_instances C l mark p ts)
+  distinct_turn_instances : (l : Loop) (mark : ℕ) (p : List Step) (ts : Elements) → Distinct (keys ts) → Distinct (turn_instances l mark p ts)
   distinct_turn_instances l mark p [] d = tt
   distinct_turn_instances l mark p (t ∷ ts) d = (
     λ h. (let r = in_unmap (λ (t : Key × Scalar). (l.body, stepped mark t.0 p)) (l.body, stepped mark t.0 p) ts h in
@@ -341,7 +341,7 @@ module _ (C : Code) (I : IsCode C) where
     distinct_turn_instances l mark p ts d.1,
   )
 
-  distinct_instances : (a : Act) (mark : ℕ) (p : List Step) (c : ℕ) (x : Computed) → Distinct (keys (chunk c (turns_of x))) → Distinct (instances C a mark p c x)
+  distinct_instances : (a : Act) (mark : ℕ) (p : List Step) (c : ℕ) (x : Computed) → Distinct (keys (chunk c (turns_of x))) → Distinct (instances a mark p c x)
   distinct_instances (Cell e) mark p c x d = tt
   distinct_instances Read mark p c x d = tt
   distinct_instances (Call b rs) mark p c x d = distinct_one c _
@@ -376,31 +376,31 @@ module _ (C : Code) (I : IsCode C) where
       subst (λ (x : E). Distinct (tasks_of x.opens)) (effect_is C i c p e can) (subst (λ (l : List Task). Distinct l) (sym (tasks_append bs rs)) (distinct_append (tasks_of bs) (tasks_of rs) (distinct_blocks _ (distinct_instances (entry C i).act (entry C i).mark p c (found C can) (chunk_keys i c (answered C p (entry C i).needs can.answers)))) (of_rest (loop_of (entry C i).act)) apart))
     where
       bs : List O
-      bs = map (block C) (instances C (entry C i).act (entry C i).mark p c (found C can))
+      bs = map (block C) (instances (entry C i).act (entry C i).mark p c (found C can))
 
       rs : List O
-      rs = rest C (loop_of (entry C i).act) i p c (found C can)
+      rs = rest (loop_of (entry C i).act) i p c (found C can)
 
-      of_rest : (l : Option Loop) → Distinct (tasks_of (rest C l i p c (found C can)))
+      of_rest : (l : Option Loop) → Distinct (tasks_of (rest l i p c (found C can)))
       of_rest None = tt
       of_rest (Some l) = by (is_some_list (left_at (suc c) (turns_of (found C can))))
         where
-          by : (b : Bool) → Distinct (tasks_of (rest_if C b i p c))
+          by : (b : Bool) → Distinct (tasks_of (rest_if b i p c))
           by true = ((λ h. h), tt)
           by false = tt
 
-      in_rs : (l : Option Loop) (u : Task) → In u (tasks_of (rest C l i p c (found C can))) → u ≡ Item i p (suc c)
+      in_rs : (l : Option Loop) (u : Task) → In u (tasks_of (rest l i p c (found C can))) → u ≡ Item i p (suc c)
       in_rs None u h = absurd h
       in_rs (Some l) u h = by (is_some_list (left_at (suc c) (turns_of (found C can)))) h
         where
-          by : (b : Bool) → In u (tasks_of (rest_if C b i p c)) → u ≡ Item i p (suc c)
+          by : (b : Bool) → In u (tasks_of (rest_if b i p c)) → u ≡ Item i p (suc c)
           by true h = elim h [ inl q ↦ q | inr n ↦ absurd n ]
           by false h = absurd h
 
       apart : (u : Task) → In u (tasks_of bs) → In u (tasks_of rs) → ⊥
       apart u h g =
           let o = in_tasks u bs h in
-          let s = in_unmap (block C) o.0 (instances C (entry C i).act (entry C i).mark p c (found C can)) o.1 in
+          let s = in_unmap (block C) o.0 (instances (entry C i).act (entry C i).mark p c (found C can)) o.1 in
           let m = in_block C s.0 o.0 u (sym s.2) o.2 in
           chunk_apart (sym m.2 ∙ in_rs (loop_of (entry C i).act) u g)
 
@@ -415,24 +415,24 @@ module _ (C : Code) (I : IsCode C) where
     abbrev got : Computed
     got = compute (entry C i).act xs
 
-    stored_same : (d a : Place) (k : Key) (v w : Scalar) → In (record { place = a; key = k; value = v }) (stored_at C d got) → In (record { place = a; key = k; value = w }) (stored_at C d got) → v ≡ w
+    stored_same : (d a : Place) (k : Key) (v w : Scalar) → In (record { place = a; key = k; value = v }) (stored_at d got) → In (record { place = a; key = k; value = w }) (stored_at d got) → v ≡ w
     stored_same d a k v w h g = ap (λ (y : W). y.value) (stored_once C d got (record { place = a; key = k; value = v }) (record { place = a; key = k; value = w }) h g)
 
-    inserted_same : (d a : Place) (k : Key) (v w : Scalar) → In (record { place = a; key = k; value = v }) (inserted_at C d got) → In (record { place = a; key = k; value = w }) (inserted_at C d got) → v ≡ w
+    inserted_same : (d a : Place) (k : Key) (v w : Scalar) → In (record { place = a; key = k; value = v }) (inserted_at d got) → In (record { place = a; key = k; value = w }) (inserted_at d got) → v ≡ w
     inserted_same d a k v w h g =
         let x = inserted_inv C d got (record { place = a; key = k; value = v }) h in
         let y = inserted_inv C d got (record { place = a; key = k; value = w }) g in
         key_once (inserted_of got) (computed_apart (entry C i).act xs).1 k v w x.1 y.1
 
-    bound_same : (l : Loop) → loop_of (entry C i).act ≡ Some l → (a : Place) (k : Key) (v w : Scalar) → In (record { place = a; key = k; value = v }) (flat_map (bound C l (entry C i).mark p) (chunk c (turns_of got))) → In (record { place = a; key = k; value = w }) (flat_map (bound C l (entry C i).mark p) (chunk c (turns_of got))) → v ≡ w
+    bound_same : (l : Loop) → loop_of (entry C i).act ≡ Some l → (a : Place) (k : Key) (v w : Scalar) → In (record { place = a; key = k; value = v }) (flat_map (bound l (entry C i).mark p) (chunk c (turns_of got))) → In (record { place = a; key = k; value = w }) (flat_map (bound l (entry C i).mark p) (chunk c (turns_of got))) → v ≡ w
     bound_same l e a k v w h g =
         by (bound_inv C l (entry C i).mark p x.0 (record { place = a; key = k; value = v }) x.2) (bound_inv C l (entry C i).mark p y.0 (record { place = a; key = k; value = w }) y.2)
       where
-        x : (t : Key × Scalar) × In t (chunk c (turns_of got)) × In (record { place = a; key = k; value = v }) (bound C l (entry C i).mark p t)
-        x = in_gather C (bound C l (entry C i).mark p) (chunk c (turns_of got)) (record { place = a; key = k; value = v }) h
+        x : (t : Key × Scalar) × In t (chunk c (turns_of got)) × In (record { place = a; key = k; value = v }) (bound l (entry C i).mark p t)
+        x = in_gather C (bound l (entry C i).mark p) (chunk c (turns_of got)) (record { place = a; key = k; value = v }) h
 
-        y : (t : Key × Scalar) × In t (chunk c (turns_of got)) × In (record { place = a; key = k; value = w }) (bound C l (entry C i).mark p t)
-        y = in_gather C (bound C l (entry C i).mark p) (chunk c (turns_of got)) (record { place = a; key = k; value = w }) g
+        y : (t : Key × Scalar) × In t (chunk c (turns_of got)) × In (record { place = a; key = k; value = w }) (bound l (entry C i).mark p t)
+        y = in_gather C (bound l (entry C i).mark p) (chunk c (turns_of got)) (record { place = a; key = k; value = w }) g
 
         -- one place is bound by one turn
         turn_key : {q r : Variable} → Datum (stepped (entry C i).mark x.0.0 p) q ≡ Datum (stepped (entry C i).mark y.0.0 p) r → x.0.0 ≡ y.0.0

@@ -1,10 +1,15 @@
-mod Equal
-mod Places
-mod Chunks
-mod Listed
-mod Opens
-mod Rights
-mod Kept
-mod Counted
-mod Checked
+pub mod Equal
+pub mod Places
+pub mod Chunks
+pub mod Listed
+pub mod Opens
+pub mod Rights
+pub mod Kept
+pub mod Counted
+pub mod Checked
+pub mod Decided
+pub mod Exactly
+pub mod WorkedRuns
+pub mod Faults
+pub mod Blocks
 mod Numbers

@@ -58,7 +58,7 @@ one_instance a mark p c x w b k q s z n i pi e =
     subst (λ (t : ℕ × List Step). InstanceBy a mark p c x t) (sym e) (record { way = w; key = k; is_way = i; path_is = pi; slot = inl (z, n) })
 
 module _ (C : Code) where
-  branch_inv : (e : _) (b : ℕ) (d : Option ℕ) (mark : ℕ) (p : List Step) (c : ℕ) (x y : Computed) (s : ℕ × List Step) → c ≡ 0 → In s (branch_instances C y b d mark p) → InstanceBy (If e b d) mark p c x s
+  branch_inv : (e : _) (b : ℕ) (d : Option ℕ) (mark : ℕ) (p : List Step) (c : ℕ) (x y : Computed) (s : ℕ × List Step) → c ≡ 0 → In s (branch_instances y b d mark p) → InstanceBy (If e b d) mark p c x s
   branch_inv e b d mark p c x (Takes true) s z h = one_instance (If e b d) mark p c x Through b (number_key (pos 0)) (stepped mark (number_key (pos 0)) p) s z refl (first d) refl (in_one s _ h)
     where
       first : (d : Option ℕ) → In (Through, b) (ways (If e b d))
@@ -72,7 +72,7 @@ module _ (C : Code) where
   branch_inv e b d mark p c x (Turns ts) s z h = absurd h
   branch_inv e b d mark p c x Opens s z h = absurd h
 
-  turns_inv : (a : Act) (w : Loop) (mark : ℕ) (p : List Step) (c : ℕ) (x : Computed) (s : ℕ × List Step) → loop_of a ≡ Some w → In (Through, w.body) (ways a) → In s (turn_instances C w mark p (chunk c (turns_of x))) → InstanceBy a mark p c x s
+  turns_inv : (a : Act) (w : Loop) (mark : ℕ) (p : List Step) (c : ℕ) (x : Computed) (s : ℕ × List Step) → loop_of a ≡ Some w → In (Through, w.body) (ways a) → In s (turn_instances w mark p (chunk c (turns_of x))) → InstanceBy a mark p c x s
   turns_inv a w mark p c x s l i h =
       let r = in_unmap (λ (t : Key × Scalar). (w.body, stepped mark t.0 p)) s (chunk c (turns_of x)) h in
       subst (λ (t : ℕ × List Step). InstanceBy a mark p c x t) r.2 (record {
@@ -83,7 +83,7 @@ module _ (C : Code) where
         slot = inr (w, l, refl, refl, in_map (λ (t : Key × Scalar). t.0) r.0 (chunk c (turns_of x)) r.1);
       })
 
-  instances_inv : (a : Act) (mark : ℕ) (p : List Step) (c : ℕ) (x : Computed) (s : ℕ × List Step) → In s (instances C a mark p c x) → InstanceBy a mark p c x s
+  instances_inv : (a : Act) (mark : ℕ) (p : List Step) (c : ℕ) (x : Computed) (s : ℕ × List Step) → In s (instances a mark p c x) → InstanceBy a mark p c x s
   instances_inv (Cell e) mark p c x s h = absurd h
   instances_inv Read mark p c x s h = absurd h
   instances_inv (Call b rs) mark p c x s h =
@@ -95,7 +95,7 @@ module _ (C : Code) where
   instances_inv (Put r i e) mark p c x s h = absurd h
   instances_inv (Print e) mark p c x s h = absurd h
   instances_inv (Assert e) mark p c x s h = absurd h
-  instances_inv (If e b d) mark p c x s h = let f = in_first s c (branch_instances C x b d mark p) h in branch_inv e b d mark p c x x s f.0 f.1
+  instances_inv (If e b d) mark p c x s h = let f = in_first s c (branch_instances x b d mark p) h in branch_inv e b d mark p c x x s f.0 f.1
   instances_inv (Range l h' st w) mark p c x s h = turns_inv (Range l h' st w) w mark p c x s refl (inl refl) h
   instances_inv (Each w) mark p c x s h = turns_inv (Each w) w mark p c x s refl (inl refl) h
   instances_inv (Wait hs b) mark p c x s h =
@@ -103,7 +103,7 @@ module _ (C : Code) where
       one_instance (Wait hs b) mark p c x InPlace b (number_key (pos 0)) p s f.0 refl (inl refl) refl (in_one s _ f.1)
 
   -- an entry that is no loop opens one block at most
-  at_most_one : (a : Act) (mark : ℕ) (p : List Step) (c : ℕ) (x : Computed) (s t : ℕ × List Step) → loop_of a ≡ None → In s (instances C a mark p c x) → In t (instances C a mark p c x) → s ≡ t
+  at_most_one : (a : Act) (mark : ℕ) (p : List Step) (c : ℕ) (x : Computed) (s t : ℕ × List Step) → loop_of a ≡ None → In s (instances a mark p c x) → In t (instances a mark p c x) → s ≡ t
   at_most_one (Cell e) mark p c x s t n h k = absurd h
   at_most_one Read mark p c x s t n h k = absurd h
   at_most_one (Call b rs) mark p c x s t n h k = (let f = in_first s c _ h in let g = in_first t c _ k in in_one s _ f.1 ∙ sym (in_one t _ g.1))
@@ -114,11 +114,11 @@ module _ (C : Code) where
   at_most_one (Print e) mark p c x s t n h k = absurd h
   at_most_one (Assert e) mark p c x s t n h k = absurd h
   at_most_one (If e b d) mark p c x s t n h k =
-      let f = in_first s c (branch_instances C x b d mark p) h in
-      let g = in_first t c (branch_instances C x b d mark p) k in
+      let f = in_first s c (branch_instances x b d mark p) h in
+      let g = in_first t c (branch_instances x b d mark p) k in
       by x d f.1 g.1
     where
-      by : (y : Computed) (d : Option ℕ) → In s (branch_instances C y b d mark p) → In t (branch_instances C y b d mark p) → s ≡ t
+      by : (y : Computed) (d : Option ℕ) → In s (branch_instances y b d mark p) → In t (branch_instances y b d mark p) → s ≡ t
       by (Takes true) d h k = in_one s _ h ∙ sym (in_one t _ k)
       by (Takes false) None h k = absurd h
       by (Takes false) (Some d) h k = in_one s _ h ∙ sym (in_one t _ k)
@@ -134,7 +134,7 @@ module _ (C : Code) where
   -- an opening is a block, or the rest of a loop
   pub record OpensBlock (i : ℕ) (p : List Step) (c : ℕ) (x : Computed) (o : Opening Task Place) : Type 0 where
     pub instance : ℕ × List Step
-    pub there : In instance (instances C (entry C i).act (entry C i).mark p c x)
+    pub there : In instance (instances (entry C i).act (entry C i).mark p c x)
     pub by : InstanceBy (entry C i).act (entry C i).mark p c x instance
     pub is : o ≡ block C instance
 
@@ -143,18 +143,18 @@ module _ (C : Code) where
     pub loops : loop_of (entry C i).act ≡ Some loop
     pub is : o ≡ record { makes = []; tasks = Item i p (suc c) ∷ [] }
 
-  rest_inv : (i : ℕ) (p : List Step) (c : ℕ) (x : Computed) (o : Opening Task Place) (l : Option Loop) → loop_of (entry C i).act ≡ l → In o (rest C l i p c x) → IsRest i p c o
+  rest_inv : (i : ℕ) (p : List Step) (c : ℕ) (x : Computed) (o : Opening Task Place) (l : Option Loop) → loop_of (entry C i).act ≡ l → In o (rest l i p c x) → IsRest i p c o
   rest_inv i p c x o None e h = absurd h
   rest_inv i p c x o (Some w) e h = by (is_some_list (left_at (suc c) (turns_of x))) h
     where
-      by : (b : Bool) → In o (rest_if C b i p c) → IsRest i p c o
+      by : (b : Bool) → In o (rest_if b i p c) → IsRest i p c o
       by true h = record { loop = w; loops = e; is = in_one o _ h }
       by false h = absurd h
 
   opens_inv : (i : ℕ) (p : List Step) (c : ℕ) (x : Computed) (o : Opening Task Place) → In o (effect_at C i p c x).opens → OpensBlock i p c x o ⊎ IsRest i p c o
   opens_inv i p c x o h =
-      elim (in_split o (map (block C) (instances C (entry C i).act (entry C i).mark p c x)) (rest C (loop_of (entry C i).act) i p c x) h) [
-        | inl g ↦ (let r = in_unmap (block C) o (instances C (entry C i).act (entry C i).mark p c x) g in inl (record { instance = r.0; there = r.1; by = instances_inv (entry C i).act (entry C i).mark p c x r.0 r.1; is = sym r.2 }))
+      elim (in_split o (map (block C) (instances (entry C i).act (entry C i).mark p c x)) (rest (loop_of (entry C i).act) i p c x) h) [
+        | inl g ↦ (let r = in_unmap (block C) o (instances (entry C i).act (entry C i).mark p c x) g in inl (record { instance = r.0; there = r.1; by = instances_inv (entry C i).act (entry C i).mark p c x r.0 r.1; is = sym r.2 }))
         | inr g ↦ inr (rest_inv i p c x o (loop_of (entry C i).act) refl g)
       ]
 
@@ -164,11 +164,11 @@ module _ (C : Code) where
   bad_good : {f : EntryFault} {y : Effect Task Place Key Scalar} {B : Type 0} → ◌≡◌ {A = Outcome Task Place Key Scalar EntryFault} (Bad f) (Good y) → B
   bad_good h = absurd (cc)
 
-  limited_is : (b : Bool) (e e' : Effect Task Place Key Scalar) → limited C b e ≡ Good e' → e ≡ e'
+  limited_is : (b : Bool) (e e' : Effect Task Place Key Scalar) → limited b e ≡ Good e' → e ≡ e'
   limited_is true e e' h = bad_good h
   limited_is false e e' h = good_same h
 
-  outcome_is : (x : Computed) (b : Bool) (e e' : Effect Task Place Key Scalar) → outcome_of C x b e ≡ Good e' → e ≡ e'
+  outcome_is : (x : Computed) (b : Bool) (e e' : Effect Task Place Key Scalar) → outcome_of x b e ≡ Good e' → e ≡ e'
   outcome_is (Fails f) b e e' h = bad_good h
   outcome_is (Gives v) b e e' h = limited_is b e e' h
   outcome_is (Inserts xs) b e e' h = limited_is b e e' h
@@ -181,7 +181,7 @@ module _ (C : Code) where
   found {i} {p = p} can = compute (entry C i).act (answered C p (entry C i).needs can.answers)
 
   pub effect_is : (i c : ℕ) (p : List Step) (e : Effect Task Place Key Scalar) (can : Can (code_system C) (Item i p c) e) → effect_at C i p c (found can) ≡ e
-  effect_is i c p e can = outcome_is (found can) (is_too_deep C (entry C i).act p (instances C (entry C i).act (entry C i).mark p c (found can))) (effect_at C i p c (found can)) e can.is
+  effect_is i c p e can = outcome_is (found can) (is_too_deep (entry C i).act p (instances (entry C i).act (entry C i).mark p c (found can))) (effect_at C i p c (found can)) e can.is
 
   pub opened : (i c : ℕ) (p : List Step) (e : Effect Task Place Key Scalar) (can : Can (code_system C) (Item i p c) e) (o : Opening Task Place) → In o e.opens → OpensBlock i p c (found can) o ⊎ IsRest i p c o
   opened i c p e can o io = opens_inv i p c (found can) o (subst (λ (x : Effect Task Place Key Scalar). In o x.opens) (sym (effect_is i c p e can)) io)

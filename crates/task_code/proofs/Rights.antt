@@ -110,7 +110,7 @@ module _ (C : Code) where
         ]
 
   -- what an item stores
-  stored_inv : (d : Place) (x : Computed) (w : Write Place Key Scalar) → In w (stored_at C d x) → w.place ≡ d
+  stored_inv : (d : Place) (x : Computed) (w : Write Place Key Scalar) → In w (stored_at d x) → w.place ≡ d
   stored_inv d (Fails f) w h = absurd h
   stored_inv d (Gives v) w h = elim h [ inl p ↦ ap (λ (y : Write Place Key Scalar). y.place) p | inr n ↦ absurd n ]
   stored_inv d (Inserts xs) w h = absurd h
@@ -118,7 +118,7 @@ module _ (C : Code) where
   stored_inv d (Turns ts) w h = absurd h
   stored_inv d Opens w h = absurd h
 
-  pub stored_once : (d : Place) (x : Computed) (w u : Write Place Key Scalar) → In w (stored_at C d x) → In u (stored_at C d x) → w ≡ u
+  pub stored_once : (d : Place) (x : Computed) (w u : Write Place Key Scalar) → In w (stored_at d x) → In u (stored_at d x) → w ≡ u
   stored_once d (Fails f) w u h g = absurd h
   stored_once d (Gives v) w u h g = elim h [ inl p ↦ elim g [ inl q ↦ p ∙ sym q | inr n ↦ absurd n ] | inr n ↦ absurd n ]
   stored_once d (Inserts xs) w u h g = absurd h
@@ -126,7 +126,7 @@ module _ (C : Code) where
   stored_once d (Turns ts) w u h g = absurd h
   stored_once d Opens w u h g = absurd h
 
-  pub inserted_inv : (d : Place) (x : Computed) (w : Write Place Key Scalar) → In w (inserted_at C d x) → (w.place ≡ d) × In (w.key, w.value) (inserted_of x)
+  pub inserted_inv : (d : Place) (x : Computed) (w : Write Place Key Scalar) → In w (inserted_at d x) → (w.place ≡ d) × In (w.key, w.value) (inserted_of x)
   inserted_inv d (Fails f) w h = absurd h
   inserted_inv d (Gives v) w h = absurd h
   inserted_inv d (Inserts xs) w h =
@@ -149,11 +149,11 @@ module _ (C : Code) where
     value_bound : w.place ≡ Datum (stepped mark t.0 p) (scalar l.value) → w.value ≡ t.1 → Bound l mark p t w
     turn_is_bound : (n : ℕ) → l.turn ≡ Some n → w.place ≡ Datum (stepped mark t.0 p) (scalar n) → w.value ≡ key_scalar t.0 → Bound l mark p t w
 
-  pub bound_inv : (l : Loop) (mark : ℕ) (p : List Step) (t : Key × Scalar) (w : Write Place Key Scalar) → In w (bound C l mark p t) → Bound l mark p t w
+  pub bound_inv : (l : Loop) (mark : ℕ) (p : List Step) (t : Key × Scalar) (w : Write Place Key Scalar) → In w (bound l mark p t) → Bound l mark p t w
   bound_inv l mark p t w (inl e) = value_bound (ap (λ (y : Write Place Key Scalar). y.place) e) (ap (λ (y : Write Place Key Scalar). y.value) e)
   bound_inv l mark p t w (inr h) = by l.turn refl h
     where
-      by : (o : Option ℕ) → l.turn ≡ o → In w (turn_bound C o (stepped mark t.0 p) t.0) → Bound l mark p t w
+      by : (o : Option ℕ) → l.turn ≡ o → In w (turn_bound o (stepped mark t.0 p) t.0) → Bound l mark p t w
       by None e h = absurd h
       by (Some n) e h =
           elim h [
@@ -185,9 +185,9 @@ module _ (C : Code) where
   into : (a : Act) (node : ℕ) (p : List Step) (w : Write Place Key Scalar) (r : Name) → In r (targets_of node a) → w.place ≡ place_at C p r → IntoTarget a node p w
   into a node p w r i e = record { target = r; there = i; is = e }
 
-  binds : (a : Act) (l : Loop) (mark : ℕ) (p : List Step) (c : ℕ) (x : Computed) (w : Write Place Key Scalar) → loop_of a ≡ Some l → In w (flat_map (bound C l mark p) (chunk c (turns_of x))) → Binds a mark p c x w
+  binds : (a : Act) (l : Loop) (mark : ℕ) (p : List Step) (c : ℕ) (x : Computed) (w : Write Place Key Scalar) → loop_of a ≡ Some l → In w (flat_map (bound l mark p) (chunk c (turns_of x))) → Binds a mark p c x w
   binds a l mark p c x w e h =
-      let r = in_gather (bound C l mark p) (chunk c (turns_of x)) w h in
+      let r = in_gather (bound l mark p) (chunk c (turns_of x)) w h in
       record { loop = l; loops = e; turn = r.0; there = r.1; bound = bound_inv l mark p r.0 w r.2 }
 
   pub stores_inv : (a : Act) (node mark : ℕ) (p : List Step) (c : ℕ) (x : Computed) (w : Write Place Key Scalar) → In w (stores C a node mark p c x) → IntoTarget a node p w ⊎ Binds a mark p c x w
@@ -206,7 +206,7 @@ module _ (C : Code) where
   stores_inv (Wait hs b) node mark p c x w h = absurd h
 
   -- an entry with a target opens nothing
-  pub target_opens_none : (a : Act) (node mark : ℕ) (p : List Step) (c : ℕ) (x : Computed) (r : Name) (s : ℕ × List Step) → In r (targets_of node a) → In s (instances C a mark p c x) → ⊥
+  pub target_opens_none : (a : Act) (node mark : ℕ) (p : List Step) (c : ℕ) (x : Computed) (r : Name) (s : ℕ × List Step) → In r (targets_of node a) → In s (instances a mark p c x) → ⊥
   target_opens_none (Cell e) node mark p c x r s h g = g
   target_opens_none Read node mark p c x r s h g = g
   target_opens_none (Call b rs) node mark p c x r s h g = h
@@ -236,9 +236,9 @@ module _ (C : Code) where
   target_no_loop (Each v) node r h = absurd h
   target_no_loop (Wait hs b) node r h = refl
 
-  pub loop_instances : (a : Act) (l : Loop) (mark : ℕ) (p : List Step) (c : ℕ) (x : Computed) → loop_of a ≡ Some l → instances C a mark p c x ≡ turn_instances C l mark p (chunk c (turns_of x))
-  loop_instances (Range lo h s v) l mark p c x e = ap (λ (z : Loop). turn_instances C z mark p (chunk c (turns_of x))) (some_same e)
-  loop_instances (Each v) l mark p c x e = ap (λ (z : Loop). turn_instances C z mark p (chunk c (turns_of x))) (some_same e)
+  pub loop_instances : (a : Act) (l : Loop) (mark : ℕ) (p : List Step) (c : ℕ) (x : Computed) → loop_of a ≡ Some l → instances a mark p c x ≡ turn_instances l mark p (chunk c (turns_of x))
+  loop_instances (Range lo h s v) l mark p c x e = ap (λ (z : Loop). turn_instances z mark p (chunk c (turns_of x))) (some_same e)
+  loop_instances (Each v) l mark p c x e = ap (λ (z : Loop). turn_instances z mark p (chunk c (turns_of x))) (some_same e)
   loop_instances (Cell y) l mark p c x e = absurd (cc)
   loop_instances Read l mark p c x e = absurd (cc)
   loop_instances (Call b rs) l mark p c x e = absurd (cc)

@@ -112,6 +112,7 @@ here v = record { up = 0; owned = Local v }
 abbrev pub scalar : ℕ → Variable
 scalar n = record { node = n; array = false }
 
+-- what a block names is an array's
 abbrev pub is_array_owned : Owned → Bool
 is_array_owned (Local v) = v.array
 is_array_owned (Parameter k b) = b
@@ -136,12 +137,14 @@ kind_of (Range l h s w) = Control
 kind_of (Each w) = Control
 kind_of (Wait hs b) = Control
 
+-- an entry that does nothing, and a body without entries
 abbrev pub blank_entry : Entry
 blank_entry = record { node = 0; at = 0; mark = 0; priority = pos 0; needs = []; act = Print (constant (Number (pos 0))); reads = []; writes = [] }
 
 abbrev pub blank_body : Body
 blank_body = record { opener = ByMain; makes = []; entries = [] }
 
+-- the member of a number, from 0
 abbrev pub nth : {X : Type 0} → X → List X → ℕ → X
 nth d [] n = d
 nth d (x ∷ xs) zero = x
@@ -163,9 +166,11 @@ call_from i (e ∷ es) at = elim (is_call e.act && nat_eq e.mark at) [ true ↦ 
     is_call (Call b rs) = true
     is_call _ = false
 
+-- the call that a path's step at this offset is of
 abbrev pub call_at : Code → ℕ → ℕ
 call_at C at = call_from 0 C.entries at
 
+-- what a call hands over
 abbrev pub arguments : Act → List Argument
 arguments (Call b rs) = rs
 arguments _ = []
@@ -177,6 +182,7 @@ argument_in (Named r ∷ rs) zero b = elim (same_truth (is_array_name r) b) [ tr
 argument_in (Fixed v ∷ rs) zero b = elim b [ true ↦ None | false ↦ Some (Fixed v) ]
 argument_in (x ∷ rs) (suc k) b = argument_in rs k b
 
+-- the argument of the call at an offset
 abbrev pub argument : Code → ℕ → ℕ → Bool → Option Argument
 argument C at k b = argument_in (arguments (entry C (call_at C at)).act) k b
 
@@ -220,11 +226,13 @@ targets_of n (Wait hs b) = []
 abbrev pub targets : Entry → List Name
 targets e = targets_of e.node e.act
 
+-- the loop that an act is
 abbrev pub loop_of : Act → Option Loop
 loop_of (Range l h s w) = Some w
 loop_of (Each w) = Some w
 loop_of _ = None
 
+-- the variable of a loop's turn, if it has one
 abbrev pub turn_variables : Option ℕ → List Variable
 turn_variables None = []
 turn_variables (Some n) = scalar n ∷ []

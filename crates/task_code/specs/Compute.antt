@@ -25,6 +25,7 @@ pub data EntryFault : Type 0 where
 abbrev pub Elements : Type 0
 Elements = List (Key × Scalar)
 
+-- the same as elements of a map, and back
 abbrev pub elements : Elements → List Element
 elements xs = map (λ (x : Key × Scalar). record { key = x.0; value = x.1 }) xs
 
@@ -42,6 +43,7 @@ key_of v = number_key (number_of (One v))
 abbrev pub key_scalar : Key → Scalar
 key_scalar (number_key z) = Number z
 
+-- the answer to the need of a number
 abbrev pub answer_at : List (Answer Key Scalar) → ℕ → Option (Answer Key Scalar)
 answer_at [] n = None
 answer_at (x ∷ xs) zero = Some x
@@ -74,6 +76,7 @@ pub data Computed : Type 0 where
   Turns : Elements → Computed
   Opens : Computed
 
+-- a scalar to be stored or printed
 abbrev pub given : Result Value OpFault → Computed
 given (Ok v) = Gives (scalar_of v)
 given (Err f) = Fails (InOperation f)
@@ -85,6 +88,7 @@ read (Some (Found v)) = Gives v
 read (Some Missing) = Fails NoElement
 read (Some (Content xs)) = Gives (Number (pos 0))
 
+-- the elements of a literal
 abbrev pub filled : Result Value OpFault → Computed
 filled (Ok v) = Inserts (pairs (elements_of v))
 filled (Err f) = Fails (InOperation f)
@@ -93,6 +97,7 @@ filled (Err f) = Fails (InOperation f)
 abbrev pub listed : Elements → Elements
 listed xs = if in_key_order xs then xs else []
 
+-- the elements of the array that was waited for
 abbrev pub content : Option (Answer Key Scalar) → Elements
 content None = []
 content (Some (Found v)) = []
@@ -105,6 +110,7 @@ put (Err f) right = Fails (InOperation f)
 put (Ok i) (Err f) = Fails (InOperation f)
 put (Ok i) (Ok v) = Inserts ((key_of (scalar_of i), scalar_of v) ∷ [])
 
+-- which branch a condition takes
 abbrev pub branched : Result Value OpFault → Computed
 branched (Ok v) = Takes (truth_of v)
 branched (Err f) = Fails (InOperation f)
@@ -114,6 +120,7 @@ abbrev pub range_turns : ℤ → ℤ → ℕ → ℕ → Elements
 range_turns low step n zero = []
 range_turns low step n (suc c) = (number_key (pos n), Number (value_in low step n)) ∷ range_turns low step (suc n) c
 
+-- the turns of a range, or its fault
 abbrev pub turns_or : Result ℕ OpFault → ℤ → ℤ → Computed
 turns_or (Ok n) low step = Turns (range_turns low step 0 n)
 turns_or (Err f) low step = Fails (InOperation f)

@@ -21,7 +21,7 @@ abbrev pub rests_of : ℕ → ℕ
 rests_of m = (m - 1) / 64
 
 module _ (C : Code) where
-  -- the list has list_all block that is ever opened
+  -- the list has each block that is ever opened
   abbrev pub HasAllBlocks : List (ℕ × List Step) → Type 0
   HasAllBlocks blocks = (n : ℕ) (t : Task) (e : Effect Task Place Key Scalar) (s : ℕ × List Step) → Known (code_system C) n t e → In (block C s) e.opens → In s blocks
 
@@ -29,7 +29,7 @@ module _ (C : Code) where
   abbrev pub turns_at : ℕ → List Step → List (Answer Key Scalar) → ℕ
   turns_at i p xs = length (turns_of (compute (entry C i).act (answered C p (entry C i).needs xs)))
 
-  -- and list_all loop that ever runs, with its Number of turns
+  -- and each loop that ever runs, with its number of turns
   abbrev pub HasAllLoops : List (ℕ × List Step × ℕ) → Type 0
   HasAllLoops loops = (n i c : ℕ) (p : List Step) (r : Outcome Task Place Key Scalar EntryFault) (w : Loop) → loop_of (entry C i).act ≡ Some w → (x : Comes (code_system C) (Known (code_system C) n) (Item i p c) r) → In (i, p, turns_at i p x.answers) loops
 

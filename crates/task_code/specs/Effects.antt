@@ -18,6 +18,7 @@ pub data Task : Type 0 where
 abbrev pub only : Key
 only = number_key (pos 0)
 
+-- in the first chunk alone
 abbrev pub at_first : {X : Type 0} → ℕ → List X → List X
 at_first zero xs = xs
 at_first (suc c) xs = []
@@ -31,84 +32,126 @@ left_at (suc c) xs = left_at c (drop 64 xs)
 abbrev pub chunk : {X : Type 0} → ℕ → List X → List X
 chunk c xs = take 64 (left_at c xs)
 
+-- the list has a member
 abbrev pub is_some_list : {X : Type 0} → List X → Bool
 is_some_list [] = false
 is_some_list (x ∷ xs) = true
 
+-- a loop's turns
 abbrev pub turns_of : Computed → Elements
 turns_of (Turns ts) = ts
 turns_of _ = []
+
+-- the path with one step more
+abbrev pub step_at : ℕ → Key → List Step → List Step
+step_at mark k p = record { offset = mark; key = k } ∷ p
+
+-- the block of an `else`, where there is one
+abbrev pub else_instance : Option ℕ → List Step → List (ℕ × List Step)
+else_instance None q = []
+else_instance (Some b) q = (b, q) ∷ []
+
+-- the block that a condition opens
+abbrev pub branch_instances : Computed → ℕ → Option ℕ → ℕ → List Step → List (ℕ × List Step)
+branch_instances (Takes true) b d mark p = (b, step_at mark (number_key (pos 0)) p) ∷ []
+branch_instances (Takes false) b d mark p = else_instance d (step_at mark (number_key (pos 1)) p)
+branch_instances _ b d mark p = []
+
+-- the blocks of turns
+abbrev pub turn_instances : Loop → ℕ → List Step → Elements → List (ℕ × List Step)
+turn_instances w mark p ts = map (λ (t : Key × Scalar). (w.body, step_at mark t.0 p)) ts
+
+-- the blocks that an entry opens
+abbrev pub instances : Act → ℕ → List Step → ℕ → Computed → List (ℕ × List Step)
+instances (Cell e) mark p c x = []
+instances Read mark p c x = []
+instances (Call b rs) mark p c x = at_first c ((b, step_at mark (number_key (pos 0)) p) ∷ [])
+instances (Set r e) mark p c x = []
+instances (Fill r es) mark p c x = []
+instances (Copy r) mark p c x = []
+instances (Put r i e) mark p c x = []
+instances (Print e) mark p c x = []
+instances (Assert e) mark p c x = []
+instances (If e b d) mark p c x = at_first c (branch_instances x b d mark p)
+instances (Range l h s w) mark p c x = turn_instances w mark p (chunk c (turns_of x))
+instances (Each w) mark p c x = turn_instances w mark p (chunk c (turns_of x))
+instances (Wait hs b) mark p c x = at_first c ((b, p) ∷ [])
+
+-- a loop leaves the rest of its turns to one more item
+abbrev pub rest_if : Bool → ℕ → List Step → ℕ → List (Opening Task Place)
+rest_if true i p c = record { makes = []; tasks = Item i p (suc c) ∷ [] } ∷ []
+rest_if false i p c = []
+
+-- the rest of a loop, where some turns are left
+abbrev pub rest : Option Loop → ℕ → List Step → ℕ → Computed → List (Opening Task Place)
+rest None i p c x = []
+rest (Some w) i p c x = rest_if (is_some_list (left_at (suc c) (turns_of x))) i p c
+
+-- a scalar is stored at a place
+abbrev pub stored_at : Place → Computed → List (Write Place Key Scalar)
+stored_at d (Fails f) = []
+stored_at d (Gives v) = record { place = d; key = only; value = v } ∷ []
+stored_at d (Inserts xs) = []
+stored_at d (Takes b) = []
+stored_at d (Turns ts) = []
+stored_at d Opens = []
+
+-- elements are stored at a place
+abbrev pub inserted_at : Place → Computed → List (Write Place Key Scalar)
+inserted_at d (Fails f) = []
+inserted_at d (Gives v) = []
+inserted_at d (Inserts xs) = map (λ (x : Key × Scalar). record { place = d; key = x.0; value = x.1 }) xs
+inserted_at d (Takes b) = []
+inserted_at d (Turns ts) = []
+inserted_at d Opens = []
+
+-- a turn's variables
+abbrev pub turn_bound : Option ℕ → List Step → Key → List (Write Place Key Scalar)
+turn_bound None q k = []
+turn_bound (Some n) q k = record { place = Datum q (scalar n); key = only; value = key_scalar k } ∷ []
+
+-- the variables of a turn are stored in its block
+abbrev pub bound : Loop → ℕ → List Step → Key × Scalar → List (Write Place Key Scalar)
+bound w mark p t =
+    record { place = Datum (step_at mark t.0 p) (scalar w.value); key = only; value = t.1 } ∷ turn_bound w.turn (step_at mark t.0 p) t.0
+
+-- what an entry prints
+abbrev pub prints : Act → Computed → List Scalar
+prints (Print e) (Gives v) = v ∷ []
+prints _ _ = []
+
+-- whether an entry opens its blocks by a step
+abbrev pub steps_on : Act → Bool
+steps_on (Call b rs) = true
+steps_on (If e b d) = true
+steps_on (Range l h s w) = true
+steps_on (Each w) = true
+steps_on _ = false
+
+-- a path has at most 512 steps
+abbrev pub is_too_deep : Act → List Step → List (ℕ × List Step) → Bool
+is_too_deep a p ss = nat_le 512 (length p) && (steps_on a && is_some_list ss)
+
+-- an effect, or TooDeep in its place
+abbrev pub limited : Bool → Effect Task Place Key Scalar → Outcome Task Place Key Scalar EntryFault
+limited true e = Bad TooDeep
+limited false e = Good e
+
+-- what comes of an item: its own fault first, then TooDeep
+abbrev pub outcome_of : Computed → Bool → Effect Task Place Key Scalar → Outcome Task Place Key Scalar EntryFault
+outcome_of (Fails f) b e = Bad f
+outcome_of (Gives v) b e = limited b e
+outcome_of (Inserts xs) b e = limited b e
+outcome_of (Takes t) b e = limited b e
+outcome_of (Turns ts) b e = limited b e
+outcome_of Opens b e = limited b e
 
 module _ (C : Code) where
   -- a body's block in the instance of a path: its data and its items
   abbrev pub block : ℕ × List Step → Opening Task Place
   block s = record { makes = map (Datum s.1) (body C s.0).makes; tasks = map (λ j. Item j s.1 0) (body C s.0).entries }
 
-  abbrev pub step_at : ℕ → Key → List Step → List Step
-  step_at mark k p = record { offset = mark; key = k } ∷ p
-
-  abbrev pub else_instance : Option ℕ → List Step → List (ℕ × List Step)
-  else_instance None q = []
-  else_instance (Some b) q = (b, q) ∷ []
-
-  abbrev pub branch_instances : Computed → ℕ → Option ℕ → ℕ → List Step → List (ℕ × List Step)
-  branch_instances (Takes true) b d mark p = (b, step_at mark (number_key (pos 0)) p) ∷ []
-  branch_instances (Takes false) b d mark p = else_instance d (step_at mark (number_key (pos 1)) p)
-  branch_instances _ b d mark p = []
-
-  abbrev pub turn_instances : Loop → ℕ → List Step → Elements → List (ℕ × List Step)
-  turn_instances w mark p ts = map (λ (t : Key × Scalar). (w.body, step_at mark t.0 p)) ts
-
-  -- the blocks that an entry opens
-  abbrev pub instances : Act → ℕ → List Step → ℕ → Computed → List (ℕ × List Step)
-  instances (Cell e) mark p c x = []
-  instances Read mark p c x = []
-  instances (Call b rs) mark p c x = at_first c ((b, step_at mark (number_key (pos 0)) p) ∷ [])
-  instances (Set r e) mark p c x = []
-  instances (Fill r es) mark p c x = []
-  instances (Copy r) mark p c x = []
-  instances (Put r i e) mark p c x = []
-  instances (Print e) mark p c x = []
-  instances (Assert e) mark p c x = []
-  instances (If e b d) mark p c x = at_first c (branch_instances x b d mark p)
-  instances (Range l h s w) mark p c x = turn_instances w mark p (chunk c (turns_of x))
-  instances (Each w) mark p c x = turn_instances w mark p (chunk c (turns_of x))
-  instances (Wait hs b) mark p c x = at_first c ((b, p) ∷ [])
-
-  -- a loop leaves the rest of its turns to one more item
-  abbrev pub rest_if : Bool → ℕ → List Step → ℕ → List (Opening Task Place)
-  rest_if true i p c = record { makes = []; tasks = Item i p (suc c) ∷ [] } ∷ []
-  rest_if false i p c = []
-
-  abbrev pub rest : Option Loop → ℕ → List Step → ℕ → Computed → List (Opening Task Place)
-  rest None i p c x = []
-  rest (Some w) i p c x = rest_if (is_some_list (left_at (suc c) (turns_of x))) i p c
-
-  abbrev pub stored_at : Place → Computed → List (Write Place Key Scalar)
-  stored_at d (Fails f) = []
-  stored_at d (Gives v) = record { place = d; key = only; value = v } ∷ []
-  stored_at d (Inserts xs) = []
-  stored_at d (Takes b) = []
-  stored_at d (Turns ts) = []
-  stored_at d Opens = []
-
-  abbrev pub inserted_at : Place → Computed → List (Write Place Key Scalar)
-  inserted_at d (Fails f) = []
-  inserted_at d (Gives v) = []
-  inserted_at d (Inserts xs) = map (λ (x : Key × Scalar). record { place = d; key = x.0; value = x.1 }) xs
-  inserted_at d (Takes b) = []
-  inserted_at d (Turns ts) = []
-  inserted_at d Opens = []
-
-  -- a turn's variables
-  abbrev pub turn_bound : Option ℕ → List Step → Key → List (Write Place Key Scalar)
-  turn_bound None q k = []
-  turn_bound (Some n) q k = record { place = Datum q (scalar n); key = only; value = key_scalar k } ∷ []
-
-  abbrev pub bound : Loop → ℕ → List Step → Key × Scalar → List (Write Place Key Scalar)
-  bound w mark p t =
-      record { place = Datum (step_at mark t.0 p) (scalar w.value); key = only; value = t.1 } ∷ turn_bound w.turn (step_at mark t.0 p) t.0
-
+  -- what an entry stores
   abbrev pub stores : Act → ℕ → ℕ → List Step → ℕ → Computed → List (Write Place Key Scalar)
   stores (Cell e) node mark p c x = stored_at (place_at C p (here (scalar node))) x
   stores Read node mark p c x = stored_at (place_at C p (here (scalar node))) x
@@ -124,22 +167,7 @@ module _ (C : Code) where
   stores (Each w) node mark p c x = flat_map (bound w mark p) (chunk c (turns_of x))
   stores (Wait hs b) node mark p c x = []
 
-  abbrev pub prints : Act → Computed → List Scalar
-  prints (Print e) (Gives v) = v ∷ []
-  prints _ _ = []
-
-  -- whether an entry opens its blocks by a step
-  abbrev pub steps_on : Act → Bool
-  steps_on (Call b rs) = true
-  steps_on (If e b d) = true
-  steps_on (Range l h s w) = true
-  steps_on (Each w) = true
-  steps_on _ = false
-
-  -- a path has at most 512 steps
-  abbrev pub is_too_deep : Act → List Step → List (ℕ × List Step) → Bool
-  is_too_deep a p ss = nat_le 512 (length p) && (steps_on a && is_some_list ss)
-
+  -- the whole effect of an item that computed this
   abbrev pub effect_at : ℕ → List Step → ℕ → Computed → Effect Task Place Key Scalar
   effect_at i p c x =
       let e = entry C i in
@@ -148,15 +176,3 @@ module _ (C : Code) where
         lines = prints e.act x;
         opens = map block (instances e.act e.mark p c x) ++ rest (loop_of e.act) i p c x;
       }
-
-  abbrev pub limited : Bool → Effect Task Place Key Scalar → Outcome Task Place Key Scalar EntryFault
-  limited true e = Bad TooDeep
-  limited false e = Good e
-
-  abbrev pub outcome_of : Computed → Bool → Effect Task Place Key Scalar → Outcome Task Place Key Scalar EntryFault
-  outcome_of (Fails f) b e = Bad f
-  outcome_of (Gives v) b e = limited b e
-  outcome_of (Inserts xs) b e = limited b e
-  outcome_of (Takes t) b e = limited b e
-  outcome_of (Turns ts) b e = limited b e
-  outcome_of Opens b e = limited b e

@@ -6,6 +6,9 @@ pub mod System
 pub mod Shape
 pub mod Whole
 pub mod Check
+pub mod Machine
+pub mod Exact
+pub mod Runs
 pub mod Count
 pub mod Worked
 pub mod View

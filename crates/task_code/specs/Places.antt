@@ -18,12 +18,13 @@ pub data Place : Type 0 where
   Constant : Scalar → Place
   Nowhere : Place
 
--- only scalars have a place that is none
+-- whether a place is an array; what is no datum counts as one, so that each scalar is a datum
 abbrev pub place_array : Place → Bool
 place_array (Datum p v) = v.array
 place_array (Constant v) = true
 place_array Nowhere = true
 
+-- the same path, variable, place and name
 abbrev pub path_eq : List Step → List Step → Bool
 path_eq [] [] = true
 path_eq [] (t ∷ q) = false

@@ -18,6 +18,7 @@ is_plain (Closed r) = true
 is_plain (At a r) = false
 is_plain (AtKey a k) = false
 
+-- the same scalar or array
 abbrev pub is_same_plain : Need → Need → Bool
 is_same_plain (Stored r) (Stored s) = name_eq r s
 is_same_plain (Closed r) (Closed s) = name_eq r s
@@ -34,15 +35,18 @@ abbrev mutual
   are_fed n no_operand = true
   are_fed n (operand e es) = is_fed n e && are_fed n es
 
+-- one element and nothing else
 abbrev pub one_element : List Need → Bool
 one_element (At a r ∷ []) = true
 one_element (AtKey a k ∷ []) = true
 one_element _ = false
 
+-- one array and nothing else
 abbrev pub one_array : List Need → Bool
 one_array (Closed r ∷ []) = true
 one_array _ = false
 
+-- no need at all
 abbrev pub is_none : List Need → Bool
 is_none [] = true
 is_none (n ∷ ns) = false

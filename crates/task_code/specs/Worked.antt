@@ -1,10 +1,12 @@
 -- Worked scripts as code, bad codes, and what items of them do.
 use Rattle.std.specs.Prelude.{◌≡◌, ℕ, true, false, length, [], ◌∷◌, Option, None, Some, pos}
+use Rattle.dataflow.specs.Machine.{Begin, ElementTwice, End, Quiet, Run}
 use Rattle.dataflow.specs.System.{Answer, Bad, Found, Good, Missing, Outcome}
 use Rattle.task_code.specs.Code.{At, AtKey, ByCalls, ByMain, ByStep, ByWait, Call, Cell, Closed, Code, Expr, Fill, Fixed, If, Local, Name, Named, Parameter, Print, Put, Range, Read, Set, Stored, Variable, Wait, constant, here, need, no_operand, operand, operation, scalar}
 use Rattle.task_code.specs.Compute.{EntryFault, InOperation, NoElement, range_turns}
 use Rattle.task_code.specs.Effects.{Item, Task, chunk, only}
 use Rattle.task_code.specs.Places.{Constant, Datum, Place, Step, place_at}
+use Rattle.task_code.specs.Machine.{CodeState, Enabled}
 use Rattle.task_code.specs.System.{code_system}
 use Rattle.values.specs.Operators.{Operation, compare, printf, product_of, size, sum_of}
 use Rattle.values.specs.declared.fault.OpFault.TheVariants.{Overflow}
@@ -32,9 +34,11 @@ parameter up k = record { up = up; owned = Parameter k false }
 abbrev array_parameter : ℕ → ℕ → Name
 array_parameter up k = record { up = up; owned = Parameter k true }
 
+-- an operation on two operands
 abbrev two : Operation → Expr → Expr → Expr
 two o a b = operation o (operand a (operand b no_operand))
 
+-- a number
 abbrev num : ℕ → Expr
 num n = constant (Number (pos n))
 
@@ -301,10 +305,24 @@ scalar_filled =
           ∷ [];
     }
 
+-- printf("hello"); beside int x;, with a right to read x that the entry has no use for
+abbrev pub right_without_use : Code
+right_without_use =
+    let x = scalar 1 in
+    record {
+      entries =
+          record { node = 2; at = 0; mark = 0; priority = pos 0; needs = []; act = Print (operation (printf (Byte 104 ∷ [])) no_operand); reads = here x ∷ []; writes = [] }
+          ∷ [];
+      bodies =
+          record { opener = ByMain; makes = x ∷ []; entries = 0 ∷ [] }
+          ∷ [];
+    }
+
 -- what items of these codes do
 abbrev pub step : ℕ → ℕ → Step
 step at k = record { offset = at; key = number_key (pos k) }
 
+-- the answer that a scalar is
 abbrev pub gives : ℕ → Answer Key Scalar
 gives n = Found (Number (pos n))
 
@@ -324,6 +342,7 @@ PrintsHello = (code_system hello).effect (Item 0 [] 0) [] ≡ Good (record { wri
 abbrev pub LacksElement : Type 0
 LacksElement = (code_system key_written_twice).effect (Item 2 [] 0) (Missing ∷ []) ≡ Bad NoElement
 
+-- how many blocks are opened
 abbrev pub opened_by : Outcome Task Place Key Scalar EntryFault → Option ℕ
 opened_by (Bad f) = None
 opened_by (Good e) = Some (length e.opens)
@@ -357,3 +376,28 @@ Chunks =
     (length (chunk 0 (range_turns (pos 1) (pos 1) 0 65)) ≡ 64)
     × (length (chunk 1 (range_turns (pos 1) (pos 1) 0 65)) ≡ 1)
     × (length (chunk 2 (range_turns (pos 1) (pos 1) 0 65)) ≡ 0)
+
+-- worker 0 begins and ends the item that opens the script, worker 1 the one that prints: then the code is quiet, and the line is there
+abbrev pub HelloRuns : Type 0
+HelloRuns =
+    (s : CodeState)
+    × Run (code_system hello) (Begin 0 1 ∷ End 0 1 ∷ Begin 1 2 ∷ End 1 2 ∷ []) s
+    × Quiet (code_system hello) s
+    × (s.lines ≡ Text (104 ∷ 101 ∷ 108 ∷ 108 ∷ 111 ∷ []) ∷ [])
+
+-- x = y + 1 is not enabled when the script has been opened; once y = 2 has ended it is, and 3 is printed
+abbrev pub WaitsForAssignment : Type 0
+WaitsForAssignment =
+    (opened : CodeState)
+    × Run (code_system used_before_assigned) (Begin 0 1 ∷ End 0 1 ∷ []) opened
+    × (Enabled used_before_assigned opened (Item 0 [] 0) → ⊥)
+    × ((s : CodeState)
+    × Run (code_system used_before_assigned) (Begin 0 1 ∷ End 0 1 ∷ Begin 1 3 ∷ End 1 3 ∷ Begin 1 2 ∷ End 1 2 ∷ Begin 1 4 ∷ End 1 4 ∷ []) s
+    × Quiet (code_system used_before_assigned) s
+    × (s.lines ≡ Text (51 ∷ []) ∷ []))
+
+-- of two writes of one key the second is a fault, whichever item comes first
+abbrev pub SecondWriteFaults : Type 0
+SecondWriteFaults =
+    ((s : CodeState) × Run (code_system key_written_twice) (Begin 0 1 ∷ End 0 1 ∷ Begin 1 2 ∷ End 1 2 ∷ Begin 1 3 ∷ End 1 3 ∷ []) s × (s.fault ≡ Some (Item 1 [] 0, ElementTwice)))
+    × ((s : CodeState) × Run (code_system key_written_twice) (Begin 0 1 ∷ End 0 1 ∷ Begin 1 3 ∷ End 1 3 ∷ Begin 1 2 ∷ End 1 2 ∷ []) s × (s.fault ≡ Some (Item 0 [] 0, ElementTwice)))

@@ -1,10 +1,11 @@
 -- Lists of entries in order, round an entry k.
-use Rattle.std.proofs.Common.{◌≡◌, Bool, true, false, cond, ◌||◌, List, [], ◌∷◌, ◌++◌, refl, sym, ◌∙◌, ap, subst, append_assoc, arith, rules, length, length-append, ◌<◌, ◌+◌, ◌↔◌, IsTrue, Contains, ℕ, zero, suc, slice_index_or}
+use Rattle.std.proofs.Common.{◌≡◌, Bool, true, false, cond, ◌||◌, List, [], ◌∷◌, ◌++◌, refl, sym, ◌∙◌, ap, subst, arith, length, length-append, ◌<◌, ◌+◌, ◌↔◌, IsTrue, Contains, IfSome, ℕ, zero, suc, slice_index_or}
 use Rattle.std.specs.List.{AllByRecursion}
+use Rattle.std.proofs.lemmas.List.Elements.{All-cons, All-from_recursion}
 use Rattle.work_queue.specs.declared.entry.Entry.{Entry}
 use Rattle.work_queue.specs.Order.{precedes, same}
-use Rattle.work_queue.specs.Entries.{IsFirst, IsInOrder, inserted, erased, holds}
-use Rattle.work_queue.proofs.OrderLaws.{precedes_order, equal_same, same_itself, same_precedes, same_follows, same_behind, same_ahead, tied_same, true_false}
+use Rattle.work_queue.specs.Entries.{IsFirst, IsInOrder, IsForemost, ComesNoLater, inserted, erased, holds, first_of}
+use Rattle.work_queue.proofs.OrderLaws.{precedes_order, equal_same, same_itself, same_precedes, same_follows, same_behind, same_ahead, tied_same, true_false, no_later, precedes_itself}
 
 all_front : (P : Entry → Type 0) (l m : List Entry) → AllByRecursion P (l ++ m) → AllByRecursion P l
 all_front P [] m a = tt
@@ -177,3 +178,13 @@ there_holds x (y ∷ ys) (suc k) lt is = rw (there_holds x ys k (omega arith) is
 -- the test answers whether the entry is among them
 pub holds_exactly : (x : Entry) (ys : List Entry) → IsTrue (holds x ys) ↔ Contains ys x
 holds_exactly x ys = (λ h. holds_there x ys h, λ p. there_holds x ys p.0 p.1 p.2)
+
+all_no_later : (x : Entry) (ys : List Entry) → IsFirst x ys → AllByRecursion (ComesNoLater x) ys
+all_no_later x [] f = tt
+all_no_later x (y ∷ ys) f = (no_later x y f.0, all_no_later x ys f.1)
+
+-- the first of entries in order is the foremost
+pub first_foremost : (xs : List Entry) → IsInOrder xs → IfSome (first_of xs) (λ x. IsForemost x xs)
+first_foremost [] s = tt
+first_foremost (x ∷ xs) s =
+    ((0, omega arith, refl), All-cons (ComesNoLater x) x xs (no_later x x (precedes_itself x)) (All-from_recursion (ComesNoLater x) xs (all_no_later x xs s.0)))

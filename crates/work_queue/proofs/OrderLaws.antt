@@ -1,13 +1,14 @@
 -- Entries are ordered totally, and those that the order does not tell apart are equal.
-use Rattle.std.proofs.Common.{◌≡◌, Bool, true, false, sym, ◌∙◌, ap, refl, rules, arith}
-use Rattle.std.specs.Cmp.{IsTotalOrder, IsStrictWeakOrder}
+use Rattle.std.proofs.Common.{◌≡◌, true, false, sym, ◌∙◌, ap, refl, rules, arith, ℕ, ◌≤◌, ◌<ℤ◌, inl, inr}
+use Rattle.std.specs.Cmp.{IsTotalOrder, IsStrictWeakOrder, int_ranks, tied_itself}
 use Rattle.std.specs.Cmp.Rules.{comparing}
 use Rattle.std.specs.declared.cmp.Ordering.{Ordering}
 use Rattle.std.specs.declared.cmp.Ordering.TheVariants.{Less, Equal, Greater}
-use Rattle.std.specs.Ordering.{is_lt, is_eq, ordering_reverse}
+use Rattle.std.specs.Ordering.{is_lt, is_eq, ordering_reverse, ordering_then, nat_cmp, int_cmp, MatchOrdering}
 use Rattle.std.proofs.lemmas.List.Sorted.{ranks_by}
 use Rattle.work_queue.specs.declared.entry.Entry.{Entry}
 use Rattle.work_queue.specs.Order.{order, precedes, same}
+use Rattle.work_queue.specs.Entries.{ComesNoLater}
 
 pub order_total : IsTotalOrder order
 order_total = search (comparing, rules)
@@ -20,6 +21,9 @@ equal_same x y h = search (comparing, rules)
 
 pub same_itself : (x : Entry) → same x x ≡ true
 same_itself x = search (comparing, rules)
+
+pub precedes_itself : (x : Entry) → precedes x x ≡ false
+precedes_itself x = ap is_lt (tied_itself order_total x)
 
 -- an entry that is taken before x is none that is not taken before x
 pub same_precedes : (x y : Entry) → precedes x y ≡ true → same x y ≡ false
@@ -56,3 +60,15 @@ tied_same x y h q =
       | Equal ↦ λ e. equal_is_same x y e
       | Greater ↦ λ e. absurd (true_false (sym (greater_follows x y e) ∙ q))
     ] refl
+
+not_less : (m n : ℕ) → is_lt (nat_cmp m n) ≡ false → n ≤ m
+not_less m n h = grind arith
+
+by_rank : (x y : Entry) (o : Ordering) → MatchOrdering o (x.priority <ℤ y.priority) (x.priority ≡ y.priority) (y.priority <ℤ x.priority) → is_lt (ordering_then o (nat_cmp y.no x.no)) ≡ false → ComesNoLater x y
+by_rank x y Less r h = absurd (true_false h)
+by_rank x y Equal r h = inr (r, not_less y.no x.no h)
+by_rank x y Greater r h = inl r
+
+-- what the test of the order says of two entries, in plain words
+pub no_later : (x y : Entry) → precedes y x ≡ false → ComesNoLater x y
+no_later x y h = by_rank x y (int_cmp x.priority y.priority) (int_ranks x.priority y.priority) h

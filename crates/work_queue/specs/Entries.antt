@@ -1,5 +1,5 @@
 -- Lists of entries as they are taken.
-use Rattle.std.specs.Prelude.{◌≡◌, ◌≤◌, ◌<ℤ◌, ◌⊎◌, All, Contains, ℕ, ℤ, Bool, true, false, cond, Option, Some, None, ◌||◌, List, [], ◌∷◌}
+use Rattle.std.specs.Prelude.{◌≡◌, ◌≤◌, ◌<ℤ◌, ◌⊎◌, All, Contains, ℕ, ℤ, Bool, false, cond, Option, Some, None, ◌||◌, List, [], ◌∷◌}
 use Rattle.std.specs.List.{AllByRecursion}
 use Rattle.std.specs.List.Sorted.{IsSortedByKey}
 use Rattle.work_queue.specs.declared.entry.Entry.{Entry}
@@ -35,7 +35,7 @@ abbrev pub first_of : List Entry → Option Entry
 first_of [] = None
 first_of (x ∷ xs) = Some x
 
--- an entry of a kind as a list of both kinds shows it
+-- the item of a list of both kinds that stands for an entry of this kind
 abbrev pub listed : Kind → Entry → Kind × ℤ × ℕ
 listed kind e = (kind, e.priority, e.no)
 
@@ -43,19 +43,23 @@ listed kind e = (kind, e.priority, e.no)
 abbrev pub ComesNoLater : Entry → Entry → Type 0
 ComesNoLater x y = (y.priority <ℤ x.priority) ⊎ ((x.priority ≡ y.priority) × (x.no ≤ y.no))
 
--- one of the entries has this number, and is taken no later than each of them
+-- x is one of the entries, and is taken no later than each of them
+abbrev pub IsForemost : Entry → List Entry → Type 0
+IsForemost x xs = Contains xs x × All (ComesNoLater x) xs
+
+-- an entry of this number is the foremost
 abbrev pub IsTakenFirst : ℕ → List Entry → Type 0
-IsTakenFirst n xs = (x : Entry) × (x.no ≡ n) × Contains xs x × All (ComesNoLater x) xs
+IsTakenFirst n xs = (x : Entry) × (x.no ≡ n) × IsForemost x xs
 
 -- the number of the entry that is taken first
 abbrev pub first_number : List Entry → Option ℕ
 first_number [] = None
 first_number (x ∷ xs) = Some x.no
 
--- an entry as a list of both kinds shows it
+-- the entry that an item of a list of both kinds stands for
 abbrev pub entry_of : Kind × ℤ × ℕ → Entry
 entry_of l = record { priority = l.1; no = l.2 }
 
--- each item of the list is taken no later than those behind it, whatever their kinds
+-- no item of the list is taken before the one in front of it, whatever their kinds
 abbrev pub IsListedInOrder : List (Kind × ℤ × ℕ) → Type 0
 IsListedInOrder ls = IsSortedByKey entry_of order ls

@@ -1,5 +1,5 @@
 -- The order in which entries are taken.
-use Rattle.std.specs.Prelude.{◌≡◌, Bool}
+use Rattle.std.specs.Prelude.{Bool}
 use Rattle.std.specs.declared.cmp.Ordering.{Ordering}
 use Rattle.std.specs.Ordering.{nat_cmp, int_cmp, on, flip_args, then_cmp, is_lt, is_eq}
 use Rattle.work_queue.specs.declared.entry.Entry.{Entry}

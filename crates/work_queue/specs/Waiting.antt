@@ -12,7 +12,7 @@ pub record Waiting : Type 0 where
 abbrev pub none : Waiting
 none = record { entries = []; room = 0 }
 
--- one more entry, which takes one place of the room
+-- one more entry, which uses up one place of the room, if there is one
 abbrev pub with_put : Entry → Waiting → Waiting
 with_put x w = record { entries = inserted x w.entries; room = w.room - 1 }
 
@@ -25,7 +25,7 @@ abbrev pub behind_first : List Entry → ℕ → Waiting
 behind_first [] room = record { entries = []; room = room }
 behind_first (x ∷ xs) room = record { entries = xs; room = room + 1 }
 
--- all but the first, and room for one more
+-- all but the first, and room for one more; the same where none wait
 abbrev pub without_first : Waiting → Waiting
 without_first w = behind_first w.entries w.room
 
@@ -33,7 +33,7 @@ without_first w = behind_first w.entries w.room
 abbrev pub without : Entry → Waiting → Waiting
 without x w = record { entries = erased x w.entries; room = w.room + 1 }
 
--- the entries are in order, their number is known, and the nodes laid by and those in use fit the place for nodes
+-- the entries are in order and counted, and the place for spare nodes has room for those in use too
 pub record IsKept (entries : List Entry) (len spare capacity : ℕ) : Type 0 where
   pub in_order : IsInOrder entries
   pub counted : len ≡ length entries

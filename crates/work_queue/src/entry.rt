@@ -3,9 +3,8 @@ ghost use Rattle.std.specs.Prelude.{◌≡◌};
 ghost use Rattle.std.proofs.Common.{rules};
 ghost use Rattle.std.specs.Cmp.{partial_order_from_own_ties};
 ghost use Rattle.std.specs.Cmp.Rules.{comparing};
-ghost use Rattle.std.specs.Ordering.{nat_cmp, int_cmp, on, flip_args, then_cmp, as_partial_cmp};
-
-ghost use Rattle.work_queue.specs.Order.{precedes};
+ghost use Rattle.std.specs.Ordering.{as_partial_cmp};
+ghost use Rattle.work_queue.specs.Order.{order, precedes};
 
 use std::cmp::Ordering;
 
@@ -25,7 +24,7 @@ pub struct Entry {
 
 /// The entry that is taken first is the least.
 impl Ord for Entry {
-    ghost cmp = { then_cmp (flip_args (on (λ e. e.priority) int_cmp)) (on (λ e. e.no) nat_cmp) };
+    ghost cmp = { order };
 
     ghost total = { Prim.search (comparing, rules) };
 
@@ -34,12 +33,15 @@ impl Ord for Entry {
     ghost matches_eq = { Prim.search (comparing, rules) };
 
     fn cmp(&self, other: &Entry) -> Ordering {
-        other.priority.cmp(&self.priority).then(self.no.cmp(&other.no))
+        other
+            .priority
+            .cmp(&self.priority)
+            .then(self.no.cmp(&other.no))
     }
 }
 
 impl PartialOrd for Entry {
-    ghost partial_cmp = { as_partial_cmp (then_cmp (flip_args (on (λ e. e.priority) int_cmp)) (on (λ e. e.no) nat_cmp)) };
+    ghost partial_cmp = { as_partial_cmp order };
 
     ghost laws = { partial_order_from_own_ties (Prim.search (comparing, rules)) (Prim.search (comparing, rules)) };
 

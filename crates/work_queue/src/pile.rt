@@ -1,7 +1,7 @@
 //! The entries of one kind, with nodes laid by for further ones.
-ghost use Rattle.std.specs.Prelude.{◌≡◌, ◌+◌, ◌<◌, ◌≤◌, ◌++◌, ◌↔◌, map, Contains, OnOk, OnErr, IsOk, IsTrue};
+ghost use Rattle.std.specs.Prelude.{◌≡◌, ◌+◌, ◌<◌, ◌≤◌, ◌++◌, ◌↔◌, map, Contains, OnOk, OnErr, IfSome, IfOk, IsOk, IsTrue};
 ghost use Rattle.std.specs.Bool.{OnTrue, OnFalse};
-ghost use Rattle.work_queue.specs.Entries.{first_of, listed};
+ghost use Rattle.work_queue.specs.Entries.{IsForemost, first_of, listed};
 ghost use Rattle.work_queue.specs.Waiting.{none, with_put, with_room, without_first, without};
 
 use crate::entry::{Entry, Kind};
@@ -9,11 +9,16 @@ use crate::tree::{Node, Tree};
 use std::alloc::{AllocError, Global};
 use std::marker::Model;
 
+// What a node holds that stands nowhere. It means nothing.
+const NOTHING: Entry = Entry { priority: 0, no: 0 };
+
+/// The entries that wait, and nodes that stand nowhere. A node that is laid by is one more entry that
+/// needs no memory, and an entry that leaves lays its node by.
 #[derive(Drop)]
 pub struct Pile {
     tree: Tree,
     len: usize,
-    // The place for these is never less than for all nodes, so that each finds its way back.
+    // Has place for all nodes there are, so that each can be laid by without asking for memory.
     spare: Vec<Box<Node>>,
 }
 
@@ -45,10 +50,8 @@ impl Pile {
         ensures ok { OnOk result (self.new ≡ record self.old { room = self.old.room + 1 }) }
         ensures err { OnErr result (self.new ≡ self.old) }
     {
-        let alloc = self.allocator();
-        let wanted = self.len.checked_add(1).ok_or(AllocError)?;
-        self.spare.reserve(wanted)?;
-        let node = Box::new(alloc, Node::blank())?;
+        self.spare.reserve(self.len + 1)?;
+        let node = Box::new(*self.spare.allocator(), Node::single(NOTHING))?;
         self.spare.push_reserved(node);
         Ok(())
     }
@@ -84,7 +87,8 @@ impl Pile {
     }
 
     pub fn first(&self) -> Option<Entry>
-        ensures { result ≡ first_of self.now.entries }
+        ensures first { result ≡ first_of self.now.entries }
+        ensures foremost { IfSome result (λ e. IsForemost e self.now.entries) }
     {
         self.tree.first()
     }
@@ -96,12 +100,18 @@ impl Pile {
         self.tree.append_to(kind, list)
     }
 
-    pub fn allocator(&self) -> Global {
-        *self.spare.allocator()
+    /// A list of all, in order.
+    pub fn list(&self, kind: Kind) -> Result<Vec<(Kind, i32, u64)>, AllocError>
+        ensures { IfOk result (λ list. list.items ≡ map (listed kind) self.now.entries) }
+    {
+        let mut list = Vec::new(*self.spare.allocator());
+        self.append_to(kind, &mut list)?;
+        Ok(list)
     }
 
     pub fn take(&mut self) -> Option<Entry>
         ensures first { result ≡ first_of self.old.entries }
+        ensures foremost { IfSome result (λ e. IsForemost e self.old.entries) }
         ensures rest { self.new ≡ without_first self.old }
     {
         let node = self.tree.take_first()?;

@@ -1,7 +1,7 @@
 //! A queue of the items that wait for a worker.
 ghost use Rattle.std.specs.Prelude.{◌≡◌, ◌<◌, ◌≤◌, ◌↔◌, ◌++◌, map, OnOk, OnErr, IfOk, IfSome, IsOk, IsTrue, Contains, IsPermutation};
 ghost use Rattle.std.specs.Bool.{OnTrue, OnFalse};
-ghost use Rattle.work_queue.specs.Entries.{IsInOrder, IsTakenFirst, IsListedInOrder, first_number, listed};
+ghost use Rattle.work_queue.specs.Entries.{IsTakenFirst, IsListedInOrder, first_number, listed};
 ghost use Rattle.work_queue.specs.Waiting.{with_put, with_room, without_first, without};
 ghost use Rattle.work_queue.specs.Both.{of, with_changed, empty};
 
@@ -10,7 +10,13 @@ use crate::pile::Pile;
 use std::alloc::{AllocError, Global};
 use std::marker::Model;
 
-/// The items of each kind that wait, by their priorities and numbers.
+/// The items of each kind that wait for a worker, by their priorities and numbers. The priority is the
+/// one that `@prio` gives a call in the Swift/T Guide: the greater is taken first. Control and leaf
+/// items are those of the SC14 paper on compiling Swift/T.
+///
+/// Contracts see, for each kind, the entries in the order in which they are taken, and the `room`: so
+/// many further calls of `put` need no memory. `take` and `remove` each give back room for one.
+/// Only `put`, `reserve` and `list` ask for memory, and a call that is refused it changes nothing.
 #[derive(Drop)]
 pub struct Queue {
     control: Pile,
@@ -26,7 +32,7 @@ impl Model for Queue {
 }
 
 impl Queue {
-    /// Takes no memory.
+    /// A queue in which nothing waits. Takes no memory.
     pub fn new(alloc: Global) -> Queue
         ensures { result ≡ empty }
     {
@@ -36,16 +42,11 @@ impl Queue {
         }
     }
 
-    fn pile(&self, kind: Kind) -> &Pile
-        ensures { result.now ≡ of kind self.now }
-    {
-        match kind {
-            Kind::Control => &self.control,
-            Kind::Leaf => &self.leaf,
-        }
-    }
-
-    /// Adds an item, whose number the caller has not put in yet.
+    /// Adds an item. One that is there already stands twice from then on.
+    ///
+    /// # Errors
+    ///
+    /// `AllocError` where there was no room and memory is refused.
     pub fn put(&mut self, kind: Kind, priority: i32, no: u64) -> Result<(), AllocError>
         ensures ok { OnOk result (self.new ≡ with_changed kind (with_put (record { priority = priority; no = no })) self.old) }
         ensures succeeds { 0 < (of kind self.old).room → IsOk result }
@@ -60,7 +61,8 @@ impl Queue {
 
     /// The number that `take` would give. Takes no memory.
     pub fn first(&self, kind: Kind) -> Option<u64>
-        ensures { result ≡ first_number (of kind self.now).entries }
+        ensures first { result ≡ first_number (of kind self.now).entries }
+        ensures foremost { IfSome result (λ no. IsTakenFirst no (of kind self.now).entries) }
     {
         let entry = match kind {
             Kind::Control => self.control.first(),
@@ -73,6 +75,7 @@ impl Queue {
     /// Takes no memory.
     pub fn take(&mut self, kind: Kind) -> Option<u64>
         ensures first { result ≡ first_number (of kind self.old).entries }
+        ensures foremost { IfSome result (λ no. IsTakenFirst no (of kind self.old).entries) }
         ensures rest { self.new ≡ with_changed kind without_first self.old }
     {
         let entry = match kind {
@@ -96,6 +99,10 @@ impl Queue {
     }
 
     /// Makes the next `n` calls of `put` of the kind succeed.
+    ///
+    /// # Errors
+    ///
+    /// `AllocError` where there was less room and memory is refused.
     pub fn reserve(&mut self, kind: Kind, n: usize) -> Result<(), AllocError>
         ensures ok { OnOk result (self.new ≡ with_changed kind (with_room n) self.old) }
         ensures succeeds { n ≤ (of kind self.old).room → IsOk result }
@@ -108,12 +115,15 @@ impl Queue {
     }
 
     /// All items of both kinds, the greatest priority first, and at one priority the smallest number.
+    ///
+    /// # Errors
+    ///
+    /// `AllocError` where memory is refused.
     pub fn list(&self) -> Result<Vec<(Kind, i32, u64)>, AllocError>
         ensures all { IfOk result (λ v. IsPermutation (map (listed Kind.Control) self.now.control.entries ++ map (listed Kind.Leaf) self.now.leaf.entries) v.items) }
         ensures in_order { IfOk result (λ v. IsListedInOrder v.items) }
     {
-        let mut list = Vec::new(self.control.allocator());
-        self.control.append_to(Kind::Control, &mut list)?;
+        let mut list = self.control.list(Kind::Control)?;
         self.leaf.append_to(Kind::Leaf, &mut list)?;
         list.sort_by_key(|&(_, priority, no)| Entry { priority, no })?;
         Ok(list)
@@ -191,6 +201,36 @@ mod tests {
             }
             assert_eq!(rt; queue.take(Kind::Leaf), None);
         }
+        Ok(())
+    }
+
+    // Also run with each request for memory refused in turn: what is refused changes nothing, and the
+    // same call succeeds once memory is there again.
+    #[test]
+    fn refused_calls_change_nothing(rt: HostRuntime) -> Result<(), Fail> {
+        let mut queue = Queue::new(rt.alloc());
+        for no in 1..6u64 {
+            let before = queue.first(Kind::Control);
+            if queue.put(Kind::Control, no as i32, no).is_err() {
+                assert_eq!(rt; queue.first(Kind::Control), before);
+                assert!(rt; !queue.remove(Kind::Control, no as i32, no));
+                queue.put(Kind::Control, no as i32, no)?;
+            }
+            assert_eq!(rt; queue.first(Kind::Control), Some(no));
+        }
+        if queue.reserve(Kind::Leaf, 3).is_err() {
+            assert_eq!(rt; queue.first(Kind::Leaf), None);
+            queue.reserve(Kind::Leaf, 3)?;
+        }
+        let list = match queue.list() {
+            Ok(list) => list,
+            Err(_) => queue.list()?,
+        };
+        assert_eq!(rt; list.len(), 5);
+        for no in 1..6u64 {
+            assert_eq!(rt; queue.take(Kind::Control), Some(6 - no));
+        }
+        assert_eq!(rt; queue.take(Kind::Control), None);
         Ok(())
     }
 }

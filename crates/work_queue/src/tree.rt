@@ -25,10 +25,12 @@ pub enum Top {
 #[cycle(tree)]
 #[derive(Drop)]
 pub struct Node {
-    left: Tree,
     pub entry: Entry,
-    height: u8,
+    left: Tree,
     right: Tree,
+    // Kept here, so that no side is read but for a change in it.
+    left_height: u8,
+    right_height: u8,
 }
 
 impl Model for Tree {
@@ -111,8 +113,10 @@ impl Tree {
             Top::Fork(mut node) => {
                 if entry.precedes(&node.entry) {
                     node.left.put(entry, spare);
+                    node.left_height = node.left.height();
                 } else {
                     node.right.put(entry, spare);
+                    node.right_height = node.right.height();
                 }
                 *self = Tree::of(balanced(node));
             }
@@ -131,6 +135,7 @@ impl Tree {
                     Some(node)
                 }
                 Some(first) => {
+                    node.left_height = node.left.height();
                     *self = Tree::of(balanced(node));
                     Some(first)
                 }
@@ -149,11 +154,13 @@ impl Tree {
             Top::Fork(mut node) => match entry.cmp(&node.entry) {
                 Ordering::Less => {
                     let found = node.left.remove(entry);
+                    node.left_height = node.left.height();
                     *self = Tree::of(balanced(node));
                     found
                 }
                 Ordering::Greater => {
                     let found = node.right.remove(entry);
+                    node.right_height = node.right.height();
                     *self = Tree::of(balanced(node));
                     found
                 }
@@ -170,34 +177,27 @@ impl Tree {
     fn height(&self) -> u8 {
         match &self.top {
             Top::Leaf => 0,
-            Top::Fork(node) => node.height,
+            Top::Fork(node) => node.height(),
         }
     }
 }
 
 impl Node {
-    /// A node that stands nowhere, whose entry means nothing.
-    pub fn blank() -> Node {
-        Node::single(Entry { priority: 0, no: 0 })
-    }
-
-    fn single(entry: Entry) -> Node
+    /// A node with nothing below it.
+    pub fn single(entry: Entry) -> Node
         ensures { of_node result ≡ entry ∷ [] }
     {
         Node {
-            left: Tree::new(),
             entry,
-            height: 1,
+            left: Tree::new(),
             right: Tree::new(),
+            left_height: 0,
+            right_height: 0,
         }
     }
 
-    /// Sets the height from those of the sides.
-    fn measure(&mut self)
-        ensures { of_node self.new ≡ of_node self.old }
-    {
-        let below = self.left.height().max(self.right.height());
-        self.height = below.saturating_add(1);
+    fn height(&self) -> u8 {
+        self.left_height.max(self.right_height).saturating_add(1)
     }
 }
 
@@ -209,9 +209,9 @@ fn turned_right(mut node: Box<Node>) -> Box<Node>
         Top::Leaf => node,
         Top::Fork(mut top) => {
             node.left = mem::replace(&mut top.right, Tree::new());
-            node.measure();
+            node.left_height = top.right_height;
+            top.right_height = node.height();
             top.right = Tree::of(node);
-            top.measure();
             top
         }
     }
@@ -225,9 +225,9 @@ fn turned_left(mut node: Box<Node>) -> Box<Node>
         Top::Leaf => node,
         Top::Fork(mut top) => {
             node.right = mem::replace(&mut top.left, Tree::new());
-            node.measure();
+            node.right_height = top.left_height;
+            top.left_height = node.height();
             top.left = Tree::of(node);
-            top.measure();
             top
         }
     }
@@ -240,7 +240,7 @@ fn mended_left(mut node: Box<Node>) -> Box<Node>
     match node.left.take() {
         Top::Leaf => node,
         Top::Fork(side) => {
-            let is_bent = side.left.height() < side.right.height();
+            let is_bent = side.left_height < side.right_height;
             node.left = Tree::of(if is_bent { turned_left(side) } else { side });
             turned_right(node)
         }
@@ -254,7 +254,7 @@ fn mended_right(mut node: Box<Node>) -> Box<Node>
     match node.right.take() {
         Top::Leaf => node,
         Top::Fork(side) => {
-            let is_bent = side.right.height() < side.left.height();
+            let is_bent = side.right_height < side.left_height;
             node.right = Tree::of(if is_bent { turned_right(side) } else { side });
             turned_left(node)
         }
@@ -262,16 +262,14 @@ fn mended_right(mut node: Box<Node>) -> Box<Node>
 }
 
 // Makes the heights of the sides differ by one at most, where they differ by two at most.
-fn balanced(mut node: Box<Node>) -> Box<Node>
+fn balanced(node: Box<Node>) -> Box<Node>
     ensures { of_node result.value ≡ of_node node.value }
 {
-    let (left, right) = (node.left.height(), node.right.height());
-    if right.saturating_add(1) < left {
+    if node.right_height.saturating_add(1) < node.left_height {
         mended_left(node)
-    } else if left.saturating_add(1) < right {
+    } else if node.left_height.saturating_add(1) < node.right_height {
         mended_right(node)
     } else {
-        node.measure();
         node
     }
 }
@@ -283,7 +281,9 @@ fn joined(left: Tree, mut right: Tree) -> Tree
     match right.take_first() {
         None => left,
         Some(mut top) => {
+            top.left_height = left.height();
             top.left = left;
+            top.right_height = right.height();
             top.right = right;
             Tree::of(balanced(top))
         }

@@ -1,10 +1,14 @@
 use Rattle.std.specs.Prelude.{refl}
 use Rattle.task_code.specs.Worked.{hello, used_before_assigned, filled_by_loop, key_written_twice, fibonacci, filled_by_call}
 use Rattle.task_code.proofs.Checked.{code_checked}
+use Rattle.task_code.proofs.Decided.{whole_checked}
 use Rattle.task_code.proofs.whole_code.Goals as goal
 
 pub returns-clause-tested : goal.returns-clause-tested
 returns-clause-tested g = λ C h. code_checked C h
+
+pub returns-clause-passes : goal.returns-clause-passes
+returns-clause-passes g = λ C I. whole_checked C I
 
 pub returns-clause-hello : goal.returns-clause-hello
 returns-clause-hello g = code_checked hello refl

@@ -1,4 +1,4 @@
-use Rattle.std.proofs.Common.{◌≤◌, ◌<◌}
+use Rattle.std.proofs.Common.{◌<◌}
 use Rattle.pool.specs.Seats.{IsSeatOf}
 use Rattle.pool.proofs.tests.fill.Given as goal
 

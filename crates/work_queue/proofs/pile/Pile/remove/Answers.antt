@@ -1,4 +1,4 @@
-use Rattle.std.proofs.Common.{arith, ◌≡◌, true, false, sym, ◌∙◌, refl}
+use Rattle.std.proofs.Common.{arith, ◌≡◌, true, false, sym}
 use Rattle.work_queue.specs.Entries.{holds}
 use Rattle.work_queue.proofs.InOrder.{in_order_erased, length_erased, erased_absent, holds_exactly}
 use Rattle.work_queue.proofs.pile.Pile.remove.Goals as goal

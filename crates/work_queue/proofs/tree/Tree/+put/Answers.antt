@@ -1,6 +1,5 @@
-use Rattle.std.proofs.Common.{arith, ◌≡◌, ◌∷◌, ◌++◌, true, false, sym, ◌∙◌, ◌<◌, length}
+use Rattle.std.proofs.Common.{arith, ◌≡◌, true, false, sym, ◌∙◌}
 use Rattle.work_queue.specs.Order.{precedes}
-use Rattle.work_queue.specs.Entries.{IsInOrder, inserted}
 use Rattle.work_queue.proofs.InOrder.{in_order_left, in_order_right, inserted_left, inserted_right, left_shorter, right_shorter}
 use Rattle.work_queue.proofs.tree.Tree.+put.Goals as goal
 use Rattle.work_queue.proofs.tree.Tree.+put.Goals.{then-precedes, else-precedes}
@@ -22,9 +21,9 @@ returns-after-precedes t c =
       | then-precedes w ↦
           let before : precedes c.args.entry c.in-Fork.node.value.entry ≡ true = rw (← c.deref.ensures) (sym c.precedes.ensures ∙ w.if-precedes.true) in
           let e = inserted_left c.args.entry c.in-Fork.node.value.left c.in-Fork.node.value.entry c.in-Fork.node.value.right before in
-          rw c.of-in-Fork.ensures (rw c.balanced.ensures (rw w.node-is (rw w.put.ensures (rw w.deref_mut-then-precedes.ensures.value (rw (← c.in-Fork.ensures.top) (sym e))))))
+          rw c.of-in-Fork.ensures (rw c.balanced.ensures (rw w.node-is (rw w.deref_mut-then-precedes-2.ensures.value (rw w.put.ensures (rw w.deref_mut-then-precedes.ensures.value (rw (← c.in-Fork.ensures.top) (sym e)))))))
       | else-precedes w ↦
           let before : precedes c.args.entry c.in-Fork.node.value.entry ≡ false = rw (← c.deref.ensures) (sym c.precedes.ensures ∙ w.if-precedes.false) in
           let e = inserted_right c.args.entry c.in-Fork.node.value.left c.in-Fork.node.value.entry c.in-Fork.node.value.right before s in
-          rw c.of-in-Fork.ensures (rw c.balanced.ensures (rw w.node-is (rw w.put-else-precedes.ensures (rw w.deref_mut-else-precedes.ensures.value (rw (← c.in-Fork.ensures.top) (sym e))))))
+          rw c.of-in-Fork.ensures (rw c.balanced.ensures (rw w.node-is (rw w.deref_mut-else-precedes-2.ensures.value (rw w.put-else-precedes.ensures (rw w.deref_mut-else-precedes.ensures.value (rw (← c.in-Fork.ensures.top) (sym e)))))))
     ]

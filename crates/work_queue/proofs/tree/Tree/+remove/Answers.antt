@@ -1,7 +1,6 @@
-use Rattle.std.proofs.Common.{arith, ◌≡◌, ◌∷◌, ◌++◌, true, false, is_some, sym, subst, ap, ◌∙◌, ◌<◌, length}
+use Rattle.std.proofs.Common.{arith, ◌≡◌, sym, ◌∙◌}
 use Rattle.std.specs.declared.cmp.Ordering.TheVariants.{Less, Equal, Greater}
-use Rattle.work_queue.specs.Order.{order, precedes, same}
-use Rattle.work_queue.specs.Entries.{IsInOrder, erased, holds}
+use Rattle.work_queue.specs.Order.{order}
 use Rattle.work_queue.proofs.OrderLaws.{less_precedes, greater_follows, equal_is_same}
 use Rattle.work_queue.proofs.InOrder.{in_order_left, in_order_right, erased_left, erased_right, erased_here, holds_left, holds_right, holds_here, left_shorter, right_shorter}
 use Rattle.work_queue.proofs.tree.Tree.+remove.Goals as goal
@@ -28,7 +27,7 @@ returns-in-Less-clause-entries t c =
     let s = rw (← c.in-Fork.ensures.top) at c.requires in
     let cmp : order c.args.entry c.in-Fork.node.value.entry ≡ Less = rw (← c.deref.ensures) (sym c.cmp.ensures ∙ c.in-Less.is) in
     let e = erased_left c.args.entry c.in-Fork.node.value.left c.in-Fork.node.value.entry c.in-Fork.node.value.right (less_precedes c.args.entry c.in-Fork.node.value.entry cmp) s in
-    rw c.of.ensures (rw c.balanced.ensures (rw c.remove-found.ensures.entries (rw c.deref_mut.ensures.value (rw (← c.in-Fork.ensures.top) (sym e)))))
+    rw c.of.ensures (rw c.balanced.ensures (rw c.deref_mut-in-Less.ensures.value (rw c.remove-found.ensures.entries (rw c.deref_mut.ensures.value (rw (← c.in-Fork.ensures.top) (sym e))))))
 
 pub returns-in-Greater-clause-found : goal.returns-in-Greater-clause-found
 returns-in-Greater-clause-found t c =
@@ -42,7 +41,7 @@ returns-in-Greater-clause-entries t c =
     let s = rw (← c.in-Fork.ensures.top) at c.requires in
     let cmp : order c.args.entry c.in-Fork.node.value.entry ≡ Greater = rw (← c.deref.ensures) (sym c.cmp.ensures ∙ c.in-Greater.is) in
     let e = erased_right c.args.entry c.in-Fork.node.value.left c.in-Fork.node.value.entry c.in-Fork.node.value.right (greater_follows c.args.entry c.in-Fork.node.value.entry cmp) s in
-    rw c.of-in-Greater.ensures (rw c.balanced-in-Greater.ensures (rw c.remove-found-in-Greater.ensures.entries (rw c.deref_mut-in-Greater.ensures.value (rw (← c.in-Fork.ensures.top) (sym e)))))
+    rw c.of-in-Greater.ensures (rw c.balanced-in-Greater.ensures (rw c.deref_mut-in-Greater-2.ensures.value (rw c.remove-found-in-Greater.ensures.entries (rw c.deref_mut-in-Greater.ensures.value (rw (← c.in-Fork.ensures.top) (sym e))))))
 
 pub returns-in-Equal-clause-found : goal.returns-in-Equal-clause-found
 returns-in-Equal-clause-found t c =

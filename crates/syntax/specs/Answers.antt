@@ -1,0 +1,45 @@
+-- What the functions of the parser answer, by what reading gives.
+use Rattle.std.specs.Prelude.{◌≡◌, ℕ, List, ◌++◌, map, Result, Ok, Err, Option, Some, None, option_map, Vec, Box}
+use Rattle.syntax_trees.specs.declared.tree.Stmt.{Stmt}
+use Rattle.syntax_trees.specs.declared.tree.Block.{Block}
+use Rattle.syntax_trees.specs.Tree.{Body, Statement}
+use Rattle.syntax_trees.specs.View.{body_view, statement_view}
+use Rattle.syntax.specs.declared.stop.Stop.{Stop}
+use Rattle.syntax.specs.declared.stop.Stop.TheVariants.{AtEnd, Unexpected, TooNested, Memory}
+use Rattle.syntax_trees.specs.Rules.{Place}
+use Rattle.lexer.specs.declared.token.Span.{Span}
+use Rattle.lexer.specs.declared.fault.LexFault.{LexFault}
+use Rattle.syntax.specs.declared.error.ParseFault.{ParseFault}
+use Rattle.syntax.specs.declared.error.ParseFault.TheVariants as Fault
+use Rattle.syntax.specs.Readers.{Read, refused, got}
+
+-- a function stops where reading refuses, or where memory ran out
+abbrev pub Fails : {A : Type 0} → Stop → Read A → Type 0
+Fails AtEnd read = read ≡ refused
+Fails (Unexpected s) read = read ≡ refused
+Fails (TooNested s) read = read ≡ refused
+Fails Memory read = Unit {0}
+
+-- what a function returned is what reading gives, unless memory ran out
+abbrev pub Gives : {X A : Type 0} → (X → A) → Result X Stop → Place → Read A → Type 0
+Gives view (Ok x) u read = read ≡ got (view x) u
+Gives view (Err f) u read = Fails f read
+
+-- what a function appended to two lists is what reading gives, unless memory ran out
+abbrev pub Appends : {X A B : Type 0} → Result X Stop → Place → Read (List (A × B)) → List A → List A → List B → List B → Type 0
+Appends {X} {A} {B} (Ok x) u read os os' es es' = (ps : List (A × B)) × (read ≡ got ps u) × (os' ≡ os ++ map (λ p. p.0) ps) × (es' ≡ es ++ map (λ p. p.1) ps)
+Appends (Err f) u read os os' es es' = Fails f read
+
+abbrev pub statements_view : {A : Type 0} → Vec (Stmt A) A → List Statement
+statements_view v = map statement_view v.items
+
+abbrev pub branch_view : {A : Type 0} → Option (Box (Block A) A) → Option Body
+branch_view o = option_map (λ b. body_view b.value) o
+
+-- the answer to a text of n bytes, by where its reading stops and the fault behind its last token
+abbrev pub answer_of : Stop → Option LexFault → ℕ → ParseFault
+answer_of AtEnd (Some f) n = Fault.Lex f
+answer_of AtEnd None n = Fault.Unexpected (record { from = n; to = n })
+answer_of (Unexpected s) fault n = Fault.Unexpected s
+answer_of (TooNested s) fault n = Fault.TooNested s
+answer_of Memory fault n = Fault.Memory

@@ -1,0 +1,157 @@
+//! Trees with their numbers and their copies.
+
+ghost use Rattle.std.specs.Prelude.{◌≡◌, ◌+◌, ◌<◌, ◌^◌, IfOk};
+ghost use Rattle.syntax_trees.specs.View.{expression_view, statement_view, tree_of};
+ghost use Rattle.syntax_trees.specs.Numbered.{expression_size, statement_size, tree_size};
+
+use crate::tree::{
+    Base, Call, Decl, Expr, ExprKind, Item, Level, Name, Operator, Right, Script, Shape, Stmt,
+    StmtKind,
+};
+use crate::{block, expr, stmt};
+use bumpalo::Bump;
+use lexer::token::Span;
+use std::alloc::{AllocError, Allocator, Global};
+use std::process::Abort;
+use std::test::Fail;
+
+fn at(from: usize, to: usize) -> Span {
+    Span { from, to }
+}
+
+/// A name without a number.
+fn name(alloc: Global, text: &[u8], from: usize, to: usize) -> Result<Name<Global>, AllocError> {
+    Ok(Name {
+        number: 0,
+        span: at(from, to),
+        text: Vec::from_slice(alloc, text)?,
+    })
+}
+
+/// A name as an expression.
+fn variable(alloc: Global, text: &[u8], from: usize, to: usize) -> Result<Expr<Global>, AllocError>
+    ensures { IfOk result (λ e. expression_size (expression_view e) ≡ 2) }
+{
+    Ok(expr(
+        at(from, to),
+        to,
+        ExprKind::Variable(name(alloc, text, from, to)?),
+    ))
+}
+
+/// `x = y + 1;` at the start of a text.
+fn sum(alloc: Global) -> Result<Stmt<Global>, AllocError>
+    ensures { IfOk result (λ s. statement_size (statement_view s) ≡ 6) }
+{
+    let mut operators = Vec::new(alloc);
+    operators.push(Operator::Plus)?;
+    let mut operands = Vec::new(alloc);
+    operands.push(variable(alloc, b"y", 4, 5)?)?;
+    operands.push(expr(at(8, 9), 9, ExprKind::Number(1)))?;
+    let chain = expr(at(4, 5), 9, ExprKind::Chain(operators, operands));
+    let right = Right::Value(Box::new(alloc, chain)?);
+    Ok(stmt(
+        at(0, 1),
+        10,
+        StmtKind::Assign(name(alloc, b"x", 0, 1)?, right),
+    ))
+}
+
+/// `@prio=5 f(z);`
+fn urgent(alloc: Global) -> Result<Stmt<Global>, AllocError> {
+    let mut arguments = Vec::new(alloc);
+    arguments.push(variable(alloc, b"z", 10, 11)?)?;
+    let call = Call {
+        number: 0,
+        first: at(8, 9),
+        to: 12,
+        name: name(alloc, b"f", 8, 9)?,
+        arguments,
+    };
+    Ok(stmt(at(0, 1), 13, StmtKind::Call(5, Box::new(alloc, call)?)))
+}
+
+/// `if (b) { x = y + 1; } else { @prio=5 f(z); }` and `string s[];`, with places of no account.
+fn script(alloc: Global) -> Result<Script<Global>, AllocError> {
+    let mut then = Vec::new(alloc);
+    then.push(sum(alloc)?)?;
+    let mut other = Vec::new(alloc);
+    other.push(urgent(alloc)?)?;
+    let test = Box::new(alloc, variable(alloc, b"b", 4, 5)?)?;
+    let then = Box::new(alloc, block(7, then))?;
+    let other = Box::new(alloc, block(27, other))?;
+    let choice = stmt(at(0, 2), 44, StmtKind::If(test, then, Some(other)));
+    let declared = Decl {
+        base: Base::Text,
+        name: name(alloc, b"s", 52, 53)?,
+        shape: Shape::Array,
+    };
+    let mut items = Vec::new(alloc);
+    items.push(Item::Statement(Box::new(alloc, choice)?))?;
+    items.push(Item::Statement(Box::new(
+        alloc,
+        stmt(at(45, 51), 56, StmtKind::Declare(declared, None)),
+    )?))?;
+    Ok(Script { items })
+}
+
+/// A script of one statement.
+fn alone(alloc: Global, stmt: Stmt<Global>) -> Result<Script<Global>, AllocError>
+    ensures { IfOk result (λ s. tree_size (tree_of s) ≡ statement_size (statement_view stmt)) }
+{
+    let mut items = Vec::new(alloc);
+    items.push(Item::Statement(Box::new(alloc, stmt)?))?;
+    Ok(Script { items })
+}
+
+#[test]
+fn a_copy_to_an_arena_and_back_is_equal(rt: HostRuntime) -> Result<(), Fail> {
+    let tree = script(rt.alloc())?;
+    let arena = Bump::new(rt.alloc());
+    let copy = tree.copy_to(&arena)?;
+    let back = copy.copy_to(rt.alloc())?;
+    assert!(rt; back == tree);
+    Ok(())
+}
+
+// The statement, x, the chain, y as an expression, its name, 1.
+#[test]
+fn numbers_stand_in_reading_order(rt: HostRuntime) -> Result<(), Fail> {
+    let alloc = rt.alloc();
+    let mut operands = Vec::new(alloc);
+    let mut y = variable(alloc, b"y", 4, 5)?;
+    y.number = 4;
+    y.kind = ExprKind::Variable(Name {
+        number: 5,
+        span: at(4, 5),
+        text: Vec::from_slice(alloc, b"y")?,
+    });
+    operands.push(y)?;
+    let mut one = expr(at(8, 9), 9, ExprKind::Number(1));
+    one.number = 6;
+    operands.push(one)?;
+    let mut operators = Vec::new(alloc);
+    operators.push(Operator::Plus)?;
+    let mut chain = expr(at(4, 5), 9, ExprKind::Chain(operators, operands));
+    chain.number = 3;
+    let mut target = name(alloc, b"x", 0, 1)?;
+    target.number = 2;
+    let mut assignment = stmt(
+        at(0, 1),
+        10,
+        StmtKind::Assign(target, Right::Value(Box::new(alloc, chain)?)),
+    );
+    assignment.number = 1;
+    let wanted = alone(alloc, assignment)?;
+    let numbered = alone(alloc, sum(alloc)?)?.numbered(alloc)?;
+    assert!(rt; numbered == wanted);
+    Ok(())
+}
+
+#[test]
+fn comparisons_do_not_chain(rt: HostRuntime) {
+    assert_eq!(rt; Operator::AtMost.level(), Level::Order);
+    assert_eq!(rt; Operator::Remainder.level(), Level::Product);
+    assert!(rt; !Level::Order.repeats());
+    assert!(rt; Level::Sum.repeats());
+}
