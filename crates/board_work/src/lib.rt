@@ -4,4 +4,6 @@
 pub mod answer;
 pub mod evaluation;
 pub mod outcome;
+#[cfg(test)]
+mod tests;
 pub mod work;
