@@ -4,7 +4,8 @@ use Rattle.std.proofs.lemmas.List.Sums.{sum_by-cons}
 use Rattle.std.specs.List.{sum_by, flat_map}
 use Rattle.std.specs.Prelude.{option_map}
 use Rattle.syntax_trees.specs.Tree.{Word, Expression, expression, Form, number, text, truth, variable, element, call, prefixed, chain, Expressions, no_expressions, and_expression, Declaration, RightSide, value, list, Calling, Over, array, range, Statement, statement, Statements, no_statements, and_statement, Command, declare, assign, write, assign_all, calls, choice, choice_else, loop, waits, Body, body, Composite, Part, import, function, single, Tree}
-use Rattle.syntax_trees.specs.Numbered.{expression_size, form_size, expressions_size, word_size, declaration_size, right_size, calling_size, option_size, over_size, statement_size, command_size, body_size, statements_size, composite_size, part_size, tree_size, numbered_word, numbered_each, numbered_expression, numbered_form, numbered_expressions, numbered_declaration, numbered_right, numbered_calling, numbered_over, numbered_statement, numbered_command, numbered_body, numbered_statements, numbered_composite, numbered_part, numbered, expression_numbers, form_numbers, expressions_numbers, word_numbers, declaration_numbers, right_numbers, calling_numbers, option_numbers, over_numbers, statement_numbers, command_numbers, body_numbers, statements_numbers, composite_numbers, part_numbers, numbers, numbers_from}
+use Rattle.syntax_trees.specs.Numbered.{expression_size, form_size, expressions_size, word_size, declaration_size, right_size, calling_size, option_size, over_size, statement_size, command_size, body_size, statements_size, composite_size, part_size, tree_size, numbered_word, numbered_each, numbered_expression, numbered_form, numbered_expressions, numbered_declaration, numbered_right, numbered_calling, numbered_over, numbered_statement, numbered_command, numbered_body, numbered_statements, numbered_composite, numbered_part, numbered}
+use Rattle.syntax_trees.specs.Numbers.{expression_numbers, form_numbers, expressions_numbers, word_numbers, declaration_numbers, right_numbers, calling_numbers, option_numbers, over_numbers, statement_numbers, command_numbers, body_numbers, statements_numbers, composite_numbers, part_numbers, numbers, numbers_from}
 
 numbers_from-add : (n a b : ℕ) → numbers_from n (a + b) ≡ numbers_from n a ++ numbers_from (n + a) b
 numbers_from-add n zero b = let none : zero + b ≡ b = omega arith in let here : n ≡ n + zero = omega arith in ap (numbers_from n) none ∙ ap (λ m. numbers_from m b) here

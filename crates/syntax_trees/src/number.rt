@@ -4,7 +4,8 @@
 
 ghost use Rattle.std.specs.Prelude.{◌≡◌, ◌+◌, ◌^◌, ◌<◌, ◌++◌, IfOk, OnOk, map, option_map, sum_by};
 ghost use Rattle.syntax_trees.specs.View.{word_of, expression_view, form_view, expressions_view, words_view, declaration_of, declarations_view, list_of, right_of, calling_of, range_of, over_of, statement_view, command_view, body_view, composite_of, part_of, tree_of};
-ghost use Rattle.syntax_trees.specs.Numbered.{expression_size, form_size, word_size, declaration_size, right_size, option_size, calling_size, over_size, statement_size, command_size, body_size, statements_size, composite_size, part_size, tree_size, numbered_word, numbered_each, numbered_expression, numbered_form, numbered_declaration, numbered_right, numbered_calling, numbered_over, numbered_statement, numbered_command, numbered_body, numbered_statements, numbered_composite, numbered_part, numbered, numbers, numbers_from};
+ghost use Rattle.syntax_trees.specs.Numbered.{expression_size, form_size, word_size, declaration_size, right_size, option_size, calling_size, over_size, statement_size, command_size, body_size, composite_size, part_size, tree_size, numbered_word, numbered_each, numbered_expression, numbered_form, numbered_declaration, numbered_right, numbered_calling, numbered_over, numbered_statement, numbered_command, numbered_body, numbered_composite, numbered_part, numbered};
+ghost use Rattle.syntax_trees.specs.Numbers.{numbers, numbers_from};
 
 use crate::tree::{
     Block, Call, Decl, Expr, ExprKind, Function, Item, ListOf, Name, Range, Right, Script, Source,

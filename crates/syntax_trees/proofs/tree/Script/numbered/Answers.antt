@@ -1,6 +1,6 @@
 use Rattle.std.proofs.Common.{ap, ◌∙◌}
 use Rattle.syntax_trees.specs.View.{tree_of}
-use Rattle.syntax_trees.specs.Numbered.{numbers}
+use Rattle.syntax_trees.specs.Numbers.{numbers}
 use Rattle.syntax_trees.proofs.Numbers.{numbers-numbered}
 use Rattle.syntax_trees.proofs.tree.Script.numbered.Goals as goal
 
