@@ -51,6 +51,11 @@ pub fn a_cell_is_read_before_its_assignment()
     ensures { Meaning read_before_assignment (line ([], 14) (codes "3")) }
 {}
 
+/// `int A[]; A[0] = 1; foreach i in [1:2] { A[i] = A[i-1] * 2; } printf("%i", A[2]);` prints 4: each turn reads what the one before wrote.
+pub fn a_loop_reads_what_it_writes()
+    ensures { Meaning loop_reads_what_it_writes (line ([], 23) (codes "4")) }
+{}
+
 /// `int A[]; A[0] = 1; A[0] = 2;`: both statements are at fault, the one at 9 and the one at 19.
 pub fn each_of_two_writers_is_at_fault()
     ensures { Faults (Meaning key_written_twice) element_twice 9 [] × Faults (Meaning key_written_twice) element_twice 19 [] }
