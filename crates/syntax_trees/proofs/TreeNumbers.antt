@@ -17,18 +17,18 @@ use Rattle.syntax_trees.proofs.Tested.{has, distinct, flat, both, true_left, tru
 -- COUNTS
 
 -- 1 where two numbers are the same
-hit : ℕ → ℕ → ℕ
+pub hit : ℕ → ℕ → ℕ
 hit n x = cond (nat_eq n x) 1 0
 
-abbrev times : ℕ → List ℕ → ℕ
+abbrev pub times : ℕ → List ℕ → ℕ
 times n [] = 0
 times n (x ∷ xs) = hit n x + times n xs
 
-times-append : (n : ℕ) (xs ys : List ℕ) → times n (xs ++ ys) ≡ times n xs + times n ys
+pub times-append : (n : ℕ) (xs ys : List ℕ) → times n (xs ++ ys) ≡ times n xs + times n ys
 times-append n [] ys = omega arith
 times-append n (x ∷ xs) ys = let e = times-append n xs ys in omega arith
 
-times-flat : {X : Type 0} (f : X → List ℕ) (n : ℕ) (xs ys : List X) → times n (flat f (xs ++ ys)) ≡ times n (flat f xs) + times n (flat f ys)
+pub times-flat : {X : Type 0} (f : X → List ℕ) (n : ℕ) (xs ys : List X) → times n (flat f (xs ++ ys)) ≡ times n (flat f xs) + times n (flat f ys)
 times-flat f n [] ys = omega arith
 times-flat f n (x ∷ xs) ys =
     let e = times-flat f n xs ys in
@@ -36,7 +36,7 @@ times-flat f n (x ∷ xs) ys =
     let b = times-append n (f x) (flat f xs) in
     omega arith
 
-hit_self : (n : ℕ) → hit n n ≡ 1
+pub hit_self : (n : ℕ) → hit n n ≡ 1
 unfolding hit
 hit_self n = ap (λ (b : Bool). cond b 1 0) (self_eq n)
 
@@ -59,7 +59,7 @@ has_times n (x ∷ xs) h = by (nat_eq n x) refl (λ k. has_times n xs k)
     by false e rec = let q : hit n x ≡ 0 = ap (λ (b : Bool). cond b 1 0) e in rec (omega arith)
 
 -- what stands at most once each is distinct
-few_distinct : (xs : List ℕ) → ((n : ℕ) → times n xs ≤ 1) → distinct xs ≡ true
+pub few_distinct : (xs : List ℕ) → ((n : ℕ) → times n xs ≤ 1) → distinct xs ≡ true
 few_distinct [] h = refl
 few_distinct (x ∷ xs) h = and_true (not (has x xs)) (distinct xs) (fresh (has x xs) refl) (few_distinct xs (λ n. (let q = h n in omega arith)))
   where
@@ -71,7 +71,7 @@ few_distinct (x ∷ xs) h = and_true (not (has x xs)) (distinct xs) (fresh (has 
     fresh false e = refl
     fresh true e = let q = times_has x xs e in let r = h x in let z = hit_self x in absurd (omega arith)
 
-distinct_few : (xs : List ℕ) → distinct xs ≡ true → (n : ℕ) → times n xs ≤ 1
+pub distinct_few : (xs : List ℕ) → distinct xs ≡ true → (n : ℕ) → times n xs ≤ 1
 unfolding hit
 distinct_few [] h n = omega arith
 distinct_few (x ∷ xs) h n = by (nat_eq n x) refl (distinct_few xs (both (not (has x xs)) (distinct xs) h).1 n)
@@ -117,14 +117,14 @@ abbrev mutual
 
 -- THE NODES OF PARTS
 
-abbrev call_nodes : List Call → List ℕ
+abbrev pub call_nodes : List Call → List ℕ
 call_nodes cs = flat (λ (c : Call). name_nodes c.outputs) cs
 
 -- how often a number is the node of a cell or of an output among the parts
-abbrev part_times : ℕ → List Part → ℕ
+abbrev pub part_times : ℕ → List Part → ℕ
 part_times n ps = times n (cell_nodes (part_cells ps)) + times n (call_nodes (part_calls ps))
 
-part-append : (n : ℕ) (ps qs : List Part) → part_times n (ps ++ qs) ≡ part_times n ps + part_times n qs
+pub part-append : (n : ℕ) (ps qs : List Part) → part_times n (ps ++ qs) ≡ part_times n ps + part_times n qs
 part-append n [] qs = omega arith
 part-append n (inner c ∷ ps) qs = let e = part-append n ps qs in omega arith
 part-append n (calls c ∷ ps) qs =
@@ -155,7 +155,7 @@ argument_part n t (expression nd (call w es)) f = let e = cell_part n nd.number 
 argument_part n t (expression nd (prefixed p x)) f = let e = cell_part n nd.number f in omega arith
 argument_part n t (expression nd (chain os es)) f = let e = cell_part n nd.number f in omega arith
 
-call_part : (n : ℕ) (t : Table) (w : Word) (c : Callee) (es : Expressions) (xs : Arguments) (os : Operands) (k : ℕ) → part_times n xs.0 ≤ k → part_times n os.0 ≤ k → part_times n (call_form t w c es xs os).0 ≤ hit n w.number + k
+pub call_part : (n : ℕ) (t : Table) (w : Word) (c : Callee) (es : Expressions) (xs : Arguments) (os : Operands) (k : ℕ) → part_times n xs.0 ≤ k → part_times n os.0 ≤ k → part_times n (call_form t w c es xs os).0 ≤ hit n w.number + k
 call_part n t w (composite i) es xs os k h g = let e = part-append n xs.0 (calls (call_to w i xs.1 (here w.number ∷ [])) ∷ []) in omega arith
 call_part n t w (built_in table.size) es xs os k h g = omega arith
 call_part n t w (built_in table.strcat) es xs os k h g = omega arith
@@ -166,7 +166,7 @@ call_part n t w (built_in table.assert) es xs os k h g = omega arith
 
 mutual
   -- the parts before an expression have its numbers, but not its own
-  expression_part : (n : ℕ) (t : Table) (e : Expression) → part_times n (form_of t e).0 + hit n (number_of e) ≤ times n (expression_numbers e)
+  pub expression_part : (n : ℕ) (t : Table) (e : Expression) → part_times n (form_of t e).0 + hit n (number_of e) ≤ times n (expression_numbers e)
   expression_part n t (expression nd f) = let q = form_part n t f in omega arith
 
   form_part : (n : ℕ) (t : Table) (f : T.Form) → part_times n (form_in t f).0 ≤ times n (form_numbers f)
@@ -179,7 +179,7 @@ mutual
   form_part n t (prefixed p e) = let q = expression_part n t e in let c = operand_part n (number_of e) (form_of t e) in omega arith
   form_part n t (chain os es) = operands_part n t es
 
-  operands_part : (n : ℕ) (t : Table) (es : Expressions) → part_times n (operands_of t es).0 ≤ times n (expressions_numbers es)
+  pub operands_part : (n : ℕ) (t : Table) (es : Expressions) → part_times n (operands_of t es).0 ≤ times n (expressions_numbers es)
   operands_part n t no_expressions = omega arith
   operands_part n t (and_expression e es) =
       let q = expression_part n t e in
@@ -189,7 +189,7 @@ mutual
       let b = times-append n (expression_numbers e) (expressions_numbers es) in
       omega arith
 
-  arguments_part : (n : ℕ) (t : Table) (es : Expressions) → part_times n (arguments_of t es).0 ≤ times n (expressions_numbers es)
+  pub arguments_part : (n : ℕ) (t : Table) (es : Expressions) → part_times n (arguments_of t es).0 ≤ times n (expressions_numbers es)
   arguments_part n t no_expressions = omega arith
   arguments_part n t (and_expression e es) =
       let q = expression_part n t e in
