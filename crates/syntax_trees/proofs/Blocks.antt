@@ -1,6 +1,6 @@
 -- Blocks inside blocks of a script are blocks of the script; targets of inner blocks are targets of their statements.
-use Rattle.std.specs.Prelude.{◌≡◌, ◌⊎◌, ℕ, zero, suc, List, [], ◌∷◌, ◌++◌, Option, Some, None, slice_get, refl}
-use Rattle.std.proofs.Common.{inl, inr, sym, ap, ◌∙◌, subst}
+use Rattle.std.specs.Prelude.{◌≡◌, ℕ, zero, suc, List, [], ◌∷◌, ◌++◌, Option, Some, slice_get}
+use Rattle.std.proofs.Common.{inl, inr, subst}
 use Rattle.syntax_trees.specs.Core.{Owned, Name, Stmt, stmt, Action, declare, call_alone, assign, fill, insert, print, assert, when, choose, range, each, wait, Block, no_stmts, stmts, Function, Core}
 use Rattle.syntax_trees.specs.Members.{◌∈◌, first, later}
 use Rattle.syntax_trees.specs.Parts.{block_list, blocks_below, blocks_in, blocks_inside, blocks_of, function_blocks, script_blocks, stmts_among, script_stmts, by_name, by_element, targets, targets_of, targets_in, owners}

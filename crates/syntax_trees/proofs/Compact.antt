@@ -1,9 +1,8 @@
 -- What follows from all that is ever known follows after some round: so the meaning is closed under the rules.
-use Rattle.std.specs.Prelude.{◌≡◌, ◌⊎◌, ℕ, zero, suc, ◌<◌, ◌≤◌, Bool, true, false, ℤ, pos, List, [], ◌∷◌, length, slice_get, Option, Some, None, Result, Ok, Err, refl, max}
+use Rattle.std.specs.Prelude.{◌≡◌, ◌⊎◌, ℕ, zero, suc, ◌<◌, ◌≤◌, true, false, pos, List, [], ◌∷◌, length, slice_get, Option, Some, None, Result, Ok, refl, max}
 use Rattle.std.proofs.Common.{inl, inr, sym, ap, ◌∙◌, subst, arith}
 use Rattle.values.specs.declared.fault.OpFault.{OpFault}
 use Rattle.values.specs.declared.key.Key.{Key}
-use Rattle.values.specs.declared.key.Key.TheVariants as Key
 use Rattle.values.specs.declared.map.Element.{Element}
 use Rattle.values.specs.declared.value.Scalar.{Scalar}
 use Rattle.values.specs.declared.value.Scalar.TheVariants.{Truth}
@@ -11,14 +10,14 @@ use Rattle.values.specs.declared.value.Value.{Value}
 use Rattle.values.specs.declared.value.Value.TheVariants.{One, Many}
 use Rattle.values.specs.Maps.{element as entry}
 use Rattle.values.specs.Ranges.{range_count}
-use Rattle.syntax_trees.specs.Core.{Owned, output, Name, Expr, Exprs, Form, Cell, Outer, Awaited, Stmt, Action, when, choose, range, each, wait, Block, Call, Core}
-use Rattle.syntax_trees.specs.Facts.{Fault, Fact, element, Knowledge, OneWrite, OneWriter, Elements, KnownAll, no_cell, next_cell}
+use Rattle.syntax_trees.specs.Core.{Owned, output, Name, Expr, Exprs, Form, Cell, Outer, Awaited, Stmt, Action, when, choose, range, each, wait, Block, Core}
+use Rattle.syntax_trees.specs.Facts.{Fault, Fact, element, Knowledge, OneWriter, Elements, KnownAll, no_cell, next_cell}
 use Rattle.syntax_trees.specs.Meaning.{Live, script, opened, waited, called, Closed, closed, Finished, no_target, value_known, write_known, body_finished, blocks_finished, content_finished, Ready, cells_known, source_closed, names_known, Come, scalar_known, array_closed, HasValue, stored, in_turn, ValueUnder, of_literal, of_name, of_array, of_operator, ValuesUnder, no_operand, operand, Gives, computed, faulty, found, missing, Comes, before, now, ComeAll, none_comes, next_comes, LiveStmt, in_block, New, cell_value, cell_fault, assigned, filled, inserted, printed, bad_range, too_deep_header, too_deep_call, written_twice, Known, Meaning}
 use Rattle.syntax_trees.specs.Members.{◌∈◌, first, later}
-use Rattle.syntax_trees.specs.Openings.{Bounds, bounds, Decides, one_way, two_ways, in_turns, Opens, then_alone, then_first, else_second, turn, item}
+use Rattle.syntax_trees.specs.Openings.{Bounds, bounds, one_way, two_ways, in_turns, Opens, then_alone, then_first, else_second, turn, item}
 use Rattle.syntax_trees.specs.Parts.{block_list, function_body}
 use Rattle.syntax_trees.specs.Places.{Path, Place}
-use Rattle.syntax_trees.proofs.Growth.{Grows, keeps_all, keeps_live, keeps_closed, keeps_finished, keeps_ready, keeps_come, keeps_value, keeps_stmt}
+use Rattle.syntax_trees.proofs.Growth.{Grows, keeps_all, keeps_live, keeps_closed, keeps_finished, keeps_ready, keeps_come, keeps_stmt}
 use Rattle.syntax_trees.proofs.Members.{split_in}
 use Rattle.syntax_trees.proofs.OneAssign.{found_below}
 use Rattle.syntax_trees.proofs.OneValue.{keeps_answer, keeps_answers}

@@ -39,4 +39,3 @@ calls_without_end = refl
 
 pub nested_waits : core tree.table_of_nested_waits tree.tree_of_nested_waits ≡ example.nested_waits
 nested_waits = refl
-

@@ -1,5 +1,5 @@
 -- What a name is, and which blocks are live: facts about one script.
-use Rattle.std.specs.Prelude.{◌≡◌, ◌⊎◌, ℕ, zero, suc, List, [], ◌∷◌, Option, Some, slice_get, refl}
+use Rattle.std.specs.Prelude.{◌≡◌, ◌⊎◌, ℕ, zero, suc, List, [], ◌∷◌, Some, slice_get, refl}
 use Rattle.std.proofs.Common.{inl, inr, sym, ap, ◌∙◌, subst, arith}
 use Rattle.values.specs.declared.key.Key.{Key}
 use Rattle.values.specs.declared.value.Value.{Value}
@@ -9,7 +9,7 @@ use Rattle.syntax_trees.specs.Meaning.{Live, script, opened, waited, called, Liv
 use Rattle.syntax_trees.specs.Members.{◌∈◌, first, later}
 use Rattle.syntax_trees.specs.Openings.{Opens, then_alone, then_first, else_second, turn, item}
 use Rattle.syntax_trees.specs.Parts.{block_list, script_blocks, script_stmts, name_at}
-use Rattle.syntax_trees.specs.Places.{Path, Place, place_of}
+use Rattle.syntax_trees.specs.Places.{Path, place_of}
 use Rattle.syntax_trees.specs.WellFormed.{header_blocks, Declares}
 use Rattle.syntax_trees.proofs.Blocks.{header_inner, inner_block, main_block, function_block, among_script}
 use Rattle.syntax_trees.proofs.Members.{split_in}

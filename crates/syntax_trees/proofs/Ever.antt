@@ -1,13 +1,13 @@
 -- The laws of the meaning of an accepted script.
-use Rattle.std.specs.Prelude.{◌≡◌, ◌⊎◌, ◌↔◌, ℕ, zero, suc, ◌≤◌, Bool, IsTrue, List, Result, Ok, refl, max}
-use Rattle.std.proofs.Common.{inl, inr, sym, ap, ◌∙◌, subst, arith}
+use Rattle.std.specs.Prelude.{◌≡◌, ◌⊎◌, ◌↔◌, ℕ, zero, suc, ◌≤◌, Bool, IsTrue, List, refl, max}
+use Rattle.std.proofs.Common.{inl, inr, sym, ap, subst, arith}
 use Rattle.values.specs.declared.key.Key.{Key}
 use Rattle.values.specs.declared.map.Element.{Element}
 use Rattle.values.specs.declared.value.Scalar.{Scalar}
 use Rattle.values.specs.declared.value.Value.{Value}
-use Rattle.values.specs.declared.value.Value.TheVariants.{One, Many}
+use Rattle.values.specs.declared.value.Value.TheVariants.{Many}
 use Rattle.values.specs.Maps.{rising, element as entry}
-use Rattle.syntax_trees.specs.Core.{Cell, Stmt, stmt, fill, Block, Core}
+use Rattle.syntax_trees.specs.Core.{Cell, Stmt, Block, Core}
 use Rattle.syntax_trees.specs.Facts.{Fact, value, element, Knowledge, OneWriter}
 use Rattle.syntax_trees.specs.Meaning.{Live, Closed, Comes, before, now, LiveStmt, New, cell_value, Known, Meaning}
 use Rattle.syntax_trees.specs.Members.{◌∈◌}
@@ -23,7 +23,7 @@ use Rattle.syntax_trees.proofs.Hinge.{grows}
 use Rattle.syntax_trees.proofs.Keeps.{keeps_new}
 use Rattle.syntax_trees.proofs.OneAssign.{one_assign}
 use Rattle.syntax_trees.proofs.Rising.{rising_once}
-use Rattle.syntax_trees.proofs.Rounds.{OneAssign, Sound, FromFill, FromInsert, From, came, known_later, fills_agree, inserts_agree, fill_not_insert, later_of, every_round, rounds_later, rounds_grow}
+use Rattle.syntax_trees.proofs.Rounds.{OneAssign, Sound, FromFill, From, came, known_later, fills_agree, inserts_agree, fill_not_insert, later_of, every_round, rounds_grow}
 use Rattle.syntax_trees.proofs.Sources.{CellValue, AssignValue, value_view, FillElement, InsertElement, element_view, outer_in, index_in, right_in, many_given, cell_gives, known_full}
 
 -- a set of facts is closed under the rules

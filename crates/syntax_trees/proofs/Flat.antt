@@ -1,12 +1,11 @@
 -- Scripts without branches, loops and composite calls: their one path is the script's.
-use Rattle.std.specs.Prelude.{◌≡◌, ◌⊎◌, ℕ, suc, ◌<◌, Bool, true, false, ◌&&◌, List, [], ◌∷◌, ◌++◌, refl}
+use Rattle.std.specs.Prelude.{◌≡◌, Bool, true, false, ◌&&◌, List, [], ◌∷◌, refl}
 use Rattle.std.specs.List.{list_all}
-use Rattle.std.proofs.Common.{inl, inr, sym, ap, subst, ◌∙◌, arith}
 use Rattle.values.specs.declared.key.Key.{Key}
 use Rattle.values.specs.declared.value.Scalar.{Scalar}
 use Rattle.values.specs.declared.value.Value.{Value}
 use Rattle.values.specs.declared.value.Value.TheVariants.{One}
-use Rattle.syntax_trees.specs.Core.{Call, Stmt, stmt, Action, declare, call_alone, assign, fill, insert, print, assert, when, choose, range, each, wait, Block, Core}
+use Rattle.syntax_trees.specs.Core.{Call, Stmt, Action, when, choose, range, each, Block, Core}
 use Rattle.syntax_trees.specs.Facts.{value, Knowledge}
 use Rattle.syntax_trees.specs.Meaning.{Live, script, opened, waited, called, LiveStmt, in_block, HasValue, stored, in_turn}
 use Rattle.syntax_trees.specs.Members.{◌∈◌, first, later}

@@ -1,21 +1,20 @@
 -- What is closed stays as it is: where knowledge grows by rounds, no live statement has more to write to a closed array.
-use Rattle.std.specs.Prelude.{◌≡◌, ◌⊎◌, ℕ, zero, suc, ◌<◌, ℤ, pos, List, [], ◌∷◌, Option, Some, slice_get, refl}
+use Rattle.std.specs.Prelude.{◌≡◌, ◌⊎◌, ℕ, zero, suc, ℤ, pos, List, [], ◌∷◌, Option, Some, slice_get, refl}
 use Rattle.std.proofs.Common.{inl, inr, sym, ap, ◌∙◌, subst}
 use Rattle.values.specs.declared.key.Key.{Key}
-use Rattle.values.specs.declared.key.Key.TheVariants as Key
 use Rattle.values.specs.declared.map.Element.{Element}
 use Rattle.values.specs.declared.value.Scalar.{Scalar}
 use Rattle.values.specs.declared.value.Value.{Value}
-use Rattle.values.specs.declared.value.Value.TheVariants.{One, Many}
-use Rattle.syntax_trees.specs.Core.{Owned, local, input, output, Name, here, Cell, Call, Part, Outer, Awaited, Stmt, stmt, Action, declare, call_alone, assign, fill, insert, wait, Block, Function, Core}
+use Rattle.values.specs.declared.value.Value.TheVariants.{Many}
+use Rattle.syntax_trees.specs.Core.{Owned, local, output, Name, here, Cell, Call, Part, Outer, Awaited, Stmt, stmt, Action, call_alone, fill, insert, wait, Block, Function, Core}
 use Rattle.syntax_trees.specs.Facts.{Fact, value, element, Knowledge, Elements, KnownAll, no_cell, next_cell}
 use Rattle.syntax_trees.specs.Meaning.{IsTarget, Live, script, opened, waited, called, Closed, closed, Finished, no_target, value_known, write_known, body_finished, blocks_finished, content_finished, Ready, cells_known, source_closed, names_known, LiveStmt, in_block}
 use Rattle.syntax_trees.specs.Members.{◌∈◌, first, later}
 use Rattle.syntax_trees.specs.Openings.{Opens, Branches}
 use Rattle.syntax_trees.specs.Parts.{block_list, script_blocks, stmts_of, function_body, output_name}
 use Rattle.syntax_trees.specs.Places.{Path, Place, place, place_of}
-use Rattle.syntax_trees.specs.WellFormed.{IsOwnTarget, header_blocks, Declares, Uses, own, inside, in_wait, IsHidden, IsAlone, NamesFound}
-use Rattle.syntax_trees.proofs.Blocks.{header_inner, inner_block, main_block, function_block, own_is_target, owner_of, inside_target, uses_target}
+use Rattle.syntax_trees.specs.WellFormed.{IsOwnTarget, Declares, Uses, own, inside, in_wait, IsHidden, IsAlone, NamesFound}
+use Rattle.syntax_trees.proofs.Blocks.{header_inner, inner_block, main_block, function_block, owner_of, inside_target, uses_target}
 use Rattle.syntax_trees.proofs.Declared.{header_of, place_here, output_found, output_in, declared, live_block}
 use Rattle.syntax_trees.proofs.Growth.{Grows}
 use Rattle.syntax_trees.proofs.Rising.{rising_same}

@@ -1,12 +1,12 @@
 -- Where no key has two writers, what follows is kept as knowledge grows; so the meaning is the least knowledge that is closed under the rules.
-use Rattle.std.specs.Prelude.{◌≡◌, ◌⊎◌, ℕ, zero, suc, List, [], ◌∷◌, Result, Ok, Err}
+use Rattle.std.specs.Prelude.{List, Result}
 use Rattle.std.proofs.Common.{inl, inr}
 use Rattle.values.specs.declared.key.Key.{Key}
 use Rattle.values.specs.declared.value.Scalar.{Scalar}
 use Rattle.values.specs.declared.value.Value.{Value}
 use Rattle.syntax_trees.specs.Core.{Form, Cell, Core}
 use Rattle.syntax_trees.specs.Facts.{Fault, Fact, Knowledge, OneWrite, OneWriter}
-use Rattle.syntax_trees.specs.Meaning.{Gives, computed, faulty, found, missing, Comes, before, now, ComeAll, none_comes, next_comes, New, cell_value, cell_fault, assigned, filled, inserted, printed, bad_range, too_deep_header, too_deep_call, written_twice, Known}
+use Rattle.syntax_trees.specs.Meaning.{Gives, computed, faulty, found, missing, Comes, before, now, ComeAll, none_comes, next_comes, New, cell_value, cell_fault, assigned, filled, inserted, printed, bad_range, too_deep_header, too_deep_call, written_twice}
 use Rattle.syntax_trees.specs.Places.{Path, Place}
 use Rattle.syntax_trees.proofs.Growth.{Grows, keeps_closed, keeps_ready, keeps_stmt}
 use Rattle.syntax_trees.proofs.OneValue.{keeps_answer}

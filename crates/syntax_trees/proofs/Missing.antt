@@ -1,32 +1,24 @@
 -- A script that reads an element that nothing writes, and one whose inner wait never opens.
-use Rattle.std.specs.Prelude.{◌≡◌, ◌≢◌, ◌⊎◌, ℕ, zero, suc, ◌+◌, ◌<◌, ◌≤◌, Bool, true, false, ◌&&◌, List, [], ◌∷◌, ◌++◌, map, length, Option, Some, None, Result, Ok, Err, ℤ, pos, negsuc, refl, codes}
-use Rattle.std.specs.Fmt.{digits}
+use Rattle.std.specs.Prelude.{◌≡◌, ◌⊎◌, ℕ, zero, suc, List, [], ◌∷◌, Result, pos, refl}
 use Rattle.std.proofs.Common.{inl, inr, sym, ap, subst, ◌∙◌, arith}
-use Rattle.values.specs.declared.fault.OpFault.{OpFault}
-use Rattle.values.specs.declared.fault.OpFault.TheVariants.{Overflow, DivideByZero}
 use Rattle.values.specs.declared.key.Key.{Key}
-use Rattle.values.specs.declared.key.Key.TheVariants as Key
-use Rattle.values.specs.declared.format.Piece.TheVariants as Piece
-use Rattle.values.specs.declared.op.Sign.TheVariants as Sign
-use Rattle.values.specs.Operators as op
 use Rattle.values.specs.declared.value.Scalar.{Scalar}
-use Rattle.values.specs.declared.value.Scalar.TheVariants.{Number, Truth, Text}
+use Rattle.values.specs.declared.value.Scalar.TheVariants.{Number}
 use Rattle.values.specs.declared.value.Value.{Value}
-use Rattle.values.specs.declared.value.Value.TheVariants.{One, Many}
-use Rattle.syntax_trees.specs.Core.{Owned, local, input, output, Name, here, Expr, name, operator, none, Exprs, Form, compute, read, Cell, Call, Part, inner, calls, Outer, Awaited, scalar, Stmt, stmt, Action, declare, call_alone, assign, fill, insert, print, when, choose, range, each, wait, Block, Function, Core}
+use Rattle.values.specs.declared.value.Value.TheVariants.{One}
+use Rattle.syntax_trees.specs.Core.{local, Name, here, Form, Cell, Outer, Awaited, scalar, Stmt, stmt, assign, fill, insert, Core}
 use Rattle.syntax_trees.specs.Examples as example
 use Rattle.syntax_trees.specs.Examples.{plain, num, variable, block_of}
-use Rattle.syntax_trees.specs.Facts.{Fault, operation, no_element, element_twice, too_deep, Fact, value, element, line, fault, Knowledge, IsKey, a_number, OneWrite, OneWriter, KnownAll, no_cell, next_cell}
-use Rattle.syntax_trees.specs.Meaning.{Live, script, opened, waited, called, Closed, closed, Finished, no_target, write_known, Ready, cells_known, names_known, Come, scalar_known, HasValue, stored, in_turn, ValueUnder, of_literal, of_name, of_operator, no_operand, operand, Gives, computed, faulty, found, missing, Comes, before, now, LiveStmt, in_block, New, cell_value, cell_fault, assigned, filled, inserted, printed, written_twice, bad_range, too_deep_header, too_deep_call, Known, Meaning}
+use Rattle.syntax_trees.specs.Facts.{Fault, no_element, Fact, value, element, fault, Knowledge, IsKey, a_number}
+use Rattle.syntax_trees.specs.Meaning.{script, waited, closed, Finished, no_target, write_known, Ready, cells_known, names_known, Come, scalar_known, stored, of_literal, of_name, Gives, computed, faulty, missing, Comes, before, now, in_block, New, cell_value, cell_fault, assigned, filled, inserted, printed, written_twice, bad_range, too_deep_header, too_deep_call, Known, Meaning}
 use Rattle.syntax_trees.specs.Members.{◌∈◌, first, later}
-use Rattle.syntax_trees.specs.Openings.{Decides, in_turns, Opens, then_alone, then_first, else_second, turn, item, range_value}
 use Rattle.syntax_trees.specs.Outcomes.{Blocked}
-use Rattle.syntax_trees.specs.Parts.{block_list, cells, stmt_calls, stmt_action, stmt_at, stmt_node, part_cells, outer_parts}
-use Rattle.syntax_trees.specs.Places.{Path, Place, place, most_steps}
-use Rattle.syntax_trees.specs.Parts.{script_stmts, outer_cells}
+use Rattle.syntax_trees.specs.Parts.{block_list, cells, stmt_action}
+use Rattle.syntax_trees.specs.Places.{Path, Place, place}
+use Rattle.syntax_trees.specs.Parts.{script_stmts}
 use Rattle.syntax_trees.proofs.Flat.{Flat, opens_none, plain_stmt, call_free, flat_stmt, flat_value}
-use Rattle.syntax_trees.proofs.Scripts.{inner_live, inner_wait}
-use Rattle.syntax_trees.proofs.Sources.{CellValue, AssignValue, value_view, FillElement, InsertElement, element_view, outer_in, index_in, right_in}
+use Rattle.syntax_trees.proofs.Scripts.{inner_wait}
+use Rattle.syntax_trees.proofs.Sources.{CellValue, AssignValue, value_view, FillElement, InsertElement, element_view}
 
 -- A MISSING ELEMENT
 
@@ -215,10 +207,14 @@ never_ready vs (names_known f) = never_come (f (scalar (here 5)) first)
     never_come (scalar_known h) = y_unknown _ (flat_value W flat h)
 
 pub inner_blocked : Blocked W (Meaning W) 50 []
-inner_blocked = (18, stmt_action inner_wait, record {
-  live = in_block (waited script (later (later (later (later (later (later first)))))) (names_known outer_names)) first;
-  counts = tt;
-  no_fact = λ r. never_ready r.0 r.1;
-  no_fault = λ f (n, h). no_fault_known n f _ h;
-  no_cell_fault = λ c f i. elim i [ ];
-})
+inner_blocked = (
+  18,
+  stmt_action inner_wait,
+  record {
+    live = in_block (waited script (later (later (later (later (later (later first)))))) (names_known outer_names)) first;
+    counts = tt;
+    no_fact = λ r. never_ready r.0 r.1;
+    no_fault = λ f (n, h). no_fault_known n f _ h;
+    no_cell_fault = λ c f i. elim i [ ];
+  },
+)

@@ -1,22 +1,21 @@
 -- Two live assignments of one place are one: single assignment counts them on one way.
-use Rattle.std.specs.Prelude.{◌≡◌, ◌⊎◌, ℕ, zero, suc, ◌+◌, ◌<◌, ◌≤◌, ℤ, pos, List, [], ◌∷◌, length, Option, Some, None, slice_get, refl}
+use Rattle.std.specs.Prelude.{◌≡◌, ◌⊎◌, ℕ, zero, suc, ◌<◌, ◌≤◌, ℤ, pos, List, [], ◌∷◌, length, Option, Some, slice_get, refl}
 use Rattle.std.proofs.Common.{inl, inr, sym, ap, ◌∙◌, subst, arith}
 use Rattle.values.specs.declared.key.Key.{Key}
-use Rattle.values.specs.declared.key.Key.TheVariants as Key
 use Rattle.values.specs.declared.value.Value.{Value}
 use Rattle.syntax_trees.specs.Core.{Owned, local, output, Name, here, Call, Part, Outer, Awaited, Stmt, stmt, Action, declare, call_alone, assign, fill, insert, print, assert, when, choose, range, each, wait, Block, Function, Core}
 use Rattle.syntax_trees.specs.Facts.{Knowledge}
-use Rattle.syntax_trees.specs.Meaning.{Live, script, opened, waited, called, Ready, LiveStmt, in_block}
+use Rattle.syntax_trees.specs.Meaning.{Live, script, opened, waited, called, Ready, in_block}
 use Rattle.syntax_trees.specs.Members.{◌∈◌, first, later}
 use Rattle.syntax_trees.specs.Openings.{Opens, then_alone, then_first, else_second, turn, item}
-use Rattle.syntax_trees.specs.Parts.{block_list, script_blocks, script_stmts, stmts_among, stmts_within, blocks_of, blocks_below, stmt_calls, stmt_action, by_name, output_name}
+use Rattle.syntax_trees.specs.Parts.{block_list, script_blocks, script_stmts, stmts_among, stmts_within, blocks_of, blocks_below, stmt_calls, by_name, output_name}
 use Rattle.syntax_trees.specs.Places.{Path, Place, place, place_of}
-use Rattle.syntax_trees.specs.Single.{SinglyAssigned, Way, StmtWay, simple, IsNamed, Owns, declared_here, an_output, LoopBody, of_range, of_each}
+use Rattle.syntax_trees.specs.Single.{SinglyAssigned, Way, StmtWay, simple, IsNamed, Owns, declared_here, an_output, of_range, of_each}
 use Rattle.syntax_trees.specs.WellFormed.{header_blocks, Declares, Uses, own, inside, in_wait, IsHidden, IsAlone, NamesFound, CallsApart}
-use Rattle.syntax_trees.proofs.Blocks.{header_inner, inner_blocks, inner_below, of_below, below_below, among, among_script, inner_block, main_block, function_block}
-use Rattle.syntax_trees.proofs.Declared.{header_of, place_here, output_found, output_in, declared, live_block, stmt_in}
+use Rattle.syntax_trees.proofs.Blocks.{header_inner, inner_below, below_below, among, among_script, inner_block, main_block, function_block}
+use Rattle.syntax_trees.proofs.Declared.{header_of, place_here, output_found, output_in, declared, live_block}
 use Rattle.syntax_trees.proofs.Hinge.{Later, choice_stays}
-use Rattle.syntax_trees.proofs.Members.{split_in, to_left, to_right, either}
+use Rattle.syntax_trees.proofs.Members.{split_in, either}
 use Rattle.syntax_trees.proofs.Rounds.{OneAssign}
 use Rattle.syntax_trees.proofs.Ways.{times_of, times_in, times_two, block_way, two_ways, Inside, in_when, in_then, in_else, in_content, inside_way, Reach, at_once, into, reach_way, reach_within}
 

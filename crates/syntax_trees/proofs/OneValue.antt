@@ -1,9 +1,8 @@
 -- Where a place has one value, an expression has one, and a cell has one value or fault, also as knowledge grows.
-use Rattle.std.specs.Prelude.{◌≡◌, ◌⊎◌, ℕ, zero, suc, Bool, true, false, ℤ, pos, IsTrue, List, [], ◌∷◌, Option, Some, None, Result, Ok, Err, refl}
+use Rattle.std.specs.Prelude.{◌≡◌, ◌⊎◌, ℕ, Bool, true, false, IsTrue, List, [], ◌∷◌, Option, Some, Result, Ok, Err, refl}
 use Rattle.std.proofs.Common.{inl, inr, sym, ap, ◌∙◌, subst}
 use Rattle.values.specs.declared.fault.OpFault.{OpFault}
 use Rattle.values.specs.declared.key.Key.{Key}
-use Rattle.values.specs.declared.key.Key.TheVariants as Key
 use Rattle.values.specs.declared.map.Element.{Element}
 use Rattle.values.specs.declared.value.Scalar.{Scalar}
 use Rattle.values.specs.declared.value.Scalar.TheVariants.{Number}
@@ -12,11 +11,11 @@ use Rattle.values.specs.declared.value.Value.TheVariants.{One, Many}
 use Rattle.values.specs.Maps.{rising}
 use Rattle.values.specs.Operators.{evaluated}
 use Rattle.values.specs.Ranges.{value_in}
-use Rattle.syntax_trees.specs.Core.{Name, Expr, Exprs, Form, compute, read, Cell, Outer, Stmt, stmt, Action, range, each, Block, Core}
-use Rattle.syntax_trees.specs.Facts.{Fault, operation, no_element, Fact, value, element, Knowledge, IsKey, a_number, key_value, OneWrite, Elements}
-use Rattle.syntax_trees.specs.Meaning.{Closed, Ready, cells_known, source_closed, names_known, HasValue, stored, in_turn, ValueUnder, of_literal, of_name, of_array, of_operator, ValuesUnder, no_operand, operand, Gives, computed, faulty, found, missing}
+use Rattle.syntax_trees.specs.Core.{Name, Expr, Exprs, Form, Stmt, stmt, Action, each, Block, Core}
+use Rattle.syntax_trees.specs.Facts.{Fault, operation, value, element, Knowledge, IsKey, a_number, Elements}
+use Rattle.syntax_trees.specs.Meaning.{Ready, cells_known, source_closed, HasValue, stored, in_turn, ValueUnder, of_literal, of_name, of_array, of_operator, ValuesUnder, no_operand, operand, Gives, computed, faulty, found, missing}
 use Rattle.syntax_trees.specs.Members.{◌∈◌}
-use Rattle.syntax_trees.specs.Openings.{Bounds, bounds, Opens, InTurn, range_value, range_turn, each_value, each_key}
+use Rattle.syntax_trees.specs.Openings.{Bounds, InTurn, range_value, range_turn, each_value, each_key}
 use Rattle.syntax_trees.specs.Parts.{script_stmts}
 use Rattle.syntax_trees.specs.Places.{Path, Place, Step, place}
 use Rattle.syntax_trees.specs.WellFormed.{NamesFound, LoopsApart, Role, range_value_role, range_turn_role, each_value_role, each_key_role}

@@ -4,8 +4,8 @@ use Rattle.syntax_trees.specs.ExampleTrees as tree
 use Rattle.syntax_trees.specs.Resolved.{core}
 use Rattle.syntax_trees.specs.Single.{SinglyAssigned}
 use Rattle.syntax_trees.specs.WellFormed.{WellFormed}
-use Rattle.syntax_trees.proofs.TestedNames.{Passes, well_formed}
-use Rattle.syntax_trees.proofs.TestedSingle.{PassesSingle, singly_assigned}
+use Rattle.syntax_trees.proofs.TestedNames.{well_formed}
+use Rattle.syntax_trees.proofs.TestedSingle.{singly_assigned}
 
 pub read_before_assignment : WellFormed (core tree.table_of_read_before_assignment tree.tree_of_read_before_assignment) × SinglyAssigned (core tree.table_of_read_before_assignment tree.tree_of_read_before_assignment)
 read_before_assignment = (
@@ -90,4 +90,3 @@ fibonacci = (
   well_formed (core tree.table_of_fibonacci tree.tree_of_fibonacci) (record { nodes_once = refl; writers_once = refl; offsets_once = refl; targets = refl; named = refl; script_body = refl; headers = refl; waits = refl; functions = refl; calls = refl; hidden = refl; fills = refl }),
   singly_assigned (core tree.table_of_fibonacci tree.tree_of_fibonacci) (record { declared = refl; outputs = refl; inputs = refl; loops = refl }),
 )
-

@@ -1,16 +1,15 @@
 -- Every round has one value at a place, and what is known after a round is written by what is live then.
-use Rattle.std.specs.Prelude.{◌≡◌, ◌⊎◌, ℕ, zero, suc, ◌≤◌, Bool, true, false, IsTrue, List, Result, Ok, refl, max}
+use Rattle.std.specs.Prelude.{◌≡◌, ◌⊎◌, ℕ, zero, suc, ◌≤◌, Bool, IsTrue, List, Result, Ok, refl, max}
 use Rattle.std.proofs.Common.{inl, inr, sym, ap, ◌∙◌, subst, arith}
 use Rattle.values.specs.declared.key.Key.{Key}
-use Rattle.values.specs.declared.key.Key.TheVariants as Key
 use Rattle.values.specs.declared.map.Element.{Element}
 use Rattle.values.specs.declared.value.Scalar.{Scalar}
 use Rattle.values.specs.declared.value.Value.{Value}
 use Rattle.values.specs.declared.value.Value.TheVariants.{One, Many}
 use Rattle.values.specs.Maps.{rising, element as entry}
-use Rattle.syntax_trees.specs.Core.{Owned, Name, Form, Cell, Outer, Stmt, stmt, Action, assign, fill, insert, Block, Core}
-use Rattle.syntax_trees.specs.Facts.{Fault, Fact, value, element, Knowledge, IsKey, a_number}
-use Rattle.syntax_trees.specs.Meaning.{IsTarget, Closed, Gives, Comes, before, now, LiveStmt, New, cell_value, Round, Known}
+use Rattle.syntax_trees.specs.Core.{Owned, Name, Form, Cell, Outer, Stmt, stmt, assign, fill, insert, Core}
+use Rattle.syntax_trees.specs.Facts.{Fault, Fact, value, element, Knowledge, IsKey}
+use Rattle.syntax_trees.specs.Meaning.{IsTarget, Closed, Gives, Comes, before, now, LiveStmt, New, cell_value, Known}
 use Rattle.syntax_trees.specs.Members.{◌∈◌, first}
 use Rattle.syntax_trees.specs.Parts.{script_stmts, cells}
 use Rattle.syntax_trees.specs.Places.{Path, Place, place}
@@ -20,7 +19,7 @@ use Rattle.syntax_trees.proofs.Growth.{Grows, keeps_stmt}
 use Rattle.syntax_trees.proofs.Hinge.{Later, Wrote, FinishedIn, no_target_in, value_in, write_in, blocks_in, closed_in, live_finished, grows}
 use Rattle.syntax_trees.proofs.OneValue.{OneEach, gives_same, key_same}
 use Rattle.syntax_trees.proofs.Rising.{rising_once}
-use Rattle.syntax_trees.proofs.Sources.{CellValue, AssignValue, value_view, FillElement, InsertElement, element_view, outer_in, index_in, right_in, IsWhole, many_given, IsFull, cell_gives, known_full}
+use Rattle.syntax_trees.proofs.Sources.{CellValue, AssignValue, value_view, FillElement, InsertElement, element_view, outer_in, index_in, right_in, many_given, IsFull, cell_gives, known_full}
 
 -- two live assignments of one place are one
 abbrev pub OneAssign : Core → Knowledge → Type 0

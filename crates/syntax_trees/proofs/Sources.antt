@@ -1,6 +1,6 @@
 -- Where values and elements come from.
 use Rattle.std.specs.Prelude.{◌≡◌, ◌⊎◌, ℕ, zero, suc, Bool, true, false, IsTrue, List, [], ◌∷◌, ◌++◌, Result, Ok, Err, refl, cond, pos, length}
-use Rattle.std.proofs.Common.{inl, inr, sym, ap, ◌∙◌, subst}
+use Rattle.std.proofs.Common.{inl, inr, sym, ap, subst}
 use Rattle.values.specs.declared.fault.OpFault.{OpFault}
 use Rattle.values.specs.declared.key.Key.{Key}
 use Rattle.values.specs.declared.map.Element.{Element}
@@ -9,11 +9,11 @@ use Rattle.values.specs.declared.value.Value.{Value}
 use Rattle.values.specs.declared.value.Value.TheVariants.{One, Many}
 use Rattle.values.specs.Maps.{rising, element as entry}
 use Rattle.values.specs.Numbers.{fits}
-use Rattle.values.specs.Operators.{literal, evaluated, on_all, all_values, numbered}
+use Rattle.values.specs.Operators.{literal, on_all, all_values, numbered}
 use Rattle.values.proofs.Literals.{rising_numbered}
-use Rattle.syntax_trees.specs.Core.{Name, Form, Cell, Part, inner, calls, Outer, Stmt, stmt, Action, assign, fill, insert, Core}
-use Rattle.syntax_trees.specs.Facts.{Fault, Fact, value, element, Knowledge, IsKey, Elements}
-use Rattle.syntax_trees.specs.Meaning.{ValueUnder, of_array, of_operator, Gives, computed, Comes, now, LiveStmt, New, cell_value, cell_fault, assigned, filled, inserted, printed, bad_range, too_deep_header, too_deep_call, written_twice, Known}
+use Rattle.syntax_trees.specs.Core.{Name, Form, Cell, Part, inner, calls, Outer, Stmt, stmt, assign, fill, insert, Core}
+use Rattle.syntax_trees.specs.Facts.{Fact, value, element, Knowledge, IsKey}
+use Rattle.syntax_trees.specs.Meaning.{of_array, of_operator, Gives, computed, Comes, now, LiveStmt, New, cell_value, cell_fault, assigned, filled, inserted, printed, bad_range, too_deep_header, too_deep_call, written_twice, Known}
 use Rattle.syntax_trees.specs.Members.{◌∈◌, first, later}
 use Rattle.syntax_trees.specs.Parts.{script_stmts, cells, part_cells}
 use Rattle.syntax_trees.specs.Places.{Path, Place, place}

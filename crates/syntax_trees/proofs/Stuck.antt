@@ -1,31 +1,19 @@
 -- Scripts that stop before their end: circles of assignments, and what waits for them.
-use Rattle.std.specs.Prelude.{◌≡◌, ◌≢◌, ◌⊎◌, ℕ, zero, suc, ◌+◌, ◌<◌, ◌≤◌, Bool, true, false, ◌&&◌, List, [], ◌∷◌, ◌++◌, map, length, Option, Some, None, Result, Ok, Err, ℤ, pos, negsuc, refl, codes}
-use Rattle.std.specs.Fmt.{digits}
-use Rattle.std.proofs.Common.{inl, inr, sym, ap, subst, ◌∙◌, arith}
-use Rattle.values.specs.declared.fault.OpFault.{OpFault}
-use Rattle.values.specs.declared.fault.OpFault.TheVariants.{Overflow, DivideByZero}
-use Rattle.values.specs.declared.key.Key.{Key}
-use Rattle.values.specs.declared.key.Key.TheVariants as Key
-use Rattle.values.specs.declared.format.Piece.TheVariants as Piece
-use Rattle.values.specs.declared.op.Sign.TheVariants as Sign
-use Rattle.values.specs.Operators as op
-use Rattle.values.specs.declared.value.Scalar.{Scalar}
-use Rattle.values.specs.declared.value.Scalar.TheVariants.{Number, Truth, Text}
+use Rattle.std.specs.Prelude.{◌≡◌, ℕ, zero, suc, [], Result, refl}
+use Rattle.std.proofs.Common.{inl, inr, subst}
 use Rattle.values.specs.declared.value.Value.{Value}
-use Rattle.values.specs.declared.value.Value.TheVariants.{One, Many}
-use Rattle.syntax_trees.specs.Core.{Owned, local, input, output, Name, here, Expr, name, operator, none, Exprs, Form, compute, read, Cell, Call, Part, inner, calls, Outer, Awaited, scalar, Stmt, stmt, Action, declare, call_alone, assign, fill, insert, print, assert, when, choose, range, each, wait, Block, Function, Core}
+use Rattle.syntax_trees.specs.Core.{Form, Cell, Stmt, stmt, Action, declare, call_alone, assign, fill, insert, print, assert, when, choose, range, each, wait, Core}
 use Rattle.syntax_trees.specs.Examples as example
 use Rattle.syntax_trees.specs.Examples.{plain, num, variable, block_of}
-use Rattle.syntax_trees.specs.Facts.{Fault, operation, no_element, element_twice, too_deep, Fact, value, element, line, fault, Knowledge, IsKey, a_number, OneWrite, OneWriter, KnownAll, no_cell, next_cell}
-use Rattle.syntax_trees.specs.Meaning.{Live, script, opened, waited, called, Closed, closed, Finished, no_target, write_known, Ready, cells_known, names_known, Come, scalar_known, HasValue, stored, in_turn, ValueUnder, of_literal, of_name, of_operator, no_operand, operand, Gives, computed, faulty, found, missing, Comes, before, now, LiveStmt, in_block, New, cell_value, cell_fault, assigned, filled, inserted, printed, written_twice, bad_range, too_deep_header, too_deep_call, Known, Meaning}
+use Rattle.syntax_trees.specs.Facts.{Fault, Fact, Knowledge}
+use Rattle.syntax_trees.specs.Meaning.{script, of_name, of_operator, operand, Gives, computed, faulty, Comes, before, now, LiveStmt, in_block, New, cell_value, cell_fault, assigned, filled, inserted, printed, written_twice, bad_range, too_deep_header, too_deep_call, Known, Meaning}
 use Rattle.syntax_trees.specs.Members.{◌∈◌, first, later}
-use Rattle.syntax_trees.specs.Openings.{Decides, in_turns, Opens, then_alone, then_first, else_second, turn, item, range_value}
 use Rattle.syntax_trees.specs.Outcomes.{OwnFact, Counts, Blocked}
-use Rattle.syntax_trees.specs.Parts.{block_list, cells, stmt_calls, stmt_action, stmt_at, stmt_node, part_cells, outer_parts}
-use Rattle.syntax_trees.specs.Places.{Path, Place, place, most_steps}
-use Rattle.syntax_trees.specs.Parts.{script_stmts, outer_cells}
+use Rattle.syntax_trees.specs.Parts.{block_list, cells}
+use Rattle.syntax_trees.specs.Places.{Path}
+use Rattle.syntax_trees.specs.Parts.{script_stmts}
 use Rattle.syntax_trees.proofs.Flat.{Flat, opens_none, plain_stmt, call_free, flat_stmt, flat_value}
-use Rattle.syntax_trees.proofs.Sources.{CellValue, AssignValue, value_view, outer_in, index_in, right_in}
+use Rattle.syntax_trees.proofs.Sources.{outer_in, index_in}
 
 abbrev pub IsEmpty : Knowledge → Type 0
 IsEmpty K = (f : Fact) → K f → ⊥
@@ -88,13 +76,17 @@ IsAssign (print p e) = Unit {0}
 IsAssign _ = ⊥
 
 blocked_in : {s : Core} {at n : ℕ} {a : Action} → IsEmpty (Meaning s) → stmt at n a ∈ block_list s.body → IsAssign a → Blocked s (Meaning s) at []
-blocked_in {s} {at} {n} {a} empty m h = (n, a, record {
-  live = in_block script m;
-  counts = counts a h;
-  no_fact = no_own a h;
-  no_fault = λ f k. empty _ k;
-  no_cell_fault = λ c f i k. empty _ k;
-})
+blocked_in {s} {at} {n} {a} empty m h = (
+  n,
+  a,
+  record {
+    live = in_block script m;
+    counts = counts a h;
+    no_fact = no_own a h;
+    no_fault = λ f k. empty _ k;
+    no_cell_fault = λ c f i k. empty _ k;
+  },
+)
   where
     counts : (a : Action) → IsAssign a → Counts a
     counts (assign x e) h = tt

@@ -1,13 +1,12 @@
 -- A test that a core keeps what an accepted script's core keeps.
-use Rattle.std.specs.Prelude.{◌≡◌, ◌⊎◌, ℕ, zero, suc, ◌<◌, Bool, true, false, not, ◌&&◌, ◌||◌, List, [], ◌∷◌, ◌++◌, map, length, Option, Some, None, cond, nat_eq, nat_lt, find, slice_get, refl}
+use Rattle.std.specs.Prelude.{◌≡◌, ◌⊎◌, ℕ, zero, suc, Bool, true, false, not, ◌&&◌, ◌||◌, List, [], ◌∷◌, ◌++◌, Option, Some, None, cond, nat_eq, find, refl}
 use Rattle.std.proofs.Common.{inl, inr, sym, ap, ◌∙◌, subst, arith}
-use Rattle.std.proofs.lemmas.Bool.{eqb-true, ltb-true}
-use Rattle.values.specs.Operators.{Operation, literal}
-use Rattle.syntax_trees.specs.Core.{Owned, local, input, output, Name, here, Expr, whole, operator, Form, compute, read, Cell, Call, Part, inner, calls, Outer, Stmt, stmt, Action, declare, call_alone, assign, fill, insert, print, assert, when, choose, range, each, wait, Block, no_stmts, stmts, Function, Core}
+use Rattle.std.proofs.lemmas.Bool.{eqb-true}
+use Rattle.syntax_trees.specs.Core.{Owned, local, input, output, Name, here, Cell, Call, Outer, Stmt, stmt, Action, declare, call_alone, assign, fill, insert, range, each, Block, Core}
 use Rattle.syntax_trees.specs.Members.{◌∈◌, first, later}
-use Rattle.syntax_trees.specs.Parts.{block_list, script_blocks, script_stmts, stmts_among, stmt_calls, part_calls, part_cells, parts, outers, outer_parts, cells, by_name, by_element, calls_among, call_at, name_at, output_name}
+use Rattle.syntax_trees.specs.Parts.{block_list, script_blocks, script_stmts, stmts_among, stmt_calls, part_calls, part_cells, parts, cells, by_name, calls_among, call_at, name_at, output_name}
 use Rattle.syntax_trees.specs.Places.{Path, Place, place, place_of}
-use Rattle.syntax_trees.specs.WellFormed.{IsOwnTarget, header_blocks, Declares, Uses, own, inside, in_wait, IsHidden, IsAlone, NamesFound, CallsApart, IsMany, a_list, a_copy, CellsApart, Role, range_value_role, range_turn_role, each_value_role, each_key_role, LoopsApart, WritersApart, WellFormed}
+use Rattle.syntax_trees.specs.WellFormed.{Declares, Role, range_value_role, range_turn_role, each_value_role, each_key_role}
 use Rattle.syntax_trees.proofs.Members.{split_in, to_left, to_right, either}
 
 -- LISTS OF NUMBERS

@@ -1,18 +1,18 @@
 -- A test that names stand where they are declared, and that calls are found.
-use Rattle.std.specs.Prelude.{◌≡◌, ◌⊎◌, ℕ, zero, suc, ◌<◌, Bool, true, false, not, ◌&&◌, ◌||◌, List, [], ◌∷◌, ◌++◌, map, length, Option, Some, None, ℤ, cond, nat_eq, nat_lt, find, slice_get, refl}
+use Rattle.std.specs.Prelude.{◌≡◌, ◌⊎◌, ℕ, zero, suc, ◌<◌, Bool, true, false, not, ◌&&◌, ◌||◌, List, [], ◌∷◌, ◌++◌, length, Option, Some, None, ℤ, cond, nat_eq, nat_lt, find, slice_get, refl}
 use Rattle.std.proofs.Common.{inl, inr, sym, ap, ◌∙◌, subst, arith}
 use Rattle.std.proofs.lemmas.Bool.{eqb-true, ltb-true}
 use Rattle.values.specs.Operators as op
 use Rattle.values.specs.Operators.{literal}
-use Rattle.syntax_trees.specs.Core.{Owned, local, input, output, Name, here, Expr, literal as lit, name as nm, whole, operator, Form, compute, read, Cell, Call, Part, inner, calls, Outer, Awaited, Stmt, stmt, Action, declare, call_alone, assign, fill, insert, print, assert, when, choose, range, each, wait, Block, no_stmts, stmts, Function, Core}
+use Rattle.syntax_trees.specs.Core.{Owned, local, input, output, Name, here, literal as lit, name as nm, whole, operator, Form, compute, read, Call, Part, inner, calls, Outer, Stmt, stmt, Action, declare, call_alone, assign, fill, insert, print, assert, when, choose, range, each, wait, Block, no_stmts, stmts, Function, Core}
 use Rattle.syntax_trees.specs.Members.{◌∈◌, first, later}
-use Rattle.syntax_trees.specs.Parts.{block_list, script_blocks, script_stmts, stmts_among, stmt_calls, part_calls, parts, outer_parts, outers, cells, by_name, by_element, calls_among, call_at}
-use Rattle.syntax_trees.specs.WellFormed.{IsOwnTarget, header_blocks, Declares, Uses, own, inside, in_wait, IsHidden, IsAlone, NamesFound, CallsApart, IsMany, a_list, a_copy, CellsApart, LoopsApart, WritersApart, WellFormed}
-use Rattle.syntax_trees.proofs.Blocks.{among_script, function_block}
-use Rattle.syntax_trees.proofs.Declared.{local_same, header_of}
+use Rattle.syntax_trees.specs.Parts.{block_list, script_blocks, script_stmts, stmt_calls, part_calls, parts, by_name, by_element, calls_among, call_at}
+use Rattle.syntax_trees.specs.WellFormed.{header_blocks, Declares, Uses, own, inside, in_wait, IsHidden, IsAlone, IsMany, a_list, a_copy, WellFormed}
+use Rattle.syntax_trees.proofs.Blocks.{among_script}
+use Rattle.syntax_trees.proofs.Declared.{local_same}
 use Rattle.syntax_trees.proofs.OneAssign.{function_in}
 use Rattle.syntax_trees.proofs.Members.{split_in, to_left, to_right, either}
-use Rattle.syntax_trees.proofs.Tested.{has, distinct, flat, both, either_true, true_left, true_right, has_in, in_has, self_eq, distinct_apart, distinct_right, flat_in, flat_once, every, every_in, declared_of, name_nodes, hidden_calls, hidden_of, nodes, action_nodes, block_nodes, writer_of, declared_node, hidden_node, declared_apart, stmt_once, stmt_distinct, cell_once, role_once, role_cells, one_block, targets_fine, among_calls, call_among, found_one, assign_apart, role_assign, split_flat, among_split, hidden_distinct}
+use Rattle.syntax_trees.proofs.Tested.{has, distinct, flat, both, either_true, has_in, in_has, self_eq, distinct_apart, distinct_right, flat_in, flat_once, every, every_in, declared_of, name_nodes, hidden_calls, hidden_of, nodes, block_nodes, writer_of, declared_node, hidden_node, stmt_once, stmt_distinct, cell_once, role_once, role_cells, one_block, targets_fine, call_among, assign_apart, role_assign, split_flat, among_split, hidden_distinct}
 
 -- NAMES
 

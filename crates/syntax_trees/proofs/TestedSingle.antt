@@ -1,14 +1,12 @@
 -- A test that a core is singly assigned.
-use Rattle.std.specs.Prelude.{◌≡◌, ◌⊎◌, ℕ, zero, suc, ◌+◌, ◌<◌, ◌≤◌, Bool, true, false, not, ◌&&◌, ◌||◌, List, [], ◌∷◌, ◌++◌, map, Option, Some, None, nat_eq, nat_lt, nat_le, max, min, refl}
+use Rattle.std.specs.Prelude.{◌≡◌, ◌⊎◌, ℕ, zero, suc, ◌+◌, ◌<◌, ◌≤◌, Bool, true, false, not, ◌&&◌, ◌||◌, List, [], ◌∷◌, Some, None, nat_eq, nat_lt, max, min, refl}
 use Rattle.std.proofs.Common.{inl, inr, sym, ap, ◌∙◌, subst, arith}
 use Rattle.std.proofs.lemmas.Bool.{eqb-true, ltb-true}
-use Rattle.values.specs.Operators.{Operation}
-use Rattle.syntax_trees.specs.Core.{Owned, local, input, output, Name, Expr, literal, name, whole, operator, Exprs, none, also, Form, compute, read, Cell, Call, Part, Outer, Awaited, scalar, array, Stmt, stmt, Action, declare, call_alone, assign, fill, insert, print, assert, when, choose, range, each, wait, Block, no_stmts, stmts, Function, Core}
+use Rattle.syntax_trees.specs.Core.{Owned, local, input, output, Name, Expr, literal, name, whole, operator, Exprs, none, also, Form, compute, read, Cell, Awaited, scalar, array, Stmt, stmt, Action, declare, call_alone, assign, fill, insert, print, assert, when, choose, range, each, wait, Block, no_stmts, stmts, Function, Core}
 use Rattle.syntax_trees.specs.Members.{◌∈◌, first, later}
 use Rattle.syntax_trees.specs.Parts.{block_list, script_blocks, script_stmts, stmts_within, cells, stmt_action, by_name, by_element}
 use Rattle.syntax_trees.specs.Single.{Times, nowhere, here_too, not_here, IsSimple, Way, way_end, way_on, StmtWay, simple, taken, skipped, then_way, else_way, range_way, each_way, wait_way, IsNamed, IsWritten, Reads, the_name, an_operand, ReadsSome, the_first, a_later, IsRead, in_cell, in_wait, Owns, declared_here, an_output, Given, an_input, range_value, range_turn, each_value, each_key, LoopBody, of_range, of_each, SinglyAssigned}
-use Rattle.syntax_trees.proofs.Members.{split_in, to_left, to_right, either}
-use Rattle.syntax_trees.proofs.Tested.{has, flat, both, either_true, true_left, true_right, has_in, in_has, self_eq, flat_in, every, every_in, declared_of, roles_of}
+use Rattle.syntax_trees.proofs.Tested.{both, either_true, true_left, true_right, self_eq, flat_in, every, every_in, roles_of}
 use Rattle.syntax_trees.proofs.TestedNames.{declared_by, declared_in}
 
 -- COUNTS
@@ -336,7 +334,6 @@ given_of x b h =
     let a = both (nat_eq (most x b) 0) (every (loop_fine x) (stmts_within b) && not (written x b)) h in
     let c = both (every (loop_fine x) (stmts_within b)) (not (written x b)) a.1 in
     record { none_at_all = eqb-true (most x b) 0 a.0; loops = c.0; form = c.1 }
-
 
 module _ (s : Core) (g : PassesSingle s) where
   owner : {x : Owned} {b : Block} → Owns s x b → IsOwner x b

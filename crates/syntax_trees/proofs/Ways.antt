@@ -1,13 +1,13 @@
 -- Ways through blocks: each block has one, and what is assigned counts on some way.
-use Rattle.std.specs.Prelude.{◌≡◌, ◌⊎◌, ℕ, zero, suc, ◌+◌, ◌≤◌, List, [], ◌∷◌, Option, Some, None, slice_get, refl}
+use Rattle.std.specs.Prelude.{◌≡◌, ◌⊎◌, ℕ, zero, suc, ◌+◌, ◌≤◌, List, [], ◌∷◌, Some, slice_get, refl}
 use Rattle.std.proofs.Common.{inl, inr, sym, ap, ◌∙◌, subst, arith}
 use Rattle.syntax_trees.specs.Core.{Owned, local, input, output, Name, Outer, Awaited, Stmt, stmt, Action, declare, call_alone, assign, fill, insert, print, assert, when, choose, range, each, wait, Block, no_stmts, stmts}
 use Rattle.syntax_trees.specs.Members.{◌∈◌, first, later}
-use Rattle.syntax_trees.specs.Parts.{block_list, blocks_below, blocks_of, stmts_among, stmts_within, by_name}
+use Rattle.syntax_trees.specs.Parts.{block_list, blocks_of, stmts_within}
 use Rattle.syntax_trees.specs.Single.{Times, nowhere, here_too, not_here, Way, way_end, way_on, StmtWay, simple, taken, skipped, then_way, else_way, range_way, each_way, wait_way}
 use Rattle.syntax_trees.proofs.Blocks.{inner_blocks, inner_below, of_below, below_below, among}
 use Rattle.syntax_trees.proofs.Declared.{nat_is}
-use Rattle.syntax_trees.proofs.Members.{split_in, to_left, to_right, either}
+use Rattle.syntax_trees.proofs.Members.{split_in}
 
 local_local : {m n : ℕ} → local m ≡ local n → m ≡ n
 local_local h = cc

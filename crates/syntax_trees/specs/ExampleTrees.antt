@@ -1,14 +1,11 @@
 -- The trees of the scripts of Examples, with the tables of their names.
-use Rattle.std.specs.Prelude.{ℕ, ◌+◌, ℤ, pos, Bool, true, false, nat_eq, List, [], ◌∷◌, length, Option, Some, None, codes, if◌then◌else◌}
-use Rattle.lexer.specs.declared.token.Span.{Span}
+use Rattle.std.specs.Prelude.{ℕ, ◌+◌, pos, false, nat_eq, List, [], ◌∷◌, length, Some, None, codes, if◌then◌else◌}
 use Rattle.syntax_trees.specs.declared.tree.Base.TheVariants as Base
 use Rattle.syntax_trees.specs.declared.tree.Operator.TheVariants as Operator
-use Rattle.syntax_trees.specs.declared.tree.Prefix.TheVariants as Prefix
 use Rattle.syntax_trees.specs.declared.tree.Shape.{Shape}
-use Rattle.syntax_trees.specs.declared.tree.Shape.TheVariants as Shape
 use Rattle.syntax_trees.specs.Core.{Name, local, input, output, here}
-use Rattle.syntax_trees.specs.Table.{Table, Callee, composite, built_in, strcat, fromint, toint, size, printf, assert}
-use Rattle.syntax_trees.specs.Tree.{Word, Node, expression, number, text, truth, variable, element, call, prefixed, chain, expressions_of, value, list, array, range, statement, declare, assign, write, assign_all, calls, choice, choice_else, loop, waits, body, statements_of, function, single, Tree}
+use Rattle.syntax_trees.specs.Table.{Table, Callee, composite, built_in, size, printf}
+use Rattle.syntax_trees.specs.Tree.{Word, Node, expression, number, text, truth, variable, element, call, chain, expressions_of, value, range, statement, declare, assign, write, assign_all, calls, choice_else, loop, waits, body, statements_of, function, single, Tree}
 
 -- a name with its number and where it begins
 abbrev pub word : ℕ → ℕ → List ℕ → Word

@@ -1,12 +1,11 @@
 -- Cores of small scripts. The text of each stands above it; nodes are numbered in reading order.
-use Rattle.std.specs.Prelude.{ℕ, ℤ, pos, negsuc, true, false, List, [], ◌∷◌, map, Option, Some, None, codes}
+use Rattle.std.specs.Prelude.{ℕ, pos, false, List, [], ◌∷◌, None}
 use Rattle.values.specs.declared.format.Piece.{Piece}
-use Rattle.values.specs.declared.format.Piece.TheVariants as Piece
 use Rattle.values.specs.declared.op.Factor.TheVariants as Factor
 use Rattle.values.specs.declared.op.Sign.TheVariants as Sign
 use Rattle.values.specs.declared.value.Scalar.TheVariants.{Number, Truth}
-use Rattle.values.specs.Operators.{Operation, sum_of, product_of, equal, all_true, printf, size}
-use Rattle.syntax_trees.specs.Core.{Name, local, input, output, here, Expr, literal, name, whole, operator, Exprs, none, also, compute, read, Cell, Call, Part, inner, calls, Outer, scalar, Stmt, stmt, declare, call_alone, assign, insert, print, range, wait, Block, no_stmts, stmts, Core}
+use Rattle.values.specs.Operators.{sum_of, product_of, equal, all_true, printf}
+use Rattle.syntax_trees.specs.Core.{local, input, output, here, Expr, literal, name, operator, Exprs, none, also, compute, read, inner, calls, Outer, scalar, Stmt, stmt, declare, call_alone, assign, insert, print, range, wait, Block, no_stmts, stmts, Core}
 
 -- a cell that is an expression, with nothing inside it
 abbrev pub plain : ℕ → Expr → Outer
@@ -51,15 +50,15 @@ loop_reads_what_it_writes = script_of (
     stmt 0 1 (declare 2)
     ∷ stmt 9 3 (insert (here 2) (plain 5 (num 0)) (plain 6 (num 1)))
     ∷ stmt 19 7 (range (plain 9 (num 1)) (plain 10 (num 2)) None 8 None (block_of (
-      stmt 40 11 (insert (record { up = 1; what = local 2 }) (plain 13 (variable 8)) (record {
-        parts = inner (record { node = 18; form = compute (operator (sum_of (Sign.Minus ∷ [])) (two (variable 8) (num 1))) })
-            ∷ inner (record { node = 16; form = read (record { up = 1; what = local 2 }) 18 }) ∷ [];
-        cell = record { node = 15; form = compute (operator (product_of (Factor.Times ∷ [])) (two (variable 16) (num 2))) };
-      })) ∷ [])))
+    stmt 40 11 (insert (record { up = 1; what = local 2 }) (plain 13 (variable 8)) (record {
+      parts = inner (record { node = 18; form = compute (operator (sum_of (Sign.Minus ∷ [])) (two (variable 8) (num 1))) })
+          ∷ inner (record { node = 16; form = read (record { up = 1; what = local 2 }) 18 }) ∷ [];
+      cell = record { node = 15; form = compute (operator (product_of (Factor.Times ∷ [])) (two (variable 16) (num 2))) };
+    })) ∷ [])))
     ∷ stmt 61 23 (print (pos 0) (record {
-        parts = inner (record { node = 29; form = compute (num 2) }) ∷ inner (record { node = 27; form = read (here 2) 29 }) ∷ [];
-        cell = record { node = 24; form = compute (print_number (variable 27)) };
-      }))
+      parts = inner (record { node = 29; form = compute (num 2) }) ∷ inner (record { node = 27; form = read (here 2) 29 }) ∷ [];
+      cell = record { node = 24; form = compute (print_number (variable 27)) };
+    }))
     ∷ [])
 
 -- int A[]; A[0] = 1; A[0] = 2;
@@ -76,9 +75,9 @@ missing_element = script_of (
     stmt 0 1 (declare 2)
     ∷ stmt 9 3 (insert (here 2) (plain 5 (num 0)) (plain 6 (num 1)))
     ∷ stmt 19 7 (print (pos 0) (record {
-        parts = inner (record { node = 13; form = compute (num 3) }) ∷ inner (record { node = 11; form = read (here 2) 13 }) ∷ [];
-        cell = record { node = 8; form = compute (print_number (variable 11)) };
-      }))
+      parts = inner (record { node = 13; form = compute (num 3) }) ∷ inner (record { node = 11; form = read (here 2) 13 }) ∷ [];
+      cell = record { node = 8; form = compute (print_number (variable 11)) };
+    }))
     ∷ [])
 
 -- int x; int y; x = y; y = x; printf("%i", x);
@@ -111,9 +110,9 @@ fault_in_index = script_of (
     ∷ stmt 30 11 (assign (here 6) (plain 13 (variable 4)))
     ∷ stmt 37 15 (insert (here 2) (plain 17 (num 0)) (plain 18 (num 1)))
     ∷ stmt 47 19 (print (pos 0) (record {
-        parts = inner (record { node = 26; form = compute (operator (product_of (Factor.Divide ∷ [])) (two (num 1) (num 0))) }) ∷ inner (record { node = 24; form = read (here 2) 26 }) ∷ [];
-        cell = record { node = 20; form = compute (print_number (operator (sum_of (Sign.Plus ∷ [])) (two (variable 24) (variable 4)))) };
-      }))
+      parts = inner (record { node = 26; form = compute (operator (product_of (Factor.Divide ∷ [])) (two (num 1) (num 0))) }) ∷ inner (record { node = 24; form = read (here 2) 26 }) ∷ [];
+      cell = record { node = 20; form = compute (print_number (operator (sum_of (Sign.Plus ∷ [])) (two (variable 24) (variable 4)))) };
+    }))
     ∷ [])
 
 -- boolean b = false && 1 %/ 0 == 1;
@@ -177,6 +176,6 @@ nested_waits = script_of (
     ∷ stmt 25 8 (assign (here 5) (plain 10 (variable 7)))
     ∷ stmt 32 12 (assign (here 7) (plain 14 (variable 5)))
     ∷ stmt 39 16 (wait (scalar (here 2) ∷ []) (block_of (
-      stmt 50 18 (wait (scalar (here 5) ∷ []) (block_of (
-        stmt 61 20 (print (pos 0) (plain 21 (operator (printf (Piece.Byte 113 ∷ [])) none))) ∷ []))) ∷ [])))
+    stmt 50 18 (wait (scalar (here 5) ∷ []) (block_of (
+    stmt 61 20 (print (pos 0) (plain 21 (operator (printf (Piece.Byte 113 ∷ [])) none))) ∷ []))) ∷ [])))
     ∷ [])

@@ -1,6 +1,6 @@
 -- What the core of an accepted script keeps: where its names stand, which calls are found, and which nodes are of one thing.
-use Rattle.std.specs.Prelude.{◌≡◌, ◌⊎◌, ℕ, suc, ◌<◌, List, [], ◌∷◌, length, Option, Some, slice_get, ℤ, Bool, true, false}
-use Rattle.syntax_trees.specs.Core.{Owned, local, output, Name, here, Expr, whole, operator, Exprs, Form, compute, Cell, Call, Part, Outer, Stmt, stmt, Action, declare, call_alone, assign, fill, insert, when, choose, range, each, wait, Awaited, Block, Function, Core}
+use Rattle.std.specs.Prelude.{◌≡◌, ◌⊎◌, ℕ, suc, List, [], ◌∷◌, length, Option, Some, slice_get, ℤ, Bool, true, false}
+use Rattle.syntax_trees.specs.Core.{Owned, local, output, Name, here, whole, operator, Exprs, Form, compute, Cell, Call, Part, Outer, Stmt, stmt, Action, declare, call_alone, assign, fill, insert, when, choose, range, each, wait, Awaited, Block, Function, Core}
 use Rattle.syntax_trees.specs.Members.{◌∈◌}
 use Rattle.syntax_trees.specs.Parts.{block_list, script_blocks, script_stmts, cells, stmt_calls, call_at, by_name, by_element}
 use Rattle.syntax_trees.specs.Places.{Path, place}
