@@ -11,7 +11,10 @@ use Rattle.task_code.specs.Compute as Pure
 use Rattle.task_code.specs.View.{entry_view}
 use Rattle.board_work.specs.declared.work.Job.{Job}
 use Rattle.board_work.specs.declared.work.Job.TheVariants as Does
-use Rattle.board_work.specs.Outcome.{control_result}
+use Rattle.board_work.specs.declared.outcome.Outcome.{Outcome}
+use Rattle.board_work.specs.declared.outcome.Outcome.TheVariants as Of
+use Rattle.board_work.specs.Outcome.{computed_in, control_result}
+use Rattle.board_work.specs.View.{computed_view}
 
 -- what an item is for: it opens the script, or it is an entry's
 pub data Task : Type 0 where
@@ -42,3 +45,14 @@ job_result (runs e) xs = Pure.leaf_result e.act xs
 abbrev pub job_control : Task → List (Answer Key Scalar) → Option Pure.Computed
 job_control opens_script xs = Some Pure.Opens
 job_control (runs e) xs = control_result e.act xs
+
+-- all that an item computes
+abbrev pub job_computed : Task → List (Answer Key Scalar) → Pure.Computed
+job_computed opens_script xs = Pure.Opens
+job_computed (runs e) xs = Pure.compute e.act xs
+
+-- what an outcome means for the job that it is of
+abbrev pub meaning : Task → Outcome → Pure.Computed
+meaning opens_script (Of.Leaf v) = Pure.given v
+meaning opens_script (Of.Control c) = computed_view c
+meaning (runs e) o = computed_in e.act o

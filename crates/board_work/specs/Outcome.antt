@@ -5,7 +5,7 @@ use Rattle.values.specs.declared.fault.OpFault.{OpFault}
 use Rattle.values.specs.declared.key.Key.{Key}
 use Rattle.values.specs.declared.value.Scalar.{Scalar}
 use Rattle.values.specs.declared.value.Value.{Value}
-use Rattle.task_code.specs.Code.{Act, Kind, Control, Leaf, kind_of}
+use Rattle.task_code.specs.Code.{Act, Fill, Kind, Control, Leaf, kind_of}
 use Rattle.task_code.specs.Compute as Pure
 use Rattle.board_work.specs.declared.outcome.Outcome.{Outcome}
 use Rattle.board_work.specs.declared.outcome.Outcome.TheVariants as Of
@@ -32,3 +32,13 @@ result_in (Of.Control c) = None
 abbrev pub control_in : Outcome → Option Pure.Computed
 control_in (Of.Leaf r) = None
 control_in (Of.Control c) = Some (computed_view c)
+
+-- what a leaf entry's value or fault means: a literal inserts its elements, and any other stores or prints a scalar
+abbrev pub of_leaf : Act → Result Value OpFault → Pure.Computed
+of_leaf (Fill r es) v = Pure.filled v
+of_leaf _ v = Pure.given v
+
+-- what an outcome means for the entry that it is of
+abbrev pub computed_in : Act → Outcome → Pure.Computed
+computed_in a (Of.Leaf v) = of_leaf a v
+computed_in a (Of.Control c) = computed_view c

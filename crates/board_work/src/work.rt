@@ -4,7 +4,7 @@ ghost use Rattle.std.specs.Option.{option_copied};
 ghost use Rattle.task_code.specs.View.{kind_view};
 ghost use Rattle.board_work.specs.View.{answers_view};
 ghost use Rattle.board_work.specs.Outcome.{result_in, control_in};
-ghost use Rattle.board_work.specs.Assigned.{job_view, job_kind, job_result, job_control};
+ghost use Rattle.board_work.specs.Assigned.{job_view, job_kind, job_result, job_control, job_computed, meaning};
 
 use crate::answer::Answer;
 use crate::outcome::{Computed, Outcome, outcome_of};
@@ -148,9 +148,11 @@ impl Done {
     }
 
     /// What the item computed.
+    #[tactic(auto, using(crate::proofs::Meanings::meaning_of_parts))]
     pub fn outcome(&self) -> &Outcome
         ensures leaf { result_in result.now ≡ job_result self.now.job self.now.answers }
         ensures control { control_in result.now ≡ job_control self.now.job self.now.answers }
+        ensures computed { meaning self.now.job result.now ≡ job_computed self.now.job self.now.answers }
     {
         &self.outcome
     }
