@@ -1,0 +1,75 @@
+-- The line that the words behind the program's name give.
+use Rattle.std.specs.Prelude.{ℕ, ◌≤◌, List, [], ◌∷◌, false, Option, Some, None, option_and_then, if◌then◌else◌, codes}
+use Rattle.swt_line.specs.declared.command.Command.{Command}
+use Rattle.swt_line.specs.declared.command.Command.TheVariants as command
+use Rattle.swt_line.specs.declared.line.Line.{Line}
+use Rattle.swt_line.specs.declared.line.Line.TheVariants.{Check, Mean, Code, Run, Replay}
+use Rattle.swt_line.specs.Commands.{command_of}
+use Rattle.swt_line.specs.Words.{well_formed, files_in, values_of, number_given, only, optional}
+
+-- `check`, with one or more files
+abbrev pub check_line : List (List ℕ) → Option Line
+check_line [] = None
+check_line (f ∷ fs) = Some (Check (f ∷ fs))
+
+-- `mean`, with its file and the rounds
+abbrev pub mean_line : List (List ℕ) → Option Line
+mean_line ws =
+    option_and_then (λ file.
+    option_and_then (λ rounds. Some (Mean file rounds))
+    (number_given 1 4294967295 1000000 (values_of (codes "--rounds") false ws)))
+    (only (files_in false ws))
+
+-- `code`, with its file
+abbrev pub code_line : List (List ℕ) → Option Line
+code_line ws = option_and_then (λ file. Some (Code file)) (only (files_in false ws))
+
+-- `run`, with its file, the engines, the workers, the steps and the trace
+abbrev pub run_line : List (List ℕ) → Option Line
+run_line ws =
+    option_and_then (λ file.
+    option_and_then (λ engines.
+    option_and_then (λ workers.
+    option_and_then (λ steps.
+    option_and_then (λ trace. Some (Run file engines workers steps trace))
+    (optional (values_of (codes "--trace") false ws)))
+    (number_given 0 4294967295 10000000 (values_of (codes "--steps") false ws)))
+    (number_given 1 63 3 (values_of (codes "--workers") false ws)))
+    (number_given 1 63 1 (values_of (codes "--engines") false ws)))
+    (only (files_in false ws))
+
+-- `replay`, with its file and its trace
+abbrev pub replay_line : List (List ℕ) → Option Line
+replay_line [] = None
+replay_line (f ∷ []) = None
+replay_line (f ∷ t ∷ []) = Some (Replay f t)
+replay_line (f ∷ t ∷ u ∷ ws) = None
+
+-- a command with the words behind it
+abbrev pub command_line : Command → List (List ℕ) → Option Line
+command_line command.Check ws = check_line (files_in false ws)
+command_line command.Mean ws = mean_line ws
+command_line command.Code ws = code_line ws
+command_line command.Run ws = run_line ws
+command_line command.Replay ws = replay_line (files_in false ws)
+
+-- the line of the words behind the program's name
+abbrev pub line_of : List (List ℕ) → Option Line
+line_of [] = None
+line_of (w ∷ ws) = option_and_then (λ c. if well_formed c false ws then command_line c ws else None) (command_of w)
+
+-- the files that a line names to be read, in order
+abbrev pub files_of : Line → List (List ℕ)
+files_of (Check files) = files
+files_of (Mean file rounds) = file ∷ []
+files_of (Code file) = file ∷ []
+files_of (Run file engines workers steps trace) = file ∷ []
+files_of (Replay file trace) = file ∷ trace ∷ []
+
+-- each number of the line is in its range
+abbrev pub IsInRange : Line → Type 0
+IsInRange (Check files) = Unit {0}
+IsInRange (Mean file rounds) = (1 ≤ rounds) × (rounds ≤ 4294967295)
+IsInRange (Code file) = Unit {0}
+IsInRange (Run file engines workers steps trace) = (1 ≤ engines) × (engines ≤ 63) × (1 ≤ workers) × (workers ≤ 63) × (steps ≤ 4294967295)
+IsInRange (Replay file trace) = Unit {0}

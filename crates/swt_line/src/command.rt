@@ -1,0 +1,52 @@
+//! The commands and their options.
+ghost use Rattle.std.specs.Prelude.{◌≡◌};
+ghost use Rattle.swt_line.specs.Commands.{command_of, has_option};
+
+/// What the program is told to do.
+#[derive(Clone, Copy, PartialEq, Eq, Debug, Drop)]
+pub enum Command {
+    /// Says of each file whether it is accepted.
+    Check,
+    /// Prints the meaning of a script.
+    Mean,
+    /// Lists a script's code.
+    Code,
+    /// Runs a script.
+    Run,
+    /// Reports the run that a trace is of.
+    Replay,
+}
+
+impl Command {
+    /// The command of this name.
+    pub fn of(word: &str) -> Option<Command>
+        ensures { result ≡ command_of word.now }
+    {
+        if word == "check" {
+            Some(Command::Check)
+        } else if word == "mean" {
+            Some(Command::Mean)
+        } else if word == "code" {
+            Some(Command::Code)
+        } else if word == "run" {
+            Some(Command::Run)
+        } else if word == "replay" {
+            Some(Command::Replay)
+        } else {
+            None
+        }
+    }
+
+    /// Whether the command has this option.
+    pub fn has_option(self, word: &str) -> bool
+        ensures { result ≡ has_option self word.now }
+    {
+        match self {
+            Command::Mean => word == "--rounds",
+            Command::Run => {
+                word == "--engines" || word == "--workers" || word == "--steps" || word == "--trace"
+            }
+            Command::Check | Command::Code | Command::Replay => false,
+        }
+    }
+}

@@ -1,0 +1,14 @@
+//! The command line of `swt`, read.
+//!
+//! `Line::read` takes the words behind the program's own name and gives the command that they are, with its files and
+//! numbers, or `LineFault::Usage`, whose text is the usage. An option is a word that begins with a dash; its value is
+//! the word behind it. Options and files stand in any order.
+#![tactic(auto)]
+
+pub mod command;
+pub mod fault;
+pub mod line;
+#[cfg(test)]
+mod tests;
+pub mod word;
+mod words;

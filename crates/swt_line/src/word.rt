@@ -1,0 +1,55 @@
+//! A word of a command line.
+ghost use Rattle.std.specs.Prelude.{◌≡◌, IfOk};
+ghost use Rattle.swt_line.specs.Words.{marked};
+
+use std::alloc::{AllocError, Global};
+use std::marker::Model;
+
+/// A word of a command line, of any characters.
+#[derive(Drop)]
+pub struct Word {
+    text: String,
+}
+
+impl Model for Word {
+    ghost use Rattle.std.specs.Prelude.{List, ℕ};
+    ghost use Rattle.std.specs.String.{string_bytes};
+
+    ghost Value = { List ℕ };
+
+    ghost view = { λ word. string_bytes word.text };
+}
+
+impl Word {
+    ghost use Rattle.std.specs.String.{string_bytes};
+
+    pub fn new(text: String) -> Word
+        ensures { result ≡ string_bytes text }
+    {
+        Word { text }
+    }
+
+    pub fn as_str(&self) -> &str
+        ensures { result.now ≡ self.now }
+    {
+        self.text.as_str()
+    }
+
+    pub fn copy(&self, alloc: Global) -> Result<Word, AllocError>
+        ensures { IfOk result (λ word. word ≡ self.now) }
+    {
+        Ok(Word {
+            text: String::from_str(alloc, self.text.as_str())?,
+        })
+    }
+
+    /// Whether it begins with a dash, as an option does.
+    pub fn is_marked(&self) -> bool
+        ensures { result ≡ marked self.now }
+    {
+        match self.text.as_bytes() {
+            [first, ..] => *first == b'-',
+            [] => false,
+        }
+    }
+}

@@ -1,0 +1,52 @@
+-- A trace that is written in pieces.
+use Rattle.std.proofs.Common.{◌≡◌, ◌∙◌, sym, ap, refl, ℕ, zero, suc, ◌+◌, ◌<◌, ◌≤◌, List, [], ◌∷◌, ◌++◌, length, get_or, take, drop, arith, append_assoc, length-append}
+use Rattle.std.specs.Fmt.{decimal}
+use Rattle.std.proofs.Math.Seq.{take-append-add}
+use Rattle.std.proofs.lemmas.List.{take-append-le}
+use Rattle.task_code.specs.declared.event.Event.{Event}
+use Rattle.values.specs.Sinks.{Beginning}
+use Rattle.swt_trace.specs.Trace.{letter, worker_of, item_of, first_line, event_line, event_lines, TraceText}
+
+-- a beginning of a piece, after what stands in front of it, is a beginning of the whole
+pub beginning_in : (old mid new whole front piece rest : List ℕ) → whole ≡ front ++ (piece ++ rest) → mid ≡ old ++ front → Beginning mid piece new → Beginning old whole new
+beginning_in old mid new whole front piece rest e m b = (
+  length front + b.0,
+  (rw (e, length-append, length-append) (omega (arith, b.1))),
+  (rw (b.2, m, e, take-append-add front (piece ++ rest) b.0, take-append-le b.0 piece rest b.1) (append_assoc old front (take b.0 piece))),
+)
+
+-- a line, and what stands behind it
+line_more : (e : Event) (a b : List ℕ) → event_line e a ++ b ≡ event_line e (a ++ b)
+line_more e a b =
+    ap (λ xs. letter e ∷ 32 ∷ xs)
+    (append_assoc (decimal (worker_of e)) (32 ∷ (decimal (item_of e) ++ 10 ∷ a)) b
+    ∙ ap (λ xs. decimal (worker_of e) ++ 32 ∷ xs) (append_assoc (decimal (item_of e)) (10 ∷ a) b))
+
+-- the lines up to a place, the line there and the lines behind it
+lines_at : (es : List Event) (i : ℕ) (d : Event) → i < length es → event_lines es [] ≡ event_lines (take i es) [] ++ (event_line (get_or es i d) [] ++ event_lines (drop (suc i) es) [])
+lines_at [] i d l = absurd (omega (arith, l))
+lines_at (f ∷ es) zero d l = sym (line_more f [] (event_lines es []))
+lines_at (f ∷ es) (suc i) d l =
+    ap (λ xs. event_line f xs) (lines_at es i d (omega (arith, l)))
+    ∙ sym (line_more f (event_lines (take i es) []) (event_line (get_or es i d) [] ++ event_lines (drop (suc i) es) []))
+
+pub trace_at : (es : List Event) (i : ℕ) (d : Event) → i < length es → TraceText es ≡ (first_line ++ event_lines (take i es) []) ++ (event_line (get_or es i d) [] ++ event_lines (drop (suc i) es) [])
+trace_at es i d l = ap (λ xs. first_line ++ xs) (lines_at es i d l) ∙ sym (append_assoc first_line (event_lines (take i es) []) _)
+
+-- the lines up to the next place
+lines_next : (es : List Event) (i : ℕ) (d : Event) → i < length es → event_lines (take (suc i) es) [] ≡ event_lines (take i es) [] ++ event_line (get_or es i d) []
+lines_next [] i d l = absurd (omega (arith, l))
+lines_next (f ∷ es) zero d l = refl
+lines_next (f ∷ es) (suc i) d l =
+    ap (λ xs. event_line f xs) (lines_next es i d (omega (arith, l)))
+    ∙ sym (line_more f (event_lines (take i es) []) (event_line (get_or es i d) []))
+
+-- what is written once the next line is
+pub next_written : (old mid new : List ℕ) (es : List Event) (i : ℕ) (d : Event) → i < length es → mid ≡ old ++ (first_line ++ event_lines (take i es) []) → new ≡ mid ++ event_line (get_or es i d) [] → new ≡ old ++ (first_line ++ event_lines (take (i + 1) es) [])
+next_written old mid new es i d l m n =
+    let next : i + 1 ≡ suc i = omega arith in
+    n ∙ ap (λ xs. xs ++ event_line (get_or es i d) []) m
+    ∙ append_assoc old (first_line ++ event_lines (take i es) []) (event_line (get_or es i d) [])
+    ∙ ap (λ xs. old ++ xs) (append_assoc first_line (event_lines (take i es) []) (event_line (get_or es i d) []))
+    ∙ ap (λ xs. old ++ (first_line ++ xs)) (sym (lines_next es i d l))
+    ∙ ap (λ k. old ++ (first_line ++ event_lines (take k es) [])) (sym next)
