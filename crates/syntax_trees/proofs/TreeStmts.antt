@@ -57,7 +57,7 @@ front_writers n at m a b =
     omega arith
 
 -- statements that hold no block
-right_no_block : (t : Table) (x : Name) (sh : Shape) (r : RightSide) → blocks_inside (right_of t x sh r) ≡ []
+pub right_no_block : (t : Table) (x : Name) (sh : Shape) (r : RightSide) → blocks_inside (right_of t x sh r) ≡ []
 right_no_block t x sh (value (expression nd (call w es))) = by (t.callee_of w.number)
   where
     by : (c : Callee) → blocks_inside (call_right t x (expression nd (call w es)) w es c) ≡ []
@@ -79,11 +79,11 @@ right_no_block t x Shape.Scalar (value (expression nd (prefixed p e))) = refl
 right_no_block t x Shape.Array (value (expression nd (chain os es))) = refl
 right_no_block t x Shape.Scalar (value (expression nd (chain os es))) = refl
 
-several_no_block : (t : Table) (m : ℕ) (w : Word) (es : Expressions) (xs : List Name) (c : Callee) → blocks_inside (several t m w es xs c) ≡ []
+pub several_no_block : (t : Table) (m : ℕ) (w : Word) (es : Expressions) (xs : List Name) (c : Callee) → blocks_inside (several t m w es xs c) ≡ []
 several_no_block t m w es xs (composite i) = refl
 several_no_block t m w es xs (built_in b) = refl
 
-call_no_block : (t : Table) (p : ℤ) (m : ℕ) (w : Word) (es : Expressions) (c : Callee) → blocks_inside (call_action t p m w es c) ≡ []
+pub call_no_block : (t : Table) (p : ℤ) (m : ℕ) (w : Word) (es : Expressions) (c : Callee) → blocks_inside (call_action t p m w es c) ≡ []
 call_no_block t p m w es (composite i) = refl
 call_no_block t p m w es (built_in table.printf) = refl
 call_no_block t p m w es (built_in table.assert) = refl
@@ -92,7 +92,7 @@ call_no_block t p m w es (built_in table.fromint) = refl
 call_no_block t p m w es (built_in table.toint) = refl
 call_no_block t p m w es (built_in table.size) = refl
 
-loop_block : (t : Table) (v : Word) (k : Option Word) (o : Over) (b : Block) → blocks_inside (loop_action t v k o b) ≡ b ∷ blocks_below b
+pub loop_block : (t : Table) (v : Word) (k : Option Word) (o : Over) (b : Block) → blocks_inside (loop_action t v k o b) ≡ b ∷ blocks_below b
 loop_block t v k (T.array w) b = refl
 loop_block t v k (T.range low high step) b = refl
 
