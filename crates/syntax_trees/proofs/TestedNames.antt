@@ -158,7 +158,7 @@ uses_used {b} (in_wait {c = c} {what = what} {ns = ns} i u n) = in_used b i (und
 
 -- THE TEST
 
-abbrev implies : Bool → Bool → Bool
+abbrev pub implies : Bool → Bool → Bool
 implies a b = not a || b
 
 implied : (a b : Bool) → implies a b ≡ true → a ≡ true → b ≡ true
@@ -172,82 +172,82 @@ here_zero (suc n) h = absurd (cc (h))
 abbrev pub all_declared : Core → List ℕ
 all_declared s = flat declared_by (script_stmts s)
 
-abbrev is_declared : Core → Owned → Bool
+abbrev pub is_declared : Core → Owned → Bool
 is_declared s (local n) = has n (all_declared s)
 is_declared s (input i) = true
 is_declared s (output j) = true
 
-abbrev named_fine : Core → Stmt → Bool
+abbrev pub named_fine : Core → Stmt → Bool
 named_fine s (stmt at n a) = every (λ (x : Name). is_declared s x.what) (by_name a)
 
-abbrev here_and_declared : Block → Name → Bool
+abbrev pub here_and_declared : Block → Name → Bool
 here_and_declared b x = is_here x.up && declares b x.what
 
-abbrev here_then_declared : Block → Name → Bool
+abbrev pub here_then_declared : Block → Name → Bool
 here_then_declared b x = implies (is_here x.up) (declares b x.what)
 
-abbrev declared_then_here : Block → Name → Bool
+abbrev pub declared_then_here : Block → Name → Bool
 declared_then_here b x = implies (declares b x.what) (is_here x.up)
 
-abbrev block_names : Block → Bool
+abbrev pub block_names : Block → Bool
 block_names c = every (here_then_declared c) (used c)
 
-abbrev headers_fine : Stmt → Bool
+abbrev pub headers_fine : Stmt → Bool
 headers_fine (stmt at n a) = every block_names (header_blocks a)
 
-abbrev waits_fine : Block → Bool
+abbrev pub waits_fine : Block → Bool
 waits_fine c = every (declared_then_here c) (used c)
 
-abbrev output_below : ℕ → Owned → Bool
+abbrev pub output_below : ℕ → Owned → Bool
 output_below n (local m) = true
 output_below n (input i) = true
 output_below n (output j) = nat_lt j n
 
-abbrev is_output : Owned → Bool
+abbrev pub is_output : Owned → Bool
 is_output (local m) = false
 is_output (input i) = false
 is_output (output j) = true
 
-abbrev function_name : Function → Name → Bool
+abbrev pub function_name : Function → Name → Bool
 function_name f x = is_here x.up && ((declares f.body x.what || is_output x.what) && output_below f.outputs x.what)
 
-abbrev function_fine : Function → Bool
+abbrev pub function_fine : Function → Bool
 function_fine f = every (function_name f) (used f.body)
 
-abbrev counts_of : Option Function → Call → Bool
+abbrev pub counts_of : Option Function → Call → Bool
 counts_of None c = true
 counts_of (Some f) c = nat_eq (length c.outputs) f.outputs
 
-abbrev call_fine : Core → Call → Bool
+abbrev pub call_fine : Core → Call → Bool
 call_fine s c = counts_of (slice_get s.functions c.function) c
 
-abbrev calls_fine : Core → Stmt → Bool
+abbrev pub calls_fine : Core → Stmt → Bool
 calls_fine s st = every (call_fine s) (stmt_calls st)
 
-abbrev is_local : ℕ → Owned → Bool
+abbrev pub is_local : ℕ → Owned → Bool
 is_local zero (local n) = true
 is_local zero (input i) = false
 is_local zero (output j) = false
 is_local (suc up) what = false
 
-abbrev one_hidden : List Name → Bool
+abbrev pub one_hidden : List Name → Bool
 one_hidden [] = false
 one_hidden (x ∷ []) = is_local x.up x.what
 one_hidden (x ∷ y ∷ xs) = false
 
-abbrev hidden_fine : Stmt → Bool
+abbrev pub hidden_fine : Stmt → Bool
 hidden_fine (stmt at n a) = every (λ (c : Call). one_hidden c.outputs) (hidden_calls a)
 
-abbrev is_many : Form → Bool
+abbrev pub is_many : Form → Bool
 is_many (compute (operator literal es)) = true
 is_many (compute (whole a)) = true
 is_many _ = false
 
-abbrev fill_fine : Stmt → Bool
+abbrev pub fill_fine : Stmt → Bool
 fill_fine (stmt at n (fill a c)) = is_many c.cell.form
 fill_fine _ = true
 
-abbrev offset : Call → List ℕ
+abbrev pub offset : Call → List ℕ
 offset c = c.at ∷ []
 
 -- a core passes the test

@@ -143,3 +143,184 @@ right_times n t x Shape.Array (value (expression nd (prefixed p e))) = assign_ti
 right_times n t x Shape.Scalar (value (expression nd (prefixed p e))) = assign_times n t x (expression nd (prefixed p e))
 right_times n t x Shape.Array (value (expression nd (chain os es))) = assign_times n t x (expression nd (chain os es))
 right_times n t x Shape.Scalar (value (expression nd (chain os es))) = assign_times n t x (expression nd (chain os es))
+
+after_times : (n : ℕ) (t : Table) (es : Expressions) → part_times n (operands_of t (after_first es)).0 ≤ times n (expressions_numbers es)
+after_times n t no_expressions = omega arith
+after_times n t (and_expression e es) = let q = operands_part n t es in let a = times-append n (expression_numbers e) (expressions_numbers es) in omega arith
+
+print_times : (n m : ℕ) (t : Table) (p : ℤ) (es : Expressions) → whole_times n (print p (outer_of m (computes (op.printf (format_of es)) (operands_of t (after_first es))))) ≤ hit n m + times n (expressions_numbers es)
+print_times n m t p es = let h = after_times n t es in let q = one_outer n (outer_of m (computes (op.printf (format_of es)) (operands_of t (after_first es)))) in omega arith
+
+assert_times : (n m : ℕ) (t : Table) (p : ℤ) (es : Expressions) → whole_times n (assert p (outer_of m (computes op.assert (operands_of t es)))) ≤ hit n m + times n (expressions_numbers es)
+assert_times n m t p es = let h = operands_part n t es in let q = one_outer n (outer_of m (computes op.assert (operands_of t es))) in omega arith
+
+call_times : (n m : ℕ) (t : Table) (p : ℤ) (w : Word) (es : Expressions) (c : Callee) → whole_times n (call_action t p m w es c) ≤ hit n m + times n (expressions_numbers es)
+call_times n m t p w es (composite i) = let e = composite_times n p w i (arguments_of t es) [] in let q = arguments_part n t es in omega arith
+call_times n m t p w es (built_in table.printf) = print_times n m t p es
+call_times n m t p w es (built_in table.assert) = assert_times n m t p es
+call_times n m t p w es (built_in table.strcat) = assert_times n m t p es
+call_times n m t p w es (built_in table.fromint) = assert_times n m t p es
+call_times n m t p w es (built_in table.toint) = assert_times n m t p es
+call_times n m t p w es (built_in table.size) = assert_times n m t p es
+
+several_times : (n m : ℕ) (t : Table) (w : Word) (es : Expressions) (xs : List Name) (c : Callee) → whole_times n (several t m w es xs c) ≤ hit n m + (hit n w.number + times n (expressions_numbers es))
+several_times n m t w es xs (composite i) = let e = composite_times n (pos 0) w i (arguments_of t es) xs in let q = arguments_part n t es in omega arith
+several_times n m t w es xs (built_in b) =
+    let q = operands_part n t es in
+    let c = call_part n t w (built_in b) es ([], []) (operands_of t es) (times n (expressions_numbers es)) (omega arith) q in
+    let o = one_outer n (outer_of m (call_form t w (built_in b) es ([], []) (operands_of t es))) in
+    omega arith
+
+roles_times : (n : ℕ) (v : Word) (k : Option Word) → times n (with_turn v.number (option_map (λ (x : Word). x.number) k)) ≡ hit n v.number + times n (maybe_numbers word_numbers k)
+roles_times n v None = omega arith
+roles_times n v (Some k) = omega arith
+
+-- a block inside a statement counts whole
+inner_times : (n : ℕ) (b : Block) → times n (flat block_nodes (b ∷ blocks_below b)) ≡ block_times n b
+inner_times n b = times-append n (block_nodes b) (flat block_nodes (blocks_below b))
+
+loop_times : (n : ℕ) (t : Table) (v : Word) (k : Option Word) (o : Over) (b : Block) → whole_times n (loop_action t v k o b) ≤ hit n v.number + (times n (maybe_numbers word_numbers k) + (times n (over_numbers o) + block_times n b))
+loop_times n t v k (T.array w) b = let r = roles_times n v k in let i = inner_times n b in omega arith
+loop_times n t v k (T.range low high None) b =
+    let r = roles_times n v k in
+    let i = inner_times n b in
+    let x = outer_times n t low in
+    let y = outer_times n t high in
+    let z = two_outers n (outer t low) (outer t high) in
+    let a = times-append n (expression_numbers low) (expression_numbers high ++ []) in
+    let c = times-append n (expression_numbers high) [] in
+    omega arith
+loop_times n t v k (T.range low high (Some step)) b =
+    let r = roles_times n v k in
+    let i = inner_times n b in
+    let x = outer_times n t low in
+    let y = outer_times n t high in
+    let u = outer_times n t step in
+    let z = three_outers n (outer t low) (outer t high) (outer t step) in
+    let a = times-append n (expression_numbers low) (expression_numbers high ++ expression_numbers step) in
+    let c = times-append n (expression_numbers high) (expression_numbers step) in
+    omega arith
+
+when_times : (n : ℕ) (t : Table) (e : Expression) (d : Block) → whole_times n (when (outer t e) d) ≤ times n (expression_numbers e) + block_times n d
+when_times n t e d = let x = outer_times n t e in let q = one_outer n (outer t e) in let i = inner_times n d in omega arith
+
+choose_times : (n : ℕ) (t : Table) (e : Expression) (d f : Block) → whole_times n (choose (outer t e) d f) ≤ times n (expression_numbers e) + (block_times n d + block_times n f)
+choose_times n t e d f =
+    let x = outer_times n t e in
+    let q = one_outer n (outer t e) in
+    let i = inner_times n d in
+    let j = inner_times n f in
+    let k = times-flat block_nodes n (d ∷ blocks_below d) (f ∷ blocks_below f) in
+    omega arith
+
+write_times : (n : ℕ) (t : Table) (x : Name) (i e : Expression) → whole_times n (insert x (outer t i) (outer t e)) ≤ times n (expression_numbers i) + times n (expression_numbers e)
+write_times n t x i e = let a = outer_times n t i in let c = outer_times n t e in let q = two_outers n (outer t i) (outer t e) in omega arith
+
+mutual
+  body_times : (n : ℕ) (t : Table) (b : Body) → block_times n (block_of t b) ≤ times n (body_numbers b)
+  body_times n t (body from ss) = statements_times n t ss
+
+  statements_times : (n : ℕ) (t : Table) (ss : Statements) → block_times n (block_in t ss) ≤ times n (statements_numbers ss)
+  statements_times n t no_statements = omega arith
+  statements_times n t (and_statement s ss) =
+      let h = statement_times n t s (block_in t ss) in
+      let k = statements_times n t ss in
+      let a = times-append n (statement_numbers s) (statements_numbers ss) in
+      omega arith
+
+  statement_times : (n : ℕ) (t : Table) (s : Statement) (b : Block) → block_times n (with_statement t s b) ≤ times n (statement_numbers s) + block_times n b
+  statement_times n t (statement nd c) b = let h = command_times n t nd c b in omega arith
+
+  command_times : (n : ℕ) (t : Table) (nd : Node) (c : Command) (b : Block) → block_times n (with_command t nd c b) ≤ times n (command_numbers c) + block_times n b
+  command_times n t nd (T.declare d None) b = let f = front n nd.first.from nd.number (declare d.name.number) b in omega arith
+  command_times n t nd (T.declare d (Some r)) b =
+      let x = right_of t (here d.name.number) d.shape r in
+      let f = front n nd.first.from nd.number (declare d.name.number) (stmts (stmt_of nd x) b) in
+      let g = front n nd.first.from nd.number x b in
+      let h = right_times n t (here d.name.number) d.shape r in
+      omega arith
+  command_times n t nd (T.assign w r) b =
+      let f = front n nd.first.from nd.number (right_of t (refers t w) (t.shape_of w.number) r) b in
+      let h = right_times n t (refers t w) (t.shape_of w.number) r in
+      omega arith
+  command_times n t nd (T.write w i e) b =
+      let f = front n nd.first.from nd.number (insert (refers t w) (outer t i) (outer t e)) b in
+      let h = write_times n t (refers t w) i e in
+      let a = times-append n (expression_numbers i) (expression_numbers e) in
+      omega arith
+  command_times n t nd (T.assign_all ws c) b =
+      let f = front n nd.first.from nd.number (several t c.node.number c.name (expressions_of c.arguments) (map (refers t) ws) (t.callee_of c.name.number)) b in
+      let h = several_times n c.node.number t c.name (expressions_of c.arguments) (map (refers t) ws) (t.callee_of c.name.number) in
+      let a = times-append n (words_numbers ws) (calling_numbers c) in
+      omega arith
+  command_times n t nd (T.calls p c) b =
+      let f = front n nd.first.from nd.number (call_action t p c.node.number c.name (expressions_of c.arguments) (t.callee_of c.name.number)) b in
+      let h = call_times n c.node.number t p c.name (expressions_of c.arguments) (t.callee_of c.name.number) in
+      omega arith
+  command_times n t nd (choice e d) b =
+      let f = front n nd.first.from nd.number (when (outer t e) (block_of t d)) b in
+      let h = when_times n t e (block_of t d) in
+      let k = body_times n t d in
+      let a = times-append n (expression_numbers e) (body_numbers d) in
+      omega arith
+  command_times n t nd (choice_else e d other) b =
+      let f = front n nd.first.from nd.number (choose (outer t e) (block_of t d) (block_of t other)) b in
+      let h = choose_times n t e (block_of t d) (block_of t other) in
+      let k = body_times n t d in
+      let l = body_times n t other in
+      let a = times-append n (expression_numbers e) (body_numbers d ++ body_numbers other) in
+      let c = times-append n (body_numbers d) (body_numbers other) in
+      omega arith
+  command_times n t nd (loop v k o d) b =
+      let f = front n nd.first.from nd.number (loop_action t v k o (block_of t d)) b in
+      let h = loop_times n t v k o (block_of t d) in
+      let l = body_times n t d in
+      let a = times-append n (maybe_numbers word_numbers k) (over_numbers o ++ body_numbers d) in
+      let c = times-append n (over_numbers o) (body_numbers d) in
+      omega arith
+  command_times n t nd (waits ws d) b =
+      let f = front n nd.first.from nd.number (wait (map (awaited t) ws) (block_of t d)) b in
+      let k = body_times n t d in
+      let i = inner_times n (block_of t d) in
+      let a = times-append n (words_numbers ws) (body_numbers d) in
+      omega arith
+
+-- SCRIPTS
+
+abbrev functions_times : ℕ → List Function → ℕ
+functions_times n fs = times n (flat block_nodes (function_blocks fs))
+
+function_front : (n : ℕ) (f : Function) (fs : List Function) → functions_times n (f ∷ fs) ≡ block_times n f.body + functions_times n fs
+function_front n f fs =
+    let a = times-flat block_nodes n (f.body ∷ blocks_below f.body) (function_blocks fs) in
+    let b = inner_times n f.body in
+    omega arith
+
+parts_times : (n : ℕ) (t : Table) (ps : Tree) → block_times n (script_block t ps) + functions_times n (functions_of t ps) ≤ times n (tree_numbers ps)
+parts_times n t [] = omega arith
+parts_times n t (import sp ∷ ps) = parts_times n t ps
+parts_times n t (single s ∷ ps) =
+    let h = statement_times n t s (script_block t ps) in
+    let r = parts_times n t ps in
+    let a = times-append n (statement_numbers s) (tree_numbers ps) in
+    omega arith
+parts_times n t (function f ∷ ps) =
+    let h = body_times n t f.body in
+    let r = parts_times n t ps in
+    let g = function_front n (record { inputs = length f.inputs; outputs = length f.outputs; body = block_of t f.body }) (functions_of t ps) in
+    let a = times-append n (declarations_numbers f.outputs) (f.name.number ∷ (declarations_numbers f.inputs ++ (body_numbers f.body ++ tree_numbers ps))) in
+    let b = times-append n (declarations_numbers f.inputs) (body_numbers f.body ++ tree_numbers ps) in
+    let c = times-append n (body_numbers f.body) (tree_numbers ps) in
+    omega arith
+
+-- each node of the core is a number of the tree, at most as often
+core_times : (n : ℕ) (t : Table) (tree : Tree) → times n (flat block_nodes (script_blocks (core t tree))) ≤ times n (tree_numbers tree)
+core_times n t tree =
+    let h = parts_times n t tree in
+    let a = times-flat block_nodes n (blocks_of (script_block t tree)) (function_blocks (functions_of t tree)) in
+    let i = inner_times n (script_block t tree) in
+    omega arith
+
+-- WHERE NO NUMBER OF A TREE STANDS TWICE, NO NODE OF ITS CORE DOES
+pub nodes_once : (t : Table) (tree : Tree) → distinct (0 ∷ tree_numbers tree) ≡ true → distinct (0 ∷ flat block_nodes (script_blocks (core t tree))) ≡ true
+nodes_once t tree h = few_distinct (0 ∷ flat block_nodes (script_blocks (core t tree))) (λ n. (let a = distinct_few (0 ∷ tree_numbers tree) h n in let b = core_times n t tree in omega arith))
