@@ -1,5 +1,5 @@
 -- Lines of events.
-use Rattle.std.proofs.Common.{◌≡◌, ◌≢◌, ◌∙◌, sym, ap, refl, subst, ℕ, zero, suc, ◌+◌, ◌-◌, ◌^◌, ◌<◌, ◌≤◌, ◌⊎◌, inl, inr, List, [], ◌∷◌, ◌++◌, length, get_or, take, drop, arith, append_assoc, All}
+use Rattle.std.proofs.Common.{◌≡◌, ◌≢◌, ◌∙◌, sym, ap, refl, subst, ℕ, zero, suc, ◌+◌, ◌-◌, ◌^◌, ◌<◌, ◌≤◌, ◌⊎◌, inl, inr, List, [], ◌∷◌, ◌++◌, length, get_or, take, drop, arith, All}
 use Rattle.std.proofs.lemmas.List.{append_cancel_left}
 use Rattle.std.specs.Fmt.{decimal}
 use Rattle.std.proofs.lemmas.Grind.{common_steps}
@@ -7,7 +7,7 @@ use Rattle.task_code.specs.declared.event.Event.{Event}
 use Rattle.task_code.specs.declared.event.Event.TheVariants.{Begin, End, Back}
 use Rattle.swt_trace.specs.declared.fault.TraceFault.{TraceFault}
 use Rattle.swt_trace.specs.declared.fault.TraceFault.TheVariants.{BadLine, Memory}
-use Rattle.swt_trace.specs.Trace.{letter, worker_of, item_of, first_line, event_line, event_lines, TraceText, most_events, IsWritten, IsInRange, IsLineThen, AreLinesThen, BeginsTrace, IsTrace, LacksFirstLine, LacksLine, LeavesBehind, IsFirstBad}
+use Rattle.swt_trace.specs.Trace.{letter, worker_of, item_of, first_line, event_line, event_lines, most_events, IsInRange, IsLineThen, AreLinesThen, BeginsTrace, IsTrace, LacksLine, LeavesBehind, IsFirstBad}
 use Rattle.swt_trace.proofs.Numbers.{written_decimal, decimal_written, same_number}
 
 -- the events of a list that are in range, one by one

@@ -95,6 +95,13 @@ fn refuses_bad_lines(rt: HostRuntime) -> Result<(), Fail> {
     Ok(())
 }
 
+#[test]
+fn faults_have_texts(rt: HostRuntime) -> Result<(), Fail> {
+    let bad = TraceFault::BadLine(4);
+    assert_eq!(rt; format!(in rt.alloc(); "{bad}")?.as_str(), "T1 BadLine 4");
+    Ok(())
+}
+
 /// A sink that takes at most `at_once` bytes a write, and refuses one write, by its number from 1.
 #[derive(Drop)]
 struct Failing {
@@ -127,7 +134,9 @@ impl Sink for Failing {
     }
 }
 
-fn sink_of(alloc: Global, at_once: usize, refused: u8) -> Failing {
+fn sink_of(alloc: Global, at_once: usize, refused: u8) -> Failing
+    ensures { result.failures ≡ 0 }
+{
     Failing {
         taken: Vec::new(alloc),
         at_once,

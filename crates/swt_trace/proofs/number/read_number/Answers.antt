@@ -1,4 +1,4 @@
-use Rattle.std.proofs.Common.{rules, ◌≡◌, ◌^◌, ◌<◌, ◌++◌, ◌∷◌, ℕ, List, decimal, take}
+use Rattle.std.proofs.Common.{rules, ◌≡◌, ◌^◌, ◌<◌, ◌++◌, ◌∷◌, ℕ, List, decimal}
 use Rattle.swt_trace.proofs.Numbers.{no_end, number_before}
 use Rattle.swt_trace.proofs.number.read_number.Goals as goal
 

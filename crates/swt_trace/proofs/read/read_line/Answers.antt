@@ -1,5 +1,4 @@
-use Rattle.std.proofs.Common.{rules, ◌≡◌, ◌∙◌, sym, inl, inr, ◌++◌, ◌∷◌, ℕ, List, drop}
-use Rattle.std.specs.Fmt.{decimal}
+use Rattle.std.proofs.Common.{rules, ◌≡◌, ◌∙◌, sym, inl, inr, ℕ, List}
 use Rattle.task_code.specs.declared.event.Event.{Event}
 use Rattle.swt_trace.specs.Trace.{IsInRange, event_line}
 use Rattle.swt_trace.proofs.Lines.{no_item, out_of_range, behind_two}

@@ -1,6 +1,6 @@
-use Rattle.std.proofs.Common.{rules, arith, ◌≡◌, ◌∙◌, sym, ap, ◌++◌, ◌∷◌, [], ℕ, List, length, length-append, ◌+◌}
+use Rattle.std.proofs.Common.{arith, ◌≡◌, ◌∙◌, sym, ap, ◌++◌, ◌∷◌, [], length, length-append, ◌+◌}
 use Rattle.std.proofs.lemmas.Grind.{common_steps}
-use Rattle.swt_trace.specs.Trace.{IsFirstBad, first_line, event_lines}
+use Rattle.swt_trace.specs.Trace.{first_line, event_lines}
 use Rattle.swt_trace.proofs.Lines.{begins, leaves, named, one_more, one_more_in_range}
 use Rattle.swt_trace.proofs.read.read_trace.Goals as goal
 

@@ -1,7 +1,7 @@
-use Rattle.std.proofs.Common.{rules, arith, ◌≡◌, ◌++◌, [], refl, append-nil, take, drop, suc}
+use Rattle.std.proofs.Common.{rules, arith, ◌++◌, [], refl, append-nil, take, drop, suc}
 use Rattle.task_code.specs.declared.event.Event.TheVariants.{Begin}
 use Rattle.values.specs.Sinks.{Beginning}
-use Rattle.swt_trace.specs.Trace.{TraceText, event_line, event_lines, first_line}
+use Rattle.swt_trace.specs.Trace.{TraceText, event_lines, first_line}
 use Rattle.swt_trace.proofs.Pieces.{beginning_in, trace_at, next_written}
 use Rattle.swt_trace.proofs.write.write_trace.Goals as goal
 

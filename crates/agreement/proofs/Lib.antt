@@ -1,0 +1,11 @@
+pub mod Members
+pub mod Evaluation
+pub mod Whole
+pub mod Sources
+pub mod Meant
+pub mod Bridge
+pub mod Within
+pub mod Lines
+pub mod Runs
+pub mod UsedBefore
+pub mod Circle

@@ -1,0 +1,4 @@
+pub mod Headline
+pub mod Compile
+pub mod Scalars
+pub mod Worked

@@ -1,0 +1,46 @@
+-- What was settled, against a table and the scopes of the typing rules.
+use Rattle.std.specs.Prelude.{◌≡◌, ℕ, ◌-◌, List, [], ◌∷◌}
+use Rattle.types.specs.declared.typed.Settled.{Settled}
+use Rattle.types.specs.declared.typed.Meaning.{Meaning}
+use Rattle.types.specs.declared.typed.Meaning.TheVariants.{Nothing, Variable, Called}
+use Rattle.syntax_trees.specs.Tree.{Word}
+use Rattle.syntax_trees.specs.Table.{Table}
+use Rattle.syntax_trees.specs.Scopes.{Typ, Visible, Scope, Signature, Refers, Calls}
+use Rattle.types.specs.Known.{Seen, Around}
+use Rattle.types.specs.Typed.{owned_name, reference_name, callee_name}
+use Rattle.types.specs.Outcomes.{got}
+use Rattle.types.specs.Names.{refer, function_called}
+
+-- the table says what a number means
+abbrev pub SaysOf : Table → ℕ → Meaning → Type 0
+SaysOf t n Nothing = Unit {0}
+SaysOf t n (Variable r shape) = (t.name_of n ≡ reference_name r) × (t.shape_of n ≡ shape)
+SaysOf t n (Called c) = t.callee_of n ≡ callee_name c
+
+abbrev pub Says : Table → Settled → Type 0
+Says t s = SaysOf t s.number s.meaning
+
+-- the table says all that was settled
+abbrev pub Agrees : Table → List Settled → Type 0
+Agrees t [] = Unit {0}
+Agrees t (s ∷ ss) = Says t s × Agrees t ss
+
+-- a visible variable, seen from where so many blocks are open
+abbrev pub visible_at : ℕ → Seen → Visible
+visible_at d k = record { text = k.text; refers_to = record { up = d - k.depth; what = owned_name k.what }; type = k.of }
+
+abbrev pub scope_onto : ℕ → List Seen → Scope → Scope
+scope_onto d [] g = g
+scope_onto d (k ∷ ks) g = scope_onto d ks (visible_at d k ∷ g)
+
+-- the scope of the typing rules, latest first
+abbrev pub scope_of : Around → Scope
+scope_of a = scope_onto a.depth a.names []
+
+-- a name that is found refers to a visible variable, for each table that says what was settled
+abbrev pub ReferSound : Type 0
+ReferSound = (g : Around) (t : Table) (w : Word) (τ : Typ) (s s' : List Settled) → refer g w s ≡ got τ s' → Agrees t s' → Agrees t s × Refers (scope_of g) t w τ
+
+-- a function that is found is called, for each table that says what was settled
+abbrev pub CallSound : Type 0
+CallSound = (fs : List Signature) (t : Table) (w : Word) (n m : ℕ) (f : Signature) (s s' : List Settled) → function_called fs w n m s ≡ got f s' → Agrees t s' → Agrees t s × Calls fs t w f

@@ -1,0 +1,42 @@
+-- What is visible while a script is checked, and what is settled about its names.
+use Rattle.std.specs.Prelude.{ℕ, suc, Bool, true, false, List, [], ◌∷◌, ◌++◌, map, length, Option, Some, None, Vec, vec_len}
+use Rattle.std.specs.Str.{bytes_eq}
+use Rattle.types.specs.declared.typed.Owned.{Owned}
+use Rattle.types.specs.declared.typed.Owned.TheVariants.{Local, Input, Output}
+use Rattle.types.specs.declared.typed.VariableType.{VariableType}
+use Rattle.types.specs.declared.typed.Meaning.{Meaning}
+use Rattle.types.specs.declared.typed.Settled.{Settled}
+use Rattle.types.specs.declared.typed.Builtin as Functions
+use Rattle.types.specs.declared.typed.Builtin.TheVariants as Named
+use Rattle.types.specs.declared.scope.Known.{Known}
+use Rattle.types.specs.declared.scope.Scope as scopes
+use Rattle.types.specs.declared.functions.Signature as functions
+use Rattle.syntax_trees.specs.Tree.{Word}
+use Rattle.syntax_trees.specs.Scopes.{Typ, Signature}
+
+abbrev pub type_of : VariableType → Typ
+type_of t = record { base = t.base; shape = t.shape }
+
+-- a visible variable: its text, how many blocks were open at its declaration, what it is there, and its type
+pub record Seen : Type 0 where
+  pub text : List ℕ
+  pub depth : ℕ
+  pub what : Owned
+  pub of : Typ
+
+-- how many blocks are open, and the visible variables in the order of their declarations
+pub record Around : Type 0 where
+  pub depth : ℕ
+  pub names : List Seen
+
+abbrev pub seen_of : Known → Seen
+seen_of k = record { text = k.text.items; depth = k.depth; what = k.what; of = type_of k.of }
+
+abbrev pub around_of : scopes.Scope → Around
+around_of s = record { depth = vec_len s.blocks; names = map seen_of s.names.items }
+
+abbrev pub signature_of : functions.Signature → Signature
+signature_of s = record { text = s.text.items; inputs = map type_of s.inputs.items; outputs = map type_of s.outputs.items }
+
+abbrev pub nowhere : Around
+nowhere = record { depth = 0; names = [] }

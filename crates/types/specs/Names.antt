@@ -1,0 +1,87 @@
+-- Which variable, function or built-in function a name is.
+use Rattle.std.specs.Prelude.{ℕ, suc, Bool, true, false, List, [], ◌∷◌, ◌++◌, ◌-◌, ◌+◌, length, Option, Some, None, codes, cond, nat_eq, ◌&&◌, ◌||◌, not}
+use Rattle.std.specs.Str.{bytes_eq}
+use Rattle.types.specs.declared.fault.TypeFault.{TypeFault}
+use Rattle.types.specs.declared.fault.TypeFault.TheVariants.{Unknown, Declared, WrongCount, NotAFunction}
+use Rattle.types.specs.declared.typed.Owned.{Owned}
+use Rattle.types.specs.declared.typed.Meaning.{Meaning}
+use Rattle.types.specs.declared.typed.Meaning.TheVariants.{Variable, Called}
+use Rattle.types.specs.declared.typed.Settled.{Settled}
+use Rattle.types.specs.declared.typed.Callee.{Callee}
+use Rattle.types.specs.declared.typed.Callee.TheVariants.{Function, BuiltIn}
+use Rattle.types.specs.declared.typed.Builtin.{Builtin}
+use Rattle.types.specs.declared.typed.Builtin.TheVariants as Named
+use Rattle.syntax_trees.specs.Tree.{Word}
+use Rattle.syntax_trees.specs.Scopes.{Typ, Signature}
+use Rattle.types.specs.Known.{Seen, Around}
+use Rattle.types.specs.Outcomes.{Outcome, refused, got, Check, ◌>>=◌}
+
+-- what is settled, with the meaning of one more name
+abbrev pub settles : Word → Meaning → List Settled → List Settled
+settles w m settled = settled ++ record { number = w.number; meaning = m } ∷ []
+
+-- VARIABLES
+
+-- the first one of a text
+abbrev pub seen : List Seen → List ℕ → Option Seen
+seen [] text = None
+seen (k ∷ ks) text = cond (bytes_eq k.text text) (Some k) (seen ks text)
+
+abbrev pub referred : Around → Word → Option Seen → Check Typ
+referred g w None settled = refused (Unknown w.span)
+referred g w (Some k) settled = got k.of (settles w (Variable (record { up = g.depth - k.depth; what = k.what }) k.of.shape) settled)
+
+-- the type of the variable that a name refers to, which is settled
+abbrev pub refer : Around → Word → Check Typ
+refer g w = referred g w (seen g.names w.text)
+
+abbrev pub free : Word → Option Seen → Check (Unit {0})
+free w None settled = got tt settled
+free w (Some k) settled = refused (Declared w.span)
+
+-- a name that is not visible
+abbrev pub fresh : Around → Word → Check (Unit {0})
+fresh g w = free w (seen g.names w.text)
+
+-- the scope with one more variable
+abbrev pub added : Around → Word → Owned → Typ → Around
+added g w what of = record { depth = g.depth; names = g.names ++ record { text = w.text; depth = g.depth; what = what; of = of } ∷ [] }
+
+-- FUNCTIONS
+
+abbrev pub builtin_of : List ℕ → Option Builtin
+builtin_of text =
+    cond (bytes_eq text (codes "strcat")) (Some Named.Strcat)
+    (cond (bytes_eq text (codes "fromint")) (Some Named.FromInt)
+    (cond (bytes_eq text (codes "toint")) (Some Named.ToInt)
+    (cond (bytes_eq text (codes "size")) (Some Named.Size)
+    (cond (bytes_eq text (codes "printf")) (Some Named.Printf)
+    (cond (bytes_eq text (codes "assert")) (Some Named.Assert) None)))))
+
+-- a function with its place among the script's
+pub data Found : Type 0 where
+  missing : Found
+  found : (place : ℕ) → Signature → Found
+
+-- the first one of a text, from a place on
+abbrev pub find_from : ℕ → List Signature → List ℕ → Found
+find_from n [] text = missing
+find_from n (f ∷ fs) text = cond (bytes_eq f.text text) (found n f) (find_from (n + 1) fs text)
+
+abbrev pub find : List Signature → List ℕ → Found
+find = find_from 0
+
+-- one that is called with so many arguments for so many outputs
+abbrev pub counted : Word → ℕ → ℕ → Found → Check Signature
+counted w inputs outputs missing settled = refused (NotAFunction w.span)
+counted w inputs outputs (found n f) settled =
+    cond (nat_eq (length f.inputs) inputs)
+    (cond (nat_eq (length f.outputs) outputs) (got f (settles w (Called (Function n)) settled)) (refused (WrongCount w.span)))
+    (refused (WrongCount w.span))
+
+abbrev pub function_called : List Signature → Word → ℕ → ℕ → Check Signature
+function_called fs w inputs outputs = counted w inputs outputs (find fs w.text)
+
+-- a called name is settled
+abbrev pub called : Word → Callee → Check (Unit {0})
+called w c settled = got tt (settles w (Called c) settled)

@@ -1,0 +1,66 @@
+-- The table that a checked script gives.
+use Rattle.std.specs.Prelude.{ℕ, List, Option, Some, None, slice_get}
+use Rattle.types.specs.declared.typed.Typed as typed
+use Rattle.types.specs.declared.typed.Meaning.{Meaning}
+use Rattle.types.specs.declared.typed.Meaning.TheVariants.{Nothing, Variable, Called}
+use Rattle.types.specs.declared.typed.Reference.{Reference}
+use Rattle.types.specs.declared.typed.Owned.{Owned}
+use Rattle.types.specs.declared.typed.Owned.TheVariants.{Local, Input, Output}
+use Rattle.types.specs.declared.typed.Callee.{Callee}
+use Rattle.types.specs.declared.typed.Callee.TheVariants.{Function, BuiltIn}
+use Rattle.types.specs.declared.typed.Builtin.{Builtin}
+use Rattle.types.specs.declared.typed.Builtin.TheVariants as Named
+use Rattle.syntax_trees.specs.declared.tree.Shape.{Shape}
+use Rattle.syntax_trees.specs.declared.tree.Shape.TheVariants.{Scalar}
+use Rattle.syntax_trees.specs.Core.{Name, local, input, output, here}
+use Rattle.syntax_trees.specs.Core as core
+use Rattle.syntax_trees.specs.Table.{Table, composite, built_in, strcat, fromint, toint, size, printf, assert}
+use Rattle.syntax_trees.specs.Table as table
+
+-- what a variable is, a name refers to and a callee is, apart from the program's types
+abbrev pub owned_name : Owned → core.Owned
+owned_name (Local node) = local node
+owned_name (Input i) = input i
+owned_name (Output i) = output i
+
+abbrev pub reference_name : Reference → Name
+reference_name r = record { up = r.up; what = owned_name r.what }
+
+abbrev pub builtin_name : Builtin → table.Builtin
+builtin_name Named.Strcat = strcat
+builtin_name Named.FromInt = fromint
+builtin_name Named.ToInt = toint
+builtin_name Named.Size = size
+builtin_name Named.Printf = printf
+builtin_name Named.Assert = assert
+
+abbrev pub callee_name : Callee → table.Callee
+callee_name (Function place) = composite place
+callee_name (BuiltIn b) = built_in (builtin_name b)
+
+-- what the meaning at a number says of a variable's name and of a called name; something where it says nothing
+abbrev pub name_in : Option Meaning → Name
+name_in None = here 0
+name_in (Some Nothing) = here 0
+name_in (Some (Called c)) = here 0
+name_in (Some (Variable r s)) = reference_name r
+
+abbrev pub shape_in : Option Meaning → Shape
+shape_in None = Scalar
+shape_in (Some Nothing) = Scalar
+shape_in (Some (Called c)) = Scalar
+shape_in (Some (Variable r s)) = s
+
+abbrev pub callee_in : Option Meaning → table.Callee
+callee_in None = composite 0
+callee_in (Some Nothing) = composite 0
+callee_in (Some (Called c)) = callee_name c
+callee_in (Some (Variable r s)) = composite 0
+
+-- by node number
+abbrev pub table_of : typed.Typed → Table
+table_of t = record {
+  name_of = λ n. name_in (slice_get t.meanings.items n);
+  shape_of = λ n. shape_in (slice_get t.meanings.items n);
+  callee_of = λ n. callee_in (slice_get t.meanings.items n);
+}

@@ -1,0 +1,73 @@
+//! The built-in functions, and the types of operators.
+
+ghost use Rattle.std.specs.Prelude.{◌≡◌};
+ghost use Rattle.syntax_trees.specs.Scopes as scopes;
+ghost use Rattle.types.specs.Known.{type_of};
+ghost use Rattle.types.specs.Names as names;
+ghost use Rattle.types.specs.Expressions as checks;
+
+use crate::scope::same_text;
+use crate::typed::{Builtin, VariableType};
+use syntax_trees::tree::{Base, Operator, Prefix, Shape};
+
+/// The built-in function of a name.
+pub fn builtin_of(text: &[u8]) -> Option<Builtin>
+    ensures { result ≡ names.builtin_of text.now }
+{
+    if same_text(text, b"strcat".as_slice()) {
+        Some(Builtin::Strcat)
+    } else if same_text(text, b"fromint".as_slice()) {
+        Some(Builtin::FromInt)
+    } else if same_text(text, b"toint".as_slice()) {
+        Some(Builtin::ToInt)
+    } else if same_text(text, b"size".as_slice()) {
+        Some(Builtin::Size)
+    } else if same_text(text, b"printf".as_slice()) {
+        Some(Builtin::Printf)
+    } else if same_text(text, b"assert".as_slice()) {
+        Some(Builtin::Assert)
+    } else {
+        None
+    }
+}
+
+/// What an operator gives of two operands of a type.
+pub fn gives(operator: Operator, base: Base) -> Option<Base>
+    ensures { result ≡ checks.gives operator base }
+{
+    match (operator, base) {
+        (Operator::Or | Operator::And, Base::Boolean) => Some(Base::Boolean),
+        (Operator::Equal | Operator::NotEqual, _) => Some(Base::Boolean),
+        (
+            Operator::Less | Operator::AtMost | Operator::Greater | Operator::AtLeast,
+            Base::Int,
+        ) => Some(Base::Boolean),
+        (Operator::Plus, Base::Int) => Some(Base::Int),
+        (Operator::Plus, Base::Text) => Some(Base::Text),
+        (
+            Operator::Minus | Operator::Times | Operator::Quotient | Operator::Remainder,
+            Base::Int,
+        ) => Some(Base::Int),
+        _ => None,
+    }
+}
+
+/// The type of the operand and of the result of an operator before its operand.
+pub fn base_of(prefix: Prefix) -> Base
+    ensures { result ≡ checks.base_of prefix }
+{
+    match prefix {
+        Prefix::Not => Base::Boolean,
+        Prefix::Negative => Base::Int,
+    }
+}
+
+/// The type of a scalar.
+pub fn one_of(base: Base) -> VariableType
+    ensures { type_of result ≡ scopes.one_of base }
+{
+    VariableType {
+        base,
+        shape: Shape::Scalar,
+    }
+}

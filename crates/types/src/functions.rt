@@ -1,0 +1,121 @@
+//! The functions of a script.
+ghost use Rattle.std.specs.Prelude.{◌≡◌, IfOk, MatchOption, OnOk, map};
+ghost use Rattle.syntax_trees.specs.View.{word_of, part_of, composite_of, declaration_of};
+ghost use Rattle.syntax_trees.specs.Scopes as scopes;
+ghost use Rattle.types.specs.Known.{type_of, signature_of};
+ghost use Rattle.types.specs.Names as checks;
+ghost use Rattle.types.specs.Outcomes.{Gives};
+
+use crate::fault::TypeFault;
+use crate::scope::same_text;
+use crate::typed::{Callee, Meaning, Settled, VariableType};
+use std::alloc::{AllocError, Allocator, Global};
+use syntax_trees::tree::{Decl, Function, Item, Name};
+
+/// A function: its text, and the types of its inputs and outputs.
+#[derive(Drop)]
+pub struct Signature {
+    pub text: Vec<u8>,
+    pub inputs: Vec<VariableType>,
+    pub outputs: Vec<VariableType>,
+}
+
+/// A function with its place among those of the script.
+#[derive(Clone, Copy)]
+pub struct Found<'a> {
+    pub place: usize,
+    pub signature: &'a Signature,
+}
+
+/// The functions of a script, in its order.
+pub fn signatures<A: Allocator>(
+    alloc: Global,
+    items: &[Item<A>],
+) -> Result<Vec<Signature>, AllocError>
+    ensures { IfOk result (λ found. map signature_of found.items ≡ scopes.signatures (map part_of items.now)) }
+{
+    let mut found = Vec::new(alloc);
+    for item in items {
+        if let Item::Function(function) = item {
+            found.push(one_signature(alloc, function)?)?;
+        }
+    }
+    Ok(found)
+}
+
+fn one_signature<A: Allocator>(alloc: Global, function: &Function<A>) -> Result<Signature, AllocError>
+    ensures { IfOk result (λ found. signature_of found ≡ scopes.signature_of (composite_of function.now)) }
+{
+    Ok(Signature {
+        text: Vec::from_slice(alloc, function.name.text.as_slice())?,
+        inputs: types(alloc, &function.inputs)?,
+        outputs: types(alloc, &function.outputs)?,
+    })
+}
+
+fn types<A: Allocator>(alloc: Global, decls: &Vec<Decl<A>, A>) -> Result<Vec<VariableType>, AllocError>
+    ensures { IfOk result (λ found. map type_of found.items ≡ map scopes.declared_type (map declaration_of decls.now.items)) }
+{
+    let mut found = Vec::new(alloc);
+    for decl in decls {
+        found.push(declared(decl))?;
+    }
+    Ok(found)
+}
+
+/// The type that a declaration gives.
+pub fn declared<A: Allocator>(decl: &Decl<A>) -> VariableType
+    ensures { type_of result ≡ scopes.declared_type (declaration_of decl.now) }
+{
+    VariableType {
+        base: decl.base,
+        shape: decl.shape,
+    }
+}
+
+/// The first function of a name.
+pub fn find_function<'a>(functions: &'a [Signature], text: &[u8]) -> Option<Found<'a>>
+    ensures { MatchOption result (checks.find (map signature_of functions.now) text.now ≡ checks.missing) (λ it. checks.find (map signature_of functions.now) text.now ≡ checks.found it.place (signature_of it.signature.now)) }
+{
+    for (place, signature) in functions.iter().enumerate() {
+        if same_text(signature.text.as_slice(), text) {
+            return Some(Found { place, signature });
+        }
+    }
+    None
+}
+
+/// Settles what a called name is.
+pub fn called<A: Allocator>(
+    settled: &mut Vec<Settled>,
+    name: &Name<A>,
+    callee: Callee,
+) -> Result<(), AllocError>
+    ensures { OnOk result (settled.new.items ≡ checks.settles (word_of name.now) (Meaning.Called callee) settled.old.items) }
+{
+    settled.push(Settled {
+        number: name.number,
+        meaning: Meaning::Called(callee),
+    })?;
+    Ok(())
+}
+
+/// The function of a called name, which is settled, with as many inputs and outputs as there are.
+pub fn function_called<'a, A: Allocator>(
+    functions: &'a [Signature],
+    settled: &mut Vec<Settled>,
+    name: &Name<A>,
+    inputs: usize,
+    outputs: usize,
+) -> Result<&'a Signature, TypeFault>
+    ensures { Gives (λ found. signature_of found.now) result settled.new.items (checks.function_called (map signature_of functions.now) (word_of name.now) inputs outputs settled.old.items) }
+{
+    let Some(found) = find_function(functions, name.text.as_slice()) else {
+        return Err(TypeFault::NotAFunction(name.span));
+    };
+    if found.signature.inputs.len() != inputs || found.signature.outputs.len() != outputs {
+        return Err(TypeFault::WrongCount(name.span));
+    }
+    called(settled, name, Callee::Function(found.place))?;
+    Ok(found.signature)
+}

@@ -1,0 +1,385 @@
+//! Statements, each with the scope that it leaves to those behind it.
+
+use crate::builtins::{builtin_of, one_of};
+use crate::expressions::{
+    arguments, builtin_call, elements, elements_of, expect, same_type, whole,
+};
+use crate::fault::TypeFault;
+use crate::functions::{Signature, called, declared, function_called};
+use crate::scope::{Scope, add, declare, fresh, refer};
+use crate::typed::{Builtin, Callee, Owned, Settled, VariableType};
+use lexer::token::Span;
+use std::alloc::{Allocator, Global};
+use syntax_trees::tree::{Base, Block, Call, Decl, Expr, ExprKind, ListOf, Name, Range, Right, Shape, Source, Stmt, StmtKind};
+use values::format::{Format, FormatFault, Piece};
+
+/// A right side of the type of its target.
+fn right<A: Allocator>(
+    functions: &[Signature],
+    scope: &Scope,
+    settled: &mut Vec<Settled>,
+    right: &Right<A>,
+    target: VariableType,
+) -> Result<(), TypeFault> {
+    match right {
+        Right::Value(value) => {
+            let found = whole(functions, scope, settled, value)?;
+            same_type(found, target, value.first)
+        }
+        Right::List(list) => literal(functions, scope, settled, list, target),
+    }
+}
+
+/// An array literal: its elements have the type of the target's, and the target is an array.
+fn literal<A: Allocator>(
+    functions: &[Signature],
+    scope: &Scope,
+    settled: &mut Vec<Settled>,
+    list: &ListOf<A>,
+    target: VariableType,
+) -> Result<(), TypeFault> {
+    match target.shape {
+        Shape::Array => elements(functions, scope, settled, &list.elements, Some(target.base)),
+        Shape::Scalar => {
+            elements(functions, scope, settled, &list.elements, None)?;
+            Err(TypeFault::Mismatch(list.first))
+        }
+    }
+}
+
+/// The types of the variables that names refer to.
+fn refer_all<A: Allocator>(
+    alloc: Global,
+    scope: &Scope,
+    settled: &mut Vec<Settled>,
+    names: &[Name<A>],
+) -> Result<Vec<VariableType>, TypeFault> {
+    let mut types = Vec::new(alloc);
+    for name in names {
+        types.push(refer(scope, settled, name)?)?;
+    }
+    Ok(types)
+}
+
+/// Refuses outputs that have not the types of their targets.
+fn same_types(found: &[VariableType], wanted: &[VariableType], at: Span) -> Result<(), TypeFault> {
+    for (i, one) in found.iter().enumerate() {
+        let Some(other) = wanted.get(i) else {
+            return Err(TypeFault::WrongCount(at));
+        };
+        same_type(*one, *other, at)?;
+    }
+    Ok(())
+}
+
+/// The one target of a call with one output.
+fn only_target(targets: &[VariableType], at: Span) -> Result<VariableType, TypeFault> {
+    if targets.len() != 1 {
+        return Err(TypeFault::WrongCount(at));
+    }
+    match targets.first() {
+        Some(target) => Ok(*target),
+        None => Err(TypeFault::WrongCount(at)),
+    }
+}
+
+/// A call whose outputs go to variables of these types.
+fn several<A: Allocator>(
+    functions: &[Signature],
+    scope: &Scope,
+    settled: &mut Vec<Settled>,
+    call: &Call<A>,
+    targets: &[VariableType],
+) -> Result<(), TypeFault> {
+    let at = call.name.span;
+    match builtin_of(call.name.text.as_slice()) {
+        Some(builtin) => {
+            let target = only_target(targets, at)?;
+            called(settled, &call.name, Callee::BuiltIn(builtin))?;
+            let base = builtin_call(functions, scope, settled, builtin, &call.arguments, at)?;
+            same_type(one_of(base), target, at)
+        }
+        None => {
+            let signature = function_called(functions, settled, &call.name, call.arguments.len(), targets.len())?;
+            arguments(functions, scope, settled, &call.arguments, 0, signature.inputs.as_slice(), at)?;
+            same_types(signature.outputs.as_slice(), targets, at)
+        }
+    }
+}
+
+/// A call that is a statement: of a function without outputs, of `printf` or of `assert`.
+fn call_statement<A: Allocator>(
+    alloc: Global,
+    functions: &[Signature],
+    scope: &Scope,
+    settled: &mut Vec<Settled>,
+    call: &Call<A>,
+) -> Result<(), TypeFault> {
+    let given = &call.arguments;
+    let at = call.name.span;
+    match builtin_of(call.name.text.as_slice()) {
+        Some(builtin) => {
+            called(settled, &call.name, Callee::BuiltIn(builtin))?;
+            builtin_statement(alloc, functions, scope, settled, builtin, given, at)
+        }
+        None => {
+            let signature = function_called(functions, settled, &call.name, given.len(), 0)?;
+            arguments(functions, scope, settled, given, 0, signature.inputs.as_slice(), at)
+        }
+    }
+}
+
+/// The arguments of a built-in function that is called as a statement, at `at`.
+fn builtin_statement<A: Allocator>(
+    alloc: Global,
+    functions: &[Signature],
+    scope: &Scope,
+    settled: &mut Vec<Settled>,
+    builtin: Builtin,
+    given: &Vec<Expr<A>, A>,
+    at: Span,
+) -> Result<(), TypeFault> {
+    match builtin {
+        Builtin::Printf => print(alloc, functions, scope, settled, given, at),
+        Builtin::Assert => {
+            if given.len() != 2 {
+                return Err(TypeFault::WrongCount(at));
+            }
+            arguments(functions, scope, settled, given, 0, &[one_of(Base::Boolean), one_of(Base::Text)], at)
+        }
+        Builtin::Strcat | Builtin::FromInt | Builtin::ToInt | Builtin::Size => Err(TypeFault::WrongCount(at)),
+    }
+}
+
+/// The arguments of `printf`: a format, and what its conversions take.
+fn print<A: Allocator>(
+    alloc: Global,
+    functions: &[Signature],
+    scope: &Scope,
+    settled: &mut Vec<Settled>,
+    given: &Vec<Expr<A>, A>,
+    at: Span,
+) -> Result<(), TypeFault> {
+    let Some(format) = given.first() else {
+        return Err(TypeFault::WrongCount(at));
+    };
+    let wanted = conversions(alloc, format)?;
+    if given.len() - 1 != wanted.len() {
+        return Err(TypeFault::WrongCount(at));
+    }
+    arguments(functions, scope, settled, given, 1, wanted.as_slice(), at)
+}
+
+/// The types that the conversions of a format take.
+fn conversions<A: Allocator>(alloc: Global, format: &Expr<A>) -> Result<Vec<VariableType>, TypeFault> {
+    let at = Span { from: format.first.from, to: format.to };
+    let ExprKind::Text(bytes) = &format.kind else {
+        return Err(TypeFault::BadFormat(at));
+    };
+    match Format::read(alloc, bytes.as_slice()) {
+        Ok(format) => wanted(alloc, &format),
+        Err(FormatFault::Unreadable) => Err(TypeFault::BadFormat(at)),
+        Err(FormatFault::Memory) => Err(TypeFault::Memory),
+    }
+}
+
+fn wanted(alloc: Global, format: &Format) -> Result<Vec<VariableType>, TypeFault> {
+    let mut types = Vec::new(alloc);
+    for piece in format.pieces() {
+        match piece {
+            Piece::Byte(_) => {}
+            Piece::Number => types.push(one_of(Base::Int))?,
+            Piece::Text => types.push(one_of(Base::Text))?,
+        }
+    }
+    Ok(types)
+}
+
+/// What a loop goes over, with the type of the values that it gives.
+fn source<A: Allocator>(
+    functions: &[Signature],
+    scope: &Scope,
+    settled: &mut Vec<Settled>,
+    source: &Source<A>,
+) -> Result<Base, TypeFault> {
+    match source {
+        Source::Array(name) => elements_of(refer(scope, settled, name)?, name.span),
+        Source::Range(range) => {
+            bounds(functions, scope, settled, range)?;
+            Ok(Base::Int)
+        }
+    }
+}
+
+fn bounds<A: Allocator>(
+    functions: &[Signature],
+    scope: &Scope,
+    settled: &mut Vec<Settled>,
+    range: &Range<A>,
+) -> Result<(), TypeFault> {
+    expect(functions, scope, settled, &range.low, Base::Int)?;
+    expect(functions, scope, settled, &range.high, Base::Int)?;
+    match &range.step {
+        Some(step) => expect(functions, scope, settled, step, Base::Int),
+        None => Ok(()),
+    }
+}
+
+/// Refuses variables of a loop that are visible already, or that have one name.
+fn fresh_variables<A: Allocator>(scope: &Scope, value: &Name<A>, key: &Option<Name<A>>) -> Result<(), TypeFault> {
+    fresh(scope, value)?;
+    match key {
+        None => Ok(()),
+        Some(key) => {
+            fresh(scope, key)?;
+            if key.text.as_slice() == value.text.as_slice() {
+                return Err(TypeFault::Declared(key.span));
+            }
+            Ok(())
+        }
+    }
+}
+
+/// Makes the variables of a loop visible.
+fn add_variables<A: Allocator>(
+    alloc: Global,
+    scope: &mut Scope,
+    value: &Name<A>,
+    key: &Option<Name<A>>,
+    base: Base,
+) -> Result<(), TypeFault> {
+    add(alloc, scope, value, Owned::Local(value.number), one_of(base))?;
+    if let Some(key) = key {
+        add(alloc, scope, key, Owned::Local(key.number), one_of(Base::Int))?;
+    }
+    Ok(())
+}
+
+/// A statement, with the variable that it declares.
+#[cycle(stmt)]
+pub fn stmt<A: Allocator>(
+    alloc: Global,
+    functions: &[Signature],
+    scope: &mut Scope,
+    settled: &mut Vec<Settled>,
+    stmt: &Stmt<A>,
+) -> Result<(), TypeFault> {
+    command(alloc, functions, scope, settled, &stmt.kind)
+}
+
+#[cycle(stmt)]
+fn command<A: Allocator>(
+    alloc: Global,
+    functions: &[Signature],
+    scope: &mut Scope,
+    settled: &mut Vec<Settled>,
+    kind: &StmtKind<A>,
+) -> Result<(), TypeFault> {
+    match kind {
+        StmtKind::Declare(decl, value) => declaration(alloc, functions, scope, settled, decl, value),
+        StmtKind::Assign(name, value) => {
+            let target = refer(scope, settled, name)?;
+            right(functions, scope, settled, value, target)
+        }
+        StmtKind::Write(name, index, value) => {
+            let base = elements_of(refer(scope, settled, name)?, name.span)?;
+            expect(functions, scope, settled, index, Base::Int)?;
+            expect(functions, scope, settled, value, base)
+        }
+        StmtKind::AssignAll(names, call) => {
+            let targets = refer_all(alloc, scope, settled, names.as_slice())?;
+            several(functions, scope, settled, call, targets.as_slice())
+        }
+        StmtKind::Call(_, call) => call_statement(alloc, functions, scope, settled, call),
+        StmtKind::If(condition, then, other) => {
+            expect(functions, scope, settled, condition, Base::Boolean)?;
+            branch(alloc, functions, scope, settled, then)?;
+            match other {
+                None => Ok(()),
+                Some(other) => branch(alloc, functions, scope, settled, other),
+            }
+        }
+        StmtKind::Foreach(value, key, over, body) => {
+            fresh_variables(scope, value, key)?;
+            let base = source(functions, scope, settled, over)?;
+            let visible = scope.names.len();
+            scope.blocks.push(visible)?;
+            add_variables(alloc, scope, value, key, base)?;
+            block(alloc, functions, scope, settled, body)?;
+            leave(scope, visible);
+            Ok(())
+        }
+        StmtKind::Wait(names, body) => {
+            let _types = refer_all(alloc, scope, settled, names.as_slice())?;
+            block(alloc, functions, scope, settled, body)
+        }
+    }
+}
+
+/// A declaration: its name is visible in its own right side.
+fn declaration<A: Allocator>(
+    alloc: Global,
+    functions: &[Signature],
+    scope: &mut Scope,
+    settled: &mut Vec<Settled>,
+    decl: &Decl<A>,
+    value: &Option<Right<A>>,
+) -> Result<(), TypeFault> {
+    declare(alloc, scope, &decl.name, Owned::Local(decl.name.number), declared(decl))?;
+    match value {
+        None => Ok(()),
+        Some(value) => right(functions, scope, settled, value, declared(decl)),
+    }
+}
+
+/// A block one step further in.
+#[cycle(stmt)]
+fn branch<A: Allocator>(
+    alloc: Global,
+    functions: &[Signature],
+    scope: &mut Scope,
+    settled: &mut Vec<Settled>,
+    body: &Block<A>,
+) -> Result<(), TypeFault> {
+    let visible = scope.names.len();
+    scope.blocks.push(visible)?;
+    block(alloc, functions, scope, settled, body)?;
+    leave(scope, visible);
+    Ok(())
+}
+
+/// The scope as it was before a block, with so many visible variables.
+fn leave(scope: &mut Scope, visible: usize) {
+    scope.names.truncate(visible);
+    let _closed = scope.blocks.pop();
+}
+
+/// The statements of a block, whose variables are not visible behind it.
+#[cycle(stmt)]
+pub fn block<A: Allocator>(
+    alloc: Global,
+    functions: &[Signature],
+    scope: &mut Scope,
+    settled: &mut Vec<Settled>,
+    body: &Block<A>,
+) -> Result<(), TypeFault> {
+    let visible = scope.names.len();
+    each(alloc, functions, scope, settled, &body.statements)?;
+    scope.names.truncate(visible);
+    Ok(())
+}
+
+/// Statements one after another.
+#[cycle(stmt)]
+fn each<A: Allocator>(
+    alloc: Global,
+    functions: &[Signature],
+    scope: &mut Scope,
+    settled: &mut Vec<Settled>,
+    statements: &Vec<Stmt<A>, A>,
+) -> Result<(), TypeFault> {
+    for inner in statements {
+        stmt(alloc, functions, scope, settled, inner)?;
+    }
+    Ok(())
+}
