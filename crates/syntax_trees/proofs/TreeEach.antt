@@ -19,7 +19,7 @@ use Rattle.syntax_trees.proofs.TestedNames.{hidden_fine, fill_fine, one_hidden}
 
 use Rattle.syntax_trees.proofs.TreeStmts.{right_no_block, several_no_block, call_no_block, loop_block}
 
-every-append : {X : Type 0} (p : X → Bool) (xs ys : List X) → every p xs ≡ true → every p ys ≡ true → every p (xs ++ ys) ≡ true
+pub every-append : {X : Type 0} (p : X → Bool) (xs ys : List X) → every p xs ≡ true → every p ys ≡ true → every p (xs ++ ys) ≡ true
 every-append p [] ys h k = k
 every-append p (x ∷ xs) ys h k = let r = both (p x) (every p xs) h in both_are (p x) (every p (xs ++ ys)) r.0 (every-append p xs ys r.1 k)
   where
