@@ -85,7 +85,7 @@ one_output c = one_hidden c.outputs
 abbrev Fine : List Part → Type 0
 Fine ps = every one_output (part_calls ps) ≡ true
 
-calls-append : (ps qs : List Part) → part_calls (ps ++ qs) ≡ part_calls ps ++ part_calls qs
+pub calls-append : (ps qs : List Part) → part_calls (ps ++ qs) ≡ part_calls ps ++ part_calls qs
 calls-append [] qs = refl
 calls-append (inner c ∷ ps) qs = calls-append ps qs
 calls-append (calls c ∷ ps) qs = ap (λ (cs : List Call). c ∷ cs) (calls-append ps qs)

@@ -17,7 +17,7 @@ use Rattle.syntax_trees.proofs.TreeNumbers.{hit, times, times-append, times-flat
 use Rattle.syntax_trees.proofs.TreeNodes.{words_numbers, right_numbers, calling_numbers, maybe_numbers, over_numbers, word_numbers, statement_numbers, command_numbers, body_numbers, statements_numbers, declarations_numbers, tree_numbers}
 use Rattle.syntax_trees.proofs.TestedNames.{hidden_fine, fill_fine, one_hidden}
 
-among-append : (xs ys : List Block) (n : ℕ) (f : Stmt → List ℕ) → times n (flat f (stmts_among (xs ++ ys))) ≡ times n (flat f (stmts_among xs)) + times n (flat f (stmts_among ys))
+pub among-append : (xs ys : List Block) (n : ℕ) (f : Stmt → List ℕ) → times n (flat f (stmts_among (xs ++ ys))) ≡ times n (flat f (stmts_among xs)) + times n (flat f (stmts_among ys))
 among-append [] ys n f = omega arith
 among-append (b ∷ xs) ys n f =
     let e = among-append xs ys n f in
