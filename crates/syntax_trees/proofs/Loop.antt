@@ -1,10 +1,9 @@
 -- A loop that reads what it writes: int A[]; A[0] = 1; foreach i in [1:2] { A[i] = A[i-1] * 2; } printf("%i", A[2]);
-use Rattle.std.specs.Prelude.{◌≡◌, ◌⊎◌, ℕ, zero, suc, ◌+◌, ◌<◌, List, [], ◌∷◌, Option, Some, None, Result, Ok, Err, ℤ, pos, refl, codes}
+use Rattle.std.specs.Prelude.{◌≡◌, ◌⊎◌, ℕ, zero, suc, ◌<◌, List, [], ◌∷◌, Option, Some, None, Result, Ok, ℤ, pos, refl, codes}
 use Rattle.std.specs.Fmt.{digits}
 use Rattle.std.proofs.Common.{inl, inr, sym, ap, subst, ◌∙◌, arith}
 use Rattle.values.specs.declared.fault.OpFault.{OpFault}
 use Rattle.values.specs.declared.key.Key.{Key}
-use Rattle.values.specs.declared.key.Key.TheVariants as Key
 use Rattle.values.specs.declared.op.Factor.TheVariants as Factor
 use Rattle.values.specs.declared.op.Sign.TheVariants as Sign
 use Rattle.values.specs.declared.value.Scalar.{Scalar}
@@ -13,13 +12,13 @@ use Rattle.values.specs.declared.value.Value.{Value}
 use Rattle.values.specs.declared.value.Value.TheVariants.{One}
 use Rattle.values.specs.Operators as op
 use Rattle.values.specs.Ranges.{range_count, value_in}
-use Rattle.syntax_trees.specs.Core.{local, Name, here, Expr, operator, name, Cell, compute, read, Call, Part, inner, Outer, Awaited, Stmt, stmt, Action, fill, insert, range, wait, Block, Core}
+use Rattle.syntax_trees.specs.Core.{local, Name, operator, compute, read, Call, inner, Outer, Awaited, Stmt, stmt, Action, fill, insert, range, wait, Block, Core}
 use Rattle.syntax_trees.specs.Examples as example
 use Rattle.syntax_trees.specs.Examples.{plain, num, variable, two, block_of}
-use Rattle.syntax_trees.specs.Facts.{Fact, value, element, line, Knowledge, IsKey, a_number, OneWrite, KnownAll, no_cell, next_cell}
-use Rattle.syntax_trees.specs.Meaning.{Live, script, opened, waited, called, Ready, cells_known, source_closed, HasValue, stored, in_turn, of_literal, of_name, of_operator, no_operand, operand, computed, found, before, now, LiveStmt, in_block, cell_value, inserted, printed, Known, Meaning}
+use Rattle.syntax_trees.specs.Facts.{Fact, value, element, line, IsKey, a_number, OneWrite, no_cell, next_cell}
+use Rattle.syntax_trees.specs.Meaning.{Live, script, opened, waited, called, Ready, cells_known, HasValue, stored, in_turn, of_literal, of_name, of_operator, no_operand, operand, computed, found, now, LiveStmt, in_block, cell_value, inserted, printed, Known}
 use Rattle.syntax_trees.specs.Members.{◌∈◌, first, later}
-use Rattle.syntax_trees.specs.Openings.{Bounds, bounds, in_turns, Opens, turn, InTurn, range_value}
+use Rattle.syntax_trees.specs.Openings.{Bounds, bounds, in_turns, Opens, turn, range_value}
 use Rattle.syntax_trees.specs.Parts.{block_list, stmt_calls}
 use Rattle.syntax_trees.specs.Places.{Path, Place}
 use Rattle.syntax_trees.specs.Single.{SinglyAssigned}

@@ -1,18 +1,17 @@
 -- Where no number stands twice in a tree, no node stands twice in its core.
-use Rattle.std.specs.Prelude.{◌≡◌, ◌⊎◌, ℕ, zero, suc, ◌+◌, ◌≤◌, ℤ, pos, Bool, true, false, List, [], ◌∷◌, ◌++◌, map, Option, Some, None, option_map, option_to_list, length, refl}
-use Rattle.std.proofs.Common.{inl, inr, sym, ap, ◌∙◌, subst, arith}
+use Rattle.std.specs.Prelude.{◌≡◌, ℕ, ◌+◌, ◌≤◌, ℤ, pos, true, List, [], ◌∷◌, ◌++◌, map, Option, Some, None, option_map, length, refl}
+use Rattle.std.proofs.Common.{arith}
 use Rattle.values.specs.Operators as op
 use Rattle.syntax_trees.specs.declared.tree.Shape.{Shape}
-use Rattle.syntax_trees.specs.declared.tree.Shape.TheVariants as Shape
 use Rattle.syntax_trees.specs.Tree as T
 use Rattle.syntax_trees.specs.Tree.{Word, Node, Declaration, Expression, expression, number, text, truth, variable, element, call, prefixed, chain, Expressions, no_expressions, and_expression, expressions_of, RightSide, value, list, Calling, Over, Statement, statement, Command, choice, choice_else, loop, waits, Body, body, Statements, no_statements, and_statement, Composite, Tree, import, function, single}
-use Rattle.syntax_trees.specs.Core.{Name, here, local, Form, compute, read, Cell, Call, Part, inner, calls, Outer, Action, declare, call_alone, assign, fill, insert, print, assert, when, choose, range, each, wait, Stmt, stmt, Block, no_stmts, stmts, Function, Core}
-use Rattle.syntax_trees.specs.Parts.{part_cells, part_calls, parts, outer_parts, outers, block_list, blocks_below, blocks_in, blocks_inside, blocks_of, function_blocks, script_blocks}
-use Rattle.syntax_trees.specs.Resolved.{refers, Formed, Operands, Arguments, form_of, operands_of, arguments_of, computes, call_form, call_to, number_of, outer_of, outer, after_first, composite_call, plain_right, call_right, right_of, call_action, first_name, several, awaited, loop_action, stmt_of, block_of, block_in, with_statement, with_command, script_block, functions_of, core, format_of}
+use Rattle.syntax_trees.specs.Core.{Name, here, Call, Part, inner, calls, Outer, Action, declare, assign, insert, print, assert, when, choose, wait, stmt, Block, stmts, Function}
+use Rattle.syntax_trees.specs.Parts.{part_cells, parts, blocks_below, blocks_inside, blocks_of, function_blocks, script_blocks}
+use Rattle.syntax_trees.specs.Resolved.{refers, Arguments, operands_of, arguments_of, computes, call_form, call_to, outer_of, outer, after_first, composite_call, call_right, right_of, call_action, several, awaited, loop_action, stmt_of, block_of, block_in, with_statement, with_command, script_block, functions_of, core, format_of}
 use Rattle.syntax_trees.specs.Table as table
 use Rattle.syntax_trees.specs.Table.{Table, Callee, composite, built_in}
-use Rattle.syntax_trees.proofs.Tested.{distinct, flat, cell_nodes, name_nodes, declared_of, roles_of, with_turn, hidden_calls, hidden_of, action_nodes, nodes, block_nodes}
-use Rattle.syntax_trees.proofs.TreeNumbers.{hit, times, times-append, times-flat, hit_self, few_distinct, distinct_few, expression_numbers, expressions_numbers, form_numbers, call_nodes, part_times, part-append, call_part, expression_part, operands_part, arguments_part}
+use Rattle.syntax_trees.proofs.Tested.{distinct, flat, cell_nodes, declared_of, roles_of, with_turn, hidden_of, action_nodes, block_nodes}
+use Rattle.syntax_trees.proofs.TreeNumbers.{hit, times, times-append, times-flat, few_distinct, distinct_few, expression_numbers, expressions_numbers, part_times, part-append, call_part, expression_part, operands_part, arguments_part}
 
 -- THE NUMBERS OF STATEMENTS
 

@@ -1,18 +1,16 @@
 -- The nodes of a core are numbers of its tree, each at most as often: so where no number stands twice in the tree, none does in the core.
-use Rattle.std.specs.Prelude.{◌≡◌, ◌⊎◌, ℕ, zero, suc, ◌+◌, ◌≤◌, ℤ, Bool, true, false, not, ◌&&◌, ◌||◌, List, [], ◌∷◌, ◌++◌, map, Option, Some, None, nat_eq, option_map, cond, refl}
-use Rattle.std.proofs.Common.{inl, inr, sym, ap, ◌∙◌, subst, arith}
+use Rattle.std.specs.Prelude.{◌≡◌, ℕ, zero, suc, ◌+◌, ◌≤◌, Bool, true, false, not, ◌&&◌, ◌||◌, List, [], ◌∷◌, ◌++◌, nat_eq, cond, refl}
+use Rattle.std.proofs.Common.{ap, subst, arith}
 use Rattle.std.proofs.lemmas.Bool.{eqb-true}
 use Rattle.syntax_trees.specs.Tree as T
 use Rattle.syntax_trees.specs.Tree.{Word, Node, Expression, expression, number, text, truth, variable, element, call, prefixed, chain, Expressions, no_expressions, and_expression, expressions_of, RightSide, value, list, Calling, Over, Statement, statement, Command, choice, choice_else, loop, waits, Body, body, Statements, no_statements, and_statement, Tree, import, function, single}
-use Rattle.syntax_trees.specs.Core.{Name, here, local, Expr, Exprs, Form, compute, read, Cell, Call, Part, inner, calls, Outer, Action, Stmt, stmt, Block, no_stmts, stmts, Core}
-use Rattle.syntax_trees.specs.Members.{◌∈◌, first, later}
+use Rattle.syntax_trees.specs.Core.{here, compute, read, Call, Part, inner, calls}
 use Rattle.syntax_trees.specs.Parts.{part_cells, part_calls}
-use Rattle.syntax_trees.specs.Resolved.{Formed, Operands, Arguments, form_of, form_in, operands_of, arguments_of, as_cell, as_operand, as_argument, variable_or_cell, one_operand, with_operand, with_argument, computes, call_form, call_to, number_of, sized, builtin_operation, prefix_operation, chain_operation}
+use Rattle.syntax_trees.specs.Resolved.{Formed, Operands, Arguments, form_of, form_in, operands_of, arguments_of, as_cell, as_operand, as_argument, variable_or_cell, call_form, call_to, number_of}
 use Rattle.syntax_trees.specs.Table as table
 use Rattle.syntax_trees.specs.Table.{Table, Callee, composite, built_in}
 use Rattle.syntax_trees.specs.declared.tree.Shape.{Shape}
-use Rattle.syntax_trees.specs.declared.tree.Shape.TheVariants as Shape
-use Rattle.syntax_trees.proofs.Tested.{has, distinct, flat, both, true_left, true_right, has_in, in_has, self_eq, cell_nodes, name_nodes}
+use Rattle.syntax_trees.proofs.Tested.{has, distinct, flat, both, self_eq, cell_nodes, name_nodes}
 
 -- COUNTS
 

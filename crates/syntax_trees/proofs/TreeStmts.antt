@@ -1,23 +1,19 @@
 -- What each statement of a core keeps by the way it is made: writers have nodes of their own, calls in expressions one output, and whole arrays go to arrays.
-use Rattle.std.specs.Prelude.{◌≡◌, ◌⊎◌, ℕ, zero, suc, ◌+◌, ◌≤◌, ℤ, pos, Bool, true, false, List, [], ◌∷◌, ◌++◌, map, Option, Some, None, option_map, option_to_list, length, refl}
-use Rattle.std.proofs.Common.{inl, inr, sym, ap, ◌∙◌, subst, arith}
-use Rattle.values.specs.Operators as op
+use Rattle.std.specs.Prelude.{◌≡◌, ℕ, ◌+◌, ◌≤◌, ℤ, true, List, [], ◌∷◌, ◌++◌, map, Option, Some, None, length, refl}
+use Rattle.std.proofs.Common.{ap, arith}
 use Rattle.syntax_trees.specs.declared.tree.Shape.{Shape}
-use Rattle.syntax_trees.specs.declared.tree.Shape.TheVariants as Shape
 use Rattle.syntax_trees.specs.Tree as T
 use Rattle.syntax_trees.specs.Tree.{Word, Node, Declaration, Expression, expression, number, text, truth, variable, element, call, prefixed, chain, Expressions, no_expressions, and_expression, expressions_of, RightSide, value, list, Calling, Over, Statement, statement, Command, choice, choice_else, loop, waits, Body, body, Statements, no_statements, and_statement, Composite, Tree, import, function, single}
-use Rattle.syntax_trees.specs.Core.{Name, here, local, Form, compute, read, Cell, Call, Part, inner, calls, Outer, Action, declare, call_alone, assign, fill, insert, print, assert, when, choose, range, each, wait, Stmt, stmt, Block, no_stmts, stmts, Function, Core}
-use Rattle.syntax_trees.specs.Parts.{stmts_among, script_stmts, part_cells, part_calls, parts, outer_parts, outers, block_list, blocks_below, blocks_in, blocks_inside, blocks_of, function_blocks, script_blocks}
-use Rattle.syntax_trees.specs.Resolved.{refers, Formed, Operands, Arguments, form_of, operands_of, arguments_of, computes, call_form, call_to, number_of, outer_of, outer, after_first, composite_call, plain_right, call_right, right_of, call_action, first_name, several, awaited, loop_action, stmt_of, block_of, block_in, with_statement, with_command, script_block, functions_of, core, format_of}
+use Rattle.syntax_trees.specs.Core.{Name, here, Action, declare, call_alone, assign, fill, insert, print, assert, when, choose, range, each, wait, Stmt, stmt, Block, stmts, Function}
+use Rattle.syntax_trees.specs.Parts.{stmts_among, script_stmts, block_list, blocks_below, blocks_inside, blocks_of, function_blocks}
+use Rattle.syntax_trees.specs.Resolved.{refers, outer, call_right, right_of, call_action, several, awaited, loop_action, block_of, block_in, with_statement, with_command, script_block, functions_of, core}
 use Rattle.syntax_trees.specs.Table as table
 use Rattle.syntax_trees.specs.Table.{Table, Callee, composite, built_in}
-use Rattle.syntax_trees.proofs.Tested.{distinct, flat, every, both, writer_of, cell_nodes, name_nodes, declared_of, roles_of, with_turn, hidden_calls, hidden_of, action_nodes, nodes, block_nodes}
-use Rattle.syntax_trees.proofs.TreeNumbers.{hit, times, times-append, times-flat, hit_self, few_distinct, distinct_few, expression_numbers, expressions_numbers, form_numbers, call_nodes, part_times, part-append, call_part, expression_part, operands_part, arguments_part}
+use Rattle.syntax_trees.proofs.Tested.{distinct, flat, writer_of}
+use Rattle.syntax_trees.proofs.TreeNumbers.{hit, times, times-append, times-flat, few_distinct, distinct_few, expression_numbers}
+use Rattle.syntax_trees.proofs.TreeNodes.{words_numbers, maybe_numbers, over_numbers, word_numbers, statement_numbers, command_numbers, body_numbers, statements_numbers, declarations_numbers, tree_numbers}
 
-use Rattle.syntax_trees.proofs.TreeNodes.{words_numbers, right_numbers, calling_numbers, maybe_numbers, over_numbers, word_numbers, statement_numbers, command_numbers, body_numbers, statements_numbers, declarations_numbers, tree_numbers}
-use Rattle.syntax_trees.proofs.TestedNames.{hidden_fine, fill_fine, one_hidden}
-
-among-append : (xs ys : List Block) (n : ℕ) (f : Stmt → List ℕ) → times n (flat f (stmts_among (xs ++ ys))) ≡ times n (flat f (stmts_among xs)) + times n (flat f (stmts_among ys))
+pub among-append : (xs ys : List Block) (n : ℕ) (f : Stmt → List ℕ) → times n (flat f (stmts_among (xs ++ ys))) ≡ times n (flat f (stmts_among xs)) + times n (flat f (stmts_among ys))
 among-append [] ys n f = omega arith
 among-append (b ∷ xs) ys n f =
     let e = among-append xs ys n f in
@@ -147,7 +143,7 @@ mutual
   command_writers n t nd (loop v k o d) b =
       let f = front_writers n nd.first.from nd.number (loop_action t v k o (block_of t d)) b in
       let q : times n (flat writer_of (stmts_among (blocks_inside (loop_action t v k o (block_of t d))))) ≡ times n (flat writer_of (stmts_among (block_of t d ∷ blocks_below (block_of t d)))) =
-          ap (λ (bs : List Block). times n (flat writer_of (stmts_among bs))) (loop_block t v k o (block_of t d)) in
+      ap (λ (bs : List Block). times n (flat writer_of (stmts_among bs))) (loop_block t v k o (block_of t d)) in
       let i = inner_writers n (block_of t d) in
       let l = body_writers n t d in
       let a = times-append n (maybe_numbers word_numbers k) (over_numbers o ++ body_numbers d) in

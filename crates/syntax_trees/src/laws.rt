@@ -12,7 +12,7 @@ ghost use Rattle.syntax_trees.specs.Places.{Path, Place};
 ghost use Rattle.syntax_trees.specs.Single.{SinglyAssigned};
 ghost use Rattle.syntax_trees.specs.WellFormed.{WellFormed};
 
-/// A cell and a variable have one value, whenever they come to have it. This is what single assignment is for (Swift/T Guide, "Data and types").
+/// A cell and a variable have one value, whenever they come to have it. Variables are futures that are assigned once, as in the Swift/T Guide.
 pub fn one_value()
     ensures { (s : Core) → WellFormed s → SinglyAssigned s → (p : Place) (v u : Value) → Meaning s (value p v) → Meaning s (value p u) → v ≡ u }
 {}
