@@ -215,7 +215,7 @@ fn control_items_have_none(rt: HostRuntime) -> Result<(), Fail> {
     assert!(rt; range.result().is_none());
     match range.outcome() {
         Outcome::Control(Computed::Counts(range)) => assert_eq!(rt;
-            (range.count, range.value(0)),
+            (range.count, range.low),
             (5, 1)
         ),
         _ => assert!(rt; false),
