@@ -114,19 +114,27 @@ no_fact st c v i h q k =
     never k.0 r.0 r.2.0 r.1 r.2.2
 
 pub first_blocked : Blocked in_a_circle (Meaning in_a_circle) 14 []
-first_blocked = (3, assign (here 1) (alone 5 (name (here 2))), record {
-  live = in_block script (later (later first));
-  counts = tt;
-  no_fact = λ o. no_fact one_way (record { node = 5; form = _ }) o.0 (later (later first)) first refl o.1;
-  no_fault = λ f k. no_fault f 14 ([], 3) k;
-  no_cell_fault = λ c f m k. no_fault f 14 ([], c.node) k;
-})
+first_blocked = (
+  3,
+  assign (here 1) (alone 5 (name (here 2))),
+  record {
+    live = in_block script (later (later first));
+    counts = tt;
+    no_fact = λ o. no_fact one_way (record { node = 5; form = _ }) o.0 (later (later first)) first refl o.1;
+    no_fault = λ f k. no_fault f 14 ([], 3) k;
+    no_cell_fault = λ c f m k. no_fault f 14 ([], c.node) k;
+  },
+)
 
 pub second_blocked : Blocked in_a_circle (Meaning in_a_circle) 21 []
-second_blocked = (4, assign (here 2) (alone 6 (name (here 1))), record {
-  live = in_block script (later (later (later first)));
-  counts = tt;
-  no_fact = λ o. no_fact other_way (record { node = 6; form = _ }) o.0 (later (later (later first))) first refl o.1;
-  no_fault = λ f k. no_fault f 21 ([], 4) k;
-  no_cell_fault = λ c f m k. no_fault f 21 ([], c.node) k;
-})
+second_blocked = (
+  4,
+  assign (here 2) (alone 6 (name (here 1))),
+  record {
+    live = in_block script (later (later (later first)));
+    counts = tt;
+    no_fact = λ o. no_fact other_way (record { node = 6; form = _ }) o.0 (later (later (later first))) first refl o.1;
+    no_fault = λ f k. no_fault f 21 ([], 4) k;
+    no_cell_fault = λ c f m k. no_fault f 21 ([], c.node) k;
+  },
+)

@@ -143,6 +143,8 @@ module _ (s : Core) (ds : List ℕ) where
     round_of_all (one_more t ts) (operand v vs) =
         let p = round_of t v in
         let q = round_of_all ts vs in
-        let m = max p.0 q.0 in
-        (m, operand (value_within (Known s p.0) (Known s m) (λ n u h. value_later p.0 m n u (below_max p.0 q.0) h) t p.1)
-            (values_within (Known s q.0) (Known s m) (λ n u h. value_later q.0 m n u (above_max p.0 q.0) h) ts q.1))
+        let m = max p.0 q.0 in (
+          m,
+          operand (value_within (Known s p.0) (Known s m) (λ n u h. value_later p.0 m n u (below_max p.0 q.0) h) t p.1)
+              (values_within (Known s q.0) (Known s m) (λ n u h. value_later q.0 m n u (above_max p.0 q.0) h) ts q.1),
+        )

@@ -69,9 +69,12 @@ module _ (s : Core) (w : IsScalars s) where
     where
       by : (◌≡◌ {A = Written} (p, t) (writer x.0, text v)) ⊎ (Prints p t (map (λ (v : Scalar). (writer x.0, text v)) vs)) → (Prints p t (map (λ (v : Scalar). (writer x.0, text v)) vs) → PrintedBy fs p t) → PrintedBy fs p t
       by (inl e) rec = record {
-        task = x.0; effect = x.1; there = i;
+        task = x.0;
+        effect = x.1;
+        there = i;
         place_is = ap (λ (y : Written). y.0) e;
-        value = v; prints = h v (inl refl);
+        value = v;
+        prints = h v (inl refl);
         text_is = ap (λ (y : Written). y.1) e;
       }
       by (inr k) rec = rec k
@@ -100,11 +103,10 @@ module _ (s : Core) (w : IsScalars s) where
 
   once_append : (xs ys : List Written) → OnceEach xs → OnceEach ys → ((p : Place) (t u : List ℕ) → Prints p t xs → Prints p u ys → ⊥) → OnceEach (xs ++ ys)
   once_append [] ys o q apart = q
-  once_append (x ∷ xs) ys o q apart =
-      (
-        λ t m. elim (either xs ys m) [ inl k ↦ o.0 t k | inr k ↦ apart x.0 x.1 t first k ],
-        once_append xs ys o.1 q (λ p t u i j. apart p t u (later i) j),
-      )
+  once_append (x ∷ xs) ys o q apart = (
+    λ t m. elim (either xs ys m) [ inl k ↦ o.0 t k | inr k ↦ apart x.0 x.1 t first k ],
+    once_append xs ys o.1 q (λ p t u i j. apart p t u (later i) j),
+  )
 
   once_action : (a : Action) (v : Scalar) (q : Place) → OnceEach (map (λ (u : Scalar). (q, text u)) (action_effect a v).lines)
   once_action (assign x o) v q = tt

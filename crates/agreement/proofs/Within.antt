@@ -169,7 +169,7 @@ module _ (s : Core) (w : IsScalars s) where
       let has = has_names s (declared (script_list s)) K t ev in
       let c = collect (needs_of a) (λ n j. (let x = has n (once_in n (named (action_expr a)) j) in (x.1.0, h n x.1.0 x.0 (fact_of x.1.1)))) in
       let e : eval c.xs (over (needs_of a) (action_expr a)) ≡ r =
-          computed s (declared (script_list s)) K (needs_of a) c.xs t ev (λ n v j x. c.answers n v (in_once n (named (action_expr a)) j) (h n v (has n j).0 (fact_of x))) in
+      computed s (declared (script_list s)) K (needs_of a) c.xs t ev (λ n v j x. c.answers n v (in_once n (named (action_expr a)) j) (h n v (has n j).0 (fact_of x))) in
       record {
         live = live_opened Main (Item i [] 0) (opening_effect s w) (block (compiled s) (0, [])) live_main main_ever (inl refl) (in_map (λ j. Item j [] 0) i (numbers_from 0 (acts (script_list s))) (at_numbered i st (acts (script_list s)) at));
         answers = c.xs;

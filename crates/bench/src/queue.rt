@@ -62,7 +62,9 @@ fn time_size(
     let start = Instant::now(rt)?;
     let taken = take_all(&mut queue, count);
     let takes = start.elapsed(rt)?.as_micros();
-    println!(rt; "{count} puts in {puts} microseconds, {removed} removes in {removes}, {taken} takes in {takes}; scattered: {scattered}")
+    println!(rt;
+        "{count} puts in {puts} microseconds, {removed} removes in {removes}, {taken} takes in {takes}; scattered: {scattered}"
+    )
 }
 
 /// Prints the times of 125,000 to 1,000,000 items, at three priorities and at many.

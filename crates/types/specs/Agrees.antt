@@ -10,6 +10,12 @@ use Rattle.types.specs.Known.{Seen, Around}
 use Rattle.types.specs.Typed.{owned_name, reference_name, callee_name}
 use Rattle.types.specs.Outcomes.{got}
 use Rattle.types.specs.Names.{refer, function_called}
+use Rattle.std.specs.Prelude.{Some}
+use Rattle.syntax_trees.specs.declared.tree.Base.{Base}
+use Rattle.syntax_trees.specs.declared.tree.Operator.{Operator}
+use Rattle.syntax_trees.specs.declared.tree.Prefix.{Prefix}
+use Rattle.syntax_trees.specs.Typing.{Operates, Prefixes}
+use Rattle.types.specs.Expressions.{gives, base_of}
 
 -- the table says what a number means
 abbrev pub SaysOf : Table → ℕ → Meaning → Type 0
@@ -44,3 +50,11 @@ ReferSound = (g : Around) (t : Table) (w : Word) (τ : Typ) (s s' : List Settled
 -- a function that is found is called, for each table that says what was settled
 abbrev pub CallSound : Type 0
 CallSound = (fs : List Signature) (t : Table) (w : Word) (n m : ℕ) (f : Signature) (s s' : List Settled) → function_called fs w n m s ≡ got f s' → Agrees t s' → Agrees t s × Calls fs t w f
+
+-- an operator gives what the typing rules say, and nothing else
+abbrev pub OperatorsExact : Type 0
+OperatorsExact = (o : Operator) (b c : Base) → (gives o b ≡ Some c → Operates o b c) × (Operates o b c → gives o b ≡ Some c)
+
+-- an operator before its operand has the type that the typing rules say
+abbrev pub PrefixesSound : Type 0
+PrefixesSound = (p : Prefix) → Prefixes p (base_of p)

@@ -38,16 +38,12 @@ pub fn gives(operator: Operator, base: Base) -> Option<Base>
     match (operator, base) {
         (Operator::Or | Operator::And, Base::Boolean) => Some(Base::Boolean),
         (Operator::Equal | Operator::NotEqual, _) => Some(Base::Boolean),
-        (
-            Operator::Less | Operator::AtMost | Operator::Greater | Operator::AtLeast,
-            Base::Int,
-        ) => Some(Base::Boolean),
+        (Operator::Less | Operator::AtMost | Operator::Greater | Operator::AtLeast, Base::Int) =>
+            Some(Base::Boolean),
         (Operator::Plus, Base::Int) => Some(Base::Int),
         (Operator::Plus, Base::Text) => Some(Base::Text),
-        (
-            Operator::Minus | Operator::Times | Operator::Quotient | Operator::Remainder,
-            Base::Int,
-        ) => Some(Base::Int),
+        (Operator::Minus | Operator::Times | Operator::Quotient | Operator::Remainder, Base::Int) =>
+            Some(Base::Int),
         _ => None,
     }
 }

@@ -7,10 +7,9 @@ ghost use Rattle.types.specs.Known.{type_of, around_of, signature_of};
 ghost use Rattle.types.specs.Expressions as checks;
 ghost use Rattle.types.specs.Outcomes.{Gives, Judges};
 
-use crate::builtins::{builtin_of, base_of, gives, one_of};
-use crate::functions::{called, function_called};
+use crate::builtins::{base_of, builtin_of, gives, one_of};
 use crate::fault::TypeFault;
-use crate::functions::Signature;
+use crate::functions::{Signature, called, function_called};
 use crate::scope::{Scope, refer};
 use crate::typed::{Builtin, Callee, Settled, VariableType};
 use lexer::token::Span;
@@ -143,7 +142,16 @@ fn chain<A: Allocator>(
     };
     let base = expr(functions, scope, settled, first)?;
     let given = first_given(operators.as_slice(), base, first.first)?;
-    further(functions, scope, settled, operators, operands, base, given, first.first)?;
+    further(
+        functions,
+        scope,
+        settled,
+        operators,
+        operands,
+        base,
+        given,
+        first.first,
+    )?;
     Ok(given)
 }
 
@@ -213,7 +221,15 @@ fn call<A: Allocator>(
         }
         None => {
             let signature = function_called(functions, settled, name, given.len(), 1)?;
-            arguments(functions, scope, settled, given, 0, signature.inputs.as_slice(), name.span)?;
+            arguments(
+                functions,
+                scope,
+                settled,
+                given,
+                0,
+                signature.inputs.as_slice(),
+                name.span,
+            )?;
             let output = output_of(signature.outputs.as_slice(), name.span)?;
             Ok(output)
         }
@@ -246,7 +262,9 @@ pub fn builtin_call<A: Allocator>(
             elements(functions, scope, settled, given, Some(Base::Text))?;
             Ok(Base::Text)
         }
-        Builtin::FromInt | Builtin::ToInt | Builtin::Size => only(functions, scope, settled, builtin, given, at),
+        Builtin::FromInt | Builtin::ToInt | Builtin::Size => only(
+            functions, scope, settled, builtin, given, at,
+        ),
         Builtin::Printf | Builtin::Assert => Err(TypeFault::WrongCount(at)),
     }
 }
@@ -273,7 +291,12 @@ fn only<A: Allocator>(
 }
 
 /// What a built-in function gives of one argument.
-fn of_one<A: Allocator>(builtin: Builtin, found: VariableType, argument: &Expr<A>, at: Span) -> Result<Base, TypeFault>
+fn of_one<A: Allocator>(
+    builtin: Builtin,
+    found: VariableType,
+    argument: &Expr<A>,
+    at: Span,
+) -> Result<Base, TypeFault>
     ensures { Judges (λ b. b) result (checks.of_one builtin (type_of found) (expression_view argument.now) at) }
 {
     match builtin {
@@ -326,7 +349,11 @@ pub fn arguments<A: Allocator>(
 }
 
 /// An argument that fits an input: for an array it is an array's name.
-fn fits<A: Allocator>(found: VariableType, input: VariableType, argument: &Expr<A>) -> Result<(), TypeFault>
+fn fits<A: Allocator>(
+    found: VariableType,
+    input: VariableType,
+    argument: &Expr<A>,
+) -> Result<(), TypeFault>
     ensures { Judges (λ _. tt) result (checks.fits (type_of found) (type_of input) (expression_view argument.now)) }
 {
     let base = match input.shape {

@@ -43,7 +43,10 @@ pub fn signatures<A: Allocator>(
     Ok(found)
 }
 
-fn one_signature<A: Allocator>(alloc: Global, function: &Function<A>) -> Result<Signature, AllocError>
+fn one_signature<A: Allocator>(
+    alloc: Global,
+    function: &Function<A>,
+) -> Result<Signature, AllocError>
     ensures { IfOk result (λ found. signature_of found ≡ scopes.signature_of (composite_of function.now)) }
 {
     Ok(Signature {
@@ -53,7 +56,10 @@ fn one_signature<A: Allocator>(alloc: Global, function: &Function<A>) -> Result<
     })
 }
 
-fn types<A: Allocator>(alloc: Global, decls: &Vec<Decl<A>, A>) -> Result<Vec<VariableType>, AllocError>
+fn types<A: Allocator>(
+    alloc: Global,
+    decls: &Vec<Decl<A>, A>,
+) -> Result<Vec<VariableType>, AllocError>
     ensures { IfOk result (λ found. map type_of found.items ≡ map scopes.declared_type (map declaration_of decls.now.items)) }
 {
     let mut found = Vec::new(alloc);

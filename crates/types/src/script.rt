@@ -19,7 +19,12 @@ use syntax_trees::tree::{Decl, Function, Item, Name, Script};
 pub fn check<A: Allocator>(alloc: Global, script: &Script<A>) -> Result<Typed, TypeFault> {
     let functions = signatures(alloc, script.items.as_slice())?;
     let mut settled = Vec::new(alloc);
-    parts(alloc, functions.as_slice(), &mut settled, script.items.as_slice())?;
+    parts(
+        alloc,
+        functions.as_slice(),
+        &mut settled,
+        script.items.as_slice(),
+    )?;
     Ok(by_number(alloc, settled.as_slice())?)
 }
 
@@ -61,7 +66,11 @@ fn function<A: Allocator>(
 }
 
 /// Refuses a function's name that is taken by one above it or by a built-in one.
-fn function_name<A: Allocator>(functions: &[Signature], above: usize, name: &Name<A>) -> Result<(), TypeFault> {
+fn function_name<A: Allocator>(
+    functions: &[Signature],
+    above: usize,
+    name: &Name<A>,
+) -> Result<(), TypeFault> {
     if builtin_of(name.text.as_slice()).is_some() {
         return Err(TypeFault::Declared(name.span));
     }
@@ -71,14 +80,22 @@ fn function_name<A: Allocator>(functions: &[Signature], above: usize, name: &Nam
     }
 }
 
-fn outputs<A: Allocator>(alloc: Global, scope: &mut Scope, decls: &[Decl<A>]) -> Result<(), TypeFault> {
+fn outputs<A: Allocator>(
+    alloc: Global,
+    scope: &mut Scope,
+    decls: &[Decl<A>],
+) -> Result<(), TypeFault> {
     for (i, decl) in decls.iter().enumerate() {
         declare(alloc, scope, &decl.name, Owned::Output(i), declared(decl))?;
     }
     Ok(())
 }
 
-fn inputs<A: Allocator>(alloc: Global, scope: &mut Scope, decls: &[Decl<A>]) -> Result<(), TypeFault> {
+fn inputs<A: Allocator>(
+    alloc: Global,
+    scope: &mut Scope,
+    decls: &[Decl<A>],
+) -> Result<(), TypeFault> {
     for (i, decl) in decls.iter().enumerate() {
         declare(alloc, scope, &decl.name, Owned::Input(i), declared(decl))?;
     }

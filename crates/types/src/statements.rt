@@ -10,7 +10,10 @@ use crate::scope::{Scope, add, declare, fresh, refer};
 use crate::typed::{Builtin, Callee, Owned, Settled, VariableType};
 use lexer::token::Span;
 use std::alloc::{Allocator, Global};
-use syntax_trees::tree::{Base, Block, Call, Decl, Expr, ExprKind, ListOf, Name, Range, Right, Shape, Source, Stmt, StmtKind};
+use syntax_trees::tree::{
+    Base, Block, Call, Decl, Expr, ExprKind, ListOf, Name, Range, Right, Shape, Source, Stmt,
+    StmtKind,
+};
 use values::format::{Format, FormatFault, Piece};
 
 /// A right side of the type of its target.
@@ -100,8 +103,22 @@ fn several<A: Allocator>(
             same_type(one_of(base), target, at)
         }
         None => {
-            let signature = function_called(functions, settled, &call.name, call.arguments.len(), targets.len())?;
-            arguments(functions, scope, settled, &call.arguments, 0, signature.inputs.as_slice(), at)?;
+            let signature = function_called(
+                functions,
+                settled,
+                &call.name,
+                call.arguments.len(),
+                targets.len(),
+            )?;
+            arguments(
+                functions,
+                scope,
+                settled,
+                &call.arguments,
+                0,
+                signature.inputs.as_slice(),
+                at,
+            )?;
             same_types(signature.outputs.as_slice(), targets, at)
         }
     }
@@ -124,7 +141,15 @@ fn call_statement<A: Allocator>(
         }
         None => {
             let signature = function_called(functions, settled, &call.name, given.len(), 0)?;
-            arguments(functions, scope, settled, given, 0, signature.inputs.as_slice(), at)
+            arguments(
+                functions,
+                scope,
+                settled,
+                given,
+                0,
+                signature.inputs.as_slice(),
+                at,
+            )
         }
     }
 }
@@ -145,9 +170,19 @@ fn builtin_statement<A: Allocator>(
             if given.len() != 2 {
                 return Err(TypeFault::WrongCount(at));
             }
-            arguments(functions, scope, settled, given, 0, &[one_of(Base::Boolean), one_of(Base::Text)], at)
+            arguments(
+                functions,
+                scope,
+                settled,
+                given,
+                0,
+                &[one_of(Base::Boolean), one_of(Base::Text)],
+                at,
+            )
         }
-        Builtin::Strcat | Builtin::FromInt | Builtin::ToInt | Builtin::Size => Err(TypeFault::WrongCount(at)),
+        Builtin::Strcat | Builtin::FromInt | Builtin::ToInt | Builtin::Size => Err(
+            TypeFault::WrongCount(at),
+        ),
     }
 }
 
@@ -171,8 +206,14 @@ fn print<A: Allocator>(
 }
 
 /// The types that the conversions of a format take.
-fn conversions<A: Allocator>(alloc: Global, format: &Expr<A>) -> Result<Vec<VariableType>, TypeFault> {
-    let at = Span { from: format.first.from, to: format.to };
+fn conversions<A: Allocator>(
+    alloc: Global,
+    format: &Expr<A>,
+) -> Result<Vec<VariableType>, TypeFault> {
+    let at = Span {
+        from: format.first.from,
+        to: format.to,
+    };
     let ExprKind::Text(bytes) = &format.kind else {
         return Err(TypeFault::BadFormat(at));
     };
@@ -226,7 +267,11 @@ fn bounds<A: Allocator>(
 }
 
 /// Refuses variables of a loop that are visible already, or that have one name.
-fn fresh_variables<A: Allocator>(scope: &Scope, value: &Name<A>, key: &Option<Name<A>>) -> Result<(), TypeFault> {
+fn fresh_variables<A: Allocator>(
+    scope: &Scope,
+    value: &Name<A>,
+    key: &Option<Name<A>>,
+) -> Result<(), TypeFault> {
     fresh(scope, value)?;
     match key {
         None => Ok(()),
@@ -248,9 +293,21 @@ fn add_variables<A: Allocator>(
     key: &Option<Name<A>>,
     base: Base,
 ) -> Result<(), TypeFault> {
-    add(alloc, scope, value, Owned::Local(value.number), one_of(base))?;
+    add(
+        alloc,
+        scope,
+        value,
+        Owned::Local(value.number),
+        one_of(base),
+    )?;
     if let Some(key) = key {
-        add(alloc, scope, key, Owned::Local(key.number), one_of(Base::Int))?;
+        add(
+            alloc,
+            scope,
+            key,
+            Owned::Local(key.number),
+            one_of(Base::Int),
+        )?;
     }
     Ok(())
 }
@@ -276,7 +333,9 @@ fn command<A: Allocator>(
     kind: &StmtKind<A>,
 ) -> Result<(), TypeFault> {
     match kind {
-        StmtKind::Declare(decl, value) => declaration(alloc, functions, scope, settled, decl, value),
+        StmtKind::Declare(decl, value) => declaration(
+            alloc, functions, scope, settled, decl, value,
+        ),
         StmtKind::Assign(name, value) => {
             let target = refer(scope, settled, name)?;
             right(functions, scope, settled, value, target)
@@ -325,7 +384,13 @@ fn declaration<A: Allocator>(
     decl: &Decl<A>,
     value: &Option<Right<A>>,
 ) -> Result<(), TypeFault> {
-    declare(alloc, scope, &decl.name, Owned::Local(decl.name.number), declared(decl))?;
+    declare(
+        alloc,
+        scope,
+        &decl.name,
+        Owned::Local(decl.name.number),
+        declared(decl),
+    )?;
     match value {
         None => Ok(()),
         Some(value) => right(functions, scope, settled, value, declared(decl)),

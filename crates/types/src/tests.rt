@@ -7,8 +7,8 @@ use lexer::token::Span;
 use std::alloc::{AllocError, Global};
 use std::test::Fail;
 use syntax_trees::tree::{
-    Base, Call, Decl, Expr, ExprKind, Function, Item, Name, Operator, Range, Right, Script,
-    Shape, Source, Stmt, StmtKind,
+    Base, Call, Decl, Expr, ExprKind, Function, Item, Name, Operator, Range, Right, Script, Shape,
+    Source, Stmt, StmtKind,
 };
 
 type Made<T> = Result<T, AllocError>;
@@ -68,10 +68,7 @@ fn call(alloc: Global, from: usize, name: &[u8], given: Vec<Expr<Global>>) -> Ma
 }
 
 fn statement(alloc: Global, kind: StmtKind<Global>) -> Made<Item<Global>> {
-    Ok(Item::Statement(Box::new(
-        alloc,
-        syntax_trees::stmt(span(0, 0), 0, kind),
-    )?))
+    Ok(Item::Statement(Box::new(alloc, syntax_trees::stmt(span(0, 0), 0, kind))?))
 }
 
 fn decl(alloc: Global, base: Base, from: usize, name: &[u8], shape: Shape) -> Made<Decl<Global>> {
@@ -123,10 +120,20 @@ fn unknown_names(rt: HostRuntime) -> Result<(), Fail> {
     let body = Box::new(alloc, syntax_trees::block(9, Vec::new(alloc)))?;
     let found = only(alloc, statement(alloc, StmtKind::Wait(names, body))?)?;
     assert_eq!(rt; found, Some(TypeFault::Unknown(span(6, 7))));
-    let range = Range { low: variable(alloc, 14, b"i")?, high: number(16, 3), step: None };
+    let range = Range {
+        low: variable(alloc, 14, b"i")?,
+        high: number(16, 3),
+        step: None,
+    };
     let body = Box::new(alloc, syntax_trees::block(19, Vec::new(alloc)))?;
     let over = Source::Range(Box::new(alloc, range)?);
-    let found = only(alloc, statement(alloc, StmtKind::Foreach(word(alloc, 8, b"i")?, None, over, body))?)?;
+    let found = only(
+        alloc,
+        statement(
+            alloc,
+            StmtKind::Foreach(word(alloc, 8, b"i")?, None, over, body),
+        )?,
+    )?;
     assert_eq!(rt; found, Some(TypeFault::Unknown(span(14, 15))));
     Ok(())
 }
@@ -137,12 +144,25 @@ fn names_declared_twice(rt: HostRuntime) -> Result<(), Fail> {
     let alloc = rt.alloc();
     let one = declare(alloc, Base::Int, 4, b"x", Some(number(8, 1)))?;
     let other = declare(alloc, Base::Int, 15, b"x", Some(number(19, 2)))?;
-    assert_eq!(rt; both(alloc, one, other)?, Some(TypeFault::Declared(span(15, 16))));
-    let range = Range { low: number(17, 1), high: number(19, 3), step: None };
+    assert_eq!(rt;
+        both(alloc, one, other)?,
+        Some(TypeFault::Declared(span(15, 16)))
+    );
+    let range = Range {
+        low: number(17, 1),
+        high: number(19, 3),
+        step: None,
+    };
     let body = Box::new(alloc, syntax_trees::block(22, Vec::new(alloc)))?;
     let over = Source::Range(Box::new(alloc, range)?);
     let key = Some(word(alloc, 11, b"v")?);
-    let found = only(alloc, statement(alloc, StmtKind::Foreach(word(alloc, 8, b"v")?, key, over, body))?)?;
+    let found = only(
+        alloc,
+        statement(
+            alloc,
+            StmtKind::Foreach(word(alloc, 8, b"v")?, key, over, body),
+        )?,
+    )?;
     assert_eq!(rt; found, Some(TypeFault::Declared(span(11, 12))));
     let function = Function {
         number: 0,
@@ -217,7 +237,11 @@ fn names_of_no_function(rt: HostRuntime) -> Result<(), Fail> {
     let found = only(alloc, call(alloc, 0, b"foo", given)?)?;
     assert_eq!(rt; found, Some(TypeFault::NotAFunction(span(0, 3))));
     let given = Vec::new(alloc);
-    let found = both(alloc, declare(alloc, Base::Int, 4, b"x", None)?, call(alloc, 7, b"f", given)?)?;
+    let found = both(
+        alloc,
+        declare(alloc, Base::Int, 4, b"x", None)?,
+        call(alloc, 7, b"f", given)?,
+    )?;
     assert_eq!(rt; found, Some(TypeFault::NotAFunction(span(7, 8))));
     let value = called(alloc, 8, b"g", number(10, 1))?;
     let found = only(alloc, declare(alloc, Base::Int, 4, b"x", Some(value))?)?;
@@ -231,7 +255,11 @@ fn what_names_are(rt: HostRuntime) -> Result<(), Fail> {
     let alloc = rt.alloc();
     let mut declared = word(alloc, 4, b"x")?;
     declared.number = 2;
-    let decl = Decl { base: Base::Int, name: declared, shape: Shape::Scalar };
+    let decl = Decl {
+        base: Base::Int,
+        name: declared,
+        shape: Shape::Scalar,
+    };
     let mut used = word(alloc, 32, b"x")?;
     used.number = 9;
     let mut name = word(alloc, 19, b"printf")?;
@@ -245,12 +273,24 @@ fn what_names_are(rt: HostRuntime) -> Result<(), Fail> {
         arguments: Vec::from_array(alloc, [text(alloc, 26, b"%i")?, value])?,
     };
     let inner = syntax_trees::stmt(span(19, 25), 35, StmtKind::Call(0, Box::new(alloc, inner)?));
-    let body = Box::new(alloc, syntax_trees::block(17, Vec::from_array(alloc, [inner])?))?;
+    let body = Box::new(
+        alloc,
+        syntax_trees::block(17, Vec::from_array(alloc, [inner])?),
+    )?;
     let test = Box::new(alloc, expr(11, 15, ExprKind::Truth(true)))?;
     let choice = statement(alloc, StmtKind::If(test, body, None))?;
-    let items = Vec::from_array(alloc, [statement(alloc, StmtKind::Declare(decl, None))?, choice])?;
+    let items = Vec::from_array(
+        alloc,
+        [statement(alloc, StmtKind::Declare(decl, None))?, choice],
+    )?;
     let typed = check(alloc, &Script { items })?;
-    assert_eq!(rt; typed.name(9), Reference { up: 1, what: Owned::Local(2) });
+    assert_eq!(rt;
+        typed.name(9),
+        Reference {
+            up: 1,
+            what: Owned::Local(2)
+        }
+    );
     assert_eq!(rt; typed.shape(9), Shape::Scalar);
     assert_eq!(rt; typed.callee(6), Callee::BuiltIn(Builtin::Printf));
     Ok(())
