@@ -36,13 +36,13 @@ pub data Form : Type 0 where
   compute : Expr → Form
   read : (array : Name) → (index : ℕ) → Form
 
--- a cell: its node, and what it is
+-- a cell: its node, and what it is (docs/LANGUAGE.md, Cells)
 pub record Cell : Type 0 where
   pub node : ℕ
   pub form : Form
 
 -- a call of a composite function: the offset of the called name, which function it is, and what its inputs and outputs stand
--- for: an input for an argument's cell or for an array, an output for a variable
+-- for: an input for an argument's cell or for an array, an output for a variable (docs/LANGUAGE.md, Calls)
 pub record Call : Type 0 where
   pub at : ℕ
   pub function : ℕ

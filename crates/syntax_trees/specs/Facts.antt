@@ -12,20 +12,20 @@ use Rattle.syntax_trees.specs.Members.{◌∈◌}
 use Rattle.syntax_trees.specs.Places.{Path, Place}
 
 -- what can be wrong at a place: what an operator, a conversion or a range meets, an element that is not there, a key that is
--- written twice, a path that would be too long
+-- written twice, a path that would be too long (docs/LANGUAGE.md, Faults)
 pub data Fault : Type 0 where
   operation : OpFault → Fault
   no_element element_twice too_deep : Fault
 
 -- a fact: the value of a cell or of a scalar variable; a write of an array's key, with its writer; a line; a fault of the
--- statement at an offset
+-- statement at an offset (docs/LANGUAGE.md, Knowledge)
 pub data Fact : Type 0 where
   value : Place → Value → Fact
   element : (array : Place) → Key → (writer : Place) → Scalar → Fact
   line : (writer : Place) → List ℕ → Fact
   fault : Fault → (at : ℕ) → Place → Fact
 
--- knowledge: a set of facts
+-- knowledge: a set of facts (docs/LANGUAGE.md, Knowledge)
 abbrev pub Knowledge : Type 1
 Knowledge = Fact → Type 0
 

@@ -21,7 +21,7 @@ abbrev pub IsTarget : Owned → Stmt → Type 0
 IsTarget a st = a ∈ targets st
 
 mutual
-  -- a block is live at a path: the script's block; what a ready header opens; the content of a `wait`; the body of each call
+  -- a block is live at a path: the script's block; what a ready header opens; the content of a `wait`; the body of each call (docs/LANGUAGE.md, Blocks and paths)
   pub data Live (s : Core) (K : Knowledge) : Path → Block → Type 0 where
     script : Live s K [] s.body
     opened : {path : Path} {b c : Block} {at n : ℕ} {header : Action} {vs : List Value} {k : Key}
@@ -33,7 +33,7 @@ mutual
         → Live s K path b → st ∈ block_list b → c ∈ stmt_calls st
         → slice_get s.functions c.function ≡ Some f → length path < most_steps → Live s K ((c.at, Key.Number (pos 0)) ∷ path) f.body
 
-  -- an array is closed: its block is live, each statement of that block is finished for it, and no key has two writers
+  -- an array is closed: its block is live, each statement of that block is finished for it, and no key has two writers (docs/LANGUAGE.md, Closing)
   pub data Closed (s : Core) (K : Knowledge) : Place → Type 0 where
     closed : {path : Path} {n at m : ℕ} {b : Block}
         → Live s K path b → stmt at m (declare n) ∈ block_list b
@@ -42,7 +42,7 @@ mutual
         → Closed s K (path, n)
 
   -- a statement is finished for an array: it is no target there; the whole array or the element is written; every statement
-  -- of each block that a call, a ready header or a `wait` opens is finished for it
+  -- of each block that a call, a ready header or a `wait` opens is finished for it (docs/LANGUAGE.md, Closing)
   pub data Finished (s : Core) (K : Knowledge) : Owned → Path → Stmt → Type 0 where
     no_target : {a : Owned} {path : Path} {st : Stmt} → (IsTarget a st → ⊥) → Finished s K a path st
     value_known : {a : Owned} {path : Path} {at n : ℕ} {x : Name} {c : Outer} {v : Value}
@@ -64,7 +64,7 @@ mutual
         → ((st : Stmt) → st ∈ block_list b → Finished s K a path st)
         → Finished s K a path (stmt at n (wait ns b))
 
-  -- the choice of a header is known
+  -- the choice of a header is known (docs/LANGUAGE.md, Blocks and paths)
   pub data Ready (s : Core) (K : Knowledge) : Path → Action → List Value → Type 0 where
     cells_known : {path : Path} {header : Action} {vs : List Value}
         → KnownAll K path (outer_cells header) vs → Decides header vs → Ready s K path header vs
@@ -75,12 +75,12 @@ mutual
         → ((x : Awaited) → x ∈ ns → Come s K path x)
         → Ready s K path (wait ns b) []
 
-  -- what a `wait` waits for is known
+  -- what a `wait` waits for is known (docs/LANGUAGE.md, Elements)
   pub data Come (s : Core) (K : Knowledge) : Path → Awaited → Type 0 where
     scalar_known : {path : Path} {x : Name} {v : Scalar} → HasValue s K (place s path x) v → Come s K path (scalar x)
     array_closed : {path : Path} {x : Name} → Closed s K (place s path x) → Come s K path (array x)
 
-  -- the scalar at a place: a known value, or what a loop's variable is in a turn that the loop opens
+  -- the scalar at a place: a known value, or what a loop's variable is in a turn that the loop opens (docs/LANGUAGE.md, Loops)
   pub data HasValue (s : Core) (K : Knowledge) : Place → Scalar → Type 0 where
     stored : {at : Place} {v : Scalar} → K (value at (One v)) → HasValue s K at v
     in_turn : {path : Path} {at n x : ℕ} {header : Action} {vs : List Value} {k : Key} {b : Block} {v : Scalar}
@@ -88,7 +88,7 @@ mutual
         → HasValue s K ((at, k) ∷ path, x) v
 
 mutual
-  -- the value of an expression under knowledge, once all its parts are known
+  -- the value of an expression under knowledge, once all its parts are known (docs/LANGUAGE.md, Cells)
   pub data ValueUnder (s : Core) (K : Knowledge) (path : Path) : Expr → Result Value OpFault → Type 0 where
     of_literal : {v : Scalar} → ValueUnder s K path (literal v) (Ok (One v))
     of_name : {x : Name} {v : Scalar} → HasValue s K (place s path x) v → ValueUnder s K path (name x) (Ok (One v))
@@ -103,7 +103,7 @@ mutual
         → ValueUnder s K path e r → ValuesUnder s K path es rs → ValuesUnder s K path (also e es) (r ∷ rs)
 
 -- the value or fault that a cell has under knowledge; an element read is of the key's one write, or there is none and the
--- array is closed
+-- array is closed (docs/LANGUAGE.md, Cells, Elements)
 pub data Gives (s : Core) (K : Knowledge) (path : Path) : Form → Result Value Fault → Type 0 where
   computed : {e : Expr} {v : Value} → ValueUnder s K path e (Ok v) → Gives s K path (compute e) (Ok v)
   faulty : {e : Expr} {f : OpFault} → ValueUnder s K path e (Err f) → Gives s K path (compute e) (Err (operation f))
@@ -128,7 +128,7 @@ pub data LiveStmt (s : Core) (K : Knowledge) : Path → Stmt → Type 0 where
   in_block : {path : Path} {b : Block} {st : Stmt} → Live s K path b → st ∈ block_list b → LiveStmt s K path st
 
 -- what a round adds: values and faults of cells; with the values of its outermost cells, what a statement assigns, writes or
--- prints; the fault of a range; a path that would be too long; two writes of one key
+-- prints; the fault of a range; a path that would be too long; two writes of one key (docs/LANGUAGE.md, Knowledge)
 pub data New (s : Core) (K : Knowledge) : Fact → Type 0 where
   cell_value : {path : Path} {st : Stmt} {c : Cell} {v : Value}
       → LiveStmt s K path st → c ∈ cells st → Gives s K path c.form (Ok v)
@@ -163,16 +163,16 @@ pub data New (s : Core) (K : Knowledge) : Fact → Type 0 where
       → LiveStmt s K path st → K (element a k (path, stmt_node st) v) → K (element a k w u) → w ≢ (path, stmt_node st)
       → New s K (fault element_twice (stmt_at st) (path, stmt_node st))
 
--- one round: what was known, and what is new
+-- one round: what was known, and what is new (docs/LANGUAGE.md, Knowledge)
 abbrev pub Round : Core → Knowledge → Knowledge
 Round s K f = K f ⊎ New s K f
 
--- what is known after so many rounds
+-- what is known after so many rounds (docs/LANGUAGE.md, Knowledge)
 abbrev pub Known : Core → ℕ → Knowledge
 Known s zero f = ⊥
 Known s (suc n) f = Round s (Known s n) f
 
--- the meaning: what is known after some round
+-- the meaning: what is known after some round (docs/LANGUAGE.md, Knowledge)
 abbrev pub Meaning : Core → Knowledge
 Meaning s f = (n : ℕ) × Known s n f
 

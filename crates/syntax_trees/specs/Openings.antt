@@ -32,7 +32,7 @@ pub data Decides : Action → List Value → Type 0 where
       → bounds vs ≡ Some r → range_count r.low r.high r.step ≡ Ok n → Decides (range lo hi st x t b) vs
 
 -- the block that a header opens under a key: a branch under 0 or 1, a turn of a range under its number from 0, one of a loop
--- over an array under the element's key
+-- over an array under the element's key (docs/LANGUAGE.md, Blocks and paths)
 pub data Opens : Action → List Value → Key → Block → Type 0 where
   then_alone : {c : Outer} {b : Block} → Opens (when c b) (One (Truth true) ∷ []) (Key.Number (pos 0)) b
   then_first : {c : Outer} {b d : Block} → Opens (choose c b d) (One (Truth true) ∷ []) (Key.Number (pos 0)) b
@@ -42,7 +42,7 @@ pub data Opens : Action → List Value → Key → Block → Type 0 where
   item : {a : Name} {x : ℕ} {t : Option ℕ} {b : Block} {es : List Element} {k : Key} {v : Scalar} → entry k v ∈ es
       → Opens (each a x t b) (Many es ∷ []) k b
 
--- what a loop's variable is in the turn under a key
+-- what a loop's variable is in the turn under a key (docs/LANGUAGE.md, Loops)
 pub data InTurn : Action → List Value → Key → (variable : ℕ) → Scalar → Type 0 where
   range_value : {lo hi : Outer} {st : Option Outer} {x : ℕ} {t : Option ℕ} {b : Block} {vs : List Value} {r : Bounds} {i : ℕ} {v : Scalar}
       → bounds vs ≡ Some r → v ≡ Number (value_in r.low r.step i) → InTurn (range lo hi st x t b) vs (Key.Number (pos i)) x v

@@ -31,13 +31,13 @@ OwnFact s K path n (range lo hi st x t b) = IsReady s K path (range lo hi st x t
 OwnFact s K path n (each a x t b) = IsReady s K path (each a x t b)
 OwnFact s K path n (wait ns b) = IsReady s K path (wait ns b)
 
--- a statement that can be blocked: no declaration and no call alone
+-- a statement that can be blocked: no declaration and no call alone (docs/LANGUAGE.md, Blocked statements)
 abbrev pub Counts : Action → Type 0
 Counts (declare v) = ⊥
 Counts (call_alone p ps c) = ⊥
 Counts _ = Unit {0}
 
--- a live statement that has neither its own fact nor a fault at itself or at an outermost cell
+-- a live statement that has neither its own fact nor a fault at itself or at an outermost cell (docs/LANGUAGE.md, Blocked statements)
 pub record Stuck (s : Core) (K : Knowledge) (path : Path) (at n : ℕ) (a : Action) : Type 0 where
   pub live : LiveStmt s K path (stmt at n a)
   pub counts : Counts a
@@ -49,7 +49,7 @@ pub record Stuck (s : Core) (K : Knowledge) (path : Path) (at n : ℕ) (a : Acti
 abbrev pub Blocked : Core → Knowledge → ℕ → Path → Type 0
 Blocked s K at path = (n : ℕ) × (a : Action) × Stuck s K path at n a
 
--- a fault, by its kind, the offset of its statement and its path
+-- a fault, by its kind, the offset of its statement and its path (docs/LANGUAGE.md, Faults)
 abbrev pub Faults : Knowledge → Fault → ℕ → Path → Type 0
 Faults K f at path = (n : ℕ) × K (fault f at (path, n))
 
@@ -65,7 +65,7 @@ abbrev pub OnceEach : List Written → Type 0
 OnceEach [] = Unit {0}
 OnceEach (l ∷ ls) = ((bytes : List ℕ) → ¬ (◌∈◌ {X = Written} (l.0, bytes) ls)) × OnceEach ls
 
--- these are the lines that are known, in some order
+-- these are the lines that are known, in some order (docs/LANGUAGE.md, Printing)
 pub record Lines (K : Knowledge) (lines : List (List ℕ)) : Type 0 where
   pub listing : List Written
   pub once : OnceEach listing
@@ -73,6 +73,6 @@ pub record Lines (K : Knowledge) (lines : List (List ℕ)) : Type 0 where
   pub all : (w : Place) (bytes : List ℕ) → K (line w bytes) → ◌∈◌ {X = Written} (w, bytes) listing
   pub permuted : IsPermutation (texts listing) lines
 
--- in no round does one key of one array have two writers
+-- in no round does one key of one array have two writers (docs/LANGUAGE.md, Knowledge)
 abbrev pub Clean : Core → Type 0
 Clean s = (n : ℕ) (a : Place) → OneWriter (Known s n) a

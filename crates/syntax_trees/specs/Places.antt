@@ -8,11 +8,11 @@ use Rattle.syntax_trees.specs.Parts.{call_at, input_name, output_name}
 abbrev pub Step : Type 0
 Step = ℕ × Key
 
--- a path: the steps from the script to a block instance, the innermost step first
+-- a path: the steps from the script to a block instance, the innermost step first (docs/LANGUAGE.md, Blocks and paths)
 abbrev pub Path : Type 0
 Path = List Step
 
--- the most steps of a path
+-- the most steps of a path (docs/LANGUAGE.md, Limits)
 abbrev pub most_steps : ℕ
 most_steps = 512
 
@@ -21,7 +21,7 @@ abbrev pub Place : Type 0
 Place = Path × ℕ
 
 -- out of as many block instances as the name says, and there the owner's node; for an input or output of a function, the
--- place of what the calling block gave for it
+-- place of what the calling block gave for it (docs/LANGUAGE.md, Calls)
 abbrev pub place_of : Core → Path → ℕ → Owned → Place
 place_of s [] up (local n) = ([], n)
 place_of s [] up (input i) = ([], 0)

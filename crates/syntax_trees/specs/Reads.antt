@@ -7,7 +7,7 @@ use Rattle.syntax_trees.specs.Grammar.{IsScript}
 use Rattle.syntax_trees.specs.Numbered.{numbered}
 
 pub record Reads (bytes : List ℕ) (tree : Tree) : Type 0 where
-  -- it has at most so many bytes
+  -- it has at most so many bytes (docs/LANGUAGE.md, Grammar)
   pub short : length bytes ≤ 1048576
   -- it is tokens up to its end, without a fault
   pub tokens : List Lexeme

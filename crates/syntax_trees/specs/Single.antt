@@ -21,7 +21,7 @@ IsSimple (wait ns b) = ⊥
 IsSimple _ = Unit {0}
 
 mutual
-  -- some way through a block assigns the variable so often
+  -- some way through a block assigns the variable so often (docs/LANGUAGE.md, Single assignment)
   pub data Way (x : Owned) : Block → ℕ → Type 0 where
     way_end : Way x no_stmts 0
     way_on : {s : Stmt} {b : Block} {m n k : ℕ} → StmtWay x s m → Way x b n → k ≡ m + n → Way x (stmts s b) k
@@ -88,7 +88,7 @@ pub data LoopBody (b : Block) : Block → Type 0 where
   of_range : {at n v : ℕ} {lo hi : Outer} {st : Option Outer} {k : Option ℕ} {d : Block} → stmt at n (range lo hi st v k d) ∈ stmts_within b → LoopBody b d
   of_each : {at n v : ℕ} {a : Name} {k : Option ℕ} {d : Block} → stmt at n (each a v k d) ∈ stmts_within b → LoopBody b d
 
--- a script is singly assigned
+-- a script is singly assigned (docs/LANGUAGE.md, Single assignment)
 pub record SinglyAssigned (s : Core) : Type 0 where
   -- S1: no way assigns a variable twice
   pub once : (x : Owned) (b : Block) (n : ℕ) → Owns s x b → Way x b n → n ≤ 1

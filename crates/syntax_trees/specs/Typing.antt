@@ -38,7 +38,7 @@ pub data Prefixes : Prefix → Base → Type 0 where
   inverted : Prefixes Prefix.Not Boolean
 
 mutual
-  -- an expression has a scalar type
+  -- an expression has a scalar type (docs/LANGUAGE.md, Types)
   pub data HasType (fs : List Signature) (t : Table) (g : Scope) : Expression → Base → Type 0 where
     of_number : {nd : Node} {z : ℤ} → HasType fs t g (expression nd (number z)) Int
     of_text : {nd : Node} {bytes : List ℕ} → HasType fs t g (expression nd (text bytes)) Text
@@ -138,7 +138,7 @@ pub data CallTyped (fs : List Signature) (t : Table) (g : Scope) : Word → List
       → CallTyped fs t g w (c ∷ m ∷ [])
 
 mutual
-  -- a statement is well typed, and leaves a scope to those behind it
+  -- a statement is well typed, and leaves a scope to those behind it (docs/LANGUAGE.md, Types)
   pub data StatementTyped (fs : List Signature) (t : Table) : Scope → Statement → Scope → Type 0 where
     declaration : {g h : Scope} {nd : Node} {d : Declaration} → Declares g d.name (declared_type d) h
         → StatementTyped fs t g (statement nd (declare d None)) h
@@ -194,6 +194,6 @@ pub data PartsTyped (fs : List Signature) (t : Table) : List (List ℕ) → Scop
   a_statement : {names : List (List ℕ)} {g h : Scope} {s : Statement} {ps : Tree} → StatementTyped fs t g s h → PartsTyped fs t names h ps
       → PartsTyped fs t names g (single s ∷ ps)
 
--- a script is well typed, and the table says what its names refer to
+-- a script is well typed, and the table says what its names refer to (docs/LANGUAGE.md, Types)
 abbrev pub WellTyped : Tree → Table → Type 0
 WellTyped tree t = PartsTyped (signatures tree) t [] [] tree
