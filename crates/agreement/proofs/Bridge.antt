@@ -65,8 +65,8 @@ bad_same h = cc
 abbrev outcome_with : Code → ℕ → ℕ → List Got → Entry → TaskOutcome
 outcome_with C i c xs e =
     let x = compute e.act (answered C [] e.needs xs) in
-    outcome_of C x (is_too_deep C e.act [] (instances C e.act e.mark [] c x))
-    (record { writes = stores C e.act e.node e.mark [] c x; lines = prints C e.act x; opens = map (block C) (instances C e.act e.mark [] c x) ++ rest C (loop_of e.act) i [] c x })
+    outcome_of x (is_too_deep e.act [] (instances e.act e.mark [] c x))
+    (record { writes = stores C e.act e.node e.mark [] c x; lines = prints e.act x; opens = map (block C) (instances e.act e.mark [] c x) ++ rest (loop_of e.act) i [] c x })
 
 with_entry : (C : Code) (i c : ℕ) (xs : List Got) → task_effect C (Item i [] c) xs ≡ outcome_with C i c xs (entry C i)
 with_entry C i c xs = refl
@@ -87,7 +87,7 @@ module _ (s : Core) (w : IsScalars s) where
 
   -- an entry's outcome, told by what its expression gives
   abbrev outcome_by : Code → ℕ → (a : C.Act) → Result Value OpFault → TaskOutcome
-  outcome_by C i act r = outcome_of C (given r) false (record { writes = stores C act 0 0 [] 0 (given r); lines = prints C act (given r); opens = [] })
+  outcome_by C i act r = outcome_of (given r) false (record { writes = stores C act 0 0 [] 0 (given r); lines = prints act (given r); opens = [] })
 
   action_does : (i n at : ℕ) (a : Action) (e : C.Expr) → (r : Result Value OpFault) → OnScalars (declared (script_list s)) (stmt at n a) → is_act a ≡ true → outcome_by (compiled s) i (action_act a e) r ≡ result_of a r
   action_does i n at _ e r declares q = absurd (cc (q))
