@@ -1,4 +1,4 @@
--- The core of a script: its tree with names resolved, and with the cells of each statement listed once, in reading order.
+-- The core of a script: its tree with names resolved, and with the cells of each statement listed once, in reading order. States docs/LANGUAGE.md: Cells; Calls.
 use Rattle.std.specs.Prelude.{ℕ, List, Option, ℤ}
 use Rattle.values.specs.declared.value.Scalar.{Scalar}
 use Rattle.values.specs.Operators.{Operation}

@@ -1,4 +1,4 @@
--- What can be known of a script's run.
+-- What can be known of a script's run. States docs/LANGUAGE.md: Knowledge; Faults.
 use Rattle.std.specs.Prelude.{◌≡◌, ℕ, ℤ, IsTrue, List, [], ◌∷◌}
 use Rattle.values.specs.declared.fault.OpFault.{OpFault}
 use Rattle.values.specs.declared.key.Key.{Key}

@@ -1,4 +1,4 @@
--- What a script means: the facts that follow, round by round, from what is known.
+-- What a script means: the facts that follow, round by round, from what is known. States docs/LANGUAGE.md: Knowledge; Blocks and paths; Closing; Elements; Loops.
 use Rattle.std.specs.Prelude.{◌≡◌, ◌≢◌, ◌⊎◌, ℕ, zero, suc, ◌<◌, ℤ, pos, List, [], ◌∷◌, length, Option, Some, Result, Ok, Err, slice_get}
 use Rattle.values.specs.declared.fault.OpFault.{OpFault}
 use Rattle.values.specs.declared.key.Key.{Key}

@@ -1,4 +1,4 @@
--- Numbers in reading order: each node before its parts, and each name. Blocks and imports have none.
+-- Numbers in reading order: each node before its parts, and each name. Blocks and imports have none. States docs/LANGUAGE.md: Grammar.
 use Rattle.std.specs.Prelude.{ℕ, ◌+◌, List, [], ◌∷◌, Option, Some, None, option_map, sum_by}
 use Rattle.syntax_trees.specs.Tree.{Word, Node, Expression, expression, Form, number, text, truth, variable, element, call, prefixed, chain, Expressions, no_expressions, and_expression, Declaration, RightSide, value, list, Calling, Over, array, range, Statement, statement, Statements, no_statements, and_statement, Command, declare, assign, write, assign_all, calls, choice, choice_else, loop, waits, Body, body, Composite, Part, import, function, single, Tree}
 

@@ -1,4 +1,4 @@
--- What a header opens, given the values of its cells or the elements of its array.
+-- What a header opens, given the values of its cells or the elements of its array. States docs/LANGUAGE.md: Blocks and paths; Loops.
 use Rattle.std.specs.Prelude.{◌≡◌, ℕ, ◌<◌, ℤ, pos, true, false, List, [], ◌∷◌, Option, Some, None, Bool, Ok}
 use Rattle.values.specs.declared.key.Key.{Key}
 use Rattle.values.specs.declared.map.Element.{Element}

@@ -1,4 +1,4 @@
--- What is read off the meaning of a script: its lines, its faults, what is blocked, and whether it writes no key twice.
+-- What is read off the meaning of a script: its lines, its faults, what is blocked, and whether it writes no key twice. States docs/LANGUAGE.md: Blocked statements; Faults; Printing.
 use Rattle.std.specs.Prelude.{ℕ, true, List, [], ◌∷◌, map, IsPermutation}
 use Rattle.values.specs.declared.key.Key.{Key}
 use Rattle.values.specs.declared.value.Scalar.{Scalar}

@@ -1,4 +1,4 @@
--- What is read off the core: cells, calls, blocks, statements, targets.
+-- What is read off the core: cells, calls, blocks, statements, targets. States docs/LANGUAGE.md: Cells; Calls.
 use Rattle.std.specs.Prelude.{ℕ, zero, suc, List, [], ◌∷◌, ◌++◌, map, Option, Some, None, nat_eq, find, slice_get, option_to_list}
 use Rattle.syntax_trees.specs.Core.{Owned, Name, here, Cell, Call, Part, inner, calls, Outer, Stmt, stmt, Action, declare, call_alone, assign, fill, insert, print, assert, when, choose, range, each, wait, Block, no_stmts, stmts, Function, Core}
 

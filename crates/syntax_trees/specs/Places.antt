@@ -1,4 +1,4 @@
--- Paths and places: which block instance is meant, and where the datum of a name lies.
+-- Paths and places: which block instance is meant, and where the datum of a name lies. States docs/LANGUAGE.md: Blocks and paths; Calls.
 use Rattle.std.specs.Prelude.{ℕ, zero, suc, List, [], ◌∷◌}
 use Rattle.values.specs.declared.key.Key.{Key}
 use Rattle.syntax_trees.specs.Core.{Core, Name, Owned, local, input, output}

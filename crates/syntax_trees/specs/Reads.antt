@@ -1,4 +1,4 @@
--- What it means that a text is read as a tree.
+-- What it means that a text is read as a tree. States docs/LANGUAGE.md: Grammar.
 use Rattle.std.specs.Prelude.{◌≡◌, ℕ, ◌≤◌, List, map, length, Ok}
 use Rattle.lexer.specs.Items.{Lexeme}
 use Rattle.lexer.specs.Tokens.{Tokens}

@@ -1,4 +1,4 @@
--- From a script's tree and the table of its names to its core.
+-- From a script's tree and the table of its names to its core. States docs/LANGUAGE.md: Cells; Calls.
 use Rattle.std.specs.Prelude.{ℕ, ℤ, pos, false, List, [], ◌∷◌, ◌++◌, map, length, Option, Some, None, option_map}
 use Rattle.values.specs.declared.op.Sign.{Sign}
 use Rattle.values.specs.declared.op.Factor.{Factor}

@@ -1,4 +1,4 @@
--- Types of variables and functions, and which of them are visible where.
+-- Types of variables and functions, and which of them are visible where. States docs/LANGUAGE.md: Types.
 use Rattle.std.specs.Prelude.{◌≡◌, ℕ, suc, List, [], ◌∷◌, map, Some, slice_get}
 use Rattle.syntax_trees.specs.declared.tree.Base.{Base}
 use Rattle.syntax_trees.specs.declared.tree.Shape.{Shape}

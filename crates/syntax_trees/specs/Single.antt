@@ -1,4 +1,4 @@
--- Single assignment: the assignments by name to a variable, counted along each way through its declaring block.
+-- Single assignment: the assignments by name to a variable, counted along each way through its declaring block. States docs/LANGUAGE.md: Single assignment.
 use Rattle.std.specs.Prelude.{◌≡◌, ◌⊎◌, ℕ, suc, ◌+◌, ◌<◌, ◌≤◌, List, [], ◌∷◌, Option, Some}
 use Rattle.values.specs.Operators.{Operation}
 use Rattle.syntax_trees.specs.Core.{Name, Owned, local, input, output, Expr, name, operator, Exprs, also, compute, Outer, Awaited, scalar, Stmt, stmt, Action, declare, when, choose, range, each, wait, Block, no_stmts, stmts, Function, Core}

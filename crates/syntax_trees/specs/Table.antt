@@ -1,4 +1,4 @@
--- What checking a script finds out about its names.
+-- What checking a script finds out about its names. States docs/LANGUAGE.md: Types.
 use Rattle.std.specs.Prelude.{ℕ, List, codes}
 use Rattle.syntax_trees.specs.declared.tree.Shape.{Shape}
 use Rattle.syntax_trees.specs.Core.{Name}

@@ -1,4 +1,4 @@
--- The typing judgement, which also settles the table of names.
+-- The typing judgement, which also settles the table of names. States docs/LANGUAGE.md: Types.
 use Rattle.std.specs.Prelude.{◌≡◌, ℕ, suc, ℤ, false, Bool, List, [], ◌∷◌, Option, Some, None}
 use Rattle.values.specs.declared.format.Piece.{Piece}
 use Rattle.values.specs.Formats.{pieces}
