@@ -1,3 +1,4 @@
 pub mod View
 pub mod Outcome
 pub mod Assigned
+pub mod Same

@@ -1,5 +1,5 @@
 -- What an entry computes, apart by leaf and control entries.
-use Rattle.std.specs.Prelude.{List, [], ◌∷◌, ◌++◌, Option, Some, None, Result, Ok, Err}
+use Rattle.std.specs.Prelude.{List, ◌++◌, Option, Some, None, Result, Ok, Err}
 use Rattle.dataflow.specs.System.{Answer}
 use Rattle.values.specs.declared.fault.OpFault.{OpFault}
 use Rattle.values.specs.declared.key.Key.{Key}

@@ -54,8 +54,8 @@ fn number_in(outcome: Result<Value, OpFault>) -> Result<i64, OpFault> {
     Ok(outcome?.number())
 }
 
-/// The work of an item that does this.
-fn work(alloc: Global, act: Act, answers: Vec<Answer>) -> Result<Work, AllocError> {
+/// The job of an entry that does this.
+fn job(alloc: Global, act: Act) -> Result<Job, AllocError> {
     let entry = Entry {
         node: 1,
         at: 0,
@@ -66,7 +66,12 @@ fn work(alloc: Global, act: Act, answers: Vec<Answer>) -> Result<Work, AllocErro
         reads: Vec::new(alloc),
         writes: Vec::new(alloc),
     };
-    Ok(Work::new(7, Job::Entry(Arc::new(alloc, entry)?), answers))
+    Ok(Job::Entry(Arc::new(alloc, entry)?))
+}
+
+/// The work of an item that does this.
+fn work(alloc: Global, act: Act, answers: Vec<Answer>) -> Result<Work, AllocError> {
+    Ok(Work::new(7, job(alloc, act)?, answers))
 }
 
 fn computed(alloc: Global, act: Act, answers: Vec<Answer>) -> Result<Done, AllocError> {
@@ -267,5 +272,28 @@ fn answers_are_shared(rt: HostRuntime) -> Result<(), Fail> {
         ),
         _ => assert!(rt; false),
     }
+    Ok(())
+}
+
+/// Stores `1 + x`, where x is what the first need gave, or `1 - x`.
+fn stores(alloc: Global, sign: Sign) -> Result<Act, AllocError> {
+    let signs = Vec::from_array(alloc, [sign])?;
+    let value = two(alloc, Operator::Sum(signs), number(1), Expr::Need(0))?;
+    Ok(Act::Set(TARGET, value))
+}
+
+#[test]
+fn what_is_done_belongs_to_its_own_job(rt: HostRuntime) -> Result<(), Fail> {
+    let alloc = rt.alloc();
+    let given = Vec::from_array(alloc, [Answer::Content(array(alloc, 1, 2)?)])?;
+    let again = Vec::from_array(alloc, [Answer::Content(array(alloc, 1, 2)?)])?;
+    let other = Vec::from_array(alloc, [Answer::Content(array(alloc, 1, 3)?)])?;
+    let done = computed(alloc, stores(alloc, Sign::Plus)?, given)?;
+    let same = job(alloc, stores(alloc, Sign::Plus)?)?;
+    assert!(rt; done.belongs_to(&same, &again));
+    assert!(rt; !done.belongs_to(&same, &other));
+    assert!(rt; !done.belongs_to(&same, &Vec::new(alloc)));
+    assert!(rt; !done.belongs_to(&job(alloc, stores(alloc, Sign::Minus)?)?, &again));
+    assert!(rt; !done.belongs_to(&Job::Script, &again));
     Ok(())
 }

@@ -1,5 +1,5 @@
 //! Items that run, and what they come to.
-ghost use Rattle.std.specs.Prelude.{◌≡◌, IfOk, IfErr};
+ghost use Rattle.std.specs.Prelude.{◌≡◌, true, false, IfOk, IfErr};
 ghost use Rattle.std.specs.Option.{option_copied};
 ghost use Rattle.task_code.specs.View.{kind_view};
 ghost use Rattle.board_work.specs.View.{answers_view};
@@ -8,6 +8,7 @@ ghost use Rattle.board_work.specs.Assigned.{job_view, job_kind, job_result, job_
 
 use crate::answer::Answer;
 use crate::outcome::{Computed, Outcome, outcome_of};
+use crate::same::Same;
 use std::alloc::{AllocError, Global};
 use std::marker::Model;
 use std::sync::Arc;
@@ -145,6 +146,15 @@ impl Done {
             Outcome::Leaf(result) => Some(result),
             Outcome::Control(_) => None,
         }
+    }
+
+    /// Whether it is of this job with these answers, told by what they stand for and not by where they lie.
+    #[tactic(auto, using(crate::proofs::Comparisons::same_job, crate::proofs::Comparisons::same_answers))]
+    pub fn belongs_to(&self, job: &Job, answers: &Vec<Answer>) -> bool
+        ensures yes { result ≡ true → (self.now.job ≡ job_view job.now) × (self.now.answers ≡ answers_view answers.now.items) }
+        ensures no { result ≡ false → ¬ ((self.now.job ≡ job_view job.now) × (self.now.answers ≡ answers_view answers.now.items)) }
+    {
+        self.job.is_same(job) && self.answers.is_same(answers)
     }
 
     /// What the item computed.
