@@ -1,40 +1,29 @@
 -- The code's facts are the script's, and the script's facts are the code's.
-use Rattle.std.proofs.Common.{◌≡◌, ◌⊎◌, inl, inr, ℕ, zero, suc, Bool, true, false, List, [], ◌∷◌, ◌++◌, map, refl, sym, ap, ◌∙◌, subst, Option, None, Some, Result, Ok, Err, arith}
-use Rattle.std.specs.Prelude.{ℤ, pos, cond}
+use Rattle.std.proofs.Common.{◌≡◌, ◌⊎◌, inl, inr, ℕ, true, false, List, [], ◌∷◌, ◌++◌, map, refl, sym, ap, ◌∙◌, subst, Result, Ok, Err}
 use Rattle.std.specs.List.{flat_map}
-use Rattle.dataflow.specs.System as F
-use Rattle.dataflow.specs.System.{In, Distinct, Input, StoredScalar, Found, Write, Opening, Effect, Outcome, Good, Bad, System}
+use Rattle.dataflow.specs.System.{In, Input, Opening, Effect, Outcome, Good, Bad, System}
 use Rattle.dataflow.specs.Facts as Fa
 use Rattle.dataflow.specs.Facts.{Written, GivesAll, Gives, Comes, Ever, Faulty, Clean, live_main, live_opened}
-use Rattle.dataflow.proofs.Lists.{in_map, in_unmap}
-use Rattle.dataflow.proofs.Settled.{Settled, can_of_comes, same_value}
-use Rattle.dataflow.proofs.Ever.{ever_settled, ever_saturated, comes_round}
+use Rattle.dataflow.proofs.Lists.{in_unmap}
 use Rattle.values.specs.declared.fault.OpFault.{OpFault}
 use Rattle.values.specs.declared.key.Key.{Key}
 use Rattle.values.specs.declared.value.Scalar.{Scalar}
-use Rattle.values.specs.declared.value.Scalar.TheVariants.{Text}
 use Rattle.values.specs.declared.value.Value.{Value}
-use Rattle.values.specs.declared.value.Value.TheVariants.{One}
 use Rattle.values.specs.Values.{scalar_of}
-use Rattle.syntax_trees.specs.Core.{Name, Expr, Outer, Stmt, stmt, Action, declare, assign, print, assert, Core}
-use Rattle.syntax_trees.specs.Facts.{value, line, fault, Knowledge}
-use Rattle.syntax_trees.specs.Meaning.{HasValue, stored, ValueUnder, Known, Meaning}
-use Rattle.syntax_trees.specs.Members.{◌∈◌}
+use Rattle.syntax_trees.specs.Core.{Stmt, stmt, Action, assign, print, Core}
+use Rattle.syntax_trees.specs.Meaning.{ValueUnder, Meaning}
 use Rattle.syntax_trees.specs.Parts.{stmt_action}
 use Rattle.task_code.specs.Code.{Need, Stored, Entry, Act, Code, entry, scalar, loop_of}
 use Rattle.task_code.specs.Code as C
-use Rattle.task_code.specs.Compute.{EntryFault, InOperation, Computed, compute, eval, given}
+use Rattle.task_code.specs.Compute.{EntryFault, InOperation, compute, eval, given}
 use Rattle.task_code.specs.Effects.{Task, Main, Item, only, block, stores, prints, instances, rest, is_too_deep, outcome_of}
 use Rattle.task_code.specs.Places.{Datum, Place}
 use Rattle.task_code.specs.System.{answered, inputs_at, code_system, task_effect, task_inputs}
-use Rattle.task_code.proofs.Kept.{code_laws}
-use Rattle.agreement.specs.Headline.{IsMeant}
-use Rattle.agreement.specs.Compile.{node_of, variable, named, each_once, over, needs_of, action_expr, action_act, entry_of, is_act, acts, declared, numbers_from, script_list, script_acts, compiled}
-use Rattle.agreement.specs.Scalars.{OverScalars, OnScalars, declares, assigns, prints as prints_line, asserts, IsScalars}
-use Rattle.agreement.proofs.Members.{IsAt, in_at, in_acts, numbered_at, at_numbered, once_in, in_once}
-use Rattle.agreement.proofs.Evaluation.{Got, Answers, answers_front, Fed, computes, computed, has_names}
-use Rattle.agreement.proofs.Whole.{over_scalars, entry_at, on_scalars, is_code, named_declared}
-use Rattle.agreement.proofs.Sources.{ValueSource, value_source}
+use Rattle.agreement.specs.Compile.{node_of, variable, over, needs_of, action_expr, action_act, entry_of, is_act, acts, declared, numbers_from, script_list, compiled}
+use Rattle.agreement.specs.Scalars.{OnScalars, declares, assigns, prints as prints_line, asserts, IsScalars}
+use Rattle.agreement.proofs.Members.{IsAt, numbered_at}
+use Rattle.agreement.proofs.Evaluation.{Got}
+use Rattle.agreement.proofs.Whole.{entry_at, on_scalars}
 
 abbrev pub TaskEffect : Type 0
 TaskEffect = Effect Task Place Key Scalar

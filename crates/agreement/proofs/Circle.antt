@@ -1,16 +1,16 @@
 -- Two assignments that wait for each other are a script of scalars, and are blocked.
-use Rattle.std.proofs.Common.{◌≡◌, ◌⊎◌, inl, inr, ℕ, zero, suc, List, [], ◌∷◌, refl, sym, ap, ◌∙◌, subst, Result, Ok, Err, arith}
+use Rattle.std.proofs.Common.{◌≡◌, ◌⊎◌, inl, inr, ℕ, zero, suc, List, [], ◌∷◌, refl, sym, ◌∙◌, Result, Ok, arith}
 use Rattle.dataflow.specs.System.{In}
 use Rattle.values.specs.declared.fault.OpFault.{OpFault}
 use Rattle.values.specs.declared.value.Scalar.{Scalar}
 use Rattle.values.specs.declared.value.Value.{Value}
 use Rattle.values.specs.declared.value.Value.TheVariants.{One}
-use Rattle.syntax_trees.specs.Core.{here, name, local, Name, Cell, Outer, Stmt, stmt, Action, assign}
+use Rattle.syntax_trees.specs.Core.{here, name, local, Name, Cell, Outer, Stmt, stmt, assign}
 use Rattle.syntax_trees.specs.Facts.{Fault, value, fault, Knowledge}
-use Rattle.syntax_trees.specs.Meaning.{ValueUnder, of_name, HasValue, stored, Known, Meaning, script, in_block}
+use Rattle.syntax_trees.specs.Meaning.{ValueUnder, of_name, stored, Known, Meaning, script, in_block}
 use Rattle.syntax_trees.specs.Members.{◌∈◌, first, later}
-use Rattle.syntax_trees.specs.Outcomes.{Stuck, Blocked}
-use Rattle.syntax_trees.specs.Parts.{stmt_node, stmt_action, cells}
+use Rattle.syntax_trees.specs.Outcomes.{Blocked}
+use Rattle.syntax_trees.specs.Parts.{stmt_action, cells}
 use Rattle.syntax_trees.specs.Places.{Place}
 use Rattle.syntax_trees.proofs.Declared.{local_same}
 use Rattle.agreement.specs.Compile.{declared, script_list, action_expr, is_act}

@@ -1,5 +1,5 @@
 -- An expression of scalars under knowledge, and what an entry computes from its answers.
-use Rattle.std.proofs.Common.{◌≡◌, ◌⊎◌, inl, inr, ℕ, zero, suc, ◌≤◌, max, Bool, true, false, List, [], ◌∷◌, ◌++◌, map, refl, sym, ap, ◌∙◌, subst, Option, None, Some, Result, Ok, Err, arith}
+use Rattle.std.proofs.Common.{◌≡◌, inl, inr, ℕ, suc, ◌≤◌, max, Bool, true, false, List, [], ◌∷◌, refl, sym, ap, ◌∙◌, subst, Option, Some, Result, Ok, arith}
 use Rattle.std.specs.Prelude.{nat_eq, if◌then◌else◌}
 use Rattle.std.proofs.lemmas.Bool.{eqb-true, eq-eqb}
 use Rattle.dataflow.specs.System.{In, Answer, Found}
@@ -10,7 +10,7 @@ use Rattle.values.specs.declared.value.Scalar.{Scalar}
 use Rattle.values.specs.declared.value.Value.{Value}
 use Rattle.values.specs.declared.value.Value.TheVariants.{One}
 use Rattle.values.specs.Operators.{evaluated}
-use Rattle.syntax_trees.specs.Core.{here, Expr, Exprs, literal, name, operator, none, also, Core}
+use Rattle.syntax_trees.specs.Core.{here, Expr, Exprs, name, Core}
 use Rattle.syntax_trees.specs.Facts.{value, Knowledge}
 use Rattle.syntax_trees.specs.Meaning.{HasValue, stored, ValueUnder, of_literal, of_name, of_operator, ValuesUnder, no_operand, operand, Known, Meaning}
 use Rattle.syntax_trees.proofs.Rounds.{known_later}

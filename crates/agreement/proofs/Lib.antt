@@ -1,4 +1,11 @@
 pub mod Members
+pub mod Reading
+pub mod TheCore
+pub mod TheTypes
+pub mod TheScalars
+pub mod TheSingle
+pub mod Offsets
+pub mod Complete
 pub mod Evaluation
 pub mod Whole
 pub mod Sources

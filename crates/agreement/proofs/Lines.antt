@@ -1,5 +1,5 @@
 -- The lines of facts, with their writers.
-use Rattle.std.proofs.Common.{◌≡◌, ◌⊎◌, inl, inr, ℕ, List, [], ◌∷◌, ◌++◌, map, refl, sym, ap, ◌∙◌, subst, Result, Ok, Err}
+use Rattle.std.proofs.Common.{◌≡◌, ◌⊎◌, inl, inr, ℕ, List, [], ◌∷◌, ◌++◌, map, refl, sym, ap, ◌∙◌, subst}
 use Rattle.dataflow.specs.System.{In, Distinct, Good}
 use Rattle.dataflow.specs.Promises.{lines_of, tasks_in_log}
 use Rattle.dataflow.proofs.Lists.{in_map, map_append}
@@ -22,7 +22,7 @@ use Rattle.task_code.specs.System.{code_system}
 use Rattle.agreement.specs.Compile.{compiled, acts, script_list, entry_of}
 use Rattle.agreement.specs.Scalars.{IsScalars}
 use Rattle.agreement.specs.Headline.{script_path}
-use Rattle.agreement.proofs.Members.{IsAt, at_once}
+use Rattle.agreement.proofs.Members.{at_once}
 use Rattle.agreement.proofs.Whole.{entry_at}
 use Rattle.agreement.proofs.Bridge.{TaskEffect, TaskOutcome, action_effect, good_same, Came, MainOr, result_effect}
 use Rattle.agreement.proofs.Within.{came_lines}

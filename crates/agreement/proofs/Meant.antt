@@ -1,26 +1,25 @@
 -- What a statement of scalars computes is meant.
-use Rattle.std.proofs.Common.{◌≡◌, ◌⊎◌, inl, inr, ℕ, zero, suc, Bool, true, false, List, [], ◌∷◌, refl, sym, ap, ◌∙◌, subst, Result, Ok, Err}
+use Rattle.std.proofs.Common.{◌≡◌, inr, ℕ, suc, Bool, true, false, List, [], refl, sym, ap, ◌∙◌, subst, Result, Ok, Err}
 use Rattle.std.specs.Prelude.{ℤ, if◌then◌else◌}
-use Rattle.dataflow.specs.System.{In}
 use Rattle.values.specs.declared.fault.OpFault.{OpFault}
 use Rattle.values.specs.declared.value.Scalar.{Scalar}
 use Rattle.values.specs.declared.value.Scalar.TheVariants.{Text, Truth}
 use Rattle.values.specs.declared.value.Value.{Value}
 use Rattle.values.specs.declared.value.Value.TheVariants.{One}
 use Rattle.values.specs.declared.format.Piece.{Piece}
-use Rattle.values.specs.Operators.{Operation, applied, evaluated, on_all, all_values, whole, spelling, yes_or_no, chain, added, scaled, joined, sum_of, product_of, compare, equal, unequal, all_true, any_true, not_true, negate, join, from_int, to_int, size, printf, assert, literal}
+use Rattle.values.specs.Operators.{Operation, applied, on_all, all_values, whole, spelling, yes_or_no, chain, added, scaled, joined, sum_of, product_of, compare, equal, unequal, all_true, any_true, not_true, negate, join, from_int, to_int, size, printf, assert, literal}
 use Rattle.values.specs.Values.{scalar_of, is_text, truth_of, first as first_of}
 use Rattle.syntax_trees.specs.Core.{here, Expr, Exprs, operator, Stmt, stmt, Action, assign, print, Core}
 use Rattle.syntax_trees.specs.Core as Co
-use Rattle.syntax_trees.specs.Facts.{operation, value, line, fault, Knowledge}
+use Rattle.syntax_trees.specs.Facts.{operation, value, line, Knowledge}
 use Rattle.syntax_trees.specs.Meaning as Mn
 use Rattle.syntax_trees.specs.Meaning.{ValueUnder, of_literal, of_name, of_operator, script, in_block, Comes, now, New, cell_value, cell_fault, assigned, printed, Known, Meaning}
 use Rattle.syntax_trees.specs.Members.{◌∈◌, first}
 use Rattle.syntax_trees.specs.Outcomes.{OwnFact, Faults}
-use Rattle.syntax_trees.specs.Parts.{stmt_at, stmt_node, stmt_action}
+use Rattle.syntax_trees.specs.Parts.{stmt_at, stmt_action}
 use Rattle.syntax_trees.specs.Places.{Path}
 use Rattle.agreement.specs.Compile.{action_expr, is_act, declared, script_list}
-use Rattle.agreement.specs.Scalars.{GivesScalar, OverScalars, a_literal, a_name, an_operator, OnScalars, declares, assigns, prints, asserts, IsScalars}
+use Rattle.agreement.specs.Scalars.{GivesScalar, OverScalars, a_literal, a_name, an_operator, OnScalars, declares, assigns, prints, asserts}
 use Rattle.agreement.proofs.Evaluation.{round_of}
 
 abbrev Answer : Type 0

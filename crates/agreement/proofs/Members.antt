@@ -1,12 +1,12 @@
 -- Members of lists, and statements by their places in a list.
-use Rattle.std.proofs.Common.{◌≡◌, ◌⊎◌, inl, inr, ℕ, zero, suc, ◌+◌, ◌<◌, Bool, true, false, List, [], ◌∷◌, ◌++◌, map, length, refl, sym, ap, ◌∙◌, subst, arith}
+use Rattle.std.proofs.Common.{◌≡◌, ◌⊎◌, inl, inr, ℕ, zero, suc, ◌+◌, ◌<◌, Bool, true, false, List, [], ◌∷◌, map, length, refl, sym, ap, ◌∙◌, subst, arith}
 use Rattle.std.specs.Prelude.{nat_eq, if◌then◌else◌}
-use Rattle.std.proofs.lemmas.Bool.{eqb-true, eq-eqb}
+use Rattle.std.proofs.lemmas.Bool.{eqb-true}
 use Rattle.dataflow.specs.System.{In, Distinct}
 use Rattle.dataflow.proofs.Lists.{in_map}
 use Rattle.syntax_trees.specs.Core.{Stmt}
 use Rattle.syntax_trees.specs.Members.{◌∈◌, first, later}
-use Rattle.syntax_trees.specs.Parts.{stmt_node, stmt_action}
+use Rattle.syntax_trees.specs.Parts.{stmt_action}
 use Rattle.task_code.specs.Code.{nth}
 use Rattle.agreement.specs.Compile.{without, each_once, is_act, acts, numbers_from}
 

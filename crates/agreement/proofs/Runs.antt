@@ -1,47 +1,46 @@
 -- Every run of a script of scalars: what it stores, prints and reports is meant, and a quiet one has all.
-use Rattle.std.proofs.Common.{◌≡◌, ◌⊎◌, inl, inr, ℕ, zero, suc, Bool, true, false, List, [], ◌∷◌, ◌++◌, map, refl, sym, ap, ◌∙◌, subst, Option, None, Some, Result, Ok, Err}
-use Rattle.std.specs.Prelude.{ℤ, IsPermutation}
+use Rattle.std.proofs.Common.{◌≡◌, inl, inr, ℕ, true, false, List, [], ◌∷◌, map, refl, sym, ap, ◌∙◌, subst, Result, Ok, Err}
+use Rattle.std.specs.Prelude.{IsPermutation}
 use Rattle.std.proofs.lemmas.List.Sorted.{IsPermutation-refl}
-use Rattle.dataflow.specs.System.{In, Distinct, Write, Opening, Good, Bad}
+use Rattle.dataflow.specs.System.{In, Opening, Good, Bad}
 use Rattle.dataflow.specs.Facts as Fa
 use Rattle.dataflow.specs.Facts.{Closed as CodeClosed, Ever, Faulty, live_main, live_opened}
-use Rattle.dataflow.specs.Machine.{Fault as MachineFault, OfTask, Event}
+use Rattle.dataflow.specs.Machine.{Fault as MachineFault, OfTask}
 use Rattle.dataflow.specs.Promises.{Agrees as AgreesWith, Complete, lines_of}
 use Rattle.dataflow.specs.History.{log_of}
 use Rattle.dataflow.proofs.Steps.{run_follows}
 use Rattle.dataflow.proofs.Headline.{agrees_with, complete}
 use Rattle.dataflow.proofs.Lists.{in_map, in_unmap, in_split}
 use Rattle.values.specs.declared.fault.OpFault.{OpFault}
-use Rattle.values.specs.declared.key.Key.{Key}
 use Rattle.values.specs.declared.value.Scalar.{Scalar}
 use Rattle.values.specs.declared.value.Scalar.TheVariants.{Text, Truth}
 use Rattle.values.specs.declared.value.Value.{Value}
 use Rattle.values.specs.declared.value.Value.TheVariants.{One}
-use Rattle.syntax_trees.specs.Core.{Stmt, stmt, Action, declare, assign, print, assert, Core}
-use Rattle.syntax_trees.specs.Facts.{Fault, operation, value, line, fault}
-use Rattle.syntax_trees.specs.Meaning.{Meaning, Closed, script, in_block, ValueUnder}
+use Rattle.syntax_trees.specs.Core.{Stmt, stmt, Action, print, Core}
+use Rattle.syntax_trees.specs.Facts.{Fault, operation, line, fault}
+use Rattle.syntax_trees.specs.Meaning.{Meaning, script, in_block, ValueUnder}
 use Rattle.syntax_trees.specs.Members.{◌∈◌, first}
 use Rattle.syntax_trees.specs.Outcomes.{Lines, Faults, OwnFact, Counts, Stuck, Blocked, texts}
-use Rattle.syntax_trees.specs.Parts.{stmt_at, stmt_node, stmt_action, cells}
+use Rattle.syntax_trees.specs.Parts.{stmt_at, stmt_node, stmt_action}
 use Rattle.syntax_trees.specs.Places.{Path, Place}
 use Rattle.task_code.specs.Code.{Entry, Variable, entry, scalar}
 use Rattle.task_code.specs.Compute.{EntryFault, InOperation}
 use Rattle.task_code.specs.Effects.{Task, Main, Item, block}
-use Rattle.task_code.specs.Machine.{CodeState, ClosedByRights, Run, Quiet}
+use Rattle.task_code.specs.Machine.{CodeState}
 use Rattle.task_code.specs.Places.{Step, Datum, place_array}
 use Rattle.task_code.specs.Places as CodePlaces
-use Rattle.task_code.specs.Runs.{counts, IsBlockedAt, Blocked as CodeBlocked, EverBlocked}
+use Rattle.task_code.specs.Runs.{counts, IsBlockedAt, EverBlocked}
 use Rattle.task_code.specs.System.{code_system}
 use Rattle.task_code.proofs.Kept.{code_laws}
 use Rattle.task_code.proofs.Blocks.{ever_blocked, blocked_here}
-use Rattle.agreement.specs.Headline.{script_path, script_place, script_fault, IsMeant, IsMeantFault, PartOfLines, Agrees, IsAll, Headline}
+use Rattle.agreement.specs.Headline.{script_path, IsMeantFault, Agrees, IsAll, Headline}
 use Rattle.agreement.specs.Compile.{compiled, acts, is_act, script_list, declared, numbers_from, action_expr, entry_of}
 use Rattle.agreement.specs.Scalars.{OnScalars, declares, assigns, prints, asserts, IsScalars}
 use Rattle.agreement.proofs.Members.{IsAt, in_at, in_acts, at_numbered, at_once, at_same}
 use Rattle.agreement.proofs.Whole.{is_code, entry_at, on_scalars, over_scalars}
 use Rattle.agreement.proofs.Sources.{known_source, stmt_here, cell_known, line_source, fault_source}
 use Rattle.agreement.proofs.Meant.{fault_meant, own_meant}
-use Rattle.agreement.proofs.Bridge.{TaskEffect, TaskOutcome, action_effect, result_of, good_same, Came, MainOr, ItemTask, opening_effect, came_opens, result_effect, result_fault}
+use Rattle.agreement.proofs.Bridge.{TaskEffect, action_effect, good_same, Came, MainOr, opening_effect, came_opens, result_effect, result_fault}
 use Rattle.agreement.proofs.Within.{known_came, stores_meant, faulty_came, live_task, clean, main_ever, item_ever, item_faulty, came_lines}
 use Rattle.agreement.proofs.Lines.{Facts, text, writer, listing, Prints, listed, listing_texts, once_listing, listing_known, all_texts, AllCame}
 

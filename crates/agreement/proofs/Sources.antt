@@ -1,5 +1,5 @@
 -- Where the facts of a script of scalars come from.
-use Rattle.std.proofs.Common.{◌≡◌, ◌⊎◌, inl, inr, ℕ, zero, suc, true, List, [], ◌∷◌, ◌++◌, refl, sym, ap, ◌∙◌, subst, Option, None, Some, Result, Ok, Err}
+use Rattle.std.proofs.Common.{◌≡◌, inl, inr, ℕ, zero, suc, true, List, [], refl, sym, ap, ◌∙◌, subst, Option, Result, Ok, Err}
 use Rattle.std.specs.Prelude.{ℤ}
 use Rattle.dataflow.specs.System.{In}
 use Rattle.values.specs.declared.fault.OpFault.{OpFault}
@@ -8,13 +8,12 @@ use Rattle.values.specs.declared.value.Scalar.{Scalar}
 use Rattle.values.specs.declared.value.Scalar.TheVariants.{Text}
 use Rattle.values.specs.declared.value.Value.{Value}
 use Rattle.values.specs.declared.value.Value.TheVariants.{One}
-use Rattle.values.specs.Operators as Operators
-use Rattle.syntax_trees.specs.Core.{Owned, local, Name, Expr, Form, compute, read, Cell, Call, Outer, Stmt, stmt, Action, declare, assign, fill, insert, print, assert, range, Awaited, wait, Block, Core}
+use Rattle.syntax_trees.specs.Core.{Name, Expr, Form, compute, Cell, Call, Outer, Stmt, stmt, Action, assign, fill, insert, print, range, Awaited, wait, Block, Core}
 use Rattle.syntax_trees.specs.Facts.{Fault, operation, Fact, value, element, line, fault, Knowledge}
-use Rattle.syntax_trees.specs.Meaning.{HasValue, stored, ValueUnder, Gives, computed, faulty, found, missing, Comes, before, now, Live, script, opened, waited, called, LiveStmt, in_block, New, cell_value, cell_fault, assigned, filled, inserted, printed, bad_range, too_deep_header, too_deep_call, written_twice, Known, Meaning}
-use Rattle.syntax_trees.specs.Members.{◌∈◌, first, later}
+use Rattle.syntax_trees.specs.Meaning.{HasValue, stored, ValueUnder, Gives, computed, faulty, found, missing, Comes, before, now, Live, script, opened, waited, called, LiveStmt, in_block, New, cell_value, cell_fault, assigned, filled, inserted, printed, bad_range, too_deep_header, too_deep_call, written_twice, Known}
+use Rattle.syntax_trees.specs.Members.{◌∈◌, first}
 use Rattle.syntax_trees.specs.Openings.{Opens}
-use Rattle.syntax_trees.specs.Parts.{block_list, stmt_at, stmt_node, stmt_action, stmt_calls, cells}
+use Rattle.syntax_trees.specs.Parts.{block_list, stmt_at, stmt_action, stmt_calls, cells}
 use Rattle.syntax_trees.specs.Places.{Path, Place, place}
 use Rattle.syntax_trees.proofs.Members.{split_in}
 use Rattle.agreement.specs.Compile.{node_of, action_expr, is_act, declared, script_list}

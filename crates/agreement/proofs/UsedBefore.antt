@@ -1,5 +1,5 @@
 -- The script that uses a scalar before its assignment is one of scalars.
-use Rattle.std.proofs.Common.{◌≡◌, ◌⊎◌, inl, inr, ℕ, suc, List, [], ◌∷◌, refl, sym, ap, ◌∙◌, arith}
+use Rattle.std.proofs.Common.{◌≡◌, ◌⊎◌, inl, inr, ℕ, suc, List, [], ◌∷◌, refl, sym, ◌∙◌, arith}
 use Rattle.dataflow.specs.System.{In}
 use Rattle.syntax_trees.specs.Core.{local, Name, Cell, Outer, Stmt, stmt, assign}
 use Rattle.syntax_trees.specs.Members.{◌∈◌, first, later}

@@ -1,22 +1,21 @@
 -- The code of a script of scalars is whole.
-use Rattle.std.proofs.Common.{◌≡◌, ◌⊎◌, inl, inr, ℕ, zero, suc, ◌<◌, Bool, true, false, List, [], ◌∷◌, ◌++◌, map, length, refl, sym, ap, ◌∙◌, subst, Option, None, Some, arith}
-use Rattle.std.specs.Prelude.{◌&&◌, nat_eq, nat_lt, if◌then◌else◌}
+use Rattle.std.proofs.Common.{◌≡◌, inl, inr, ℕ, zero, suc, ◌<◌, Bool, true, false, List, [], ◌∷◌, map, length, refl, sym, ap, ◌∙◌, subst, Some, arith}
+use Rattle.std.specs.Prelude.{nat_eq, if◌then◌else◌}
 use Rattle.std.specs.List.{list_all}
-use Rattle.std.proofs.lemmas.Bool.{eqb-true, eq-eqb, lt-ltb}
+use Rattle.std.proofs.lemmas.Bool.{eq-eqb, lt-ltb}
 use Rattle.dataflow.specs.System.{In, Distinct}
 use Rattle.dataflow.proofs.Lists.{in_left, in_right, in_split, in_map, in_unmap}
-use Rattle.values.specs.Operators as Operators
-use Rattle.syntax_trees.specs.Core.{Owned, local, Expr, Exprs, Stmt, stmt, Action, declare, assign, print, assert, Core}
-use Rattle.syntax_trees.specs.Members.{◌∈◌, first, later}
+use Rattle.syntax_trees.specs.Core.{local, Expr, Exprs, Stmt, stmt, assign, print, assert, Core}
+use Rattle.syntax_trees.specs.Members.{◌∈◌}
 use Rattle.syntax_trees.specs.Parts.{stmt_node, stmt_action}
 use Rattle.task_code.specs.Code.{Variable, Name, Need, Stored, Entry, Code, Body, Way, Loop, ByMain, blank_entry, blank_body, nth, entry, body, here, scalar, is_array_name, needed, targets, ways, loop_of}
 use Rattle.task_code.specs.Code as C
-use Rattle.task_code.specs.Shape.{is_shaped, has_shape, fits_kinds, is_plain, is_fed, are_fed}
-use Rattle.task_code.specs.Whole.{Declared, Fits, FitsLoop, IsCode}
+use Rattle.task_code.specs.Shape.{is_shaped, fits_kinds, is_plain, is_fed, are_fed}
+use Rattle.task_code.specs.Whole.{Declared, IsCode}
 use Rattle.task_code.proofs.Equal.{both_true}
-use Rattle.agreement.specs.Compile.{node_of, variable, named, named_all, each_once, place_in, over, all_over, needs_of, action_expr, action_act, action_writes, entry_for, entry_of, is_act, acts, declared_by, declared, numbers_from, script_list, script_acts, compiled}
+use Rattle.agreement.specs.Compile.{variable, named, named_all, each_once, place_in, over, all_over, needs_of, action_expr, entry_of, is_act, acts, declared, numbers_from, script_list, compiled}
 use Rattle.agreement.specs.Scalars.{OverScalars, a_literal, a_name, an_operator, AllOverScalars, no_more, one_more, OnScalars, declares, assigns, prints, asserts, IsScalars}
-use Rattle.agreement.proofs.Members.{IsAt, at_in, at_nth, nth_at, at_below, numbered_at, numbers_distinct, at_once, acts_in, once_in, in_once, if_true}
+use Rattle.agreement.proofs.Members.{IsAt, at_in, at_nth, nth_at, at_below, numbered_at, numbers_distinct, at_once, acts_in, once_in, in_once}
 
 -- SHAPES
 

@@ -1,7 +1,6 @@
 -- The code's facts are within the script's, and the script's within the code's.
-use Rattle.std.proofs.Common.{◌≡◌, ◌⊎◌, inl, inr, ℕ, zero, suc, Bool, true, false, List, [], ◌∷◌, ◌++◌, map, refl, sym, ap, ◌∙◌, subst, Option, None, Some, Result, Ok, Err}
-use Rattle.std.specs.Prelude.{ℤ}
-use Rattle.dataflow.specs.System.{In, Found, Write, Opening, Good, Bad, System}
+use Rattle.std.proofs.Common.{◌≡◌, ◌⊎◌, inl, inr, ℕ, zero, suc, true, false, List, [], ◌∷◌, refl, sym, ap, ◌∙◌, subst, Result, Ok, Err}
+use Rattle.dataflow.specs.System.{In, Found, Write, Good, Bad}
 use Rattle.dataflow.specs.Facts as Fa
 use Rattle.dataflow.specs.Facts.{Written, GivesAll, Comes, Ever, Faulty, Clean, live_main, live_opened}
 use Rattle.dataflow.proofs.Lists.{in_map}
@@ -14,24 +13,24 @@ use Rattle.values.specs.declared.value.Scalar.TheVariants.{Text}
 use Rattle.values.specs.declared.value.Value.{Value}
 use Rattle.values.specs.declared.value.Value.TheVariants.{One}
 use Rattle.values.specs.Values.{scalar_of}
-use Rattle.syntax_trees.specs.Core.{Name, Expr, Outer, Stmt, stmt, Action, declare, assign, print, Core}
+use Rattle.syntax_trees.specs.Core.{Name, Outer, Stmt, stmt, Action, assign, print, Core}
 use Rattle.syntax_trees.specs.Facts.{value, line, Knowledge}
 use Rattle.syntax_trees.specs.Meaning.{HasValue, stored, ValueUnder, Known, Meaning}
 use Rattle.syntax_trees.specs.Members.{◌∈◌}
 use Rattle.syntax_trees.specs.Parts.{stmt_action, stmt_node}
-use Rattle.task_code.specs.Code.{Stored, scalar}
+use Rattle.task_code.specs.Code.{scalar}
 use Rattle.task_code.specs.Compute.{EntryFault, InOperation, eval}
 use Rattle.task_code.specs.Effects.{Task, Main, Item, only, block}
 use Rattle.task_code.specs.Places.{Datum, Place, place_array}
 use Rattle.task_code.specs.System.{code_system, task_effect, task_inputs}
 use Rattle.task_code.proofs.Kept.{code_laws}
 use Rattle.agreement.specs.Headline.{IsMeant}
-use Rattle.agreement.specs.Compile.{node_of, variable, named, each_once, over, needs_of, action_expr, entry_of, is_act, acts, declared, numbers_from, script_list, compiled}
-use Rattle.agreement.specs.Scalars.{OverScalars, an_operator, OnScalars, declares, assigns, prints, asserts, IsScalars}
-use Rattle.agreement.proofs.Members.{IsAt, to_in, in_at, in_acts, at_numbered, once_in, in_once}
+use Rattle.agreement.specs.Compile.{node_of, named, over, needs_of, action_expr, acts, declared, numbers_from, script_list, compiled}
+use Rattle.agreement.specs.Scalars.{an_operator, OnScalars, declares, assigns, prints, asserts, IsScalars}
+use Rattle.agreement.proofs.Members.{IsAt, in_at, in_acts, at_numbered, once_in, in_once}
 use Rattle.agreement.proofs.Evaluation.{Got, Answers, answers_front, Fed, computes, computed, has_names}
 use Rattle.agreement.proofs.Whole.{over_scalars, on_scalars, is_code}
-use Rattle.agreement.proofs.Sources.{ValueSource, value_source}
+use Rattle.agreement.proofs.Sources.{value_source}
 use Rattle.agreement.proofs.Meant.{assign_meant, line_meant}
 use Rattle.agreement.proofs.Bridge.{TaskEffect, TaskOutcome, action_effect, result_of, good_same, good_bad, inputs_for, same_answers, item_does, item_inputs, Came, opening_effect, MainOr, ItemTask, result_effect, live_or}
 

@@ -1,7 +1,7 @@
 -- The code of a script of scalars: one body, with an entry for each statement that does something.
-use Rattle.std.specs.Prelude.{ℕ, zero, suc, ℤ, pos, Bool, true, false, List, [], ◌∷◌, ◌++◌, map, nat_eq, if◌then◌else◌}
+use Rattle.std.specs.Prelude.{ℕ, suc, ℤ, pos, Bool, true, false, List, [], ◌∷◌, ◌++◌, map, nat_eq, if◌then◌else◌}
 use Rattle.values.specs.declared.value.Scalar.TheVariants.{Number}
-use Rattle.syntax_trees.specs.Core.{Owned, local, input, output, Expr, Exprs, literal, name, whole, operator, none, also, Form, compute, read, Outer, Stmt, stmt, Action, declare, call_alone, assign, fill, insert, print, assert, when, choose, range, each, wait, Core}
+use Rattle.syntax_trees.specs.Core.{Owned, local, input, output, Expr, Exprs, literal, name, whole, operator, none, also, Form, compute, read, Stmt, stmt, Action, declare, assign, print, assert, Core}
 use Rattle.syntax_trees.specs.Parts.{stmt_action, block_list}
 use Rattle.task_code.specs.Code.{Name, Stored, constant, need, operation, no_operand, operand, Act, Set, Print, Assert, Entry, ByMain, Code, here, scalar, blank_entry}
 use Rattle.task_code.specs.Code as C

@@ -1,5 +1,5 @@
 -- What every run of a script's code owes to the script's meaning.
-use Rattle.std.specs.Prelude.{◌≡◌, ℕ, Bool, true, false, List, [], ◌∷◌, map, Some}
+use Rattle.std.specs.Prelude.{◌≡◌, ℕ, Bool, true, false, List, map, Some}
 use Rattle.dataflow.specs.System.{In, Write}
 use Rattle.dataflow.specs.Machine.{Event, Fault as MachineFault, OfTask, ElementTwice}
 use Rattle.values.specs.declared.key.Key.{Key}

@@ -1,15 +1,25 @@
 //! What every run of a script's code owes to the script's meaning.
 #![tactic(auto)]
 
-ghost use Rattle.syntax_trees.specs.Core.{Core};
+ghost use Rattle.syntax_trees.specs.Core.{Core, Stmt};
 ghost use Rattle.task_code.specs.Whole.{IsCode};
 ghost use Rattle.agreement.specs.Compile.{compiled};
 ghost use Rattle.agreement.specs.Headline.{Headline};
+ghost use Rattle.agreement.specs.Lowered.{core_of, is_single, lowered};
 ghost use Rattle.agreement.specs.Scalars.{IsScalars};
-ghost use Rattle.agreement.specs.Worked.{used_before_assigned, in_a_circle};
-ghost use Rattle.std.specs.Prelude.{◌≡◌, []};
+ghost use Rattle.agreement.specs.WholeNumbers.{OfNumbers};
+ghost use Rattle.agreement.specs.Worked.{used_before_assigned, in_a_circle, Gives};
+ghost use Rattle.std.specs.Prelude.{◌≡◌, ℕ, List, [], Some, None, true, false};
+ghost use Rattle.syntax_trees.specs.Examples.{read_before_assignment, fault_beside_unknown, too_large};
+ghost use Rattle.syntax_trees.specs.ExampleTrees.{table_of_read_before_assignment, tree_of_read_before_assignment, table_of_fault_beside_unknown, tree_of_fault_beside_unknown, table_of_too_large, tree_of_too_large, table_of_strict_and, tree_of_strict_and, table_of_loop_reads_what_it_writes, tree_of_loop_reads_what_it_writes};
 ghost use Rattle.syntax_trees.specs.Meaning.{Meaning};
 ghost use Rattle.syntax_trees.specs.Outcomes.{Blocked};
+ghost use Rattle.syntax_trees.specs.Reads.{Reads};
+ghost use Rattle.syntax_trees.specs.Resolved.{core};
+ghost use Rattle.syntax_trees.specs.Single.{SinglyAssigned};
+ghost use Rattle.syntax_trees.specs.Table.{Table};
+ghost use Rattle.syntax_trees.specs.Tree.{Tree};
+ghost use Rattle.syntax_trees.specs.Typing.{WellTyped};
 ghost use Rattle.task_code.specs.Worked as Codes;
 
 /// The code of a script of scalars is whole, and every run of it owes to the script's meaning what the headline says:
@@ -27,4 +37,33 @@ pub fn worked_scripts()
     ensures code { compiled used_before_assigned ≡ Codes.used_before_assigned }
     ensures circle { IsScalars in_a_circle }
     ensures blocked { Blocked in_a_circle (Meaning in_a_circle) 14 [] × Blocked in_a_circle (Meaning in_a_circle) 21 [] }
+{}
+
+/// What is read off the tree of a script of whole numbers, for any table of names, is what the script means: the script is
+/// well typed by this table, and these statements are its core. Where they pass the test of single assignment, they are of
+/// scalars, and every run of their code owes to the script's meaning what the headline says. The test is exact: a script
+/// that passes is singly assigned, and one that does not is not. And just the well typed scripts of whole numbers are read.
+pub fn lowered_scripts()
+    ensures core { (t : Table) (tree : Tree) (sts : List Stmt) → lowered t [] tree ≡ Some sts → core t tree ≡ core_of sts }
+    ensures typed { (t : Table) (tree : Tree) (sts : List Stmt) → lowered t [] tree ≡ Some sts → WellTyped tree t }
+    ensures single { (t : Table) (tree : Tree) (sts : List Stmt) → lowered t [] tree ≡ Some sts → is_single sts ≡ true → SinglyAssigned (core t tree) }
+    ensures not_single { (t : Table) (tree : Tree) (sts : List Stmt) → lowered t [] tree ≡ Some sts → is_single sts ≡ false → SinglyAssigned (core t tree) → ⊥ }
+    ensures scalars { (bytes : List ℕ) (t : Table) (tree : Tree) (sts : List Stmt) → Reads bytes tree → lowered t [] tree ≡ Some sts → is_single sts ≡ true
+        → IsScalars (core t tree) }
+    ensures headline { (bytes : List ℕ) (t : Table) (tree : Tree) (sts : List Stmt) → Reads bytes tree → lowered t [] tree ≡ Some sts → is_single sts ≡ true
+        → Headline (core t tree) (compiled (core_of sts)) }
+    ensures only_numbers { (t : Table) (tree : Tree) (sts : List Stmt) → lowered t [] tree ≡ Some sts → OfNumbers tree }
+    ensures all_read { (bytes : List ℕ) (t : Table) (tree : Tree) → Reads bytes tree → OfNumbers tree → WellTyped tree t → (sts : List Stmt) × (lowered t [] tree ≡ Some sts) }
+{}
+
+/// What is read off the trees of small scripts: `int x; int y; x = y + 1; y = 2; printf("%i", x);`, and
+/// `int y; int z; y = z; z = y; printf("%i", 1 %/ 0 + y);`, and `int x = 9223372036854775807 + 1; printf("%i", x);` give the
+/// statements of their cores, and pass the test of single assignment. Nothing is read off
+/// `boolean b = false && 1 %/ 0 == 1;`, nor off a script with an array and a loop.
+pub fn worked_trees()
+    ensures read_before_assignment { Gives table_of_read_before_assignment tree_of_read_before_assignment read_before_assignment }
+    ensures fault_beside_unknown { Gives table_of_fault_beside_unknown tree_of_fault_beside_unknown fault_beside_unknown }
+    ensures too_large { Gives table_of_too_large tree_of_too_large too_large }
+    ensures strict_and { lowered table_of_strict_and [] tree_of_strict_and ≡ None }
+    ensures loop_reads_what_it_writes { lowered table_of_loop_reads_what_it_writes [] tree_of_loop_reads_what_it_writes ≡ None }
 {}

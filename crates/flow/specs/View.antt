@@ -1,5 +1,5 @@
 -- The core of the script that a flow is of.
-use Rattle.std.specs.Prelude.{List, [], ◌∷◌, map}
+use Rattle.std.specs.Prelude.{List, [], map}
 use Rattle.flow.specs.declared.expr.Expr.{Expr, Expr-F, fold-Expr}
 use Rattle.flow.specs.declared.expr.Expr.TheOpen as Form
 use Rattle.flow.specs.declared.statement.Action.{Action}
@@ -8,13 +8,10 @@ use Rattle.flow.specs.declared.statement.Statement.{Statement}
 use Rattle.flow.specs.declared.statement.Flow.{Flow}
 use Rattle.task_code.specs.View.{operation_view}
 use Rattle.syntax_trees.specs.Core as Pure
-use Rattle.syntax_trees.specs.Core.{Core, here, Stmt, stmt, Block, no_stmts, stmts}
+use Rattle.syntax_trees.specs.Core.{Core, here, Stmt, stmt}
 use Rattle.syntax_trees.specs.Resolved.{outer_of}
-
--- operands, one after another
-abbrev pub operands_of : List Pure.Expr → Pure.Exprs
-operands_of [] = Pure.none
-operands_of (e ∷ es) = Pure.also e (operands_of es)
+use Rattle.agreement.specs.Lowered as Lowered
+use Rattle.agreement.specs.Lowered.{operands_of}
 
 -- an expression, from those that stand in it
 abbrev pub expr_step : Expr-F Pure.Expr → Pure.Expr
@@ -38,11 +35,6 @@ action_view (Does.Assert priority cell check) = Pure.assert priority (outer_of c
 abbrev pub statement_view : Statement → Stmt
 statement_view s = stmt s.at s.node (action_view s.action)
 
--- statements as a block
-abbrev pub block_of : List Stmt → Block
-block_of [] = no_stmts
-block_of (s ∷ ss) = stmts s (block_of ss)
-
--- the core of a script whose own block this is, and that has no functions
+-- the core of a script that has these statements alone
 abbrev pub core_of : Flow → Core
-core_of f = record { body = block_of (map statement_view f.statements.items); functions = [] }
+core_of f = Lowered.core_of (map statement_view f.statements.items)
