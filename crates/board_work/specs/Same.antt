@@ -31,7 +31,7 @@ option_eq f _ _ = false
 abbrev pub scalar_eq : Scalar → Scalar → Bool
 scalar_eq v w = same (One v) (One w)
 
--- what an expression waits for, and what a call hands over
+-- what an entry waits for, and what a call hands over
 abbrev pub need_eq : Need → Need → Bool
 need_eq (Stored r) (Stored s) = name_eq r s
 need_eq (Closed r) (Closed s) = name_eq r s

@@ -1,0 +1,5 @@
+pub mod Once
+pub mod Bound
+pub mod Owed
+pub mod Placed
+pub mod Scripts
