@@ -1,0 +1,10 @@
+pub mod Past
+pub mod Cuts
+pub mod Holds
+pub mod Opened
+pub mod Moves
+pub mod Own
+pub mod Does
+pub mod Ranks
+pub mod Firsts
+pub mod Listed

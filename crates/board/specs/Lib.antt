@@ -1,0 +1,9 @@
+pub mod Flat
+pub mod View
+pub mod State
+pub mod Effects
+pub mod Board
+pub mod Inside
+pub mod Ready
+pub mod Blocked
+pub mod Order

@@ -1,0 +1,14 @@
+//! The machine as a value: a state, the events that led to it, and the calls by which workers begin items, end them and give them back.
+#![tactic(auto)]
+
+pub mod board;
+mod effect;
+pub mod item;
+mod items;
+mod order;
+pub mod place;
+pub mod refusal;
+mod state;
+#[cfg(test)]
+mod tests;
+mod values_known;
