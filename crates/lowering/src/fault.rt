@@ -1,0 +1,43 @@
+//! Why a script is not lowered.
+ghost use Rattle.std.specs.Prelude.{◌≡◌};
+
+use lexer::token::Span;
+use std::alloc::{AllocError, AllocFailed};
+use thiserror::Error;
+
+/// Why a script has no flow, with the place of the fault.
+#[derive(Clone, Copy, PartialEq, Eq, Debug, Drop, Error)]
+pub enum LowerFault {
+    /// A part that does not compile yet, at its first token.
+    #[error("N1 NotYet")]
+    NotYet(Span),
+    /// A second assignment of a variable, at the assigned name.
+    #[error("S1 AssignedTwice")]
+    AssignedTwice(Span),
+    /// A scalar that is read and never assigned, at its declared name.
+    #[error("S3 NeverAssigned")]
+    NeverAssigned(Span),
+    /// Memory that was asked for was refused.
+    #[error("no memory")]
+    Memory,
+}
+
+impl From<AllocError> for LowerFault {
+    ghost use Rattle.lowering.specs.declared.fault.LowerFault.TheVariants.{Memory};
+
+    ghost from_gives = { λ _ fault. fault ≡ Memory };
+
+    fn from(_refused: AllocError) -> LowerFault {
+        LowerFault::Memory
+    }
+}
+
+impl<T: Drop> From<AllocFailed<T>> for LowerFault {
+    ghost use Rattle.lowering.specs.declared.fault.LowerFault.TheVariants.{Memory};
+
+    ghost from_gives = { λ _ fault. fault ≡ Memory };
+
+    fn from(_refused: AllocFailed<T>) -> LowerFault {
+        LowerFault::Memory
+    }
+}

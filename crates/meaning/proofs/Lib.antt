@@ -1,0 +1,9 @@
+mod Growth
+mod Scalars
+mod Law
+mod Readings
+mod Blocked
+mod Printed
+mod Whole
+mod Listed
+mod Worked

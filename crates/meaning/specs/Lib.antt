@@ -1,0 +1,5 @@
+pub mod Says
+pub mod Pass
+pub mod Reading
+pub mod Listed
+pub mod Known
