@@ -8,3 +8,4 @@ pub mod Does
 pub mod Ranks
 pub mod Firsts
 pub mod Listed
+pub mod Scripts

@@ -1,33 +1,32 @@
-//! Runs of two scripts: `printf("hello");`, and `printf("%i", x); int x = 5;`.
+//! A run of `printf("hello");`, call by call.
+ghost use Rattle.std.specs.Prelude.{◌≡◌, IfOk};
+ghost use Rattle.values.specs.Operators.{printf};
+ghost use Rattle.task_code.specs.Code.{Print, no_operand, operation};
+ghost use Rattle.task_code.specs.View.{act_view};
+ghost use Rattle.board.specs.Flat.{IsFlat};
+
 use crate::board::Board;
 use crate::refusal::Refusal;
-use board_work::work::Done;
-use std::alloc::{AllocError, Global};
+use std::alloc::Global;
 use std::test::Fail;
 use task_code::code::{Body, Code, Opener};
-use task_code::entry::{Act, Entry, Kind, Name, Need, Owned, Variable};
+use task_code::entry::{Act, Entry, Kind};
 use task_code::event::Event;
 use task_code::expr::{Expr, Operator};
 use values::format::{Format, FormatFault};
-use values::value::Scalar;
 
-const X: Variable = Variable {
-    node: 2,
-    array: false,
-};
-
-const NAME: Name = Name {
-    up: 0,
-    owned: Owned::Local(X),
-};
-
-fn printing(alloc: Global, format: &[u8], operands: Vec<Expr>) -> Result<Act, FormatFault> {
-    let format = Format::read(alloc, format)?;
-    Ok(Act::Print(Expr::Operation(Operator::Printf(format), operands)))
+/// What prints a format without conversions.
+fn printing(alloc: Global, format: Format) -> Act
+    ensures { act_view result ≡ Print (operation (printf format) no_operand) }
+{
+    Act::Print(Expr::Operation(Operator::Printf(format), Vec::new(alloc)))
 }
 
 /// `printf("hello");`
-fn hello(alloc: Global) -> Result<Code, FormatFault> {
+fn hello(alloc: Global) -> Result<Code, FormatFault>
+    ensures { IfOk result (λ code. IsFlat code) }
+{
+    let format = Format::read(alloc, b"hello")?;
     let mut code = Code::new(alloc);
     code.push_entry(Entry {
         node: 1,
@@ -35,7 +34,7 @@ fn hello(alloc: Global) -> Result<Code, FormatFault> {
         mark: 0,
         priority: 0,
         needs: Vec::new(alloc),
-        act: printing(alloc, b"hello", Vec::new(alloc))?,
+        act: printing(alloc, format),
         reads: Vec::new(alloc),
         writes: Vec::new(alloc),
     })?;
@@ -43,40 +42,6 @@ fn hello(alloc: Global) -> Result<Code, FormatFault> {
         opener: Opener::ByMain,
         makes: Vec::new(alloc),
         entries: Vec::from_array(alloc, [0])?,
-    })?;
-    Ok(code)
-}
-
-/// `printf("%i", x); int x = 5;`
-fn used_before_assigned(alloc: Global) -> Result<Code, FormatFault> {
-    let mut code = Code::new(alloc);
-    let operands = Vec::from_array(alloc, [Expr::Need(0)])?;
-    let mut needs = Vec::new(alloc);
-    needs.push(Need::Stored(NAME))?;
-    code.push_entry(Entry {
-        node: 1,
-        at: 0,
-        mark: 0,
-        priority: 0,
-        needs,
-        act: printing(alloc, b"%i", operands)?,
-        reads: Vec::from_array(alloc, [NAME])?,
-        writes: Vec::new(alloc),
-    })?;
-    code.push_entry(Entry {
-        node: 2,
-        at: 17,
-        mark: 17,
-        priority: 0,
-        needs: Vec::new(alloc),
-        act: Act::Set(NAME, Expr::Constant(Scalar::Number(5))),
-        reads: Vec::new(alloc),
-        writes: Vec::from_array(alloc, [NAME])?,
-    })?;
-    code.push_body(Body {
-        opener: Opener::ByMain,
-        makes: Vec::from_array(alloc, [X])?,
-        entries: Vec::from_array(alloc, [0, 1])?,
     })?;
     Ok(code)
 }
@@ -93,24 +58,37 @@ fn work_on(board: &mut Board, worker: u8, item: u64) -> Result<(), Refusal> {
 #[test]
 fn hello_is_printed(rt: HostRuntime) -> Result<(), Fail> {
     let mut board = Board::new(rt.alloc(), hello(rt.alloc())?, 100)?;
+    assert_eq!(rt; (board.limit(), board.code().entry_count()), (100, 1));
+    assert_eq!(rt;
+        (board.next(Kind::Control), board.next(Kind::Leaf)),
+        (Some(1), None)
+    );
     work_on(&mut board, 0, 1)?;
-    work_on(&mut board, 1, 2)?;
+    assert!(rt; board.is_going());
+    assert!(rt; board.ready_items()?.as_slice() == [2].as_slice());
+    assert_eq!(rt; board.kind(2), Some(Kind::Leaf));
+    assert!(rt; !board.is_quiet());
+    assert_eq!(rt; board.blocked()?.len(), 1);
+    let _work = board.begin(1, 2)?;
+    assert!(rt; matches!(board.begin(1, 2), Err(Refusal::NotReady)));
+    assert_eq!(rt; board.back(2, 2), Err(Refusal::NotYours));
+    board.back(1, 2)?;
+    work_on(&mut board, 2, 2)?;
+    assert!(rt; board.is_quiet());
+    assert!(rt; board.fault().is_none());
     assert_eq!(rt; board.lines().len(), 1);
     assert!(rt; board.lines()[0].as_bytes() == b"hello".as_slice());
-    assert_eq!(rt; board.history().len(), 4);
+    assert_eq!(rt; board.history().len(), 6);
+    assert_eq!(rt; board.history()[5], Event::End { worker: 2, item: 2 });
     Ok(())
 }
 
 #[test]
-fn a_scalar_is_waited_for(rt: HostRuntime) -> Result<(), Fail> {
-    let mut board = Board::new(rt.alloc(), used_before_assigned(rt.alloc())?, 100)?;
-    work_on(&mut board, 0, 1)?;
-    assert!(rt; matches!(board.begin(1, 2), Err(Refusal::NotReady)));
-    work_on(&mut board, 1, 3)?;
-    let _work = board.begin(1, 2)?;
-    board.back(1, 2)?;
-    work_on(&mut board, 2, 2)?;
-    assert_eq!(rt; board.lines().len(), 1);
-    assert!(rt; board.lines()[0].as_bytes() == b"5".as_slice());
+fn the_limit_ends_a_board(rt: HostRuntime) -> Result<(), Fail> {
+    let mut board = Board::new(rt.alloc(), hello(rt.alloc())?, 1)?;
+    let _work = board.begin(0, 1)?;
+    assert!(rt; !board.is_going());
+    assert_eq!(rt; board.back(0, 1), Err(Refusal::Ended));
+    assert_eq!(rt; board.next(Kind::Control), None);
     Ok(())
 }

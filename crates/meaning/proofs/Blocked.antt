@@ -1,5 +1,5 @@
 -- The statements that are blocked are those whose entries are.
-use Rattle.std.proofs.Common.{◌≡◌, ◌⊎◌, inl, inr, ℕ, zero, suc, Bool, true, false, not, List, [], ◌∷◌, map, refl, sym, ap, ◌∙◌, subst, Result, Ok, Err}
+use Rattle.std.proofs.Common.{◌≡◌, inl, inr, ℕ, zero, suc, Bool, true, false, not, List, [], ◌∷◌, refl, sym, ap, ◌∙◌, subst, Result, Ok, Err}
 use Rattle.std.specs.Prelude.{◌&&◌, ◌||◌, nat_eq, if◌then◌else◌}
 use Rattle.std.specs.List.{list_any}
 use Rattle.std.proofs.lemmas.Bool.{eqb-true, eq-eqb}
@@ -32,7 +32,7 @@ use Rattle.meaning.specs.declared.knowledge.Role.{Role}
 use Rattle.meaning.specs.declared.knowledge.Role.TheVariants.{Declares, Assigns, Prints, Asserts}
 use Rattle.meaning.specs.Listed.{IsBlockedAt}
 use Rattle.meaning.specs.Reading.{counts, is_blocked, is_fault_in, fails_at}
-use Rattle.meaning.specs.Says.{Told, Tells, Says}
+use Rattle.meaning.specs.Says.{Told, Tells}
 use Rattle.meaning.specs.Pass.{role_of, cell_of as cell_node, after, is_open_in}
 use Rattle.meaning.proofs.Growth.{both, step, of_step, step_in}
 use Rattle.meaning.proofs.Law.{Works, exact, step_role, same_node, told_fault}
@@ -230,14 +230,17 @@ module _ (s : Core) (w : IsScalars s) where
         let c = counted_action o (subst (λ (r : Role). counts r ≡ true) (step_role s w n st) y.0) in
         let l = lone o c in
         let q = open_is e.progress y.1 in
-        let quiet = subst (λ (j : ℕ). not (list_any (fails_at at j) (after (script_list s) n)) ≡ true) (step_node (script_list s) n st) (subst (λ (j : ℕ). not (list_any (fails_at j e.node) (after (script_list s) n)) ≡ true) (step_at (script_list s) n st) x.1) in
-        (node, a, record {
-          live = in_block script i;
-          counts = c;
-          no_fact = no_own o i q;
-          no_fault = λ f k. true_not _ quiet (fault_listed at node f k);
-          no_cell_fault = λ d f m k. no_fault_at s w n st d i (l.each d m) q f at k;
-        })
+        let quiet = subst (λ (j : ℕ). not (list_any (fails_at at j) (after (script_list s) n)) ≡ true) (step_node (script_list s) n st) (subst (λ (j : ℕ). not (list_any (fails_at j e.node) (after (script_list s) n)) ≡ true) (step_at (script_list s) n st) x.1) in (
+          node,
+          a,
+          record {
+            live = in_block script i;
+            counts = c;
+            no_fact = no_own o i q;
+            no_fault = λ f k. true_not _ quiet (fault_listed at node f k);
+            no_cell_fault = λ d f m k. no_fault_at s w n st d i (l.each d m) q f at k;
+          },
+        )
       where
         fault_listed : (at node : ℕ) (f : AFault) → Known s n (fault f at ([], node)) → list_any (fails_at at node) (after (script_list s) n) ≡ true
         fault_listed at node f k =

@@ -1,6 +1,6 @@
 -- What the entries say grows with the rounds.
-use Rattle.std.proofs.Common.{◌≡◌, ◌⊎◌, inl, inr, ℕ, zero, suc, ◌≤◌, Bool, true, false, List, [], ◌∷◌, map, refl, sym, ap, ◌∙◌, subst, Option, None, Some, Result, Ok, Err, arith}
-use Rattle.std.specs.Prelude.{◌&&◌, nat_eq, if◌then◌else◌}
+use Rattle.std.proofs.Common.{◌≡◌, ◌⊎◌, inl, inr, ℕ, zero, suc, ◌≤◌, Bool, true, false, List, [], ◌∷◌, map, refl, sym, ap, ◌∙◌, subst, Option, None, Some, Ok, arith}
+use Rattle.std.specs.Prelude.{◌&&◌, if◌then◌else◌}
 use Rattle.std.proofs.lemmas.Option.{none-some, same_Some}
 use Rattle.dataflow.specs.System.{In}
 use Rattle.dataflow.proofs.Lists.{in_map, in_unmap}
@@ -197,6 +197,7 @@ counted f f' g (st ∷ sts) = by (g st) (counted f f' g sts)
   where
     one : (b : Bool) (k : ℕ) → ℕ
     one b k = if b then suc k else k
+
     by : Grown (f st) (f' st) → (opened (map f' sts) ≤ opened (map f sts)) × (opened (map f' sts) ≡ opened (map f sts) → map f' sts ≡ map f sts)
         → (opened (map f' (st ∷ sts)) ≤ opened (map f (st ∷ sts))) × (opened (map f' (st ∷ sts)) ≡ opened (map f (st ∷ sts)) → map f' (st ∷ sts) ≡ map f (st ∷ sts))
     by (inl q) r = same (is_open_in (f st).progress) (is_open_in (f' st).progress) (ap (λ (e : Entry). is_open_in e.progress) q) q r

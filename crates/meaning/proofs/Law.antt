@@ -1,10 +1,8 @@
 -- The entries after so many rounds say exactly what is known after these rounds, of a script of scalars.
-use Rattle.std.proofs.Common.{◌≡◌, ◌⊎◌, inl, inr, ℕ, zero, suc, Bool, true, false, List, [], ◌∷◌, map, refl, sym, ap, ◌∙◌, subst, Option, None, Some, Result, Ok, Err}
-use Rattle.std.specs.Prelude.{ℤ, nat_eq, if◌then◌else◌}
+use Rattle.std.proofs.Common.{◌≡◌, ◌⊎◌, inl, inr, ℕ, zero, suc, Bool, true, false, List, [], ◌∷◌, refl, sym, ap, ◌∙◌, subst, Option, Some, Result, Ok, Err}
+use Rattle.std.specs.Prelude.{ℤ, if◌then◌else◌}
 use Rattle.std.proofs.lemmas.Bool.{eqb-true, eq-eqb}
-use Rattle.std.proofs.lemmas.Option.{none-some, same_Some}
-use Rattle.dataflow.specs.System.{In, Distinct}
-use Rattle.dataflow.proofs.Lists.{in_map}
+use Rattle.dataflow.specs.System.{In}
 use Rattle.values.specs.declared.fault.OpFault.{OpFault}
 use Rattle.values.specs.declared.key.Key.{Key}
 use Rattle.values.specs.declared.value.Scalar.{Scalar}
@@ -14,20 +12,20 @@ use Rattle.values.specs.declared.value.Value.TheVariants.{One}
 use Rattle.values.specs.Operators.{evaluated, printf}
 use Rattle.values.specs.Operators as Operators
 use Rattle.values.specs.Values.{scalar_of, text_of}
-use Rattle.syntax_trees.specs.Core.{here, Owned, local, Name, Expr, Exprs, literal, name, operator, none, also, Form, compute, Cell, Outer, Stmt, stmt, Action, declare, assign, fill, insert, print, assert, range, Call, Block, Core}
-use Rattle.syntax_trees.specs.Facts.{Fault as AFault, operation, Fact, value, element, line, fault}
-use Rattle.syntax_trees.specs.Meaning.{HasValue, stored, ValueUnder, of_literal, of_name, of_operator, ValuesUnder, no_operand, operand, Gives, computed, faulty, Comes, before, now, script, LiveStmt, in_block, New, cell_value, cell_fault, assigned, filled, inserted, printed, bad_range, too_deep_header, too_deep_call, written_twice, Known, IsFinished}
-use Rattle.syntax_trees.specs.Members.{◌∈◌, first, later}
+use Rattle.syntax_trees.specs.Core.{here, local, Name, Expr, Exprs, name, operator, Cell, Outer, Stmt, stmt, Action, assign, fill, insert, print, range, Call, Block, Core}
+use Rattle.syntax_trees.specs.Facts.{operation, Fact, value, element, line, fault}
+use Rattle.syntax_trees.specs.Meaning.{HasValue, stored, ValueUnder, of_literal, of_name, of_operator, ValuesUnder, no_operand, operand, Gives, computed, faulty, Comes, before, now, script, in_block, New, cell_value, cell_fault, assigned, filled, inserted, printed, bad_range, too_deep_header, too_deep_call, written_twice, Known}
+use Rattle.syntax_trees.specs.Members.{◌∈◌, first}
 use Rattle.syntax_trees.specs.Openings.{Opens}
 use Rattle.syntax_trees.specs.Parts.{stmt_at, stmt_node, stmt_action, stmt_calls, cells}
 use Rattle.syntax_trees.specs.Places.{Path, Place, place}
 use Rattle.syntax_trees.proofs.Members.{split_in}
 use Rattle.task_code.proofs.Equal.{both_true}
-use Rattle.agreement.specs.Compile.{node_of, action_expr, is_act, acts, declared, script_list}
+use Rattle.agreement.specs.Compile.{action_expr, is_act, acts, declared, script_list}
 use Rattle.agreement.specs.Scalars.{OverScalars, a_literal, a_name, an_operator, AllOverScalars, no_more, one_more, OnScalars, declares, assigns, prints, asserts, IsScalars}
 use Rattle.agreement.proofs.Members.{to_in, from_in, IsAt, in_at, at_same, at_once, in_acts}
-use Rattle.agreement.proofs.Meant.{ok_same, text_value}
-use Rattle.agreement.proofs.Sources.{CellOf, cell_of, stmt_here, cell_known, gives_value, gives_fault, known_source}
+use Rattle.agreement.proofs.Meant.{text_value}
+use Rattle.agreement.proofs.Sources.{cell_of, stmt_here, cell_known, gives_value, gives_fault}
 use Rattle.agreement.proofs.Whole.{over_scalars}
 use Rattle.meaning.specs.declared.knowledge.Entry.{Entry}
 use Rattle.meaning.specs.declared.knowledge.Progress.{Progress}
@@ -35,8 +33,8 @@ use Rattle.meaning.specs.declared.knowledge.Progress.TheVariants.{Open, Value, F
 use Rattle.meaning.specs.declared.knowledge.Role.{Role}
 use Rattle.meaning.specs.declared.knowledge.Role.TheVariants.{Declares, Assigns, Prints, Asserts}
 use Rattle.meaning.specs.Says.{Told, Tells, Says}
-use Rattle.meaning.specs.Pass.{assigns as assigns_it, value_in, looked_up, has_value, or_zero, is_known, are_known, worked, all_worked, progress_of, come, role_of, cell_of as cell_node, progress_for, known_of, pass, after, is_open_in}
-use Rattle.meaning.proofs.Growth.{both, has_one, looked_entry, first_assigner, told_nothing, step, of_step, step_in, says_grow, nothing_said}
+use Rattle.meaning.specs.Pass.{assigns as assigns_it, value_in, looked_up, has_value, or_zero, is_known, are_known, worked, all_worked, progress_of, come, role_of, cell_of as cell_node, progress_for, known_of, after}
+use Rattle.meaning.proofs.Growth.{both, has_one, looked_entry, first_assigner, step, of_step, step_in, says_grow, nothing_said}
 use Rattle.meaning.proofs.Scalars.{one_value}
 
 -- TOLD OF ONE STATEMENT
@@ -250,21 +248,21 @@ module _ (s : Core) (w : IsScalars s) where
       let r = of_step (script_list s) n t.0 t.1 in
       elim (told_from e.role e.progress e.at e.node e.cell m v t.2) [
         | inl q ↦ (
-          let role = sym (step_role n r.0) ∙ ap (λ (x : Entry). x.role) r.2 in
-          let works = subst Works (sym role) (told_works e.role e.progress e.at e.node e.cell (value ([], m) (One v)) t.2) in
-          let c = cell_there (on r.0 r.1) works in
-          let node : c.0.node ≡ m = c.2 ∙ (sym (step_cell n r.0) ∙ (ap (λ (x : Entry). x.cell) r.2 ∙ q)) in
-          absurd (w.apart r.0 c.0 (from_in r.0 (script_list s) r.1) c.1 (subst (λ (k : ℕ). In k (declared (script_list s))) (sym node) d)))
+            let role = sym (step_role n r.0) ∙ ap (λ (x : Entry). x.role) r.2 in
+            let works = subst Works (sym role) (told_works e.role e.progress e.at e.node e.cell (value ([], m) (One v)) t.2) in
+            let c = cell_there (on r.0 r.1) works in
+            let node : c.0.node ≡ m = c.2 ∙ (sym (step_cell n r.0) ∙ (ap (λ (x : Entry). x.cell) r.2 ∙ q)) in
+            absurd (w.apart r.0 c.0 (from_in r.0 (script_list s) r.1) c.1 (subst (λ (k : ℕ). In k (declared (script_list s))) (sym node) d)))
         | inr q ↦ (
-          let f = first_assigner (after (script_list s) n) m t.0 t.1 q.0 in
-          let g = of_step (script_list s) n f.0 f.1 in
-          let role_e = sym (ap (λ (x : Entry). x.role) r.2) ∙ step_role n r.0 in
-          let role_f = sym (ap (λ (x : Entry). x.role) g.2) ∙ step_role n g.0 in
-          let a = subst (λ (x : Role). assigns_it x m ≡ true) role_e q.0 in
-          let b = subst (λ (x : Role). assigns_it x m ≡ true) role_f f.2 in
-          let same = same_assigner g.0 r.0 m g.1 r.1 b a in
-          let entry : f.0 ≡ t.0 = sym g.2 ∙ (ap (step (script_list s) n) same ∙ r.2) in
-          f.3 ∙ (ap (λ (x : Entry). value_in x.progress) entry ∙ ap value_in q.1))
+            let f = first_assigner (after (script_list s) n) m t.0 t.1 q.0 in
+            let g = of_step (script_list s) n f.0 f.1 in
+            let role_e = sym (ap (λ (x : Entry). x.role) r.2) ∙ step_role n r.0 in
+            let role_f = sym (ap (λ (x : Entry). x.role) g.2) ∙ step_role n g.0 in
+            let a = subst (λ (x : Role). assigns_it x m ≡ true) role_e q.0 in
+            let b = subst (λ (x : Role). assigns_it x m ≡ true) role_f f.2 in
+            let same = same_assigner g.0 r.0 m g.1 r.1 b a in
+            let entry : f.0 ≡ t.0 = sym g.2 ∙ (ap (step (script_list s) n) same ∙ r.2) in
+            f.3 ∙ (ap (λ (x : Entry). value_in x.progress) entry ∙ ap value_in q.1))
       ]
 
   found_value : (n : ℕ) → Exact n → (m : ℕ) (v : Scalar) → looked_up (after (script_list s) n) m ≡ Some v → HasValue s (Known s n) ([], m) v
@@ -325,6 +323,7 @@ module _ (s : Core) (w : IsScalars s) where
         with_result : (r : Result AValue OpFault) → ValueUnder s (Known s n) [] x r → Came x
         with_result (Ok v) ev = inr (inl (scalar_of v, came t ev, subst (λ (u : AValue). ValueUnder s (Known s n) [] x (Ok u)) (one_value t ev v refl) ev))
         with_result (Err g) ev = inr (inr (g, came t ev, ev))
+
         by : (b : Bool) → is_known (after (script_list s) n) x ≡ b → Came x
         by true q = with_result (worked (after (script_list s) n) x) (under_worked t q)
         by false q = inl (ap (λ b. if b then progress_of (worked (after (script_list s) n) x) else Open) q)
@@ -358,7 +357,7 @@ module _ (s : Core) (w : IsScalars s) where
     variable_says {at} {node} {v = v} (assigns {m = m} {c = c} {e = e} d t) i ev =
         let one : v ≡ One (scalar_of v) = one_value t ev v refl in
         let told : Told (Assigns m) (come (after (script_list s) n) e) at node c (value ([], m) (One (scalar_of v)))
-            = subst (λ (p : Progress). Told (Assigns m) p at node c (value ([], m) (One (scalar_of v)))) (sym (came t ev)) (inr refl) in
+        = subst (λ (p : Progress). Told (Assigns m) p at node c (value ([], m) (One (scalar_of v)))) (sym (came t ev)) (inr refl) in
         subst (λ (u : AValue). Says (after (script_list s) (suc n)) (value ([], m) u)) (sym one) (entry_says _ i _ told)
 
     line_says : {at node : ℕ} {p : ℤ} {o : Outer} {bytes : List ℕ} → OnScalars (declared (script_list s)) (stmt at node (print p o)) → stmt at node (print p o) ∈ script_list s
@@ -366,7 +365,7 @@ module _ (s : Core) (w : IsScalars s) where
     line_says {at} {node} {bytes = bytes} (prints {c = c} {ps = ps} {es = es} t) i ev =
         let e = operator (printf ps) es in
         let told : Told Prints (come (after (script_list s) n) e) at node c (line ([], node) bytes)
-            = subst (λ (p : Progress). Told Prints p at node c (line ([], node) bytes)) (sym (came (an_operator tt t) ev)) (inr refl) in
+        = subst (λ (p : Progress). Told Prints p at node c (line ([], node) bytes)) (sym (came (an_operator tt t) ev)) (inr refl) in
         entry_says _ i _ told
 
     comes_under : (st : Stmt) (c : Cell) (v : AValue) → st ∈ script_list s → c ∈ cells st → Comes s (Known s n) [] c v → ValueUnder s (Known s n) [] (action_expr (stmt_action st)) (Ok v)

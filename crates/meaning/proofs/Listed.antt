@@ -1,5 +1,5 @@
 -- Lists in order in which each member stands once.
-use Rattle.std.proofs.Common.{◌≡◌, ◌⊎◌, inl, inr, ℕ, ◌+◌, ◌≤◌, ◌<◌, Bool, true, false, List, [], ◌∷◌, ◌++◌, length, take, drop, get_or, refl, sym, ap, ◌∙◌, subst, Option, None, Some, arith}
+use Rattle.std.proofs.Common.{◌≡◌, ◌⊎◌, inl, inr, ℕ, ◌+◌, ◌<◌, Bool, true, false, List, [], ◌∷◌, ◌++◌, length, take, drop, get_or, refl, sym, ap, ◌∙◌, subst, Option, None, Some, arith}
 use Rattle.std.specs.Prelude.{◌&&◌, ◌||◌, nat_eq, nat_lt, if◌then◌else◌}
 use Rattle.std.proofs.lemmas.Bool.{eqb-true, eq-eqb, lt-ltb, ltb-false}
 use Rattle.std.proofs.lemmas.List.{drop_more, take-append-drop}
@@ -9,7 +9,6 @@ use Rattle.values.specs.declared.fault.OpFault.{OpFault}
 use Rattle.values.specs.declared.fault.OpFault.TheVariants.{Overflow, DivideByZero, BadStep, NotANumber, AssertFailed, Memory}
 use Rattle.syntax_trees.specs.Facts.{operation, Fact, value, element, line, fault}
 use Rattle.syntax_trees.specs.Facts as Facts
-use Rattle.syntax_trees.specs.Outcomes.{Faults}
 use Rattle.syntax_trees.specs.Places.{Path, Place}
 use Rattle.meaning.specs.declared.knowledge.Entry.{Entry}
 use Rattle.meaning.specs.declared.knowledge.Progress.{Progress}
@@ -18,9 +17,9 @@ use Rattle.meaning.specs.declared.knowledge.Role.{Role}
 use Rattle.meaning.specs.declared.knowledge.Role.TheVariants.{Declares, Assigns, Prints, Asserts}
 use Rattle.meaning.specs.declared.reading.Fault.{Fault}
 use Rattle.meaning.specs.declared.reading.Statement.{Statement}
-use Rattle.meaning.specs.Listed.{InOrder, put, fault_number, fault_before, same_fault, statement_before, same_statement, fault_in, with_fault, put_faults, with_blocked, put_blocked, IsBlockedAt, ListsFaults, ListsBlocked}
+use Rattle.meaning.specs.Listed.{InOrder, put, fault_number, fault_before, same_fault, statement_before, same_statement, fault_in, with_fault, put_faults, with_blocked, put_blocked, ListsFaults, ListsBlocked}
 use Rattle.meaning.specs.Reading.{is_blocked}
-use Rattle.meaning.specs.Says.{Told, Tells, Says}
+use Rattle.meaning.specs.Says.{Told, Says}
 use Rattle.meaning.proofs.Growth.{both}
 use Rattle.meaning.proofs.Law.{no_element_told}
 
@@ -132,6 +131,7 @@ other_fault f g s b = by (nat_lt f.at g.at) (nat_eq f.at g.at) refl refl s b
   where
     inner : (c d : Bool) → nat_eq (fault_number f.kind) (fault_number g.kind) ≡ c → nat_lt (fault_number f.kind) (fault_number g.kind) ≡ d → c ≡ false → d ≡ false → nat_lt (fault_number g.kind) (fault_number f.kind) ≡ true
     inner c d p q x y = above (fault_number f.kind) (fault_number g.kind) (p ∙ x) (q ∙ y)
+
     by : (l e : Bool) → nat_lt f.at g.at ≡ l → nat_eq f.at g.at ≡ e → (e && nat_eq (fault_number f.kind) (fault_number g.kind)) ≡ false → (l || (e && nat_lt (fault_number f.kind) (fault_number g.kind))) ≡ false → fault_before g f ≡ true
     by true e p q x y = absurd (cc (y))
     by false true p q x y =
@@ -236,15 +236,15 @@ lists_faults es fs same = subst (ListsFaults es) same (record {
   in_order = faults_ordered [] es tt;
   each = λ f i. elim (faults_from f [] es i) [
     | inl r ↦ (
-      let e = r.0 in
-      let t = fault_tells e.role e.progress f.kind e.at e.node e.cell r.2 in
-      (e.cell, (r.0, r.1, subst (λ (j : ℕ). Told e.role e.progress e.at e.node e.cell (fault (operation f.kind) j ([], e.cell))) (sym r.3) t)))
+        let e = r.0 in
+        let t = fault_tells e.role e.progress f.kind e.at e.node e.cell r.2 in
+        (e.cell, (r.0, r.1, subst (λ (j : ℕ). Told e.role e.progress e.at e.node e.cell (fault (operation f.kind) j ([], e.cell))) (sym r.3) t)))
     | inr h ↦ absurd h
   ];
   all = λ x at path h. (
-    let e = h.1.0 in
-    let z = shown e.role e.progress e.at e.node e.cell x at h.0 path h.1.2 in
-    (record { kind = z.kind; at = e.at }, faults_have e z.kind [] es h.1.1 z.fault_is, z.kind_is, z.at_is, z.path_is));
+      let e = h.1.0 in
+      let z = shown e.role e.progress e.at e.node e.cell x at h.0 path h.1.2 in
+      (record { kind = z.kind; at = e.at }, faults_have e z.kind [] es h.1.1 z.fault_is, z.kind_is, z.at_is, z.path_is));
 })
 
 -- BLOCKED STATEMENTS

@@ -1,18 +1,17 @@
 -- The lines of the entries are the lines that are known.
-use Rattle.std.proofs.Common.{◌≡◌, ◌⊎◌, inl, inr, ℕ, zero, suc, Bool, true, false, List, [], ◌∷◌, ◌++◌, map, refl, sym, ap, ◌∙◌, subst}
+use Rattle.std.proofs.Common.{◌≡◌, inl, inr, ℕ, Bool, true, false, List, [], ◌∷◌, ◌++◌, map, refl, sym, ap, ◌∙◌, subst}
 use Rattle.std.specs.Prelude.{IsPermutation, if◌then◌else◌}
-use Rattle.std.proofs.lemmas.Bool.{eqb-true, eq-eqb}
 use Rattle.dataflow.specs.System.{In, Distinct}
 use Rattle.dataflow.proofs.Lists.{in_left, in_right, in_split, in_map}
 use Rattle.values.specs.declared.value.Value.TheVariants.{One}
 use Rattle.values.specs.Values.{text_of}
-use Rattle.syntax_trees.specs.Core.{Stmt, stmt, Action, declare, Core}
+use Rattle.syntax_trees.specs.Core.{Stmt, Action, declare, Core}
 use Rattle.syntax_trees.specs.Facts.{Fact, value, element, line, fault}
 use Rattle.syntax_trees.specs.Meaning.{Known}
 use Rattle.syntax_trees.specs.Members.{◌∈◌}
 use Rattle.syntax_trees.specs.Outcomes.{Written, texts, OnceEach, Lines, Clean}
 use Rattle.syntax_trees.specs.Parts.{stmt_node, stmt_action}
-use Rattle.syntax_trees.specs.Places.{Path, Place}
+use Rattle.syntax_trees.specs.Places.{Place}
 use Rattle.agreement.specs.Compile.{is_act, acts, script_list}
 use Rattle.agreement.specs.Scalars.{IsScalars}
 use Rattle.agreement.proofs.Members.{to_in, from_in, in_acts}
@@ -22,9 +21,9 @@ use Rattle.meaning.specs.declared.knowledge.Progress.TheVariants.{Open, Value, F
 use Rattle.meaning.specs.declared.knowledge.Role.{Role}
 use Rattle.meaning.specs.declared.knowledge.Role.TheVariants.{Declares, Assigns, Prints, Asserts}
 use Rattle.meaning.specs.Reading.{line_of, printed}
-use Rattle.meaning.specs.Says.{Told, Tells, Says}
+use Rattle.meaning.specs.Says.{Told}
 use Rattle.meaning.specs.Pass.{role_of, after}
-use Rattle.meaning.proofs.Growth.{step, of_step}
+use Rattle.meaning.proofs.Growth.{step}
 use Rattle.meaning.proofs.Law.{exact, step_role, no_element_told}
 use Rattle.meaning.proofs.Blocked.{step_node}
 use Rattle.meaning.proofs.Readings.{after_steps}
@@ -128,8 +127,8 @@ module _ (s : Core) (w : IsScalars s) where
         let e = step (script_list s) n st in
         elim (in_split {X = Written} (u, b) (written_of e.role e.progress e.node) (listing (map (step (script_list s) n) sts)) h) [
           | inl i ↦ (
-            let x = writer_is e.role e.progress e.node u b i in
-            (st, from_in st (st ∷ sts) (inl refl), prints_act (stmt_action st) (sym (step_role s w n st) ∙ x.0), x.1 ∙ ap (λ (j : ℕ). ([], j)) (step_node (script_list s) n st)))
+              let x = writer_is e.role e.progress e.node u b i in
+              (st, from_in st (st ∷ sts) (inl refl), prints_act (stmt_action st) (sym (step_role s w n st) ∙ x.0), x.1 ∙ ap (λ (j : ℕ). ([], j)) (step_node (script_list s) n st)))
           | inr i ↦ (let r = writer_among sts u b i in (r.0, from_in r.0 (st ∷ sts) (inr (to_in r.1)), r.2, r.3))
         ]
 
@@ -142,9 +141,9 @@ module _ (s : Core) (w : IsScalars s) where
         by true q d rec =
             once_one (step (script_list s) n st).role (step (script_list s) n st).progress (step (script_list s) n st).node (listing (map (step (script_list s) n) sts))
             (λ b r m. (
-              let x = writer_among sts ([], (step (script_list s) n st).node) b m in
-              let node : stmt_node x.0 ≡ stmt_node st = sym (ap (λ (p : Place). p.1) x.3) ∙ step_node (script_list s) n st in
-              d.0 (subst (λ (j : ℕ). In j (map stmt_node (acts sts))) node (in_map stmt_node x.0 (acts sts) (in_acts x.0 sts x.1 x.2)))))
+            let x = writer_among sts ([], (step (script_list s) n st).node) b m in
+            let node : stmt_node x.0 ≡ stmt_node st = sym (ap (λ (p : Place). p.1) x.3) ∙ step_node (script_list s) n st in
+            d.0 (subst (λ (j : ℕ). In j (map stmt_node (acts sts))) node (in_map stmt_node x.0 (acts sts) (in_acts x.0 sts x.1 x.2)))))
             (rec d.1)
         by false q d rec =
             once_one (step (script_list s) n st).role (step (script_list s) n st).progress (step (script_list s) n st).node (listing (map (step (script_list s) n) sts))
@@ -156,13 +155,13 @@ module _ (s : Core) (w : IsScalars s) where
       listing = listing (after (script_list s) n);
       once = subst (λ (es : List Entry). OnceEach (listing es)) (sym (after_steps (script_list s) n)) (once_listing (script_list s) w.nodes);
       known = λ u b m. (
-        let r = unlisted (after (script_list s) n) u b (to_in m) in
-        let e = r.0 in
-        (exact s w n).sound (line u b) (r.0, r.1, told_written e.role e.progress e.at e.node e.cell u b r.2));
+          let r = unlisted (after (script_list s) n) u b (to_in m) in
+          let e = r.0 in
+          (exact s w n).sound (line u b) (r.0, r.1, told_written e.role e.progress e.at e.node e.cell u b r.2));
       all = λ u b k. (
-        let t = (exact s w n).complete (line u b) k in
-        let e = t.0 in
-        from_in {X = Written} (u, b) (listing (after (script_list s) n)) (listed (after (script_list s) n) t.0 u b t.1 (written_told e.role e.progress e.at e.node e.cell u b t.2)));
+          let t = (exact s w n).complete (line u b) k in
+          let e = t.0 in
+          from_in {X = Written} (u, b) (listing (after (script_list s) n)) (listed (after (script_list s) n) t.0 u b t.1 (written_told e.role e.progress e.at e.node e.cell u b t.2)));
       permuted = subst (λ (ts : List (List ℕ)). IsPermutation ts lines) (sym (listing_texts (after (script_list s) n))) p;
     }
 

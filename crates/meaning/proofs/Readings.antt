@@ -1,40 +1,29 @@
 -- What is read off the entries is the script's: whether the rounds are finished, and what is blocked.
-use Rattle.std.proofs.Common.{◌≡◌, ◌⊎◌, inl, inr, ℕ, zero, suc, Bool, true, false, not, List, [], ◌∷◌, map, refl, sym, ap, ◌∙◌, subst}
-use Rattle.std.specs.Prelude.{◌&&◌, nat_eq}
-use Rattle.std.specs.List.{list_any}
-use Rattle.std.proofs.lemmas.Bool.{eqb-true, eq-eqb}
+use Rattle.std.proofs.Common.{◌≡◌, ◌⊎◌, inl, inr, ℕ, zero, suc, true, false, List, [], map, refl, sym, ap, ◌∙◌, subst}
+use Rattle.std.proofs.lemmas.Bool.{eq-eqb}
 use Rattle.dataflow.specs.System.{In}
 use Rattle.values.specs.declared.fault.OpFault.{OpFault}
-use Rattle.values.specs.declared.key.Key.{Key}
-use Rattle.values.specs.declared.value.Scalar.{Scalar}
-use Rattle.values.specs.declared.value.Scalar.TheVariants.{Truth}
 use Rattle.values.specs.declared.value.Value.{Value as AValue}
 use Rattle.values.specs.declared.value.Value.TheVariants.{One}
-use Rattle.values.specs.Values.{text_of}
-use Rattle.syntax_trees.specs.Core.{Cell, Stmt, stmt, Action, Core}
+use Rattle.syntax_trees.specs.Core.{Cell, Stmt, stmt, Core}
 use Rattle.syntax_trees.specs.Facts.{Fault as AFault, operation, Fact, value, element, line, fault}
-use Rattle.syntax_trees.specs.Meaning.{script, in_block, Known, IsFinished}
-use Rattle.syntax_trees.specs.Members.{◌∈◌, first}
-use Rattle.syntax_trees.specs.Outcomes.{OwnFact, Stuck, Blocked, Clean}
-use Rattle.syntax_trees.specs.Parts.{stmt_at, stmt_node, stmt_action, cells, outer_cells}
-use Rattle.syntax_trees.specs.Places.{Path, Place}
-use Rattle.syntax_trees.proofs.Members.{split_in}
-use Rattle.task_code.proofs.Equal.{both_true}
-use Rattle.agreement.specs.Compile.{is_act, declared, script_list}
+use Rattle.syntax_trees.specs.Meaning.{Known, IsFinished}
+use Rattle.syntax_trees.specs.Members.{◌∈◌}
+use Rattle.syntax_trees.specs.Parts.{stmt_at, stmt_action, cells}
+use Rattle.syntax_trees.specs.Places.{Place}
+use Rattle.agreement.specs.Compile.{declared, script_list}
 use Rattle.agreement.specs.Scalars.{OnScalars, declares, assigns, prints, asserts, IsScalars}
 use Rattle.agreement.proofs.Members.{to_in, from_in}
-use Rattle.agreement.proofs.Sources.{stmt_here}
 use Rattle.meaning.specs.declared.knowledge.Entry.{Entry}
 use Rattle.meaning.specs.declared.knowledge.Progress.{Progress}
 use Rattle.meaning.specs.declared.knowledge.Progress.TheVariants.{Open, Value, Fault}
 use Rattle.meaning.specs.declared.knowledge.Role.{Role}
 use Rattle.meaning.specs.declared.knowledge.Role.TheVariants.{Declares, Assigns, Prints, Asserts}
-use Rattle.meaning.specs.Listed.{IsBlockedAt}
-use Rattle.meaning.specs.Reading.{counts, is_blocked, is_fault_in, fails_at}
+use Rattle.meaning.specs.Reading.{is_fault_in}
 use Rattle.meaning.specs.Says.{Told, Tells, Says}
 use Rattle.meaning.specs.Pass.{assigns as assigns_it, role_of, cell_of as cell_node, progress_for, known_of, pass, after, is_open_in, opened}
-use Rattle.meaning.proofs.Growth.{both, told_nothing, step, of_step, step_in, step_grown, changed, counted}
-use Rattle.meaning.proofs.Law.{Works, Exact, exact, value_node, told_works, cell_there, step_role, step_cell, same_node, tells_value, tells_fault, no_element_told, assigned_in}
+use Rattle.meaning.proofs.Growth.{told_nothing, step, of_step, step_in, step_grown, changed, counted}
+use Rattle.meaning.proofs.Law.{Works, exact, value_node, told_works, cell_there, step_role, step_cell, tells_value, tells_fault, assigned_in}
 
 pub after_steps : (sts : List Stmt) (n : ℕ) → after sts n ≡ map (step sts n) sts
 after_steps sts zero = refl
@@ -63,6 +52,7 @@ fault_place h = (ap at_in h, ap node_in h)
     at_in (element a k w v) = 0
     at_in (line w b) = 0
     at_in (fault x at p) = at
+
     node_in : Fact → ℕ
     node_in (value p v) = 0
     node_in (element a k w v) = 0
@@ -146,12 +136,12 @@ module _ (s : Core) (w : IsScalars s) where
         let r = of_step (script_list s) n t.0 t.1 in
         elim (told_cell e.role e.progress e.at e.node e.cell c.node v t.2) [
           | inl q ↦ (
-            let same = same_cell st c r.0 t.0 i m r.1 r.2 (value ([], c.node) v) t.2 q in
-            open_tells st t.0 (ap (step (script_list s) n) (sym same) ∙ r.2) o (value ([], c.node) v) t.2)
+              let same = same_cell st c r.0 t.0 i m r.1 r.2 (value ([], c.node) v) t.2 q in
+              open_tells st t.0 (ap (step (script_list s) n) (sym same) ∙ r.2) o (value ([], c.node) v) t.2)
           | inr q ↦ (
-            let role = sym (ap (λ (x : Entry). x.role) r.2) ∙ step_role s w n r.0 in
-            let d = assigned_in s w r.0 c.node r.1 (subst (λ (x : Role). assigns_it x c.node ≡ true) role q) in
-            w.apart st c i m d)
+              let role = sym (ap (λ (x : Entry). x.role) r.2) ∙ step_role s w n r.0 in
+              let d = assigned_in s w r.0 c.node r.1 (subst (λ (x : Role). assigns_it x c.node ≡ true) role q) in
+              w.apart st c i m d)
         ]
 
     pub no_fault_at : (st : Stmt) (c : Cell) → st ∈ script_list s → c ∈ cells st → (step (script_list s) n st).progress ≡ Open → (f : AFault) (at : ℕ) → Known s n (fault f at ([], c.node)) → ⊥
@@ -206,8 +196,8 @@ module _ (s : Core) (w : IsScalars s) where
         let b = after_steps sts (suc n) in
         elim (changed (step sts n) (step sts (suc n)) (step_grown sts n) sts) [
           | inl r ↦ (
-            let i = from_in r.0 sts r.1 in
-            let q = ap is_open_in (sym (next_progress r.0)) ∙ r.3 in
-            not_open r.0 (progress_for (after sts n) (stmt_action r.0)) refl q i (works_unless_open r.0 (after sts n) (w.stmts r.0 i) q) r.2 fin)
+              let i = from_in r.0 sts r.1 in
+              let q = ap is_open_in (sym (next_progress r.0)) ∙ r.3 in
+              not_open r.0 (progress_for (after sts n) (stmt_action r.0)) refl q i (works_unless_open r.0 (after sts n) (w.stmts r.0 i) q) r.2 fin)
           | inr r ↦ h (ap opened b ∙ (ap opened r ∙ sym (ap opened a)))
         ]

@@ -1,16 +1,12 @@
 -- The knowledge after its rounds is the script's.
-use Rattle.std.proofs.Common.{◌≡◌, ℕ, Bool, true, false, List, [], ◌∷◌, map, refl, sym, ap, ◌∙◌, subst}
+use Rattle.std.proofs.Common.{◌≡◌, ℕ, true, false, List, [], ◌∷◌, map, refl, sym, ap, ◌∙◌, subst}
 use Rattle.std.specs.Prelude.{nat_eq, IsPermutation}
 use Rattle.std.proofs.lemmas.Bool.{eqb-true, eq-eqb}
 use Rattle.syntax_trees.specs.Core.{Stmt, Core}
 use Rattle.syntax_trees.specs.Parts.{block_list}
 use Rattle.flow.specs.declared.statement.Flow.{Flow}
-use Rattle.flow.specs.View.{core_of, statement_view}
-use Rattle.agreement.specs.Lowered.{block_of}
-use Rattle.syntax_trees.specs.Facts.{Fact}
-use Rattle.syntax_trees.specs.Meaning.{Known, IsFinished}
-use Rattle.syntax_trees.specs.Outcomes.{Blocked, Lines}
-use Rattle.syntax_trees.specs.Places.{Path}
+use Rattle.flow.specs.View.{block_of, core_of, statement_view}
+use Rattle.syntax_trees.specs.Meaning.{IsFinished}
 use Rattle.agreement.specs.Compile.{script_list}
 use Rattle.agreement.specs.Scalars.{IsScalars}
 use Rattle.meaning.specs.declared.knowledge.Entry.{Entry}
@@ -22,7 +18,7 @@ use Rattle.meaning.specs.Pass.{IsAfter}
 use Rattle.meaning.specs.Reading.{printed}
 use Rattle.meaning.specs.Says.{Says}
 use Rattle.meaning.proofs.Blocked.{blocked_here, blocked_all}
-use Rattle.meaning.proofs.Law.{Exact, exact}
+use Rattle.meaning.proofs.Law.{exact}
 use Rattle.meaning.proofs.Printed.{lines_known, clean}
 use Rattle.meaning.proofs.Readings.{is_finished, is_unfinished}
 
@@ -38,7 +34,7 @@ knowledge_of s w k h =
     let n = k.rounds in
     let e : after (script_list s) k.rounds ≡ k.entries.items = sym h.0 in
     let count : nat_eq (opened (pass (script_list s) (after (script_list s) k.rounds))) (opened (after (script_list s) k.rounds)) ≡ k.finished
-        = ap (λ (es : List Entry). nat_eq (opened (pass (script_list s) es)) (opened es)) e ∙ sym h.1 in
+    = ap (λ (es : List Entry). nat_eq (opened (pass (script_list s) es)) (opened es)) e ∙ sym h.1 in
     record {
       complete = λ f x. subst (λ (es : List Entry). Says es f) e ((exact s w k.rounds).complete f x);
       sound = λ f x. (exact s w k.rounds).sound f (subst (λ (es : List Entry). Says es f) h.0 x);

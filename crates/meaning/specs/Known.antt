@@ -1,5 +1,5 @@
 -- What the knowledge after some rounds owes to the script.
-use Rattle.std.specs.Prelude.{◌≡◌, ℕ, Bool, true, false, List, [], IsPermutation}
+use Rattle.std.specs.Prelude.{◌≡◌, ℕ, true, false, List, [], IsPermutation}
 use Rattle.syntax_trees.specs.Core.{Core}
 use Rattle.syntax_trees.specs.Facts.{Fact}
 use Rattle.syntax_trees.specs.Meaning.{Known, IsFinished}

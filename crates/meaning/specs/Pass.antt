@@ -7,7 +7,7 @@ use Rattle.values.specs.declared.value.Value.{Value as AValue}
 use Rattle.values.specs.declared.value.Value.TheVariants.{One}
 use Rattle.values.specs.Operators.{evaluated}
 use Rattle.values.specs.Values.{scalar_of}
-use Rattle.syntax_trees.specs.Core.{Expr, Exprs, literal, name, whole, operator, none, also, Stmt, stmt, Action, declare, assign, print, assert}
+use Rattle.syntax_trees.specs.Core.{Expr, Exprs, literal, name, whole, operator, none, also, Stmt, stmt, Action, assign, print, assert}
 use Rattle.agreement.specs.Compile.{node_of, action_expr}
 use Rattle.meaning.specs.declared.knowledge.Entry.{Entry}
 use Rattle.meaning.specs.declared.knowledge.Knowledge.{Knowledge}

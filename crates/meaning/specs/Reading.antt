@@ -5,9 +5,9 @@ use Rattle.values.specs.declared.value.Value.TheVariants.{One}
 use Rattle.values.specs.Values.{text_of}
 use Rattle.meaning.specs.declared.knowledge.Entry.{Entry}
 use Rattle.meaning.specs.declared.knowledge.Progress.{Progress}
-use Rattle.meaning.specs.declared.knowledge.Progress.TheVariants.{Open, Value, Fault}
+use Rattle.meaning.specs.declared.knowledge.Progress.TheVariants.{Value, Fault}
 use Rattle.meaning.specs.declared.knowledge.Role.{Role}
-use Rattle.meaning.specs.declared.knowledge.Role.TheVariants.{Declares, Assigns, Prints, Asserts}
+use Rattle.meaning.specs.declared.knowledge.Role.TheVariants.{Declares, Prints}
 use Rattle.meaning.specs.Pass.{is_open_in}
 
 -- the line of a statement

@@ -4,7 +4,7 @@
 //! enough to be the measure of everything that runs scripts.
 #![tactic(auto)]
 
-pub mod evaluation;
+mod evaluation;
 pub mod knowledge;
 pub mod laws;
 pub mod reading;

@@ -56,9 +56,11 @@ impl Knowledge {
         ensures sorted { IfOk result (λ lines. IsSorted (slice_cmp nat_cmp) lines.items) }
     {
         let mut lines = self.lines()?;
-        lines.sort_by(|a, b| ensures { result ≡ slice_cmp nat_cmp a.now b.now } {
-            a.as_bytes().cmp(b.as_bytes())
-        })?;
+        lines.sort_by(
+            |a, b|
+                ensures { result ≡ slice_cmp nat_cmp a.now b.now }
+            { a.as_bytes().cmp(b.as_bytes()) },
+        )?;
         Ok(lines)
     }
 

@@ -1,3 +1,13 @@
+pub mod Accepted
+pub mod Checked
+pub mod Complete
+pub mod Numbered
+pub mod Passes
 pub mod Rest
+pub mod Rising
 pub mod Settling
+pub mod Sight
+pub mod Stated
+pub mod Steps
+pub mod Table
 pub mod Typing

@@ -96,6 +96,10 @@ given_or (Some c) at settled = got c settled
 abbrev pub given_by : Operator → Base → Span → Check Base
 given_by o b before = given_or (gives o b) before
 
+-- and gives the type that is wanted
+abbrev pub takes : Operator → Base → Base → Span → Check (Unit {0})
+takes o b c before settled = given_by o b before settled >>= λ d. has_base d c before
+
 abbrev pub first_given : List Operator → Base → Span → Check Base
 first_given [] b at settled = refused (Mismatch at)
 first_given (o ∷ os) b at settled = given_by o b at settled
@@ -208,7 +212,7 @@ unfoldable mutual
   further fs g no_expressions (o ∷ os) b c before settled = refused (Mismatch before)
   further fs g (and_expression e es) [] b c before settled = refused (Mismatch before)
   further fs g (and_expression e es) (o ∷ os) b c before settled =
-      (given_by o b before settled >>= λ d. has_base d c before) >>= λ u s. expected fs g e b s >>= λ u. further fs g es os b c (first_of e)
+      takes o b c before settled >>= λ u s. expected fs g e b s >>= λ u. further fs g es os b c (first_of e)
 
   -- expressions of a type that is wanted, or of any
   pub elements : List Signature → Around → Expressions → Option Base → Check (Unit {0})

@@ -2,5 +2,9 @@ pub mod Outcomes
 pub mod Known
 pub mod Names
 pub mod Expressions
+pub mod Statements
+pub mod Scripts
 pub mod Typed
 pub mod Agrees
+pub mod Rising
+pub mod Accepted

@@ -1,8 +1,9 @@
 -- The table that a checked script gives.
-use Rattle.std.specs.Prelude.{ℕ, List, Option, Some, None, slice_get}
+use Rattle.std.specs.Prelude.{ℕ, List, [], ◌∷◌, Option, Some, None, slice_get, cond, nat_eq}
 use Rattle.types.specs.declared.typed.Typed as typed
 use Rattle.types.specs.declared.typed.Meaning.{Meaning}
 use Rattle.types.specs.declared.typed.Meaning.TheVariants.{Nothing, Variable, Called}
+use Rattle.types.specs.declared.typed.Settled.{Settled}
 use Rattle.types.specs.declared.typed.Reference.{Reference}
 use Rattle.types.specs.declared.typed.Owned.{Owned}
 use Rattle.types.specs.declared.typed.Owned.TheVariants.{Local, Input, Output}
@@ -64,3 +65,16 @@ table_of t = record {
   shape_of = λ n. shape_in (slice_get t.meanings.items n);
   callee_of = λ n. callee_in (slice_get t.meanings.items n);
 }
+
+-- the meaning at a number, nothing where there is none
+abbrev pub or_nothing : Option Meaning → Meaning
+or_nothing None = Nothing
+or_nothing (Some m) = m
+
+abbrev pub meaning_at : typed.Typed → ℕ → Meaning
+meaning_at t n = or_nothing (slice_get t.meanings.items n)
+
+-- what was settled last of a number, or the meaning that is given
+abbrev pub settled_at : List Settled → ℕ → Meaning → Meaning
+settled_at [] n m = m
+settled_at (s ∷ ss) n m = settled_at ss n (cond (nat_eq s.number n) s.meaning m)

@@ -59,16 +59,20 @@ pub fn elements_of(found: VariableType, at: Span) -> Result<Base, TypeFault>
 }
 
 /// The type of an expression that may be an array's name, or a call that gives an array.
+#[tactic(auto, unfolding(crate::specs::Expressions::whole))]
 #[cycle(expr)]
 pub fn whole<A: Allocator>(
     functions: &[Signature],
     scope: &Scope,
     settled: &mut Vec<Settled>,
     value: &Expr<A>,
-) -> Result<VariableType, TypeFault> {
+) -> Result<VariableType, TypeFault>
+    ensures { Gives type_of result settled.new.items (checks.whole (map signature_of functions.now) (around_of scope.now) (expression_view value.now) settled.old.items) }
+{
     form(functions, scope, settled, &value.kind, value.first)
 }
 
+#[tactic(auto, unfolding(crate::specs::Expressions::whole_form))]
 #[cycle(expr)]
 fn form<A: Allocator>(
     functions: &[Signature],
@@ -76,7 +80,9 @@ fn form<A: Allocator>(
     settled: &mut Vec<Settled>,
     kind: &ExprKind<A>,
     at: Span,
-) -> Result<VariableType, TypeFault> {
+) -> Result<VariableType, TypeFault>
+    ensures { Gives type_of result settled.new.items (checks.whole_form (map signature_of functions.now) (around_of scope.now) (form_view kind.now) at settled.old.items) }
+{
     match kind {
         ExprKind::Number(_) => Ok(one_of(Base::Int)),
         ExprKind::Text(_) => Ok(one_of(Base::Text)),
@@ -101,19 +107,23 @@ fn form<A: Allocator>(
 }
 
 /// The type of an expression that is a scalar.
+#[tactic(auto, unfolding(crate::specs::Expressions::typed, crate::specs::Expressions::whole))]
 #[cycle(expr)]
 pub fn expr<A: Allocator>(
     functions: &[Signature],
     scope: &Scope,
     settled: &mut Vec<Settled>,
     value: &Expr<A>,
-) -> Result<Base, TypeFault> {
+) -> Result<Base, TypeFault>
+    ensures { Gives (λ b. b) result settled.new.items (checks.typed (map signature_of functions.now) (around_of scope.now) (expression_view value.now) settled.old.items) }
+{
     let found = whole(functions, scope, settled, value)?;
     let base = scalar(found, value.first)?;
     Ok(base)
 }
 
 /// An expression of a type that is wanted.
+#[tactic(auto, unfolding(crate::specs::Expressions::expected, crate::specs::Expressions::typed))]
 #[cycle(expr)]
 pub fn expect<A: Allocator>(
     functions: &[Signature],
@@ -121,13 +131,16 @@ pub fn expect<A: Allocator>(
     settled: &mut Vec<Settled>,
     value: &Expr<A>,
     wanted: Base,
-) -> Result<(), TypeFault> {
+) -> Result<(), TypeFault>
+    ensures { Gives (λ _. tt) result settled.new.items (checks.expected (map signature_of functions.now) (around_of scope.now) (expression_view value.now) wanted settled.old.items) }
+{
     let found = expr(functions, scope, settled, value)?;
     same_base(found, wanted, value.first)?;
     Ok(())
 }
 
 /// A chain: each operand has the type of the first one, and each operator takes it.
+#[tactic(auto, unfolding(crate::specs::Expressions::chained))]
 #[cycle(expr)]
 fn chain<A: Allocator>(
     functions: &[Signature],
@@ -136,7 +149,9 @@ fn chain<A: Allocator>(
     operators: &Vec<Operator, A>,
     operands: &Vec<Expr<A>, A>,
     at: Span,
-) -> Result<Base, TypeFault> {
+) -> Result<Base, TypeFault>
+    ensures { Gives (λ b. b) result settled.new.items (checks.chained (map signature_of functions.now) (around_of scope.now) (expressions_of (map expression_view operands.now.items)) operators.now.items at settled.old.items) }
+{
     let Some(first) = operands.first() else {
         return Err(TypeFault::Mismatch(at));
     };
@@ -146,8 +161,9 @@ fn chain<A: Allocator>(
         functions,
         scope,
         settled,
-        operators,
+        operators.as_slice(),
         operands,
+        1,
         base,
         given,
         first.first,
@@ -175,35 +191,48 @@ fn given_by(operator: Operator, base: Base, before: Span) -> Result<Base, TypeFa
     }
 }
 
-/// The operators of a chain with the operands behind them, of which the first one is not checked again.
+/// The operators of a chain with the operands behind them, from a place on.
+#[tactic(auto, unfolding(crate::specs::Expressions::further))]
 #[cycle(expr)]
 fn further<A: Allocator>(
     functions: &[Signature],
     scope: &Scope,
     settled: &mut Vec<Settled>,
-    operators: &Vec<Operator, A>,
+    operators: &[Operator],
     operands: &Vec<Expr<A>, A>,
+    from: usize,
     base: Base,
     given: Base,
     at: Span,
-) -> Result<(), TypeFault> {
+) -> Result<(), TypeFault>
+    ensures { Gives (λ _. tt) result settled.new.items (checks.further (map signature_of functions.now) (around_of scope.now) (expressions_of (map expression_view (drop from operands.now.items))) operators.now base given at settled.old.items) }
+{
     let mut before = at;
-    for i in 1..operands.len() {
-        let Some(operator) = operators.get(i - 1) else {
+    for i in from..operands.len() {
+        let Some(operator) = operators.get(i - from) else {
             return Err(TypeFault::Mismatch(before));
         };
-        same_base(given_by(*operator, base, before)?, given, before)?;
+        takes(*operator, base, given, before)?;
         let operand = &operands[i];
         expect(functions, scope, settled, operand, base)?;
         before = operand.first;
     }
-    if operators.len() > operands.len().saturating_sub(1) {
+    if operators.len() > operands.len().saturating_sub(from) {
         return Err(TypeFault::Mismatch(before));
     }
     Ok(())
 }
 
+/// Refuses an operator that does not take its operands, or that gives another type than the first one of its chain.
+fn takes(operator: Operator, base: Base, given: Base, before: Span) -> Result<(), TypeFault>
+    ensures { Judges (λ _. tt) result (checks.takes operator base given before) }
+{
+    let found = given_by(operator, base, before)?;
+    same_base(found, given, before)
+}
+
 /// The type of the one output of a call.
+#[tactic(auto, unfolding(crate::specs::Expressions::whole_form))]
 #[cycle(expr)]
 fn call<A: Allocator>(
     functions: &[Signature],
@@ -212,7 +241,9 @@ fn call<A: Allocator>(
     name: &Name<A>,
     given: &Vec<Expr<A>, A>,
     at: Span,
-) -> Result<VariableType, TypeFault> {
+) -> Result<VariableType, TypeFault>
+    ensures { Gives type_of result settled.new.items (checks.whole_form (map signature_of functions.now) (around_of scope.now) (trees.call (word_of name.now) (expressions_of (map expression_view given.now.items))) at settled.old.items) }
+{
     match builtin_of(name.text.as_slice()) {
         Some(builtin) => {
             called(settled, name, Callee::BuiltIn(builtin))?;
@@ -255,7 +286,9 @@ pub fn builtin_call<A: Allocator>(
     builtin: Builtin,
     given: &Vec<Expr<A>, A>,
     at: Span,
-) -> Result<Base, TypeFault> {
+) -> Result<Base, TypeFault>
+    ensures { Gives (λ b. b) result settled.new.items (checks.builtin_type (map signature_of functions.now) (around_of scope.now) builtin (expressions_of (map expression_view given.now.items)) at settled.old.items) }
+{
     match builtin {
         Builtin::Strcat => {
             let _first = first_argument(given.as_slice(), at)?;
@@ -270,6 +303,7 @@ pub fn builtin_call<A: Allocator>(
 }
 
 /// A built-in function with its one argument.
+#[tactic(auto, unfolding(crate::specs::Expressions::only))]
 #[cycle(expr)]
 fn only<A: Allocator>(
     functions: &[Signature],
@@ -278,7 +312,9 @@ fn only<A: Allocator>(
     builtin: Builtin,
     given: &Vec<Expr<A>, A>,
     at: Span,
-) -> Result<Base, TypeFault> {
+) -> Result<Base, TypeFault>
+    ensures { Gives (λ b. b) result settled.new.items (checks.only (map signature_of functions.now) (around_of scope.now) (expressions_of (map expression_view given.now.items)) builtin at settled.old.items) }
+{
     if given.len() != 1 {
         return Err(TypeFault::WrongCount(at));
     }
@@ -327,6 +363,7 @@ pub fn first_argument<A: Allocator>(given: &[Expr<A>], at: Span) -> Result<&Expr
 }
 
 /// Arguments from a place on, of these types, one for each input.
+#[tactic(auto, unfolding(crate::specs::Expressions::arguments))]
 #[cycle(expr)]
 pub fn arguments<A: Allocator>(
     functions: &[Signature],
@@ -336,7 +373,9 @@ pub fn arguments<A: Allocator>(
     from: usize,
     inputs: &[VariableType],
     at: Span,
-) -> Result<(), TypeFault> {
+) -> Result<(), TypeFault>
+    ensures { Gives (λ _. tt) result settled.new.items (checks.arguments (map signature_of functions.now) (around_of scope.now) (expressions_of (map expression_view (drop from given.now.items))) (map type_of inputs.now) at settled.old.items) }
+{
     for i in from..given.len() {
         let Some(input) = inputs.get(i - from) else {
             return Err(TypeFault::WrongCount(at));
@@ -374,6 +413,7 @@ fn array_name<A: Allocator>(found: VariableType, value: &Expr<A>) -> Result<Base
 }
 
 /// Expressions that all have the wanted type, or any where none is wanted.
+#[tactic(auto, unfolding(crate::specs::Expressions::elements))]
 #[cycle(expr)]
 pub fn elements<A: Allocator>(
     functions: &[Signature],
@@ -381,12 +421,23 @@ pub fn elements<A: Allocator>(
     settled: &mut Vec<Settled>,
     values: &Vec<Expr<A>, A>,
     wanted: Option<Base>,
-) -> Result<(), TypeFault> {
-    for value in values {
+) -> Result<(), TypeFault>
+    ensures { Gives (λ _. tt) result settled.new.items (checks.elements (map signature_of functions.now) (around_of scope.now) (expressions_of (map expression_view values.now.items)) wanted settled.old.items) }
+{
+    for i in 0..values.len() {
+        let value = &values[i];
         let found = expr(functions, scope, settled, value)?;
-        if let Some(base) = wanted {
-            same_base(found, base, value.first)?;
-        }
+        has_wanted(found, wanted, value.first)?;
     }
     Ok(())
+}
+
+/// Refuses a type that is not the wanted one, where one is wanted.
+fn has_wanted(found: Base, wanted: Option<Base>, at: Span) -> Result<(), TypeFault>
+    ensures { Judges (λ _. tt) result (checks.has_wanted found wanted at) }
+{
+    match wanted {
+        Some(base) => same_base(found, base, at),
+        None => Ok(()),
+    }
 }

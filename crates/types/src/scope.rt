@@ -4,7 +4,7 @@ ghost use Rattle.std.specs.Str.{bytes_eq};
 ghost use Rattle.syntax_trees.specs.View.{word_of};
 ghost use Rattle.types.specs.Known.{seen_of, around_of, type_of, nowhere};
 ghost use Rattle.types.specs.Names as checks;
-ghost use Rattle.types.specs.Outcomes.{Gives};
+ghost use Rattle.types.specs.Outcomes.{Gives, Judges};
 
 use crate::fault::TypeFault;
 use crate::typed::{Meaning, Owned, Reference, Settled, VariableType};
@@ -58,7 +58,8 @@ fn find<'a>(scope: &'a Scope, text: &[u8]) -> Option<&'a Known>
 
 /// Refuses a name that is visible already.
 pub fn fresh<A: Allocator>(scope: &Scope, name: &Name<A>) -> Result<(), TypeFault>
-    ensures { MatchResult result (λ _. checks.seen (around_of scope.now).names name.now.text.items ≡ None) (λ fault. (fault ≡ TypeFault.Declared name.now.span) × IsSome (checks.seen (around_of scope.now).names name.now.text.items)) }
+    ensures judges { Judges (λ _. tt) result (checks.fresh (around_of scope.now) (word_of name.now)) }
+    ensures seen { MatchResult result (λ _. checks.seen (around_of scope.now).names name.now.text.items ≡ None) (λ fault. (fault ≡ TypeFault.Declared name.now.span) × IsSome (checks.seen (around_of scope.now).names name.now.text.items)) }
 {
     match find(scope, name.text.as_slice()) {
         Some(_) => Err(TypeFault::Declared(name.span)),

@@ -1,4 +1,9 @@
 //! Statements, each with the scope that it leaves to those behind it.
+ghost use Rattle.std.specs.Prelude.{map, option_map};
+ghost use Rattle.syntax_trees.specs.View.{word_of, expression_view, right_of, list_of, range_of, over_of};
+ghost use Rattle.types.specs.Known.{type_of, around_of, signature_of};
+ghost use Rattle.types.specs.Statements as steps;
+ghost use Rattle.types.specs.Outcomes.{Gives, Judges};
 
 use crate::builtins::{builtin_of, one_of};
 use crate::expressions::{
@@ -6,7 +11,7 @@ use crate::expressions::{
 };
 use crate::fault::TypeFault;
 use crate::functions::{Signature, called, declared, function_called};
-use crate::scope::{Scope, add, declare, fresh, refer};
+use crate::scope::{Scope, add, declare, fresh, refer, same_text};
 use crate::typed::{Builtin, Callee, Owned, Settled, VariableType};
 use lexer::token::Span;
 use std::alloc::{Allocator, Global};
@@ -23,7 +28,9 @@ fn right<A: Allocator>(
     settled: &mut Vec<Settled>,
     right: &Right<A>,
     target: VariableType,
-) -> Result<(), TypeFault> {
+) -> Result<(), TypeFault>
+    ensures { Gives (λ _. tt) result settled.new.items (steps.right (map signature_of functions.now) (around_of scope.now) (right_of right.now) (type_of target) settled.old.items) }
+{
     match right {
         Right::Value(value) => {
             let found = whole(functions, scope, settled, value)?;
@@ -40,7 +47,9 @@ fn literal<A: Allocator>(
     settled: &mut Vec<Settled>,
     list: &ListOf<A>,
     target: VariableType,
-) -> Result<(), TypeFault> {
+) -> Result<(), TypeFault>
+    ensures { Gives (λ _. tt) result settled.new.items (steps.right (map signature_of functions.now) (around_of scope.now) (list_of list.now) (type_of target) settled.old.items) }
+{
     match target.shape {
         Shape::Array => elements(functions, scope, settled, &list.elements, Some(target.base)),
         Shape::Scalar => {
@@ -65,12 +74,15 @@ fn refer_all<A: Allocator>(
 }
 
 /// Refuses outputs that have not the types of their targets.
-fn same_types(found: &[VariableType], wanted: &[VariableType], at: Span) -> Result<(), TypeFault> {
-    for (i, one) in found.iter().enumerate() {
+fn same_types(found: &[VariableType], wanted: &[VariableType], at: Span) -> Result<(), TypeFault>
+    ensures { Judges (λ _. tt) result (steps.same_types (map type_of found.now) (map type_of wanted.now) at) }
+{
+    for i in 0..found.len() {
+        let one = found[i];
         let Some(other) = wanted.get(i) else {
             return Err(TypeFault::WrongCount(at));
         };
-        same_type(*one, *other, at)?;
+        same_type(one, *other, at)?;
     }
     Ok(())
 }
@@ -242,25 +254,43 @@ fn source<A: Allocator>(
     scope: &Scope,
     settled: &mut Vec<Settled>,
     source: &Source<A>,
-) -> Result<Base, TypeFault> {
+) -> Result<Base, TypeFault>
+    ensures { Gives (λ b. b) result settled.new.items (steps.source (map signature_of functions.now) (around_of scope.now) (over_of source.now) settled.old.items) }
+{
     match source {
         Source::Array(name) => elements_of(refer(scope, settled, name)?, name.span),
-        Source::Range(range) => {
-            bounds(functions, scope, settled, range)?;
-            Ok(Base::Int)
+        Source::Range(over) => {
+            let base = range(functions, scope, settled, over)?;
+            Ok(base)
         }
     }
 }
 
-fn bounds<A: Allocator>(
+/// The bounds and the step of a range, which are numbers, as its values are.
+fn range<A: Allocator>(
     functions: &[Signature],
     scope: &Scope,
     settled: &mut Vec<Settled>,
     range: &Range<A>,
-) -> Result<(), TypeFault> {
+) -> Result<Base, TypeFault>
+    ensures { Gives (λ b. b) result settled.new.items (steps.source (map signature_of functions.now) (around_of scope.now) (range_of range.now) settled.old.items) }
+{
     expect(functions, scope, settled, &range.low, Base::Int)?;
     expect(functions, scope, settled, &range.high, Base::Int)?;
-    match &range.step {
+    step(functions, scope, settled, &range.step)?;
+    Ok(Base::Int)
+}
+
+/// The step of a range, where it has one.
+fn step<A: Allocator>(
+    functions: &[Signature],
+    scope: &Scope,
+    settled: &mut Vec<Settled>,
+    step: &Option<Expr<A>>,
+) -> Result<(), TypeFault>
+    ensures { Gives (λ _. tt) result settled.new.items (steps.step_of (map signature_of functions.now) (around_of scope.now) (option_map expression_view step.now) settled.old.items) }
+{
+    match step {
         Some(step) => expect(functions, scope, settled, step, Base::Int),
         None => Ok(()),
     }
@@ -271,13 +301,15 @@ fn fresh_variables<A: Allocator>(
     scope: &Scope,
     value: &Name<A>,
     key: &Option<Name<A>>,
-) -> Result<(), TypeFault> {
+) -> Result<(), TypeFault>
+    ensures { Judges (λ _. tt) result (steps.fresh_variables (around_of scope.now) (word_of value.now) (option_map word_of key.now)) }
+{
     fresh(scope, value)?;
     match key {
         None => Ok(()),
         Some(key) => {
             fresh(scope, key)?;
-            if key.text.as_slice() == value.text.as_slice() {
+            if same_text(key.text.as_slice(), value.text.as_slice()) {
                 return Err(TypeFault::Declared(key.span));
             }
             Ok(())

@@ -1,0 +1,4 @@
+pub mod FlatCode
+pub mod Counts
+pub mod Written
+pub mod Scripts

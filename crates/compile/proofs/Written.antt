@@ -1,0 +1,41 @@
+-- The code of a script that a text reads as.
+use Rattle.std.proofs.Common.{◌≡◌, ℕ, ◌+◌, ◌≤◌, length, List, sym, subst, ap, arith}
+use Rattle.std.specs.Prelude.{◌<◌, ◌^◌}
+use Rattle.syntax_trees.specs.Core.{Core}
+use Rattle.syntax_trees.specs.Reads.{Reads}
+use Rattle.syntax_trees.specs.Resolved.{core}
+use Rattle.syntax_trees.specs.Table.{Table}
+use Rattle.syntax_trees.specs.Tree.{Tree}
+use Rattle.syntax_trees.specs.Numbered.{numbered, tree_size}
+use Rattle.syntax.proofs.Sizes.{numbers_fit}
+use Rattle.task_code.specs.Code.{Code}
+use Rattle.task_code.specs.Whole.{IsCode}
+use Rattle.agreement.specs.Compile.{compiled, script_acts}
+use Rattle.agreement.specs.Headline.{Headline}
+use Rattle.agreement.proofs.Runs.{headline}
+use Rattle.agreement.proofs.Whole.{is_code}
+use Rattle.board.specs.Flat.{IsFlat}
+use Rattle.compile.specs.Compiles.{IsScriptOf, Compiles}
+use Rattle.compile.proofs.FlatCode.{flat}
+use Rattle.compile.proofs.Counts.{few_acts}
+
+-- a text that was read has few statements
+few_read : (src : List ℕ) (tree : Tree) (t : Table) → Reads src tree → length (script_acts (core t tree)) < 4294967296
+few_read src tree t r =
+    let few = numbers_fit src r.tokens r.parsed r.short r.lexed r.is_script in
+    let acts = few_acts t r.parsed in
+    let same : length (script_acts (core t tree)) ≡ length (script_acts (core t (numbered 1 r.parsed))) = ap (λ u. length (script_acts (core t u))) r.is_numbered in
+    omega arith
+
+few_of : (src : List ℕ) (s : Core) → IsScriptOf src s → length (script_acts s) < 4294967296
+few_of src s w = subst (λ (c : Core). length (script_acts c) < 4294967296) w.is (few_read src w.tree w.table w.reads)
+
+pub compiles : (src : List ℕ) (s : Core) (code : Code) → IsScriptOf src s → code ≡ compiled s → Compiles src code
+compiles src s code w same = record {
+  script = s;
+  script_of = w;
+  is = same;
+  whole = subst IsCode (sym same) (is_code s w.scalars);
+  headline = subst (λ c. Headline s c) (sym same) (headline s w.scalars);
+  flat = subst IsFlat (sym same) (flat s w.scalars (few_of src s w));
+}

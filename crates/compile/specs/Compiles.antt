@@ -1,0 +1,71 @@
+-- What it means that a text is a script of this core, that code is that script's, and that a text is refused.
+use Rattle.std.specs.Prelude.{◌≡◌, ℕ, List, [], Some, None}
+use Rattle.lexer.specs.declared.token.Span.{Span}
+use Rattle.syntax_trees.specs.Core.{Core}
+use Rattle.syntax_trees.specs.Reads.{Reads}
+use Rattle.syntax_trees.specs.Resolved.{core}
+use Rattle.syntax_trees.specs.Single.{SinglyAssigned}
+use Rattle.syntax_trees.specs.Table.{Table}
+use Rattle.syntax_trees.specs.Tree.{Tree}
+use Rattle.syntax_trees.specs.Typing.{WellTyped}
+use Rattle.syntax.specs.Refusals.{Refuses}
+use Rattle.task_code.specs.Code.{Code}
+use Rattle.task_code.specs.Whole.{IsCode}
+use Rattle.agreement.specs.Compile.{compiled}
+use Rattle.agreement.specs.Headline.{Headline}
+use Rattle.agreement.specs.Lowered.{lowered}
+use Rattle.agreement.specs.Scalars.{IsScalars}
+use Rattle.lowering.specs.Answers.{stops}
+use Rattle.lowering.specs.declared.fault.LowerFault.TheVariants as Lower
+use Rattle.board.specs.Flat.{IsFlat}
+use Rattle.compile.specs.declared.fault.CompileFault.{CompileFault}
+use Rattle.compile.specs.declared.fault.CompileFault.TheVariants as Fault
+
+-- the text reads as a tree that is well typed and singly assigned, and this is its core, a script of scalars
+pub record IsScriptOf (src : List ℕ) (s : Core) : Type 0 where
+  pub tree : Tree
+  pub table : Table
+  pub reads : Reads src tree
+  pub typed : WellTyped tree table
+  pub is : core table tree ≡ s
+  pub single : SinglyAssigned s
+  pub scalars : IsScalars s
+
+-- the code is that of a script that the text reads as, and every run of it owes to the script what the headline says
+pub record Compiles (src : List ℕ) (code : Code) : Type 0 where
+  pub script : Core
+  pub script_of : IsScriptOf src script
+  pub is : code ≡ compiled script
+  pub whole : IsCode code
+  pub headline : Headline script code
+  pub flat : IsFlat code
+
+-- the text reads as a tree
+abbrev pub IsRead : List ℕ → Type 0
+IsRead src = (tree : Tree) × Reads src tree
+
+-- the text reads as a tree of which nothing is lowered, for the part that begins here
+pub record IsNotYet (src : List ℕ) (at : Span) : Type 0 where
+  pub tree : Tree
+  pub table : Table
+  pub reads : Reads src tree
+  pub stops_at : stops table [] tree ≡ Some at
+  pub none : lowered table [] tree ≡ None
+
+-- the text reads as a tree that is well typed and not singly assigned
+pub record IsTwiceOrNever (src : List ℕ) : Type 0 where
+  pub tree : Tree
+  pub table : Table
+  pub reads : Reads src tree
+  pub typed : WellTyped tree table
+  pub not_single : SinglyAssigned (core table tree) → ⊥
+
+-- why a text is refused, by the first step that refuses it
+abbrev pub IsRefused : List ℕ → CompileFault → Type 0
+IsRefused src (Fault.Parse f) = Refuses src f
+IsRefused src (Fault.Types f) = IsRead src
+IsRefused src (Fault.Lower (Lower.NotYet at)) = IsNotYet src at
+IsRefused src (Fault.Lower (Lower.AssignedTwice at)) = IsTwiceOrNever src
+IsRefused src (Fault.Lower (Lower.NeverAssigned at)) = IsTwiceOrNever src
+IsRefused src (Fault.Lower Lower.Memory) = IsRead src
+IsRefused src Fault.Memory = IsRead src

@@ -1,0 +1,61 @@
+//! From the bytes of a script to its code.
+ghost use Rattle.std.specs.Prelude.{IfOk, IfErr};
+ghost use Rattle.flow.specs.View.{core_of};
+ghost use Rattle.compile.specs.Compiles.{IsScriptOf, Compiles, IsRefused};
+
+use crate::fault::CompileFault;
+use emit::emit;
+use flow::statement::Flow;
+use lowering::lower;
+use std::alloc::{Allocator, Global};
+use syntax::parser::parse;
+use task_code::code::Code;
+
+/// The statements of a script, with their names resolved. Its tree lies in `alloc`.
+///
+/// # Errors
+///
+/// The refusal of the first step that refuses the script, or `Memory`.
+#[tactic(auto, using(crate::proofs::Scripts::script_of, crate::proofs::Scripts::not_single_of))]
+pub fn read<A: Allocator + Clone>(
+    machine: Global,
+    alloc: A,
+    src: &[u8],
+) -> Result<Flow, CompileFault>
+    ensures script { IfOk result (λ flow. IsScriptOf src.now (core_of flow)) }
+    ensures refused { IfErr result (λ fault. IsRefused src.now fault) }
+{
+    let script = match parse(alloc, src) {
+        Ok(script) => script,
+        Err(fault) => return Err(CompileFault::Parse(fault)),
+    };
+    let typed = match types::check(machine, &script) {
+        Ok(typed) => typed,
+        Err(fault) => return Err(CompileFault::Types(fault)),
+    };
+    match lower(machine, &script, &typed) {
+        Ok(flow) => Ok(flow),
+        Err(fault) => Err(CompileFault::Lower(fault)),
+    }
+}
+
+/// The code of a script. Its tree lies in `alloc`, and the code in the machine's memory.
+///
+/// # Errors
+///
+/// The refusal of the first step that refuses the script, or `Memory`.
+#[tactic(auto, using(crate::proofs::Written::compiles))]
+pub fn compile<A: Allocator + Clone>(
+    machine: Global,
+    alloc: A,
+    src: &[u8],
+) -> Result<Code, CompileFault>
+    ensures code { IfOk result (λ code. Compiles src.now code) }
+    ensures refused { IfErr result (λ fault. IsRefused src.now fault) }
+{
+    let flow = read(machine, alloc, src)?;
+    match emit(machine, flow) {
+        Ok(code) => Ok(code),
+        Err(_) => Err(CompileFault::Memory),
+    }
+}

@@ -1,0 +1,216 @@
+-- Steps of the check of expressions, as the code takes them.
+use Rattle.std.proofs.Common.{rules, ◌≡◌, ℕ, ◌-◌, ◌+◌, ◌<◌, ◌≤◌, List, [], ◌∷◌, map, drop, take, length, get_or, refl, sym, ap, ap₂, ◌∙◌, subst, arith}
+use Rattle.std.specs.Prelude.{Option, Some, None, zero, suc}
+use Rattle.std.proofs.lemmas.List.{drop_more, drop_all}
+use Rattle.lexer.specs.declared.token.Span.{Span}
+use Rattle.types.specs.declared.fault.TypeFault.{TypeFault}
+use Rattle.types.specs.declared.fault.TypeFault.TheVariants.{Mismatch, WrongCount}
+use Rattle.types.specs.declared.typed.Settled.{Settled}
+use Rattle.types.specs.declared.typed.Builtin.{Builtin}
+use Rattle.types.specs.declared.typed.Callee.TheVariants.{BuiltIn}
+use Rattle.syntax_trees.specs.declared.tree.Base.{Base}
+use Rattle.syntax_trees.specs.declared.tree.Base.TheVariants.{Text}
+use Rattle.syntax_trees.specs.declared.tree.Operator.{Operator}
+use Rattle.syntax_trees.specs.declared.tree.Expr.{Expr, out-Expr}
+use Rattle.syntax_trees.specs.declared.tree.ExprKind.{the_lemmas}
+use Rattle.syntax_trees.specs.Tree.{Word, Expression, Form, call, Expressions, no_expressions, and_expression, expressions_of}
+use Rattle.syntax_trees.specs.View.{expression_view}
+use Rattle.syntax_trees.specs.Scopes.{Typ, one_of, Signature}
+use Rattle.types.specs.Known.{Around}
+use Rattle.types.specs.Outcomes.{Outcome, refused, got, Check, ◌>>=◌}
+use Rattle.types.specs.Statements.{same_types}
+use Rattle.types.specs.Names.{builtin_of, called, function_called}
+use Rattle.types.specs.Expressions.{first_of, count, takes, expected, first_given, of_one, builtin_by, output_of, either, whole, typed, whole_form, chained, further, elements, arguments, only}
+
+-- LISTS
+
+pub count_view : {X : Type 0} (f : X → Expression) (xs : List X) → count (expressions_of (map f xs)) ≡ length xs
+count_view f [] = refl
+count_view f (x ∷ xs) = ap suc (count_view f xs)
+
+pub view_first : (A : Type 0) → (x : Expr A) → first_of (expression_view x) ≡ (out-Expr A x).first
+view_first A x = search (rules, the_lemmas)
+
+-- the first one and the others
+pub first_list : {X : Type 0} (f : X → Expression) (xs ys : List X) (x : X) → ys ≡ xs → 0 < length ys → x ≡ get_or ys 0 x
+    → expressions_of (map f xs) ≡ and_expression (f x) (expressions_of (map f (drop 1 xs)))
+first_list f xs [] x same below is = absurd (omega arith)
+first_list f xs (y ∷ ys) x same below is =
+    let here : x ≡ y = is in
+    ap (λ (zs : List _). expressions_of (map f zs)) (sym same) ∙ ap (λ z. and_expression (f z) (expressions_of (map f ys))) (sym here)
+    ∙ ap (λ (zs : List _). and_expression (f x) (expressions_of (map f (drop 1 zs)))) same
+
+-- the only one
+pub single_list : {X : Type 0} (f : X → Expression) (xs ys : List X) (x : X) → ys ≡ xs → length xs ≡ 1 → x ≡ get_or ys 0 x
+    → expressions_of (map f xs) ≡ and_expression (f x) no_expressions
+single_list f [] ys x same one is = absurd (omega arith)
+single_list f (z ∷ []) ys x same one is =
+    let here : x ≡ z = is ∙ ap (λ (zs : List _). get_or zs 0 x) same in
+    ap (λ y. and_expression (f y) no_expressions) (sym here)
+single_list f (z ∷ y ∷ zs) ys x same one is = absurd (omega arith)
+
+get_or_any : {X : Type 0} (xs : List X) (i : ℕ) (d e : X) → i < length xs → get_or xs i d ≡ get_or xs i e
+get_or_any [] i d e below = absurd (omega arith)
+get_or_any (x ∷ xs) zero d e below = refl
+get_or_any (x ∷ xs) (suc i) d e below = let fewer : i < length xs = omega arith in get_or_any xs i d e fewer
+
+-- one that is there, and those behind it
+pub some_at : {X : Type 0} (xs : List X) (i : ℕ) → i < length xs → (x : X) × (drop i xs ≡ x ∷ drop (i + 1) xs) × (x ≡ get_or xs i x)
+some_at [] i below = absurd (omega arith)
+some_at (x ∷ xs) i below = (get_or (x ∷ xs) i x, drop_more (x ∷ xs) i x below, get_or_any (x ∷ xs) i x (get_or (x ∷ xs) i x) below)
+
+-- CHAINS
+
+pub chain_first : (fs : List Signature) (g : Around) (all : Expressions) (os : List Operator) (at : Span) (s : List Settled) (e : Expression) (es : Expressions) (y : TypeFault)
+    → all ≡ and_expression e es → typed fs g e s ≡ refused y → chained fs g all os at s ≡ refused y
+unfolding chained
+chain_first fs g all os at s e es y list fails =
+    ap (λ (x : Expressions). chained fs g x os at s) list
+    ∙ ap (λ (o : Outcome Base). o >>= λ b r. first_given os b (first_of e) r >>= λ c r. further fs g es os b c (first_of e) r >>= λ u. got c) fails
+
+-- behind the first operand
+after_first : (fs : List Signature) (g : Around) (all : Expressions) (os : List Operator) (at : Span) (s r : List Settled) (e : Expression) (es : Expressions) (b : Base) (sp : Span)
+    → all ≡ and_expression e es → typed fs g e s ≡ got b r → first_of e ≡ sp
+    → chained fs g all os at s ≡ (first_given os b sp r >>= λ c r. further fs g es os b c sp r >>= λ u. got c)
+unfolding chained
+after_first fs g all os at s r e es b sp list has is =
+    ap (λ (x : Expressions). chained fs g x os at s) list
+    ∙ ap (λ (o : Outcome Base). o >>= λ b r. first_given os b (first_of e) r >>= λ c r. further fs g es os b c (first_of e) r >>= λ u. got c) has
+    ∙ ap (λ (q : Span). first_given os b q r >>= λ c r. further fs g es os b c q r >>= λ u. got c) is
+
+pub chain_given : (fs : List Signature) (g : Around) (all : Expressions) (os : List Operator) (at : Span) (s : List Settled) (r : List Settled) (e : Expression) (es : Expressions) (b : Base) (sp : Span) (ps : List Operator) (y : TypeFault)
+    → all ≡ and_expression e es → typed fs g e s ≡ got b r → first_of e ≡ sp → ps ≡ os → first_given ps b sp r ≡ refused y → chained fs g all os at s ≡ refused y
+chain_given fs g all os at s r e es b sp ps y list has is same fails =
+    after_first fs g all os at s r e es b sp list has is
+    ∙ ap (λ (o : Outcome Base). o >>= λ c r. further fs g es os b c sp r >>= λ u. got c) (ap (λ (x : List Operator). first_given x b sp r) (sym same) ∙ fails)
+
+pub chain_rest : (fs : List Signature) (g : Around) (all : Expressions) (os : List Operator) (at : Span) (s : List Settled) (r : List Settled) (e : Expression) (es : Expressions) (b c : Base) (sp : Span) (ps qs : List Operator) (y : TypeFault)
+    → all ≡ and_expression e es → typed fs g e s ≡ got b r → first_of e ≡ sp → ps ≡ os → first_given ps b sp r ≡ got c r → qs ≡ os → further fs g es qs b c sp r ≡ refused y
+    → chained fs g all os at s ≡ refused y
+chain_rest fs g all os at s r e es b c sp ps qs y list has is same gives alike fails =
+    after_first fs g all os at s r e es b sp list has is
+    ∙ ap (λ (o : Outcome Base). o >>= λ c r. further fs g es os b c sp r >>= λ u. got c) (ap (λ (x : List Operator). first_given x b sp r) (sym same) ∙ gives)
+    ∙ ap (λ (o : Outcome (Unit {0})). o >>= λ u. got c) (ap (λ (x : List Operator). further fs g es x b c sp r) (sym alike) ∙ fails)
+
+pub chain_all : (fs : List Signature) (g : Around) (all : Expressions) (os : List Operator) (at : Span) (s : List Settled) (r r' : List Settled) (e : Expression) (es : Expressions) (b c : Base) (sp : Span) (ps qs : List Operator)
+    → all ≡ and_expression e es → typed fs g e s ≡ got b r → first_of e ≡ sp → ps ≡ os → first_given ps b sp r ≡ got c r → qs ≡ os → further fs g es qs b c sp r ≡ got (tt {0}) r'
+    → chained fs g all os at s ≡ got c r'
+chain_all fs g all os at s r r' e es b c sp ps qs list has is same gives alike rest =
+    after_first fs g all os at s r e es b sp list has is
+    ∙ ap (λ (o : Outcome Base). o >>= λ c r. further fs g es os b c sp r >>= λ u. got c) (ap (λ (x : List Operator). first_given x b sp r) (sym same) ∙ gives)
+    ∙ ap (λ (o : Outcome (Unit {0})). o >>= λ u. got c) (ap (λ (x : List Operator). further fs g es x b c sp r) (sym alike) ∙ rest)
+
+-- CALLS
+
+call_none : (fs : List Signature) (g : Around) (w : Word) (es : Expressions) (at : Span) (s : List Settled) (n : ℕ) → builtin_of w.text ≡ None → count es ≡ n
+    → whole_form fs g (call w es) at s ≡ (function_called fs w n 1 s >>= λ f s. arguments fs g es f.inputs w.span s >>= λ u. output_of f.outputs w.span)
+unfolding whole_form
+call_none fs g w es at s n none many =
+    ap (λ (o : Option Builtin). either o (λ f. (called w (BuiltIn f) s >>= λ u. builtin_by f es (elements fs g es (Some Text)) (only fs g es f w.span) w.span) >>= λ b. got (one_of b))
+    (function_called fs w (count es) 1 s >>= λ f s. arguments fs g es f.inputs w.span s >>= λ u. output_of f.outputs w.span)) none
+    ∙ ap (λ (k : ℕ). function_called fs w k 1 s >>= λ f s. arguments fs g es f.inputs w.span s >>= λ u. output_of f.outputs w.span) many
+
+pub call_unknown : (fs : List Signature) (g : Around) (w : Word) (es : Expressions) (at : Span) (s : List Settled) (n : ℕ) (y : TypeFault) → builtin_of w.text ≡ None → count es ≡ n
+    → function_called fs w n 1 s ≡ refused y → whole_form fs g (call w es) at s ≡ refused y
+call_unknown fs g w es at s n y none many fails =
+    call_none fs g w es at s n none many ∙ ap (λ (o : Outcome Signature). o >>= λ f s. arguments fs g es f.inputs w.span s >>= λ u. output_of f.outputs w.span) fails
+
+pub call_refused : (fs : List Signature) (g : Around) (w : Word) (es : Expressions) (at : Span) (s : List Settled) (n : ℕ) (y : TypeFault) (σ : Signature) (τs : List Typ) (r : List Settled) → builtin_of w.text ≡ None → count es ≡ n
+    → function_called fs w n 1 s ≡ got σ r → τs ≡ σ.inputs → arguments fs g es τs w.span r ≡ refused y → whole_form fs g (call w es) at s ≡ refused y
+call_refused fs g w es at s n y σ τs r none many is same fails =
+    call_none fs g w es at s n none many ∙ ap (λ (o : Outcome Signature). o >>= λ f s. arguments fs g es f.inputs w.span s >>= λ u. output_of f.outputs w.span) is
+    ∙ ap (λ (o : Outcome (Unit {0})). o >>= λ u. output_of σ.outputs w.span) (ap (λ (x : List Typ). arguments fs g es x w.span r) (sym same) ∙ fails)
+
+pub call_gives : (fs : List Signature) (g : Around) (w : Word) (es : Expressions) (at : Span) (s : List Settled) (n : ℕ) (τ : Typ) (σ : Signature) (τs σs : List Typ) (r r' : List Settled) → builtin_of w.text ≡ None → count es ≡ n
+    → function_called fs w n 1 s ≡ got σ r → τs ≡ σ.inputs → arguments fs g es τs w.span r ≡ got (tt {0}) r' → σs ≡ σ.outputs → output_of σs w.span r' ≡ got τ r' → whole_form fs g (call w es) at s ≡ got τ r'
+call_gives fs g w es at s n τ σ τs σs r r' none many is same given alike gives =
+    call_none fs g w es at s n none many ∙ ap (λ (o : Outcome Signature). o >>= λ f s. arguments fs g es f.inputs w.span s >>= λ u. output_of f.outputs w.span) is
+    ∙ ap (λ (o : Outcome (Unit {0})). o >>= λ u. output_of σ.outputs w.span) (ap (λ (x : List Typ). arguments fs g es x w.span r) (sym same) ∙ given)
+    ∙ ap (λ (x : List Typ). output_of x w.span r') (sym alike) ∙ gives
+
+-- ONE ARGUMENT
+
+pub only_many : (fs : List Signature) (g : Around) (f : Builtin) (at : Span) (s : List Settled) (es : Expressions) (n : ℕ) → count es ≡ n → ¬ (n ≡ 1) → only fs g es f at s ≡ refused (WrongCount at)
+unfolding only
+only_many fs g f at s no_expressions n many other = refl
+only_many fs g f at s (and_expression e no_expressions) n many other = absurd (other (sym many))
+only_many fs g f at s (and_expression e (and_expression d es)) n many other = refl
+
+pub only_fails : (fs : List Signature) (g : Around) (all : Expressions) (f : Builtin) (at : Span) (s : List Settled) (e : Expression) (y : TypeFault)
+    → all ≡ and_expression e no_expressions → whole fs g e s ≡ refused y → only fs g all f at s ≡ refused y
+unfolding only
+only_fails fs g all f at s e y list fails = ap (λ (x : Expressions). only fs g x f at s) list ∙ ap (λ (o : Outcome Typ). o >>= λ τ. of_one f τ e at) fails
+
+pub only_then : (fs : List Signature) (g : Around) (all : Expressions) (f : Builtin) (at : Span) (s : List Settled) (e : Expression) (τ : Typ) (r : List Settled) (o : Outcome Base)
+    → all ≡ and_expression e no_expressions → whole fs g e s ≡ got τ r → of_one f τ e at r ≡ o → only fs g all f at s ≡ o
+unfolding only
+only_then fs g all f at s e τ r o list has is = ap (λ (x : Expressions). only fs g x f at s) list ∙ ap (λ (o : Outcome Typ). o >>= λ τ. of_one f τ e at) has ∙ is
+
+-- MANY ARGUMENTS AND OPERANDS
+
+pub arguments_few : {X Y : Type 0} (fs : List Signature) (g : Around) (at : Span) (s : List Settled) (f : X → Expression) (h : Y → Typ) (xs : List X) (ys : List Y) (i j : ℕ) → i < length xs → length ys ≤ j
+    → arguments fs g (expressions_of (map f (drop i xs))) (map h (drop j ys)) at s ≡ refused (WrongCount at)
+unfolding arguments
+arguments_few fs g at s f h xs ys i j below past =
+    let it = some_at xs i below in
+    ap₂ (λ (zs : List _) (us : List _). arguments fs g (expressions_of (map f zs)) (map h us) at s) it.1 (drop_all j ys past)
+
+pub further_few : {X : Type 0} (fs : List Signature) (g : Around) (b c : Base) (before : Span) (s : List Settled) (f : X → Expression) (xs : List X) (os : List Operator) (i j : ℕ) → i < length xs → length os ≤ j
+    → further fs g (expressions_of (map f (drop i xs))) (drop j os) b c before s ≡ refused (Mismatch before)
+unfolding further
+further_few fs g b c before s f xs os i j below past =
+    let it = some_at xs i below in
+    ap₂ (λ (zs : List _) (us : List Operator). further fs g (expressions_of (map f zs)) us b c before s) it.1 (drop_all j os past)
+
+pub further_left : {X : Type 0} (fs : List Signature) (g : Around) (b c : Base) (before : Span) (s : List Settled) (f : X → Expression) (xs : List X) (os : List Operator) (i j : ℕ) → length xs ≤ i → j < length os
+    → further fs g (expressions_of (map f (drop i xs))) (drop j os) b c before s ≡ refused (Mismatch before)
+unfolding further
+further_left fs g b c before s f xs os i j past below =
+    let it = some_at os j below in
+    ap₂ (λ (zs : List _) (us : List Operator). further fs g (expressions_of (map f zs)) us b c before s) (drop_all i xs past) it.1
+
+pub further_done : {X : Type 0} (fs : List Signature) (g : Around) (b c : Base) (before : Span) (s : List Settled) (f : X → Expression) (xs : List X) (os : List Operator) (i j : ℕ) → length xs ≤ i → length os ≤ j
+    → further fs g (expressions_of (map f (drop i xs))) (drop j os) b c before s ≡ got (tt {0}) s
+unfolding further
+further_done fs g b c before s f xs os i j past none =
+    ap₂ (λ (zs : List _) (us : List Operator). further fs g (expressions_of (map f zs)) us b c before s) (drop_all i xs past) (drop_all j os none)
+
+-- the operand at a place, behind the operator at another
+further_now : {X : Type 0} (fs : List Signature) (g : Around) (b c : Base) (before : Span) (s : List Settled) (f : X → Expression) (xs : List X) (os : List Operator) (i j : ℕ) (x : X) (o : Operator)
+    → i < length xs → x ≡ get_or xs i x → j < length os → o ≡ get_or os j o
+    → further fs g (expressions_of (map f (drop i xs))) (drop j os) b c before s
+    ≡ (takes o b c before s >>= λ u s. expected fs g (f x) b s >>= λ u. further fs g (expressions_of (map f (drop (i + 1) xs))) (drop (j + 1) os) b c (first_of (f x)))
+unfolding further
+further_now fs g b c before s f xs os i j x o below is under sign =
+    ap₂ (λ (zs : List _) (us : List Operator). further fs g (expressions_of (map f zs)) us b c before s)
+    (drop_more xs i x below ∙ ap (λ z. z ∷ drop (i + 1) xs) (sym is)) (drop_more os j o under ∙ ap (λ z. z ∷ drop (j + 1) os) (sym sign))
+
+pub further_untaken : {X : Type 0} (fs : List Signature) (g : Around) (b c : Base) (before : Span) (s : List Settled) (f : X → Expression) (xs : List X) (os : List Operator) (i j : ℕ) (x : X) (o : Operator) (y : TypeFault)
+    → i < length xs → x ≡ get_or xs i x → j < length os → o ≡ get_or os j o → takes o b c before s ≡ refused y
+    → further fs g (expressions_of (map f (drop i xs))) (drop j os) b c before s ≡ refused y
+further_untaken fs g b c before s f xs os i j x o y below is under sign fails =
+    further_now fs g b c before s f xs os i j x o below is under sign
+    ∙ ap (λ (v : Outcome (Unit {0})). v >>= λ u s. expected fs g (f x) b s >>= λ u. further fs g (expressions_of (map f (drop (i + 1) xs))) (drop (j + 1) os) b c (first_of (f x))) fails
+
+pub further_unlike : {X : Type 0} (fs : List Signature) (g : Around) (b c : Base) (before : Span) (s : List Settled) (f : X → Expression) (xs : List X) (os : List Operator) (i j : ℕ) (x : X) (o : Operator) (y : TypeFault)
+    → i < length xs → x ≡ get_or xs i x → j < length os → o ≡ get_or os j o → takes o b c before s ≡ got (tt {0}) s → expected fs g (f x) b s ≡ refused y
+    → further fs g (expressions_of (map f (drop i xs))) (drop j os) b c before s ≡ refused y
+further_unlike fs g b c before s f xs os i j x o y below is under sign taken fails =
+    further_now fs g b c before s f xs os i j x o below is under sign
+    ∙ ap (λ (v : Outcome (Unit {0})). v >>= λ u s. expected fs g (f x) b s >>= λ u. further fs g (expressions_of (map f (drop (i + 1) xs))) (drop (j + 1) os) b c (first_of (f x))) taken
+    ∙ ap (λ (v : Outcome (Unit {0})). v >>= λ u. further fs g (expressions_of (map f (drop (i + 1) xs))) (drop (j + 1) os) b c (first_of (f x))) fails
+
+pub further_next : {X : Type 0} (fs : List Signature) (g : Around) (b c : Base) (before at : Span) (s r : List Settled) (f : X → Expression) (xs : List X) (os : List Operator) (i j k : ℕ) (x : X) (o : Operator)
+    → i < length xs → x ≡ get_or xs i x → j < length os → o ≡ get_or os j o → takes o b c before s ≡ got (tt {0}) s → expected fs g (f x) b s ≡ got (tt {0}) r → first_of (f x) ≡ at → j + 1 ≡ k
+    → further fs g (expressions_of (map f (drop i xs))) (drop j os) b c before s ≡ further fs g (expressions_of (map f (drop (i + 1) xs))) (drop k os) b c at r
+further_next fs g b c before at s r f xs os i j k x o below is under sign taken has here next =
+    further_now fs g b c before s f xs os i j x o below is under sign
+    ∙ ap (λ (v : Outcome (Unit {0})). v >>= λ u s. expected fs g (f x) b s >>= λ u. further fs g (expressions_of (map f (drop (i + 1) xs))) (drop (j + 1) os) b c (first_of (f x))) taken
+    ∙ ap (λ (v : Outcome (Unit {0})). v >>= λ u. further fs g (expressions_of (map f (drop (i + 1) xs))) (drop (j + 1) os) b c (first_of (f x))) has
+    ∙ ap₂ (λ (q : Span) (n : ℕ). further fs g (expressions_of (map f (drop (i + 1) xs))) (drop n os) b c q r) here next
+
+pub types_few : {X Y : Type 0} (f : X → Typ) (h : Y → Typ) (xs : List X) (ys : List Y) (i : ℕ) (at : Span) (s : List Settled) → i < length xs → length ys ≤ i
+    → same_types (map f (drop i xs)) (map h (drop i ys)) at s ≡ refused (WrongCount at)
+types_few f h xs ys i at s below past =
+    let it = some_at xs i below in
+    ap₂ (λ (zs : List _) (us : List _). same_types (map f zs) (map h us) at s) it.1 (drop_all i ys past)

@@ -1,0 +1,97 @@
+-- What the check's answers say by the typing rules, for each table that says what was settled.
+use Rattle.std.specs.Prelude.{◌≡◌, ℕ, List, [], ◌∷◌, length, Some}
+use Rattle.lexer.specs.declared.token.Span.{Span}
+use Rattle.types.specs.declared.typed.Settled.{Settled}
+use Rattle.types.specs.declared.typed.Builtin.{Builtin}
+use Rattle.syntax_trees.specs.declared.tree.Base.{Base}
+use Rattle.syntax_trees.specs.declared.tree.Shape.{Shape}
+use Rattle.syntax_trees.specs.declared.tree.Shape.TheVariants.{Scalar, Array}
+use Rattle.syntax_trees.specs.Tree.{Word, Node, Expression, expression, Form, number, text, truth, variable, element, call, prefixed, chain, Expressions, Tree}
+use Rattle.syntax_trees.specs.Table.{Table}
+use Rattle.syntax_trees.specs.Scopes.{Typ, many_of, Scope, Signature, Refers, Calls}
+use Rattle.syntax_trees.specs.Typing.{HasType, ArgumentTypes, BuiltinType, AllHaveType, WellTyped}
+use Rattle.types.specs.Known.{Around}
+use Rattle.types.specs.declared.fault.TypeFault.{TypeFault}
+use Rattle.types.specs.Outcomes.{refused, got}
+use Rattle.types.specs.declared.typed.Typed as typed
+use Rattle.types.specs.declared.typed.Meaning.TheVariants.{Nothing}
+use Rattle.syntax_trees.specs.Numbered.{numbered}
+use Rattle.types.specs.Typed.{builtin_name, table_of, meaning_at, settled_at}
+use Rattle.types.specs.Agrees.{Agrees, scope_of}
+use Rattle.types.specs.Scripts.{checked}
+use Rattle.types.specs.Expressions.{count, whole, typed, expected, elements, arguments, builtin_type}
+
+-- an array's name
+abbrev pub NamesArrayForm : Table → Scope → Form → Base → Type 0
+NamesArrayForm t g (variable w) b = Refers g t w (many_of b)
+NamesArrayForm t g (number z) b = ⊥
+NamesArrayForm t g (text bytes) b = ⊥
+NamesArrayForm t g (truth v) b = ⊥
+NamesArrayForm t g (element w i) b = ⊥
+NamesArrayForm t g (call w es) b = ⊥
+NamesArrayForm t g (prefixed p e) b = ⊥
+NamesArrayForm t g (chain os es) b = ⊥
+
+abbrev pub NamesArray : Table → Scope → Expression → Base → Type 0
+NamesArray t g (expression nd f) b = NamesArrayForm t g f b
+
+-- a call of a function of the script whose one output is of this type
+abbrev pub CallGives : List Signature → Table → Scope → Word → Expressions → Typ → Type 0
+CallGives fs t g w es τ = (f : Signature) × Calls fs t w f × ArgumentTypes fs t g es f.inputs × (f.outputs ≡ τ ∷ [])
+
+-- an array's name, or a call that gives an array
+abbrev pub GivesArrayForm : List Signature → Table → Scope → Form → Base → Type 0
+GivesArrayForm fs t g (variable w) b = Refers g t w (many_of b)
+GivesArrayForm fs t g (call w es) b = CallGives fs t g w es (many_of b)
+GivesArrayForm fs t g (number z) b = ⊥
+GivesArrayForm fs t g (text bytes) b = ⊥
+GivesArrayForm fs t g (truth v) b = ⊥
+GivesArrayForm fs t g (element w i) b = ⊥
+GivesArrayForm fs t g (prefixed p e) b = ⊥
+GivesArrayForm fs t g (chain os es) b = ⊥
+
+abbrev pub GivesArray : List Signature → Table → Scope → Expression → Base → Type 0
+GivesArray fs t g (expression nd f) b = GivesArrayForm fs t g f b
+
+-- an expression of a type: of a scalar's, or an array's name or a call that gives an array
+abbrev pub WholeType : List Signature → Table → Scope → Expression → Shape → Base → Type 0
+WholeType fs t g e Scalar b = HasType fs t g e b
+WholeType fs t g e Array b = GivesArray fs t g e b
+
+-- what fits an input: a scalar, or an array's name
+abbrev pub Fits : List Signature → Table → Scope → Expression → Shape → Base → Type 0
+Fits fs t g e Scalar b = HasType fs t g e b
+Fits fs t g e Array b = NamesArray t g e b
+
+-- an expression whose type is found has that type by the rules
+abbrev pub WholeSound : Type 0
+WholeSound = (fs : List Signature) (g : Around) (t : Table) (e : Expression) (τ : Typ) (s s' : List Settled) → whole fs g e s ≡ got τ s' → Agrees t s'
+    → Agrees t s × WholeType fs t (scope_of g) e τ.shape τ.base
+
+-- arguments that are accepted fit their inputs, where there are as many
+abbrev pub ArgumentsSound : Type 0
+ArgumentsSound = (fs : List Signature) (g : Around) (t : Table) (es : Expressions) (τs : List Typ) (at : Span) (s s' : List Settled)
+    → arguments fs g es τs at s ≡ got (tt {0}) s' → Agrees t s' → count es ≡ length τs → Agrees t s × ArgumentTypes fs t (scope_of g) es τs
+
+-- elements that are accepted have the wanted type
+abbrev pub ElementsSound : Type 0
+ElementsSound = (fs : List Signature) (g : Around) (t : Table) (es : Expressions) (b : Base) (s s' : List Settled)
+    → elements fs g es (Some b) s ≡ got (tt {0}) s' → Agrees t s' → Agrees t s × AllHaveType fs t (scope_of g) es b
+
+-- a built-in function that is accepted gives its type by the rules
+abbrev pub BuiltinSound : Type 0
+BuiltinSound = (fs : List Signature) (g : Around) (t : Table) (f : Builtin) (es : Expressions) (at : Span) (b : Base) (s s' : List Settled)
+    → builtin_type fs g f es at s ≡ got b s' → Agrees t s' → Agrees t s × BuiltinType fs t (scope_of g) (builtin_name f) es b
+
+-- a script that is accepted is well typed, for each table that says what was settled
+abbrev pub ScriptSound : Type 0
+ScriptSound = (tree : Tree) (t : Table) (s : List Settled) → checked tree ≡ got (tt {0}) s → Agrees t s → WellTyped tree t
+
+-- a numbered script that is accepted is well typed, for the table of what was settled by number
+abbrev pub ScriptTyped : Type 0
+ScriptTyped = (n : ℕ) (tree : Tree) (t : typed.Typed) (s : List Settled) → checked (numbered n tree) ≡ got (tt {0}) s → ((k : ℕ) → meaning_at t k ≡ settled_at s k Nothing)
+    → WellTyped (numbered n tree) (table_of t)
+
+-- a script that is refused is well typed for no table
+abbrev pub ScriptRefused : Type 0
+ScriptRefused = (tree : Tree) (y : TypeFault) → checked tree ≡ refused y → (t : Table) → ¬ WellTyped tree t
