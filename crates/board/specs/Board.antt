@@ -87,3 +87,11 @@ RefusesBack b w n NotYours = IsGoing b × ¬ IsTheirs b w n
 RefusesBack b w n Memory = ⊥
 RefusesBack b w n NotReady = ⊥
 RefusesBack b w n Stranger = ⊥
+
+-- why the work of an item that runs is not given out: the first cause that holds
+abbrev pub RefusesWork : Seen → ℕ → ℕ → Refusal → Type 0
+RefusesWork b w n Ended = ¬ IsGoing b
+RefusesWork b w n NotYours = IsGoing b × ¬ IsTheirs b w n
+RefusesWork b w n Memory = IsGoing b × IsTheirs b w n
+RefusesWork b w n NotReady = ⊥
+RefusesWork b w n Stranger = ⊥

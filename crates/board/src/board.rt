@@ -6,7 +6,7 @@ ghost use Rattle.values.specs.declared.value.Scalar.TheVariants.{Text as text_sc
 ghost use Rattle.task_code.specs.Machine.{CodeItem, Quiet, Run};
 ghost use Rattle.task_code.specs.System.{code_system, task_kind};
 ghost use Rattle.task_code.specs.View.{event_view, kind_view};
-ghost use Rattle.board.specs.Board.{IsGoing, Accepts, IsOwn, RefusesBegin, RefusesEnd, RefusesBack};
+ghost use Rattle.board.specs.Board.{IsGoing, Accepts, IsOwn, RefusesBegin, RefusesEnd, RefusesBack, RefusesWork};
 ghost use Rattle.board.specs.Flat.{IsFlat};
 ghost use Rattle.board.specs.Ready.{AreReady, IsNext, IsReady};
 ghost use Rattle.board.specs.Blocked.{AreBlocked, IsFaultOf};
@@ -175,6 +175,32 @@ impl Board {
         self.core.stop(worker, at, found);
         self.history.push_reserved(Event::Back { worker, item });
         Ok(())
+    }
+
+    /// The work of an item that runs on the worker, as `begin` gave it.
+    ///
+    /// # Errors
+    ///
+    /// `Ended` after a fault or at the limit; `NotYours` where the item does not run on the worker; `Memory`.
+    pub fn work(&self, worker: u8, item: u64) -> Result<Work, Refusal>
+        ensures own { IfOk result (λ work. IsOwn self.now worker work) }
+        ensures number { IfOk result (λ work. work.item ≡ item) }
+        ensures refused { IfErr result (λ e. RefusesWork self.now worker item e) }
+    {
+        if !self.is_going() {
+            return Err(Refusal::Ended);
+        }
+        let Some((at, found)) = running_at(&self.core.items, worker, item) else {
+            return Err(Refusal::NotYours);
+        };
+        let alloc = *self.history.allocator();
+        let Ok(answers) = task_answers(alloc, &self.code, &self.core.stored, found.task) else {
+            return Err(Refusal::Memory);
+        };
+        let Ok(job) = job(&self.code, found.task) else {
+            return Err(Refusal::Memory);
+        };
+        Ok(Work::new(item, job, answers))
     }
 
     /// The events so far. They lead to the state.

@@ -44,7 +44,7 @@ parts_add t n (function f ∷ ps) =
 parts_add t n (single s ∷ ps) =
     let a = parts_add t (n + statement_size s) ps in
     let b : length (block_list (script_block t (numbered n (single s ∷ ps)))) ≤ statement_size s + length (block_list (script_block t (numbered (n + statement_size s) ps))) =
-            statement_adds t n s (script_block t (numbered (n + statement_size s) ps)) in
+    statement_adds t n s (script_block t (numbered (n + statement_size s) ps)) in
     let size : tree_size (single s ∷ ps) ≡ statement_size s + tree_size ps = sum_by-cons part_size (single s) ps in
     omega arith
 

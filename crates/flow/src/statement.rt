@@ -8,11 +8,23 @@ pub enum Action {
     /// Declares a variable, which has the node of its declared name.
     Declare(u32),
     /// Gives a variable its value.
-    Assign { target: u32, cell: u32, value: Expr },
+    Assign {
+        target: u32,
+        cell: u32,
+        value: Expr,
+    },
     /// Prints a line: the expression is the `printf`.
-    Print { priority: i32, cell: u32, line: Expr },
+    Print {
+        priority: i32,
+        cell: u32,
+        line: Expr,
+    },
     /// Checks a condition: the expression is the `assert`.
-    Assert { priority: i32, cell: u32, check: Expr },
+    Assert {
+        priority: i32,
+        cell: u32,
+        check: Expr,
+    },
 }
 
 /// A statement: the offset of its first token, its node, and what it does.

@@ -1,3 +1,6 @@
 pub mod Numbers
 pub mod Lines
 pub mod Pieces
+pub mod Parts
+pub mod Steps
+pub mod Replays

@@ -1,1 +1,4 @@
 pub mod Trace
+pub mod Report
+pub mod Faults
+pub mod Replay

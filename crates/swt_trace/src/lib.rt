@@ -11,6 +11,8 @@ ghost use Rattle.swt_trace.specs.Trace.{IsTrace, TraceText, IsInRange, IsFirstBa
 pub mod fault;
 mod number;
 pub mod read;
+pub mod replay;
+pub mod report;
 #[cfg(test)]
 mod tests;
 pub mod write;

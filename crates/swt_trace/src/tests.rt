@@ -1,13 +1,20 @@
-//! The trace of a script that prints `hello`, texts that leave the grammar, and sinks that fail.
+//! The trace of a script that prints `hello`, texts that leave the grammar, reports with each end, and sinks that fail.
 ghost use Rattle.std.specs.Prelude.{◌≡◌};
 
-use crate::fault::TraceFault;
+use crate::fault::{TraceFault, WriteFault};
 use crate::read::read_trace;
+use crate::report::write_report;
 use crate::write::write_trace;
-use std::alloc::Global;
+use board::place::{Fault, FaultKind, Statement, Step};
+use board_work::outcome::EntryFault;
+use runs::report::{End, Report};
+use std::alloc::{AllocError, Global};
 use std::test::Fail;
+use task_code::code::Code;
 use task_code::event::Event;
+use values::key::Key;
 use values::sink::{Sink, SinkFault};
+use values::text::Text;
 
 const HELLO: &[u8] = b"swt-trace 1\nB 0 1\nE 0 1\nB 1 2\nE 1 2\n";
 
@@ -178,5 +185,97 @@ fn stops_at_a_refused_write(rt: HostRuntime) -> Result<(), Fail> {
         assert_eq!(rt; sink.taken.as_slice(), &HELLO[..refused as usize - 1]);
         assert_eq!(rt; sink.failures, 1);
     }
+    Ok(())
+}
+
+/// A report after one event, with the lines `a` and the empty one.
+fn report_with(alloc: Global, end: End, blocked: Vec<Statement>) -> Result<Report, AllocError> {
+    let mut lines = Vec::new(alloc);
+    lines.push(Text::from_slice(alloc, b"a")?)?;
+    lines.push(Text::from_slice(alloc, b"")?)?;
+    Ok(Report {
+        code: Code::new(alloc),
+        history: Vec::from_slice(alloc, &HELLO_EVENTS[..1])?,
+        lines,
+        end,
+        blocked,
+        tallies: Vec::new(alloc),
+    })
+}
+
+fn statement(alloc: Global, at: u32, steps: &[(u32, i64)]) -> Result<Statement, AllocError> {
+    let mut path = Vec::new(alloc);
+    for (offset, key) in steps {
+        path.push(Step {
+            offset: *offset,
+            key: Key::Number(*key),
+        })?;
+    }
+    Ok(Statement { at, path })
+}
+
+/// What is written of a report into a sink that takes so many bytes a write.
+fn text_of(alloc: Global, report: &Report, at_once: usize) -> Vec<u8> {
+    let mut sink = sink_of(alloc, at_once, 0);
+    let _ = write_report(report, &mut sink);
+    sink.taken
+}
+
+#[test]
+fn writes_blocked_statements(rt: HostRuntime) -> Result<(), Fail> {
+    let alloc = rt.alloc();
+    let mut blocked = Vec::new(alloc);
+    blocked.push(statement(alloc, 14, &[])?)?;
+    blocked.push(statement(alloc, 4294967295, &[(25, 3), (40, -9223372036854775808)])?)?;
+    let report = report_with(alloc, End::Quiet, blocked)?;
+    let wanted: &[u8] =
+        b"a\n\nswt: blocked 14 /\nswt: blocked 4294967295 /25.3/40.-9223372036854775808\n";
+    for at_once in [1, 7, 100] {
+        assert_eq!(rt; text_of(alloc, &report, at_once).as_slice(), wanted);
+    }
+    Ok(())
+}
+
+#[test]
+fn writes_faults_and_limits(rt: HostRuntime) -> Result<(), Fail> {
+    let alloc = rt.alloc();
+    let fault = Fault {
+        kind: FaultKind::OfEntry(EntryFault::NoElement),
+        statement: statement(alloc, 7, &[])?,
+    };
+    let report = report_with(alloc, End::Fault(fault), Vec::new(alloc))?;
+    let wanted: &[u8] = b"a\n\nswt: fault F3 NoElement 7 /\n";
+    assert_eq!(rt; text_of(alloc, &report, 100).as_slice(), wanted);
+    let fault = Fault {
+        kind: FaultKind::ElementTwice,
+        statement: statement(alloc, 9, &[(0, 1)])?,
+    };
+    let report = report_with(alloc, End::Fault(fault), Vec::new(alloc))?;
+    let wanted: &[u8] = b"a\n\nswt: fault F4 ElementTwice 9 /0.1\n";
+    assert_eq!(rt; text_of(alloc, &report, 100).as_slice(), wanted);
+    let report = report_with(alloc, End::Limit, Vec::new(alloc))?;
+    let wanted: &[u8] = b"a\n\nswt: limit 1\n";
+    assert_eq!(rt; text_of(alloc, &report, 100).as_slice(), wanted);
+    Ok(())
+}
+
+/// A report of which one write is refused has a beginning in the sink.
+#[test]
+fn stops_a_report_at_a_refused_write(rt: HostRuntime) -> Result<(), Fail> {
+    let alloc = rt.alloc();
+    let report = report_with(alloc, End::Limit, Vec::new(alloc))?;
+    let wanted: &[u8] = b"a\n\nswt: limit 1\n";
+    assert_eq!(rt; wanted.len(), 16);
+    for refused in 1..17u8 {
+        let mut sink = sink_of(alloc, 1, refused);
+        assert_eq!(rt;
+            write_report(&report, &mut sink).err(),
+            Some(WriteFault::Write)
+        );
+        assert_eq!(rt; sink.taken.as_slice(), &wanted[..refused as usize - 1]);
+        assert_eq!(rt; sink.failures, 1);
+    }
+    let fault = WriteFault::Write;
+    assert_eq!(rt; format!(in alloc; "{fault}")?.as_str(), "W1 Write");
     Ok(())
 }

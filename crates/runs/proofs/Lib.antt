@@ -1,0 +1,4 @@
+pub mod Picked
+pub mod Tallies
+pub mod Idle
+pub mod Turned

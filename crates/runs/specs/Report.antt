@@ -1,0 +1,53 @@
+-- What a report tells.
+use Rattle.std.specs.Prelude.{◌≡◌, ◌⊎◌, ℕ, ◌<◌, ◌≤◌, List, [], map, length, slice_index, None}
+use Rattle.dataflow.specs.Events.{tally}
+use Rattle.dataflow.specs.Machine.{Event}
+use Rattle.values.specs.declared.value.Scalar.TheVariants.{Text}
+use Rattle.task_code.specs.Code.{Code}
+use Rattle.task_code.specs.Machine.{Quiet, Run}
+use Rattle.task_code.specs.View.{event_view}
+use Rattle.board.specs.declared.place.Statement.{Statement}
+use Rattle.board.specs.Blocked.{AreBlocked, IsFaultOf}
+use Rattle.board.specs.Board.{IsGoing, Seen}
+use Rattle.runs.specs.declared.report.End.{End}
+use Rattle.runs.specs.declared.report.End.TheVariants as Ends
+use Rattle.runs.specs.declared.report.Report.{Report}
+
+-- nothing is left to be done: the state is quiet, a fault was met, or the limit is reached
+abbrev pub IsOver : Seen → Type 0
+IsOver b = Quiet b.code b.state ⊎ ¬ IsGoing b
+
+-- a fault was met, the state is quiet, or there are as many events as the limit allows
+abbrev pub EndsAs : Seen → End → Type 0
+EndsAs b (Ends.Fault f) = IsFaultOf b.code b.state f
+EndsAs b Ends.Quiet = Quiet b.code b.state
+EndsAs b Ends.Limit = (b.state.fault ≡ None) × ¬ Quiet b.code b.state × (length b.history ≡ b.limit)
+
+-- where the end is quiet, these are the blocked statements; else there are none in the report
+abbrev pub AreBlockedAt : Seen → End → List Statement → Type 0
+AreBlockedAt b Ends.Quiet statements = AreBlocked b.code b.state statements
+AreBlockedAt b (Ends.Fault f) statements = statements ≡ []
+AreBlockedAt b Ends.Limit statements = statements ≡ []
+
+-- how many events each of the 64 workers has
+pub record AreTallies (events : List Event) (tallies : List ℕ) : Type 0 where
+  pub workers : length tallies ≡ 64
+  pub each : (w : ℕ) → w < 64 → slice_index tallies w ≡ tally events w
+
+-- the report tells what a board shows
+pub record Tells (b : Seen) (r : Report) : Type 0 where
+  pub code : r.code ≡ b.code
+  pub history : map event_view r.history.items ≡ b.history
+  pub lines : b.state.lines ≡ map (λ t. Text t) r.lines.items
+  pub end : EndsAs b r.end
+  pub blocked : AreBlockedAt b r.end r.blocked.items
+  pub tallies : AreTallies b.history r.tallies.items
+
+-- the report is one of a run of the code, of at most so many events
+pub record Reports (C : Code) (limit : ℕ) (r : Report) : Type 0 where
+  pub board : Seen
+  pub code : board.code ≡ C
+  pub limit_is : board.limit ≡ limit
+  pub run : Run C board.history board.state
+  pub within : length board.history ≤ limit
+  pub tells : Tells board r

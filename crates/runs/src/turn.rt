@@ -1,0 +1,114 @@
+//! A turn: an item begins, is computed and ends.
+ghost use Rattle.std.specs.Prelude.{◌≡◌, ◌<◌, ◌%◌, length, slice_index, IfOk, OnOk, MatchBool};
+ghost use Rattle.dataflow.specs.Machine.{Begin, End};
+ghost use Rattle.task_code.specs.View.{kind_view};
+ghost use Rattle.board.specs.Board.{Accepts, IsGoing, IsOwn, MayBegin};
+ghost use Rattle.runs.specs.Turns.{TurnsTo, worker_for};
+
+use board::board::Board;
+use board::refusal::Refusal;
+use board_work::work::{Done, Work};
+use std::alloc::AllocError;
+use task_code::entry::Kind;
+
+/// What a turn did.
+#[derive(Clone, Copy, PartialEq, Eq, Debug, Drop)]
+pub enum Turn {
+    /// The chosen item began and ended.
+    Whole,
+    /// It began, and then the limit was reached.
+    Half,
+    /// No item can begin, or the board has ended.
+    Nothing,
+}
+
+/// One turn by this choice, which is counted round the items that can begin.
+pub(crate) fn make_turn(board: &mut Board, choice: u32) -> Result<Turn, AllocError>
+    ensures { IfOk result (λ turn. TurnsTo turn choice board.old board.new) }
+{
+    let ready = board.ready_items()?;
+    if ready.is_empty() || !board.is_going() {
+        return Ok(Turn::Nothing);
+    }
+    let item = pick(&ready, choice);
+    let Some(kind) = board.kind(item) else {
+        unreachable!();
+    };
+    let worker = worker_of(kind);
+    let work = begin(board, worker, item)?;
+    if finish(board, worker, work)? {
+        Ok(Turn::Whole)
+    } else {
+        Ok(Turn::Half)
+    }
+}
+
+/// The number at that place, counted round.
+fn pick(ready: &Vec<u64>, choice: u32) -> u64
+    requires { 0 < length ready.now.items }
+    ensures { result ≡ slice_index ready.now.items (choice % length ready.now.items) }
+{
+    ready[choice as usize % ready.len()]
+}
+
+/// The worker that runs items of this kind.
+fn worker_of(kind: Kind) -> u8
+    ensures { result ≡ worker_for (kind_view kind) }
+{
+    match kind {
+        Kind::Control => 0,
+        Kind::Leaf => 1,
+    }
+}
+
+/// Begins an item that can begin.
+fn begin(board: &mut Board, worker: u8, item: u64) -> Result<Work, AllocError>
+    requires going { IsGoing board.old }
+    requires can { MayBegin board.old item }
+    ensures accepted { OnOk result (Accepts board.old (Begin worker item) board.new) }
+    ensures own { IfOk result (λ work. IsOwn board.new worker work) }
+    ensures number { IfOk result (λ work. work.item ≡ item) }
+{
+    match board.begin(worker, item) {
+        Ok(work) => Ok(work),
+        Err(Refusal::Memory) => Err(AllocError),
+        Err(_) => unreachable!(),
+    }
+}
+
+/// Computes the work of an item that runs on the worker, and ends the item. It says whether the board took the end, which
+/// it refuses where it has ended.
+///
+/// # Errors
+///
+/// `AllocError` where memory that was asked for was refused.
+pub fn finish(board: &mut Board, worker: u8, work: Work) -> Result<bool, AllocError>
+    requires { IsOwn board.old worker work }
+    ensures { IfOk result (λ taken. MatchBool taken (Accepts board.old (End worker work.item) board.new) ((board.new ≡ board.old) × ¬ IsGoing board.old)) }
+{
+    match work.compute() {
+        Ok(done) => hand_in(board, worker, done),
+        Err((work, refused)) => {
+            drop(work);
+            Err(refused)
+        }
+    }
+}
+
+/// Ends the item of what was done, as `finish` does.
+fn hand_in(board: &mut Board, worker: u8, done: Done) -> Result<bool, AllocError>
+    requires { IsOwn board.old worker done }
+    ensures { IfOk result (λ taken. MatchBool taken (Accepts board.old (End worker done.item) board.new) ((board.new ≡ board.old) × ¬ IsGoing board.old)) }
+{
+    match board.end(worker, done) {
+        Ok(()) => Ok(true),
+        Err((done, refusal)) => {
+            drop(done);
+            match refusal {
+                Refusal::Ended => Ok(false),
+                Refusal::Memory => Err(AllocError),
+                _ => unreachable!(),
+            }
+        }
+    }
+}

@@ -1,0 +1,48 @@
+-- A text that is written in parts.
+use Rattle.std.proofs.Common.{◌≡◌, ◌∙◌, sym, ap, refl, ℕ, zero, suc, ◌+◌, ◌<◌, List, [], ◌∷◌, ◌++◌, length, get_or, take, drop, arith, append-nil, append_assoc, Result, Ok, Err, OnErr}
+use Rattle.std.specs.List.{flat_map}
+use Rattle.values.specs.Sinks.{Beginning}
+use Rattle.swt_trace.proofs.Pieces.{beginning_in}
+
+-- a beginning of the first part is one of the whole
+pub in_front : (old new part rest : List ℕ) → Beginning old part new → Beginning old (part ++ rest) new
+in_front old new part rest b = beginning_in old old new (part ++ rest) [] part rest refl (sym (append-nil old)) b
+
+-- so is a beginning of the last part, after the others
+pub behind : (old mid new front part : List ℕ) → mid ≡ old ++ front → Beginning mid part new → Beginning old (front ++ part) new
+behind old mid new front part m b = beginning_in old mid new (front ++ part) front part [] (ap (λ xs. front ++ xs) (sym (append-nil part))) m b
+
+pub behind_on_err : {T E : Type 0} (r : Result T E) (old mid new front part : List ℕ) → mid ≡ old ++ front → OnErr r (Beginning mid part new) → OnErr r (Beginning old (front ++ part) new)
+behind_on_err (Ok x) old mid new front part m b = b
+behind_on_err (Err e) old mid new front part m b = behind old mid new front part m b
+
+-- what stands in front of a path, the path and the end of its line
+pub line_parts : (start at path : List ℕ) → (start ++ (at ++ 32 ∷ path)) ++ 10 ∷ [] ≡ (start ++ (at ++ 32 ∷ [])) ++ (path ++ 10 ∷ [])
+line_parts start at path = simp append_assoc
+
+pub line_end : (start at path : List ℕ) → (start ++ (at ++ 32 ∷ path)) ++ 10 ∷ [] ≡ ((start ++ (at ++ 32 ∷ [])) ++ path) ++ 10 ∷ []
+line_end start at path = simp append_assoc
+
+-- the texts up to a place, the text there and the texts behind it
+texts_at : {X : Type 0} (f : X → List ℕ) (xs : List X) (i : ℕ) (d : X) → i < length xs → flat_map f xs ≡ flat_map f (take i xs) ++ (f (get_or xs i d) ++ flat_map f (drop (suc i) xs))
+texts_at f [] i d l = absurd (omega (arith, l))
+texts_at f (x ∷ xs) zero d l = refl
+texts_at f (x ∷ xs) (suc i) d l = ap (λ ys. f x ++ ys) (texts_at f xs i d (omega (arith, l))) ∙ sym (append_assoc (f x) (flat_map f (take i xs)) _)
+
+-- the texts up to the next place
+texts_next : {X : Type 0} (f : X → List ℕ) (xs : List X) (i : ℕ) (d : X) → i < length xs → flat_map f (take (suc i) xs) ≡ flat_map f (take i xs) ++ f (get_or xs i d)
+texts_next f [] i d l = absurd (omega (arith, l))
+texts_next f (x ∷ xs) zero d l = append-nil (f x)
+texts_next f (x ∷ xs) (suc i) d l = ap (λ ys. f x ++ ys) (texts_next f xs i d (omega (arith, l))) ∙ sym (append_assoc (f x) (flat_map f (take i xs)) _)
+
+-- a beginning of the text at a place is one of all texts
+pub in_texts : {X : Type 0} (f : X → List ℕ) (xs : List X) (i : ℕ) (d : X) (old mid new part : List ℕ) → i < length xs → mid ≡ old ++ flat_map f (take i xs) → part ≡ f (get_or xs i d) → Beginning mid part new → Beginning old (flat_map f xs) new
+in_texts f xs i d old mid new part l m p b = beginning_in old mid new (flat_map f xs) (flat_map f (take i xs)) part (flat_map f (drop (suc i) xs)) (texts_at f xs i d l ∙ ap (λ ys. flat_map f (take i xs) ++ (ys ++ flat_map f (drop (suc i) xs))) (sym p)) m b
+
+-- what is written once the text at a place is
+pub next_text : {X : Type 0} (f : X → List ℕ) (xs : List X) (i : ℕ) (d : X) (old mid new part : List ℕ) → i < length xs → mid ≡ old ++ flat_map f (take i xs) → part ≡ f (get_or xs i d) → new ≡ mid ++ part → new ≡ old ++ flat_map f (take (i + 1) xs)
+next_text f xs i d old mid new part l m p n =
+    let next : suc i ≡ i + 1 = omega arith in
+    n ∙ ap (λ ys. ys ++ part) m ∙ append_assoc old (flat_map f (take i xs)) part
+    ∙ ap (λ ys. old ++ (flat_map f (take i xs) ++ ys)) p
+    ∙ ap (λ ys. old ++ ys) (sym (texts_next f xs i d l)) ∙ ap (λ k. old ++ flat_map f (take k xs)) next

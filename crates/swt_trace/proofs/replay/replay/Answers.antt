@@ -1,0 +1,29 @@
+use Rattle.std.proofs.Common.{rules, arith, ◌≡◌, ◌∙◌, ap, false, List, length, map, take}
+use Rattle.std.proofs.Math.Seq.{take-length}
+use Rattle.task_code.specs.declared.event.Event.{Event}
+use Rattle.task_code.specs.declared.event.Event.TheVariants.{Begin}
+use Rattle.task_code.specs.View.{event_view}
+use Rattle.board.specs.Board.{Seen}
+use Rattle.swt_trace.proofs.Replays.{no_step_at, replayed}
+use Rattle.swt_trace.proofs.replay.replay.Goals as goal
+
+pub returns-then-not-branch-clause-no_step : goal.returns-then-not-branch-clause-no_step
+returns-then-not-branch-clause-no_step c = λ n e.
+    let items = c.deref-event-items.result.now in
+    let refused : c.in_ok-take_step.field-0 ≡ false = search rules in
+    no_step_at c.args.code.now c.args.trace.now c.in_ok-events.events.items items c.loop-place.place n (Begin 0 0) c.loop-place.board c.take_step.new.board c.in_ok-take_step.field-0
+    c.in_ok-events.ensures.ok c.deref-event-items.ensures.value c.loop-place-test.true
+    (c.loop-place.invariant.code ∙ ap (λ (b : Seen). b.code) c.in_ok-board.ensures ∙ c.in_ok-copy.ensures) c.loop-place.invariant.history
+    c.in_ok-take_step.ensures refused c.history-replays.ensures.replays e
+
+pub returns-clause-report : goal.returns-clause-report
+returns-clause-report c =
+    let items = c.deref-event-items.result.now in
+    let last : c.loop-place.place ≡ length items = omega (arith, c.loop-place-test.false, c.loop-place.auto.place-end) in
+    let all : take c.loop-place.place items ≡ items = ap (λ k. take k items) last ∙ take-length items in
+    replayed c.args.code.now c.args.trace.now c.in_ok-events.events.items items (length items) c.loop-place.board c.in_ok-report_of.field-0
+    c.in_ok-events.ensures.ok c.deref-event-items.ensures.value
+    (c.loop-place.invariant.code ∙ ap (λ (b : Seen). b.code) c.in_ok-board.ensures ∙ c.in_ok-copy.ensures) c.loop-place.invariant.limit
+    (ap (λ (es : List Event). length es) c.deref-event-items.ensures.value)
+    (c.loop-place.invariant.history ∙ ap (λ (es : List Event). map event_view es) all)
+    c.in_ok-report_of.ensures.tells c.in_ok-report_of.ensures.reports

@@ -1,0 +1,40 @@
+-- Traces that are run again.
+use Rattle.std.specs.Prelude.{◌≡◌, ℕ, ◌+◌, ◌<◌, Bool, true, false, List, length, map, take, slice_index_or}
+use Rattle.dataflow.specs.Machine as Machine
+use Rattle.task_code.specs.declared.event.Event.{Event}
+use Rattle.task_code.specs.Code.{Code}
+use Rattle.task_code.specs.Machine.{CodeState, CodeStep, Run}
+use Rattle.task_code.specs.View.{event_view}
+use Rattle.board.specs.Board.{Accepts, Seen}
+use Rattle.runs.specs.declared.report.Report.{Report}
+use Rattle.runs.specs.Report.{Reports}
+use Rattle.swt_trace.specs.Trace.{IsTrace}
+
+-- the event is no step from the state
+abbrev pub IsNoStep : Code → CodeState → Machine.Event → Type 0
+IsNoStep C s e = (new : CodeState) → CodeStep C s e new → ⊥
+
+-- the board takes the event, or it is no step
+abbrev pub Takes : Seen → Machine.Event → Seen → Bool → Type 0
+Takes old e new true = Accepts old e new
+Takes old e new false = (new ≡ old) × IsNoStep old.code old.state e
+
+-- the report is one of the events of which the bytes are a trace, with their number as the limit
+pub record ReplaysTo (C : Code) (bytes : List ℕ) (r : Report) : Type 0 where
+  pub events : List Event
+  pub trace : IsTrace bytes events
+  pub history : map event_view r.history.items ≡ map event_view events
+  pub reports : Reports C (length events) r
+
+-- the bytes are a trace whose events are a run up to line n, and the event of line n is no step from where they lead to
+pub record IsFirstNoStep (C : Code) (bytes : List ℕ) (n : ℕ) : Type 0 where
+  pub events : List Event
+  pub trace : IsTrace bytes events
+  pub place : ℕ
+  pub within : place < length events
+  pub number : n ≡ place + 2
+  pub state : CodeState
+  pub run : Run C (map event_view (take place events)) state
+  pub event : Event
+  pub here : slice_index_or events place event ≡ event
+  pub no_step : IsNoStep C state (event_view event)

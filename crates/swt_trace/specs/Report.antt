@@ -1,0 +1,79 @@
+-- The texts of reports.
+use Rattle.std.specs.Prelude.{ℕ, List, [], ◌∷◌, ◌++◌, length, codes}
+use Rattle.std.specs.List.{flat_map}
+use Rattle.std.specs.Fmt.{decimal, signed_decimal}
+use Rattle.board.specs.declared.place.Fault.{Fault}
+use Rattle.board.specs.declared.place.FaultKind.{FaultKind}
+use Rattle.board.specs.declared.place.FaultKind.TheVariants.{OfEntry, ElementTwice}
+use Rattle.board.specs.declared.place.Statement.{Statement}
+use Rattle.board.specs.declared.place.Step.{Step}
+use Rattle.board_work.specs.declared.outcome.EntryFault.{EntryFault}
+use Rattle.board_work.specs.declared.outcome.EntryFault.TheVariants.{InOperation, NoElement, TooDeep}
+use Rattle.runs.specs.declared.report.End.{End}
+use Rattle.runs.specs.declared.report.End.TheVariants as Ends
+use Rattle.runs.specs.declared.report.Report.{Report}
+use Rattle.values.specs.declared.fault.OpFault.{OpFault}
+use Rattle.values.specs.declared.fault.OpFault.TheVariants as Of
+use Rattle.values.specs.declared.key.Key.{Key}
+use Rattle.values.specs.declared.key.Key.TheVariants.{Number}
+
+-- a line, and byte 10
+abbrev pub text_line : List ℕ → List ℕ
+text_line bytes = bytes ++ 10 ∷ []
+
+-- a key in decimal, with `-` below 0
+abbrev pub key_text : Key → List ℕ
+key_text (Number z) = signed_decimal z
+
+-- `/node.key`
+abbrev pub step_text : Step → List ℕ
+step_text s = 47 ∷ decimal s.offset ++ 46 ∷ key_text s.key
+
+-- `/` for the script, else each step from the outermost on
+abbrev pub path_text : List Step → List ℕ
+path_text [] = 47 ∷ []
+path_text (s ∷ ss) = flat_map step_text (s ∷ ss)
+
+-- `AT PATH`
+abbrev pub statement_text : Statement → List ℕ
+statement_text s = decimal s.at ++ 32 ∷ path_text s.path.items
+
+-- the number and the name of a fault; no run has the fault that memory was wanted
+abbrev pub operation_fault_name : OpFault → List ℕ
+operation_fault_name Of.Overflow = codes "F1 Overflow"
+operation_fault_name Of.DivideByZero = codes "F2 DivideByZero"
+operation_fault_name Of.BadStep = codes "F5 BadStep"
+operation_fault_name Of.NotANumber = codes "F7 NotANumber"
+operation_fault_name Of.AssertFailed = codes "F8 AssertFailed"
+operation_fault_name Of.Memory = codes "no memory"
+
+abbrev pub entry_fault_name : EntryFault → List ℕ
+entry_fault_name (InOperation f) = operation_fault_name f
+entry_fault_name NoElement = codes "F3 NoElement"
+entry_fault_name TooDeep = codes "F6 TooDeep"
+
+abbrev pub fault_name : FaultKind → List ℕ
+fault_name (OfEntry f) = entry_fault_name f
+fault_name ElementTwice = codes "F4 ElementTwice"
+
+-- `swt: blocked AT PATH`
+abbrev pub blocked_line : Statement → List ℕ
+blocked_line s = text_line (codes "swt: blocked " ++ statement_text s)
+
+-- `swt: fault F3 NoElement AT PATH`
+abbrev pub fault_line : Fault → List ℕ
+fault_line f = text_line (codes "swt: fault " ++ (fault_name f.kind ++ 32 ∷ statement_text f.statement))
+
+-- `swt: limit N`, after N events
+abbrev pub limit_line : ℕ → List ℕ
+limit_line n = text_line (codes "swt: limit " ++ decimal n)
+
+-- what follows the lines that were printed
+abbrev pub end_text : End → Report → List ℕ
+end_text Ends.Quiet r = flat_map blocked_line r.blocked.items
+end_text (Ends.Fault f) r = fault_line f
+end_text Ends.Limit r = limit_line (length r.history.items)
+
+-- the text of a report
+abbrev pub ReportText : Report → List ℕ
+ReportText r = flat_map text_line r.lines.items ++ end_text r.end r

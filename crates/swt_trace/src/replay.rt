@@ -1,0 +1,96 @@
+//! Running a trace again.
+ghost use Rattle.std.specs.Prelude.{◌≡◌, ◌<◌, ℕ, length, IfOk, IfErr};
+ghost use Rattle.dataflow.specs.Machine.{Back, Begin, End};
+ghost use Rattle.task_code.specs.View.{event_view};
+ghost use Rattle.board.specs.Flat.{IsFlat};
+ghost use Rattle.swt_trace.specs.Trace.{IsFirstBad};
+ghost use Rattle.swt_trace.specs.Replay.{IsFirstNoStep, ReplaysTo, Takes};
+
+use crate::fault::ReplayFault;
+use crate::read::read_trace;
+use board::board::Board;
+use board::refusal::Refusal;
+use runs::report::{Report, report_of};
+use runs::turn::finish;
+use std::alloc::{AllocError, Global};
+use task_code::code::Code;
+use task_code::event::Event;
+
+/// Runs the events of a trace on the code, and reports that run. Its limit is the number of events, so its end is `Limit`
+/// where the trace stops in the midst of the run.
+///
+/// # Errors
+///
+/// `BadLine` with the number of the first line that leaves the grammar of traces, before any event is run. `NotARun` with
+/// the number of the first line whose event is no step: an item was begun that could not begin, or was ended or given back by
+/// a worker that did not run it, or a fault was met before. `Memory` where memory that was asked for was refused.
+pub fn replay(alloc: Global, code: &Code, trace: &[u8]) -> Result<Report, ReplayFault>
+    requires { IsFlat code.now }
+    ensures report { IfOk result (ReplaysTo code.now trace.now) }
+    ensures bad { IfErr result (λ fault. (n : ℕ) → fault ≡ ReplayFault.BadLine n → IsFirstBad trace.now n) }
+    ensures no_step { IfErr result (λ fault. (n : ℕ) → fault ≡ ReplayFault.NotARun n → IsFirstNoStep code.now trace.now n) }
+{
+    let events = read_trace(alloc, trace)?;
+    let mut board = Board::new(alloc, code.copy()?, events.len() as u32)?;
+    for (place, event) in events.iter().enumerate() {
+        if !take_step(&mut board, event)? {
+            let _replays = board.history();
+            return Err(ReplayFault::NotARun(place as u64 + 2));
+        }
+    }
+    Ok(report_of(alloc, &board)?)
+}
+
+/// Does what the event says, and says whether it is a step.
+fn take_step(board: &mut Board, event: &Event) -> Result<bool, AllocError>
+    requires { length board.old.history < board.old.limit }
+    ensures { IfOk result (λ taken. Takes board.old (event_view event.now) board.new taken) }
+{
+    match event {
+        Event::Begin { worker, item } => take_begin(board, *worker, *item),
+        Event::End { worker, item } => take_end(board, *worker, *item),
+        Event::Back { worker, item } => take_back(board, *worker, *item),
+    }
+}
+
+/// Begins an item, as `take_step` does.
+fn take_begin(board: &mut Board, worker: u8, item: u64) -> Result<bool, AllocError>
+    requires { length board.old.history < board.old.limit }
+    ensures { IfOk result (λ taken. Takes board.old (Begin worker item) board.new taken) }
+{
+    match board.begin(worker, item) {
+        Ok(work) => {
+            drop(work);
+            Ok(true)
+        }
+        Err(refusal) => match refusal {
+            Refusal::Memory => Err(AllocError),
+            _ => Ok(false),
+        },
+    }
+}
+
+/// Computes an item that runs and ends it, as `take_step` does.
+fn take_end(board: &mut Board, worker: u8, item: u64) -> Result<bool, AllocError>
+    requires { length board.old.history < board.old.limit }
+    ensures { IfOk result (λ taken. Takes board.old (End worker item) board.new taken) }
+{
+    match board.work(worker, item) {
+        Ok(work) => finish(board, worker, work),
+        Err(refusal) => match refusal {
+            Refusal::Memory => Err(AllocError),
+            _ => Ok(false),
+        },
+    }
+}
+
+/// Gives an item back, as `take_step` does.
+fn take_back(board: &mut Board, worker: u8, item: u64) -> Result<bool, AllocError>
+    requires { length board.old.history < board.old.limit }
+    ensures { IfOk result (λ taken. Takes board.old (Back worker item) board.new taken) }
+{
+    match board.back(worker, item) {
+        Ok(()) => Ok(true),
+        Err(_refusal) => Ok(false),
+    }
+}

@@ -1,0 +1,251 @@
+//! Writing a report.
+//!
+//! Its text has each line that the run printed, in the order of printing. Then come the statements that are blocked where
+//! the run ended quiet, the fault where it met one, or else the limit. A path is `/` for the script, or `/node.key` for
+//! each step from the outermost on.
+ghost use Rattle.std.specs.Prelude.{◌≡◌, ◌<◌, ◌≤◌, ◌+◌, ◌++◌, ◌∷◌, [], length, codes, decimal, OnOk, OnErr};
+ghost use Rattle.std.specs.List.{flat_map};
+ghost use Rattle.values.specs.Sinks.{Beginning};
+ghost use Rattle.swt_trace.specs.Report.{ReportText, text_line, key_text, step_text, path_text, statement_text, operation_fault_name, entry_fault_name, fault_name, blocked_line, fault_line, limit_line, end_text};
+
+use crate::fault::WriteFault;
+use arrayvec::ArrayString;
+use board::place::{Fault, FaultKind, Statement, Step};
+use board_work::outcome::EntryFault;
+use itoa::Buffer;
+use runs::report::{End, Report};
+use values::fault::OpFault;
+use values::key::Key;
+use values::sink::{Sink, SinkFault, write_all};
+use values::text::Text;
+
+/// The most bytes of a step: `/`, ten digits of an offset, `.`, and twenty bytes of a key.
+const LONGEST_STEP: usize = 32;
+
+/// The most bytes of what stands before a path: the longest is `swt: fault F4 ElementTwice `, ten digits and a space.
+const LONGEST_START: usize = 38;
+
+/// The most bytes of the line of a limit: `swt: limit `, twenty digits and the byte 10.
+const LONGEST_LIMIT: usize = 32;
+
+/// Writes the text of the report.
+///
+/// # Errors
+///
+/// `Write` where a write failed. The sink then has what it had before and a beginning of the text.
+pub fn write_report<W: Sink>(report: &Report, sink: &mut W) -> Result<(), WriteFault>
+    requires { W.failures sink.old < u64.MAX }
+    ensures ok { OnOk result (W.taken sink.new ≡ W.taken sink.old ++ ReportText report.now) }
+    ensures err { OnErr result (Beginning (W.taken sink.old) (ReportText report.now) (W.taken sink.new)) }
+    ensures failed { OnErr result (W.failures sink.old < W.failures sink.new) }
+    ensures none_failed { OnOk result (W.failures sink.new ≡ W.failures sink.old) }
+{
+    write_lines(&report.lines, sink)?;
+    write_end(report, sink)?;
+    Ok(())
+}
+
+/// Writes the lines that were printed.
+fn write_lines<W: Sink>(lines: &Vec<Text>, sink: &mut W) -> Result<(), SinkFault>
+    requires { W.failures sink.old < u64.MAX }
+    ensures ok { OnOk result (W.taken sink.new ≡ W.taken sink.old ++ flat_map text_line lines.now.items) }
+    ensures err { OnErr result (Beginning (W.taken sink.old) (flat_map text_line lines.now.items) (W.taken sink.new)) }
+    ensures failed { OnErr result (W.failures sink.old < W.failures sink.new) }
+    ensures none_failed { OnOk result (W.failures sink.new ≡ W.failures sink.old) }
+{
+    for line in lines {
+        write_line(line.as_bytes(), sink)?;
+    }
+    Ok(())
+}
+
+/// Writes a line and the byte 10.
+fn write_line<W: Sink>(line: &[u8], sink: &mut W) -> Result<(), SinkFault>
+    requires { W.failures sink.old < u64.MAX }
+    ensures ok { OnOk result (W.taken sink.new ≡ W.taken sink.old ++ text_line line.now) }
+    ensures err { OnErr result (Beginning (W.taken sink.old) (text_line line.now) (W.taken sink.new)) }
+    ensures failed { OnErr result (W.failures sink.old < W.failures sink.new) }
+    ensures none_failed { OnOk result (W.failures sink.new ≡ W.failures sink.old) }
+{
+    write_all(sink, line)?;
+    write_all(sink, b"\n")
+}
+
+/// Writes what follows the lines.
+fn write_end<W: Sink>(report: &Report, sink: &mut W) -> Result<(), SinkFault>
+    requires { W.failures sink.old < u64.MAX }
+    ensures ok { OnOk result (W.taken sink.new ≡ W.taken sink.old ++ end_text report.now.end report.now) }
+    ensures err { OnErr result (Beginning (W.taken sink.old) (end_text report.now.end report.now) (W.taken sink.new)) }
+    ensures failed { OnErr result (W.failures sink.old < W.failures sink.new) }
+    ensures none_failed { OnOk result (W.failures sink.new ≡ W.failures sink.old) }
+{
+    match &report.end {
+        End::Quiet => write_blocked(&report.blocked, sink),
+        End::Fault(fault) => write_fault(fault, sink),
+        End::Limit => write_limit(report.history.len(), sink),
+    }
+}
+
+/// Writes a line for each blocked statement.
+fn write_blocked<W: Sink>(blocked: &Vec<Statement>, sink: &mut W) -> Result<(), SinkFault>
+    requires { W.failures sink.old < u64.MAX }
+    ensures ok { OnOk result (W.taken sink.new ≡ W.taken sink.old ++ flat_map blocked_line blocked.now.items) }
+    ensures err { OnErr result (Beginning (W.taken sink.old) (flat_map blocked_line blocked.now.items) (W.taken sink.new)) }
+    ensures failed { OnErr result (W.failures sink.old < W.failures sink.new) }
+    ensures none_failed { OnOk result (W.failures sink.new ≡ W.failures sink.old) }
+{
+    for statement in blocked {
+        write_statement("swt: blocked ", statement, sink)?;
+    }
+    Ok(())
+}
+
+/// Writes the line of a fault.
+fn write_fault<W: Sink>(fault: &Fault, sink: &mut W) -> Result<(), SinkFault>
+    requires { W.failures sink.old < u64.MAX }
+    ensures ok { OnOk result (W.taken sink.new ≡ W.taken sink.old ++ fault_line fault.now) }
+    ensures err { OnErr result (Beginning (W.taken sink.old) (fault_line fault.now) (W.taken sink.new)) }
+    ensures failed { OnErr result (W.failures sink.old < W.failures sink.new) }
+    ensures none_failed { OnOk result (W.failures sink.new ≡ W.failures sink.old) }
+{
+    write_statement(fault_start(fault.kind), &fault.statement, sink)
+}
+
+/// What the line of a fault begins with.
+fn fault_start(kind: FaultKind) -> &'static str
+    ensures text { result.now ≡ codes "swt: fault " ++ (fault_name kind ++ 32 ∷ []) }
+    ensures short { length result.now ≤ 27 }
+{
+    match kind {
+        FaultKind::OfEntry(fault) => entry_fault_start(fault),
+        FaultKind::ElementTwice => "swt: fault F4 ElementTwice ",
+    }
+}
+
+/// The same for a fault of an entry's own.
+fn entry_fault_start(fault: EntryFault) -> &'static str
+    ensures text { result.now ≡ codes "swt: fault " ++ (entry_fault_name fault ++ 32 ∷ []) }
+    ensures short { length result.now ≤ 27 }
+{
+    match fault {
+        EntryFault::InOperation(fault) => operation_fault_start(fault),
+        EntryFault::NoElement => "swt: fault F3 NoElement ",
+        EntryFault::TooDeep => "swt: fault F6 TooDeep ",
+    }
+}
+
+/// The same for a fault of an operation.
+fn operation_fault_start(fault: OpFault) -> &'static str
+    ensures text { result.now ≡ codes "swt: fault " ++ (operation_fault_name fault ++ 32 ∷ []) }
+    ensures short { length result.now ≤ 27 }
+{
+    match fault {
+        OpFault::Overflow => "swt: fault F1 Overflow ",
+        OpFault::DivideByZero => "swt: fault F2 DivideByZero ",
+        OpFault::BadStep => "swt: fault F5 BadStep ",
+        OpFault::NotANumber => "swt: fault F7 NotANumber ",
+        OpFault::AssertFailed => "swt: fault F8 AssertFailed ",
+        OpFault::Memory => "swt: fault no memory ",
+    }
+}
+
+/// Writes the line of a limit.
+fn write_limit<W: Sink>(events: usize, sink: &mut W) -> Result<(), SinkFault>
+    requires { W.failures sink.old < u64.MAX }
+    ensures ok { OnOk result (W.taken sink.new ≡ W.taken sink.old ++ limit_line events) }
+    ensures err { OnErr result (Beginning (W.taken sink.old) (limit_line events) (W.taken sink.new)) }
+    ensures failed { OnErr result (W.failures sink.old < W.failures sink.new) }
+    ensures none_failed { OnOk result (W.failures sink.new ≡ W.failures sink.old) }
+{
+    let line = line_of_limit(events);
+    write_all(sink, line.as_str().as_bytes())
+}
+
+/// The line of a limit.
+fn line_of_limit(events: usize) -> ArrayString<LONGEST_LIMIT>
+    ensures { result.bytes ≡ limit_line events }
+{
+    let mut line = ArrayString::new();
+    let mut buffer = Buffer::new();
+    line.push_str("swt: limit ");
+    line.push_str(buffer.format(events));
+    line.push_str("\n");
+    line
+}
+
+/// Writes a line: what it begins with, a statement's offset and its path.
+fn write_statement<W: Sink>(
+    start: &str,
+    statement: &Statement,
+    sink: &mut W,
+) -> Result<(), SinkFault>
+    requires sound { W.failures sink.old < u64.MAX }
+    requires short { length start.now ≤ 27 }
+    ensures ok { OnOk result (W.taken sink.new ≡ W.taken sink.old ++ text_line (start.now ++ statement_text statement.now)) }
+    ensures err { OnErr result (Beginning (W.taken sink.old) (text_line (start.now ++ statement_text statement.now)) (W.taken sink.new)) }
+    ensures failed { OnErr result (W.failures sink.old < W.failures sink.new) }
+    ensures none_failed { OnOk result (W.failures sink.new ≡ W.failures sink.old) }
+{
+    let before = before_path(start, statement.at);
+    write_all(sink, before.as_str().as_bytes())?;
+    write_path(&statement.path, sink)?;
+    write_all(sink, b"\n")
+}
+
+/// What a line begins with, an offset and a space.
+fn before_path(start: &str, at: u32) -> ArrayString<LONGEST_START>
+    requires { length start.now ≤ 27 }
+    ensures { result.bytes ≡ start.now ++ (decimal at ++ 32 ∷ []) }
+{
+    let mut text = ArrayString::new();
+    let mut buffer = Buffer::new();
+    text.push_str(start);
+    text.push_str(buffer.format(at));
+    text.push_str(" ");
+    text
+}
+
+/// Writes a path.
+fn write_path<W: Sink>(path: &Vec<Step>, sink: &mut W) -> Result<(), SinkFault>
+    requires { W.failures sink.old < u64.MAX }
+    ensures ok { OnOk result (W.taken sink.new ≡ W.taken sink.old ++ path_text path.now.items) }
+    ensures err { OnErr result (Beginning (W.taken sink.old) (path_text path.now.items) (W.taken sink.new)) }
+    ensures failed { OnErr result (W.failures sink.old < W.failures sink.new) }
+    ensures none_failed { OnOk result (W.failures sink.new ≡ W.failures sink.old) }
+{
+    if path.is_empty() {
+        write_all(sink, b"/")
+    } else {
+        write_steps(path, sink)
+    }
+}
+
+/// Writes the steps of a path.
+fn write_steps<W: Sink>(steps: &Vec<Step>, sink: &mut W) -> Result<(), SinkFault>
+    requires { W.failures sink.old < u64.MAX }
+    ensures ok { OnOk result (W.taken sink.new ≡ W.taken sink.old ++ flat_map step_text steps.now.items) }
+    ensures err { OnErr result (Beginning (W.taken sink.old) (flat_map step_text steps.now.items) (W.taken sink.new)) }
+    ensures failed { OnErr result (W.failures sink.old < W.failures sink.new) }
+    ensures none_failed { OnOk result (W.failures sink.new ≡ W.failures sink.old) }
+{
+    for step in steps {
+        let text = text_of_step(step);
+        write_all(sink, text.as_str().as_bytes())?;
+    }
+    Ok(())
+}
+
+/// The text of a step.
+fn text_of_step(step: &Step) -> ArrayString<LONGEST_STEP>
+    ensures { result.bytes ≡ step_text step.now }
+{
+    let mut text = ArrayString::new();
+    let mut buffer = Buffer::new();
+    text.push_str("/");
+    text.push_str(buffer.format(step.offset));
+    text.push_str(".");
+    match &step.key {
+        Key::Number(number) => text.push_str(buffer.format(*number)),
+    }
+    text
+}
