@@ -1,0 +1,42 @@
+//! How a command ends.
+ghost use Rattle.std.specs.Prelude.{◌≡◌};
+ghost use Rattle.swt_command.specs.Statuses.{number_of};
+
+/// How a command ended.
+#[derive(Clone, Copy, PartialEq, Eq, Debug, Drop)]
+pub enum Status {
+    /// The run was quiet with nothing blocked, or the script was accepted.
+    Done,
+    /// A script was refused.
+    Refused,
+    /// The words were no command, or they asked for too many engines and workers.
+    Usage,
+    /// The run met a fault.
+    Fault,
+    /// The run was quiet, with blocked statements.
+    Blocked,
+    /// The run was cut off at its limit.
+    Limit,
+    /// Memory that was asked for was refused.
+    Memory,
+    /// A file could not be read, or a text could not be written.
+    Failed,
+}
+
+impl Status {
+    /// The status of the process.
+    pub fn number(self) -> u8
+        ensures { result ≡ number_of self }
+    {
+        match self {
+            Status::Done => 0,
+            Status::Refused => 1,
+            Status::Usage => 2,
+            Status::Fault => 3,
+            Status::Blocked => 4,
+            Status::Limit => 5,
+            Status::Memory => 6,
+            Status::Failed => 7,
+        }
+    }
+}
