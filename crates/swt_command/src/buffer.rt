@@ -7,12 +7,17 @@ use values::sink::{Sink, SinkFault};
 /// A sink that keeps what it is given.
 #[derive(Drop)]
 pub struct Buffer {
-    bytes: Vec<u8>,
-    failures: u64,
+    /// What it was given.
+    pub bytes: Vec<u8>,
+    /// How many writes failed, for want of memory.
+    pub failures: u64,
 }
 
 impl Buffer {
-    pub fn new(alloc: Global) -> Buffer {
+    pub fn new(alloc: Global) -> Buffer
+        ensures bytes { result.bytes.items ≡ [] }
+        ensures failures { result.failures ≡ 0 }
+    {
         Buffer {
             bytes: Vec::new(alloc),
             failures: 0,
@@ -20,7 +25,9 @@ impl Buffer {
     }
 
     /// What it was given.
-    pub fn bytes(&self) -> &[u8] {
+    pub fn bytes(&self) -> &[u8]
+        ensures { result.now ≡ self.now.bytes.items }
+    {
         self.bytes.as_slice()
     }
 }
