@@ -3,6 +3,7 @@
 
 pub mod buffer;
 pub mod command;
+pub mod laws;
 mod mean;
 #[cfg(test)]
 mod orders;

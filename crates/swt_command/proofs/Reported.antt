@@ -1,0 +1,69 @@
+-- A report of a run of a script's code, against the script.
+use Rattle.std.proofs.Common.{◌≡◌, ℕ, List, [], ◌∷◌, refl, sym, ap, ap₂, ◌∙◌, subst}
+use Rattle.std.specs.Prelude.{map, Some}
+use Rattle.dataflow.specs.System.{In}
+use Rattle.dataflow.specs.Machine as Machine
+use Rattle.values.specs.declared.value.Scalar.{Scalar}
+use Rattle.values.specs.declared.value.Scalar.TheVariants.{Text}
+use Rattle.syntax_trees.specs.Core.{Core}
+use Rattle.syntax_trees.specs.Meaning.{Meaning}
+use Rattle.syntax_trees.specs.Outcomes.{Lines, Faults, Clean}
+use Rattle.task_code.specs.Code.{Code, entry}
+use Rattle.task_code.specs.Machine.{CodeState, Run, Quiet}
+use Rattle.agreement.specs.Headline.{Headline, Agrees, IsAll, IsMeantFault, script_path, script_fault}
+use Rattle.board.specs.declared.place.Fault.{Fault}
+use Rattle.board.specs.declared.place.Statement.{Statement}
+use Rattle.board.specs.Blocked.{AreBlocked, IsFaultOf, path_of}
+use Rattle.board.specs.Board.{Seen}
+use Rattle.board.specs.View.{kind_of_fault}
+use Rattle.runs.specs.declared.report.End.{End}
+use Rattle.runs.specs.declared.report.End.TheVariants as Ends
+use Rattle.runs.specs.declared.report.Report.{Report}
+use Rattle.runs.specs.Report.{AreBlockedAt, EndsAs, Reports, Tells}
+use Rattle.compile.specs.Compiles.{Compiles}
+use Rattle.swt_command.specs.OneThread.{IsWhole, IsScriptFault}
+
+same_text : {x y : List ℕ} → ◌≡◌ {A = Scalar} (Text x) (Text y) → x ≡ y
+same_text h = cc
+
+first_same : {x y : Scalar} {xs ys : List Scalar} → x ∷ xs ≡ y ∷ ys → x ≡ y
+first_same h = cc
+
+rest_same : {x y : Scalar} {xs ys : List Scalar} → x ∷ xs ≡ y ∷ ys → xs ≡ ys
+rest_same h = cc
+
+same_texts : (xs ys : List (List ℕ)) → map Text xs ≡ map Text ys → xs ≡ ys
+same_texts [] [] h = refl
+same_texts [] (y ∷ ys) h = absurd (cc)
+same_texts (x ∷ xs) [] h = absurd (cc)
+same_texts (x ∷ xs) (y ∷ ys) h = ap₂ (λ a b. a ∷ b) (same_text (first_same h)) (same_texts xs ys (rest_same h))
+
+whole_of : (s : Core) (C : Code) (b : Seen) (r : Report) → Headline s C → b.code ≡ C → Run C b.history b.state → Tells b r → Quiet b.code b.state
+    → AreBlocked b.code b.state r.blocked.items → IsWhole s r
+whole_of s C b r h code run tells quiet blocked =
+    let all = h.all b.history b.state run (subst (λ (D : Code). Quiet D b.state) code quiet) in
+    let stuck = subst (λ (D : Code). AreBlocked D b.state r.blocked.items) code blocked in
+    record {
+      no_fault = all.no_fault;
+      lines = subst (λ (ls : List (List ℕ)). Lines (Meaning s) ls) (same_texts all.printed r.lines.items (sym all.printed_is ∙ tells.lines)) all.lines;
+      blocked = λ t i. all.blocked t.at (path_of t) (stuck.only t i);
+      blocked_all = λ at path k. stuck.all at path (all.blocked_all at path k);
+      order = stuck.order;
+    }
+
+pub reported : (src : List ℕ) (code : Code) (limit : ℕ) (r : Report) (w : Compiles src code) → Reports code limit r → r.end ≡ Ends.Quiet → IsWhole w.script r
+reported src code limit r w t quiet =
+    whole_of w.script code t.board r w.headline t.code t.run t.tells
+    (subst (EndsAs t.board) quiet t.tells.end)
+    (subst (λ (e : End). AreBlockedAt t.board e r.blocked.items) quiet t.tells.blocked)
+
+fault_of : (s : Core) (C : Code) (st : CodeState) (f : Fault) → Agrees s C st → IsFaultOf C st f → IsScriptFault s f
+fault_of s C st f a i =
+    subst (λ (at : ℕ). Faults (Meaning s) (script_fault (kind_of_fault f.kind)) at (script_path (path_of f.statement))) (sym i.stands)
+    (a.fault _ (kind_of_fault f.kind) i.is)
+
+pub reported_fault : (src : List ℕ) (code : Code) (limit : ℕ) (r : Report) (f : Fault) (w : Compiles src code) → Reports code limit r → Clean w.script → r.end ≡ Ends.Fault f → IsScriptFault w.script f
+reported_fault src code limit r f w t clean faulty =
+    fault_of w.script code t.board.state f
+    (w.headline.agrees clean t.board.history t.board.state t.run)
+    (subst (λ (D : Code). IsFaultOf D t.board.state f) t.code (subst (EndsAs t.board) faulty t.tells.end))

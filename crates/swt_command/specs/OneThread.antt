@@ -1,0 +1,27 @@
+-- What the report of a run owes to the script.
+use Rattle.std.specs.Prelude.{◌≡◌, ℕ, List}
+use Rattle.dataflow.specs.System.{In}
+use Rattle.syntax_trees.specs.Core.{Core}
+use Rattle.syntax_trees.specs.Facts as Facts
+use Rattle.syntax_trees.specs.Meaning.{Meaning}
+use Rattle.syntax_trees.specs.Outcomes.{Lines, Faults, Blocked}
+use Rattle.syntax_trees.specs.Places.{Path}
+use Rattle.task_code.specs.Places.{Step}
+use Rattle.agreement.specs.Headline.{script_path, script_fault}
+use Rattle.board.specs.declared.place.Fault.{Fault}
+use Rattle.board.specs.declared.place.Statement.{Statement}
+use Rattle.board.specs.Blocked.{InTextOrder, path_of}
+use Rattle.board.specs.View.{kind_of_fault}
+use Rattle.runs.specs.declared.report.Report.{Report}
+
+-- the script has no fault; the report has exactly its lines, in some order, and exactly its blocked statements, in theirs
+pub record IsWhole (s : Core) (r : Report) : Type 0 where
+  pub no_fault : (f : Facts.Fault) (at : ℕ) (path : Path) → Faults (Meaning s) f at path → ⊥
+  pub lines : Lines (Meaning s) r.lines.items
+  pub blocked : (t : Statement) → In t r.blocked.items → Blocked s (Meaning s) t.at (script_path (path_of t))
+  pub blocked_all : (at : ℕ) (path : List Step) → Blocked s (Meaning s) at (script_path path) → (t : Statement) × In t r.blocked.items × (t.at ≡ at) × (path_of t ≡ path)
+  pub order : InTextOrder r.blocked.items
+
+-- the fault is among the script's, at its statement
+abbrev pub IsScriptFault : Core → Fault → Type 0
+IsScriptFault s f = Faults (Meaning s) (script_fault (kind_of_fault f.kind)) f.statement.at (script_path (path_of f.statement))
