@@ -9,7 +9,16 @@ use Rattle.syntax_trees.specs.Tree.{Tree}
 use Rattle.syntax_trees.specs.Numbered.{numbered, tree_size}
 use Rattle.syntax.proofs.Sizes.{numbers_fit}
 use Rattle.task_code.specs.Code.{Code}
+use Rattle.task_code.specs.Machine.{CodeState, GoesOn, Run}
+use Rattle.task_code.specs.System.{code_system}
 use Rattle.task_code.specs.Whole.{IsCode}
+use Rattle.task_code.proofs.Kept.{code_laws}
+use Rattle.dataflow.specs.Machine.{Event}
+use Rattle.dataflow.specs.History.{log_of}
+use Rattle.dataflow.proofs.Bound.{events_bound}
+use Rattle.dataflow.proofs.Headline.{goes_on}
+use Rattle.dataflow.proofs.Numbers.{run_numbered}
+use Rattle.dataflow.proofs.Steps.{run_follows}
 use Rattle.agreement.specs.Compile.{compiled, script_acts}
 use Rattle.agreement.specs.Headline.{Headline}
 use Rattle.agreement.proofs.Runs.{headline}
@@ -30,6 +39,10 @@ few_read src tree t r =
 few_of : (src : List ℕ) (s : Core) → IsScriptOf src s → length (script_acts s) < 4294967296
 few_of src s w = subst (λ (c : Core). length (script_acts c) < 4294967296) w.is (few_read src w.tree w.table w.reads)
 
+onward : (C : Code) → IsCode C → (es : List Event) (st : CodeState) → Run C es st → GoesOn C st
+onward C I es st x =
+    goes_on (code_system C) (code_laws C I) st (log_of (code_system C) es st x) (run_follows (code_system C) (code_laws C I) es st x) (run_numbered (code_system C) es st x)
+
 pub compiles : (src : List ℕ) (s : Core) (code : Code) → IsScriptOf src s → code ≡ compiled s → Compiles src code
 compiles src s code w same = record {
   script = s;
@@ -37,5 +50,7 @@ compiles src s code w same = record {
   is = same;
   whole = subst IsCode (sym same) (is_code s w.scalars);
   headline = subst (λ c. Headline s c) (sym same) (headline s w.scalars);
+  goes_on = λ es st x. onward code (subst IsCode (sym same) (is_code s w.scalars)) es st x;
+  bound = λ es st x. events_bound (code_system code) es st x;
   flat = subst IsFlat (sym same) (flat s w.scalars (few_of src s w));
 }

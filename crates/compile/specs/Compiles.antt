@@ -1,5 +1,7 @@
 -- What it means that a text is a script of this core, that code is that script's, and that a text is refused.
-use Rattle.std.specs.Prelude.{◌≡◌, ℕ, List, [], Some, None}
+use Rattle.std.specs.Prelude.{◌≡◌, ℕ, ◌+◌, ◌*◌, ◌≤◌, List, [], length, Some, None}
+use Rattle.dataflow.specs.Events.{backs}
+use Rattle.dataflow.specs.Machine.{Event}
 use Rattle.lexer.specs.declared.token.Span.{Span}
 use Rattle.syntax_trees.specs.Core.{Core}
 use Rattle.syntax_trees.specs.Reads.{Reads}
@@ -10,6 +12,7 @@ use Rattle.syntax_trees.specs.Tree.{Tree}
 use Rattle.syntax_trees.specs.Typing.{WellTyped}
 use Rattle.syntax.specs.Refusals.{Refuses}
 use Rattle.task_code.specs.Code.{Code}
+use Rattle.task_code.specs.Machine.{CodeState, GoesOn, Run}
 use Rattle.task_code.specs.Whole.{IsCode}
 use Rattle.agreement.specs.Compile.{compiled}
 use Rattle.agreement.specs.Headline.{Headline}
@@ -38,6 +41,9 @@ pub record Compiles (src : List ℕ) (code : Code) : Type 0 where
   pub is : code ≡ compiled script
   pub whole : IsCode code
   pub headline : Headline script code
+  -- never stuck, and each item once; two events for each item that was made and for each that was given back, at most
+  pub goes_on : (events : List Event) (st : CodeState) → Run code events st → GoesOn code st
+  pub bound : (events : List Event) (st : CodeState) → Run code events st → length events + 2 ≤ 2 * st.next + 2 * backs events
   pub flat : IsFlat code
 
 -- the text reads as a tree
