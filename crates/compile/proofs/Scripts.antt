@@ -1,36 +1,100 @@
--- What is read off a text that was read as a tree.
-use Rattle.std.proofs.Common.{◌≡◌, ℕ, Bool, true, false, List, [], Some, subst}
-use Rattle.syntax_trees.specs.Core.{Core, Stmt}
+-- What is known of a text that was read as a tree, and checked.
+use Rattle.std.proofs.Common.{◌≡◌, ℕ, List, [], ◌∷◌, Option, Some, None, refl, subst, sym, ap, ◌∙◌}
+use Rattle.std.specs.Prelude.{◌≢◌}
+use Rattle.lexer.specs.declared.token.Span.{Span}
+use Rattle.syntax_trees.specs.Core.{Core}
+use Rattle.syntax_trees.specs.Numbered.{numbered}
 use Rattle.syntax_trees.specs.Reads.{Reads}
 use Rattle.syntax_trees.specs.Resolved.{core}
 use Rattle.syntax_trees.specs.Single.{SinglyAssigned}
 use Rattle.syntax_trees.specs.Table.{Table}
 use Rattle.syntax_trees.specs.Tree.{Tree}
-use Rattle.agreement.specs.Lowered.{lowered, is_single, core_of}
+use Rattle.syntax_trees.specs.Typing.{WellTyped}
+use Rattle.types.specs.declared.fault.TypeFault.{TypeFault}
+use Rattle.types.specs.declared.fault.TypeFault.TheVariants as Type
+use Rattle.types.specs.Outcomes.{refused}
+use Rattle.types.specs.Scripts.{checked}
+use Rattle.assign_check.specs.declared.fault.AssignFault.{AssignFault}
+use Rattle.assign_check.specs.declared.fault.AssignFault.TheVariants as Assign
+use Rattle.assign_check.specs.Faults.{faults, first_fault}
+use Rattle.assign_check.proofs.Law.{singly_assigned, without_fault}
+use Rattle.agreement.specs.OfScalars.{first_other}
 use Rattle.agreement.specs.Scalars.{IsScalars}
-use Rattle.agreement.proofs.TheCore.{core_is}
-use Rattle.agreement.proofs.TheScalars.{is_scalars}
-use Rattle.agreement.proofs.TheSingle.{singly_assigned_core, not_singly_assigned}
-use Rattle.agreement.proofs.TheTypes.{well_typed}
-use Rattle.lowering.specs.Answers.{IsNotSingle}
-use Rattle.compile.specs.Compiles.{IsScriptOf, IsTwiceOrNever}
+use Rattle.agreement.proofs.ScalarCores.{is_scalars}
+use Rattle.lowering.specs.declared.fault.LowerFault.{LowerFault}
+use Rattle.lowering.specs.declared.fault.LowerFault.TheVariants as Lower
+use Rattle.compile.specs.Compiles.{IsScriptOf, IsIllTyped, IsNotSingle, IsNotYet, IsRefusedByTypes, IsRefusedByAssignments}
 
-pub script_of : (src : List ℕ) (tree : Tree) (t : Table) (sts : List Stmt) → Reads src tree → lowered t [] tree ≡ Some sts → is_single sts ≡ true → IsScriptOf src (core_of sts)
-script_of src tree t sts r h s = record {
-  tree = tree;
-  table = t;
-  reads = r;
-  typed = well_typed t tree sts h;
-  is = core_is t tree sts h;
-  single = subst SinglyAssigned (core_is t tree sts h) (singly_assigned_core t tree sts h s);
-  scalars = subst IsScalars (core_is t tree sts h) (is_scalars t tree r.parsed r.is_numbered sts h s);
-}
+-- a numbered tree for which this holds
+abbrev IfNumbered : Tree → Type 0 → Type 0
+IfNumbered tree P = (n : ℕ) (u : Tree) → tree ≡ numbered n u → P
 
-pub not_single_of : (src : List ℕ) (tree : Tree) (t : Table) → Reads src tree → IsNotSingle t tree → IsTwiceOrNever src
-not_single_of src tree t r n = record {
-  tree = tree;
-  table = t;
-  reads = r;
-  typed = well_typed t tree n.statements n.are;
-  not_single = λ k. not_singly_assigned t tree n.statements n.are n.not_single k;
-}
+typed_as_read : (src : List ℕ) (tree : Tree) (t : Table) → Reads src tree → IfNumbered tree (WellTyped tree t) → WellTyped tree t
+typed_as_read src tree t reads typed = typed 1 reads.parsed reads.is_numbered
+
+pub script_of : (src : List ℕ) (tree : Tree) (t : Table) (s : Core) → Reads src tree → IfNumbered tree (WellTyped tree t) → faults t tree ≡ [] → first_other t tree ≡ None → s ≡ core t tree
+    → IsScriptOf src s
+script_of src tree t s reads typed none all is =
+    let well = typed_as_read src tree t reads typed in
+    let single = singly_assigned 1 reads.parsed tree t reads.is_numbered well none in
+    record {
+      tree = tree;
+      table = t;
+      reads = reads;
+      typed = well;
+      is = sym is;
+      single = subst SinglyAssigned (sym is) single;
+      scalars = subst IsScalars (sym is) (is_scalars t tree reads.parsed reads.is_numbered well single all);
+    }
+
+ill_typed : (src : List ℕ) (tree : Tree) (f : TypeFault) → Reads src tree → f ≢ Type.Memory → (f ≢ Type.Memory → checked tree ≡ refused f) → (f ≢ Type.Memory → (t : Table) → ¬ WellTyped tree t)
+    → IsIllTyped src f
+ill_typed src tree f reads fault is none = record { tree = tree; reads = reads; is = is fault; ill_typed = none fault }
+
+pub refused_by_types : (src : List ℕ) (tree : Tree) (f : TypeFault) → Reads src tree → (f ≢ Type.Memory → checked tree ≡ refused f) → (f ≢ Type.Memory → (t : Table) → ¬ WellTyped tree t)
+    → IsRefusedByTypes src f
+refused_by_types src tree (Type.Unknown at) reads is none = ill_typed src tree (Type.Unknown at) reads (λ same. absurd (cc)) is none
+refused_by_types src tree (Type.Declared at) reads is none = ill_typed src tree (Type.Declared at) reads (λ same. absurd (cc)) is none
+refused_by_types src tree (Type.Mismatch at) reads is none = ill_typed src tree (Type.Mismatch at) reads (λ same. absurd (cc)) is none
+refused_by_types src tree (Type.WrongCount at) reads is none = ill_typed src tree (Type.WrongCount at) reads (λ same. absurd (cc)) is none
+refused_by_types src tree (Type.BadFormat at) reads is none = ill_typed src tree (Type.BadFormat at) reads (λ same. absurd (cc)) is none
+refused_by_types src tree (Type.NotAFunction at) reads is none = ill_typed src tree (Type.NotAFunction at) reads (λ same. absurd (cc)) is none
+refused_by_types src tree Type.Memory reads is none = (tree, reads)
+
+no_first : (t : Table) (tree : Tree) (f : AssignFault) → first_fault (faults t tree) ≡ Some f → faults t tree ≡ [] → ⊥
+no_first t tree f is none = let nothing : None ≡ Some f = sym (ap first_fault none) ∙ is in absurd (cc)
+
+not_single : (src : List ℕ) (tree : Tree) (t : Table) (f : AssignFault) → Reads src tree → IfNumbered tree (WellTyped tree t) → f ≢ Assign.Memory → (f ≢ Assign.Memory → first_fault (faults t tree) ≡ Some f)
+    → IsNotSingle src f
+not_single src tree t f reads typed fault is =
+    let well = typed_as_read src tree t reads typed in
+    record {
+      tree = tree;
+      table = t;
+      reads = reads;
+      typed = well;
+      is = is fault;
+      not_single = λ single. no_first t tree f (is fault) (without_fault 1 reads.parsed tree t reads.is_numbered well single);
+    }
+
+pub refused_by_assignments : (src : List ℕ) (tree : Tree) (t : Table) (f : AssignFault) → Reads src tree → IfNumbered tree (WellTyped tree t) → (f ≢ Assign.Memory → first_fault (faults t tree) ≡ Some f)
+    → IsRefusedByAssignments src f
+refused_by_assignments src tree t (Assign.AssignedTwice at) reads typed is = not_single src tree t (Assign.AssignedTwice at) reads typed (λ same. absurd (cc)) is
+refused_by_assignments src tree t (Assign.PartlyAssigned at) reads typed is = not_single src tree t (Assign.PartlyAssigned at) reads typed (λ same. absurd (cc)) is
+refused_by_assignments src tree t (Assign.NeverAssigned at) reads typed is = not_single src tree t (Assign.NeverAssigned at) reads typed (λ same. absurd (cc)) is
+refused_by_assignments src tree t (Assign.OuterInLoop at) reads typed is = not_single src tree t (Assign.OuterInLoop at) reads typed (λ same. absurd (cc)) is
+refused_by_assignments src tree t (Assign.WholeAndElements at) reads typed is = not_single src tree t (Assign.WholeAndElements at) reads typed (λ same. absurd (cc)) is
+refused_by_assignments src tree t (Assign.OutputUnassigned at) reads typed is = not_single src tree t (Assign.OutputUnassigned at) reads typed (λ same. absurd (cc)) is
+refused_by_assignments src tree t Assign.Memory reads typed is = (tree, reads)
+
+pub not_yet : (src : List ℕ) (tree : Tree) (t : Table) (at : Span) → Reads src tree → IfNumbered tree (WellTyped tree t) → faults t tree ≡ [] → first_other t tree ≡ Some at → IsNotYet src at
+not_yet src tree t at reads typed none other =
+    let well = typed_as_read src tree t reads typed in
+    record {
+      tree = tree;
+      table = t;
+      reads = reads;
+      typed = well;
+      single = singly_assigned 1 reads.parsed tree t reads.is_numbered well none;
+      other = other;
+    }

@@ -16,9 +16,15 @@ use Rattle.task_code.specs.Machine.{CodeState, GoesOn, Run}
 use Rattle.task_code.specs.Whole.{IsCode}
 use Rattle.agreement.specs.Compile.{compiled}
 use Rattle.agreement.specs.Headline.{Headline}
-use Rattle.agreement.specs.Lowered.{lowered}
+use Rattle.agreement.specs.OfScalars.{first_other}
 use Rattle.agreement.specs.Scalars.{IsScalars}
-use Rattle.lowering.specs.Answers.{stops}
+use Rattle.types.specs.declared.fault.TypeFault.{TypeFault}
+use Rattle.types.specs.declared.fault.TypeFault.TheVariants as Type
+use Rattle.types.specs.Outcomes.{refused}
+use Rattle.types.specs.Scripts.{checked}
+use Rattle.assign_check.specs.declared.fault.AssignFault.{AssignFault}
+use Rattle.assign_check.specs.declared.fault.AssignFault.TheVariants as Assign
+use Rattle.assign_check.specs.Faults.{faults, first_fault}
 use Rattle.lowering.specs.declared.fault.LowerFault.TheVariants as Lower
 use Rattle.board.specs.Flat.{IsFlat}
 use Rattle.compile.specs.declared.fault.CompileFault.{CompileFault}
@@ -50,28 +56,44 @@ pub record Compiles (src : List ℕ) (code : Code) : Type 0 where
 abbrev pub IsRead : List ℕ → Type 0
 IsRead src = (tree : Tree) × Reads src tree
 
--- the text reads as a tree of which nothing is lowered, for the part that begins here
-pub record IsNotYet (src : List ℕ) (at : Span) : Type 0 where
+-- the text reads as a tree that is well typed for no table of names, and this is the first fault that reading it meets
+pub record IsIllTyped (src : List ℕ) (fault : TypeFault) : Type 0 where
   pub tree : Tree
-  pub table : Table
   pub reads : Reads src tree
-  pub stops_at : stops table [] tree ≡ Some at
-  pub none : lowered table [] tree ≡ None
+  pub is : checked tree ≡ refused fault
+  pub ill_typed : (t : Table) → ¬ WellTyped tree t
 
--- the text reads as a tree that is well typed and not singly assigned
-pub record IsTwiceOrNever (src : List ℕ) : Type 0 where
+-- the text reads as a tree that is well typed and not singly assigned, and this is the fault that stands first
+pub record IsNotSingle (src : List ℕ) (fault : AssignFault) : Type 0 where
   pub tree : Tree
   pub table : Table
   pub reads : Reads src tree
   pub typed : WellTyped tree table
-  pub not_single : SinglyAssigned (core table tree) → ⊥
+  pub is : first_fault (faults table tree) ≡ Some fault
+  pub not_single : ¬ SinglyAssigned (core table tree)
+
+-- the text reads as a tree that is well typed and singly assigned, and a part of it that begins here is not one of scalars
+pub record IsNotYet (src : List ℕ) (at : Span) : Type 0 where
+  pub tree : Tree
+  pub table : Table
+  pub reads : Reads src tree
+  pub typed : WellTyped tree table
+  pub single : SinglyAssigned (core table tree)
+  pub other : first_other table tree ≡ Some at
+
+abbrev pub IsRefusedByTypes : List ℕ → TypeFault → Type 0
+IsRefusedByTypes src Type.Memory = IsRead src
+IsRefusedByTypes src f = IsIllTyped src f
+
+abbrev pub IsRefusedByAssignments : List ℕ → AssignFault → Type 0
+IsRefusedByAssignments src Assign.Memory = IsRead src
+IsRefusedByAssignments src f = IsNotSingle src f
 
 -- why a text is refused, by the first step that refuses it
 abbrev pub IsRefused : List ℕ → CompileFault → Type 0
 IsRefused src (Fault.Parse f) = Refuses src f
-IsRefused src (Fault.Types f) = IsRead src
+IsRefused src (Fault.Types f) = IsRefusedByTypes src f
+IsRefused src (Fault.Assignments f) = IsRefusedByAssignments src f
 IsRefused src (Fault.Lower (Lower.NotYet at)) = IsNotYet src at
-IsRefused src (Fault.Lower (Lower.AssignedTwice at)) = IsTwiceOrNever src
-IsRefused src (Fault.Lower (Lower.NeverAssigned at)) = IsTwiceOrNever src
 IsRefused src (Fault.Lower Lower.Memory) = IsRead src
 IsRefused src Fault.Memory = IsRead src

@@ -16,7 +16,7 @@ use task_code::code::Code;
 /// # Errors
 ///
 /// The refusal of the first step that refuses the script, or `Memory`.
-#[tactic(auto, using(crate::proofs::Scripts::script_of, crate::proofs::Scripts::not_single_of))]
+#[tactic(auto, using(crate::proofs::Scripts::script_of, crate::proofs::Scripts::refused_by_types, crate::proofs::Scripts::refused_by_assignments, crate::proofs::Scripts::not_yet))]
 pub fn read<A: Allocator + Clone>(
     machine: Global,
     alloc: A,
@@ -33,6 +33,9 @@ pub fn read<A: Allocator + Clone>(
         Ok(typed) => typed,
         Err(fault) => return Err(CompileFault::Types(fault)),
     };
+    if let Err(fault) = assign_check::check(machine, &script, &typed) {
+        return Err(CompileFault::Assignments(fault));
+    }
     match lower(machine, &script, &typed) {
         Ok(flow) => Ok(flow),
         Err(fault) => Err(CompileFault::Lower(fault)),

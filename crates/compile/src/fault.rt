@@ -1,6 +1,7 @@
 //! Why a script has no code.
 ghost use Rattle.std.specs.Prelude.{◌≡◌};
 
+use assign_check::fault::AssignFault;
 use lexer::token::Span;
 use lowering::fault::LowerFault;
 use std::alloc::AllocError;
@@ -17,7 +18,9 @@ pub enum CompileFault {
     Parse(ParseFault),
     /// The script is not well typed.
     Types(TypeFault),
-    /// A form that has no code yet, or a variable that is not assigned as it must be.
+    /// The script is not singly assigned.
+    Assignments(AssignFault),
+    /// A form that has no code yet.
     Lower(LowerFault),
     /// Memory that was asked for was refused.
     Memory,
@@ -28,8 +31,9 @@ impl CompileFault {
     pub fn span(self) -> Option<Span> {
         match self {
             CompileFault::Parse(fault) => fault.span(),
-            CompileFault::Types(fault) => type_span(fault),
-            CompileFault::Lower(fault) => lower_span(fault),
+            CompileFault::Types(fault) => fault.span(),
+            CompileFault::Assignments(fault) => fault.span(),
+            CompileFault::Lower(fault) => fault.span(),
             CompileFault::Memory => None,
         }
     }
@@ -40,6 +44,7 @@ impl fmt::Display for CompileFault {
         match self {
             CompileFault::Parse(fault) => write!(f, "{fault}"),
             CompileFault::Types(fault) => write!(f, "{fault}"),
+            CompileFault::Assignments(fault) => write!(f, "{fault}"),
             CompileFault::Lower(fault) => write!(f, "{fault}"),
             CompileFault::Memory => write!(f, "no memory"),
         }
@@ -47,26 +52,3 @@ impl fmt::Display for CompileFault {
 }
 
 impl Error for CompileFault {}
-
-/// The place of a broken rule of the types.
-fn type_span(fault: TypeFault) -> Option<Span> {
-    match fault {
-        TypeFault::Unknown(span) => Some(span),
-        TypeFault::Declared(span) => Some(span),
-        TypeFault::Mismatch(span) => Some(span),
-        TypeFault::WrongCount(span) => Some(span),
-        TypeFault::BadFormat(span) => Some(span),
-        TypeFault::NotAFunction(span) => Some(span),
-        TypeFault::Memory => None,
-    }
-}
-
-/// The place of what is not lowered.
-fn lower_span(fault: LowerFault) -> Option<Span> {
-    match fault {
-        LowerFault::NotYet(span) => Some(span),
-        LowerFault::AssignedTwice(span) => Some(span),
-        LowerFault::NeverAssigned(span) => Some(span),
-        LowerFault::Memory => None,
-    }
-}
