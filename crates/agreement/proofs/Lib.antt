@@ -1,4 +1,6 @@
 pub mod Members
+pub mod Made
+pub mod ScalarCores
 pub mod Reading
 pub mod TheCore
 pub mod TheTypes

@@ -15,29 +15,16 @@ use Rattle.syntax_trees.specs.declared.tree.Prefix.{Prefix}
 use Rattle.syntax_trees.specs.declared.tree.Shape.{Shape}
 use Rattle.syntax_trees.specs.Tree as T
 use Rattle.syntax_trees.specs.Tree.{Word, Node, Expression, expression, number, text, variable, prefixed, chain, Expressions, no_expressions, and_expression, expressions_of, Declaration, RightSide, value, list, Calling, Command, calls, Statement, statement, Tree, import, function, single}
-use Rattle.syntax_trees.specs.Core.{Owned, local, here, Expr, literal, name, operator, Exprs, none, also, Action, declare, assign, print, Stmt, stmt, Block, no_stmts, stmts, Core}
+use Rattle.syntax_trees.specs.Core.{Owned, local, here, Expr, literal, name, operator, none, also, Action, declare, assign, print, Stmt, stmt}
 use Rattle.syntax_trees.specs.Parts.{stmt_action}
 use Rattle.syntax_trees.specs.Resolved.{signs, factors, number_of, stmt_of}
 use Rattle.syntax_trees.specs.Table as table
 use Rattle.syntax_trees.specs.Table.{Table, Callee, built_in, builtin_text}
+pub use Rattle.agreement.specs.Blocks.{operands_of, block_of, core_of}
 use Rattle.agreement.specs.Compile.{node_of, named, action_expr, declared}
 use Rattle.agreement.specs.Scalars.{alone}
 
 -- LISTS
-
--- operands, one after another
-abbrev pub operands_of : List Expr → Exprs
-operands_of [] = none
-operands_of (e ∷ es) = also e (operands_of es)
-
--- statements as a block
-abbrev pub block_of : List Stmt → Block
-block_of [] = no_stmts
-block_of (s ∷ ss) = stmts s (block_of ss)
-
--- the core of a script without functions
-abbrev pub core_of : List Stmt → Core
-core_of sts = record { body = block_of sts; functions = [] }
 
 -- one in front of others, where it and they were read
 abbrev pub in_front : {X : Type 0} → Option X → Option (List X) → Option (List X)
