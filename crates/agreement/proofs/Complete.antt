@@ -28,6 +28,7 @@ use Rattle.syntax_trees.proofs.Tested.{both, self_eq}
 use Rattle.agreement.specs.Lowered.{operands_of, in_front, one_after_another, Bounds, with_word, found, is_local, is_scalar, is_int, agrees, resolved, is_sign, is_factor, arithmetic, chained, lowered_expression, lowered_operands, lowered_right, is_declarable, takes, is_printf, lowered_line, lowered_print, lowered_command, is_offset, lowered_statement, behind, lowered}
 use Rattle.agreement.specs.Scalars.{alone}
 use Rattle.agreement.specs.WholeNumbers.{IsNumber, a_literal, a_name, a_negative, a_chain, AllNumbers, no_number, one_number, OnNumbers, a_declaration, a_definition, an_assignment, a_line, start, OfNumbers, no_part, an_import, a_statement}
+use Rattle.agreement.specs.OfScalars.{start_of}
 use Rattle.agreement.proofs.Offsets.{starts_fit}
 use Rattle.agreement.proofs.Reading as reading
 use Rattle.agreement.proofs.TheTypes.{or_else, found_push}
@@ -306,8 +307,12 @@ no_functions _ (an_import {ps = ps} n) = no_functions ps n
 no_functions _ (a_statement {ps = ps} n ns) = no_functions ps ns
 
 -- NOTHING OF THIS FORM IS REFUSED
+
+begins_so : (c : Statement) → (start_of c).from < 2 ^ 32 → start c < 2 ^ 32
+begins_so (statement nd c) h = h
+
 pub all_read : (bytes : List ℕ) (t : Table) (tree : Tree) → Reads bytes tree → OfNumbers tree → WellTyped tree t → (sts : List Stmt) × (lowered t [] tree ≡ Some sts)
-all_read bytes t tree r n w = parts_read empty n (starts_fit bytes tree r n) (subst (λ (fs : List Signature). PartsTyped fs t [] [] tree) (no_functions tree n) w)
+all_read bytes t tree r n w = parts_read empty n (λ c m. begins_so c (starts_fit bytes tree r c m)) (subst (λ (fs : List Signature). PartsTyped fs t [] [] tree) (no_functions tree n) w)
 
 -- AND NOTHING ELSE IS READ
 

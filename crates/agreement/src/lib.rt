@@ -6,19 +6,20 @@ ghost use Rattle.task_code.specs.Whole.{IsCode};
 ghost use Rattle.agreement.specs.Compile.{compiled};
 ghost use Rattle.agreement.specs.Headline.{Headline};
 ghost use Rattle.agreement.specs.Lowered.{core_of, is_single, lowered};
-ghost use Rattle.agreement.specs.OfScalars.{first_other};
+ghost use Rattle.agreement.specs.OfScalars.{first_other, is_offset, start_of};
 ghost use Rattle.agreement.specs.Scalars.{IsScalars};
 ghost use Rattle.agreement.specs.WholeNumbers.{OfNumbers};
 ghost use Rattle.agreement.specs.Worked.{used_before_assigned, in_a_circle};
 ghost use Rattle.std.specs.Prelude.{◌≡◌, ℕ, List, [], Some, None, true, false};
 ghost use Rattle.syntax_trees.specs.ExampleTrees.{table_of_read_before_assignment, tree_of_read_before_assignment, table_of_fault_beside_unknown, tree_of_fault_beside_unknown, table_of_too_large, tree_of_too_large, table_of_strict_and, tree_of_strict_and, table_of_loop_reads_what_it_writes, tree_of_loop_reads_what_it_writes, table_of_outputs_are_the_callers, tree_of_outputs_are_the_callers};
 ghost use Rattle.syntax_trees.specs.Meaning.{Meaning};
+ghost use Rattle.syntax_trees.specs.Members.{◌∈◌};
 ghost use Rattle.syntax_trees.specs.Outcomes.{Blocked};
 ghost use Rattle.syntax_trees.specs.Reads.{Reads};
 ghost use Rattle.syntax_trees.specs.Resolved.{core};
 ghost use Rattle.syntax_trees.specs.Single.{SinglyAssigned};
 ghost use Rattle.syntax_trees.specs.Table.{Table};
-ghost use Rattle.syntax_trees.specs.Tree.{Tree};
+ghost use Rattle.syntax_trees.specs.Tree.{Statement, Tree, single};
 ghost use Rattle.syntax_trees.specs.Typing.{WellTyped};
 ghost use Rattle.task_code.specs.Worked as Codes;
 
@@ -40,13 +41,15 @@ pub fn worked_scripts()
 {}
 
 /// A text that reads as a tree in which every part is of scalars, well typed by a table and singly assigned, has a core of
-/// scalars: so its code is whole, and every run of the code owes to the script's meaning what the headline says.
+/// scalars: so its code is whole, and every run of the code owes to the script's meaning what the headline says. No
+/// statement of such a text is another one for its offset, since each offset fits.
 pub fn scripts_of_scalars()
     ensures scalars { (bytes : List ℕ) (t : Table) (tree : Tree) → Reads bytes tree → WellTyped tree t → SinglyAssigned (core t tree) → first_other t tree ≡ None → IsScalars (core t tree) }
     ensures code { (bytes : List ℕ) (t : Table) (tree : Tree) → Reads bytes tree → WellTyped tree t → SinglyAssigned (core t tree) → first_other t tree ≡ None
         → IsCode (compiled (core t tree)) }
     ensures headline { (bytes : List ℕ) (t : Table) (tree : Tree) → Reads bytes tree → WellTyped tree t → SinglyAssigned (core t tree) → first_other t tree ≡ None
         → Headline (core t tree) (compiled (core t tree)) }
+    ensures offsets { (bytes : List ℕ) (tree : Tree) (s : Statement) → Reads bytes tree → single s ∈ tree → is_offset (start_of s).from ≡ true }
 {}
 
 /// What is read off the tree of a script of whole numbers, for any table of names, is what the script means: the script is
