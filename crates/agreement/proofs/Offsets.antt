@@ -306,7 +306,7 @@ rising_below : (least most bound : ℕ) (ts : List Lexeme) → most ≤ bound �
 rising_below least most bound [] l h = tt
 rising_below least most bound (t ∷ ts) l h = let a = h.1 in let b = h.2 in (omega arith, rising_below (t.span).to most bound ts l h.3)
 
-pub starts_fit : (bytes : List ℕ) (tree : Tree) → Reads bytes tree → (c : Statement) → single c ∈ tree → (start_of c).from < 2 ^ 32
+starts_fit : (bytes : List ℕ) (tree : Tree) → Reads bytes tree → (c : Statement) → single c ∈ tree → (start_of c).from < 2 ^ 32
 starts_fit bytes tree r c m =
     let items : map Ok r.tokens ≡ items_from 0 bytes = only_tokens 0 bytes (map Ok r.tokens) r.lexed in
     let rise = subst (SpansRise 0 (length bytes)) (sym items) (spans_rise bytes) in

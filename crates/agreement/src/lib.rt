@@ -1,16 +1,14 @@
 //! What every run of a script's code owes to the script's meaning.
 #![tactic(auto)]
 
-ghost use Rattle.syntax_trees.specs.Core.{Core, Stmt};
+ghost use Rattle.syntax_trees.specs.Core.{Core};
 ghost use Rattle.task_code.specs.Whole.{IsCode};
 ghost use Rattle.agreement.specs.Compile.{compiled};
 ghost use Rattle.agreement.specs.Headline.{Headline};
-ghost use Rattle.agreement.specs.Lowered.{core_of, is_single, lowered};
 ghost use Rattle.agreement.specs.OfScalars.{first_other, is_offset, start_of};
 ghost use Rattle.agreement.specs.Scalars.{IsScalars};
-ghost use Rattle.agreement.specs.WholeNumbers.{OfNumbers};
 ghost use Rattle.agreement.specs.Worked.{used_before_assigned, in_a_circle};
-ghost use Rattle.std.specs.Prelude.{◌≡◌, ℕ, List, [], Some, None, true, false};
+ghost use Rattle.std.specs.Prelude.{◌≡◌, ℕ, List, [], Some, None, true};
 ghost use Rattle.syntax_trees.specs.ExampleTrees.{table_of_read_before_assignment, tree_of_read_before_assignment, table_of_fault_beside_unknown, tree_of_fault_beside_unknown, table_of_too_large, tree_of_too_large, table_of_strict_and, tree_of_strict_and, table_of_loop_reads_what_it_writes, tree_of_loop_reads_what_it_writes, table_of_outputs_are_the_callers, tree_of_outputs_are_the_callers};
 ghost use Rattle.syntax_trees.specs.Meaning.{Meaning};
 ghost use Rattle.syntax_trees.specs.Members.{◌∈◌};
@@ -50,23 +48,6 @@ pub fn scripts_of_scalars()
     ensures headline { (bytes : List ℕ) (t : Table) (tree : Tree) → Reads bytes tree → WellTyped tree t → SinglyAssigned (core t tree) → first_other t tree ≡ None
         → Headline (core t tree) (compiled (core t tree)) }
     ensures offsets { (bytes : List ℕ) (tree : Tree) (s : Statement) → Reads bytes tree → single s ∈ tree → is_offset (start_of s).from ≡ true }
-{}
-
-/// What is read off the tree of a script of whole numbers, for any table of names, is what the script means: the script is
-/// well typed by this table, and these statements are its core. Where they pass the test of single assignment, they are of
-/// scalars, and every run of their code owes to the script's meaning what the headline says. The test is exact: a script
-/// that passes is singly assigned, and one that does not is not. And just the well typed scripts of whole numbers are read.
-pub fn lowered_scripts()
-    ensures core { (t : Table) (tree : Tree) (sts : List Stmt) → lowered t [] tree ≡ Some sts → core t tree ≡ core_of sts }
-    ensures typed { (t : Table) (tree : Tree) (sts : List Stmt) → lowered t [] tree ≡ Some sts → WellTyped tree t }
-    ensures single { (t : Table) (tree : Tree) (sts : List Stmt) → lowered t [] tree ≡ Some sts → is_single sts ≡ true → SinglyAssigned (core t tree) }
-    ensures not_single { (t : Table) (tree : Tree) (sts : List Stmt) → lowered t [] tree ≡ Some sts → is_single sts ≡ false → SinglyAssigned (core t tree) → ⊥ }
-    ensures scalars { (bytes : List ℕ) (t : Table) (tree : Tree) (sts : List Stmt) → Reads bytes tree → lowered t [] tree ≡ Some sts → is_single sts ≡ true
-        → IsScalars (core t tree) }
-    ensures headline { (bytes : List ℕ) (t : Table) (tree : Tree) (sts : List Stmt) → Reads bytes tree → lowered t [] tree ≡ Some sts → is_single sts ≡ true
-        → Headline (core t tree) (compiled (core_of sts)) }
-    ensures only_numbers { (t : Table) (tree : Tree) (sts : List Stmt) → lowered t [] tree ≡ Some sts → OfNumbers tree }
-    ensures all_read { (bytes : List ℕ) (t : Table) (tree : Tree) → Reads bytes tree → OfNumbers tree → WellTyped tree t → (sts : List Stmt) × (lowered t [] tree ≡ Some sts) }
 {}
 
 /// Each part of the trees of `int x; int y; x = y + 1; y = 2; printf("%i", x);`, of
