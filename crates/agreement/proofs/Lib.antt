@@ -1,11 +1,7 @@
 pub mod Members
-pub mod Reading
-pub mod TheCore
-pub mod TheTypes
-pub mod TheScalars
-pub mod TheSingle
+pub mod Made
+pub mod ScalarCores
 pub mod Offsets
-pub mod Complete
 pub mod Evaluation
 pub mod Whole
 pub mod Sources

@@ -22,31 +22,31 @@ use Rattle.agreement.specs.Compile.{action_expr, is_act, declared, script_list}
 use Rattle.agreement.specs.Scalars.{GivesScalar, OverScalars, a_literal, a_name, an_operator, OnScalars, declares, assigns, prints, asserts}
 use Rattle.agreement.proofs.Evaluation.{round_of}
 
-abbrev Answer : Type 0
+abbrev pub Answer : Type 0
 Answer = Result Value OpFault
 
 pub ok_same : {v u : Value} → ◌≡◌ {A = Result Value OpFault} (Ok v) (Ok u) → v ≡ u
 ok_same h = cc
 
-err_ok : {A : Type 0} {f : OpFault} {v : Value} → ◌≡◌ {A = Result Value OpFault} (Err f) (Ok v) → A
+pub err_ok : {A : Type 0} {f : OpFault} {v : Value} → ◌≡◌ {A = Result Value OpFault} (Err f) (Ok v) → A
 err_ok h = absurd (cc)
 
 -- a value that a result has is a scalar
-abbrev IsOne : Answer → Type 0
+abbrev pub IsOne : Answer → Type 0
 IsOne r = (v : Value) → r ≡ Ok v → v ≡ One (scalar_of v)
 
-one_is : (x : Scalar) → IsOne (Ok (One x))
+pub one_is : (x : Scalar) → IsOne (Ok (One x))
 one_is x v h = subst (λ (z : Value). z ≡ One (scalar_of z)) (ok_same h) refl
 
-whole_one : (r : Result ℤ OpFault) → IsOne (whole r)
+pub whole_one : (r : Result ℤ OpFault) → IsOne (whole r)
 whole_one (Ok n) v h = one_is _ v h
 whole_one (Err f) v h = err_ok h
 
-if_one : (b : Bool) (x y : Answer) → IsOne x → IsOne y → IsOne (if b then x else y)
+pub if_one : (b : Bool) (x y : Answer) → IsOne x → IsOne y → IsOne (if b then x else y)
 if_one true x y p q = p
 if_one false x y p q = q
 
-applied_one : (o : Operation) (vs : List Value) → GivesScalar o → IsOne (applied o vs)
+pub applied_one : (o : Operation) (vs : List Value) → GivesScalar o → IsOne (applied o vs)
 applied_one (sum_of signs) vs g = if_one (is_text (first_of vs)) (spelling (joined vs)) (whole (chain added signs vs)) (one_is _) (whole_one (chain added signs vs))
 applied_one (product_of factors) vs g = whole_one (chain scaled factors vs)
 applied_one (compare order) vs g = one_is _
@@ -64,11 +64,11 @@ applied_one (printf pieces) vs g = one_is _
 applied_one assert vs g = if_one (truth_of (first_of vs)) (yes_or_no true) (Err _) (one_is _) (λ v h. err_ok h)
 applied_one literal vs g = absurd g
 
-on_one : (o : Operation) (r : Result (List Value) OpFault) → GivesScalar o → IsOne (on_all o r)
+pub on_one : (o : Operation) (r : Result (List Value) OpFault) → GivesScalar o → IsOne (on_all o r)
 on_one o (Ok vs) g = applied_one o vs g
 on_one o (Err f) g = λ v h. err_ok h
 
-one_value : {s : Core} {K : Knowledge} {p : Path} {ds : List ℕ} {e : Expr} {r : Answer} → OverScalars ds e → ValueUnder s K p e r → IsOne r
+pub one_value : {s : Core} {K : Knowledge} {p : Path} {ds : List ℕ} {e : Expr} {r : Answer} → OverScalars ds e → ValueUnder s K p e r → IsOne r
 one_value a_literal of_literal = one_is _
 one_value (a_name d) (of_name h) = one_is _
 one_value (an_operator {o = o} g es) (of_operator {rs = rs} vs q) = λ v h. on_one o (all_values rs) g v (q ∙ h)
@@ -78,18 +78,18 @@ text_on : (ps : List Piece) (r : Result (List Value) OpFault) (v : Value) → on
 text_on ps (Ok vs) v h = (_, sym (ok_same h))
 text_on ps (Err f) v h = err_ok h
 
-true_if : (b : Bool) (f : OpFault) (v : Value) → (if b then yes_or_no true else Err f) ≡ Ok v → v ≡ One (Truth true)
+pub true_if : (b : Bool) (f : OpFault) (v : Value) → (if b then yes_or_no true else Err f) ≡ Ok v → v ≡ One (Truth true)
 true_if true f v h = sym (ok_same h)
 true_if false f v h = err_ok h
 
-true_on : (r : Result (List Value) OpFault) (v : Value) → on_all assert r ≡ Ok v → v ≡ One (Truth true)
+pub true_on : (r : Result (List Value) OpFault) (v : Value) → on_all assert r ≡ Ok v → v ≡ One (Truth true)
 true_on (Ok vs) v h = true_if (truth_of (first_of vs)) _ v h
 true_on (Err f) v h = err_ok h
 
 pub text_value : {s : Core} {K : Knowledge} {p : Path} {ps : List Piece} {es : Exprs} {v : Value} → ValueUnder s K p (operator (printf ps) es) (Ok v) → (bytes : List ℕ) × (v ≡ One (Text bytes))
 text_value {ps = ps} {v = v} (of_operator {rs = rs} vs q) = text_on ps (all_values rs) v q
 
-true_value : {s : Core} {K : Knowledge} {p : Path} {es : Exprs} {v : Value} → ValueUnder s K p (operator assert es) (Ok v) → v ≡ One (Truth true)
+pub true_value : {s : Core} {K : Knowledge} {p : Path} {es : Exprs} {v : Value} → ValueUnder s K p (operator assert es) (Ok v) → v ≡ One (Truth true)
 true_value {v = v} (of_operator {rs = rs} vs q) = true_on (all_values rs) v q
 
 module _ (s : Core) where

@@ -1,5 +1,5 @@
 -- Each statement of a text begins within the text.
-use Rattle.std.proofs.Common.{◌≡◌, ℕ, zero, suc, ◌+◌, ◌<◌, ◌≤◌, Bool, true, false, List, [], ◌∷◌, map, length, Option, Some, None, refl, sym, ap, subst, arith}
+use Rattle.std.proofs.Common.{◌≡◌, ℕ, zero, suc, ◌+◌, ◌<◌, ◌≤◌, Bool, true, false, List, [], ◌∷◌, map, length, Some, None, refl, sym, ap, subst, arith}
 use Rattle.std.specs.Prelude.{Ok, ◌^◌}
 use Rattle.lexer.specs.declared.token.Span.{Span}
 use Rattle.lexer.specs.Reading.{items_from}
@@ -9,15 +9,13 @@ use Rattle.lexer.specs.declared.token.TokenKind.TheVariants as Kind
 use Rattle.lexer.specs.Items.{Lexeme, SpansRise}
 use Rattle.syntax_trees.specs.declared.tree.Level.{Level}
 use Rattle.syntax_trees.specs.Kinds.{repeats}
-use Rattle.syntax_trees.specs.Rules.{Place, Rule, The, ◌⋆◌, ◌▹◌, ◌◃◌, Nothing, Never, Many, Maybe, AtMostOne, Perhaps, Made, Commas, Round, Square, Deeper, cons}
-use Rattle.syntax_trees.specs.Grammar.{first_of, IsName, IsOperator, chained, Repeated, IsChain, IsExprOver, AreArguments, IsUnaryOver, a_not, a_negative, a_number, a_string, a_true, a_false, a_name, an_element, a_call, a_parenthesis, IsUnary, IsExpr, IsType, IsDecl, IsCall, IsRight, a_value, a_list, IsPrio, IsSmall, IsPriority, IsModule, io, assert, string, IsStmtOver, a_declaration, an_assignment, a_write, many_assigned, an_if, a_foreach, a_wait, IsBlockOver, IsStmt, IsPart, an_import, a_function, a_statement, does, or_zero}
+use Rattle.syntax_trees.specs.Rules.{Place, Rule, The, ◌⋆◌, ◌▹◌, ◌◃◌, Nothing, Never, Many, Maybe, AtMostOne, Perhaps, Made, Commas, Round, Square, Curly, Deeper, cons}
+use Rattle.syntax_trees.specs.Grammar.{first_of, IsName, IsOperator, chained, Repeated, IsChain, IsExprOver, AreArguments, IsUnaryOver, a_not, a_negative, a_number, a_string, a_true, a_false, a_name, an_element, a_call, a_parenthesis, IsUnary, IsExpr, IsType, IsDecl, AreParameters, AreNames, IsCall, IsRight, a_value, a_list, IsPrio, IsSmall, IsPriority, IsRange, IsSource, an_array, a_range, IsElse, a_block, IsModule, io, assert, string, IsStmtOver, a_declaration, an_assignment, a_write, many_assigned, an_if, a_foreach, a_wait, IsBlockOver, IsStmt, IsBlock, IsPart, an_import, a_function, a_statement, does}
 use Rattle.syntax_trees.specs.Members.{◌∈◌, first, later}
-use Rattle.syntax_trees.specs.Numbered.{numbered, numbered_statement, statement_size}
+use Rattle.syntax_trees.specs.Numbered.{numbered, numbered_statement, statement_size, composite_size}
 use Rattle.syntax_trees.specs.Reads.{Reads}
-use Rattle.syntax_trees.specs.Tree.{Expression, Statement, statement, Command, declare, assign, calls, Body, Part, Tree, import, function, single}
-use Rattle.syntax_trees.specs.View.{choice_of}
-use Rattle.agreement.specs.WholeNumbers as numbers
-use Rattle.agreement.specs.WholeNumbers.{OnNumbers, start, OfNumbers}
+use Rattle.syntax_trees.specs.Tree.{Expression, Statement, statement, Command, Body, Part, Tree, import, function, single}
+use Rattle.agreement.specs.OfScalars.{is_offset, start_of}
 
 -- each token begins below an offset
 abbrev Below : ℕ → List Lexeme → Type 0
@@ -79,6 +77,9 @@ module _ (most : ℕ) where
 
   keeps_square : {A : Type 0} (R : Rule A) → Keeps most R → Keeps most (Square R)
   keeps_square R r = keeps_then (The Kind.OpenSquare) (R ◃ The Kind.CloseSquare) (keeps_the Kind.OpenSquare) (keeps_before R (The Kind.CloseSquare) r (keeps_the Kind.CloseSquare))
+
+  keeps_curly : {A : Type 0} (R : Rule A) → Keeps most R → Keeps most (Curly R)
+  keeps_curly R r = keeps_then (The Kind.OpenCurly) (R ◃ The Kind.CloseCurly) (keeps_the Kind.OpenCurly) (keeps_before R (The Kind.CloseCurly) r (keeps_the Kind.CloseCurly))
 
   -- EXPRESSIONS
 
@@ -172,56 +173,108 @@ module _ (most : ℕ) where
   keeps_module s t u (assert h e) b = keeps_the Kind.Name s t u h b
   keeps_module s t u (string h) b = keeps_the Kind.String s t u h b
 
+  keeps_names : (depth : ℕ) → Keeps most (AreNames depth)
+  keeps_names depth = keeps_round (Deeper (λ d. Commas IsName) depth) (keeps_deeper (λ d. Commas IsName) (λ d. keeps_commas IsName keeps_name) depth)
+
+  keeps_parameters : (depth : ℕ) → Keeps most (AreParameters depth)
+  keeps_parameters depth =
+      keeps_round (Deeper (λ d. Perhaps (Commas (IsDecl d))) depth)
+      (keeps_deeper (λ d. Perhaps (Commas (IsDecl d))) (λ d. keeps_perhaps (Commas (IsDecl d)) (keeps_commas (IsDecl d) (keeps_decl d))) depth)
+
+  keeps_range : (depth : ℕ) → Keeps most (IsRange depth)
+  keeps_range depth s x u h b =
+      keeps_square _
+      (keeps_deeper (λ d. IsExpr d ⋆ ((The Kind.Colon ▹ IsExpr d) ⋆ Maybe (The Kind.Colon ▹ IsExpr d)))
+      (λ d. keeps_both _ _ (keeps_expr d) (keeps_both _ _ (keeps_then _ _ (keeps_the Kind.Colon) (keeps_expr d)) (keeps_maybe _ (keeps_then _ _ (keeps_the Kind.Colon) (keeps_expr d))))) depth)
+      s h.0 u h.1 b
+
+  keeps_source : (depth : ℕ) → Keeps most (IsSource depth)
+  keeps_source depth s x u (an_array w h e) b = keeps_name s w u h b
+  keeps_source depth s x u (a_range h) b = keeps_range depth s x u h b
+
+  keeps_else : (B : Rule Body) (S : Rule Statement) → Keeps most B → Keeps most S → Keeps most (IsElse B S)
+  keeps_else B S p q s x u (a_block h) b = p s x u h b
+  keeps_else B S p q s x u (an_if y t v g h e) b = q s y u h b
+
+  keeps_statement_over : (depth : ℕ) (B : Rule Body) (S : Rule Statement) → Keeps most B → Keeps most S → Keeps most (IsStmtOver depth B S)
+  keeps_statement_over depth B S p q s c u (a_declaration x h e) b =
+      keeps_both (IsDecl depth) (Maybe (The Kind.Assign ▹ IsRight depth) ◃ The Kind.Semicolon) (keeps_decl depth)
+      (keeps_before (Maybe (The Kind.Assign ▹ IsRight depth)) (The Kind.Semicolon)
+      (keeps_maybe (The Kind.Assign ▹ IsRight depth) (keeps_then (The Kind.Assign) (IsRight depth) (keeps_the Kind.Assign) (keeps_right depth))) (keeps_the Kind.Semicolon)) s x u h b
+  keeps_statement_over depth B S p q s c u (an_assignment x h e) b =
+      keeps_both IsName (The Kind.Assign ▹ (IsRight depth ◃ The Kind.Semicolon)) keeps_name
+      (keeps_then (The Kind.Assign) (IsRight depth ◃ The Kind.Semicolon) (keeps_the Kind.Assign)
+      (keeps_before (IsRight depth) (The Kind.Semicolon) (keeps_right depth) (keeps_the Kind.Semicolon))) s x u h b
+  keeps_statement_over depth B S p q s c u (a_write x h e) b =
+      keeps_both IsName (Square (Deeper IsExpr depth) ⋆ (The Kind.Assign ▹ (IsExpr depth ◃ The Kind.Semicolon))) keeps_name
+      (keeps_both (Square (Deeper IsExpr depth)) (The Kind.Assign ▹ (IsExpr depth ◃ The Kind.Semicolon)) (keeps_square (Deeper IsExpr depth) (keeps_deeper IsExpr keeps_expr depth))
+      (keeps_then (The Kind.Assign) (IsExpr depth ◃ The Kind.Semicolon) (keeps_the Kind.Assign)
+      (keeps_before (IsExpr depth) (The Kind.Semicolon) (keeps_expr depth) (keeps_the Kind.Semicolon)))) s x u h b
+  keeps_statement_over depth B S p q s c u (many_assigned x h e) b =
+      keeps_both (AreNames depth) (The Kind.Assign ▹ (IsCall depth ◃ The Kind.Semicolon)) (keeps_names depth)
+      (keeps_then (The Kind.Assign) (IsCall depth ◃ The Kind.Semicolon) (keeps_the Kind.Assign)
+      (keeps_before (IsCall depth) (The Kind.Semicolon) (keeps_call depth) (keeps_the Kind.Semicolon))) s x u h b
+  keeps_statement_over depth B S p q s c u (a_call x h e) b =
+      keeps_both (Maybe IsPriority) (IsCall depth ◃ The Kind.Semicolon) (keeps_maybe IsPriority keeps_priority)
+      (keeps_before (IsCall depth) (The Kind.Semicolon) (keeps_call depth) (keeps_the Kind.Semicolon)) s x u h b
+  keeps_statement_over depth B S p q s c u (an_if x h e) b =
+      keeps_then (The Kind.If) (Round (Deeper IsExpr depth) ⋆ (B ⋆ Maybe (The Kind.Else ▹ IsElse B S))) (keeps_the Kind.If)
+      (keeps_both (Round (Deeper IsExpr depth)) (B ⋆ Maybe (The Kind.Else ▹ IsElse B S)) (keeps_round (Deeper IsExpr depth) (keeps_deeper IsExpr keeps_expr depth))
+      (keeps_both B (Maybe (The Kind.Else ▹ IsElse B S)) p
+      (keeps_maybe (The Kind.Else ▹ IsElse B S) (keeps_then (The Kind.Else) (IsElse B S) (keeps_the Kind.Else) (keeps_else B S p q))))) s x u h b
+  keeps_statement_over depth B S p q s c u (a_foreach x h e) b =
+      keeps_then (The Kind.Foreach) (IsName ⋆ (Maybe (The Kind.Comma ▹ IsName) ⋆ (The Kind.In ▹ (IsSource depth ⋆ B)))) (keeps_the Kind.Foreach)
+      (keeps_both IsName (Maybe (The Kind.Comma ▹ IsName) ⋆ (The Kind.In ▹ (IsSource depth ⋆ B))) keeps_name
+      (keeps_both (Maybe (The Kind.Comma ▹ IsName)) (The Kind.In ▹ (IsSource depth ⋆ B))
+      (keeps_maybe (The Kind.Comma ▹ IsName) (keeps_then (The Kind.Comma) IsName (keeps_the Kind.Comma) keeps_name))
+      (keeps_then (The Kind.In) (IsSource depth ⋆ B) (keeps_the Kind.In) (keeps_both (IsSource depth) B (keeps_source depth) p)))) s x u h b
+  keeps_statement_over depth B S p q s c u (a_wait x h e) b =
+      keeps_then (The Kind.Wait) (AreNames depth ⋆ B) (keeps_the Kind.Wait) (keeps_both (AreNames depth) B (keeps_names depth) p) s x u h b
+
+  keeps_block : (S : Rule Statement) → Keeps most S → Keeps most (IsBlockOver S)
+  keeps_block S q s x u h b = keeps_curly (Many S) (keeps_many S q) s h.0 u h.1 b
+
+  keeps_statement : (depth : ℕ) → Keeps most (IsStmt depth)
+  unfolding IsStmt
+  keeps_statement zero = keeps_statement_over zero Never Never keeps_never keeps_never
+  keeps_statement (suc depth) = let r = keeps_statement depth in keeps_statement_over (suc depth) (IsBlockOver (IsStmt depth)) (IsStmt depth) (keeps_block (IsStmt depth) r) r
+
+  keeps_part : (depth : ℕ) → Keeps most (IsPart depth)
+  keeps_part depth s x u (an_import t h e) b =
+      keeps_then (The Kind.Import) (IsModule ◃ The Kind.Semicolon) (keeps_the Kind.Import) (keeps_before IsModule (The Kind.Semicolon) keeps_module (keeps_the Kind.Semicolon)) s t u h b
+  keeps_part depth s x u (a_function y h e) b =
+      keeps_both (AreParameters depth) (IsName ⋆ (AreParameters depth ⋆ IsBlock depth)) (keeps_parameters depth)
+      (keeps_both IsName (AreParameters depth ⋆ IsBlock depth) keeps_name
+      (keeps_both (AreParameters depth) (IsBlock depth) (keeps_parameters depth)
+      (keeps_deeper (λ d. IsBlockOver (IsStmt d)) (λ d. keeps_block (IsStmt d) (keeps_statement d)) depth))) s y u h b
+  keeps_part depth s x u (a_statement c h e) b = keeps_statement depth s c u h b
+
+  -- WHERE STATEMENTS BEGIN
+
   module _ (some : 0 < most) where
     first_below : (ts : List Lexeme) → Below most ts → (first_of ts).from < most
     first_below [] b = some
     first_below (t ∷ ts) b = b.0
 
-    begins : (s u : Place) (c : Statement) (d : Command) → c ≡ does s d u → Below most s.rest → start c < most
-    begins s u c d e b = subst (λ (k : ℕ). k < most) (sym (ap start e)) (first_below s.rest b)
+    begins : (s u : Place) (c : Statement) (d : Command) → c ≡ does s d u → Below most s.rest → (start_of c).from < most
+    begins s u c d e b = subst (λ (k : Span). k.from < most) (sym (ap start_of e)) (first_below s.rest b)
 
-    no_choice : (n : ℕ) (s u : Place) (e : Expression) (b : Body) (o : Option Body) → OnNumbers (numbered_statement n (does s (choice_of e b o) u)) → ⊥
-    no_choice n s u e b None h = elim h [ ]
-    no_choice n s u e b (Some d) h = elim h [ ]
+    over_begins : (depth : ℕ) (B : Rule Body) (S : Rule Statement) (s : Place) (c : Statement) (u : Place) → IsStmtOver depth B S s c u → Below most s.rest → (start_of c).from < most
+    over_begins depth B S s c u (a_declaration x h e) b = begins s u c _ e b
+    over_begins depth B S s c u (an_assignment x h e) b = begins s u c _ e b
+    over_begins depth B S s c u (a_write x h e) b = begins s u c _ e b
+    over_begins depth B S s c u (many_assigned x h e) b = begins s u c _ e b
+    over_begins depth B S s c u (a_call x h e) b = begins s u c _ e b
+    over_begins depth B S s c u (an_if x h e) b = begins s u c _ e b
+    over_begins depth B S s c u (a_foreach x h e) b = begins s u c _ e b
+    over_begins depth B S s c u (a_wait x h e) b = begins s u c _ e b
 
-    -- a statement on numbers begins below the offset, and so do the tokens behind it
-    statement_below : (depth n : ℕ) (B : Rule Body) (S : Rule Statement) (s : Place) (c : Statement) (u : Place) → IsStmtOver depth B S s c u → OnNumbers (numbered_statement n c) → Below most s.rest
-        → (start c < most) × Below most u.rest
-    statement_below depth n B S s c u (a_declaration x h e) o b = (
-      begins s u c (declare x.0 x.1) e b,
-      keeps_both (IsDecl depth) (Maybe (The Kind.Assign ▹ IsRight depth) ◃ The Kind.Semicolon) (keeps_decl depth)
-          (keeps_before (Maybe (The Kind.Assign ▹ IsRight depth)) (The Kind.Semicolon)
-          (keeps_maybe (The Kind.Assign ▹ IsRight depth) (keeps_then (The Kind.Assign) (IsRight depth) (keeps_the Kind.Assign) (keeps_right depth))) (keeps_the Kind.Semicolon)) s x u h b,
-    )
-    statement_below depth n B S s c u (an_assignment x h e) o b = (
-      begins s u c (assign x.0 x.1) e b,
-      keeps_both IsName (The Kind.Assign ▹ (IsRight depth ◃ The Kind.Semicolon)) keeps_name
-          (keeps_then (The Kind.Assign) (IsRight depth ◃ The Kind.Semicolon) (keeps_the Kind.Assign)
-          (keeps_before (IsRight depth) (The Kind.Semicolon) (keeps_right depth) (keeps_the Kind.Semicolon))) s x u h b,
-    )
-    statement_below depth n B S s c u (a_call x h e) o b = (
-      begins s u c (calls (or_zero x.0) x.1) e b,
-      keeps_both (Maybe IsPriority) (IsCall depth ◃ The Kind.Semicolon) (keeps_maybe IsPriority keeps_priority)
-          (keeps_before (IsCall depth) (The Kind.Semicolon) (keeps_call depth) (keeps_the Kind.Semicolon)) s x u h b,
-    )
-    statement_below depth n B S s c u (a_write x h e) o b = elim (subst (λ (k : Statement). OnNumbers (numbered_statement n k)) e o) [ ]
-    statement_below depth n B S s c u (many_assigned x h e) o b = elim (subst (λ (k : Statement). OnNumbers (numbered_statement n k)) e o) [ ]
-    statement_below depth n B S s c u (an_if x h e) o b = absurd (no_choice n s u x.0 x.1.0 x.1.1 (subst (λ (k : Statement). OnNumbers (numbered_statement n k)) e o))
-    statement_below depth n B S s c u (a_foreach x h e) o b = elim (subst (λ (k : Statement). OnNumbers (numbered_statement n k)) e o) [ ]
-    statement_below depth n B S s c u (a_wait x h e) o b = elim (subst (λ (k : Statement). OnNumbers (numbered_statement n k)) e o) [ ]
-
-    any_below : (depth n : ℕ) (s : Place) (c : Statement) (u : Place) → IsStmt depth s c u → OnNumbers (numbered_statement n c) → Below most s.rest → (start c < most) × Below most u.rest
+    statement_begins : (depth : ℕ) (s : Place) (c : Statement) (u : Place) → IsStmt depth s c u → Below most s.rest → (start_of c).from < most
     unfolding IsStmt
-    any_below zero n s c u h o b = statement_below zero n Never Never s c u h o b
-    any_below (suc depth) n s c u h o b = statement_below (suc depth) n (IsBlockOver (IsStmt depth)) (IsStmt depth) s c u h o b
+    statement_begins zero s c u h b = over_begins zero Never Never s c u h b
+    statement_begins (suc depth) s c u h b = over_begins (suc depth) (IsBlockOver (IsStmt depth)) (IsStmt depth) s c u h b
 
     -- SCRIPTS
-
-    import_below : (depth : ℕ) (s : Place) (sp : Span) (u : Place) → IsPart depth s (import sp) u → Below most s.rest → Below most u.rest
-    import_below depth s sp u (an_import t h e) b =
-        keeps_then (The Kind.Import) (IsModule ◃ The Kind.Semicolon) (keeps_the Kind.Import) (keeps_before IsModule (The Kind.Semicolon) keeps_module (keeps_the Kind.Semicolon)) s t u h b
-    import_below depth s sp u (a_function x h e) b = absurd (cc (e))
-    import_below depth s sp u (a_statement c h e) b = absurd (cc (e))
 
     statement_in : Statement → Part → Statement
     statement_in c (single k) = k
@@ -232,20 +285,20 @@ module _ (most : ℕ) where
     unfolding statement_in
     same_statement c d e = ap (statement_in c) e
 
-    single_below : (depth n : ℕ) (s : Place) (c : Statement) (u : Place) → IsPart depth s (single c) u → OnNumbers (numbered_statement n c) → Below most s.rest → (start c < most) × Below most u.rest
-    single_below depth n s c u (an_import t h e) o b = absurd (cc (e))
-    single_below depth n s c u (a_function x h e) o b = absurd (cc (e))
-    single_below depth n s c u (a_statement d h e) o b = any_below depth n s c u (subst (λ (k : Statement). IsStmt depth s k u) (sym (same_statement c d e)) h) o b
+    single_begins : (depth : ℕ) (s : Place) (c : Statement) (u : Place) → IsPart depth s (single c) u → Below most s.rest → (start_of c).from < most
+    single_begins depth s c u (an_import t h e) b = absurd (cc (e))
+    single_begins depth s c u (a_function x h e) b = absurd (cc (e))
+    single_begins depth s c u (a_statement d h e) b = statement_begins depth s c u (subst (λ (k : Statement). IsStmt depth s k u) (sym (same_statement c d e)) h) b
 
-    starts_same : (n : ℕ) (c : Statement) → start (numbered_statement n c) ≡ start c
+    starts_same : (n : ℕ) (c : Statement) → start_of (numbered_statement n c) ≡ start_of c
     starts_same n (statement nd c) = refl
 
-    parts_below : (depth n : ℕ) (ps : Tree) (s u : Place) → Many (IsPart depth) s ps u → Below most s.rest → OfNumbers (numbered n ps) → (c : Statement) → single c ∈ numbered n ps → start c < most
-    parts_below depth n [] s u h b o c m = elim m [ ]
-    parts_below depth n (import sp ∷ ps) s u h b (numbers.an_import o) c (later m) = parts_below depth (n + 0) ps h.0 u h.2 (import_below depth s sp h.0 h.1 b) o c m
-    parts_below depth n (function f ∷ ps) s u h b o c m = elim o [ ]
-    parts_below depth n (single k ∷ ps) s u h b (numbers.a_statement q o) _ first = subst (λ (i : ℕ). i < most) (sym (starts_same n k)) (single_below depth n s k h.0 h.1 q b).0
-    parts_below depth n (single k ∷ ps) s u h b (numbers.a_statement q o) c (later m) = parts_below depth (n + statement_size k) ps h.0 u h.2 (single_below depth n s k h.0 h.1 q b).1 o c m
+    parts_begin : (depth n : ℕ) (ps : Tree) (s u : Place) → Many (IsPart depth) s ps u → Below most s.rest → (c : Statement) → single c ∈ numbered n ps → (start_of c).from < most
+    parts_begin depth n [] s u h b c m = elim m [ ]
+    parts_begin depth n (import sp ∷ ps) s u h b c (later m) = parts_begin depth (n + 0) ps h.0 u h.2 (keeps_part depth s (import sp) h.0 h.1 b) c m
+    parts_begin depth n (function f ∷ ps) s u h b c (later m) = parts_begin depth (n + composite_size f) ps h.0 u h.2 (keeps_part depth s (function f) h.0 h.1 b) c m
+    parts_begin depth n (single k ∷ ps) s u h b _ first = subst (λ (i : Span). i.from < most) (sym (starts_same n k)) (single_begins depth s k h.0 h.1 b)
+    parts_begin depth n (single k ∷ ps) s u h b c (later m) = parts_begin depth (n + statement_size k) ps h.0 u h.2 (keeps_part depth s (single k) h.0 h.1 b) c m
 
 -- TEXTS
 
@@ -253,12 +306,14 @@ rising_below : (least most bound : ℕ) (ts : List Lexeme) → most ≤ bound �
 rising_below least most bound [] l h = tt
 rising_below least most bound (t ∷ ts) l h = let a = h.1 in let b = h.2 in (omega arith, rising_below (t.span).to most bound ts l h.3)
 
--- each statement of a script of whole numbers that is read from a text begins below 2^32
-pub starts_fit : (bytes : List ℕ) (tree : Tree) → Reads bytes tree → OfNumbers tree → (c : Statement) → single c ∈ tree → start c < 2 ^ 32
-starts_fit bytes tree r o c m =
+starts_fit : (bytes : List ℕ) (tree : Tree) → Reads bytes tree → (c : Statement) → single c ∈ tree → (start_of c).from < 2 ^ 32
+starts_fit bytes tree r c m =
     let items : map Ok r.tokens ≡ items_from 0 bytes = only_tokens 0 bytes (map Ok r.tokens) r.lexed in
     let rise = subst (SpansRise 0 (length bytes)) (sym items) (spans_rise bytes) in
     let short = r.short in
     let below = rising_below 0 (length bytes) (2 ^ 32) r.tokens (omega arith) rise in
-    parts_below (2 ^ 32) (omega arith) 64 1 r.parsed (record { before = 0; rest = r.tokens }) (r.is_script).0 (r.is_script).1 below
-    (subst OfNumbers r.is_numbered o) c (subst (λ (ps : Tree). single c ∈ ps) r.is_numbered m)
+    parts_begin (2 ^ 32) (omega arith) 64 1 r.parsed (record { before = 0; rest = r.tokens }) (r.is_script).0 (r.is_script).1 below c (subst (λ (ps : Tree). single c ∈ ps) r.is_numbered m)
+
+-- the offset of each statement of a text that is read fits
+pub offsets_fit : (bytes : List ℕ) (tree : Tree) → Reads bytes tree → (c : Statement) → single c ∈ tree → is_offset (start_of c).from ≡ true
+offsets_fit bytes tree r c m = let h = starts_fit bytes tree r c m in grind (arith, h)

@@ -75,7 +75,7 @@ pub record CellOf (st : Stmt) (c : Cell) : Type 0 where
   pub acts : is_act (stmt_action st) ≡ true
 
 module _ (s : Core) (w : IsScalars s) where
-  opens_nothing : {ds : List ℕ} {h : Action} {at n : ℕ} {vs : List Value} {k : Key} {c : Block} → OnScalars ds (stmt at n h) → Opens h vs k c → ⊥
+  pub opens_nothing : {ds : List ℕ} {h : Action} {at n : ℕ} {vs : List Value} {k : Key} {c : Block} → OnScalars ds (stmt at n h) → Opens h vs k c → ⊥
   opens_nothing declares o = elim o [ ]
   opens_nothing (assigns d t) o = elim o [ ]
   opens_nothing (prints t) o = elim o [ ]
@@ -84,7 +84,7 @@ module _ (s : Core) (w : IsScalars s) where
   no_wait : {ds : List ℕ} {at n : ℕ} {ns : List Awaited} {c : Block} → OnScalars ds (stmt at n (wait ns c)) → ⊥
   no_wait t = elim t [ ]
 
-  no_call : {ds : List ℕ} {st : Stmt} {c : Call} → OnScalars ds st → c ∈ stmt_calls st → ⊥
+  pub no_call : {ds : List ℕ} {st : Stmt} {c : Call} → OnScalars ds st → c ∈ stmt_calls st → ⊥
   no_call declares m = elim m [ ]
   no_call (assigns d t) m = elim m [ ]
   no_call (prints t) m = elim m [ ]
@@ -170,7 +170,7 @@ module _ (s : Core) (w : IsScalars s) where
   pub the_cell : {at n : ℕ} {x : Name} {o : Outer} → OnScalars (declared (script_list s)) (stmt at n (assign x o)) → o.cell ∈ cells (stmt at n (assign x o))
   the_cell (assigns d t) = first
 
-  the_line : {at n : ℕ} {p : ℤ} {o : Outer} → OnScalars (declared (script_list s)) (stmt at n (print p o)) → o.cell ∈ cells (stmt at n (print p o))
+  pub the_line : {at n : ℕ} {p : ℤ} {o : Outer} → OnScalars (declared (script_list s)) (stmt at n (print p o)) → o.cell ∈ cells (stmt at n (print p o))
   the_line (prints t) = first
 
   pub value_source : (n : ℕ) {f : Fact} (m : ℕ) (v : Scalar) → New s (Known s n) f → f ≡ value ([], m) (One v) → In m (declared (script_list s)) → ValueSource n m v
@@ -225,13 +225,13 @@ module _ (s : Core) (w : IsScalars s) where
   line_source n p t (written_twice ls g h i) q = absurd (cc (q))
 
   -- no element is ever written
-  no_fill : {ds : List ℕ} {at n : ℕ} {x : Name} {o : Outer} → OnScalars ds (stmt at n (fill x o)) → ⊥
+  pub no_fill : {ds : List ℕ} {at n : ℕ} {x : Name} {o : Outer} → OnScalars ds (stmt at n (fill x o)) → ⊥
   no_fill t = elim t [ ]
 
-  no_insert : {ds : List ℕ} {at n : ℕ} {x : Name} {i o : Outer} → OnScalars ds (stmt at n (insert x i o)) → ⊥
+  pub no_insert : {ds : List ℕ} {at n : ℕ} {x : Name} {i o : Outer} → OnScalars ds (stmt at n (insert x i o)) → ⊥
   no_insert t = elim t [ ]
 
-  no_range : {ds : List ℕ} {at n x : ℕ} {lo hi : Outer} {st : Option Outer} {t : Option ℕ} {b : Block} → OnScalars ds (stmt at n (range lo hi st x t b)) → ⊥
+  pub no_range : {ds : List ℕ} {at n x : ℕ} {lo hi : Outer} {st : Option Outer} {t : Option ℕ} {b : Block} → OnScalars ds (stmt at n (range lo hi st x t b)) → ⊥
   no_range t = elim t [ ]
 
   no_element : {K : Knowledge} {f : Fact} (a : Place) (k : Key) (p : Place) (v : Scalar) → New s K f → f ≡ element a k p v → ⊥

@@ -1,14 +1,10 @@
 -- Worked scripts of scalars.
-use Rattle.std.specs.Prelude.{◌≡◌, pos, true, [], ◌∷◌, Some}
+use Rattle.std.specs.Prelude.{pos, [], ◌∷◌}
 use Rattle.values.specs.declared.format.Piece.TheVariants.{Number as digits}
 use Rattle.values.specs.declared.op.Sign.TheVariants.{Plus}
 use Rattle.values.specs.declared.value.Scalar.TheVariants.{Number}
 use Rattle.values.specs.Operators.{sum_of, printf}
 use Rattle.syntax_trees.specs.Core.{here, literal, name, operator, none, also, stmt, declare, assign, print, no_stmts, stmts, Core}
-use Rattle.syntax_trees.specs.Table.{Table}
-use Rattle.syntax_trees.specs.Tree.{Tree}
-use Rattle.agreement.specs.Compile.{script_list}
-use Rattle.agreement.specs.Lowered.{lowered, is_single}
 use Rattle.agreement.specs.Scalars.{alone}
 
 -- int x; int y; x = y + 1; y = 2; printf("%i", x);
@@ -33,7 +29,3 @@ in_a_circle = record {
       stmts (stmt 21 4 (assign (here 2) (alone 6 (name (here 1))))) no_stmts)));
   functions = [];
 }
-
--- the statements of this core are read off the tree, and pass the test of single assignment
-abbrev pub Gives : Table → Tree → Core → Type 0
-Gives t tree s = (lowered t [] tree ≡ Some (script_list s)) × (is_single (script_list s) ≡ true)

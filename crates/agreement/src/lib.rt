@@ -1,24 +1,23 @@
 //! What every run of a script's code owes to the script's meaning.
 #![tactic(auto)]
 
-ghost use Rattle.syntax_trees.specs.Core.{Core, Stmt};
+ghost use Rattle.syntax_trees.specs.Core.{Core};
 ghost use Rattle.task_code.specs.Whole.{IsCode};
 ghost use Rattle.agreement.specs.Compile.{compiled};
 ghost use Rattle.agreement.specs.Headline.{Headline};
-ghost use Rattle.agreement.specs.Lowered.{core_of, is_single, lowered};
+ghost use Rattle.agreement.specs.OfScalars.{first_other, is_offset, start_of};
 ghost use Rattle.agreement.specs.Scalars.{IsScalars};
-ghost use Rattle.agreement.specs.WholeNumbers.{OfNumbers};
-ghost use Rattle.agreement.specs.Worked.{used_before_assigned, in_a_circle, Gives};
-ghost use Rattle.std.specs.Prelude.{◌≡◌, ℕ, List, [], Some, None, true, false};
-ghost use Rattle.syntax_trees.specs.Examples.{read_before_assignment, fault_beside_unknown, too_large};
-ghost use Rattle.syntax_trees.specs.ExampleTrees.{table_of_read_before_assignment, tree_of_read_before_assignment, table_of_fault_beside_unknown, tree_of_fault_beside_unknown, table_of_too_large, tree_of_too_large, table_of_strict_and, tree_of_strict_and, table_of_loop_reads_what_it_writes, tree_of_loop_reads_what_it_writes};
+ghost use Rattle.agreement.specs.Worked.{used_before_assigned, in_a_circle};
+ghost use Rattle.std.specs.Prelude.{◌≡◌, ℕ, List, [], Some, None, true};
+ghost use Rattle.syntax_trees.specs.ExampleTrees.{table_of_read_before_assignment, tree_of_read_before_assignment, table_of_fault_beside_unknown, tree_of_fault_beside_unknown, table_of_too_large, tree_of_too_large, table_of_strict_and, tree_of_strict_and, table_of_loop_reads_what_it_writes, tree_of_loop_reads_what_it_writes, table_of_outputs_are_the_callers, tree_of_outputs_are_the_callers};
 ghost use Rattle.syntax_trees.specs.Meaning.{Meaning};
+ghost use Rattle.syntax_trees.specs.Members.{◌∈◌};
 ghost use Rattle.syntax_trees.specs.Outcomes.{Blocked};
 ghost use Rattle.syntax_trees.specs.Reads.{Reads};
 ghost use Rattle.syntax_trees.specs.Resolved.{core};
 ghost use Rattle.syntax_trees.specs.Single.{SinglyAssigned};
 ghost use Rattle.syntax_trees.specs.Table.{Table};
-ghost use Rattle.syntax_trees.specs.Tree.{Tree};
+ghost use Rattle.syntax_trees.specs.Tree.{Statement, Tree, single};
 ghost use Rattle.syntax_trees.specs.Typing.{WellTyped};
 ghost use Rattle.task_code.specs.Worked as Codes;
 
@@ -39,31 +38,27 @@ pub fn worked_scripts()
     ensures blocked { Blocked in_a_circle (Meaning in_a_circle) 14 [] × Blocked in_a_circle (Meaning in_a_circle) 21 [] }
 {}
 
-/// What is read off the tree of a script of whole numbers, for any table of names, is what the script means: the script is
-/// well typed by this table, and these statements are its core. Where they pass the test of single assignment, they are of
-/// scalars, and every run of their code owes to the script's meaning what the headline says. The test is exact: a script
-/// that passes is singly assigned, and one that does not is not. And just the well typed scripts of whole numbers are read.
-pub fn lowered_scripts()
-    ensures core { (t : Table) (tree : Tree) (sts : List Stmt) → lowered t [] tree ≡ Some sts → core t tree ≡ core_of sts }
-    ensures typed { (t : Table) (tree : Tree) (sts : List Stmt) → lowered t [] tree ≡ Some sts → WellTyped tree t }
-    ensures single { (t : Table) (tree : Tree) (sts : List Stmt) → lowered t [] tree ≡ Some sts → is_single sts ≡ true → SinglyAssigned (core t tree) }
-    ensures not_single { (t : Table) (tree : Tree) (sts : List Stmt) → lowered t [] tree ≡ Some sts → is_single sts ≡ false → SinglyAssigned (core t tree) → ⊥ }
-    ensures scalars { (bytes : List ℕ) (t : Table) (tree : Tree) (sts : List Stmt) → Reads bytes tree → lowered t [] tree ≡ Some sts → is_single sts ≡ true
-        → IsScalars (core t tree) }
-    ensures headline { (bytes : List ℕ) (t : Table) (tree : Tree) (sts : List Stmt) → Reads bytes tree → lowered t [] tree ≡ Some sts → is_single sts ≡ true
-        → Headline (core t tree) (compiled (core_of sts)) }
-    ensures only_numbers { (t : Table) (tree : Tree) (sts : List Stmt) → lowered t [] tree ≡ Some sts → OfNumbers tree }
-    ensures all_read { (bytes : List ℕ) (t : Table) (tree : Tree) → Reads bytes tree → OfNumbers tree → WellTyped tree t → (sts : List Stmt) × (lowered t [] tree ≡ Some sts) }
+/// A text that reads as a tree in which every part is of scalars, well typed by a table and singly assigned, has a core of
+/// scalars: so its code is whole, and every run of the code owes to the script's meaning what the headline says. No
+/// statement of such a text is another one for its offset, since each offset fits.
+pub fn scripts_of_scalars()
+    ensures scalars { (bytes : List ℕ) (t : Table) (tree : Tree) → Reads bytes tree → WellTyped tree t → SinglyAssigned (core t tree) → first_other t tree ≡ None → IsScalars (core t tree) }
+    ensures code { (bytes : List ℕ) (t : Table) (tree : Tree) → Reads bytes tree → WellTyped tree t → SinglyAssigned (core t tree) → first_other t tree ≡ None
+        → IsCode (compiled (core t tree)) }
+    ensures headline { (bytes : List ℕ) (t : Table) (tree : Tree) → Reads bytes tree → WellTyped tree t → SinglyAssigned (core t tree) → first_other t tree ≡ None
+        → Headline (core t tree) (compiled (core t tree)) }
+    ensures offsets { (bytes : List ℕ) (tree : Tree) (s : Statement) → Reads bytes tree → single s ∈ tree → is_offset (start_of s).from ≡ true }
 {}
 
-/// What is read off the trees of small scripts: `int x; int y; x = y + 1; y = 2; printf("%i", x);`, and
-/// `int y; int z; y = z; z = y; printf("%i", 1 %/ 0 + y);`, and `int x = 9223372036854775807 + 1; printf("%i", x);` give the
-/// statements of their cores, and pass the test of single assignment. Nothing is read off
-/// `boolean b = false && 1 %/ 0 == 1;`, nor off a script with an array and a loop.
+/// Each part of the trees of `int x; int y; x = y + 1; y = 2; printf("%i", x);`, of
+/// `int y; int z; y = z; z = y; printf("%i", 1 %/ 0 + y);`, of `int x = 9223372036854775807 + 1; printf("%i", x);` and of
+/// `boolean b = false && 1 %/ 0 == 1;` is of scalars. Of `int A[]; A[0] = 1; foreach i in [1:2] { A[i] = A[i-1] * 2; } printf("%i", A[2]);`
+/// the first part is not, and of a script that begins with a function it is this function.
 pub fn worked_trees()
-    ensures read_before_assignment { Gives table_of_read_before_assignment tree_of_read_before_assignment read_before_assignment }
-    ensures fault_beside_unknown { Gives table_of_fault_beside_unknown tree_of_fault_beside_unknown fault_beside_unknown }
-    ensures too_large { Gives table_of_too_large tree_of_too_large too_large }
-    ensures strict_and { lowered table_of_strict_and [] tree_of_strict_and ≡ None }
-    ensures loop_reads_what_it_writes { lowered table_of_loop_reads_what_it_writes [] tree_of_loop_reads_what_it_writes ≡ None }
+    ensures read_before_assignment { first_other table_of_read_before_assignment tree_of_read_before_assignment ≡ None }
+    ensures fault_beside_unknown { first_other table_of_fault_beside_unknown tree_of_fault_beside_unknown ≡ None }
+    ensures too_large { first_other table_of_too_large tree_of_too_large ≡ None }
+    ensures strict_and { first_other table_of_strict_and tree_of_strict_and ≡ None }
+    ensures loop_reads_what_it_writes { first_other table_of_loop_reads_what_it_writes tree_of_loop_reads_what_it_writes ≡ Some (record { from = 0; to = 3 }) }
+    ensures outputs_are_the_callers { first_other table_of_outputs_are_the_callers tree_of_outputs_are_the_callers ≡ Some (record { from = 0; to = 1 }) }
 {}

@@ -10,8 +10,8 @@ use Rattle.task_code.specs.View.{operation_view}
 use Rattle.syntax_trees.specs.Core as Pure
 use Rattle.syntax_trees.specs.Core.{Core, here, Stmt, stmt}
 use Rattle.syntax_trees.specs.Resolved.{outer_of}
-use Rattle.agreement.specs.Lowered as Lowered
-use Rattle.agreement.specs.Lowered.{operands_of}
+use Rattle.agreement.specs.Blocks as Blocks
+use Rattle.agreement.specs.Blocks.{operands_of}
 
 -- an expression, from those that stand in it
 abbrev pub expr_step : Expr-F Pure.Expr → Pure.Expr
@@ -37,4 +37,4 @@ statement_view s = stmt s.at s.node (action_view s.action)
 
 -- the core of a script that has these statements alone
 abbrev pub core_of : Flow → Core
-core_of f = Lowered.core_of (map statement_view f.statements.items)
+core_of f = Blocks.core_of (map statement_view f.statements.items)
