@@ -8,7 +8,7 @@ use Rattle.dataflow.specs.System.{In, Distinct}
 use Rattle.agreement.specs.Compile.{without, each_once, named, named_all}
 use Rattle.syntax_trees.specs.Core as Pure
 use Rattle.flow.specs.View.{expr_view, exprs_view}
-use Rattle.agreement.specs.Lowered.{operands_of}
+use Rattle.agreement.specs.Blocks.{operands_of}
 use Rattle.flow.specs.declared.expr.Expr.{Expr}
 
 pub without_here : (n m : ℕ) (ms : List ℕ) → nat_eq n m ≡ true → without n (m ∷ ms) ≡ without n ms

@@ -6,7 +6,7 @@ use Rattle.dataflow.specs.System.{In, Distinct}
 use Rattle.dataflow.proofs.Lists.{in_left, map_append, seam_distinct}
 use Rattle.syntax_trees.specs.Core.{Stmt, stmt, Core}
 use Rattle.syntax_trees.specs.Parts.{stmt_node, stmt_action, block_list}
-use Rattle.agreement.specs.Lowered.{block_of}
+use Rattle.agreement.specs.Blocks.{block_of}
 use Rattle.task_code.specs.Code.{Variable, Entry, Code, ByMain, scalar}
 use Rattle.agreement.specs.Compile.{is_act, acts, declared_by, declared, entry_of, numbers_from, compiled}
 use Rattle.emit.proofs.Bound.{AreBelow, at_most, below_one, front_distinct}

@@ -3,14 +3,14 @@ use Rattle.std.proofs.Common.{◌≡◌, ℕ, List, [], ◌∷◌, ◌++◌, map
 use Rattle.std.proofs.lemmas.List.{append-nil}
 use Rattle.syntax_trees.specs.Core as Pure
 use Rattle.flow.specs.View as flow_view
-use Rattle.agreement.specs.Lowered as lowered
+use Rattle.agreement.specs.Blocks as blocks
 use Rattle.flow.specs.declared.expr.Expr.{Expr}
 use Rattle.task_code.specs.declared.expr.Expr.{Expr as Placed}
 use Rattle.task_code.specs.Code as Code
 use Rattle.task_code.specs.View as code_view
 use Rattle.agreement.specs.Compile.{over, all_over}
 
-pub all_over_each : (ns : List ℕ) (es : List Pure.Expr) → all_over ns (lowered.operands_of es) ≡ code_view.operands_of (map (over ns) es)
+pub all_over_each : (ns : List ℕ) (es : List Pure.Expr) → all_over ns (blocks.operands_of es) ≡ code_view.operands_of (map (over ns) es)
 all_over_each ns [] = refl
 all_over_each ns (e ∷ es) = ap (λ l. Code.operand (over ns e) l) (all_over_each ns es)
 

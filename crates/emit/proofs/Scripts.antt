@@ -9,7 +9,7 @@ use Rattle.syntax_trees.specs.Core.{Expr, here, literal, name, operator, none, a
 use Rattle.syntax_trees.specs.Members.{◌∈◌, first, later}
 use Rattle.syntax_trees.specs.Parts.{cells}
 use Rattle.flow.specs.View.{expr_view, statement_view}
-use Rattle.agreement.specs.Lowered.{block_of}
+use Rattle.agreement.specs.Blocks.{block_of}
 use Rattle.flow.specs.declared.expr.Expr as Flow
 use Rattle.flow.specs.declared.expr.Expr.{the_lemmas}
 use Rattle.flow.specs.declared.statement.Statement.{Statement}

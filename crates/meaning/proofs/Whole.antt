@@ -6,7 +6,7 @@ use Rattle.syntax_trees.specs.Core.{Stmt, Core}
 use Rattle.syntax_trees.specs.Parts.{block_list}
 use Rattle.flow.specs.declared.statement.Flow.{Flow}
 use Rattle.flow.specs.View.{core_of, statement_view}
-use Rattle.agreement.specs.Lowered.{block_of}
+use Rattle.agreement.specs.Blocks.{block_of}
 use Rattle.syntax_trees.specs.Meaning.{IsFinished}
 use Rattle.agreement.specs.Compile.{script_list}
 use Rattle.agreement.specs.Scalars.{IsScalars}
