@@ -76,6 +76,51 @@ fn runs_scripts(rt: HostRuntime) -> Result<(), Fail> {
 }
 
 #[test]
+fn runs_all_scalars(rt: HostRuntime) -> Result<(), Fail> {
+    let alloc = rt.alloc();
+    let rows: [(&[u8], &str); 9] = [
+        (b"printf(\"a\"); @prio=5 printf(\"b\");", "b\na\n|||0"),
+        (
+            b"printf(\"%i %i %i\", -7 %/ 2, -7 %% 2, 7 %% -2);",
+            "-3 -1 1\n|||0",
+        ),
+        (
+            b"printf(\"%s\", strcat(\"a\", fromint(toint(\"-007\"))));",
+            "a-7\n|||0",
+        ),
+        (
+            b"printf(\"%i\", toint(\"1x\"));",
+            "swt: fault F7 NotANumber 0 /\n|||3",
+        ),
+        (
+            b"assert(1 == 2, \"m\");",
+            "swt: fault F8 AssertFailed 0 /\n|||3",
+        ),
+        (
+            b"boolean b; boolean c; c = b; b = c; boolean d = false && b; assert(d, \"m\");",
+            "swt: blocked 22 /\nswt: blocked 29 /\nswt: blocked 36 /\nswt: blocked 60 /\n|||4",
+        ),
+        (
+            b"string s = t + \"b\" + t; string t; (t) = strcat(\"a\"); printf(\"%s\", s);",
+            "|swt: refused Y1 Unknown 11 12\n||1",
+        ),
+        (
+            b"string t; string s = t + \"b\" + t; (t) = strcat(\"a\"); printf(\"%s\", s);",
+            "aba\n|||0",
+        ),
+        (
+            b"int n = 3; boolean b = !(n < 2 || n == 5); assert(b && n >= 3 && \"x\" != \"y\", \"m\"); printf(\"%i\", -n);",
+            "-3\n|||0",
+        ),
+    ];
+    for (source, wanted) in rows {
+        let one = ["run", "f", "--engines", "1", "--workers", "1"];
+        assert_eq!(rt; done(alloc, &one, source)?.as_str(), wanted);
+    }
+    Ok(())
+}
+
+#[test]
 fn runs_with_options(rt: HostRuntime) -> Result<(), Fail> {
     let alloc = rt.alloc();
     let one = [
@@ -120,8 +165,32 @@ fn checks_scripts(rt: HostRuntime) -> Result<(), Fail> {
         done(alloc, &["check", "f"], HELLO)?.as_str(),
         "f: accepted\n|||0"
     );
-    let twice = done(alloc, &["check", "f"], b"int x = 1; x = 2;")?;
-    assert_eq!(rt; twice.as_str(), "f: refused S1 AssignedTwice 11 12\n|||1");
+    let rows: [(&[u8], &str); 14] = [
+        (b"int x = 1; x = 2;", "S1 AssignedTwice 11 12"),
+        (
+            b"boolean b = true; int x; if (b) { x = 1; } printf(\"%i\", x);",
+            "S2 PartlyAssigned 25 27",
+        ),
+        (b"int x; printf(\"%i\", x);", "S3 NeverAssigned 4 5"),
+        (
+            b"int x; foreach i in [0:1] { x = i; }",
+            "S4 OuterInLoop 28 29",
+        ),
+        (b"int A[] = [1]; A[2] = 3;", "S5 WholeAndElements 15 16"),
+        (b"(int r) f() { }", "S6 OutputUnassigned 5 6"),
+        (b"printf(\"%i\", 1 < 2 < 3);", "P2 Unexpected 19 20"),
+        (b"string s = \"a\" + 1;", "Y3 Mismatch 17 18"),
+        (b"int x = fromint(3);", "Y3 Mismatch 8 15"),
+        (b"int x = 1; int x = 2;", "Y2 Declared 15 16"),
+        (b"printf(\"%q\");", "Y5 BadFormat 7 11"),
+        (b"printf(\"%i\");", "Y4 WrongCount 0 6"),
+        (b"foo(1);", "Y6 NotAFunction 0 3"),
+        (b"int A[];", "N1 NotYet 0 3"),
+    ];
+    for (source, wanted) in rows {
+        let wanted = format!(in alloc; "f: refused {wanted}\n|||1")?;
+        assert_eq!(rt; done(alloc, &["check", "f"], source)?.as_str(), wanted.as_str());
+    }
     Ok(())
 }
 
