@@ -246,7 +246,7 @@ module _ (s : Core) (w : IsScalars s) where
   no_element a k p v (too_deep_call ls g h) q = absurd (cc (q))
   no_element a k p v (written_twice ls g h i) q = absurd (cc (q))
 
-  none_written : (n : ℕ) (a : Place) (k : Key) (p : Place) (v : Scalar) → Known s n (element a k p v) → ⊥
+  pub none_written : (n : ℕ) (a : Place) (k : Key) (p : Place) (v : Scalar) → Known s n (element a k p v) → ⊥
   none_written n a k p v f = let r = known_source s n (element a k p v) f in no_element a k p v r.1 refl
 
   -- a fault is what a statement computes

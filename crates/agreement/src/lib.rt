@@ -12,7 +12,7 @@ ghost use Rattle.std.specs.Prelude.{◌≡◌, ℕ, List, [], Some, None, true};
 ghost use Rattle.syntax_trees.specs.ExampleTrees.{table_of_read_before_assignment, tree_of_read_before_assignment, table_of_fault_beside_unknown, tree_of_fault_beside_unknown, table_of_too_large, tree_of_too_large, table_of_strict_and, tree_of_strict_and, table_of_loop_reads_what_it_writes, tree_of_loop_reads_what_it_writes, table_of_outputs_are_the_callers, tree_of_outputs_are_the_callers};
 ghost use Rattle.syntax_trees.specs.Meaning.{Meaning};
 ghost use Rattle.syntax_trees.specs.Members.{◌∈◌};
-ghost use Rattle.syntax_trees.specs.Outcomes.{Blocked};
+ghost use Rattle.syntax_trees.specs.Outcomes.{Blocked, Clean};
 ghost use Rattle.syntax_trees.specs.Reads.{Reads};
 ghost use Rattle.syntax_trees.specs.Resolved.{core};
 ghost use Rattle.syntax_trees.specs.Single.{SinglyAssigned};
@@ -22,9 +22,11 @@ ghost use Rattle.syntax_trees.specs.Typing.{WellTyped};
 ghost use Rattle.task_code.specs.Worked as Codes;
 
 /// The code of a script of scalars is whole, and every run of it owes to the script's meaning what the headline says:
-/// whatever it has stored, printed or reported is the script's, and a quiet run without fault has all of it.
+/// whatever it has stored, printed or reported is the script's, and a quiet run without fault has all of it. Such a script
+/// writes no key twice, since it writes none.
 pub fn scalars()
     ensures whole { (s : Core) → IsScalars s → IsCode (compiled s) }
+    ensures clean { (s : Core) → IsScalars s → Clean s }
     ensures headline { (s : Core) → IsScalars s → Headline s (compiled s) }
 {}
 

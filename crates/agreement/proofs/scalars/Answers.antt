@@ -1,4 +1,5 @@
 use Rattle.agreement.proofs.Runs.{headline}
+use Rattle.agreement.proofs.Sources.{none_written}
 use Rattle.agreement.proofs.Whole.{is_code}
 use Rattle.agreement.proofs.scalars.Goals as goal
 
@@ -7,3 +8,6 @@ returns-clause-whole g = λ s w. is_code s w
 
 pub returns-clause-headline : goal.returns-clause-headline
 returns-clause-headline g = λ s w. headline s w
+
+pub returns-clause-clean : goal.returns-clause-clean
+returns-clause-clean g = λ s w n a k x x' v v' f f'. absurd (none_written s w n a k x v f)
