@@ -1,6 +1,8 @@
-pub mod Commands
-pub mod Lines
-pub mod Repeated
+pub mod Actions
+pub mod Added
+pub mod Followed
+pub mod Found
+pub mod Operands
 pub mod Signs
-pub mod Told
+pub mod Views
 pub mod Walked

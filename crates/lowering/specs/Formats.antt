@@ -1,5 +1,5 @@
 -- The format of a call.
-use Rattle.std.specs.Prelude.{ℕ, false, List, [], ◌∷◌, Option, Some, None}
+use Rattle.std.specs.Prelude.{false, List, [], ◌∷◌, Option, None}
 use Rattle.values.specs.declared.format.Piece.{Piece}
 use Rattle.values.specs.Formats.{pieces}
 use Rattle.syntax_trees.specs.Tree.{Expression, expression, Form, text}

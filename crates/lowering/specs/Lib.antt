@@ -1,3 +1,4 @@
 pub mod Answers
 pub mod Formats
+pub mod Functions
 pub mod View

@@ -5,18 +5,12 @@ use lexer::token::Span;
 use std::alloc::{AllocError, AllocFailed};
 use thiserror::Error;
 
-/// Why a script has no flow, with the place of the fault.
+/// Why a script has no flow.
 #[derive(Clone, Copy, PartialEq, Eq, Debug, Drop, Error)]
 pub enum LowerFault {
     /// A part that does not compile yet, at its first token.
     #[error("N1 NotYet")]
     NotYet(Span),
-    /// A second assignment of a variable, at the assigned name.
-    #[error("S1 AssignedTwice")]
-    AssignedTwice(Span),
-    /// A scalar that is read and never assigned, at its declared name.
-    #[error("S3 NeverAssigned")]
-    NeverAssigned(Span),
     /// Memory that was asked for was refused.
     #[error("no memory")]
     Memory,

@@ -1,62 +1,46 @@
 //! The operation of a chain of operators.
-ghost use Rattle.std.specs.Prelude.{◌≡◌, IfOk, option_map};
-ghost use Rattle.std.specs.List.{list_all};
+ghost use Rattle.std.specs.Prelude.{◌≡◌, IfOk};
 ghost use Rattle.syntax_trees.specs.Resolved as rules;
 ghost use Rattle.task_code.specs.View.{operation_view};
-ghost use Rattle.agreement.specs.Lowered as reader;
 ghost use Rattle.lowering.specs.View.{sign_of, factor_of};
 
 use std::alloc::{AllocError, Global};
-use syntax_trees::tree::Operator;
+use syntax_trees::tree::{Operator, Prefix};
 use task_code::expr::Operator as Operation;
-use values::op::{Factor, Sign};
+use values::op::{Factor, Order, Sign};
 
-/// The operation of a chain of whole numbers: a sum, or a product.
-#[tactic(auto, using(crate::proofs::Signs::no_operators, crate::proofs::Signs::a_sum, crate::proofs::Signs::a_product, crate::proofs::Signs::no_chain))]
-pub fn arithmetic(alloc: Global, operators: &[Operator]) -> Result<Option<Operation>, AllocError>
-    ensures { IfOk result (λ found. option_map operation_view found ≡ reader.arithmetic operators.now) }
+/// The operation of a prefix.
+pub fn of_prefix(prefix: Prefix) -> Operation
+    ensures { operation_view result ≡ rules.prefix_operation prefix }
+{
+    match prefix {
+        Prefix::Not => Operation::Not,
+        Prefix::Negative => Operation::Negate,
+    }
+}
+
+/// The operation of a chain, whose operators are of one level: that of its first operator. A chain of no operators is a sum
+/// of one operand.
+pub fn of_chain(alloc: Global, operators: &[Operator]) -> Result<Operation, AllocError>
+    ensures { IfOk result (λ operation. operation_view operation ≡ rules.chain_operation operators.now) }
 {
     if operators.is_empty() {
-        return Ok(None);
+        return Ok(Operation::Sum(Vec::new(alloc)));
     }
-    if are_signs(operators) {
-        return Ok(Some(Operation::Sum(signs(alloc, operators)?)));
-    }
-    if are_factors(operators) {
-        return Ok(Some(Operation::Product(factors(alloc, operators)?)));
-    }
-    Ok(None)
-}
-
-/// Whether all operators are those of a sum.
-fn are_signs(operators: &[Operator]) -> bool
-    ensures { result ≡ list_all reader.is_sign operators.now }
-{
-    operators.iter().all(|operator| is_sign(*operator))
-}
-
-/// Whether all operators are those of a product.
-fn are_factors(operators: &[Operator]) -> bool
-    ensures { result ≡ list_all reader.is_factor operators.now }
-{
-    operators.iter().all(|operator| is_factor(*operator))
-}
-
-/// Whether an operator is one of a sum.
-fn is_sign(operator: Operator) -> bool
-    ensures { result ≡ reader.is_sign operator }
-{
-    matches!(operator, Operator::Plus | Operator::Minus)
-}
-
-/// Whether an operator is one of a product.
-fn is_factor(operator: Operator) -> bool
-    ensures { result ≡ reader.is_factor operator }
-{
-    matches!(
-        operator,
-        Operator::Times | Operator::Quotient | Operator::Remainder
-    )
+    let operation = match operators[0] {
+        Operator::Or => Operation::Or,
+        Operator::And => Operation::And,
+        Operator::Equal => Operation::Equal,
+        Operator::NotEqual => Operation::Unequal,
+        Operator::Less => Operation::Compare(Order::Less),
+        Operator::AtMost => Operation::Compare(Order::LessOrEqual),
+        Operator::Greater => Operation::Compare(Order::Greater),
+        Operator::AtLeast => Operation::Compare(Order::GreaterOrEqual),
+        Operator::Plus | Operator::Minus => Operation::Sum(signs(alloc, operators)?),
+        Operator::Times | Operator::Quotient | Operator::Remainder =>
+            Operation::Product(factors(alloc, operators)?),
+    };
+    Ok(operation)
 }
 
 /// The sign that an operator of a sum is.

@@ -1,44 +1,53 @@
 //! Statements of a script's own block.
-ghost use Rattle.std.specs.Prelude.{◌≡◌, true, Some, None, cond, IfOk, ◌∷◌, [], option_map};
+ghost use Rattle.std.specs.Prelude.{◌≡◌, ◌++◌, ◌∷◌, [], Some, None, cond, Bool, IfOk, OnOk, option_map};
 ghost use Rattle.syntax_trees.specs.Core as core;
+ghost use Rattle.syntax_trees.specs.Core.{stmts, stmt};
 ghost use Rattle.syntax_trees.specs.Tree as pure;
-ghost use Rattle.syntax_trees.specs.View.{word_of, declaration_of, right_of, calling_of, statement_view, command_view};
+ghost use Rattle.syntax_trees.specs.Resolved as rules;
+ghost use Rattle.syntax_trees.specs.View.{declaration_of, right_of, statement_view, command_view};
 ghost use Rattle.types.specs.Typed.{table_of};
-ghost use Rattle.agreement.specs.Lowered as reader;
-ghost use Rattle.lowering.specs.View.{bounds_of, scope_of, stmts_of, node_at, Adds, Tells};
+ghost use Rattle.flow.specs.View.{action_view};
+ghost use Rattle.agreement.specs.OfScalars as scalars;
+ghost use Rattle.lowering.specs.Answers.{Finds, Adds};
+ghost use Rattle.lowering.specs.View.{stmts_of, node_at};
 
-use crate::expression::expression;
-use crate::lowered::{Lowered, Place, Target, assign, declare, print};
-use crate::printf::line;
-use crate::scope::{is_scalar, node_in, resolved};
+use crate::action::{assignment, assignment_of_call, call_alone, giving};
+use crate::names::is_scalar;
+use flow::statement::{Action, Statement};
 use std::alloc::{AllocError, Allocator, Global};
-use syntax_trees::tree::{Base, Call, Decl, Name, Right, Stmt, StmtKind};
+use syntax_trees::tree::{Decl, Right, Stmt, StmtKind};
 use types::typed::Typed;
 
-/// Whether a statement was lowered. What stands in `lowered` after one that was not is of no use.
-pub fn statement<'a, A: Allocator>(
+/// Where a statement stands: the offset of its first token, and its node.
+#[derive(Clone, Copy, Drop)]
+pub struct Place {
+    pub at: u32,
+    pub node: u32,
+}
+
+/// Whether a statement was lowered. What stands behind the statements so far after one that was not is of no use.
+pub fn statement<A: Allocator>(
     alloc: Global,
     typed: &Typed,
-    lowered: &mut Lowered<'a, A>,
-    stmt: &'a Stmt<A>,
+    statements: &mut Vec<Statement>,
+    one: &Stmt<A>,
 ) -> Result<bool, AllocError>
-    ensures adds { IfOk result (λ done. Adds (stmts_of lowered.old) done (stmts_of lowered.new) (reader.lowered_statement (table_of typed.now) (scope_of lowered.old) (statement_view stmt.now))) }
-    ensures behind { IfOk result (λ done. done ≡ true → scope_of lowered.new ≡ reader.behind (scope_of lowered.old) (statement_view stmt.now)) }
-    ensures tells { IfOk result (λ done. Tells lowered.old → done ≡ true → Tells lowered.new) }
+    ensures { IfOk result (λ done. let t = table_of typed.now in let s = statement_view one.now in
+        Adds (stmts_of statements.old.items) done (stmts_of statements.new.items) (scalars.is_scalar_statement t s) (rules.with_statement t s)) }
 {
-    let Some(at) = offset(stmt.first.from) else {
+    let Some(at) = offset(one.first.from) else {
         return Ok(false);
     };
     let place = Place {
         at,
-        node: stmt.number,
+        node: one.number,
     };
-    command(alloc, typed, lowered, place, &stmt.kind)
+    command(alloc, typed, statements, place, &one.kind)
 }
 
 /// An offset of a flow.
 fn offset(from: usize) -> Option<u32>
-    ensures { result ≡ cond (reader.is_offset from) (Some from) None }
+    ensures { result ≡ cond (scalars.is_offset from) (Some from) None }
 {
     if from < 1 << 32 {
         Some(from as u32)
@@ -48,166 +57,80 @@ fn offset(from: usize) -> Option<u32>
 }
 
 /// Whether a statement at a place was lowered.
-fn command<'a, A: Allocator>(
+fn command<A: Allocator>(
     alloc: Global,
     typed: &Typed,
-    lowered: &mut Lowered<'a, A>,
+    statements: &mut Vec<Statement>,
     place: Place,
-    kind: &'a StmtKind<A>,
+    kind: &StmtKind<A>,
 ) -> Result<bool, AllocError>
-    ensures adds { IfOk result (λ done. Adds (stmts_of lowered.old) done (stmts_of lowered.new) (reader.lowered_command (table_of typed.now) (scope_of lowered.old) (node_at place) (command_view kind.now))) }
-    ensures behind { IfOk result (λ done. done ≡ true → scope_of lowered.new ≡ reader.behind (scope_of lowered.old) (pure.statement (node_at place) (command_view kind.now))) }
-    ensures tells { IfOk result (λ done. Tells lowered.old → done ≡ true → Tells lowered.new) }
+    ensures { IfOk result (λ done. let t = table_of typed.now in let c = command_view kind.now in
+        Adds (stmts_of statements.old.items) done (stmts_of statements.new.items) (scalars.is_scalar_command t c) (rules.with_command t (node_at place) c)) }
 {
-    match kind {
-        StmtKind::Declare(decl, right) => variable(alloc, typed, lowered, place, decl, right),
-        StmtKind::Assign(name, right) => assignment(alloc, typed, lowered, place, name, right),
-        StmtKind::Call(priority, call) => printing(alloc, typed, lowered, place, *priority, call),
-        _ => Ok(false),
-    }
+    let action = match kind {
+        StmtKind::Declare(decl, right) => {
+            return declaration(alloc, typed, statements, place, decl, right);
+        }
+        StmtKind::Assign(name, right) => assignment(alloc, typed, name, right)?,
+        StmtKind::AssignAll(names, call) =>
+            assignment_of_call(alloc, typed, names.as_slice(), call)?,
+        StmtKind::Call(priority, call) => call_alone(alloc, typed, *priority, call)?,
+        _ => return Ok(false),
+    };
+    add(statements, place, action)
 }
 
-/// Whether a declaration is of a whole number whose name is not in scope.
-fn is_declarable<A: Allocator>(scope: &[&Name<A>], decl: &Decl<A>) -> bool
-    ensures { result ≡ reader.is_declarable (bounds_of scope.now) (declaration_of decl.now) }
-{
-    is_int(decl.base)
-        && is_scalar(decl.shape)
-        && node_in(scope, decl.name.text.as_slice()).is_none()
-}
-
-/// Whether a type is that of whole numbers.
-fn is_int(base: Base) -> bool
-    ensures { result ≡ reader.is_int base }
-{
-    match base {
-        Base::Int => true,
-        Base::Text | Base::Boolean => false,
-    }
-}
-
-/// A declaration with or without a right side.
-fn variable<'a, A: Allocator>(
+/// A declaration, and the assignment of its right side where it has one.
+fn declaration<A: Allocator>(
     alloc: Global,
     typed: &Typed,
-    lowered: &mut Lowered<'a, A>,
+    statements: &mut Vec<Statement>,
     place: Place,
-    decl: &'a Decl<A>,
+    decl: &Decl<A>,
     right: &Option<Right<A>>,
 ) -> Result<bool, AllocError>
-    ensures adds { IfOk result (λ done. Adds (stmts_of lowered.old) done (stmts_of lowered.new) (reader.lowered_command (table_of typed.now) (scope_of lowered.old) (node_at place) (pure.declare (declaration_of decl.now) (option_map right_of right.now)))) }
-    ensures behind { IfOk result (λ done. done ≡ true → scope_of lowered.new ≡ reader.with_word (scope_of lowered.old) (word_of decl.now.name)) }
-    ensures tells { IfOk result (λ done. Tells lowered.old → done ≡ true → Tells lowered.new) }
+    ensures { IfOk result (λ done. let t = table_of typed.now in let c = pure.declare (declaration_of decl.now) (option_map right_of right.now) in
+        Adds (stmts_of statements.old.items) done (stmts_of statements.new.items) (scalars.is_scalar_command t c) (rules.with_command t (node_at place) c)) }
 {
+    if !is_scalar(decl.shape) {
+        return Ok(false);
+    }
+    push(statements, place, Action::Declare(decl.name.number))?;
     match right {
-        None => declaration(lowered, place, decl),
-        Some(right) => definition(alloc, typed, lowered, place, decl, right),
+        Some(right) => {
+            let action = giving(alloc, typed, decl.name.number, right)?;
+            add(statements, place, action)
+        }
+        None => Ok(true),
     }
 }
 
-/// A declaration without a right side.
-fn declaration<'a, A: Allocator>(
-    lowered: &mut Lowered<'a, A>,
+/// Adds the statement of an action, and says whether there is one.
+fn add(
+    statements: &mut Vec<Statement>,
     place: Place,
-    decl: &'a Decl<A>,
+    action: Option<Action>,
 ) -> Result<bool, AllocError>
-    ensures adds { IfOk result (λ done. Adds (stmts_of lowered.old) done (stmts_of lowered.new) (cond (reader.is_declarable (scope_of lowered.old) (declaration_of decl.now)) (Some (core.stmt place.at place.node (core.declare decl.now.name.number) ∷ [])) None)) }
-    ensures behind { IfOk result (λ done. done ≡ true → scope_of lowered.new ≡ reader.with_word (scope_of lowered.old) (word_of decl.now.name)) }
-    ensures tells { IfOk result (λ done. Tells lowered.old → done ≡ true → Tells lowered.new) }
+    ensures { IfOk result (λ done. (test : Bool) (wanted : core.Action) → Finds action_view action test wanted →
+        Adds (stmts_of statements.old.items) done (stmts_of statements.new.items) test (stmts (stmt place.at place.node wanted))) }
 {
-    if !is_declarable(lowered.names.as_slice(), decl) {
-        return Ok(false);
+    match action {
+        Some(action) => {
+            push(statements, place, action)?;
+            Ok(true)
+        }
+        None => Ok(false),
     }
-    declare(lowered, place, &decl.name)?;
-    Ok(true)
 }
 
-/// A declaration with a right side, which sees the variable.
-fn definition<'a, A: Allocator>(
-    alloc: Global,
-    typed: &Typed,
-    lowered: &mut Lowered<'a, A>,
-    place: Place,
-    decl: &'a Decl<A>,
-    right: &Right<A>,
-) -> Result<bool, AllocError>
-    ensures adds { IfOk result (λ done. Adds (stmts_of lowered.old) done (stmts_of lowered.new) (reader.lowered_command (table_of typed.now) (scope_of lowered.old) (node_at place) (pure.declare (declaration_of decl.now) (Some (right_of right.now))))) }
-    ensures behind { IfOk result (λ done. done ≡ true → scope_of lowered.new ≡ reader.with_word (scope_of lowered.old) (word_of decl.now.name)) }
-    ensures tells { IfOk result (λ done. Tells lowered.old → done ≡ true → Tells lowered.new) }
+/// Adds a statement.
+fn push(statements: &mut Vec<Statement>, place: Place, action: Action) -> Result<(), AllocError>
+    ensures { OnOk result (stmts_of statements.new.items ≡ stmts_of statements.old.items ++ stmt place.at place.node (action_view action) ∷ []) }
 {
-    if !is_declarable(lowered.names.as_slice(), decl) {
-        return Ok(false);
-    }
-    declare(lowered, place, &decl.name)?;
-    let target = Target {
-        node: decl.name.number,
-        span: decl.name.span,
-    };
-    gives(alloc, typed, lowered, place, target, right)
-}
-
-/// An assignment to a variable in scope.
-fn assignment<A: Allocator>(
-    alloc: Global,
-    typed: &Typed,
-    lowered: &mut Lowered<'_, A>,
-    place: Place,
-    name: &Name<A>,
-    right: &Right<A>,
-) -> Result<bool, AllocError>
-    ensures adds { IfOk result (λ done. Adds (stmts_of lowered.old) done (stmts_of lowered.new) (reader.lowered_command (table_of typed.now) (scope_of lowered.old) (node_at place) (pure.assign (word_of name.now) (right_of right.now)))) }
-    ensures behind { IfOk result (λ done. done ≡ true → scope_of lowered.new ≡ scope_of lowered.old) }
-    ensures tells { IfOk result (λ done. Tells lowered.old → done ≡ true → Tells lowered.new) }
-{
-    let Some(node) = resolved(typed, lowered.names.as_slice(), name) else {
-        return Ok(false);
-    };
-    let target = Target {
-        node,
-        span: name.span,
-    };
-    gives(alloc, typed, lowered, place, target, right)
-}
-
-/// A variable gets the value of a right side.
-fn gives<A: Allocator>(
-    alloc: Global,
-    typed: &Typed,
-    lowered: &mut Lowered<'_, A>,
-    place: Place,
-    target: Target,
-    right: &Right<A>,
-) -> Result<bool, AllocError>
-    ensures adds { IfOk result (λ done. Adds (stmts_of lowered.old) done (stmts_of lowered.new) (option_map (λ a. core.stmt place.at place.node a ∷ []) (reader.lowered_right (table_of typed.now) (scope_of lowered.old) target.node (right_of right.now)))) }
-    ensures behind { IfOk result (λ done. done ≡ true → scope_of lowered.new ≡ scope_of lowered.old) }
-    ensures tells { IfOk result (λ done. Tells lowered.old → done ≡ true → Tells lowered.new) }
-{
-    let Right::Value(expr) = right else {
-        return Ok(false);
-    };
-    let Some(value) = expression(alloc, typed, lowered.names.as_slice(), expr)? else {
-        return Ok(false);
-    };
-    assign(lowered, place, target, expr.number, value)?;
-    Ok(true)
-}
-
-/// A call of `printf`.
-fn printing<A: Allocator>(
-    alloc: Global,
-    typed: &Typed,
-    lowered: &mut Lowered<'_, A>,
-    place: Place,
-    priority: i32,
-    call: &Call<A>,
-) -> Result<bool, AllocError>
-    ensures adds { IfOk result (λ done. Adds (stmts_of lowered.old) done (stmts_of lowered.new) (reader.lowered_command (table_of typed.now) (scope_of lowered.old) (node_at place) (pure.calls priority (calling_of call.now)))) }
-    ensures behind { IfOk result (λ done. done ≡ true → scope_of lowered.new ≡ scope_of lowered.old) }
-    ensures tells { IfOk result (λ done. Tells lowered.old → done ≡ true → Tells lowered.new) }
-{
-    let Some(line) = line(alloc, typed, lowered.names.as_slice(), call)? else {
-        return Ok(false);
-    };
-    print(lowered, place, priority, call.number, line)?;
-    Ok(true)
+    statements.push(Statement {
+        at: place.at,
+        node: place.node,
+        action,
+    })?;
+    Ok(())
 }

@@ -1,14 +1,13 @@
-use Rattle.std.proofs.Common.{◌≡◌, ◌++◌, map, drop}
+use Rattle.std.proofs.Common.{◌≡◌, map, drop}
 use Rattle.std.specs.Prelude.{option_map}
 use Rattle.syntax_trees.specs.View.{expression_view}
 use Rattle.syntax_trees.specs.Tree.{expressions_of}
 use Rattle.types.specs.Typed.{table_of}
 use Rattle.flow.specs.View.{expr_view}
-use Rattle.agreement.specs.Lowered.{lowered_operands}
-use Rattle.lowering.specs.View.{bounds_of}
+use Rattle.lowering.proofs.Operands.{scalar_operands, before}
 use Rattle.lowering.proofs.expression.+expression.Given as goal
 
 abbrev pub invariant-expressions-loop-i : goal.invariant-expressions-loop-i
 invariant-expressions-loop-i g l =
-    lowered_operands (table_of l.typed) (bounds_of l.scope) (expressions_of (map expression_view (drop l.fn.from l.exprs.items)))
-    ≡ option_map (λ xs. map expr_view l.found.items ++ xs) (lowered_operands (table_of l.typed) (bounds_of l.scope) (expressions_of (map expression_view (drop l.i l.exprs.items))))
+    scalar_operands (table_of l.typed) (expressions_of (map expression_view (drop l.fn.from l.exprs.items)))
+    ≡ option_map (before (map expr_view l.found.items)) (scalar_operands (table_of l.typed) (expressions_of (map expression_view (drop l.i l.exprs.items))))

@@ -1,17 +1,25 @@
-use Rattle.std.proofs.Common.{◌≡◌, IfOk, List, ap, sym, subst, ◌∙◌}
-use Rattle.std.specs.Prelude.{Option}
-use Rattle.syntax_trees.specs.Core.{Stmt}
+use Rattle.std.proofs.Common.{sym, subst, ◌∙◌}
+use Rattle.std.specs.Prelude.{IfOk}
+use Rattle.std.proofs.lemmas.Result.{IfOk-weaker}
+use Rattle.syntax_trees.specs.Tree.{Node, Statement}
+use Rattle.syntax_trees.specs.Resolved.{with_statement}
 use Rattle.syntax_trees.specs.View.{command_view}
 use Rattle.syntax_trees.specs.declared.tree.Stmt.{out-Stmt}
 use Rattle.types.specs.Typed.{table_of}
-use Rattle.agreement.specs.Lowered.{lowered_statement}
-use Rattle.lowering.specs.View.{scope_of, stmts_of, Adds}
-use Rattle.lowering.proofs.Commands.{view_stmt, stands}
+use Rattle.agreement.specs.OfScalars.{is_scalar_statement}
+use Rattle.lowering.specs.Answers.{Adds}
+use Rattle.lowering.specs.View.{stmts_of}
+use Rattle.lowering.proofs.Added.{stands}
+use Rattle.lowering.proofs.Views.{view_stmt}
 use Rattle.lowering.proofs.statement.statement.Goals as goal
 
-pub returns-clause-adds : goal.returns-clause-adds
-returns-clause-adds g c =
-    let P : Option (List Stmt) → Type 0 = λ more. IfOk c.command.result (λ done. Adds (stmts_of c.args.lowered.now) done (stmts_of c.command.new.lowered) more) in
-    let s = out-Stmt g.row.A.Denot c.args.stmt.now in
-    let is = stands (table_of c.args.typed.now) (scope_of c.args.lowered.now) (record { number = s.number; first = s.first; to = s.to }) (command_view s.kind) c.in-Some.at (sym c.offset.ensures ∙ c.in-Some.is) in
-    subst P (sym (ap (lowered_statement (table_of c.args.typed.now) (scope_of c.args.lowered.now)) (view_stmt g.row.A.Denot c.args.stmt.now) ∙ is)) c.command.ensures.adds
+pub returns : goal.returns
+returns g c =
+    let t = table_of c.args.typed.now in
+    let before = stmts_of c.args.statements.now.items in
+    let after = stmts_of c.command.new.statements.items in
+    let one = out-Stmt g.row.A.Denot c.args.one.now in
+    let node : Node = record { number = one.number; first = one.first; to = one.to } in
+    let P : Statement → Type 0 = λ s. IfOk c.command.result (λ done. Adds before done after (is_scalar_statement t s) (with_statement t s)) in
+    subst P (sym (view_stmt g.row.A.Denot c.args.one.now))
+    (IfOk-weaker c.command.result _ _ (λ done adds. stands t node (command_view one.kind) c.in-Some.at before after done (sym c.in-Some.is ∙ c.offset.ensures) adds) c.command.ensures)
