@@ -1,6 +1,6 @@
 -- What the check accepts of expressions is well typed, for each table that says what was settled.
-use Rattle.std.proofs.Common.{◌≡◌, ℕ, Bool, true, false, List, [], ◌∷◌, length, refl, sym, ap, ap₂, ◌∙◌, subst, arith}
-use Rattle.std.specs.Prelude.{Option, Some, None, cond, nat_eq, suc}
+use Rattle.std.proofs.Common.{◌≡◌, ℕ, true, false, List, [], ◌∷◌, length, refl, sym, ap, ◌∙◌, subst, arith}
+use Rattle.std.specs.Prelude.{Option, Some, None, cond, nat_eq}
 use Rattle.std.proofs.lemmas.Bool.{eqb-true}
 use Rattle.std.specs.Str.{bytes_eq}
 use Rattle.std.specs.Prelude.{codes}
@@ -18,16 +18,16 @@ use Rattle.syntax_trees.specs.declared.tree.Shape.TheVariants.{Scalar, Array}
 use Rattle.syntax_trees.specs.declared.tree.Operator.{Operator}
 use Rattle.syntax_trees.specs.Tree.{Word, Node, Expression, expression, Form, number, text, truth, variable, element, call, prefixed, chain, Expressions, no_expressions, and_expression}
 use Rattle.syntax_trees.specs.Table.{Table, builtin_text}
-use Rattle.syntax_trees.specs.Scopes.{Typ, one_of, many_of, Scope, Signature, Refers, Calls, CallsBuiltin}
+use Rattle.syntax_trees.specs.Scopes.{Typ, one_of, many_of, Scope, Signature, Refers, CallsBuiltin}
 use Rattle.syntax_trees.specs.Typing as rules
 use Rattle.syntax_trees.specs.Typing.{HasType, RestType, ArgumentTypes, BuiltinType, AllHaveType}
 use Rattle.types.specs.Known.{Around}
 use Rattle.types.specs.Typed.{builtin_name}
-use Rattle.types.specs.Outcomes.{Outcome, refused, got, Check, ◌>>=◌}
-use Rattle.types.specs.Names.{refer, builtin_of, called, settles, Found, missing, found, find, counted, function_called}
-use Rattle.types.specs.Agrees.{Says, Agrees, scope_of}
-use Rattle.types.specs.Accepted.{NamesArrayForm, NamesArray, CallGives, GivesArray, WholeType, Fits}
-use Rattle.types.specs.Expressions.{has_base, scalar, elements_of, gives, base_of, given_or, given_by, takes, first_given, first_of, count, has_wanted, named, array_name, fits_by, fits, of_one, some_given, builtin_by, output_of, either, whole, typed, expected, whole_form, chained, further, elements, arguments, only, builtin_type}
+use Rattle.types.specs.Outcomes.{refused, got, ◌>>=◌}
+use Rattle.types.specs.Names.{refer, builtin_of, called, settles, missing, found, find, counted, function_called}
+use Rattle.types.specs.Agrees.{Agrees, scope_of}
+use Rattle.types.specs.Accepted.{NamesArray, CallGives, GivesArray, WholeType, Fits}
+use Rattle.types.specs.Expressions.{has_base, scalar, elements_of, gives, base_of, given_or, given_by, takes, first_given, first_of, count, has_wanted, named, array_name, fits_by, fits, of_one, builtin_by, output_of, either, whole, typed, expected, whole_form, chained, further, elements, arguments, only, builtin_type}
 use Rattle.types.proofs.Settling.{agrees_last, refer_sound, call_sound, same_text}
 use Rattle.types.proofs.Typing.{bind_got, has_base_got, scalar_got, elements_got, gives_sound, prefix_sound}
 

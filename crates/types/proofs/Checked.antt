@@ -1,6 +1,6 @@
 -- A script that the check accepts is well typed, for each table that says what was settled.
-use Rattle.std.proofs.Common.{◌≡◌, ℕ, ◌+◌, ◌<◌, ◌≤◌, Bool, true, false, List, [], ◌∷◌, ◌++◌, length, refl, sym, ap, ap₂, ◌∙◌, subst, arith, inl, inr, append_assoc}
-use Rattle.std.specs.Prelude.{Option, Some, None, cond, nat_lt, suc, codes}
+use Rattle.std.proofs.Common.{◌≡◌, ℕ, ◌+◌, ◌<◌, true, false, List, [], ◌∷◌, ◌++◌, length, refl, sym, ap, ap₂, ◌∙◌, subst, arith, inl, inr, append_assoc}
+use Rattle.std.specs.Prelude.{Some, None, cond, nat_lt, suc}
 use Rattle.std.proofs.lemmas.Bool.Decides.{Decides-ltb}
 use Rattle.std.proofs.lemmas.List.{length-append}
 use Rattle.std.specs.Str.{bytes_eq}
@@ -8,23 +8,22 @@ use Rattle.types.specs.declared.fault.TypeFault.TheVariants.{Declared}
 use Rattle.types.specs.declared.typed.Owned.{Owned}
 use Rattle.types.specs.declared.typed.Owned.TheVariants.{Input, Output}
 use Rattle.types.specs.declared.typed.Settled.{Settled}
-use Rattle.types.specs.declared.typed.Builtin.{Builtin}
 use Rattle.std.proofs.lemmas.Slice.Eq.{bytes_eq-Decides}
 use Rattle.syntax_trees.specs.Core as core
-use Rattle.syntax_trees.specs.Members.{◌∈◌, first, later}
+use Rattle.syntax_trees.specs.Members.{◌∈◌}
 use Rattle.syntax_trees.proofs.Members.{split_in}
-use Rattle.syntax_trees.specs.Tree.{Word, Declaration, Composite, Part, import, function, single, Tree}
+use Rattle.syntax_trees.specs.Tree.{Word, Declaration, Composite, import, function, single, Tree}
 use Rattle.syntax_trees.specs.Table.{Table, strcat, fromint, toint, size, printf, assert}
 use Rattle.syntax_trees.specs.Table as table
-use Rattle.syntax_trees.specs.Scopes.{Typ, declared_type, Scope, IsVisible, Signature, signature_of, signatures, IsBuiltinName}
+use Rattle.syntax_trees.specs.Scopes.{declared_type, Scope, Signature, signature_of, signatures, IsBuiltinName}
 use Rattle.syntax_trees.specs.Typing as rules
 use Rattle.syntax_trees.specs.Typing.{Parameters, FunctionTyped, PartsTyped, WellTyped}
 use Rattle.types.specs.Known.{Around, nowhere}
 use Rattle.types.specs.Typed.{owned_name}
-use Rattle.types.specs.Outcomes.{Outcome, refused, got, Check, ◌>>=◌}
-use Rattle.types.specs.Names.{fresh, added, builtin_of, Found, missing, found, find, find_from}
+use Rattle.types.specs.Outcomes.{refused, got, ◌>>=◌}
+use Rattle.types.specs.Names.{fresh, added, builtin_of, missing, found, find, find_from}
 use Rattle.types.specs.Statements.{stated, enclosed}
-use Rattle.types.specs.Scripts.{parameters, name_by, name_of, function_checked, parts_checked, checked}
+use Rattle.types.specs.Scripts.{parameters, name_by, name_of, function_checked, parts_checked}
 use Rattle.types.specs.Agrees.{Agrees, scope_of}
 use Rattle.types.specs.Accepted.{ScriptSound}
 use Rattle.types.proofs.Typing.{bind_got}

@@ -1,8 +1,7 @@
 -- A well-typed expression is accepted, whatever the table: its names are found, and its type.
-use Rattle.std.proofs.Common.{◌≡◌, ◌≢◌, ℕ, ◌-◌, Bool, true, false, List, [], ◌∷◌, length, refl, sym, ap, ap₂, ◌∙◌, subst, arith}
-use Rattle.std.specs.Prelude.{ℤ, Option, Some, None, cond, nat_eq, suc, slice_get, codes}
+use Rattle.std.proofs.Common.{◌≡◌, ℕ, ◌-◌, Bool, true, List, [], ◌∷◌, length, refl, sym, ap, ap₂, ◌∙◌}
+use Rattle.std.specs.Prelude.{ℤ, Option, Some, None, cond, suc, slice_get}
 use Rattle.std.proofs.lemmas.Bool.{eq-eqb}
-use Rattle.std.specs.Str.{bytes_eq}
 use Rattle.lexer.specs.declared.token.Span.{Span}
 use Rattle.types.specs.declared.fault.TypeFault.TheVariants.{Mismatch, WrongCount}
 use Rattle.types.specs.declared.typed.Settled.{Settled}
@@ -12,12 +11,10 @@ use Rattle.types.specs.declared.typed.Builtin.{Builtin}
 use Rattle.types.specs.declared.typed.Builtin.TheVariants as Named
 use Rattle.syntax_trees.specs.declared.tree.Base.{Base}
 use Rattle.syntax_trees.specs.declared.tree.Base.TheVariants.{Int, Text, Boolean}
-use Rattle.syntax_trees.specs.declared.tree.Shape.{Shape}
-use Rattle.syntax_trees.specs.declared.tree.Shape.TheVariants.{Scalar, Array}
 use Rattle.syntax_trees.specs.declared.tree.Operator.{Operator}
 use Rattle.syntax_trees.specs.declared.tree.Prefix.{Prefix}
 use Rattle.syntax_trees.specs.Members.{◌∈◌}
-use Rattle.syntax_trees.specs.Tree.{Word, Node, Expression, expression, Form, number, text, truth, variable, element, call, prefixed, chain, Expressions, no_expressions, and_expression}
+use Rattle.syntax_trees.specs.Tree.{Word, Node, Expression, expression, number, text, truth, variable, element, call, prefixed, chain, Expressions, no_expressions, and_expression}
 use Rattle.syntax_trees.specs.Table.{Table, builtin_text}
 use Rattle.syntax_trees.specs.Table as table
 use Rattle.syntax_trees.specs.Scopes.{Typ, one_of, many_of, Visible, Scope, Signature, Refers, Calls, CallsBuiltin}
@@ -25,9 +22,9 @@ use Rattle.syntax_trees.specs.Typing as rules
 use Rattle.syntax_trees.specs.Typing.{HasType, RestType, ArgumentTypes, BuiltinType, AllHaveType}
 use Rattle.types.specs.Known.{Seen, Around}
 use Rattle.types.specs.Outcomes.{Outcome, refused, got, Check, ◌>>=◌}
-use Rattle.types.specs.Names.{seen, refer, referred, builtin_of, called, settles, Found, missing, found, find, counted, function_called}
+use Rattle.types.specs.Names.{seen, refer, referred, builtin_of, called, settles, found, find, counted, function_called}
 use Rattle.types.specs.Agrees.{scope_of}
-use Rattle.types.specs.Expressions.{same_base, has_base, scalar, elements_of, gives, base_of, given_or, given_by, takes, first_given, first_of, count, has_wanted, array_name, fits, of_one, builtin_by, output_of, either, whole, typed, expected, whole_form, chained, further, elements, arguments, only, builtin_type}
+use Rattle.types.specs.Expressions.{same_base, has_base, scalar, elements_of, base_of, given_or, given_by, first_given, first_of, count, has_wanted, fits, of_one, builtin_by, output_of, either, whole, typed, expected, whole_form, chained, further, elements, arguments, only, builtin_type}
 use Rattle.types.proofs.Typing.{gives_complete}
 
 -- what the check sees is all that is visible, each under its name

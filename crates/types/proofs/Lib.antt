@@ -1,8 +1,13 @@
 pub mod Accepted
+pub mod Answered
+pub mod ByText
+pub mod Calls
 pub mod Checked
 pub mod Complete
+pub mod Growth
 pub mod Numbered
 pub mod Passes
+pub mod Places
 pub mod Rest
 pub mod Rising
 pub mod Settling
@@ -11,3 +16,4 @@ pub mod Stated
 pub mod Steps
 pub mod Table
 pub mod Typing
+pub mod Walks

@@ -1,12 +1,12 @@
 -- The names of a numbered script's statements are settled in the order of their numbers.
-use Rattle.std.proofs.Common.{◌≡◌, ℕ, ◌+◌, ◌<◌, ◌≤◌, Bool, true, false, List, [], ◌∷◌, ◌++◌, length, refl, sym, ap, ap₂, ◌∙◌, subst, arith}
-use Rattle.std.specs.Prelude.{Option, Some, None, cond, nat_eq, suc, option_map, sum_by, nat_lt}
+use Rattle.std.proofs.Common.{◌≡◌, ℕ, ◌+◌, true, false, List, [], ◌∷◌, length, refl, sym, ap, ◌∙◌, subst, arith}
+use Rattle.std.specs.Prelude.{Option, Some, None, cond, nat_eq, option_map, sum_by, nat_lt}
 use Rattle.std.specs.Str.{bytes_eq}
 use Rattle.std.proofs.lemmas.List.Sums.{sum_by-cons}
 use Rattle.values.specs.declared.format.Piece.{Piece}
 use Rattle.values.specs.Formats.{pieces}
 use Rattle.lexer.specs.declared.token.Span.{Span}
-use Rattle.types.specs.declared.fault.TypeFault.TheVariants.{Declared, Mismatch, WrongCount, BadFormat}
+use Rattle.types.specs.declared.fault.TypeFault.TheVariants.{Declared, Mismatch, WrongCount}
 use Rattle.types.specs.declared.typed.Settled.{Settled}
 use Rattle.types.specs.declared.typed.Meaning.TheVariants.{Called}
 use Rattle.types.specs.declared.typed.Owned.{Owned}
@@ -18,14 +18,13 @@ use Rattle.syntax_trees.specs.declared.tree.Base.{Base}
 use Rattle.syntax_trees.specs.declared.tree.Base.TheVariants.{Int, Text, Boolean}
 use Rattle.syntax_trees.specs.declared.tree.Shape.{Shape}
 use Rattle.syntax_trees.specs.declared.tree.Shape.TheVariants.{Scalar, Array}
-use Rattle.syntax_trees.specs.Tree.{Word, Node, Declaration, Expression, expression, Form, number, text, truth, variable, element, call, prefixed, chain, Expressions, no_expressions, and_expression, expressions_of, RightSide, value, list, Calling, Over, array, range, Statement, statement, Command, declare, assign, write, assign_all, calls, choice, choice_else, loop, waits, Body, body, Statements, no_statements, and_statement, Composite, Part, import, function, single, Tree}
+use Rattle.syntax_trees.specs.Tree.{Word, Node, Declaration, Expression, expression, number, text, truth, variable, element, call, prefixed, chain, Expressions, and_expression, expressions_of, RightSide, value, list, Calling, Over, array, range, Statement, statement, Command, declare, assign, write, assign_all, calls, choice, choice_else, loop, waits, Body, body, Statements, no_statements, and_statement, Composite, import, function, single, Tree}
 use Rattle.syntax_trees.specs.Scopes.{Typ, one_of, declared_type, Signature, signatures}
-use Rattle.syntax_trees.specs.Typing.{wanted}
-use Rattle.syntax_trees.specs.Numbered.{expression_size, form_size, expressions_size, word_size, right_size, calling_size, option_size, over_size, statement_size, command_size, body_size, statements_size, composite_size, part_size, tree_size, declaration_size, numbered_word, numbered_node, numbered_each, numbered_expression, numbered_form, numbered_expressions, numbered_declaration, numbered_right, numbered_calling, numbered_over, numbered_statement, numbered_command, numbered_body, numbered_statements, numbered_composite, numbered_part, numbered}
+use Rattle.syntax_trees.specs.Numbered.{expression_size, expressions_size, word_size, right_size, calling_size, option_size, over_size, statement_size, command_size, body_size, statements_size, composite_size, part_size, tree_size, declaration_size, numbered_word, numbered_node, numbered_each, numbered_expression, numbered_expressions, numbered_declaration, numbered_right, numbered_calling, numbered_over, numbered_statement, numbered_command, numbered_body, numbered_statements, numbered_composite, numbered_part, numbered}
 use Rattle.types.specs.Known.{Around, nowhere}
-use Rattle.types.specs.Outcomes.{Outcome, refused, got, Check, ◌>>=◌}
-use Rattle.types.specs.Names.{refer, fresh, added, builtin_of, called, settles, function_called, Found, missing, found, find}
-use Rattle.types.specs.Rising.{Rises, none_settled, one_settled}
+use Rattle.types.specs.Outcomes.{refused, got, ◌>>=◌}
+use Rattle.types.specs.Names.{refer, fresh, added, builtin_of, called, settles, function_called, missing, found, find}
+use Rattle.types.specs.Rising.{Rises, none_settled}
 use Rattle.types.specs.Expressions.{has_type, elements_of, first_of, either, whole, expected, elements, arguments, only, builtin_type}
 use Rattle.types.specs.Statements.{literal_by, right, initial, refer_all, same_types, only_target, several, format_by, conversions, print, builtin_statement, call_alone, step_of, source, fresh_key, fresh_variables, inside, declared, loop_scope, stated, commanded, enclosed, in_order}
 use Rattle.types.specs.Scripts.{parameters, name_by, name_of, function_checked, parts_checked, checked}

@@ -1,5 +1,5 @@
 -- A well-typed script is accepted, whatever the table.
-use Rattle.std.proofs.Common.{◌≡◌, ◌≢◌, ℕ, ◌-◌, ◌+◌, ◌<◌, ◌≤◌, Bool, true, false, List, [], ◌∷◌, ◌++◌, length, map, refl, sym, ap, ap₂, ◌∙◌, subst, arith, inl, inr, append_assoc}
+use Rattle.std.proofs.Common.{◌≡◌, ℕ, ◌+◌, ◌<◌, true, false, List, [], ◌∷◌, ◌++◌, length, refl, sym, ap, ap₂, ◌∙◌, subst, arith, inl, inr, append_assoc}
 use Rattle.std.specs.Prelude.{ℤ, zero, Option, Some, None, cond, nat_eq, nat_lt, suc, slice_get}
 use Rattle.std.proofs.lemmas.Bool.{eq-eqb}
 use Rattle.std.proofs.lemmas.Bool.Decides.{Decides-ltb}
@@ -9,8 +9,7 @@ use Rattle.std.specs.Str.{bytes_eq}
 use Rattle.values.specs.declared.format.Piece.{Piece}
 use Rattle.values.specs.Formats.{pieces}
 use Rattle.lexer.specs.declared.token.Span.{Span}
-use Rattle.types.specs.declared.fault.TypeFault.{TypeFault}
-use Rattle.types.specs.declared.fault.TypeFault.TheVariants.{Declared, Mismatch, WrongCount, BadFormat}
+use Rattle.types.specs.declared.fault.TypeFault.TheVariants.{Declared, Mismatch, WrongCount}
 use Rattle.types.specs.declared.typed.Settled.{Settled}
 use Rattle.types.specs.declared.typed.Owned.{Owned}
 use Rattle.types.specs.declared.typed.Owned.TheVariants.{Local, Input, Output}
@@ -25,7 +24,7 @@ use Rattle.syntax_trees.specs.declared.tree.Shape.TheVariants.{Scalar, Array}
 use Rattle.syntax_trees.specs.Core as core
 use Rattle.syntax_trees.specs.Members.{◌∈◌, first, later}
 use Rattle.syntax_trees.proofs.Members.{split_in}
-use Rattle.syntax_trees.specs.Tree.{Word, Node, Declaration, Expression, expression, Form, text, variable, call, Expressions, expressions_of, RightSide, value, list, Calling, Over, array, range, Statement, statement, Command, declare, assign, write, assign_all, calls, choice, choice_else, loop, waits, Body, body, Statements, no_statements, and_statement, Composite, Part, import, function, single, Tree}
+use Rattle.syntax_trees.specs.Tree.{Word, Node, Declaration, Expression, expression, text, variable, call, expressions_of, RightSide, value, Calling, Over, Statement, statement, declare, assign, write, assign_all, calls, choice, choice_else, loop, waits, Body, body, Statements, no_statements, and_statement, Composite, Tree}
 use Rattle.syntax_trees.specs.Table.{Table, printf, assert}
 use Rattle.syntax_trees.specs.Table as table
 use Rattle.syntax_trees.specs.Scopes.{Typ, one_of, many_of, declared_type, Visible, Scope, deeper, own, IsVisible, Signature, signature_of, signatures, Refers, Calls, CallsBuiltin, IsBuiltinName}
@@ -34,16 +33,16 @@ use Rattle.syntax_trees.specs.Typing.{HasType, ArgumentTypes, BuiltinType, Right
 use Rattle.types.specs.Known.{Seen, Around, nowhere}
 use Rattle.types.specs.Typed.{owned_name, builtin_name}
 use Rattle.types.specs.Outcomes.{Outcome, refused, got, Check, ◌>>=◌}
-use Rattle.types.specs.Names.{seen, free, refer, fresh, added, builtin_of, called, settles, function_called, Found, missing, found, find, find_from}
-use Rattle.types.specs.Expressions.{same_shape, has_type, elements_of, first_of, count, either, whole, expected, elements, arguments, builtin_type}
-use Rattle.types.specs.Statements.{literal_by, right, initial, refer_all, same_types, only_target, several, format_by, conversions, print, builtin_statement, call_alone, step_of, source, fresh_key, fresh_variables, inside, declared, with_key, loop_scope, stated, commanded, enclosed, in_order}
+use Rattle.types.specs.Names.{seen, free, refer, fresh, added, builtin_of, called, settles, function_called, found, find_from}
+use Rattle.types.specs.Expressions.{same_shape, has_type, elements_of, first_of, either, whole, expected, arguments, builtin_type}
+use Rattle.types.specs.Statements.{right, initial, refer_all, same_types, only_target, several, format_by, print, builtin_statement, call_alone, step_of, source, fresh_key, fresh_variables, inside, declared, loop_scope, stated, commanded, enclosed, in_order}
 use Rattle.types.specs.Scripts.{parameters, name_by, name_of, function_checked, parts_checked, checked}
-use Rattle.types.specs.Agrees.{visible_at, scope_onto, scope_of}
+use Rattle.types.specs.Agrees.{visible_at, scope_of}
 use Rattle.types.specs.Accepted.{ScriptRefused}
 use Rattle.types.proofs.Settling.{seen_in}
 use Rattle.types.proofs.Accepted.{builtin_named}
 use Rattle.types.proofs.Stated.{count_of}
-use Rattle.types.proofs.Sight.{Inside, inside_more, inside_added, owned, scope_added, scope_declared, scope_inside, other_text}
+use Rattle.types.proofs.Sight.{Inside, inside_more, inside_added, scope_added, scope_declared, scope_inside}
 use Rattle.types.proofs.Complete.{SeesAll, OneOfAName, Passes, same_self, refer_passes, function_passes, no_builtin, named_builtin, builtin_found, expected_passes, call_passes, many_arguments, whole_passes, arguments_pass, builtin_type_passes, elements_pass, variable_passes}
 
 -- WHAT IS SEEN

@@ -1,11 +1,11 @@
 -- The rest of a list from a place on.
-use Rattle.std.proofs.Common.{◌≡◌, ℕ, ◌<◌, ◌≤◌, ◌+◌, List, [], ◌∷◌, ◌++◌, map, drop, length, get_or, Bool, true, false, ap, ap₂, sym, refl, ◌∙◌, append_assoc}
-use Rattle.std.proofs.lemmas.List.{drop_more, drop_all, map-append, append-nil}
+use Rattle.std.proofs.Common.{◌≡◌, ℕ, ◌<◌, ◌≤◌, ◌+◌, List, [], ◌∷◌, drop, length, get_or, true, false, ap, sym, ◌∙◌}
+use Rattle.std.proofs.lemmas.List.{drop_more, drop_all}
 use Rattle.std.specs.Str.{bytes_eq}
-use Rattle.std.specs.Prelude.{Option, Some, None, cond}
+use Rattle.std.specs.Prelude.{Some, cond}
 use Rattle.syntax_trees.specs.Scopes.{Signature}
 use Rattle.types.specs.Known.{Seen}
-use Rattle.types.specs.Names.{seen, find_from, Found, found, missing}
+use Rattle.types.specs.Names.{seen, find_from, found}
 
 -- what a function says of the rest is what it says of the next one and of those behind it
 pub rest_more : {X Y : Type 0} (F : List X → Y) (xs : List X) (i : ℕ) (x : X) → i < length xs → x ≡ get_or xs i x → F (drop i xs) ≡ F (x ∷ drop (i + 1) xs)

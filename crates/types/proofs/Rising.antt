@@ -1,35 +1,30 @@
 -- The names of a numbered script are settled in the order of their numbers.
-use Rattle.std.proofs.Common.{◌≡◌, ℕ, ◌+◌, ◌-◌, ◌<◌, ◌≤◌, Bool, true, false, List, [], ◌∷◌, ◌++◌, length, refl, sym, ap, ◌∙◌, subst, arith, inl, inr}
-use Rattle.std.specs.Prelude.{Option, Some, None, cond, nat_eq, suc, option_map, sum_by}
-use Rattle.std.specs.Str.{bytes_eq}
-use Rattle.std.proofs.lemmas.List.Sums.{sum_by-cons}
+use Rattle.std.proofs.Common.{◌≡◌, ℕ, ◌+◌, ◌-◌, ◌≤◌, true, false, List, [], ◌∷◌, length, refl, ◌∙◌, subst, arith}
+use Rattle.std.specs.Prelude.{Option, Some, None, cond, nat_eq}
 use Rattle.lexer.specs.declared.token.Span.{Span}
-use Rattle.types.specs.declared.fault.TypeFault.TheVariants.{Unknown, Declared, Mismatch, WrongCount, BadFormat}
+use Rattle.types.specs.declared.fault.TypeFault.TheVariants.{WrongCount}
 use Rattle.types.specs.declared.typed.Settled.{Settled}
 use Rattle.types.specs.declared.typed.Meaning.{Meaning}
 use Rattle.types.specs.declared.typed.Meaning.TheVariants.{Variable, Called}
-use Rattle.types.specs.declared.typed.Owned.{Owned}
-use Rattle.types.specs.declared.typed.Owned.TheVariants.{Input, Output}
 use Rattle.types.specs.declared.typed.Callee.TheVariants.{Function, BuiltIn}
 use Rattle.types.specs.declared.typed.Builtin.{Builtin}
 use Rattle.types.specs.declared.typed.Builtin.TheVariants as Named
 use Rattle.syntax_trees.specs.declared.tree.Base.{Base}
-use Rattle.syntax_trees.specs.declared.tree.Base.TheVariants.{Int, Text, Boolean}
-use Rattle.syntax_trees.specs.declared.tree.Shape.{Shape}
-use Rattle.syntax_trees.specs.declared.tree.Shape.TheVariants.{Scalar, Array}
+use Rattle.syntax_trees.specs.declared.tree.Base.TheVariants.{Int, Text}
+use Rattle.syntax_trees.specs.declared.tree.Shape.TheVariants.{Scalar}
 use Rattle.syntax_trees.specs.declared.tree.Operator.{Operator}
 use Rattle.syntax_trees.specs.Core.{here}
-use Rattle.syntax_trees.specs.Tree.{Word, Node, Declaration, Expression, expression, Form, number, text, truth, variable, element, call, prefixed, chain, Expressions, no_expressions, and_expression, expressions_of, RightSide, value, list, Calling, Over, array, range, Statement, statement, Command, declare, assign, write, assign_all, calls, choice, choice_else, loop, waits, Body, body, Statements, no_statements, and_statement, Composite, Part, import, function, single, Tree}
+use Rattle.syntax_trees.specs.Tree.{Word, Expression, expression, Form, number, text, truth, variable, element, call, prefixed, chain, Expressions, no_expressions, and_expression}
 use Rattle.syntax_trees.specs.Table.{Table, composite}
-use Rattle.syntax_trees.specs.Scopes.{Typ, one_of, Signature, Scope}
-use Rattle.syntax_trees.specs.Numbered.{expression_size, form_size, expressions_size, word_size, right_size, calling_size, option_size, over_size, statement_size, command_size, body_size, statements_size, composite_size, part_size, tree_size, declaration_size, numbered_word, numbered_node, numbered_each, numbered_expression, numbered_form, numbered_expressions, numbered_declaration, numbered_right, numbered_calling, numbered_over, numbered_statement, numbered_command, numbered_body, numbered_statements, numbered_composite, numbered_part, numbered}
-use Rattle.types.specs.Known.{Seen, Around, nowhere}
-use Rattle.types.specs.Outcomes.{Outcome, refused, got, Check, ◌>>=◌}
-use Rattle.types.specs.Names.{seen, refer, referred, builtin_of, called, settles, Found, missing, found, find, counted, function_called}
+use Rattle.syntax_trees.specs.Scopes.{Typ, one_of, Signature}
+use Rattle.syntax_trees.specs.Numbered.{expression_size, form_size, expressions_size, numbered_word, numbered_expression, numbered_form, numbered_expressions}
+use Rattle.types.specs.Known.{Around}
+use Rattle.types.specs.Outcomes.{refused, got, ◌>>=◌}
+use Rattle.types.specs.Names.{seen, refer, referred, builtin_of, called, settles, missing, found, find, counted, function_called}
 use Rattle.types.specs.Rising.{Rises, none_settled, one_settled}
 use Rattle.types.specs.Expressions.{has_base, scalar, elements_of, base_of, given_by, takes, first_given, first_of, count, has_wanted, fits, of_one, builtin_by, output_of, either, whole, typed, expected, whole_form, chained, further, elements, arguments, only, builtin_type}
 use Rattle.types.proofs.Typing.{bind_got, has_base_got, scalar_got, elements_got}
-use Rattle.types.proofs.Accepted.{given_got, fits_sound, of_one_sound, output_got}
+use Rattle.types.proofs.Accepted.{given_got, fits_sound, of_one_sound}
 
 -- RISING NUMBERS
 

@@ -1,19 +1,18 @@
 -- What is settled of a name is what the typing rules ask of the table.
-use Rattle.std.proofs.Common.{◌≡◌, ℕ, ◌-◌, ◌+◌, Bool, true, false, List, [], ◌∷◌, ◌++◌, length, refl, sym, ap, ◌∙◌, subst, arith}
-use Rattle.std.specs.Prelude.{Option, Some, None, cond, nat_eq, slice_get, suc}
+use Rattle.std.proofs.Common.{◌≡◌, ℕ, ◌-◌, ◌+◌, true, false, List, [], ◌∷◌, ◌++◌, length, refl, sym, ap, ◌∙◌, subst, arith}
+use Rattle.std.specs.Prelude.{Some, None, cond, nat_eq, slice_get, suc}
 use Rattle.std.specs.Str.{bytes_eq}
 use Rattle.std.proofs.lemmas.Slice.Eq.{bytes_eq-Decides}
 use Rattle.types.specs.declared.typed.Settled.{Settled}
 use Rattle.types.specs.declared.typed.Meaning.TheVariants.{Variable, Called}
 use Rattle.types.specs.declared.typed.Callee.TheVariants.{Function}
-use Rattle.types.specs.declared.fault.TypeFault.TheVariants.{Unknown, NotAFunction, WrongCount}
+use Rattle.types.specs.declared.fault.TypeFault.TheVariants.{WrongCount}
 use Rattle.syntax_trees.specs.Members.{◌∈◌, first, later}
-use Rattle.syntax_trees.specs.Tree.{Word}
 use Rattle.syntax_trees.specs.Table.{Table}
-use Rattle.syntax_trees.specs.Scopes.{Typ, Visible, Scope, Signature, Refers, Calls}
-use Rattle.types.specs.Known.{Seen, Around}
-use Rattle.types.specs.Outcomes.{Outcome, refused, got}
-use Rattle.types.specs.Names.{seen, refer, referred, settles, Found, missing, found, find, find_from, counted, function_called}
+use Rattle.syntax_trees.specs.Scopes.{Visible, Scope, Signature, Refers, Calls}
+use Rattle.types.specs.Known.{Seen}
+use Rattle.types.specs.Outcomes.{refused, got}
+use Rattle.types.specs.Names.{seen, referred, settles, missing, found, find, find_from, counted}
 use Rattle.types.specs.Agrees.{Says, Agrees, visible_at, scope_onto, scope_of, ReferSound, CallSound}
 
 pub agrees_last : (t : Table) (ss : List Settled) (s : Settled) → Agrees t (ss ++ s ∷ []) → Agrees t ss × Says t s

@@ -1,22 +1,18 @@
 -- What is visible, for the check and for the typing rules.
-use Rattle.std.proofs.Common.{◌≡◌, ℕ, ◌-◌, ◌+◌, ◌≤◌, Bool, true, false, List, [], ◌∷◌, ◌++◌, refl, sym, ap, ap₂, ◌∙◌, subst, arith}
+use Rattle.std.proofs.Common.{◌≡◌, ℕ, ◌-◌, ◌+◌, ◌≤◌, true, false, List, [], ◌∷◌, ◌++◌, refl, sym, ap, ◌∙◌, arith}
 use Rattle.std.proofs.Common.{inl, inr}
-use Rattle.std.specs.Prelude.{Option, Some, None, cond, suc}
+use Rattle.std.specs.Prelude.{Some, None, cond, suc}
 use Rattle.std.specs.Str.{bytes_eq}
 use Rattle.std.proofs.lemmas.Slice.Eq.{bytes_eq-Decides}
-use Rattle.types.specs.declared.fault.TypeFault.TheVariants.{Declared}
 use Rattle.types.specs.declared.typed.Owned.{Owned}
 use Rattle.types.specs.declared.typed.Owned.TheVariants.{Local}
 use Rattle.types.specs.declared.typed.Settled.{Settled}
-use Rattle.syntax_trees.specs.Core.{Name}
-use Rattle.syntax_trees.specs.Core as core
-use Rattle.syntax_trees.specs.Members.{◌∈◌, first, later}
 use Rattle.syntax_trees.proofs.Members.{split_in}
 use Rattle.syntax_trees.specs.Tree.{Word}
-use Rattle.syntax_trees.specs.Scopes.{Typ, Visible, Scope, deeper, further, own, IsVisible}
+use Rattle.syntax_trees.specs.Scopes.{Typ, Visible, Scope, deeper, own, IsVisible}
 use Rattle.types.specs.Known.{Seen, Around}
 use Rattle.types.specs.Typed.{owned_name}
-use Rattle.types.specs.Outcomes.{Outcome, refused, got}
+use Rattle.types.specs.Outcomes.{got}
 use Rattle.types.specs.Names.{seen, free, fresh, added}
 use Rattle.types.specs.Statements.{inside, declared}
 use Rattle.types.specs.Agrees.{visible_at, scope_onto, scope_of}

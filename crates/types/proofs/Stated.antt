@@ -1,12 +1,11 @@
 -- Statements that the check accepts are well typed, for each table that says what was settled.
-use Rattle.std.proofs.Common.{◌≡◌, ℕ, Bool, true, false, List, [], ◌∷◌, length, refl, sym, ap, ap₂, ◌∙◌, subst, arith, inl, inr}
+use Rattle.std.proofs.Common.{◌≡◌, ℕ, true, false, List, [], ◌∷◌, length, refl, sym, ap, ap₂, ◌∙◌, subst, arith, inl, inr}
 use Rattle.std.specs.Prelude.{◌⊎◌, Option, Some, None, cond, nat_eq, suc}
 use Rattle.std.proofs.lemmas.Bool.{eqb-true}
 use Rattle.std.specs.Str.{bytes_eq}
-use Rattle.values.specs.declared.format.Piece.{Piece}
 use Rattle.values.specs.Formats.{pieces}
 use Rattle.lexer.specs.declared.token.Span.{Span}
-use Rattle.types.specs.declared.fault.TypeFault.TheVariants.{Declared, Mismatch, WrongCount, BadFormat}
+use Rattle.types.specs.declared.fault.TypeFault.TheVariants.{Declared, Mismatch, WrongCount}
 use Rattle.types.specs.declared.typed.Settled.{Settled}
 use Rattle.types.specs.declared.typed.Owned.TheVariants.{Local}
 use Rattle.types.specs.declared.typed.Meaning.TheVariants.{Called}
@@ -17,23 +16,23 @@ use Rattle.syntax_trees.specs.declared.tree.Base.{Base}
 use Rattle.syntax_trees.specs.declared.tree.Base.TheVariants.{Int, Text, Boolean}
 use Rattle.syntax_trees.specs.declared.tree.Shape.{Shape}
 use Rattle.syntax_trees.specs.declared.tree.Shape.TheVariants.{Scalar, Array}
-use Rattle.syntax_trees.specs.Tree.{Word, Node, Declaration, Expression, expression, Form, number, text, truth, variable, element, call, prefixed, chain, Expressions, no_expressions, and_expression, expressions_of, RightSide, value, list, Calling, Over, array, range, Statement, statement, Command, declare, assign, write, assign_all, calls, choice, choice_else, loop, waits, Body, body, Statements, no_statements, and_statement}
+use Rattle.syntax_trees.specs.Tree.{Word, Node, Declaration, Expression, expression, number, text, truth, variable, element, call, prefixed, chain, Expressions, no_expressions, and_expression, expressions_of, RightSide, value, list, Calling, Over, array, range, Statement, statement, Command, declare, assign, write, assign_all, calls, choice, choice_else, loop, waits, Body, body, Statements, no_statements, and_statement}
 use Rattle.syntax_trees.specs.Table.{Table}
-use Rattle.syntax_trees.specs.Scopes.{Typ, one_of, many_of, declared_type, Scope, deeper, own, IsVisible, Signature, Refers, Calls, CallsBuiltin}
+use Rattle.syntax_trees.specs.Scopes.{Typ, one_of, declared_type, Scope, own, IsVisible, Signature, Refers, Calls, CallsBuiltin}
 use Rattle.syntax_trees.specs.Typing as rules
 use Rattle.syntax_trees.specs.Typing.{HasType, ArgumentTypes, BuiltinType, RightType, ReferAll, Declares, LoopScope, StepType, SourceType, CallTyped, StatementTyped, StatementsTyped, BodyTyped, wanted}
 use Rattle.types.specs.Known.{Around}
 use Rattle.types.specs.Typed.{builtin_name}
-use Rattle.types.specs.Outcomes.{Outcome, refused, got, Check, ◌>>=◌}
-use Rattle.types.specs.Names.{refer, fresh, added, builtin_of, called, settles, function_called}
+use Rattle.types.specs.Outcomes.{refused, got, ◌>>=◌}
+use Rattle.types.specs.Names.{refer, fresh, builtin_of, called, settles, function_called}
 use Rattle.types.specs.Expressions.{same_base, same_shape, has_type, elements_of, first_of, count, either, whole, expected, elements, arguments, builtin_type}
-use Rattle.types.specs.Statements.{literal_by, right, initial, refer_all, same_types, only_target, several, format_by, format_form, conversions, print, builtin_statement, call_alone, step_of, source, fresh_key, fresh_variables, inside, declared, with_key, loop_scope, stated, commanded, enclosed, in_order}
+use Rattle.types.specs.Statements.{literal_by, right, initial, refer_all, same_types, only_target, several, format_by, print, builtin_statement, call_alone, step_of, source, fresh_key, fresh_variables, inside, declared, loop_scope, stated, commanded, enclosed, in_order}
 use Rattle.types.specs.Agrees.{Agrees, scope_of}
-use Rattle.types.specs.Accepted.{CallGives, GivesArray, WholeType, Fits}
+use Rattle.types.specs.Accepted.{WholeType, Fits}
 use Rattle.types.proofs.Settling.{refer_sound, call_sound}
 use Rattle.types.proofs.Typing.{bind_got, base_same, elements_got}
 use Rattle.types.proofs.Accepted.{kept, call_counted, builtin_called, whole_sound, expected_sound, arguments_sound, elements_sound, builtin_sound}
-use Rattle.types.proofs.Sight.{Inside, inside_more, inside_added, scope_added, scope_declared, scope_inside, none_first, other_text, fresh_got}
+use Rattle.types.proofs.Sight.{Inside, inside_more, inside_added, scope_declared, scope_inside, none_first, other_text, fresh_got}
 
 abbrev made : Base → Shape → Typ
 made b h = record { base = b; shape = h }

@@ -1,5 +1,5 @@
 -- Steps of the check of expressions, as the code takes them.
-use Rattle.std.proofs.Common.{rules, ◌≡◌, ℕ, ◌-◌, ◌+◌, ◌<◌, ◌≤◌, List, [], ◌∷◌, map, drop, take, length, get_or, refl, sym, ap, ap₂, ◌∙◌, subst, arith}
+use Rattle.std.proofs.Common.{rules, ◌≡◌, ℕ, ◌+◌, ◌<◌, ◌≤◌, List, [], ◌∷◌, map, drop, length, get_or, refl, sym, ap, ap₂, ◌∙◌, arith}
 use Rattle.std.specs.Prelude.{Option, Some, None, zero, suc}
 use Rattle.std.proofs.lemmas.List.{drop_more, drop_all}
 use Rattle.lexer.specs.declared.token.Span.{Span}
@@ -13,11 +13,11 @@ use Rattle.syntax_trees.specs.declared.tree.Base.TheVariants.{Text}
 use Rattle.syntax_trees.specs.declared.tree.Operator.{Operator}
 use Rattle.syntax_trees.specs.declared.tree.Expr.{Expr, out-Expr}
 use Rattle.syntax_trees.specs.declared.tree.ExprKind.{the_lemmas}
-use Rattle.syntax_trees.specs.Tree.{Word, Expression, Form, call, Expressions, no_expressions, and_expression, expressions_of}
+use Rattle.syntax_trees.specs.Tree.{Word, Expression, call, Expressions, no_expressions, and_expression, expressions_of}
 use Rattle.syntax_trees.specs.View.{expression_view}
 use Rattle.syntax_trees.specs.Scopes.{Typ, one_of, Signature}
 use Rattle.types.specs.Known.{Around}
-use Rattle.types.specs.Outcomes.{Outcome, refused, got, Check, ◌>>=◌}
+use Rattle.types.specs.Outcomes.{Outcome, refused, got, ◌>>=◌}
 use Rattle.types.specs.Statements.{same_types}
 use Rattle.types.specs.Names.{builtin_of, called, function_called}
 use Rattle.types.specs.Expressions.{first_of, count, takes, expected, first_given, of_one, builtin_by, output_of, either, whole, typed, whole_form, chained, further, elements, arguments, only}

@@ -1,5 +1,5 @@
 -- The table of a checked script says what was settled.
-use Rattle.std.proofs.Common.{◌≡◌, ℕ, ◌+◌, ◌<◌, ◌≤◌, Bool, true, false, List, [], ◌∷◌, ◌++◌, refl, sym, ap, ◌∙◌, subst, arith}
+use Rattle.std.proofs.Common.{◌≡◌, ℕ, ◌<◌, true, false, List, [], ◌∷◌, ◌++◌, refl, sym, ap, ◌∙◌, subst, arith}
 use Rattle.std.specs.Prelude.{Option, Some, None, cond, nat_eq, slice_get}
 use Rattle.std.proofs.lemmas.Bool.{eqb-true, eq-eqb}
 use Rattle.types.specs.declared.typed.Typed as typed
@@ -10,13 +10,9 @@ use Rattle.types.specs.declared.typed.Callee.{Callee}
 use Rattle.types.specs.declared.typed.Settled.{Settled}
 use Rattle.syntax_trees.specs.declared.tree.Shape.{Shape}
 use Rattle.syntax_trees.specs.Table.{Table}
-use Rattle.syntax_trees.specs.Tree.{Tree}
-use Rattle.syntax_trees.specs.Typing.{WellTyped}
-use Rattle.syntax_trees.specs.Numbered.{numbered, tree_size}
+use Rattle.syntax_trees.specs.Numbered.{numbered}
 use Rattle.types.specs.Typed.{table_of, name_in, shape_in, callee_in, reference_name, callee_name, or_nothing, meaning_at, settled_at}
 use Rattle.types.specs.Rising.{Rises, none_settled, one_settled}
-use Rattle.types.specs.Outcomes.{got}
-use Rattle.types.specs.Scripts.{checked}
 use Rattle.types.specs.Agrees.{Says, SaysOf, Agrees}
 use Rattle.types.specs.Accepted.{ScriptTyped}
 use Rattle.types.proofs.Checked.{script_sound}

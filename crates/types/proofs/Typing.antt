@@ -1,13 +1,9 @@
 -- What the check finds of an expression is what the typing rules say.
-use Rattle.std.proofs.Common.{◌≡◌, ℕ, Bool, true, false, List, [], ◌∷◌, length, refl, sym, ap, ap₂, ◌∙◌, subst, arith}
-use Rattle.std.specs.Prelude.{Option, Some, None, cond, nat_eq, suc}
+use Rattle.std.proofs.Common.{◌≡◌, true, false, List, refl, ap₂, subst}
+use Rattle.std.specs.Prelude.{Some, cond}
 use Rattle.lexer.specs.declared.token.Span.{Span}
-use Rattle.types.specs.declared.fault.TypeFault.{TypeFault}
-use Rattle.types.specs.declared.fault.TypeFault.TheVariants.{Mismatch, WrongCount}
+use Rattle.types.specs.declared.fault.TypeFault.TheVariants.{Mismatch}
 use Rattle.types.specs.declared.typed.Settled.{Settled}
-use Rattle.types.specs.declared.typed.Callee.TheVariants.{BuiltIn}
-use Rattle.types.specs.declared.typed.Builtin.{Builtin}
-use Rattle.types.specs.declared.typed.Builtin.TheVariants as Named
 use Rattle.syntax_trees.specs.declared.tree.Base.{Base}
 use Rattle.syntax_trees.specs.declared.tree.Base.TheVariants.{Int, Text, Boolean}
 use Rattle.syntax_trees.specs.declared.tree.Shape.{Shape}
@@ -19,7 +15,7 @@ use Rattle.syntax_trees.specs.declared.tree.Prefix.TheVariants as Before
 use Rattle.syntax_trees.specs.Scopes.{Typ, one_of, many_of}
 use Rattle.syntax_trees.specs.Typing as rules
 use Rattle.types.specs.Outcomes.{Outcome, refused, got, Check, ◌>>=◌}
-use Rattle.types.specs.Expressions.{same_base, has_base, scalar, scalar_by, elements_of, elements_by, gives, base_of, number_only, truth_only, sum_of, given_or, given_by}
+use Rattle.types.specs.Expressions.{same_base, has_base, scalar, scalar_by, elements_of, elements_by, gives, base_of, number_only, truth_only, sum_of}
 
 -- an answer of two checks in a row comes from an answer of the first and one of the second
 pub bind_got : {A B : Type 0} (o : Outcome A) (k : A → Check B) (b : B) (s : List Settled) → (o >>= k) ≡ got b s

@@ -1,17 +1,18 @@
 -- What the check's answers say by the typing rules, for each table that says what was settled.
-use Rattle.std.specs.Prelude.{◌≡◌, ℕ, List, [], ◌∷◌, length, Some}
+use Rattle.std.specs.Prelude.{◌≡◌, ◌≢◌, ℕ, List, [], ◌∷◌, length, Some, Result, Ok, Err}
 use Rattle.lexer.specs.declared.token.Span.{Span}
 use Rattle.types.specs.declared.typed.Settled.{Settled}
 use Rattle.types.specs.declared.typed.Builtin.{Builtin}
 use Rattle.syntax_trees.specs.declared.tree.Base.{Base}
 use Rattle.syntax_trees.specs.declared.tree.Shape.{Shape}
 use Rattle.syntax_trees.specs.declared.tree.Shape.TheVariants.{Scalar, Array}
-use Rattle.syntax_trees.specs.Tree.{Word, Node, Expression, expression, Form, number, text, truth, variable, element, call, prefixed, chain, Expressions, Tree}
+use Rattle.syntax_trees.specs.Tree.{Word, Expression, expression, Form, number, text, truth, variable, element, call, prefixed, chain, Expressions, Tree}
 use Rattle.syntax_trees.specs.Table.{Table}
 use Rattle.syntax_trees.specs.Scopes.{Typ, many_of, Scope, Signature, Refers, Calls}
 use Rattle.syntax_trees.specs.Typing.{HasType, ArgumentTypes, BuiltinType, AllHaveType, WellTyped}
 use Rattle.types.specs.Known.{Around}
 use Rattle.types.specs.declared.fault.TypeFault.{TypeFault}
+use Rattle.types.specs.declared.fault.TypeFault.TheVariants.{Memory}
 use Rattle.types.specs.Outcomes.{refused, got}
 use Rattle.types.specs.declared.typed.Typed as typed
 use Rattle.types.specs.declared.typed.Meaning.TheVariants.{Nothing}
@@ -19,7 +20,7 @@ use Rattle.syntax_trees.specs.Numbered.{numbered}
 use Rattle.types.specs.Typed.{builtin_name, table_of, meaning_at, settled_at}
 use Rattle.types.specs.Agrees.{Agrees, scope_of}
 use Rattle.types.specs.Scripts.{checked}
-use Rattle.types.specs.Expressions.{count, whole, typed, expected, elements, arguments, builtin_type}
+use Rattle.types.specs.Expressions.{count, whole, elements, arguments, builtin_type}
 
 -- an array's name
 abbrev pub NamesArrayForm : Table → Scope → Form → Base → Type 0
@@ -95,3 +96,8 @@ ScriptTyped = (n : ℕ) (tree : Tree) (t : typed.Typed) (s : List Settled) → c
 -- a script that is refused is well typed for no table
 abbrev pub ScriptRefused : Type 0
 ScriptRefused = (tree : Tree) (y : TypeFault) → checked tree ≡ refused y → (t : Table) → ¬ WellTyped tree t
+
+-- what is answered of a script: the table of what is settled by number, or the first fault, unless memory ran out
+abbrev pub Checks : Result typed.Typed TypeFault → Tree → Type 0
+Checks (Ok t) tree = (s : List Settled) × (checked tree ≡ got (tt {0}) s) × ((k : ℕ) → meaning_at t k ≡ settled_at s k Nothing)
+Checks (Err y) tree = y ≢ Memory → checked tree ≡ refused y

@@ -1,7 +1,6 @@
 -- The types of expressions, found from left to right, or the first fault.
-use Rattle.std.specs.Prelude.{ℕ, ℤ, suc, Bool, true, false, List, [], ◌∷◌, length, Option, Some, None, cond, nat_eq}
+use Rattle.std.specs.Prelude.{ℕ, suc, Bool, true, false, List, [], ◌∷◌, Option, Some, None, cond}
 use Rattle.lexer.specs.declared.token.Span.{Span}
-use Rattle.types.specs.declared.fault.TypeFault.{TypeFault}
 use Rattle.types.specs.declared.fault.TypeFault.TheVariants.{Mismatch, WrongCount}
 use Rattle.types.specs.declared.typed.Callee.TheVariants.{BuiltIn}
 use Rattle.types.specs.declared.typed.Builtin.{Builtin}
@@ -14,10 +13,10 @@ use Rattle.syntax_trees.specs.declared.tree.Operator.{Operator}
 use Rattle.syntax_trees.specs.declared.tree.Operator.TheVariants as Sign
 use Rattle.syntax_trees.specs.declared.tree.Prefix.{Prefix}
 use Rattle.syntax_trees.specs.declared.tree.Prefix.TheVariants as Before
-use Rattle.syntax_trees.specs.Tree.{Word, Node, Expression, expression, Form, number, text, truth, variable, element, call, prefixed, chain, Expressions, no_expressions, and_expression}
+use Rattle.syntax_trees.specs.Tree.{Expression, expression, Form, number, text, truth, variable, element, call, prefixed, chain, Expressions, no_expressions, and_expression}
 use Rattle.syntax_trees.specs.Scopes.{Typ, one_of, Signature}
 use Rattle.types.specs.Known.{Around}
-use Rattle.types.specs.Outcomes.{Outcome, refused, got, Check, ◌>>=◌}
+use Rattle.types.specs.Outcomes.{refused, got, Check, ◌>>=◌}
 use Rattle.types.specs.Names.{refer, builtin_of, called, function_called}
 
 -- TYPES

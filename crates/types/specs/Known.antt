@@ -1,17 +1,10 @@
 -- What is visible while a script is checked, and what is settled about its names.
-use Rattle.std.specs.Prelude.{ℕ, suc, Bool, true, false, List, [], ◌∷◌, ◌++◌, map, length, Option, Some, None, Vec, vec_len}
-use Rattle.std.specs.Str.{bytes_eq}
+use Rattle.std.specs.Prelude.{ℕ, List, [], map, vec_len}
 use Rattle.types.specs.declared.typed.Owned.{Owned}
-use Rattle.types.specs.declared.typed.Owned.TheVariants.{Local, Input, Output}
 use Rattle.types.specs.declared.typed.VariableType.{VariableType}
-use Rattle.types.specs.declared.typed.Meaning.{Meaning}
-use Rattle.types.specs.declared.typed.Settled.{Settled}
-use Rattle.types.specs.declared.typed.Builtin as Functions
-use Rattle.types.specs.declared.typed.Builtin.TheVariants as Named
 use Rattle.types.specs.declared.scope.Known.{Known}
 use Rattle.types.specs.declared.scope.Scope as scopes
-use Rattle.types.specs.declared.functions.Signature as functions
-use Rattle.syntax_trees.specs.Tree.{Word}
+use Rattle.types.specs.declared.signatures.Signature as signatures
 use Rattle.syntax_trees.specs.Scopes.{Typ, Signature}
 
 abbrev pub type_of : VariableType → Typ
@@ -29,13 +22,13 @@ pub record Around : Type 0 where
   pub depth : ℕ
   pub names : List Seen
 
-abbrev pub seen_of : Known → Seen
-seen_of k = record { text = k.text.items; depth = k.depth; what = k.what; of = type_of k.of }
+abbrev pub seen_at : List ℕ → Known → Seen
+seen_at text k = record { text = text; depth = k.depth; what = k.what; of = type_of k.of }
 
 abbrev pub around_of : scopes.Scope → Around
-around_of s = record { depth = vec_len s.blocks; names = map seen_of s.names.items }
+around_of s = record { depth = vec_len s.blocks; names = map (λ e. seen_at e.0.items e.1) s.names.entries }
 
-abbrev pub signature_of : functions.Signature → Signature
+abbrev pub signature_of : signatures.Signature → Signature
 signature_of s = record { text = s.text.items; inputs = map type_of s.inputs.items; outputs = map type_of s.outputs.items }
 
 abbrev pub nowhere : Around

@@ -1,8 +1,11 @@
 pub mod Outcomes
+pub mod Faults
 pub mod Known
 pub mod Names
+pub mod Functions
 pub mod Expressions
 pub mod Statements
+pub mod Growth
 pub mod Scripts
 pub mod Typed
 pub mod Agrees

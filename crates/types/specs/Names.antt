@@ -1,20 +1,19 @@
 -- Which variable, function or built-in function a name is.
-use Rattle.std.specs.Prelude.{ℕ, suc, Bool, true, false, List, [], ◌∷◌, ◌++◌, ◌-◌, ◌+◌, length, Option, Some, None, codes, cond, nat_eq, ◌&&◌, ◌||◌, not}
+use Rattle.std.specs.Prelude.{ℕ, List, [], ◌∷◌, ◌++◌, ◌-◌, ◌+◌, length, Option, Some, None, codes, cond, nat_eq}
 use Rattle.std.specs.Str.{bytes_eq}
-use Rattle.types.specs.declared.fault.TypeFault.{TypeFault}
 use Rattle.types.specs.declared.fault.TypeFault.TheVariants.{Unknown, Declared, WrongCount, NotAFunction}
 use Rattle.types.specs.declared.typed.Owned.{Owned}
 use Rattle.types.specs.declared.typed.Meaning.{Meaning}
 use Rattle.types.specs.declared.typed.Meaning.TheVariants.{Variable, Called}
 use Rattle.types.specs.declared.typed.Settled.{Settled}
 use Rattle.types.specs.declared.typed.Callee.{Callee}
-use Rattle.types.specs.declared.typed.Callee.TheVariants.{Function, BuiltIn}
+use Rattle.types.specs.declared.typed.Callee.TheVariants.{Function}
 use Rattle.types.specs.declared.typed.Builtin.{Builtin}
 use Rattle.types.specs.declared.typed.Builtin.TheVariants as Named
 use Rattle.syntax_trees.specs.Tree.{Word}
 use Rattle.syntax_trees.specs.Scopes.{Typ, Signature}
 use Rattle.types.specs.Known.{Seen, Around}
-use Rattle.types.specs.Outcomes.{Outcome, refused, got, Check, ◌>>=◌}
+use Rattle.types.specs.Outcomes.{refused, got, Check}
 
 -- what is settled, with the meaning of one more name
 abbrev pub settles : Word → Meaning → List Settled → List Settled
@@ -70,6 +69,10 @@ find_from n (f ∷ fs) text = cond (bytes_eq f.text text) (found n f) (find_from
 
 abbrev pub find : List Signature → List ℕ → Found
 find = find_from 0
+
+abbrev pub place_of : Found → Option ℕ
+place_of missing = None
+place_of (found n f) = Some n
 
 -- one that is called with so many arguments for so many outputs
 abbrev pub counted : Word → ℕ → ℕ → Found → Check Signature

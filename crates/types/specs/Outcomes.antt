@@ -27,3 +27,8 @@ Gives view (Err f) settled outcome = f ≢ Memory → outcome ≡ refused f
 abbrev pub Judges : {X A : Type 0} → (X → A) → Result X TypeFault → Check A → Type 0
 Judges view (Ok x) check = (settled : List Settled) → check settled ≡ got (view x) settled
 Judges view (Err f) check = (settled : List Settled) → check settled ≡ refused f
+
+-- the same, unless memory ran out
+abbrev pub Tells : {X A : Type 0} → (X → A) → Result X TypeFault → Check A → Type 0
+Tells view (Ok x) check = (settled : List Settled) → check settled ≡ got (view x) settled
+Tells view (Err f) check = f ≢ Memory → (settled : List Settled) → check settled ≡ refused f

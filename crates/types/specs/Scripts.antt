@@ -1,10 +1,10 @@
 -- Scripts, checked part by part.
-use Rattle.std.specs.Prelude.{ℕ, suc, ◌+◌, List, [], ◌∷◌, Option, Some, None, cond, nat_lt}
+use Rattle.std.specs.Prelude.{ℕ, ◌+◌, List, [], ◌∷◌, Option, Some, None, cond, nat_lt}
 use Rattle.types.specs.declared.fault.TypeFault.TheVariants.{Declared}
 use Rattle.types.specs.declared.typed.Owned.{Owned}
 use Rattle.types.specs.declared.typed.Owned.TheVariants.{Input, Output}
 use Rattle.types.specs.declared.typed.Builtin.{Builtin}
-use Rattle.syntax_trees.specs.Tree.{Word, Declaration, Composite, Part, import, function, single, Tree}
+use Rattle.syntax_trees.specs.Tree.{Word, Declaration, Composite, import, function, single, Tree}
 use Rattle.syntax_trees.specs.Scopes.{declared_type, Signature, signatures}
 use Rattle.types.specs.Known.{Around, nowhere}
 use Rattle.types.specs.Outcomes.{Outcome, refused, got, Check, ◌>>=◌}

@@ -1,5 +1,5 @@
 -- Statements, checked from left to right, each with the scope that it leaves, or the first fault.
-use Rattle.std.specs.Prelude.{ℕ, ◌+◌, false, List, [], ◌∷◌, length, Option, Some, None, cond, nat_eq}
+use Rattle.std.specs.Prelude.{◌+◌, false, List, [], ◌∷◌, length, Option, Some, None, cond, nat_eq}
 use Rattle.std.specs.Str.{bytes_eq}
 use Rattle.values.specs.declared.format.Piece.{Piece}
 use Rattle.values.specs.Formats.{pieces}
@@ -13,11 +13,11 @@ use Rattle.syntax_trees.specs.declared.tree.Base.{Base}
 use Rattle.syntax_trees.specs.declared.tree.Base.TheVariants.{Int, Text, Boolean}
 use Rattle.syntax_trees.specs.declared.tree.Shape.{Shape}
 use Rattle.syntax_trees.specs.declared.tree.Shape.TheVariants.{Scalar, Array}
-use Rattle.syntax_trees.specs.Tree.{Word, Node, Declaration, Expression, expression, Form, number, text, truth, variable, element, call, prefixed, chain, Expressions, expressions_of, RightSide, value, list, Calling, Over, array, range, Statement, statement, Command, declare, assign, write, assign_all, calls, choice, choice_else, loop, waits, Body, body, Statements, no_statements, and_statement}
+use Rattle.syntax_trees.specs.Tree.{Word, Node, Expression, expression, Form, number, text, truth, variable, element, call, prefixed, chain, expressions_of, RightSide, value, list, Calling, Over, array, range, Statement, statement, Command, declare, assign, write, assign_all, calls, choice, choice_else, loop, waits, Body, body, Statements, no_statements, and_statement}
 use Rattle.syntax_trees.specs.Scopes.{Typ, one_of, declared_type, Signature}
 use Rattle.syntax_trees.specs.Typing.{wanted}
 use Rattle.types.specs.Known.{Around}
-use Rattle.types.specs.Outcomes.{Outcome, refused, got, Check, ◌>>=◌}
+use Rattle.types.specs.Outcomes.{refused, got, Check, ◌>>=◌}
 use Rattle.types.specs.Names.{refer, fresh, added, builtin_of, called, function_called}
 use Rattle.types.specs.Expressions.{has_type, elements_of, first_of, either, whole, expected, elements, arguments, builtin_type}
 

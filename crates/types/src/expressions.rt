@@ -3,14 +3,16 @@ ghost use Rattle.std.specs.Prelude.{map, drop};
 ghost use Rattle.syntax_trees.specs.View.{word_of, expression_view, form_view};
 ghost use Rattle.syntax_trees.specs.Tree.{expressions_of};
 ghost use Rattle.syntax_trees.specs.Tree as trees;
-ghost use Rattle.types.specs.Known.{type_of, around_of, signature_of};
+ghost use Rattle.types.specs.Known.{type_of, around_of};
+ghost use Rattle.types.specs.Functions.{signatures_of};
 ghost use Rattle.types.specs.Expressions as checks;
 ghost use Rattle.types.specs.Outcomes.{Gives, Judges};
 
 use crate::builtins::{base_of, builtin_of, gives, one_of};
 use crate::fault::TypeFault;
-use crate::functions::{Signature, called, function_called};
+use crate::functions::{called, function_called};
 use crate::scope::{Scope, refer};
+use crate::signatures::Functions;
 use crate::typed::{Builtin, Callee, Settled, VariableType};
 use lexer::token::Span;
 use std::alloc::Allocator;
@@ -62,12 +64,12 @@ pub fn elements_of(found: VariableType, at: Span) -> Result<Base, TypeFault>
 #[tactic(auto, unfolding(crate::specs::Expressions::whole))]
 #[cycle(expr)]
 pub fn whole<A: Allocator>(
-    functions: &[Signature],
+    functions: &Functions,
     scope: &Scope,
     settled: &mut Vec<Settled>,
     value: &Expr<A>,
 ) -> Result<VariableType, TypeFault>
-    ensures { Gives type_of result settled.new.items (checks.whole (map signature_of functions.now) (around_of scope.now) (expression_view value.now) settled.old.items) }
+    ensures { Gives type_of result settled.new.items (checks.whole (signatures_of functions.now) (around_of scope.now) (expression_view value.now) settled.old.items) }
 {
     form(functions, scope, settled, &value.kind, value.first)
 }
@@ -75,13 +77,13 @@ pub fn whole<A: Allocator>(
 #[tactic(auto, unfolding(crate::specs::Expressions::whole_form))]
 #[cycle(expr)]
 fn form<A: Allocator>(
-    functions: &[Signature],
+    functions: &Functions,
     scope: &Scope,
     settled: &mut Vec<Settled>,
     kind: &ExprKind<A>,
     at: Span,
 ) -> Result<VariableType, TypeFault>
-    ensures { Gives type_of result settled.new.items (checks.whole_form (map signature_of functions.now) (around_of scope.now) (form_view kind.now) at settled.old.items) }
+    ensures { Gives type_of result settled.new.items (checks.whole_form (signatures_of functions.now) (around_of scope.now) (form_view kind.now) at settled.old.items) }
 {
     match kind {
         ExprKind::Number(_) => Ok(one_of(Base::Int)),
@@ -110,12 +112,12 @@ fn form<A: Allocator>(
 #[tactic(auto, unfolding(crate::specs::Expressions::typed, crate::specs::Expressions::whole))]
 #[cycle(expr)]
 pub fn expr<A: Allocator>(
-    functions: &[Signature],
+    functions: &Functions,
     scope: &Scope,
     settled: &mut Vec<Settled>,
     value: &Expr<A>,
 ) -> Result<Base, TypeFault>
-    ensures { Gives (λ b. b) result settled.new.items (checks.typed (map signature_of functions.now) (around_of scope.now) (expression_view value.now) settled.old.items) }
+    ensures { Gives (λ b. b) result settled.new.items (checks.typed (signatures_of functions.now) (around_of scope.now) (expression_view value.now) settled.old.items) }
 {
     let found = whole(functions, scope, settled, value)?;
     let base = scalar(found, value.first)?;
@@ -126,13 +128,13 @@ pub fn expr<A: Allocator>(
 #[tactic(auto, unfolding(crate::specs::Expressions::expected, crate::specs::Expressions::typed))]
 #[cycle(expr)]
 pub fn expect<A: Allocator>(
-    functions: &[Signature],
+    functions: &Functions,
     scope: &Scope,
     settled: &mut Vec<Settled>,
     value: &Expr<A>,
     wanted: Base,
 ) -> Result<(), TypeFault>
-    ensures { Gives (λ _. tt) result settled.new.items (checks.expected (map signature_of functions.now) (around_of scope.now) (expression_view value.now) wanted settled.old.items) }
+    ensures { Gives (λ _. tt) result settled.new.items (checks.expected (signatures_of functions.now) (around_of scope.now) (expression_view value.now) wanted settled.old.items) }
 {
     let found = expr(functions, scope, settled, value)?;
     same_base(found, wanted, value.first)?;
@@ -143,14 +145,14 @@ pub fn expect<A: Allocator>(
 #[tactic(auto, unfolding(crate::specs::Expressions::chained))]
 #[cycle(expr)]
 fn chain<A: Allocator>(
-    functions: &[Signature],
+    functions: &Functions,
     scope: &Scope,
     settled: &mut Vec<Settled>,
     operators: &Vec<Operator, A>,
     operands: &Vec<Expr<A>, A>,
     at: Span,
 ) -> Result<Base, TypeFault>
-    ensures { Gives (λ b. b) result settled.new.items (checks.chained (map signature_of functions.now) (around_of scope.now) (expressions_of (map expression_view operands.now.items)) operators.now.items at settled.old.items) }
+    ensures { Gives (λ b. b) result settled.new.items (checks.chained (signatures_of functions.now) (around_of scope.now) (expressions_of (map expression_view operands.now.items)) operators.now.items at settled.old.items) }
 {
     let Some(first) = operands.first() else {
         return Err(TypeFault::Mismatch(at));
@@ -195,7 +197,7 @@ fn given_by(operator: Operator, base: Base, before: Span) -> Result<Base, TypeFa
 #[tactic(auto, unfolding(crate::specs::Expressions::further))]
 #[cycle(expr)]
 fn further<A: Allocator>(
-    functions: &[Signature],
+    functions: &Functions,
     scope: &Scope,
     settled: &mut Vec<Settled>,
     operators: &[Operator],
@@ -205,7 +207,7 @@ fn further<A: Allocator>(
     given: Base,
     at: Span,
 ) -> Result<(), TypeFault>
-    ensures { Gives (λ _. tt) result settled.new.items (checks.further (map signature_of functions.now) (around_of scope.now) (expressions_of (map expression_view (drop from operands.now.items))) operators.now base given at settled.old.items) }
+    ensures { Gives (λ _. tt) result settled.new.items (checks.further (signatures_of functions.now) (around_of scope.now) (expressions_of (map expression_view (drop from operands.now.items))) operators.now base given at settled.old.items) }
 {
     let mut before = at;
     for i in from..operands.len() {
@@ -235,14 +237,14 @@ fn takes(operator: Operator, base: Base, given: Base, before: Span) -> Result<()
 #[tactic(auto, unfolding(crate::specs::Expressions::whole_form))]
 #[cycle(expr)]
 fn call<A: Allocator>(
-    functions: &[Signature],
+    functions: &Functions,
     scope: &Scope,
     settled: &mut Vec<Settled>,
     name: &Name<A>,
     given: &Vec<Expr<A>, A>,
     at: Span,
 ) -> Result<VariableType, TypeFault>
-    ensures { Gives type_of result settled.new.items (checks.whole_form (map signature_of functions.now) (around_of scope.now) (trees.call (word_of name.now) (expressions_of (map expression_view given.now.items))) at settled.old.items) }
+    ensures { Gives type_of result settled.new.items (checks.whole_form (signatures_of functions.now) (around_of scope.now) (trees.call (word_of name.now) (expressions_of (map expression_view given.now.items))) at settled.old.items) }
 {
     match builtin_of(name.text.as_slice()) {
         Some(builtin) => {
@@ -280,14 +282,14 @@ fn output_of(outputs: &[VariableType], at: Span) -> Result<VariableType, TypeFau
 /// The type of the output of a call of a built-in function, whose name stands at `at`.
 #[cycle(expr)]
 pub fn builtin_call<A: Allocator>(
-    functions: &[Signature],
+    functions: &Functions,
     scope: &Scope,
     settled: &mut Vec<Settled>,
     builtin: Builtin,
     given: &Vec<Expr<A>, A>,
     at: Span,
 ) -> Result<Base, TypeFault>
-    ensures { Gives (λ b. b) result settled.new.items (checks.builtin_type (map signature_of functions.now) (around_of scope.now) builtin (expressions_of (map expression_view given.now.items)) at settled.old.items) }
+    ensures { Gives (λ b. b) result settled.new.items (checks.builtin_type (signatures_of functions.now) (around_of scope.now) builtin (expressions_of (map expression_view given.now.items)) at settled.old.items) }
 {
     match builtin {
         Builtin::Strcat => {
@@ -306,14 +308,14 @@ pub fn builtin_call<A: Allocator>(
 #[tactic(auto, unfolding(crate::specs::Expressions::only))]
 #[cycle(expr)]
 fn only<A: Allocator>(
-    functions: &[Signature],
+    functions: &Functions,
     scope: &Scope,
     settled: &mut Vec<Settled>,
     builtin: Builtin,
     given: &Vec<Expr<A>, A>,
     at: Span,
 ) -> Result<Base, TypeFault>
-    ensures { Gives (λ b. b) result settled.new.items (checks.only (map signature_of functions.now) (around_of scope.now) (expressions_of (map expression_view given.now.items)) builtin at settled.old.items) }
+    ensures { Gives (λ b. b) result settled.new.items (checks.only (signatures_of functions.now) (around_of scope.now) (expressions_of (map expression_view given.now.items)) builtin at settled.old.items) }
 {
     if given.len() != 1 {
         return Err(TypeFault::WrongCount(at));
@@ -366,7 +368,7 @@ pub fn first_argument<A: Allocator>(given: &[Expr<A>], at: Span) -> Result<&Expr
 #[tactic(auto, unfolding(crate::specs::Expressions::arguments))]
 #[cycle(expr)]
 pub fn arguments<A: Allocator>(
-    functions: &[Signature],
+    functions: &Functions,
     scope: &Scope,
     settled: &mut Vec<Settled>,
     given: &Vec<Expr<A>, A>,
@@ -374,7 +376,7 @@ pub fn arguments<A: Allocator>(
     inputs: &[VariableType],
     at: Span,
 ) -> Result<(), TypeFault>
-    ensures { Gives (λ _. tt) result settled.new.items (checks.arguments (map signature_of functions.now) (around_of scope.now) (expressions_of (map expression_view (drop from given.now.items))) (map type_of inputs.now) at settled.old.items) }
+    ensures { Gives (λ _. tt) result settled.new.items (checks.arguments (signatures_of functions.now) (around_of scope.now) (expressions_of (map expression_view (drop from given.now.items))) (map type_of inputs.now) at settled.old.items) }
 {
     for i in from..given.len() {
         let Some(input) = inputs.get(i - from) else {
@@ -416,13 +418,13 @@ fn array_name<A: Allocator>(found: VariableType, value: &Expr<A>) -> Result<Base
 #[tactic(auto, unfolding(crate::specs::Expressions::elements))]
 #[cycle(expr)]
 pub fn elements<A: Allocator>(
-    functions: &[Signature],
+    functions: &Functions,
     scope: &Scope,
     settled: &mut Vec<Settled>,
     values: &Vec<Expr<A>, A>,
     wanted: Option<Base>,
 ) -> Result<(), TypeFault>
-    ensures { Gives (λ _. tt) result settled.new.items (checks.elements (map signature_of functions.now) (around_of scope.now) (expressions_of (map expression_view values.now.items)) wanted settled.old.items) }
+    ensures { Gives (λ _. tt) result settled.new.items (checks.elements (signatures_of functions.now) (around_of scope.now) (expressions_of (map expression_view values.now.items)) wanted settled.old.items) }
 {
     for i in 0..values.len() {
         let value = &values[i];

@@ -31,6 +31,25 @@ pub enum TypeFault {
     Memory,
 }
 
+impl TypeFault {
+    ghost use Rattle.types.specs.Faults.{span_of};
+
+    /// The place of the broken rule, in bytes of the text; none where memory was refused.
+    pub fn span(self) -> Option<Span>
+        ensures { result ≡ span_of self }
+    {
+        match self {
+            TypeFault::Unknown(at)
+            | TypeFault::Declared(at)
+            | TypeFault::Mismatch(at)
+            | TypeFault::WrongCount(at)
+            | TypeFault::BadFormat(at)
+            | TypeFault::NotAFunction(at) => Some(at),
+            TypeFault::Memory => None,
+        }
+    }
+}
+
 impl From<AllocError> for TypeFault {
     ghost use Rattle.types.specs.declared.fault.TypeFault.TheVariants.{Memory};
 

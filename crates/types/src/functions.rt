@@ -1,24 +1,20 @@
 //! The functions of a script.
-ghost use Rattle.std.specs.Prelude.{◌≡◌, IfOk, MatchOption, OnOk, map};
+ghost use Rattle.std.specs.Prelude.{◌≡◌, ℕ, List, IfOk, MatchOption, OnOk, map};
+ghost use Rattle.std.specs.Str.{bytes_eq};
+ghost use Rattle.indexmap.specs.IndexMap.{get_by};
 ghost use Rattle.syntax_trees.specs.View.{word_of, part_of, composite_of, declaration_of};
 ghost use Rattle.syntax_trees.specs.Scopes as scopes;
 ghost use Rattle.types.specs.Known.{type_of, signature_of};
+ghost use Rattle.types.specs.Functions.{signatures_of};
 ghost use Rattle.types.specs.Names as checks;
 ghost use Rattle.types.specs.Outcomes.{Gives};
 
 use crate::fault::TypeFault;
-use crate::scope::same_text;
+use crate::signatures::{Functions, Signature};
 use crate::typed::{Callee, Meaning, Settled, VariableType};
+use indexmap::IndexMap;
 use std::alloc::{AllocError, Allocator, Global};
 use syntax_trees::tree::{Decl, Function, Item, Name};
-
-/// A function: its text, and the types of its inputs and outputs.
-#[derive(Drop)]
-pub struct Signature {
-    pub text: Vec<u8>,
-    pub inputs: Vec<VariableType>,
-    pub outputs: Vec<VariableType>,
-}
 
 /// A function with its place among those of the script.
 #[derive(Clone, Copy)]
@@ -27,11 +23,17 @@ pub struct Found<'a> {
     pub signature: &'a Signature,
 }
 
+/// The functions of a script.
+pub fn signatures<A: Allocator>(alloc: Global, items: &[Item<A>]) -> Result<Functions, AllocError>
+    ensures { IfOk result (λ found. signatures_of found ≡ scopes.signatures (map part_of items.now)) }
+{
+    let list = listed(alloc, items)?;
+    let places = first_places(alloc, list.as_slice())?;
+    Ok(Functions { list, places })
+}
+
 /// The functions of a script, in its order.
-pub fn signatures<A: Allocator>(
-    alloc: Global,
-    items: &[Item<A>],
-) -> Result<Vec<Signature>, AllocError>
+fn listed<A: Allocator>(alloc: Global, items: &[Item<A>]) -> Result<Vec<Signature>, AllocError>
     ensures { IfOk result (λ found. map signature_of found.items ≡ scopes.signatures (map part_of items.now)) }
 {
     let mut found = Vec::new(alloc);
@@ -41,6 +43,22 @@ pub fn signatures<A: Allocator>(
         }
     }
     Ok(found)
+}
+
+/// The place of the first function of each name: from the last one to the first, each takes its name's place.
+fn first_places(
+    alloc: Global,
+    functions: &[Signature],
+) -> Result<IndexMap<Vec<u8>, usize>, AllocError>
+    ensures { IfOk result (λ places. (text : List ℕ) → get_by (λ key. bytes_eq text key.items) places ≡ checks.place_of (checks.find (map signature_of functions.now) text)) }
+{
+    let mut places = IndexMap::new(alloc);
+    for behind in 0..functions.len() {
+        let place = functions.len() - 1 - behind;
+        let text = Vec::from_slice(alloc, functions[place].text.as_slice())?;
+        places.insert(text, place)?;
+    }
+    Ok(places)
 }
 
 fn one_signature<A: Allocator>(
@@ -80,15 +98,12 @@ pub fn declared<A: Allocator>(decl: &Decl<A>) -> VariableType
 }
 
 /// The first function of a name.
-pub fn find_function<'a>(functions: &'a [Signature], text: &[u8]) -> Option<Found<'a>>
-    ensures { MatchOption result (checks.find (map signature_of functions.now) text.now ≡ checks.missing) (λ it. checks.find (map signature_of functions.now) text.now ≡ checks.found it.place (signature_of it.signature.now)) }
+pub fn find_function<'a>(functions: &'a Functions, text: &[u8]) -> Option<Found<'a>>
+    ensures { MatchOption result (checks.find (signatures_of functions.now) text.now ≡ checks.missing) (λ it. checks.find (signatures_of functions.now) text.now ≡ checks.found it.place (signature_of it.signature.now)) }
 {
-    for (place, signature) in functions.iter().enumerate() {
-        if same_text(signature.text.as_slice(), text) {
-            return Some(Found { place, signature });
-        }
-    }
-    None
+    let place = *functions.places.get(text)?;
+    let signature = functions.list.get(place)?;
+    Some(Found { place, signature })
 }
 
 /// Settles what a called name is.
@@ -108,13 +123,13 @@ pub fn called<A: Allocator>(
 
 /// The function of a called name, which is settled, with as many inputs and outputs as there are.
 pub fn function_called<'a, A: Allocator>(
-    functions: &'a [Signature],
+    functions: &'a Functions,
     settled: &mut Vec<Settled>,
     name: &Name<A>,
     inputs: usize,
     outputs: usize,
 ) -> Result<&'a Signature, TypeFault>
-    ensures { Gives (λ found. signature_of found.now) result settled.new.items (checks.function_called (map signature_of functions.now) (word_of name.now) inputs outputs settled.old.items) }
+    ensures { Gives (λ found. signature_of found.now) result settled.new.items (checks.function_called (signatures_of functions.now) (word_of name.now) inputs outputs settled.old.items) }
 {
     let Some(found) = find_function(functions, name.text.as_slice()) else {
         return Err(TypeFault::NotAFunction(name.span));

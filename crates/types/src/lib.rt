@@ -11,6 +11,7 @@ mod functions;
 pub mod laws;
 mod scope;
 mod script;
+mod signatures;
 mod statements;
 #[cfg(test)]
 mod tests;

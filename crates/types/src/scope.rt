@@ -2,29 +2,29 @@
 ghost use Rattle.std.specs.Prelude.{◌≡◌, ◌≢◌, OnOk, MatchResult, Some, None, IsSome, option_map, vec_len};
 ghost use Rattle.std.specs.Str.{bytes_eq};
 ghost use Rattle.syntax_trees.specs.View.{word_of};
-ghost use Rattle.types.specs.Known.{seen_of, around_of, type_of, nowhere};
+ghost use Rattle.types.specs.Known.{seen_at, around_of, type_of, nowhere};
 ghost use Rattle.types.specs.Names as checks;
 ghost use Rattle.types.specs.Outcomes.{Gives, Judges};
 
 use crate::fault::TypeFault;
 use crate::typed::{Meaning, Owned, Reference, Settled, VariableType};
+use indexmap::IndexMap;
 use std::alloc::{AllocError, Allocator, Global};
 use syntax_trees::tree::Name;
 
-/// A visible variable: its text, how many blocks were open at its declaration, what it is there, and its type.
-#[derive(Drop)]
+/// What is known of a visible variable: how many blocks were open at its declaration, what it is there, and its type.
+#[derive(Clone, Copy)]
 pub struct Known {
-    pub text: Vec<u8>,
     pub depth: usize,
     pub what: Owned,
     pub of: VariableType,
 }
 
-/// The visible variables in the order of their declarations, and for each open block how many there were at its brace.
+/// The visible variables by their texts, in the order of their declarations, and for each open block how many there were at its brace.
 #[derive(Drop)]
 pub struct Scope {
     pub blocks: Vec<usize>,
-    pub names: Vec<Known>,
+    pub names: IndexMap<Vec<u8>, Known>,
 }
 
 /// The scope without variables.
@@ -33,7 +33,7 @@ pub fn empty(alloc: Global) -> Scope
 {
     Scope {
         blocks: Vec::new(alloc),
-        names: Vec::new(alloc),
+        names: IndexMap::new(alloc),
     }
 }
 
@@ -44,16 +44,11 @@ pub fn same_text(one: &[u8], other: &[u8]) -> bool
     one == other
 }
 
-/// The visible variable of a text.
-fn find<'a>(scope: &'a Scope, text: &[u8]) -> Option<&'a Known>
-    ensures { checks.seen (around_of scope.now).names text.now ≡ option_map (λ known. seen_of known.now) result }
+/// What is known of the visible variable of a text.
+fn find(scope: &Scope, text: &[u8]) -> Option<Known>
+    ensures { checks.seen (around_of scope.now).names text.now ≡ option_map (seen_at text.now) result }
 {
-    for known in &scope.names {
-        if same_text(known.text.as_slice(), text) {
-            return Some(known);
-        }
-    }
-    None
+    scope.names.get(text).copied()
 }
 
 /// Refuses a name that is visible already.
@@ -67,7 +62,7 @@ pub fn fresh<A: Allocator>(scope: &Scope, name: &Name<A>) -> Result<(), TypeFaul
     }
 }
 
-/// Makes a name visible.
+/// Makes a name visible that is not.
 pub fn add<A: Allocator>(
     alloc: Global,
     scope: &mut Scope,
@@ -75,15 +70,16 @@ pub fn add<A: Allocator>(
     what: Owned,
     of: VariableType,
 ) -> Result<(), AllocError>
+    requires { checks.seen (around_of scope.old).names name.now.text.items ≡ None }
     ensures { OnOk result (around_of scope.new ≡ checks.added (around_of scope.old) (word_of name.now) what (type_of of)) }
 {
+    let text = Vec::from_slice(alloc, name.text.as_slice())?;
     let known = Known {
-        text: Vec::from_slice(alloc, name.text.as_slice())?,
         depth: scope.blocks.len(),
         what,
         of,
     };
-    scope.names.push(known)?;
+    scope.names.insert(text, known)?;
     Ok(())
 }
 

@@ -1,9 +1,23 @@
 //! Scripts, part by part.
+ghost use Rattle.std.specs.Prelude.{◌≡◌, ◌≢◌, ◌+◌, ◌^◌, ◌<◌, ◌∷◌, ℕ, MatchResult, IfOk, IfErr, map};
+ghost use Rattle.syntax_trees.specs.View.{word_of, declaration_of, composite_of, part_of, tree_of};
+ghost use Rattle.syntax_trees.specs.Tree.{Tree};
+ghost use Rattle.syntax_trees.specs.Numbered.{numbered};
+ghost use Rattle.syntax_trees.specs.Table.{Table};
+ghost use Rattle.syntax_trees.specs.Typing.{WellTyped};
+ghost use Rattle.types.specs.Known.{around_of, nowhere};
+ghost use Rattle.types.specs.Functions.{signatures_of};
+ghost use Rattle.types.specs.Names as names;
+ghost use Rattle.types.specs.Scripts as checks;
+ghost use Rattle.types.specs.Outcomes.{refused, Gives, Judges, Tells};
+ghost use Rattle.types.specs.Typed.{table_of};
+ghost use Rattle.types.specs.Accepted.{Checks};
 
 use crate::builtins::builtin_of;
 use crate::fault::TypeFault;
-use crate::functions::{Signature, declared, find_function, signatures};
+use crate::functions::{declared, find_function, signatures};
 use crate::scope::{Scope, declare, empty};
+use crate::signatures::Functions;
 use crate::statements::{block, stmt};
 use crate::typed::{Owned, Settled, Typed, by_number};
 use std::alloc::{Allocator, Global};
@@ -16,48 +30,75 @@ use syntax_trees::tree::{Decl, Function, Item, Name, Script};
 /// # Errors
 ///
 /// The broken rule with its place, or `Memory`.
-pub fn check<A: Allocator>(alloc: Global, script: &Script<A>) -> Result<Typed, TypeFault> {
+pub fn check<A: Allocator>(alloc: Global, script: &Script<A>) -> Result<Typed, TypeFault>
+    ensures exact { Checks result (tree_of script.now) }
+
+    // A numbered script is well typed for the table that is answered.
+    ensures typed { IfOk result (λ t. (n : ℕ) (tree : Tree) → tree_of script.now ≡ numbered n tree → WellTyped (tree_of script.now) (table_of t)) }
+
+    // A script that is refused for a broken rule is well typed for no table.
+    ensures untyped { IfErr result (λ y. y ≢ TypeFault.Memory → (t : Table) → ¬ WellTyped (tree_of script.now) t) }
+{
     let functions = signatures(alloc, script.items.as_slice())?;
     let mut settled = Vec::new(alloc);
-    parts(
-        alloc,
-        functions.as_slice(),
-        &mut settled,
-        script.items.as_slice(),
-    )?;
+    parts(alloc, &functions, &mut settled, script.items.as_slice())?;
     Ok(by_number(alloc, settled.as_slice())?)
 }
 
 /// The parts of a script.
 fn parts<A: Allocator>(
     alloc: Global,
-    functions: &[Signature],
+    functions: &Functions,
     settled: &mut Vec<Settled>,
     items: &[Item<A>],
-) -> Result<(), TypeFault> {
+) -> Result<(), TypeFault>
+    ensures { Gives (λ _. tt) result settled.new.items (checks.parts_checked (signatures_of functions.now) 0 nowhere (map part_of items.now) settled.old.items) }
+{
     let mut scope = empty(alloc);
     let mut above: usize = 0;
     for item in items {
-        match item {
-            Item::Import(_) => {}
-            Item::Function(one) => {
-                function(alloc, functions, settled, above, one)?;
-                above = above.saturating_add(1);
-            }
-            Item::Statement(one) => stmt(alloc, functions, &mut scope, settled, one)?,
-        }
+        above = part(alloc, functions, &mut scope, settled, above, item)?;
     }
     Ok(())
+}
+
+/// A part with so many functions above it; the answer is how many are above the parts behind it.
+fn part<A: Allocator>(
+    alloc: Global,
+    functions: &Functions,
+    scope: &mut Scope,
+    settled: &mut Vec<Settled>,
+    above: usize,
+    item: &Item<A>,
+) -> Result<usize, TypeFault>
+    requires { above + 1 < 2 ^ 64 }
+    ensures counts { IfOk result (λ n. n < above + 2) }
+    ensures goes_on { IfOk result (λ n. (ps : Tree) → checks.parts_checked (signatures_of functions.now) above (around_of scope.old) (part_of item.now ∷ ps) settled.old.items ≡ checks.parts_checked (signatures_of functions.now) n (around_of scope.new) ps settled.new.items) }
+    ensures stops { IfErr result (λ y. y ≢ TypeFault.Memory → (ps : Tree) → checks.parts_checked (signatures_of functions.now) above (around_of scope.old) (part_of item.now ∷ ps) settled.old.items ≡ refused y) }
+{
+    match item {
+        Item::Import(_) => Ok(above),
+        Item::Function(one) => {
+            function(alloc, functions, settled, above, one)?;
+            Ok(above + 1)
+        }
+        Item::Statement(one) => {
+            stmt(alloc, functions, scope, settled, one)?;
+            Ok(above)
+        }
+    }
 }
 
 /// A function with so many functions above it. Its body sees its outputs and inputs, and no variable of the script.
 fn function<A: Allocator>(
     alloc: Global,
-    functions: &[Signature],
+    functions: &Functions,
     settled: &mut Vec<Settled>,
     above: usize,
     function: &Function<A>,
-) -> Result<(), TypeFault> {
+) -> Result<(), TypeFault>
+    ensures { Gives (λ _. tt) result settled.new.items (checks.function_checked (signatures_of functions.now) above (composite_of function.now) settled.old.items) }
+{
     let mut scope = empty(alloc);
     outputs(alloc, &mut scope, function.outputs.as_slice())?;
     function_name(functions, above, &function.name)?;
@@ -67,10 +108,12 @@ fn function<A: Allocator>(
 
 /// Refuses a function's name that is taken by one above it or by a built-in one.
 fn function_name<A: Allocator>(
-    functions: &[Signature],
+    functions: &Functions,
     above: usize,
     name: &Name<A>,
-) -> Result<(), TypeFault> {
+) -> Result<(), TypeFault>
+    ensures { Judges (λ _. tt) result (checks.name_of (names.builtin_of name.now.text.items) (signatures_of functions.now) above (word_of name.now)) }
+{
     if builtin_of(name.text.as_slice()).is_some() {
         return Err(TypeFault::Declared(name.span));
     }
@@ -80,22 +123,28 @@ fn function_name<A: Allocator>(
     }
 }
 
+/// The outputs of a function, which are new variables.
 fn outputs<A: Allocator>(
     alloc: Global,
     scope: &mut Scope,
     decls: &[Decl<A>],
-) -> Result<(), TypeFault> {
+) -> Result<(), TypeFault>
+    ensures { Tells (λ _. around_of scope.new) result (checks.parameters Owned.Output (around_of scope.old) 0 (map declaration_of decls.now)) }
+{
     for (i, decl) in decls.iter().enumerate() {
         declare(alloc, scope, &decl.name, Owned::Output(i), declared(decl))?;
     }
     Ok(())
 }
 
+/// The inputs of a function, which are new variables.
 fn inputs<A: Allocator>(
     alloc: Global,
     scope: &mut Scope,
     decls: &[Decl<A>],
-) -> Result<(), TypeFault> {
+) -> Result<(), TypeFault>
+    ensures { Tells (λ _. around_of scope.new) result (checks.parameters Owned.Input (around_of scope.old) 0 (map declaration_of decls.now)) }
+{
     for (i, decl) in decls.iter().enumerate() {
         declare(alloc, scope, &decl.name, Owned::Input(i), declared(decl))?;
     }

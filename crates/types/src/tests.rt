@@ -135,6 +135,7 @@ fn unknown_names(rt: HostRuntime) -> Result<(), Fail> {
         )?,
     )?;
     assert_eq!(rt; found, Some(TypeFault::Unknown(span(14, 15))));
+    assert_eq!(rt; TypeFault::Unknown(span(14, 15)).span(), Some(span(14, 15)));
     Ok(())
 }
 

@@ -1,6 +1,6 @@
 //! What the check finds out about the names of a script, by node number.
-ghost use Rattle.std.specs.Prelude.{◌≡◌};
-ghost use Rattle.types.specs.Typed.{table_of, reference_name, callee_name};
+ghost use Rattle.std.specs.Prelude.{◌≡◌, ℕ, IfOk, OnOk, cond, nat_eq, slice_get};
+ghost use Rattle.types.specs.Typed.{table_of, reference_name, callee_name, or_nothing, meaning_at, settled_at};
 
 use std::alloc::{AllocError, Global};
 use syntax_trees::tree::{Base, Shape};
@@ -102,7 +102,9 @@ impl Typed {
 }
 
 /// What was settled, by number.
-pub fn by_number(alloc: Global, settled: &[Settled]) -> Result<Typed, AllocError> {
+pub fn by_number(alloc: Global, settled: &[Settled]) -> Result<Typed, AllocError>
+    ensures { IfOk result (λ typed. (number : ℕ) → meaning_at typed number ≡ settled_at settled.now number Meaning.Nothing) }
+{
     let mut meanings = Vec::new(alloc);
     for one in settled {
         place(&mut meanings, one.number as usize, one.meaning)?;
@@ -111,7 +113,9 @@ pub fn by_number(alloc: Global, settled: &[Settled]) -> Result<Typed, AllocError
 }
 
 /// Puts a meaning at its number, behind as many empty ones as there must be.
-fn place(meanings: &mut Vec<Meaning>, number: usize, meaning: Meaning) -> Result<(), AllocError> {
+fn place(meanings: &mut Vec<Meaning>, number: usize, meaning: Meaning) -> Result<(), AllocError>
+    ensures { OnOk result ((other : ℕ) → or_nothing (slice_get meanings.new.items other) ≡ cond (nat_eq number other) meaning (or_nothing (slice_get meanings.old.items other))) }
+{
     for _ in meanings.len()..number {
         meanings.push(Meaning::Nothing)?;
     }

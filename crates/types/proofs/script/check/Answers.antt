@@ -1,0 +1,25 @@
+use Rattle.std.proofs.Common.{rules, ◌≡◌, ℕ, List, ap, ◌∙◌}
+use Rattle.std.proofs.lemmas.Result.{err_from_is_err_and}
+use Rattle.syntax_trees.specs.View.{tree_of}
+use Rattle.types.specs.declared.typed.Settled.{Settled}
+use Rattle.types.specs.declared.typed.Meaning.TheVariants.{Nothing}
+use Rattle.types.specs.Typed.{meaning_at, settled_at}
+use Rattle.types.specs.Outcomes.{refused, got}
+use Rattle.types.specs.Scripts.{checked}
+use Rattle.types.proofs.Answered.{accepted_typed}
+use Rattle.types.proofs.Passes.{script_refused}
+use Rattle.types.proofs.script.check.Goals as goal
+
+pub returns-in_err-parts-clause-untyped : goal.returns-in_err-parts-clause-untyped
+returns-in_err-parts-clause-untyped g c =
+    let p = err_from_is_err_and c.from_residual-in_err-parts.result c.from_residual-in_err-parts.ensures.1 in
+    rw (p.1, p.2) (λ m t. (let is = c.in_err-parts.ensures m in
+    let exact : checked (tree_of {A = g.row.A.Denot} c.args.script.now) ≡ refused c.in_err-parts.field-0.0 = search rules in
+    script_refused (tree_of {A = g.row.A.Denot} c.args.script.now) c.in_err-parts.field-0.0 exact t))
+
+pub returns-clause-typed : goal.returns-clause-typed
+returns-clause-typed g c =
+    let exact : checked (tree_of {A = g.row.A.Denot} c.args.script.now) ≡ got (tt {0}) c.parts.new.settled.items = search rules in
+    let says : (k : ℕ) → meaning_at c.in_ok-by_number.field-0 k ≡ settled_at c.parts.new.settled.items k Nothing =
+    λ k. c.in_ok-by_number.ensures k ∙ ap (λ (s : List Settled). settled_at s k Nothing) c.as_slice-3.ensures.value in
+    accepted_typed (tree_of {A = g.row.A.Denot} c.args.script.now) c.in_ok-by_number.field-0 c.parts.new.settled.items exact says
