@@ -5,18 +5,18 @@ use Rattle.values.specs.declared.fault.OpFault.{OpFault}
 use Rattle.values.specs.declared.value.Scalar.{Scalar}
 use Rattle.values.specs.declared.value.Value.{Value}
 use Rattle.values.specs.declared.value.Value.TheVariants.{One}
-use Rattle.syntax_trees.specs.Core.{here, name, local, Name, Cell, Outer, Stmt, stmt, assign}
+use Rattle.syntax_trees.specs.Core.{here, name, Cell, Stmt, stmt, assign}
 use Rattle.syntax_trees.specs.Facts.{Fault, value, fault, Knowledge}
 use Rattle.syntax_trees.specs.Meaning.{ValueUnder, of_name, stored, Known, Meaning, script, in_block}
 use Rattle.syntax_trees.specs.Members.{◌∈◌, first, later}
 use Rattle.syntax_trees.specs.Outcomes.{Blocked}
 use Rattle.syntax_trees.specs.Parts.{stmt_action, cells}
 use Rattle.syntax_trees.specs.Places.{Place}
-use Rattle.syntax_trees.proofs.Declared.{local_same}
 use Rattle.agreement.specs.Compile.{declared, script_list, action_expr, is_act}
 use Rattle.agreement.specs.Scalars.{alone, OnScalars, declares, assigns, a_name, IsScalars}
 use Rattle.agreement.specs.Worked.{in_a_circle}
 use Rattle.agreement.proofs.Sources.{known_source, cell_known, value_source, fault_source}
+use Rattle.agreement.proofs.TwoScalars.{AssignTwo, assigned_once}
 use Rattle.std.specs.Prelude.{true}
 
 abbrev Body : List Stmt
@@ -58,17 +58,10 @@ apart st c i h d =
       | inr x ↦ (let a = x.0 in elim d [ inl e ↦ omega arith | inr d' ↦ elim d' [ inl e ↦ omega arith | inr n ↦ n ] ])
     ]
 
-assigned : (at n : ℕ) (x : Name) (o : Outer) → stmt at n (assign x o) ∈ Body → ((x.what ≡ local 1) × (n ≡ 3)) ⊎ ((x.what ≡ local 2) × (n ≡ 4))
+assigned : AssignTwo Body
 assigned at n x o (later (later first)) = inl (refl, refl)
 assigned at n x o (later (later (later first))) = inr (refl, refl)
 assigned at n x o (later (later (later (later i)))) = elim i [ ]
-
-once : (at n at' n' : ℕ) (x x' : Name) (o o' : Outer) → stmt at n (assign x o) ∈ Body → stmt at' n' (assign x' o') ∈ Body → x.what ≡ x'.what → n ≡ n'
-once at n at' n' x x' o o' i i' e =
-    elim (assigned at n x o i) [
-      | inl a ↦ elim (assigned at' n' x' o' i') [ inl b ↦ a.1 ∙ sym b.1 | inr b ↦ absurd (let q = local_same (sym a.0 ∙ e ∙ b.0) in omega arith) ]
-      | inr a ↦ elim (assigned at' n' x' o' i') [ inl b ↦ absurd (let q = local_same (sym a.0 ∙ e ∙ b.0) in omega arith) | inr b ↦ a.1 ∙ sym b.1 ]
-    ]
 
 pub circle_is_scalars : IsScalars in_a_circle
 circle_is_scalars = record {
@@ -76,7 +69,7 @@ circle_is_scalars = record {
   nodes = (λ h. elim h [ inl e ↦ omega arith | inr n ↦ n ], (λ h. h, tt));
   cells_once = cells_once;
   apart = apart;
-  once = once;
+  once = assigned_once Body assigned;
 }
 
 -- a name has a value only where its variable has one

@@ -1,7 +1,8 @@
 -- An expression of scalars under knowledge, and what an entry computes from its answers.
-use Rattle.std.proofs.Common.{◌≡◌, inl, inr, ℕ, suc, ◌≤◌, max, Bool, true, false, List, [], ◌∷◌, refl, sym, ap, ◌∙◌, subst, Option, Some, Result, Ok, arith}
+use Rattle.std.proofs.Common.{◌≡◌, inl, inr, ℕ, suc, ◌≤◌, max, Bool, true, false, List, [], ◌∷◌, refl, sym, ap, ◌∙◌, subst, Option, Some, Result, Ok}
 use Rattle.std.specs.Prelude.{nat_eq, if◌then◌else◌}
-use Rattle.std.proofs.lemmas.Bool.{eqb-true, eq-eqb}
+use Rattle.std.proofs.lemmas.Bool.{true≢false, eqb-true, eq-eqb}
+use Rattle.std.proofs.Math.Nat.{le-max_left, le-max_right}
 use Rattle.dataflow.specs.System.{In, Answer, Found}
 use Rattle.dataflow.proofs.Lists.{in_left, in_right, in_split}
 use Rattle.values.specs.declared.fault.OpFault.{OpFault}
@@ -17,16 +18,10 @@ use Rattle.syntax_trees.proofs.Rounds.{known_later}
 use Rattle.task_code.specs.Compute.{answer_at, answer_value, eval, evals}
 use Rattle.agreement.specs.Compile.{named, named_all, place_in, over, all_over}
 use Rattle.agreement.specs.Scalars.{OverScalars, a_literal, a_name, an_operator, AllOverScalars, no_more, one_more}
-use Rattle.agreement.proofs.Members.{if_true}
+use Rattle.agreement.proofs.Members.{in_rest, if_true}
 
 abbrev pub Got : Type 0
 Got = Answer Key Scalar
-
-below_max : (n m : ℕ) → n ≤ max n m
-below_max n m = omega arith
-
-above_max : (n m : ℕ) → m ≤ max n m
-above_max n m = omega arith
 
 -- the answer for a number is this one
 abbrev pub Answers : List Got → List ℕ → ℕ → Scalar → Type 0
@@ -43,7 +38,7 @@ answers_front x xs n m ns v f g = by (nat_eq n m) refl
     by : (b : Bool) → nat_eq n m ≡ b → Answers (x ∷ xs) (m ∷ ns) n v
     by true q = answers_here x xs n m ns v (eqb-true n m q) (f (eqb-true n m q))
     by false q =
-        let other : n ≡ m → ⊥ = λ e. (let t : nat_eq n m ≡ true = eq-eqb n m e in let z : true ≡ false = sym t ∙ q in absurd (cc (z))) in
+        let other : n ≡ m → ⊥ = λ e. true≢false (sym (eq-eqb n m e) ∙ q) in
         ap (λ (b : Bool). answer_at (x ∷ xs) (if b then 0 else suc (place_in n ns))) q ∙ g other
 
 module _ (s : Core) (ds : List ℕ) where
@@ -65,8 +60,7 @@ module _ (s : Core) (ds : List ℕ) where
             let e = eqb-true n m q in
             (f.0.0, subst (λ (k : ℕ). HasValue s K ([], k) f.0.0) (sym e) f.0.1, answers_here x xs n m ns f.0.0 e f.0.2)
         by false q rec =
-            let i : In n ns = elim h [ inl e ↦ (let z : true ≡ false = sym (eq-eqb n m e) ∙ q in absurd (cc (z))) | inr i ↦ i ] in
-            let r = rec i in
+            let r = rec (in_rest n m ns h q) in
             (r.0, r.1, ap (λ (b : Bool). answer_at (x ∷ xs) (if b then 0 else suc (place_in n ns))) q ∙ r.2)
 
     -- what an entry computes from its answers, the expression has
@@ -145,6 +139,6 @@ module _ (s : Core) (ds : List ℕ) where
         let q = round_of_all ts vs in
         let m = max p.0 q.0 in (
           m,
-          operand (value_within (Known s p.0) (Known s m) (λ n u h. value_later p.0 m n u (below_max p.0 q.0) h) t p.1)
-              (values_within (Known s q.0) (Known s m) (λ n u h. value_later q.0 m n u (above_max p.0 q.0) h) ts q.1),
+          operand (value_within (Known s p.0) (Known s m) (λ n u h. value_later p.0 m n u (le-max_left p.0 q.0) h) t p.1)
+              (values_within (Known s q.0) (Known s m) (λ n u h. value_later q.0 m n u (le-max_right p.0 q.0) h) ts q.1),
         )

@@ -10,5 +10,6 @@ pub mod Bridge
 pub mod Within
 pub mod Lines
 pub mod Runs
+pub mod TwoScalars
 pub mod UsedBefore
 pub mod Circle

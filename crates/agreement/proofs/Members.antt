@@ -1,13 +1,14 @@
 -- Members of lists, and statements by their places in a list.
 use Rattle.std.proofs.Common.{◌≡◌, ◌⊎◌, inl, inr, ℕ, zero, suc, ◌+◌, ◌<◌, Bool, true, false, List, [], ◌∷◌, map, length, refl, sym, ap, ◌∙◌, subst, arith}
 use Rattle.std.specs.Prelude.{nat_eq, if◌then◌else◌}
-use Rattle.std.proofs.lemmas.Bool.{eqb-true}
+use Rattle.std.proofs.lemmas.Bool.{true≢false, eqb-true, eq-eqb}
 use Rattle.dataflow.specs.System.{In, Distinct}
 use Rattle.dataflow.proofs.Lists.{in_map}
 use Rattle.syntax_trees.specs.Core.{Stmt}
 use Rattle.syntax_trees.specs.Members.{◌∈◌, first, later}
-use Rattle.syntax_trees.specs.Parts.{stmt_action}
+use Rattle.syntax_trees.specs.Parts.{block_list, stmt_action}
 use Rattle.task_code.specs.Code.{nth}
+use Rattle.agreement.specs.Blocks.{block_of}
 use Rattle.agreement.specs.Compile.{without, each_once, is_act, acts, numbers_from}
 
 pub to_in : {X : Type 0} {x : X} {xs : List X} → x ∈ xs → In x xs
@@ -108,6 +109,11 @@ at_once {X} {Y} f (suc i) zero x y (z ∷ zs) d h g e =
     absurd (d.0 (subst (λ (v : Y). In v (map f zs)) (e ∙ ap f g) (in_map f x zs (at_in i x zs h))))
 at_once f (suc i) (suc j) x y (z ∷ zs) d h g e = ap suc (at_once f i j x y zs d.1 h g e)
 
+-- the statements of a block that is made of a list
+pub block_list_of : (sts : List Stmt) → block_list (block_of sts) ≡ sts
+block_list_of [] = refl
+block_list_of (st ∷ sts) = ap (λ l. st ∷ l) (block_list_of sts)
+
 -- STATEMENTS THAT DO SOMETHING
 
 pub acts_in : (st : Stmt) (b : List Stmt) → In st (acts b) → (st ∈ b) × (is_act (stmt_action st) ≡ true)
@@ -135,14 +141,20 @@ pub if_true : {A : Type 0} (b : Bool) (x y : A) → b ≡ true → (if b then x 
 if_true true x y h = refl
 if_true false x y h = absurd (cc)
 
-without_in : (n m : ℕ) (ns : List ℕ) → In n (without m ns) → In n ns
-without_in n m [] h = h
-without_in n m (k ∷ ns) h = by (nat_eq m k) h (λ i. without_in n m ns i)
+-- a number that is not the one at the head stands behind it
+pub in_rest : (n m : ℕ) (ns : List ℕ) → In n (m ∷ ns) → nat_eq n m ≡ false → In n ns
+in_rest n m ns (inl e) q = absurd (true≢false (sym (eq-eqb n m e) ∙ q))
+in_rest n m ns (inr i) q = i
+
+-- what is left is there, and is another number
+pub without_in : (n m : ℕ) (ns : List ℕ) → In n (without m ns) → In n ns × (nat_eq m n ≡ false)
+without_in n m [] h = absurd h
+without_in n m (k ∷ ns) h = by (nat_eq m k) refl h (without_in n m ns)
   where
-    by : (t : Bool) → In n (if t then without m ns else k ∷ without m ns) → (In n (without m ns) → In n ns) → In n (k ∷ ns)
-    by true i rec = inr (rec i)
-    by false (inl e) rec = inl e
-    by false (inr i) rec = inr (rec i)
+    by : (t : Bool) → nat_eq m k ≡ t → In n (if t then without m ns else k ∷ without m ns) → (In n (without m ns) → In n ns × (nat_eq m n ≡ false)) → In n (k ∷ ns) × (nat_eq m n ≡ false)
+    by true q i rec = let r = rec i in (inr r.0, r.1)
+    by false q (inl e) rec = (inl e, ap (λ x. nat_eq m x) e ∙ q)
+    by false q (inr i) rec = let r = rec i in (inr r.0, r.1)
 
 in_without : (n m : ℕ) (ns : List ℕ) → In n ns → (n ≡ m) ⊎ In n (without m ns)
 in_without n m [] h = absurd h
@@ -157,7 +169,7 @@ in_without n m (k ∷ ns) h = by (nat_eq m k) refl h (λ i. in_without n m ns i)
 pub once_in : (n : ℕ) (ns : List ℕ) → In n (each_once ns) → In n ns
 once_in n [] h = h
 once_in n (m ∷ ns) (inl e) = inl e
-once_in n (m ∷ ns) (inr h) = inr (once_in n ns (without_in n m (each_once ns) h))
+once_in n (m ∷ ns) (inr h) = inr (once_in n ns (without_in n m (each_once ns) h).0)
 
 pub in_once : (n : ℕ) (ns : List ℕ) → In n ns → In n (each_once ns)
 in_once n [] h = h

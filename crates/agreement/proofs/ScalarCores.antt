@@ -2,7 +2,7 @@
 use Rattle.std.proofs.Common.{◌≡◌, ◌⊎◌, inl, inr, ℕ, zero, suc, ◌+◌, ◌<◌, ◌≤◌, Bool, true, false, List, [], ◌∷◌, ◌++◌, map, None, refl, sym, ap, ap₂, subst, ◌∙◌, arith}
 use Rattle.std.specs.Prelude.{◌&&◌, ◌||◌, not, nat_eq}
 use Rattle.std.specs.List.{flat_map}
-use Rattle.std.proofs.lemmas.Bool.{eqb-true}
+use Rattle.std.proofs.lemmas.Bool.{true≢false, false≢true, not-true, eqb-true}
 use Rattle.dataflow.specs.System.{In, Distinct}
 use Rattle.syntax_trees.specs.Tree.{Expression, expression, Tree}
 use Rattle.syntax_trees.specs.Core.{local, Name, here, Cell, Outer, Stmt, stmt, declare, assign, Block, no_stmts, stmts, Core}
@@ -14,6 +14,7 @@ use Rattle.syntax_trees.specs.Resolved.{number_of, script_block, core}
 use Rattle.syntax_trees.specs.Single.{nowhere, here_too, not_here, Way, way_end, way_on, StmtWay, simple, Owns, declared_here, SinglyAssigned}
 use Rattle.syntax_trees.specs.Table.{Table}
 use Rattle.syntax_trees.specs.Typing.{WellTyped}
+use Rattle.syntax_trees.proofs.Declared.{local_same}
 use Rattle.syntax_trees.proofs.Members.{either}
 use Rattle.syntax_trees.proofs.Numbers.{numbers-numbered}
 use Rattle.syntax_trees.proofs.Tested.{has, distinct, flat, both, has_in, self_eq, distinct_right, distinct_apart, flat_once, flat_in, cell_nodes}
@@ -95,13 +96,9 @@ acts_numbered n (an_assertion {c = c} {ps = ps} o m) = let r = acts_numbered n m
 
 -- NO NUMBER TWICE
 
-not_has : (b : Bool) → not b ≡ true → b ≡ true → ⊥
-not_has true h k = absurd (cc (h))
-not_has false h k = absurd (cc (k))
-
 distinct_is : (ns : List ℕ) → distinct ns ≡ true → Distinct ns
 distinct_is [] h = tt
-distinct_is (n ∷ ns) h = let a = both (not (has n ns)) (distinct ns) h in (λ i. not_has (has n ns) a.0 (has_in (from_in n ns i)), distinct_is ns a.1)
+distinct_is (n ∷ ns) h = let a = both (not (has n ns)) (distinct ns) h in (λ i. true≢false (sym (has_in (from_in n ns i)) ∙ not-true (has n ns) a.0), distinct_is ns a.1)
 
 cell_in : (c : Cell) (cs : List Cell) → c ∈ cs → c.node ∈ cell_nodes cs
 cell_in c cs m = flat_in (λ (c : Cell). c.node ∷ []) cs m first
@@ -115,9 +112,6 @@ assigned_by _ = []
 
 abbrev assigned : List Stmt → List ℕ
 assigned sts = flat assigned_by sts
-
-local_node : {j k : ℕ} → local j ≡ local k → j ≡ k
-local_node h = ap node_of h
 
 hit_other : (n m : ℕ) → nat_eq n m ≡ false → hit n m ≡ 0
 hit_other n m e =
@@ -139,10 +133,7 @@ stmt_goes n (assigns {at = at} {n = k} {m = m} {c = c} {e = x} d o) = by (nat_eq
         subst (StmtWay (local n) (stmt at k (assign (here m) (alone c x)))) e (simple tt (here_too (ap local (sym (eqb-true n m q))) nowhere))
     by false q =
         let e : 0 ≡ hit n m + 0 = (let h = hit_other n m q in omega arith) in
-        subst (StmtWay (local n) (stmt at k (assign (here m) (alone c x)))) e (simple tt (not_here (λ z. false_true (sym q ∙ ap (λ (j : ℕ). nat_eq n j) (local_node z) ∙ self_eq n)) nowhere))
-      where
-        false_true : false ≡ true → ⊥
-        false_true h = absurd (cc (h))
+        subst (StmtWay (local n) (stmt at k (assign (here m) (alone c x)))) e (simple tt (not_here (λ z. false≢true (sym q ∙ ap (λ (j : ℕ). nat_eq n j) (local_same z) ∙ self_eq n)) nowhere))
 stmt_goes n (prints o) = simple tt nowhere
 stmt_goes n (asserts o) = simple tt nowhere
 

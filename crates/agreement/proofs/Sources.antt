@@ -13,9 +13,11 @@ use Rattle.syntax_trees.specs.Facts.{Fault, operation, Fact, value, element, lin
 use Rattle.syntax_trees.specs.Meaning.{HasValue, stored, ValueUnder, Gives, computed, faulty, found, missing, Comes, before, now, Live, script, opened, waited, called, LiveStmt, in_block, New, cell_value, cell_fault, assigned, filled, inserted, printed, bad_range, too_deep_header, too_deep_call, written_twice, Known}
 use Rattle.syntax_trees.specs.Members.{◌∈◌, first}
 use Rattle.syntax_trees.specs.Openings.{Opens}
+use Rattle.syntax_trees.specs.Outcomes.{Clean}
 use Rattle.syntax_trees.specs.Parts.{block_list, stmt_at, stmt_action, stmt_calls, cells}
 use Rattle.syntax_trees.specs.Places.{Path, Place, place}
 use Rattle.syntax_trees.proofs.Members.{split_in}
+use Rattle.syntax_trees.proofs.Rounds.{ok_values}
 use Rattle.agreement.specs.Compile.{node_of, action_expr, is_act, declared, script_list}
 use Rattle.agreement.specs.Scalars.{OverScalars, OnScalars, declares, assigns, prints, asserts, IsScalars}
 use Rattle.agreement.proofs.Evaluation.{value_within}
@@ -39,11 +41,8 @@ gives_result {s} {K} {path} {e = e} (faulty {e = e'} {f = f} ev) q =
 gives_result (found x y z) q = absurd (cc (q))
 gives_result (missing x y z u) q = absurd (cc (q))
 
-ok_same : {v w : Value} → ◌≡◌ {A = Result Value Fault} (Ok v) (Ok w) → v ≡ w
-ok_same h = cc
-
 ok_result : (a : Result Value OpFault) (v : Value) → Ok v ≡ lifted a → a ≡ Ok v
-ok_result (Ok u) v h = ap Ok (sym (ok_same h))
+ok_result (Ok u) v h = ap Ok (sym (ok_values h))
 ok_result (Err f) v h = absurd (cc (h))
 
 err_same : {f g : Fault} → ◌≡◌ {A = Result Value Fault} (Err f) (Err g) → f ≡ g
@@ -69,27 +68,61 @@ pub known_source : (s : Core) (n : ℕ) (f : Fact) → Known s n f → (j : ℕ)
 known_source s zero f k = absurd k
 known_source s (suc n) f k = elim k [ inl h ↦ known_source s n f h | inr h ↦ (n, h) ]
 
+-- WHAT A FACT IS OF
+
+pub value_parts : {p q : Place} {v u : Value} → value p v ≡ value q u → (p ≡ q) × (v ≡ u)
+value_parts h = (cc (h), cc (h))
+
+pub line_parts : {p q : Place} {t u : List ℕ} → line p t ≡ line q u → (p ≡ q) × (t ≡ u)
+line_parts h = (cc (h), cc (h))
+
+pub fault_parts : {x y : Fault} {i j : ℕ} {p q : Place} → fault x i p ≡ fault y j q → (x ≡ y) × (i ≡ j) × (p ≡ q)
+fault_parts h = (cc (h), cc (h), cc (h))
+
+-- A STATEMENT ON SCALARS
+
+pub opens_nothing : {ds : List ℕ} {h : Action} {at n : ℕ} {vs : List Value} {k : Key} {c : Block} → OnScalars ds (stmt at n h) → Opens h vs k c → ⊥
+opens_nothing declares o = elim o [ ]
+opens_nothing (assigns d t) o = elim o [ ]
+opens_nothing (prints t) o = elim o [ ]
+opens_nothing (asserts t) o = elim o [ ]
+
+no_wait : {ds : List ℕ} {at n : ℕ} {ns : List Awaited} {c : Block} → OnScalars ds (stmt at n (wait ns c)) → ⊥
+no_wait t = elim t [ ]
+
+pub no_call : {ds : List ℕ} {st : Stmt} {c : Call} → OnScalars ds st → c ∈ stmt_calls st → ⊥
+no_call declares m = elim m [ ]
+no_call (assigns d t) m = elim m [ ]
+no_call (prints t) m = elim m [ ]
+no_call (asserts t) m = elim m [ ]
+
+pub no_fill : {ds : List ℕ} {at n : ℕ} {x : Name} {o : Outer} → OnScalars ds (stmt at n (fill x o)) → ⊥
+no_fill t = elim t [ ]
+
+pub no_insert : {ds : List ℕ} {at n : ℕ} {x : Name} {i o : Outer} → OnScalars ds (stmt at n (insert x i o)) → ⊥
+no_insert t = elim t [ ]
+
+pub no_range : {ds : List ℕ} {at n x : ℕ} {lo hi : Outer} {st : Option Outer} {t : Option ℕ} {b : Block} → OnScalars ds (stmt at n (range lo hi st x t b)) → ⊥
+no_range t = elim t [ ]
+
 -- the cell of a statement that does something
 pub record CellOf (st : Stmt) (c : Cell) : Type 0 where
   pub form : c.form ≡ compute (action_expr (stmt_action st))
   pub acts : is_act (stmt_action st) ≡ true
 
+pub cell_of : {ds : List ℕ} {st : Stmt} {c : Cell} → OnScalars ds st → c ∈ cells st → CellOf st c
+cell_of declares m = elim m [ ]
+cell_of (assigns d t) m = elim (split_in m) [ inl q ↦ record { form = ap (λ (x : Cell). x.form) q; acts = refl } | inr n ↦ elim n [ ] ]
+cell_of (prints t) m = elim (split_in m) [ inl q ↦ record { form = ap (λ (x : Cell). x.form) q; acts = refl } | inr n ↦ elim n [ ] ]
+cell_of (asserts t) m = elim (split_in m) [ inl q ↦ record { form = ap (λ (x : Cell). x.form) q; acts = refl } | inr n ↦ elim n [ ] ]
+
+pub the_cell : {ds : List ℕ} {at n : ℕ} {x : Name} {o : Outer} → OnScalars ds (stmt at n (assign x o)) → o.cell ∈ cells (stmt at n (assign x o))
+the_cell (assigns d t) = first
+
+pub the_line : {ds : List ℕ} {at n : ℕ} {p : ℤ} {o : Outer} → OnScalars ds (stmt at n (print p o)) → o.cell ∈ cells (stmt at n (print p o))
+the_line (prints t) = first
+
 module _ (s : Core) (w : IsScalars s) where
-  pub opens_nothing : {ds : List ℕ} {h : Action} {at n : ℕ} {vs : List Value} {k : Key} {c : Block} → OnScalars ds (stmt at n h) → Opens h vs k c → ⊥
-  opens_nothing declares o = elim o [ ]
-  opens_nothing (assigns d t) o = elim o [ ]
-  opens_nothing (prints t) o = elim o [ ]
-  opens_nothing (asserts t) o = elim o [ ]
-
-  no_wait : {ds : List ℕ} {at n : ℕ} {ns : List Awaited} {c : Block} → OnScalars ds (stmt at n (wait ns c)) → ⊥
-  no_wait t = elim t [ ]
-
-  pub no_call : {ds : List ℕ} {st : Stmt} {c : Call} → OnScalars ds st → c ∈ stmt_calls st → ⊥
-  no_call declares m = elim m [ ]
-  no_call (assigns d t) m = elim m [ ]
-  no_call (prints t) m = elim m [ ]
-  no_call (asserts t) m = elim m [ ]
-
   in_same : {st : Stmt} {b c : Block} → b ≡ c → st ∈ block_list b → st ∈ block_list c
   in_same {st} e m = subst (λ b. st ∈ block_list b) e m
 
@@ -102,15 +135,6 @@ module _ (s : Core) (w : IsScalars s) where
 
   pub stmt_here : {K : Knowledge} {path : Path} {st : Stmt} → LiveStmt s K path st → (path ≡ []) × (st ∈ script_list s)
   stmt_here (in_block l m) = ((live_script l).0, in_same (live_script l).1 m)
-
-  pub cell_of : {ds : List ℕ} {st : Stmt} {c : Cell} → OnScalars ds st → c ∈ cells st → CellOf st c
-  cell_of declares m = elim m [ ]
-  cell_of (assigns d t) m = elim (split_in m) [ inl q ↦ record { form = ap (λ (x : Cell). x.form) q; acts = refl } | inr n ↦ elim n [ ] ]
-  cell_of (prints t) m = elim (split_in m) [ inl q ↦ record { form = ap (λ (x : Cell). x.form) q; acts = refl } | inr n ↦ elim n [ ] ]
-  cell_of (asserts t) m = elim (split_in m) [ inl q ↦ record { form = ap (λ (x : Cell). x.form) q; acts = refl } | inr n ↦ elim n [ ] ]
-
-  value_parts : {p q : Place} {v u : Value} → value p v ≡ value q u → (p ≡ q) × (v ≡ u)
-  value_parts h = (cc (h), cc (h))
 
   assign_apart : {at n : ℕ} {x : Name} {o : Outer} (st : Stmt) (c : Cell) → OnScalars (declared (script_list s)) (stmt at n (assign x o)) → st ∈ script_list s → c ∈ cells st → place s [] x ≡ ([], c.node) → ⊥
   assign_apart st c (assigns {m = k} d t) i h p =
@@ -167,12 +191,6 @@ module _ (s : Core) (w : IsScalars s) where
   target_node : {at n : ℕ} {x : Name} {o : Outer} (m : ℕ) → OnScalars (declared (script_list s)) (stmt at n (assign x o)) → place s [] x ≡ ([], m) → node_of x.what ≡ m
   target_node m (assigns d t) q = ap (λ (p : Place). p.1) q
 
-  pub the_cell : {at n : ℕ} {x : Name} {o : Outer} → OnScalars (declared (script_list s)) (stmt at n (assign x o)) → o.cell ∈ cells (stmt at n (assign x o))
-  the_cell (assigns d t) = first
-
-  pub the_line : {at n : ℕ} {p : ℤ} {o : Outer} → OnScalars (declared (script_list s)) (stmt at n (print p o)) → o.cell ∈ cells (stmt at n (print p o))
-  the_line (prints t) = first
-
   pub value_source : (n : ℕ) {f : Fact} (m : ℕ) (v : Scalar) → New s (Known s n) f → f ≡ value ([], m) (One v) → In m (declared (script_list s)) → ValueSource n m v
   value_source n m v (cell_value {path = path} {st = st} {c = c} {v = u} ls i g) q d =
       let h = stmt_here ls in
@@ -203,9 +221,6 @@ module _ (s : Core) (w : IsScalars s) where
     pub place_is : p ≡ ([], node)
     pub under : ValueUnder s (Known s n) [] (action_expr (print priority arguments)) (Ok (One (Text t)))
 
-  line_parts : {p q : Place} {t u : List ℕ} → line p t ≡ line q u → (p ≡ q) × (t ≡ u)
-  line_parts h = (cc (h), cc (h))
-
   pub line_source : (n : ℕ) {f : Fact} (p : Place) (t : List ℕ) → New s (Known s n) f → f ≡ line p t → LineSource n p t
   line_source n p t (printed {path = path} {at = at} {n = node} {p = i} {c = c} {bytes = u} ls g) q =
       let h = stmt_here ls in
@@ -225,15 +240,6 @@ module _ (s : Core) (w : IsScalars s) where
   line_source n p t (written_twice ls g h i) q = absurd (cc (q))
 
   -- no element is ever written
-  pub no_fill : {ds : List ℕ} {at n : ℕ} {x : Name} {o : Outer} → OnScalars ds (stmt at n (fill x o)) → ⊥
-  no_fill t = elim t [ ]
-
-  pub no_insert : {ds : List ℕ} {at n : ℕ} {x : Name} {i o : Outer} → OnScalars ds (stmt at n (insert x i o)) → ⊥
-  no_insert t = elim t [ ]
-
-  pub no_range : {ds : List ℕ} {at n x : ℕ} {lo hi : Outer} {st : Option Outer} {t : Option ℕ} {b : Block} → OnScalars ds (stmt at n (range lo hi st x t b)) → ⊥
-  no_range t = elim t [ ]
-
   no_element : {K : Knowledge} {f : Fact} (a : Place) (k : Key) (p : Place) (v : Scalar) → New s K f → f ≡ element a k p v → ⊥
   no_element a k p v (filled ls g i) q = no_fill (w.stmts _ (stmt_here ls).1)
   no_element a k p v (inserted ls g i h) q = no_insert (w.stmts _ (stmt_here ls).1)
@@ -249,6 +255,10 @@ module _ (s : Core) (w : IsScalars s) where
   pub none_written : (n : ℕ) (a : Place) (k : Key) (p : Place) (v : Scalar) → Known s n (element a k p v) → ⊥
   none_written n a k p v f = let r = known_source s n (element a k p v) f in no_element a k p v r.1 refl
 
+  -- so no key is written twice
+  pub clean : Clean s
+  clean n a k p p' v v' f f' = absurd (none_written n a k p v f)
+
   -- a fault is what a statement computes
   pub record FaultSource (n : ℕ) (x : Fault) (at : ℕ) (p : Place) : Type 0 where
     pub st : Stmt
@@ -259,9 +269,6 @@ module _ (s : Core) (w : IsScalars s) where
     pub at_is : stmt_at st ≡ at
     pub path_is : p.0 ≡ []
     pub under : ValueUnder s (Known s n) [] (action_expr (stmt_action st)) (Err fault)
-
-  fault_parts : {x y : Fault} {i j : ℕ} {p q : Place} → fault x i p ≡ fault y j q → (x ≡ y) × (i ≡ j) × (p ≡ q)
-  fault_parts h = (cc (h), cc (h), cc (h))
 
   pub fault_source : (n : ℕ) {f : Fact} (x : Fault) (at : ℕ) (p : Place) → New s (Known s n) f → f ≡ fault x at p → FaultSource n x at p
   fault_source n x at p (cell_fault {path = path} {st = st} {c = c} {f = y} ls i g) q =

@@ -1,13 +1,13 @@
 -- The script that uses a scalar before its assignment is one of scalars.
-use Rattle.std.proofs.Common.{◌≡◌, ◌⊎◌, inl, inr, ℕ, suc, List, [], ◌∷◌, refl, sym, ◌∙◌, arith}
+use Rattle.std.proofs.Common.{◌≡◌, ◌⊎◌, inl, inr, suc, List, [], ◌∷◌, refl, arith}
 use Rattle.dataflow.specs.System.{In}
-use Rattle.syntax_trees.specs.Core.{local, Name, Cell, Outer, Stmt, stmt, assign}
+use Rattle.syntax_trees.specs.Core.{Cell, Stmt}
 use Rattle.syntax_trees.specs.Members.{◌∈◌, first, later}
 use Rattle.syntax_trees.specs.Parts.{stmt_node, cells}
-use Rattle.syntax_trees.proofs.Declared.{local_same}
 use Rattle.agreement.specs.Compile.{declared, script_list}
 use Rattle.agreement.specs.Scalars.{OnScalars, declares, assigns, prints, a_literal, a_name, an_operator, no_more, one_more, IsScalars}
 use Rattle.agreement.specs.Worked.{used_before_assigned}
+use Rattle.agreement.proofs.TwoScalars.{AssignTwo, assigned_once}
 
 abbrev Body : List Stmt
 Body = script_list used_before_assigned
@@ -80,17 +80,10 @@ cells_once st st' c c' i i' h h' e =
 apart : (st : Stmt) (c : Cell) → st ∈ Body → c ∈ cells st → In c.node (1 ∷ 2 ∷ []) → ⊥
 apart st c i h d = let r = (three st c i h).1 in elim d [ inl e ↦ r.0 e | inr d' ↦ elim d' [ inl e ↦ r.1 e | inr n ↦ n ] ]
 
-assigned : (at n : ℕ) (x : Name) (o : Outer) → stmt at n (assign x o) ∈ Body → ((x.what ≡ local 1) × (n ≡ 3)) ⊎ ((x.what ≡ local 2) × (n ≡ 4))
+assigned : AssignTwo Body
 assigned at n x o (later (later first)) = inl (refl, refl)
 assigned at n x o (later (later (later first))) = inr (refl, refl)
 assigned at n x o (later (later (later (later (later i))))) = elim i [ ]
-
-once : (at n at' n' : ℕ) (x x' : Name) (o o' : Outer) → stmt at n (assign x o) ∈ Body → stmt at' n' (assign x' o') ∈ Body → x.what ≡ x'.what → n ≡ n'
-once at n at' n' x x' o o' i i' e =
-    elim (assigned at n x o i) [
-      | inl a ↦ elim (assigned at' n' x' o' i') [ inl b ↦ a.1 ∙ sym b.1 | inr b ↦ absurd (let q = local_same (sym a.0 ∙ e ∙ b.0) in omega arith) ]
-      | inr a ↦ elim (assigned at' n' x' o' i') [ inl b ↦ absurd (let q = local_same (sym a.0 ∙ e ∙ b.0) in omega arith) | inr b ↦ a.1 ∙ sym b.1 ]
-    ]
 
 pub used_is_scalars : IsScalars used_before_assigned
 used_is_scalars = record {
@@ -98,5 +91,5 @@ used_is_scalars = record {
   nodes = (λ h. elim h [ inl e ↦ omega arith | inr h' ↦ elim h' [ inl e ↦ omega arith | inr n ↦ n ] ], (λ h. elim h [ inl e ↦ omega arith | inr n ↦ n ], (λ h. h, tt)));
   cells_once = cells_once;
   apart = apart;
-  once = once;
+  once = assigned_once Body assigned;
 }

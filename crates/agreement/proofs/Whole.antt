@@ -2,7 +2,7 @@
 use Rattle.std.proofs.Common.{◌≡◌, inl, inr, ℕ, zero, suc, ◌<◌, Bool, true, false, List, [], ◌∷◌, map, length, refl, sym, ap, ◌∙◌, subst, Some, arith}
 use Rattle.std.specs.Prelude.{nat_eq, if◌then◌else◌}
 use Rattle.std.specs.List.{list_all}
-use Rattle.std.proofs.lemmas.Bool.{eq-eqb, lt-ltb}
+use Rattle.std.proofs.lemmas.Bool.{lt-ltb}
 use Rattle.dataflow.specs.System.{In, Distinct}
 use Rattle.dataflow.proofs.Lists.{in_left, in_right, in_split, in_map, in_unmap}
 use Rattle.syntax_trees.specs.Core.{local, Expr, Exprs, Stmt, stmt, assign, print, assert, Core}
@@ -15,7 +15,7 @@ use Rattle.task_code.specs.Whole.{Declared, IsCode}
 use Rattle.task_code.proofs.Equal.{both_true}
 use Rattle.agreement.specs.Compile.{variable, named, named_all, each_once, place_in, over, all_over, needs_of, action_expr, entry_of, is_act, acts, declared, numbers_from, script_list, compiled}
 use Rattle.agreement.specs.Scalars.{OverScalars, a_literal, a_name, an_operator, AllOverScalars, no_more, one_more, OnScalars, declares, assigns, prints, asserts, IsScalars}
-use Rattle.agreement.proofs.Members.{IsAt, at_in, at_nth, nth_at, at_below, numbered_at, numbers_distinct, at_once, acts_in, once_in, in_once}
+use Rattle.agreement.proofs.Members.{IsAt, at_in, at_nth, nth_at, at_below, numbered_at, numbers_distinct, at_once, acts_in, in_rest, once_in, in_once}
 
 -- SHAPES
 
@@ -34,8 +34,7 @@ place_below n (m ∷ ns) h = by (nat_eq n m) refl (λ i. place_below n ns i)
     by : (b : Bool) → nat_eq n m ≡ b → (In n ns → place_in n ns < length (map (λ n. Stored (variable n)) ns)) → (if b then 0 else suc (place_in n ns)) < suc (length (map (λ n. Stored (variable n)) ns))
     by true q rec = omega arith
     by false q rec =
-        let i : In n ns = elim h [ inl e ↦ (let z : true ≡ false = sym (eq-eqb n m e) ∙ q in absurd (cc (z))) | inr i ↦ i ] in
-        let r = rec i in omega arith
+        let r = rec (in_rest n m ns h q) in omega arith
 
 module _ (ds ns : List ℕ) where
   mutual

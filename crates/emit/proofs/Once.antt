@@ -1,14 +1,15 @@
 -- Numbers each once, where they stand first.
-use Rattle.std.proofs.Common.{◌≡◌, ◌⊎◌, inl, inr, ℕ, Bool, true, false, ◌||◌, List, [], ◌∷◌, ◌++◌, refl, sym, ap, ◌∙◌, take, get_or, length, ◌<◌, ◌+◌, append_assoc, map}
+use Rattle.std.proofs.Common.{◌≡◌, inl, inr, ℕ, Bool, true, false, ◌||◌, List, [], ◌∷◌, ◌++◌, refl, sym, ap, ◌∙◌, take, get_or, length, ◌<◌, ◌+◌, append_assoc, map}
 use Rattle.std.specs.Prelude.{nat_eq, if◌then◌else◌}
 use Rattle.std.specs.List.{list_any}
-use Rattle.std.proofs.lemmas.Bool.{cases_Bool, eqb-true, eqb-false, eq-eqb, true≢false, both_ways}
+use Rattle.std.proofs.lemmas.Bool.{cases_Bool, eqb-true, eq-eqb, true≢false}
 use Rattle.std.proofs.lemmas.List.{append-nil, take_more, map-append}
-use Rattle.dataflow.specs.System.{In, Distinct}
+use Rattle.dataflow.specs.System.{Distinct}
 use Rattle.agreement.specs.Compile.{without, each_once, named, named_all}
 use Rattle.syntax_trees.specs.Core as Pure
 use Rattle.flow.specs.View.{expr_view, exprs_view}
 use Rattle.agreement.specs.Blocks.{operands_of}
+use Rattle.agreement.proofs.Members.{without_in}
 use Rattle.flow.specs.declared.expr.Expr.{Expr}
 
 pub without_here : (n m : ℕ) (ms : List ℕ) → nat_eq n m ≡ true → without n (m ∷ ms) ≡ without n ms
@@ -106,30 +107,18 @@ once_new n (m ∷ ms) h =
 
 -- EACH ONCE, NONE IS THERE TWICE
 
-later_in : (n k m : ℕ) (ks : List ℕ) → In n ks × (nat_eq m n ≡ false) → In n (k ∷ ks) × (nat_eq m n ≡ false)
-later_in n k m ks (i, q) = (inr i, q)
-
-in_without : (n m : ℕ) (ks : List ℕ) → In n (without m ks) → In n ks × (nat_eq m n ≡ false)
-in_without n m [] h = absurd h
-in_without n m (k ∷ ks) h = by (nat_eq m k) refl h (in_without n m ks)
-  where
-    by : (t : Bool) → nat_eq m k ≡ t → In n (if t then without m ks else k ∷ without m ks) → (In n (without m ks) → In n ks × (nat_eq m n ≡ false)) → In n (k ∷ ks) × (nat_eq m n ≡ false)
-    by true q i rec = later_in n k m ks (rec i)
-    by false q (inl e) rec = (inl e, ap (λ x. nat_eq m x) e ∙ q)
-    by false q (inr i) rec = later_in n k m ks (rec i)
-
 distinct_without : (m : ℕ) (ks : List ℕ) → Distinct ks → Distinct (without m ks)
 distinct_without m [] d = tt
 distinct_without m (k ∷ ks) (new, d) = by (nat_eq m k) (distinct_without m ks d)
   where
     by : (t : Bool) → Distinct (without m ks) → Distinct (if t then without m ks else k ∷ without m ks)
     by true rec = rec
-    by false rec = (λ i. new (in_without k m ks i).0, rec)
+    by false rec = (λ i. new (without_in k m ks i).0, rec)
 
 pub once_distinct : (ns : List ℕ) → Distinct (each_once ns)
 once_distinct [] = tt
 once_distinct (n ∷ ns) =
-    (λ i. true≢false (sym (eq-eqb n n refl) ∙ (in_without n n (each_once ns) i).1), distinct_without n (each_once ns) (once_distinct ns))
+    (λ i. true≢false (sym (eq-eqb n n refl) ∙ (without_in n n (each_once ns) i).1), distinct_without n (each_once ns) (once_distinct ns))
 
 -- NAMES OF EXPRESSIONS
 

@@ -1,12 +1,11 @@
 -- What is owed of a script's code, as far as its statements are read.
-use Rattle.std.proofs.Common.{◌≡◌, inl, inr, ℕ, suc, Bool, true, false, ◌+◌, ◌<◌, ◌≤◌, ◌^◌, List, [], ◌∷◌, ◌++◌, map, length, refl, sym, ap, ap₂, ◌∙◌, subst, arith, append_assoc}
+use Rattle.std.proofs.Common.{◌≡◌, inl, inr, ℕ, suc, Bool, true, false, ◌<◌, ◌≤◌, ◌^◌, List, [], ◌∷◌, ◌++◌, map, length, refl, sym, ap, ◌∙◌, subst, arith, append_assoc}
 use Rattle.std.specs.Prelude.{if◌then◌else◌}
 use Rattle.std.proofs.lemmas.List.{append-nil, length-map}
-use Rattle.dataflow.specs.System.{In, Distinct}
+use Rattle.dataflow.specs.System.{Distinct}
 use Rattle.dataflow.proofs.Lists.{in_left, map_append, seam_distinct}
 use Rattle.syntax_trees.specs.Core.{Stmt, stmt, Core}
 use Rattle.syntax_trees.specs.Parts.{stmt_node, stmt_action, block_list}
-use Rattle.agreement.specs.Blocks.{block_of}
 use Rattle.task_code.specs.Code.{Variable, Entry, Code, ByMain, scalar}
 use Rattle.agreement.specs.Compile.{is_act, acts, declared_by, declared, entry_of, numbers_from, compiled}
 use Rattle.emit.proofs.Bound.{AreBelow, at_most, below_one, front_distinct}
@@ -17,10 +16,6 @@ pub record Owed (all rest : List Stmt) (entries : List Entry) (makes : List Vari
   pub makes_are : map scalar (declared all) ≡ makes ++ map scalar (declared rest)
   pub numbers_are : numbers_from 0 (acts all) ≡ numbers ++ numbers_from (length entries) (acts rest)
   pub small : AreBelow (2 ^ 32) (map (λ (e : Entry). e.node) entries)
-
-pub listed : (sts : List Stmt) → block_list (block_of sts) ≡ sts
-listed [] = refl
-listed (st ∷ sts) = ap (λ l. st ∷ l) (listed sts)
 
 nodes : (sts : List Stmt) → map (λ (e : Entry). e.node) (map entry_of sts) ≡ map stmt_node sts
 nodes [] = refl

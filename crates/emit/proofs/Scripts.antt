@@ -13,7 +13,7 @@ use Rattle.agreement.specs.Blocks.{block_of}
 use Rattle.flow.specs.declared.expr.Expr as Flow
 use Rattle.flow.specs.declared.expr.Expr.{the_lemmas}
 use Rattle.flow.specs.declared.statement.Statement.{Statement}
-use Rattle.agreement.specs.Compile.{declared, script_list}
+use Rattle.agreement.specs.Compile.{script_list}
 use Rattle.agreement.specs.Scalars.{alone, OnScalars, declares, assigns, prints, a_literal, a_name, no_more, one_more, IsScalars}
 
 -- one printf without operands

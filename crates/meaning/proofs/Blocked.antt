@@ -1,20 +1,18 @@
 -- The statements that are blocked are those whose entries are.
-use Rattle.std.proofs.Common.{◌≡◌, inl, inr, ℕ, zero, suc, Bool, true, false, not, List, [], ◌∷◌, refl, sym, ap, ◌∙◌, subst, Result, Ok, Err}
-use Rattle.std.specs.Prelude.{◌&&◌, ◌||◌, nat_eq, if◌then◌else◌}
+use Rattle.std.proofs.Common.{◌≡◌, inl, inr, ℕ, zero, suc, Bool, true, false, not, List, [], ◌∷◌, refl, sym, ap, ◌∙◌, subst}
+use Rattle.std.specs.Prelude.{◌&&◌, ◌||◌, nat_eq}
 use Rattle.std.specs.List.{list_any}
-use Rattle.std.proofs.lemmas.Bool.{eqb-true, eq-eqb}
+use Rattle.std.proofs.lemmas.Bool.{and_parts, true≢false, false_from_ne_true, not_from_false, not-true, eqb-true, eq-eqb}
 use Rattle.dataflow.specs.System.{In}
 use Rattle.values.specs.declared.fault.OpFault.{OpFault}
 use Rattle.values.specs.declared.value.Scalar.{Scalar}
 use Rattle.values.specs.declared.value.Scalar.TheVariants.{Truth}
 use Rattle.values.specs.declared.value.Value.{Value as AValue}
 use Rattle.values.specs.declared.value.Value.TheVariants.{One}
-use Rattle.values.specs.Operators.{on_all, all_values, yes_or_no}
-use Rattle.values.specs.Operators as Operators
-use Rattle.values.specs.Values.{text_of, truth_of, first as first_of}
-use Rattle.syntax_trees.specs.Core.{Exprs, operator, Cell, Stmt, stmt, Action, Core}
-use Rattle.syntax_trees.specs.Facts.{Fault as AFault, operation, Fact, value, line, fault, Knowledge}
-use Rattle.syntax_trees.specs.Meaning.{ValueUnder, of_operator, script, in_block, Known}
+use Rattle.values.specs.Values.{text_of}
+use Rattle.syntax_trees.specs.Core.{Cell, Stmt, stmt, Action, Core}
+use Rattle.syntax_trees.specs.Facts.{Fault as AFault, operation, Fact, value, line, fault}
+use Rattle.syntax_trees.specs.Meaning.{script, in_block, Known}
 use Rattle.syntax_trees.specs.Members.{◌∈◌, first}
 use Rattle.syntax_trees.specs.Outcomes.{Counts, OwnFact, Stuck, Blocked}
 use Rattle.syntax_trees.specs.Parts.{stmt_at, stmt_node, stmt_action, cells, outer_cells}
@@ -22,7 +20,7 @@ use Rattle.syntax_trees.specs.Places.{Path}
 use Rattle.task_code.proofs.Equal.{both_true}
 use Rattle.agreement.specs.Compile.{is_act, declared, script_list}
 use Rattle.agreement.specs.Scalars.{OnScalars, declares, assigns, prints, asserts, IsScalars}
-use Rattle.agreement.proofs.Meant.{ok_same}
+use Rattle.agreement.proofs.Meant.{true_value}
 use Rattle.agreement.proofs.Members.{to_in, from_in}
 use Rattle.agreement.proofs.Sources.{stmt_here, cell_known}
 use Rattle.meaning.specs.declared.knowledge.Entry.{Entry}
@@ -34,7 +32,7 @@ use Rattle.meaning.specs.Listed.{IsBlockedAt}
 use Rattle.meaning.specs.Reading.{counts, is_blocked, is_fault_in, fails_at}
 use Rattle.meaning.specs.Says.{Told, Tells}
 use Rattle.meaning.specs.Pass.{role_of, cell_of as cell_node, after, is_open_in}
-use Rattle.meaning.proofs.Growth.{both, step, of_step, step_in}
+use Rattle.meaning.proofs.Growth.{step, of_step, step_in}
 use Rattle.meaning.proofs.Law.{Works, exact, step_role, same_node, told_fault}
 use Rattle.meaning.proofs.Readings.{told_of_fault, fault_told, told_of_line, open_tells, entry_works, no_value, no_fault_at}
 
@@ -55,27 +53,6 @@ in_any {X} p (y ∷ ys) h = by (p y) refl h (λ k. in_any p ys k)
     by : (b : Bool) → p y ≡ b → (b || list_any p ys) ≡ true → (list_any p ys ≡ true → (x : X) × In x ys × (p x ≡ true)) → (x : X) × In x (y ∷ ys) × (p x ≡ true)
     by true q k rec = (y, inl refl, q)
     by false q k rec = let r = rec k in (r.0, inr r.1, r.2)
-
-not_true : (b : Bool) → (b ≡ true → ⊥) → not b ≡ true
-not_true true h = absurd (h refl)
-not_true false h = refl
-
-true_not : (b : Bool) → not b ≡ true → b ≡ true → ⊥
-true_not true h k = cc (h)
-true_not false h k = cc (k)
-
--- WHAT AN ASSERTION GIVES
-
-true_if : (b : Bool) (f : OpFault) (v : AValue) → (if b then yes_or_no true else Err f) ≡ Ok v → v ≡ One (Truth true)
-true_if true f v h = sym (ok_same h)
-true_if false f v h = absurd (cc (h))
-
-true_on : (r : Result (List AValue) OpFault) (v : AValue) → on_all Operators.assert r ≡ Ok v → v ≡ One (Truth true)
-true_on (Ok vs) v h = true_if (truth_of (first_of vs)) _ v h
-true_on (Err f) v h = absurd (cc (h))
-
-true_value : {s : Core} {K : Knowledge} {p : Path} {es : Exprs} {v : AValue} → ValueUnder s K p (operator Operators.assert es) (Ok v) → v ≡ One (Truth true)
-true_value {v = v} (of_operator {rs = rs} vs q) = true_on (all_values rs) v q
 
 -- ENTRIES
 
@@ -164,8 +141,8 @@ module _ (s : Core) (w : IsScalars s) where
     -- an entry with a fault at an offset and a node is a fault that is known there
     fails_known : (at node : ℕ) → (d : Entry) × In d (after (script_list s) n) × (fails_at at node d ≡ true) → (f : AFault) × Known s n (fault f at ([], node))
     fails_known at node (d, i, h) =
-        let a = both (is_fault_in d.progress && nat_eq d.at at) (nat_eq d.cell node) h in
-        let b = both (is_fault_in d.progress) (nat_eq d.at at) a.0 in
+        let a = and_parts (is_fault_in d.progress && nat_eq d.at at) (nat_eq d.cell node) h in
+        let b = and_parts (is_fault_in d.progress) (nat_eq d.at at) a.0 in
         let r = of_step (script_list s) n d i in
         let works = fault_works d r.0 r.1 r.2 b.0 in
         let t = fault_told d.role d.progress d.at d.node d.cell works b.0 in
@@ -187,7 +164,7 @@ module _ (s : Core) (w : IsScalars s) where
         let e = step (script_list s) n st in
         let own = subst (λ (z : Path). OwnFact s (Known s n) z node a → ⊥) h.0 k.no_fact in
         let silent = by h.0 k (step (script_list s) n st).progress refl o h.1 l own in
-        let quiet = not_true (list_any (fails_at at node) (after (script_list s) n)) (λ q. (let f = fails_known at node (in_any _ _ q) in k.no_fault f.0 (subst (λ (z : Path). Known s n (fault f.0 at (z, node))) (sym h.0) f.1))) in
+        let quiet = not_from_false _ (false_from_ne_true (list_any (fails_at at node) (after (script_list s) n)) (λ q. (let f = fails_known at node (in_any _ _ q) in k.no_fault f.0 (subst (λ (z : Path). Known s n (fault f.0 at (z, node))) (sym h.0) f.1)))) in
         let e_at = step_at (script_list s) n st in
         let e_node = step_node (script_list s) n st in
         let quiet' = subst (λ (j : ℕ). not (list_any (fails_at e.at j) (after (script_list s) n)) ≡ true) (sym e_node) (subst (λ (j : ℕ). not (list_any (fails_at j node) (after (script_list s) n)) ≡ true) (sym e_at) quiet) in
@@ -224,8 +201,8 @@ module _ (s : Core) (w : IsScalars s) where
     blocked_of at node a i h =
         let st = stmt at node a in
         let e = step (script_list s) n st in
-        let x = both (counts e.role && is_open_in e.progress) (not (list_any (fails_at e.at e.node) (after (script_list s) n))) h in
-        let y = both (counts e.role) (is_open_in e.progress) x.0 in
+        let x = and_parts (counts e.role && is_open_in e.progress) (not (list_any (fails_at e.at e.node) (after (script_list s) n))) h in
+        let y = and_parts (counts e.role) (is_open_in e.progress) x.0 in
         let o = w.stmts st i in
         let c = counted_action o (subst (λ (r : Role). counts r ≡ true) (step_role s w n st) y.0) in
         let l = lone o c in
@@ -237,7 +214,7 @@ module _ (s : Core) (w : IsScalars s) where
             live = in_block script i;
             counts = c;
             no_fact = no_own o i q;
-            no_fault = λ f k. true_not _ quiet (fault_listed at node f k);
+            no_fault = λ f k. true≢false (sym (fault_listed at node f k) ∙ not-true _ quiet);
             no_cell_fault = λ d f m k. no_fault_at s w n st d i (l.each d m) q f at k;
           },
         )

@@ -1,6 +1,7 @@
 -- What the entries say grows with the rounds.
 use Rattle.std.proofs.Common.{◌≡◌, ◌⊎◌, inl, inr, ℕ, zero, suc, ◌≤◌, Bool, true, false, List, [], ◌∷◌, map, refl, sym, ap, ◌∙◌, subst, Option, None, Some, Ok, arith}
-use Rattle.std.specs.Prelude.{◌&&◌, if◌then◌else◌}
+use Rattle.std.specs.Prelude.{if◌then◌else◌}
+use Rattle.std.proofs.lemmas.Bool.{and_parts}
 use Rattle.std.proofs.lemmas.Option.{none-some, same_Some}
 use Rattle.dataflow.specs.System.{In}
 use Rattle.dataflow.proofs.Lists.{in_map, in_unmap}
@@ -18,10 +19,6 @@ use Rattle.meaning.specs.declared.knowledge.Role.{Role}
 use Rattle.meaning.specs.declared.knowledge.Role.TheVariants.{Declares, Assigns, Prints, Asserts}
 use Rattle.meaning.specs.Says.{Told, Tells, Says}
 use Rattle.meaning.specs.Pass.{assigns, value_in, looked_up, has_value, or_zero, is_known, are_known, worked, all_worked, progress_of, come, role_of, cell_of, progress_for, known_of, pass, blank_of, after, is_open_in, opened}
-
-pub both : (a b : Bool) → a && b ≡ true → (a ≡ true) × (b ≡ true)
-both true b h = (refl, h)
-both false b h = absurd (cc (h))
 
 pub has_one : (o : Option Scalar) → has_value o ≡ true → (v : Scalar) × (o ≡ Some v)
 has_one (Some v) h = (v, refl)
@@ -76,7 +73,7 @@ module _ (es es' : List Entry) (w : Below es es') where
     all_grow : (xs : Exprs) → are_known es xs ≡ true → (are_known es' xs ≡ true) × (all_worked es' xs ≡ all_worked es xs)
     all_grow none h = (refl, refl)
     all_grow (also x xs) h =
-        let b = both (is_known es x) (are_known es xs) h in
+        let b = and_parts (is_known es x) (are_known es xs) h in
         let p = known_grows x b.0 in
         let q = all_grow xs b.1 in
         (both_true _ _ p.0 q.0, λ i. p.1 i ∷ q.1 i)

@@ -1,7 +1,7 @@
 -- The entries after so many rounds say exactly what is known after these rounds, of a script of scalars.
 use Rattle.std.proofs.Common.{◌≡◌, ◌⊎◌, inl, inr, ℕ, zero, suc, Bool, true, false, List, [], ◌∷◌, refl, sym, ap, ◌∙◌, subst, Option, Some, Result, Ok, Err}
 use Rattle.std.specs.Prelude.{ℤ, if◌then◌else◌}
-use Rattle.std.proofs.lemmas.Bool.{eqb-true, eq-eqb}
+use Rattle.std.proofs.lemmas.Bool.{and_parts, eqb-true, eq-eqb}
 use Rattle.dataflow.specs.System.{In}
 use Rattle.values.specs.declared.fault.OpFault.{OpFault}
 use Rattle.values.specs.declared.key.Key.{Key}
@@ -12,20 +12,19 @@ use Rattle.values.specs.declared.value.Value.TheVariants.{One}
 use Rattle.values.specs.Operators.{evaluated, printf}
 use Rattle.values.specs.Operators as Operators
 use Rattle.values.specs.Values.{scalar_of, text_of}
-use Rattle.syntax_trees.specs.Core.{here, local, Name, Expr, Exprs, name, operator, Cell, Outer, Stmt, stmt, Action, assign, fill, insert, print, range, Call, Block, Core}
+use Rattle.syntax_trees.specs.Core.{here, local, Name, Expr, Exprs, name, operator, Cell, Outer, Stmt, stmt, assign, print, Core}
 use Rattle.syntax_trees.specs.Facts.{operation, Fact, value, element, line, fault}
 use Rattle.syntax_trees.specs.Meaning.{HasValue, stored, ValueUnder, of_literal, of_name, of_operator, ValuesUnder, no_operand, operand, Gives, computed, faulty, Comes, before, now, script, in_block, New, cell_value, cell_fault, assigned, filled, inserted, printed, bad_range, too_deep_header, too_deep_call, written_twice, Known}
 use Rattle.syntax_trees.specs.Members.{◌∈◌, first}
-use Rattle.syntax_trees.specs.Openings.{Opens}
-use Rattle.syntax_trees.specs.Parts.{stmt_at, stmt_node, stmt_action, stmt_calls, cells}
+use Rattle.syntax_trees.specs.Parts.{stmt_at, stmt_node, stmt_action, cells}
 use Rattle.syntax_trees.specs.Places.{Path, Place, place}
 use Rattle.syntax_trees.proofs.Members.{split_in}
 use Rattle.task_code.proofs.Equal.{both_true}
 use Rattle.agreement.specs.Compile.{action_expr, is_act, acts, declared, script_list}
 use Rattle.agreement.specs.Scalars.{OverScalars, a_literal, a_name, an_operator, AllOverScalars, no_more, one_more, OnScalars, declares, assigns, prints, asserts, IsScalars}
 use Rattle.agreement.proofs.Members.{to_in, from_in, IsAt, in_at, at_same, at_once, in_acts}
-use Rattle.agreement.proofs.Meant.{text_value}
-use Rattle.agreement.proofs.Sources.{cell_of, stmt_here, cell_known, gives_value, gives_fault}
+use Rattle.agreement.proofs.Meant.{one_value, text_value}
+use Rattle.agreement.proofs.Sources.{value_parts, opens_nothing, no_call, no_fill, no_insert, no_range, cell_of, the_cell, the_line, stmt_here, cell_known, none_written, gives_value, gives_fault}
 use Rattle.agreement.proofs.Whole.{over_scalars}
 use Rattle.meaning.specs.declared.knowledge.Entry.{Entry}
 use Rattle.meaning.specs.declared.knowledge.Progress.{Progress}
@@ -34,8 +33,7 @@ use Rattle.meaning.specs.declared.knowledge.Role.{Role}
 use Rattle.meaning.specs.declared.knowledge.Role.TheVariants.{Declares, Assigns, Prints, Asserts}
 use Rattle.meaning.specs.Says.{Told, Tells, Says}
 use Rattle.meaning.specs.Pass.{assigns as assigns_it, value_in, looked_up, has_value, or_zero, is_known, are_known, worked, all_worked, progress_of, come, role_of, cell_of as cell_node, progress_for, known_of, after}
-use Rattle.meaning.proofs.Growth.{both, has_one, looked_entry, first_assigner, step, of_step, step_in, says_grow, nothing_said}
-use Rattle.meaning.proofs.Scalars.{one_value}
+use Rattle.meaning.proofs.Growth.{has_one, looked_entry, first_assigner, step, of_step, step_in, says_grow, nothing_said}
 
 -- TOLD OF ONE STATEMENT
 
@@ -63,22 +61,10 @@ told_variable Prints m v at n c a = absurd (cc (a))
 told_variable Asserts m v at n c a = absurd (cc (a))
 
 pub value_node : {c d : ℕ} {v u : AValue} → value ([], c) v ≡ value ([], d) u → c ≡ d
-value_node h = ap (λ (f : Fact). node_in f) h
-  where
-    node_in : Fact → ℕ
-    node_in (value p v) = p.1
-    node_in (element a k w v) = 0
-    node_in (line w b) = 0
-    node_in (fault x at p) = 0
+value_node h = ap (λ (p : Place). p.1) (value_parts h).0
 
 value_one : {p q : Place} {v u : Scalar} → value p (One v) ≡ value q (One u) → v ≡ u
-value_one h = ap (λ (f : Fact). scalar_in f) h
-  where
-    scalar_in : Fact → Scalar
-    scalar_in (value p v) = scalar_of v
-    scalar_in (element a k w v) = v
-    scalar_in (line w b) = Text []
-    scalar_in (fault x at p) = Text []
+value_one h = ap scalar_of (value_parts h).1
 
 -- a value of a node is that of the cell, or of the variable that is assigned
 abbrev pub FromCell : Role → Progress → ℕ → ℕ → Scalar → Type 0
@@ -146,33 +132,6 @@ record Assignment (st : Stmt) (m : ℕ) : Type 0 where
   right : Outer
   is : st ≡ stmt at node (assign target right)
   what_is : target.what ≡ local m
-
-assign_cell : {ds : List ℕ} {at n : ℕ} {x : Name} {o : Outer} → OnScalars ds (stmt at n (assign x o)) → o.cell ∈ cells (stmt at n (assign x o))
-assign_cell (assigns d t) = first
-
-print_cell : {ds : List ℕ} {at n : ℕ} {p : ℤ} {o : Outer} → OnScalars ds (stmt at n (print p o)) → o.cell ∈ cells (stmt at n (print p o))
-print_cell (prints t) = first
-
-no_fill : {ds : List ℕ} {at n : ℕ} {x : Name} {o : Outer} → OnScalars ds (stmt at n (fill x o)) → ⊥
-no_fill t = elim t [ ]
-
-no_insert : {ds : List ℕ} {at n : ℕ} {x : Name} {i o : Outer} → OnScalars ds (stmt at n (insert x i o)) → ⊥
-no_insert t = elim t [ ]
-
-no_range : {ds : List ℕ} {at n x : ℕ} {lo hi : Outer} {st : Option Outer} {t : Option ℕ} {b : Block} → OnScalars ds (stmt at n (range lo hi st x t b)) → ⊥
-no_range t = elim t [ ]
-
-opens_nothing : {ds : List ℕ} {h : Action} {at n : ℕ} {vs : List AValue} {k : Key} {c : Block} → OnScalars ds (stmt at n h) → Opens h vs k c → ⊥
-opens_nothing declares o = elim o [ ]
-opens_nothing (assigns d t) o = elim o [ ]
-opens_nothing (prints t) o = elim o [ ]
-opens_nothing (asserts t) o = elim o [ ]
-
-no_call : {ds : List ℕ} {st : Stmt} {c : Call} → OnScalars ds st → c ∈ stmt_calls st → ⊥
-no_call declares m = elim m [ ]
-no_call (assigns d t) m = elim m [ ]
-no_call (prints t) m = elim m [ ]
-no_call (asserts t) m = elim m [ ]
 
 -- AN EXPRESSION
 
@@ -289,7 +248,7 @@ module _ (s : Core) (w : IsScalars s) where
       all_under : {xs : Exprs} → AllOverScalars (declared (script_list s)) xs → are_known (after (script_list s) n) xs ≡ true → ValuesUnder s (Known s n) [] xs (all_worked (after (script_list s) n) xs)
       all_under no_more h = no_operand
       all_under (one_more {e = x} {es = xs} t ts) h =
-          let b = both (is_known (after (script_list s) n) x) (are_known (after (script_list s) n) xs) h in
+          let b = and_parts (is_known (after (script_list s) n) x) (are_known (after (script_list s) n) xs) h in
           operand (under_worked t b.0) (all_under ts b.1)
 
     mutual
@@ -337,7 +296,7 @@ module _ (s : Core) (w : IsScalars s) where
     value_says st c v i m ev =
         let o = w.stmts st i in
         let k = site o m in
-        let t = over_scalars o (cell_of s w o m).acts in
+        let t = over_scalars o (cell_of o m).acts in
         let one : v ≡ One (scalar_of v) = one_value t ev v refl in
         let told = tells_value (after (script_list s) n) st (scalar_of v) k.works (k.comes (after (script_list s) n) ∙ came t ev) in
         let same : value ([], c.node) v ≡ value ([], cell_node (stmt_action st)) (One (scalar_of v)) = λ j. value ([], k.node j) (one j) in
@@ -347,7 +306,7 @@ module _ (s : Core) (w : IsScalars s) where
     fault_says st c g i m ev =
         let o = w.stmts st i in
         let k = site o m in
-        let t = over_scalars o (cell_of s w o m).acts in
+        let t = over_scalars o (cell_of o m).acts in
         let told = tells_fault (after (script_list s) n) st g k.works (k.comes (after (script_list s) n) ∙ came t ev) in
         let same : fault (operation g) (stmt_at st) ([], c.node) ≡ fault (operation g) (stmt_at st) ([], cell_node (stmt_action st)) = ap (λ (z : ℕ). fault (operation g) (stmt_at st) ([], z)) k.node in
         subst (λ (f : Fact). Says (after (script_list s) (suc n)) f) (sym same) (entry_says st i _ told)
@@ -370,39 +329,36 @@ module _ (s : Core) (w : IsScalars s) where
 
     comes_under : (st : Stmt) (c : Cell) (v : AValue) → st ∈ script_list s → c ∈ cells st → Comes s (Known s n) [] c v → ValueUnder s (Known s n) [] (action_expr (stmt_action st)) (Ok v)
     comes_under st c v m i (before k) = cell_known s w n c v st k m i
-    comes_under st c v m i (now g) = gives_value g (cell_of s w (w.stmts st m) i).form
+    comes_under st c v m i (now g) = gives_value g (cell_of (w.stmts st m) i).form
 
     new_says : (f : Fact) → New s (Known s n) f → Says (after (script_list s) (suc n)) f
     new_says _ (cell_value {path = path} {st = st} {c = c} {v = v} ls i g) =
         let h = stmt_here s w ls in
         let g' = subst (λ (z : Path). Gives s (Known s n) z c.form (Ok v)) h.0 g in
-        let r = value_says st c v h.1 i (gives_value g' (cell_of s w (w.stmts st h.1) i).form) in
+        let r = value_says st c v h.1 i (gives_value g' (cell_of (w.stmts st h.1) i).form) in
         subst (λ (z : Path). Says (after (script_list s) (suc n)) (value (z, c.node) v)) (sym h.0) r
     new_says _ (cell_fault {path = path} {st = st} {c = c} {f = y} ls i g) =
         let h = stmt_here s w ls in
-        let a = gives_fault (subst (λ (z : Path). Gives s (Known s n) z c.form (Err y)) h.0 g) (cell_of s w (w.stmts st h.1) i).form in
+        let a = gives_fault (subst (λ (z : Path). Gives s (Known s n) z c.form (Err y)) h.0 g) (cell_of (w.stmts st h.1) i).form in
         let r = fault_says st c a.0 h.1 i a.2 in
         let same : fault y (stmt_at st) (path, c.node) ≡ fault (operation a.0) (stmt_at st) ([], c.node) = λ j. fault (a.1 j) (stmt_at st) (h.0 j, c.node) in
         subst (λ (f : Fact). Says (after (script_list s) (suc n)) f) (sym same) r
     new_says _ (assigned {path = path} {at = at} {n = node} {x = x} {c = c} {v = v} ls g) =
         let h = stmt_here s w ls in
         let o = w.stmts _ h.1 in
-        let ev = comes_under (stmt at node (assign x c)) c.cell v h.1 (assign_cell o) (subst (λ (z : Path). Comes s (Known s n) z c.cell v) h.0 g) in
+        let ev = comes_under (stmt at node (assign x c)) c.cell v h.1 (the_cell o) (subst (λ (z : Path). Comes s (Known s n) z c.cell v) h.0 g) in
         subst (λ (z : Path). Says (after (script_list s) (suc n)) (value (place s z x) v)) (sym h.0) (variable_says o h.1 ev)
     new_says _ (printed {path = path} {at = at} {n = node} {p = p} {c = c} {bytes = bytes} ls g) =
         let h = stmt_here s w ls in
         let o = w.stmts _ h.1 in
-        let ev = comes_under (stmt at node (print p c)) c.cell (One (Text bytes)) h.1 (print_cell o) (subst (λ (z : Path). Comes s (Known s n) z c.cell (One (Text bytes))) h.0 g) in
+        let ev = comes_under (stmt at node (print p c)) c.cell (One (Text bytes)) h.1 (the_line o) (subst (λ (z : Path). Comes s (Known s n) z c.cell (One (Text bytes))) h.0 g) in
         subst (λ (z : Path). Says (after (script_list s) (suc n)) (line (z, node) bytes)) (sym h.0) (line_says o h.1 ev)
     new_says _ (filled ls g i) = absurd (no_fill (w.stmts _ (stmt_here s w ls).1))
     new_says _ (inserted ls g i h) = absurd (no_insert (w.stmts _ (stmt_here s w ls).1))
     new_says _ (bad_range ls g h i) = absurd (no_range (w.stmts _ (stmt_here s w ls).1))
     new_says _ (too_deep_header ls g h i) = absurd (opens_nothing (w.stmts _ (stmt_here s w ls).1) h)
     new_says _ (too_deep_call ls g h) = absurd (no_call (w.stmts _ (stmt_here s w ls).1) g)
-    new_says _ (written_twice ls g h i) =
-        let t = ex.complete _ g in
-        let e = t.0 in
-        absurd (no_element_told e.role e.progress e.at e.node e.cell _ _ _ _ t.2)
+    new_says _ (written_twice ls g h i) = absurd (none_written s w n _ _ _ _ g)
 
     -- WHAT IS SAID IS NEW
 

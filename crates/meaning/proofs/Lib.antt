@@ -1,5 +1,4 @@
 mod Growth
-mod Scalars
 mod Law
 mod Readings
 mod Blocked

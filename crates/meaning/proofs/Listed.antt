@@ -1,15 +1,16 @@
 -- Lists in order in which each member stands once.
 use Rattle.std.proofs.Common.{◌≡◌, ◌⊎◌, inl, inr, ℕ, ◌+◌, ◌<◌, Bool, true, false, List, [], ◌∷◌, ◌++◌, length, take, drop, get_or, refl, sym, ap, ◌∙◌, subst, Option, None, Some, arith}
 use Rattle.std.specs.Prelude.{◌&&◌, ◌||◌, nat_eq, nat_lt, if◌then◌else◌}
-use Rattle.std.proofs.lemmas.Bool.{eqb-true, eq-eqb, lt-ltb, ltb-false}
+use Rattle.std.proofs.lemmas.Bool.{and_parts, or_left, or_right, eqb-true, eq-eqb, lt-ltb, ltb-false}
 use Rattle.std.proofs.lemmas.List.{drop_more, take-append-drop}
 use Rattle.std.proofs.lemmas.Option.{none-some, same_Some}
 use Rattle.dataflow.specs.System.{In}
 use Rattle.values.specs.declared.fault.OpFault.{OpFault}
 use Rattle.values.specs.declared.fault.OpFault.TheVariants.{Overflow, DivideByZero, BadStep, NotANumber, AssertFailed, Memory}
-use Rattle.syntax_trees.specs.Facts.{operation, Fact, value, element, line, fault}
+use Rattle.syntax_trees.specs.Facts.{operation, fault}
 use Rattle.syntax_trees.specs.Facts as Facts
 use Rattle.syntax_trees.specs.Places.{Path, Place}
+use Rattle.agreement.proofs.Sources.{fault_parts}
 use Rattle.meaning.specs.declared.knowledge.Entry.{Entry}
 use Rattle.meaning.specs.declared.knowledge.Progress.{Progress}
 use Rattle.meaning.specs.declared.knowledge.Progress.TheVariants as Is
@@ -20,7 +21,6 @@ use Rattle.meaning.specs.declared.reading.Statement.{Statement}
 use Rattle.meaning.specs.Listed.{InOrder, put, fault_number, fault_before, same_fault, statement_before, same_statement, fault_in, with_fault, put_faults, with_blocked, put_blocked, ListsFaults, ListsBlocked}
 use Rattle.meaning.specs.Reading.{is_blocked}
 use Rattle.meaning.specs.Says.{Told, Says}
-use Rattle.meaning.proofs.Growth.{both}
 use Rattle.meaning.proofs.Law.{no_element_told}
 
 -- PUTTING A MEMBER
@@ -98,14 +98,6 @@ above a b h l =
     let m = ltb-false a b l in
     let k : b < a = omega arith in lt-ltb b a k
 
-or_left : (a b : Bool) → a ≡ true → (a || b) ≡ true
-or_left true b h = refl
-or_left false b h = absurd (cc (h))
-
-or_right : (a b : Bool) → b ≡ true → (a || b) ≡ true
-or_right true b h = refl
-or_right false b h = h
-
 kind_of : ℕ → OpFault
 kind_of n = if nat_eq n 1 then Overflow else if nat_eq n 2 then DivideByZero else if nat_eq n 5 then BadStep else if nat_eq n 7 then NotANumber else if nat_eq n 8 then AssertFailed else Memory
 
@@ -120,7 +112,7 @@ kind_is Memory = refl
 
 fault_is : (f g : Fault) → same_fault f g ≡ true → f ≡ g
 fault_is f g h =
-    let b = both (nat_eq f.at g.at) (nat_eq (fault_number f.kind) (fault_number g.kind)) h in
+    let b = and_parts (nat_eq f.at g.at) (nat_eq (fault_number f.kind) (fault_number g.kind)) h in
     let p = eqb-true f.at g.at b.0 in
     let n = eqb-true (fault_number f.kind) (fault_number g.kind) b.1 in
     let q : f.kind ≡ g.kind = sym (kind_is f.kind) ∙ (ap kind_of n ∙ kind_is g.kind) in
@@ -210,9 +202,6 @@ record Shown (r : Role) (p : Progress) (at : ℕ) (x : Facts.Fault) (i : ℕ) (p
   kind_is : x ≡ operation kind
   at_is : i ≡ at
   path_is : path ≡ []
-
-fault_parts : {x y : Facts.Fault} {i j : ℕ} {p q : Place} → fault x i p ≡ fault y j q → (x ≡ y) × (i ≡ j) × (p ≡ q)
-fault_parts h = (cc (h), cc (h), cc (h))
 
 shown_by : (r : Role) (g : OpFault) (at c : ℕ) (x : Facts.Fault) (i m : ℕ) (path : Path) → fault_in r (Is.Fault g) ≡ Some g → fault x i (path, m) ≡ fault (operation g) at ([], c) → Shown r (Is.Fault g) at x i path
 shown_by r g at c x i m path k q = let z = fault_parts q in record { kind = g; fault_is = k; kind_is = z.0; at_is = z.1; path_is = ap (λ (p : Place). p.0) z.2 }

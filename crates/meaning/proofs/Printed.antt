@@ -6,15 +6,16 @@ use Rattle.dataflow.proofs.Lists.{in_left, in_right, in_split, in_map}
 use Rattle.values.specs.declared.value.Value.TheVariants.{One}
 use Rattle.values.specs.Values.{text_of}
 use Rattle.syntax_trees.specs.Core.{Stmt, Action, declare, Core}
-use Rattle.syntax_trees.specs.Facts.{Fact, value, element, line, fault}
+use Rattle.syntax_trees.specs.Facts.{line}
 use Rattle.syntax_trees.specs.Meaning.{Known}
 use Rattle.syntax_trees.specs.Members.{◌∈◌}
-use Rattle.syntax_trees.specs.Outcomes.{Written, texts, OnceEach, Lines, Clean}
+use Rattle.syntax_trees.specs.Outcomes.{Written, texts, OnceEach, Lines}
 use Rattle.syntax_trees.specs.Parts.{stmt_node, stmt_action}
 use Rattle.syntax_trees.specs.Places.{Place}
 use Rattle.agreement.specs.Compile.{is_act, acts, script_list}
 use Rattle.agreement.specs.Scalars.{IsScalars}
 use Rattle.agreement.proofs.Members.{to_in, from_in, in_acts}
+use Rattle.agreement.proofs.Sources.{line_parts}
 use Rattle.meaning.specs.declared.knowledge.Entry.{Entry}
 use Rattle.meaning.specs.declared.knowledge.Progress.{Progress}
 use Rattle.meaning.specs.declared.knowledge.Progress.TheVariants.{Open, Value, Fault}
@@ -24,7 +25,7 @@ use Rattle.meaning.specs.Reading.{line_of, printed}
 use Rattle.meaning.specs.Says.{Told}
 use Rattle.meaning.specs.Pass.{role_of, after}
 use Rattle.meaning.proofs.Growth.{step}
-use Rattle.meaning.proofs.Law.{exact, step_role, no_element_told}
+use Rattle.meaning.proofs.Law.{exact, step_role}
 use Rattle.meaning.proofs.Blocked.{step_node}
 use Rattle.meaning.proofs.Readings.{after_steps}
 
@@ -61,21 +62,15 @@ told_written Declares p at n c u b h = absurd h
 told_written (Assigns x) p at n c u b h = absurd h
 told_written Asserts p at n c u b h = absurd h
 
-line_parts : {p q : Place} {a b : List ℕ} → line p a ≡ line q b → ◌≡◌ {A = Written} (p, a) (q, b)
-line_parts h = ap written_in h
-  where
-    written_in : Fact → Written
-    written_in (value p v) = (p, [])
-    written_in (element a k w v) = (a, [])
-    written_in (line w b) = (w, b)
-    written_in (fault x at p) = (p, [])
+same_line : {p q : Place} {a b : List ℕ} → line p a ≡ line q b → ◌≡◌ {A = Written} (p, a) (q, b)
+same_line h = let r = line_parts h in λ i. (r.0 i, r.1 i)
 
 written_told : (r : Role) (p : Progress) (at n c : ℕ) (u : Place) (b : List ℕ) → Told r p at n c (line u b) → Writes u b (written_of r p n)
 written_told Declares p at n c u b t = absurd t
 written_told (Assigns y) (Value v) at n c u b (inl q) = absurd (cc (q))
 written_told (Assigns y) (Value v) at n c u b (inr q) = absurd (cc (q))
 written_told Prints (Value v) at n c u b (inl q) = absurd (cc (q))
-written_told Prints (Value v) at n c u b (inr q) = inl (line_parts q)
+written_told Prints (Value v) at n c u b (inr q) = inl (same_line q)
 written_told Asserts (Value v) at n c u b q = absurd (cc (q))
 written_told (Assigns y) (Fault g) at n c u b q = absurd (cc (q))
 written_told Prints (Fault g) at n c u b q = absurd (cc (q))
@@ -164,9 +159,3 @@ module _ (s : Core) (w : IsScalars s) where
           from_in {X = Written} (u, b) (listing (after (script_list s) n)) (listed (after (script_list s) n) t.0 u b t.1 (written_told e.role e.progress e.at e.node e.cell u b t.2)));
       permuted = subst (λ (ts : List (List ℕ)). IsPermutation ts lines) (sym (listing_texts (after (script_list s) n))) p;
     }
-
-  pub clean : Clean s
-  clean n a k u u' v v' h h' =
-      let t = (exact s w n).complete _ h in
-      let e = t.0 in
-      absurd (no_element_told e.role e.progress e.at e.node e.cell _ _ _ _ t.2)

@@ -6,7 +6,7 @@ use Rattle.values.specs.declared.fault.OpFault.{OpFault}
 use Rattle.values.specs.declared.value.Value.{Value as AValue}
 use Rattle.values.specs.declared.value.Value.TheVariants.{One}
 use Rattle.syntax_trees.specs.Core.{Cell, Stmt, stmt, Core}
-use Rattle.syntax_trees.specs.Facts.{Fault as AFault, operation, Fact, value, element, line, fault}
+use Rattle.syntax_trees.specs.Facts.{Fault as AFault, operation, Fact, value, line, fault}
 use Rattle.syntax_trees.specs.Meaning.{Known, IsFinished}
 use Rattle.syntax_trees.specs.Members.{◌∈◌}
 use Rattle.syntax_trees.specs.Parts.{stmt_at, stmt_action, cells}
@@ -14,6 +14,7 @@ use Rattle.syntax_trees.specs.Places.{Place}
 use Rattle.agreement.specs.Compile.{declared, script_list}
 use Rattle.agreement.specs.Scalars.{OnScalars, declares, assigns, prints, asserts, IsScalars}
 use Rattle.agreement.proofs.Members.{to_in, from_in}
+use Rattle.agreement.proofs.Sources.{line_parts, fault_parts}
 use Rattle.meaning.specs.declared.knowledge.Entry.{Entry}
 use Rattle.meaning.specs.declared.knowledge.Progress.{Progress}
 use Rattle.meaning.specs.declared.knowledge.Progress.TheVariants.{Open, Value, Fault}
@@ -45,19 +46,7 @@ told_cell Prints Open at n c m v t = absurd t
 told_cell Asserts Open at n c m v t = absurd t
 
 fault_place : {x y : AFault} {i j : ℕ} {p q : Place} → fault x i p ≡ fault y j q → (i ≡ j) × (p.1 ≡ q.1)
-fault_place h = (ap at_in h, ap node_in h)
-  where
-    at_in : Fact → ℕ
-    at_in (value p v) = 0
-    at_in (element a k w v) = 0
-    at_in (line w b) = 0
-    at_in (fault x at p) = at
-
-    node_in : Fact → ℕ
-    node_in (value p v) = 0
-    node_in (element a k w v) = 0
-    node_in (line w b) = 0
-    node_in (fault x at p) = p.1
+fault_place h = let r = fault_parts h in (r.1, ap (λ (p : Place). p.1) r.2)
 
 pub told_of_fault : (r : Role) (p : Progress) (at n c i m : ℕ) (x : AFault) → Told r p at n c (fault x i ([], m)) → (is_fault_in p ≡ true) × (at ≡ i) × (c ≡ m)
 told_of_fault Declares p at n c i m x t = absurd t
@@ -86,13 +75,7 @@ fault_told Prints Open at n c w h = absurd (cc (h))
 fault_told Asserts Open at n c w h = absurd (cc (h))
 
 line_node : {p q : Place} {a b : List ℕ} → line p a ≡ line q b → p.1 ≡ q.1
-line_node h = ap node_in h
-  where
-    node_in : Fact → ℕ
-    node_in (value p v) = 0
-    node_in (element a k w v) = 0
-    node_in (line w b) = w.1
-    node_in (fault x at p) = 0
+line_node h = ap (λ (p : Place). p.1) (line_parts h).0
 
 pub told_of_line : (r : Role) (p : Progress) (at n c m : ℕ) (b : List ℕ) → Told r p at n c (line ([], m) b) → (n ≡ m)
 told_of_line Declares p at n c m b t = absurd t

@@ -1,15 +1,15 @@
 -- The knowledge after its rounds is the script's.
-use Rattle.std.proofs.Common.{◌≡◌, ℕ, true, false, List, [], ◌∷◌, map, refl, sym, ap, ◌∙◌, subst}
+use Rattle.std.proofs.Common.{◌≡◌, ℕ, true, false, List, [], map, sym, ap, ◌∙◌, subst}
 use Rattle.std.specs.Prelude.{nat_eq, IsPermutation}
 use Rattle.std.proofs.lemmas.Bool.{eqb-true, eq-eqb}
 use Rattle.syntax_trees.specs.Core.{Stmt, Core}
-use Rattle.syntax_trees.specs.Parts.{block_list}
 use Rattle.flow.specs.declared.statement.Flow.{Flow}
 use Rattle.flow.specs.View.{core_of, statement_view}
-use Rattle.agreement.specs.Blocks.{block_of}
 use Rattle.syntax_trees.specs.Meaning.{IsFinished}
 use Rattle.agreement.specs.Compile.{script_list}
 use Rattle.agreement.specs.Scalars.{IsScalars}
+use Rattle.agreement.proofs.Members.{block_list_of}
+use Rattle.agreement.proofs.Sources.{clean}
 use Rattle.meaning.specs.declared.knowledge.Entry.{Entry}
 use Rattle.meaning.specs.Pass.{pass, after, opened}
 use Rattle.meaning.specs.declared.knowledge.Knowledge.{Knowledge}
@@ -20,7 +20,7 @@ use Rattle.meaning.specs.Reading.{printed}
 use Rattle.meaning.specs.Says.{Says}
 use Rattle.meaning.proofs.Blocked.{blocked_here, blocked_all}
 use Rattle.meaning.proofs.Law.{exact}
-use Rattle.meaning.proofs.Printed.{lines_known, clean}
+use Rattle.meaning.proofs.Printed.{lines_known}
 use Rattle.meaning.proofs.Readings.{is_finished, is_unfinished}
 
 pub finished_means : (s : Core) → IsScalars s → (n : ℕ) → nat_eq (opened (pass (script_list s) (after (script_list s) n))) (opened (after (script_list s) n)) ≡ true → IsFinished s n
@@ -47,10 +47,5 @@ knowledge_of s w k h =
       clean = clean s w;
     }
 
--- the statements of a flow are those of its core
-pub flow_list : (sts : List Stmt) → block_list (block_of sts) ≡ sts
-flow_list [] = refl
-flow_list (st ∷ sts) = ap (λ (x : List Stmt). st ∷ x) (flow_list sts)
-
 pub knowledge_of_flow : (f : Flow) → IsScalars (core_of f) → (k : Knowledge) → IsAfter (map statement_view f.statements.items) k → IsKnowledgeOf (core_of f) k
-knowledge_of_flow f w k h = knowledge_of (core_of f) w k (subst (λ (sts : List Stmt). IsAfter sts k) (sym (flow_list (map statement_view f.statements.items))) h)
+knowledge_of_flow f w k h = knowledge_of (core_of f) w k (subst (λ (sts : List Stmt). IsAfter sts k) (sym (block_list_of (map statement_view f.statements.items))) h)

@@ -1,18 +1,16 @@
 -- A report of a run of a script's code, against the script.
-use Rattle.std.proofs.Common.{◌≡◌, ℕ, List, [], ◌∷◌, refl, sym, ap, ap₂, ◌∙◌, subst}
-use Rattle.std.specs.Prelude.{map, Some}
-use Rattle.dataflow.specs.System.{In}
-use Rattle.dataflow.specs.Machine as Machine
+use Rattle.std.proofs.Common.{◌≡◌, ℕ, List, [], ◌∷◌, refl, sym, ap₂, ◌∙◌, subst}
+use Rattle.std.specs.Prelude.{map}
 use Rattle.values.specs.declared.value.Scalar.{Scalar}
 use Rattle.values.specs.declared.value.Scalar.TheVariants.{Text}
 use Rattle.syntax_trees.specs.Core.{Core}
 use Rattle.syntax_trees.specs.Meaning.{Meaning}
-use Rattle.syntax_trees.specs.Outcomes.{Lines, Faults, Clean}
-use Rattle.task_code.specs.Code.{Code, entry}
+use Rattle.syntax_trees.specs.Outcomes.{Lines, Faults}
+use Rattle.task_code.specs.Code.{Code}
 use Rattle.task_code.specs.Machine.{CodeState, Run, Quiet}
-use Rattle.agreement.specs.Headline.{Headline, Agrees, IsAll, IsMeantFault, script_path, script_fault}
+use Rattle.agreement.specs.Headline.{Headline, Agrees, script_path, script_fault}
+use Rattle.agreement.proofs.Sources.{clean}
 use Rattle.board.specs.declared.place.Fault.{Fault}
-use Rattle.board.specs.declared.place.Statement.{Statement}
 use Rattle.board.specs.Blocked.{AreBlocked, IsFaultOf, path_of}
 use Rattle.board.specs.Board.{Seen}
 use Rattle.board.specs.View.{kind_of_fault}
@@ -62,8 +60,8 @@ fault_of s C st f a i =
     subst (λ (at : ℕ). Faults (Meaning s) (script_fault (kind_of_fault f.kind)) at (script_path (path_of f.statement))) (sym i.stands)
     (a.fault _ (kind_of_fault f.kind) i.is)
 
-pub reported_fault : (src : List ℕ) (code : Code) (limit : ℕ) (r : Report) (f : Fault) (w : Compiles src code) → Reports code limit r → Clean w.script → r.end ≡ Ends.Fault f → IsScriptFault w.script f
-reported_fault src code limit r f w t clean faulty =
+pub reported_fault : (src : List ℕ) (code : Code) (limit : ℕ) (r : Report) (f : Fault) (w : Compiles src code) → Reports code limit r → r.end ≡ Ends.Fault f → IsScriptFault w.script f
+reported_fault src code limit r f w t faulty =
     fault_of w.script code t.board.state f
-    (w.headline.agrees clean t.board.history t.board.state t.run)
+    (w.headline.agrees (clean w.script w.script_of.scalars) t.board.history t.board.state t.run)
     (subst (λ (D : Code). IsFaultOf D t.board.state f) t.code (subst (EndsAs t.board) faulty t.tells.end))

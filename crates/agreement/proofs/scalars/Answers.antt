@@ -1,5 +1,5 @@
 use Rattle.agreement.proofs.Runs.{headline}
-use Rattle.agreement.proofs.Sources.{none_written}
+use Rattle.agreement.proofs.Sources.{clean}
 use Rattle.agreement.proofs.Whole.{is_code}
 use Rattle.agreement.proofs.scalars.Goals as goal
 
@@ -10,4 +10,4 @@ pub returns-clause-headline : goal.returns-clause-headline
 returns-clause-headline g = λ s w. headline s w
 
 pub returns-clause-clean : goal.returns-clause-clean
-returns-clause-clean g = λ s w n a k x x' v v' f f'. absurd (none_written s w n a k x v f)
+returns-clause-clean g = λ s w. clean s w

@@ -1,14 +1,14 @@
-use Rattle.std.proofs.Common.{rules, ◌≡◌, ℕ, List, ◌+◌, ◌<◌, ◌++◌, [], ◌∷◌, map, sym, ap, ◌∙◌, arith, subst, length}
+use Rattle.std.proofs.Common.{ℕ, List, ◌++◌, [], ◌∷◌, map, sym, ap, ◌∙◌, arith, subst, length}
 use Rattle.std.specs.Vec.Iter.{into_iter_items}
 use Rattle.dataflow.specs.System.{Distinct}
 use Rattle.syntax_trees.specs.Parts.{stmt_node}
 use Rattle.flow.specs.View.{statement_view, core_of}
 use Rattle.task_code.specs.View.{entry_view, variable_view}
 use Rattle.agreement.specs.Compile.{acts}
+use Rattle.agreement.proofs.Members.{block_list_of}
 use Rattle.emit.specs.Added.{IsAdded}
 use Rattle.emit.specs.declared.added.Added.{Added}
-use Rattle.emit.specs.declared.added.Added.TheVariants.{Work}
-use Rattle.emit.proofs.Owed.{Owed, room, entry_more, listed, whole}
+use Rattle.emit.proofs.Owed.{Owed, room, entry_more, whole}
 use Rattle.emit.proofs.Placed.{none_left}
 use Rattle.flow.specs.declared.statement.Statement.{Statement}
 use Rattle.task_code.specs.Code.{Entry, Body, ByMain}
@@ -22,7 +22,7 @@ overflow_cast-number c =
     let st = statement_view c.in-Some.statement in
     let added = subst (λ (a : Added). IsAdded a st) c.in-Work.is c.in_ok-variable.ensures in
     let is = ap (map statement_view) c.in-Some.ensures.steps.0 in
-    let distinct = subst (λ l. Distinct (map stmt_node (acts l))) (listed all) c.requires.nodes in
+    let distinct = subst (λ l. Distinct (map stmt_node (acts l))) (block_list_of all) c.requires.nodes in
     let h = room all rest later c.loop-statement.code.entries (map variable_view c.loop-statement.makes.items) c.loop-statement.entries.items st (entry_view c.in-Work.entry) c.loop-statement.invariant.owed is added.0 added.2 added.3 distinct in
     omega (arith, c.entry_count-number.ensures)
 
@@ -57,4 +57,4 @@ returns c =
     let owed = subst (λ (sts : List Statement). Owed all (map statement_view sts) entries makes numbers) done c.loop-statement.invariant.owed in
     c.in_ok-push_body.ensures.ok
     ∙ ap (λ (bs : List Body). record { entries = entries; bodies = bs ++ record { opener = ByMain; makes = makes; entries = numbers } ∷ [] }) c.loop-statement.invariant.bodies
-    ∙ whole (core_of c.args.flow) all entries makes numbers owed (listed all)
+    ∙ whole (core_of c.args.flow) all entries makes numbers owed (block_list_of all)

@@ -1,4 +1,4 @@
-use Rattle.std.proofs.Common.{◌≡◌, ◌++◌, ◌∙◌, refl, sym, ap, subst}
+use Rattle.std.proofs.Common.{◌++◌, ◌∙◌, sym, ap, subst}
 use Rattle.dataflow.specs.System.{Distinct}
 use Rattle.flow.specs.View.{expr_view}
 use Rattle.agreement.specs.Compile.{named, each_once}

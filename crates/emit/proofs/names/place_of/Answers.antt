@@ -1,5 +1,4 @@
-use Rattle.std.proofs.Common.{rules, ◌≡◌, ◌≢◌, ◌+◌, ◌<◌, ◌^◌, ◌++◌, sym, ap, subst, ◌∙◌, arith, take, drop, length, get_or}
-use Rattle.agreement.specs.Compile.{place_in}
+use Rattle.std.proofs.Common.{◌≢◌, ◌+◌, ◌<◌, ◌^◌, ap, subst, arith, length, get_or}
 use Rattle.emit.proofs.Bound.{others_more, small_more, place_more, place_past}
 use Rattle.emit.proofs.names.place_of.Goals as goal
 

@@ -1,4 +1,4 @@
-use Rattle.std.proofs.Common.{◌≡◌, ◌+◌, ◌++◌, ◌∷◌, [], ◌^◌, take, drop}
+use Rattle.std.proofs.Common.{◌≡◌, ◌+◌, ◌^◌, take, drop}
 use Rattle.dataflow.specs.System.{In}
 use Rattle.agreement.specs.Compile.{place_in}
 use Rattle.emit.proofs.Bound.{AreBelow}

@@ -1,5 +1,4 @@
-use Rattle.std.proofs.Common.{◌≡◌, ◌∙◌, sym}
-use Rattle.std.specs.Vec.Iter.{into_iter_items}
+use Rattle.std.proofs.Common.{◌∙◌, sym}
 use Rattle.emit.proofs.Placed.{viewed_over, none_left}
 use Rattle.emit.proofs.over.+placed.Goals as goal
 
