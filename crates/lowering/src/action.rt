@@ -15,7 +15,6 @@ ghost use Rattle.lowering.specs.Formats.{format_at};
 
 use crate::expression::{call, expression, operation_on};
 use crate::names::own;
-
 use flow::statement::Action;
 use std::alloc::{AllocError, Allocator, Global};
 use syntax_trees::tree::{self, Call, ExprKind, Name, Right, Shape};

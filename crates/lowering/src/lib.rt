@@ -8,5 +8,7 @@ mod names;
 mod operators;
 pub mod script;
 mod statement;
+#[cfg(test)]
+mod tests;
 
 pub use script::lower;

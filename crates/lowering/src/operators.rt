@@ -27,20 +27,20 @@ pub fn of_chain(alloc: Global, operators: &[Operator]) -> Result<Operation, Allo
     if operators.is_empty() {
         return Ok(Operation::Sum(Vec::new(alloc)));
     }
-    let operation = match operators[0] {
-        Operator::Or => Operation::Or,
-        Operator::And => Operation::And,
-        Operator::Equal => Operation::Equal,
-        Operator::NotEqual => Operation::Unequal,
-        Operator::Less => Operation::Compare(Order::Less),
-        Operator::AtMost => Operation::Compare(Order::LessOrEqual),
-        Operator::Greater => Operation::Compare(Order::Greater),
-        Operator::AtLeast => Operation::Compare(Order::GreaterOrEqual),
-        Operator::Plus | Operator::Minus => Operation::Sum(signs(alloc, operators)?),
-        Operator::Times | Operator::Quotient | Operator::Remainder =>
-            Operation::Product(factors(alloc, operators)?),
-    };
-    Ok(operation)
+    match operators[0] {
+        Operator::Or => Ok(Operation::Or),
+        Operator::And => Ok(Operation::And),
+        Operator::Equal => Ok(Operation::Equal),
+        Operator::NotEqual => Ok(Operation::Unequal),
+        Operator::Less => Ok(Operation::Compare(Order::Less)),
+        Operator::AtMost => Ok(Operation::Compare(Order::LessOrEqual)),
+        Operator::Greater => Ok(Operation::Compare(Order::Greater)),
+        Operator::AtLeast => Ok(Operation::Compare(Order::GreaterOrEqual)),
+        Operator::Plus | Operator::Minus => Ok(Operation::Sum(signs(alloc, operators)?)),
+        Operator::Times | Operator::Quotient | Operator::Remainder => {
+            Ok(Operation::Product(factors(alloc, operators)?))
+        }
+    }
 }
 
 /// The sign that an operator of a sum is.

@@ -72,8 +72,12 @@ fn command<A: Allocator>(
             return declaration(alloc, typed, statements, place, decl, right);
         }
         StmtKind::Assign(name, right) => assignment(alloc, typed, name, right)?,
-        StmtKind::AssignAll(names, call) =>
-            assignment_of_call(alloc, typed, names.as_slice(), call)?,
+        StmtKind::AssignAll(names, call) => assignment_of_call(
+            alloc,
+            typed,
+            names.as_slice(),
+            call,
+        )?,
         StmtKind::Call(priority, call) => call_alone(alloc, typed, *priority, call)?,
         _ => return Ok(false),
     };

@@ -12,31 +12,31 @@ abbrev pub check_line : List (List ℕ) → Option Line
 check_line [] = None
 check_line (f ∷ fs) = Some (Check (f ∷ fs))
 
--- `mean`, with its file and the rounds
-abbrev pub mean_line : List (List ℕ) → Option Line
-mean_line ws =
+-- `mean`, with its file and the rounds that were given
+abbrev pub mean_line : List (List ℕ) → List (List ℕ) → Option Line
+mean_line files rounds =
     option_and_then (λ file.
-    option_and_then (λ rounds. Some (Mean file rounds))
-    (number_given 1 4294967295 1000000 (values_of (codes "--rounds") false ws)))
-    (only (files_in false ws))
+    option_and_then (λ most. Some (Mean file most))
+    (number_given 1 4294967295 1000000 rounds))
+    (only files)
 
 -- `code`, with its file
 abbrev pub code_line : List (List ℕ) → Option Line
-code_line ws = option_and_then (λ file. Some (Code file)) (only (files_in false ws))
+code_line files = option_and_then (λ file. Some (Code file)) (only files)
 
--- `run`, with its file, the engines, the workers, the steps and the trace
-abbrev pub run_line : List (List ℕ) → Option Line
-run_line ws =
+-- `run`, with its file, and what was given for the engines, the workers, the steps and the trace
+abbrev pub run_line : List (List ℕ) → List (List ℕ) → List (List ℕ) → List (List ℕ) → List (List ℕ) → Option Line
+run_line files engines workers steps trace =
     option_and_then (λ file.
-    option_and_then (λ engines.
-    option_and_then (λ workers.
-    option_and_then (λ steps.
-    option_and_then (λ trace. Some (Run file engines workers steps trace))
-    (optional (values_of (codes "--trace") false ws)))
-    (number_given 0 4294967295 10000000 (values_of (codes "--steps") false ws)))
-    (number_given 1 63 3 (values_of (codes "--workers") false ws)))
-    (number_given 1 63 1 (values_of (codes "--engines") false ws)))
-    (only (files_in false ws))
+    option_and_then (λ e.
+    option_and_then (λ w.
+    option_and_then (λ s.
+    option_and_then (λ t. Some (Run file e w s t))
+    (optional trace))
+    (number_given 0 4294967295 10000000 steps))
+    (number_given 1 63 3 workers))
+    (number_given 1 63 1 engines))
+    (only files)
 
 -- `replay`, with its file and its trace
 abbrev pub replay_line : List (List ℕ) → Option Line
@@ -48,15 +48,20 @@ replay_line (f ∷ t ∷ u ∷ ws) = None
 -- a command with the words behind it
 abbrev pub command_line : Command → List (List ℕ) → Option Line
 command_line command.Check ws = check_line (files_in false ws)
-command_line command.Mean ws = mean_line ws
-command_line command.Code ws = code_line ws
-command_line command.Run ws = run_line ws
+command_line command.Mean ws = mean_line (files_in false ws) (values_of (codes "--rounds") false ws)
+command_line command.Code ws = code_line (files_in false ws)
+command_line command.Run ws = run_line (files_in false ws) (values_of (codes "--engines") false ws) (values_of (codes "--workers") false ws)
+    (values_of (codes "--steps") false ws) (values_of (codes "--trace") false ws)
 command_line command.Replay ws = replay_line (files_in false ws)
+
+-- the same, where the words are well formed
+abbrev pub formed_line : Command → List (List ℕ) → Option Line
+formed_line c ws = if well_formed c false ws then command_line c ws else None
 
 -- the line of the words behind the program's name
 abbrev pub line_of : List (List ℕ) → Option Line
 line_of [] = None
-line_of (w ∷ ws) = option_and_then (λ c. if well_formed c false ws then command_line c ws else None) (command_of w)
+line_of (w ∷ ws) = option_and_then (λ c. formed_line c ws) (command_of w)
 
 -- the files that a line names to be read, in order
 abbrev pub files_of : Line → List (List ℕ)

@@ -1,6 +1,6 @@
-//! The commands and their options.
+//! The commands.
 ghost use Rattle.std.specs.Prelude.{◌≡◌};
-ghost use Rattle.swt_line.specs.Commands.{command_of, has_option};
+ghost use Rattle.swt_line.specs.Commands.{command_of};
 
 /// What the program is told to do.
 #[derive(Clone, Copy, PartialEq, Eq, Debug, Drop)]
@@ -34,19 +34,6 @@ impl Command {
             Some(Command::Replay)
         } else {
             None
-        }
-    }
-
-    /// Whether the command has this option.
-    pub fn has_option(self, word: &str) -> bool
-        ensures { result ≡ has_option self word.now }
-    {
-        match self {
-            Command::Mean => word == "--rounds",
-            Command::Run => {
-                word == "--engines" || word == "--workers" || word == "--steps" || word == "--trace"
-            }
-            Command::Check | Command::Code | Command::Replay => false,
         }
     }
 }

@@ -1,6 +1,7 @@
 //! Why a command line was not read.
 ghost use Rattle.std.specs.Prelude.{◌≡◌};
 
+use clap::error::ErrorKind;
 use std::alloc::{AllocError, AllocFailed};
 use thiserror::Error;
 
@@ -13,6 +14,20 @@ pub enum LineFault {
     /// Memory that was asked for was refused.
     #[error("no memory")]
     Memory,
+}
+
+impl From<clap::Error> for LineFault {
+    ghost use Rattle.clap.specs.Words.{kind_of};
+    ghost use Rattle.swt_line.specs.Reader.{refusal};
+
+    ghost from_gives = { λ error fault. fault ≡ refusal (kind_of error) };
+
+    fn from(error: clap::Error) -> LineFault {
+        match error.kind() {
+            ErrorKind::OutOfMemory => LineFault::Memory,
+            _ => LineFault::Usage,
+        }
+    }
 }
 
 impl From<AllocError> for LineFault {

@@ -8,6 +8,7 @@
 pub mod command;
 pub mod fault;
 pub mod line;
+mod reading;
 #[cfg(test)]
 mod tests;
 pub mod word;

@@ -1,13 +1,15 @@
 //! The command line, read.
-ghost use Rattle.std.specs.Prelude.{◌≡◌, ◌≤◌, map, false, IfOk};
+ghost use Rattle.std.specs.Prelude.{◌≡◌, ◌≤◌, codes, map, IfOk};
 ghost use Rattle.std.specs.String.{string_bytes};
-ghost use Rattle.swt_line.specs.Words.{files_in, values_of, number_given, only, Answers};
-ghost use Rattle.swt_line.specs.Lines.{line_of, command_line, check_line, mean_line, code_line, run_line, replay_line, files_of, IsInRange};
+ghost use Rattle.swt_line.specs.Words.{number_given, Answers};
+ghost use Rattle.swt_line.specs.Reader.{values_given};
+ghost use Rattle.swt_line.specs.Lines.{line_of, formed_line, check_line, mean_line, code_line, run_line, replay_line, files_of, IsInRange};
 
 use crate::command::Command;
 use crate::fault::LineFault;
 use crate::word::Word;
-use crate::words;
+use crate::{reading, words};
+use clap::ArgMatches;
 use std::alloc::{AllocError, Global};
 use std::marker::Model;
 
@@ -74,10 +76,8 @@ impl Line {
         match words.as_slice() {
             [] => Err(LineFault::Usage),
             [first, rest @ ..] => match Command::of(first.as_str()) {
-                Some(command) if words::well_formed(command, rest) => {
-                    read_command(alloc, command, rest)
-                }
-                _ => Err(LineFault::Usage),
+                Some(command) => read_command(alloc, command, rest),
+                None => Err(LineFault::Usage),
             },
         }
     }
@@ -119,23 +119,24 @@ fn copies(alloc: Global, words: &[Word]) -> Result<Vec<Word>, AllocError>
 }
 
 fn read_command(alloc: Global, command: Command, words: &[Word]) -> Result<Line, LineFault>
-    ensures line { Answers (command_line command words.now) result }
+    ensures line { Answers (formed_line command words.now) result }
     ensures in_range { IfOk result IsInRange }
 {
+    let matches = reading::read(alloc, command, words)?;
+    let files = reading::files(alloc, &matches)?;
     match command {
-        Command::Check => read_check(alloc, words),
-        Command::Mean => read_mean(alloc, words),
-        Command::Code => read_code(alloc, words),
-        Command::Run => read_run(alloc, words),
-        Command::Replay => read_replay(alloc, words),
+        Command::Check => read_check(files),
+        Command::Mean => read_mean(alloc, &files, &matches),
+        Command::Code => read_code(alloc, &files),
+        Command::Run => read_run(alloc, &files, &matches),
+        Command::Replay => read_replay(alloc, &files),
     }
 }
 
-fn read_check(alloc: Global, words: &[Word]) -> Result<Line, LineFault>
-    ensures line { Answers (check_line (files_in false words.now)) result }
+fn read_check(names: Vec<Word>) -> Result<Line, LineFault>
+    ensures line { Answers (check_line names.items) result }
     ensures in_range { IfOk result IsInRange }
 {
-    let names = words::files(alloc, words)?;
     if names.is_empty() {
         return Err(LineFault::Usage);
     }
@@ -144,33 +145,34 @@ fn read_check(alloc: Global, words: &[Word]) -> Result<Line, LineFault>
     })
 }
 
-fn read_mean(alloc: Global, words: &[Word]) -> Result<Line, LineFault>
-    ensures line { Answers (mean_line words.now) result }
+fn read_mean(alloc: Global, files: &[Word], matches: &ArgMatches) -> Result<Line, LineFault>
+    ensures line { Answers (mean_line files.now (values_given matches.now (codes "--rounds"))) result }
     ensures in_range { IfOk result IsInRange }
 {
-    let file = only_file(alloc, words)?;
-    let rounds = number(alloc, words, "--rounds", 1, u32::MAX, 1_000_000)?;
+    let file = words::only(alloc, files)?;
+    let rounds = number(matches, "--rounds", 1, u32::MAX, 1_000_000)?;
     Ok(Line::Mean { file, rounds })
 }
 
-fn read_code(alloc: Global, words: &[Word]) -> Result<Line, LineFault>
-    ensures line { Answers (code_line words.now) result }
+fn read_code(alloc: Global, files: &[Word]) -> Result<Line, LineFault>
+    ensures line { Answers (code_line files.now) result }
     ensures in_range { IfOk result IsInRange }
 {
-    let file = only_file(alloc, words)?;
+    let file = words::only(alloc, files)?;
     Ok(Line::Code { file })
 }
 
-fn read_run(alloc: Global, words: &[Word]) -> Result<Line, LineFault>
-    ensures line { Answers (run_line words.now) result }
+fn read_run(alloc: Global, files: &[Word], matches: &ArgMatches) -> Result<Line, LineFault>
+    ensures line { Answers (run_line files.now (values_given matches.now (codes "--engines"))
+        (values_given matches.now (codes "--workers")) (values_given matches.now (codes "--steps"))
+        (values_given matches.now (codes "--trace"))) result }
     ensures in_range { IfOk result IsInRange }
 {
-    let file = only_file(alloc, words)?;
-    let engines = seats(alloc, words, "--engines", 1)?;
-    let workers = seats(alloc, words, "--workers", 3)?;
-    let steps = number(alloc, words, "--steps", 0, u32::MAX, 10_000_000)?;
-    let values = words::values(alloc, words, "--trace")?;
-    let trace = words::optional(alloc, &values)?;
+    let file = words::only(alloc, files)?;
+    let engines = seats(matches, "--engines", 1)?;
+    let workers = seats(matches, "--workers", 3)?;
+    let steps = number(matches, "--steps", 0, u32::MAX, 10_000_000)?;
+    let trace = words::optional(alloc, matches.get_str("--trace"))?;
     Ok(Line::Run {
         file,
         engines,
@@ -180,12 +182,11 @@ fn read_run(alloc: Global, words: &[Word]) -> Result<Line, LineFault>
     })
 }
 
-fn read_replay(alloc: Global, words: &[Word]) -> Result<Line, LineFault>
-    ensures line { Answers (replay_line (files_in false words.now)) result }
+fn read_replay(alloc: Global, files: &[Word]) -> Result<Line, LineFault>
+    ensures line { Answers (replay_line files.now) result }
     ensures in_range { IfOk result IsInRange }
 {
-    let names = words::files(alloc, words)?;
-    match names.as_slice() {
+    match files {
         [file, trace] => Ok(Line::Replay {
             file: file.copy(alloc)?,
             trace: trace.copy(alloc)?,
@@ -194,17 +195,9 @@ fn read_replay(alloc: Global, words: &[Word]) -> Result<Line, LineFault>
     }
 }
 
-fn only_file(alloc: Global, words: &[Word]) -> Result<Word, LineFault>
-    ensures { Answers (only (files_in false words.now)) result }
-{
-    let names = words::files(alloc, words)?;
-    words::only(alloc, &names)
-}
-
 /// The number of an option, of 32 bits.
 fn number(
-    alloc: Global,
-    words: &[Word],
+    matches: &ArgMatches,
     option: &str,
     least: u32,
     most: u32,
@@ -212,22 +205,20 @@ fn number(
 ) -> Result<u32, LineFault>
     requires least { least ≤ default }
     requires most { default ≤ most }
-    ensures value { Answers (number_given least most default (values_of option.now false words.now)) result }
+    ensures value { Answers (number_given least most default (values_given matches.now option.now)) result }
     ensures within { IfOk result (λ n. (least ≤ n) × (n ≤ most)) }
 {
-    let values = words::values(alloc, words, option)?;
-    words::number(&values, least, most, default).ok_or(LineFault::Usage)
+    words::number(matches.get_str(option), least, most, default).ok_or(LineFault::Usage)
 }
 
 /// The number of engines or of workers, from 1 to 63.
-fn seats(alloc: Global, words: &[Word], option: &str, default: u8) -> Result<u8, LineFault>
+fn seats(matches: &ArgMatches, option: &str, default: u8) -> Result<u8, LineFault>
     requires least { 1 ≤ default }
     requires most { default ≤ 63 }
-    ensures value { Answers (number_given 1 63 default (values_of option.now false words.now)) result }
+    ensures value { Answers (number_given 1 63 default (values_given matches.now option.now)) result }
     ensures within { IfOk result (λ n. (1 ≤ n) × (n ≤ 63)) }
 {
-    let values = words::values(alloc, words, option)?;
-    match words::number(&values, 1, 63, default as u32) {
+    match words::number(matches.get_str(option), 1, 63, default as u32) {
         Some(n) => Ok(n as u8),
         None => Err(LineFault::Usage),
     }

@@ -141,6 +141,44 @@ fn no_commands(rt: HostRuntime) -> Result<(), Fail> {
     Ok(())
 }
 
+/// Words that a reader of command lines often takes in other ways.
+#[test]
+fn other_forms(rt: HostRuntime) -> Result<(), Fail> {
+    let alloc = rt.alloc();
+    let rows: [&[&str]; 14] = [
+        &["--", "run", "a"],
+        &["run", "--", "a"],
+        &["run", "a", "--"],
+        &["check", "--", "-a"],
+        &["check", "-"],
+        &["run", "a", "--trace", "-"],
+        &["run", "a", "--steps=1"],
+        &["run", "a", "--step", "1"],
+        &["run", "a", "--=1"],
+        &["run", "a", "-s", "1"],
+        &["run", "a", "-V"],
+        &["run", "a", "--version"],
+        &["run", "a", "--trace", "t", "--trace", "t"],
+        &["help", "run"],
+    ];
+    for words in rows {
+        assert!(rt; is_usage(alloc, words));
+    }
+    assert_eq!(rt;
+        shown(alloc, &["check", "", "=", "a=b"])?.as_str(),
+        "check  = a=b"
+    );
+    assert_eq!(rt;
+        shown(alloc, &["run", "help", "--trace", "run"])?.as_str(),
+        "run help 1 3 10000000 run"
+    );
+    assert_eq!(rt;
+        shown(alloc, &["mean", "--rounds", "007", "./-a"])?.as_str(),
+        "mean ./-a 7"
+    );
+    Ok(())
+}
+
 #[test]
 fn steps_range(rt: HostRuntime) -> Result<(), Fail> {
     let alloc = rt.alloc();
@@ -183,13 +221,8 @@ fn single_words(rt: HostRuntime) -> Result<(), Fail> {
     let alloc = rt.alloc();
     assert_eq!(rt; Command::of("replay"), Some(Command::Replay));
     assert_eq!(rt; Command::of("replays"), None);
-    assert!(rt; Command::Mean.has_option("--rounds"));
-    assert!(rt; !Command::Run.has_option("--rounds"));
-    assert!(rt; Command::Run.has_option("--trace"));
     let word = Word::new(String::from_str(alloc, "-x")?);
-    assert!(rt; word.is_marked());
     assert_eq!(rt; word.copy(alloc)?.as_str(), "-x");
-    assert!(rt; !Word::new(String::new(alloc)).is_marked());
     Ok(())
 }
 

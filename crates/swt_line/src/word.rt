@@ -1,8 +1,8 @@
 //! A word of a command line.
 ghost use Rattle.std.specs.Prelude.{◌≡◌, IfOk};
-ghost use Rattle.swt_line.specs.Words.{marked};
 
 use std::alloc::{AllocError, Global};
+use std::convert::AsStr;
 use std::marker::Model;
 
 /// A word of a command line, of any characters.
@@ -18,6 +18,14 @@ impl Model for Word {
     ghost Value = { List ℕ };
 
     ghost view = { λ word. string_bytes word.text };
+}
+
+impl AsStr for Word {
+    ghost text = { λ word. word };
+
+    fn as_str(&self) -> &str {
+        self.text.as_str()
+    }
 }
 
 impl Word {
@@ -41,15 +49,5 @@ impl Word {
         Ok(Word {
             text: String::from_str(alloc, self.text.as_str())?,
         })
-    }
-
-    /// Whether it begins with a dash, as an option does.
-    pub fn is_marked(&self) -> bool
-        ensures { result ≡ marked self.now }
-    {
-        match self.text.as_bytes() {
-            [first, ..] => *first == b'-',
-            [] => false,
-        }
     }
 }

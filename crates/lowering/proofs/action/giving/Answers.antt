@@ -20,7 +20,7 @@ returns g c =
     let e = expression_view {A = g.row.A.Denot} c.in-Value.expr.value in
     let target = c.args.target in
     let P : RightSide → Type 0 = λ r. Some (assign (here target) (rules_of.outer_of c.deref-2.result.now.number ([], compute (expr_view c.in-Some.value))))
-        ≡ cond (scalars.is_scalar_right t r) (Some (rules_of.right_of t (here target) Shape.Scalar r)) None in
+    ≡ cond (scalars.is_scalar_right t r) (Some (rules_of.right_of t (here target) Shape.Scalar r)) None in
     let found : Finds formed c.in_ok-value.field-0 (scalars.is_scalar_expression t e) (rules_of.form_of t e) =
     subst (λ x. Finds formed c.in_ok-value.field-0 (scalars.is_scalar_expression t (expression_view {A = g.row.A.Denot} x)) (rules_of.form_of t (expression_view {A = g.row.A.Denot} x))) c.deref.ensures c.in_ok-value.ensures in
     let finds = subst (λ o. Finds formed o (scalars.is_scalar_expression t e) (rules_of.form_of t e)) c.in-Some.is found in

@@ -21,9 +21,11 @@ returns-then-not-is_lowered-clause-refused g c = λ other.
     let part = ap part_of c.in-Statement.is ∙ ap (λ x. single (statement_view x)) (sym c.deref-in-Statement.ensures) in
     let stops = stopped t c.args.script.now.items.items (stmts_of c.loop-item.statements.items) c.loop-item.item-index c.item-item.result c.loop-item.invariant below is
     s (stmts_of c.statement.new.statements.items) c.in_ok-is_lowered-in-Statement.is_lowered part c.if-not-is_lowered.true c.in_ok-is_lowered-in-Statement.ensures in
-    let same = c.deref-in-Statement.ensures ∙ sym c.deref-then-not-is_lowered.ensures in
-    (c.deref-then-not-is_lowered.result.now.first, refl,
-    stops ∙ ap (λ x. Some (start_of (statement_view {A = g.row.A.Denot} x))) same ∙ ap (λ x. Some (start_of x)) (view_stmt g.row.A.Denot c.deref-then-not-is_lowered.result.now))
+    let same = c.deref-in-Statement.ensures ∙ sym c.deref-then-not-is_lowered.ensures in (
+      c.deref-then-not-is_lowered.result.now.first,
+      refl,
+      stops ∙ ap (λ x. Some (start_of (statement_view {A = g.row.A.Denot} x))) same ∙ ap (λ x. Some (start_of x)) (view_stmt g.row.A.Denot c.deref-then-not-is_lowered.result.now),
+    )
 
 pub loop-item-preserved : goal.loop-item-preserved
 loop-item-preserved g c =

@@ -1,0 +1,99 @@
+//! The words behind a command, read by `clap`.
+ghost use Rattle.std.specs.Prelude.{◌≡◌, IfOk, Some, drop, map, false};
+ghost use Rattle.std.specs.List.{list_all};
+ghost use Rattle.clap.specs.Words.{app_of, with_rule};
+ghost use Rattle.swt_line.specs.Reader.{IsRead, app_with, files_given, is_plain, option_rule, options_of};
+
+use crate::command::Command;
+use crate::fault::LineFault;
+use crate::word::Word;
+use clap::{Arg, ArgAction, ArgMatches};
+use std::alloc::{AllocError, Global};
+
+/// The files and the values of options among the words. `Usage` where a word is an option that the command lacks, or an
+/// option has no value behind it or stands twice.
+pub fn read<'a>(
+    alloc: Global,
+    command: Command,
+    words: &'a [Word],
+) -> Result<ArgMatches<'a>, LineFault>
+    ensures { IsRead command words.entry.now result }
+{
+    if !are_plain(words) {
+        return Err(LineFault::Usage);
+    }
+    Ok(reader(alloc, command)?.try_get_matches_from(words)?)
+}
+
+fn are_plain(words: &[Word]) -> bool
+    ensures { result ≡ list_all is_plain words.now }
+{
+    words.iter().all(is_plain)
+}
+
+/// Whether the word is a plain one: one that begins with a dash begins with two, has more behind them, and has no `=`. Of
+/// other words `clap` takes `-` for a file, what stands behind `--` for files, and `--option=value` for both.
+fn is_plain(word: &Word) -> bool
+    ensures { result ≡ is_plain word.now }
+{
+    match word.as_str().as_bytes() {
+        [b'-', b'-', first, rest @ ..] => *first != b'=' && !rest.contains(&b'='),
+        [b'-', ..] => false,
+        _ => true,
+    }
+}
+
+/// What `clap` is told of a command: its options, and that files stand among them.
+fn reader<'a>(alloc: Global, command: Command) -> Result<clap::Command<'a>, AllocError>
+    ensures { IfOk result (λ reader. app_of reader ≡ app_with (options_of command)) }
+{
+    let files = Arg::new(alloc, "FILE").action(ArgAction::Append);
+    let bare = clap::Command::new(alloc, "swt")
+        .no_binary_name(true)
+        .disable_help_flag(true)
+        .arg(files)?;
+    match command {
+        Command::Check | Command::Code | Command::Replay => Ok(bare),
+        Command::Mean => with_option(alloc, bare, "--rounds", "rounds"),
+        Command::Run => {
+            let one = with_option(alloc, bare, "--engines", "engines")?;
+            let two = with_option(alloc, one, "--workers", "workers")?;
+            let three = with_option(alloc, two, "--steps", "steps")?;
+            with_option(alloc, three, "--trace", "trace")
+        }
+    }
+}
+
+/// The reader with one more option, of one value; `long` is its name behind the dashes. It may be used once.
+fn with_option<'a>(
+    alloc: Global,
+    reader: clap::Command<'a>,
+    name: &'a str,
+    long: &'a str,
+) -> Result<clap::Command<'a>, AllocError>
+    requires { long.now ≡ drop 2 name.now }
+    ensures { IfOk result (λ more. app_of more
+        ≡ with_rule (app_of reader.entry) (option_rule name.entry.now)) }
+{
+    reader.arg(Arg::new(alloc, name).long(long))
+}
+
+/// The files, in order.
+pub fn files(alloc: Global, matches: &ArgMatches) -> Result<Vec<Word>, AllocError>
+    ensures { IfOk result (λ files. files.items ≡ files_given matches.now) }
+{
+    match matches.get_strs("FILE") {
+        Some(texts) => copies(alloc, texts),
+        None => Ok(Vec::new(alloc)),
+    }
+}
+
+fn copies(alloc: Global, texts: &[&str]) -> Result<Vec<Word>, AllocError>
+    ensures { IfOk result (λ words. words.items ≡ map (λ text. text.now) texts.now) }
+{
+    let mut words = Vec::new(alloc);
+    for text in texts {
+        words.push(Word::new(String::from_str(alloc, text)?))?;
+    }
+    Ok(words)
+}
