@@ -1,15 +1,26 @@
 //! What the faults of a script say of it.
-ghost use Rattle.std.specs.Prelude.{◌≡◌, ℕ, []};
+ghost use Rattle.std.specs.Prelude.{◌≡◌, ℕ, [], Some, false};
+ghost use Rattle.syntax_trees.specs.Members.{◌∈◌};
 ghost use Rattle.syntax_trees.specs.Numbered.{numbered};
 ghost use Rattle.syntax_trees.specs.Resolved.{core};
 ghost use Rattle.syntax_trees.specs.Single.{SinglyAssigned};
 ghost use Rattle.syntax_trees.specs.Table.{Table};
 ghost use Rattle.syntax_trees.specs.Tree.{Tree};
 ghost use Rattle.syntax_trees.specs.Typing.{WellTyped};
-ghost use Rattle.assign_check.specs.Faults.{faults};
+ghost use Rattle.assign_check.specs.declared.fault.AssignFault.{AssignFault};
+ghost use Rattle.assign_check.specs.Breaks.{Breaks};
+ghost use Rattle.assign_check.specs.Faults.{faults, first_fault, precedes};
 
 /// A well typed script whose nodes are numbered in reading order has no fault exactly where it is singly assigned.
 pub fn single_assignment()
     ensures no_fault { (n : ℕ) (u tree : Tree) (t : Table) → tree ≡ numbered n u → WellTyped tree t → faults t tree ≡ [] → SinglyAssigned (core t tree) }
     ensures single { (n : ℕ) (u tree : Tree) (t : Table) → tree ≡ numbered n u → WellTyped tree t → SinglyAssigned (core t tree) → faults t tree ≡ [] }
+{}
+
+/// The fault that is answered is a fault of the script, and none of its faults precedes it. Each fault of a well typed script,
+/// numbered in reading order, names a rule that the script breaks at the fault's place.
+pub fn refusals_name_broken_rules()
+    ensures there { (t : Table) (tree : Tree) (f : AssignFault) → first_fault (faults t tree) ≡ Some f → f ∈ faults t tree }
+    ensures first { (t : Table) (tree : Tree) (f g : AssignFault) → first_fault (faults t tree) ≡ Some f → g ∈ faults t tree → precedes g f ≡ false }
+    ensures names { (n : ℕ) (u tree : Tree) (t : Table) (f : AssignFault) → tree ≡ numbered n u → WellTyped tree t → f ∈ faults t tree → Breaks t tree f }
 {}

@@ -3,3 +3,16 @@
 
 pub mod fault;
 pub mod laws;
+mod best;
+mod blocks;
+
+mod outline;
+mod parts;
+mod reads;
+mod script;
+mod table;
+mod tally;
+mod walk;
+mod way;
+
+pub use script::{SinglyAssigned, check};

@@ -1,0 +1,106 @@
+-- Which rule of single assignment is broken where: what each fault says of the script, at its place. States docs/LANGUAGE.md: Single assignment.
+use Rattle.std.specs.Prelude.{◌≡◌, ◌⊎◌, ℕ, ◌≤◌, true, List, ◌∷◌, ◌++◌}
+use Rattle.lexer.specs.declared.token.Span.{Span}
+use Rattle.syntax_trees.specs.declared.tree.Shape.TheVariants.{Scalar}
+use Rattle.syntax_trees.specs.Core.{Owned}
+use Rattle.syntax_trees.specs.Members.{◌∈◌}
+use Rattle.syntax_trees.specs.Table.{Table}
+use Rattle.syntax_trees.specs.Tree.{Tree}
+use Rattle.assign_check.specs.declared.fault.AssignFault.{AssignFault}
+use Rattle.assign_check.specs.declared.fault.AssignFault.TheVariants.{AssignedTwice, PartlyAssigned, NeverAssigned, OuterInLoop, WholeAndElements, OutputUnassigned, Memory}
+use Rattle.assign_check.specs.Outline.{Kind, named, written, read, Use, result, given, Declared, Outline, splits, repeats, outlines}
+use Rattle.assign_check.specs.Faults.{is_before, uses_in, declared_in}
+use Rattle.assign_check.specs.Through.{Within, OnWay, Reaches}
+
+-- a variable is used so
+pub record Used (k : Kind) (x : Owned) (us : List Use) : Type 0 where
+  pub use_there : Use
+  pub there : use_there ∈ us
+  pub kind : use_there.kind ≡ k
+  pub is : use_there.of ≡ x
+
+-- a target: a use that assigns a variable by its name, or writes an element of it
+abbrev pub IsTarget : Use → Type 0
+IsTarget u = (u.kind ≡ named) ⊎ (u.kind ≡ written)
+
+-- S1: some way assigns the variable, and then by name here; or it counts as assigned at its declaration
+pub record IsTwice (o : Outline) (at : Span) : Type 0 where
+  pub target : Use
+  pub is_named : target.kind ≡ named
+  pub place : target.span ≡ at
+  pub before : ℕ
+  pub reached : Reaches target.of target o before
+  pub assigned : (1 ≤ before) ⊎ ((d : Declared) × (d ∈ declared_in o) × (d.role ≡ given) × (d.what ≡ target.of))
+
+-- S2: the branches of an `if` assign a variable from outside of it differently often on some ways
+pub record IsPartly (o : Outline) (at : Span) : Type 0 where
+  pub number : ℕ
+  pub branch : Outline
+  pub other : Outline
+  pub there : Within (splits number at branch other) o
+  pub variable : Owned
+  pub outside : is_before number variable ≡ true
+  pub so_often : ℕ
+  pub and_so_often : ℕ
+  pub on_one : OnWay variable branch so_often
+  pub on_other : OnWay variable other and_so_often
+  pub differ : so_often ≡ and_so_often → ⊥
+
+-- S3: a scalar is read and not assigned
+pub record IsNever (o : Outline) (at : Span) : Type 0 where
+  pub variable : Declared
+  pub declared : variable ∈ declared_in o
+  pub place : variable.span ≡ at
+  pub scalar : variable.shape ≡ Scalar
+  pub is_read : Used read variable.what (uses_in o)
+  pub not_named : Used named variable.what (uses_in o) → ⊥
+
+-- S4: a variable from outside of a loop is assigned by name in it
+pub record IsOuter (o : Outline) (at : Span) : Type 0 where
+  pub number : ℕ
+  pub loop : Outline
+  pub there : Within (repeats number loop) o
+  pub target : Use
+  pub inside : target ∈ uses_in loop
+  pub is_named : target.kind ≡ named
+  pub place : target.span ≡ at
+  pub outside : is_before number target.of ≡ true
+
+-- S5: a target of the other form than all targets of the variable before it, of which there is one; or one that writes an element of what counts as assigned whole
+pub record IsBoth (o : Outline) (at : Span) : Type 0 where
+  pub variable : Declared
+  pub declared : variable ∈ declared_in o
+  pub target : Use
+  pub earlier : List Use
+  pub later : List Use
+  pub there : uses_in o ≡ earlier ++ target ∷ later
+  pub is : target.of ≡ variable.what
+  pub form : IsTarget target
+  pub place : target.span ≡ at
+  pub differs : (u : Use) → u ∈ earlier → u.of ≡ variable.what → IsTarget u → u.kind ≡ target.kind → ⊥
+  pub has_other : (variable.role ≡ given × target.kind ≡ written) ⊎ ((u : Use) × (u ∈ earlier) × (u.of ≡ variable.what) × IsTarget u)
+
+-- S6: an output is never assigned
+pub record IsUnassigned (o : Outline) (at : Span) : Type 0 where
+  pub variable : Declared
+  pub declared : variable ∈ declared_in o
+  pub output : variable.role ≡ result
+  pub place : variable.span ≡ at
+  pub not_named : Used named variable.what (uses_in o) → ⊥
+  pub not_written : Used written variable.what (uses_in o) → ⊥
+
+-- the fault of a block that stands in no other
+abbrev pub BreaksIn : Outline → AssignFault → Type 0
+BreaksIn o (AssignedTwice at) = IsTwice o at
+BreaksIn o (PartlyAssigned at) = IsPartly o at
+BreaksIn o (NeverAssigned at) = IsNever o at
+BreaksIn o (OuterInLoop at) = IsOuter o at
+BreaksIn o (WholeAndElements at) = IsBoth o at
+BreaksIn o (OutputUnassigned at) = IsUnassigned o at
+BreaksIn o Memory = ⊥
+
+-- a fault names a rule that the script breaks at its place
+pub record Breaks (t : Table) (tree : Tree) (f : AssignFault) : Type 0 where
+  pub block : Outline
+  pub there : block ∈ outlines t tree
+  pub broken : BreaksIn block f

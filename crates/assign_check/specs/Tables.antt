@@ -1,0 +1,13 @@
+-- The value that a table has for a variable.
+use Rattle.std.specs.Prelude.{Option, Some, None, slice_get}
+use Rattle.syntax_trees.specs.Core.{Owned, local, input, output}
+use Rattle.assign_check.specs.declared.table.Table.{Table}
+
+abbrev pub or_empty : {T : Type 0} → T → Option T → T
+or_empty empty None = empty
+or_empty empty (Some value) = value
+
+abbrev pub at : {T : Type 0} → Table T → Owned → T
+at t (local n) = or_empty t.empty (slice_get t.locals.items n)
+at t (input i) = or_empty t.empty (slice_get t.inputs.items i)
+at t (output i) = or_empty t.empty (slice_get t.outputs.items i)

@@ -1,0 +1,117 @@
+//! Whether a script is singly assigned.
+ghost use Rattle.std.specs.Prelude.{◌≡◌, ◌≢◌, ◌∷◌, [], OnOk, IfOk, IfErr, Some};
+ghost use Rattle.std.specs.List.{flat_map};
+ghost use Rattle.syntax_trees.specs.Core as core;
+ghost use Rattle.syntax_trees.specs.View.{part_of, tree_of};
+ghost use Rattle.types.specs.Typed.{table_of};
+ghost use Rattle.assign_check.specs.Faults as faults;
+ghost use Rattle.assign_check.specs.Outline.{function_outlines};
+ghost use Rattle.assign_check.specs.Tables.{at};
+ghost use Rattle.assign_check.specs.Tallies as tallies;
+ghost use Rattle.assign_check.specs.View.{outline_view};
+ghost use Rattle.assign_check.specs.Ways.{listed};
+
+use crate::fault::AssignFault;
+use crate::outline::Step;
+use crate::parts::{function_steps, script_steps};
+use crate::table::Table;
+use crate::tally::{Tally, add_all, clear, collect, note_all, unused};
+use crate::walk::walk;
+use crate::way::Way;
+use std::alloc::{AllocError, Allocator, Global};
+use syntax_trees::tree::{Item, Script};
+use types::typed::Typed;
+
+/// That a script is singly assigned: `check` alone makes one.
+#[derive(Debug, Drop)]
+pub struct SinglyAssigned {
+    made: (),
+}
+
+/// Whether a script is singly assigned, by what the check of its types found out of its names.
+///
+/// It holds no data.
+///
+/// # Errors
+///
+/// The fault whose place begins first, and at one place the one of the smallest number; or `Memory`.
+pub fn check<A: Allocator>(
+    alloc: Global,
+    script: &Script<A>,
+    typed: &Typed,
+) -> Result<SinglyAssigned, AssignFault>
+    ensures accepted { IfOk result (λ _. faults.faults (table_of typed.now) (tree_of script.now) ≡ []) }
+    ensures refused { IfErr result (λ fault. fault ≢ AssignFault.Memory → faults.first_fault (faults.faults (table_of typed.now) (tree_of script.now)) ≡ Some fault) }
+{
+    match answer(alloc, script, typed)? {
+        None => Ok(SinglyAssigned { made: () }),
+        Some(fault) => Err(fault),
+    }
+}
+
+/// The fault that is answered, if there is one.
+fn answer<A: Allocator>(
+    alloc: Global,
+    script: &Script<A>,
+    typed: &Typed,
+) -> Result<Option<AssignFault>, AllocError>
+    ensures { IfOk result (λ best. best ≡ faults.first_fault (faults.faults (table_of typed.now) (tree_of script.now))) }
+{
+    let mut way = Way::new(alloc);
+    let mut tallied = Table::new(alloc, unused());
+    let mut best = None;
+    let own = script_steps(alloc, typed, &script.items)?;
+    outline(alloc, &own, &mut way, &mut tallied, &mut best)?;
+    for item in &script.items {
+        part(alloc, typed, item, &mut way, &mut tallied, &mut best)?;
+    }
+    Ok(best)
+}
+
+/// The faults of a part that is a function.
+fn part<A: Allocator>(
+    alloc: Global,
+    typed: &Typed,
+    item: &Item<A>,
+    way: &mut Way,
+    tallied: &mut Table<Tally>,
+    best: &mut Option<AssignFault>,
+) -> Result<(), AllocError>
+    requires way { listed way.old ≡ [] }
+    requires tallied { (of : core.Owned) → at tallied.old of ≡ tallies.unused }
+    ensures best { OnOk result (best.new ≡ faults.first_among best.old (flat_map faults.faults_of (function_outlines (table_of typed.now) (part_of item.now ∷ [])))) }
+    ensures way { OnOk result (listed way.new ≡ []) }
+    ensures tallied { OnOk result ((of : core.Owned) → at tallied.new of ≡ tallies.unused) }
+{
+    match item {
+        Item::Import(_) | Item::Statement(_) => Ok(()),
+        Item::Function(one) => {
+            let steps = function_steps(alloc, typed, one)?;
+            outline(alloc, &steps, way, tallied, best)
+        }
+    }
+}
+
+/// The faults of a block that stands in no other. The way and the tallies are empty before it and behind it.
+fn outline(
+    alloc: Global,
+    steps: &Vec<Step>,
+    way: &mut Way,
+    tallied: &mut Table<Tally>,
+    best: &mut Option<AssignFault>,
+) -> Result<(), AllocError>
+    requires way { listed way.old ≡ [] }
+    requires tallied { (of : core.Owned) → at tallied.old of ≡ tallies.unused }
+    ensures best { OnOk result (best.new ≡ faults.first_among best.old (faults.faults_of (outline_view steps.now.items))) }
+    ensures way { OnOk result (listed way.new ≡ []) }
+    ensures tallied { OnOk result ((of : core.Owned) → at tallied.new of ≡ tallies.unused) }
+{
+    walk(alloc, None, steps, way, best)?;
+    way.truncate(0);
+    let mut uses = Vec::new(alloc);
+    let mut declared = Vec::new(alloc);
+    collect(steps, &mut uses, &mut declared)?;
+    add_all(tallied, uses.as_slice())?;
+    note_all(tallied, declared.as_slice(), best);
+    clear(tallied, uses.as_slice())
+}
