@@ -23,3 +23,17 @@ pub mod Among
 pub mod Answered
 pub mod Tallied
 pub mod Outlined
+pub mod Like
+pub mod CoreBlocks
+pub mod LikeWays
+pub mod LikeSteps
+pub mod LikeUses
+pub mod Reading
+pub mod Statements
+pub mod Calls
+pub mod Built
+pub mod Pairs
+pub mod Owners
+pub mod LikeReads
+pub mod Apart
+pub mod ByOutlines
