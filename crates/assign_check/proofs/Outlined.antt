@@ -18,9 +18,9 @@ some_stays : (f : AssignFault) (fs : List AssignFault) → first_among (Some f) 
 some_stays f [] is = cc
 some_stays f (g ∷ gs) is = either (precedes g f) (λ h. some_stays h gs) is
   where
-  either : (b : Bool) → ((h : AssignFault) → first_among (Some h) gs ≡ None → ⊥) → first_among (cond b (Some g) (Some f)) gs ≡ None → ⊥
-  either true ih is = ih g is
-  either false ih is = ih f is
+    either : (b : Bool) → ((h : AssignFault) → first_among (Some h) gs ≡ None → ⊥) → first_among (cond b (Some g) (Some f)) gs ≡ None → ⊥
+    either true ih is = ih g is
+    either false ih is = ih f is
 
 -- where no fault is answered there is none
 pub none_answered : (fs : List AssignFault) → first_among None fs ≡ None → fs ≡ []

@@ -25,9 +25,9 @@ flagged : (f : Tally → Bool) (k : Kind) → ((b : Bool) (t : Tally) (j : Kind)
     → (t : Tally) (x : Owned) (us : List Use) → f (tally_from t x us) ≡ (f t || is_used k x us)
 flagged f k step t x [] = or_none (f t)
   where
-  or_none : (b : Bool) → b ≡ (b || false)
-  or_none true = refl
-  or_none false = refl
+    or_none : (b : Bool) → b ≡ (b || false)
+    or_none true = refl
+    or_none false = refl
 flagged f k step t x (u ∷ us) =
     flagged f k step (more_if (same u.of x) t u.kind u.span) x us
     ∙ ap (λ (b : Bool). b || is_used k x us) (step (same u.of x) t u.kind u.span)
@@ -104,76 +104,76 @@ after_whole : (r : Bool) (a s : Span) (x : Owned) (us : List Use) → other_form
 after_whole r a s x [] = refl
 after_whole r a s x (u ∷ us) = step (same u.of x) u.kind u.span (λ q. after_whole q a s x us)
   where
-  step : (b : Bool) (k : Kind) (at : Span) → ((q : Bool) → other_form (tally_from (whole_then q a s) x us) ≡ Some s) → other_form (tally_from (more_if b (whole_then r a s) k at) x us) ≡ Some s
-  step false k at ih = ih r
-  step true read at ih = ih true
-  step true named at ih = ih r
-  step true written at ih = ih r
+    step : (b : Bool) (k : Kind) (at : Span) → ((q : Bool) → other_form (tally_from (whole_then q a s) x us) ≡ Some s) → other_form (tally_from (more_if b (whole_then r a s) k at) x us) ≡ Some s
+    step false k at ih = ih r
+    step true read at ih = ih true
+    step true named at ih = ih r
+    step true written at ih = ih r
 
 after_elements : (r : Bool) (a s : Span) (x : Owned) (us : List Use) → other_form (tally_from (elements_then r a s) x us) ≡ Some a
 after_elements r a s x [] = refl
 after_elements r a s x (u ∷ us) = step (same u.of x) u.kind u.span (λ q. after_elements q a s x us)
   where
-  step : (b : Bool) (k : Kind) (at : Span) → ((q : Bool) → other_form (tally_from (elements_then q a s) x us) ≡ Some a) → other_form (tally_from (more_if b (elements_then r a s) k at) x us) ≡ Some a
-  step false k at ih = ih r
-  step true read at ih = ih true
-  step true named at ih = ih r
-  step true written at ih = ih r
+    step : (b : Bool) (k : Kind) (at : Span) → ((q : Bool) → other_form (tally_from (elements_then q a s) x us) ≡ Some a) → other_form (tally_from (more_if b (elements_then r a s) k at) x us) ≡ Some a
+    step false k at ih = ih r
+    step true read at ih = ih true
+    step true named at ih = ih r
+    step true written at ih = ih r
 
 one_whole : (r : Bool) (a : Span) (x : Owned) (us : List Use) → place_faults (other_form (tally_from (whole_only r a) x us)) ≡ faults.other_form named x us
 one_whole r a x [] = refl
 one_whole r a x (u ∷ us) = step (same u.of x) u.kind u.span (λ q. one_whole q a x us)
   where
-  step : (b : Bool) (k : Kind) (at : Span) → ((q : Bool) → place_faults (other_form (tally_from (whole_only q a) x us)) ≡ faults.other_form named x us)
-      → place_faults (other_form (tally_from (more_if b (whole_only r a) k at) x us)) ≡ cond (b && not (is_kind k read) && not (is_kind k named)) (WholeAndElements at ∷ []) (faults.other_form named x us)
-  step false k at ih = ih r
-  step true read at ih = ih true
-  step true named at ih = ih r
-  step true written at ih = ap place_faults (after_whole r a at x us)
+    step : (b : Bool) (k : Kind) (at : Span) → ((q : Bool) → place_faults (other_form (tally_from (whole_only q a) x us)) ≡ faults.other_form named x us)
+        → place_faults (other_form (tally_from (more_if b (whole_only r a) k at) x us)) ≡ cond (b && not (is_kind k read) && not (is_kind k named)) (WholeAndElements at ∷ []) (faults.other_form named x us)
+    step false k at ih = ih r
+    step true read at ih = ih true
+    step true named at ih = ih r
+    step true written at ih = ap place_faults (after_whole r a at x us)
 
 one_by_elements : (r : Bool) (s : Span) (x : Owned) (us : List Use) → place_faults (other_form (tally_from (elements_only r s) x us)) ≡ faults.other_form written x us
 one_by_elements r s x [] = refl
 one_by_elements r s x (u ∷ us) = step (same u.of x) u.kind u.span (λ q. one_by_elements q s x us)
   where
-  step : (b : Bool) (k : Kind) (at : Span) → ((q : Bool) → place_faults (other_form (tally_from (elements_only q s) x us)) ≡ faults.other_form written x us)
-      → place_faults (other_form (tally_from (more_if b (elements_only r s) k at) x us)) ≡ cond (b && not (is_kind k read) && not (is_kind k written)) (WholeAndElements at ∷ []) (faults.other_form written x us)
-  step false k at ih = ih r
-  step true read at ih = ih true
-  step true named at ih = ap place_faults (after_elements r at s x us)
-  step true written at ih = ih r
+    step : (b : Bool) (k : Kind) (at : Span) → ((q : Bool) → place_faults (other_form (tally_from (elements_only q s) x us)) ≡ faults.other_form written x us)
+        → place_faults (other_form (tally_from (more_if b (elements_only r s) k at) x us)) ≡ cond (b && not (is_kind k read) && not (is_kind k written)) (WholeAndElements at ∷ []) (faults.other_form written x us)
+    step false k at ih = ih r
+    step true read at ih = ih true
+    step true named at ih = ap place_faults (after_elements r at s x us)
+    step true written at ih = ih r
 
 both_forms : (r : Bool) (x : Owned) (us : List Use) → place_faults (other_form (tally_from (no_target r) x us)) ≡ form_faults x us
 both_forms r x [] = refl
 both_forms r x (u ∷ us) = step (same u.of x) u.kind u.span (λ q. both_forms q x us)
   where
-  step : (b : Bool) (k : Kind) (at : Span) → ((q : Bool) → place_faults (other_form (tally_from (no_target q) x us)) ≡ form_faults x us)
-      → place_faults (other_form (tally_from (more_if b (no_target r) k at) x us)) ≡ cond (b && not (is_kind k read)) (faults.other_form k x us) (form_faults x us)
-  step false k at ih = ih r
-  step true read at ih = ih true
-  step true named at ih = one_whole r at x us
-  step true written at ih = one_by_elements r at x us
+    step : (b : Bool) (k : Kind) (at : Span) → ((q : Bool) → place_faults (other_form (tally_from (no_target q) x us)) ≡ form_faults x us)
+        → place_faults (other_form (tally_from (more_if b (no_target r) k at) x us)) ≡ cond (b && not (is_kind k read)) (faults.other_form k x us) (form_faults x us)
+    step false k at ih = ih r
+    step true read at ih = ih true
+    step true named at ih = one_whole r at x us
+    step true written at ih = one_by_elements r at x us
 
 -- a variable that counts as assigned whole
 still_written : (t : Tally) (s : Span) (x : Owned) (us : List Use) → t.written ≡ Some s → (tally_from t x us).written ≡ Some s
 still_written t s x [] is = is
 still_written t s x (u ∷ us) is = still_written (more_if (same u.of x) t u.kind u.span) s x us (step (same u.of x) t u.kind u.span is)
   where
-  step : (b : Bool) (t : Tally) (k : Kind) (at : Span) → t.written ≡ Some s → (more_if b t k at).written ≡ Some s
-  step false t k at is = is
-  step true t read at is = is
-  step true t named at is = is
-  step true t written at is = ap (λ o. first_of o at) is
+    step : (b : Bool) (t : Tally) (k : Kind) (at : Span) → t.written ≡ Some s → (more_if b t k at).written ≡ Some s
+    step false t k at is = is
+    step true t read at is = is
+    step true t named at is = is
+    step true t written at is = ap (λ o. first_of o at) is
 
 given_form : (t : Tally) (x : Owned) (us : List Use) → t.written ≡ None → place_faults (tally_from t x us).written ≡ faults.other_form named x us
 given_form t x [] is = ap place_faults is
 given_form t x (u ∷ us) is = step (same u.of x) u.kind u.span (λ t' is'. given_form t' x us is')
   where
-  step : (b : Bool) (k : Kind) (at : Span) → ((t' : Tally) → t'.written ≡ None → place_faults (tally_from t' x us).written ≡ faults.other_form named x us)
-      → place_faults (tally_from (more_if b t k at) x us).written ≡ cond (b && not (is_kind k read) && not (is_kind k named)) (WholeAndElements at ∷ []) (faults.other_form named x us)
-  step false k at ih = ih t is
-  step true read at ih = ih (more t read at) is
-  step true named at ih = ih (more t named at) is
-  step true written at ih = ap place_faults (still_written (more t written at) at x us (ap (λ o. first_of o at) is))
+    step : (b : Bool) (k : Kind) (at : Span) → ((t' : Tally) → t'.written ≡ None → place_faults (tally_from t' x us).written ≡ faults.other_form named x us)
+        → place_faults (tally_from (more_if b t k at) x us).written ≡ cond (b && not (is_kind k read) && not (is_kind k named)) (WholeAndElements at ∷ []) (faults.other_form named x us)
+    step false k at ih = ih t is
+    step true read at ih = ih (more t read at) is
+    step true named at ih = ih (more t named at) is
+    step true written at ih = ap place_faults (still_written (more t written at) at x us (ap (λ o. first_of o at) is))
 
 -- ALL
 
@@ -211,18 +211,18 @@ still_unused : (x : Owned) (us : List Use) → cleared unused x us ≡ unused
 still_unused x [] = refl
 still_unused x (u ∷ us) = ap (λ (t : Tally). cleared t x us) (either (same u.of x)) ∙ still_unused x us
   where
-  either : (b : Bool) → cond b unused unused ≡ unused
-  either true = refl
-  either false = refl
+    either : (b : Bool) → cond b unused unused ≡ unused
+    either true = refl
+    either false = refl
 
 -- a variable that was tallied by these uses
 pub all_cleared : (t : Tally) (x : Owned) (us : List Use) → t ≡ tally_from unused x us → cleared t x us ≡ unused
 all_cleared t x us is = ap (λ (z : Tally). cleared z x us) is ∙ gone x us unused refl
   where
-  gone : (x : Owned) (us : List Use) (t : Tally) → t ≡ unused → cleared (tally_from t x us) x us ≡ unused
-  gone x [] t none = none
-  gone x (u ∷ us) t none = step (same u.of x) u.kind u.span (λ (e : unused ≡ unused). gone x us unused e)
-    where
-    step : (b : Bool) (k : Kind) (at : Span) → (unused ≡ unused → cleared (tally_from unused x us) x us ≡ unused) → cleared (cond b unused (tally_from (more_if b t k at) x us)) x us ≡ unused
-    step true k at ih = still_unused x us
-    step false k at ih = ap (λ (z : Tally). cleared (tally_from z x us) x us) none ∙ ih refl
+    gone : (x : Owned) (us : List Use) (t : Tally) → t ≡ unused → cleared (tally_from t x us) x us ≡ unused
+    gone x [] t none = none
+    gone x (u ∷ us) t none = step (same u.of x) u.kind u.span (λ (e : unused ≡ unused). gone x us unused e)
+      where
+        step : (b : Bool) (k : Kind) (at : Span) → (unused ≡ unused → cleared (tally_from unused x us) x us ≡ unused) → cleared (cond b unused (tally_from (more_if b t k at) x us)) x us ≡ unused
+        step true k at ih = still_unused x us
+        step false k at ih = ap (λ (z : Tally). cleared (tally_from z x us) x us) none ∙ ih refl

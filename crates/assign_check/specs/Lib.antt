@@ -6,3 +6,4 @@ pub mod Breaks
 pub mod View
 pub mod Tables
 pub mod Tallies
+pub mod Places

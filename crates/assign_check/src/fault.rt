@@ -1,5 +1,6 @@
 //! Why a script is not singly assigned.
 ghost use Rattle.std.specs.Prelude.{◌≡◌};
+ghost use Rattle.assign_check.specs.Places.{span_of};
 
 use lexer::token::Span;
 use std::alloc::{AllocError, AllocFailed};
@@ -29,6 +30,23 @@ pub enum AssignFault {
     /// Memory that was asked for was refused.
     #[error("no memory")]
     Memory,
+}
+
+impl AssignFault {
+    /// The place of the broken rule. Want of memory has none.
+    pub fn span(self) -> Option<Span>
+        ensures { result ≡ span_of self }
+    {
+        match self {
+            AssignFault::AssignedTwice(at)
+            | AssignFault::PartlyAssigned(at)
+            | AssignFault::NeverAssigned(at)
+            | AssignFault::OuterInLoop(at)
+            | AssignFault::WholeAndElements(at)
+            | AssignFault::OutputUnassigned(at) => Some(at),
+            AssignFault::Memory => None,
+        }
+    }
 }
 
 impl From<AllocError> for AssignFault {

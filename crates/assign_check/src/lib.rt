@@ -1,17 +1,20 @@
 //! Whether each variable of a script is assigned at most once, and where it has to be.
 #![tactic(auto)]
 
-pub mod fault;
-pub mod laws;
 mod best;
 mod blocks;
-
+pub mod fault;
+pub mod laws;
 mod outline;
 mod parts;
 mod reads;
 mod script;
 mod table;
 mod tally;
+#[cfg(test)]
+mod tests;
+#[cfg(test)]
+mod trees;
 mod walk;
 mod way;
 

@@ -137,13 +137,7 @@ fn note_form(tally: Tally, best: &mut Option<AssignFault>)
 }
 
 /// The faults of a variable that is declared so.
-fn note_variable(
-    role: Role,
-    shape: Shape,
-    at: Span,
-    tally: Tally,
-    best: &mut Option<AssignFault>,
-)
+fn note_variable(role: Role, shape: Shape, at: Span, tally: Tally, best: &mut Option<AssignFault>)
     ensures { best.new ≡ faults.first_among best.old (tallies.tally_faults (role_of role) shape at tally) }
 {
     match role {

@@ -1,4 +1,5 @@
 pub mod Answers
+pub mod Faults
 pub mod Formats
 pub mod Functions
 pub mod View

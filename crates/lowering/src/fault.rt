@@ -16,6 +16,20 @@ pub enum LowerFault {
     Memory,
 }
 
+impl LowerFault {
+    ghost use Rattle.lowering.specs.Faults.{span_of};
+
+    /// The place of the part, in bytes of the text; none where memory was refused.
+    pub fn span(self) -> Option<Span>
+        ensures { result ≡ span_of self }
+    {
+        match self {
+            LowerFault::NotYet(at) => Some(at),
+            LowerFault::Memory => None,
+        }
+    }
+}
+
 impl From<AllocError> for LowerFault {
     ghost use Rattle.lowering.specs.declared.fault.LowerFault.TheVariants.{Memory};
 

@@ -24,41 +24,44 @@ fn span(from: usize, to: usize) -> Span {
     Span { from, to }
 }
 
-fn word(alloc: Global, from: usize, text: &[u8]) -> Made<Name<Global>> {
+/// A name, whose number is where it begins.
+fn word(alloc: Global, from: u32, text: &[u8]) -> Made<Name<Global>> {
+    let start = from as usize;
     Ok(Name {
-        number: 0,
-        span: span(from, from.saturating_add(text.len())),
+        number: from,
+        span: span(start, start.saturating_add(text.len())),
         text: Vec::from_slice(alloc, text)?,
     })
 }
 
-fn expr(from: usize, kind: ExprKind<Global>) -> Expr<Global> {
+fn expr(from: u32, kind: ExprKind<Global>) -> Expr<Global> {
+    let from = from as usize;
     let to = from.saturating_add(1);
     syntax_trees::expr(span(from, to), to, kind)
 }
 
-fn number(from: usize, n: i64) -> Expr<Global> {
+fn number(from: u32, n: i64) -> Expr<Global> {
     expr(from, ExprKind::Number(n))
 }
 
-fn truth(from: usize, b: bool) -> Expr<Global> {
+fn truth(from: u32, b: bool) -> Expr<Global> {
     expr(from, ExprKind::Truth(b))
 }
 
-fn text(alloc: Global, from: usize, bytes: &[u8]) -> Made<Expr<Global>> {
+fn text(alloc: Global, from: u32, bytes: &[u8]) -> Made<Expr<Global>> {
     Ok(expr(from, ExprKind::Text(Vec::from_slice(alloc, bytes)?)))
 }
 
-fn variable(alloc: Global, from: usize, name: &[u8]) -> Made<Expr<Global>> {
+fn variable(alloc: Global, from: u32, name: &[u8]) -> Made<Expr<Global>> {
     Ok(expr(from, ExprKind::Variable(word(alloc, from, name)?)))
 }
 
-fn element(alloc: Global, from: usize, name: &[u8], index: i64) -> Made<Expr<Global>> {
+fn element(alloc: Global, from: u32, name: &[u8], index: i64) -> Made<Expr<Global>> {
     let index = Box::new(alloc, number(from.saturating_add(2), index))?;
     Ok(expr(from, ExprKind::Element(word(alloc, from, name)?, index)))
 }
 
-fn prefixed(alloc: Global, from: usize, prefix: Prefix, one: Expr<Global>) -> Made<Expr<Global>> {
+fn prefixed(alloc: Global, from: u32, prefix: Prefix, one: Expr<Global>) -> Made<Expr<Global>> {
     Ok(expr(from, ExprKind::Prefixed(prefix, Box::new(alloc, one)?)))
 }
 
@@ -67,27 +70,28 @@ fn chain(alloc: Global, operators: &[Operator], operands: Vec<Expr<Global>>) -> 
     Ok(expr(0, ExprKind::Chain(operators, operands)))
 }
 
-fn called(alloc: Global, from: usize, name: &[u8], given: Vec<Expr<Global>>) -> Made<Expr<Global>> {
+fn called(alloc: Global, from: u32, name: &[u8], given: Vec<Expr<Global>>) -> Made<Expr<Global>> {
     Ok(expr(from, ExprKind::Call(word(alloc, from, name)?, given)))
 }
 
-fn call(alloc: Global, from: usize, name: &[u8], given: Vec<Expr<Global>>) -> Made<Call<Global>> {
+fn call(alloc: Global, from: u32, name: &[u8], given: Vec<Expr<Global>>) -> Made<Call<Global>> {
     Ok(Call {
         number: 0,
-        first: span(from, from),
-        to: from,
+        first: span(from as usize, from as usize),
+        to: from as usize,
         name: word(alloc, from, name)?,
         arguments: given,
     })
 }
 
 /// A statement whose first token begins at `from`, and has three bytes.
-fn statement(alloc: Global, from: usize, kind: StmtKind<Global>) -> Made<Item<Global>> {
+fn statement(alloc: Global, from: u32, kind: StmtKind<Global>) -> Made<Item<Global>> {
+    let from = from as usize;
     let to = from.saturating_add(3);
     Ok(Item::Statement(Box::new(alloc, syntax_trees::stmt(span(from, to), to, kind))?))
 }
 
-fn decl(alloc: Global, base: Base, from: usize, name: &[u8], shape: Shape) -> Made<Decl<Global>> {
+fn decl(alloc: Global, base: Base, from: u32, name: &[u8], shape: Shape) -> Made<Decl<Global>> {
     Ok(Decl {
         base,
         name: word(alloc, from, name)?,
@@ -99,7 +103,7 @@ fn value(alloc: Global, expr: Expr<Global>) -> Made<Right<Global>> {
     Ok(Right::Value(Box::new(alloc, expr)?))
 }
 
-fn declare(alloc: Global, base: Base, from: usize, name: &[u8]) -> Made<Item<Global>> {
+fn declare(alloc: Global, base: Base, from: u32, name: &[u8]) -> Made<Item<Global>> {
     let decl = decl(alloc, base, from.saturating_add(4), name, Shape::Scalar)?;
     statement(alloc, from, StmtKind::Declare(decl, None))
 }
@@ -107,7 +111,7 @@ fn declare(alloc: Global, base: Base, from: usize, name: &[u8]) -> Made<Item<Glo
 fn define(
     alloc: Global,
     base: Base,
-    from: usize,
+    from: u32,
     name: &[u8],
     expr: Expr<Global>,
 ) -> Made<Item<Global>> {
@@ -119,7 +123,7 @@ fn define(
     )
 }
 
-fn assign(alloc: Global, from: usize, name: &[u8], expr: Expr<Global>) -> Made<Item<Global>> {
+fn assign(alloc: Global, from: u32, name: &[u8], expr: Expr<Global>) -> Made<Item<Global>> {
     let right = value(alloc, expr)?;
     statement(
         alloc,
@@ -130,7 +134,7 @@ fn assign(alloc: Global, from: usize, name: &[u8], expr: Expr<Global>) -> Made<I
 
 fn assign_all(
     alloc: Global,
-    from: usize,
+    from: u32,
     names: Vec<Name<Global>>,
     called: Call<Global>,
 ) -> Made<Item<Global>> {
@@ -141,7 +145,7 @@ fn assign_all(
     )
 }
 
-fn calls(alloc: Global, from: usize, priority: i32, called: Call<Global>) -> Made<Item<Global>> {
+fn calls(alloc: Global, from: u32, priority: i32, called: Call<Global>) -> Made<Item<Global>> {
     statement(
         alloc,
         from,
@@ -250,9 +254,9 @@ fn described(alloc: Global, flow: &Flow) -> Made<String> {
     Ok(found)
 }
 
-/// What a well typed script is lowered to, once its nodes are numbered.
+/// What a well typed script is lowered to.
 fn lowered(alloc: Global, items: Vec<Item<Global>>) -> Result<String, Fail> {
-    let script = Script { items }.numbered(alloc)?;
+    let script = Script { items };
     let typed = check(alloc, &script)?;
     let flow = lower(alloc, &script, &typed)?;
     Ok(described(alloc, &flow)?)
@@ -284,7 +288,7 @@ fn lowers_declarations_of_each_type(rt: HostRuntime) -> Result<(), Fail> {
     let found = lowered(alloc, items)?;
     assert_eq!(rt;
         found.as_str(),
-        "0: declare #2; 7: declare #4; 7: #4 = text of 2; 24: declare #7; 24: #7 = true; 42: #2 = 3; "
+        "0: declare #4; 7: declare #11; 7: #11 = text of 2; 24: declare #28; 24: #28 = true; 42: #4 = 3; "
     );
     Ok(())
 }
@@ -314,7 +318,7 @@ fn lowers_numbers(rt: HostRuntime) -> Result<(), Fail> {
     let found = lowered(alloc, items)?;
     assert_eq!(rt;
         found.as_str(),
-        "0: declare #2; 0: #2 = plus(times(negate(1), 2), 3); 20: declare #10; 20: #10 = minus(#2, divide(7, 2), remainder(9, 5)); "
+        "0: declare #4; 0: #4 = plus(times(negate(1), 2), 3); 20: declare #24; 20: #24 = minus(#4, divide(7, 2), remainder(9, 5)); "
     );
     Ok(())
 }
@@ -345,13 +349,13 @@ fn lowers_comparisons(rt: HostRuntime) -> Result<(), Fail> {
     for (operator, name) in &comparisons {
         let operands = Vec::from_array(alloc, [number(0, 1), number(0, 2)])?;
         let found = compared(alloc, *operator, operands)?;
-        let wanted = format!(in alloc; "0: declare #2; 0: #2 = {name}(1, 2); ")?;
+        let wanted = format!(in alloc; "0: declare #4; 0: #4 = {name}(1, 2); ")?;
         assert_eq!(rt; found.as_str(), wanted.as_str());
     }
     for (operator, name) in &[(Operator::And, "and"), (Operator::Or, "or")] {
         let operands = Vec::from_array(alloc, [truth(0, true), truth(0, false)])?;
         let found = compared(alloc, *operator, operands)?;
-        let wanted = format!(in alloc; "0: declare #2; 0: #2 = {name}(true, false); ")?;
+        let wanted = format!(in alloc; "0: declare #4; 0: #4 = {name}(true, false); ")?;
         assert_eq!(rt; found.as_str(), wanted.as_str());
     }
     Ok(())
@@ -391,7 +395,7 @@ fn lowers_calls_of_built_in_functions(rt: HostRuntime) -> Result<(), Fail> {
     let found = lowered(alloc, items)?;
     assert_eq!(rt;
         found.as_str(),
-        "0: declare #2; 0: #2 = not(true); 20: declare #6; 20: #6 = join(text of 2, from int(1)); 50: declare #14; 50: #14 = to int(#6); 80: declare #20; 90: #20 = join(#6, #6); "
+        "0: declare #4; 0: #4 = not(true); 20: declare #24; 20: #24 = join(text of 2, from int(1)); 50: declare #54; 50: #54 = to int(#24); 80: declare #84; 90: #84 = join(#24, #24); "
     );
     Ok(())
 }
@@ -425,7 +429,8 @@ fn lowers_lines_and_checks(rt: HostRuntime) -> Result<(), Fail> {
     Ok(())
 }
 
-fn not_yet(from: usize) -> Option<LowerFault> {
+fn not_yet(from: u32) -> Option<LowerFault> {
+    let from = from as usize;
     Some(LowerFault::NotYet(span(from, from.saturating_add(3))))
 }
 
@@ -532,9 +537,10 @@ fn does_not_lower_functions_yet(rt: HostRuntime) -> Result<(), Fail> {
             statement(alloc, 15, StmtKind::Declare(array, None))?,
         ],
     )?;
-    let script = Script { items }.numbered(alloc)?;
+    let script = Script { items };
     let typed = check(alloc, &script)?;
     let found = lower(alloc, &script, &typed).err();
     assert_eq!(rt; found, Some(LowerFault::NotYet(span(7, 8))));
+    assert_eq!(rt; LowerFault::NotYet(span(7, 8)).span(), Some(span(7, 8)));
     Ok(())
 }

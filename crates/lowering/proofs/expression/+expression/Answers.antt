@@ -1,12 +1,13 @@
 use Rattle.std.proofs.Common.{arith, ◌+◌, Some, IfOk, map, drop, ap, sym, subst, ◌∙◌}
-use Rattle.std.specs.Prelude.{option_map}
+use Rattle.std.specs.Prelude.{option_map, Option, ◌&&◌}
 use Rattle.std.proofs.lemmas.Result.{IfOk-weaker}
-use Rattle.syntax_trees.specs.View.{expression_view, form_view}
+use Rattle.syntax_trees.specs.View.{word_of, expression_view, form_view}
 use Rattle.syntax_trees.specs.Tree as pure
 use Rattle.syntax_trees.specs.Resolved as rules
 use Rattle.syntax_trees.proofs.Views.{view-Call, view-Chain}
 use Rattle.values.specs.Operators.{Operation}
 use Rattle.types.specs.Typed.{table_of}
+use Rattle.flow.specs.declared.expr.Expr.{Expr}
 use Rattle.flow.specs.View.{expr_view}
 use Rattle.agreement.specs.OfScalars as scalars
 use Rattle.lowering.specs.Answers.{Finds}
@@ -17,9 +18,15 @@ use Rattle.lowering.proofs.expression.+expression.Goals as goal
 pub form-returns-in-Call : goal.form-returns-in-Call
 form-returns-in-Call g t c =
     let table = table_of c.args.typed.now in
-    let P : pure.Form → Type 0 = λ f. IfOk c.call.result (λ x. Finds found.formed x (scalars.is_scalar_form table f) (rules.form_in table f)) in
+    let es = pure.expressions_of (map (expression_view {A = g.row.A.Denot}) c.in-Call.arguments.items) in
+    let f = pure.call (word_of c.in-Call.name) es in
+    let called = table.callee_of c.in-Call.name.number in
+    let P : pure.Form → Type 0 = λ k. IfOk c.call.result (λ x. Finds found.formed x (scalars.is_scalar_form table k) (rules.form_in table k)) in
+    let told : Option Expr → Type 0 = λ x. (passed : rules.Arguments)
+    → Finds found.formed x (scalars.is_of_scalars called && scalars.are_scalar_expressions table es) (rules.call_form table (word_of c.in-Call.name) called es passed (rules.operands_of table es)) in
+    let wanted : Option Expr → Type 0 = λ x. Finds found.formed x (scalars.is_scalar_form table f) (rules.form_in table f) in
     subst P (sym (ap form_view c.in-Call.is ∙ view-Call c.in-Call.name c.in-Call.arguments))
-    (IfOk-weaker c.call.result _ _ (λ x is. is (rules.arguments_of table (pure.expressions_of (map (expression_view {A = g.row.A.Denot}) c.in-Call.arguments.items)))) c.call.ensures)
+    (IfOk-weaker c.call.result told wanted (λ x is. is (rules.arguments_of table es)) c.call.ensures)
 
 pub form-returns-in_ok-operation-in-Chain : goal.form-returns-in_ok-operation-in-Chain
 form-returns-in_ok-operation-in-Chain g t c =

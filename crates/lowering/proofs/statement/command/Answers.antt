@@ -34,8 +34,9 @@ returns g c =
     let after = stmts_of c.add.new.statements.items in
     let P : pure.Command → Type 0 = λ f. IfOk c.add.result (λ done. Adds before done after (scalars.is_scalar_command t f) (rules.with_command t (node_at c.args.place) f)) in
     let R : Bool → core.Action → Type 0 = λ test wanted. IfOk c.add.result (λ done. Adds before done after test (stmts (stmt c.args.place.at c.args.place.node wanted))) in
+    let told : Bool → Type 0 = λ done. (test : Bool) (wanted : core.Action) → Finds action_view c.match-kind.action test wanted → Adds before done after test (stmts (stmt c.args.place.at c.args.place.node wanted)) in
     let given : (test : Bool) (wanted : core.Action) (o : Option Action) → c.match-kind.action ≡ o → Finds action_view o test wanted → R test wanted =
-    λ test wanted o is finds. IfOk-weaker c.add.result _ _ (λ done adds. adds test wanted (subst (λ a. Finds action_view a test wanted) (sym is) finds)) c.add.ensures in
+    λ test wanted o is finds. IfOk-weaker c.add.result told (λ done. Adds before done after test (stmts (stmt c.args.place.at c.args.place.node wanted))) (λ done adds. adds test wanted (subst (λ a. Finds action_view a test wanted) (sym is) finds)) c.add.ensures in
     elim c.match-kind.branch [
       | in-Assign+in_ok-action-in-Assign w ↦
           let name = word_of {A = g.row.A.Denot} w.in-Assign.name in
