@@ -19,7 +19,7 @@ use Rattle.agreement.specs.Headline.{Headline}
 use Rattle.agreement.specs.OfScalars.{first_other}
 use Rattle.agreement.specs.Scalars.{IsScalars}
 use Rattle.types.specs.declared.fault.TypeFault.{TypeFault}
-use Rattle.types.specs.declared.fault.TypeFault.TheVariants as Type
+use Rattle.types.specs.declared.fault.TypeFault.TheVariants as Typing
 use Rattle.types.specs.Outcomes.{refused}
 use Rattle.types.specs.Scripts.{checked}
 use Rattle.assign_check.specs.declared.fault.AssignFault.{AssignFault}
@@ -82,7 +82,7 @@ pub record IsNotYet (src : List ℕ) (at : Span) : Type 0 where
   pub other : first_other table tree ≡ Some at
 
 abbrev pub IsRefusedByTypes : List ℕ → TypeFault → Type 0
-IsRefusedByTypes src Type.Memory = IsRead src
+IsRefusedByTypes src Typing.Memory = IsRead src
 IsRefusedByTypes src f = IsIllTyped src f
 
 abbrev pub IsRefusedByAssignments : List ℕ → AssignFault → Type 0
