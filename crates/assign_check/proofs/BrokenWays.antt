@@ -1,6 +1,6 @@
 -- A fault on a way names a rule that is broken at its place.
 use Rattle.std.proofs.Common.{◌≡◌, ◌⊎◌, inl, inr, ℕ, suc, ◌+◌, ◌≤◌, Bool, true, false, List, [], ◌∷◌, ◌++◌, refl, sym, ap, ◌∙◌, subst, arith}
-use Rattle.std.specs.Prelude.{not, ◌&&◌, ◌||◌, cond, Option, Some, None, nat_eq}
+use Rattle.std.specs.Prelude.{not, ◌||◌, cond, Option, Some, None, nat_eq}
 use Rattle.std.specs.List.{list_any}
 use Rattle.std.proofs.lemmas.Bool.{eq-eqb}
 use Rattle.lexer.specs.declared.token.Span.{Span}
@@ -12,9 +12,9 @@ use Rattle.assign_check.specs.declared.fault.AssignFault.TheVariants.{AssignedTw
 use Rattle.assign_check.specs.Outline.{Kind, named, written, read, Use, Role, own, result, given, Declared, Outline, nothing, followed, Step, declares, uses, splits, repeats, encloses}
 use Rattle.assign_check.specs.Faults.{same, is_before, is_outer, is_among, times, named_by, given_by, way, step_way, target_faults, is_uneven, branch_faults, way_faults, step_faults, uses_in, uses_at, declared_in, declared_at}
 use Rattle.assign_check.specs.Through.{first_step, BlockIn, the_block, in_a_step, BlockOf, in_first, in_other, in_loop, in_wait, Within, OnWay, at_end, and_then, OnStep, a_declaration, a_target, of_another, no_name, first_branch, a_loop, a_wait, Reaches, at_a_step, behind_a_step, ReachesIn, the_use, in_its_first, in_its_other, in_its_body, in_its_block}
-use Rattle.assign_check.specs.Breaks.{IsTwice, IsPartly, IsOuter, BreaksIn}
-use Rattle.assign_check.proofs.Scoped.{Seen, seen, ScopedBody, behind_parameters, a_parameter}
-use Rattle.assign_check.proofs.Counts.{same_is, times_append, among_counts}
+use Rattle.assign_check.specs.Breaks.{IsPartly, IsOuter, BreaksIn}
+use Rattle.assign_check.proofs.Scoped.{Seen, ScopedBody, behind_parameters, a_parameter}
+use Rattle.assign_check.proofs.Counts.{times_append, among_counts}
 use Rattle.assign_check.proofs.Visible.{before_up, Among, AllBefore, among_on, Placed, placed, rises, placed_end, placed_on, StepPlaced, placed_declaration, placed_use, placed_split, placed_loop, placed_wait, stand_among, NoLocals, no_locals, no_locals_more}
 use Rattle.assign_check.proofs.Ways.{named_other, given_other, no_target, kind_named, owned_is, apart_other, in_given, way_counts, way_stands}
 use Rattle.assign_check.proofs.Faultless.{within_later}

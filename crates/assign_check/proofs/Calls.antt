@@ -6,7 +6,7 @@ use Rattle.values.specs.Operators as op
 use Rattle.syntax_trees.specs.declared.tree.Base.{Base}
 use Rattle.syntax_trees.specs.declared.tree.Shape.{Shape}
 use Rattle.syntax_trees.specs.declared.tree.Shape.TheVariants.{Scalar, Array}
-use Rattle.syntax_trees.specs.Core.{Owned, Name, Awaited, scalar, array, Stmt, Action, assign, print, assert, range, wait, Block}
+use Rattle.syntax_trees.specs.Core.{Owned, Name, Awaited, scalar, Stmt, Action, assign, print, assert, wait, Block}
 use Rattle.syntax_trees.specs.Members.{◌∈◌, first, later}
 use Rattle.syntax_trees.specs.Numbers.{expression_numbers, expressions_numbers, over_numbers, option_numbers}
 use Rattle.syntax_trees.specs.Parts.{outer_parts, by_name, by_element}

@@ -1,5 +1,5 @@
 -- The three claims that the law of single assignment is put together from.
-use Rattle.std.specs.Prelude.{◌≡◌, ℕ, [], List}
+use Rattle.std.specs.Prelude.{◌≡◌, ℕ, []}
 use Rattle.syntax_trees.specs.Members.{◌∈◌}
 use Rattle.syntax_trees.specs.Numbered.{numbered}
 use Rattle.syntax_trees.specs.Resolved.{core}

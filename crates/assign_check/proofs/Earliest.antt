@@ -1,8 +1,7 @@
 -- The fault that is answered is a fault, and none precedes it.
-use Rattle.std.proofs.Common.{◌≡◌, ◌⊎◌, inl, inr, ℕ, ◌+◌, ◌<◌, ◌≤◌, Bool, true, false, List, [], ◌∷◌, ◌++◌, refl, sym, ap, ◌∙◌, subst, arith}
+use Rattle.std.proofs.Common.{◌≡◌, ◌⊎◌, inl, inr, ℕ, ◌<◌, ◌≤◌, Bool, true, false, List, [], ◌∷◌, refl, sym, ◌∙◌, subst, arith}
 use Rattle.std.specs.Prelude.{nat_lt, nat_eq, cond, Option, Some, None}
-use Rattle.std.proofs.lemmas.Bool.{ltb-true, lt-ltb, eqb-true, eq-eqb}
-use Rattle.std.specs.List.{flat_map}
+use Rattle.std.proofs.lemmas.Bool.{ltb-true, eqb-true}
 use Rattle.syntax_trees.specs.Members.{◌∈◌, first, later}
 use Rattle.assign_check.specs.declared.fault.AssignFault.{AssignFault}
 use Rattle.assign_check.specs.Faults.{place, code, precedes, earlier, first_among, first_fault}
@@ -89,6 +88,7 @@ answered (g ∷ gs) None f is =
     by : (Some g ≡ Some f) ⊎ (f ∈ gs) → f ∈ (g ∷ gs)
     by (inl same) = subst (λ x. x ∈ (g ∷ gs)) (same_fault g f same) first
     by (inr there) = later there
+
     all : Answered (Some g) gs f → (h : AssignFault) → h ∈ (g ∷ gs) → precedes h f ≡ false
     all rest h first = rest.and_of_best h refl
     all rest h (later there) = rest.first_of_all h there
@@ -100,8 +100,10 @@ answered (g ∷ gs) (Some b) f is = by (precedes g b) refl (answered gs (earlier
         which : (Some g ≡ Some f) ⊎ (f ∈ gs) → f ∈ (g ∷ gs)
         which (inl same) = subst (λ x. x ∈ (g ∷ gs)) (same_fault g f same) first
         which (inr there) = later there
+
         of_best : precedes b f ≡ false
         of_best = not_on f g b (rest.and_of_best g refl) (not_back g b less)
+
         all : (h : AssignFault) → h ∈ (g ∷ gs) → precedes h f ≡ false
         all h first = rest.and_of_best h refl
         all h (later there) = rest.first_of_all h there
@@ -110,6 +112,7 @@ answered (g ∷ gs) (Some b) f is = by (precedes g b) refl (answered gs (earlier
         which : (Some b ≡ Some f) ⊎ (f ∈ gs) → (Some b ≡ Some f) ⊎ (f ∈ (g ∷ gs))
         which (inl same) = inl same
         which (inr there) = inr (later there)
+
         all : (h : AssignFault) → h ∈ (g ∷ gs) → precedes h f ≡ false
         all h first = not_on f b g (rest.and_of_best b refl) less
         all h (later there) = rest.first_of_all h there

@@ -8,8 +8,8 @@ use Rattle.syntax_trees.specs.Table.{Table}
 use Rattle.syntax_trees.specs.Tree.{Part, import, function, single}
 use Rattle.assign_check.specs.declared.fault.AssignFault.{AssignFault}
 use Rattle.assign_check.specs.declared.tally.Tally.{Tally}
-use Rattle.assign_check.specs.Outline.{Outline, outlined, Use, Declared, function_outlines, function_steps}
-use Rattle.assign_check.specs.Faults.{precedes, earlier, first_among, way_faults, uses_in, declared_in, variable_faults, faults_of}
+use Rattle.assign_check.specs.Outline.{Outline, Step, outlined, Use, Declared, function_outlines, function_steps}
+use Rattle.assign_check.specs.Faults.{precedes, first_among, way_faults, uses_in, declared_in, variable_faults, faults_of}
 use Rattle.assign_check.specs.Tallies.{unused, tally_from, tally_faults}
 use Rattle.assign_check.proofs.Answered.{first_among-append}
 use Rattle.assign_check.proofs.Tallied.{all_tallied}
@@ -57,3 +57,10 @@ pub one_part : (t : Table) (p : Part) (ps : List Part) → part_faults t (p ∷ 
 one_part t (import sp) ps = refl
 one_part t (single s) ps = refl
 one_part t (function f) ps = ap (λ (z : List AssignFault). z ++ part_faults t ps) (sym (append-nil (faults_of (outlined (function_steps t f)))))
+
+-- behind the script's own block
+pub own_first : (read steps : List Step) (rest : List AssignFault) (b : Option AssignFault) → read ≡ steps → b ≡ first_among None (faults_of (outlined read))
+    → first_among None (faults_of (outlined steps) ++ rest) ≡ first_among b rest
+own_first read steps rest b same is =
+    first_among-append None (faults_of (outlined steps)) rest
+    ∙ ap (λ (z : Option AssignFault). first_among z rest) (sym (is ∙ ap (λ (ss : List Step). first_among None (faults_of (outlined ss))) same))

@@ -14,7 +14,7 @@ use Rattle.syntax_trees.specs.Resolved.{Formed, Operands, Arguments, as_cell, as
 use Rattle.syntax_trees.specs.Scopes.{Typ, Scope, Signature}
 use Rattle.syntax_trees.specs.Single.{Reads, the_name, an_operand, ReadsSome, the_first, a_later}
 use Rattle.syntax_trees.specs.Table.{Table, Builtin, Callee, composite, built_in}
-use Rattle.syntax_trees.specs.Tree.{Word, Node, Expression, expression, number, variable, Expressions, no_expressions, and_expression}
+use Rattle.syntax_trees.specs.Tree.{Word, Node, Expression, expression, variable, Expressions, no_expressions, and_expression}
 use Rattle.syntax_trees.specs.Typing.{HasType, of_number, of_text, of_truth, of_variable, of_element, of_prefixed, of_chain, of_call, of_builtin, RestType, last_operand, next_operand, ArgumentTypes, no_argument, scalar_argument, array_argument, BuiltinType, of_strcat, of_fromint, of_toint, of_size, AllHaveType, none_left, one_more, wanted}
 use Rattle.syntax_trees.proofs.Members.{split_in, to_left, to_right, either}
 use Rattle.assign_check.specs.Outline as outline

@@ -5,7 +5,7 @@ use Rattle.syntax_trees.specs.declared.tree.Shape.{Shape}
 use Rattle.syntax_trees.specs.declared.tree.Shape.TheVariants.{Array}
 use Rattle.syntax_trees.specs.Core.{Owned, local}
 use Rattle.syntax_trees.specs.Members.{◌∈◌}
-use Rattle.assign_check.specs.Outline.{Kind, read, Use, Role, own, result, given, Declared, Outline, nothing, followed, Step, declares, uses, splits, repeats, encloses}
+use Rattle.assign_check.specs.Outline.{read, Use, own, result, Declared, Outline, nothing, followed, declares, uses, splits, repeats, encloses}
 
 -- a variable that is visible here: what it is, and whether it is a scalar or an array
 pub record Seen : Type 0 where

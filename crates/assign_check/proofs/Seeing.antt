@@ -1,6 +1,6 @@
 -- The uses of well typed expressions, right sides and calls are of visible variables.
-use Rattle.std.proofs.Common.{◌≡◌, ℕ, List, [], ◌∷◌, ◌++◌, refl, sym, ap, ◌∙◌, subst}
-use Rattle.std.specs.Prelude.{map, Option, Some, None}
+use Rattle.std.proofs.Common.{◌≡◌, ℕ, List, [], ◌∷◌, ◌++◌, refl, sym, ap, ◌∙◌}
+use Rattle.std.specs.Prelude.{map, Option}
 use Rattle.syntax_trees.specs.declared.tree.Base.{Base}
 use Rattle.syntax_trees.specs.declared.tree.Operator.{Operator}
 use Rattle.syntax_trees.specs.declared.tree.Shape.{Shape}
@@ -11,7 +11,7 @@ use Rattle.syntax_trees.specs.Tree.{Word, Expression, Expressions, expressions_o
 use Rattle.syntax_trees.specs.Scopes.{Typ, one_of, many_of, Visible, Scope, deeper, Signature, Refers}
 use Rattle.syntax_trees.specs.Typing as rules
 use Rattle.syntax_trees.specs.Typing.{HasType, RestType, ArgumentTypes, BuiltinType, AllHaveType, RightType, ReferAll, StepType, SourceType, CallTyped}
-use Rattle.assign_check.specs.Outline.{Kind, named, written, read, Use, Outline, nothing, followed, Step, declares, uses, splits, repeats, encloses, outlined, use_of, reading, name_read, read_in, read_all, read_right, read_step, read_over, read_names}
+use Rattle.assign_check.specs.Outline.{Kind, named, written, read, Use, followed, Step, uses, outlined, use_of, reading, name_read, read_in, read_all, read_right, read_step, read_over, read_names}
 use Rattle.assign_check.proofs.Scoped.{Seen, Sees, Scoped, scoped_use}
 
 -- a variable of the typing rules, as it is seen here

@@ -3,7 +3,7 @@ use Rattle.std.specs.Prelude.{◌≡◌, ◌⊎◌, ℕ, ◌≤◌}
 use Rattle.lexer.specs.declared.token.Span.{Span}
 use Rattle.syntax_trees.specs.Core.{Owned}
 use Rattle.syntax_trees.specs.Members.{◌∈◌}
-use Rattle.assign_check.specs.Outline.{Kind, named, written, read, Use, Role, result, given, Declared, Outline, declares, splits, repeats}
+use Rattle.assign_check.specs.Outline.{Kind, named, written, read, Use, result, given, Declared, Outline, declares, splits, repeats}
 use Rattle.assign_check.specs.Through.{HasStep, BlockIn, Within, OnWay}
 use Rattle.assign_check.specs.Faults.{uses_in}
 

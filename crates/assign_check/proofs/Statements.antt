@@ -6,7 +6,7 @@ use Rattle.values.specs.Operators as op
 use Rattle.syntax_trees.specs.declared.tree.Base.{Base}
 use Rattle.syntax_trees.specs.declared.tree.Shape.{Shape}
 use Rattle.syntax_trees.specs.declared.tree.Shape.TheVariants.{Scalar}
-use Rattle.syntax_trees.specs.Core.{Owned, Name, whole, compute, read, Call, Part, inner, calls, Outer, scalar, Stmt, stmt, Action, call_alone, assign, fill, wait}
+use Rattle.syntax_trees.specs.Core.{Owned, Name, whole, compute, Call, Part, inner, calls, Outer, scalar, Stmt, stmt, Action, call_alone, assign, fill, wait}
 use Rattle.syntax_trees.specs.Members.{◌∈◌, first, later}
 use Rattle.syntax_trees.specs.Numbers.{expression_numbers, expressions_numbers, right_numbers}
 use Rattle.syntax_trees.specs.Parts.{outer_parts, parts, by_name, by_element}

@@ -1,25 +1,25 @@
 -- The outlines of a well typed script with numbers in reading order are scoped.
-use Rattle.std.proofs.Common.{◌≡◌, ℕ, ◌+◌, ◌<◌, ◌≤◌, List, [], ◌∷◌, ◌++◌, refl, sym, ap, ap₂, ◌∙◌, subst, arith}
+use Rattle.std.proofs.Common.{◌≡◌, ℕ, ◌+◌, ◌≤◌, List, [], ◌∷◌, ◌++◌, refl, sym, ap₂, ◌∙◌, subst, arith}
 use Rattle.std.specs.Prelude.{suc, map, Option, Some, None, option_map, sum_by}
 use Rattle.std.proofs.lemmas.List.{append_assoc}
 use Rattle.lexer.specs.declared.token.Span.{Span}
 use Rattle.syntax_trees.specs.declared.tree.Base.{Base}
 use Rattle.syntax_trees.specs.declared.tree.Base.TheVariants.{Int, Boolean}
 use Rattle.syntax_trees.specs.declared.tree.Shape.{Shape}
-use Rattle.syntax_trees.specs.declared.tree.Shape.TheVariants.{Scalar, Array}
+use Rattle.syntax_trees.specs.declared.tree.Shape.TheVariants.{Scalar}
 use Rattle.syntax_trees.specs.Core.{Owned, local, input, output}
 use Rattle.syntax_trees.specs.Members.{◌∈◌, first, later}
 use Rattle.syntax_trees.specs.Table.{Table}
-use Rattle.syntax_trees.specs.Tree.{Word, Node, Declaration, Expression, expressions_of, RightSide, Calling, Over, Statement, statement, Command, declare, assign, write, assign_all, calls, choice, choice_else, loop, waits, Body, body, Statements, no_statements, and_statement, Composite, Part, import, function, single, Tree}
-use Rattle.syntax_trees.specs.Numbered.{expression_size, expressions_size, word_size, right_size, calling_size, option_size, over_size, statement_size, command_size, body_size, statements_size, composite_size, part_size, tree_size, declaration_size, numbered_word, numbered_node, numbered_each, numbered_expression, numbered_declaration, numbered_right, numbered_calling, numbered_over, numbered_statement, numbered_command, numbered_body, numbered_statements, numbered_composite, numbered_part, numbered}
-use Rattle.syntax_trees.specs.Scopes.{Typ, one_of, many_of, declared_type, Visible, Scope, deeper, own, Signature, signatures, Refers}
+use Rattle.syntax_trees.specs.Tree.{Word, Node, Declaration, expressions_of, Calling, Statement, statement, declare, assign, write, assign_all, calls, choice, choice_else, loop, waits, Body, body, Statements, no_statements, and_statement, Composite, import, function, single, Tree}
+use Rattle.syntax_trees.specs.Numbered.{expression_size, word_size, option_size, over_size, statement_size, body_size, statements_size, composite_size, part_size, declaration_size, numbered_word, numbered_node, numbered_each, numbered_expression, numbered_declaration, numbered_right, numbered_calling, numbered_over, numbered_statement, numbered_body, numbered_statements, numbered_composite, numbered}
+use Rattle.syntax_trees.specs.Scopes.{one_of, many_of, declared_type, Visible, Scope, deeper, own, Signature, signatures}
 use Rattle.syntax_trees.specs.Typing as rules
 use Rattle.syntax_trees.specs.Typing.{Declares, LoopScope, StatementTyped, StatementsTyped, BodyTyped, Parameters, FunctionTyped, PartsTyped, WellTyped}
 use Rattle.assign_check.specs.Outline as outline
 use Rattle.assign_check.specs.Outline.{Kind, named, written, read, Use, Role, result, given, Declared, Outline, nothing, followed, Step, declares, uses, splits, repeats, encloses, outlined, use_of, read_in, read_all, read_right, read_over, read_names, read_calling, declared_as, declaration_steps, loop_variable, key_variable, steps_of, command_steps, body_steps, all_steps, parameters, function_steps, script_steps, function_outlines, outlines}
 use Rattle.assign_check.proofs.Scoped.{Seen, Sees, seen, Scoped, scoped_end, scoped_declaration, scoped_use, scoped_split, scoped_loop, scoped_wait, IsLocal, ScopedBody, behind_parameters, a_parameter, IsScoped}
 use Rattle.assign_check.proofs.Claims.{AllScoped}
-use Rattle.assign_check.proofs.Seeing.{Knows, knows_none, knows_one, knows_deeper, knows_more, Seeing, sees_none, sees_one, seeing_both, behind_uses, behind_uses_and, sees_named, sees_written, sees_all_named, names_seen, expression_seen, arguments_seen, builtin_seen, right_seen, source_seen, call_seen}
+use Rattle.assign_check.proofs.Seeing.{Knows, knows_none, knows_one, knows_deeper, knows_more, Seeing, seeing_both, behind_uses, behind_uses_and, sees_named, sees_written, sees_all_named, names_seen, expression_seen, arguments_seen, builtin_seen, right_seen, source_seen, call_seen}
 
 -- numbers may begin earlier
 pub scoped_from : (vs : List Seen) (from n to : ℕ) (o : Outline) → from ≤ n → Scoped vs n o to → Scoped vs from o to
@@ -76,13 +76,13 @@ loop_scoped : (t : Table) (n m : ℕ) (v : Word) (k : Option Word) (g h : Scope)
 loop_scoped t n m v None g h b ys to vs knows (rules.value_only (rules.fresh free)) less behind =
     scoped_declaration {d = loop_declared n v} refl given_is_no_result (omega arith)
     (scoped_from (seen (loop_declared n v) ∷ vs) (suc n) m to (outlined ys) (omega arith)
-      (behind (seen (loop_declared n v) ∷ vs) (declared_known vs (deeper g) (own (numbered_word n v) (one_of b)) (loop_declared n v) refl refl (knows_deeper vs g knows))))
+    (behind (seen (loop_declared n v) ∷ vs) (declared_known vs (deeper g) (own (numbered_word n v) (one_of b)) (loop_declared n v) refl refl (knows_deeper vs g knows))))
 loop_scoped t n m v (Some k) g h b ys to vs knows (rules.with_key (rules.fresh free) (rules.fresh other)) less behind =
     let one = declared_known vs (deeper g) (own (numbered_word n v) (one_of b)) (loop_declared n v) refl refl (knows_deeper vs g knows) in
     let two = declared_known (seen (loop_declared n v) ∷ vs) (own (numbered_word n v) (one_of b) ∷ deeper g) (own (numbered_word (n + 1) k) (one_of Int)) (loop_declared (n + 1) k) refl refl one in
     scoped_declaration {d = loop_declared n v} refl given_is_no_result (omega arith)
     (scoped_declaration {d = loop_declared (n + 1) k} refl given_is_no_result (omega arith)
-      (scoped_from (seen (loop_declared (n + 1) k) ∷ seen (loop_declared n v) ∷ vs) (suc (n + 1)) m to (outlined ys) (omega arith) (behind (seen (loop_declared (n + 1) k) ∷ seen (loop_declared n v) ∷ vs) two)))
+    (scoped_from (seen (loop_declared (n + 1) k) ∷ seen (loop_declared n v) ∷ vs) (suc (n + 1)) m to (outlined ys) (omega arith) (behind (seen (loop_declared (n + 1) k) ∷ seen (loop_declared n v) ∷ vs) two)))
 
 -- names and a call, and the scope that is left
 several_seen : (vs : List Seen) (fs : List Signature) (t : Table) (nd : Node) (ws : List Word) (c : Calling) (g h : Scope) → Knows vs g → StatementTyped fs t g (statement nd (assign_all ws c)) h
@@ -110,23 +110,23 @@ mutual
   statement_scoped fs t n (statement nd (declare d None)) g h ys to vs knows (rules.declaration (rules.fresh free)) behind =
       scoped_declaration {d = declared_by (n + 1) d} refl own_is_no_result (omega arith)
       (scoped_from (seen (declared_by (n + 1) d) ∷ vs) (suc (n + 1)) (n + statement_size (statement nd (declare d None))) to (outlined ys) (omega arith)
-        (behind (seen (declared_by (n + 1) d) ∷ vs) (declared_known vs g (own (numbered_word (n + 1) d.name) (declared_type d)) (declared_by (n + 1) d) refl refl knows)))
+      (behind (seen (declared_by (n + 1) d) ∷ vs) (declared_known vs g (own (numbered_word (n + 1) d.name) (declared_type d)) (declared_by (n + 1) d) refl refl knows)))
   statement_scoped fs t n (statement nd (declare d (Some r))) g h ys to vs knows (rules.definition (rules.fresh free) typed) behind =
       let here = declared_known vs g (own (numbered_word (n + 1) d.name) (declared_type d)) (declared_by (n + 1) d) refl refl knows in
       scoped_declaration {d = declared_by (n + 1) d} refl own_is_no_result (omega arith)
       (scoped_use (own_target vs (declared_by (n + 1) d) d.name.span)
-        (leaf (seen (declared_by (n + 1) d) ∷ vs) h (suc (n + 1)) (n + statement_size (statement nd (declare d (Some r)))) to (read_right t (numbered_right (n + 1 + 1) r)) ys here
-          (right_seen (seen (declared_by (n + 1) d) ∷ vs) fs t h (numbered_right (n + 1 + 1) r) (declared_type d) here typed) (omega arith) behind))
+      (leaf (seen (declared_by (n + 1) d) ∷ vs) h (suc (n + 1)) (n + statement_size (statement nd (declare d (Some r)))) to (read_right t (numbered_right (n + 1 + 1) r)) ys here
+      (right_seen (seen (declared_by (n + 1) d) ∷ vs) fs t h (numbered_right (n + 1 + 1) r) (declared_type d) here typed) (omega arith) behind))
   statement_scoped fs t n (statement nd (assign w r)) g h ys to vs knows (rules.assignment {τ = τ} refers typed) behind =
       leaf vs g n (n + statement_size (statement nd (assign w r))) to (use_of t named (numbered_word (n + 1) w) ∷ read_right t (numbered_right (n + 1 + 1) r)) ys knows
       (seeing_both vs (use_of t named (numbered_word (n + 1) w) ∷ []) (read_right t (numbered_right (n + 1 + 1) r)) (sees_named vs g t (numbered_word (n + 1) w) τ knows refers)
-        (right_seen vs fs t g (numbered_right (n + 1 + 1) r) τ knows typed)) (omega arith) behind
+      (right_seen vs fs t g (numbered_right (n + 1 + 1) r) τ knows typed)) (omega arith) behind
   statement_scoped fs t n (statement nd (write w i e)) g h ys to vs knows (rules.element_write {b = b} refers index right) behind =
       let is = numbered_expression (n + 1 + 1) i in
       let es = numbered_expression (n + 1 + 1 + expression_size i) e in
       leaf vs g n (n + statement_size (statement nd (write w i e))) to (use_of t written (numbered_word (n + 1) w) ∷ (read_in t is ++ read_in t es)) ys knows
       (seeing_both vs (use_of t written (numbered_word (n + 1) w) ∷ []) (read_in t is ++ read_in t es) (sees_written vs g t (numbered_word (n + 1) w) (many_of b) knows refers)
-        (seeing_both vs (read_in t is) (read_in t es) (expression_seen vs fs t g is Int knows index) (expression_seen vs fs t g es b knows right))) (omega arith) behind
+      (seeing_both vs (read_in t is) (read_in t es) (expression_seen vs fs t g is Int knows index) (expression_seen vs fs t g es b knows right))) (omega arith) behind
   statement_scoped fs t n (statement nd (assign_all ws c)) g h ys to vs knows typed behind =
       let us = numbered_each numbered_word word_size (n + 1) ws in
       let d = numbered_calling (n + 1 + sum_by word_size ws) c in
@@ -141,18 +141,18 @@ mutual
       behind_uses_and vs n to (read_in t (numbered_expression (n + 1) e)) ys (splits n nd.first (outlined (body_steps t (numbered_body m b))) nothing)
       (expression_seen vs fs t g (numbered_expression (n + 1) e) Boolean knows condition)
       (scoped_split {m = m + body_size b} {k = m + body_size b} (omega arith)
-        (scoped_from vs (suc n) m (m + body_size b) (outlined (body_steps t (numbered_body m b))) (omega arith) (body_scoped fs t m b (deeper g) vs (knows_deeper vs g knows) typed))
-        (scoped_end (omega arith))
-        (scoped_from vs (m + body_size b) (n + statement_size (statement nd (choice e b))) to (outlined ys) (omega arith) (behind vs knows)))
+      (scoped_from vs (suc n) m (m + body_size b) (outlined (body_steps t (numbered_body m b))) (omega arith) (body_scoped fs t m b (deeper g) vs (knows_deeper vs g knows) typed))
+      (scoped_end (omega arith))
+      (scoped_from vs (m + body_size b) (n + statement_size (statement nd (choice e b))) to (outlined ys) (omega arith) (behind vs knows)))
   statement_scoped fs t n (statement nd (choice_else e b d)) g h ys to vs knows (rules.if_else_statement condition typed other) behind =
       let m = n + 1 + expression_size e in
       let k = m + body_size b in
       behind_uses_and vs n to (read_in t (numbered_expression (n + 1) e)) ys (splits n nd.first (outlined (body_steps t (numbered_body m b))) (outlined (body_steps t (numbered_body k d))))
       (expression_seen vs fs t g (numbered_expression (n + 1) e) Boolean knows condition)
       (scoped_split {m = k} {k = k + body_size d} (omega arith)
-        (scoped_from vs (suc n) m k (outlined (body_steps t (numbered_body m b))) (omega arith) (body_scoped fs t m b (deeper g) vs (knows_deeper vs g knows) typed))
-        (body_scoped fs t k d (deeper g) vs (knows_deeper vs g knows) other)
-        (scoped_from vs (k + body_size d) (n + statement_size (statement nd (choice_else e b d))) to (outlined ys) (omega arith) (behind vs knows)))
+      (scoped_from vs (suc n) m k (outlined (body_steps t (numbered_body m b))) (omega arith) (body_scoped fs t m b (deeper g) vs (knows_deeper vs g knows) typed))
+      (body_scoped fs t k d (deeper g) vs (knows_deeper vs g knows) other)
+      (scoped_from vs (k + body_size d) (n + statement_size (statement nd (choice_else e b d))) to (outlined ys) (omega arith) (behind vs knows)))
   statement_scoped fs t n (statement nd (loop v k o b)) g h ys to vs knows (rules.loop_statement {h = inner} {β = β} source scope typed) behind =
       let p = n + 1 + 1 + option_size word_size k in
       let m = p + over_size o in
@@ -160,16 +160,16 @@ mutual
       behind_uses_and vs n to (read_over t (numbered_over p o)) ys (repeats n (outlined (loop_variable (numbered_word (n + 1) v) ∷ (key_variable (option_map (numbered_word (n + 1 + 1)) k) ++ bs))))
       (source_seen vs fs t g (numbered_over p o) β knows source)
       (scoped_loop {m = m + body_size b} (omega arith)
-        (scoped_from vs (suc n) (n + 1) (m + body_size b) (outlined (loop_variable (numbered_word (n + 1) v) ∷ (key_variable (option_map (numbered_word (n + 1 + 1)) k) ++ bs))) (omega arith)
-          (loop_scoped t (n + 1) m v k g inner β bs (m + body_size b) vs knows scope (omega arith) (λ us more. body_scoped fs t m b inner us more typed)))
-        (scoped_from vs (m + body_size b) (n + statement_size (statement nd (loop v k o b))) to (outlined ys) (omega arith) (behind vs knows)))
+      (scoped_from vs (suc n) (n + 1) (m + body_size b) (outlined (loop_variable (numbered_word (n + 1) v) ∷ (key_variable (option_map (numbered_word (n + 1 + 1)) k) ++ bs))) (omega arith)
+      (loop_scoped t (n + 1) m v k g inner β bs (m + body_size b) vs knows scope (omega arith) (λ us more. body_scoped fs t m b inner us more typed)))
+      (scoped_from vs (m + body_size b) (n + statement_size (statement nd (loop v k o b))) to (outlined ys) (omega arith) (behind vs knows)))
   statement_scoped fs t n (statement nd (waits ws b)) g h ys to vs knows (rules.wait_statement {τs = τs} names typed) behind =
       let us = numbered_each numbered_word word_size (n + 1) ws in
       let m = n + 1 + sum_by word_size ws in
       behind_uses_and vs n to (read_names t us) ys (encloses (outlined (body_steps t (numbered_body m b)))) (names_seen vs g t us τs knows names)
       (scoped_wait {m = m + body_size b}
-        (scoped_from vs n m (m + body_size b) (outlined (body_steps t (numbered_body m b))) (omega arith) (body_scoped fs t m b g vs knows typed))
-        (scoped_from vs (m + body_size b) (n + statement_size (statement nd (waits ws b))) to (outlined ys) (omega arith) (behind vs knows)))
+      (scoped_from vs n m (m + body_size b) (outlined (body_steps t (numbered_body m b))) (omega arith) (body_scoped fs t m b g vs knows typed))
+      (scoped_from vs (m + body_size b) (n + statement_size (statement nd (waits ws b))) to (outlined ys) (omega arith) (behind vs knows)))
 
 -- SCRIPTS
 
@@ -239,7 +239,7 @@ inputs_scoped i ds g h vs ys knows free (rules.one_parameter {d = d} {ds = es} n
     a_parameter (input_local i) given_is_no_own (λ v there is. free i v (omega arith) there is)
     (subst (λ (k : ℕ). ScopedBody (seen p ∷ vs) (outlined (parameters given input k es ++ ys))) (omega arith)
     (inputs_scoped (suc i) es _ h (seen p ∷ vs) ys (declared_known vs g (record { text = d.name.text; refers_to = record { up = 0; what = input i }; type = declared_type d }) p refl refl knows)
-      (free_after input input_one i (seen p) vs refl free) rest behind))
+    (free_after input input_one i (seen p) vs refl free) rest behind))
 
 outputs_scoped : (i : ℕ) (ds : List Declaration) (g h : Scope) (vs : List Seen) (ys : List Step) → Knows vs g → Free output i vs → Free input 0 vs → Parameters output g i ds h
     → ((us : List Seen) → Knows us h → Free input 0 us → ScopedBody us (outlined ys)) → ScopedBody vs (outlined (parameters result output i ds ++ ys))
@@ -249,7 +249,7 @@ outputs_scoped i ds g h vs ys knows free no_input (rules.one_parameter {d = d} {
     a_parameter (output_local i) result_is_no_own (λ v there is. free i v (omega arith) there is)
     (subst (λ (k : ℕ). ScopedBody (seen p ∷ vs) (outlined (parameters result output k es ++ ys))) (omega arith)
     (outputs_scoped (suc i) es _ h (seen p ∷ vs) ys (declared_known vs g (record { text = d.name.text; refers_to = record { up = 0; what = output i }; type = declared_type d }) p refl refl knows)
-      (free_after output output_one i (seen p) vs refl free) (free_of_other input 0 (seen p) vs (λ j is. output_no_input i j is) no_input) rest behind))
+    (free_after output output_one i (seen p) vs refl free) (free_of_other input 0 (seen p) vs (λ j is. output_no_input i j is) no_input) rest behind))
 
 nobody_free : (owned : ℕ → Owned) → Free owned 0 []
 nobody_free owned j v less there same = elim there [ ]
@@ -265,8 +265,8 @@ function_scoped fs t n f names (rules.function_typed {g = g} {h = h} new no_buil
     let bs = body_steps t (numbered_body m f.body) in
     subst (λ (x : List Step). IsScoped (outlined x)) (sym (append_assoc (parameters result output 0 os) (parameters given input 0 is) bs))
     (outputs_scoped 0 os [] g [] (parameters given input 0 is ++ bs) knows_none (nobody_free output) (nobody_free input) outs
-      (λ us more no_input. inputs_scoped 0 is g h us bs more no_input ins
-        (λ vs all. behind_parameters (body_scoped fs t m f.body h vs all typed))))
+    (λ us more no_input. inputs_scoped 0 is g h us bs more no_input ins
+    (λ vs all. behind_parameters (body_scoped fs t m f.body h vs all typed))))
 
 functions_scoped : (fs : List Signature) (t : Table) (n : ℕ) (u : Tree) (names : List (List ℕ)) (g : Scope) → PartsTyped fs t names g (numbered n u)
     → (o : Outline) → o ∈ function_outlines t (numbered n u) → IsScoped o

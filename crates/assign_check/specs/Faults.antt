@@ -1,5 +1,5 @@
 -- The faults of an outline against single assignment. States docs/LANGUAGE.md: Single assignment.
-use Rattle.std.specs.Prelude.{ℕ, ◌+◌, Bool, true, false, not, ◌&&◌, ◌||◌, cond, nat_eq, nat_lt, nat_le, List, [], ◌∷◌, ◌++◌, Option, Some, None}
+use Rattle.std.specs.Prelude.{ℕ, ◌+◌, Bool, true, false, not, ◌&&◌, ◌||◌, cond, nat_eq, nat_lt, List, [], ◌∷◌, ◌++◌, Option, Some, None}
 use Rattle.std.specs.List.{list_any, flat_map}
 use Rattle.lexer.specs.declared.token.Span.{Span}
 use Rattle.syntax_trees.specs.declared.tree.Shape.{Shape}

@@ -1,5 +1,5 @@
 -- The outline that a value of the program stands for.
-use Rattle.std.specs.Prelude.{List, map, Vec}
+use Rattle.std.specs.Prelude.{List, map}
 use Rattle.types.specs.Typed.{owned_name}
 use Rattle.assign_check.specs.declared.outline.Kind.{Kind}
 use Rattle.assign_check.specs.declared.outline.Kind.TheVariants.{Named, Written, Read}

@@ -1,1 +1,4 @@
+mod Arguments
+mod Rows
 mod Walking
+mod Results

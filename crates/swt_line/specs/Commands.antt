@@ -1,5 +1,6 @@
 -- The names of the commands, and their options.
-use Rattle.std.specs.Prelude.{ℕ, Bool, false, ◌||◌, List, Option, Some, None, if◌then◌else◌, codes}
+use Rattle.std.specs.Prelude.{ℕ, Bool, List, [], ◌∷◌, Option, Some, None, if◌then◌else◌, codes}
+use Rattle.std.specs.List.{list_any}
 use Rattle.std.specs.Str.{bytes_eq}
 use Rattle.swt_line.specs.declared.command.Command.{Command}
 use Rattle.swt_line.specs.declared.command.Command.TheVariants.{Check, Mean, Code, Run, Replay}
@@ -14,10 +15,14 @@ command_of w =
     else (if bytes_eq w (codes "replay") then Some Replay
     else None))))
 
+-- the options of a command
+abbrev pub options_of : Command → List (List ℕ)
+options_of Mean = codes "--rounds" ∷ []
+options_of Run = codes "--engines" ∷ codes "--workers" ∷ codes "--steps" ∷ codes "--trace" ∷ []
+options_of Check = []
+options_of Code = []
+options_of Replay = []
+
 -- whether the command has this option
 abbrev pub has_option : Command → List ℕ → Bool
-has_option Mean w = bytes_eq w (codes "--rounds")
-has_option Run w = bytes_eq w (codes "--engines") || bytes_eq w (codes "--workers") || bytes_eq w (codes "--steps") || bytes_eq w (codes "--trace")
-has_option Check w = false
-has_option Code w = false
-has_option Replay w = false
+has_option c w = list_any (bytes_eq w) (options_of c)

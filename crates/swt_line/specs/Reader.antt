@@ -7,7 +7,6 @@ use Rattle.clap.specs.declared.ArgMatches.{ArgMatches}
 use Rattle.clap.specs.declared.error.kind.ErrorKind.{ErrorKind}
 use Rattle.clap.specs.declared.error.kind.ErrorKind.TheVariants.{OutOfMemory}
 use Rattle.swt_line.specs.declared.command.Command.{Command}
-use Rattle.swt_line.specs.declared.command.Command.TheVariants.{Check, Mean, Code, Run, Replay}
 use Rattle.swt_line.specs.Commands.{has_option}
 use Rattle.swt_line.specs.Words.{marked, well_formed, files_in, values_of}
 use Rattle.swt_line.specs.declared.fault.LineFault.{LineFault}
@@ -20,14 +19,6 @@ option_rule name = record (new_rule name) { long = Some (drop 2 name) }
 -- the words that are no option and no value of one, all kept
 abbrev pub file_rule : Rule
 file_rule = record (new_rule (codes "FILE")) { action = Some Append }
-
--- the options of a command
-abbrev pub options_of : Command → List Text
-options_of Mean = codes "--rounds" ∷ []
-options_of Run = codes "--engines" ∷ codes "--workers" ∷ codes "--steps" ∷ codes "--trace" ∷ []
-options_of Check = []
-options_of Code = []
-options_of Replay = []
 
 -- a name of an option, as it is told
 abbrev pub is_name : List ℕ → Bool

@@ -2,7 +2,8 @@
 //!
 //! `Line::read` takes the words behind the program's own name and gives the command that they are, with its files and
 //! numbers, or `LineFault::Usage`, whose text is the usage. An option is a word that begins with a dash; its value is
-//! the word behind it. Options and files stand in any order.
+//! the word behind it. Options and files stand in any order. The words behind the command are read by `clap`, but for
+//! those that it would take in ways of its own.
 #![tactic(auto)]
 
 pub mod command;

@@ -2,7 +2,8 @@
 ghost use Rattle.std.specs.Prelude.{◌≡◌, IfOk, Some, drop, map, false};
 ghost use Rattle.std.specs.List.{list_all};
 ghost use Rattle.clap.specs.Words.{app_of, with_rule};
-ghost use Rattle.swt_line.specs.Reader.{IsRead, app_with, files_given, is_plain, option_rule, options_of};
+ghost use Rattle.swt_line.specs.Commands.{options_of};
+ghost use Rattle.swt_line.specs.Reader.{IsRead, app_with, files_given, is_plain, option_rule};
 
 use crate::command::Command;
 use crate::fault::LineFault;

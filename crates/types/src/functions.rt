@@ -23,7 +23,7 @@ pub struct Found<'a> {
     pub signature: &'a Signature,
 }
 
-/// The functions of a script.
+/// The functions of a script; the only refusal is that of memory.
 pub fn signatures<A: Allocator>(alloc: Global, items: &[Item<A>]) -> Result<Functions, AllocError>
     ensures { IfOk result (λ found. signatures_of found ≡ scopes.signatures (map part_of items.now)) }
 {

@@ -66,7 +66,7 @@ fn literal<A: Allocator>(
     }
 }
 
-/// The types of the variables that names refer to.
+/// The types of the variables that names refer to, in their order, all of which are settled; the first fault of a name, or `Memory`.
 fn refer_all<A: Allocator>(
     alloc: Global,
     scope: &Scope,
@@ -96,7 +96,7 @@ fn same_types(found: &[VariableType], wanted: &[VariableType], at: Span) -> Resu
     Ok(())
 }
 
-/// The one target of a call with one output.
+/// The one target of a call with one output; `WrongCount`, at the called name, where there are more or none.
 fn only_target(targets: &[VariableType], at: Span) -> Result<VariableType, TypeFault>
     ensures { Judges type_of result (steps.only_target (map type_of targets.now) at) }
 {
@@ -215,7 +215,7 @@ fn builtin_statement<A: Allocator>(
     }
 }
 
-/// The arguments of `printf`: a format, and what its conversions take.
+/// The arguments of `printf`, which is called at `at`: a format, and one for each of its conversions.
 fn print<A: Allocator>(
     alloc: Global,
     functions: &Functions,
@@ -236,7 +236,7 @@ fn print<A: Allocator>(
     arguments(functions, scope, settled, given, 1, wanted.as_slice(), at)
 }
 
-/// The types that the conversions of a format take.
+/// The types that the conversions of a format take; `BadFormat`, at the argument, where it is no string literal that is a format, or `Memory`.
 fn conversions<A: Allocator>(
     alloc: Global,
     format: &Expr<A>,
@@ -341,7 +341,7 @@ fn fresh_variables<A: Allocator>(
     }
 }
 
-/// Makes the variables of a loop visible.
+/// Makes the variables of a loop visible, which are new and have two names. Where memory runs out, the first one may be visible.
 fn add_variables<A: Allocator>(
     alloc: Global,
     scope: &mut Scope,

@@ -101,7 +101,7 @@ impl Typed {
     }
 }
 
-/// What was settled, by number.
+/// What was settled last of each number, and nothing at the numbers of which nothing was; the only refusal is that of memory.
 pub fn by_number(alloc: Global, settled: &[Settled]) -> Result<Typed, AllocError>
     ensures { IfOk result (λ typed. (number : ℕ) → meaning_at typed number ≡ settled_at settled.now number Meaning.Nothing) }
 {
@@ -112,7 +112,7 @@ pub fn by_number(alloc: Global, settled: &[Settled]) -> Result<Typed, AllocError
     Ok(Typed { meanings })
 }
 
-/// Puts a meaning at its number, behind as many empty ones as there must be.
+/// Puts a meaning at its number, behind as many empty ones as there must be; the only refusal is that of memory.
 fn place(meanings: &mut Vec<Meaning>, number: usize, meaning: Meaning) -> Result<(), AllocError>
     ensures { OnOk result ((other : ℕ) → or_nothing (slice_get meanings.new.items other) ≡ cond (nat_eq number other) meaning (or_nothing (slice_get meanings.old.items other))) }
 {

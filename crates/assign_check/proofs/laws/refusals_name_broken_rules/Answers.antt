@@ -1,4 +1,3 @@
-use Rattle.std.proofs.Common.{rules}
 use Rattle.assign_check.specs.Faults.{faults}
 use Rattle.assign_check.proofs.Earliest.{first_there, first_before_all}
 use Rattle.assign_check.proofs.Named.{breaks}

@@ -1,4 +1,3 @@
-use Rattle.std.proofs.Common.{rules}
 use Rattle.assign_check.proofs.Law.{singly_assigned, without_fault}
 use Rattle.assign_check.proofs.laws.single_assignment.Goals as goal
 

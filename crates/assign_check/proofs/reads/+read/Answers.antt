@@ -1,4 +1,4 @@
-use Rattle.std.proofs.Common.{◌≡◌, ◌++◌, List, map, refl, arith}
+use Rattle.std.proofs.Common.{◌++◌, List, map, refl, arith}
 use Rattle.std.proofs.lemmas.Grind.{common_steps}
 use Rattle.syntax_trees.specs.View.{expression_view}
 use Rattle.syntax_trees.specs.Tree.{Expression, expressions_of}

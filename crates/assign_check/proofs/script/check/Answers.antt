@@ -1,4 +1,4 @@
-use Rattle.std.proofs.Common.{◌≡◌, sym, ◌∙◌}
+use Rattle.std.proofs.Common.{sym, ◌∙◌}
 use Rattle.syntax_trees.specs.View.{tree_of}
 use Rattle.types.specs.Typed.{table_of}
 use Rattle.assign_check.specs.Faults.{faults}

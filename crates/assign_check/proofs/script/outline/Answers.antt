@@ -1,4 +1,4 @@
-use Rattle.std.proofs.Common.{◌≡◌, List, map, ap, sym, ◌∙◌, ◌++◌, ap₂}
+use Rattle.std.proofs.Common.{List, map, ap, ◌∙◌, ◌++◌, ap₂}
 use Rattle.std.specs.List.{flat_map}
 use Rattle.std.proofs.lemmas.Result.{on_ok_weaker}
 use Rattle.syntax_trees.specs.Core.{Owned}
@@ -7,7 +7,7 @@ use Rattle.assign_check.specs.declared.outline.Declared.{Declared}
 use Rattle.assign_check.specs.declared.tally.Tally.{Tally}
 use Rattle.assign_check.specs.Faults as faults
 use Rattle.assign_check.specs.Tables.{at}
-use Rattle.assign_check.specs.Tallies.{unused, tally_from, cleared, tally_faults}
+use Rattle.assign_check.specs.Tallies.{tally_from, cleared, tally_faults}
 use Rattle.assign_check.specs.View.{use_view, declared_view, outline_view}
 use Rattle.assign_check.specs.Ways.{listed}
 use Rattle.assign_check.proofs.Outlined.{outline_best}

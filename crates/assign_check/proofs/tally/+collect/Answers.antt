@@ -1,4 +1,4 @@
-use Rattle.std.proofs.Common.{◌≡◌, ◌++◌, List, map, refl, arith}
+use Rattle.std.proofs.Common.{◌++◌, List, map, refl, arith}
 use Rattle.std.proofs.lemmas.Grind.{common_steps}
 use Rattle.assign_check.specs.Outline as outline
 use Rattle.assign_check.specs.Faults.{uses_in, uses_at, declared_in, declared_at}

@@ -1,4 +1,4 @@
-use Rattle.std.proofs.Common.{◌≡◌, ◌++◌, List, map, refl, ap, sym, ◌∙◌, arith}
+use Rattle.std.proofs.Common.{◌++◌, List, map, refl, ap, sym, ◌∙◌, arith}
 use Rattle.std.proofs.lemmas.Grind.{common_steps}
 use Rattle.std.proofs.lemmas.Result.{on_ok_weaker}
 use Rattle.assign_check.specs.Outline as outline

@@ -1,6 +1,4 @@
-use Rattle.std.proofs.Common.{◌≡◌, ◌++◌, List, map, length, ap, sym, ◌∙◌}
-use Rattle.syntax_trees.specs.Core.{Owned}
-use Rattle.types.specs.Typed.{owned_name}
+use Rattle.std.proofs.Common.{List, map, ap, ◌∙◌}
 use Rattle.assign_check.specs.Ways.{listed, counted_view, is_other}
 use Rattle.assign_check.specs.declared.way.Counted.{Counted}
 use Rattle.std.specs.List.{list_any}

@@ -1,4 +1,4 @@
-use Rattle.swt_line.proofs.Walking.{failed_line}
+use Rattle.swt_line.proofs.Results.{failed_line}
 use Rattle.swt_line.proofs.line.read_command.Goals as goal
 
 pub returns-in_err-matches-clause-line : goal.returns-in_err-matches-clause-line

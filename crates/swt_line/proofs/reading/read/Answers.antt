@@ -2,7 +2,8 @@ use Rattle.std.proofs.Common.{◌∙◌, sym, false, inl}
 use Rattle.std.proofs.lemmas.List.{map-id}
 use Rattle.clap.specs.Words.{app_of, kind_of}
 use Rattle.swt_line.specs.Reader.{refusal}
-use Rattle.swt_line.proofs.Walking.{as_err, read_ok, read_err, strange_words}
+use Rattle.swt_line.proofs.Arguments.{strange_words}
+use Rattle.swt_line.proofs.Results.{as_err, read_err, read_ok}
 use Rattle.swt_line.proofs.reading.read.Goals as goal
 
 pub returns-then-not-are_plain : goal.returns-then-not-are_plain

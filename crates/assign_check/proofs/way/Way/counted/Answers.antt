@@ -1,4 +1,4 @@
-use Rattle.std.proofs.Common.{◌≡◌, ◌≤◌, length, map, ap, sym, ◌∙◌, refl, arith}
+use Rattle.std.proofs.Common.{◌≤◌, length, map, ap, sym, ◌∙◌, refl, arith}
 use Rattle.std.proofs.lemmas.List.{drop-map}
 use Rattle.types.specs.Typed.{owned_name}
 use Rattle.assign_check.specs.Ways.{listed, counted_view, with_times}

@@ -1,4 +1,4 @@
-use Rattle.std.proofs.Common.{◌≡◌, ap, sym, ◌∙◌, nat_lt}
+use Rattle.std.proofs.Common.{ap, ◌∙◌, nat_lt}
 use Rattle.types.specs.Typed.{owned_name}
 use Rattle.assign_check.specs.Ways.{listed}
 use Rattle.assign_check.proofs.Among.{among_times}

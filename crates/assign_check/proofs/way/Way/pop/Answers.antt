@@ -1,10 +1,9 @@
-use Rattle.std.proofs.Common.{◌≡◌, ◌≢◌, ◌++◌, ◌∷◌, [], ◌+◌, ◌-◌, ◌≤◌, List, map, ap, sym, ◌∙◌, arith}
+use Rattle.std.proofs.Common.{◌≡◌, ◌≢◌, ◌++◌, ◌∷◌, [], ◌+◌, map, ap, ◌∙◌, arith}
 use Rattle.std.proofs.lemmas.List.{map-append}
 use Rattle.syntax_trees.specs.Core.{Owned}
 use Rattle.types.specs.Typed.{owned_name}
 use Rattle.assign_check.specs.Faults.{times}
 use Rattle.assign_check.specs.Tables.{at}
-use Rattle.assign_check.specs.Ways.{listed}
 use Rattle.assign_check.proofs.Among.{last_counted, popped_times}
 use Rattle.assign_check.proofs.way.Way.pop.Goals as goal
 
