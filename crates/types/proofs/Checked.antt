@@ -55,7 +55,7 @@ parameters_sound made owned named g h i (d ∷ ds) s s' is low =
 abbrev Above : List Signature → ℕ → List (List ℕ) → Type 0
 Above fs above names = (x : List ℕ) → x ∈ names → (p : ℕ) × (f : Signature) × (find fs x ≡ found p f) × (p < above)
 
-not_builtin : (x : List ℕ) → builtin_of x ≡ None → (b : table.Builtin) → ¬ (x ≡ table.builtin_text b)
+pub not_builtin : (x : List ℕ) → builtin_of x ≡ None → (b : table.Builtin) → ¬ (x ≡ table.builtin_text b)
 not_builtin x none strcat is = absurd (cc (ap builtin_of is))
 not_builtin x none fromint is = absurd (cc (ap builtin_of is))
 not_builtin x none toint is = absurd (cc (ap builtin_of is))

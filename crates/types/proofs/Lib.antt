@@ -1,5 +1,8 @@
 pub mod Accepted
 pub mod Answered
+pub mod Breaks
+pub mod BreaksStated
+pub mod BreaksScript
 pub mod ByText
 pub mod Calls
 pub mod Checked

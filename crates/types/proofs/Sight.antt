@@ -80,7 +80,7 @@ none_first v g letters other none it =
 pub other_text : (a b : List ℕ) → bytes_eq a b ≡ false → ¬ (a ≡ b)
 other_text a b other same = let it : bytes_eq a b ≡ true = (bytes_eq-Decides a b).1 same in absurd (cc)
 
-unseen_onto : (d : ℕ) (ks : List Seen) (g : Scope) (letters : List ℕ) → seen ks letters ≡ None → ¬ IsVisible g letters → ¬ IsVisible (scope_onto d ks g) letters
+pub unseen_onto : (d : ℕ) (ks : List Seen) (g : Scope) (letters : List ℕ) → seen ks letters ≡ None → ¬ IsVisible g letters → ¬ IsVisible (scope_onto d ks g) letters
 unseen_onto d [] g letters none here = here
 unseen_onto d (k ∷ ks) g letters none here =
     elim (bytes_eq k.text letters) as (λ b. bytes_eq k.text letters ≡ b → cond b (Some k) (seen ks letters) ≡ None → ¬ IsVisible (scope_onto d (k ∷ ks) g) letters) [

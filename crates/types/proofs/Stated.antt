@@ -302,7 +302,7 @@ loop_with g v (Some k) b s s' low new is =
           (rules.with_key (subst (λ (x : Scope). Declares x v (one_of b) (scope_of (declared (inside g) v (one_of b)))) (scope_inside g low) (declares (inside g) v (one_of b) new)) (declares (declared (inside g) v (one_of b)) k (one_of Int) unseen), key.1 ∙ end)
     ] refl one.3
 
-loop_inside : (g : Around) (v : Word) (k : Option Word) (b : Base) → Inside g → Inside (loop_scope g v k b)
+pub loop_inside : (g : Around) (v : Word) (k : Option Word) (b : Base) → Inside g → Inside (loop_scope g v k b)
 loop_inside g v None b low = inside_added (inside g) v (Local v.number) (one_of b) (inside_more g low)
 loop_inside g v (Some k) b low = inside_added (declared (inside g) v (one_of b)) k (Local k.number) (one_of Int) (inside_added (inside g) v (Local v.number) (one_of b) (inside_more g low))
 

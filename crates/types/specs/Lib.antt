@@ -11,3 +11,4 @@ pub mod Typed
 pub mod Agrees
 pub mod Rising
 pub mod Accepted
+pub mod Breaks

@@ -1,5 +1,6 @@
 //! Laws of what the check settles, against the typing rules.
 ghost use Rattle.types.specs.Agrees.{ReferSound, CallSound, OperatorsExact, PrefixesSound};
+ghost use Rattle.types.specs.Breaks.{RefusalNames};
 ghost use Rattle.types.specs.Accepted.{WholeSound, ArgumentsSound, ElementsSound, BuiltinSound, ScriptSound, ScriptTyped, ScriptRefused};
 
 /// A name that is found refers to a visible variable, and a called name is a function of the script, as the typing rules ask
@@ -30,4 +31,10 @@ pub fn what_scripts_are_accepted()
     ensures sound { ScriptSound }
     ensures typed { ScriptTyped }
     ensures refused { ScriptRefused }
+{}
+
+/// A script that is refused, for another rule than that of wrong types, breaks the rule that the refusal names, at the place
+/// that it names.
+pub fn what_refusals_name()
+    ensures names { RefusalNames }
 {}

@@ -7,6 +7,7 @@ use Rattle.types.specs.Typed.{meaning_at, settled_at}
 use Rattle.types.specs.Outcomes.{refused, got}
 use Rattle.types.specs.Scripts.{checked}
 use Rattle.types.proofs.Answered.{accepted_typed}
+use Rattle.types.proofs.BreaksScript.{refusal_names}
 use Rattle.types.proofs.Passes.{script_refused}
 use Rattle.types.proofs.script.check.Goals as goal
 
@@ -23,3 +24,10 @@ returns-clause-typed g c =
     let says : (k : ℕ) → meaning_at c.in_ok-by_number.field-0 k ≡ settled_at c.parts.new.settled.items k Nothing =
     λ k. c.in_ok-by_number.ensures k ∙ ap (λ (s : List Settled). settled_at s k Nothing) c.as_slice-3.ensures.value in
     accepted_typed (tree_of {A = g.row.A.Denot} c.args.script.now) c.in_ok-by_number.field-0 c.parts.new.settled.items exact says
+
+pub returns-in_err-parts-clause-names : goal.returns-in_err-parts-clause-names
+returns-in_err-parts-clause-names g c =
+    let p = err_from_is_err_and c.from_residual-in_err-parts.result c.from_residual-in_err-parts.ensures.1 in
+    rw (p.1, p.2) (λ m other. (let is = c.in_err-parts.ensures m in
+    let exact : checked (tree_of {A = g.row.A.Denot} c.args.script.now) ≡ refused c.in_err-parts.field-0.0 = search rules in
+    refusal_names (tree_of {A = g.row.A.Denot} c.args.script.now) c.in_err-parts.field-0.0 exact other))

@@ -1,0 +1,5 @@
+use Rattle.types.proofs.BreaksScript.{refusal_names}
+use Rattle.types.proofs.laws.what_refusals_name.Goals as goal
+
+pub returns : goal.returns
+returns c = record { names = refusal_names }
