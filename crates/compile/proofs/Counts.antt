@@ -1,7 +1,7 @@
 -- A script has no more statements than its tree has numbers.
-use Rattle.std.proofs.Common.{◌≡◌, ℕ, zero, suc, ◌+◌, ◌≤◌, length, List, [], ◌∷◌, Option, Some, None, Bool, true, false, refl, ap, sym, ◌∙◌, subst, arith}
+use Rattle.std.proofs.Common.{◌≡◌, ℕ, suc, ◌+◌, ◌≤◌, length, List, [], ◌∷◌, Some, None, Bool, true, false, arith}
 use Rattle.std.proofs.lemmas.List.Sums.{sum_by-cons}
-use Rattle.std.specs.Prelude.{if◌then◌else◌, sum_by}
+use Rattle.std.specs.Prelude.{if◌then◌else◌}
 use Rattle.syntax_trees.specs.Tree as T
 use Rattle.syntax_trees.specs.Tree.{Node, Command, Statement, statement, Tree, import, function, single}
 use Rattle.syntax_trees.specs.Core.{Block, Stmt}

@@ -1,23 +1,21 @@
 -- The code of a script of scalars is flat.
-use Rattle.std.proofs.Common.{◌≡◌, ◌⊎◌, inl, inr, ℕ, zero, suc, Bool, true, false, List, [], ◌∷◌, refl, sym, ap, ◌∙◌, subst, Result, Ok, Err}
+use Rattle.std.proofs.Common.{◌≡◌, inl, inr, ℕ, suc, true, List, [], ◌∷◌, refl, sym, ap, subst, Result, Ok, Err}
 use Rattle.std.specs.Prelude.{◌<◌, length, map}
-use Rattle.dataflow.specs.System.{In, Answer}
+use Rattle.dataflow.specs.System.{In}
 use Rattle.values.specs.declared.fault.OpFault.{OpFault}
 use Rattle.values.specs.declared.format.Piece.{Piece}
-use Rattle.values.specs.declared.key.Key.{Key}
-use Rattle.values.specs.declared.value.Scalar.{Scalar}
 use Rattle.values.specs.declared.value.Scalar.TheVariants.{Text}
 use Rattle.values.specs.declared.value.Value.{Value}
 use Rattle.values.specs.Operators.{printf, on_all, all_values}
 use Rattle.values.specs.Values.{scalar_of}
 use Rattle.syntax_trees.specs.Core.{Core, Stmt, stmt}
 use Rattle.syntax_trees.specs.Parts.{stmt_action}
-use Rattle.task_code.specs.Code.{Entry, Exprs, operation, Name, Need, Stored, entry, scalar, body}
-use Rattle.task_code.specs.Compute.{eval, evals}
-use Rattle.agreement.specs.Compile.{compiled, script_acts, acts, entry_of, variable, is_act, needs_of}
+use Rattle.task_code.specs.Code.{Exprs, operation, Name, Need, Stored, entry, scalar, body}
+use Rattle.task_code.specs.Compute.{evals}
+use Rattle.agreement.specs.Compile.{compiled, script_acts, entry_of, variable, is_act, needs_of}
 use Rattle.agreement.specs.Scalars.{IsScalars, OnScalars, declares, assigns, prints, asserts}
 use Rattle.agreement.specs.Compile.{numbers_from, each_once, named_all, all_over}
-use Rattle.agreement.proofs.Members.{IsAt, numbered_at, at_below}
+use Rattle.agreement.proofs.Members.{numbered_at, at_below}
 use Rattle.agreement.proofs.Whole.{entry_at, on_scalars, is_code}
 use Rattle.agreement.proofs.Meant.{ok_same}
 use Rattle.board.specs.Flat.{IsOwnScalar, GivesText, IsFlatAct, IsFlatEntry, IsFlat}

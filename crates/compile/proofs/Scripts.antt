@@ -1,5 +1,5 @@
 -- What is known of a text that was read as a tree, and checked.
-use Rattle.std.proofs.Common.{◌≡◌, ℕ, List, [], ◌∷◌, Option, Some, None, refl, subst, sym, ap, ◌∙◌}
+use Rattle.std.proofs.Common.{◌≡◌, ℕ, List, [], Some, None, subst, sym, ap, ◌∙◌}
 use Rattle.std.specs.Prelude.{◌≢◌}
 use Rattle.lexer.specs.declared.token.Span.{Span}
 use Rattle.syntax_trees.specs.Core.{Core}
@@ -21,8 +21,6 @@ use Rattle.assign_check.proofs.Law.{singly_assigned, without_fault}
 use Rattle.agreement.specs.OfScalars.{first_other}
 use Rattle.agreement.specs.Scalars.{IsScalars}
 use Rattle.agreement.proofs.ScalarCores.{is_scalars}
-use Rattle.lowering.specs.declared.fault.LowerFault.{LowerFault}
-use Rattle.lowering.specs.declared.fault.LowerFault.TheVariants as Lower
 use Rattle.compile.specs.Compiles.{IsScriptOf, IsIllTyped, IsNotSingle, IsNotYet, IsRefusedByTypes, IsRefusedByAssignments}
 
 -- a numbered tree for which this holds

@@ -1,12 +1,12 @@
 -- The code of a script that a text reads as.
-use Rattle.std.proofs.Common.{◌≡◌, ℕ, ◌+◌, ◌≤◌, length, List, sym, subst, ap, arith}
-use Rattle.std.specs.Prelude.{◌<◌, ◌^◌}
+use Rattle.std.proofs.Common.{◌≡◌, ℕ, length, List, sym, subst, ap, arith}
+use Rattle.std.specs.Prelude.{◌<◌}
 use Rattle.syntax_trees.specs.Core.{Core}
 use Rattle.syntax_trees.specs.Reads.{Reads}
 use Rattle.syntax_trees.specs.Resolved.{core}
 use Rattle.syntax_trees.specs.Table.{Table}
 use Rattle.syntax_trees.specs.Tree.{Tree}
-use Rattle.syntax_trees.specs.Numbered.{numbered, tree_size}
+use Rattle.syntax_trees.specs.Numbered.{numbered}
 use Rattle.syntax.proofs.Sizes.{numbers_fit}
 use Rattle.task_code.specs.Code.{Code}
 use Rattle.task_code.specs.Machine.{CodeState, GoesOn, Run}

@@ -1,5 +1,5 @@
 -- What it means that a text is a script of this core, that code is that script's, and that a text is refused.
-use Rattle.std.specs.Prelude.{◌≡◌, ℕ, ◌+◌, ◌*◌, ◌≤◌, List, [], length, Some, None}
+use Rattle.std.specs.Prelude.{◌≡◌, ℕ, ◌+◌, ◌*◌, ◌≤◌, List, length, Some}
 use Rattle.dataflow.specs.Events.{backs}
 use Rattle.dataflow.specs.Machine.{Event}
 use Rattle.lexer.specs.declared.token.Span.{Span}

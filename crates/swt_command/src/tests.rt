@@ -189,7 +189,10 @@ fn checks_scripts(rt: HostRuntime) -> Result<(), Fail> {
     ];
     for (source, wanted) in rows {
         let wanted = format!(in alloc; "f: refused {wanted}\n|||1")?;
-        assert_eq!(rt; done(alloc, &["check", "f"], source)?.as_str(), wanted.as_str());
+        assert_eq!(rt;
+            done(alloc, &["check", "f"], source)?.as_str(),
+            wanted.as_str()
+        );
     }
     Ok(())
 }
