@@ -17,7 +17,9 @@ use Rattle.types.specs.Scripts.{checked}
 use Rattle.assign_check.specs.declared.fault.AssignFault.{AssignFault}
 use Rattle.assign_check.specs.declared.fault.AssignFault.TheVariants as Assign
 use Rattle.assign_check.specs.Faults.{faults, first_fault}
+use Rattle.assign_check.proofs.Earliest.{first_there}
 use Rattle.assign_check.proofs.Law.{singly_assigned, without_fault}
+use Rattle.assign_check.proofs.Named.{breaks}
 use Rattle.agreement.specs.OfScalars.{first_other}
 use Rattle.agreement.specs.Scalars.{IsScalars}
 use Rattle.agreement.proofs.ScalarCores.{is_scalars}
@@ -72,6 +74,7 @@ not_single src tree t f reads typed fault is =
       reads = reads;
       typed = well;
       is = is fault;
+      broken = breaks 1 reads.parsed tree t f reads.is_numbered well (first_there (faults t tree) f (is fault));
       not_single = λ single. no_first t tree f (is fault) (without_fault 1 reads.parsed tree t reads.is_numbered well single);
     }
 

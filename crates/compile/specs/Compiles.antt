@@ -24,6 +24,7 @@ use Rattle.types.specs.Outcomes.{refused}
 use Rattle.types.specs.Scripts.{checked}
 use Rattle.assign_check.specs.declared.fault.AssignFault.{AssignFault}
 use Rattle.assign_check.specs.declared.fault.AssignFault.TheVariants as Assign
+use Rattle.assign_check.specs.Breaks.{Breaks}
 use Rattle.assign_check.specs.Faults.{faults, first_fault}
 use Rattle.lowering.specs.declared.fault.LowerFault.TheVariants as Lower
 use Rattle.board.specs.Flat.{IsFlat}
@@ -63,13 +64,15 @@ pub record IsIllTyped (src : List ℕ) (fault : TypeFault) : Type 0 where
   pub is : checked tree ≡ refused fault
   pub ill_typed : (t : Table) → ¬ WellTyped tree t
 
--- the text reads as a tree that is well typed and not singly assigned, and this is the fault that stands first
+-- the text reads as a tree that is well typed and not singly assigned, and this is the fault that stands first: it names a rule that the
+-- tree breaks at its place
 pub record IsNotSingle (src : List ℕ) (fault : AssignFault) : Type 0 where
   pub tree : Tree
   pub table : Table
   pub reads : Reads src tree
   pub typed : WellTyped tree table
   pub is : first_fault (faults table tree) ≡ Some fault
+  pub broken : Breaks table tree fault
   pub not_single : ¬ SinglyAssigned (core table tree)
 
 -- the text reads as a tree that is well typed and singly assigned, and a part of it that begins here is not one of scalars
