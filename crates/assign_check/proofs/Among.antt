@@ -4,9 +4,10 @@ use Rattle.std.specs.Prelude.{not, ◌&&◌, ◌||◌}
 use Rattle.std.specs.List.{list_any}
 use Rattle.std.proofs.lemmas.List.Folds.{list_any-append}
 use Rattle.std.proofs.lemmas.Grind.{common_steps}
-use Rattle.syntax_trees.specs.Core.{Owned, local, input, output}
+use Rattle.syntax_trees.specs.Core.{Owned}
 use Rattle.assign_check.specs.Faults.{same, one_if, times, is_among, is_before, is_uneven}
 use Rattle.assign_check.specs.Ways.{with_times, is_other}
+use Rattle.assign_check.proofs.Counts.{same_is, same_self, times_append}
 
 pub among_times : (x : Owned) (ys : List Owned) → nat_lt 0 (times x ys) ≡ is_among x ys
 among_times x [] = refl
@@ -15,10 +16,6 @@ among_times x (y ∷ ys) = by_first (same y x) (times x ys) (is_among x ys) (amo
     by_first : (b : Bool) (n : ℕ) (a : Bool) → nat_lt 0 n ≡ a → nat_lt 0 (one_if b + n) ≡ (b || a)
     by_first true n a e = grind (arith, common_steps)
     by_first false n a e = let z : n ≡ 0 + n = omega arith in subst (λ (k : ℕ). nat_lt 0 k ≡ a) z e
-
-pub times-append : (x : Owned) (xs ys : List Owned) → times x (xs ++ ys) ≡ times x xs + times x ys
-times-append x [] ys = let z : times x ys ≡ 0 + times x ys = omega arith in z
-times-append x (z ∷ xs) ys = let e = times-append x xs ys in omega arith
 
 pub times_le : (x : Owned) (xs : List Owned) → times x xs ≤ length xs
 times_le x [] = omega arith
@@ -40,7 +37,7 @@ nat_eq-add k m n = grind (arith, common_steps)
 taken_differs : (n : ℕ) (front xs ys zs : List Owned) → list_any (is_other n (front ++ ys)) (map (with_times (front ++ xs)) zs) ≡ list_any (is_uneven n xs ys) zs
 taken_differs n front xs ys [] = refl
 taken_differs n front xs ys (z ∷ zs) =
-    let one = ap₂ (λ (a b : ℕ). is_before n z && not (nat_eq a b)) (times-append z front xs) (times-append z front ys) in
+    let one = ap₂ (λ (a b : ℕ). is_before n z && not (nat_eq a b)) (times_append z front xs) (times_append z front ys) in
     let other = ap (λ (b : Bool). is_before n z && not b) (nat_eq-add (times z front) (times z xs) (times z ys)) in
     ap₂ (λ (a b : Bool). a || b) (one ∙ other) (taken_differs n front xs ys zs)
 
@@ -57,37 +54,15 @@ branches_differ n front xs ys =
 
 -- COUNTS THAT ARE KEPT
 
-nat_same : (m n : ℕ) → nat_eq m n ≡ true → m ≡ n
-nat_same m n h = grind (arith, common_steps)
-
-nat_self : (n : ℕ) → nat_eq n n ≡ true
-nat_self n = grind (arith, common_steps)
-
-same_variable : (x y : Owned) → same x y ≡ true → x ≡ y
-same_variable (local m) (local n) h = ap local (nat_same m n h)
-same_variable (input i) (input j) h = ap input (nat_same i j h)
-same_variable (output i) (output j) h = ap output (nat_same i j h)
-same_variable (local m) (input j) h = cc
-same_variable (local m) (output j) h = cc
-same_variable (input i) (local n) h = cc
-same_variable (input i) (output j) h = cc
-same_variable (output i) (local n) h = cc
-same_variable (output i) (input j) h = cc
-
-same_self : (x : Owned) → same x x ≡ true
-same_self (local n) = nat_self n
-same_self (input i) = nat_self i
-same_self (output i) = nat_self i
-
 one_behind : (y x : Owned) (xs : List Owned) → times y (xs ++ x ∷ []) ≡ times y xs + one_if (same x y)
-one_behind y x xs = let e = times-append y xs (x ∷ []) in omega arith
+one_behind y x xs = let e = times_append y xs (x ∷ []) in omega arith
 
 pub pushed_times : (f g : Owned → ℕ) (x : Owned) (xs : List Owned) (k : ℕ) → k ≡ f x → ((y : Owned) → f y ≡ times y xs) → ((y : Owned) → g y ≡ cond (same x y) (k + 1) (f y))
     → (y : Owned) → g y ≡ times y (xs ++ x ∷ [])
 pushed_times f g x xs k is counts adds y = adds y ∙ either (same x y) refl ∙ sym (one_behind y x xs)
   where
     either : (b : Bool) → same x y ≡ b → cond b (k + 1) (f y) ≡ times y xs + one_if b
-    either true h = ap (λ (n : ℕ). n + 1) (is ∙ ap f (same_variable x y h) ∙ counts y)
+    either true h = ap (λ (n : ℕ). n + 1) (is ∙ ap f (same_is x y h) ∙ counts y)
     either false h = let e = counts y in omega arith
 
 pub last_counted : (f : Owned → ℕ) (x : Owned) (xs : List Owned) → ((y : Owned) → f y ≡ times y (xs ++ x ∷ [])) → f x ≡ times x xs + 1
@@ -100,7 +75,7 @@ popped_times f g x xs k was counts takes y = takes y ∙ either (same x y) refl
     either : (b : Bool) → same x y ≡ b → cond b (k - 1) (f y) ≡ times y xs
     either true h =
         let there = last_counted f x xs counts in
-        let is = ap (λ (z : Owned). times z xs) (same_variable x y h) in
+        let is = ap (λ (z : Owned). times z xs) (same_is x y h) in
         omega arith
     either false h = counts y ∙ one_behind y x xs ∙ ap (λ (b : Bool). times y xs + one_if b) h ∙ nothing (times y xs)
       where

@@ -10,6 +10,7 @@ use Rattle.syntax_trees.proofs.Members.{split_in, to_left, to_right, either}
 use Rattle.syntax_trees.proofs.Tested.{among_split}
 use Rattle.assign_check.specs.Outline.{Use, Outline, nothing, followed, Step, declares, uses, splits, repeats, encloses}
 use Rattle.assign_check.specs.Faults.{uses_in, uses_at}
+use Rattle.assign_check.proofs.Bodies.{uses_up}
 use Rattle.assign_check.specs.Through.{HasStep, first_step, later_step, BlockIn, the_block, in_a_step, BlockOf, in_first, in_other, in_loop, in_wait, Within}
 
 -- BLOCKS OF THE CORE
@@ -169,17 +170,5 @@ own_use : {u : Use} {o : Outline} → HasStep (uses u) o → u ∈ uses_in o
 own_use first_step = first
 own_use (later_step {s' = s} {o = o} h) = to_right (uses_at s) (uses_in o) (own_use h)
 
-step_use : {u : Use} {s : Step} {o : Outline} → HasStep s o → u ∈ uses_at s → u ∈ uses_in o
-step_use {s = s} (first_step {o = o}) m = to_left (uses_at s) (uses_in o) m
-step_use (later_step {s' = s} {o = o} h) m = to_right (uses_at s) (uses_in o) (step_use h m)
-
-mutual
-  pub at_used : {u : Use} {b o : Outline} → BlockIn b o → HasStep (uses u) b → u ∈ uses_in o
-  at_used the_block h = own_use h
-  at_used (in_a_step i k) h = step_use i (in_used k h)
-
-  in_used : {u : Use} {b : Outline} {s : Step} → BlockOf b s → HasStep (uses u) b → u ∈ uses_at s
-  in_used (in_first {o = p} {p = q} k) h = to_left (uses_in p) (uses_in q) (at_used k h)
-  in_used (in_other {o = p} {p = q} k) h = to_right (uses_in p) (uses_in q) (at_used k h)
-  in_used (in_loop k) h = at_used k h
-  in_used (in_wait k) h = at_used k h
+pub at_used : {u : Use} {b o : Outline} → BlockIn b o → HasStep (uses u) b → u ∈ uses_in o
+at_used i h = uses_up i (own_use h)

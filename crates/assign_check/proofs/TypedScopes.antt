@@ -17,6 +17,7 @@ use Rattle.syntax_trees.specs.Typing as rules
 use Rattle.syntax_trees.specs.Typing.{Declares, LoopScope, StatementTyped, StatementsTyped, BodyTyped, Parameters, FunctionTyped, PartsTyped, WellTyped}
 use Rattle.assign_check.specs.Outline as outline
 use Rattle.assign_check.specs.Outline.{Kind, named, written, read, Use, Role, result, given, Declared, Outline, nothing, followed, Step, declares, uses, splits, repeats, encloses, outlined, use_of, read_in, read_all, read_right, read_over, read_names, read_calling, declared_as, declaration_steps, loop_variable, key_variable, steps_of, command_steps, body_steps, all_steps, parameters, function_steps, script_steps, function_outlines, outlines}
+use Rattle.assign_check.proofs.Like.{result_is_not_given, own_is_not_result}
 use Rattle.assign_check.proofs.Scoped.{Seen, Sees, seen, Scoped, scoped_end, scoped_declaration, scoped_use, scoped_split, scoped_loop, scoped_wait, IsLocal, ScopedBody, behind_parameters, a_parameter, IsScoped}
 use Rattle.assign_check.proofs.Claims.{AllScoped}
 use Rattle.assign_check.proofs.Seeing.{Knows, knows_none, knows_one, knows_deeper, knows_more, Seeing, seeing_both, behind_uses, behind_uses_and, sees_named, sees_written, sees_all_named, names_seen, expression_seen, arguments_seen, builtin_seen, right_seen, source_seen, call_seen}
@@ -29,12 +30,6 @@ scoped_from vs from n to o less (scoped_use {o = p} sees rest) = scoped_use sees
 scoped_from vs from n to o less (scoped_split more one two rest) = scoped_split (omega arith) one two rest
 scoped_from vs from n to o less (scoped_loop more one rest) = scoped_loop (omega arith) one rest
 scoped_from vs from n to o less (scoped_wait {m = m} {p = p} one rest) = scoped_wait (scoped_from vs from n m p less one) rest
-
-own_is_no_result : outline.own ≡ result → ⊥
-own_is_no_result is = absurd (cc)
-
-given_is_no_result : given ≡ result → ⊥
-given_is_no_result is = absurd (cc)
 
 -- what comes behind a scope, whichever variables are seen there
 abbrev Behind : Scope → ℕ → Outline → ℕ → Type 0
@@ -74,14 +69,14 @@ loop_scoped : (t : Table) (n m : ℕ) (v : Word) (k : Option Word) (g h : Scope)
     → LoopScope g (numbered_word n v) b (option_map (numbered_word (n + 1)) k) h → n + 1 + option_size word_size k ≤ m → Behind h m (outlined ys) to
     → Scoped vs n (outlined (loop_variable (numbered_word n v) ∷ (key_variable (option_map (numbered_word (n + 1)) k) ++ ys))) to
 loop_scoped t n m v None g h b ys to vs knows (rules.value_only (rules.fresh free)) less behind =
-    scoped_declaration {d = loop_declared n v} refl given_is_no_result (omega arith)
+    scoped_declaration {d = loop_declared n v} refl (λ e. result_is_not_given e refl) (omega arith)
     (scoped_from (seen (loop_declared n v) ∷ vs) (suc n) m to (outlined ys) (omega arith)
     (behind (seen (loop_declared n v) ∷ vs) (declared_known vs (deeper g) (own (numbered_word n v) (one_of b)) (loop_declared n v) refl refl (knows_deeper vs g knows))))
 loop_scoped t n m v (Some k) g h b ys to vs knows (rules.with_key (rules.fresh free) (rules.fresh other)) less behind =
     let one = declared_known vs (deeper g) (own (numbered_word n v) (one_of b)) (loop_declared n v) refl refl (knows_deeper vs g knows) in
     let two = declared_known (seen (loop_declared n v) ∷ vs) (own (numbered_word n v) (one_of b) ∷ deeper g) (own (numbered_word (n + 1) k) (one_of Int)) (loop_declared (n + 1) k) refl refl one in
-    scoped_declaration {d = loop_declared n v} refl given_is_no_result (omega arith)
-    (scoped_declaration {d = loop_declared (n + 1) k} refl given_is_no_result (omega arith)
+    scoped_declaration {d = loop_declared n v} refl (λ e. result_is_not_given e refl) (omega arith)
+    (scoped_declaration {d = loop_declared (n + 1) k} refl (λ e. result_is_not_given e refl) (omega arith)
     (scoped_from (seen (loop_declared (n + 1) k) ∷ seen (loop_declared n v) ∷ vs) (suc (n + 1)) m to (outlined ys) (omega arith) (behind (seen (loop_declared (n + 1) k) ∷ seen (loop_declared n v) ∷ vs) two)))
 
 -- names and a call, and the scope that is left
@@ -108,12 +103,12 @@ mutual
   pub statement_scoped : (fs : List Signature) (t : Table) (n : ℕ) (s : Statement) (g h : Scope) (ys : List Step) (to : ℕ) (vs : List Seen) → Knows vs g
       → StatementTyped fs t g (numbered_statement n s) h → Behind h (n + statement_size s) (outlined ys) to → Scoped vs n (outlined (steps_of t (numbered_statement n s) ++ ys)) to
   statement_scoped fs t n (statement nd (declare d None)) g h ys to vs knows (rules.declaration (rules.fresh free)) behind =
-      scoped_declaration {d = declared_by (n + 1) d} refl own_is_no_result (omega arith)
+      scoped_declaration {d = declared_by (n + 1) d} refl (λ e. own_is_not_result refl e) (omega arith)
       (scoped_from (seen (declared_by (n + 1) d) ∷ vs) (suc (n + 1)) (n + statement_size (statement nd (declare d None))) to (outlined ys) (omega arith)
       (behind (seen (declared_by (n + 1) d) ∷ vs) (declared_known vs g (own (numbered_word (n + 1) d.name) (declared_type d)) (declared_by (n + 1) d) refl refl knows)))
   statement_scoped fs t n (statement nd (declare d (Some r))) g h ys to vs knows (rules.definition (rules.fresh free) typed) behind =
       let here = declared_known vs g (own (numbered_word (n + 1) d.name) (declared_type d)) (declared_by (n + 1) d) refl refl knows in
-      scoped_declaration {d = declared_by (n + 1) d} refl own_is_no_result (omega arith)
+      scoped_declaration {d = declared_by (n + 1) d} refl (λ e. own_is_not_result refl e) (omega arith)
       (scoped_use (own_target vs (declared_by (n + 1) d) d.name.span)
       (leaf (seen (declared_by (n + 1) d) ∷ vs) h (suc (n + 1)) (n + statement_size (statement nd (declare d (Some r)))) to (read_right t (numbered_right (n + 1 + 1) r)) ys here
       (right_seen (seen (declared_by (n + 1) d) ∷ vs) fs t h (numbered_right (n + 1 + 1) r) (declared_type d) here typed) (omega arith) behind))

@@ -349,3 +349,24 @@ fn other_scripts_without_a_fault(rt: HostRuntime) -> Result<(), Fail> {
     assert_eq!(rt; found, None);
     Ok(())
 }
+
+#[test]
+fn names_and_places_of_faults(rt: HostRuntime) -> Result<(), Fail> {
+    let alloc = rt.alloc();
+    let at = span(3, 4);
+    let named = [
+        (AssignFault::AssignedTwice(at), "S1 AssignedTwice"),
+        (AssignFault::PartlyAssigned(at), "S2 PartlyAssigned"),
+        (AssignFault::NeverAssigned(at), "S3 NeverAssigned"),
+        (AssignFault::OuterInLoop(at), "S4 OuterInLoop"),
+        (AssignFault::WholeAndElements(at), "S5 WholeAndElements"),
+        (AssignFault::OutputUnassigned(at), "S6 OutputUnassigned"),
+    ];
+    for (fault, name) in named {
+        let text = format!(in alloc; "{fault}")?;
+        assert_eq!(rt; text.as_str(), name);
+        assert_eq!(rt; fault.span(), Some(at));
+    }
+    assert_eq!(rt; AssignFault::Memory.span(), None);
+    Ok(())
+}

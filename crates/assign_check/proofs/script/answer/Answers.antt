@@ -1,6 +1,5 @@
-use Rattle.std.proofs.Common.{◌∷◌, [], List, ap, ◌∙◌, arith}
+use Rattle.std.proofs.Common.{◌∷◌, [], arith}
 use Rattle.std.proofs.lemmas.Grind.{common_steps}
-use Rattle.std.specs.Prelude.{None}
 use Rattle.syntax_trees.specs.Tree.{Part}
 use Rattle.syntax_trees.specs.View.{part_of, tree_of}
 use Rattle.types.specs.Typed.{table_of}
