@@ -9,7 +9,7 @@ use Rattle.syntax_trees.proofs.Members.{split_in, to_left, to_right, either}
 use Rattle.assign_check.specs.Outline.{Kind, named, written, read, Use, result, given, Declared, Outline, nothing, followed, Step, declares, uses, splits, repeats, encloses}
 use Rattle.assign_check.specs.Faults.{uses_in, uses_at, declared_in, declared_at, variable_faults}
 use Rattle.assign_check.specs.Through.{HasStep, first_step, later_step, BlockIn, the_block, in_a_step, BlockOf, in_first, in_other, in_loop, in_wait}
-use Rattle.assign_check.proofs.Single.{HasUse}
+use Rattle.assign_check.proofs.SingleOutline.{HasUse}
 use Rattle.assign_check.proofs.Scoped.{IsScoped}
 use Rattle.assign_check.proofs.Counts.{none_each, each_none}
 use Rattle.assign_check.proofs.Visible.{body_home, body_unread}

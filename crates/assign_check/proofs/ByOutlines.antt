@@ -15,7 +15,7 @@ use Rattle.syntax_trees.specs.Typing.{WellTyped}
 use Rattle.assign_check.specs.Outline as outline
 use Rattle.assign_check.specs.Outline.{Role, result, given, Declared, Outline, nothing, Step, splits, repeats, outlines}
 use Rattle.assign_check.specs.Through.{OnWay, at_end, Within}
-use Rattle.assign_check.proofs.Single.{HasUse, Owns, Single}
+use Rattle.assign_check.proofs.SingleOutline.{HasUse, Owns, Single}
 use Rattle.assign_check.proofs.Like.{IsLoop, a_range, an_each, Like, StepLike, like_when, like_choose, like_loop, like_wait}
 use Rattle.assign_check.proofs.LikeWays.{to_way, of_way}
 use Rattle.assign_check.proofs.LikeSteps.{stands}

@@ -9,7 +9,7 @@ use Rattle.syntax_trees.specs.Tree.{Tree}
 use Rattle.syntax_trees.specs.Typing.{WellTyped}
 use Rattle.assign_check.specs.Outline.{Outline, outlines}
 use Rattle.assign_check.specs.Faults.{faults_of}
-use Rattle.assign_check.proofs.Single.{Single}
+use Rattle.assign_check.proofs.SingleOutline.{Single}
 use Rattle.assign_check.proofs.Scoped.{IsScoped}
 
 -- the definition, said of blocks, is the one said of outlines

@@ -9,7 +9,7 @@ use Rattle.assign_check.specs.declared.fault.AssignFault.TheVariants.{AssignedTw
 use Rattle.assign_check.specs.Outline.{Kind, named, written, read, Use, Role, own, result, given, Declared, Outline, nothing, followed, Step, declares, uses, splits, repeats, encloses}
 use Rattle.assign_check.specs.Faults.{times, is_among, is_outer, given_by, way, step_way, target_faults, way_faults, step_faults, uses_in, uses_at}
 use Rattle.assign_check.specs.Through.{HasStep, first_step, later_step, BlockIn, the_block, in_a_step, BlockOf, in_first, in_other, in_loop, in_wait, Within, OnWay, at_end, and_then, OnStep, a_declaration, a_target, of_another, no_name, first_branch, other_branch, a_loop, a_wait}
-use Rattle.assign_check.proofs.Single.{HasUse}
+use Rattle.assign_check.proofs.SingleOutline.{HasUse}
 use Rattle.assign_check.proofs.Scoped.{Seen, seen, ScopedBody, behind_parameters, a_parameter}
 use Rattle.assign_check.proofs.Counts.{times_append, among_counts, none_both}
 use Rattle.assign_check.proofs.Visible.{before_up, apart_by, Among, Apart, AllBefore, among_before, among_rest, among_on, Placed, placed, placed_end, placed_on, StepPlaced, placed_declaration, placed_use, placed_split, placed_loop, placed_wait, rises, step_rises, stand_among, NoLocals, no_locals, no_locals_more, apart_from}

@@ -1,4 +1,4 @@
-pub mod Single
+pub mod SingleOutline
 pub mod Scoped
 pub mod Claims
 pub mod Seeing

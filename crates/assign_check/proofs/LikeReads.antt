@@ -7,7 +7,7 @@ use Rattle.syntax_trees.specs.Parts.{block_list, stmts_within, parts, part_cells
 use Rattle.syntax_trees.specs.Single.{Reads, IsRead, in_cell, in_wait}
 use Rattle.assign_check.specs.Outline as outline
 use Rattle.assign_check.specs.Outline.{Use, Declared, Outline, uses}
-use Rattle.assign_check.proofs.Single.{HasUse}
+use Rattle.assign_check.proofs.SingleOutline.{HasUse}
 use Rattle.assign_check.proofs.Like.{Like}
 use Rattle.assign_check.proofs.CoreBlocks.{within, stands_in, used_at, at_used}
 use Rattle.assign_check.proofs.LikeSteps.{stands, Comes, of_plain, of_block, comes, down, up}

@@ -8,7 +8,7 @@ use Rattle.syntax_trees.specs.Single.{IsSimple, IsNamed, IsWritten, LoopBody, of
 use Rattle.syntax_trees.proofs.Tested.{declared_of}
 use Rattle.assign_check.specs.Outline.{named, written, Use, own, Declared, Outline, Step, declares, uses}
 use Rattle.assign_check.specs.Through.{HasStep, Within}
-use Rattle.assign_check.proofs.Single.{HasUse}
+use Rattle.assign_check.proofs.SingleOutline.{HasUse}
 use Rattle.assign_check.proofs.Like.{Plain, no_step, own_step, named_step, written_step, read_step, IsLoop, a_range, an_each, Like, StepLike, named_is_not_written, named_is_not_read, written_is_not_read}
 use Rattle.assign_check.proofs.CoreBlocks.{Below, within, stands_in, used_at, at_used}
 use Rattle.assign_check.proofs.LikeSteps.{stands, Comes, of_front, of_plain, of_block, comes, down, up}

@@ -4,7 +4,7 @@ use Rattle.std.specs.List.{flat_map}
 use Rattle.assign_check.specs.Outline.{Declared, Outline}
 use Rattle.assign_check.specs.Faults.{way_faults, uses_in, declared_in, variable_faults}
 use Rattle.assign_check.proofs.Claims.{NoFault}
-use Rattle.assign_check.proofs.Single.{Owns}
+use Rattle.assign_check.proofs.SingleOutline.{Owns}
 use Rattle.assign_check.proofs.Counts.{none_left, none_right}
 use Rattle.assign_check.proofs.Bodies.{UsedWell, used_well}
 use Rattle.assign_check.proofs.Ways.{WellAssigned}

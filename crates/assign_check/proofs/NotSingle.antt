@@ -3,7 +3,7 @@ use Rattle.std.specs.Prelude.{[], refl}
 use Rattle.assign_check.specs.Outline.{Declared, Outline, declares}
 use Rattle.assign_check.proofs.Claims.{NotSingle}
 use Rattle.assign_check.specs.Through.{HasStep, BlockIn}
-use Rattle.assign_check.proofs.Single.{Owns, Single}
+use Rattle.assign_check.proofs.SingleOutline.{Owns, Single}
 use Rattle.assign_check.proofs.Counts.{none_both}
 use Rattle.assign_check.proofs.Bodies.{UsedWell, no_variable_fault}
 use Rattle.assign_check.proofs.Faultless.{AllAssigned, body_free}

@@ -15,7 +15,7 @@ use Rattle.syntax_trees.proofs.Members.{split_in, to_left, to_right, either}
 use Rattle.syntax_trees.proofs.Tested.{among_split}
 use Rattle.assign_check.specs.Outline.{Role, own, result, given, Declared, Outline, Step, declares, outlined, script_steps, function_outlines, outlines}
 use Rattle.assign_check.specs.Through.{HasStep, the_block, in_a_step, BlockOf, in_loop}
-use Rattle.assign_check.proofs.Single.{Owns}
+use Rattle.assign_check.proofs.SingleOutline.{Owns}
 use Rattle.assign_check.proofs.Like.{IsLoop, a_range, an_each, Turns, value_alone, with_key, Like, StepLike, like_when, like_choose, like_loop, like_wait, result_is_not_given, own_is_not_given, own_is_not_result}
 use Rattle.assign_check.proofs.CoreBlocks.{Below, script_split, function_block, in_block}
 use Rattle.assign_check.proofs.LikeSteps.{Back, up, stands, front_has}

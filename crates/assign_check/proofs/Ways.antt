@@ -11,7 +11,7 @@ use Rattle.assign_check.specs.declared.fault.AssignFault.TheVariants.{PartlyAssi
 use Rattle.assign_check.specs.Outline.{Kind, named, written, read, Use, Role, own, result, given, Declared, Outline, Step, declares, uses, splits, repeats}
 use Rattle.assign_check.specs.Faults.{times, is_before, is_outer, named_by, given_by, way, step_way, is_uneven, branch_faults}
 use Rattle.assign_check.specs.Through.{Within, OnWay, at_end, and_then, OnStep, a_declaration, a_target, of_another, no_name, first_branch, a_loop, a_wait}
-use Rattle.assign_check.proofs.Single.{HasUse}
+use Rattle.assign_check.proofs.SingleOutline.{HasUse}
 use Rattle.assign_check.proofs.Scoped.{Seen}
 use Rattle.assign_check.proofs.Counts.{same_or, same_from, times_append, times_self, times_other, counts_in, times_zero, only_if_none, any_false, false_any}
 use Rattle.assign_check.proofs.Visible.{not_before, apart_by, Among, Apart, among_on, Placed, placed_end, placed_on, StepPlaced, placed_declaration, placed_use, placed_split, placed_loop, placed_wait, rises, step_rises, Stands, stand_up, stand_before, stand_behind}

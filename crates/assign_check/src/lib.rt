@@ -18,4 +18,4 @@ mod trees;
 mod walk;
 mod way;
 
-pub use script::{SinglyAssigned, check};
+pub use script::{Single, check};

@@ -24,7 +24,7 @@ use types::typed::Typed;
 
 /// That a script is singly assigned: `check` alone makes one.
 #[derive(Debug, Drop)]
-pub struct SinglyAssigned {
+pub struct Single {
     made: (),
 }
 
@@ -39,12 +39,12 @@ pub fn check<A: Allocator>(
     alloc: Global,
     script: &Script<A>,
     typed: &Typed,
-) -> Result<SinglyAssigned, AssignFault>
+) -> Result<Single, AssignFault>
     ensures accepted { IfOk result (λ _. faults.faults (table_of typed.now) (tree_of script.now) ≡ []) }
     ensures refused { IfErr result (λ fault. fault ≢ AssignFault.Memory → faults.first_fault (faults.faults (table_of typed.now) (tree_of script.now)) ≡ Some fault) }
 {
     match answer(alloc, script, typed)? {
-        None => Ok(SinglyAssigned { made: () }),
+        None => Ok(Single { made: () }),
         Some(fault) => Err(fault),
     }
 }
