@@ -4,4 +4,6 @@
 pub mod one;
 pub mod report;
 mod tally;
+#[cfg(test)]
+mod tests;
 pub mod turn;

@@ -12,6 +12,8 @@ pub mod fault;
 mod number;
 pub mod read;
 pub mod replay;
+#[cfg(test)]
+mod replay_tests;
 pub mod report;
 #[cfg(test)]
 mod tests;
