@@ -23,7 +23,7 @@ use Rattle.types.proofs.Accepted.{builtin_named}
 use Rattle.types.proofs.Settling.{find_there}
 use Rattle.types.proofs.Typing.{bind_got}
 use Rattle.types.proofs.Sight.{Inside, inside_added, scope_added}
-use Rattle.types.proofs.Breaks.{bind_refused, Wrong, Breaking, fresh_broken}
+use Rattle.types.proofs.Breaks.{bind_refused, Breaking, fresh_broken}
 use Rattle.types.proofs.BreaksStated.{statement_left, command_broken, enclosed_broken}
 
 -- OUTPUTS AND INPUTS
@@ -108,9 +108,9 @@ name_broken fs g above names w s y all is =
 
 -- FUNCTIONS AND SCRIPTS
 
-composite_broken : (fs : List Signature) (above : ℕ) (names : List (List ℕ)) (f : Composite) (s : List Settled) (y : TypeFault) → ¬ Wrong y → Named fs above names
-    → function_checked fs above f s ≡ refused y → InFunction (Breaking fs y) names f
-composite_broken fs above names f s y apart all is =
+composite_broken : (fs : List Signature) (above : ℕ) (names : List (List ℕ)) (f : Composite) (s : List Settled) (y : TypeFault) → Named fs above names
+    → function_checked fs above f s ≡ refused y → InFunction fs (Breaking fs y) names f
+composite_broken fs above names f s y all is =
     elim (bind_refused (parameters Output nowhere 0 f.outputs s) (λ g r. name_of (builtin_of f.name.text) fs above f.name r >>= λ u r. parameters Input g 0 f.inputs r >>= λ h. enclosed fs h f.body) y is) [
       | inl a ↦ in_outputs (parameters_broken fs Output core.output (λ i. refl) nowhere 0 f.outputs s y a)
       | inr b ↦
@@ -121,39 +121,39 @@ composite_broken fs above names f s y apart all is =
               | inl a ↦ in_inputs (subst (λ (x : Scope). InParameters (Breaking fs y) core.input x 0 f.inputs) outs.1 (parameters_broken fs Input core.input (λ i. refl) b.0 0 f.inputs c.1 y a))
               | inr d ↦
                   let ins = parameters_left Input core.input (λ i. refl) b.0 d.0 0 f.inputs c.1 d.1 outs.0 d.2 in
-                  in_body (subst (λ (x : Scope). InBody (Breaking fs y) x f.body) (ins.1 ∙ ap (λ (x : Scope). with_parameters core.input x 0 f.inputs) outs.1)
-                  (enclosed_broken fs d.0 f.body d.1 y apart ins.0 d.3))
+                  in_body (subst (λ (x : Scope). InBody fs (Breaking fs y) x f.body) (ins.1 ∙ ap (λ (x : Scope). with_parameters core.input x 0 f.inputs) outs.1)
+                  (enclosed_broken fs d.0 f.body d.1 y ins.0 d.3))
             ]
           ]
     ]
 
-single_broken : (fs : List Signature) (g : Around) (names : List (List ℕ)) (st : Statement) (ps : Tree) (s : List Settled) (y : TypeFault) → ¬ Wrong y → Inside g
-    → stated fs g st s ≡ refused y → InParts (Breaking fs y) names (scope_of g) (single st ∷ ps)
+single_broken : (fs : List Signature) (g : Around) (names : List (List ℕ)) (st : Statement) (ps : Tree) (s : List Settled) (y : TypeFault) → Inside g
+    → stated fs g st s ≡ refused y → InParts fs (Breaking fs y) names (scope_of g) (single st ∷ ps)
 unfolding stated
-single_broken fs g names (statement nd c) ps s y apart low is = in_statement (command_broken fs g c s y apart low is)
+single_broken fs g names (statement nd c) ps s y low is = in_statement (command_broken fs g c s y low is)
 
 parts_broken : (fs : List Signature) (above : ℕ) (names : List (List ℕ)) (g : Around) (pre : List Signature) (ps : Tree) (s : List Settled) (y : TypeFault)
-    → ¬ Wrong y → fs ≡ pre ++ signatures ps → above ≡ length pre → Named fs above names → Inside g
-    → parts_checked fs above g ps s ≡ refused y → InParts (Breaking fs y) names (scope_of g) ps
-parts_broken fs above names g pre [] s y apart these many all low is = absurd (cc)
-parts_broken fs above names g pre (import sp ∷ ps) s y apart these many all low is = behind_import (parts_broken fs above names g pre ps s y apart these many all low is)
-parts_broken fs above names g pre (function f ∷ ps) s y apart these many all low is =
+    → fs ≡ pre ++ signatures ps → above ≡ length pre → Named fs above names → Inside g
+    → parts_checked fs above g ps s ≡ refused y → InParts fs (Breaking fs y) names (scope_of g) ps
+parts_broken fs above names g pre [] s y these many all low is = absurd (cc)
+parts_broken fs above names g pre (import sp ∷ ps) s y these many all low is = behind_import (parts_broken fs above names g pre ps s y these many all low is)
+parts_broken fs above names g pre (function f ∷ ps) s y these many all low is =
     elim (bind_refused (function_checked fs above f s) (λ u. parts_checked fs (above + 1) g ps) y is) [
-      | inl a ↦ in_function (composite_broken fs above names f s y apart all a)
+      | inl a ↦ in_function (composite_broken fs above names f s y all a)
       | inr a ↦
           let next = these ∙ sym (append_assoc pre (signature_of f ∷ []) (signatures ps)) in
           let more : above + 1 ≡ length (pre ++ signature_of f ∷ []) = ap (λ (n : ℕ). n + 1) many ∙ sym (length-append pre (signature_of f ∷ [])) in
-          behind_function (parts_broken fs (above + 1) (f.name.text ∷ names) g (pre ++ signature_of f ∷ []) ps a.1 y apart next more
+          behind_function (parts_broken fs (above + 1) (f.name.text ∷ names) g (pre ++ signature_of f ∷ []) ps a.1 y next more
           (named_more fs above names pre (signature_of f) (signatures ps) these many all) low a.3)
     ]
-parts_broken fs above names g pre (single st ∷ ps) s y apart these many all low is =
+parts_broken fs above names g pre (single st ∷ ps) s y these many all low is =
     elim (bind_refused (stated fs g st s) (λ h. parts_checked fs above h ps) y is) [
-      | inl a ↦ single_broken fs g names st ps s y apart low a
+      | inl a ↦ single_broken fs g names st ps s y low a
       | inr a ↦
           let left = statement_left fs g a.0 st s a.1 low a.2 in
-          behind_statement (subst (λ (x : Scope). InParts (Breaking fs y) names x ps) left.1 (parts_broken fs above names a.0 pre ps a.1 y apart these many all left.0 a.3))
+          behind_statement (subst (λ (x : Scope). InParts fs (Breaking fs y) names x ps) left.1 (parts_broken fs above names a.0 pre ps a.1 y these many all left.0 a.3))
     ]
 
 pub refusal_names : RefusalNames
-refusal_names tree y is other =
-    parts_broken (signatures tree) 0 [] nowhere [] tree [] y (λ wrong. other wrong.0 wrong.1) refl refl (λ x p f there less. absurd (omega arith)) tt is
+refusal_names tree y is =
+    parts_broken (signatures tree) 0 [] nowhere [] tree [] y refl refl (λ x p f there less. absurd (omega arith)) tt is

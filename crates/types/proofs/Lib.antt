@@ -1,5 +1,6 @@
 pub mod Accepted
 pub mod Answered
+pub mod Gives
 pub mod Breaks
 pub mod BreaksStated
 pub mod BreaksScript

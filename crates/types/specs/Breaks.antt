@@ -1,4 +1,4 @@
--- Which rule a refusal names, and where: the rules of names and calls, and what in a script they are about.
+-- Which rule a refusal names, and where: the rules of names, calls and types, and what in a script they are about.
 use Rattle.std.specs.Prelude.{◌≡◌, ◌≢◌, ℕ, suc, ℤ, false, List, [], ◌∷◌, length, Option, Some, None}
 use Rattle.lexer.specs.declared.token.Span.{Span}
 use Rattle.values.specs.declared.format.Piece.{Piece}
@@ -6,7 +6,8 @@ use Rattle.values.specs.Formats.{pieces}
 use Rattle.types.specs.declared.fault.TypeFault.{TypeFault}
 use Rattle.types.specs.declared.fault.TypeFault.TheVariants.{Unknown, Declared, Mismatch, WrongCount, BadFormat, NotAFunction}
 use Rattle.syntax_trees.specs.declared.tree.Base.{Base}
-use Rattle.syntax_trees.specs.declared.tree.Base.TheVariants.{Int}
+use Rattle.syntax_trees.specs.declared.tree.Base.TheVariants.{Int, Boolean}
+use Rattle.syntax_trees.specs.declared.tree.Shape.TheVariants.{Scalar}
 use Rattle.syntax_trees.specs.declared.tree.Operator.{Operator}
 use Rattle.syntax_trees.specs.declared.tree.Prefix.{Prefix}
 use Rattle.syntax_trees.specs.Core.{Owned, input, output}
@@ -15,10 +16,11 @@ use Rattle.syntax_trees.specs.Table.{Builtin, builtin_text, strcat, fromint, toi
 use Rattle.syntax_trees.specs.Tree as tree
 use Rattle.syntax_trees.specs.Tree.{Word, Node, Declaration, Expression, expression, text, variable, element, prefixed, chain, Expressions, no_expressions, and_expression, expressions_of, RightSide, value, list, Calling, Over, array, range, Statement, statement, Command, declare, assign, write, assign_all, choice, choice_else, loop, waits, Body, body, Statements, no_statements, and_statement, Composite, Tree, import, function, single}
 use Rattle.syntax_trees.specs.Scopes.{Typ, one_of, many_of, declared_type, Visible, Scope, deeper, own, IsVisible, Signature, signatures, IsBuiltinName}
-use Rattle.syntax_trees.specs.Typing.{wanted}
+use Rattle.syntax_trees.specs.Typing.{Operates, Prefixes, wanted}
 use Rattle.types.specs.Outcomes.{refused}
-use Rattle.types.specs.Expressions.{count}
+use Rattle.types.specs.Expressions.{first_of, count}
 use Rattle.types.specs.Scripts.{checked}
+use Rattle.types.specs.Wants.{OfType, OfTypes, Outputs, Gives, Want, of_type, before, Meets, each, element_of, Takes}
 
 -- WHAT RULES ARE ABOUT
 
@@ -31,12 +33,19 @@ abbrev pub outputs_for : Purpose → ℕ
 outputs_for (giving n) = n
 outputs_for alone = 0
 
--- a variable's name where it is used, or declared; a function's name, with those above it; a called name with its arguments
+-- a variable's name where it is used, or declared; a function's name, with those above it; a called name with its arguments; an expression with
+-- what is wanted of it; a name where an array's is wanted; an array literal with the type of its target; a called name with the variables that its
+-- outputs go to; an expression that is a chain without operands, or an operand of a chain that has too few or too many for its operators
 pub data Thing : Type 0 where
   used : Word → Thing
   introduced : Word → Thing
   composite : (above : List (List ℕ)) → Word → Thing
   call : Word → Expressions → Purpose → Thing
+  expects : Want → Expression → Thing
+  as_array : Word → Thing
+  literal : Node → Typ → Thing
+  outputs_to : Word → List Word → Thing
+  uneven : Expression → Thing
 
 -- RULES THAT ARE BROKEN
 
@@ -77,41 +86,76 @@ pub data Broken (fs : List Signature) (g : Scope) : Thing → TypeFault → Type
       → Broken fs g (call w (and_expression e es) alone) (BadFormat (whole_of e))
   no_function : {w : Word} {es : Expressions} {u : Purpose} → ((f : Signature) → f ∈ fs → ¬ (f.text ≡ w.text)) → ¬ IsBuiltinName w.text
       → Broken fs g (call w es u) (NotAFunction w.span)
+  wrong_type : {e : Expression} {want : Want} {τ : Typ} → Gives fs g e τ → ¬ Meets want e τ → Broken fs g (expects want e) (Mismatch (first_of e))
+  no_array : {w : Word} {b : Base} → OfType g w (one_of b) → Broken fs g (as_array w) (Mismatch w.span)
+  literal_for_scalar : {nd : Node} {τ : Typ} → τ.shape ≡ Scalar → Broken fs g (literal nd τ) (Mismatch nd.first)
+  other_outputs : {w : Word} {ws : List Word} {τs σs : List Typ} → Outputs fs w.text τs → OfTypes g ws σs → length τs ≡ length σs → τs ≢ σs
+      → Broken fs g (outputs_to w ws) (Mismatch w.span)
+  no_chain : {e : Expression} → Broken fs g (uneven e) (Mismatch (first_of e))
 
 -- WHERE THINGS STAND
 
 -- some thing of an expression, of which B holds
 mutual
-  pub data InExpression (B : Scope → Thing → Type 0) (g : Scope) : Expression → Type 0 where
-    its_name : {nd : Node} {w : Word} → B g (used w) → InExpression B g (expression nd (variable w))
-    its_array : {nd : Node} {w : Word} {i : Expression} → B g (used w) → InExpression B g (expression nd (element w i))
-    its_index : {nd : Node} {w : Word} {i : Expression} → InExpression B g i → InExpression B g (expression nd (element w i))
-    its_operand : {nd : Node} {p : Prefix} {e : Expression} → InExpression B g e → InExpression B g (expression nd (prefixed p e))
-    its_operands : {nd : Node} {os : List Operator} {es : Expressions} → InExpressions B g es → InExpression B g (expression nd (chain os es))
-    its_call : {nd : Node} {w : Word} {es : Expressions} → B g (call w es (giving 1)) → InExpression B g (expression nd (tree.call w es))
-    its_arguments : {nd : Node} {w : Word} {es : Expressions} → InExpressions B g es → InExpression B g (expression nd (tree.call w es))
+  pub data InExpression (fs : List Signature) (B : Scope → Thing → Type 0) (g : Scope) : Expression → Type 0 where
+    its_name : {nd : Node} {w : Word} → B g (used w) → InExpression fs B g (expression nd (variable w))
+    its_array : {nd : Node} {w : Word} {i : Expression} → B g (used w) → InExpression fs B g (expression nd (element w i))
+    its_elements : {nd : Node} {w : Word} {i : Expression} → B g (as_array w) → InExpression fs B g (expression nd (element w i))
+    its_index : {nd : Node} {w : Word} {i : Expression} → InWanted fs B g (of_type (one_of Int)) i → InExpression fs B g (expression nd (element w i))
+    its_operand : {nd : Node} {p : Prefix} {e : Expression} {b : Base} → Prefixes p b → InWanted fs B g (of_type (one_of b)) e
+        → InExpression fs B g (expression nd (prefixed p e))
+    no_operands : {nd : Node} {os : List Operator} → B g (uneven (expression nd (chain os no_expressions))) → InExpression fs B g (expression nd (chain os no_expressions))
+    no_operators : {nd : Node} {e : Expression} {es : Expressions} → B g (uneven e) → InExpression fs B g (expression nd (chain [] (and_expression e es)))
+    first_operand : {nd : Node} {o : Operator} {os : List Operator} {e : Expression} {es : Expressions} → ((c : Base) → B g (expects (before o c) e))
+        → InExpression fs B g (expression nd (chain (o ∷ os) (and_expression e es)))
+    in_first_operand : {nd : Node} {os : List Operator} {e : Expression} {es : Expressions} → InExpression fs B g e
+        → InExpression fs B g (expression nd (chain os (and_expression e es)))
+    its_operands : {nd : Node} {o : Operator} {os : List Operator} {e : Expression} {es : Expressions} {b c : Base} → Gives fs g e (one_of b) → Operates o b c
+        → InOperands fs B g b c e (o ∷ os) es → InExpression fs B g (expression nd (chain (o ∷ os) (and_expression e es)))
+    its_call : {nd : Node} {w : Word} {es : Expressions} → B g (call w es (giving 1)) → InExpression fs B g (expression nd (tree.call w es))
+    its_arguments : {nd : Node} {w : Word} {es : Expressions} {wants : List Want} → Takes fs w.text es wants → InExpressions fs B g wants es
+        → InExpression fs B g (expression nd (tree.call w es))
 
-  pub data InExpressions (B : Scope → Thing → Type 0) (g : Scope) : Expressions → Type 0 where
-    first_expression : {e : Expression} {es : Expressions} → InExpression B g e → InExpressions B g (and_expression e es)
-    later_expression : {e : Expression} {es : Expressions} → InExpressions B g es → InExpressions B g (and_expression e es)
+  -- of an operand with the operators and operands behind it, in a chain of operands of type b that gives c
+  pub data InOperands (fs : List Signature) (B : Scope → Thing → Type 0) (g : Scope) : Base → Base → Expression → List Operator → Expressions → Type 0 where
+    its_operator : {b c : Base} {e : Expression} {o : Operator} {os : List Operator} {es : Expressions} → B g (expects (before o c) e) → InOperands fs B g b c e (o ∷ os) es
+    next_operand : {b c : Base} {e d : Expression} {o : Operator} {os : List Operator} {es : Expressions} → InWanted fs B g (of_type (one_of b)) d
+        → InOperands fs B g b c e (o ∷ os) (and_expression d es)
+    behind_operand : {b c : Base} {e d : Expression} {o : Operator} {os : List Operator} {es : Expressions} → InOperands fs B g b c d os es
+        → InOperands fs B g b c e (o ∷ os) (and_expression d es)
+    too_few : {b c : Base} {e : Expression} {o : Operator} {os : List Operator} → B g (uneven e) → InOperands fs B g b c e (o ∷ os) no_expressions
+    too_many : {b c : Base} {e d : Expression} {es : Expressions} → B g (uneven e) → InOperands fs B g b c e [] (and_expression d es)
+
+  -- of an expression of which something is wanted
+  pub data InWanted (fs : List Signature) (B : Scope → Thing → Type 0) (g : Scope) : Want → Expression → Type 0 where
+    itself : {want : Want} {e : Expression} → B g (expects want e) → InWanted fs B g want e
+    within : {want : Want} {e : Expression} → InExpression fs B g e → InWanted fs B g want e
+
+  pub data InExpressions (fs : List Signature) (B : Scope → Thing → Type 0) (g : Scope) : List Want → Expressions → Type 0 where
+    first_expression : {want : Want} {wants : List Want} {e : Expression} {es : Expressions} → InWanted fs B g want e → InExpressions fs B g (want ∷ wants) (and_expression e es)
+    later_expression : {want : Want} {wants : List Want} {e : Expression} {es : Expressions} → InExpressions fs B g wants es
+        → InExpressions fs B g (want ∷ wants) (and_expression e es)
 
 pub data InWords (B : Scope → Thing → Type 0) (g : Scope) : List Word → Type 0 where
   first_word : {w : Word} {ws : List Word} → B g (used w) → InWords B g (w ∷ ws)
   later_word : {w : Word} {ws : List Word} → InWords B g ws → InWords B g (w ∷ ws)
 
-pub data InRight (B : Scope → Thing → Type 0) (g : Scope) : RightSide → Type 0 where
-  in_value : {e : Expression} → InExpression B g e → InRight B g (value e)
-  in_list : {nd : Node} {es : List Expression} → InExpressions B g (expressions_of es) → InRight B g (list nd es)
+-- of a right side, by the type of its target
+pub data InRight (fs : List Signature) (B : Scope → Thing → Type 0) (g : Scope) (τ : Typ) : RightSide → Type 0 where
+  in_value : {e : Expression} → InWanted fs B g (of_type τ) e → InRight fs B g τ (value e)
+  the_list : {nd : Node} {es : List Expression} → B g (literal nd τ) → InRight fs B g τ (list nd es)
+  in_list : {nd : Node} {es : List Expression} → InExpressions fs B g (each (element_of τ) (expressions_of es)) (expressions_of es) → InRight fs B g τ (list nd es)
 
-pub data InOver (B : Scope → Thing → Type 0) (g : Scope) : Over → Type 0 where
-  looped_array : {w : Word} → B g (used w) → InOver B g (array w)
-  from_low : {low high : Expression} {step : Option Expression} → InExpression B g low → InOver B g (range low high step)
-  to_high : {low high : Expression} {step : Option Expression} → InExpression B g high → InOver B g (range low high step)
-  by_step : {low high step : Expression} → InExpression B g step → InOver B g (range low high (Some step))
+pub data InOver (fs : List Signature) (B : Scope → Thing → Type 0) (g : Scope) : Over → Type 0 where
+  looped_name : {w : Word} → B g (used w) → InOver fs B g (array w)
+  looped_array : {w : Word} → B g (as_array w) → InOver fs B g (array w)
+  from_low : {low high : Expression} {step : Option Expression} → InWanted fs B g (of_type (one_of Int)) low → InOver fs B g (range low high step)
+  to_high : {low high : Expression} {step : Option Expression} → InWanted fs B g (of_type (one_of Int)) high → InOver fs B g (range low high step)
+  by_step : {low high step : Expression} → InWanted fs B g (of_type (one_of Int)) step → InOver fs B g (range low high (Some step))
 
 -- the type of the values that a loop goes over
 pub data Values : Scope → Over → Base → Type 0 where
-  of_array : {g : Scope} {w : Word} {b : Base} → (v : Visible) → v ∈ g → v.text ≡ w.text → v.type ≡ many_of b → Values g (array w) b
+  of_array : {g : Scope} {w : Word} {b : Base} → OfType g w (many_of b) → Values g (array w) b
   of_range : {g : Scope} {low high : Expression} {step : Option Expression} → Values g (range low high step) Int
 
 abbrev pub with_key : Scope → Option Word → Scope
@@ -135,38 +179,42 @@ behind g (statement nd c) = behind_command g c
 
 -- some thing of a statement, of which B holds in the scope where it stands
 mutual
-  pub data InCommand (B : Scope → Thing → Type 0) : Scope → Command → Type 0 where
-    its_declaration : {g : Scope} {d : Declaration} {r : Option RightSide} → B g (introduced d.name) → InCommand B g (declare d r)
-    its_initial : {g : Scope} {d : Declaration} {r : RightSide} → InRight B (own d.name (declared_type d) ∷ g) r → InCommand B g (declare d (Some r))
-    its_target : {g : Scope} {w : Word} {r : RightSide} → B g (used w) → InCommand B g (assign w r)
-    its_right : {g : Scope} {w : Word} {r : RightSide} → InRight B g r → InCommand B g (assign w r)
-    its_written : {g : Scope} {w : Word} {i e : Expression} → B g (used w) → InCommand B g (write w i e)
-    its_place : {g : Scope} {w : Word} {i e : Expression} → InExpression B g i → InCommand B g (write w i e)
-    its_element : {g : Scope} {w : Word} {i e : Expression} → InExpression B g e → InCommand B g (write w i e)
-    its_targets : {g : Scope} {ws : List Word} {c : Calling} → InWords B g ws → InCommand B g (assign_all ws c)
-    its_called : {g : Scope} {ws : List Word} {c : Calling} → B g (call c.name (expressions_of c.arguments) (giving (length ws))) → InCommand B g (assign_all ws c)
-    its_inputs : {g : Scope} {ws : List Word} {c : Calling} → InExpressions B g (expressions_of c.arguments) → InCommand B g (assign_all ws c)
-    called_alone : {g : Scope} {p : ℤ} {c : Calling} → B g (call c.name (expressions_of c.arguments) alone) → InCommand B g (tree.calls p c)
-    inputs_alone : {g : Scope} {p : ℤ} {c : Calling} → InExpressions B g (expressions_of c.arguments) → InCommand B g (tree.calls p c)
-    its_condition : {g : Scope} {e : Expression} {b : Body} → InExpression B g e → InCommand B g (choice e b)
-    its_branch : {g : Scope} {e : Expression} {b : Body} → InBody B (deeper g) b → InCommand B g (choice e b)
-    either_condition : {g : Scope} {e : Expression} {b d : Body} → InExpression B g e → InCommand B g (choice_else e b d)
-    either_branch : {g : Scope} {e : Expression} {b d : Body} → InBody B (deeper g) b → InCommand B g (choice_else e b d)
-    other_branch : {g : Scope} {e : Expression} {b d : Body} → InBody B (deeper g) d → InCommand B g (choice_else e b d)
-    its_value : {g : Scope} {v : Word} {k : Option Word} {o : Over} {b : Body} → B (deeper g) (introduced v) → InCommand B g (loop v k o b)
-    its_key : {g : Scope} {v k : Word} {o : Over} {b : Body} → ((τ : Typ) → B (own v τ ∷ deeper g) (introduced k)) → InCommand B g (loop v (Some k) o b)
-    its_source : {g : Scope} {v : Word} {k : Option Word} {o : Over} {b : Body} → InOver B g o → InCommand B g (loop v k o b)
-    its_loop : {g : Scope} {v : Word} {k : Option Word} {o : Over} {b : Body} → (β : Base) → Values g o β → InBody B (with_key (own v (one_of β) ∷ deeper g) k) b
-        → InCommand B g (loop v k o b)
-    its_awaited : {g : Scope} {ws : List Word} {b : Body} → InWords B g ws → InCommand B g (waits ws b)
-    its_waiting : {g : Scope} {ws : List Word} {b : Body} → InBody B g b → InCommand B g (waits ws b)
+  pub data InCommand (fs : List Signature) (B : Scope → Thing → Type 0) : Scope → Command → Type 0 where
+    its_declaration : {g : Scope} {d : Declaration} {r : Option RightSide} → B g (introduced d.name) → InCommand fs B g (declare d r)
+    its_initial : {g : Scope} {d : Declaration} {r : RightSide} → InRight fs B (own d.name (declared_type d) ∷ g) (declared_type d) r → InCommand fs B g (declare d (Some r))
+    its_target : {g : Scope} {w : Word} {r : RightSide} → B g (used w) → InCommand fs B g (assign w r)
+    its_right : {g : Scope} {w : Word} {r : RightSide} {τ : Typ} → OfType g w τ → InRight fs B g τ r → InCommand fs B g (assign w r)
+    its_written : {g : Scope} {w : Word} {i e : Expression} → B g (used w) → InCommand fs B g (write w i e)
+    its_written_array : {g : Scope} {w : Word} {i e : Expression} → B g (as_array w) → InCommand fs B g (write w i e)
+    its_place : {g : Scope} {w : Word} {i e : Expression} → InWanted fs B g (of_type (one_of Int)) i → InCommand fs B g (write w i e)
+    its_element : {g : Scope} {w : Word} {i e : Expression} {b : Base} → OfType g w (many_of b) → InWanted fs B g (of_type (one_of b)) e → InCommand fs B g (write w i e)
+    its_targets : {g : Scope} {ws : List Word} {c : Calling} → InWords B g ws → InCommand fs B g (assign_all ws c)
+    its_called : {g : Scope} {ws : List Word} {c : Calling} → B g (call c.name (expressions_of c.arguments) (giving (length ws))) → InCommand fs B g (assign_all ws c)
+    its_outputs : {g : Scope} {ws : List Word} {c : Calling} → B g (outputs_to c.name ws) → InCommand fs B g (assign_all ws c)
+    its_inputs : {g : Scope} {ws : List Word} {c : Calling} {wants : List Want} → Takes fs c.name.text (expressions_of c.arguments) wants
+        → InExpressions fs B g wants (expressions_of c.arguments) → InCommand fs B g (assign_all ws c)
+    called_alone : {g : Scope} {p : ℤ} {c : Calling} → B g (call c.name (expressions_of c.arguments) alone) → InCommand fs B g (tree.calls p c)
+    inputs_alone : {g : Scope} {p : ℤ} {c : Calling} {wants : List Want} → Takes fs c.name.text (expressions_of c.arguments) wants
+        → InExpressions fs B g wants (expressions_of c.arguments) → InCommand fs B g (tree.calls p c)
+    its_condition : {g : Scope} {e : Expression} {b : Body} → InWanted fs B g (of_type (one_of Boolean)) e → InCommand fs B g (choice e b)
+    its_branch : {g : Scope} {e : Expression} {b : Body} → InBody fs B (deeper g) b → InCommand fs B g (choice e b)
+    either_condition : {g : Scope} {e : Expression} {b d : Body} → InWanted fs B g (of_type (one_of Boolean)) e → InCommand fs B g (choice_else e b d)
+    either_branch : {g : Scope} {e : Expression} {b d : Body} → InBody fs B (deeper g) b → InCommand fs B g (choice_else e b d)
+    other_branch : {g : Scope} {e : Expression} {b d : Body} → InBody fs B (deeper g) d → InCommand fs B g (choice_else e b d)
+    its_value : {g : Scope} {v : Word} {k : Option Word} {o : Over} {b : Body} → B (deeper g) (introduced v) → InCommand fs B g (loop v k o b)
+    its_key : {g : Scope} {v k : Word} {o : Over} {b : Body} → ((τ : Typ) → B (own v τ ∷ deeper g) (introduced k)) → InCommand fs B g (loop v (Some k) o b)
+    its_source : {g : Scope} {v : Word} {k : Option Word} {o : Over} {b : Body} → InOver fs B g o → InCommand fs B g (loop v k o b)
+    its_loop : {g : Scope} {v : Word} {k : Option Word} {o : Over} {b : Body} → (β : Base) → Values g o β → InBody fs B (with_key (own v (one_of β) ∷ deeper g) k) b
+        → InCommand fs B g (loop v k o b)
+    its_awaited : {g : Scope} {ws : List Word} {b : Body} → InWords B g ws → InCommand fs B g (waits ws b)
+    its_waiting : {g : Scope} {ws : List Word} {b : Body} → InBody fs B g b → InCommand fs B g (waits ws b)
 
-  pub data InBody (B : Scope → Thing → Type 0) : Scope → Body → Type 0 where
-    in_braces : {g : Scope} {from : ℕ} {ss : Statements} → InStatements B g ss → InBody B g (body from ss)
+  pub data InBody (fs : List Signature) (B : Scope → Thing → Type 0) : Scope → Body → Type 0 where
+    in_braces : {g : Scope} {from : ℕ} {ss : Statements} → InStatements fs B g ss → InBody fs B g (body from ss)
 
-  pub data InStatements (B : Scope → Thing → Type 0) : Scope → Statements → Type 0 where
-    first_statement : {g : Scope} {nd : Node} {c : Command} {ss : Statements} → InCommand B g c → InStatements B g (and_statement (statement nd c) ss)
-    later_statement : {g : Scope} {s : Statement} {ss : Statements} → InStatements B (behind g s) ss → InStatements B g (and_statement s ss)
+  pub data InStatements (fs : List Signature) (B : Scope → Thing → Type 0) : Scope → Statements → Type 0 where
+    first_statement : {g : Scope} {nd : Node} {c : Command} {ss : Statements} → InCommand fs B g c → InStatements fs B g (and_statement (statement nd c) ss)
+    later_statement : {g : Scope} {s : Statement} {ss : Statements} → InStatements fs B (behind g s) ss → InStatements fs B g (and_statement s ss)
 
 -- an output or input of a function, by its place among them
 abbrev pub parameter : (ℕ → Owned) → ℕ → Declaration → Visible
@@ -187,24 +235,24 @@ outputs_scope f = with_parameters output [] 0 f.outputs
 abbrev pub inputs_scope : Composite → Scope
 inputs_scope f = with_parameters input (outputs_scope f) 0 f.inputs
 
-pub data InFunction (B : Scope → Thing → Type 0) (above : List (List ℕ)) (f : Composite) : Type 0 where
-  in_outputs : InParameters B output [] 0 f.outputs → InFunction B above f
-  in_name : B (outputs_scope f) (composite above f.name) → InFunction B above f
-  in_inputs : InParameters B input (outputs_scope f) 0 f.inputs → InFunction B above f
-  in_body : InBody B (inputs_scope f) f.body → InFunction B above f
+pub data InFunction (fs : List Signature) (B : Scope → Thing → Type 0) (above : List (List ℕ)) (f : Composite) : Type 0 where
+  in_outputs : InParameters B output [] 0 f.outputs → InFunction fs B above f
+  in_name : B (outputs_scope f) (composite above f.name) → InFunction fs B above f
+  in_inputs : InParameters B input (outputs_scope f) 0 f.inputs → InFunction fs B above f
+  in_body : InBody fs B (inputs_scope f) f.body → InFunction fs B above f
 
 -- some thing of a script, of which B holds where it stands
-pub data InParts (B : Scope → Thing → Type 0) : List (List ℕ) → Scope → Tree → Type 0 where
-  in_function : {above : List (List ℕ)} {g : Scope} {f : Composite} {ps : Tree} → InFunction B above f → InParts B above g (function f ∷ ps)
-  in_statement : {above : List (List ℕ)} {g : Scope} {nd : Node} {c : Command} {ps : Tree} → InCommand B g c → InParts B above g (single (statement nd c) ∷ ps)
-  behind_import : {above : List (List ℕ)} {g : Scope} {sp : Span} {ps : Tree} → InParts B above g ps → InParts B above g (import sp ∷ ps)
-  behind_function : {above : List (List ℕ)} {g : Scope} {f : Composite} {ps : Tree} → InParts B (f.name.text ∷ above) g ps → InParts B above g (function f ∷ ps)
-  behind_statement : {above : List (List ℕ)} {g : Scope} {s : Statement} {ps : Tree} → InParts B above (behind g s) ps → InParts B above g (single s ∷ ps)
+pub data InParts (fs : List Signature) (B : Scope → Thing → Type 0) : List (List ℕ) → Scope → Tree → Type 0 where
+  in_function : {above : List (List ℕ)} {g : Scope} {f : Composite} {ps : Tree} → InFunction fs B above f → InParts fs B above g (function f ∷ ps)
+  in_statement : {above : List (List ℕ)} {g : Scope} {nd : Node} {c : Command} {ps : Tree} → InCommand fs B g c → InParts fs B above g (single (statement nd c) ∷ ps)
+  behind_import : {above : List (List ℕ)} {g : Scope} {sp : Span} {ps : Tree} → InParts fs B above g ps → InParts fs B above g (import sp ∷ ps)
+  behind_function : {above : List (List ℕ)} {g : Scope} {f : Composite} {ps : Tree} → InParts fs B (f.name.text ∷ above) g ps → InParts fs B above g (function f ∷ ps)
+  behind_statement : {above : List (List ℕ)} {g : Scope} {s : Statement} {ps : Tree} → InParts fs B above (behind g s) ps → InParts fs B above g (single s ∷ ps)
 
 -- a script breaks the rule that a fault names, at the fault's place
 abbrev pub Breaks : Tree → TypeFault → Type 0
-Breaks tree y = InParts (λ g x. Broken (signatures tree) g x y) [] [] tree
+Breaks tree y = InParts (signatures tree) (λ g x. Broken (signatures tree) g x y) [] [] tree
 
--- a refusal that is not of a wrong type names a rule that the script breaks at its place
+-- a refusal names a rule that the script breaks at its place
 abbrev pub RefusalNames : Type 0
-RefusalNames = (tree : Tree) (y : TypeFault) → checked tree ≡ refused y → ((at : Span) → y ≢ Mismatch at) → Breaks tree y
+RefusalNames = (tree : Tree) (y : TypeFault) → checked tree ≡ refused y → Breaks tree y

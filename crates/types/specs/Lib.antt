@@ -11,4 +11,5 @@ pub mod Typed
 pub mod Agrees
 pub mod Rising
 pub mod Accepted
+pub mod Wants
 pub mod Breaks

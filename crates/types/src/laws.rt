@@ -33,8 +33,7 @@ pub fn what_scripts_are_accepted()
     ensures refused { ScriptRefused }
 {}
 
-/// A script that is refused, for another rule than that of wrong types, breaks the rule that the refusal names, at the place
-/// that it names.
+/// A script that is refused breaks the rule that the refusal names, at the place that it names.
 pub fn what_refusals_name()
     ensures names { RefusalNames }
 {}

@@ -13,7 +13,6 @@ ghost use Rattle.types.specs.Outcomes.{refused, Gives, Judges, Tells};
 ghost use Rattle.types.specs.Typed.{table_of};
 ghost use Rattle.types.specs.Accepted.{Checks};
 ghost use Rattle.types.specs.Breaks.{Breaks};
-ghost use Rattle.lexer.specs.declared.token.Span.{Span};
 
 use crate::builtins::builtin_of;
 use crate::fault::TypeFault;
@@ -41,8 +40,8 @@ pub fn check<A: Allocator>(alloc: Global, script: &Script<A>) -> Result<Typed, T
     // A script that is refused for a broken rule is well typed for no table.
     ensures untyped { IfErr result (λ y. y ≢ TypeFault.Memory → (t : Table) → ¬ WellTyped (tree_of script.now) t) }
 
-    // It breaks the rule that the fault names, at the fault's place, where that is another rule than the one of wrong types.
-    ensures names { IfErr result (λ y. y ≢ TypeFault.Memory → ((at : Span) → y ≢ TypeFault.Mismatch at) → Breaks (tree_of script.now) y) }
+    // It breaks the rule that the fault names, at the fault's place.
+    ensures names { IfErr result (λ y. y ≢ TypeFault.Memory → Breaks (tree_of script.now) y) }
 {
     let functions = signatures(alloc, script.items.as_slice())?;
     let mut settled = Vec::new(alloc);

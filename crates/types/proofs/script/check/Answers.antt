@@ -28,6 +28,6 @@ returns-clause-typed g c =
 pub returns-in_err-parts-clause-names : goal.returns-in_err-parts-clause-names
 returns-in_err-parts-clause-names g c =
     let p = err_from_is_err_and c.from_residual-in_err-parts.result c.from_residual-in_err-parts.ensures.1 in
-    rw (p.1, p.2) (λ m other. (let is = c.in_err-parts.ensures m in
+    rw (p.1, p.2) (λ m. (let is = c.in_err-parts.ensures m in
     let exact : checked (tree_of {A = g.row.A.Denot} c.args.script.now) ≡ refused c.in_err-parts.field-0.0 = search rules in
-    refusal_names (tree_of {A = g.row.A.Denot} c.args.script.now) c.in_err-parts.field-0.0 exact other))
+    refusal_names (tree_of {A = g.row.A.Denot} c.args.script.now) c.in_err-parts.field-0.0 exact))

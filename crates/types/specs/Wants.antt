@@ -1,0 +1,105 @@
+-- The types that expressions give where they stand, and what is wanted of them there.
+use Rattle.std.specs.Prelude.{◌≡◌, ℕ, ℤ, false, Bool, List, [], ◌∷◌, map, Option, Some, None}
+use Rattle.values.specs.declared.format.Piece.{Piece}
+use Rattle.values.specs.Formats.{pieces}
+use Rattle.syntax_trees.specs.declared.tree.Base.{Base}
+use Rattle.syntax_trees.specs.declared.tree.Base.TheVariants.{Int, Text, Boolean}
+use Rattle.syntax_trees.specs.declared.tree.Shape.{Shape}
+use Rattle.syntax_trees.specs.declared.tree.Shape.TheVariants.{Scalar, Array}
+use Rattle.syntax_trees.specs.declared.tree.Operator.{Operator}
+use Rattle.syntax_trees.specs.declared.tree.Prefix.{Prefix}
+use Rattle.syntax_trees.specs.Members.{◌∈◌}
+use Rattle.syntax_trees.specs.Table.{Builtin, builtin_text, strcat, fromint, toint, size, printf, assert}
+use Rattle.syntax_trees.specs.Tree.{Word, Node, Expression, expression, number, text, truth, variable, element, call, prefixed, chain, Expressions, no_expressions, and_expression}
+use Rattle.syntax_trees.specs.Scopes.{Typ, one_of, many_of, Visible, Scope, Signature}
+use Rattle.syntax_trees.specs.Typing.{Operates, Prefixes, wanted}
+
+-- TYPES THAT ARE GIVEN
+
+-- a name is that of a visible variable of a type
+abbrev pub OfType : Scope → Word → Typ → Type 0
+OfType g w τ = (v : Visible) × (v ∈ g) × (v.text ≡ w.text) × (v.type ≡ τ)
+
+pub data OfTypes (g : Scope) : List Word → List Typ → Type 0 where
+  no_names : OfTypes g [] []
+  and_name : {w : Word} {ws : List Word} {τ : Typ} {τs : List Typ} → OfType g w τ → OfTypes g ws τs → OfTypes g (w ∷ ws) (τ ∷ τs)
+
+-- the type that a built-in function gives
+abbrev pub value_of : Builtin → Option Base
+value_of strcat = Some Text
+value_of fromint = Some Text
+value_of toint = Some Int
+value_of size = Some Int
+value_of printf = None
+value_of assert = None
+
+-- the types of the outputs of a function of a name, or that of the one built-in function
+pub data Outputs (fs : List Signature) (name : List ℕ) : List Typ → Type 0 where
+  of_function : {τs : List Typ} → (f : Signature) → f ∈ fs → f.text ≡ name → f.outputs ≡ τs → Outputs fs name τs
+  of_builtin : {b : Base} → (f : Builtin) → name ≡ builtin_text f → value_of f ≡ Some b → Outputs fs name (one_of b ∷ [])
+
+-- the type that an expression gives, by its form and the variables and functions that it names
+pub data Gives (fs : List Signature) (g : Scope) : Expression → Typ → Type 0 where
+  gives_number : {nd : Node} {z : ℤ} → Gives fs g (expression nd (number z)) (one_of Int)
+  gives_text : {nd : Node} {bytes : List ℕ} → Gives fs g (expression nd (text bytes)) (one_of Text)
+  gives_truth : {nd : Node} {b : Bool} → Gives fs g (expression nd (truth b)) (one_of Boolean)
+  gives_variable : {nd : Node} {w : Word} {τ : Typ} → OfType g w τ → Gives fs g (expression nd (variable w)) τ
+  gives_element : {nd : Node} {w : Word} {i : Expression} {b : Base} → OfType g w (many_of b) → Gives fs g (expression nd (element w i)) (one_of b)
+  gives_prefixed : {nd : Node} {p : Prefix} {e : Expression} {b : Base} → Prefixes p b → Gives fs g (expression nd (prefixed p e)) (one_of b)
+  gives_chain : {nd : Node} {o : Operator} {os : List Operator} {e : Expression} {es : Expressions} {b c : Base} → Gives fs g e (one_of b) → Operates o b c
+      → Gives fs g (expression nd (chain (o ∷ os) (and_expression e es))) (one_of c)
+  gives_call : {nd : Node} {w : Word} {es : Expressions} {τ : Typ} → Outputs fs w.text (τ ∷ []) → Gives fs g (expression nd (call w es)) τ
+
+-- TYPES THAT ARE WANTED
+
+-- what is wanted of an expression: a type; a scalar; the name of an array with elements of a type, or of any; a scalar that an operator takes where
+-- it gives a type
+pub data Want : Type 0 where
+  of_type : Typ → Want
+  any_scalar : Want
+  array_of : Base → Want
+  any_array : Want
+  before : Operator → Base → Want
+
+abbrev pub IsName : Expression → Type 0
+IsName e = (nd : Node) × (w : Word) × (e ≡ expression nd (variable w))
+
+-- an expression that gives a type is what is wanted
+abbrev pub Meets : Want → Expression → Typ → Type 0
+Meets (of_type σ) e τ = τ ≡ σ
+Meets any_scalar e τ = τ.shape ≡ Scalar
+Meets (array_of b) e τ = IsName e × (τ ≡ many_of b)
+Meets any_array e τ = IsName e × (τ.shape ≡ Array)
+Meets (before o c) e τ = (b : Base) × (τ ≡ one_of b) × Operates o b c
+
+-- the same of each
+abbrev pub each : Want → Expressions → List Want
+each w no_expressions = []
+each w (and_expression e es) = w ∷ each w es
+
+-- of an argument for an input
+abbrev pub argument_by : Shape → Base → Want
+argument_by Scalar b = of_type (one_of b)
+argument_by Array b = array_of b
+
+abbrev pub argument : Typ → Want
+argument τ = argument_by τ.shape τ.base
+
+-- of an element of an array literal, by the type of its target
+abbrev pub element_by : Shape → Base → Want
+element_by Scalar b = any_scalar
+element_by Array b = of_type (one_of b)
+
+abbrev pub element_of : Typ → Want
+element_of τ = element_by τ.shape τ.base
+
+-- of the arguments of a function of a name, or of the one built-in function
+pub data Takes (fs : List Signature) (name : List ℕ) : Expressions → List Want → Type 0 where
+  function_takes : {es : Expressions} → (f : Signature) → f ∈ fs → f.text ≡ name → Takes fs name es (map argument f.inputs)
+  strcat_takes : {es : Expressions} → name ≡ builtin_text strcat → Takes fs name es (each (of_type (one_of Text)) es)
+  fromint_takes : {es : Expressions} → name ≡ builtin_text fromint → Takes fs name es (of_type (one_of Int) ∷ [])
+  toint_takes : {es : Expressions} → name ≡ builtin_text toint → Takes fs name es (of_type (one_of Text) ∷ [])
+  size_takes : {es : Expressions} → name ≡ builtin_text size → Takes fs name es (any_array ∷ [])
+  printf_takes : {nd : Node} {bytes : List ℕ} {es : Expressions} → (ps : List Piece) → name ≡ builtin_text printf → pieces false bytes ≡ Some ps
+      → Takes fs name (and_expression (expression nd (text bytes)) es) (of_type (one_of Text) ∷ map argument (wanted ps))
+  assert_takes : {es : Expressions} → name ≡ builtin_text assert → Takes fs name es (of_type (one_of Boolean) ∷ of_type (one_of Text) ∷ [])
