@@ -12,6 +12,7 @@ use Rattle.syntax_trees.specs.Tree.{Tree}
 use Rattle.syntax_trees.specs.Typing.{WellTyped}
 use Rattle.types.specs.declared.fault.TypeFault.{TypeFault}
 use Rattle.types.specs.declared.fault.TypeFault.TheVariants as Typing
+use Rattle.types.specs.Breaks as typing
 use Rattle.types.specs.Outcomes.{refused}
 use Rattle.types.specs.Scripts.{checked}
 use Rattle.assign_check.specs.declared.fault.AssignFault.{AssignFault}
@@ -47,19 +48,19 @@ script_of src tree t s reads typed none all is =
       scalars = subst IsScalars (sym is) (is_scalars t tree reads.parsed reads.is_numbered well single all);
     }
 
-ill_typed : (src : List ℕ) (tree : Tree) (f : TypeFault) → Reads src tree → f ≢ Typing.Memory → (f ≢ Typing.Memory → checked tree ≡ refused f) → (f ≢ Typing.Memory → (t : Table) → ¬ WellTyped tree t)
+ill_typed : (src : List ℕ) (tree : Tree) (f : TypeFault) → Reads src tree → f ≢ Typing.Memory → (f ≢ Typing.Memory → checked tree ≡ refused f) → (f ≢ Typing.Memory → typing.Breaks tree f) → (f ≢ Typing.Memory → (t : Table) → ¬ WellTyped tree t)
     → IsIllTyped src f
-ill_typed src tree f reads fault is none = record { tree = tree; reads = reads; is = is fault; ill_typed = none fault }
+ill_typed src tree f reads fault is broken none = record { tree = tree; reads = reads; is = is fault; broken = broken fault; ill_typed = none fault }
 
-pub refused_by_types : (src : List ℕ) (tree : Tree) (f : TypeFault) → Reads src tree → (f ≢ Typing.Memory → checked tree ≡ refused f) → (f ≢ Typing.Memory → (t : Table) → ¬ WellTyped tree t)
+pub refused_by_types : (src : List ℕ) (tree : Tree) (f : TypeFault) → Reads src tree → (f ≢ Typing.Memory → checked tree ≡ refused f) → (f ≢ Typing.Memory → typing.Breaks tree f) → (f ≢ Typing.Memory → (t : Table) → ¬ WellTyped tree t)
     → IsRefusedByTypes src f
-refused_by_types src tree (Typing.Unknown at) reads is none = ill_typed src tree (Typing.Unknown at) reads (λ same. absurd (cc)) is none
-refused_by_types src tree (Typing.Declared at) reads is none = ill_typed src tree (Typing.Declared at) reads (λ same. absurd (cc)) is none
-refused_by_types src tree (Typing.Mismatch at) reads is none = ill_typed src tree (Typing.Mismatch at) reads (λ same. absurd (cc)) is none
-refused_by_types src tree (Typing.WrongCount at) reads is none = ill_typed src tree (Typing.WrongCount at) reads (λ same. absurd (cc)) is none
-refused_by_types src tree (Typing.BadFormat at) reads is none = ill_typed src tree (Typing.BadFormat at) reads (λ same. absurd (cc)) is none
-refused_by_types src tree (Typing.NotAFunction at) reads is none = ill_typed src tree (Typing.NotAFunction at) reads (λ same. absurd (cc)) is none
-refused_by_types src tree Typing.Memory reads is none = (tree, reads)
+refused_by_types src tree (Typing.Unknown at) reads is broken none = ill_typed src tree (Typing.Unknown at) reads (λ same. absurd (cc)) is broken none
+refused_by_types src tree (Typing.Declared at) reads is broken none = ill_typed src tree (Typing.Declared at) reads (λ same. absurd (cc)) is broken none
+refused_by_types src tree (Typing.Mismatch at) reads is broken none = ill_typed src tree (Typing.Mismatch at) reads (λ same. absurd (cc)) is broken none
+refused_by_types src tree (Typing.WrongCount at) reads is broken none = ill_typed src tree (Typing.WrongCount at) reads (λ same. absurd (cc)) is broken none
+refused_by_types src tree (Typing.BadFormat at) reads is broken none = ill_typed src tree (Typing.BadFormat at) reads (λ same. absurd (cc)) is broken none
+refused_by_types src tree (Typing.NotAFunction at) reads is broken none = ill_typed src tree (Typing.NotAFunction at) reads (λ same. absurd (cc)) is broken none
+refused_by_types src tree Typing.Memory reads is broken none = (tree, reads)
 
 no_first : (t : Table) (tree : Tree) (f : AssignFault) → first_fault (faults t tree) ≡ Some f → faults t tree ≡ [] → ⊥
 no_first t tree f is none = let nothing : None ≡ Some f = sym (ap first_fault none) ∙ is in absurd (cc)

@@ -20,6 +20,7 @@ use Rattle.agreement.specs.OfScalars.{first_other}
 use Rattle.agreement.specs.Scalars.{IsScalars}
 use Rattle.types.specs.declared.fault.TypeFault.{TypeFault}
 use Rattle.types.specs.declared.fault.TypeFault.TheVariants as Typing
+use Rattle.types.specs.Breaks as typing
 use Rattle.types.specs.Outcomes.{refused}
 use Rattle.types.specs.Scripts.{checked}
 use Rattle.assign_check.specs.declared.fault.AssignFault.{AssignFault}
@@ -57,11 +58,13 @@ pub record Compiles (src : List ℕ) (code : Code) : Type 0 where
 abbrev pub IsRead : List ℕ → Type 0
 IsRead src = (tree : Tree) × Reads src tree
 
--- the text reads as a tree that is well typed for no table of names, and this is the first fault that reading it meets
+-- the text reads as a tree that is well typed for no table of names, and this is the first fault that reading it meets: it names a rule that
+-- the tree breaks at its place
 pub record IsIllTyped (src : List ℕ) (fault : TypeFault) : Type 0 where
   pub tree : Tree
   pub reads : Reads src tree
   pub is : checked tree ≡ refused fault
+  pub broken : typing.Breaks tree fault
   pub ill_typed : (t : Table) → ¬ WellTyped tree t
 
 -- the text reads as a tree that is well typed and not singly assigned, and this is the fault that stands first: it names a rule that the
