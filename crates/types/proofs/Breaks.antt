@@ -28,11 +28,10 @@ use Rattle.types.specs.Outcomes.{Outcome, refused, got, Check, ◌>>=◌}
 use Rattle.types.specs.Names.{seen, referred, refer, free, fresh, builtin_of, called, settles, missing, found, find, find_from, counted, function_called}
 use Rattle.types.specs.Agrees.{visible_at, scope_of}
 use Rattle.types.specs.Expressions.{same_base, has_base, scalar, scalar_by, elements_of, elements_by, gives, base_of, given_or, given_by, takes, first_given, first_of, count, has_wanted, named, array_name, fits_by, fits, of_one, builtin_by, output_of, either, whole, typed, expected, whole_form, chained, further, elements, arguments, only, builtin_type}
-use Rattle.types.specs.Wants.{OfType, Gives, Want, of_type, any_scalar, any_array, before, IsName, Meets, each, argument_by, argument, Takes, function_takes, strcat_takes, fromint_takes, toint_takes, size_takes}
+use Rattle.types.specs.Wants.{OfType, Gives, Want, of_type, any_scalar, any_array, before, IsName, Meets, each, argument_by, argument, Takes, function_takes, builtin_takes, strcat_takes, fromint_takes, toint_takes, size_takes}
 use Rattle.types.specs.Breaks.{Purpose, giving, outputs_for, Thing, used, introduced, call, expects, as_array, uneven, BuiltinCounts, Broken, unknown, visible_before, wrong_count, wrong_count_of_builtin, no_function, wrong_type, no_array, no_chain, InExpression, its_name, its_array, its_elements, its_index, its_operand, no_operands, no_operators, first_operand, in_first_operand, its_operands, its_call, its_arguments, InOperands, its_operator, next_operand, behind_operand, too_few, too_many, InWanted, itself, within, InExpressions, first_expression, later_expression}
 use Rattle.types.proofs.Accepted.{given_got, array_name_got, call_counted, builtin_named}
-use Rattle.types.proofs.Complete.{same_self}
-use Rattle.types.proofs.Typing.{bind_got, scalar_got, gives_complete, prefix_sound}
+use Rattle.types.proofs.Typing.{same_self, bind_got, scalar_got, gives_complete, prefix_sound}
 use Rattle.types.proofs.Gives.{refer_type, found_in, function_found, whole_gives, typed_gives, form_gives, expected_gives}
 use Rattle.types.proofs.Settling.{seen_in}
 use Rattle.types.proofs.Sight.{other_text, none_visible, unseen_onto}
@@ -225,9 +224,9 @@ one_want Named.Printf = any_scalar
 one_want Named.Assert = any_scalar
 
 one_taken : (fs : List Signature) (f : Builtin) (name : List ℕ) (es : Expressions) → BuiltinCounts (builtin_name f) 1 (giving 1) → (f ≢ Named.Strcat) → builtin_of name ≡ Some f → Takes fs name es (one_want f ∷ [])
-one_taken fs Named.FromInt name es counts one is = fromint_takes (builtin_named name Named.FromInt is)
-one_taken fs Named.ToInt name es counts one is = toint_takes (builtin_named name Named.ToInt is)
-one_taken fs Named.Size name es counts one is = size_takes (builtin_named name Named.Size is)
+one_taken fs Named.FromInt name es counts one is = builtin_takes (builtin_name Named.FromInt) (builtin_named name Named.FromInt is) fromint_takes
+one_taken fs Named.ToInt name es counts one is = builtin_takes (builtin_name Named.ToInt) (builtin_named name Named.ToInt is) toint_takes
+one_taken fs Named.Size name es counts one is = builtin_takes (builtin_name Named.Size) (builtin_named name Named.Size is) size_takes
 one_taken fs Named.Strcat name es counts one is = absurd (one refl)
 one_taken fs Named.Printf name es counts one is = let bad = counts.1 in absurd (cc)
 one_taken fs Named.Assert name es counts one is = let bad = counts.1 in absurd (cc)
@@ -276,7 +275,7 @@ built_broken fs g w no_expressions Named.Strcat texts only s y named in_texts in
     inl (builtin_broken fs g w no_expressions (giving 1) Named.Strcat y named (cc) (λ c. c.0 refl))
 built_broken fs g w (and_expression e es) Named.Strcat texts only s y named in_texts in_only is =
     elim (bind_refused (texts s) (λ u. got Text) y is) [
-      | inl a ↦ inr (each (of_type (one_of Text)) (and_expression e es), strcat_takes (builtin_named w.text Named.Strcat named), in_texts a)
+      | inl a ↦ inr (each (of_type (one_of Text)) (and_expression e es), builtin_takes (builtin_name Named.Strcat) (builtin_named w.text Named.Strcat named) strcat_takes, in_texts a)
       | inr a ↦ absurd (let here = a.3 in cc)
     ]
 
@@ -478,11 +477,14 @@ mutual
   only_broken fs g w no_expressions f s y some counts one single is =
       inl (builtin_broken fs (scope_of g) w no_expressions (giving 1) f y some (cc) (λ c. let bad = single 0 c in absurd (cc)))
   only_broken fs g w (and_expression e no_expressions) f s y some counts one single is =
-      inr (one_want f ∷ [], one_taken fs f w.text (and_expression e no_expressions) counts one some,
-      elim (bind_refused (whole fs g e s) (λ τ. of_one f τ e w.span) y is) [
-        | inl a ↦ first_expression (within (whole_broken fs g e s y a))
-        | inr a ↦ first_expression (itself (type_broken fs (scope_of g) e (one_want f) a.0 y (whole_gives fs g e a.0 s a.1 a.2) (one_refused f a.0 e w.span a.1 y counts one a.3)))
-      ])
+      inr (
+        one_want f ∷ [],
+        one_taken fs f w.text (and_expression e no_expressions) counts one some,
+        elim (bind_refused (whole fs g e s) (λ τ. of_one f τ e w.span) y is) [
+          | inl a ↦ first_expression (within (whole_broken fs g e s y a))
+          | inr a ↦ first_expression (itself (type_broken fs (scope_of g) e (one_want f) a.0 y (whole_gives fs g e a.0 s a.1 a.2) (one_refused f a.0 e w.span a.1 y counts one a.3)))
+        ],
+      )
   only_broken fs g w (and_expression e (and_expression d es)) f s y some counts one single is =
       inl (builtin_broken fs (scope_of g) w (and_expression e (and_expression d es)) (giving 1) f y some (cc) (λ c. let bad = single (suc (suc (count es))) c in absurd (cc)))
 

@@ -29,14 +29,13 @@ use Rattle.types.specs.Names.{refer, fresh, builtin_of, called, settles, functio
 use Rattle.types.specs.Agrees.{scope_of}
 use Rattle.types.specs.Expressions.{same_base, same_shape, has_type, elements_of, first_of, count, either, whole, expected, elements, arguments, builtin_type}
 use Rattle.types.specs.Statements.{literal_by, right, initial, refer_all, same_types, only_target, several, format_by, print, builtin_statement, call_alone, step_of, source, fresh_key, fresh_variables, inside, declared, loop_scope, stated, commanded, enclosed, in_order}
-use Rattle.types.specs.Wants.{OfType, OfTypes, no_names, and_name, Outputs, of_function, of_builtin, of_type, argument, function_takes, printf_takes, assert_takes}
+use Rattle.types.specs.Wants.{OfType, OfTypes, no_names, and_name, Outputs, of_function, of_builtin, of_type, argument, function_takes, builtin_takes, printf_takes, assert_takes}
 use Rattle.types.specs.Breaks.{giving, alone, introduced, call, literal, outputs_to, BuiltinCounts, IsFormat, whole_of, Broken, wrong_count_of_conversions, no_format, literal_for_scalar, other_outputs, visible_before, itself, within, later_expression, InWords, first_word, later_word, InRight, in_value, the_list, in_list, InOver, looped_name, looped_array, from_low, to_high, by_step, Values, of_array, of_range, with_key, behind_command, behind, InCommand, its_declaration, its_initial, its_target, its_right, its_written, its_written_array, its_place, its_element, its_targets, its_called, its_outputs, its_inputs, called_alone, inputs_alone, its_condition, its_branch, either_condition, either_branch, other_branch, its_value, its_key, its_source, its_loop, its_awaited, its_waiting, InBody, in_braces, InStatements, first_statement, later_statement}
 use Rattle.types.proofs.Accepted.{call_counted, builtin_named}
 use Rattle.types.proofs.Settling.{same_text}
-use Rattle.types.proofs.Typing.{bind_got, elements_got}
+use Rattle.types.proofs.Typing.{same_self, bind_got, elements_got}
 use Rattle.types.proofs.Sight.{Inside, inside_more, inside_added, scope_declared, scope_inside}
 use Rattle.types.proofs.Stated.{count_of, only_got, loop_inside}
-use Rattle.types.proofs.Complete.{same_self}
 use Rattle.types.proofs.Gives.{refer_type, function_found, builtin_value, whole_gives}
 use Rattle.types.proofs.Breaks.{bind_refused, Breaking, elements_refused, type_broken, array_broken, refer_broken, fresh_visible, fresh_broken, different, function_broken, builtin_broken, CallBroken, whole_broken, expected_broken, elements_broken, arguments_broken, builtin_value_broken}
 
@@ -78,7 +77,7 @@ right_broken fs g (value e) τ s y is =
     ]
 right_broken fs g (list nd es) τ s y is = literal_broken fs g τ.shape τ.base es nd s y is
 
-initial_broken : (fs : List Signature) (g : Around) (d : Declaration) (r : Option RightSide) (s : List Settled) (y : TypeFault) 
+initial_broken : (fs : List Signature) (g : Around) (d : Declaration) (r : Option RightSide) (s : List Settled) (y : TypeFault)
     → initial fs (declared g d.name (declared_type d)) r (declared_type d) s ≡ refused y → InCommand fs (Breaking fs y) (scope_of g) (declare d r)
 initial_broken fs g d None s y is = absurd (cc)
 initial_broken fs g d (Some r) s y is =
@@ -156,8 +155,11 @@ several_function_broken fs g ws c τs s y targets many none is =
           let counts = call_counted fs c.name (length c.arguments) (length τs) d.0 s d.1 d.2 in
           let there = function_found fs c.name (length c.arguments) (length τs) d.0 s d.1 d.2 in
           elim (bind_refused (arguments fs g (expressions_of c.arguments) d.0.inputs c.name.span d.1) (λ u. same_types d.0.outputs τs c.name.span) y d.3) [
-            | inl a ↦ inl (inr (map argument d.0.inputs, function_takes d.0 there.0 there.1,
-                arguments_broken fs g (expressions_of c.arguments) d.0.inputs c.name.span d.1 y (count_of c.arguments ∙ sym counts.0) a))
+            | inl a ↦ inl (inr (
+              map argument d.0.inputs,
+              function_takes d.0 there.0 there.1,
+              arguments_broken fs g (expressions_of c.arguments) d.0.inputs c.name.span d.1 y (count_of c.arguments ∙ sym counts.0) a,
+            ))
             | inr a ↦ inr (outputs_broken fs (scope_of g) c.name ws d.0.outputs τs y (of_function d.0 there.0 there.1 refl) targets counts.1 (same_types_refused d.0.outputs τs c.name.span a.1 y counts.1 a.3))
           ]
     ]
@@ -210,8 +212,11 @@ text_broken fs g w nd bytes es s y some is =
       | Some ps ↦ λ has here.
           elim (nat_eq (length es) (length (wanted ps))) as (λ b. nat_eq (length es) (length (wanted ps)) ≡ b → cond b (arguments fs g (expressions_of es) (wanted ps) w.span s) (refused (WrongCount w.span)) ≡ refused y
           → CallBroken fs y (scope_of g) w (expressions_of (expression nd (text bytes) ∷ es)) alone) [
-            | true ↦ λ many here. inr (of_type (one_of Text) ∷ map argument (wanted ps), printf_takes ps (builtin_named w.text Named.Printf some) has,
-                later_expression (arguments_broken fs g (expressions_of es) (wanted ps) w.span s y (count_of es ∙ eqb-true (length es) (length (wanted ps)) many) here))
+            | true ↦ λ many here. inr (
+              of_type (one_of Text) ∷ map argument (wanted ps),
+              builtin_takes (builtin_name Named.Printf) (builtin_named w.text Named.Printf some) (printf_takes ps has),
+              later_expression (arguments_broken fs g (expressions_of es) (wanted ps) w.span s y (count_of es ∙ eqb-true (length es) (length (wanted ps)) many) here),
+            )
             | false ↦ λ other here.
                 let same : WrongCount w.span ≡ y = cc in
                 inl (subst (Broken fs (scope_of g) (call w (expressions_of (expression nd (text bytes) ∷ es)) alone)) same
@@ -237,8 +242,11 @@ statement_broken fs g w Named.Printf es s y some is = print_broken fs g w es s y
 statement_broken fs g w Named.Assert es s y some is =
     elim (nat_eq (length es) 2) as (λ b. nat_eq (length es) 2 ≡ b → cond b (arguments fs g (expressions_of es) (one_of Boolean ∷ one_of Text ∷ []) w.span s) (refused (WrongCount w.span)) ≡ refused y
     → CallBroken fs y (scope_of g) w (expressions_of es) alone) [
-      | true ↦ λ many here. inr (of_type (one_of Boolean) ∷ of_type (one_of Text) ∷ [], assert_takes (builtin_named w.text Named.Assert some),
-          arguments_broken fs g (expressions_of es) (one_of Boolean ∷ one_of Text ∷ []) w.span s y (count_of es ∙ eqb-true (length es) 2 many) here)
+      | true ↦ λ many here. inr (
+        of_type (one_of Boolean) ∷ of_type (one_of Text) ∷ [],
+        builtin_takes (builtin_name Named.Assert) (builtin_named w.text Named.Assert some) assert_takes,
+        arguments_broken fs g (expressions_of es) (one_of Boolean ∷ one_of Text ∷ []) w.span s y (count_of es ∙ eqb-true (length es) 2 many) here,
+      )
       | false ↦ λ other here. inl (builtin_broken fs (scope_of g) w (expressions_of es) alone Named.Assert y some (cc) (λ c. different (length es) 2 other (sym (count_of es) ∙ c.0)))
     ] refl is
 statement_broken fs g w Named.Strcat es s y some is = inl (builtin_broken fs (scope_of g) w (expressions_of es) alone Named.Strcat y some (cc) (λ c. let it = c.1 in absurd (cc)))

@@ -7,10 +7,8 @@ pub mod BreaksScript
 pub mod ByText
 pub mod Calls
 pub mod Checked
-pub mod Complete
 pub mod Growth
 pub mod Numbered
-pub mod Passes
 pub mod Places
 pub mod Rest
 pub mod Rising
@@ -20,4 +18,6 @@ pub mod Stated
 pub mod Steps
 pub mod Table
 pub mod Typing
+pub mod Unbroken
+pub mod UnbrokenScript
 pub mod Walks

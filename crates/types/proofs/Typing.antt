@@ -112,3 +112,12 @@ gives_complete o b c (rules.equal d) = refl
 gives_complete o b c (rules.unequal d) = refl
 gives_complete o b c rules.conjunction = refl
 gives_complete o b c rules.disjunction = refl
+
+pub base_complete : (p : Prefix) (b : Base) → rules.Prefixes p b → base_of p ≡ b
+base_complete p b rules.negative = refl
+base_complete p b rules.inverted = refl
+
+pub same_self : (b : Base) → same_base b b ≡ true
+same_self Int = refl
+same_self Text = refl
+same_self Boolean = refl

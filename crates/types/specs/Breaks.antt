@@ -12,11 +12,11 @@ use Rattle.syntax_trees.specs.declared.tree.Operator.{Operator}
 use Rattle.syntax_trees.specs.declared.tree.Prefix.{Prefix}
 use Rattle.syntax_trees.specs.Core.{Owned, input, output}
 use Rattle.syntax_trees.specs.Members.{◌∈◌}
-use Rattle.syntax_trees.specs.Table.{Builtin, builtin_text, strcat, fromint, toint, size, printf, assert}
+use Rattle.syntax_trees.specs.Table.{Table, Builtin, builtin_text, strcat, fromint, toint, size, printf, assert}
 use Rattle.syntax_trees.specs.Tree as tree
 use Rattle.syntax_trees.specs.Tree.{Word, Node, Declaration, Expression, expression, text, variable, element, prefixed, chain, Expressions, no_expressions, and_expression, expressions_of, RightSide, value, list, Calling, Over, array, range, Statement, statement, Command, declare, assign, write, assign_all, choice, choice_else, loop, waits, Body, body, Statements, no_statements, and_statement, Composite, Tree, import, function, single}
 use Rattle.syntax_trees.specs.Scopes.{Typ, one_of, many_of, declared_type, Visible, Scope, deeper, own, IsVisible, Signature, signatures, IsBuiltinName}
-use Rattle.syntax_trees.specs.Typing.{Operates, Prefixes, wanted}
+use Rattle.syntax_trees.specs.Typing.{Operates, Prefixes, wanted, WellTyped}
 use Rattle.types.specs.Outcomes.{refused}
 use Rattle.types.specs.Expressions.{first_of, count}
 use Rattle.types.specs.Scripts.{checked}
@@ -33,18 +33,23 @@ abbrev pub outputs_for : Purpose → ℕ
 outputs_for (giving n) = n
 outputs_for alone = 0
 
--- a variable's name where it is used, or declared; a function's name, with those above it; a called name with its arguments; an expression with
--- what is wanted of it; a name where an array's is wanted; an array literal with the type of its target; a called name with the variables that its
--- outputs go to; an expression that is a chain without operands, or an operand of a chain that has too few or too many for its operators
 pub data Thing : Type 0 where
+  -- a variable's name where it is used, or declared
   used : Word → Thing
   introduced : Word → Thing
+  -- a function's name, with those above it
   composite : (above : List (List ℕ)) → Word → Thing
+  -- a called name with its arguments
   call : Word → Expressions → Purpose → Thing
+  -- an expression with what is wanted of it
   expects : Want → Expression → Thing
+  -- a name where an array's is wanted
   as_array : Word → Thing
+  -- an array literal with the type of its target
   literal : Node → Typ → Thing
+  -- a called name with the variables that its outputs go to
   outputs_to : Word → List Word → Thing
+  -- a chain without operands, or an operand of a chain that has not one operand more than operators; the parser makes none
   uneven : Expression → Thing
 
 -- RULES THAT ARE BROKEN
@@ -256,3 +261,7 @@ Breaks tree y = InParts (signatures tree) (λ g x. Broken (signatures tree) g x 
 -- a refusal names a rule that the script breaks at its place
 abbrev pub RefusalNames : Type 0
 RefusalNames = (tree : Tree) (y : TypeFault) → checked tree ≡ refused y → Breaks tree y
+
+-- a script that is well typed breaks no rule
+abbrev pub BreaksNothing : Type 0
+BreaksNothing = (tree : Tree) (y : TypeFault) (t : Table) → WellTyped tree t → ¬ Breaks tree y

@@ -20,6 +20,7 @@ use Rattle.syntax_trees.specs.Typing.{Operates, Prefixes, wanted}
 abbrev pub OfType : Scope → Word → Typ → Type 0
 OfType g w τ = (v : Visible) × (v ∈ g) × (v.text ≡ w.text) × (v.type ≡ τ)
 
+-- names of visible variables, with their types in the same order
 pub data OfTypes (g : Scope) : List Word → List Typ → Type 0 where
   no_names : OfTypes g [] []
   and_name : {w : Word} {ws : List Word} {τ : Typ} {τs : List Typ} → OfType g w τ → OfTypes g ws τs → OfTypes g (w ∷ ws) (τ ∷ τs)
@@ -52,13 +53,14 @@ pub data Gives (fs : List Signature) (g : Scope) : Expression → Typ → Type 0
 
 -- TYPES THAT ARE WANTED
 
--- what is wanted of an expression: a type; a scalar; the name of an array with elements of a type, or of any; a scalar that an operator takes where
--- it gives a type
+-- what is wanted of an expression
 pub data Want : Type 0 where
   of_type : Typ → Want
   any_scalar : Want
+  -- the name of an array, with elements of a type or of any
   array_of : Base → Want
   any_array : Want
+  -- a scalar of a type that the operator behind it takes and for which it gives this one
   before : Operator → Base → Want
 
 abbrev pub IsName : Expression → Type 0
@@ -93,13 +95,17 @@ element_by Array b = of_type (one_of b)
 abbrev pub element_of : Typ → Want
 element_of τ = element_by τ.shape τ.base
 
+-- of the arguments of a built-in function
+pub data BuiltinTakes : Builtin → Expressions → List Want → Type 0 where
+  strcat_takes : {es : Expressions} → BuiltinTakes strcat es (each (of_type (one_of Text)) es)
+  fromint_takes : {es : Expressions} → BuiltinTakes fromint es (of_type (one_of Int) ∷ [])
+  toint_takes : {es : Expressions} → BuiltinTakes toint es (of_type (one_of Text) ∷ [])
+  size_takes : {es : Expressions} → BuiltinTakes size es (any_array ∷ [])
+  printf_takes : {nd : Node} {bytes : List ℕ} {es : Expressions} → (ps : List Piece) → pieces false bytes ≡ Some ps
+      → BuiltinTakes printf (and_expression (expression nd (text bytes)) es) (of_type (one_of Text) ∷ map argument (wanted ps))
+  assert_takes : {es : Expressions} → BuiltinTakes assert es (of_type (one_of Boolean) ∷ of_type (one_of Text) ∷ [])
+
 -- of the arguments of a function of a name, or of the one built-in function
 pub data Takes (fs : List Signature) (name : List ℕ) : Expressions → List Want → Type 0 where
   function_takes : {es : Expressions} → (f : Signature) → f ∈ fs → f.text ≡ name → Takes fs name es (map argument f.inputs)
-  strcat_takes : {es : Expressions} → name ≡ builtin_text strcat → Takes fs name es (each (of_type (one_of Text)) es)
-  fromint_takes : {es : Expressions} → name ≡ builtin_text fromint → Takes fs name es (of_type (one_of Int) ∷ [])
-  toint_takes : {es : Expressions} → name ≡ builtin_text toint → Takes fs name es (of_type (one_of Text) ∷ [])
-  size_takes : {es : Expressions} → name ≡ builtin_text size → Takes fs name es (any_array ∷ [])
-  printf_takes : {nd : Node} {bytes : List ℕ} {es : Expressions} → (ps : List Piece) → name ≡ builtin_text printf → pieces false bytes ≡ Some ps
-      → Takes fs name (and_expression (expression nd (text bytes)) es) (of_type (one_of Text) ∷ map argument (wanted ps))
-  assert_takes : {es : Expressions} → name ≡ builtin_text assert → Takes fs name es (of_type (one_of Boolean) ∷ of_type (one_of Text) ∷ [])
+  builtin_takes : {es : Expressions} {wants : List Want} → (f : Builtin) → name ≡ builtin_text f → BuiltinTakes f es wants → Takes fs name es wants

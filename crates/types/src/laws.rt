@@ -1,6 +1,6 @@
 //! Laws of what the check settles, against the typing rules.
 ghost use Rattle.types.specs.Agrees.{ReferSound, CallSound, OperatorsExact, PrefixesSound};
-ghost use Rattle.types.specs.Breaks.{RefusalNames};
+ghost use Rattle.types.specs.Breaks.{RefusalNames, BreaksNothing};
 ghost use Rattle.types.specs.Accepted.{WholeSound, ArgumentsSound, ElementsSound, BuiltinSound, ScriptSound, ScriptTyped, ScriptRefused};
 
 /// A name that is found refers to a visible variable, and a called name is a function of the script, as the typing rules ask
@@ -33,7 +33,9 @@ pub fn what_scripts_are_accepted()
     ensures refused { ScriptRefused }
 {}
 
-/// A script that is refused breaks the rule that the refusal names, at the place that it names.
+/// A script that is refused breaks the rule that the refusal names, at the place that it names; a script that is well typed,
+/// for some table, breaks none.
 pub fn what_refusals_name()
     ensures names { RefusalNames }
+    ensures nothing { BreaksNothing }
 {}

@@ -1,5 +1,5 @@
 use Rattle.types.proofs.Checked.{script_sound}
-use Rattle.types.proofs.Passes.{script_refused}
+use Rattle.types.proofs.UnbrokenScript.{script_refused}
 use Rattle.types.proofs.Table.{script_typed}
 use Rattle.types.proofs.laws.what_scripts_are_accepted.Goals as goal
 
