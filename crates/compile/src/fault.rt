@@ -1,5 +1,6 @@
 //! Why a script has no code.
 ghost use Rattle.std.specs.Prelude.{◌≡◌};
+ghost use Rattle.compile.specs.Places.{span_of};
 
 use assign_check::fault::AssignFault;
 use lexer::token::Span;
@@ -28,7 +29,9 @@ pub enum CompileFault {
 
 impl CompileFault {
     /// The place of the refusal. Want of memory has none.
-    pub fn span(self) -> Option<Span> {
+    pub fn span(self) -> Option<Span>
+        ensures { result ≡ span_of self }
+    {
         match self {
             CompileFault::Parse(fault) => fault.span(),
             CompileFault::Types(fault) => fault.span(),
