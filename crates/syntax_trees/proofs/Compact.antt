@@ -225,7 +225,11 @@ module _ (s : Core) (grow : (n m : ℕ) → n ≤ m → Grows s (Known s n) (Kno
 
     value_round : {p : Place} {v : Scalar} → HasValue s (Meaning s) p v → (n : ℕ) × HasValue s (Known s n) p v
     value_round (stored k) = (k.0, stored k.1)
-    value_round (in_turn m r o t) = let q = ready_round r in (q.0, in_turn m q.1 o t)
+    value_round (in_turn l m r o t d) =
+        let a = live_round l in
+        let b = ready_round r in
+        let n = max a.0 b.0 in
+        (n, in_turn (keeps_live s (Known s a.0) (Known s n) (grow a.0 n (omega arith)) a.1) m (keeps_ready s (Known s b.0) (Known s n) (grow b.0 n (omega arith)) b.1) o t d)
 
   stmt_round : {path : Path} {st : Stmt} → LiveStmt s (Meaning s) path st → (n : ℕ) × LiveStmt s (Known s n) path st
   stmt_round (in_block l i) = let r = live_round l in (r.0, in_block r.1 i)

@@ -73,4 +73,4 @@ module _ (s : Core) (flat : Flat s) where
   -- each value is a stored one
   pub flat_value : {K : Knowledge} {p : Place} {v : Scalar} → HasValue s K p v → K (value p (One v))
   flat_value (stored k) = k
-  flat_value (in_turn m r o t) = absurd (opens_none (plain_stmt m) o)
+  flat_value (in_turn l m r o t d) = absurd (opens_none (plain_stmt (stmt_in s (in_block l m))) o)

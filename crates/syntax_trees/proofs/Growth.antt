@@ -57,7 +57,7 @@ module _ (s : Core) (K K' : Knowledge) (g : Grows s K K') where
 
     pub keeps_value : {p : Place} {v : Scalar} → HasValue s K p v → HasValue s K' p v
     keeps_value (stored k) = stored (g.more _ k)
-    keeps_value (in_turn m r o t) = in_turn m (keeps_ready r) o t
+    keeps_value (in_turn l m r o t d) = in_turn (keeps_live l) m (keeps_ready r) o t d
 
   pub keeps_stmt : {path : Path} {st : Stmt} → LiveStmt s K path st → LiveStmt s K' path st
   keeps_stmt (in_block h i) = in_block (keeps_live h) i

@@ -76,7 +76,7 @@ turn_live : (n j : ℕ) → j < 2 → Live S (Known S (suc n)) (turn_path j) bod
 turn_live n j h = opened script (later (later first)) (ready n) (turn refl refl h) (omega arith)
 
 turn_value : (n j : ℕ) → j < 2 → HasValue S (Known S (suc n)) (turn_path j, 8) (Number (value_in (pos 1) (pos 1) j))
-turn_value n j h = in_turn (later (later first)) (ready n) (turn refl refl h) (range_value refl refl)
+turn_value n j h = in_turn script (later (later first)) (ready n) (turn refl refl h) (range_value refl refl) (omega arith)
 
 -- WHO WRITES
 

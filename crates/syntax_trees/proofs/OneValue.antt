@@ -13,7 +13,8 @@ use Rattle.values.specs.Operators.{evaluated}
 use Rattle.values.specs.Ranges.{value_in}
 use Rattle.syntax_trees.specs.Core.{Name, Expr, Exprs, Form, Stmt, stmt, Action, each, Block, Core}
 use Rattle.syntax_trees.specs.Facts.{Fault, operation, value, element, Knowledge, IsKey, a_number, Elements}
-use Rattle.syntax_trees.specs.Meaning.{Ready, cells_known, source_closed, HasValue, stored, in_turn, ValueUnder, of_literal, of_name, of_array, of_operator, ValuesUnder, no_operand, operand, Gives, computed, faulty, found, missing}
+use Rattle.syntax_trees.specs.Meaning.{Ready, cells_known, source_closed, in_block, HasValue, stored, in_turn, ValueUnder, of_literal, of_name, of_array, of_operator, ValuesUnder, no_operand, operand, Gives, computed, faulty, found, missing}
+use Rattle.syntax_trees.proofs.Declared.{stmt_in}
 use Rattle.syntax_trees.specs.Members.{◌∈◌}
 use Rattle.syntax_trees.specs.Openings.{Bounds, InTurn, range_value, range_turn, each_value, each_key}
 use Rattle.syntax_trees.specs.Parts.{script_stmts}
@@ -51,7 +52,7 @@ record Turn (s : Core) (K : Knowledge) (p : Place) (v : Scalar) : Type 0 where
 
 view : {s : Core} {K : Knowledge} {p : Place} {v : Scalar} → HasValue s K p v → K (value p (One v)) ⊎ Turn s K p v
 view (stored k) = inl k
-view (in_turn m r o t) = inr (record { at = _; node = _; header = _; path = _; key = _; values = _; variable = _; there = m; ready = r; turn = t; is = refl })
+view {s} (in_turn l m r o t d) = inr (record { at = _; node = _; header = _; path = _; key = _; values = _; variable = _; there = stmt_in s (in_block l m); ready = r; turn = t; is = refl })
 
 one_same : {v u : Scalar} → One v ≡ One u → v ≡ u
 one_same h = cc

@@ -13,7 +13,7 @@ use Rattle.syntax_trees.specs.Core.{Owned, local, output, Name, Expr, literal, n
 use Rattle.syntax_trees.specs.Facts.{Fault, operation, no_element, element_twice, too_deep, Fact, value, element, line, fault, Knowledge, IsKey, OneWrite, OneWriter, Elements, KnownAll}
 use Rattle.syntax_trees.specs.Members.{◌∈◌}
 use Rattle.syntax_trees.specs.Openings.{Bounds, bounds, Decides, Opens, InTurn, Branches}
-use Rattle.syntax_trees.specs.Parts.{stmt_at, stmt_node, outer_cells, cells, stmt_calls, block_list, script_stmts, function_body, targets}
+use Rattle.syntax_trees.specs.Parts.{stmt_at, stmt_node, outer_cells, cells, stmt_calls, block_list, function_body, targets}
 use Rattle.syntax_trees.specs.Places.{Path, Place, place, most_steps}
 
 -- a variable is a target in a statement or in a block inside it
@@ -83,8 +83,8 @@ mutual
   -- the scalar at a place: a known value, or what a loop's variable is in a turn that the loop opens (docs/LANGUAGE.md, Loops)
   pub data HasValue (s : Core) (K : Knowledge) : Place → Scalar → Type 0 where
     stored : {at : Place} {v : Scalar} → K (value at (One v)) → HasValue s K at v
-    in_turn : {path : Path} {at n x : ℕ} {header : Action} {vs : List Value} {k : Key} {b : Block} {v : Scalar}
-        → stmt at n header ∈ script_stmts s → Ready s K path header vs → Opens header vs k b → InTurn header vs k x v
+    in_turn : {path : Path} {c : Block} {at n x : ℕ} {header : Action} {vs : List Value} {k : Key} {b : Block} {v : Scalar}
+        → Live s K path c → stmt at n header ∈ block_list c → Ready s K path header vs → Opens header vs k b → InTurn header vs k x v → length path < most_steps
         → HasValue s K ((at, k) ∷ path, x) v
 
 mutual
