@@ -14,7 +14,7 @@ use Rattle.values.specs.Operators.{evaluated}
 use Rattle.syntax_trees.specs.Core.{here, Expr, Exprs, name, Core}
 use Rattle.syntax_trees.specs.Facts.{value, Knowledge}
 use Rattle.syntax_trees.specs.Meaning.{HasValue, stored, ValueUnder, of_literal, of_name, of_operator, ValuesUnder, no_operand, operand, Known, Meaning}
-use Rattle.syntax_trees.proofs.Rounds.{known_later}
+use Rattle.meaning_laws.proofs.Rounds.{known_later}
 use Rattle.task_code.specs.Compute.{answer_at, answer_value, eval, evals}
 use Rattle.agreement.specs.Compile.{named, named_all, place_in, over, all_over}
 use Rattle.agreement.specs.Scalars.{OverScalars, a_literal, a_name, an_operator, AllOverScalars, no_more, one_more}

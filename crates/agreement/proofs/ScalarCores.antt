@@ -14,7 +14,7 @@ use Rattle.syntax_trees.specs.Resolved.{number_of, script_block, core}
 use Rattle.syntax_trees.specs.Single.{nowhere, here_too, not_here, Way, way_end, way_on, StmtWay, simple, Owns, declared_here, SinglyAssigned}
 use Rattle.syntax_trees.specs.Table.{Table}
 use Rattle.syntax_trees.specs.Typing.{WellTyped}
-use Rattle.syntax_trees.proofs.Declared.{local_same}
+use Rattle.meaning_laws.proofs.Declared.{local_same}
 use Rattle.syntax_trees.proofs.Members.{either}
 use Rattle.syntax_trees.proofs.Numbers.{numbers-numbered}
 use Rattle.syntax_trees.proofs.Tested.{has, distinct, flat, both, has_in, self_eq, distinct_right, distinct_apart, flat_once, flat_in, cell_nodes}

@@ -17,7 +17,7 @@ use Rattle.syntax_trees.specs.Outcomes.{Clean}
 use Rattle.syntax_trees.specs.Parts.{block_list, stmt_at, stmt_action, stmt_calls, cells}
 use Rattle.syntax_trees.specs.Places.{Path, Place, place}
 use Rattle.syntax_trees.proofs.Members.{split_in}
-use Rattle.syntax_trees.proofs.Rounds.{ok_values}
+use Rattle.meaning_laws.proofs.Rounds.{ok_values}
 use Rattle.agreement.specs.Compile.{node_of, action_expr, is_act, declared, script_list}
 use Rattle.agreement.specs.Scalars.{OverScalars, OnScalars, declares, assigns, prints, asserts, IsScalars}
 use Rattle.agreement.proofs.Evaluation.{value_within}

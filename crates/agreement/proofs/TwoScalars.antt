@@ -2,7 +2,7 @@
 use Rattle.std.proofs.Common.{◌≡◌, ◌⊎◌, inl, inr, ℕ, List, sym, ◌∙◌, arith}
 use Rattle.syntax_trees.specs.Core.{local, Name, Outer, Stmt, stmt, assign}
 use Rattle.syntax_trees.specs.Members.{◌∈◌}
-use Rattle.syntax_trees.proofs.Declared.{local_same}
+use Rattle.meaning_laws.proofs.Declared.{local_same}
 
 -- the statement with node 3 assigns the scalar with node 1, the one with node 4 that with node 2, and no other assigns
 abbrev pub AssignTwo : List Stmt → Type 0

@@ -9,7 +9,7 @@ ghost use Rattle.agreement.specs.OfScalars.{first_other, is_offset, start_of};
 ghost use Rattle.agreement.specs.Scalars.{IsScalars};
 ghost use Rattle.agreement.specs.Worked.{used_before_assigned, in_a_circle};
 ghost use Rattle.std.specs.Prelude.{◌≡◌, ℕ, List, [], Some, None, true};
-ghost use Rattle.syntax_trees.specs.ExampleTrees.{table_of_read_before_assignment, tree_of_read_before_assignment, table_of_fault_beside_unknown, tree_of_fault_beside_unknown, table_of_too_large, tree_of_too_large, table_of_strict_and, tree_of_strict_and, table_of_loop_reads_what_it_writes, tree_of_loop_reads_what_it_writes, table_of_outputs_are_the_callers, tree_of_outputs_are_the_callers};
+ghost use Rattle.meaning_laws.specs.ExampleTrees.{table_of_read_before_assignment, tree_of_read_before_assignment, table_of_fault_beside_unknown, tree_of_fault_beside_unknown, table_of_too_large, tree_of_too_large, table_of_strict_and, tree_of_strict_and, table_of_loop_reads_what_it_writes, tree_of_loop_reads_what_it_writes, table_of_outputs_are_the_callers, tree_of_outputs_are_the_callers};
 ghost use Rattle.syntax_trees.specs.Meaning.{Meaning};
 ghost use Rattle.syntax_trees.specs.Members.{◌∈◌};
 ghost use Rattle.syntax_trees.specs.Outcomes.{Blocked, Clean};

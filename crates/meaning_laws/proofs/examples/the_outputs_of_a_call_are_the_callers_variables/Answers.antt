@@ -1,0 +1,5 @@
+use Rattle.meaning_laws.proofs.Scripts.{prints_both}
+use Rattle.meaning_laws.proofs.examples.the_outputs_of_a_call_are_the_callers_variables.Goals as goal
+
+pub returns : goal.returns
+returns c = (4, prints_both)

@@ -1,0 +1,2 @@
+pub mod ExampleTrees
+pub mod Examples

@@ -1,5 +1,0 @@
-use Rattle.syntax_trees.proofs.Loop.{prints_four}
-use Rattle.syntax_trees.proofs.examples.a_loop_reads_what_it_writes.Goals as goal
-
-pub returns : goal.returns
-returns c = (8, prints_four)

@@ -1,5 +1,0 @@
-use Rattle.syntax_trees.proofs.Scripts.{prints_both}
-use Rattle.syntax_trees.proofs.examples.the_outputs_of_a_call_are_the_callers_variables.Goals as goal
-
-pub returns : goal.returns
-returns c = (4, prints_both)

@@ -1,5 +1,0 @@
-use Rattle.syntax_trees.proofs.Ever as law
-use Rattle.syntax_trees.proofs.laws.meaning_follows_from_itself.Goals as goal
-
-pub returns : goal.returns
-returns c = λ s w h clean f. law.follows s w h clean f

@@ -1,5 +1,0 @@
-use Rattle.syntax_trees.proofs.Ever as law
-use Rattle.syntax_trees.proofs.laws.meaning_is_closed.Goals as goal
-
-pub returns : goal.returns
-returns c = λ s w h f d. law.shut s w h f d
