@@ -1,2 +1,4 @@
 pub mod ExampleTrees
 pub mod Examples
+pub mod Scoped
+pub mod TypedValues
