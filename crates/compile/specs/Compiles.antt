@@ -27,7 +27,7 @@ use Rattle.assign_check.specs.declared.fault.AssignFault.{AssignFault}
 use Rattle.assign_check.specs.declared.fault.AssignFault.TheVariants as Assign
 use Rattle.assign_check.specs.Breaks.{Breaks}
 use Rattle.assign_check.specs.Faults.{faults, first_fault}
-use Rattle.lowering.specs.declared.fault.LowerFault.TheVariants as Lower
+use Rattle.scalar_lowering.specs.declared.fault.LowerFault.TheVariants as Lower
 use Rattle.board.specs.Flat.{IsFlat}
 use Rattle.compile.specs.declared.fault.CompileFault.{CompileFault}
 use Rattle.compile.specs.declared.fault.CompileFault.TheVariants as Fault

@@ -4,7 +4,7 @@ use Rattle.lexer.specs.declared.token.Span.{Span}
 use Rattle.syntax.specs.Refusals as syntax
 use Rattle.types.specs.Faults as types
 use Rattle.assign_check.specs.Places as assignments
-use Rattle.lowering.specs.Faults as lowering
+use Rattle.scalar_lowering.specs.Faults as lowering
 use Rattle.compile.specs.declared.fault.CompileFault.{CompileFault}
 use Rattle.compile.specs.declared.fault.CompileFault.TheVariants.{Parse, Types, Assignments, Lower, Memory}
 

@@ -1,12 +1,12 @@
 //! From the bytes of a script to its code.
 ghost use Rattle.std.specs.Prelude.{IfOk, IfErr};
-ghost use Rattle.flow.specs.View.{core_of};
+ghost use Rattle.scalar_flow.specs.View.{core_of};
 ghost use Rattle.compile.specs.Compiles.{IsScriptOf, Compiles, IsRefused};
 
 use crate::fault::CompileFault;
 use emit::emit;
-use flow::statement::Flow;
-use lowering::lower;
+use scalar_flow::statement::Flow;
+use scalar_lowering::lower;
 use std::alloc::{Allocator, Global};
 use syntax::parser::parse;
 use task_code::code::Code;

@@ -4,7 +4,7 @@ ghost use Rattle.compile.specs.Places.{span_of};
 
 use assign_check::fault::AssignFault;
 use lexer::token::Span;
-use lowering::fault::LowerFault;
+use scalar_lowering::fault::LowerFault;
 use std::alloc::AllocError;
 use std::error::Error;
 use std::fmt;

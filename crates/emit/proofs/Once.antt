@@ -7,10 +7,10 @@ use Rattle.std.proofs.lemmas.List.{append-nil, take_more, map-append}
 use Rattle.dataflow.specs.System.{Distinct}
 use Rattle.agreement.specs.Compile.{without, each_once, named, named_all}
 use Rattle.syntax_trees.specs.Core as Pure
-use Rattle.flow.specs.View.{expr_view, exprs_view}
+use Rattle.scalar_flow.specs.View.{expr_view, exprs_view}
 use Rattle.agreement.specs.Blocks.{operands_of}
 use Rattle.agreement.proofs.Members.{without_in}
-use Rattle.flow.specs.declared.expr.Expr.{Expr}
+use Rattle.scalar_flow.specs.declared.expr.Expr.{Expr}
 
 pub without_here : (n m : ℕ) (ms : List ℕ) → nat_eq n m ≡ true → without n (m ∷ ms) ≡ without n ms
 without_here n m ms q = ap (λ t. if t then without n ms else m ∷ without n ms) q

@@ -2,9 +2,9 @@
 use Rattle.std.proofs.Common.{◌≡◌, ℕ, List, [], ◌∷◌, ◌++◌, map, length, arith, refl, sym, ap, ◌∙◌}
 use Rattle.std.proofs.lemmas.List.{append-nil}
 use Rattle.syntax_trees.specs.Core as Pure
-use Rattle.flow.specs.View as flow_view
+use Rattle.scalar_flow.specs.View as flow_view
 use Rattle.agreement.specs.Blocks as blocks
-use Rattle.flow.specs.declared.expr.Expr.{Expr}
+use Rattle.scalar_flow.specs.declared.expr.Expr.{Expr}
 use Rattle.task_code.specs.declared.expr.Expr.{Expr as Placed}
 use Rattle.task_code.specs.Code as Code
 use Rattle.task_code.specs.View as code_view

@@ -8,11 +8,11 @@ use Rattle.values.specs.Operators.{printf}
 use Rattle.syntax_trees.specs.Core.{Expr, here, literal, name, operator, none, also, Name, Cell, Outer, Stmt, stmt, declare, assign, print, no_stmts, stmts, Core}
 use Rattle.syntax_trees.specs.Members.{◌∈◌, first, later}
 use Rattle.syntax_trees.specs.Parts.{cells}
-use Rattle.flow.specs.View.{expr_view, statement_view}
+use Rattle.scalar_flow.specs.View.{expr_view, statement_view}
 use Rattle.agreement.specs.Blocks.{block_of}
-use Rattle.flow.specs.declared.expr.Expr as Flow
-use Rattle.flow.specs.declared.expr.Expr.{the_lemmas}
-use Rattle.flow.specs.declared.statement.Statement.{Statement}
+use Rattle.scalar_flow.specs.declared.expr.Expr as Flow
+use Rattle.scalar_flow.specs.declared.expr.Expr.{the_lemmas}
+use Rattle.scalar_flow.specs.declared.statement.Statement.{Statement}
 use Rattle.agreement.specs.Compile.{script_list}
 use Rattle.agreement.specs.Scalars.{alone, OnScalars, declares, assigns, prints, a_literal, a_name, no_more, one_more, IsScalars}
 

@@ -1,6 +1,6 @@
 //! What a statement adds to the script's body: a scalar or an entry.
 ghost use Rattle.std.specs.Prelude.{◌≡◌, false, IfOk, map};
-ghost use Rattle.flow.specs.View.{expr_view, statement_view};
+ghost use Rattle.scalar_flow.specs.View.{expr_view, statement_view};
 ghost use Rattle.task_code.specs.View as code_view;
 ghost use Rattle.task_code.specs.Code.{Stored};
 ghost use Rattle.agreement.specs.Compile.{named, each_once, over, variable};
@@ -8,8 +8,8 @@ ghost use Rattle.emit.specs.Added.{IsAdded};
 
 use crate::names::note_names;
 use crate::over::placed;
-use flow::expr::Expr;
-use flow::statement::{Action, Statement};
+use scalar_flow::expr::Expr;
+use scalar_flow::statement::{Action, Statement};
 use std::alloc::{AllocError, Global};
 use task_code::entry::{Act, Entry, Name, Need, Owned, Variable};
 use task_code::expr::Expr as Placed;

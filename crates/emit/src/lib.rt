@@ -2,7 +2,7 @@
 #![tactic(auto)]
 
 ghost use Rattle.std.specs.Prelude.{◌≡◌, IfOk};
-ghost use Rattle.flow.specs.View.{core_of};
+ghost use Rattle.scalar_flow.specs.View.{core_of};
 ghost use Rattle.agreement.specs.Compile.{compiled};
 ghost use Rattle.agreement.specs.Scalars.{IsScalars};
 
@@ -13,7 +13,7 @@ mod over;
 mod tests;
 
 use crate::added::{Added, added_by};
-use flow::statement::Flow;
+use scalar_flow::statement::Flow;
 use std::alloc::{AllocError, Global};
 use task_code::code::{Body, Code, Opener};
 

@@ -1,10 +1,10 @@
 //! The scalars that an expression names, each once, where it stands first.
 ghost use Rattle.std.specs.Prelude.{◌≡◌, ◌++◌, ◌∷◌, [], OnOk};
 ghost use Rattle.dataflow.specs.System.{Distinct};
-ghost use Rattle.flow.specs.View.{expr_view, exprs_view};
+ghost use Rattle.scalar_flow.specs.View.{expr_view, exprs_view};
 ghost use Rattle.agreement.specs.Compile.{named, named_all, each_once, place_in};
 
-use flow::expr::Expr;
+use scalar_flow::expr::Expr;
 use std::alloc::AllocError;
 
 /// Puts the scalars that an expression names behind these, each that is not there yet.

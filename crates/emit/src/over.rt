@@ -1,12 +1,12 @@
 //! Expressions over the places of the scalars that they name.
 ghost use Rattle.std.specs.Prelude.{◌≡◌, IfOk};
 ghost use Rattle.dataflow.specs.System.{Distinct};
-ghost use Rattle.flow.specs.View.{expr_view, exprs_view};
+ghost use Rattle.scalar_flow.specs.View.{expr_view, exprs_view};
 ghost use Rattle.task_code.specs.View as code_view;
 ghost use Rattle.agreement.specs.Compile.{over, all_over};
 
 use crate::names::place_of;
-use flow::expr::Expr;
+use scalar_flow::expr::Expr;
 use std::alloc::{AllocError, Global};
 use task_code::expr::Expr as Placed;
 

@@ -5,13 +5,13 @@ ghost use Rattle.values.specs.declared.op.Sign.TheVariants.{Plus};
 ghost use Rattle.values.specs.declared.value.Scalar.TheVariants as values;
 ghost use Rattle.values.specs.Operators.{sum_of, printf};
 ghost use Rattle.syntax_trees.specs.Core as core;
-ghost use Rattle.flow.specs.View.{core_of, expr_view, exprs_view};
+ghost use Rattle.scalar_flow.specs.View.{core_of, expr_view, exprs_view};
 ghost use Rattle.agreement.specs.Scalars.{IsScalars};
 ghost use Rattle.agreement.specs.Worked as scripts;
 
 use crate::emit;
-use flow::expr::Expr;
-use flow::statement::{Action, Flow, Statement};
+use scalar_flow::expr::Expr;
+use scalar_flow::statement::{Action, Flow, Statement};
 use std::alloc::Global;
 use std::test::Fail;
 use task_code::code::{Code, Opener};

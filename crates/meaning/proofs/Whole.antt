@@ -3,8 +3,8 @@ use Rattle.std.proofs.Common.{◌≡◌, ℕ, true, false, List, [], map, sym, a
 use Rattle.std.specs.Prelude.{nat_eq, IsPermutation}
 use Rattle.std.proofs.lemmas.Bool.{eqb-true, eq-eqb}
 use Rattle.syntax_trees.specs.Core.{Stmt, Core}
-use Rattle.flow.specs.declared.statement.Flow.{Flow}
-use Rattle.flow.specs.View.{core_of, statement_view}
+use Rattle.scalar_flow.specs.declared.statement.Flow.{Flow}
+use Rattle.scalar_flow.specs.View.{core_of, statement_view}
 use Rattle.syntax_trees.specs.Meaning.{IsFinished}
 use Rattle.agreement.specs.Compile.{script_list}
 use Rattle.agreement.specs.Scalars.{IsScalars}

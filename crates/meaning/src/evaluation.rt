@@ -1,13 +1,13 @@
 //! Expressions under what is known (Swift/T Guide, on expressions): an expression is worked out once all its variables
 //! have values, and the first fault in reading order is its fault.
 ghost use Rattle.std.specs.Prelude.{◌≡◌, ◌≢◌, Ok, Err, IfOk, IfErr, OnOk, option_copied};
-ghost use Rattle.flow.specs.View.{expr_view, exprs_view};
+ghost use Rattle.scalar_flow.specs.View.{expr_view, exprs_view};
 ghost use Rattle.values.specs.Op.{operation_of};
 ghost use Rattle.values.specs.Operators.{all_values, evaluated};
 ghost use Rattle.meaning.specs.Pass.{looked_up, or_zero, is_known, are_known, worked, all_worked, come, in_front};
 
 use crate::knowledge::{Entry, Progress};
-use flow::expr::Expr;
+use scalar_flow::expr::Expr;
 use std::alloc::{AllocError, Global};
 use values::fault::OpFault;
 use values::op::Op;

@@ -1,13 +1,13 @@
 //! The rounds: each works out every statement from what the round before knew.
 ghost use Rattle.std.specs.Prelude.{◌≡◌, ◌≤◌, false, IfOk, map};
 ghost use Rattle.agreement.specs.Scalars.{IsScalars};
-ghost use Rattle.flow.specs.View.{action_view, core_of, statement_view};
+ghost use Rattle.scalar_flow.specs.View.{action_view, core_of, statement_view};
 ghost use Rattle.meaning.specs.Known.{IsKnowledgeOf};
 ghost use Rattle.meaning.specs.Pass.{blank_of, entry_with, opened, pass, progress_for, IsAfter};
 
 use crate::evaluation::evaluate;
 use crate::knowledge::{Entry, Knowledge, Progress, Role};
-use flow::statement::{Action, Flow, Statement};
+use scalar_flow::statement::{Action, Flow, Statement};
 use std::alloc::{AllocError, Global};
 
 /// What is known of a script of scalars after so many rounds as add something, or after `limit` rounds.

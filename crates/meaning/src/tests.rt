@@ -2,13 +2,13 @@
 ghost use Rattle.std.specs.Prelude.{◌≡◌, IfOk};
 ghost use Rattle.agreement.specs.Worked.{in_a_circle, used_before_assigned};
 ghost use Rattle.agreement.specs.Scalars.{alone};
-ghost use Rattle.flow.specs.View.{core_of, expr_view, statement_view};
+ghost use Rattle.scalar_flow.specs.View.{core_of, expr_view, statement_view};
 ghost use Rattle.syntax_trees.specs.Core.{assign, declare, here, stmt};
 
 use crate::reading::Statement as Offset;
 use crate::rounds::rounds;
-use flow::expr::Expr;
-use flow::statement::{Action, Flow, Statement};
+use scalar_flow::expr::Expr;
+use scalar_flow::statement::{Action, Flow, Statement};
 use std::alloc::{AllocError, Global};
 use task_code::expr::Operator;
 use values::format::{Format, FormatFault};

@@ -2,7 +2,7 @@ use Rattle.std.proofs.Common.{ℕ, List, ◌++◌, [], ◌∷◌, map, sym, ap, 
 use Rattle.std.specs.Vec.Iter.{into_iter_items}
 use Rattle.dataflow.specs.System.{Distinct}
 use Rattle.syntax_trees.specs.Parts.{stmt_node}
-use Rattle.flow.specs.View.{statement_view, core_of}
+use Rattle.scalar_flow.specs.View.{statement_view, core_of}
 use Rattle.task_code.specs.View.{entry_view, variable_view}
 use Rattle.agreement.specs.Compile.{acts}
 use Rattle.agreement.proofs.Members.{block_list_of}
@@ -10,7 +10,7 @@ use Rattle.emit.specs.Added.{IsAdded}
 use Rattle.emit.specs.declared.added.Added.{Added}
 use Rattle.emit.proofs.Owed.{Owed, room, entry_more, whole}
 use Rattle.emit.proofs.Placed.{none_left}
-use Rattle.flow.specs.declared.statement.Statement.{Statement}
+use Rattle.scalar_flow.specs.declared.statement.Statement.{Statement}
 use Rattle.task_code.specs.Code.{Entry, Body, ByMain}
 use Rattle.emit.proofs.emit.Goals as goal
 

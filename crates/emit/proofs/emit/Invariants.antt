@@ -1,6 +1,6 @@
 use Rattle.std.proofs.Common.{◌≡◌, [], map}
 use Rattle.std.specs.Vec.Iter.{into_iter_items}
-use Rattle.flow.specs.View.{statement_view}
+use Rattle.scalar_flow.specs.View.{statement_view}
 use Rattle.task_code.specs.View.{variable_view}
 use Rattle.emit.proofs.Owed.{Owed}
 use Rattle.emit.proofs.emit.Given as goal

@@ -1,6 +1,6 @@
 use Rattle.std.proofs.Common.{◌++◌, ◌∙◌, sym, ap, subst}
 use Rattle.dataflow.specs.System.{Distinct}
-use Rattle.flow.specs.View.{expr_view}
+use Rattle.scalar_flow.specs.View.{expr_view}
 use Rattle.agreement.specs.Compile.{named, each_once}
 use Rattle.emit.proofs.Once.{once_distinct}
 use Rattle.emit.proofs.added.computed.Goals as goal

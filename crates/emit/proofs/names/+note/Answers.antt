@@ -1,6 +1,6 @@
 use Rattle.std.proofs.Common.{◌≡◌, ◌++◌, sym, ap, ◌∙◌, arith, take}
 use Rattle.std.proofs.lemmas.Grind.{common_steps}
-use Rattle.flow.specs.View.{exprs_view}
+use Rattle.scalar_flow.specs.View.{exprs_view}
 use Rattle.agreement.specs.Compile.{each_once, named_all}
 use Rattle.emit.proofs.Once.{once_twice, noted_more}
 use Rattle.emit.proofs.names.+note.Goals as goal

@@ -1,5 +1,5 @@
 use Rattle.std.proofs.Common.{◌≡◌, ◌++◌, take}
-use Rattle.flow.specs.View.{exprs_view}
+use Rattle.scalar_flow.specs.View.{exprs_view}
 use Rattle.agreement.specs.Compile.{each_once, named_all}
 use Rattle.emit.proofs.names.+note.Given as goal
 

@@ -1,7 +1,7 @@
 use Rattle.std.proofs.Common.{◌≡◌, pos, sym, ap, ◌∙◌, subst}
 use Rattle.values.specs.Operators.{printf}
 use Rattle.syntax_trees.specs.Core.{operator}
-use Rattle.flow.specs.View.{exprs_view}
+use Rattle.scalar_flow.specs.View.{exprs_view}
 use Rattle.agreement.specs.Scalars.{IsScalars}
 use Rattle.emit.proofs.Scripts.{one_with, line_is_scalars, script_of}
 use Rattle.emit.proofs.tests.hello.Goals as goal

@@ -2,10 +2,10 @@ use Rattle.std.proofs.Common.{◌≡◌, ◌∷◌, [], pos, sym, ap, ap₂, ◌
 use Rattle.values.specs.declared.value.Scalar.TheVariants as Scalar
 use Rattle.values.specs.Operators.{printf}
 use Rattle.syntax_trees.specs.Core.{operator, also, none}
-use Rattle.flow.specs.View.{exprs_view}
-use Rattle.flow.specs.declared.statement.Action.TheVariants as Action
-use Rattle.flow.specs.declared.expr.Expr as Flow
-use Rattle.flow.specs.declared.statement.Statement.{Statement}
+use Rattle.scalar_flow.specs.View.{exprs_view}
+use Rattle.scalar_flow.specs.declared.statement.Action.TheVariants as Action
+use Rattle.scalar_flow.specs.declared.expr.Expr as Flow
+use Rattle.scalar_flow.specs.declared.statement.Statement.{Statement}
 use Rattle.agreement.specs.Scalars.{IsScalars}
 use Rattle.emit.proofs.Scripts.{two_with, operands_are_scalars, script_of, view-Name, view-Literal}
 use Rattle.emit.proofs.tests.two_operands.Goals as goal

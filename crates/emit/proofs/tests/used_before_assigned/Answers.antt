@@ -5,9 +5,9 @@ use Rattle.values.specs.declared.format.Piece.TheVariants.{Number as digits}
 use Rattle.values.specs.declared.value.Scalar.TheVariants as Scalar
 use Rattle.values.specs.Operators.{printf}
 use Rattle.syntax_trees.specs.Core.{operator, also, none}
-use Rattle.flow.specs.View.{exprs_view}
-use Rattle.flow.specs.declared.statement.Action.TheVariants as Action
-use Rattle.flow.specs.declared.statement.Statement.{Statement}
+use Rattle.scalar_flow.specs.View.{exprs_view}
+use Rattle.scalar_flow.specs.declared.statement.Action.TheVariants as Action
+use Rattle.scalar_flow.specs.declared.statement.Statement.{Statement}
 use Rattle.emit.proofs.Scripts.{same_three, script_of, view-Name, view-Literal}
 use Rattle.emit.proofs.tests.used_before_assigned.Goals as goal
 

@@ -1,5 +1,5 @@
 use Rattle.std.proofs.Common.{◌≡◌, drop}
-use Rattle.flow.specs.View.{exprs_view}
+use Rattle.scalar_flow.specs.View.{exprs_view}
 use Rattle.meaning.specs.Pass.{are_known}
 use Rattle.meaning.proofs.evaluation.+known.Given as goal
 

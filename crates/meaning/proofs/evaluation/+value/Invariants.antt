@@ -1,6 +1,6 @@
 use Rattle.std.proofs.Common.{◌≡◌, drop}
 use Rattle.values.specs.Operators.{all_values}
-use Rattle.flow.specs.View.{exprs_view}
+use Rattle.scalar_flow.specs.View.{exprs_view}
 use Rattle.meaning.specs.Pass.{all_worked, in_front}
 use Rattle.meaning.proofs.evaluation.+value.Given as goal
 

@@ -1,5 +1,5 @@
 use Rattle.std.proofs.Common.{◌≡◌, ◌++◌, drop, map}
-use Rattle.flow.specs.View.{statement_view}
+use Rattle.scalar_flow.specs.View.{statement_view}
 use Rattle.meaning.specs.Pass.{blank_of}
 use Rattle.meaning.proofs.rounds.first_entries.Given as goal
 

@@ -1,5 +1,5 @@
 use Rattle.std.proofs.Common.{◌≡◌, ◌++◌, drop, map}
-use Rattle.flow.specs.View.{statement_view}
+use Rattle.scalar_flow.specs.View.{statement_view}
 use Rattle.meaning.specs.Pass.{pass}
 use Rattle.meaning.proofs.rounds.next_entries.Given as goal
 

@@ -1,5 +1,5 @@
 use Rattle.std.proofs.Common.{◌≡◌, map}
-use Rattle.flow.specs.View.{statement_view}
+use Rattle.scalar_flow.specs.View.{statement_view}
 use Rattle.meaning.specs.Pass.{after}
 use Rattle.meaning.proofs.rounds.passes.Given as goal
 
