@@ -131,7 +131,7 @@ flat_counts (Print e) f = refl
 flat_counts (Assert e) f = refl
 flat_counts (Cell e) f = absurd f
 flat_counts Read f = absurd f
-flat_counts (Call b rs) f = absurd f
+flat_counts (Call b rs os) f = absurd f
 flat_counts (Fill r es) f = absurd f
 flat_counts (Copy r) f = absurd f
 flat_counts (Put r j e) f = absurd f
@@ -147,7 +147,7 @@ module _ (C : Code) (s : CodeState) where
   flat_stands (Assert e) f p own at h = h
   flat_stands (Cell e) f p own at h = absurd f
   flat_stands Read f p own at h = absurd f
-  flat_stands (Call b rs) f p own at h = absurd f
+  flat_stands (Call b rs os) f p own at h = absurd f
   flat_stands (Fill r es) f p own at h = absurd f
   flat_stands (Copy r) f p own at h = absurd f
   flat_stands (Put r j e) f p own at h = absurd f
@@ -162,7 +162,7 @@ module _ (C : Code) (s : CodeState) where
   stands_flat (Assert e) f p own at h = h
   stands_flat (Cell e) f p own at h = absurd f
   stands_flat Read f p own at h = absurd f
-  stands_flat (Call b rs) f p own at h = absurd f
+  stands_flat (Call b rs os) f p own at h = absurd f
   stands_flat (Fill r es) f p own at h = absurd f
   stands_flat (Copy r) f p own at h = absurd f
   stands_flat (Put r j e) f p own at h = absurd f

@@ -42,7 +42,7 @@ module _ (C : Code) where
   flat_opens (Assert e) f mark p c x i u h = h
   flat_opens (Cell e) f mark p c x i u h = f
   flat_opens Read f mark p c x i u h = f
-  flat_opens (Call b rs) f mark p c x i u h = f
+  flat_opens (Call b rs os) f mark p c x i u h = f
   flat_opens (Fill r es) f mark p c x i u h = f
   flat_opens (Copy r) f mark p c x i u h = f
   flat_opens (Put r j e) f mark p c x i u h = f

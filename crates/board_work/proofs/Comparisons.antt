@@ -268,11 +268,13 @@ acts = record { sound = sound'; own = own' }
     sound' : (a b : Act) → act_eq a b ≡ true → a ≡ b
     sound' (Cell e) (Cell f) h = ap Cell (expr_sound e f h)
     sound' Read Read h = refl
-    sound' (Call b rs) (Call c ss) h =
+    sound' (Call b rs os) (Call c ss ps) h =
         let t = true_and (nat_eq b c) _ h in
+        let u = true_and (pointwise argument_eq rs ss) _ t.1 in
         let x = nat_sound b c t.0 in
-        let y = (lists arguments).sound rs ss t.1 in
-        λ i. Call (x i) (y i)
+        let y = (lists arguments).sound rs ss u.0 in
+        let z = (lists names).sound os ps u.1 in
+        λ i. Call (x i) (y i) (z i)
     sound' (Set r e) (Set s f) h =
         let t = true_and (name_eq r s) _ h in
         let x = name_sound r s t.0 in
@@ -320,7 +322,7 @@ acts = record { sound = sound'; own = own' }
     own' : (a : Act) → act_eq a a ≡ true
     own' (Cell e) = expr_own e
     own' Read = refl
-    own' (Call b rs) = both_true (nat_eq b b) _ (nat_same b) ((lists arguments).own rs)
+    own' (Call b rs os) = both_true (nat_eq b b) _ (nat_same b) (both_true (pointwise argument_eq rs rs) _ ((lists arguments).own rs) ((lists names).own os))
     own' (Set r e) = both_true (name_eq r r) _ (name_same r) (expr_own e)
     own' (Fill r es) = both_true (name_eq r r) _ (name_same r) (exprs_own es)
     own' (Copy r) = name_same r

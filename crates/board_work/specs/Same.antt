@@ -111,7 +111,7 @@ header_eq h i = nat_eq h.at i.at && pointwise need_eq h.needs i.needs
 abbrev pub act_eq : Act → Act → Bool
 act_eq (Cell e) (Cell f) = expr_eq e f
 act_eq Read Read = true
-act_eq (Call b rs) (Call c ss) = nat_eq b c && pointwise argument_eq rs ss
+act_eq (Call b rs os) (Call c ss ps) = nat_eq b c && (pointwise argument_eq rs ss && pointwise name_eq os ps)
 act_eq (Set r e) (Set s f) = name_eq r s && expr_eq e f
 act_eq (Fill r es) (Fill s fs) = name_eq r s && exprs_eq es fs
 act_eq (Copy r) (Copy s) = name_eq r s

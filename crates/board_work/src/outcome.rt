@@ -67,7 +67,7 @@ pub fn outcome_of(alloc: Global, act: &Act, answers: &[Answer]) -> Result<Outcom
     match act {
         Act::Cell(expr) => Ok(Outcome::Leaf(evaluate(alloc, expr, answers)?)),
         Act::Read => Ok(Outcome::Control(element(answers)?)),
-        Act::Call(_, _) => Ok(Outcome::Control(Computed::Opens)),
+        Act::Call { .. } => Ok(Outcome::Control(Computed::Opens)),
         Act::Set(_, expr) => Ok(Outcome::Leaf(evaluate(alloc, expr, answers)?)),
         Act::Fill(_, exprs) => Ok(Outcome::Leaf(evaluate_literal(alloc, exprs, answers)?)),
         Act::Copy(_) => Ok(Outcome::Control(copied(alloc, answers)?)),

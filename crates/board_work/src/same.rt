@@ -218,7 +218,18 @@ impl Same for Act {
         match (self, other) {
             (Act::Cell(a), Act::Cell(b)) => is_same_expr(a, b),
             (Act::Read, Act::Read) => true,
-            (Act::Call(a, xs), Act::Call(b, ys)) => a == b && xs.is_same(ys),
+            (
+                Act::Call {
+                    body: a,
+                    inputs: xs,
+                    outputs: rs,
+                },
+                Act::Call {
+                    body: b,
+                    inputs: ys,
+                    outputs: ss,
+                },
+            ) => a == b && xs.is_same(ys) && rs.is_same(ss),
             (Act::Set(a, x), Act::Set(b, y)) => a == b && is_same_expr(x, y),
             (Act::Fill(a, xs), Act::Fill(b, ys)) => a == b && are_same_exprs(xs, ys),
             (Act::Copy(a), Act::Copy(b)) => a == b,

@@ -65,7 +65,7 @@ module _ (C : Code) where
       first_same P Q p hs at (λ h n i a b c. f n i (header_needs hs ns shape h n a b) c) (λ h n i a b c. g n i (header_needs hs ns shape h n a b) c) x
   stands_same P Q p (Cell e) ns own at shape f g x = x
   stands_same P Q p Read ns own at shape f g x = x
-  stands_same P Q p (Call b rs) ns own at shape f g x = x
+  stands_same P Q p (Call b rs os) ns own at shape f g x = x
   stands_same P Q p (Set r e) ns own at shape f g x = x
   stands_same P Q p (Fill r es) ns own at shape f g x = x
   stands_same P Q p (Copy r) ns own at shape f g x = x

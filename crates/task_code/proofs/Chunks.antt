@@ -168,7 +168,7 @@ ranged_apart (Ok l) (Ok h) (Ok s) = turns_apart (range_count (number_of l) (numb
 pub computed_apart : (a : Act) (xs : List (Answer Key Scalar)) → Apart (compute a xs)
 computed_apart (Cell e) xs = given_apart (eval xs e)
 computed_apart Read xs = read_apart (answer_at xs 0)
-computed_apart (Call b rs) xs = (tt, tt)
+computed_apart (Call b rs os) xs = (tt, tt)
 computed_apart (Set r e) xs = given_apart (eval xs e)
 computed_apart (Fill r es) xs = literal_apart (all_values (evals xs es))
 computed_apart (Copy r) xs = (tt, content_apart (answer_at xs 0))

@@ -199,7 +199,7 @@ ranged_free (Ok l) (Ok h) (Ok s) a b c =
 computed_free : (a : Act) (xs : List (Answer Key Scalar)) → IsFreeOf (compute a xs)
 computed_free (Cell e) xs = given_free (eval xs e) (eval_free xs e)
 computed_free Read xs = read_free (answer_at xs 0)
-computed_free (Call b rs) xs = tt
+computed_free (Call b rs os) xs = tt
 computed_free (Set r e) xs = given_free (eval xs e) (eval_free xs e)
 computed_free (Fill r es) xs = filled_free (evaluated literal (evals xs es)) (on_free literal (all_values (evals xs es)) (all_free (evals xs es) (evals_free xs es)))
 computed_free (Copy r) xs = tt

@@ -8,7 +8,7 @@ use Rattle.task_code.proofs.Equal.{key_is, key_once, keys, one_order, place_is, 
 use Rattle.task_code.proofs.Listed.{code_listed}
 use Rattle.task_code.proofs.Opens.{IsRest, OpensBlock, PathBy, covered, effect_is, found, in_block, in_rest, item_maker, item_opener, made_in, no_loop_one, no_loop_rest, not_script, opened, rest_makes, seen_place, stepped}
 use Rattle.task_code.proofs.Places.{argued, head_same, scalar_name, spot_path, spot_variable}
-use Rattle.task_code.proofs.Rights.{Binds, Bound, IntoTarget, apart_valid, bound_at, bound_inv, declared_name, declared_place, declared_same, in_gather, inserted_inv, loop_declares, loop_instances, names_apart, stored_once, stores_inv, target_no_loop, target_opens_none, turn_is_bound, turn_variable, value_bound}
+use Rattle.task_code.proofs.Rights.{Binds, Bound, IntoTarget, apart_valid, bound_at, bound_inv, declared_name, declared_place, declared_same, in_gather, inserted_inv, loop_declares, loop_instances, names_apart, stored_once, stored_target, stores_inv, target_no_loop, target_opens_none, turn_is_bound, turn_variable, value_bound}
 use Rattle.task_code.specs.Code.{Act, Assert, At, AtKey, Call, Calling, Cell, Closed, Code, Copy, Each, Entry, Fill, If, InPlace, Loop, Name, Need, Print, Put, Range, Read, Set, Stored, Through, Variable, Wait, Way, body, entry, here, is_array_name, loop_of, needed, scalar, turn_variables}
 use Rattle.task_code.specs.Compute.{Computed, Elements, EntryFault, Fails, Gives, Inserts, Opens, Takes, Turns, compute, key_scalar}
 use Rattle.task_code.specs.Effects.{Item, Main, Task, at_first, block, bound, branch_instances, chunk, effect_at, inserted_at, instances, is_some_list, left_at, rest, rest_if, stored_at, stores, turn_instances, turns_of}
@@ -86,7 +86,7 @@ module _ (C : Code) (I : IsCode C) where
       same = effect_is C i c p e can
 
       by : IntoTarget C (entry C i).act (entry C i).node p w ⊎ Binds C (entry C i).act (entry C i).mark p c (found C can) w → In w.place (map (place_at C p) (entry C i).writes) ⊎ ((o : O) × In o e.opens × In w.place o.makes)
-      by (inl t) = inl (subst (λ (a : Place). In a (map (place_at C p) (entry C i).writes)) (sym t.is) (in_map (place_at C p) t.target (entry C i).writes (I.stores i t.target t.there)))
+      by (inl t) = inl (subst (λ (a : Place). In a (map (place_at C p) (entry C i).writes)) (sym t.is) (in_map (place_at C p) t.target (entry C i).writes (I.stores i t.target (stored_target C (entry C i).act (entry C i).node t.target t.there))))
       by (inr b) = (let m = bound_made i c p (found C can) w b in inr (m.0, subst (λ (x : E). In m.0 x.opens) same m.1, m.2))
 
   -- a place that is no literal
@@ -344,7 +344,7 @@ module _ (C : Code) (I : IsCode C) where
   distinct_instances : (a : Act) (mark : ℕ) (p : List Step) (c : ℕ) (x : Computed) → Distinct (keys (chunk c (turns_of x))) → Distinct (instances a mark p c x)
   distinct_instances (Cell e) mark p c x d = tt
   distinct_instances Read mark p c x d = tt
-  distinct_instances (Call b rs) mark p c x d = distinct_one c _
+  distinct_instances (Call b rs os) mark p c x d = distinct_one c _
   distinct_instances (Set r e) mark p c x d = tt
   distinct_instances (Fill r es) mark p c x d = tt
   distinct_instances (Copy r) mark p c x d = tt
@@ -452,7 +452,7 @@ module _ (C : Code) (I : IsCode C) where
     writes_once : (b : Act) → (entry C i).act ≡ b → (a : Place) (k : Key) (v w : Scalar) → In (record { place = a; key = k; value = v }) (stores C b (entry C i).node (entry C i).mark p c got) → In (record { place = a; key = k; value = w }) (stores C b (entry C i).node (entry C i).mark p c got) → v ≡ w
     writes_once (Cell e) q a k v w h g = stored_same _ a k v w h g
     writes_once Read q a k v w h g = stored_same _ a k v w h g
-    writes_once (Call b rs) q a k v w h g = absurd h
+    writes_once (Call b rs os) q a k v w h g = absurd h
     writes_once (Set r e) q a k v w h g = stored_same _ a k v w h g
     writes_once (Fill r es) q a k v w h g = inserted_same _ a k v w h g
     writes_once (Copy r) q a k v w h g = inserted_same _ a k v w h g

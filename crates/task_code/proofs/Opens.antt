@@ -86,9 +86,9 @@ module _ (C : Code) where
   instances_inv : (a : Act) (mark : ℕ) (p : List Step) (c : ℕ) (x : Computed) (s : ℕ × List Step) → In s (instances a mark p c x) → InstanceBy a mark p c x s
   instances_inv (Cell e) mark p c x s h = absurd h
   instances_inv Read mark p c x s h = absurd h
-  instances_inv (Call b rs) mark p c x s h =
+  instances_inv (Call b rs os) mark p c x s h =
       let f = in_first s c _ h in
-      one_instance (Call b rs) mark p c x Calling b (number_key (pos 0)) (stepped mark (number_key (pos 0)) p) s f.0 refl (inl refl) refl (in_one s _ f.1)
+      one_instance (Call b rs os) mark p c x Calling b (number_key (pos 0)) (stepped mark (number_key (pos 0)) p) s f.0 refl (inl refl) refl (in_one s _ f.1)
   instances_inv (Set r e) mark p c x s h = absurd h
   instances_inv (Fill r es) mark p c x s h = absurd h
   instances_inv (Copy r) mark p c x s h = absurd h
@@ -106,7 +106,7 @@ module _ (C : Code) where
   at_most_one : (a : Act) (mark : ℕ) (p : List Step) (c : ℕ) (x : Computed) (s t : ℕ × List Step) → loop_of a ≡ None → In s (instances a mark p c x) → In t (instances a mark p c x) → s ≡ t
   at_most_one (Cell e) mark p c x s t n h k = absurd h
   at_most_one Read mark p c x s t n h k = absurd h
-  at_most_one (Call b rs) mark p c x s t n h k = (let f = in_first s c _ h in let g = in_first t c _ k in in_one s _ f.1 ∙ sym (in_one t _ g.1))
+  at_most_one (Call b rs os) mark p c x s t n h k = (let f = in_first s c _ h in let g = in_first t c _ k in in_one s _ f.1 ∙ sym (in_one t _ g.1))
   at_most_one (Set r e) mark p c x s t n h k = absurd h
   at_most_one (Fill r es) mark p c x s t n h k = absurd h
   at_most_one (Copy r) mark p c x s t n h k = absurd h

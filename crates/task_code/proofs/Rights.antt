@@ -7,7 +7,7 @@ use Rattle.task_code.proofs.Chunks.{inserted_of}
 use Rattle.task_code.proofs.Equal.{every_in, in_every, name_same, name_sound, place_same, place_sound}
 use Rattle.task_code.proofs.Opens.{PathBy, seen_place, some_same, stepped}
 use Rattle.task_code.proofs.Places.{declared_at, no_longer, only_here, scalar_name, spot_variable}
-use Rattle.task_code.specs.Code.{Act, Assert, Call, Calling, Cell, Code, Copy, Each, Fill, If, InPlace, Loop, Name, Named, Parameter, Print, Put, Range, Read, Set, Through, Variable, Wait, Way, argument, body, entry, here, is_array_name, loop_of, loop_variables, scalar, targets_of, turn_variables, ways}
+use Rattle.task_code.specs.Code.{Act, Assert, Call, Calling, Cell, Code, Copy, Each, Fill, If, InPlace, Loop, Name, Named, Parameter, Print, Put, Range, Read, Set, Through, Variable, Wait, Way, argument, body, entry, here, is_array_name, loop_of, loop_variables, scalar, stored_of, targets_of, turn_variables, ways}
 use Rattle.task_code.specs.Compute.{Computed, Fails, Gives, Inserts, Opens, Takes, Turns, key_scalar}
 use Rattle.task_code.specs.Effects.{Item, bound, chunk, inserted_at, instances, stored_at, stores, turn_bound, turn_instances, turns_of}
 use Rattle.task_code.specs.Places.{Datum, Place, Step, name_eq, place_array, place_at, place_eq}
@@ -172,7 +172,7 @@ module _ (C : Code) where
   -- a write is into a target, or binds a loop's variable
   pub record IntoTarget (a : Act) (node : ℕ) (p : List Step) (w : Write Place Key Scalar) : Type 0 where
     pub target : Name
-    pub there : In target (targets_of node a)
+    pub there : In target (stored_of node a)
     pub is : w.place ≡ place_at C p target
 
   pub record Binds (a : Act) (mark : ℕ) (p : List Step) (c : ℕ) (x : Computed) (w : Write Place Key Scalar) : Type 0 where
@@ -182,7 +182,7 @@ module _ (C : Code) where
     pub there : In turn (chunk c (turns_of x))
     pub bound : Bound loop mark p turn w
 
-  into : (a : Act) (node : ℕ) (p : List Step) (w : Write Place Key Scalar) (r : Name) → In r (targets_of node a) → w.place ≡ place_at C p r → IntoTarget a node p w
+  into : (a : Act) (node : ℕ) (p : List Step) (w : Write Place Key Scalar) (r : Name) → In r (stored_of node a) → w.place ≡ place_at C p r → IntoTarget a node p w
   into a node p w r i e = record { target = r; there = i; is = e }
 
   binds : (a : Act) (l : Loop) (mark : ℕ) (p : List Step) (c : ℕ) (x : Computed) (w : Write Place Key Scalar) → loop_of a ≡ Some l → In w (flat_map (bound l mark p) (chunk c (turns_of x))) → Binds a mark p c x w
@@ -193,7 +193,7 @@ module _ (C : Code) where
   pub stores_inv : (a : Act) (node mark : ℕ) (p : List Step) (c : ℕ) (x : Computed) (w : Write Place Key Scalar) → In w (stores C a node mark p c x) → IntoTarget a node p w ⊎ Binds a mark p c x w
   stores_inv (Cell e) node mark p c x w h = inl (into (Cell e) node p w (here (scalar node)) (inl refl) (stored_inv _ x w h))
   stores_inv Read node mark p c x w h = inl (into Read node p w (here (scalar node)) (inl refl) (stored_inv _ x w h))
-  stores_inv (Call b rs) node mark p c x w h = absurd h
+  stores_inv (Call b rs os) node mark p c x w h = absurd h
   stores_inv (Set r e) node mark p c x w h = inl (into (Set r e) node p w r (inl refl) (stored_inv _ x w h))
   stores_inv (Fill r es) node mark p c x w h = inl (into (Fill r es) node p w r (inl refl) (inserted_inv _ x w h).0)
   stores_inv (Copy r) node mark p c x w h = inl (into (Copy r) node p w r (inl refl) (inserted_inv _ x w h).0)
@@ -205,11 +205,27 @@ module _ (C : Code) where
   stores_inv (Each v) node mark p c x w h = inr (binds (Each v) v mark p c x w refl h)
   stores_inv (Wait hs b) node mark p c x w h = absurd h
 
-  -- an entry with a target opens nothing
-  pub target_opens_none : (a : Act) (node mark : ℕ) (p : List Step) (c : ℕ) (x : Computed) (r : Name) (s : ℕ × List Step) → In r (targets_of node a) → In s (instances a mark p c x) → ⊥
+  -- what an entry stores into is its target
+  pub stored_target : (a : Act) (node : ℕ) (r : Name) → In r (stored_of node a) → In r (targets_of node a)
+  stored_target (Cell e) node r h = h
+  stored_target Read node r h = h
+  stored_target (Call b rs os) node r h = absurd h
+  stored_target (Set t e) node r h = h
+  stored_target (Fill t es) node r h = h
+  stored_target (Copy t) node r h = h
+  stored_target (Put t i e) node r h = h
+  stored_target (Print e) node r h = h
+  stored_target (Assert e) node r h = h
+  stored_target (If e b d) node r h = h
+  stored_target (Range l h' s v) node r h = h
+  stored_target (Each v) node r h = h
+  stored_target (Wait hs b) node r h = h
+
+  -- an entry that stores into a name opens nothing
+  pub target_opens_none : (a : Act) (node mark : ℕ) (p : List Step) (c : ℕ) (x : Computed) (r : Name) (s : ℕ × List Step) → In r (stored_of node a) → In s (instances a mark p c x) → ⊥
   target_opens_none (Cell e) node mark p c x r s h g = g
   target_opens_none Read node mark p c x r s h g = g
-  target_opens_none (Call b rs) node mark p c x r s h g = h
+  target_opens_none (Call b rs os) node mark p c x r s h g = h
   target_opens_none (Set t e) node mark p c x r s h g = g
   target_opens_none (Fill t es) node mark p c x r s h g = g
   target_opens_none (Copy t) node mark p c x r s h g = g
@@ -221,10 +237,10 @@ module _ (C : Code) where
   target_opens_none (Each v) node mark p c x r s h g = h
   target_opens_none (Wait hs b) node mark p c x r s h g = h
 
-  pub target_no_loop : (a : Act) (node : ℕ) (r : Name) → In r (targets_of node a) → loop_of a ≡ None
+  pub target_no_loop : (a : Act) (node : ℕ) (r : Name) → In r (stored_of node a) → loop_of a ≡ None
   target_no_loop (Cell e) node r h = refl
   target_no_loop Read node r h = refl
-  target_no_loop (Call b rs) node r h = refl
+  target_no_loop (Call b rs os) node r h = refl
   target_no_loop (Set t e) node r h = refl
   target_no_loop (Fill t es) node r h = refl
   target_no_loop (Copy t) node r h = refl
@@ -241,7 +257,7 @@ module _ (C : Code) where
   loop_instances (Each v) l mark p c x e = ap (λ (z : Loop). turn_instances z mark p (chunk c (turns_of x))) (some_same e)
   loop_instances (Cell y) l mark p c x e = absurd (cc)
   loop_instances Read l mark p c x e = absurd (cc)
-  loop_instances (Call b rs) l mark p c x e = absurd (cc)
+  loop_instances (Call b rs os) l mark p c x e = absurd (cc)
   loop_instances (Set t y) l mark p c x e = absurd (cc)
   loop_instances (Fill t es) l mark p c x e = absurd (cc)
   loop_instances (Copy t) l mark p c x e = absurd (cc)

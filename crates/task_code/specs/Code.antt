@@ -1,5 +1,5 @@
 -- Code: bodies of entries, laid flat.
-use Rattle.std.specs.Prelude.{ℕ, zero, suc, Bool, true, false, ◌&&◌, List, [], ◌∷◌, Option, Some, None, ℤ, pos, nat_eq}
+use Rattle.std.specs.Prelude.{ℕ, zero, suc, Bool, true, false, ◌&&◌, List, [], ◌∷◌, ◌++◌, map, Option, Some, None, ℤ, pos, nat_eq}
 use Rattle.values.specs.declared.key.Key.{Key}
 use Rattle.values.specs.declared.value.Scalar.{Scalar}
 use Rattle.values.specs.declared.value.Scalar.TheVariants.{Number}
@@ -39,7 +39,7 @@ mutual
     no_operand : Exprs
     operand : Expr → Exprs → Exprs
 
--- what a call hands over for a parameter: a name of the caller, or a literal that stands for itself and has no datum
+-- what a call hands over for an input: a name of the caller, or a literal that stands for itself and has no datum
 pub data Argument : Type 0 where
   Named : Name → Argument
   Fixed : Scalar → Argument
@@ -59,7 +59,7 @@ pub record Header : Type 0 where
 pub data Act : Type 0 where
   Cell : Expr → Act
   Read : Act
-  Call : (body : ℕ) → (arguments : List Argument) → Act
+  Call : (body : ℕ) → (inputs : List Argument) → (outputs : List Name) → Act
   Set : (target : Name) → Expr → Act
   Fill : (target : Name) → Exprs → Act
   Copy : (target : Name) → Act
@@ -125,7 +125,7 @@ is_array_name r = is_array_owned r.owned
 abbrev pub kind_of : Act → Kind
 kind_of (Cell e) = Leaf
 kind_of Read = Control
-kind_of (Call b rs) = Control
+kind_of (Call b rs os) = Control
 kind_of (Set r e) = Leaf
 kind_of (Fill r es) = Leaf
 kind_of (Copy r) = Control
@@ -163,16 +163,16 @@ call_from i [] at = 0
 call_from i (e ∷ es) at = elim (is_call e.act && nat_eq e.mark at) [ true ↦ i | false ↦ call_from (suc i) es at ]
   where
     is_call : Act → Bool
-    is_call (Call b rs) = true
+    is_call (Call b rs os) = true
     is_call _ = false
 
 -- the call that a path's step at this offset is of
 abbrev pub call_at : Code → ℕ → ℕ
 call_at C at = call_from 0 C.entries at
 
--- what a call hands over
+-- what a call hands over: its inputs, and behind them its outputs
 abbrev pub arguments : Act → List Argument
-arguments (Call b rs) = rs
+arguments (Call b rs os) = rs ++ map Named os
 arguments _ = []
 
 -- what a parameter stands for: the argument at its place, if it is of its kind; a literal is a scalar's
@@ -194,7 +194,7 @@ pub data Way : Type 0 where
 abbrev pub ways : Act → List (Way × ℕ)
 ways (Cell e) = []
 ways Read = []
-ways (Call b rs) = (Calling, b) ∷ []
+ways (Call b rs os) = (Calling, b) ∷ []
 ways (Set r e) = []
 ways (Fill r es) = []
 ways (Copy r) = []
@@ -207,21 +207,26 @@ ways (Range l h s w) = (Through, w.body) ∷ []
 ways (Each w) = (Through, w.body) ∷ []
 ways (Wait hs b) = (InPlace, b) ∷ []
 
--- what an entry of a node stores into, but for a loop's variables
+-- what an entry of a node stores into by itself, but for a loop's variables
+abbrev pub stored_of : ℕ → Act → List Name
+stored_of n (Cell e) = here (scalar n) ∷ []
+stored_of n Read = here (scalar n) ∷ []
+stored_of n (Call b rs os) = []
+stored_of n (Set r e) = r ∷ []
+stored_of n (Fill r es) = r ∷ []
+stored_of n (Copy r) = r ∷ []
+stored_of n (Put r i e) = r ∷ []
+stored_of n (Print e) = []
+stored_of n (Assert e) = []
+stored_of n (If e b d) = []
+stored_of n (Range l h s w) = []
+stored_of n (Each w) = []
+stored_of n (Wait hs b) = []
+
+-- its targets: what it stores into, or its function stores for it
 abbrev pub targets_of : ℕ → Act → List Name
-targets_of n (Cell e) = here (scalar n) ∷ []
-targets_of n Read = here (scalar n) ∷ []
-targets_of n (Call b rs) = []
-targets_of n (Set r e) = r ∷ []
-targets_of n (Fill r es) = r ∷ []
-targets_of n (Copy r) = r ∷ []
-targets_of n (Put r i e) = r ∷ []
-targets_of n (Print e) = []
-targets_of n (Assert e) = []
-targets_of n (If e b d) = []
-targets_of n (Range l h s w) = []
-targets_of n (Each w) = []
-targets_of n (Wait hs b) = []
+targets_of n (Call b rs os) = os
+targets_of n a = stored_of n a
 
 abbrev pub targets : Entry → List Name
 targets e = targets_of e.node e.act

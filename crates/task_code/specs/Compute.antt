@@ -136,7 +136,7 @@ ranged (Ok low) (Ok high) (Ok step) = turns_or (range_count (number_of low) (num
 abbrev pub compute : Act → List (Answer Key Scalar) → Computed
 compute (Cell e) xs = given (eval xs e)
 compute Read xs = read (answer_at xs 0)
-compute (Call b rs) xs = Opens
+compute (Call b rs os) xs = Opens
 compute (Set r e) xs = given (eval xs e)
 compute (Fill r es) xs = filled (evaluated literal (evals xs es))
 compute (Copy r) xs = Inserts (content (answer_at xs 0))
@@ -152,7 +152,7 @@ compute (Wait hs b) xs = Opens
 abbrev pub leaf_result : Act → List (Answer Key Scalar) → Option (Result Value OpFault)
 leaf_result (Cell e) xs = Some (eval xs e)
 leaf_result Read xs = None
-leaf_result (Call b rs) xs = None
+leaf_result (Call b rs os) xs = None
 leaf_result (Set r e) xs = Some (eval xs e)
 leaf_result (Fill r es) xs = Some (evaluated literal (evals xs es))
 leaf_result (Copy r) xs = None

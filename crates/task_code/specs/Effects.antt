@@ -65,7 +65,7 @@ turn_instances w mark p ts = map (λ (t : Key × Scalar). (w.body, step_at mark 
 abbrev pub instances : Act → ℕ → List Step → ℕ → Computed → List (ℕ × List Step)
 instances (Cell e) mark p c x = []
 instances Read mark p c x = []
-instances (Call b rs) mark p c x = at_first c ((b, step_at mark (number_key (pos 0)) p) ∷ [])
+instances (Call b rs os) mark p c x = at_first c ((b, step_at mark (number_key (pos 0)) p) ∷ [])
 instances (Set r e) mark p c x = []
 instances (Fill r es) mark p c x = []
 instances (Copy r) mark p c x = []
@@ -122,7 +122,7 @@ prints _ _ = []
 
 -- whether an entry opens its blocks by a step
 abbrev pub steps_on : Act → Bool
-steps_on (Call b rs) = true
+steps_on (Call b rs os) = true
 steps_on (If e b d) = true
 steps_on (Range l h s w) = true
 steps_on (Each w) = true
@@ -155,7 +155,7 @@ module _ (C : Code) where
   abbrev pub stores : Act → ℕ → ℕ → List Step → ℕ → Computed → List (Write Place Key Scalar)
   stores (Cell e) node mark p c x = stored_at (place_at C p (here (scalar node))) x
   stores Read node mark p c x = stored_at (place_at C p (here (scalar node))) x
-  stores (Call b rs) node mark p c x = []
+  stores (Call b rs os) node mark p c x = []
   stores (Set r e) node mark p c x = stored_at (place_at C p r) x
   stores (Fill r es) node mark p c x = inserted_at (place_at C p r) x
   stores (Copy r) node mark p c x = inserted_at (place_at C p r) x

@@ -16,7 +16,7 @@ use Rattle.task_code.specs.Machine.{CodeItem, CodeState}
 abbrev pub counts : Act → Bool
 counts (Cell e) = false
 counts Read = false
-counts (Call b rs) = false
+counts (Call b rs os) = false
 counts (Set r e) = true
 counts (Fill r es) = true
 counts (Copy r) = true

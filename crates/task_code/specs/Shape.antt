@@ -65,7 +65,7 @@ has_headers hs ns =
 abbrev pub has_shape : Act → List Need → Bool
 has_shape (Cell e) ns = feeds ns (is_fed (length ns) e)
 has_shape Read ns = one_element ns
-has_shape (Call b rs) ns = is_none ns
+has_shape (Call b rs os) ns = is_none ns
 has_shape (Set r e) ns = not (is_array_name r) && feeds ns (is_fed (length ns) e)
 has_shape (Fill r es) ns = is_array_name r && feeds ns (are_fed (length ns) es)
 has_shape (Copy r) ns = is_array_name r && one_array ns

@@ -1,6 +1,5 @@
 -- The code that a value of the program stands for, apart from where it lies in memory.
 use Rattle.std.specs.Prelude.{List, [], ◌∷◌, map}
-use Rattle.values.specs.declared.format.Piece.{Piece}
 use Rattle.values.specs.Operators.{Operation, sum_of, product_of, compare, equal, unequal, all_true, any_true, not_true, negate, join, from_int, to_int, size, printf, assert, literal}
 use Rattle.task_code.specs.declared.expr.Operator.{Operator}
 use Rattle.task_code.specs.declared.expr.Operator.TheVariants as Op
@@ -102,7 +101,7 @@ kind_view Run.Leaf = Pure.Leaf
 abbrev pub act_view : Act → Pure.Act
 act_view (Does.Cell e) = Pure.Cell (expr_view e)
 act_view Does.Read = Pure.Read
-act_view (Does.Call b rs) = Pure.Call b (map argument_view rs.items)
+act_view (Does.Call b rs os) = Pure.Call b (map argument_view rs.items) (map name_view os.items)
 act_view (Does.Set r e) = Pure.Set (name_view r) (expr_view e)
 act_view (Does.Fill r es) = Pure.Fill (name_view r) (exprs_view es.items)
 act_view (Does.Copy r) = Pure.Copy (name_view r)

@@ -2,13 +2,13 @@
 use Rattle.std.specs.Prelude.{◌≡◌, ℕ, true, false, length, [], ◌∷◌, Option, None, Some, pos}
 use Rattle.dataflow.specs.Machine.{Begin, ElementTwice, End, Quiet, Run}
 use Rattle.dataflow.specs.System.{Answer, Bad, Found, Good, Missing, Outcome}
-use Rattle.task_code.specs.Code.{At, AtKey, ByCalls, ByMain, ByStep, ByWait, Call, Cell, Closed, Code, Expr, Fill, Fixed, If, Local, Name, Named, Parameter, Print, Put, Range, Read, Set, Stored, Variable, Wait, constant, here, need, no_operand, operand, operation, scalar}
+use Rattle.task_code.specs.Code.{At, AtKey, Each, ByCalls, ByMain, ByStep, ByWait, Call, Cell, Closed, Code, Expr, Fill, Fixed, If, Local, Name, Named, Parameter, Print, Put, Range, Read, Set, Stored, Variable, Wait, constant, here, need, no_operand, operand, operation, scalar}
 use Rattle.task_code.specs.Compute.{EntryFault, InOperation, NoElement, range_turns}
 use Rattle.task_code.specs.Effects.{Item, Task, chunk, only}
 use Rattle.task_code.specs.Places.{Constant, Datum, Place, Step, place_at}
 use Rattle.task_code.specs.Machine.{CodeState, Enabled}
 use Rattle.task_code.specs.System.{code_system}
-use Rattle.values.specs.Operators.{Operation, compare, printf, product_of, size, sum_of}
+use Rattle.values.specs.Operators.{Operation, equal, compare, printf, product_of, size, sum_of}
 use Rattle.values.specs.declared.fault.OpFault.TheVariants.{Overflow}
 use Rattle.values.specs.declared.key.Key.{Key}
 use Rattle.values.specs.declared.key.Key.TheVariants.{Number as number_key}
@@ -132,15 +132,15 @@ fibonacci =
     let r1 = parameter 1 1 in
     record {
       entries =
-          record { node = 1; at = 79; mark = 92; priority = pos 0; needs = []; act = Call 1 (Fixed (Number (pos 10)) ∷ Named (here result) ∷ []); reads = []; writes = here result ∷ [] }
+          record { node = 1; at = 79; mark = 92; priority = pos 0; needs = []; act = Call 1 (Fixed (Number (pos 10)) ∷ []) (here result ∷ []); reads = []; writes = here result ∷ [] }
           ∷ record { node = 2; at = 79; mark = 79; priority = pos 0; needs = Stored (here result) ∷ []; act = Print print_number; reads = here result ∷ []; writes = [] }
           ∷ record { node = 3; at = 21; mark = 25; priority = pos 0; needs = Stored n ∷ []; act = Cell (two (compare Less) (need 0) (num 2)); reads = n ∷ []; writes = here small ∷ [] }
           ∷ record { node = 4; at = 21; mark = 21; priority = pos 0; needs = Stored (here small) ∷ []; act = If (need 0) 2 (Some 3); reads = here small ∷ n ∷ []; writes = parameter 0 1 ∷ [] }
           ∷ record { node = 5; at = 34; mark = 34; priority = pos 0; needs = Stored n1 ∷ []; act = Set r1 (need 0); reads = n1 ∷ []; writes = r1 ∷ [] }
           ∷ record { node = 6; at = 50; mark = 58; priority = pos 0; needs = Stored n1 ∷ []; act = Cell (two (sum_of (Minus ∷ [])) (need 0) (num 1)); reads = n1 ∷ []; writes = here below1 ∷ [] }
-          ∷ record { node = 7; at = 50; mark = 54; priority = pos 0; needs = []; act = Call 1 (Named (here below1) ∷ Named (here fib1) ∷ []); reads = here below1 ∷ []; writes = here fib1 ∷ [] }
+          ∷ record { node = 7; at = 50; mark = 54; priority = pos 0; needs = []; act = Call 1 (Named (here below1) ∷ []) (here fib1 ∷ []); reads = here below1 ∷ []; writes = here fib1 ∷ [] }
           ∷ record { node = 8; at = 50; mark = 69; priority = pos 0; needs = Stored n1 ∷ []; act = Cell (two (sum_of (Minus ∷ [])) (need 0) (num 2)); reads = n1 ∷ []; writes = here below2 ∷ [] }
-          ∷ record { node = 9; at = 50; mark = 65; priority = pos 0; needs = []; act = Call 1 (Named (here below2) ∷ Named (here fib2) ∷ []); reads = here below2 ∷ []; writes = here fib2 ∷ [] }
+          ∷ record { node = 9; at = 50; mark = 65; priority = pos 0; needs = []; act = Call 1 (Named (here below2) ∷ []) (here fib2 ∷ []); reads = here below2 ∷ []; writes = here fib2 ∷ [] }
           ∷ record { node = 10; at = 50; mark = 50; priority = pos 0; needs = Stored (here fib1) ∷ Stored (here fib2) ∷ []; act = Set r1 (two (sum_of (Plus ∷ [])) (need 0) (need 1)); reads = here fib1 ∷ here fib2 ∷ []; writes = r1 ∷ [] }
           ∷ [];
       bodies =
@@ -161,7 +161,7 @@ filled_by_call =
     let b = array_parameter 0 1 in
     record {
       entries =
-          record { node = 2; at = 59; mark = 63; priority = pos 0; needs = []; act = Call 1 (Fixed (Number (pos 5)) ∷ Named (here a) ∷ []); reads = []; writes = here a ∷ [] }
+          record { node = 2; at = 59; mark = 63; priority = pos 0; needs = []; act = Call 1 (Fixed (Number (pos 5)) ∷ []) (here a ∷ []); reads = []; writes = here a ∷ [] }
           ∷ record { node = 3; at = 72; mark = 72; priority = pos 0; needs = Closed (here a) ∷ []; act = Print (operation (printf (digits ∷ [])) (operand (operation size (operand (need 0) no_operand)) no_operand)); reads = here a ∷ []; writes = [] }
           ∷ record { node = 4; at = 24; mark = 24; priority = pos 0; needs = Stored n ∷ []; act = Put b (num 0) (need 0); reads = n ∷ []; writes = b ∷ [] }
           ∷ record { node = 5; at = 34; mark = 41; priority = pos 0; needs = Stored n ∷ []; act = Cell (two (sum_of (Plus ∷ [])) (need 0) (num 1)); reads = n ∷ []; writes = here next ∷ [] }
@@ -209,7 +209,7 @@ one_output_twice =
     let p = scalar 1 in
     record {
       entries =
-          record { node = 2; at = 46; mark = 55; priority = pos 0; needs = []; act = Call 1 (Named (here p) ∷ Named (here p) ∷ []); reads = []; writes = here p ∷ [] }
+          record { node = 2; at = 46; mark = 55; priority = pos 0; needs = []; act = Call 1 [] (here p ∷ here p ∷ []); reads = []; writes = here p ∷ [] }
           ∷ record { node = 3; at = 23; mark = 23; priority = pos 0; needs = []; act = Set (parameter 0 0) (num 1); reads = []; writes = parameter 0 0 ∷ [] }
           ∷ record { node = 4; at = 30; mark = 30; priority = pos 0; needs = []; act = Set (parameter 0 1) (num 2); reads = []; writes = parameter 0 1 ∷ [] }
           ∷ [];
@@ -315,6 +315,129 @@ right_without_use =
           ∷ [];
       bodies =
           record { opener = ByMain; makes = x ∷ []; entries = 0 ∷ [] }
+          ∷ [];
+    }
+
+-- (int B[]) f(int n) { B = f(n + 1); } int A[]; A = f(0); printf("%i", size(A));, whose calls have no right to write their outputs
+abbrev pub calls_without_right : Code
+calls_without_right =
+    let a = array 1 in
+    let n = parameter 0 0 in
+    let b = array_parameter 0 1 in
+    record {
+      entries =
+          record { node = 2; at = 46; mark = 50; priority = pos 0; needs = []; act = Call 1 (Fixed (Number (pos 0)) ∷ []) (here a ∷ []); reads = []; writes = [] }
+          ∷ record { node = 3; at = 56; mark = 56; priority = pos 0; needs = Closed (here a) ∷ []; act = Print (operation (printf (digits ∷ [])) (operand (operation size (operand (need 0) no_operand)) no_operand)); reads = here a ∷ []; writes = [] }
+          ∷ record { node = 4; at = 21; mark = 27; priority = pos 0; needs = Stored n ∷ []; act = Cell (two (sum_of (Plus ∷ [])) (need 0) (num 1)); reads = n ∷ []; writes = here (scalar 4) ∷ [] }
+          ∷ record { node = 6; at = 21; mark = 25; priority = pos 0; needs = []; act = Call 1 (Named (here (scalar 4)) ∷ []) (b ∷ []); reads = here (scalar 4) ∷ []; writes = [] }
+          ∷ [];
+      bodies =
+          record { opener = ByMain; makes = a ∷ []; entries = 0 ∷ 1 ∷ [] }
+          ∷ record { opener = ByCalls; makes = scalar 4 ∷ []; entries = 2 ∷ 3 ∷ [] }
+          ∷ [];
+    }
+
+-- the same, whose calls have it: A is never closed, since each call may still write it
+abbrev pub filled_without_end : Code
+filled_without_end =
+    let a = array 1 in
+    let n = parameter 0 0 in
+    let b = array_parameter 0 1 in
+    record {
+      entries =
+          record { node = 2; at = 46; mark = 50; priority = pos 0; needs = []; act = Call 1 (Fixed (Number (pos 0)) ∷ []) (here a ∷ []); reads = []; writes = here a ∷ [] }
+          ∷ record { node = 3; at = 56; mark = 56; priority = pos 0; needs = Closed (here a) ∷ []; act = Print (operation (printf (digits ∷ [])) (operand (operation size (operand (need 0) no_operand)) no_operand)); reads = here a ∷ []; writes = [] }
+          ∷ record { node = 4; at = 21; mark = 27; priority = pos 0; needs = Stored n ∷ []; act = Cell (two (sum_of (Plus ∷ [])) (need 0) (num 1)); reads = n ∷ []; writes = here (scalar 4) ∷ [] }
+          ∷ record { node = 6; at = 21; mark = 25; priority = pos 0; needs = []; act = Call 1 (Named (here (scalar 4)) ∷ []) (b ∷ []); reads = here (scalar 4) ∷ []; writes = b ∷ [] }
+          ∷ [];
+      bodies =
+          record { opener = ByMain; makes = a ∷ []; entries = 0 ∷ 1 ∷ [] }
+          ∷ record { opener = ByCalls; makes = scalar 4 ∷ []; entries = 2 ∷ 3 ∷ [] }
+          ∷ [];
+    }
+
+-- (int B[], int s) g(int m, int A[]) { foreach v, k in A { if (v < m) { B[k] = v; } } s = size(B); wait (s) { printf("%i", s); } }
+-- () h(int q) { } int A[] = [1]; int C[]; int x; (C, x) = g(5, A); h(x);
+abbrev pub several_outputs : Code
+several_outputs =
+    let a = array 1 in
+    let c = array 2 in
+    let x = scalar 3 in
+    let m = parameter 0 0 in
+    let pa = array_parameter 0 1 in
+    let pb = array_parameter 0 2 in
+    let ps = parameter 0 3 in
+    let v = scalar 20 in
+    let k = scalar 21 in
+    let t = scalar 22 in
+    record {
+      entries =
+          record { node = 10; at = 80; mark = 80; priority = pos 0; needs = []; act = Fill (here a) (operand (num 1) no_operand); reads = []; writes = here a ∷ [] }
+          ∷ record { node = 11; at = 95; mark = 100; priority = pos 0; needs = []; act = Call 1 (Fixed (Number (pos 5)) ∷ Named (here a) ∷ []) (here c ∷ here x ∷ []); reads = here a ∷ here c ∷ here x ∷ []; writes = here c ∷ here x ∷ [] }
+          ∷ record { node = 12; at = 110; mark = 110; priority = pos 0; needs = []; act = Call 5 (Named (here x) ∷ []) []; reads = []; writes = [] }
+          ∷ record { node = 13; at = 30; mark = 30; priority = pos 0; needs = Closed pa ∷ []; act = Each (record { body = 2; value = 20; turn = Some 21 }); reads = pa ∷ m ∷ []; writes = pb ∷ [] }
+          ∷ record { node = 14; at = 60; mark = 60; priority = pos 0; needs = Closed pb ∷ []; act = Set ps (operation size (operand (need 0) no_operand)); reads = pb ∷ []; writes = ps ∷ [] }
+          ∷ record { node = 15; at = 70; mark = 70; priority = pos 0; needs = Stored ps ∷ []; act = Wait (record { at = 70; needs = Stored ps ∷ [] } ∷ []) 4; reads = ps ∷ []; writes = [] }
+          ∷ record { node = 22; at = 40; mark = 43; priority = pos 0; needs = Stored (here v) ∷ Stored (parameter 1 0) ∷ []; act = Cell (two (compare Less) (need 0) (need 1)); reads = here v ∷ parameter 1 0 ∷ []; writes = here t ∷ [] }
+          ∷ record { node = 16; at = 40; mark = 40; priority = pos 0; needs = Stored (here t) ∷ []; act = If (need 0) 3 None; reads = here t ∷ here k ∷ here v ∷ []; writes = array_parameter 1 2 ∷ [] }
+          ∷ record { node = 17; at = 50; mark = 50; priority = pos 0; needs = Stored (outer k) ∷ Stored (outer v) ∷ []; act = Put (array_parameter 2 2) (need 0) (need 1); reads = outer k ∷ outer v ∷ []; writes = array_parameter 2 2 ∷ [] }
+          ∷ record { node = 18; at = 75; mark = 75; priority = pos 0; needs = Stored ps ∷ []; act = Print print_number; reads = ps ∷ []; writes = [] }
+          ∷ [];
+      bodies =
+          record { opener = ByMain; makes = a ∷ c ∷ x ∷ []; entries = 0 ∷ 1 ∷ 2 ∷ [] }
+          ∷ record { opener = ByCalls; makes = []; entries = 3 ∷ 4 ∷ 5 ∷ [] }
+          ∷ record { opener = ByStep 3; makes = v ∷ k ∷ t ∷ []; entries = 6 ∷ 7 ∷ [] }
+          ∷ record { opener = ByStep 7; makes = []; entries = 8 ∷ [] }
+          ∷ record { opener = ByWait 5; makes = []; entries = 9 ∷ [] }
+          ∷ record { opener = ByCalls; makes = []; entries = [] }
+          ∷ [];
+    }
+
+-- (int p, int q) both(int A[], int B[], int k) { p = A[k]; q = p + B[0]; } (int o) same(int n) { o = n; } () none() { }
+-- int a[] = [4]; int p; int q; (p, q) = both(a, a, 0); printf("%i", same(same(p))); int z = same(q); none();
+-- foreach i in [0:2] { int w = same(i); if (i == 1) { none(); } }
+abbrev pub called_everywhere : Code
+called_everywhere =
+    let a = array 1 in
+    let p = scalar 2 in
+    let q = scalar 3 in
+    let o1 = scalar 4 in
+    let c1 = scalar 5 in
+    let o2 = scalar 6 in
+    let z = scalar 7 in
+    let i = scalar 8 in
+    let w = scalar 9 in
+    let t = scalar 10 in
+    let f1 = scalar 11 in
+    let f2 = scalar 12 in
+    record {
+      entries =
+          record { node = 30; at = 1; mark = 1; priority = pos 0; needs = []; act = Fill (here a) (operand (num 4) no_operand); reads = []; writes = here a ∷ [] }
+          ∷ record { node = 31; at = 2; mark = 195; priority = pos 0; needs = []; act = Call 1 (Named (here a) ∷ Named (here a) ∷ Fixed (Number (pos 0)) ∷ []) (here p ∷ here q ∷ []); reads = here a ∷ here p ∷ []; writes = here p ∷ here q ∷ [] }
+          ∷ record { node = 32; at = 3; mark = 201; priority = pos 0; needs = []; act = Call 2 (Named (here p) ∷ []) (here o1 ∷ []); reads = here p ∷ []; writes = here o1 ∷ [] }
+          ∷ record { node = 5; at = 3; mark = 201; priority = pos 0; needs = Stored (here o1) ∷ []; act = Cell (need 0); reads = here o1 ∷ []; writes = here c1 ∷ [] }
+          ∷ record { node = 33; at = 3; mark = 200; priority = pos 0; needs = []; act = Call 2 (Named (here c1) ∷ []) (here o2 ∷ []); reads = here c1 ∷ []; writes = here o2 ∷ [] }
+          ∷ record { node = 34; at = 3; mark = 3; priority = pos 0; needs = Stored (here o2) ∷ []; act = Print print_number; reads = here o2 ∷ []; writes = [] }
+          ∷ record { node = 35; at = 4; mark = 210; priority = pos 0; needs = []; act = Call 2 (Named (here q) ∷ []) (here z ∷ []); reads = here q ∷ []; writes = here z ∷ [] }
+          ∷ record { node = 36; at = 220; mark = 220; priority = pos 0; needs = []; act = Call 3 [] []; reads = []; writes = [] }
+          ∷ record { node = 37; at = 225; mark = 225; priority = pos 0; needs = []; act = Range (num 0) (num 2) (num 1) (record { body = 4; value = 8; turn = None }); reads = []; writes = [] }
+          ∷ record { node = 11; at = 10; mark = 12; priority = pos 0; needs = At (array_parameter 0 0) (parameter 0 2) ∷ []; act = Read; reads = array_parameter 0 0 ∷ parameter 0 2 ∷ []; writes = here f1 ∷ [] }
+          ∷ record { node = 38; at = 10; mark = 10; priority = pos 0; needs = Stored (here f1) ∷ []; act = Set (parameter 0 3) (need 0); reads = here f1 ∷ []; writes = parameter 0 3 ∷ [] }
+          ∷ record { node = 12; at = 15; mark = 17; priority = pos 0; needs = AtKey (array_parameter 0 1) (number_key (pos 0)) ∷ []; act = Read; reads = array_parameter 0 1 ∷ []; writes = here f2 ∷ [] }
+          ∷ record { node = 39; at = 15; mark = 15; priority = pos 0; needs = Stored (parameter 0 3) ∷ Stored (here f2) ∷ []; act = Set (parameter 0 4) (two (sum_of (Plus ∷ [])) (need 0) (need 1)); reads = parameter 0 3 ∷ here f2 ∷ []; writes = parameter 0 4 ∷ [] }
+          ∷ record { node = 40; at = 20; mark = 20; priority = pos 0; needs = Stored (parameter 0 0) ∷ []; act = Set (parameter 0 1) (need 0); reads = parameter 0 0 ∷ []; writes = parameter 0 1 ∷ [] }
+          ∷ record { node = 41; at = 228; mark = 230; priority = pos 0; needs = []; act = Call 2 (Named (here i) ∷ []) (here w ∷ []); reads = here i ∷ []; writes = here w ∷ [] }
+          ∷ record { node = 10; at = 240; mark = 244; priority = pos 0; needs = Stored (here i) ∷ []; act = Cell (two equal (need 0) (num 1)); reads = here i ∷ []; writes = here t ∷ [] }
+          ∷ record { node = 42; at = 240; mark = 240; priority = pos 0; needs = Stored (here t) ∷ []; act = If (need 0) 5 None; reads = here t ∷ []; writes = [] }
+          ∷ record { node = 43; at = 250; mark = 250; priority = pos 0; needs = []; act = Call 3 [] []; reads = []; writes = [] }
+          ∷ [];
+      bodies =
+          record { opener = ByMain; makes = a ∷ p ∷ q ∷ o1 ∷ c1 ∷ o2 ∷ z ∷ []; entries = 0 ∷ 1 ∷ 2 ∷ 3 ∷ 4 ∷ 5 ∷ 6 ∷ 7 ∷ 8 ∷ [] }
+          ∷ record { opener = ByCalls; makes = f1 ∷ f2 ∷ []; entries = 9 ∷ 10 ∷ 11 ∷ 12 ∷ [] }
+          ∷ record { opener = ByCalls; makes = []; entries = 13 ∷ [] }
+          ∷ record { opener = ByCalls; makes = []; entries = [] }
+          ∷ record { opener = ByStep 8; makes = i ∷ w ∷ t ∷ []; entries = 14 ∷ 15 ∷ 16 ∷ [] }
+          ∷ record { opener = ByStep 16; makes = []; entries = 17 ∷ [] }
           ∷ [];
     }
 

@@ -18,7 +18,8 @@ pub struct Variable {
 #[derive(Clone, Copy, PartialEq, Eq, Debug, Drop)]
 pub enum Owned {
     Local(Variable),
-    /// An input or output of the function, by its place in the call's arguments, and whether it is an array.
+    /// An input or output of the function, by its place among the inputs and the outputs behind them, and whether it is an
+    /// array.
     Parameter(u32, bool),
 }
 
@@ -42,7 +43,7 @@ pub enum Need {
     AtKey(Name, Key),
 }
 
-/// What a call hands over for a parameter.
+/// What a call hands over for an input.
 #[derive(Drop)]
 pub enum Argument {
     Named(Name),
@@ -79,8 +80,12 @@ pub enum Act {
     Cell(Expr),
     /// Stores an element that was waited for.
     Read,
-    /// Opens a function's body.
-    Call(u32, Vec<Argument>),
+    /// Opens a function's body, with what is handed over for its inputs, and with the names of its outputs.
+    Call {
+        body: u32,
+        inputs: Vec<Argument>,
+        outputs: Vec<Name>,
+    },
     /// Stores a scalar.
     Set(Name, Expr),
     /// Inserts the elements of an array literal.

@@ -18,8 +18,8 @@ ghost use Rattle.task_code.specs.Whole.{IsCode};
 ghost use Rattle.task_code.specs.Check.{is_code};
 ghost use Rattle.task_code.specs.Exact.{needs_of, Leads, IsExact, is_exact};
 ghost use Rattle.task_code.specs.Count.{HasAllBlocks, HasAllLoops, items_in};
-ghost use Rattle.task_code.specs.Worked.{hello, used_before_assigned, filled_by_loop, key_written_twice, fibonacci, filled_by_call};
-ghost use Rattle.task_code.specs.Worked.{assigned_twice, loop_without_right, one_output_twice, name_undeclared, assigned_in_loop, loop_variable_assigned, entry_twice, opened_by_another, scalar_filled};
+ghost use Rattle.task_code.specs.Worked.{hello, used_before_assigned, filled_by_loop, key_written_twice, fibonacci, filled_by_call, filled_without_end, several_outputs, called_everywhere};
+ghost use Rattle.task_code.specs.Worked.{assigned_twice, loop_without_right, one_output_twice, name_undeclared, assigned_in_loop, loop_variable_assigned, entry_twice, opened_by_another, scalar_filled, calls_without_right};
 ghost use Rattle.task_code.specs.Worked.{right_without_use, HelloRuns, WaitsForAssignment, SecondWriteFaults, StoresThree, Overflows, PrintsHello, LacksElement, OpensTurns, MeansTen, MeansResult, MeansInner, MeansCallersArray, ComparesTen, Chunks};
 
 pub mod code;
@@ -110,7 +110,8 @@ pub fn every_naming_of_code<N>()
 
 /// Whether code is whole is decided by a test that computes. The worked scripts are whole: `printf("hello");`, a scalar
 /// that is used before its assignment, an array that a loop fills, a key that is written twice, a recursive function,
-/// and a function that fills its caller's array.
+/// a function that fills its caller's array, one whose calls never end, and calls with several outputs, with arrays handed
+/// down, within one another, in loops and without outputs.
 pub fn whole_code()
     ensures tested { (C : Code) → is_code C ≡ true → IsCode C }
     ensures passes { (C : Code) → IsCode C → is_code C ≡ true }
@@ -120,11 +121,15 @@ pub fn whole_code()
     ensures key_written_twice { IsCode key_written_twice }
     ensures fibonacci { IsCode fibonacci }
     ensures filled_by_call { IsCode filled_by_call }
+    ensures filled_without_end { IsCode filled_without_end }
+    ensures several_outputs { IsCode several_outputs }
+    ensures called_everywhere { IsCode called_everywhere }
 {}
 
 /// Codes that are not whole, each for one reason: a scalar with two assigners, a loop that lacks its body's right, a call
 /// with one variable for two outputs, a name that nothing declares, an assignment inside a loop from outside, an assigned
-/// loop variable, an entry that stands twice, a body with another opener, and elements stored into a scalar.
+/// loop variable, an entry that stands twice, a body with another opener, elements stored into a scalar, and calls without the
+/// right to write their outputs.
 pub fn bad_code()
     ensures assigned_twice { IsCode assigned_twice → ⊥ }
     ensures loop_without_right { IsCode loop_without_right → ⊥ }
@@ -135,6 +140,7 @@ pub fn bad_code()
     ensures entry_twice { IsCode entry_twice → ⊥ }
     ensures opened_by_another { IsCode opened_by_another → ⊥ }
     ensures scalar_filled { IsCode scalar_filled → ⊥ }
+    ensures calls_without_right { IsCode calls_without_right → ⊥ }
 {}
 
 /// Rights. Whole code has each right that an entry, or an entry that it leads to, has a use for; exact code has no other.
@@ -149,6 +155,9 @@ pub fn exact_rights()
     ensures key_written_twice { IsExact key_written_twice }
     ensures fibonacci { IsExact fibonacci }
     ensures filled_by_call { IsExact filled_by_call }
+    ensures filled_without_end { IsExact filled_without_end }
+    ensures several_outputs { IsExact several_outputs }
+    ensures called_everywhere { IsExact called_everywhere }
     ensures right_without_use { IsCode right_without_use × (IsExact right_without_use → ⊥) }
 {}
 

@@ -102,8 +102,12 @@ fn hello(alloc: Global) -> Result<Code, FormatFault> {
 fn fibonacci_entries(code: &mut Code, alloc: Global) -> Result<(), FormatFault> {
     let result = own(1);
     let ten = Argument::Fixed(Scalar::Number(10));
-    let arguments = Vec::from_array(alloc, [ten, Argument::Named(result)])?;
-    code.push_entry(entry(alloc, 1, (79, 92), Act::Call(1, arguments), &[], result)?)?;
+    let call = Act::Call {
+        body: 1,
+        inputs: Vec::from_array(alloc, [ten])?,
+        outputs: Vec::from_array(alloc, [result])?,
+    };
+    code.push_entry(entry(alloc, 1, (79, 92), call, &[], result)?)?;
     let format = Operator::Printf(Format::read(alloc, b"%i")?);
     let print = Expr::Operation(format, Vec::from_array(alloc, [Expr::Need(0)])?);
     code.push_entry(entry(alloc, 2, (79, 79), Act::Print(print), &[result], result)?)?;
@@ -117,16 +121,12 @@ fn fibonacci_entries(code: &mut Code, alloc: Global) -> Result<(), FormatFault> 
     for (cell, call, by, offsets) in [(6, 7, 1, (58, 54)), (8, 9, 2, (69, 65))] {
         let below = Act::Cell(sum(alloc, Sign::Minus, number(by))?);
         code.push_entry(entry(alloc, cell, (50, offsets.0), below, &[outer_n], own(cell))?)?;
-        let passed = [Argument::Named(own(cell)), Argument::Named(own(call))];
-        let arguments = Vec::from_array(alloc, passed)?;
-        code.push_entry(entry(
-            alloc,
-            call,
-            (50, offsets.1),
-            Act::Call(1, arguments),
-            &[],
-            own(call),
-        )?)?;
+        let act = Act::Call {
+            body: 1,
+            inputs: Vec::from_array(alloc, [Argument::Named(own(cell))])?,
+            outputs: Vec::from_array(alloc, [own(call)])?,
+        };
+        code.push_entry(entry(alloc, call, (50, offsets.1), act, &[], own(call))?)?;
     }
     let both = Act::Set(outer_r, sum(alloc, Sign::Plus, Expr::Need(1))?);
     code.push_entry(entry(alloc, 10, (50, 50), both, &[own(7), own(9)], outer_r)?)?;

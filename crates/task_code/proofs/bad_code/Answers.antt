@@ -1,5 +1,5 @@
 use Rattle.std.specs.Prelude.{refl}
-use Rattle.task_code.specs.Worked.{assigned_twice, loop_without_right, one_output_twice, name_undeclared, assigned_in_loop, loop_variable_assigned, entry_twice, opened_by_another, scalar_filled}
+use Rattle.task_code.specs.Worked.{assigned_twice, loop_without_right, one_output_twice, name_undeclared, assigned_in_loop, loop_variable_assigned, entry_twice, opened_by_another, scalar_filled, calls_without_right}
 use Rattle.task_code.proofs.Decided.{not_whole}
 use Rattle.task_code.proofs.bad_code.Goals as goal
 
@@ -29,3 +29,6 @@ returns-clause-opened_by_another g = λ I. not_whole opened_by_another I refl
 
 pub returns-clause-scalar_filled : goal.returns-clause-scalar_filled
 returns-clause-scalar_filled g = λ I. not_whole scalar_filled I refl
+
+pub returns-clause-calls_without_right : goal.returns-clause-calls_without_right
+returns-clause-calls_without_right g = λ I. not_whole calls_without_right I refl

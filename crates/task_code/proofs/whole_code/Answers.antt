@@ -1,5 +1,5 @@
 use Rattle.std.specs.Prelude.{refl}
-use Rattle.task_code.specs.Worked.{hello, used_before_assigned, filled_by_loop, key_written_twice, fibonacci, filled_by_call}
+use Rattle.task_code.specs.Worked.{hello, used_before_assigned, filled_by_loop, key_written_twice, fibonacci, filled_by_call, filled_without_end, several_outputs, called_everywhere}
 use Rattle.task_code.proofs.Checked.{code_checked}
 use Rattle.task_code.proofs.Decided.{whole_checked}
 use Rattle.task_code.proofs.whole_code.Goals as goal
@@ -27,3 +27,12 @@ returns-clause-fibonacci g = code_checked fibonacci refl
 
 pub returns-clause-filled_by_call : goal.returns-clause-filled_by_call
 returns-clause-filled_by_call g = code_checked filled_by_call refl
+
+pub returns-clause-filled_without_end : goal.returns-clause-filled_without_end
+returns-clause-filled_without_end g = code_checked filled_without_end refl
+
+pub returns-clause-several_outputs : goal.returns-clause-several_outputs
+returns-clause-several_outputs g = code_checked several_outputs refl
+
+pub returns-clause-called_everywhere : goal.returns-clause-called_everywhere
+returns-clause-called_everywhere g = code_checked called_everywhere refl
