@@ -1,11 +1,8 @@
 -- A script of one `printf` is flat.
-use Rattle.std.proofs.Common.{◌≡◌, ℕ, ◌<◌, List, [], ◌∷◌, map, refl, sym, ap, ◌∙◌, subst, arith, inl, inr}
+use Rattle.std.proofs.Common.{◌≡◌, ℕ, ◌<◌, List, [], ◌∷◌, refl, sym, ap, subst, arith, inl, inr}
 use Rattle.std.specs.Prelude.{Result, Ok, Err, pos}
-use Rattle.dataflow.specs.System.{Answer, In}
 use Rattle.values.specs.declared.fault.OpFault.{OpFault}
 use Rattle.values.specs.declared.format.Piece.{Piece}
-use Rattle.values.specs.declared.key.Key.{Key}
-use Rattle.values.specs.declared.value.Scalar.{Scalar}
 use Rattle.values.specs.declared.value.Scalar.TheVariants.{Text}
 use Rattle.values.specs.declared.value.Value.{Value}
 use Rattle.values.specs.declared.value.Value.TheVariants.{One}
@@ -13,7 +10,7 @@ use Rattle.values.specs.Formats.{formatted}
 use Rattle.values.specs.Operators.{all_values, on_all, printf}
 use Rattle.values.specs.Values.{scalar_of}
 use Rattle.task_code.specs.Code.{ByMain, Code, Exprs, Print, entry, no_operand, operation}
-use Rattle.task_code.specs.Compute.{eval, evals}
+use Rattle.task_code.specs.Compute.{evals}
 use Rattle.task_code.proofs.Checked.{code_checked}
 use Rattle.board.specs.Flat.{GivesText, IsFlat, IsFlatEntry}
 
