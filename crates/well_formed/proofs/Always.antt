@@ -1,0 +1,236 @@
+-- What holds of the core of a well typed script without single assignment.
+use Rattle.std.specs.Prelude.{◌≡◌, ◌⊎◌, ℕ, zero, suc, ◌<◌, Bool, true, false, List, [], ◌∷◌, length, Option, Some, ℤ, cond, nat_eq, find, slice_get, refl}
+use Rattle.std.proofs.Common.{inl, inr, sym, ap, ◌∙◌, subst, arith}
+use Rattle.std.proofs.lemmas.Bool.{eqb-true}
+use Rattle.values.specs.Operators as op
+use Rattle.values.specs.Operators.{literal}
+use Rattle.syntax_trees.specs.Core.{Owned, local, input, output, Name, here, literal as lit, name as nm, whole, operator, Form, compute, read, Call, Part, calls, Outer, Stmt, stmt, Action, declare, call_alone, assign, fill, insert, print, assert, when, choose, range, each, wait, Block, Function, Core}
+use Rattle.syntax_trees.specs.Members.{◌∈◌, first}
+use Rattle.syntax_trees.specs.Numbered.{numbered}
+use Rattle.syntax_trees.specs.Parts.{block_list, script_blocks, script_stmts, stmt_calls, part_calls, parts, calls_among}
+use Rattle.syntax_trees.specs.Resolved.{core}
+use Rattle.syntax_trees.specs.Scopes.{Signature, signatures}
+use Rattle.syntax_trees.specs.Table.{Table}
+use Rattle.syntax_trees.specs.Tree.{Tree}
+use Rattle.syntax_trees.specs.Typing.{WellTyped}
+use Rattle.syntax_trees.specs.WellFormed.{Declares, Uses, IsHidden, IsAlone, IsMany, a_list, a_copy}
+use Rattle.syntax_trees.proofs.Blocks.{among_script}
+use Rattle.meaning_laws.proofs.Declared.{local_same}
+use Rattle.syntax_trees.proofs.Members.{split_in, either}
+use Rattle.meaning_laws.proofs.OneAssign.{function_in}
+use Rattle.syntax_trees.proofs.Tested.{distinct, flat, self_eq, distinct_apart, distinct_right, flat_in, flat_once, every_in, name_nodes, hidden_calls, hidden_of, nodes, writer_of, block_nodes, declared_node, hidden_node, stmt_once, one_block, cell_once, role_once, role_cells, call_among}
+use Rattle.meaning_laws.proofs.TestedNames.{uses_used, declares_it, declared_it, declares, one_hidden, is_local, hidden_fine, is_many, fill_fine, offset}
+use Rattle.meaning_laws.proofs.TreeCalls.{calls-append, hidden, fills}
+use Rattle.meaning_laws.proofs.TreeNodes.{nodes_once}
+use Rattle.meaning_laws.proofs.TreeOffsets.{tree_offsets, offsets_once}
+use Rattle.meaning_laws.proofs.TreeStmts.{writers_once}
+use Rattle.well_formed.specs.Always.{FormedAlways}
+use Rattle.well_formed.proofs.Standing.{used_stands, declared_here}
+use Rattle.well_formed.proofs.Everywhere.{IsParameter, AllPlaced, block_ok}
+use Rattle.well_formed.proofs.Bodies.{all_placed, scoped_block}
+use Rattle.well_formed.proofs.Once.{numbers_once}
+use Rattle.well_formed.proofs.Formed.{called, call_of}
+
+-- CALLS
+
+find_once : (cs : List Call) (c : Call) → distinct (flat offset cs) ≡ true → c ∈ cs → find (λ d. nat_eq d.at c.at) cs ≡ Some c
+find_once [] c h m = elim m [ ]
+find_once (d ∷ cs) c h m = by (nat_eq d.at c.at) refl (split_in m) (λ k. find_once cs c (distinct_right (d.at ∷ []) (flat offset cs) h) k)
+  where
+    by : (b : Bool) → nat_eq d.at c.at ≡ b → ((c ≡ d) ⊎ (c ∈ cs)) → (c ∈ cs → find (λ d. nat_eq d.at c.at) cs ≡ Some c) → cond b (Some d) (find (λ d. nat_eq d.at c.at) cs) ≡ Some c
+    by true e (inl q) rec = ap (λ (z : Call). Some z) (sym q)
+    by true e (inr k) rec = distinct_apart (d.at ∷ []) (flat offset cs) h first (subst (λ (n : ℕ). n ∈ flat offset cs) (sym (eqb-true d.at c.at e)) (flat_in offset cs k first))
+    by false e (inr k) rec = rec k
+    by false e (inl q) rec = absurd (no_self (sym e ∙ subst (λ (z : Call). nat_eq z.at c.at ≡ true) q (self_eq c.at)))
+      where
+        no_self : false ≡ true → ⊥
+        no_self h = absurd (cc (h))
+
+get_below : (xs : List Name) (j : ℕ) → j < length xs → (x : Name) × (slice_get xs j ≡ Some x)
+get_below [] j h = absurd (omega arith)
+get_below (x ∷ xs) zero h = (x, refl)
+get_below (x ∷ xs) (suc j) h = get_below xs j (omega arith)
+
+-- a call of a statement stands in an expression, or is the statement's own
+IsOwnCall : Action → Call → Type 0
+IsOwnCall a c = (p : ℤ) × (ps : List Part) × (a ≡ call_alone p ps c)
+
+kinds : (a : Action) (c : Call) → c ∈ part_calls (parts a) → (c ∈ hidden_calls a) ⊎ IsOwnCall a c
+unfolding IsOwnCall
+kinds (declare v) c m = inl m
+kinds (call_alone p ps d) c m = elim (either (part_calls ps) (d ∷ []) (subst (λ (cs : List Call). c ∈ cs) (calls-append ps (calls d ∷ [])) m)) [
+  | inl i ↦ inl i
+  | inr i ↦ elim (split_in i) [ inl e ↦ inr (p, ps, ap (λ (z : Call). call_alone p ps z) (sym e)) | inr j ↦ elim j [ ] ]
+]
+kinds (assign x e) c m = inl m
+kinds (fill a e) c m = inl m
+kinds (insert a k e) c m = inl m
+kinds (print p e) c m = inl m
+kinds (assert p e) c m = inl m
+kinds (when e b) c m = inl m
+kinds (choose e b d) c m = inl m
+kinds (range lo hi st v t b) c m = inl m
+kinds (each a v t b) c m = inl m
+kinds (wait ns b) c m = inl m
+
+hidden_shape : (xs : List Name) → one_hidden xs ≡ true → (n : ℕ) × (xs ≡ here n ∷ [])
+hidden_shape [] h = absurd (cc (h))
+hidden_shape (x ∷ []) h = by x.up x.what h
+  where
+    by : (up : ℕ) (what : Owned) → is_local up what ≡ true → (n : ℕ) × (record { up = up; what = what } ∷ [] ≡ here n ∷ [])
+    by zero (local n) h = (n, refl)
+    by zero (input i) h = absurd (cc (h))
+    by zero (output j) h = absurd (cc (h))
+    by (suc up) what h = absurd (cc (h))
+hidden_shape (x ∷ y ∷ xs) h = absurd (cc (h))
+
+-- WHOLE ARRAYS
+
+is_many_form : (f : Form) → is_many f ≡ true → IsMany f
+is_many_form (compute (whole a)) h = a_copy
+is_many_form (compute (lit v)) h = absurd (cc (h))
+is_many_form (compute (nm x)) h = absurd (cc (h))
+is_many_form (read a i) h = absurd (cc (h))
+is_many_form (compute (operator (op.sum_of ss) es)) h = absurd (cc (h))
+is_many_form (compute (operator (op.product_of fs) es)) h = absurd (cc (h))
+is_many_form (compute (operator (op.compare o) es)) h = absurd (cc (h))
+is_many_form (compute (operator op.equal es)) h = absurd (cc (h))
+is_many_form (compute (operator op.unequal es)) h = absurd (cc (h))
+is_many_form (compute (operator op.all_true es)) h = absurd (cc (h))
+is_many_form (compute (operator op.any_true es)) h = absurd (cc (h))
+is_many_form (compute (operator op.not_true es)) h = absurd (cc (h))
+is_many_form (compute (operator op.negate es)) h = absurd (cc (h))
+is_many_form (compute (operator op.join es)) h = absurd (cc (h))
+is_many_form (compute (operator op.from_int es)) h = absurd (cc (h))
+is_many_form (compute (operator op.to_int es)) h = absurd (cc (h))
+is_many_form (compute (operator op.size es)) h = absurd (cc (h))
+is_many_form (compute (operator (op.printf ps) es)) h = absurd (cc (h))
+is_many_form (compute (operator op.assert es)) h = absurd (cc (h))
+is_many_form (compute (operator op.literal es)) h = a_list
+
+-- WRITERS
+
+fill_parts : {at n at' n' : ℕ} {x x' : Name} {c c' : Outer} → stmt at n (fill x c) ≡ stmt at' n' (fill x' c') → (x ≡ x') × (c ≡ c')
+fill_parts h = (cc (h), cc (h))
+
+insert_parts : {at n at' n' : ℕ} {x x' : Name} {i i' c c' : Outer} → stmt at n (insert x i c) ≡ stmt at' n' (insert x' i' c') → (i ≡ i') × (c ≡ c')
+insert_parts h = (cc (h), cc (h))
+
+fill_no_insert : {at n at' n' : ℕ} {x x' : Name} {i c c' : Outer} → stmt at n (fill x c) ≡ stmt at' n' (insert x' i c') → ⊥
+fill_no_insert h = absurd (cc (h))
+
+abbrev hidden_of_stmt : Stmt → List ℕ
+hidden_of_stmt (stmt at n a) = hidden_of a
+
+module _ (t : Table) (u : Tree) (typed : WellTyped (numbered 1 u) t) where
+  abbrev s : Core
+  s = core t (numbered 1 u)
+
+  abbrev fs : List Signature
+  fs = signatures (numbered 1 u)
+
+  all : AllPlaced fs s
+  all = all_placed t u typed
+
+  once : distinct (0 ∷ flat block_nodes (script_blocks s)) ≡ true
+  once = nodes_once t (numbered 1 u) (numbers_once u)
+
+  script_names : (up : ℕ) (what : Owned) → Uses s.body up what → (up ≡ 0) × Declares s.body what
+  script_names up what m = elim (used_stands fs 0 all.script (uses_used m)) [
+    | inl v ↦ (let i = v.visible in elim i [ ])
+    | inr r ↦ (r.0, declares_it s.body what r.1)
+  ]
+
+  wait_names : (c : Block) (up : ℕ) (what : Owned) → c ∈ script_blocks s → Uses c up what → Declares c what → up ≡ 0
+  wait_names c up what m h d =
+      let q = scoped_block s m in
+      let o = block_ok fs s all q.1 in
+      declared_here fs q.0 o.placed o.below (uses_used h) (declared_it c what d)
+
+  some_same : {f g : Function} → ◌≡◌ {A = Option Function} (Some f) (Some g) → f ≡ g
+  some_same h = cc
+
+  call_count : (b : Block) (st : Stmt) (c : Call) (f : Function) → b ∈ script_blocks s → st ∈ block_list b → c ∈ stmt_calls st → slice_get s.functions c.function ≡ Some f → length c.outputs ≡ f.outputs
+  call_count b st c f k i m e =
+      let q = call_of t u typed st c (among_script s k i) m in
+      let r = called t u typed q.0 c q.1 in
+      r.3 ∙ ap (λ (z : Function). z.outputs) (some_same (sym r.1 ∙ e))
+
+  output_there : (f : Function) (j : ℕ) → f ∈ s.functions → Uses f.body 0 (output j) → j < f.outputs
+  output_there f j m h =
+      let b = all.functions f m in
+      elim (used_stands fs f.inputs b.placed (uses_used h)) [
+        | inl v ↦ parameter v.variable.refers_to (sym (ap (λ (z : Name). z.what) v.is)) (b.parameters v.variable v.visible)
+        | inr r ↦ absurd (no_output r.1)
+      ]
+    where
+      no_output : declares f.body (output j) ≡ true → ⊥
+      no_output h = absurd (cc (h))
+
+      same_output : {i : ℕ} → output i ≡ output j → i ≡ j
+      same_output h = cc
+
+      no_input : {i : ℕ} → input i ≡ output j → ⊥
+      no_input h = cc
+
+      parameter : (x : Name) → x.what ≡ output j → IsParameter f x → j < f.outputs
+      parameter x e p = elim p.is [
+        | inl r ↦ (let q = same_output (sym r.1 ∙ e) in let l = r.2 in omega arith)
+        | inr r ↦ absurd (no_input (sym r.1 ∙ e))
+      ]
+
+  call_outputs : (b : Block) (st : Stmt) (c : Call) (f : Function) (j : ℕ) → b ∈ script_blocks s → st ∈ block_list b → c ∈ stmt_calls st → slice_get s.functions c.function ≡ Some f
+      → Uses f.body 0 (output j) → (x : Name) × (slice_get c.outputs j ≡ Some x)
+  call_outputs b st c f j k i m e h =
+      let l = output_there f j (function_in s.functions c.function f e) h in
+      let n = call_count b st c f k i m e in
+      get_below c.outputs j (omega arith)
+
+  declares_hidden : {at k v n : ℕ} {st : Stmt} {A : Type 0} → stmt at k (declare v) ∈ script_stmts s → st ∈ script_stmts s → v ≡ n → n ∈ hidden_of_stmt st → A
+  declares_hidden {at} {k} {v} {n} {st} {A} i j e h =
+      let same : stmt at k (declare v) ≡ st = stmt_once s once i j (subst (λ (z : ℕ). z ∈ nodes (stmt at k (declare v))) e (declared_node (declare v) first)) (in_nodes st h) in
+      let m : n ∈ hidden_of_stmt (stmt at k (declare v)) = subst (λ (z : Stmt). n ∈ hidden_of_stmt z) (sym same) h in
+      elim m [ ]
+    where
+      in_nodes : (z : Stmt) → n ∈ hidden_of_stmt z → n ∈ nodes z
+      in_nodes (stmt at n a) m = hidden_node a m
+
+  hidden_of_call : {at n : ℕ} {a : Action} {c : Call} → stmt at n a ∈ script_stmts s → c ∈ hidden_calls a → IsHidden s c
+  hidden_of_call {at} {n} {a} {c} i m =
+      let r = hidden_shape c.outputs (every_in (λ (c : Call). one_hidden c.outputs) (hidden_calls a) (every_in hidden_fine (script_stmts s) (hidden t (numbered 1 u)) i) m) in
+      record {
+        node = r.0;
+        is = r.1;
+        undeclared = λ b k d. declares_hidden (among_script s k d.there) i (local_same (sym d.is)) (flat_in (λ (d : Call). name_nodes d.outputs) (hidden_calls a) m (subst (λ (xs : List Name). r.0 ∈ name_nodes xs) (sym r.1) first));
+      }
+
+  call_kinds : (b : Block) (st : Stmt) (c : Call) → b ∈ script_blocks s → st ∈ block_list b → c ∈ stmt_calls st → IsAlone st c ⊎ IsHidden s c
+  unfolding IsOwnCall
+  call_kinds b (stmt at n a) c k i m = elim (kinds a c m) [
+    | inl h ↦ inr (hidden_of_call (among_script s k i) h)
+    | inr o ↦ inl (record { at = at; node = n; priority = o.0; parts = o.1; is = ap (λ (z : Action). stmt at n z) o.2 })
+  ]
+
+  writer_once : {st st' : Stmt} {n : ℕ} → st ∈ script_stmts s → st' ∈ script_stmts s → n ∈ writer_of st → n ∈ writer_of st' → st ≡ st'
+  writer_once i j m k = flat_once writer_of (script_stmts s) (writers_once t (numbered 1 u) (numbers_once u)) i j m k
+
+  -- what holds without single assignment
+  pub always : distinct (tree_offsets (numbered 1 u)) ≡ true → FormedAlways s
+  always offsets = record {
+    one_block = one_block s once;
+    script_names = script_names;
+    wait_names = wait_names;
+    call_found = λ b st c k i m. find_once (calls_among (script_stmts s)) c (offsets_once t (numbered 1 u) offsets) (call_among (script_stmts s) (among_script s k i) m);
+    call_outputs = call_outputs;
+    call_count = call_count;
+    call_kinds = call_kinds;
+    cell_once = cell_once s once;
+    fill_many = λ at n x c i. is_many_form c.cell.form (every_in fill_fine (script_stmts s) (fills t (numbered 1 u)) i);
+    role_once = role_once s once;
+    role_cells = role_cells s once;
+    writers = record {
+      fill_once = λ at n at' x x' c c' i j. fill_parts (writer_once i j first first);
+      insert_once = λ at n at' x x' i i' c c' k l. insert_parts (writer_once k l first first);
+      fill_insert = λ at n at' x x' i c c' k l. fill_no_insert (writer_once k l first first);
+    };
+  }
