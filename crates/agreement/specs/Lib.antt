@@ -4,3 +4,6 @@ pub mod Scalars
 pub mod OfScalars
 pub mod Blocks
 pub mod Worked
+pub mod CodeNames
+pub mod IsCodeOf
+pub mod NodesOnce

@@ -1,0 +1,33 @@
+-- The meaning of a clean script is knowledge of the kind that is asked for.
+use Rattle.std.proofs.Common.{◌≡◌, max, List, arith}
+use Rattle.values.specs.declared.map.Element.{Element}
+use Rattle.values.specs.declared.value.Scalar.{Scalar}
+use Rattle.syntax_trees.specs.Core.{Core}
+use Rattle.syntax_trees.specs.Facts.{Elements, OneWriter}
+use Rattle.syntax_trees.specs.Meaning.{Closed, HasValue, Meaning}
+use Rattle.syntax_trees.specs.Outcomes.{Clean}
+use Rattle.syntax_trees.specs.Places.{Place}
+use Rattle.syntax_trees.specs.Single.{SinglyAssigned}
+use Rattle.syntax_trees.specs.WellFormed.{WellFormed}
+use Rattle.meaning_laws.proofs.Ever.{shut, backed, one_value, one_element}
+use Rattle.meaning_laws.proofs.Rounds.{known_later}
+use Rattle.correspondence.specs.Knows.{Knows}
+
+module _ (s : Core) (w : WellFormed s) (single : SinglyAssigned s) (clean : Clean s)
+    (one_scalar : (p : Place) (v u : Scalar) → HasValue s (Meaning s) p v → HasValue s (Meaning s) p u → v ≡ u)
+    (listed : (a : Place) → Closed s (Meaning s) a → (es : List Element) × Elements (Meaning s) a es) where
+  one_writer : (a : Place) → OneWriter (Meaning s) a
+  one_writer a k u u' v v' h g =
+      let m = max h.0 g.0 in
+      clean m a k u u' v v' (known_later s h.0 m _ (omega arith) h.1) (known_later s g.0 m _ (omega arith) g.1)
+
+  pub meaning_knows : Knows s (Meaning s)
+  meaning_knows = record {
+    shut = shut s w single;
+    backed = backed s w single clean;
+    one_value = one_value s w single;
+    one_element = one_element s w single;
+    one_writer = one_writer;
+    one_scalar = one_scalar;
+    listed = listed;
+  }

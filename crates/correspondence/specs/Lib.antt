@@ -1,0 +1,7 @@
+pub mod Answered
+pub mod Chains
+pub mod Knows
+pub mod Backs
+pub mod Closing
+pub mod Inclusions
+pub mod Halves

@@ -1,0 +1,77 @@
+//! Which code is a script's code, and what ties the two meanings together. Nothing here runs.
+#![tactic(auto)]
+
+ghost use Rattle.correspondence.specs.Backs.{Backs};
+ghost use Rattle.correspondence.specs.Halves.{Half, HalfIn};
+ghost use Rattle.correspondence.specs.Knows.{Knows};
+ghost use Rattle.correspondence.specs.Inclusions.{Facts, WrittenTo, WrittenFrom, ClosedTo, ClosedFrom, InputsFit, ArraysOnce, LinesTo, LinesFrom};
+ghost use Rattle.agreement.specs.NodesOnce.{NodesOnce};
+ghost use Rattle.meaning_laws.specs.Scoped.{Scoped};
+ghost use Rattle.agreement.specs.IsCodeOf.{IsCodeOf};
+ghost use Rattle.meaning_laws.specs.TypedValues.{TypedValues};
+ghost use Rattle.dataflow.specs.Facts.{Ever};
+ghost use Rattle.dataflow.specs.System.{Effect};
+ghost use Rattle.std.specs.Prelude.{ℕ, ◌<◌, List};
+ghost use Rattle.syntax_trees.specs.Core.{Core};
+ghost use Rattle.syntax_trees.specs.Facts.{OneWriter, Elements};
+ghost use Rattle.syntax_trees.specs.Meaning.{Closed, Known, Meaning};
+ghost use Rattle.syntax_trees.specs.Outcomes.{Clean};
+ghost use Rattle.syntax_trees.specs.Places as ScriptPlaces;
+ghost use Rattle.syntax_trees.specs.Single.{SinglyAssigned};
+ghost use Rattle.syntax_trees.specs.WellFormed.{WellFormed};
+ghost use Rattle.task_code.specs.Code.{Code};
+ghost use Rattle.task_code.specs.Effects.{Task};
+ghost use Rattle.task_code.specs.Machine.{CleanCode};
+ghost use Rattle.task_code.specs.Places.{Place};
+ghost use Rattle.task_code.specs.System.{code_system};
+ghost use Rattle.task_code.specs.Whole.{IsCode};
+ghost use Rattle.values.specs.declared.key.Key.{Key};
+ghost use Rattle.values.specs.declared.map.Element.{Element};
+ghost use Rattle.values.specs.declared.value.Scalar.{Scalar};
+
+/// All that the code ever knows is what the script's answers yield, and no key has two writers, once six lemmas hold: what is written
+/// and closed in the code and in the script is the same, inputs are data of their kinds, and one task writes a key.
+pub fn code_within_script()
+    ensures facts { (s : Core) (C : Code) → IsCode C → Knows s (Meaning s)
+        → WrittenTo s C (Meaning s) → WrittenFrom s C (Meaning s) → ClosedTo s C (Meaning s) → ClosedFrom s C (Meaning s) → InputsFit s C (Meaning s) → ArraysOnce s C (Meaning s)
+        → (t : Task) (e : Effect Task Place Key Scalar) → Ever (code_system C) t e → Facts s C (Meaning s) t e }
+    ensures clean { (s : Core) (C : Code) → IsCode C → Knows s (Meaning s)
+        → WrittenTo s C (Meaning s) → WrittenFrom s C (Meaning s) → ClosedTo s C (Meaning s) → ClosedFrom s C (Meaning s) → InputsFit s C (Meaning s) → ArraysOnce s C (Meaning s)
+        → CleanCode C }
+{}
+
+/// For the whole language: what the code writes by the script's answers the script knows, what the script knows the code writes where a
+/// live task may read it, one task writes an array's key, and lines agree, writer for writer. So once what is closed agrees, all that the code ever knows is what the
+/// script's answers yield.
+pub fn writes_agree()
+    ensures to { (s : Core) (C : Code) → IsCodeOf s C → IsCode C → WellFormed s → Knows s (Meaning s) → Scoped s → TypedValues s (Meaning s) → WrittenTo s C (Meaning s) }
+    ensures from { (s : Core) (C : Code) → IsCodeOf s C → IsCode C → WellFormed s → Knows s (Meaning s) → Scoped s → TypedValues s (Meaning s) → WrittenFrom s C (Meaning s) }
+    ensures once { (s : Core) (C : Code) → IsCodeOf s C → IsCode C → WellFormed s → Knows s (Meaning s) → Scoped s → TypedValues s (Meaning s) → NodesOnce C → ArraysOnce s C (Meaning s) }
+    ensures within { (s : Core) (C : Code) → IsCodeOf s C → IsCode C → WellFormed s → Knows s (Meaning s) → Scoped s → TypedValues s (Meaning s) → NodesOnce C
+        → ClosedTo s C (Meaning s) → ClosedFrom s C (Meaning s) → (t : Task) (e : Effect Task Place Key Scalar) → Ever (code_system C) t e → Facts s C (Meaning s) t e }
+    ensures clean { (s : Core) (C : Code) → IsCodeOf s C → IsCode C → WellFormed s → Knows s (Meaning s) → Scoped s → TypedValues s (Meaning s) → NodesOnce C
+        → ClosedTo s C (Meaning s) → ClosedFrom s C (Meaning s) → CleanCode C }
+    ensures prints_to { (s : Core) (C : Code) → IsCodeOf s C → IsCode C → WellFormed s → Knows s (Meaning s) → Scoped s → TypedValues s (Meaning s) → LinesTo s C (Meaning s) }
+    ensures prints_from { (s : Core) (C : Code) → IsCodeOf s C → IsCode C → WellFormed s → Knows s (Meaning s) → Scoped s → LinesFrom s C (Meaning s) }
+{}
+
+/// Rounds, without the premise that the script writes no key twice: half a round (what is known after n rounds, and the scalars that follow)
+/// is knowledge that the lemmas from the script to the code stand over as long as round n is clean; and once the facts of each half round are facts of clean
+/// code (`step`, which may use that of all rounds before), the script is clean, and all half rounds are in what the code ever has.
+pub fn rounds_agree()
+    ensures backs { (s : Core) → WellFormed s → SinglyAssigned s → (n : ℕ) → ((a : ScriptPlaces.Place) → OneWriter (Known s n) a)
+        → ((a : ScriptPlaces.Place) → Closed s (Half s n) a → (es : List Element) × Elements (Half s n) a es) → Backs s (Half s n) }
+    ensures clean { (s : Core) (C : Code) → IsCodeOf s C → WellFormed s → SinglyAssigned s → IsCode C → Scoped s → CleanCode C
+        → ((n : ℕ) (a : ScriptPlaces.Place) → Closed s (Half s n) a → (es : List Element) × Elements (Half s n) a es)
+        → ((n : ℕ) → ((a : ScriptPlaces.Place) → OneWriter (Known s n) a) → Backs s (Half s n) → ((m : ℕ) → m < n → HalfIn s C m) → HalfIn s C n)
+        → Clean s }
+    ensures half { (s : Core) (C : Code) → IsCodeOf s C → WellFormed s → SinglyAssigned s → IsCode C → Scoped s → CleanCode C
+        → ((n : ℕ) (a : ScriptPlaces.Place) → Closed s (Half s n) a → (es : List Element) × Elements (Half s n) a es)
+        → ((n : ℕ) → ((a : ScriptPlaces.Place) → OneWriter (Known s n) a) → Backs s (Half s n) → ((m : ℕ) → m < n → HalfIn s C m) → HalfIn s C n)
+        → (n : ℕ) → HalfIn s C n }
+{}
+
+/// For the whole language: what is closed in the code, by the script's answers, is closed in the script.
+pub fn closed_agrees()
+    ensures { (s : Core) (C : Code) → IsCodeOf s C → IsCode C → WellFormed s → Knows s (Meaning s) → Scoped s → TypedValues s (Meaning s) → ClosedTo s C (Meaning s) }
+{}
