@@ -68,7 +68,7 @@ module _ (s : Core) (w : WellFormed s) (single : SinglyAssigned s) where
       let m = max n h.0 in
       (grow n m (omega arith)).stays a c k u v (known_later s h.0 m _ (omega arith) h.1)
 
-  grow_meaning : (n : ℕ) → Grows s (Known s n) (Meaning s)
+  pub grow_meaning : (n : ℕ) → Grows s (Known s n) (Meaning s)
   grow_meaning n = record { more = λ f k. (n, k); stays = λ a c k u v h. closed_full n a c k u v h }
 
   pub live_stays : (n m : ℕ) (path : Path) (b : Block) → n ≤ m → Live s (Known s n) path b → Live s (Known s m) path b
@@ -81,7 +81,7 @@ module _ (s : Core) (w : WellFormed s) (single : SinglyAssigned s) where
   pub shut : IsShut s (Meaning s)
   shut f h = meaning_closed s grow f h
 
-  one_writer : Clean s → (a : Place) → OneWriter (Meaning s) a
+  pub one_writer : Clean s → (a : Place) → OneWriter (Meaning s) a
   one_writer clean a k u u' v v' h g =
       let m = max h.0 g.0 in
       clean m a k u u' v v' (known_later s h.0 m _ (omega arith) h.1) (known_later s g.0 m _ (omega arith) g.1)

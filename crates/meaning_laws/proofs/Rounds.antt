@@ -15,8 +15,9 @@ use Rattle.syntax_trees.specs.Parts.{script_stmts, cells}
 use Rattle.syntax_trees.specs.Places.{Path, Place, place}
 use Rattle.syntax_trees.specs.WellFormed.{NamesFound, CellsApart, LoopsApart, WritersApart, Role}
 use Rattle.meaning_laws.proofs.Declared.{stmt_in}
+use Rattle.meaning_laws.proofs.Frozen.{FinishedIn, no_target_in, fill_in, insert_in, blocks_in, live_finished}
 use Rattle.meaning_laws.proofs.Growth.{Grows, keeps_stmt}
-use Rattle.meaning_laws.proofs.Hinge.{Later, Wrote, FinishedIn, no_target_in, value_in, write_in, blocks_in, closed_in, live_finished, grows}
+use Rattle.meaning_laws.proofs.Hinge.{Later, Wrote, HasWritten, closed_in, grows}
 use Rattle.meaning_laws.proofs.OneValue.{OneEach, gives_same, key_same}
 use Rattle.meaning_laws.proofs.Rising.{rising_once}
 use Rattle.meaning_laws.proofs.Sources.{CellValue, AssignValue, value_view, FillElement, InsertElement, element_view, outer_in, index_in, right_in, many_given, IsFull, cell_gives, known_full}
@@ -133,16 +134,16 @@ module _ (s : Core) (w : NamesFound s) (apart : CellsApart s) (loops : LoopsApar
   moved : (K : Knowledge) {a b u p : Place} {k : Key} {v : Scalar} → a ≡ b → u ≡ p → K (element a k u v) → K (element b k p v)
   moved K {a} {b} {u} {p} {k} {v} e h f = subst (λ (z : Place). K (element z k p v)) e (subst (λ (z : Place). K (element a k z v)) h f)
 
-  grow_fill : {L K K' : Knowledge} {a : Place} {k : Key} {u : Place} {v : Scalar} → ((f : Fact) → K f → K' f) → FromFill s L K a k u v → FromFill s L K' a k u v
+  pub grow_fill : {L K K' : Knowledge} {a : Place} {k : Key} {u : Place} {v : Scalar} → ((f : Fact) → K f → K' f) → FromFill s L K a k u v → FromFill s L K' a k u v
   grow_fill more e = record { path = e.path; at = e.at; node = e.node; array = e.array; right = e.right; elements = e.elements; live = e.live; known = more _ e.known; there = e.there; array_is = e.array_is; writer_is = e.writer_is }
 
-  grow_insert : {L K K' : Knowledge} {a : Place} {k : Key} {u : Place} {v : Scalar} → ((f : Fact) → K f → K' f) → FromInsert s L K a k u v → FromInsert s L K' a k u v
+  pub grow_insert : {L K K' : Knowledge} {a : Place} {k : Key} {u : Place} {v : Scalar} → ((f : Fact) → K f → K' f) → FromInsert s L K a k u v → FromInsert s L K' a k u v
   grow_insert more e = record { path = e.path; at = e.at; node = e.node; array = e.array; index = e.index; right = e.right; index_value = e.index_value; live = e.live; known_index = more _ e.known_index; is_key = e.is_key; known = more _ e.known; array_is = e.array_is; writer_is = e.writer_is }
 
-  live_fill : {L L' K : Knowledge} {a : Place} {k : Key} {u : Place} {v : Scalar} → Grows s L L' → FromFill s L K a k u v → FromFill s L' K a k u v
+  pub live_fill : {L L' K : Knowledge} {a : Place} {k : Key} {u : Place} {v : Scalar} → Grows s L L' → FromFill s L K a k u v → FromFill s L' K a k u v
   live_fill {L} {L'} g e = record { path = e.path; at = e.at; node = e.node; array = e.array; right = e.right; elements = e.elements; live = keeps_stmt s L L' g e.live; known = e.known; there = e.there; array_is = e.array_is; writer_is = e.writer_is }
 
-  live_insert : {L L' K : Knowledge} {a : Place} {k : Key} {u : Place} {v : Scalar} → Grows s L L' → FromInsert s L K a k u v → FromInsert s L' K a k u v
+  pub live_insert : {L L' K : Knowledge} {a : Place} {k : Key} {u : Place} {v : Scalar} → Grows s L L' → FromInsert s L K a k u v → FromInsert s L' K a k u v
   live_insert {L} {L'} g e = record { path = e.path; at = e.at; node = e.node; array = e.array; index = e.index; right = e.right; index_value = e.index_value; live = keeps_stmt s L L' g e.live; known_index = e.known_index; is_key = e.is_key; known = e.known; array_is = e.array_is; writer_is = e.writer_is }
 
   wrote_of : {K : Knowledge} {a : Place} {k : Key} {u : Place} {v : Scalar} → From s K K a k u v → Wrote s K a u
@@ -296,16 +297,16 @@ module _ (s : Core) (w : NamesFound s) (apart : CellsApart s) (loops : LoopsApar
           writer_is = e.writer_is;
         })
 
-    fill_known : {K : Knowledge} {here : Later s K K} {what : Owned} {path : Path} {at m : ℕ} {x : Name} {c : Outer} → FinishedIn s w K K here what path (stmt at m (fill x c)) → IsTarget what (stmt at m (fill x c))
+    fill_known : {K : Knowledge} {what : Owned} {path : Path} {at m : ℕ} {x : Name} {c : Outer} → FinishedIn s w K (HasWritten s K) what path (stmt at m (fill x c)) → IsTarget what (stmt at m (fill x c))
         → (v : Value) × K (value (path, c.cell.node) v)
     fill_known (no_target_in h) i = absurd (h i)
-    fill_known (value_in {v = v} h) i = (v, h)
+    fill_known (fill_in h) i = h
     fill_known (blocks_in h f) i = absurd h
 
-    insert_known : {K : Knowledge} {here : Later s K K} {what : Owned} {path : Path} {at m : ℕ} {x : Name} {i c : Outer} → FinishedIn s w K K here what path (stmt at m (insert x i c)) → IsTarget what (stmt at m (insert x i c))
+    insert_known : {K : Knowledge} {what : Owned} {path : Path} {at m : ℕ} {x : Name} {i c : Outer} → FinishedIn s w K (HasWritten s K) what path (stmt at m (insert x i c)) → IsTarget what (stmt at m (insert x i c))
         → (k : Key) × (v : Scalar) × K (element (place s path x) k (path, m) v)
     insert_known (no_target_in h) i = absurd (h i)
-    insert_known (write_in {k = k} {v = v} h) i = (k, v, h)
+    insert_known (insert_in h) i = h
     insert_known (blocks_in h f) i = absurd h
 
     -- a closed array has no new element in the next round
@@ -317,13 +318,13 @@ module _ (s : Core) (w : NamesFound s) (apart : CellsApart s) (loops : LoopsApar
 
         by : From s (Known s n) (Known s (suc n)) p k u v → Known s n (element p k u v)
         by (inl e) =
-            let fin = live_finished s w (Known s n) (Known s n) here p (closed_in s w (Known s n) (Known s n) here c) e.array e.live (inl first) e.array_is in
+            let fin = live_finished s w (Known s n) (HasWritten s (Known s n)) p (closed_in s w (Known s n) (Known s n) here c) e.array e.live (inl first) e.array_is in
             let h = fill_known fin first in
             let full = known_full s apart n e.path e.at e.node e.array e.right h.0 (stmt_in s e.live) h.1 in
             let same : e.elements ≡ full.0 = many_same (one_value_next (e.path, e.right.cell.node) (Many e.elements) h.0 e.known (inl h.1) ∙ full.1) in
             moved (Known s n) e.array_is e.writer_is (full.2 k v (subst (λ (l : List Element). entry k v ∈ l) same e.there))
         by (inr e) =
-            let fin = live_finished s w (Known s n) (Known s n) here p (closed_in s w (Known s n) (Known s n) here c) e.array e.live (inr first) e.array_is in
+            let fin = live_finished s w (Known s n) (HasWritten s (Known s n)) p (closed_in s w (Known s n) (Known s n) here c) e.array e.live (inr first) e.array_is in
             let h = insert_known fin first in
             let h' : Known s n (element p h.0 u h.1) = moved (Known s n) e.array_is e.writer_is h.2 in
             elim (from_next p h.0 u h.1 (inl h')) [

@@ -1,5 +1,5 @@
 -- What small scripts mean.
-use Rattle.std.specs.Prelude.{◌≡◌, ◌≢◌, ℕ, zero, suc, ◌<◌, [], ◌∷◌, length, pos, refl, codes}
+use Rattle.std.specs.Prelude.{◌≢◌, ℕ, zero, suc, ◌<◌, [], ◌∷◌, pos, refl, codes}
 use Rattle.std.specs.Fmt.{digits}
 use Rattle.std.proofs.Common.{inl, inr, ap, arith}
 use Rattle.values.specs.declared.fault.OpFault.TheVariants.{Overflow, DivideByZero}
@@ -11,11 +11,13 @@ use Rattle.values.specs.declared.value.Scalar.TheVariants.{Number}
 use Rattle.values.specs.declared.value.Value.TheVariants.{One}
 use Rattle.syntax_trees.specs.Core.{input, output, here, name, operator, none, compute, inner, Awaited, scalar, Stmt, stmt, call_alone, print, wait, Block}
 use Rattle.meaning_laws.specs.Examples as example
-use Rattle.meaning_laws.specs.Examples.{plain, num, variable, block_of}
+use Rattle.meaning_laws.specs.Examples.{plain, num, block_of}
+use Rattle.meaning_laws.specs.HeaderExamples.{nested_calls}
 use Rattle.syntax_trees.specs.Facts.{operation, element_twice, too_deep, value, element, line, fault, a_number}
 use Rattle.syntax_trees.specs.Meaning.{Live, script, waited, called, names_known, Come, scalar_known, stored, of_literal, of_name, of_operator, no_operand, operand, computed, faulty, now, LiveStmt, in_block, cell_value, cell_fault, assigned, inserted, printed, written_twice, too_deep_call, Known}
 use Rattle.syntax_trees.specs.Members.{◌∈◌, first, later}
 use Rattle.syntax_trees.specs.Places.{Path, Place}
+use Rattle.meaning_laws.proofs.DeepPaths.{deep_length}
 
 -- READ BEFORE ASSIGNMENT
 
@@ -83,21 +85,15 @@ f_body = block_of (
     stmt 19 5 (call_alone (pos 0) (inner (record { node = 9; form = compute (operator (op.sum_of (Sign.Plus ∷ [])) (example.two (name (record { up = 0; what = input 0 })) (num 1))) }) ∷ [])
     (record { at = 23; function = 0; inputs = here 9 ∷ []; outputs = record { up = 0; what = output 0 } ∷ [] })) ∷ [])
 
--- the path of d calls behind the first
-abbrev pub calls_deep : ℕ → Path
-calls_deep zero = (48, Key.Number (pos 0)) ∷ []
-calls_deep (suc d) = (23, Key.Number (pos 0)) ∷ calls_deep d
-
-pub deep_length : (d : ℕ) → length (calls_deep d) ≡ suc d
-deep_length zero = refl
-deep_length (suc d) = ap suc (deep_length d)
+abbrev calls_deep : ℕ → Path
+calls_deep d = nested_calls 48 23 d
 
 deep_live : (d : ℕ) → d < 512 → Live example.calls_without_end (Known example.calls_without_end 0) (calls_deep d) f_body
 deep_live zero h = called script first first refl (omega arith)
-deep_live (suc d) h = let l = deep_length d in called (deep_live d (omega arith)) first first refl (omega arith)
+deep_live (suc d) h = let l = deep_length 48 23 d in called (deep_live d (omega arith)) first first refl (omega arith)
 
 pub too_deep_at_last : Known example.calls_without_end 1 (fault too_deep 19 (calls_deep 511, 5))
-too_deep_at_last = let l = deep_length 511 in inr (too_deep_call (in_block (deep_live 511 (omega arith)) first) first (omega arith))
+too_deep_at_last = let l = deep_length 48 23 511 in inr (too_deep_call (in_block (deep_live 511 (omega arith)) first) first (omega arith))
 
 -- NESTED WAITS
 

@@ -2,3 +2,5 @@ pub mod ExampleTrees
 pub mod Examples
 pub mod Scoped
 pub mod TypedValues
+pub mod ArrayExamples
+pub mod HeaderExamples

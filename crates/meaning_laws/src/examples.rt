@@ -1,13 +1,12 @@
 //! What small scripts mean. Each function does nothing; its contract says of one script of `specs/Examples` what it prints, where it is at fault or what is blocked.
 
-ghost use Rattle.std.specs.Prelude.{◌≡◌, ℕ, [], codes, length};
+ghost use Rattle.std.specs.Prelude.{◌≡◌, [], ◌∷◌, codes};
 ghost use Rattle.values.specs.declared.fault.OpFault.TheVariants.{DivideByZero, Overflow};
 ghost use Rattle.meaning_laws.specs.Examples.{read_before_assignment, loop_reads_what_it_writes, key_written_twice, missing_element, circle, fault_beside_unknown, fault_in_index, strict_and, too_large, outputs_are_the_callers, calls_without_end, nested_waits};
 ghost use Rattle.meaning_laws.specs.ExampleTrees.{table_of_read_before_assignment, tree_of_read_before_assignment, table_of_loop_reads_what_it_writes, tree_of_loop_reads_what_it_writes, table_of_key_written_twice, tree_of_key_written_twice, table_of_missing_element, tree_of_missing_element, table_of_circle, tree_of_circle, table_of_fault_beside_unknown, tree_of_fault_beside_unknown, table_of_fault_in_index, tree_of_fault_in_index, table_of_strict_and, tree_of_strict_and, table_of_too_large, tree_of_too_large, table_of_outputs_are_the_callers, tree_of_outputs_are_the_callers, table_of_calls_without_end, tree_of_calls_without_end, table_of_nested_waits, tree_of_nested_waits, table_of_filled_in_a_call, tree_of_filled_in_a_call, table_of_fibonacci, tree_of_fibonacci};
-ghost use Rattle.syntax_trees.specs.Facts.{Fact, line, operation, no_element, element_twice, too_deep};
+ghost use Rattle.syntax_trees.specs.Facts.{Fact, operation, no_element, element_twice};
 ghost use Rattle.syntax_trees.specs.Meaning.{Meaning};
-ghost use Rattle.syntax_trees.specs.Outcomes.{Blocked, Faults};
-ghost use Rattle.syntax_trees.specs.Places.{Path};
+ghost use Rattle.syntax_trees.specs.Outcomes.{Blocked, Faults, Lines};
 ghost use Rattle.syntax_trees.specs.Resolved.{core};
 ghost use Rattle.syntax_trees.specs.Single.{SinglyAssigned};
 ghost use Rattle.syntax_trees.specs.WellFormed.{WellFormed};
@@ -46,14 +45,14 @@ pub fn the_examples_keep_the_premises()
     ensures fibonacci { WellFormed (core table_of_fibonacci tree_of_fibonacci) × SinglyAssigned (core table_of_fibonacci tree_of_fibonacci) }
 {}
 
-/// `int x; int y; x = y + 1; y = 2; printf("%i", x);` prints 3: statements wait for data, not for one another.
+/// `int x; int y; x = y + 1; y = 2; printf("%i", x);` prints 3 and nothing else: statements wait for data, not for one another.
 pub fn a_cell_is_read_before_its_assignment()
-    ensures { Meaning read_before_assignment (line ([], 14) (codes "3")) }
+    ensures { Lines (Meaning read_before_assignment) (codes "3" ∷ []) }
 {}
 
-/// `int A[]; A[0] = 1; foreach i in [1:2] { A[i] = A[i-1] * 2; } printf("%i", A[2]);` prints 4: each turn reads what the one before wrote.
+/// `int A[]; A[0] = 1; foreach i in [1:2] { A[i] = A[i-1] * 2; } printf("%i", A[2]);` prints 4 and nothing else: each turn reads what the one before wrote.
 pub fn a_loop_reads_what_it_writes()
-    ensures { Meaning loop_reads_what_it_writes (line ([], 23) (codes "4")) }
+    ensures { Lines (Meaning loop_reads_what_it_writes) (codes "4" ∷ []) }
 {}
 
 /// `int A[]; A[0] = 1; A[0] = 2;`: both statements are at fault, the one at 9 and the one at 19.
@@ -91,14 +90,9 @@ pub fn a_sum_can_be_too_large()
     ensures { Faults (Meaning too_large) (operation Overflow) 0 [] }
 {}
 
-/// `(p, q) = two(3); printf("%i %i", p, q);` prints 4 8.
+/// `(p, q) = two(3); printf("%i %i", p, q);` prints 4 8 and nothing else.
 pub fn the_outputs_of_a_call_are_the_callers_variables()
-    ensures { Meaning outputs_are_the_callers (line ([], 28) (codes "4 8")) }
-{}
-
-/// `(int r) f(int n) { r = f(n + 1); } printf("%i", f(0));`: the call at the 512th step is at fault.
-pub fn calls_without_end_are_too_deep()
-    ensures { (path : Path) × (length path ≡ 512) × Faults (Meaning calls_without_end) too_deep 19 path }
+    ensures { Lines (Meaning outputs_are_the_callers) (codes "4 8" ∷ []) }
 {}
 
 /// `int x = 1; .. wait (x) { wait (y) { printf("q"); } }` with y unknown: the inner wait is live and blocked.

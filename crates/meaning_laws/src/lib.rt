@@ -2,5 +2,7 @@
 //! definitions in `syntax_trees`.
 #![tactic(auto)]
 
+pub mod arrays;
 pub mod examples;
+pub mod headers;
 pub mod laws;

@@ -1,5 +1,5 @@
-use Rattle.meaning_laws.proofs.Scripts.{prints_three}
+use Rattle.meaning_laws.proofs.Printed.{three}
 use Rattle.meaning_laws.proofs.examples.a_cell_is_read_before_its_assignment.Goals as goal
 
 pub returns : goal.returns
-returns c = (3, prints_three)
+returns c = three
