@@ -124,19 +124,17 @@ module _ (C : Code) (l : Layout) where
     one_input : {x : Name} {a : Argument} {xs : List Name} {ys : List Argument} → InputAs k all x a → InputsAs k all xs ys → InputsAs k all (x ∷ xs) (a ∷ ys)
 
   -- and for an output: a variable
-  pub data OutputsAs (k : ℕ) : List Name → List Argument → Type 0 where
+  pub data OutputsAs (k : ℕ) : List Name → List code.Name → Type 0 where
     no_output : OutputsAs k [] []
-    one_output : (b : Bool) {x : Name} {xs : List Name} {ys : List Argument} → OutputsAs k xs ys → OutputsAs k (x ∷ xs) (Named (name_as k b x) ∷ ys)
+    one_output : (b : Bool) {x : Name} {xs : List Name} {ys : List code.Name} → OutputsAs k xs ys → OutputsAs k (x ∷ xs) (name_as k b x ∷ ys)
 
   pub record CallAs (k : ℕ) (all : List Part) (at : ℕ) (p : ℤ) (c : Call) (j : ℕ) : Type 0 where
     pub ins : List Argument
-    pub outs : List Argument
-    pub is : IsEntry (entry C j) at p [] (code.Call (l.body_of c.function) (ins ++ outs))
+    pub outs : List code.Name
+    pub is : IsEntry (entry C j) at p [] (code.Call (l.body_of c.function) ins outs)
     pub mark_is : (entry C j).mark ≡ c.at
     pub inputs : InputsAs k all c.inputs ins
     pub outputs : OutputsAs k c.outputs outs
-    -- a call may write what it hands over as an output, whether or not the called body ever does
-    pub rights : (r : code.Name) → In (Named r) outs → In r (entry C j).writes
 
   -- the element that a read needs, by the cell of its index
   pub data IndexAs (k : ℕ) (all : List Part) (a : Name) : ℕ → Need → Type 0 where

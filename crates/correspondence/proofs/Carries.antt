@@ -116,6 +116,6 @@ module _ (C : Code) (l : Layout) where
     carries_right (by_own ow) (own_target h) arr = own_right_to ow h
     carries_right (by_own ow) (in_header m us) arr = header_right_to ow m arr us
     carries_right (by_own ow) (in_content us un) arr = wait_right_to ow us un arr
-    carries_right {k} {i} (by_alone ca cs) (own_target (inl m)) arr = (let r = output_right C l I ca.outputs m in (r.0, ca.rights (name_as k r.0 _) r.1))
+    carries_right {k} {i} (by_alone ca cs) (own_target (inl m)) arr = (let r = output_right C l I ca.outputs m in (r.0, target_right C l I k i r.0 _ ca.is.act_is r.1))
     carries_right (by_alone ca cs) (own_target (inr m)) arr = elim m [ ]
     carries_right (by_alone ca cs) (in_header m us) arr = elim m [ ]

@@ -22,20 +22,20 @@ use Rattle.syntax_trees.proofs.Blocks.{header_inner, inner_below, below_below, i
 use Rattle.meaning_laws.proofs.Declared.{declared, live_block, header_of, output_found, output_in, place_here, nat_is}
 use Rattle.syntax_trees.proofs.Members.{split_in, either}
 use Rattle.task_code.specs.Code as code
-use Rattle.task_code.specs.Code.{Variable, Local, Parameter, Header, Act, Way, InPlace, Through, Loop, Code, entry, body, ways, loop_of, targets_of, is_array_name, is_array_owned}
+use Rattle.task_code.specs.Code.{Variable, Local, Parameter, Header, Act, Way, InPlace, Through, Loop, Code, entry, body, ways, loop_of, targets as code_targets, stored_of, is_array_name, is_array_owned}
 use Rattle.task_code.specs.Compute.{Computed, Opens as OpensIt}
 use Rattle.task_code.specs.Effects.{Task, Item, block, effect_at, instances, turns_of, left_at, is_some_list, rest, rest_if, step_at}
 use Rattle.task_code.specs.Places as CodePlaces
 use Rattle.task_code.specs.Places.{Step, Datum, place_at}
 use Rattle.task_code.specs.System.{code_system}
-use Rattle.task_code.specs.Exact.{Leads, itself, through}
+use Rattle.task_code.specs.Exact.{IsExact, Leads, itself, through}
 use Rattle.task_code.specs.Whole.{IsCode}
 use Rattle.task_code.proofs.Rights.{target_opens_none, target_no_loop}
 use Rattle.task_code.proofs.Kept.{code_laws}
 use Rattle.task_code.proofs.Places.{spot_path, spot_variable}
 use Rattle.agreement.specs.Headline.{script_path, script_place}
 use Rattle.correspondence.specs.Answered.{Reading}
-use Rattle.correspondence.specs.Closing.{targets_with, IsExactBy, OutputsApart}
+use Rattle.correspondence.specs.Closing.{OutputsApart}
 use Rattle.correspondence.specs.Knows.{Knows}
 use Rattle.correspondence.specs.Inclusions.{Facts, ArraysOnce, ClosedFrom}
 use Rattle.correspondence.specs.Chains.{Answers, Chain, at_script, by_header, by_wait, by_call, Waited, one_ready, more_ready}
@@ -52,7 +52,7 @@ use Rattle.correspondence.proofs.LiveFrom.{Alive}
 use Rattle.correspondence.proofs.LiveTo.{call_of}
 use Rattle.correspondence.proofs.Means.{chain_live, chain_body, chain_scope, covering_writes, means}
 use Rattle.correspondence.proofs.Readings.{same_array}
-use Rattle.correspondence.proofs.Rights.{only_one, fill_target}
+use Rattle.correspondence.proofs.Rights.{only_one, fill_stored}
 use Rattle.correspondence.proofs.Roles.{PartOf, OwnAs, own_simple, own_wait, find_role, parts_of}
 use Rattle.correspondence.proofs.Targets.{uses_block, uses_is_target, NoneInside, none_inner, none_output, OnlyAt, only_declared, none_declared, only_output, only_header, only_wait}
 use Rattle.correspondence.proofs.Transfer.{reading_valid}
@@ -166,7 +166,7 @@ module _ (s : Core) (C : Code) (w : IsCodeOf s C) (K : Knowledge) (wf : WellForm
     pub waited : (p : List Step) (t k : ℕ) (b : Block) → Chain s C w.layout K p t k b → (j : ℕ) → In j (body C t).entries → (st : Stmt) (c : Block) → st ∈ block_list b → OwnAs C w.layout k st j → Waited s C w.layout K (script_path p) st c → ReadsAs j p 0 OpensIt
     pub called : (p : List Step) (t k : ℕ) (b : Block) → Chain s C w.layout K p t k b → (j : ℕ) → In j (body C t).entries → (c : Call) (all : List Part) (at : ℕ) (pr : ℤ) → CallAs C w.layout k all at pr c j → length (script_path p) < most_steps → ReadsAs j p 0 OpensIt
 
-  module _ (ty : TypedValues s K) (ex : IsExactBy s C w.layout) (apart : OutputsApart s) (ff : FactsFrom) (p0 : List Step) (v0 : Variable) (ar : IsArrayAt s C w K wf kn I sc v0) (db : Block) (dbs : db ∈ script_blocks s) (dd : Declares db (local v0.node)) where
+  module _ (ty : TypedValues s K) (ex : IsExact C) (apart : OutputsApart s) (ff : FactsFrom) (p0 : List Step) (v0 : Variable) (ar : IsArrayAt s C w K wf kn I sc v0) (db : Block) (dbs : db ∈ script_blocks s) (dd : Declares db (local v0.node)) where
     abbrev A : CodePlaces.Place
     A = Datum p0 v0
 
@@ -362,7 +362,7 @@ module _ (s : Core) (C : Code) (w : IsCodeOf s C) (K : Knowledge) (wf : WellForm
             (subst (λ (y : ℕ × List Step). In i (body C y.0).entries) e im) (subst (λ (y : ℕ × List Step). IsLive (Item i y.1 0)) e li))
 
     -- SIMPLE STATEMENTS
-    target_done : {p : List Step} (j : ℕ) (r : code.Name) (x : Computed) → IsLive (Item j p 0) → ReadsAs j p 0 x → In r (targets_of (entry C j).node (entry C j).act) → Fin (Item j p 0)
+    target_done : {p : List Step} (j : ℕ) (r : code.Name) (x : Computed) → IsLive (Item j p 0) → ReadsAs j p 0 x → In r (stored_of (entry C j).node (entry C j).act) → Fin (Item j p 0)
     target_done {p = p} j r x lv rd h =
         item_done j 0 p x lv rd (λ q g i im li. absurd (target_opens_none C (entry C j).act (entry C j).node (entry C j).mark p 0 x r q h g))
         (λ lp q g l. absurd (none_some (sym (target_no_loop C (entry C j).act (entry C j).node r h) ∙ q)))
@@ -374,20 +374,20 @@ module _ (s : Core) (C : Code) (w : IsCodeOf s C) (K : Knowledge) (wf : WellForm
     fill_done {at = at} {n = n} {x = x} {o = o} kv t k b ch m up inv j there lv (inl po) = idle_item j (part_no_right ch j there (stmt at n (fill x o)) m po (λ c al. (let e = al.is in absurd (cc (e)))))
     fill_done {what} {p} {at} {n} {x} {o} {v} kv t k b ch m up inv j there lv (inr (own_simple z en nd)) =
         let r = ff.filled p t k b ch j there at n x o v m en kv in
-        target_done j (name_as k true x) r.0 lv r.1 (subst (λ (a : Act). In (name_as k true x) (targets_of (entry C j).node a)) (sym en.act_is) (fill_target C w.layout I k (entry C j).node (own_needs w.layout k (fill x o)) x (own_expr o)))
+        target_done j (name_as k true x) r.0 lv r.1 (subst (λ (a : Act). In (name_as k true x) (stored_of (entry C j).node a)) (sym en.act_is) (fill_stored C w.layout I k (entry C j).node (own_needs w.layout k (fill x o)) x (own_expr o)))
 
     insert_done : {what : Owned} {p : List Step} {at n : ℕ} {x : Name} {i o : Outer} {key : Key} {v : Scalar} → K (element (place s (script_path p) x) key (script_path p, n) v) → Concl what p (stmt at n (insert x i o))
     insert_done {at = at} {n = n} {x = x} {i = i} {o = o} kv t k b ch m up inv j there lv (inl po) = idle_item j (part_no_right ch j there (stmt at n (insert x i o)) m po (λ c al. (let e = al.is in absurd (cc (e)))))
     insert_done {what} {p} {at} {n} {x} {i} {o} {key} {v} kv t k b ch m up inv j there lv (inr (own_simple z en nd)) =
         let r = ff.inserted p t k b ch j there at n x i o key v m en kv in
-        target_done j (name_as k true x) r.0 lv r.1 (subst (λ (a : Act). In (name_as k true x) (targets_of (entry C j).node a)) (sym en.act_is) (inl refl))
+        target_done j (name_as k true x) r.0 lv r.1 (subst (λ (a : Act). In (name_as k true x) (stored_of (entry C j).node a)) (sym en.act_is) (inl refl))
 
     -- CALLS ALONE
     cell_no_right : {p : List Step} {t k : ℕ} {b : Block} (ch : Chain s C w.layout K p t k b) (j : ℕ) → In j (body C t).entries → (act : Act) → (entry C j).act ≡ act → ways act ≡ []
-        → ((j : ℕ) → targets_with ex.inputs (record { node = (entry C j).node; at = 0; mark = 0; priority = pos 0; needs = []; act = act; reads = []; writes = [] }) ≡ code.here (code.scalar (entry C j).node) ∷ []) → In (Datum p0 v0) (map (place_at C p) (entry C j).writes) → ⊥
+        → ((j : ℕ) → code_targets (record { node = (entry C j).node; at = 0; mark = 0; priority = pos 0; needs = []; act = act; reads = []; writes = [] }) ≡ code.here (code.scalar (entry C j).node) ∷ []) → In (Datum p0 v0) (map (place_at C p) (entry C j).writes) → ⊥
     cell_no_right {k = k} ch j there act e wz tz i = (let z = hit ch j there i in by (ex.writes j z.right z.led) z.name z.is e)
       where
-        by : {j' : ℕ} {r : code.Name} → Leads C (targets_with ex.inputs) j' r → (x : Name) → name_as k true x ≡ r → (entry C j').act ≡ act → ⊥
+        by : {j' : ℕ} {r : code.Name} → Leads C code_targets j' r → (x : Name) → name_as k true x ≡ r → (entry C j').act ≡ act → ⊥
         by (itself j' r h) x q e' = scalar_target s C w wf I sc ex k j' x r act e' (tz j') q h
         by (through j' j2 u wy r q2 wi ij lead nd sn) x q e' = no_way s C w wf I sc ex j' (wy, u) e' wz wi
 
@@ -580,7 +580,7 @@ module _ (s : Core) (C : Code) (w : IsCodeOf s C) (K : Knowledge) (wf : WellForm
       ]
 
   -- CLOSED IN THE SCRIPT, CLOSED IN THE CODE
-  pub closed_from : TypedValues s K → IsExactBy s C w.layout → OutputsApart s → FactsFrom → ArraysOnce s C K → ClosedFrom s C K
+  pub closed_from : TypedValues s K → IsExact C → OutputsApart s → FactsFrom → ArraysOnce s C K → ClosedFrom s C K
   closed_from ty ex apart ff once p0 v0 a0 rd cl =
       let mk = read_made rd.1 (Datum p0 v0) rd.2 in
       let md = made_in_block s C w K wf kn I sc ty mk.task mk.effect mk.opening (Datum p0 v0) mk.fact mk.opens mk.makes in

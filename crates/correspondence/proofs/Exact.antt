@@ -1,5 +1,5 @@
 -- What an entry leads to write is a target of its statement: so a statement without the target has no right, where rights are exact.
-use Rattle.std.proofs.Common.{◌≡◌, ◌⊎◌, inl, inr, ℕ, zero, suc, ◌<◌, ◌+◌, Bool, true, false, List, [], ◌∷◌, ◌++◌, length, refl, sym, ap, ◌∙◌, subst, Some, arith}
+use Rattle.std.proofs.Common.{◌≡◌, ◌⊎◌, inl, inr, ℕ, zero, suc, ◌<◌, ◌+◌, Bool, true, false, List, [], ◌∷◌, ◌++◌, map, length, refl, sym, ap, ◌∙◌, subst, Some, arith}
 use Rattle.std.specs.Prelude.{pos, ℤ, slice_get}
 use Rattle.dataflow.specs.System.{In}
 use Rattle.syntax_trees.specs.Core as Co
@@ -9,14 +9,13 @@ use Rattle.syntax_trees.specs.Parts.{stmt_calls, block_list, script_blocks}
 use Rattle.syntax_trees.specs.WellFormed.{IsOwnTarget, header_blocks, Declares, Uses, IsAlone, WellFormed}
 use Rattle.syntax_trees.proofs.Blocks.{header_inner, inner_block, function_block, among_script}
 use Rattle.task_code.specs.Code as code
-use Rattle.task_code.specs.Code.{Variable, Local, Parameter, Argument, Named, Fixed, Header, Act, Way, InPlace, Through, Calling, Entry, Code, entry, body, ways, argument, arguments, argument_in, is_array_name, scalar, targets_of}
-use Rattle.task_code.specs.Exact.{Leads, itself, through}
+use Rattle.task_code.specs.Code.{Variable, Local, Parameter, Argument, Named, Fixed, Header, Act, Way, InPlace, Through, Calling, Entry, Code, entry, body, targets, ways, argument, arguments, argument_in, is_array_name, scalar, targets_of}
+use Rattle.task_code.specs.Exact.{IsExact, Leads, itself, through}
 use Rattle.task_code.specs.Whole.{Declared, Seen, IsCode}
 use Rattle.task_code.proofs.Places.{argument_kind}
-use Rattle.correspondence.specs.Closing.{named_after, outputs_of, targets_with, IsExactBy}
 use Rattle.agreement.specs.CodeNames.{owned_as, name_as}
 use Rattle.meaning_laws.specs.Scoped.{IsIn, InScope, of_function, inside, in_wait, Scoped}
-use Rattle.agreement.specs.IsCodeOf.{Layout, own_needs, own_expr, fill_act, simple_act, IsSimple, InputsAs, no_input, one_input, OutputsAs, no_output, one_output, CallAs, PartAs, plain_literal, plain_name, a_cell, a_read, a_call, WaitAs, one_wait, merged, BodyAs, body_as, IsCodeOf}
+use Rattle.agreement.specs.IsCodeOf.{Layout, own_needs, own_expr, fill_act, simple_act, IsSimple, OutputsAs, no_output, one_output, CallAs, PartAs, plain_literal, plain_name, a_cell, a_read, a_call, WaitAs, one_wait, merged, BodyAs, body_as, IsCodeOf}
 use Rattle.correspondence.proofs.LiveTo.{call_of}
 use Rattle.correspondence.proofs.Means.{output_at, past_inputs, parameter_parts, local_parts}
 use Rattle.correspondence.proofs.Rights.{only_one}
@@ -53,24 +52,10 @@ one_way : {A : Type 0} {x y : A} → In x (y ∷ []) → x ≡ y
 one_way (inl e) = e
 one_way (inr z) = absurd z
 
-named_in : (xs : List Argument) (r : code.Name) → In r (named_after 0 xs) → In (Named r) xs
-named_in [] r h = absurd h
-named_in (Named q ∷ xs) r (inl e) = inl (ap Named e)
-named_in (Named q ∷ xs) r (inr h) = inr (named_in xs r h)
-named_in (Fixed v ∷ xs) r h = inr (named_in xs r h)
-
 module _ (C : Code) (l : Layout) where
-  after_inputs : {k : ℕ} {all : List Part} {xs : List Name} {ins : List Argument} (outs : List Argument) (n : ℕ) (r : code.Name) → InputsAs C l k all xs ins → n ≡ length xs → In r (named_after n (ins ++ outs)) → In (Named r) outs
-  after_inputs outs n r no_input e h = named_in outs r (subst (λ (z : ℕ). In r (named_after z outs)) e h)
-  after_inputs outs zero r (one_input i is) e h = absurd (omega arith)
-  after_inputs outs (suc n) r (one_input i is) e h = after_inputs outs n r is (omega arith) h
-
-  output_name_of : {k : ℕ} {xs : List Name} {outs : List Argument} (r : code.Name) → OutputsAs C l k xs outs → In (Named r) outs → (d : Bool) × (y : Name) × (y ∈ xs) × (r ≡ name_as k d y)
+  output_name_of : {k : ℕ} {xs : List Name} {outs : List code.Name} (r : code.Name) → OutputsAs C l k xs outs → In r outs → (d : Bool) × (y : Name) × (y ∈ xs) × (r ≡ name_as k d y)
   output_name_of r no_output h = absurd h
-  output_name_of r (one_output d {x = y} os) (inl e) = (d, y, first, named_eq e)
-    where
-      named_eq : {a b : code.Name} → Named a ≡ Named b → a ≡ b
-      named_eq h = cc
+  output_name_of r (one_output d {x = y} os) (inl e) = (d, y, first, e)
   output_name_of r (one_output d os) (inr h) = (let z = output_name_of r os h in (z.0, z.1, later z.2, z.3))
 
   simple_no_ways : (k : ℕ) (a : Action) → IsSimple a → (y : Way × ℕ) → In y (ways (simple_act l k (own_needs l k a) a)) → ⊥
@@ -93,7 +78,7 @@ module _ (C : Code) (l : Layout) where
   simple_no_ways k (each o d e f) z y' h = absurd z
   simple_no_ways k (wait o d) z y' h = absurd z
 
-module _ (s : Core) (C : Code) (w : IsCodeOf s C) (wf : WellFormed s) (I : IsCode C) (sc : Scoped s) (ex : IsExactBy s C w.layout) where
+module _ (s : Core) (C : Code) (w : IsCodeOf s C) (wf : WellFormed s) (I : IsCode C) (sc : Scoped s) (ex : IsExact C) where
   -- a local array is declared somewhere
   pub record IsArr (x : Name) : Type 0 where
     pub of_layout : (n : ℕ) → x.what ≡ local n → w.layout.array n ≡ true
@@ -132,17 +117,15 @@ module _ (s : Core) (C : Code) (w : IsCodeOf s C) (wf : WellFormed s) (I : IsCod
     found : (f : Function) × (slice_get s.functions c.function ≡ Some f) × (length c.inputs ≡ f.inputs)
     found = sc.calls st c (among_script s bs m) cm
 
-    call_itself : (r : code.Name) → name_as k true x ≡ r → In r (targets_with ex.inputs (entry C j)) → AloneOut st x (Co.calls c)
+    call_itself : (r : code.Name) → name_as k true x ≡ r → In r (targets (entry C j)) → AloneOut st x (Co.calls c)
     call_itself r e h =
-        let h' = subst (λ (z : Act). In r (targets_of (entry C j).node z ++ outputs_of ex.inputs z)) ca.is.act_is h in
-        let n : ex.inputs (w.layout.body_of c.function) ≡ length c.inputs = ex.inputs_are c.function found.0 found.1 ∙ sym found.2 in
-        let o = output_name_of C w.layout r ca.outputs (after_inputs C w.layout ca.outs (ex.inputs (w.layout.body_of c.function)) r ca.inputs n h') in
+        let o = output_name_of C w.layout r ca.outputs (subst (λ (z : Act). In r (targets_of (entry C j).node z)) ca.is.act_is h) in
         alone_out o.0 o.1 o.2 (e ∙ o.3)
 
     calls_it : In (Calling, w.layout.body_of c.function) (ways (entry C j).act)
     calls_it = subst (λ (y : Act). In (Calling, w.layout.body_of c.function) (ways y)) (sym ca.is.act_is) (inl refl)
 
-    argument_is : (n : ℕ) (d : Bool) → argument C (entry C j).mark n d ≡ argument_in (ca.ins ++ ca.outs) n d
+    argument_is : (n : ℕ) (d : Bool) → argument C (entry C j).mark n d ≡ argument_in (ca.ins ++ map Named ca.outs) n d
     argument_is n d =
         ap (λ (z : ℕ). argument_in (arguments (entry C z).act) n d) (I.fits j Calling (w.layout.body_of c.function) calls_it).opened.1
         ∙ ap (λ (y : Act). argument_in (arguments y) n d) ca.is.act_is
@@ -150,11 +133,11 @@ module _ (s : Core) (C : Code) (w : IsCodeOf s C) (wf : WellFormed s) (I : IsCod
     call_through : (j' u : ℕ) (r q : code.Name) → u ≡ w.layout.body_of c.function → In j' (body C u).entries → Led j' q → Seen C (entry C j).mark Calling q r → name_as k true x ≡ r → AloneOut st x (Co.calls c)
     call_through j' u r q uq h led sn e = by (below sn.0 (length c.inputs))
       where
-        arg : argument_in (ca.ins ++ ca.outs) sn.0 sn.1 ≡ Some (Named r)
+        arg : argument_in (ca.ins ++ map Named ca.outs) sn.0 sn.1 ≡ Some (Named r)
         arg = sym (argument_is sn.0 sn.1) ∙ sn.3
 
         kind : sn.1 ≡ true
-        kind = sym (argument_kind (ca.ins ++ ca.outs) sn.0 sn.1 r arg) ∙ sym (ap is_array_name e) ∙ kind_of k true x
+        kind = sym (argument_kind (ca.ins ++ map Named ca.outs) sn.0 sn.1 r arg) ∙ sym (ap is_array_name e) ∙ kind_of k true x
 
         below : (n m : ℕ) → (n < m) ⊎ ((z : ℕ) × (n ≡ m + z))
         below n zero = inr (n, omega arith)
@@ -175,7 +158,7 @@ module _ (s : Core) (C : Code) (w : IsCodeOf s C) (wf : WellFormed s) (I : IsCod
             input_same : {n m : ℕ} → input n ≡ input m → n ≡ m
             input_same y = cc
         by (inr z) =
-            let o = output_at C w.layout z.0 sn.1 (Named r) ca.outputs (sym (past_inputs C w.layout ca.outs z.0 sn.0 sn.1 ca.inputs z.1) ∙ arg) in
+            let o = output_at C w.layout z.0 sn.1 (Named r) ca.outputs (sym (past_inputs C w.layout (map Named ca.outs) z.0 sn.0 sn.1 ca.inputs z.1) ∙ arg) in
             alone_out o.0 _ o.2 (e ∙ sym (named_eq o.1))
           where
             named_eq : {p q : code.Name} → Named p ≡ Named q → p ≡ q
@@ -185,13 +168,13 @@ module _ (s : Core) (C : Code) (w : IsCodeOf s C) (wf : WellFormed s) (I : IsCod
   pub no_way : (j : ℕ) {act : Act} (y : Way × ℕ) → (entry C j).act ≡ act → ways act ≡ [] → In y (ways (entry C j).act) → ⊥
   no_way j y e z h = subst (λ (l : List (Way × ℕ)). In y l) (ap ways e ∙ z) h
 
-  pub scalar_target : (k j : ℕ) (x : Name) (r : code.Name) (act : Act) → (entry C j).act ≡ act → targets_with ex.inputs (record { node = (entry C j).node; at = 0; mark = 0; priority = pos 0; needs = []; act = act; reads = []; writes = [] }) ≡ code.here (scalar (entry C j).node) ∷ [] → name_as k true x ≡ r → In r (targets_with ex.inputs (entry C j)) → ⊥
+  pub scalar_target : (k j : ℕ) (x : Name) (r : code.Name) (act : Act) → (entry C j).act ≡ act → targets (record { node = (entry C j).node; at = 0; mark = 0; priority = pos 0; needs = []; act = act; reads = []; writes = [] }) ≡ code.here (scalar (entry C j).node) ∷ [] → name_as k true x ≡ r → In r (targets (entry C j)) → ⊥
   scalar_target k j x r act e z q h =
-      let h' : In r (targets_of (entry C j).node act ++ outputs_of ex.inputs act) = subst (λ (y : Act). In r (targets_of (entry C j).node y ++ outputs_of ex.inputs y)) e h in
+      let h' : In r (targets_of (entry C j).node act) = subst (λ (y : Act). In r (targets_of (entry C j).node y)) e h in
       let o : r ≡ code.here (scalar (entry C j).node) = one_way (subst (λ (l : List code.Name). In r l) z h') in
       absurd (cc (sym (kind_of k true x) ∙ ap is_array_name (q ∙ o)))
 
-  part_itself : (k : ℕ) (b : Block) (st : Stmt) → st ∈ block_list b → InScope s k b → b ∈ script_blocks s → (j : ℕ) (po : PartOf C w.layout k st j) → (x : Name) (r : code.Name) → name_as k true x ≡ r → IsIn k x → IsArr x → In r (targets_with ex.inputs (entry C j)) → AloneOut st x po.part
+  part_itself : (k : ℕ) (b : Block) (st : Stmt) → st ∈ block_list b → InScope s k b → b ∈ script_blocks s → (j : ℕ) (po : PartOf C w.layout k st j) → (x : Name) (r : code.Name) → name_as k true x ≡ r → IsIn k x → IsArr x → In r (targets (entry C j)) → AloneOut st x po.part
   part_itself k b st m g bs j po x r e i a h = by po.as_part po.there po.in_stmt
     where
       by : {y : Part} {js : List ℕ} → PartAs C w.layout k po.all po.at po.priority y js → In j js → y ∈ parts_of st → AloneOut st x y
@@ -219,18 +202,18 @@ module _ (s : Core) (C : Code) (w : IsCodeOf s C) (wf : WellFormed s) (I : IsCod
   alone_uses {st} {x} o = subst (λ (z : Stmt). UsesIn z x.up x.what) (sym (o.alone).is) (own_target (inl o.out))
 
   -- A STATEMENT'S OWN ENTRY
-  own_itself : (k : ℕ) (b : Block) (st : Stmt) → st ∈ block_list b → InScope s k b → (j : ℕ) → OwnAs C w.layout k st j → (x : Name) (r : code.Name) → name_as k true x ≡ r → IsIn k x → In r (targets_with ex.inputs (entry C j)) → UsesIn st x.up x.what
+  own_itself : (k : ℕ) (b : Block) (st : Stmt) → st ∈ block_list b → InScope s k b → (j : ℕ) → OwnAs C w.layout k st j → (x : Name) (r : code.Name) → name_as k true x ≡ r → IsIn k x → In r (targets (entry C j)) → UsesIn st x.up x.what
   own_itself k b st m g j (own_simple {at = at} {n = n} {a = a} z en nd) x r e i h =
-      by a z m (subst (λ (y : Act). In r (targets_of (entry C j).node y ++ outputs_of ex.inputs y)) en.act_is h)
+      by a z m (subst (λ (y : Act). In r (targets_of (entry C j).node y)) en.act_is h)
     where
       target : {a : Action} (d : Bool) (y : Name) → stmt at n a ∈ block_list b → IsOwnTarget y a → IsIn k y → r ≡ name_as k d y → UsesIn (stmt at n a) x.up x.what
       target {a} d y m t iy q = (let z = same_name k true d x y (e ∙ q) i iy in subst (λ (u : Name). UsesIn (stmt at n a) u.up u.what) (sym z) (own_target t))
 
-      by : (a : Action) → IsSimple a → stmt at n a ∈ block_list b → In r (targets_of (entry C j).node (simple_act w.layout k (own_needs w.layout k a) a) ++ outputs_of ex.inputs (simple_act w.layout k (own_needs w.layout k a) a)) → UsesIn (stmt at n a) x.up x.what
+      by : (a : Action) → IsSimple a → stmt at n a ∈ block_list b → In r (targets_of (entry C j).node (simple_act w.layout k (own_needs w.layout k a) a)) → UsesIn (stmt at n a) x.up x.what
       by (assign y o) z m h = target false y m (inl first) ((sc.statements k b (stmt at n (assign y o)) g m).in_targets y first) (one_way h)
       by (fill y o) z m h = by_fill (own_expr o) h
         where
-          by_fill : (E : Expr) → In r (targets_of (entry C j).node (fill_act w.layout k (own_needs w.layout k (fill y o)) y E) ++ outputs_of ex.inputs (fill_act w.layout k (own_needs w.layout k (fill y o)) y E)) → UsesIn (stmt at n (fill y o)) x.up x.what
+          by_fill : (E : Expr) → In r (targets_of (entry C j).node (fill_act w.layout k (own_needs w.layout k (fill y o)) y E)) → UsesIn (stmt at n (fill y o)) x.up x.what
           by_fill (Co.whole z) h = target true y m (inl first) ((sc.statements k b (stmt at n (fill y o)) g m).in_targets y first) (one_way h)
           by_fill (Co.literal z) h = target true y m (inl first) ((sc.statements k b (stmt at n (fill y o)) g m).in_targets y first) (one_way h)
           by_fill (Co.name z) h = target true y m (inl first) ((sc.statements k b (stmt at n (fill y o)) g m).in_targets y first) (one_way h)
@@ -245,11 +228,11 @@ module _ (s : Core) (C : Code) (w : IsCodeOf s C) (wf : WellFormed s) (I : IsCod
       by (range o d f f' f'' i') z m h = absurd z
       by (each o d f f') z m h = absurd z
       by (wait o d) z m h = absurd z
-  own_itself k b st m g j (own_branch en mk ba) x r e i h = absurd (subst (λ (y : Act). In r (targets_of (entry C j).node y ++ outputs_of ex.inputs y)) en.act_is h)
-  own_itself k b st m g j (own_branches en mk ba bb) x r e i h = absurd (subst (λ (y : Act). In r (targets_of (entry C j).node y ++ outputs_of ex.inputs y)) en.act_is h)
-  own_itself k b st m g j (own_range en mk ba) x r e i h = absurd (subst (λ (y : Act). In r (targets_of (entry C j).node y ++ outputs_of ex.inputs y)) en.act_is h)
-  own_itself k b st m g j (own_each en mk ba) x r e i h = absurd (subst (λ (y : Act). In r (targets_of (entry C j).node y ++ outputs_of ex.inputs y)) en.act_is h)
-  own_itself k b st m g j (own_wait wa en) x r e i h = absurd (subst (λ (y : Act). In r (targets_of (entry C j).node y ++ outputs_of ex.inputs y)) en.act_is h)
+  own_itself k b st m g j (own_branch en mk ba) x r e i h = absurd (subst (λ (y : Act). In r (targets_of (entry C j).node y)) en.act_is h)
+  own_itself k b st m g j (own_branches en mk ba bb) x r e i h = absurd (subst (λ (y : Act). In r (targets_of (entry C j).node y)) en.act_is h)
+  own_itself k b st m g j (own_range en mk ba) x r e i h = absurd (subst (λ (y : Act). In r (targets_of (entry C j).node y)) en.act_is h)
+  own_itself k b st m g j (own_each en mk ba) x r e i h = absurd (subst (λ (y : Act). In r (targets_of (entry C j).node y)) en.act_is h)
+  own_itself k b st m g j (own_wait wa en) x r e i h = absurd (subst (λ (y : Act). In r (targets_of (entry C j).node y)) en.act_is h)
 
   -- waits: the content, innermost of those merged
   wait_uses : (k u : ℕ) (x : Name) {st : Stmt} {hs : List Header} {b : Block} → WaitAs C w.layout k st hs u → st ∈ block_list b → InScope s k b → b ∈ script_blocks s
@@ -312,13 +295,13 @@ module _ (s : Core) (C : Code) (w : IsCodeOf s C) (wf : WellFormed s) (I : IsCod
                   })
 
   -- WHAT AN ENTRY LEADS TO WRITE, ITS STATEMENT USES
-  pub leads_in : {j : ℕ} {r : code.Name} → Leads C (targets_with ex.inputs) j r → Led j r
+  pub leads_in : {j : ℕ} {r : code.Name} → Leads C targets j r → Led j r
   leads_in (itself j r h) k b st m g bs (inl po) x e i a = alone_uses (part_itself k b st m g bs j po x r e i a h)
   leads_in (itself j r h) k b st m g bs (inr ow) x e i a = own_itself k b st m g j ow x r e i h
   leads_in (through j j' u wy r q wi ij lead nd sn) k b st m g bs (inl po) x e i a = alone_uses (part_through k b st m g bs j po x r e i a wy u j' q wi ij (leads_in lead) sn)
   leads_in (through j j' u wy r q wi ij lead nd sn) k b st m g bs (inr ow) x e i a = own_through k b st m g bs j ow x r e i a wy u j' q wi ij (leads_in lead) nd sn
 
   -- an entry of a part has no use of an array but as an output of a call alone
-  pub part_leads : {j : ℕ} {r : code.Name} → Leads C (targets_with ex.inputs) j r → (k : ℕ) (b : Block) (st : Stmt) → st ∈ block_list b → InScope s k b → b ∈ script_blocks s → (po : PartOf C w.layout k st j) → (x : Name) → name_as k true x ≡ r → IsIn k x → IsArr x → AloneOut st x po.part
+  pub part_leads : {j : ℕ} {r : code.Name} → Leads C targets j r → (k : ℕ) (b : Block) (st : Stmt) → st ∈ block_list b → InScope s k b → b ∈ script_blocks s → (po : PartOf C w.layout k st j) → (x : Name) → name_as k true x ≡ r → IsIn k x → IsArr x → AloneOut st x po.part
   part_leads (itself j r h) k b st m g bs po x e i a = part_itself k b st m g bs j po x r e i a h
   part_leads (through j j' u wy r q wi ij lead nd sn) k b st m g bs po x e i a = part_through k b st m g bs j po x r e i a wy u j' q wi ij (leads_in lead) sn

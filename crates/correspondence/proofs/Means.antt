@@ -1,5 +1,5 @@
 -- A name of an entry means what the script's name means: place for place, through branches, waits and calls.
-use Rattle.std.proofs.Common.{◌≡◌, ◌⊎◌, inl, inr, ℕ, zero, suc, ◌<◌, ◌+◌, Bool, true, false, List, [], ◌∷◌, ◌++◌, length, refl, sym, ap, ◌∙◌, subst, Option, Some, None, arith}
+use Rattle.std.proofs.Common.{◌≡◌, ◌⊎◌, inl, inr, ℕ, zero, suc, ◌<◌, ◌+◌, Bool, true, false, List, [], ◌∷◌, ◌++◌, map, length, refl, sym, ap, ◌∙◌, subst, Option, Some, None, arith}
 use Rattle.std.specs.Prelude.{pos, slice_get, ℤ}
 use Rattle.dataflow.specs.System.{In}
 use Rattle.values.specs.declared.key.Key.{Key}
@@ -85,12 +85,12 @@ module _ (C : Code) (l : Layout) where
   input_at outs (suc m) d x (one_input {a = a} {ys = ys} i is) b h =
       let r = input_at outs m d x is (omega arith) (sym (next_argument a (ys ++ outs) m d) ∙ h) in (r.0, later r.1)
 
-  pub output_at : {k : ℕ} {xs : List Name} {outs : List Argument} (m : ℕ) (d : Bool) (x : Argument) → OutputsAs C l k xs outs → argument_in outs m d ≡ Some x
+  pub output_at : {k : ℕ} {xs : List Name} {outs : List code.Name} (m : ℕ) (d : Bool) (x : Argument) → OutputsAs C l k xs outs → argument_in (map Named outs) m d ≡ Some x
       → (b : Bool) × (Named (name_as k b (name_at xs m)) ≡ x) × (name_at xs m ∈ xs)
   output_at m d x no_output h = absurd (cc)
-  output_at {k} zero d x (one_output b {x = y} {ys = ys} os) h = (b, head_argument (Named (name_as k b y)) ys d x h, first)
+  output_at {k} zero d x (one_output b {x = y} {ys = ys} os) h = (b, head_argument (Named (name_as k b y)) (map Named ys) d x h, first)
   output_at {k} (suc m) d x (one_output b {x = y} {ys = ys} os) h =
-      let r = output_at m d x os (sym (next_argument (Named (name_as k b y)) ys m d) ∙ h) in (r.0, r.1, later r.2)
+      let r = output_at m d x os (sym (next_argument (Named (name_as k b y)) (map Named ys) m d) ∙ h) in (r.0, r.1, later r.2)
 
   pub past_inputs : {k : ℕ} {all : List Part} {xs : List Name} {ins : List Argument} (outs : List Argument) (m n : ℕ) (d : Bool) → InputsAs C l k all xs ins → n ≡ length xs + m → argument_in (ins ++ outs) n d ≡ argument_in outs m d
   past_inputs outs m n d no_input h = let q : n ≡ m = omega arith in ap (λ (z : ℕ). argument_in outs z d) q
@@ -213,7 +213,7 @@ module _ (s : Core) (C : Code) (l : Layout) (K : Knowledge) (w : NamesFound s) (
       calls_it : In (Calling, l.body_of c.function) (ways (entry C j).act)
       calls_it = subst (λ (a : code.Act). In (Calling, l.body_of c.function) (ways a)) (sym ca.is.act_is) (inl refl)
 
-      argument_is : (i : ℕ) (d : Bool) → argument C (entry C j).mark i d ≡ argument_in (ca.ins ++ ca.outs) i d
+      argument_is : (i : ℕ) (d : Bool) → argument C (entry C j).mark i d ≡ argument_in (ca.ins ++ map Named ca.outs) i d
       argument_is i d =
           ap (λ (z : ℕ). argument_in (arguments (entry C z).act) i d) (I.fits j Calling (l.body_of c.function) calls_it).opened.1
           ∙ ap (λ (a : code.Act). argument_in (arguments a) i d) ca.is.act_is
@@ -255,16 +255,16 @@ module _ (s : Core) (C : Code) (l : Layout) (K : Knowledge) (w : NamesFound s) (
           → Stand d (place_at C p h.outside) (place_of s (script_path inner_path) 0 what)
       seen_in d x h g (local n) e z kd = elim z [ ]
       seen_in d x h g (input i) e an_input kd =
-          let a : argument_in (ca.ins ++ ca.outs) h.seen.0 h.seen.1 ≡ Some (Named h.outside) = sym (argument_is h.seen.0 h.seen.1) ∙ h.seen.3 in
-          let r = input_at C l ca.outs h.seen.0 h.seen.1 (Named h.outside) ca.inputs (in_range h.seen.0 x g e) a in
-          moved refl refl (sym (input_place h.seen.0)) (input_stands r.0 r.1 h.outside refl d (argument_kind (ca.ins ++ ca.outs) h.seen.0 h.seen.1 h.outside a ∙ sym kd) h.right)
+          let a : argument_in (ca.ins ++ map Named ca.outs) h.seen.0 h.seen.1 ≡ Some (Named h.outside) = sym (argument_is h.seen.0 h.seen.1) ∙ h.seen.3 in
+          let r = input_at C l (map Named ca.outs) h.seen.0 h.seen.1 (Named h.outside) ca.inputs (in_range h.seen.0 x g e) a in
+          moved refl refl (sym (input_place h.seen.0)) (input_stands r.0 r.1 h.outside refl d (argument_kind (ca.ins ++ map Named ca.outs) h.seen.0 h.seen.1 h.outside a ∙ sym kd) h.right)
       seen_in d x h g (output i) e (an_output eq) kd =
-          let a : argument_in (ca.ins ++ ca.outs) h.seen.0 h.seen.1 ≡ Some (Named h.outside) = sym (argument_is h.seen.0 h.seen.1) ∙ h.seen.3 in
+          let a : argument_in (ca.ins ++ map Named ca.outs) h.seen.0 h.seen.1 ≡ Some (Named h.outside) = sym (argument_is h.seen.0 h.seen.1) ∙ h.seen.3 in
           let n' : h.seen.0 ≡ length c.inputs + i = omega arith in
-          let r = output_at C l i h.seen.1 (Named h.outside) ca.outputs (sym (past_inputs C l ca.outs i h.seen.0 h.seen.1 ca.inputs n') ∙ a) in
+          let r = output_at C l i h.seen.1 (Named h.outside) ca.outputs (sym (past_inputs C l (map Named ca.outs) i h.seen.0 h.seen.1 ca.inputs n') ∙ a) in
           let o = named_same r.1 in
           let z = rec r.0 (name_at c.outputs i) (subst (λ (z : code.Name). In z (rights (entry C j))) (sym o) h.right) (scoped.in_outputs c (name_at c.outputs i) n r.2) in
-          moved (sym (kind_of_name k r.0 (name_at c.outputs i)) ∙ ap is_array_name o ∙ argument_kind (ca.ins ++ ca.outs) h.seen.0 h.seen.1 h.outside a ∙ sym kd) (ap (λ (z : code.Name). place_at C p z) o) (sym (output_place i)) z
+          moved (sym (kind_of_name k r.0 (name_at c.outputs i)) ∙ ap is_array_name o ∙ argument_kind (ca.ins ++ map Named ca.outs) h.seen.0 h.seen.1 h.outside a ∙ sym kd) (ap (λ (z : code.Name). place_at C p z) o) (sym (output_place i)) z
 
       call_stands : (d : Bool) (x : Name) → SeenFrom C rights j Calling (name_as f.inputs d x) → IsIn f.inputs x → Stand d (place_at C inner_path (name_as f.inputs d x)) (place s (script_path inner_path) x)
       call_stands d x h g =
@@ -276,13 +276,13 @@ module _ (s : Core) (C : Code) (l : Layout) (K : Knowledge) (w : NamesFound s) (
           → Stand false (Constant h.2) (place_of s (script_path inner_path) 0 what)
       fixed_in d x h g (local n) e z = elim z [ ]
       fixed_in d x h g (input i) e an_input =
-          let a : argument_in (ca.ins ++ ca.outs) h.0 h.1 ≡ Some (Fixed h.2) = sym (argument_is h.0 h.1) ∙ h.4 in
-          let r = input_at C l ca.outs h.0 h.1 (Fixed h.2) ca.inputs (in_range h.0 x g e) a in
+          let a : argument_in (ca.ins ++ map Named ca.outs) h.0 h.1 ≡ Some (Fixed h.2) = sym (argument_is h.0 h.1) ∙ h.4 in
+          let r = input_at C l (map Named ca.outs) h.0 h.1 (Fixed h.2) ca.inputs (in_range h.0 x g e) a in
           moved refl refl (sym (input_place h.0)) (input_constant r.0 h.2 refl)
       fixed_in d x h g (output i) e (an_output eq) =
-          let a : argument_in (ca.ins ++ ca.outs) h.0 h.1 ≡ Some (Fixed h.2) = sym (argument_is h.0 h.1) ∙ h.4 in
+          let a : argument_in (ca.ins ++ map Named ca.outs) h.0 h.1 ≡ Some (Fixed h.2) = sym (argument_is h.0 h.1) ∙ h.4 in
           let n' : h.0 ≡ length c.inputs + i = omega arith in
-          let r = output_at C l i h.1 (Fixed h.2) ca.outputs (sym (past_inputs C l ca.outs i h.0 h.1 ca.inputs n') ∙ a) in
+          let r = output_at C l i h.1 (Fixed h.2) ca.outputs (sym (past_inputs C l (map Named ca.outs) i h.0 h.1 ca.inputs n') ∙ a) in
           absurd (cc (r.1))
 
       constant_stands : (d : Bool) (x : Name) → Fixes C (entry C j).mark Calling (name_as f.inputs d x) → IsIn f.inputs x → Stand d (place_at C inner_path (name_as f.inputs d x)) (place s (script_path inner_path) x)
@@ -290,7 +290,7 @@ module _ (s : Core) (C : Code) (l : Layout) (K : Knowledge) (w : NamesFound s) (
           let z = parameter_owned f.inputs d x.what h.0 h.1 (owned_of h.3) in
           let place_is : place_at C inner_path (name_as f.inputs d x) ≡ Constant h.2 =
           (λ i. place_at C (record { offset = sym ca.mark_is i; key = Key.Number (pos 0) } ∷ p) (h.3 i)) ∙ ap (argued C p) h.4 in
-          moved (sym (z.1 ∙ fixed_kind (ca.ins ++ ca.outs) h.0 h.1 h.2 (sym (argument_is h.0 h.1) ∙ h.4))) (sym place_is)
+          moved (sym (z.1 ∙ fixed_kind (ca.ins ++ map Named ca.outs) h.0 h.1 h.2 (sym (argument_is h.0 h.1) ∙ h.4))) (sym place_is)
           (sym (ap (λ (n : ℕ). place_of s (script_path inner_path) n x.what) (up_of h.3))) (fixed_in d x h g x.what refl z.0)
 
     -- A NAME OF A RIGHT MEANS WHAT THE SCRIPT'S NAME MEANS

@@ -11,7 +11,7 @@ use Rattle.agreement.specs.NodesOnce.{TellsNode, NodesOnce}
 abbrev tells : Act → Bool
 tells (code.Cell e) = true
 tells code.Read = true
-tells (code.Call b rs) = false
+tells (code.Call b rs os) = false
 tells (code.Set r e) = true
 tells (code.Fill r es) = true
 tells (code.Copy r) = true
@@ -34,7 +34,7 @@ nodes_apart (e ∷ es) = list_all (λ f. not (clash e f)) es && nodes_apart es
 tells_so : (a : Act) → TellsNode a → tells a ≡ true
 tells_so (code.Cell e) h = refl
 tells_so code.Read h = refl
-tells_so (code.Call b rs) h = absurd h
+tells_so (code.Call b rs os) h = absurd h
 tells_so (code.Set r e) h = refl
 tells_so (code.Fill r es) h = refl
 tells_so (code.Copy r) h = refl

@@ -9,7 +9,7 @@ use Rattle.syntax_trees.specs.Parts.{stmt_calls, block_list}
 use Rattle.syntax_trees.specs.WellFormed.{IsOwnTarget, header_blocks, Declares, Uses, own, inside, in_wait}
 use Rattle.syntax_trees.proofs.Members.{split_in, to_right}
 use Rattle.task_code.specs.Code as code
-use Rattle.task_code.specs.Code.{Variable, Local, Parameter, Argument, Named, Header, Act, Way, InPlace, Through, Calling, Code, entry, body, ways, targets_of}
+use Rattle.task_code.specs.Code.{Variable, Local, Parameter, Argument, Named, Header, Act, Way, InPlace, Through, Calling, Code, entry, body, ways, targets_of, stored_of}
 use Rattle.task_code.specs.Whole.{Declared, SeenFrom, IsCode}
 use Rattle.agreement.specs.CodeNames.{owned_as, name_as}
 use Rattle.agreement.specs.IsCodeOf.{Layout, own_expr, own_needs, fill_act, OutputsAs, no_output, one_output, StmtAs, declares, calls_alone, simple, branch, branches, range_loop, array_loop, waits, WaitAs, one_wait, merged, BodyAs, body_as}
@@ -32,7 +32,7 @@ module _ (C : Code) (l : Layout) (I : IsCode C) where
     pub there : In number es
     pub right : In (name_as k kind (record { up = up; what = what })) (entry C number).writes
 
-  pub output_right : {k : ℕ} {xs : List Name} {outs : List Argument} {x : Name} → OutputsAs C l k xs outs → x ∈ xs → (d : Bool) × In (Named (name_as k d x)) outs
+  pub output_right : {k : ℕ} {xs : List Name} {outs : List code.Name} {x : Name} → OutputsAs C l k xs outs → x ∈ xs → (d : Bool) × In (name_as k d x) outs
   output_right no_output h = elim h [ ]
   output_right (one_output d os) first = (d, inl refl)
   output_right (one_output d os) (later h) = let r = output_right os h in (r.0, inr r.1)
@@ -46,12 +46,18 @@ module _ (C : Code) (l : Layout) (I : IsCode C) where
   fill_target k n ms x (Co.name y) = inl refl
   fill_target k n ms x (Co.operator y es) = inl refl
 
+  pub fill_stored : (k n : ℕ) (ms : List code.Need) (x : Name) (e : Expr) → In (name_as k true x) (stored_of n (fill_act l k ms x e))
+  fill_stored k n ms x (Co.whole y) = inl refl
+  fill_stored k n ms x (Co.literal y) = inl refl
+  fill_stored k n ms x (Co.name y) = inl refl
+  fill_stored k n ms x (Co.operator y es) = inl refl
+
   -- a call alone has its call's entry
   alone_right : {k at n : ℕ} {p : ℤ} {ps : List Part} {c : Call} {x : Name} {es : List ℕ} → StmtAs C l k (stmt at n (call_alone p ps c)) es → x ∈ c.outputs → HasRight k x.up x.what es
   alone_right {k} {at} {n} {p} {ps} {c} {x} sa h =
       let f = find_call C l c sa (alone_call at n p ps c) in
       let r = output_right (f.as_call).outputs h in
-      record { kind = r.0; number = f.number; there = f.there; right = (f.as_call).rights (name_as k r.0 x) r.1 }
+      record { kind = r.0; number = f.number; there = f.there; right = target_right k f.number r.0 x (f.as_call).is.act_is r.1 }
 
   own_right : {k at n : ℕ} {a : Action} {x : Name} {es : List ℕ} → StmtAs C l k (stmt at n a) es → IsOwnTarget x a → HasRight k x.up x.what es
   own_right declares h = elim h [ inl m ↦ elim m [ ] | inr m ↦ elim m [ ] ]
