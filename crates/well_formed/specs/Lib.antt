@@ -1,2 +1,3 @@
 pub mod Always
 pub mod Assigning
+pub mod Types

@@ -1,13 +1,20 @@
-//! That the core of each accepted script is well formed. Nothing here runs.
+//! What the core of each accepted script keeps. Nothing here runs: each function has an empty body, and its contract is a law.
 #![tactic(auto)]
 
+pub mod laws;
+
+ghost use Rattle.meaning_laws.specs.TypedValues.{TypedValues};
 ghost use Rattle.well_formed.specs.Always.{FormedAlways};
 ghost use Rattle.well_formed.specs.Assigning.{tree, names};
+ghost use Rattle.well_formed.specs.Types.{FactHas, HasTypes};
 ghost use Rattle.meaning_laws.specs.Scoped.{Scoped};
 ghost use Rattle.std.specs.Prelude.{◌≡◌, ℕ, List};
+ghost use Rattle.syntax_trees.specs.Facts.{Fact};
+ghost use Rattle.syntax_trees.specs.Meaning.{Known, Meaning};
 ghost use Rattle.syntax_trees.specs.Numbered.{numbered};
 ghost use Rattle.syntax_trees.specs.Reads.{Reads};
 ghost use Rattle.syntax_trees.specs.Resolved.{core};
+ghost use Rattle.syntax_trees.specs.Scopes.{Typ, signatures};
 ghost use Rattle.syntax_trees.specs.Single.{SinglyAssigned};
 ghost use Rattle.syntax_trees.specs.Table.{Table};
 ghost use Rattle.syntax_trees.specs.Tree.{Tree};
@@ -28,4 +35,19 @@ pub fn accepted_cores()
 pub fn assigning_what_is_given()
     ensures typed { tree ≡ numbered 1 tree × WellTyped tree names }
     ensures broken { WellFormed (core names tree) → ⊥ }
+{}
+
+/// The core of a text that reads as a tree and is well typed has types: one for each node, with which every name, cell, call and statement
+/// agrees, and the signatures of its functions. So a name that stands for a scalar is nowhere used as an array, and what a call hands over is
+/// what the called function takes. Whatever is ever known of a node has the node's type.
+pub fn accepted_types()
+    ensures { (bytes : List ℕ) (t : Table) (tree : Tree) → Reads bytes tree → WellTyped tree t
+        → (type_of : ℕ → Typ) × HasTypes (signatures tree) type_of (core t tree) × ((f : Fact) → Meaning (core t tree) f → FactHas type_of f) }
+{}
+
+/// No value of a wrong type ever comes, singly assigned or not: conditions are truths, bounds and indices are numbers, `printf` gives a text,
+/// and a cell that is no whole right side of an array gives a scalar.
+pub fn accepted_values()
+    ensures rounds { (bytes : List ℕ) (t : Table) (tree : Tree) → Reads bytes tree → WellTyped tree t → (n : ℕ) → TypedValues (core t tree) (Known (core t tree) n) }
+    ensures ever { (bytes : List ℕ) (t : Table) (tree : Tree) → Reads bytes tree → WellTyped tree t → TypedValues (core t tree) (Meaning (core t tree)) }
 {}

@@ -1,0 +1,71 @@
+//! The laws of the meaning, of every accepted script. Each function does nothing; its contract is the law of that name in `meaning_laws`, without the
+//! premise that the core is well formed.
+
+ghost use Rattle.std.specs.Prelude.{◌≡◌, ◌↔◌, ◌≤◌, ℕ, Bool, IsTrue, List};
+ghost use Rattle.values.specs.declared.key.Key.{Key};
+ghost use Rattle.values.specs.declared.value.Scalar.{Scalar};
+ghost use Rattle.values.specs.declared.value.Value.{Value};
+ghost use Rattle.syntax_trees.specs.Core.{Block};
+ghost use Rattle.syntax_trees.specs.Facts.{Fact, value, element, OneWriter};
+ghost use Rattle.syntax_trees.specs.Meaning.{Closed, Live, New, Known, Meaning};
+ghost use Rattle.syntax_trees.specs.Outcomes.{Clean};
+ghost use Rattle.syntax_trees.specs.Places.{Path, Place};
+ghost use Rattle.syntax_trees.specs.Reads.{Reads};
+ghost use Rattle.syntax_trees.specs.Resolved.{core};
+ghost use Rattle.syntax_trees.specs.Single.{SinglyAssigned};
+ghost use Rattle.syntax_trees.specs.Table.{Table};
+ghost use Rattle.syntax_trees.specs.Tree.{Tree};
+ghost use Rattle.syntax_trees.specs.Typing.{WellTyped};
+
+/// A cell and a variable have one value, whenever they come to have it. Variables are futures that are assigned once, as in the Swift/T Guide.
+pub fn one_value()
+    ensures { (bytes : List ℕ) (t : Table) (tree : Tree) → Reads bytes tree → WellTyped tree t → SinglyAssigned (core t tree)
+        → (p : Place) (v u : Value) → Meaning (core t tree) (value p v) → Meaning (core t tree) (value p u) → v ≡ u }
+{}
+
+/// One statement writes one value under a key.
+pub fn one_element()
+    ensures { (bytes : List ℕ) (t : Table) (tree : Tree) → Reads bytes tree → WellTyped tree t → SinglyAssigned (core t tree)
+        → (a : Place) (k : Key) (w : Place) (v u : Scalar) → Meaning (core t tree) (element a k w v) → Meaning (core t tree) (element a k w u) → v ≡ u }
+{}
+
+/// An array that is closed after some round has by then all elements that it ever has.
+pub fn closed_array_is_full()
+    ensures { (bytes : List ℕ) (t : Table) (tree : Tree) → Reads bytes tree → WellTyped tree t → SinglyAssigned (core t tree)
+        → (n : ℕ) (a : Place) → Closed (core t tree) (Known (core t tree) n) a
+        → (k : Key) (w : Place) (v : Scalar) → Meaning (core t tree) (element a k w v) → Known (core t tree) n (element a k w v) }
+{}
+
+/// What is closed stays closed.
+pub fn closed_stays()
+    ensures { (bytes : List ℕ) (t : Table) (tree : Tree) → Reads bytes tree → WellTyped tree t → SinglyAssigned (core t tree)
+        → (n m : ℕ) (a : Place) → n ≤ m → Closed (core t tree) (Known (core t tree) n) a → Closed (core t tree) (Known (core t tree) m) a }
+{}
+
+/// What is live stays live.
+pub fn live_stays()
+    ensures { (bytes : List ℕ) (t : Table) (tree : Tree) → Reads bytes tree → WellTyped tree t → SinglyAssigned (core t tree)
+        → (n m : ℕ) (path : Path) (b : Block) → n ≤ m → Live (core t tree) (Known (core t tree) n) path b → Live (core t tree) (Known (core t tree) m) path b }
+{}
+
+/// What follows from all that is ever known is known after some round.
+pub fn meaning_is_closed()
+    ensures { (bytes : List ℕ) (t : Table) (tree : Tree) → Reads bytes tree → WellTyped tree t → SinglyAssigned (core t tree)
+        → (f : Fact) → New (core t tree) (Meaning (core t tree)) f → Meaning (core t tree) f }
+{}
+
+/// Where no key is written twice, the meaning is just what follows from it.
+pub fn meaning_follows_from_itself()
+    ensures { (bytes : List ℕ) (t : Table) (tree : Tree) → Reads bytes tree → WellTyped tree t → SinglyAssigned (core t tree)
+        → Clean (core t tree) → (f : Fact) → Meaning (core t tree) f ↔ New (core t tree) (Meaning (core t tree)) f }
+{}
+
+/// And it is the least such set of facts that has one value at a place and one writer of a key. A set is given by a test.
+pub fn meaning_is_least()
+    ensures { (bytes : List ℕ) (t : Table) (tree : Tree) → Reads bytes tree → WellTyped tree t → SinglyAssigned (core t tree) → (test : Fact → Bool)
+        → ((f : Fact) → New (core t tree) (λ f. IsTrue (test f)) f → IsTrue (test f))
+        → ((f : Fact) → IsTrue (test f) → New (core t tree) (λ f. IsTrue (test f)) f)
+        → ((p : Place) (v u : Value) → IsTrue (test (value p v)) → IsTrue (test (value p u)) → v ≡ u)
+        → ((a : Place) → OneWriter (λ f. IsTrue (test f)) a)
+        → (f : Fact) → Meaning (core t tree) f → IsTrue (test f) }
+{}
