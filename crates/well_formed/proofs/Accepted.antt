@@ -1,7 +1,7 @@
 -- The core of an accepted script is well formed, and that of a typed one scoped.
 use Rattle.std.specs.Prelude.{◌≡◌, ℕ, true, List}
 use Rattle.std.proofs.Common.{sym, subst}
-use Rattle.syntax_trees.specs.Facts.{Fact}
+use Rattle.syntax_trees.specs.Facts.{Fact, Knowledge}
 use Rattle.syntax_trees.specs.Meaning.{Known, Meaning}
 use Rattle.syntax_trees.specs.Numbered.{numbered}
 use Rattle.syntax_trees.specs.Reads.{Reads}
@@ -20,9 +20,10 @@ use Rattle.well_formed.proofs.Apart.{apart}
 use Rattle.well_formed.specs.Always.{FormedAlways}
 use Rattle.well_formed.proofs.Always.{always}
 use Rattle.well_formed.proofs.Formed.{scoped, formed}
-use Rattle.well_formed.specs.Types.{FactHas, HasTypes}
+use Rattle.well_formed.specs.Types.{HasTypes, DeclaredAs, tree_declarations, Types}
+use Rattle.well_formed.proofs.Typed.{live_stands}
 use Rattle.well_formed.proofs.TypedTree.{has_types}
-use Rattle.well_formed.proofs.Values.{known_have, meaning_has}
+use Rattle.well_formed.proofs.Values.{meaning_has}
 use Rattle.well_formed.proofs.ValueTypes.{typed_values}
 
 -- of a tree with numbers in reading order, in which no called name stands at the offset of another
@@ -48,25 +49,33 @@ typed_always bytes t tree r w = numbered_always t tree r.parsed r.is_numbered w 
 
 -- TYPES
 
--- types of a core, with which what is ever known agrees
-abbrev pub Types : Tree → Table → Type 0
-Types tree t = (type_of : ℕ → Typ) × HasTypes (signatures tree) type_of (core t tree)
+-- types of a core, and of what its tree declares
+abbrev Typing : Table → Tree → Type 0
+Typing t tree = (type_of : ℕ → Typ) × HasTypes (signatures tree) type_of (core t tree) × DeclaredAs type_of (tree_declarations tree)
 
-pub typed_types : (t : Table) (tree u : Tree) → tree ≡ numbered 1 u → WellTyped tree t → Types tree t
-typed_types t tree u e w = subst (λ (p : Tree). Types p t) (sym e) (has_types t u (subst (λ (p : Tree). WellTyped p t) e w))
+typed_core : (t : Table) (tree u : Tree) → tree ≡ numbered 1 u → WellTyped tree t → Typing t tree
+typed_core t tree u e w = subst (Typing t) (sym e) (has_types t u (subst (λ (p : Tree). WellTyped p t) e w))
 
-pub typed_facts : (bytes : List ℕ) (t : Table) (tree : Tree) → Reads bytes tree → WellTyped tree t
-    → (type_of : ℕ → Typ) × HasTypes (signatures tree) type_of (core t tree) × ((f : Fact) → Meaning (core t tree) f → FactHas type_of f)
-typed_facts bytes t tree r w =
-    let q = typed_types t tree r.parsed r.is_numbered w in
-    (q.0, q.1, meaning_has (signatures tree) q.0 (core t tree) q.1 (typed_always bytes t tree r w).call_found)
+pub typed_script : (bytes : List ℕ) (t : Table) (tree : Tree) → Reads bytes tree → WellTyped tree t → Types t tree
+typed_script bytes t tree r w =
+    let q = typed_core t tree r.parsed r.is_numbered w in
+    let found = (typed_always bytes t tree r w).call_found in
+    record {
+      type_of = q.0;
+      has = q.1;
+      declared = q.2;
+      facts = meaning_has (signatures tree) q.0 (core t tree) q.1 found;
+      live = λ path b l. live_stands (signatures tree) q.0 (core t tree) q.1 found l;
+    }
 
-pub values_known : (bytes : List ℕ) (t : Table) (tree : Tree) → Reads bytes tree → WellTyped tree t → (n : ℕ) → TypedValues (core t tree) (Known (core t tree) n)
-values_known bytes t tree r w n =
-    let q = typed_types t tree r.parsed r.is_numbered w in
-    typed_values (signatures tree) q.0 (core t tree) q.1 (Known (core t tree) n) (known_have (signatures tree) q.0 (core t tree) q.1 (typed_always bytes t tree r w).call_found n)
+-- no value of a wrong type is among what is ever known, nor among any part of it
+pub values_within : (bytes : List ℕ) (t : Table) (tree : Tree) → Reads bytes tree → WellTyped tree t → (K : Knowledge) → ((f : Fact) → K f → Meaning (core t tree) f) → TypedValues (core t tree) K
+values_within bytes t tree r w K part =
+    let q = typed_script bytes t tree r w in
+    typed_values (signatures tree) q.type_of (core t tree) q.has K (λ f k. q.facts f (part f k))
 
 pub values_meant : (bytes : List ℕ) (t : Table) (tree : Tree) → Reads bytes tree → WellTyped tree t → TypedValues (core t tree) (Meaning (core t tree))
-values_meant bytes t tree r w =
-    let q = typed_facts bytes t tree r w in
-    typed_values (signatures tree) q.0 (core t tree) q.1 (Meaning (core t tree)) q.2
+values_meant bytes t tree r w = values_within bytes t tree r w (Meaning (core t tree)) (λ f k. k)
+
+pub values_known : (bytes : List ℕ) (t : Table) (tree : Tree) → Reads bytes tree → WellTyped tree t → (n : ℕ) → TypedValues (core t tree) (Known (core t tree) n)
+values_known bytes t tree r w n = values_within bytes t tree r w (Known (core t tree) n) (λ f k. (n, k))

@@ -14,7 +14,7 @@ use Rattle.syntax_trees.proofs.Members.{split_in, either}
 use Rattle.syntax_trees.proofs.Tested.{among_split}
 use Rattle.meaning_laws.proofs.Declared.{live_block, header_of}
 use Rattle.meaning_laws.specs.Scoped.{InScope, of_script, of_function, inside, in_wait}
-use Rattle.well_formed.specs.Types.{no_signature, OwnedHas, NameHas, NamesHave, one_name, FormHas, CallHas, PartHas, OuterHas, OutersHave, BlockHas, a_statement, ActionHas, of_call, of_when, of_choose, of_range, of_each, of_wait, HasTypes}
+use Rattle.well_formed.specs.Types.{no_signature, OwnedHas, NameHas, NamesHave, one_name, FormHas, CallHas, PartHas, OuterHas, OutersHave, BlockHas, a_statement, ActionHas, of_call, of_when, of_choose, of_range, of_each, of_wait, HasTypes, TypedAt}
 use Rattle.well_formed.proofs.Bodies.{scoped_block}
 
 -- PARTS OF A STATEMENT
@@ -154,12 +154,8 @@ module _ (fs : List Signature) (type_of : ℕ → Typ) where
     local_node (step ∷ path) zero n = refl
     local_node (step ∷ path) (suc up) n = local_node path up n
 
-    -- a block at a path: what its names stand for has their types
-    pub record Stands (path : Path) (b : Block) : Type 0 where
-      pub signature : Signature
-      pub depth : ℕ
-      pub typed : BlockHas fs type_of signature depth b
-      pub names : (x : Name) (τ : Typ) → NameHas fs type_of signature depth x τ → type_of (place s path x).1 ≡ τ
+    abbrev At : Path → Block → Type 0
+    At path b = TypedAt fs type_of s path b
 
     module _ (found : (b : Block) (st : Stmt) (c : Call) → b ∈ script_blocks s → st ∈ block_list b → c ∈ stmt_calls st → call_at s c.at ≡ Some c) where
       none_named : (up : ℕ) (what : Owned) (τ : Typ) → OwnedHas fs type_of no_signature 0 up what τ → type_of (place_of s [] up what).1 ≡ τ
@@ -176,7 +172,7 @@ module _ (fs : List Signature) (type_of : ℕ → Typ) where
       no_suc n e = absurd (omega arith)
 
       -- one header further in
-      deeper_named : (path : Path) (b : Block) (step : ℕ × Key) (q : Stands path b) (up : ℕ) (what : Owned) (τ : Typ) → OwnedHas fs type_of q.signature (suc q.depth) up what τ → type_of (place_of s (step ∷ path) up what).1 ≡ τ
+      deeper_named : (path : Path) (b : Block) (step : ℕ × Key) (q : At path b) (up : ℕ) (what : Owned) (τ : Typ) → OwnedHas fs type_of q.signature (suc q.depth) up what τ → type_of (place_of s (step ∷ path) up what).1 ≡ τ
       deeper_named path b step q zero (local n) τ h = h
       deeper_named path b step q (suc up) (local n) τ h = local_named path up n τ h
       deeper_named path b step q zero (input i) τ h = no_suc q.depth (sym h.0)
@@ -185,7 +181,7 @@ module _ (fs : List Signature) (type_of : ℕ → Typ) where
       deeper_named path b step q (suc up) (output i) τ h = let e : suc up ≡ suc q.depth = h.0 in let d : up ≡ q.depth = omega arith in q.names (record { up = up; what = output i }) τ (d, h.1)
 
       -- in the body of a called function
-      called_named : (path : Path) (b : Block) (key : Key) (q : Stands path b) (c : Call) (h : CallHas fs type_of q.signature q.depth c) → call_at s c.at ≡ Some c
+      called_named : (path : Path) (b : Block) (key : Key) (q : At path b) (c : Call) (h : CallHas fs type_of q.signature q.depth c) → call_at s c.at ≡ Some c
           → (up : ℕ) (what : Owned) (τ : Typ) → OwnedHas fs type_of h.signature 0 up what τ → type_of (place_of s ((c.at, key) ∷ path) up what).1 ≡ τ
       called_named path b key q c h e zero (local n) τ o = o
       called_named path b key q c h e (suc up) (local n) τ o = local_named path up n τ o
@@ -196,7 +192,7 @@ module _ (fs : List Signature) (type_of : ℕ → Typ) where
       called_named path b key q c h e (suc up) (input i) τ o = no_suc up o.0
       called_named path b key q c h e (suc up) (output i) τ o = no_suc up o.0
 
-      pub live_stands : {K : Knowledge} {path : Path} {b : Block} → Live s K path b → Stands path b
+      pub live_stands : {K : Knowledge} {path : Path} {b : Block} → Live s K path b → At path b
       live_stands script = record { signature = no_signature; depth = 0; typed = types.script; names = λ x τ h. none_named x.up x.what τ h }
       live_stands (opened {path = path} {b = b} {at = at} {k = k} l i r o d) =
           let q = live_stands l in

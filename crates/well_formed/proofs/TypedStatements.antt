@@ -1,5 +1,5 @@
 -- Typed statements and bodies have types in the core.
-use Rattle.std.specs.Prelude.{◌≡◌, ℕ, suc, ℤ, pos, List, [], ◌∷◌, map, Option, Some, None, option_map, option_to_list, refl}
+use Rattle.std.specs.Prelude.{◌≡◌, ℕ, suc, ℤ, pos, List, [], ◌∷◌, ◌++◌, map, Option, Some, None, option_map, option_to_list, refl}
 use Rattle.std.proofs.Common.{inl, inr, sym, ap, ◌∙◌, subst}
 use Rattle.values.specs.declared.format.Piece.{Piece}
 use Rattle.values.specs.Operators as op
@@ -7,7 +7,7 @@ use Rattle.syntax_trees.specs.declared.tree.Base.{Base}
 use Rattle.syntax_trees.specs.declared.tree.Base.TheVariants.{Int, Text, Boolean}
 use Rattle.syntax_trees.specs.declared.tree.Shape.{Shape}
 use Rattle.syntax_trees.specs.Tree as T
-use Rattle.syntax_trees.specs.Tree.{Word, Node, Expression, expression, number, text, truth, variable, element, call, prefixed, chain, Expressions, no_expressions, and_expression, expressions_of, RightSide, value, list, Calling, Over, Statement, statement, Command, choice, choice_else, loop, waits, Body, body, Statements, no_statements, and_statement}
+use Rattle.syntax_trees.specs.Tree.{Word, Node, Declaration, Expression, expression, number, text, truth, variable, element, call, prefixed, chain, Expressions, no_expressions, and_expression, expressions_of, RightSide, value, list, Calling, Over, Statement, statement, Command, choice, choice_else, loop, waits, Body, body, Statements, no_statements, and_statement}
 use Rattle.syntax_trees.specs.Core.{Owned, local, input, output, Name, here, whole, compute, Cell, Outer, Awaited, Action, declare, assign, fill, stmt, Block, stmts}
 use Rattle.syntax_trees.specs.Members.{◌∈◌, first, later}
 use Rattle.syntax_trees.specs.Resolved.{refers, Formed, Arguments, form_of, operands_of, arguments_of, computes, call_form, number_of, outer_of, outer, composite_call, call_right, right_of, call_action, several, awaited, awaited_as, loop_action, format_of, block_of, block_in, with_statement}
@@ -15,11 +15,11 @@ use Rattle.syntax_trees.specs.Table.{Table, Callee, built_in}
 use Rattle.syntax_trees.specs.Scopes.{Typ, one_of, many_of, declared_type, Visible, Scope, deeper, Signature, Calls}
 use Rattle.syntax_trees.specs.Typing as rules
 use Rattle.syntax_trees.specs.Typing.{HasType, ArgumentTypes, RightType, ReferAll, Declares, LoopScope, StepType, SourceType, CallTyped, StatementTyped, StatementsTyped, BodyTyped, wanted}
-use Rattle.syntax_trees.proofs.Members.{split_in}
+use Rattle.syntax_trees.proofs.Members.{split_in, either}
 use Rattle.syntax_trees.proofs.TreeNumbers.{expression_numbers, expressions_numbers}
 use Rattle.meaning_laws.proofs.TreeNodes.{words_numbers, right_numbers, maybe_numbers, over_numbers, word_numbers, statement_numbers, body_numbers, statements_numbers}
 use Rattle.well_formed.specs.Types as types
-use Rattle.well_formed.specs.Types.{OwnedHas, NameHas, NamesHave, no_name, one_name, FormHas, CallHas, PartsHave, OuterHas, OutersHave, AwaitedHas, TurnHas, BlockHas, no_statement, a_statement, ActionHas}
+use Rattle.well_formed.specs.Types.{OwnedHas, NameHas, NamesHave, no_name, one_name, FormHas, CallHas, PartsHave, OuterHas, OutersHave, AwaitedHas, TurnHas, BlockHas, no_statement, a_statement, ActionHas, DeclaredAs, statement_declarations, body_declarations, statements_declarations}
 use Rattle.well_formed.proofs.NodeTypes.{NodesTyped, always, nothing, joined, noted, passed, all_passed, and_so}
 use Rattle.well_formed.proofs.Typed.{StmtHas}
 use Rattle.well_formed.proofs.TypedParts.{ScopeHas, FormedHas, ArgumentsHave, outer_has, call_parts, refers_has, asserted_has, ExpressionHas, expression_typed, arguments_typed, builtin_typed, all_typed, printed_typed}
@@ -215,93 +215,132 @@ module _ (fs : List Signature) (t : Table) (f : Signature) where
 
   -- STATEMENTS
 
-  -- a statement in front of a block, and what is visible behind it
+  none_declared : (type_of : ℕ → Typ) → DeclaredAs type_of []
+  none_declared type_of d m = elim m [ ]
+
+  one_declared : (type_of : ℕ → Typ) (d : Declaration) → type_of d.name.number ≡ declared_type d → DeclaredAs type_of (d ∷ [])
+  one_declared type_of d e z m = elim (split_in m) [ inl q ↦ subst (λ (y : Declaration). type_of y.name.number ≡ declared_type y) (sym q) e | inr i ↦ elim i [ ] ]
+
+  pub both_declared : (type_of : ℕ → Typ) (ds es : List Declaration) → DeclaredAs type_of ds → DeclaredAs type_of es → DeclaredAs type_of (ds ++ es)
+  both_declared type_of ds es h g d m = elim (either ds es m) [ inl i ↦ h d i | inr i ↦ g d i ]
+
+  -- what a statement declares, a statement in front of a block, and what is visible behind it
   abbrev pub StatementHas : ℕ → Scope → Statement → Scope → (ℕ → Typ) → Type 0
-  StatementHas depth g st h type_of = ScopeHas fs type_of f depth g → ScopeHas fs type_of f depth h × ((b : Block) → BlockHas fs type_of f depth b → BlockHas fs type_of f depth (with_statement t st b))
+  StatementHas depth g st h type_of = DeclaredAs type_of (statement_declarations st) × (ScopeHas fs type_of f depth g → ScopeHas fs type_of f depth h × ((b : Block) → BlockHas fs type_of f depth b → BlockHas fs type_of f depth (with_statement t st b)))
 
   abbrev pub BodyHas : ℕ → Scope → Body → (ℕ → Typ) → Type 0
-  BodyHas depth g b type_of = ScopeHas fs type_of f depth g → BlockHas fs type_of f depth (block_of t b)
+  BodyHas depth g b type_of = DeclaredAs type_of (body_declarations b) × (ScopeHas fs type_of f depth g → BlockHas fs type_of f depth (block_of t b))
 
   mutual
     pub statement_typed : (depth : ℕ) {g h : Scope} {st : Statement} → StatementTyped fs t g st h → NodesTyped (statement_numbers st) (StatementHas depth g st h)
-    statement_typed depth {g} (rules.declaration {nd = nd} {d = d} new) = passed nd.number (and_so (noted d.name.number (declared_type d) nothing) (λ type_of q s. (
-      own_has fs type_of f depth new q.0 s,
-      λ b r. put fs type_of f nd.first.from nd.number (declare_has fs type_of f depth d.name.number) r,
+    statement_typed depth {g} (rules.declaration {nd = nd} {d = d} new) = passed nd.number (and_so (noted d.name.number (declared_type d) nothing) (λ type_of q. (
+      one_declared type_of d q.0,
+      λ s. (
+        own_has fs type_of f depth new q.0 s,
+        λ b r. put fs type_of f nd.first.from nd.number (declare_has fs type_of f depth d.name.number) r,
+      ),
     )))
-    statement_typed depth {g} {h} (rules.definition {nd = nd} {d = d} {r = r} new typed) = passed nd.number (and_so (noted d.name.number (declared_type d) (right_typed fs t f depth h (here d.name.number) typed)) (λ type_of q s. (
-        let seen = own_has fs type_of f depth new q.0 s in (
-          seen,
-          λ b rest. put fs type_of f nd.first.from nd.number (declare_has fs type_of f depth d.name.number) (put fs type_of f nd.first.from nd.number (q.1 seen q.0) rest),
-        ))))
-    statement_typed depth {g} (rules.assignment {nd = nd} {w = w} {r = r} refers_to typed) = passed nd.number (passed w.number (and_so (right_typed fs t f depth g (refers t w) typed) (λ type_of q s. (
-      s,
-      λ b rest. put fs type_of f nd.first.from nd.number
-          (subst (λ (z : Shape). StmtHas fs type_of f depth (right_of t (refers t w) z r)) (sym refers_to.shaped) (q s (refers_has fs t f depth g type_of refers_to s))) rest,
+    statement_typed depth {g} {h} (rules.definition {nd = nd} {d = d} {r = r} new typed) = passed nd.number (and_so (noted d.name.number (declared_type d) (right_typed fs t f depth h (here d.name.number) typed)) (λ type_of q. (
+      one_declared type_of d q.0,
+      λ s. (
+          let seen = own_has fs type_of f depth new q.0 s in (
+            seen,
+            λ b rest. put fs type_of f nd.first.from nd.number (declare_has fs type_of f depth d.name.number) (put fs type_of f nd.first.from nd.number (q.1 seen q.0) rest),
+          )),
+    )))
+    statement_typed depth {g} (rules.assignment {nd = nd} {w = w} {r = r} refers_to typed) = passed nd.number (passed w.number (and_so (right_typed fs t f depth g (refers t w) typed) (λ type_of q. (
+      none_declared type_of,
+      λ s. (
+        s,
+        λ b rest. put fs type_of f nd.first.from nd.number
+            (subst (λ (z : Shape). StmtHas fs type_of f depth (right_of t (refers t w) z r)) (sym refers_to.shaped) (q s (refers_has fs t f depth g type_of refers_to s))) rest,
+      ),
     ))))
     statement_typed depth {g} (rules.element_write {nd = nd} {w = w} {i = i} {e = e} {b = β} refers_to index right) =
-        passed nd.number (passed w.number (and_so (joined (expression_typed fs t f depth g index) (expression_typed fs t f depth g right)) (λ type_of q s. (
-        let p = q.0.1 s in
-        let o = q.1.1 s in (
-          s,
-          λ b rest. put fs type_of f nd.first.from nd.number (record {
-            outer = two_outers fs type_of f depth (outer t i) (outer t e) (outer_has fs type_of f depth (number_of i) (form_of t i) (one_of Int) q.0.0 p.0 p.1) (outer_has fs type_of f depth (number_of e) (form_of t e) (one_of β) q.1.0 o.0 o.1);
-            action = types.of_insert {x = refers t w} {i = outer t i} {o = outer t e} (refers_has fs t f depth g type_of refers_to s) q.0.0 q.1.0;
-          }) rest,
-        )))))
+        passed nd.number (passed w.number (and_so (joined (expression_typed fs t f depth g index) (expression_typed fs t f depth g right)) (λ type_of q. (
+          none_declared type_of,
+          λ s. (
+              let p = q.0.1 s in
+              let o = q.1.1 s in (
+                s,
+                λ b rest. put fs type_of f nd.first.from nd.number (record {
+                  outer = two_outers fs type_of f depth (outer t i) (outer t e) (outer_has fs type_of f depth (number_of i) (form_of t i) (one_of Int) q.0.0 p.0 p.1) (outer_has fs type_of f depth (number_of e) (form_of t e) (one_of β) q.1.0 o.0 o.1);
+                  action = types.of_insert {x = refers t w} {i = outer t i} {o = outer t e} (refers_has fs t f depth g type_of refers_to s) q.0.0 q.1.0;
+                }) rest,
+              )),
+        ))))
     statement_typed depth {g} (rules.several {nd = nd} {ws = ws} {c = c} {f = called} names calls args) =
-        passed nd.number (all_passed (words_numbers ws) (passed c.node.number (passed c.name.number (and_so (arguments_typed fs t f depth g args) (λ type_of q s. (
-          s,
-          λ b rest. put fs type_of f nd.first.from nd.number
-              (subst (λ (z : Callee). StmtHas fs type_of f depth (several t c.node.number c.name (expressions_of c.arguments) (map (refers t) ws) z)) (sym calls.named)
-              (composite_has fs type_of f depth (pos 0) c.name called (arguments_of t (expressions_of c.arguments)) (map (refers t) ws) calls (names_have fs t f depth g type_of names s) (q s))) rest,
+        passed nd.number (all_passed (words_numbers ws) (passed c.node.number (passed c.name.number (and_so (arguments_typed fs t f depth g args) (λ type_of q. (
+          none_declared type_of,
+          λ s. (
+            s,
+            λ b rest. put fs type_of f nd.first.from nd.number
+                (subst (λ (z : Callee). StmtHas fs type_of f depth (several t c.node.number c.name (expressions_of c.arguments) (map (refers t) ws) z)) (sym calls.named)
+                (composite_has fs type_of f depth (pos 0) c.name called (arguments_of t (expressions_of c.arguments)) (map (refers t) ws) calls (names_have fs t f depth g type_of names s) (q s))) rest,
+          ),
         ))))))
     statement_typed depth {g} (rules.several_builtin {nd = nd} {w = w} {c = c} {f = called} {b = β} refers_to calls args) =
-        passed nd.number (passed w.number (and_so (noted c.node.number (one_of β) (passed c.name.number (builtin_typed fs t f depth g args))) (λ type_of q s. (
-          s,
-          λ b rest. put fs type_of f nd.first.from nd.number
-              (subst (λ (z : Callee). StmtHas fs type_of f depth (several t c.node.number c.name (expressions_of c.arguments) (refers t w ∷ []) z)) (sym calls.named)
-              (assign_has fs type_of f depth c.node.number (call_form t c.name (built_in called) (expressions_of c.arguments) ([], []) (operands_of t (expressions_of c.arguments))) β (refers t w) q.0 (q.1 c.name ([], []) s)
-              (refers_has fs t f depth g type_of refers_to s))) rest,
+        passed nd.number (passed w.number (and_so (noted c.node.number (one_of β) (passed c.name.number (builtin_typed fs t f depth g args))) (λ type_of q. (
+          none_declared type_of,
+          λ s. (
+            s,
+            λ b rest. put fs type_of f nd.first.from nd.number
+                (subst (λ (z : Callee). StmtHas fs type_of f depth (several t c.node.number c.name (expressions_of c.arguments) (refers t w ∷ []) z)) (sym calls.named)
+                (assign_has fs type_of f depth c.node.number (call_form t c.name (built_in called) (expressions_of c.arguments) ([], []) (operands_of t (expressions_of c.arguments))) β (refers t w) q.0 (q.1 c.name ([], []) s)
+                (refers_has fs t f depth g type_of refers_to s))) rest,
+          ),
         ))))
     statement_typed depth {g} (rules.call_statement {nd = nd} {p = p} {c = c} typed) =
-        passed nd.number (and_so (call_typed fs t f depth g p c.node.number typed) (λ type_of q s. (s, λ b rest. put fs type_of f nd.first.from nd.number (q s) rest)))
+        passed nd.number (and_so (call_typed fs t f depth g p c.node.number typed) (λ type_of q. (none_declared type_of, λ s. (s, λ b rest. put fs type_of f nd.first.from nd.number (q s) rest))))
     statement_typed depth {g} (rules.if_statement {nd = nd} {c = e} {b = d} condition typed) =
-        passed nd.number (and_so (joined (expression_typed fs t f depth g condition) (body_typed (suc depth) typed)) (λ type_of q s. (
-        let r = q.0.1 s in (
-          s,
-          λ b rest. put fs type_of f nd.first.from nd.number (record {
-            outer = one_outer fs type_of f depth (outer t e) (outer_has fs type_of f depth (number_of e) (form_of t e) (one_of Boolean) q.0.0 r.0 r.1);
-            action = types.of_when {c = outer t e} q.0.0 (q.1 (deeper_has fs type_of f depth g s));
-          }) rest,
-        ))))
+        passed nd.number (and_so (joined (expression_typed fs t f depth g condition) (body_typed (suc depth) typed)) (λ type_of q. (
+          q.1.0,
+          λ s. (
+              let r = q.0.1 s in (
+                s,
+                λ b rest. put fs type_of f nd.first.from nd.number (record {
+                  outer = one_outer fs type_of f depth (outer t e) (outer_has fs type_of f depth (number_of e) (form_of t e) (one_of Boolean) q.0.0 r.0 r.1);
+                  action = types.of_when {c = outer t e} q.0.0 (q.1.1 (deeper_has fs type_of f depth g s));
+                }) rest,
+              )),
+        )))
     statement_typed depth {g} (rules.if_else_statement {nd = nd} {c = e} {b = d} {d = o} condition typed other) =
-        passed nd.number (and_so (joined (expression_typed fs t f depth g condition) (joined (body_typed (suc depth) typed) (body_typed (suc depth) other))) (λ type_of q s. (
-        let r = q.0.1 s in (
-          s,
-          λ b rest. put fs type_of f nd.first.from nd.number (record {
-            outer = one_outer fs type_of f depth (outer t e) (outer_has fs type_of f depth (number_of e) (form_of t e) (one_of Boolean) q.0.0 r.0 r.1);
-            action = types.of_choose {c = outer t e} q.0.0 (q.1.0 (deeper_has fs type_of f depth g s)) (q.1.1 (deeper_has fs type_of f depth g s));
-          }) rest,
-        ))))
+        passed nd.number (and_so (joined (expression_typed fs t f depth g condition) (joined (body_typed (suc depth) typed) (body_typed (suc depth) other))) (λ type_of q. (
+          both_declared type_of (body_declarations d) (body_declarations o) q.1.0.0 q.1.1.0,
+          λ s. (
+              let r = q.0.1 s in (
+                s,
+                λ b rest. put fs type_of f nd.first.from nd.number (record {
+                  outer = one_outer fs type_of f depth (outer t e) (outer_has fs type_of f depth (number_of e) (form_of t e) (one_of Boolean) q.0.0 r.0 r.1);
+                  action = types.of_choose {c = outer t e} q.0.0 (q.1.0.1 (deeper_has fs type_of f depth g s)) (q.1.1.1 (deeper_has fs type_of f depth g s));
+                }) rest,
+              )),
+        )))
     statement_typed depth {g} (rules.loop_statement {h = inner} {nd = nd} {v = v} {k = k} {o = o} {b = d} {β = β} source scope typed) =
-        passed nd.number (and_so (noted v.number (one_of β) (joined (key_typed k) (joined (source_typed fs t f depth g source) (body_typed (suc depth) typed)))) (λ type_of q s. (
-          s,
-          λ b rest. put fs type_of f nd.first.from nd.number
-              (loop_has fs t f depth g type_of v k o β (block_of t d) (q.1.1.0 s) q.0 q.1.0 (q.1.1.1 (loop_scope depth scope type_of q.0 q.1.0 s))) rest,
+        passed nd.number (and_so (noted v.number (one_of β) (joined (key_typed k) (joined (source_typed fs t f depth g source) (body_typed (suc depth) typed)))) (λ type_of q. (
+          q.1.1.1.0,
+          λ s. (
+            s,
+            λ b rest. put fs type_of f nd.first.from nd.number
+                (loop_has fs t f depth g type_of v k o β (block_of t d) (q.1.1.0 s) q.0 q.1.0 (q.1.1.1.1 (loop_scope depth scope type_of q.0 q.1.0 s))) rest,
+          ),
         )))
     statement_typed depth {g} (rules.wait_statement {nd = nd} {ws = ws} {τs = τs} {b = d} names typed) =
-        passed nd.number (all_passed (words_numbers ws) (and_so (body_typed depth typed) (λ type_of q s. (
-          s,
-          λ b rest. put fs type_of f nd.first.from nd.number (record {
-            outer = no_outers fs type_of f depth;
-            action = types.of_wait (awaited_has fs t f depth g type_of names s) (q s);
-          }) rest,
+        passed nd.number (all_passed (words_numbers ws) (and_so (body_typed depth typed) (λ type_of q. (
+          q.0,
+          λ s. (
+            s,
+            λ b rest. put fs type_of f nd.first.from nd.number (record {
+              outer = no_outers fs type_of f depth;
+              action = types.of_wait (awaited_has fs t f depth g type_of names s) (q.1 s);
+            }) rest,
+          ),
         ))))
 
-    statements_typed : (depth : ℕ) {g : Scope} {ss : Statements} → StatementsTyped fs t g ss → NodesTyped (statements_numbers ss) (λ type_of. ScopeHas fs type_of f depth g → BlockHas fs type_of f depth (block_in t ss))
-    statements_typed depth rules.no_more_statements = always (λ type_of s. no_statement)
-    statements_typed depth (rules.next_statement {ss = ss} one rest) =
-        and_so (joined (statement_typed depth one) (statements_typed depth rest)) (λ type_of q s. (let r = q.0 s in r.1 (block_in t ss) (q.1 r.0)))
+    statements_typed : (depth : ℕ) {g : Scope} {ss : Statements} → StatementsTyped fs t g ss → NodesTyped (statements_numbers ss) (λ type_of. DeclaredAs type_of (statements_declarations ss) × (ScopeHas fs type_of f depth g → BlockHas fs type_of f depth (block_in t ss)))
+    statements_typed depth rules.no_more_statements = always (λ type_of. (none_declared type_of, λ s. no_statement))
+    statements_typed depth (rules.next_statement {s = st} {ss = ss} one rest) =
+        and_so (joined (statement_typed depth one) (statements_typed depth rest)) (λ type_of q. (both_declared type_of (statement_declarations st) (statements_declarations ss) q.0.0 q.1.0, λ s. (let r = q.0.1 s in r.1 (block_in t ss) (q.1.1 r.0))))
 
     pub body_typed : (depth : ℕ) {g : Scope} {b : Body} → BodyTyped fs t g b → NodesTyped (body_numbers b) (BodyHas depth g b)
     body_typed depth (rules.in_braces typed) = statements_typed depth typed

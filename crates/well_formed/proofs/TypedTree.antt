@@ -1,5 +1,5 @@
 -- The core of each well typed script has types.
-use Rattle.std.specs.Prelude.{◌≡◌, ◌⊎◌, ℕ, zero, suc, ◌+◌, ◌≤◌, List, [], ◌∷◌, map, Option, Some, length, slice_get, refl}
+use Rattle.std.specs.Prelude.{◌≡◌, ◌⊎◌, ℕ, zero, suc, ◌+◌, ◌≤◌, List, [], ◌∷◌, ◌++◌, map, Option, Some, length, slice_get, refl}
 use Rattle.std.proofs.Common.{inl, inr, sym, ap, ◌∙◌, subst, arith}
 use Rattle.syntax_trees.specs.Tree.{Declaration, Composite, Tree}
 use Rattle.syntax_trees.specs.Core.{Owned, input, output, Name, Function}
@@ -13,12 +13,12 @@ use Rattle.syntax_trees.specs.Typing.{Parameters, FunctionTyped, PartsTyped, Wel
 use Rattle.syntax_trees.proofs.Members.{split_in}
 use Rattle.syntax_trees.proofs.TreeNumbers.{times, distinct_few}
 use Rattle.meaning_laws.proofs.TreeNodes.{declarations_numbers, body_numbers, tree_numbers}
-use Rattle.well_formed.specs.Types.{no_signature, NameHas, BlockHas, no_statement, HasTypes}
+use Rattle.well_formed.specs.Types.{no_signature, NameHas, BlockHas, no_statement, HasTypes, DeclaredAs, tree_declarations, statement_declarations, body_declarations}
 use Rattle.well_formed.proofs.Bodies.{length-map}
 use Rattle.well_formed.proofs.NodeTypes.{NodesTyped, always, joined, passed, all_passed, and_so, there_are}
 use Rattle.well_formed.proofs.Once.{numbers_once}
 use Rattle.well_formed.proofs.TypedParts.{ScopeHas}
-use Rattle.well_formed.proofs.TypedStatements.{body_typed, statement_typed}
+use Rattle.well_formed.proofs.TypedStatements.{both_declared, body_typed, statement_typed}
 
 -- PARAMETERS
 
@@ -51,14 +51,14 @@ module _ (fs : List Signature) (t : Table) where
   FunctionIn ss type_of i f = (c : Signature) × (slice_get ss i ≡ Some c) × (length c.inputs ≡ f.inputs) × (length c.outputs ≡ f.outputs) × BlockHas fs type_of c 0 f.body
 
   abbrev PartsHave : Scope → Tree → (ℕ → Typ) → Type 0
-  PartsHave g ps type_of = (ScopeHas fs type_of no_signature 0 g → BlockHas fs type_of no_signature 0 (script_block t ps))
+  PartsHave g ps type_of = DeclaredAs type_of (tree_declarations ps) × (ScopeHas fs type_of no_signature 0 g → BlockHas fs type_of no_signature 0 (script_block t ps))
       × ((i : ℕ) (f : Function) → slice_get (functions_of t ps) i ≡ Some f → FunctionIn (signatures ps) type_of i f)
 
   abbrev as_function : Composite → Function
   as_function f = record { inputs = length f.inputs; outputs = length f.outputs; body = block_of t f.body }
 
-  function_typed : {names : List (List ℕ)} (c : Composite) → FunctionTyped fs t names c → NodesTyped (body_numbers c.body) (λ type_of. BlockHas fs type_of (signature_of c) 0 (block_of t c.body))
-  function_typed c (rules.function_typed free other outs ins typed) = and_so (body_typed fs t (signature_of c) 0 typed) (λ type_of q. q (parameters_have fs type_of c outs ins))
+  function_typed : {names : List (List ℕ)} (c : Composite) → FunctionTyped fs t names c → NodesTyped (body_numbers c.body) (λ type_of. DeclaredAs type_of (body_declarations c.body) × BlockHas fs type_of (signature_of c) 0 (block_of t c.body))
+  function_typed c (rules.function_typed free other outs ins typed) = and_so (body_typed fs t (signature_of c) 0 typed) (λ type_of q. (q.0, q.1 (parameters_have fs type_of c outs ins)))
 
   one_more_function : (type_of : ℕ → Typ) (c : Composite) (ps : Tree) → BlockHas fs type_of (signature_of c) 0 (block_of t c.body)
       → ((i : ℕ) (f : Function) → slice_get (functions_of t ps) i ≡ Some f → FunctionIn (signatures ps) type_of i f)
@@ -77,7 +77,7 @@ module _ (fs : List Signature) (t : Table) where
   one_more_function type_of c ps h rest (suc i) f e = rest i f e
 
   parts_typed : {names : List (List ℕ)} {g : Scope} {ps : Tree} → PartsTyped fs t names g ps → NodesTyped (tree_numbers ps) (PartsHave g ps)
-  parts_typed rules.no_parts = always (λ type_of. (λ s. no_statement, none_there))
+  parts_typed rules.no_parts = always (λ type_of. (λ d m. elim m [ ], λ s. no_statement, none_there))
     where
       none_there : {type_of : ℕ → Typ} (i : ℕ) (f : Function) → slice_get [] i ≡ Some f → FunctionIn [] type_of i f
       none_there zero f e = absurd (cc (e))
@@ -85,20 +85,21 @@ module _ (fs : List Signature) (t : Table) where
   parts_typed (rules.an_import h) = parts_typed h
   parts_typed (rules.a_function {f = c} {ps = ps} one rest) =
       passed c.node.number (all_passed (declarations_numbers c.outputs) (passed c.name.number (all_passed (declarations_numbers c.inputs)
-      (and_so (joined (function_typed c one) (parts_typed rest)) (λ type_of q. (q.1.0, one_more_function type_of c ps q.0 q.1.1))))))
+      (and_so (joined (function_typed c one) (parts_typed rest)) (λ type_of q. (both_declared fs t no_signature type_of (body_declarations c.body) (tree_declarations ps) q.0.0 q.1.0, q.1.1, one_more_function type_of c ps q.0.1 q.1.2))))))
   parts_typed (rules.a_statement {s = st} {ps = ps} one rest) =
-      and_so (joined (statement_typed fs t no_signature 0 one) (parts_typed rest)) (λ type_of q. (λ s. (let r = q.0 s in r.1 (script_block t ps) (q.1.0 r.0)), q.1.1))
+      and_so (joined (statement_typed fs t no_signature 0 one) (parts_typed rest)) (λ type_of q. (both_declared fs t no_signature type_of (statement_declarations st) (tree_declarations ps) q.0.0 q.1.0, λ s. (let r = q.0.1 s in r.1 (script_block t ps) (q.1.1 r.0)), q.1.2))
 
 -- the core of a well typed script that is numbered in reading order has types
-pub has_types : (t : Table) (u : Tree) → WellTyped (numbered 1 u) t → (type_of : ℕ → Typ) × HasTypes (signatures (numbered 1 u)) type_of (core t (numbered 1 u))
+pub has_types : (t : Table) (u : Tree) → WellTyped (numbered 1 u) t → (type_of : ℕ → Typ) × HasTypes (signatures (numbered 1 u)) type_of (core t (numbered 1 u)) × DeclaredAs type_of (tree_declarations (numbered 1 u))
 has_types t u typed =
     let fs = signatures (numbered 1 u) in
     let r = there_are (parts_typed fs t typed) few in (
       r.0,
       record {
-        script = r.1.0 (λ v m. elim m [ ]);
-        functions = λ i f e. (let q = r.1.1 i f e in record { signature = q.0; there = q.1; inputs = q.2; outputs = q.3; body = q.4 });
+        script = r.1.1 (λ v m. elim m [ ]);
+        functions = λ i f e. (let q = r.1.2 i f e in record { signature = q.0; there = q.1; inputs = q.2; outputs = q.3; body = q.4 });
       },
+      r.1.0,
     )
   where
     few : (n : ℕ) → times n (tree_numbers (numbered 1 u)) ≤ 1

@@ -25,8 +25,8 @@ use Rattle.syntax_trees.specs.Places.{Path, Place, place}
 use Rattle.syntax_trees.specs.Scopes.{Typ, one_of, many_of, Signature}
 use Rattle.syntax_trees.proofs.Members.{split_in}
 use Rattle.well_formed.specs.Types as types
-use Rattle.well_formed.specs.Types.{OfBase, OfType, one_scalar, many_scalars, NameHas, ExprHas, literal_has, name_has, operator_has, OperatorHas, AllHave, none_left, one_more, FormHas, computes, copies, lists, reads, ActionHas, of_assign, of_fill, of_insert, of_range, of_each, FactHas, HasTypes}
-use Rattle.well_formed.proofs.Typed.{StmtHas, stmt_has, cell_has, Stands, live_stands}
+use Rattle.well_formed.specs.Types.{OfBase, OfType, one_scalar, many_scalars, NameHas, ExprHas, literal_has, name_has, operator_has, OperatorHas, AllHave, none_left, one_more, FormHas, computes, copies, lists, reads, ActionHas, of_assign, of_fill, of_insert, of_range, of_each, FactHas, HasTypes, TypedAt}
+use Rattle.well_formed.proofs.Typed.{StmtHas, stmt_has, cell_has, live_stands}
 
 -- VALUES OF A TYPE
 
@@ -107,7 +107,7 @@ module _ (fs : List Signature) (type_of : ℕ → Typ) (s : Core) (has : HasType
 
     -- what a loop's variable is in a turn
     turn_has : {path : Path} {c : Block} {x : ℕ} {header : Action} {vs : List Value} {k : Key} {v : Scalar}
-        → (q : Stands fs type_of s has path c) → InTurn header vs k x v → ActionHas fs type_of q.signature q.depth header → Ready s K path header vs → OfType (One v) (type_of x)
+        → (q : TypedAt fs type_of s path c) → InTurn header vs k x v → ActionHas fs type_of q.signature q.depth header → Ready s K path header vs → OfType (One v) (type_of x)
     turn_has {v = v} q (range_value e w) (of_range cs h t d) r = subst (OfType (One v)) (sym h) (subst (λ (z : Scalar). OfType (One z) (one_of Int)) (sym w) (one_scalar types.a_number))
     turn_has {v = v} q (range_turn {t = y} {k = k} w) (of_range cs h t d) r = subst (OfType (One v)) (sym (t y refl)) (subst (λ (z : Scalar). OfType (One z) (one_of Int)) (sym w) (key_number k))
     turn_has {path} {v = v} q (each_value {k = k} m) (of_each {a = a} {β = β} g h t d) (source_closed cl el) =
@@ -121,7 +121,7 @@ module _ (fs : List Signature) (type_of : ℕ → Typ) (s : Core) (has : HasType
 
     -- EXPRESSIONS
 
-    module _ {path : Path} {c : Block} (q : Stands fs type_of s has path c) where
+    module _ {path : Path} {c : Block} (q : TypedAt fs type_of s path c) where
       abbrev Has : Expr → Base → Type 0
       Has e b = ExprHas fs type_of q.signature q.depth e b
 
@@ -193,7 +193,7 @@ module _ (fs : List Signature) (type_of : ℕ → Typ) (s : Core) (has : HasType
         let h = stmt_has fs type_of b q.typed i in
         assigned_has q x c v h (comes_has q (h.outer c first).cell k)
       where
-        assigned_has : {b : Block} (q : Stands fs type_of s has path b) (x : Name) (c : Outer) (v : Value) → StmtHas fs type_of q.signature q.depth (assign x c) → OfType v (type_of c.cell.node) → OfType v (type_of (place s path x).1)
+        assigned_has : {b : Block} (q : TypedAt fs type_of s path b) (x : Name) (c : Outer) (v : Value) → StmtHas fs type_of q.signature q.depth (assign x c) → OfType v (type_of c.cell.node) → OfType v (type_of (place s path x).1)
         assigned_has q x c v h g = by h.action
           where
             by : ActionHas fs type_of q.signature q.depth (assign x c) → OfType v (type_of (place s path x).1)
@@ -203,7 +203,7 @@ module _ (fs : List Signature) (type_of : ℕ → Typ) (s : Core) (has : HasType
         let h = stmt_has fs type_of b q.typed i in
         filled_has q a c es h (comes_has q (h.outer c first).cell o) k v m
       where
-        filled_has : {b : Block} (q : Stands fs type_of s has path b) (a : Name) (c : Outer) (es : List Element) → StmtHas fs type_of q.signature q.depth (fill a c) → OfType (Many es) (type_of c.cell.node) → (k : Key) (v : Scalar) → entry k v ∈ es
+        filled_has : {b : Block} (q : TypedAt fs type_of s path b) (a : Name) (c : Outer) (es : List Element) → StmtHas fs type_of q.signature q.depth (fill a c) → OfType (Many es) (type_of c.cell.node) → (k : Key) (v : Scalar) → entry k v ∈ es
             → OfBase v (type_of (place s path a).1).base
         filled_has q a c es h g k v m = by h.action
           where
@@ -217,7 +217,7 @@ module _ (fs : List Signature) (type_of : ℕ → Typ) (s : Core) (has : HasType
         let h = stmt_has fs type_of b q.typed j in
         inserted_has q a i c v h (comes_has q (h.outer c (later first)).cell o)
       where
-        inserted_has : {b : Block} (q : Stands fs type_of s has path b) (a : Name) (i c : Outer) (v : Scalar) → StmtHas fs type_of q.signature q.depth (insert a i c) → OfType (One v) (type_of c.cell.node)
+        inserted_has : {b : Block} (q : TypedAt fs type_of s path b) (a : Name) (i c : Outer) (v : Scalar) → StmtHas fs type_of q.signature q.depth (insert a i c) → OfType (One v) (type_of c.cell.node)
             → OfBase v (type_of (place s path a).1).base
         inserted_has q a i c v h g = by h.action
           where

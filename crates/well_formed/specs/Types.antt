@@ -1,5 +1,5 @@
 -- Types in a core: each node has one, and every name, cell, call and statement agrees with those of the nodes and of the functions. States docs/LANGUAGE.md: Types.
-use Rattle.std.specs.Prelude.{◌≡◌, ℕ, suc, ℤ, Bool, List, [], ◌∷◌, length, Option, Some, slice_get}
+use Rattle.std.specs.Prelude.{◌≡◌, ℕ, suc, ℤ, Bool, List, [], ◌∷◌, ◌++◌, length, Option, Some, slice_get}
 use Rattle.values.specs.declared.map.Element.{Element}
 use Rattle.values.specs.declared.op.Factor.{Factor}
 use Rattle.values.specs.declared.op.Order.{Order}
@@ -14,9 +14,15 @@ use Rattle.syntax_trees.specs.declared.tree.Base.{Base}
 use Rattle.syntax_trees.specs.declared.tree.Base.TheVariants.{Int, Text, Boolean}
 use Rattle.syntax_trees.specs.Core.{Owned, local, input, output, Name, Expr, literal, name, whole, operator, Exprs, none, also, Form, compute, read, Cell, Call, Part, inner, calls, Outer, Awaited, scalar, array, stmt, Action, declare, call_alone, assign, fill, insert, print, assert, when, choose, range, each, wait, Block, no_stmts, stmts, Function, Core}
 use Rattle.syntax_trees.specs.Facts.{Fact, value, element, line, fault}
+use Rattle.syntax_trees.specs.Meaning.{Live, Meaning}
 use Rattle.syntax_trees.specs.Members.{◌∈◌}
 use Rattle.syntax_trees.specs.Parts.{outers, outer_cells}
-use Rattle.syntax_trees.specs.Scopes.{Typ, one_of, many_of, Signature}
+use Rattle.syntax_trees.specs.Places.{Path, place}
+use Rattle.syntax_trees.specs.Resolved.{core}
+use Rattle.syntax_trees.specs.Scopes.{Typ, one_of, many_of, declared_type, Signature, signatures}
+use Rattle.syntax_trees.specs.Table.{Table}
+use Rattle.syntax_trees.specs.Tree as T
+use Rattle.syntax_trees.specs.Tree.{Declaration, Statement, statement, Command, Body, body, Statements, no_statements, and_statement, Tree, import, function, single}
 
 -- a scalar of a type
 pub data OfBase : Scalar → Base → Type 0 where
@@ -163,3 +169,55 @@ FactHas type_of (fault f at p) = Unit {0}
 pub record HasTypes (fs : List Signature) (type_of : ℕ → Typ) (s : Core) : Type 0 where
   pub script : BlockHas fs type_of no_signature 0 s.body
   pub functions : (i : ℕ) (f : Function) → slice_get s.functions i ≡ Some f → FunctionHas fs type_of i f
+
+-- a block at a path agrees, and each of its names stands for a place whose node has the name's type
+pub record TypedAt (fs : List Signature) (type_of : ℕ → Typ) (s : Core) (path : Path) (b : Block) : Type 0 where
+  pub signature : Signature
+  pub depth : ℕ
+  pub typed : BlockHas fs type_of signature depth b
+  pub names : (x : Name) (τ : Typ) → NameHas fs type_of signature depth x τ → type_of (place s path x).1 ≡ τ
+
+-- VARIABLES THAT A TREE DECLARES
+
+abbrev mutual
+  pub statement_declarations : Statement → List Declaration
+  statement_declarations (statement nd c) = command_declarations c
+
+  pub command_declarations : Command → List Declaration
+  command_declarations (T.declare d r) = d ∷ []
+  command_declarations (T.choice e b) = body_declarations b
+  command_declarations (T.choice_else e b d) = body_declarations b ++ body_declarations d
+  command_declarations (T.loop v k o b) = body_declarations b
+  command_declarations (T.waits ws b) = body_declarations b
+  command_declarations (T.assign w r) = []
+  command_declarations (T.write w i e) = []
+  command_declarations (T.assign_all ws c) = []
+  command_declarations (T.calls p c) = []
+
+  pub body_declarations : Body → List Declaration
+  body_declarations (body from ss) = statements_declarations ss
+
+  pub statements_declarations : Statements → List Declaration
+  statements_declarations no_statements = []
+  statements_declarations (and_statement s ss) = statement_declarations s ++ statements_declarations ss
+
+-- by statements, in the script's block and in the functions' bodies
+abbrev pub tree_declarations : Tree → List Declaration
+tree_declarations [] = []
+tree_declarations (import sp ∷ ps) = tree_declarations ps
+tree_declarations (function f ∷ ps) = body_declarations f.body ++ tree_declarations ps
+tree_declarations (single s ∷ ps) = statement_declarations s ++ tree_declarations ps
+
+-- each has the type that it is declared with
+abbrev pub DeclaredAs : (ℕ → Typ) → List Declaration → Type 0
+DeclaredAs type_of ds = (d : Declaration) → d ∈ ds → type_of d.name.number ≡ declared_type d
+
+-- OF A SCRIPT
+
+-- types of a script's core, and that what is ever known and live agrees with them
+pub record Types (t : Table) (tree : Tree) : Type 0 where
+  pub type_of : ℕ → Typ
+  pub has : HasTypes (signatures tree) type_of (core t tree)
+  pub declared : DeclaredAs type_of (tree_declarations tree)
+  pub facts : (f : Fact) → Meaning (core t tree) f → FactHas type_of f
+  pub live : (path : Path) (b : Block) → Live (core t tree) (Meaning (core t tree)) path b → TypedAt (signatures tree) type_of (core t tree) path b

@@ -6,15 +6,13 @@ pub mod laws;
 ghost use Rattle.meaning_laws.specs.TypedValues.{TypedValues};
 ghost use Rattle.well_formed.specs.Always.{FormedAlways};
 ghost use Rattle.well_formed.specs.Assigning.{tree, names};
-ghost use Rattle.well_formed.specs.Types.{FactHas, HasTypes};
+ghost use Rattle.well_formed.specs.Types.{Types};
 ghost use Rattle.meaning_laws.specs.Scoped.{Scoped};
 ghost use Rattle.std.specs.Prelude.{◌≡◌, ℕ, List};
-ghost use Rattle.syntax_trees.specs.Facts.{Fact};
 ghost use Rattle.syntax_trees.specs.Meaning.{Known, Meaning};
 ghost use Rattle.syntax_trees.specs.Numbered.{numbered};
 ghost use Rattle.syntax_trees.specs.Reads.{Reads};
 ghost use Rattle.syntax_trees.specs.Resolved.{core};
-ghost use Rattle.syntax_trees.specs.Scopes.{Typ, signatures};
 ghost use Rattle.syntax_trees.specs.Single.{SinglyAssigned};
 ghost use Rattle.syntax_trees.specs.Table.{Table};
 ghost use Rattle.syntax_trees.specs.Tree.{Tree};
@@ -39,10 +37,10 @@ pub fn assigning_what_is_given()
 
 /// The core of a text that reads as a tree and is well typed has types: one for each node, with which every name, cell, call and statement
 /// agrees, and the signatures of its functions. So a name that stands for a scalar is nowhere used as an array, and what a call hands over is
-/// what the called function takes. Whatever is ever known of a node has the node's type.
+/// what the called function takes. What is declared has its declared type, whatever is ever known of a node has the node's type, and in each
+/// block that is ever live a name stands for a node of the name's type.
 pub fn accepted_types()
-    ensures { (bytes : List ℕ) (t : Table) (tree : Tree) → Reads bytes tree → WellTyped tree t
-        → (type_of : ℕ → Typ) × HasTypes (signatures tree) type_of (core t tree) × ((f : Fact) → Meaning (core t tree) f → FactHas type_of f) }
+    ensures { (bytes : List ℕ) (t : Table) (tree : Tree) → Reads bytes tree → WellTyped tree t → Types t tree }
 {}
 
 /// No value of a wrong type ever comes, singly assigned or not: conditions are truths, bounds and indices are numbers, `printf` gives a text,
