@@ -23,6 +23,9 @@ pub mod ArrayWriters
 pub mod ArrayScripts
 pub mod Printed
 pub mod HeaderScripts
+pub mod CopyScript
+pub mod SelfSized
+pub mod ArrayLoop
 pub mod DeepPaths
 pub mod Scripts
 pub mod Flat

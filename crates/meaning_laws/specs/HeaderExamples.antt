@@ -53,14 +53,17 @@ closed_loop = script_of (
     ∷ stmt 15 5 (when (plain 6 (constant (Truth false))) untaken_branch)
     ∷ [])
 
+-- the body of the loop below
+abbrev pub copying_body : Block
+copying_body = block_of (stmt 47 12 (insert (record { up = 1; what = local 7 }) (plain 14 (variable 10)) (plain 16 (variable 9))) ∷ [])
+
 -- int A[] = [7, 9]; int B[]; foreach v, i in A { B[i] = v; } printf("%i %i", size(B), B[1]);
 abbrev pub loop_over_array : Core
 loop_over_array = script_of (
     stmt 0 1 (declare 2)
     ∷ stmt 0 1 (fill (here 2) (plain 3 (operator literal (two (num 7) (num 9)))))
     ∷ stmt 18 6 (declare 7)
-    ∷ stmt 27 8 (each (here 2) 9 (Some 10) (block_of (
-    stmt 47 12 (insert (record { up = 1; what = local 7 }) (plain 14 (variable 10)) (plain 16 (variable 9))) ∷ [])))
+    ∷ stmt 27 8 (each (here 2) 9 (Some 10) copying_body)
     ∷ stmt 59 18 (print (pos 0) (record {
       parts = inner (record { node = 28; form = compute (num 1) }) ∷ inner (record { node = 26; form = read (here 7) 28 }) ∷ [];
       cell = record { node = 19; form = compute (operator (printf (Piece.Number ∷ Piece.Byte 32 ∷ Piece.Number ∷ [])) (two (size_of 7) (variable 26))) };

@@ -19,3 +19,13 @@ pub fn a_literal_is_an_array()
 pub fn a_wait_opens_when_its_array_is_closed()
     ensures { Lines (Meaning wait_for_array) (codes "1" ∷ []) }
 {}
+
+/// `int A[] = [4, 5]; int B[] = A; int C[]; C = B; printf("%i %i", size(C), C[1]);` prints 2 5 and nothing else: an array can be given whole.
+pub fn a_whole_array_is_copied()
+    ensures { Lines (Meaning whole_copies) (codes "2 5" ∷ []) }
+{}
+
+/// `int A[]; A[0] = size(A);`: the array is closed once the write is done, which waits for it; the statement is blocked.
+pub fn an_array_that_waits_for_itself_is_blocked()
+    ensures { Blocked waits_for_itself (Meaning waits_for_itself) 9 [] }
+{}

@@ -4,10 +4,10 @@ ghost use Rattle.std.specs.Prelude.{◌≡◌, ℕ, [], ◌∷◌, codes, length
 ghost use Rattle.values.specs.declared.fault.OpFault.TheVariants.{BadStep};
 ghost use Rattle.values.specs.declared.value.Scalar.{Scalar};
 ghost use Rattle.meaning_laws.specs.Examples.{calls_without_end};
-ghost use Rattle.meaning_laws.specs.HeaderExamples.{nested_calls, no_step, headers_without_end, closed_loop};
+ghost use Rattle.meaning_laws.specs.HeaderExamples.{nested_calls, no_step, headers_without_end, closed_loop, loop_over_array};
 ghost use Rattle.syntax_trees.specs.Facts.{operation, too_deep};
 ghost use Rattle.syntax_trees.specs.Meaning.{HasValue, Meaning};
-ghost use Rattle.syntax_trees.specs.Outcomes.{Faults};
+ghost use Rattle.syntax_trees.specs.Outcomes.{Faults, Lines};
 ghost use Rattle.syntax_trees.specs.Places.{Path};
 
 /// `foreach i in [5:1:0] { }`: a step of 0 is a fault, though the range would have no value.
@@ -30,4 +30,9 @@ pub fn a_call_at_the_longest_path_is_too_deep()
 /// `int A[] = [7]; if (false) { foreach v in A { } }`: no turn of the loop is live, so `v` has no value at any path.
 pub fn a_loop_that_is_not_live_gives_no_value()
     ensures { (path : Path) (v : Scalar) → HasValue closed_loop (Meaning closed_loop) (path, 8) v → ⊥ }
+{}
+
+/// `int A[] = [7, 9]; int B[]; foreach v, i in A { B[i] = v; } printf("%i %i", size(B), B[1]);` prints 2 9 and nothing else: a loop over a closed array has a turn for each element, with its key and value.
+pub fn a_loop_over_an_array_has_a_turn_for_each_element()
+    ensures { Lines (Meaning loop_over_array) (codes "2 9" ∷ []) }
 {}
