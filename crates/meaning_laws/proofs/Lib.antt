@@ -26,13 +26,13 @@ pub mod HeaderScripts
 pub mod CopyScript
 pub mod SelfSized
 pub mod ArrayLoop
+pub mod FilledInCall
 pub mod DeepPaths
 pub mod Scripts
 pub mod Flat
 pub mod Stuck
 pub mod Missing
 pub mod TestedNames
-pub mod Cores
 pub mod Passing
 pub mod TestedSingle
 pub mod Loop

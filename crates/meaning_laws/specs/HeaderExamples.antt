@@ -2,10 +2,11 @@
 use Rattle.std.specs.Prelude.{ℕ, zero, suc, pos, true, false, List, [], ◌∷◌, Some, None}
 use Rattle.values.specs.declared.format.Piece.{Piece}
 use Rattle.values.specs.declared.key.Key.{Key}
+use Rattle.values.specs.declared.op.Factor.TheVariants as Factor
 use Rattle.values.specs.declared.op.Sign.TheVariants as Sign
 use Rattle.values.specs.declared.value.Scalar.TheVariants.{Truth}
-use Rattle.values.specs.Operators.{sum_of, printf, literal}
-use Rattle.syntax_trees.specs.Core.{local, input, output, here, literal as constant, name, operator, compute, read, inner, calls, stmt, declare, call_alone, fill, insert, print, when, range, each, Block, Core}
+use Rattle.values.specs.Operators.{sum_of, product_of, printf, literal}
+use Rattle.syntax_trees.specs.Core.{Action, local, input, output, here, literal as constant, name, operator, compute, read, inner, calls, stmt, declare, call_alone, fill, insert, print, when, range, each, Block, Core}
 use Rattle.syntax_trees.specs.Places.{Path}
 use Rattle.meaning_laws.specs.ArrayExamples.{size_of}
 use Rattle.meaning_laws.specs.Examples.{plain, num, one, two, variable, print_number, block_of, script_of}
@@ -69,3 +70,27 @@ loop_over_array = script_of (
       cell = record { node = 19; form = compute (operator (printf (Piece.Number ∷ Piece.Byte 32 ∷ Piece.Number ∷ [])) (two (size_of 7) (variable 26))) };
     }))
     ∷ [])
+
+-- the turn of the loop in the function below, the loop, and the function's body
+abbrev pub squaring_turn : Block
+squaring_turn = block_of (stmt 44 12 (insert (record { up = 1; what = output 0 }) (plain 14 (variable 6)) (plain 16 (operator (product_of (Factor.Times ∷ [])) (two (variable 6) (variable 6))))) ∷ [])
+
+abbrev pub squaring_loop : Action
+squaring_loop = range (plain 7 (num 0)) (plain 8 (operator (sum_of (Sign.Minus ∷ [])) (two (name (record { up = 0; what = input 0 })) (num 1)))) None 6 None squaring_turn
+
+abbrev pub squaring_body : Block
+squaring_body = block_of (stmt 21 5 squaring_loop ∷ [])
+
+-- (int B[]) g(int m) { foreach i in [0:m-1] { B[i] = i*i; } } int C[]; C = g(4); printf("%i %i", size(C), C[3]);
+abbrev pub filled_in_a_call : Core
+filled_in_a_call = record {
+  body = block_of (
+      stmt 60 21 (declare 22)
+      ∷ stmt 69 23 (call_alone (pos 0) (inner (record { node = 27; form = compute (num 4) }) ∷ []) (record { at = 73; function = 0; inputs = here 27 ∷ []; outputs = here 22 ∷ [] }))
+      ∷ stmt 79 28 (print (pos 0) (record {
+        parts = inner (record { node = 38; form = compute (num 3) }) ∷ inner (record { node = 36; form = read (here 22) 38 }) ∷ [];
+        cell = record { node = 29; form = compute (operator (printf (Piece.Number ∷ Piece.Byte 32 ∷ Piece.Number ∷ [])) (two (size_of 22) (variable 36))) };
+      }))
+      ∷ []);
+  functions = record { inputs = 1; outputs = 1; body = squaring_body } ∷ [];
+}

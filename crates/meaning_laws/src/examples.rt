@@ -3,6 +3,7 @@
 ghost use Rattle.std.specs.Prelude.{◌≡◌, [], ◌∷◌, codes};
 ghost use Rattle.values.specs.declared.fault.OpFault.TheVariants.{DivideByZero, Overflow};
 ghost use Rattle.meaning_laws.specs.Examples.{read_before_assignment, loop_reads_what_it_writes, key_written_twice, missing_element, circle, fault_beside_unknown, fault_in_index, strict_and, too_large, outputs_are_the_callers, calls_without_end, nested_waits};
+ghost use Rattle.meaning_laws.specs.HeaderExamples.{filled_in_a_call};
 ghost use Rattle.meaning_laws.specs.ExampleTrees.{table_of_read_before_assignment, tree_of_read_before_assignment, table_of_loop_reads_what_it_writes, tree_of_loop_reads_what_it_writes, table_of_key_written_twice, tree_of_key_written_twice, table_of_missing_element, tree_of_missing_element, table_of_circle, tree_of_circle, table_of_fault_beside_unknown, tree_of_fault_beside_unknown, table_of_fault_in_index, tree_of_fault_in_index, table_of_strict_and, tree_of_strict_and, table_of_too_large, tree_of_too_large, table_of_outputs_are_the_callers, tree_of_outputs_are_the_callers, table_of_calls_without_end, tree_of_calls_without_end, table_of_nested_waits, tree_of_nested_waits, table_of_filled_in_a_call, tree_of_filled_in_a_call, table_of_fibonacci, tree_of_fibonacci};
 ghost use Rattle.syntax_trees.specs.Facts.{Fact, operation, no_element, element_twice};
 ghost use Rattle.syntax_trees.specs.Meaning.{Meaning};
@@ -25,6 +26,7 @@ pub fn the_cores_are_those_of_the_trees()
     ensures outputs_are_the_callers { core table_of_outputs_are_the_callers tree_of_outputs_are_the_callers ≡ outputs_are_the_callers }
     ensures calls_without_end { core table_of_calls_without_end tree_of_calls_without_end ≡ calls_without_end }
     ensures nested_waits { core table_of_nested_waits tree_of_nested_waits ≡ nested_waits }
+    ensures filled_in_a_call { core table_of_filled_in_a_call tree_of_filled_in_a_call ≡ filled_in_a_call }
 {}
 
 /// These scripts keep the premises of the laws, one that fills an array in a called function and one that calls itself among them.

@@ -4,7 +4,7 @@ ghost use Rattle.std.specs.Prelude.{◌≡◌, ℕ, [], ◌∷◌, codes, length
 ghost use Rattle.values.specs.declared.fault.OpFault.TheVariants.{BadStep};
 ghost use Rattle.values.specs.declared.value.Scalar.{Scalar};
 ghost use Rattle.meaning_laws.specs.Examples.{calls_without_end};
-ghost use Rattle.meaning_laws.specs.HeaderExamples.{nested_calls, no_step, headers_without_end, closed_loop, loop_over_array};
+ghost use Rattle.meaning_laws.specs.HeaderExamples.{nested_calls, no_step, headers_without_end, closed_loop, loop_over_array, filled_in_a_call};
 ghost use Rattle.syntax_trees.specs.Facts.{operation, too_deep};
 ghost use Rattle.syntax_trees.specs.Meaning.{HasValue, Meaning};
 ghost use Rattle.syntax_trees.specs.Outcomes.{Faults, Lines};
@@ -35,4 +35,9 @@ pub fn a_loop_that_is_not_live_gives_no_value()
 /// `int A[] = [7, 9]; int B[]; foreach v, i in A { B[i] = v; } printf("%i %i", size(B), B[1]);` prints 2 9 and nothing else: a loop over a closed array has a turn for each element, with its key and value.
 pub fn a_loop_over_an_array_has_a_turn_for_each_element()
     ensures { Lines (Meaning loop_over_array) (codes "2 9" ∷ []) }
+{}
+
+/// `(int B[]) g(int m) { foreach i in [0:m-1] { B[i] = i*i; } } int C[]; C = g(4); printf("%i %i", size(C), C[3]);` prints 4 9 and nothing else: the called function writes the caller's array, which is closed once the call is done with it.
+pub fn a_called_function_fills_the_callers_array()
+    ensures { Lines (Meaning filled_in_a_call) (codes "4 9" ∷ []) }
 {}
