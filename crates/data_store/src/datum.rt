@@ -1,0 +1,178 @@
+//! One datum: what it holds, and its two counts.
+ghost use Rattle.std.specs.Prelude.{◌≡◌, ◌+◌, ◌<◌, ◌≤◌, ◌^◌, None, length, IfErr, IfOk, IsOk, OnOk, OnErr, option_copied};
+ghost use Rattle.values.specs.Maps.{found};
+ghost use Rattle.data_store.specs.Arrays.{with_element, with_room};
+ghost use Rattle.data_store.specs.Data.{nothing, IsScalar, IsArray, value_of, array_in, with_value, with_array, with_holds, without_read, without_write, is_spent, RefusesPut, RefusesInsert};
+
+use crate::elements::Elements;
+use crate::refusal::Refusal;
+use std::alloc::{AllocError, Global};
+use values::key::Key;
+use values::map::Map;
+use values::value::Scalar;
+
+/// What a datum is.
+#[derive(Clone, Copy, PartialEq, Eq, Debug, Drop)]
+pub enum Shape {
+    /// A scalar, which is written once.
+    Single,
+    /// An array, of which each element is written once.
+    Keyed,
+}
+
+/// What a datum holds.
+#[derive(Drop)]
+pub enum Content {
+    OfScalar(Option<Scalar>),
+    OfArray(Elements),
+}
+
+/// What a datum holds, how many may still read it, and how many may still write it.
+#[derive(Drop)]
+pub struct Datum {
+    pub content: Content,
+    pub reads: u64,
+    pub writes: u64,
+}
+
+impl Content {
+    /// What a new datum holds.
+    pub fn new(shape: Shape) -> Content
+        ensures { result ≡ nothing shape }
+    {
+        match shape {
+            Shape::Single => Content::OfScalar(None),
+            Shape::Keyed => Content::OfArray(Elements::new()),
+        }
+    }
+
+    pub fn value(&self) -> Option<&Scalar>
+        ensures { option_copied result ≡ value_of self.now }
+    {
+        match self {
+            Content::OfScalar(Some(value)) => Some(value),
+            _ => None,
+        }
+    }
+
+    pub fn element(&self, key: &Key) -> Option<&Scalar>
+        ensures { option_copied result ≡ found key.now (array_in self.now).elements }
+    {
+        match self {
+            Content::OfArray(elements) => elements.get(key),
+            Content::OfScalar(_) => None,
+        }
+    }
+
+    pub fn size(&self) -> usize
+        ensures { result ≡ length (array_in self.now).elements }
+    {
+        match self {
+            Content::OfArray(elements) => elements.len(),
+            Content::OfScalar(_) => 0,
+        }
+    }
+}
+
+impl Datum {
+    pub fn put(&mut self, value: Scalar) -> Result<(), Refusal>
+        requires { IsScalar self.old.content }
+        ensures ok { OnOk result ((value_of self.old.content ≡ None) × (self.new ≡ with_value value self.old)) }
+        ensures refused { IfErr result (λ e. RefusesPut self.old e) }
+        ensures err { OnErr result (self.new ≡ self.old) }
+    {
+        match &self.content {
+            Content::OfScalar(None) => {
+                self.content = Content::OfScalar(Some(value));
+                Ok(())
+            }
+            Content::OfScalar(Some(_)) => Err(Refusal::AlreadySet),
+            Content::OfArray(_) => unreachable!(),
+        }
+    }
+
+    pub fn insert(&mut self, alloc: Global, key: Key, value: Scalar) -> Result<(), Refusal>
+        requires { IsArray self.old.content }
+        ensures ok { OnOk result ((0 < self.old.writes) × (found key (array_in self.old.content).elements ≡ None) × (self.new ≡ with_array (with_element key value) self.old)) }
+        ensures refused { IfErr result (λ e. RefusesInsert key self.old e) }
+        ensures err { OnErr result (self.new ≡ self.old) }
+    {
+        if self.writes == 0 {
+            return Err(Refusal::Closed);
+        }
+        match &mut self.content {
+            Content::OfArray(elements) => {
+                if elements.get(&key).is_some() {
+                    return Err(Refusal::ElementTwice);
+                }
+                match elements.insert(alloc, key, value) {
+                    Ok(()) => Ok(()),
+                    Err(_) => Err(Refusal::Memory),
+                }
+            }
+            Content::OfScalar(_) => unreachable!(),
+        }
+    }
+
+    pub fn reserve(&mut self, alloc: Global, n: usize) -> Result<(), AllocError>
+        requires { IsArray self.old.content }
+        ensures ok { OnOk result (self.new ≡ with_array (with_room n) self.old) }
+        ensures succeeds { n ≤ (array_in self.old.content).room → IsOk result }
+        ensures err { OnErr result (self.new ≡ self.old) }
+    {
+        match &mut self.content {
+            Content::OfArray(elements) => elements.reserve(alloc, n),
+            Content::OfScalar(_) => unreachable!(),
+        }
+    }
+
+    pub fn whole(&mut self, alloc: Global) -> Result<Map, AllocError>
+        requires { IsArray self.old.content }
+        ensures whole { IfOk result (λ map. map ≡ (array_in self.old.content).elements) }
+        ensures same { self.new ≡ self.old }
+    {
+        match &mut self.content {
+            Content::OfArray(elements) => elements.whole(alloc),
+            Content::OfScalar(_) => unreachable!(),
+        }
+    }
+
+    pub fn hold(&mut self, reads: u64, writes: u64)
+        requires reads { self.old.reads + reads < 2 ^ 64 }
+        requires writes { self.old.writes + writes < 2 ^ 64 }
+        ensures { self.new ≡ with_holds reads writes self.old }
+    {
+        self.reads += reads;
+        self.writes += writes;
+    }
+
+    pub fn release(&mut self)
+        requires { 0 < self.old.reads }
+        ensures { self.new ≡ without_read self.old }
+    {
+        self.reads -= 1;
+    }
+
+    pub fn close_writer(&mut self)
+        requires { 0 < self.old.writes }
+        ensures { self.new ≡ without_write self.old }
+    {
+        self.writes -= 1;
+    }
+
+    /// Whether its last hold is one for reading.
+    pub fn has_one_read(&self) -> bool
+        requires { 0 < self.now.reads }
+        ensures { result ≡ is_spent (without_read self.now) }
+    {
+        self.reads == 1 && self.writes == 0
+    }
+
+    /// Whether its last hold is one for writing.
+    pub fn has_one_write(&self) -> bool
+        requires { 0 < self.now.writes }
+        ensures { result ≡ is_spent (without_write self.now) }
+    {
+        self.reads == 0 && self.writes == 1
+    }
+}

@@ -1,0 +1,219 @@
+//! Data under numbers.
+ghost use Rattle.std.specs.Prelude.{◌≡◌, ◌+◌, ◌<◌, ◌≤◌, ◌^◌, ◌==◌, ◌↔◌, None, IsSome, length, IfErr, IfOk, IsOk, IsTrue, OnOk, OnErr, option_copied};
+ghost use Rattle.values.specs.Maps.{found};
+ghost use Rattle.data_store.specs.Arrays as arrays;
+ghost use Rattle.data_store.specs.Arrays.{with_element};
+ghost use Rattle.data_store.specs.Data.{with_value, with_array, with_holds, without_read, without_write, RefusesPut, RefusesInsert};
+ghost use Rattle.data_store.specs.Stores.{empty, live, IsLive, IsScalarAt, IsArrayAt, datum, value_at, array_at, fresh, changed, given_up, with_room, Adds};
+
+pub use crate::datum::Shape;
+use crate::datum::{Content, Datum};
+use crate::refusal::Refusal;
+use slab::Slab;
+use std::alloc::{AllocError, Global};
+use std::marker::Model;
+use values::key::Key;
+use values::map::Map;
+use values::value::Scalar;
+
+/// The number of a datum, given out again only after the datum was freed.
+pub type DatumNo = usize;
+
+/// Data under numbers, each with its two counts. A number without a datum may get one by the next `new_cell`.
+#[derive(Drop)]
+pub struct Store {
+    cells: Slab<Datum>,
+    room: usize,
+    alloc: Global,
+}
+
+impl Model for Store {
+    ghost use Rattle.data_store.specs.Stores.{Store, HasRoom};
+
+    ghost Value = { Store };
+
+    ghost view = { λ s. record { cells = s.cells.slots; room = s.room } };
+
+    ghost invariant = { λ s. HasRoom s.cells.slots s.cells.capacity s.room };
+}
+
+impl Store {
+    pub fn new(alloc: Global) -> Store
+        ensures { result ≡ empty }
+    {
+        Store {
+            cells: Slab::new(alloc),
+            room: 0,
+            alloc,
+        }
+    }
+
+    /// Makes the next `n` calls of `new_cell` succeed, whatever lies between them.
+    pub fn reserve_cells(&mut self, n: usize) -> Result<(), AllocError>
+        ensures ok { OnOk result (self.new ≡ with_room n self.old) }
+        ensures succeeds { n ≤ self.old.room → IsOk result }
+        ensures err { OnErr result (self.new ≡ self.old) }
+    {
+        if self.room < n {
+            self.cells.reserve(n)?;
+            self.room = n;
+        }
+        Ok(())
+    }
+
+    /// A new datum without content, under a number that has none.
+    pub fn new_cell(&mut self, shape: Shape, reads: u64, writes: u64) -> Result<DatumNo, AllocError>
+        requires { 0 < reads + writes }
+        ensures ok { IfOk result (λ d. Adds self.old d (fresh shape reads writes) self.new) }
+        ensures succeeds { 0 < self.old.room → IsOk result }
+        ensures err { OnErr result (self.new ≡ self.old) }
+    {
+        self.cells.reserve(1)?;
+        let content = Content::new(shape);
+        let d = self.cells.insert_reserved(Datum {
+            content,
+            reads,
+            writes,
+        });
+        self.room = self.room.saturating_sub(1);
+        Ok(d)
+    }
+
+    /// Gives a scalar its value.
+    pub fn put(&mut self, d: DatumNo, value: Scalar) -> Result<(), Refusal>
+        requires { IsScalarAt self.old d }
+        ensures ok { OnOk result ((value_at self.old d ≡ None) × (self.new ≡ changed d (with_value value) self.old)) }
+        ensures refused { IfErr result (λ e. RefusesPut (datum self.old d) e) }
+        ensures err { OnErr result (self.new ≡ self.old) }
+    {
+        self.cells[d].put(value)
+    }
+
+    /// Gives an array an element.
+    pub fn insert(&mut self, d: DatumNo, key: Key, value: Scalar) -> Result<(), Refusal>
+        requires { IsArrayAt self.old d }
+        ensures ok { OnOk result ((0 < (datum self.old d).writes) × (found key (array_at self.old d).elements ≡ None) × (self.new ≡ changed d (with_array (with_element key value)) self.old)) }
+        ensures refused { IfErr result (λ e. RefusesInsert key (datum self.old d) e) }
+        ensures err { OnErr result (self.new ≡ self.old) }
+    {
+        let alloc = self.alloc;
+        self.cells[d].insert(alloc, key, value)
+    }
+
+    /// Makes the next `n` calls of `insert` into an array meet no refusal of memory, whatever lies between them.
+    pub fn reserve(&mut self, d: DatumNo, n: usize) -> Result<(), AllocError>
+        requires { IsArrayAt self.old d }
+        ensures ok { OnOk result (self.new ≡ changed d (with_array (arrays.with_room n)) self.old) }
+        ensures succeeds { n ≤ (array_at self.old d).room → IsOk result }
+        ensures err { OnErr result (self.new ≡ self.old) }
+    {
+        let alloc = self.alloc;
+        self.cells[d].reserve(alloc, n)
+    }
+
+    /// The value of a scalar, once there is one.
+    pub fn value(&self, d: DatumNo) -> Option<&Scalar>
+        requires { IsScalarAt self.now d }
+        ensures { option_copied result ≡ value_at self.now d }
+    {
+        self.cells[d].content.value()
+    }
+
+    /// The element of an array under a key, closed or not.
+    pub fn element(&self, d: DatumNo, key: &Key) -> Option<&Scalar>
+        requires { IsArrayAt self.now d }
+        ensures { option_copied result ≡ found key.now (array_at self.now d).elements }
+    {
+        self.cells[d].content.element(key)
+    }
+
+    /// How many elements an array has, closed or not.
+    pub fn size(&self, d: DatumNo) -> usize
+        requires { IsArrayAt self.now d }
+        ensures { result ≡ length (array_at self.now d).elements }
+    {
+        self.cells[d].content.size()
+    }
+
+    /// All elements of an array by rising key. The first call after an insert sorts them and asks for memory for a list
+    /// of them, so a closed array is sorted once; later calls share that list.
+    pub fn whole(&mut self, d: DatumNo) -> Result<Map, AllocError>
+        requires { IsArrayAt self.old d }
+        ensures whole { IfOk result (λ map. map ≡ (array_at self.old d).elements) }
+        ensures same { self.new ≡ self.old }
+    {
+        let alloc = self.alloc;
+        self.cells[d].whole(alloc)
+    }
+
+    /// How many holds for reading are left.
+    pub fn reads(&self, d: DatumNo) -> u64
+        requires { IsLive self.now d }
+        ensures { result ≡ (datum self.now d).reads }
+    {
+        self.cells[d].reads
+    }
+
+    /// How many holds for writing are left.
+    pub fn writes(&self, d: DatumNo) -> u64
+        requires { IsLive self.now d }
+        ensures { result ≡ (datum self.now d).writes }
+    {
+        self.cells[d].writes
+    }
+
+    /// Whether no hold for writing is left. An array then keeps its elements for good.
+    pub fn is_closed(&self, d: DatumNo) -> bool
+        requires { IsLive self.now d }
+        ensures { result ≡ ((datum self.now d).writes == 0) }
+    {
+        self.cells[d].writes == 0
+    }
+
+    /// Gives out more holds on a datum.
+    pub fn hold(&mut self, d: DatumNo, reads: u64, writes: u64)
+        requires live { IsLive self.old d }
+        requires reads { (datum self.old d).reads + reads < 2 ^ 64 }
+        requires writes { (datum self.old d).writes + writes < 2 ^ 64 }
+        ensures { self.new ≡ changed d (with_holds reads writes) self.old }
+    {
+        self.cells[d].hold(reads, writes);
+    }
+
+    /// Takes back a hold for reading, and frees the datum with its last hold.
+    pub fn release(&mut self, d: DatumNo)
+        requires { 0 < (datum self.old d).reads }
+        ensures { self.new ≡ given_up d without_read self.old }
+    {
+        if self.cells[d].has_one_read() {
+            let _freed = self.cells.remove(d);
+        } else {
+            self.cells[d].release();
+        }
+    }
+
+    /// Takes back a hold for writing, which closes an array with its last one, and frees the datum with its last hold.
+    pub fn close_writer(&mut self, d: DatumNo)
+        requires { 0 < (datum self.old d).writes }
+        ensures { self.new ≡ given_up d without_write self.old }
+    {
+        if self.cells[d].has_one_write() {
+            let _freed = self.cells.remove(d);
+        } else {
+            self.cells[d].close_writer();
+        }
+    }
+
+    pub fn is_live(&self, d: DatumNo) -> bool
+        ensures { IsTrue result ↔ IsLive self.now d }
+    {
+        self.cells.contains(d)
+    }
+
+    /// How many data there are.
+    pub fn len(&self) -> usize
+        ensures { result ≡ live self.now }
+    {
+        self.cells.len()
+    }
+}
