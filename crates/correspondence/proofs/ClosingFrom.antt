@@ -1,6 +1,7 @@
 -- What is closed in the script is closed in the code, by the script's answers, where rights are exact; but for the facts of a statement's own entry.
 use Rattle.std.proofs.Common.{◌≡◌, ◌⊎◌, inl, inr, ℕ, zero, suc, ◌<◌, ◌≤◌, ◌+◌, Bool, true, false, List, [], ◌∷◌, ◌++◌, map, length, refl, sym, ap, ◌∙◌, subst, Option, Some, None, arith}
 use Rattle.std.specs.Prelude.{pos, ℤ, slice_get, drop}
+use Rattle.std.specs.List.{flat_map}
 use Rattle.dataflow.specs.System.{In, Opening}
 use Rattle.dataflow.specs.Facts as Fa
 use Rattle.dataflow.specs.Facts.{Live, live_main, live_opened, idle, done}
@@ -39,7 +40,7 @@ use Rattle.correspondence.specs.Closing.{OutputsApart}
 use Rattle.correspondence.specs.Knows.{Knows}
 use Rattle.correspondence.specs.Inclusions.{Facts, ArraysOnce, ClosedFrom}
 use Rattle.correspondence.specs.Chains.{Answers, Chain, at_script, by_header, by_wait, by_call, Waited, one_ready, more_ready}
-use Rattle.agreement.specs.CodeNames.{owned_as, name_as}
+use Rattle.agreement.specs.CodeNames.{owned_as, name_as, each_once, header}
 use Rattle.meaning_laws.specs.Scoped.{IsIn, Scoped}
 use Rattle.agreement.specs.IsCodeOf.{own_expr, own_needs, simple_act, IsEntry, CallAs, PartAs, plain_literal, plain_name, a_cell, a_read, a_call, WaitAs, one_wait, merged, BodyAs, body_as, IsCodeOf}
 use Rattle.meaning_laws.specs.TypedValues.{TypedValues}
@@ -155,6 +156,11 @@ module _ (s : Core) (C : Code) (w : IsCodeOf s C) (K : Knowledge) (wf : WellForm
     pub fact : (c : ℕ) → ReadsAs j p c computed
     pub opens : (c : ℕ) (q : ℕ × List Step) → In q (instances (entry C j).act (entry C j).mark p c computed) → OpenedAs j k p a vs q
 
+  -- all headers of merged waits are ready
+  pub data AllReady (k : ℕ) (path : Path) : Stmt → List Header → Type 0 where
+    last_ready : {at n : ℕ} {ns : List Awaited} {c : Block} {hs : List Header} → Ready s K path (wait ns c) [] → hs ≡ header k at ns ∷ [] → AllReady k path (stmt at n (wait ns c)) hs
+    outer_ready : {at n : ℕ} {ns : List Awaited} {st : Stmt} {gs hs : List Header} → Ready s K path (wait ns (stmts st no_stmts)) [] → hs ≡ header k at ns ∷ gs → AllReady k path st gs → AllReady k path (stmt at n (wait ns (stmts st no_stmts))) hs
+
   -- what is still asked of the facts: an entry has its fact once the script knows what it works out
   pub record FactsFrom : Type 0 where
     pub filled : (p : List Step) (t k : ℕ) (b : Block) → Chain s C w.layout K p t k b → (j : ℕ) → In j (body C t).entries → (at n : ℕ) (x : Name) (o : Outer) (v : Value) → stmt at n (fill x o) ∈ block_list b
@@ -163,7 +169,8 @@ module _ (s : Core) (C : Code) (w : IsCodeOf s C) (K : Knowledge) (wf : WellForm
         → IsEntry (entry C j) at (pos 0) (own_needs w.layout k (insert x i o)) (simple_act w.layout k (own_needs w.layout k (insert x i o)) (insert x i o)) → K (element (place s (script_path p) x) key (script_path p, n) v) → (c : Computed) × ReadsAs j p 0 c
     pub header : (p : List Step) (t k : ℕ) (b : Block) → Chain s C w.layout K p t k b → (j : ℕ) → In j (body C t).entries → (at n : ℕ) (a : Action) (vs : List Value) → stmt at n a ∈ block_list b → OwnAs C w.layout k (stmt at n a) j → Branches a
         → Ready s K (script_path p) a vs → ((key : Key) (c : Block) → Opens a vs key c → length (script_path p) < most_steps) → HeaderFact j k at p a vs
-    pub waited : (p : List Step) (t k : ℕ) (b : Block) → Chain s C w.layout K p t k b → (j : ℕ) → In j (body C t).entries → (st : Stmt) (c : Block) → st ∈ block_list b → OwnAs C w.layout k st j → Waited s C w.layout K (script_path p) st c → ReadsAs j p 0 OpensIt
+    pub waited : (p : List Step) (t k : ℕ) (b : Block) → Chain s C w.layout K p t k b → (j : ℕ) → In j (body C t).entries → (st : Stmt) (hs : List Header) (u : ℕ) → st ∈ block_list b → (entry C j).needs ≡ each_once (flat_map (λ h. h.needs) hs) → (entry C j).act ≡ code.Wait hs u
+        → AllReady k (script_path p) st hs → ReadsAs j p 0 OpensIt
     pub called : (p : List Step) (t k : ℕ) (b : Block) → Chain s C w.layout K p t k b → (j : ℕ) → In j (body C t).entries → (c : Call) (all : List Part) (at : ℕ) (pr : ℤ) → CallAs C w.layout k all at pr c j → length (script_path p) < most_steps → ReadsAs j p 0 OpensIt
 
   module _ (ty : TypedValues s K) (ex : IsExact C) (apart : OutputsApart s) (ff : FactsFrom) (p0 : List Step) (v0 : Variable) (ar : IsArrayAt s C w K wf kn I sc v0) (db : Block) (dbs : db ∈ script_blocks s) (dd : Declares db (local v0.node)) where
@@ -340,16 +347,17 @@ module _ (s : Core) (C : Code) (w : IsCodeOf s C) (K : Knowledge) (wf : WellForm
             (subst (λ (y : ℕ × List Step). In i (body C y.0).entries) e im) (subst (λ (y : ℕ × List Step). IsLive (Item i y.1 0)) e li))
 
     -- the content of waits, innermost of those merged
-    record WaitEnd (what : Owned) (p : List Step) (k u up : ℕ) (st : Stmt) : Type 0 where
+    record WaitEnd (what : Owned) (p : List Step) (k u up : ℕ) (st : Stmt) (hs : List Header) : Type 0 where
       content : Block
       waited : Waited s C w.layout K (script_path p) st content
+      ready : AllReady k (script_path p) st hs
       stands : BodyAs C w.layout k content u
       every : Every p content up what
       each_done : (st' : Stmt) → st' ∈ block_list content → Concl what p st'
 
-    wait_done : {what : Owned} {p : List Step} (st : Stmt) {t k : ℕ} {b : Block} (ch : Chain s C w.layout K p t k b) → st ∈ block_list b → (j : ℕ) → In j (body C t).entries → IsLive (Item j p 0) → OwnAs C w.layout k st j → {hs : List Header} {u : ℕ} → (entry C j).act ≡ code.Wait hs u → (up : ℕ) → WaitEnd what p k u up st → Fin (Item j p 0)
-    wait_done {what} {p} st {t} {k} {b} ch m j there lv ow {hs} {u} aq up z =
-        item_done j 0 p OpensIt lv (ff.waited p t k b ch j there st z.content m ow z.waited) (λ q h i im li. by q (one (subst (λ (a : Act). In q (instances a (entry C j).mark p 0 OpensIt)) aq h)) i im li) (λ lp q h l. absurd (cc (h)))
+    wait_done : {what : Owned} {p : List Step} (st : Stmt) {t k : ℕ} {b : Block} (ch : Chain s C w.layout K p t k b) → st ∈ block_list b → (j : ℕ) → In j (body C t).entries → IsLive (Item j p 0) → {hs : List Header} {u : ℕ} → (entry C j).needs ≡ each_once (flat_map (λ h. h.needs) hs) → (entry C j).act ≡ code.Wait hs u → (up : ℕ) → WaitEnd what p k u up st hs → Fin (Item j p 0)
+    wait_done {what} {p} st {t} {k} {b} ch m j there lv {hs} {u} nq aq up z =
+        item_done j 0 p OpensIt lv (ff.waited p t k b ch j there st hs u m nq aq z.ready) (λ q h i im li. by q (one (subst (λ (a : Act). In q (instances a (entry C j).mark p 0 OpensIt)) aq h)) i im li) (λ lp q h l. absurd (cc (h)))
       where
         one : {A : Type 0} {x y : A} → In x (y ∷ []) → x ≡ y
         one (inl e) = e
@@ -512,25 +520,25 @@ module _ (s : Core) (C : Code) (w : IsCodeOf s C) (K : Knowledge) (wf : WellForm
       finish (content_finished {at = at} {n = n} {ns = ns} {b = c} r f) p e t k b ch m up inv j there lv (inl po) = idle_item j (part_no_right ch j there (stmt at n (wait ns c)) m po (λ c' al. wait_not_alone al.is))
       finish (content_finished r f) p e t k b ch m up inv j there lv (inr (own_simple z en nd)) = absurd z
       finish (content_finished {at = at} {n = n} {ns = ns} {b = c} r f) p e t k b ch m up inv j there lv (inr (own_wait (one_wait ba q) en)) =
-          wait_done (stmt at n (wait ns c)) ch m j there lv (own_wait (one_wait ba q) en) en.act_is up
-          (record { content = c; waited = one_ready (subst (λ (z : Path). Ready s K z (wait ns c) []) (sym e) r); stands = ba; every = in_wait_block (in_script ch) inv m; each_done = λ st' m'. finish (f st' m') p e })
+          wait_done (stmt at n (wait ns c)) ch m j there lv en.needs_is en.act_is up
+          (record { content = c; waited = one_ready (subst (λ (z : Path). Ready s K z (wait ns c) []) (sym e) r); ready = last_ready (subst (λ (z : Path). Ready s K z (wait ns c) []) (sym e) r) q; stands = ba; every = in_wait_block (in_script ch) inv m; each_done = λ st' m'. finish (f st' m') p e })
       finish {what} (content_finished {at = at} {n = n} {ns = ns} r f) p e t k b ch m up inv j there lv (inr (own_wait (merged {st = st'} wa q) en)) =
           elim (wait_end wa (f st' first) p e first (inner_block s (in_script ch) m first) up (in_wait_block (in_script ch) inv m)) [
             | inl z ↦ idle_item j (no_right ch j there (stmt at n (wait ns (stmts st' no_stmts))) m (inr (own_wait (merged wa q) en)) up what inv (λ tg. z (only_target st' tg)))
-            | inr z ↦ wait_done (stmt at n (wait ns (stmts st' no_stmts))) ch m j there lv (own_wait (merged wa q) en) en.act_is up (record { content = z.content; waited = more_ready (subst (λ (y : Path). Ready s K y (wait ns (stmts st' no_stmts)) []) (sym e) r) z.waited; stands = z.stands; every = z.every; each_done = z.each_done })
+            | inr z ↦ wait_done (stmt at n (wait ns (stmts st' no_stmts))) ch m j there lv en.needs_is en.act_is up (record { content = z.content; waited = more_ready (subst (λ (y : Path). Ready s K y (wait ns (stmts st' no_stmts)) []) (sym e) r) z.waited; ready = outer_ready (subst (λ (y : Path). Ready s K y (wait ns (stmts st' no_stmts)) []) (sym e) r) q z.ready; stands = z.stands; every = z.every; each_done = z.each_done })
           ]
 
-      wait_end : {what : Owned} {path : Path} {st : Stmt} {k u : ℕ} {hs : List Header} {b : Block} → WaitAs C w.layout k st hs u → Finished s K what path st → (p : List Step) → script_path p ≡ path → st ∈ block_list b → b ∈ script_blocks s → (up : ℕ) → Every p b up what → (IsTarget what st → ⊥) ⊎ WaitEnd what p k u up st
+      wait_end : {what : Owned} {path : Path} {st : Stmt} {k u : ℕ} {hs : List Header} {b : Block} → WaitAs C w.layout k st hs u → Finished s K what path st → (p : List Step) → script_path p ≡ path → st ∈ block_list b → b ∈ script_blocks s → (up : ℕ) → Every p b up what → (IsTarget what st → ⊥) ⊎ WaitEnd what p k u up st hs
       wait_end wa (no_target h) p e m bs up inv = inl h
       wait_end wa (blocks_finished hb r dp f) p e m bs up inv = absurd (no_branch wa hb)
       wait_end wa (value_known kv) p e m bs up inv = elim wa [ ]
       wait_end wa (write_known kv) p e m bs up inv = elim wa [ ]
       wait_end wa (body_finished dp f) p e m bs up inv = elim wa [ ]
-      wait_end (one_wait {ns = ns} {b = c} ba q) (content_finished r f) p e m bs up inv = inr (record { content = c; waited = one_ready (subst (λ (z : Path). Ready s K z (wait ns c) []) (sym e) r); stands = ba; every = in_wait_block bs inv m; each_done = λ st' m'. finish (f st' m') p e })
+      wait_end (one_wait {ns = ns} {b = c} ba q) (content_finished r f) p e m bs up inv = inr (record { content = c; waited = one_ready (subst (λ (z : Path). Ready s K z (wait ns c) []) (sym e) r); ready = last_ready (subst (λ (z : Path). Ready s K z (wait ns c) []) (sym e) r) q; stands = ba; every = in_wait_block bs inv m; each_done = λ st' m'. finish (f st' m') p e })
       wait_end (merged {ns = ns} {st = st'} wa q) (content_finished r f) p e m bs up inv =
           elim (wait_end wa (f st' first) p e first (inner_block s bs m first) up (in_wait_block bs inv m)) [
             | inl z ↦ inl (λ tg. z (only_target st' tg))
-            | inr z ↦ inr (record { content = z.content; waited = more_ready (subst (λ (y : Path). Ready s K y (wait ns (stmts st' no_stmts)) []) (sym e) r) z.waited; stands = z.stands; every = z.every; each_done = z.each_done })
+            | inr z ↦ inr (record { content = z.content; waited = more_ready (subst (λ (y : Path). Ready s K y (wait ns (stmts st' no_stmts)) []) (sym e) r) z.waited; ready = outer_ready (subst (λ (y : Path). Ready s K y (wait ns (stmts st' no_stmts)) []) (sym e) r) q z.ready; stands = z.stands; every = z.every; each_done = z.each_done })
           ]
 
     -- AT THE DECLARING BLOCK

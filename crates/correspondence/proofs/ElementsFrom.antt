@@ -48,7 +48,7 @@ use Rattle.correspondence.proofs.Backing.{backs, element_known}
 use Rattle.correspondence.proofs.Evaluate.{Got, Ans, AnsAll, in_once, once_in}
 use Rattle.correspondence.proofs.Facts.{Known, known, fact_of, computes_so, has_answers}
 use Rattle.correspondence.proofs.Inputs.{read_real}
-use Rattle.correspondence.proofs.LiveFrom.{Alive, cell_seen, needs_answered, wanted_in}
+use Rattle.correspondence.proofs.LiveFrom.{Alive, Works, cell_seen, needs_answered, wanted_in}
 use Rattle.correspondence.proofs.Means.{chain_scope, means, covering_writes}
 use Rattle.correspondence.proofs.Readings.{IsSame, same_array, name_stands, gives_all, all_in_order, in_element}
 use Rattle.correspondence.proofs.TurnsFrom.{turns_stored}
@@ -87,6 +87,30 @@ module _ (s : Core) (C : Code) (w : IsCodeOf s C) (K : Knowledge) (wf : WellForm
       let e = whole_same q in
       (subst (λ (z : Name). Closed s K (place s path z)) e c, subst (λ (z : Name). Elements K (place s path z) es) e (subst (λ (z : List Element). Elements K (place s path b) z) (many_same h) el))
   whole_inv (of_operator us z) q h = absurd (cc (q))
+
+  module _ {p : List Step} {t k : ℕ} {b : Block} (ch : Chain s C w.layout K p t k b) (j : ℕ) (there : In j (body C t).entries) where
+    -- what a write of one element works out
+    pub put_works : {y : Name} {ix o : Outer} {at at' n : ℕ} {pr : ℤ} {z : ℤ} {x : Scalar} → stmt at' n (insert y ix o) ∈ block_list b
+        → (ms : List Need) → own_needs w.layout k (insert y ix o) ≡ ms → IsEntry (entry C j) at pr ms (code.Put (name_as k true y) (over k ms (seen w.layout ix.cell)) (over k ms (seen w.layout o.cell)))
+        → K (value (script_path p, ix.cell.node) (One (Number z))) → K (value (script_path p, o.cell.node) (One x)) → Works s C w K wf kn I sc ch j there (Inserts ((Key.Number z, x) ∷ []))
+    put_works {y} {ix} {o} {z = num} {x = x} m ms mq en ki ko =
+        let vi = cell_seen s C w K wf kn I sc ch j there ix.cell m (index_in ix o) ki in
+        let vo = cell_seen s C w K wf kn I sc ch j there o.cell m (right_in ix o) ko in
+        let es = seen w.layout ix.cell ∷ seen w.layout o.cell ∷ [] in
+        let nq : (entry C j).needs ≡ each_once (flat_map (wanted k) es) = en.needs_is ∙ sym mq in
+        let among : (e : Expr) → e ∈ es → (n : Need) → In n (wanted k e) → In n (each_once (flat_map (wanted k) es)) = wanted_in s C w K wf kn I sc ch j there es in
+        let sub : (e : Expr) → e ∈ es → (n : Need) → In n (wanted k e) → In n (entry C j).needs = λ e i n h. subst (λ (l : List Need). In n l) (sym nq) (among e i n h) in
+        let into : (e : Expr) → e ∈ es → (n : Need) → In n (wanted k e) → In n ms = λ e i n h. subst (λ (l : List Need). In n l) mq (among e i n h) in
+        let kz = known s C w K wf kn I sc ch j there (needs_answered s C w K wf kn I sc ch j there es nq (λ e i. elim (split_in i) [
+          | inl q ↦ (λ n h. has_answers s C w K wf kn I sc ch j there vi.0 vi.1 (sub _ first) n (subst (λ (u : Expr). In n (wanted k u)) q h))
+          | inr i ↦ elim (split_in i) [
+            | inl q ↦ (λ n h. has_answers s C w K wf kn I sc ch j there vo.0 vo.1 (sub _ (later first)) n (subst (λ (u : Expr). In n (wanted k u)) q h))
+            | inr i ↦ elim i [ ]
+          ]
+        ])) in
+        let ei = computes_so s C w K wf kn I sc ch j there kz vi.0 vi.1 ms en.needs_is (into _ first) in
+        let eo = computes_so s C w K wf kn I sc ch j there kz vo.0 vo.1 ms en.needs_is (into _ (later first)) in
+        record { answers = kz; computed = ap (λ (act : Act). Compute.compute act (answered C p (entry C j).needs kz.answers)) en.act_is ∙ (λ i. put (ei i) (eo i)) }
 
   module _ {p : List Step} {t k : ℕ} {b : Block} (ch : Chain s C w.layout K p t k b) (alive : (j : ℕ) → In j (body C t).entries → Alive s C w K wf kn I sc (Item j p 0)) (j : ℕ) (there : In j (body C t).entries) where
     abbrev Ys : Known s C w K wf kn I sc ch j there → List Got
@@ -176,25 +200,8 @@ module _ (s : Core) (C : Code) (w : IsCodeOf s C) (K : Knowledge) (wf : WellForm
         → K (value (script_path p, ix.cell.node) (One (Number z))) → K (value (script_path p, o.cell.node) (One x))
         → (q : List Step) (v : Variable) → v.array ≡ true → place s (script_path p) y ≡ script_place q v → By j p q v (Key.Number z) x
     put_out {y} {ix} {o} {z = num} {x = x} m gy ms mq en ki ko q v va pq =
-        let vi = cell_seen s C w K wf kn I sc ch alive j there ix.cell m (index_in ix o) ki in
-        let vo = cell_seen s C w K wf kn I sc ch alive j there o.cell m (right_in ix o) ko in
-        let es = seen w.layout ix.cell ∷ seen w.layout o.cell ∷ [] in
-        let nq : (entry C j).needs ≡ each_once (flat_map (wanted k) es) = en.needs_is ∙ sym mq in
-        let among : (e : Expr) → e ∈ es → (n : Need) → In n (wanted k e) → In n (each_once (flat_map (wanted k) es)) = wanted_in s C w K wf kn I sc ch alive j there es in
-        let sub : (e : Expr) → e ∈ es → (n : Need) → In n (wanted k e) → In n (entry C j).needs = λ e i n h. subst (λ (l : List Need). In n l) (sym nq) (among e i n h) in
-        let into : (e : Expr) → e ∈ es → (n : Need) → In n (wanted k e) → In n ms = λ e i n h. subst (λ (l : List Need). In n l) mq (among e i n h) in
-        let kz = known s C w K wf kn I sc ch j there (needs_answered s C w K wf kn I sc ch alive j there es nq (λ e i. elim (split_in i) [
-          | inl q ↦ (λ n h. has_answers s C w K wf kn I sc ch j there vi.0 vi.1 (sub _ first) n (subst (λ (u : Expr). In n (wanted k u)) q h))
-          | inr i ↦ elim (split_in i) [
-            | inl q ↦ (λ n h. has_answers s C w K wf kn I sc ch j there vo.0 vo.1 (sub _ (later first)) n (subst (λ (u : Expr). In n (wanted k u)) q h))
-            | inr i ↦ elim i [ ]
-          ]
-        ])) in
-        let ei = computes_so s C w K wf kn I sc ch j there kz vi.0 vi.1 ms en.needs_is (into _ first) in
-        let eo = computes_so s C w K wf kn I sc ch j there kz vo.0 vo.1 ms en.needs_is (into _ (later first)) in
-        let comp : Compute.compute (entry C j).act (answered C p (entry C j).needs kz.answers) ≡ Inserts ((Key.Number num, x) ∷ []) =
-        ap (λ (act : Act). Compute.compute act (answered C p (entry C j).needs kz.answers)) en.act_is ∙ (λ i. put (ei i) (eo i)) in
-        let f = fact_of s C w K wf kn I sc ch j there kz 0 (Inserts ((Key.Number num, x) ∷ [])) comp tt (leaf_deep s C w K wf kn I sc (entry C j).act p _ (ap steps_on en.act_is)) in
+        let z = put_works ch j there m ms mq en ki ko in
+        let f = fact_of s C w K wf kn I sc ch j there z.answers 0 (Inserts ((Key.Number num, x) ∷ [])) z.computed tt (leaf_deep s C w K wf kn I sc (entry C j).act p _ (ap steps_on en.act_is)) in
         insert_out y gy (I.stores j (name_as k true y) (subst (λ (a : Act). In (name_as k true y) (code.targets_of (entry C j).node a)) (sym en.act_is) (inl refl))) ((Key.Number num, x) ∷ []) f
         (stores_as _ _ en.act_is refl) q v (Key.Number num) x va pq (inl refl)
 

@@ -31,3 +31,5 @@ pub mod Carries
 pub mod ClosingTo
 pub mod Exact
 pub mod ClosingFrom
+pub mod OwnFacts
+pub mod Within

@@ -30,7 +30,7 @@ use Rattle.meaning_laws.proofs.Sources.{outer_in}
 use Rattle.task_code.proofs.Opens.{some_same}
 use Rattle.task_code.specs.Code as code
 use Rattle.task_code.specs.Code.{Need, Header, Act, If, Wait, Way, Code, Through, InPlace, Calling, Loop, entry, body, ways, loop_of}
-use Rattle.task_code.specs.Compute.{Computed, Takes, Turns, Opens as OpensIt, Elements, pairs, content, answer_at, in_key_order, ranged, range_turns, turns_or, compute, branched}
+use Rattle.task_code.specs.Compute.{Computed, Takes, Turns, Opens as OpensIt, Elements, elements, pairs, content, answer_at, in_key_order, ranged, range_turns, turns_or, compute, branched}
 use Rattle.task_code.specs.Effects.{Task, Main, Item, block, effect_at, is_too_deep, instances, rest, rest_if, left_at, chunk, is_some_list, step_at}
 use Rattle.task_code.specs.Places.{Step, place_at}
 use Rattle.task_code.proofs.Rights.{loop_instances}
@@ -179,7 +179,7 @@ taken false b d = d
 pub some_bounds : {x y : Bounds} → Some x ≡ Some y → x ≡ y
 some_bounds h = cc
 
-two_numbers : (l h : Value) (r : Bounds) → bounds (l ∷ h ∷ []) ≡ Some r → (l ≡ One (Number r.low)) × (h ≡ One (Number r.high)) × (r.step ≡ pos 1)
+pub two_numbers : (l h : Value) (r : Bounds) → bounds (l ∷ h ∷ []) ≡ Some r → (l ≡ One (Number r.low)) × (h ≡ One (Number r.high)) × (r.step ≡ pos 1)
 two_numbers (One (Number a)) (One (Number b)) r e = let q = some_bounds e in (ap (λ (z : Bounds). One (Number z.low)) q, ap (λ (z : Bounds). One (Number z.high)) q, sym (ap (λ (z : Bounds). z.step) q))
 two_numbers (One (Number a)) (One (Text b)) r e = absurd (cc (e))
 two_numbers (One (Number a)) (One (Truth b)) r e = absurd (cc (e))
@@ -188,7 +188,7 @@ two_numbers (One (Text a)) h r e = absurd (cc (e))
 two_numbers (One (Truth a)) h r e = absurd (cc (e))
 two_numbers (Many a) h r e = absurd (cc (e))
 
-three_numbers : (l h d : Value) (r : Bounds) → bounds (l ∷ h ∷ d ∷ []) ≡ Some r → (l ≡ One (Number r.low)) × (h ≡ One (Number r.high)) × (d ≡ One (Number r.step))
+pub three_numbers : (l h d : Value) (r : Bounds) → bounds (l ∷ h ∷ d ∷ []) ≡ Some r → (l ≡ One (Number r.low)) × (h ≡ One (Number r.high)) × (d ≡ One (Number r.step))
 three_numbers (One (Number a)) (One (Number b)) (One (Number d)) r e = let q = some_bounds e in (ap (λ (z : Bounds). One (Number z.low)) q, ap (λ (z : Bounds). One (Number z.high)) q, ap (λ (z : Bounds). One (Number z.step)) q)
 three_numbers (One (Number a)) (One (Number b)) (One (Text d)) r e = absurd (cc (e))
 three_numbers (One (Number a)) (One (Number b)) (One (Truth d)) r e = absurd (cc (e))
@@ -274,7 +274,7 @@ module _ (s : Core) (C : Code) (w : IsCodeOf s C) (K : Knowledge) (wf : WellForm
     between : Between path b → Where path b
 
   -- HEADERS
-  module _ {p : List Step} {t k : ℕ} {b : Block} (ch : Chained p t k b) (alive : AllAlive p t) (j : ℕ) (there : In j (body C t).entries) where
+  module _ {p : List Step} {t k : ℕ} {b : Block} (ch : Chained p t k b) (j : ℕ) (there : In j (body C t).entries) where
     abbrev ys : Known s C w K wf kn I sc ch j there → List Got
     ys z = answered C p (entry C j).needs z.answers
 
@@ -308,18 +308,27 @@ module _ (s : Core) (C : Code) (w : IsCodeOf s C) (K : Knowledge) (wf : WellForm
       seen_scoped k w.layout o ((sc.statements k b (stmt at n a) (chain_scope s C w.layout K wf.names I sc ch) m).in_cells o cm),
     )
 
+    -- the answers to an item's inputs, and what it works out by them
+    pub record Works (x : Computed) : Type 0 where
+      pub answers : Known s C w K wf kn I sc ch j there
+      pub computed : compute (entry C j).act (answered C p (entry C j).needs answers.answers) ≡ x
+
     -- a condition takes its branch
-    branch_takes : {at n : ℕ} {a : Action} (o : Outer) (d : Bool) {t' : ℕ} {u' : Option ℕ} → stmt at n a ∈ block_list b → o.cell ∈ cells (stmt at n a) → K (value (script_path p, o.cell.node) (One (Truth d)))
-        → IsEntry (entry C j) at (pos 0) (each_once (flat_map (wanted k) (seen w.layout o.cell ∷ []))) (If (over k (each_once (flat_map (wanted k) (seen w.layout o.cell ∷ []))) (seen w.layout o.cell)) t' u')
-        → length (script_path p) < most_steps → Reading (code_system C) (Answers s K) (Item j p 0) (effect_at C j p 0 (Takes d))
-    branch_takes o d m cm kv en dp =
+    pub branch_works : {at n : ℕ} {a : Action} (o : Outer) (d : Bool) {t' : ℕ} {u' : Option ℕ} → stmt at n a ∈ block_list b → o.cell ∈ cells (stmt at n a) → K (value (script_path p, o.cell.node) (One (Truth d)))
+        → IsEntry (entry C j) at (pos 0) (each_once (flat_map (wanted k) (seen w.layout o.cell ∷ []))) (If (over k (each_once (flat_map (wanted k) (seen w.layout o.cell ∷ []))) (seen w.layout o.cell)) t' u') → Works (Takes d)
+    branch_works o d m cm kv en =
         let vu = cell_seen o.cell m cm kv in
         let es = seen w.layout o.cell ∷ [] in
         let z = known s C w K wf kn I sc ch j there (needs_answered es en.needs_is (λ e i. elim (split_in i) [ inl q ↦ (λ n h. has_answers s C w K wf kn I sc ch j there vu.0 vu.1 (λ n h. subst (λ (l : List Need). In n l) (sym en.needs_is) (wanted_in es (seen w.layout o.cell) first n h)) n (subst (λ (x : Expr). In n (wanted k x)) q h)) | inr i ↦ elim i [ ] ])) in
         let ev = computes_so s C w K wf kn I sc ch j there z vu.0 vu.1 (each_once (flat_map (wanted k) es)) en.needs_is (λ n h. wanted_in es (seen w.layout o.cell) first n h) in
-        fact_of s C w K wf kn I sc ch j there z 0 (Takes d) (ap (λ (a : Act). compute a (answered C p (entry C j).needs z.answers)) en.act_is ∙ ap branched ev) tt (not_too_deep _ p _ dp)
+        record { answers = z; computed = ap (λ (a : Act). compute a (answered C p (entry C j).needs z.answers)) en.act_is ∙ ap branched ev }
 
-    condition_value : {a : Action} {o : Cell} {vs : List Value} {v : Value} → Ready s K (script_path p) a vs → outer_cells a ≡ o ∷ [] → vs ≡ v ∷ [] → ((ns : List Awaited) (c : Block) → a ≡ wait ns c → ⊥) → ((x : Name) (y : ℕ) (z : Option ℕ) (c : Block) → a ≡ each x y z c → ⊥) → K (value (script_path p, o.node) v)
+    branch_takes : {at n : ℕ} {a : Action} (o : Outer) (d : Bool) {t' : ℕ} {u' : Option ℕ} → stmt at n a ∈ block_list b → o.cell ∈ cells (stmt at n a) → K (value (script_path p, o.cell.node) (One (Truth d)))
+        → IsEntry (entry C j) at (pos 0) (each_once (flat_map (wanted k) (seen w.layout o.cell ∷ []))) (If (over k (each_once (flat_map (wanted k) (seen w.layout o.cell ∷ []))) (seen w.layout o.cell)) t' u')
+        → length (script_path p) < most_steps → Reading (code_system C) (Answers s K) (Item j p 0) (effect_at C j p 0 (Takes d))
+    branch_takes o d m cm kv en dp = (let z = branch_works o d m cm kv en in fact_of s C w K wf kn I sc ch j there z.answers 0 (Takes d) z.computed tt (not_too_deep _ p _ dp))
+
+    pub condition_value : {a : Action} {o : Cell} {vs : List Value} {v : Value} → Ready s K (script_path p) a vs → outer_cells a ≡ o ∷ [] → vs ≡ v ∷ [] → ((ns : List Awaited) (c : Block) → a ≡ wait ns c → ⊥) → ((x : Name) (y : ℕ) (z : Option ℕ) (c : Block) → a ≡ each x y z c → ⊥) → K (value (script_path p, o.node) v)
     condition_value (cells_known ks d) q r f g = by ks q r
       where
         by : {cs : List Cell} {us : List Value} {o : Cell} {v : Value} → KnownAll K (script_path p) cs us → cs ≡ o ∷ [] → us ≡ v ∷ [] → K (value (script_path p, o.node) v)
@@ -335,9 +344,9 @@ module _ (s : Core) (C : Code) (w : IsCodeOf s C) (K : Knowledge) (wf : WellForm
   when_where ch alive m (simple j z op as' e nd q) sub r dp = absurd z
   when_where {p} {t} {k} ch alive {o = o} m (branch {t = u} j {is = is} as' en mk ba q) sub r dp =
       let there = sub j (subst (λ (z : List ℕ). In j z) (sym q) (in_right j is (j ∷ []) (inl refl))) in
-      let kv = condition_value ch alive j there r refl refl (λ ns c e. absurd (cc (e))) (λ x y z c e. absurd (cc (e))) in
-      let f = branch_takes ch alive j there o true m (outer_in o.parts o.cell) kv en dp in
-      header_where ch alive j there 0 (Takes true) m mk (subst (λ (a : Act). In (Through, u) (ways a)) (sym en.act_is) (inl refl)) ba r then_alone dp (alive j there) f
+      let kv = condition_value ch j there r refl refl (λ ns c e. absurd (cc (e))) (λ x y z c e. absurd (cc (e))) in
+      let f = branch_takes ch j there o true m (outer_in o.parts o.cell) kv en dp in
+      header_where ch j there 0 (Takes true) m mk (subst (λ (a : Act). In (Through, u) (ways a)) (sym en.act_is) (inl refl)) ba r then_alone dp (alive j there) f
       (subst (λ (a : Act). In (u, step_at (entry C j).mark (Key.Number (pos 0)) p) (instances a (entry C j).mark p 0 (Takes true))) (sym en.act_is) (inl refl))
 
   choose_where : {p : List Step} {t k : ℕ} {b : Block} (ch : Chained p t k b) → AllAlive p t → {at n : ℕ} {o : Outer} {d d' : Block} {js : List ℕ} (x : Bool) → stmt at n (choose o d d') ∈ block_list b → StmtAs C w.layout k (stmt at n (choose o d d')) js → ((j : ℕ) → In j js → In j (body C t).entries)
@@ -350,12 +359,12 @@ module _ (s : Core) (C : Code) (w : IsCodeOf s C) (K : Knowledge) (wf : WellForm
       there = sub j (subst (λ (z : List ℕ). In j z) (sym q) (in_right j is (j ∷ []) (inl refl)))
 
       f : Reading (code_system C) (Answers s K) (Item j p 0) (effect_at C j p 0 (Takes x))
-      f = branch_takes ch alive j there o x m (outer_in o.parts o.cell) (condition_value ch alive j there r refl refl (λ ns c e. absurd (cc (e))) (λ x y z c e. absurd (cc (e)))) en dp
+      f = branch_takes ch j there o x m (outer_in o.parts o.cell) (condition_value ch j there r refl refl (λ ns c e. absurd (cc (e))) (λ x y z c e. absurd (cc (e)))) en dp
 
       by : (x : Bool) → Ready s K (script_path p) (choose o d d') (One (Truth x) ∷ []) → Reading (code_system C) (Answers s K) (Item j p 0) (effect_at C j p 0 (Takes x)) → Where ((at, branch_key x) ∷ script_path p) (taken x d d')
-      by true r g = header_where ch alive j there 0 (Takes true) m mk (subst (λ (a : Act). In (Through, u) (ways a)) (sym en.act_is) (inl refl)) ba r then_first dp (alive j there) g
+      by true r g = header_where ch j there 0 (Takes true) m mk (subst (λ (a : Act). In (Through, u) (ways a)) (sym en.act_is) (inl refl)) ba r then_first dp (alive j there) g
           (subst (λ (a : Act). In (u, step_at (entry C j).mark (Key.Number (pos 0)) p) (instances a (entry C j).mark p 0 (Takes true))) (sym en.act_is) (inl refl))
-      by false r g = header_where ch alive j there 0 (Takes false) m mk (subst (λ (a : Act). In (Through, u') (ways a)) (sym en.act_is) (inr (inl refl))) bb r else_second dp (alive j there) g
+      by false r g = header_where ch j there 0 (Takes false) m mk (subst (λ (a : Act). In (Through, u') (ways a)) (sym en.act_is) (inr (inl refl))) bb r else_second dp (alive j there) g
           (subst (λ (a : Act). In (u', step_at (entry C j).mark (Key.Number (pos 1)) p) (instances a (entry C j).mark p 0 (Takes false))) (sym en.act_is) (inl refl))
 
   -- CALLS
@@ -384,7 +393,7 @@ module _ (s : Core) (C : Code) (w : IsCodeOf s C) (K : Knowledge) (wf : WellForm
       opens = subst (λ (a : Act). In (w.layout.body_of c.function, step_at (entry C cf.number).mark (Key.Number (pos 0)) p) (instances a (entry C cf.number).mark p 0 OpensIt)) (sym (cf.as_call).is.act_is) (inl refl)
 
   -- WAITS
-  ready_names : {path : Path} {a : Action} {vs : List Value} → Ready s K path a vs → (ns : List Awaited) (c : Block) → a ≡ wait ns c → (x : Awaited) → x ∈ ns → Come s K path x
+  pub ready_names : {path : Path} {a : Action} {vs : List Value} → Ready s K path a vs → (ns : List Awaited) (c : Block) → a ≡ wait ns c → (x : Awaited) → x ∈ ns → Come s K path x
   ready_names (cells_known ks d) ns c q x i = absurd (no_decision d q)
     where
       no_decision : {a : Action} {vs : List Value} → Decides a vs → a ≡ wait ns c → ⊥
@@ -397,13 +406,13 @@ module _ (s : Core) (C : Code) (w : IsCodeOf s C) (K : Knowledge) (wf : WellForm
       wait_names : {xs ys : List Awaited} {d e : Block} → wait xs d ≡ wait ys e → xs ≡ ys
       wait_names h = cc
 
-  come_answer : {p : List Step} {t k : ℕ} {b : Block} (ch : Chained p t k b) (j : ℕ) → In j (body C t).entries → (x : Awaited) → AwaitedIn k x → In (awaited_need k x) (entry C j).needs → Come s K (script_path p) x → (y : Got) × Ans s C K p (awaited_need k x) y
+  pub come_answer : {p : List Step} {t k : ℕ} {b : Block} (ch : Chained p t k b) (j : ℕ) → In j (body C t).entries → (x : Awaited) → AwaitedIn k x → In (awaited_need k x) (entry C j).needs → Come s K (script_path p) x → (y : Got) × Ans s C K p (awaited_need k x) y
   come_answer ch j there (Co.scalar x) g m (scalar_known {v = v} h) = (Found v, (v, to_code s wf K kn C w.layout (name_stands s wf K kn C w.layout I sc ch j there false x _ g m (inl refl)) v h, refl))
   come_answer ch j there (Co.array x) g m (array_closed h) =
       let e = kn.listed _ h in
       (Content (pairs e.0), gives_all s wf K (same_array s wf K (name_stands s wf K kn C w.layout I sc ch j there true x _ g m (inl refl)) refl) h e.1)
 
-  awaited_of : (k : ℕ) (ns : List Awaited) (n : Need) → In n (map (awaited_need k) ns) → (x : Awaited) × (x ∈ ns) × (n ≡ awaited_need k x)
+  pub awaited_of : (k : ℕ) (ns : List Awaited) (n : Need) → In n (map (awaited_need k) ns) → (x : Awaited) × (x ∈ ns) × (n ≡ awaited_need k x)
   awaited_of k [] n h = absurd h
   awaited_of k (x ∷ ns) n (inl e) = (x, first, e)
   awaited_of k (x ∷ ns) n (inr h) = let r = awaited_of k ns n h in (r.0, later r.1, r.2)
@@ -524,27 +533,27 @@ module _ (s : Core) (C : Code) (w : IsCodeOf s C) (K : Knowledge) (wf : WellForm
   run_where : {p : List Step} {t k : ℕ} {b : Block} (ch : Chained p t k b) → AllAlive p t → {at n x : ℕ} {y : Option ℕ} {d : Block} {a : Action} {vs : List Value} (u : Key × Scalar) → LoopRun p t k at x y d u → stmt at n a ∈ block_list b → Ready s K (script_path p) a vs → Opens a vs u.0 d
       → length (script_path p) < most_steps → Where ((at, u.0) ∷ script_path p) d
   run_where {p} ch alive u run m r o dp =
-      header_where ch alive run.number run.there run.chunk_number (Turns run.turns) m run.mark_is run.way run.stands r o dp run.alive run.fact
+      header_where ch run.number run.there run.chunk_number (Turns run.turns) m run.mark_is run.way run.stands r o dp run.alive run.fact
       (subst (λ (l : List (ℕ × List Step)). In (run.content, step_at (entry C run.number).mark u.0 p) l) (sym (loop_instances C (entry C run.number).act _ (entry C run.number).mark p run.chunk_number (Turns run.turns) run.loops))
       (in_map (λ (z : Key × Scalar). (run.content, step_at (entry C run.number).mark z.0 p)) u (chunk run.chunk_number run.turns) run.in_chunk))
 
-  ready_source : {path : Path} {a : Name} {x : ℕ} {y : Option ℕ} {d : Block} {es : List Element} → Ready s K path (each a x y d) (Many es ∷ []) → Mn.Closed s K (place s path a) × Elements_ K (place s path a) es
+  pub ready_source : {path : Path} {a : Name} {x : ℕ} {y : Option ℕ} {d : Block} {es : List Element} → Ready s K path (each a x y d) (Many es ∷ []) → Mn.Closed s K (place s path a) × Elements_ K (place s path a) es
   ready_source (cells_known ks d) = elim d [ ]
   ready_source (source_closed c el) = (c, el)
 
-  pub each_run : {p : List Step} {t k : ℕ} {b : Block} (ch : Chained p t k b) → AllAlive p t → {at n x : ℕ} {a : Name} {y : Option ℕ} {d : Block} {js : List ℕ} {es : List Element} {key : Key} {v : Scalar} → stmt at n (each a x y d) ∈ block_list b
-      → StmtAs C w.layout k (stmt at n (each a x y d)) js → ((j : ℕ) → In j js → In j (body C t).entries) → Ready s K (script_path p) (each a x y d) (Many es ∷ []) → element_of key v ∈ es → length (script_path p) < most_steps → LoopRun p t k at x y d (key, v)
-  each_run ch alive m (simple j z op as' e nd q) sub r i dp = absurd z
-  each_run {p} {t} {k} {b} ch alive {at} {n} {x} {a} {y} {d} {js} {es} {key} {v} m (array_loop {t = t'} j en mk ba q) sub r i dp = by (answered C p (entry C j).needs z.answers) refl (subst (λ (l : List Need). AnsAll s C K p l (answered C p (entry C j).needs z.answers)) en.needs_is z.says)
-    where
-      there : In j (body C t).entries
-      there = sub j (subst (λ (l : List ℕ). In j l) (sym q) (inl refl))
+  -- what a loop over an array works out: all elements, in their order
+  pub record EachTurns {p : List Step} {t k : ℕ} {b : Block} (ch : Chained p t k b) (j : ℕ) (there : In j (body C t).entries) (es : List Element) : Type 0 where
+    pub answers : Known s C w K wf kn I sc ch j there
+    pub turns : Elements
+    pub computed : compute (entry C j).act (answered C p (entry C j).needs answers.answers) ≡ Turns turns
+    pub all : elements turns ≡ es
 
+  pub each_turns : {p : List Step} {t k : ℕ} {b : Block} (ch : Chained p t k b) (j : ℕ) (there : In j (body C t).entries) {at x t' : ℕ} {a : Name} {y : Option ℕ} {d : Block} {es : List Element}
+      → IsIn k a → IsEntry (entry C j) at (pos 0) (own_needs w.layout k (each a x y d)) (code.Each (record { body = t'; value = x; turn = y })) → Ready s K (script_path p) (each a x y d) (Many es ∷ []) → EachTurns ch j there es
+  each_turns {p} {t} {k} {b} ch j there {at} {x} {t'} {a} {y} {d} {es} g en r = by (answered C p (entry C j).needs z.answers) refl (subst (λ (l : List Need). AnsAll s C K p l (answered C p (entry C j).needs z.answers)) en.needs_is z.says)
+    where
       src : Mn.Closed s K (place s (script_path p) a) × Elements_ K (place s (script_path p) a) es
       src = ready_source r
-
-      g : IsIn k a
-      g = sc.loops k b at n x a y d (chain_scope s C w.layout K wf.names I sc ch) m
 
       need_in : In (code.Closed (name_as k true a)) (entry C j).needs
       need_in = subst (λ (l : List Need). In (code.Closed (name_as k true a)) l) (sym en.needs_is) (inl refl)
@@ -555,72 +564,90 @@ module _ (s : Core) (C : Code) (w : IsCodeOf s C) (K : Knowledge) (wf : WellForm
       z : Known s C w K wf kn I sc ch j there
       z = known s C w K wf kn I sc ch j there (λ n' h. elim (subst (λ (l : List Need). In n' l) en.needs_is h) [ inl e ↦ subst (λ (u : Need). (y : Got) × Ans s C K p u y) (sym e) (Content (pairs es), gives_all s wf K is_same src.0 src.1) | inr u ↦ absurd u ])
 
-      by : (ys : List Got) → answered C p (entry C j).needs z.answers ≡ ys → AnsAll s C K p (code.Closed (name_as k true a) ∷ []) ys → LoopRun p t k at x y d (key, v)
+      by : (ys : List Got) → answered C p (entry C j).needs z.answers ≡ ys → AnsAll s C K p (code.Closed (name_as k true a) ∷ []) ys → EachTurns ch j there es
       by [] e al = absurd al
       by (y' ∷ ys) e al =
           let o = all_in_order s wf K is_same src.0 src.1 al.0 in
           let order : (if in_key_order o.0 then o.0 else []) ≡ o.0 = ap (λ (c : Bool). if c then o.0 else []) o.3 in
           let comp : compute (entry C j).act (answered C p (entry C j).needs z.answers) ≡ Turns o.0 =
           ap (λ (act : Act). compute act (answered C p (entry C j).needs z.answers)) en.act_is ∙ ap (λ (l : List Got). Turns (content (answer_at l 0))) e ∙ ap (λ (u : Got). Turns (content (Some u))) o.1 ∙ ap Turns order in
-          turns_run ch alive j there dp z o.0 comp (ap loop_of en.act_is) mk (subst (λ (act : Act). In (Through, t') (ways act)) (sym en.act_is) (inl refl)) ba (key, v) (in_element o.0 (element_of key v) (subst (λ (l : List Element). element_of key v ∈ l) (sym o.2) i))
+          record { answers = z; turns = o.0; computed = comp; all = o.2 }
 
-  ready_cells : {path : Path} {lo hi : Outer} {st : Option Outer} {x : ℕ} {y : Option ℕ} {d : Block} {vs : List Value} → Ready s K path (range lo hi st x y d) vs → KnownAll K path (outer_cells (range lo hi st x y d)) vs
+  pub each_run : {p : List Step} {t k : ℕ} {b : Block} (ch : Chained p t k b) → AllAlive p t → {at n x : ℕ} {a : Name} {y : Option ℕ} {d : Block} {js : List ℕ} {es : List Element} {key : Key} {v : Scalar} → stmt at n (each a x y d) ∈ block_list b
+      → StmtAs C w.layout k (stmt at n (each a x y d)) js → ((j : ℕ) → In j js → In j (body C t).entries) → Ready s K (script_path p) (each a x y d) (Many es ∷ []) → element_of key v ∈ es → length (script_path p) < most_steps → LoopRun p t k at x y d (key, v)
+  each_run ch alive m (simple j z op as' e nd q) sub r i dp = absurd z
+  each_run {p} {t} {k} {b} ch alive {at} {n} {x} {a} {y} {d} {js} {es} {key} {v} m (array_loop {t = t'} j en mk ba q) sub r i dp =
+      let there = sub j (subst (λ (l : List ℕ). In j l) (sym q) (inl refl)) in
+      let o = each_turns ch j there (sc.loops k b at n x a y d (chain_scope s C w.layout K wf.names I sc ch) m) en r in
+      turns_run ch alive j there dp o.answers o.turns o.computed (ap loop_of en.act_is) mk (subst (λ (act : Act). In (Through, t') (ways act)) (sym en.act_is) (inl refl)) ba (key, v) (in_element o.turns (element_of key v) (subst (λ (l : List Element). element_of key v ∈ l) (sym o.all) i))
+
+  pub ready_cells : {path : Path} {lo hi : Outer} {st : Option Outer} {x : ℕ} {y : Option ℕ} {d : Block} {vs : List Value} → Ready s K path (range lo hi st x y d) vs → KnownAll K path (outer_cells (range lo hi st x y d)) vs
   ready_cells (cells_known ks d) = ks
 
-  known_two : {path : Path} {c d : Cell} {vs : List Value} → KnownAll K path (c ∷ d ∷ []) vs → (u : Value) × (v : Value) × (vs ≡ u ∷ v ∷ []) × K (value (path, c.node) u) × K (value (path, d.node) v)
+  pub known_two : {path : Path} {c d : Cell} {vs : List Value} → KnownAll K path (c ∷ d ∷ []) vs → (u : Value) × (v : Value) × (vs ≡ u ∷ v ∷ []) × K (value (path, c.node) u) × K (value (path, d.node) v)
   known_two (next_cell {v = u} a (next_cell {v = v} b no_cell)) = (u, v, refl, a, b)
 
-  known_three : {path : Path} {c d e : Cell} {vs : List Value} → KnownAll K path (c ∷ d ∷ e ∷ []) vs → (u : Value) × (v : Value) × (x : Value) × (vs ≡ u ∷ v ∷ x ∷ []) × K (value (path, c.node) u) × K (value (path, d.node) v) × K (value (path, e.node) x)
+  pub known_three : {path : Path} {c d e : Cell} {vs : List Value} → KnownAll K path (c ∷ d ∷ e ∷ []) vs → (u : Value) × (v : Value) × (x : Value) × (vs ≡ u ∷ v ∷ x ∷ []) × K (value (path, c.node) u) × K (value (path, d.node) v) × K (value (path, e.node) x)
   known_three (next_cell {v = u} a (next_cell {v = v} b (next_cell {v = x} c no_cell))) = (u, v, x, refl, a, b, c)
 
-  module _ {p : List Step} {t k : ℕ} {b : Block} (ch : Chained p t k b) (alive : AllAlive p t) (j : ℕ) (there : In j (body C t).entries) (dp : length (script_path p) < most_steps)
-      {at n x t' : ℕ} {lo hi : Outer} {st : Option Outer} {y : Option ℕ} {d : Block} {vs : List Value} (m : stmt at n (range lo hi st x y d) ∈ block_list b) (ms : List Need) (mq : own_needs w.layout k (range lo hi st x y d) ≡ ms)
-      (en : IsEntry (entry C j) at (pos 0) ms (code.Range (over k ms (seen w.layout lo.cell)) (over k ms (seen w.layout hi.cell)) (over k ms (step_expr w.layout k st)) (record { body = t'; value = x; turn = y })))
-      (mk : (entry C j).mark ≡ at) (ba : BodyAs C w.layout k d t') (r : Ready s K (script_path p) (range lo hi st x y d) vs) (rr : Bounds) (bq : bounds vs ≡ Some rr) (many i : ℕ) (rc : range_count rr.low rr.high rr.step ≡ Ok many) (below : i < many) where
-    range_run_by : (vl : ValueUnder s K (script_path p) (seen w.layout lo.cell) (Ok (One (Number rr.low))) × AreIn k (seen w.layout lo.cell)) (vh : ValueUnder s K (script_path p) (seen w.layout hi.cell) (Ok (One (Number rr.high))) × AreIn k (seen w.layout hi.cell))
-        (vs' : ValueUnder s K (script_path p) (step_expr w.layout k st) (Ok (One (Number rr.step))) × AreIn k (step_expr w.layout k st)) → LoopRun p t k at x y d (Key.Number (pos i), Number (value_in rr.low rr.step i))
-    range_run_by vl vh vs' =
+  -- the bounds of a range, as they are seen
+  pub record RangeSeen (path : Path) (k : ℕ) (lo hi : Cell) (st : Option Outer) (r : Bounds) : Type 0 where
+    pub low : ValueUnder s K path (seen w.layout lo) (Ok (One (Number r.low)))
+    pub low_in : AreIn k (seen w.layout lo)
+    pub high : ValueUnder s K path (seen w.layout hi) (Ok (One (Number r.high)))
+    pub high_in : AreIn k (seen w.layout hi)
+    pub step : ValueUnder s K path (step_expr w.layout k st) (Ok (One (Number r.step)))
+    pub step_in : AreIn k (step_expr w.layout k st)
+
+  pub range_seen : {p : List Step} {t k : ℕ} {b : Block} (ch : Chained p t k b) (j : ℕ) (there : In j (body C t).entries) {at n x : ℕ} {lo hi : Outer} (st : Option Outer) {y : Option ℕ} {d : Block} {vs : List Value} {rr : Bounds} → stmt at n (range lo hi st x y d) ∈ block_list b
+      → KnownAll K (script_path p) (outer_cells (range lo hi st x y d)) vs → bounds vs ≡ Some rr → RangeSeen (script_path p) k lo.cell hi.cell st rr
+  range_seen {p} ch j there {lo = lo} {hi = hi} None {rr = rr} m ka bq =
+      let kk = known_two ka in
+      let nn = two_numbers kk.0 kk.1 rr (ap bounds (sym kk.2) ∙ bq) in
+      let vl = cell_seen ch j there lo.cell m (cell_among _ (outer_among (lo ∷ hi ∷ []) lo first)) (subst (λ (u : Value). K (value (script_path p, lo.cell.node) u)) nn.0 kk.3) in
+      let vh = cell_seen ch j there hi.cell m (cell_among _ (outer_among (lo ∷ hi ∷ []) hi (later first))) (subst (λ (u : Value). K (value (script_path p, hi.cell.node) u)) nn.1 kk.4) in
+      record { low = vl.0; low_in = vl.1; high = vh.0; high_in = vh.1; step = subst (λ (u : ℤ). ValueUnder s K (script_path p) (Co.literal (Number (pos 1))) (Ok (One (Number u)))) (sym nn.2) Mn.of_literal; step_in = tt }
+  range_seen {p} ch j there {lo = lo} {hi = hi} (Some o) {rr = rr} m ka bq =
+      let kk = known_three ka in
+      let nn = three_numbers kk.0 kk.1 kk.2 rr (ap bounds (sym kk.3) ∙ bq) in
+      let vl = cell_seen ch j there lo.cell m (cell_among _ (outer_among (lo ∷ hi ∷ o ∷ []) lo first)) (subst (λ (u : Value). K (value (script_path p, lo.cell.node) u)) nn.0 kk.4) in
+      let vh = cell_seen ch j there hi.cell m (cell_among _ (outer_among (lo ∷ hi ∷ o ∷ []) hi (later first))) (subst (λ (u : Value). K (value (script_path p, hi.cell.node) u)) nn.1 kk.5) in
+      let vo = cell_seen ch j there o.cell m (cell_among _ (outer_among (lo ∷ hi ∷ o ∷ []) o (later (later first)))) (subst (λ (u : Value). K (value (script_path p, o.cell.node) u)) nn.2 kk.6) in
+      record { low = vl.0; low_in = vl.1; high = vh.0; high_in = vh.1; step = vo.0; step_in = vo.1 }
+
+  -- what a range works out, once its bounds are known
+  module _ {p : List Step} {t k : ℕ} {b : Block} (ch : Chained p t k b) (j : ℕ) (there : In j (body C t).entries) {at x t' : ℕ} (lo hi : Outer) (st : Option Outer) {y : Option ℕ} (d : Block) (ms : List Need) (mq : own_needs w.layout k (range lo hi st x y d) ≡ ms)
+      (en : IsEntry (entry C j) at (pos 0) ms (code.Range (over k ms (seen w.layout lo.cell)) (over k ms (seen w.layout hi.cell)) (over k ms (step_expr w.layout k st)) (record { body = t'; value = x; turn = y }))) where
+    pub range_works : {rr : Bounds} → RangeSeen (script_path p) k lo.cell hi.cell st rr → Works ch j there (turns_or (range_count rr.low rr.high rr.step) rr.low rr.step)
+    range_works {rr} v =
         let es = seen w.layout lo.cell ∷ seen w.layout hi.cell ∷ step_expr w.layout k st ∷ [] in
         let nq : (entry C j).needs ≡ each_once (flat_map (wanted k) es) = en.needs_is ∙ sym mq in
-        let sub : (e : Expr) → e ∈ es → (n : Need) → In n (wanted k e) → In n (entry C j).needs = λ e i n h. subst (λ (l : List Need). In n l) (sym nq) (wanted_in ch alive j there es e i n h) in
-        let z = known s C w K wf kn I sc ch j there (needs_answered ch alive j there es nq (λ e i. elim (split_in i) [
-          | inl q ↦ (λ n h. has_answers s C w K wf kn I sc ch j there vl.0 vl.1 (sub _ first) n (subst (λ (u : Expr). In n (wanted k u)) q h))
+        let sub : (e : Expr) → e ∈ es → (n : Need) → In n (wanted k e) → In n (entry C j).needs = λ e i n h. subst (λ (l : List Need). In n l) (sym nq) (wanted_in ch j there es e i n h) in
+        let z = known s C w K wf kn I sc ch j there (needs_answered ch j there es nq (λ e i. elim (split_in i) [
+          | inl q ↦ (λ n h. has_answers s C w K wf kn I sc ch j there v.low v.low_in (sub _ first) n (subst (λ (u : Expr). In n (wanted k u)) q h))
           | inr i ↦ elim (split_in i) [
-            | inl q ↦ (λ n h. has_answers s C w K wf kn I sc ch j there vh.0 vh.1 (sub _ (later first)) n (subst (λ (u : Expr). In n (wanted k u)) q h))
+            | inl q ↦ (λ n h. has_answers s C w K wf kn I sc ch j there v.high v.high_in (sub _ (later first)) n (subst (λ (u : Expr). In n (wanted k u)) q h))
             | inr i ↦ elim (split_in i) [
-              | inl q ↦ (λ n h. has_answers s C w K wf kn I sc ch j there vs'.0 vs'.1 (sub _ (later (later first))) n (subst (λ (u : Expr). In n (wanted k u)) q h))
+              | inl q ↦ (λ n h. has_answers s C w K wf kn I sc ch j there v.step v.step_in (sub _ (later (later first))) n (subst (λ (u : Expr). In n (wanted k u)) q h))
               | inr i ↦ elim i [ ]
             ]
           ]
         ])) in
-        let into : (e : Expr) → e ∈ es → (n : Need) → In n (wanted k e) → In n ms = λ e i n h. subst (λ (l : List Need). In n l) mq (wanted_in ch alive j there es e i n h) in
-        let el = computes_so s C w K wf kn I sc ch j there z vl.0 vl.1 ms en.needs_is (into _ first) in
-        let eh = computes_so s C w K wf kn I sc ch j there z vh.0 vh.1 ms en.needs_is (into _ (later first)) in
-        let e3 = computes_so s C w K wf kn I sc ch j there z vs'.0 vs'.1 ms en.needs_is (into _ (later (later first))) in
-        let comp : compute (entry C j).act (answered C p (entry C j).needs z.answers) ≡ Turns (range_turns rr.low rr.step 0 many) =
-        ap (λ (act : Act). compute act (answered C p (entry C j).needs z.answers)) en.act_is ∙ (λ i. ranged (el i) (eh i) (e3 i)) ∙ ap (λ (c : Result ℕ OpFault). turns_or c rr.low rr.step) rc in
-        turns_run ch alive j there dp z (range_turns rr.low rr.step 0 many) comp (ap loop_of en.act_is) mk (subst (λ (act : Act). In (Through, t') (ways act)) (sym en.act_is) (inl refl)) ba
-        (Key.Number (pos i), Number (value_in rr.low rr.step i)) (turn_there rr.low rr.step 0 many i (omega arith) (omega arith))
+        let into : (e : Expr) → e ∈ es → (n : Need) → In n (wanted k e) → In n ms = λ e i n h. subst (λ (l : List Need). In n l) mq (wanted_in ch j there es e i n h) in
+        let el = computes_so s C w K wf kn I sc ch j there z v.low v.low_in ms en.needs_is (into _ first) in
+        let eh = computes_so s C w K wf kn I sc ch j there z v.high v.high_in ms en.needs_is (into _ (later first)) in
+        let e3 = computes_so s C w K wf kn I sc ch j there z v.step v.step_in ms en.needs_is (into _ (later (later first))) in
+        record { answers = z; computed = ap (λ (act : Act). compute act (answered C p (entry C j).needs z.answers)) en.act_is ∙ (λ i. ranged (el i) (eh i) (e3 i)) }
 
   pub range_run : {p : List Step} {t k : ℕ} {b : Block} (ch : Chained p t k b) → AllAlive p t → {at n x : ℕ} {lo hi : Outer} (st : Option Outer) {y : Option ℕ} {d : Block} {js : List ℕ} {vs : List Value} {rr : Bounds} {many i : ℕ} → stmt at n (range lo hi st x y d) ∈ block_list b
       → StmtAs C w.layout k (stmt at n (range lo hi st x y d)) js → ((j : ℕ) → In j js → In j (body C t).entries) → Ready s K (script_path p) (range lo hi st x y d) vs → bounds vs ≡ Some rr → range_count rr.low rr.high rr.step ≡ Ok many → i < many → length (script_path p) < most_steps
       → LoopRun p t k at x y d (Key.Number (pos i), Number (value_in rr.low rr.step i))
   range_run ch alive st m (simple j z op as' e nd q) sub r bq rc lt dp = absurd z
-  range_run {p} ch alive {lo = lo} {hi = hi} None {rr = rr} {many = many} {i = i} m (range_loop j {is = is} as' en mk ba q) sub r bq rc lt dp =
+  range_run {p} ch alive {lo = lo} {hi = hi} st {d = d} {rr = rr} {many = many} {i = i} m (range_loop {t = t'} j {is = is} as' en mk ba q) sub r bq rc lt dp =
       let there = sub j (subst (λ (l : List ℕ). In j l) (sym q) (in_right j is (j ∷ []) (inl refl))) in
-      let kk = known_two (ready_cells r) in
-      let nn = two_numbers kk.0 kk.1 rr (ap bounds (sym kk.2) ∙ bq) in
-      let vl = cell_seen ch alive j there lo.cell m (cell_among _ (outer_among (lo ∷ hi ∷ []) lo first)) (subst (λ (u : Value). K (value (script_path p, lo.cell.node) u)) nn.0 kk.3) in
-      let vh = cell_seen ch alive j there hi.cell m (cell_among _ (outer_among (lo ∷ hi ∷ []) hi (later first))) (subst (λ (u : Value). K (value (script_path p, hi.cell.node) u)) nn.1 kk.4) in
-      range_run_by ch alive j there dp m _ refl en mk ba r rr bq many i rc lt vl vh (subst (λ (u : ℤ). ValueUnder s K (script_path p) (Co.literal (Number (pos 1))) (Ok (One (Number u)))) (sym nn.2) Mn.of_literal, tt)
-  range_run {p} ch alive {lo = lo} {hi = hi} (Some o) {rr = rr} {many = many} {i = i} m (range_loop j {is = is} as' en mk ba q) sub r bq rc lt dp =
-      let there = sub j (subst (λ (l : List ℕ). In j l) (sym q) (in_right j is (j ∷ []) (inl refl))) in
-      let kk = known_three (ready_cells r) in
-      let nn = three_numbers kk.0 kk.1 kk.2 rr (ap bounds (sym kk.3) ∙ bq) in
-      let vl = cell_seen ch alive j there lo.cell m (cell_among _ (outer_among (lo ∷ hi ∷ o ∷ []) lo first)) (subst (λ (u : Value). K (value (script_path p, lo.cell.node) u)) nn.0 kk.4) in
-      let vh = cell_seen ch alive j there hi.cell m (cell_among _ (outer_among (lo ∷ hi ∷ o ∷ []) hi (later first))) (subst (λ (u : Value). K (value (script_path p, hi.cell.node) u)) nn.1 kk.5) in
-      let vo = cell_seen ch alive j there o.cell m (cell_among _ (outer_among (lo ∷ hi ∷ o ∷ []) o (later (later first)))) (subst (λ (u : Value). K (value (script_path p, o.cell.node) u)) nn.2 kk.6) in
-      range_run_by ch alive j there dp m _ refl en mk ba r rr bq many i rc lt vl vh vo
+      let z = range_works ch j there lo hi st d _ refl en (range_seen ch j there st m (ready_cells r) bq) in
+      turns_run ch alive j there dp z.answers (range_turns rr.low rr.step 0 many) (z.computed ∙ ap (λ (c : Result ℕ OpFault). turns_or c rr.low rr.step) rc) (ap loop_of en.act_is) mk (subst (λ (act : Act). In (Through, t') (ways act)) (sym en.act_is) (inl refl)) ba
+      (Key.Number (pos i), Number (value_in rr.low rr.step i)) (turn_there rr.low rr.step 0 many i (omega arith) (omega arith))
 
   -- a turn of a loop
   abbrev pub IsLoop : Action → Type 0

@@ -75,7 +75,7 @@ branch_of zero (Ok v) t d mark p s h = by (truth_of v) refl d h
     by false q None h = absurd h
     by false q (Some u) h = record { condition = v; is = refl; taken = inr (q, (u, refl, in_one s _ h)) }
 
-first_one : {X : Type 0} (c : ℕ) (x y : X) → In x (at_first c (y ∷ [])) → x ≡ y
+pub first_one : {X : Type 0} (c : ℕ) (x y : X) → In x (at_first c (y ∷ [])) → x ≡ y
 first_one zero x y h = in_one x y h
 first_one (suc c) x y h = absurd h
 
@@ -100,7 +100,7 @@ record Ranged (rl rh rs : Result Value OpFault) (y : Key × Scalar) : Type 0 whe
   below : place < many
   key_is : y.0 ≡ Key.Number (pos place)
 
-turn_in : (low step : ℤ) (m n : ℕ) (y : Key × Scalar) → In y (range_turns low step m n) → (j : ℕ) × (j < m + n) × (y.0 ≡ Key.Number (pos j))
+pub turn_in : (low step : ℤ) (m n : ℕ) (y : Key × Scalar) → In y (range_turns low step m n) → (j : ℕ) × (j < m + n) × (y.0 ≡ Key.Number (pos j))
 turn_in low step m zero y h = absurd h
 turn_in low step m (suc n) y (inl e) = (m, omega arith, ap (λ (z : Key × Scalar). z.0) e)
 turn_in low step m (suc n) y (inr h) = let r = turn_in low step (suc m) n y h in (r.0, (let z = r.1 in omega arith), r.2)

@@ -2,9 +2,10 @@
 #![tactic(auto)]
 
 ghost use Rattle.correspondence.specs.Backs.{Backs};
+ghost use Rattle.correspondence.specs.Closing.{OutputsApart};
 ghost use Rattle.correspondence.specs.Halves.{Half, HalfIn};
 ghost use Rattle.correspondence.specs.Knows.{Knows};
-ghost use Rattle.correspondence.specs.Inclusions.{Facts, WrittenTo, WrittenFrom, ClosedTo, ClosedFrom, InputsFit, ArraysOnce, LinesTo, LinesFrom};
+ghost use Rattle.correspondence.specs.Inclusions.{Facts, WrittenTo, WrittenFrom, ClosedTo, ClosedFrom, ArraysOnce, LinesTo, LinesFrom};
 ghost use Rattle.agreement.specs.NodesOnce.{NodesOnce};
 ghost use Rattle.meaning_laws.specs.Scoped.{Scoped};
 ghost use Rattle.agreement.specs.IsCodeOf.{IsCodeOf};
@@ -21,6 +22,7 @@ ghost use Rattle.syntax_trees.specs.Single.{SinglyAssigned};
 ghost use Rattle.syntax_trees.specs.WellFormed.{WellFormed};
 ghost use Rattle.task_code.specs.Code.{Code};
 ghost use Rattle.task_code.specs.Effects.{Task};
+ghost use Rattle.task_code.specs.Exact.{IsExact};
 ghost use Rattle.task_code.specs.Machine.{CleanCode};
 ghost use Rattle.task_code.specs.Places.{Place};
 ghost use Rattle.task_code.specs.System.{code_system};
@@ -29,30 +31,28 @@ ghost use Rattle.values.specs.declared.key.Key.{Key};
 ghost use Rattle.values.specs.declared.map.Element.{Element};
 ghost use Rattle.values.specs.declared.value.Scalar.{Scalar};
 
-/// All that the code ever knows is what the script's answers yield, and no key has two writers, once six lemmas hold: what is written
-/// and closed in the code and in the script is the same, inputs are data of their kinds, and one task writes a key.
-pub fn code_within_script()
-    ensures facts { (s : Core) (C : Code) → IsCode C → Knows s (Meaning s)
-        → WrittenTo s C (Meaning s) → WrittenFrom s C (Meaning s) → ClosedTo s C (Meaning s) → ClosedFrom s C (Meaning s) → InputsFit s C (Meaning s) → ArraysOnce s C (Meaning s)
-        → (t : Task) (e : Effect Task Place Key Scalar) → Ever (code_system C) t e → Facts s C (Meaning s) t e }
-    ensures clean { (s : Core) (C : Code) → IsCode C → Knows s (Meaning s)
-        → WrittenTo s C (Meaning s) → WrittenFrom s C (Meaning s) → ClosedTo s C (Meaning s) → ClosedFrom s C (Meaning s) → InputsFit s C (Meaning s) → ArraysOnce s C (Meaning s)
-        → CleanCode C }
-{}
-
 /// For the whole language: what the code writes by the script's answers the script knows, what the script knows the code writes where a
-/// live task may read it, one task writes an array's key, and lines agree, writer for writer. So once what is closed agrees, all that the code ever knows is what the
-/// script's answers yield.
+/// live task may read it, one task writes an array's key, and lines agree, writer for writer.
 pub fn writes_agree()
     ensures to { (s : Core) (C : Code) → IsCodeOf s C → IsCode C → WellFormed s → Knows s (Meaning s) → Scoped s → TypedValues s (Meaning s) → WrittenTo s C (Meaning s) }
     ensures from { (s : Core) (C : Code) → IsCodeOf s C → IsCode C → WellFormed s → Knows s (Meaning s) → Scoped s → TypedValues s (Meaning s) → WrittenFrom s C (Meaning s) }
     ensures once { (s : Core) (C : Code) → IsCodeOf s C → IsCode C → WellFormed s → Knows s (Meaning s) → Scoped s → TypedValues s (Meaning s) → NodesOnce C → ArraysOnce s C (Meaning s) }
-    ensures within { (s : Core) (C : Code) → IsCodeOf s C → IsCode C → WellFormed s → Knows s (Meaning s) → Scoped s → TypedValues s (Meaning s) → NodesOnce C
-        → ClosedTo s C (Meaning s) → ClosedFrom s C (Meaning s) → (t : Task) (e : Effect Task Place Key Scalar) → Ever (code_system C) t e → Facts s C (Meaning s) t e }
-    ensures clean { (s : Core) (C : Code) → IsCodeOf s C → IsCode C → WellFormed s → Knows s (Meaning s) → Scoped s → TypedValues s (Meaning s) → NodesOnce C
-        → ClosedTo s C (Meaning s) → ClosedFrom s C (Meaning s) → CleanCode C }
     ensures prints_to { (s : Core) (C : Code) → IsCodeOf s C → IsCode C → WellFormed s → Knows s (Meaning s) → Scoped s → TypedValues s (Meaning s) → LinesTo s C (Meaning s) }
     ensures prints_from { (s : Core) (C : Code) → IsCodeOf s C → IsCode C → WellFormed s → Knows s (Meaning s) → Scoped s → LinesFrom s C (Meaning s) }
+{}
+
+/// For the whole language: what is closed in the code, by the script's answers, is closed in the script; and where no right is idle, what is
+/// closed in the script is closed in the code, if a live task may read it.
+pub fn closed_agrees()
+    ensures to { (s : Core) (C : Code) → IsCodeOf s C → IsCode C → WellFormed s → Knows s (Meaning s) → Scoped s → TypedValues s (Meaning s) → ClosedTo s C (Meaning s) }
+    ensures from { (s : Core) (C : Code) → IsCodeOf s C → IsCode C → WellFormed s → Knows s (Meaning s) → Scoped s → TypedValues s (Meaning s) → NodesOnce C → IsExact C → OutputsApart s → ClosedFrom s C (Meaning s) }
+{}
+
+/// For the whole language: all that the code ever knows is what the script's answers yield, and no key has two writers.
+pub fn code_within_script()
+    ensures facts { (s : Core) (C : Code) → IsCodeOf s C → IsCode C → WellFormed s → Knows s (Meaning s) → Scoped s → TypedValues s (Meaning s) → NodesOnce C → IsExact C → OutputsApart s
+        → (t : Task) (e : Effect Task Place Key Scalar) → Ever (code_system C) t e → Facts s C (Meaning s) t e }
+    ensures clean { (s : Core) (C : Code) → IsCodeOf s C → IsCode C → WellFormed s → Knows s (Meaning s) → Scoped s → TypedValues s (Meaning s) → NodesOnce C → IsExact C → OutputsApart s → CleanCode C }
 {}
 
 /// Rounds, without the premise that the script writes no key twice: half a round (what is known after n rounds, and the scalars that follow)
@@ -69,9 +69,4 @@ pub fn rounds_agree()
         → ((n : ℕ) (a : ScriptPlaces.Place) → Closed s (Half s n) a → (es : List Element) × Elements (Half s n) a es)
         → ((n : ℕ) → ((a : ScriptPlaces.Place) → OneWriter (Known s n) a) → Backs s (Half s n) → ((m : ℕ) → m < n → HalfIn s C m) → HalfIn s C n)
         → (n : ℕ) → HalfIn s C n }
-{}
-
-/// For the whole language: what is closed in the code, by the script's answers, is closed in the script.
-pub fn closed_agrees()
-    ensures { (s : Core) (C : Code) → IsCodeOf s C → IsCode C → WellFormed s → Knows s (Meaning s) → Scoped s → TypedValues s (Meaning s) → ClosedTo s C (Meaning s) }
 {}

@@ -1,6 +1,10 @@
 use Rattle.syntax_trees.specs.Meaning.{Meaning}
 use Rattle.correspondence.proofs.ClosingTo.{closed_to}
+use Rattle.correspondence.proofs.Within.{script_closed}
 use Rattle.correspondence.proofs.closed_agrees.Goals as goal
 
-pub returns : goal.returns
-returns g = λ s C w I wf kn sc ty. closed_to s C w (Meaning s) wf kn I sc ty
+pub returns-clause-to : goal.returns-clause-to
+returns-clause-to g = λ s C w I wf kn sc ty. closed_to s C w (Meaning s) wf kn I sc ty
+
+pub returns-clause-from : goal.returns-clause-from
+returns-clause-from g = λ s C w I wf kn sc ty once ex apart. script_closed s C w (Meaning s) wf kn I sc ty once ex apart

@@ -1,9 +1,9 @@
 use Rattle.syntax_trees.specs.Meaning.{Meaning}
-use Rattle.correspondence.proofs.Assembled.{code_within_script, code_clean}
+use Rattle.correspondence.proofs.Within.{ever_in, clean_code}
 use Rattle.correspondence.proofs.code_within_script.Goals as goal
 
 pub returns-clause-facts : goal.returns-clause-facts
-returns-clause-facts g = λ s C I kn a b c d e f t x h. code_within_script s C I (Meaning s) kn a b c d e f t x h
+returns-clause-facts g = λ s C w I wf kn sc ty once ex apart t e h. ever_in s C w (Meaning s) wf kn I sc ty once ex apart t e h
 
 pub returns-clause-clean : goal.returns-clause-clean
-returns-clause-clean g = λ s C I kn a b c d e f. code_clean s C I (Meaning s) kn a b c d e f
+returns-clause-clean g = λ s C w I wf kn sc ty once ex apart. clean_code s C w (Meaning s) wf kn I sc ty once ex apart

@@ -1,8 +1,6 @@
 use Rattle.syntax_trees.specs.Meaning.{Meaning}
-use Rattle.correspondence.proofs.Assembled.{code_within_script, code_clean}
 use Rattle.correspondence.proofs.Backing.{backs}
 use Rattle.correspondence.proofs.ElementsFrom.{written_from}
-use Rattle.correspondence.proofs.Inputs.{inputs_fit}
 use Rattle.correspondence.proofs.LinesOf.{lines_to, lines_from}
 use Rattle.correspondence.proofs.WholeTo.{written_to, arrays_once}
 use Rattle.correspondence.proofs.writes_agree.Goals as goal
@@ -16,16 +14,8 @@ returns-clause-from g = λ s C w I wf kn sc ty. written_from s C w (Meaning s) w
 pub returns-clause-once : goal.returns-clause-once
 returns-clause-once g = λ s C w I wf kn sc ty once. arrays_once s C w (Meaning s) wf kn I sc ty once
 
-pub returns-clause-within : goal.returns-clause-within
-returns-clause-within g = λ s C w I wf kn sc ty once a b t e h.
-    code_within_script s C I (Meaning s) kn (written_to s C w (Meaning s) wf kn I sc ty) (written_from s C w (Meaning s) wf kn I sc ty) a b (inputs_fit s C w (Meaning s) wf kn I sc ty) (arrays_once s C w (Meaning s) wf kn I sc ty once) t e h
-
 pub returns-clause-prints_to : goal.returns-clause-prints_to
 returns-clause-prints_to g = λ s C w I wf kn sc ty. lines_to s C w (Meaning s) wf kn I sc ty
 
 pub returns-clause-prints_from : goal.returns-clause-prints_from
 returns-clause-prints_from g = λ s C w I wf kn sc. lines_from s C w (Meaning s) wf (backs s (Meaning s) kn) I sc
-
-pub returns-clause-clean : goal.returns-clause-clean
-returns-clause-clean g = λ s C w I wf kn sc ty once a b.
-    code_clean s C I (Meaning s) kn (written_to s C w (Meaning s) wf kn I sc ty) (written_from s C w (Meaning s) wf kn I sc ty) a b (inputs_fit s C w (Meaning s) wf kn I sc ty) (arrays_once s C w (Meaning s) wf kn I sc ty once)

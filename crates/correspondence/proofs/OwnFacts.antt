@@ -1,0 +1,255 @@
+-- The fact of a statement's own entry, once the script knows what the entry works out.
+use Rattle.std.proofs.Common.{◌≡◌, inl, inr, ℕ, zero, suc, ◌<◌, arith, Bool, true, false, List, [], ◌∷◌, map, length, refl, sym, ap, ◌∙◌, subst, Option, Some, None, Result, Ok}
+use Rattle.std.specs.Prelude.{pos, ℤ, ◌&&◌, nat_le}
+use Rattle.std.specs.List.{flat_map}
+use Rattle.dataflow.specs.System.{In}
+use Rattle.dataflow.proofs.Lists.{in_right, in_split, in_unmap}
+use Rattle.values.specs.declared.fault.OpFault.{OpFault}
+use Rattle.values.specs.declared.key.Key.{Key}
+use Rattle.values.specs.declared.map.Element.{Element}
+use Rattle.values.specs.Maps.{element as element_of}
+use Rattle.values.specs.declared.value.Scalar.{Scalar}
+use Rattle.values.specs.declared.value.Scalar.TheVariants.{Truth}
+use Rattle.values.specs.declared.value.Value.{Value}
+use Rattle.values.specs.declared.value.Value.TheVariants.{One}
+use Rattle.syntax_trees.specs.Core as Co
+use Rattle.syntax_trees.specs.Core.{Name, Expr, Form, Cell, Call, Part, Outer, Awaited, Stmt, stmt, Action, fill, insert, when, choose, range, each, wait, Block, no_stmts, stmts, Core}
+use Rattle.syntax_trees.specs.Facts.{value, element, Knowledge, IsKey, a_number}
+use Rattle.syntax_trees.specs.Meaning.{Gives, ValueUnder, LiveStmt, in_block, Ready, cells_known, source_closed}
+use Rattle.syntax_trees.specs.Members.{◌∈◌, first}
+use Rattle.syntax_trees.specs.Openings.{Branches, one_way, two_ways, in_turns, Opens, then_alone, then_first, else_second, turn, item}
+use Rattle.syntax_trees.specs.Parts.{block_list, cells, script_stmts}
+use Rattle.syntax_trees.specs.Places.{Path, Place, place, most_steps}
+use Rattle.syntax_trees.specs.WellFormed.{WellFormed, IsMany, a_list, a_copy}
+use Rattle.meaning_laws.proofs.Sources.{outer_in, cell_gives, FillElement, InsertElement}
+use Rattle.meaning_laws.proofs.Declared.{stmt_in}
+use Rattle.agreement.proofs.Sources.{gives_value}
+use Rattle.values.specs.Operators.{literal}
+use Rattle.task_code.specs.Code as code
+use Rattle.task_code.specs.Code.{Need, Header, Act, If, Code, entry, body, Way, Through, InPlace, Loop, ways, loop_of}
+use Rattle.task_code.specs.Compute.{Computed, Inserts, eval, filled, content, answer_at, Takes, Turns, Opens as OpensIt, Elements, compute, turns_or, range_turns}
+use Rattle.task_code.specs.Effects.{Item, instances, is_too_deep, steps_on, chunk, effect_at, step_at, at_first}
+use Rattle.task_code.specs.Places.{Step}
+use Rattle.task_code.proofs.Chunks.{in_chunk}
+use Rattle.task_code.proofs.Rights.{loop_instances}
+use Rattle.task_code.specs.System.{answered, code_system}
+use Rattle.task_code.specs.Whole.{IsCode}
+use Rattle.agreement.specs.Headline.{script_path}
+use Rattle.agreement.specs.CodeNames.{awaited_need, each_once, wanted, over}
+use Rattle.agreement.specs.IsCodeOf.{own_form, own_expr, own_needs, fill_act, simple_act, IsSimple, IsEntry, CallAs, BodyAs, IsCodeOf}
+use Rattle.meaning_laws.specs.Scoped.{AreIn, FormIn, InScope, in_wait, Scoped}
+use Rattle.correspondence.specs.Answered.{Reading}
+use Rattle.correspondence.specs.Chains.{Answers, Chain}
+use Rattle.correspondence.specs.Knows.{Knows}
+use Rattle.correspondence.proofs.Backing.{backs, element_known}
+use Rattle.correspondence.proofs.ClosingFrom.{OpenedAs, HeaderFact, AllReady, last_ready, outer_ready, FactsFrom}
+use Rattle.correspondence.proofs.ElementsFrom.{put_works}
+use Rattle.correspondence.proofs.Evaluate.{Got, Ans, once_in, in_once}
+use Rattle.correspondence.proofs.Facts.{Known, known, computes_so, has_answers, fact_of, IsGood, not_too_deep}
+use Rattle.correspondence.proofs.LiveFrom.{Works, branch_works, condition_value, each_turns, range_seen, range_works, ready_names, come_answer, awaited_of}
+use Rattle.correspondence.proofs.LiveTo.{first_one, turn_in}
+use Rattle.correspondence.proofs.Means.{chain_live, chain_scope}
+use Rattle.correspondence.proofs.Readings.{element_in}
+use Rattle.correspondence.proofs.WrittenFrom.{leaf_deep, nothing_behind}
+use Rattle.correspondence.proofs.Roles.{OwnAs, own_simple, own_branch, own_branches, own_range, own_each, own_wait}
+
+-- no path is too long for blocks that are not there
+never_deep : (a : Act) (p : List Step) (ss : List (ℕ × List Step)) → ((q : ℕ × List Step) → In q ss → length (script_path p) < most_steps) → is_too_deep a p ss ≡ false
+never_deep a p [] h = none (nat_le 512 (length p)) (steps_on a)
+  where
+    none : (b d : Bool) → (b && (d && false)) ≡ false
+    none true true = refl
+    none true false = refl
+    none false d = refl
+never_deep a p (q ∷ qs) h = not_too_deep a p (q ∷ qs) (h q (inl refl))
+
+none_first : {X : Type 0} (c : ℕ) (x : X) → In x (at_first c []) → ⊥
+none_first zero x h = h
+none_first (suc c) x h = h
+
+module _ (s : Core) (C : Code) (w : IsCodeOf s C) (K : Knowledge) (wf : WellFormed s) (kn : Knows s K) (I : IsCode C) (sc : Scoped s) where
+  module _ {p : List Step} {t k : ℕ} {b : Block} (ch : Chain s C w.layout K p t k b) (j : ℕ) (there : In j (body C t).entries) where
+    fact_at : {x : Computed} → Works s C w K wf (backs s K kn) I sc ch j there x → IsGood x → (c : ℕ) → ((q : ℕ × List Step) → In q (instances (entry C j).act (entry C j).mark p c x) → length (script_path p) < most_steps)
+        → Reading (code_system C) (Answers s K) (Item j p c) (effect_at C j p c x)
+    fact_at {x} z g c h = fact_of s C w K wf (backs s K kn) I sc ch j there z.answers c x z.computed g (never_deep (entry C j).act p _ h)
+
+    header_fact : {at : ℕ} {a : Action} {vs : List Value} {x : Computed} → Works s C w K wf (backs s K kn) I sc ch j there x → IsGood x → (entry C j).mark ≡ at
+        → ((c : ℕ) (q : ℕ × List Step) → In q (instances (entry C j).act (entry C j).mark p c x) → OpenedAs s C w K wf kn I sc j k p a vs q) → ((key : Key) (c : Block) → Opens a vs key c → length (script_path p) < most_steps) → HeaderFact s C w K wf kn I sc j k at p a vs
+    header_fact {x = x} z g mk o dp = record { computed = x; mark_is = mk; fact = λ c. fact_at z g c (λ q i. (let r = o c q i in dp r.key r.content r.opens)); opens = o }
+
+    -- BRANCHES
+    when_opens : {t' : ℕ} {o : Outer} {d : Block} {e : code.Expr} (x : Bool) → (entry C j).act ≡ If e t' None → BodyAs C w.layout k d t' → (c : ℕ) (q : ℕ × List Step) → In q (instances (entry C j).act (entry C j).mark p c (Takes x)) → OpenedAs s C w K wf kn I sc j k p (when o d) (One (Truth x) ∷ []) q
+    when_opens {t' = t'} {d = d} true aq ba c q h = record {
+      number = t';
+      key = Key.Number (pos 0);
+      content = d;
+      way = subst (λ (a : Act). In (Through, t') (ways a)) (sym aq) (inl refl);
+      stands = ba;
+      opens = then_alone;
+      is = first_one c q (t', step_at (entry C j).mark (Key.Number (pos 0)) p) (subst (λ (a : Act). In q (instances a (entry C j).mark p c (Takes true))) aq h);
+    }
+    when_opens false aq ba c q h = absurd (none_first c q (subst (λ (a : Act). In q (instances a (entry C j).mark p c (Takes false))) aq h))
+
+    choose_opens : {t' u' : ℕ} {o : Outer} {d d' : Block} {e : code.Expr} (x : Bool) → (entry C j).act ≡ If e t' (Some u') → BodyAs C w.layout k d t' → BodyAs C w.layout k d' u' → (c : ℕ) (q : ℕ × List Step) → In q (instances (entry C j).act (entry C j).mark p c (Takes x))
+        → OpenedAs s C w K wf kn I sc j k p (choose o d d') (One (Truth x) ∷ []) q
+    choose_opens {t'} {d = d} true aq ba bb c q h = record {
+      number = t';
+      key = Key.Number (pos 0);
+      content = d;
+      way = subst (λ (a : Act). In (Through, t') (ways a)) (sym aq) (inl refl);
+      stands = ba;
+      opens = then_first;
+      is = first_one c q (t', step_at (entry C j).mark (Key.Number (pos 0)) p) (subst (λ (a : Act). In q (instances a (entry C j).mark p c (Takes true))) aq h);
+    }
+    choose_opens {u' = u'} {d' = d'} false aq ba bb c q h = record {
+      number = u';
+      key = Key.Number (pos 1);
+      content = d';
+      way = subst (λ (a : Act). In (Through, u') (ways a)) (sym aq) (inr (inl refl));
+      stands = bb;
+      opens = else_second;
+      is = first_one c q (u', step_at (entry C j).mark (Key.Number (pos 1)) p) (subst (λ (a : Act). In q (instances a (entry C j).mark p c (Takes false))) aq h);
+    }
+
+    -- TURNS
+    turns_opened : {x t' : ℕ} {y : Option ℕ} {a : Action} {d : Block} {vs : List Value} (ts : Elements) → loop_of (entry C j).act ≡ Some (record { body = t'; value = x; turn = y }) → In (Through, t') (ways (entry C j).act) → BodyAs C w.layout k d t'
+        → ((u : Key × Scalar) → In u ts → Opens a vs u.0 d) → (c : ℕ) (q : ℕ × List Step) → In q (instances (entry C j).act (entry C j).mark p c (Turns ts)) → OpenedAs s C w K wf kn I sc j k p a vs q
+    turns_opened {x} {t'} {y} {d = d} ts lq wy ba f c q h =
+        let r = in_unmap (λ (u : Key × Scalar). (t', step_at (entry C j).mark u.0 p)) q (chunk c ts) (subst (λ (l : List (ℕ × List Step)). In q l) (loop_instances C (entry C j).act (record { body = t'; value = x; turn = y }) (entry C j).mark p c (Turns ts) lq) h) in
+        record { number = t'; key = (r.0).0; content = d; way = wy; stands = ba; opens = f r.0 (in_chunk c ts r.0 r.1); is = sym r.2 }
+
+    headers : (at n : ℕ) (a : Action) (vs : List Value) → stmt at n a ∈ block_list b → OwnAs C w.layout k (stmt at n a) j → Branches a → Ready s K (script_path p) a vs → ((key : Key) (c : Block) → Opens a vs key c → length (script_path p) < most_steps) → HeaderFact s C w K wf kn I sc j k at p a vs
+    headers at n a vs m (own_simple z en nd) br r dp = absurd (no_simple a z br)
+      where
+        no_simple : (a : Action) → IsSimple a → Branches a → ⊥
+        no_simple (Co.assign x o) z h = h
+        no_simple (fill x o) z h = h
+        no_simple (insert x i o) z h = h
+        no_simple (Co.print x o) z h = h
+        no_simple (Co.assert x o) z h = h
+        no_simple (Co.declare v) z h = z
+        no_simple (Co.call_alone x y o) z h = z
+        no_simple (when o d) z h = z
+        no_simple (choose o d e) z h = z
+        no_simple (range o d e f g i) z h = z
+        no_simple (each o d e f) z h = z
+        no_simple (wait o d) z h = z
+    headers at n (when o d) vs m (own_branch en mk ba) br (cells_known ks (one_way {t = x})) dp =
+        let kv = condition_value s C w K wf (backs s K kn) I sc ch j there (cells_known ks (one_way {c = o} {b = d} {t = x})) refl refl (λ ns c e. absurd (cc (e))) (λ x y z c e. absurd (cc (e))) in
+        header_fact (branch_works s C w K wf (backs s K kn) I sc ch j there o x m (outer_in o.parts o.cell) kv en) tt mk (when_opens {o = o} x en.act_is ba) dp
+    headers at n (choose o d d') vs m (own_branches en mk ba bb) br (cells_known ks (two_ways {t = x})) dp =
+        let kv = condition_value s C w K wf (backs s K kn) I sc ch j there (cells_known ks (two_ways {c = o} {b = d} {d = d'} {t = x})) refl refl (λ ns c e. absurd (cc (e))) (λ x y z c e. absurd (cc (e))) in
+        header_fact (branch_works s C w K wf (backs s K kn) I sc ch j there o x m (outer_in o.parts o.cell) kv en) tt mk (choose_opens {o = o} x en.act_is ba bb) dp
+    headers at n (range lo hi st x y d) vs m (own_range {t = t'} en mk ba) br (cells_known ks (in_turns {r = rr} {n = many} bq rc)) dp =
+        let z = range_works s C w K wf (backs s K kn) I sc ch j there lo hi st d _ refl en (range_seen s C w K wf (backs s K kn) I sc ch j there st m ks bq) in
+        header_fact (record { answers = z.answers; computed = z.computed ∙ ap (λ (c : Result ℕ OpFault). turns_or c rr.low rr.step) rc }) tt mk
+        (turns_opened (range_turns rr.low rr.step 0 many) (ap loop_of en.act_is) (subst (λ (act : Act). In (Through, t') (ways act)) (sym en.act_is) (inl refl)) ba
+        (λ u i. (let r = turn_in rr.low rr.step 0 many u i in subst (λ (key : Key). Opens (range lo hi st x y d) vs key d) (sym r.2) (turn bq rc (let z = r.1 in omega arith))))) dp
+    headers at n (each a x y d) vs m (own_each {t = t'} en mk ba) br (source_closed {es = es} c el) dp =
+        let o = each_turns s C w K wf (backs s K kn) I sc ch j there (sc.loops k b at n x a y d (chain_scope s C w.layout K wf.names I sc ch) m) en (source_closed {b = d} c el) in
+        header_fact (record { answers = o.answers; computed = o.computed }) tt mk
+        (turns_opened o.turns (ap loop_of en.act_is) (subst (λ (act : Act). In (Through, t') (ways act)) (sym en.act_is) (inl refl)) ba
+        (λ u i. item (subst (λ (l : List Element). element_of u.0 u.1 ∈ l) o.all (element_in o.turns u.0 u.1 i)))) dp
+    headers at n (each a x y d) vs m (own_each en mk ba) br (cells_known ks z) dp = elim z [ ]
+    headers at n (wait ns d) vs m (own_wait wa en) br r dp = absurd br
+
+    -- A LITERAL AND A COPY
+    fills : (at n : ℕ) (x : Name) (o : Outer) (v : Value) → stmt at n (fill x o) ∈ block_list b → IsEntry (entry C j) at (pos 0) (own_needs w.layout k (fill x o)) (fill_act w.layout k (own_needs w.layout k (fill x o)) x (own_expr o)) → K (value (script_path p, o.cell.node) v)
+        → (c : Computed) × Reading (code_system C) (Answers s K) (Item j p 0) (effect_at C j p 0 c)
+    fills at n x o v m en kv = by_form refl (wf.cells.fill_many at n x o (stmt_in s live))
+      where
+        live : LiveStmt s K (script_path p) (stmt at n (fill x o))
+        live = in_block (chain_live s C w.layout K wf.names I sc ch) m
+
+        cm : o.cell ∈ cells (stmt at n (fill x o))
+        cm = outer_in o.parts o.cell
+
+        gave : Gives s K (script_path p) o.cell.form (Ok v)
+        gave = (cell_gives s wf.cells K (stmt_in s live) cm (kn.backed _ kv)).1
+
+        inside : FormIn k o.cell.form
+        inside = (sc.statements k b (stmt at n (fill x o)) (chain_scope s C w.layout K wf.names I sc ch) m).in_cells o.cell cm
+
+        by_expr : (E : Expr) → own_expr o ≡ E → ValueUnder s K (script_path p) E (Ok v) → AreIn k E → (f : List Got → Computed) → ((ys : List Got) → compute (fill_act w.layout k (own_needs w.layout k (fill x o)) x E) ys ≡ f ys) → ((ys : List Got) → steps_on (fill_act w.layout k (own_needs w.layout k (fill x o)) x E) ≡ false)
+            → ((z : Known s C w K wf (backs s K kn) I sc ch j there) → IsGood (f (answered C p (entry C j).needs z.answers))) → (c : Computed) × Reading (code_system C) (Answers s K) (Item j p 0) (effect_at C j p 0 c)
+        by_expr E eq vu g f fq sf good =
+            let nq : (entry C j).needs ≡ each_once (wanted k E) = en.needs_is ∙ ap each_once (nothing_behind s C w K wf (backs s K kn) I sc (wanted k (own_expr o)) ∙ ap (wanted k) eq) in
+            let act : (entry C j).act ≡ fill_act w.layout k (own_needs w.layout k (fill x o)) x E = en.act_is ∙ ap (fill_act w.layout k (own_needs w.layout k (fill x o)) x) eq in
+            let z = known s C w K wf (backs s K kn) I sc ch j there (λ n h. has_answers s C w K wf (backs s K kn) I sc ch j there vu g (λ n h. subst (λ (l : List Need). In n l) (sym nq) (in_once n _ h)) n (once_in n _ (subst (λ (l : List Need). In n l) nq h))) in
+            let ys = answered C p (entry C j).needs z.answers in
+            (f ys, fact_of s C w K wf (backs s K kn) I sc ch j there z 0 (f ys) (ap (λ (a : Act). compute a ys) act ∙ fq ys) (good z) (leaf_deep s C w K wf (backs s K kn) I sc (entry C j).act p _ (ap steps_on act ∙ sf ys)))
+
+        by_form : {g : Form} → o.cell.form ≡ g → IsMany g → (c : Computed) × Reading (code_system C) (Answers s K) (Item j p 0) (effect_at C j p 0 c)
+        by_form f (a_list {es = exs}) = list (gives_value gave f)
+          where
+            list : ValueUnder s K (script_path p) (Co.operator literal exs) (Ok v) → (c : Computed) × Reading (code_system C) (Answers s K) (Item j p 0) (effect_at C j p 0 c)
+            list vu =
+                let E = Co.operator literal exs in
+                let eq : own_expr o ≡ E = ap (own_form o.cell.node) f in
+                let ms = own_needs w.layout k (fill x o) in
+                let mq : ms ≡ each_once (wanted k E) = ap each_once (nothing_behind s C w K wf (backs s K kn) I sc (wanted k (own_expr o)) ∙ ap (wanted k) eq) in
+                let g : AreIn k E = subst (FormIn k) f inside in
+                by_expr E eq vu g (λ ys. filled (eval ys (over k ms E))) (λ ys. refl) (λ ys. refl)
+                (λ z. subst IsGood (sym (ap filled (computes_so s C w K wf (backs s K kn) I sc ch j there z vu g ms en.needs_is (λ n h. subst (λ (l : List Need). In n l) (sym mq) (in_once n _ h))))) tt)
+        by_form f (a_copy {a = a}) = by_expr (Co.whole a) (ap (own_form o.cell.node) f) (gives_value gave f) (subst (FormIn k) f inside) (λ ys. Inserts (content (answer_at ys 0))) (λ ys. refl) (λ ys. refl) (λ z. tt)
+
+    -- ONE ELEMENT
+    inserts : (at n : ℕ) (x : Name) (i o : Outer) (key : Key) (v : Scalar) → stmt at n (insert x i o) ∈ block_list b → IsEntry (entry C j) at (pos 0) (own_needs w.layout k (insert x i o)) (simple_act w.layout k (own_needs w.layout k (insert x i o)) (insert x i o))
+        → K (element (place s (script_path p) x) key (script_path p, n) v) → (c : Computed) × Reading (code_system C) (Answers s K) (Item j p 0) (effect_at C j p 0 c)
+    inserts at n x i o key v m en kv = elim (element_known ((backs s K kn).backed _ kv) ((backs s K kn).behind _ kv) refl) [ inl a ↦ absurd (other a) | inr a ↦ by_key a.0 a.1 a.2 ]
+      where
+        there_is : stmt at n (insert x i o) ∈ script_stmts s
+        there_is = stmt_in s (in_block (chain_live s C w.layout K wf.names I sc ch) m)
+
+        other : FillElement s K (place s (script_path p) x) key (script_path p, n) v → ⊥
+        other a = wf.writers.fill_insert a.at n at a.array x i a.right o (subst (λ (z : ℕ). stmt a.at z (fill a.array a.right) ∈ script_stmts s) (ap (λ (z : Place). z.1) a.writer_is) (stmt_in s a.live)) there_is
+
+        by_key : (a : InsertElement s K (place s (script_path p) x) key (script_path p, n) v) → K (value (a.path, a.index.cell.node) a.index_value) → K (value (a.path, a.right.cell.node) (One v)) → (c : Computed) × Reading (code_system C) (Answers s K) (Item j p 0) (effect_at C j p 0 c)
+        by_key a ki ko =
+            let same = wf.writers.insert_once a.at n at a.array x a.index i a.right o (subst (λ (z : ℕ). stmt a.at z (insert a.array a.index a.right) ∈ script_stmts s) (ap (λ (z : Place). z.1) a.writer_is) (stmt_in s a.live)) there_is in
+            let pq : a.path ≡ script_path p = ap (λ (z : Place). z.0) a.writer_is in
+            by a.is_key (λ h. subst (λ (z : Path). K (value (z, i.cell.node) a.index_value)) pq (subst (λ (z : Outer). K (value (a.path, z.cell.node) a.index_value)) same.0 h)) ki
+            (subst (λ (z : Path). K (value (z, o.cell.node) (One v))) pq (subst (λ (z : Outer). K (value (a.path, z.cell.node) (One v))) same.1 ko))
+          where
+            by : {u : Value} {key : Key} → IsKey u key → (K (value (a.path, a.index.cell.node) u) → K (value (script_path p, i.cell.node) u)) → K (value (a.path, a.index.cell.node) u) → K (value (script_path p, o.cell.node) (One v))
+                → (c : Computed) × Reading (code_system C) (Answers s K) (Item j p 0) (effect_at C j p 0 c)
+            by (a_number {z = num}) f ki ko =
+                let z = put_works s C w K wf (backs s K kn) I sc ch j there m _ refl en (f ki) ko in
+                (Inserts ((Key.Number num, v) ∷ []), fact_of s C w K wf (backs s K kn) I sc ch j there z.answers 0 (Inserts ((Key.Number num, v) ∷ [])) z.computed tt (leaf_deep s C w K wf (backs s K kn) I sc (entry C j).act p _ (ap steps_on en.act_is)))
+
+    -- CALLS AND WAITS
+    calls_fact : (c : Call) (all : List Part) (at : ℕ) (pr : ℤ) → CallAs C w.layout k all at pr c j → length (script_path p) < most_steps → Reading (code_system C) (Answers s K) (Item j p 0) (effect_at C j p 0 OpensIt)
+    calls_fact c all at pr ca dp =
+        let z = known s C w K wf (backs s K kn) I sc ch j there (λ n h. absurd (subst (λ (l : List Need). In n l) ca.is.needs_is h)) in
+        fact_of s C w K wf (backs s K kn) I sc ch j there z 0 OpensIt (ap (λ (a : Act). compute a (answered C p (entry C j).needs z.answers)) ca.is.act_is) tt (not_too_deep _ p _ dp)
+
+    own_answers : (at sn : ℕ) (ns : List Awaited) (c : Block) {bb : Block} → InScope s k bb → stmt at sn (wait ns c) ∈ block_list bb → Ready s K (script_path p) (wait ns c) [] → (n : Need) → In n (map (awaited_need k) ns) → In n (entry C j).needs → (y : Got) × Ans s C K p n y
+    own_answers at sn ns c {bb} sp m r n i h =
+        let x = awaited_of s C w K wf (backs s K kn) I sc k ns n i in
+        subst (λ (z : Need). (y : Got) × Ans s C K p z y) (sym x.2)
+        (come_answer s C w K wf (backs s K kn) I sc ch j there x.0 (sc.waits k bb at sn ns c x.0 sp m x.1) (subst (λ (z : Need). In z (entry C j).needs) x.2 h) (ready_names s C w K wf (backs s K kn) I sc r ns c refl x.0 x.1))
+
+    all_answers : {st : Stmt} {hs : List Header} {bb : Block} → InScope s k bb → st ∈ block_list bb → AllReady s C w K wf kn I sc k (script_path p) st hs → ((n : Need) → In n (flat_map (λ h. h.needs) hs) → In n (entry C j).needs)
+        → (n : Need) → In n (flat_map (λ h. h.needs) hs) → (y : Got) × Ans s C K p n y
+    all_answers {bb = bb} sp m (last_ready {at = at} {n = sn} {ns = ns} {c = c} r q) sub n h =
+        elim (in_split n (map (awaited_need k) ns) [] (subst (λ (l : List Header). In n (flat_map (λ h. h.needs) l)) q h)) [ inl i ↦ own_answers at sn ns c sp m r n i (sub n h) | inr z ↦ absurd z ]
+    all_answers {bb = bb} sp m (outer_ready {at = at} {n = sn} {ns = ns} {st = st} {gs = gs} r q more) sub n h =
+        elim (in_split n (map (awaited_need k) ns) (flat_map (λ h. h.needs) gs) (subst (λ (l : List Header). In n (flat_map (λ h. h.needs) l)) q h)) [
+          | inl i ↦ own_answers at sn ns (stmts st no_stmts) sp m r n i (sub n h)
+          | inr i ↦ all_answers (in_wait sp m) first more (λ n' h'. sub n' (subst (λ (l : List Header). In n' (flat_map (λ h. h.needs) l)) (sym q) (in_right n' (map (awaited_need k) ns) (flat_map (λ h. h.needs) gs) h'))) n i
+        ]
+
+    waits_fact : (st : Stmt) (hs : List Header) (u : ℕ) → st ∈ block_list b → (entry C j).needs ≡ each_once (flat_map (λ h. h.needs) hs) → (entry C j).act ≡ code.Wait hs u → AllReady s C w K wf kn I sc k (script_path p) st hs → Reading (code_system C) (Answers s K) (Item j p 0) (effect_at C j p 0 OpensIt)
+    waits_fact st hs u m nq aq r =
+        let into : (n : Need) → In n (flat_map (λ h. h.needs) hs) → In n (entry C j).needs = λ n h. subst (λ (l : List Need). In n l) (sym nq) (in_once n _ h) in
+        let z = known s C w K wf (backs s K kn) I sc ch j there (λ n h. all_answers (chain_scope s C w.layout K wf.names I sc ch) m r into n (once_in n _ (subst (λ (l : List Need). In n l) nq h))) in
+        fact_of s C w K wf (backs s K kn) I sc ch j there z 0 OpensIt (ap (λ (a : Act). compute a (answered C p (entry C j).needs z.answers)) aq) tt (leaf_deep s C w K wf (backs s K kn) I sc (entry C j).act p _ (ap steps_on aq))
+
+  pub facts_from : FactsFrom s C w K wf kn I sc
+  facts_from = record {
+    filled = λ p t k b ch j there at n x o v m en kv. fills ch j there at n x o v m en kv;
+    inserted = λ p t k b ch j there at n x i o key v m en kv. inserts ch j there at n x i o key v m en kv;
+    header = λ p t k b ch j there at n a vs m ow br r dp. headers ch j there at n a vs m ow br r dp;
+    waited = λ p t k b ch j there st hs u m nq aq r. waits_fact ch j there st hs u m nq aq r;
+    called = λ p t k b ch j there c all at pr ca dp. calls_fact ch j there c all at pr ca dp;
+  }
