@@ -1,0 +1,4 @@
+pub mod Counting
+pub mod Learning
+pub mod Noting
+pub mod Settling

@@ -1,0 +1,10 @@
+use Rattle.rules.specs.declared.input.Input.TheVariants.{Whole}
+use Rattle.rules.proofs.Noting.{grows_on, note_more}
+use Rattle.rules.proofs.places.Places.note.Goals as goal
+
+pub loop-input-preserved : goal.loop-input-preserved
+loop-input-preserved c =
+    let step = c.in_ok-note_input.ensures in (
+      grows_on _ _ _ c.loop-input.invariant.0 step.grows,
+      note_more c.loop-input.self c.note_input.new.self c.args.waiter.now.item c.args.waiter.now.missing c.loop-input.input-index c.args.slot (Whole 0) (rw (← c.missing-input-items.ensures) c.loop-input-test.true) step.grows c.loop-input.invariant.1 (rw (← c.missing-input-items.ensures) step.ok),
+    )

@@ -1,0 +1,4 @@
+pub mod Inputs
+pub mod Places
+pub mod Slots
+pub mod Waiting

@@ -1,0 +1,58 @@
+-- Items that wait, and what becomes of them.
+use Rattle.std.specs.Prelude.{◌≡◌, ℕ, ◌+◌, ◌<◌, ◌≤◌, ◌==◌, Bool, not, if◌then◌else◌, List, [], ◌∷◌, ◌++◌, length, filter, map, filter_map, Option, Some, None, IsPermutation}
+use Rattle.rules.specs.declared.input.Input.{Input}
+use Rattle.rules.specs.Inputs.{covers}
+
+-- an item with the inputs that it still misses
+pub record Waiting : Type 0 where
+  pub item : ℕ
+  pub missing : List Input
+
+-- the items that wait, in some order, and how many more are sure to find room
+pub record Listing : Type 0 where
+  pub waiting : List Waiting
+  pub room : ℕ
+
+-- nothing waits, and no room is promised
+abbrev pub empty : Listing
+empty = record { waiting = []; room = 0 }
+
+-- the item misses no longer what is known with this input
+abbrev pub with_known : Input → Waiting → Waiting
+with_known i w = record w { missing = filter (λ j. not (covers i j)) w.missing }
+
+-- nothing is missing
+abbrev pub is_ready : Waiting → Bool
+is_ready w = length w.missing == 0
+
+-- what is left of an item that waits once the input is known: nothing where this was its last
+abbrev pub after_known : Input → Waiting → Option Waiting
+after_known i w = if is_ready (with_known i w) then None else Some (with_known i w)
+
+-- the items that wait on once the input is known, each without what is known now
+abbrev pub still_waiting : Input → List Waiting → List Waiting
+still_waiting i ws = filter_map (after_known i) ws
+
+-- the items whose last input this was
+abbrev pub woken : Input → List Waiting → List ℕ
+woken i ws = map (λ w. w.item) (filter (λ w. is_ready (with_known i w)) ws)
+
+-- the others
+abbrev pub without_item : ℕ → List Waiting → List Waiting
+without_item x ws = filter (λ w. not (w.item == x)) ws
+
+-- a list got longer by these, in some order
+pub record IsListed (items old new : List ℕ) : Type 0 where
+  pub said : List ℕ
+  pub is : new ≡ old ++ said
+  pub all : IsPermutation items said
+
+-- one item more waits, and uses up one place of the room, if there was one
+pub record IsAdded (old new : Listing) (w : Waiting) : Type 0 where
+  pub waiting : IsPermutation (w ∷ old.waiting) new.waiting
+  pub room : old.room ≤ new.room + 1
+  pub had_room : 0 < old.room → new.room + 1 ≡ old.room
+
+-- each item that left has given its place back
+abbrev pub GivesRoomBack : Listing → Listing → Type 0
+GivesRoomBack old new = new.room + length new.waiting ≡ old.room + length old.waiting

@@ -1,0 +1,59 @@
+//! What an item waits for.
+ghost use Rattle.std.specs.Prelude.{◌≡◌};
+ghost use Rattle.rules.specs.Inputs.{covers};
+ghost use Rattle.rules.specs.Places.{address, datum};
+
+use values::key::Key;
+
+// Lays the elements of one array far from those of another.
+const SPREAD: u64 = 11_400_714_819_323_198_485;
+
+/// What can become known.
+#[derive(Debug, Drop)]
+pub enum Input {
+    /// A datum as a whole: a scalar that is stored, or an array that is closed.
+    Whole(u64),
+    /// The element of an array under a key.
+    Element(u64, Key),
+}
+
+impl Default for Input {
+    fn default() -> Input {
+        Input::Whole(0)
+    }
+}
+
+impl Input {
+    /// Whether the other is known once this one is. An array that is closed makes each of its elements known.
+    pub fn covers(&self, other: &Input) -> bool
+        ensures { result ≡ covers self.now other.now }
+    {
+        match (self, other) {
+            (Input::Whole(a), Input::Whole(b)) => *a == *b,
+            (Input::Whole(a), Input::Element(b, _)) => *a == *b,
+            (Input::Element(_, _), Input::Whole(_)) => false,
+            (Input::Element(a, k), Input::Element(b, l)) => *a == *b && k.is_same(l),
+        }
+    }
+
+    /// The number in whose list those that wait for it are noted.
+    pub(crate) fn address(&self) -> u64
+        ensures { result ≡ address self.now }
+    {
+        match self {
+            Input::Whole(datum) => *datum,
+            Input::Element(datum, Key::Number(n)) => {
+                datum.wrapping_mul(SPREAD).wrapping_add(n.cast_unsigned())
+            }
+        }
+    }
+
+    pub(crate) fn datum(&self) -> u64
+        ensures { result ≡ datum self.now }
+    {
+        match self {
+            Input::Whole(datum) => *datum,
+            Input::Element(datum, _) => *datum,
+        }
+    }
+}

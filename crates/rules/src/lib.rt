@@ -1,0 +1,8 @@
+//! Which items wait for which inputs, and which items an input wakes.
+#![tactic(auto)]
+
+pub mod input;
+pub mod listing;
+mod places;
+mod visit;
+mod waiter;

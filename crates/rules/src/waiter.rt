@@ -1,0 +1,57 @@
+//! An item that waits.
+ghost use Rattle.std.specs.Prelude.{◌≡◌, ◌==◌, length};
+ghost use Rattle.rules.specs.Waiting.{with_known};
+
+use crate::input::Input;
+use smallvec::SmallVec;
+use std::marker::Model;
+
+/// An item with the inputs that it still misses.
+#[derive(Drop)]
+pub struct Waiter {
+    item: u64,
+    missing: SmallVec<Input, 2>,
+}
+
+impl Model for Waiter {
+    ghost use Rattle.rules.specs.Waiting.{Waiting};
+
+    ghost Value = { Waiting };
+
+    ghost view = { λ a. record { item = a.item; missing = a.missing.items } };
+}
+
+impl Waiter {
+    pub fn new(item: u64, missing: SmallVec<Input, 2>) -> Waiter
+        ensures { result ≡ record { item = item; missing = missing.items } }
+    {
+        Waiter { item, missing }
+    }
+
+    pub fn item(&self) -> u64
+        ensures { result ≡ self.now.item }
+    {
+        self.item
+    }
+
+    /// What it waits for.
+    pub fn missing(&self) -> &[Input]
+        ensures { result.now ≡ self.now.missing }
+    {
+        self.missing.as_slice()
+    }
+
+    /// Whether nothing is missing any more.
+    pub fn is_ready(&self) -> bool
+        ensures { result ≡ (length self.now.missing == 0) }
+    {
+        self.missing.is_empty()
+    }
+
+    /// Takes out what is known with this input.
+    pub fn learn(&mut self, input: &Input)
+        ensures { self.new ≡ with_known input.now self.old }
+    {
+        self.missing.retain(|missed| !input.covers(missed));
+    }
+}
