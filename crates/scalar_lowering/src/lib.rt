@@ -8,7 +8,5 @@ mod names;
 mod operators;
 pub mod script;
 mod statement;
-#[cfg(test)]
-mod tests;
 
 pub use script::lower;

@@ -1,9 +1,9 @@
 //! Texts with their tokens and their faults.
 
-use crate::fault::LexFault;
-use crate::lexer::Lexer;
-use crate::token::{Span, TokenKind};
-use crate::value::{number_value, string_content};
+use lexer::fault::LexFault;
+use lexer::lexer::Lexer;
+use lexer::token::{Span, TokenKind};
+use lexer::value::{number_value, string_content};
 use std::process::Abort;
 use std::test::Fail;
 

@@ -3,7 +3,7 @@
 ghost use Rattle.std.specs.Prelude.{◌≡◌, ◌<◌, All, IfOk, vec_len};
 ghost use Rattle.pool.specs.Seats.{IsSeatOf, seats_of};
 
-use crate::{Kind, Left, Offer, Pool, PoolSeat};
+use pool::{Kind, Left, Offer, Pool, PoolSeat};
 use std::alloc::{AllocError, Global};
 use std::test::Fail;
 use std::thread;

@@ -4,16 +4,16 @@ ghost use Rattle.std.specs.Prelude.{◌≡◌, ◌+◌, ◌<◌, ◌^◌, IfOk};
 ghost use Rattle.syntax_trees.specs.View.{expression_view, statement_view, tree_of};
 ghost use Rattle.syntax_trees.specs.Numbered.{expression_size, statement_size, tree_size};
 
-use crate::tree::{
-    Base, Call, Decl, Expr, ExprKind, Item, Level, Name, Operator, Right, Script, Shape, Stmt,
-    StmtKind,
-};
-use crate::{block, expr, stmt};
 use bumpalo::Bump;
 use lexer::token::Span;
 use std::alloc::{AllocError, Allocator, Global};
 use std::process::Abort;
 use std::test::Fail;
+use syntax_trees::tree::{
+    Base, Call, Decl, Expr, ExprKind, Item, Level, Name, Operator, Right, Script, Shape, Stmt,
+    StmtKind,
+};
+use syntax_trees::{block, expr, stmt};
 
 fn at(from: usize, to: usize) -> Span {
     Span { from, to }

@@ -1,0 +1,9 @@
+//! Tests of the front end's crates, over their public contracts. Nothing here runs outside of tests.
+#![tactic(auto)]
+
+#[cfg(test)]
+mod lexer_tests;
+#[cfg(test)]
+mod syntax_trees_tests;
+#[cfg(test)]
+mod values_tests;

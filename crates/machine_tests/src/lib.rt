@@ -1,0 +1,7 @@
+//! Tests of the machine's crates, over their public contracts. Nothing here runs outside of tests.
+#![tactic(auto)]
+
+#[cfg(test)]
+mod pool_tests;
+#[cfg(test)]
+mod work_queue_tests;
