@@ -90,7 +90,7 @@ own-append n a =
     omega arith
 
 -- a statement in front of a block
-front : (n at m : ℕ) (a : Action) (b : Block) → block_times n (stmts (stmt at m a) b) ≡ whole_times n a + block_times n b
+pub front : (n at m : ℕ) (a : Action) (b : Block) → block_times n (stmts (stmt at m a) b) ≡ whole_times n a + block_times n b
 front n at m a b =
     let x = times-append n (action_nodes a) (block_nodes b) in
     let y = times-flat block_nodes n (blocks_inside a) (blocks_below b) in
@@ -175,10 +175,10 @@ roles_times n v None = omega arith
 roles_times n v (Some k) = omega arith
 
 -- a block inside a statement counts whole
-inner_times : (n : ℕ) (b : Block) → times n (flat block_nodes (b ∷ blocks_below b)) ≡ block_times n b
+pub inner_times : (n : ℕ) (b : Block) → times n (flat block_nodes (b ∷ blocks_below b)) ≡ block_times n b
 inner_times n b = times-append n (block_nodes b) (flat block_nodes (blocks_below b))
 
-loop_times : (n : ℕ) (t : Table) (v : Word) (k : Option Word) (o : Over) (b : Block) → whole_times n (loop_action t v k o b) ≤ hit n v.number + (times n (maybe_numbers word_numbers k) + (times n (over_numbers o) + block_times n b))
+pub loop_times : (n : ℕ) (t : Table) (v : Word) (k : Option Word) (o : Over) (b : Block) → whole_times n (loop_action t v k o b) ≤ hit n v.number + (times n (maybe_numbers word_numbers k) + (times n (over_numbers o) + block_times n b))
 loop_times n t v k (T.array w) b = let r = roles_times n v k in let i = inner_times n b in omega arith
 loop_times n t v k (T.range low high None) b =
     let r = roles_times n v k in
@@ -200,10 +200,10 @@ loop_times n t v k (T.range low high (Some step)) b =
     let c = times-append n (expression_numbers high) (expression_numbers step) in
     omega arith
 
-when_times : (n : ℕ) (t : Table) (e : Expression) (d : Block) → whole_times n (when (outer t e) d) ≤ times n (expression_numbers e) + block_times n d
+pub when_times : (n : ℕ) (t : Table) (e : Expression) (d : Block) → whole_times n (when (outer t e) d) ≤ times n (expression_numbers e) + block_times n d
 when_times n t e d = let x = outer_times n t e in let q = one_outer n (outer t e) in let i = inner_times n d in omega arith
 
-choose_times : (n : ℕ) (t : Table) (e : Expression) (d f : Block) → whole_times n (choose (outer t e) d f) ≤ times n (expression_numbers e) + (block_times n d + block_times n f)
+pub choose_times : (n : ℕ) (t : Table) (e : Expression) (d f : Block) → whole_times n (choose (outer t e) d f) ≤ times n (expression_numbers e) + (block_times n d + block_times n f)
 choose_times n t e d f =
     let x = outer_times n t e in
     let q = one_outer n (outer t e) in
@@ -230,7 +230,7 @@ mutual
   statement_times : (n : ℕ) (t : Table) (s : Statement) (b : Block) → block_times n (with_statement t s b) ≤ times n (statement_numbers s) + block_times n b
   statement_times n t (statement nd c) b = let h = command_times n t nd c b in omega arith
 
-  command_times : (n : ℕ) (t : Table) (nd : Node) (c : Command) (b : Block) → block_times n (with_command t nd c b) ≤ times n (command_numbers c) + block_times n b
+  pub command_times : (n : ℕ) (t : Table) (nd : Node) (c : Command) (b : Block) → block_times n (with_command t nd c b) ≤ times n (command_numbers c) + block_times n b
   command_times n t nd (T.declare d None) b = let f = front n nd.first.from nd.number (declare d.name.number) b in omega arith
   command_times n t nd (T.declare d (Some r)) b =
       let x = right_of t (here d.name.number) d.shape r in

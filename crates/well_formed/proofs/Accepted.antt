@@ -1,5 +1,5 @@
 -- The core of an accepted script is well formed, and that of a typed one scoped.
-use Rattle.std.specs.Prelude.{◌≡◌, ℕ, true, List}
+use Rattle.std.specs.Prelude.{◌≡◌, ℕ, true, List, ◌∷◌}
 use Rattle.std.proofs.Common.{sym, subst}
 use Rattle.syntax_trees.specs.Facts.{Fact, Knowledge}
 use Rattle.syntax_trees.specs.Meaning.{Known, Meaning}
@@ -21,6 +21,10 @@ use Rattle.well_formed.specs.Always.{FormedAlways}
 use Rattle.well_formed.proofs.Always.{always}
 use Rattle.well_formed.proofs.Formed.{scoped, formed}
 use Rattle.well_formed.specs.Types.{HasTypes, DeclaredAs, tree_declarations, Types}
+use Rattle.well_formed.specs.Statements.{StmtsApart}
+use Rattle.well_formed.proofs.StmtsApart.{stmts_apart}
+use Rattle.well_formed.proofs.Once.{numbers_once}
+use Rattle.meaning_laws.proofs.TreeNodes.{tree_numbers}
 use Rattle.well_formed.proofs.Typed.{live_stands}
 use Rattle.well_formed.proofs.TypedTree.{has_types}
 use Rattle.well_formed.proofs.Values.{meaning_has}
@@ -46,6 +50,9 @@ numbered_always t tree u e w d =
 
 pub typed_always : (bytes : List ℕ) (t : Table) (tree : Tree) → Reads bytes tree → WellTyped tree t → FormedAlways (core t tree)
 typed_always bytes t tree r w = numbered_always t tree r.parsed r.is_numbered w (apart bytes tree r)
+
+pub accepted_stmts : (bytes : List ℕ) (t : Table) (tree : Tree) → Reads bytes tree → WellTyped tree t → StmtsApart (core t tree)
+accepted_stmts bytes t tree r w = stmts_apart t tree (subst (λ (p : Tree). distinct (0 ∷ tree_numbers p) ≡ true) (sym r.is_numbered) (numbers_once r.parsed))
 
 -- TYPES
 

@@ -1,3 +1,4 @@
 pub mod Always
 pub mod Assigning
 pub mod Types
+pub mod Statements

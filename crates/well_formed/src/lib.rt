@@ -6,6 +6,7 @@ pub mod laws;
 ghost use Rattle.meaning_laws.specs.TypedValues.{TypedValues};
 ghost use Rattle.well_formed.specs.Always.{FormedAlways};
 ghost use Rattle.well_formed.specs.Assigning.{tree, names};
+ghost use Rattle.well_formed.specs.Statements.{StmtsApart};
 ghost use Rattle.well_formed.specs.Types.{Types};
 ghost use Rattle.meaning_laws.specs.Scoped.{Scoped};
 ghost use Rattle.std.specs.Prelude.{◌≡◌, ℕ, List};
@@ -20,11 +21,12 @@ ghost use Rattle.syntax_trees.specs.Typing.{WellTyped};
 ghost use Rattle.syntax_trees.specs.WellFormed.{WellFormed};
 
 /// A text that reads as a tree, well typed by a table and singly assigned, has a well formed core. What of this needs no single
-/// assignment holds of each well typed text. And the core of a well typed tree with numbers in reading order is scoped: a
+/// assignment holds of each well typed text, and no statement has the number of a cell or of another statement. And the core of a well typed tree with numbers in reading order is scoped: a
 /// function's body names its own inputs alone, and a called function is there, with an argument for each of its inputs.
 pub fn accepted_cores()
     ensures formed { (bytes : List ℕ) (t : Table) (tree : Tree) → Reads bytes tree → WellTyped tree t → SinglyAssigned (core t tree) → WellFormed (core t tree) }
     ensures always { (bytes : List ℕ) (t : Table) (tree : Tree) → Reads bytes tree → WellTyped tree t → FormedAlways (core t tree) }
+    ensures stmts { (bytes : List ℕ) (t : Table) (tree : Tree) → Reads bytes tree → WellTyped tree t → StmtsApart (core t tree) }
     ensures scoped { (t : Table) (tree u : Tree) → tree ≡ numbered 1 u → WellTyped tree t → Scoped (core t tree) }
 {}
 
