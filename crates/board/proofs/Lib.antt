@@ -9,3 +9,4 @@ pub mod Ranks
 pub mod Firsts
 pub mod Listed
 pub mod Scripts
+pub mod Decided

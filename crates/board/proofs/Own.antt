@@ -1,16 +1,16 @@
 -- The items that can begin or that run, and the work that is theirs.
-use Rattle.std.proofs.Common.{◌≡◌, inl, inr, ℕ, ◌+◌, Bool, true, false, ◌||◌, List, [], ◌∷◌, ◌++◌, map, take, drop, Some, None, Option, is_none, refl, sym, ap, ◌∙◌, subst}
+use Rattle.std.proofs.Common.{◌≡◌, ◌⊎◌, inl, inr, ℕ, ◌+◌, Bool, true, false, ◌||◌, List, [], ◌∷◌, ◌++◌, map, take, drop, Some, None, Option, is_none, refl, sym, ap, ◌∙◌, subst}
 use Rattle.std.specs.Prelude.{IsTrue, nat_eq, not}
 use Rattle.std.specs.List.{list_any}
 use Rattle.dataflow.specs.System.{Distinct, In}
 use Rattle.dataflow.specs.Machine.{End, Enabled, Event, SeesAll, Steps, start}
 use Rattle.dataflow.specs.Data.{AnswersAreOne}
-use Rattle.dataflow.specs.Events.{CanBegin, RunsOn}
+use Rattle.dataflow.specs.Events.{CanBegin, RunsOn, worker_of}
 use Rattle.dataflow.specs.History.{log_of}
 use Rattle.dataflow.specs.Promises.{GoesOn}
 use Rattle.dataflow.proofs.Headline.{goes_on}
 use Rattle.dataflow.proofs.Known.{answers_are_one}
-use Rattle.dataflow.proofs.Lists.{in_map, in_unmap, map_append, seam_here}
+use Rattle.dataflow.proofs.Lists.{in_map, in_split, in_unmap, map_append, seam_here}
 use Rattle.dataflow.proofs.Numbers.{run_numbered}
 use Rattle.dataflow.proofs.Steps.{run_follows}
 use Rattle.task_code.specs.Code.{Code, entry}
@@ -30,7 +30,7 @@ use Rattle.board.specs.declared.item.Stored.{Stored}
 use Rattle.board.specs.declared.item.Task.{Task as BoardTask}
 use Rattle.board.specs.declared.item.Task.TheVariants.{Entry, Main}
 use Rattle.board.specs.declared.state.Core.{Core}
-use Rattle.board.specs.Board.{IsOwn, IsWorkOf, answers_to, job_of}
+use Rattle.board.specs.Board.{AreByWorkers, IsWorker, IsOwn, IsWorkOf, answers_to, job_of}
 use Rattle.board.specs.Effects.{IsEffectOf, IsFlatTask, finished, outcome_for}
 use Rattle.board.specs.Flat.{IsFlat}
 use Rattle.board.specs.State.{Stands, answer_to, IsThere, can_begin, core_of, is_on, is_task_known, needs_of, runs_on, starts, with_item}
@@ -54,6 +54,15 @@ run_goes C hs mid e new r s = subst (λ (es : List Event). Run C es new) (sym (m
 
 pub history_goes : (hs : List BoardEvent) (e : BoardEvent) → map event_view (hs ++ e ∷ []) ≡ map event_view hs ++ event_view e ∷ []
 history_goes hs e = map_append event_view hs (e ∷ [])
+
+-- one event more, by a worker
+pub workers_more : (hs : List BoardEvent) (e : BoardEvent) → AreByWorkers (map event_view hs) → IsWorker (worker_of (event_view e)) → AreByWorkers (map event_view (hs ++ e ∷ []))
+workers_more hs e all by f i = split (in_split f (map event_view hs) (event_view e ∷ []) (subst (λ (es : List Event). In f es) (history_goes hs e) i))
+  where
+    split : In f (map event_view hs) ⊎ In f (event_view e ∷ []) → IsWorker (worker_of f)
+    split (inl a) = all f a
+    split (inr (inl p)) = subst (λ (x : Event). IsWorker (worker_of x)) (sym p) by
+    split (inr (inr n)) = absurd n
 
 -- no fault was met
 pub unmet : (o : Option Met) → met_view o ≡ None → o ≡ None

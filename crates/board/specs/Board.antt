@@ -1,6 +1,7 @@
 -- What the clauses of a board say.
 use Rattle.std.specs.Prelude.{◌≡◌, ℕ, ◌<◌, List, [], ◌∷◌, ◌++◌, Some, None, length}
 use Rattle.dataflow.specs.System.{Answer, In}
+use Rattle.dataflow.specs.Events.{worker_of}
 use Rattle.dataflow.specs.Machine as Machine
 use Rattle.dataflow.specs.Machine.{SeesAll}
 use Rattle.values.specs.declared.key.Key.{Key}
@@ -20,6 +21,14 @@ pub record Seen : Type 0 where
   pub limit : ℕ
   pub state : CodeState
   pub history : List Machine.Event
+
+-- the workers are 0 to 63
+abbrev pub IsWorker : ℕ → Type 0
+IsWorker w = w < 64
+
+-- each event is by one of them
+abbrev pub AreByWorkers : List Machine.Event → Type 0
+AreByWorkers es = (e : Machine.Event) → In e es → IsWorker (worker_of e)
 
 -- no fault stands, and the limit is not reached
 abbrev pub IsGoing : Seen → Type 0
@@ -72,12 +81,12 @@ RefusesBegin b n Memory = IsGoing b × MayBegin b n
 RefusesBegin b n NotYours = ⊥
 RefusesBegin b n Stranger = ⊥
 
--- why end refuses: the first cause that holds. Memory may be wanted for the comparison with the item
+-- why end refuses: the first cause that holds; memory is wanted only for what is the item's own
 abbrev pub RefusesEnd : Seen → ℕ → Assigned → Refusal → Type 0
 RefusesEnd b w done Ended = ¬ IsGoing b
 RefusesEnd b w done NotYours = IsGoing b × ¬ IsTheirs b w done.item
 RefusesEnd b w done Stranger = IsGoing b × IsTheirs b w done.item × ¬ IsOwn b w done
-RefusesEnd b w done Memory = IsGoing b × IsTheirs b w done.item
+RefusesEnd b w done Memory = IsGoing b × IsOwn b w done
 RefusesEnd b w done NotReady = ⊥
 
 -- why back refuses: the first cause that holds; never for memory

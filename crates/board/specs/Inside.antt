@@ -3,7 +3,7 @@ use Rattle.std.specs.Prelude.{◌≡◌, ◌+◌, ◌*◌, ◌≤◌, None, map,
 use Rattle.task_code.specs.Machine.{Run}
 use Rattle.task_code.specs.View.{event_view}
 use Rattle.board.specs.declared.board.Board.TheInside.{Inside}
-use Rattle.board.specs.Board.{Seen}
+use Rattle.board.specs.Board.{AreByWorkers, Seen}
 use Rattle.board.specs.Flat.{IsFlat}
 use Rattle.board.specs.State.{IsCounted, core_of}
 
@@ -17,3 +17,4 @@ pub record IsSound (a : Inside) : Type 0 where
   pub room : a.core.fault ≡ None → vec_len a.history + a.core.running ≤ vec_capacity a.history
   pub numbers : a.core.next ≤ 2 + vec_len a.history * 4294967296
   pub within : vec_len a.history ≤ a.limit
+  pub workers : AreByWorkers (map event_view a.history.items)

@@ -6,14 +6,14 @@ ghost use Rattle.values.specs.declared.value.Scalar.TheVariants.{Text as text_sc
 ghost use Rattle.task_code.specs.Machine.{CodeItem, Quiet, Run};
 ghost use Rattle.task_code.specs.System.{code_system, task_kind};
 ghost use Rattle.task_code.specs.View.{event_view, kind_view};
-ghost use Rattle.board.specs.Board.{IsGoing, Accepts, IsOwn, RefusesBegin, RefusesEnd, RefusesBack, RefusesWork};
+ghost use Rattle.board.specs.Board.{AreByWorkers, IsWorker, IsGoing, Accepts, IsOwn, RefusesBegin, RefusesEnd, RefusesBack, RefusesWork};
 ghost use Rattle.board.specs.Flat.{IsFlat};
 ghost use Rattle.board.specs.Ready.{AreReady, IsNext, IsReady};
 ghost use Rattle.board.specs.Blocked.{AreBlocked, IsFaultOf};
 ghost use Rattle.dataflow.specs.System.{In};
 
 use crate::effect::effect_of;
-use crate::items::{job, kind_of, ready_at, running_at, task_answers};
+use crate::items::{is_done_for, job, kind_of, ready_at, running_at, task_answers};
 use crate::order::{
     all_ready, first_of, is_stirring, item_at, numbers, offset_of, offsets, statements,
 };
@@ -28,7 +28,8 @@ use task_code::entry::Kind;
 use task_code::event::Event;
 use values::text::Text;
 
-/// The machine's state over some code, with the events that led to it. At most `limit` events are accepted.
+/// The machine's state over some code, with the events that led to it. At most `limit` events are accepted, each by one of the
+/// workers 0 to 63.
 #[derive(Drop)]
 pub struct Board {
     code: Code,
@@ -84,6 +85,7 @@ impl Board {
     ///
     /// `Ended` after a fault or at the limit; `NotReady` where the item is not enabled, runs, or does not exist; `Memory`.
     pub fn begin(&mut self, worker: u8, item: u64) -> Result<Work, Refusal>
+        requires { IsWorker worker }
         ensures accepted { OnOk result (Accepts self.old (Machine.Begin worker item) self.new) }
         ensures work { IfOk result (λ work. IsOwn self.new worker work) }
         ensures number { IfOk result (λ work. work.item ≡ item) }
@@ -118,8 +120,10 @@ impl Board {
     /// # Errors
     ///
     /// With the work that was done: `Ended` after a fault or at the limit; `NotYours` where the item does not run on the
-    /// worker; `Stranger` where the work was not done for the item's entry and answers; `Memory`.
+    /// worker; `Stranger` where the work was not done for the item's entry and answers, which takes no memory to see;
+    /// `Memory` only where it was.
     pub fn end(&mut self, worker: u8, done: Done) -> Result<(), (Done, Refusal)>
+        requires { IsWorker worker }
         ensures accepted { OnOk result (Accepts self.old (Machine.End worker done.item) self.new) }
         ensures own { OnOk result (IsOwn self.old worker done) }
         ensures refused { IfErr result (λ e. RefusesEnd self.old worker done e.1) }
@@ -133,14 +137,7 @@ impl Board {
         let Some((at, found)) = running_at(&self.core.items, worker, number) else {
             return Err((done, Refusal::NotYours));
         };
-        let alloc = *self.history.allocator();
-        let Ok(answers) = task_answers(alloc, &self.code, &self.core.stored, found.task) else {
-            return Err((done, Refusal::Memory));
-        };
-        let Ok(job) = job(&self.code, found.task) else {
-            return Err((done, Refusal::Memory));
-        };
-        if !done.belongs_to(&job, &answers) {
+        if !is_done_for(&self.code, &self.core.stored, found.task, &done) {
             return Err((done, Refusal::Stranger));
         }
         let Ok(effect) = effect_of(&self.code, found.task, done.outcome()) else {
@@ -162,6 +159,7 @@ impl Board {
     ///
     /// `Ended` after a fault or at the limit; `NotYours` where the item does not run on the worker.
     pub fn back(&mut self, worker: u8, item: u64) -> Result<(), Refusal>
+        requires { IsWorker worker }
         ensures accepted { OnOk result (Accepts self.old (Machine.Back worker item) self.new) }
         ensures refused { IfErr result (λ e. RefusesBack self.old worker item e) }
         ensures unchanged { OnErr result (self.new ≡ self.old) }
@@ -183,6 +181,7 @@ impl Board {
     ///
     /// `Ended` after a fault or at the limit; `NotYours` where the item does not run on the worker; `Memory`.
     pub fn work(&self, worker: u8, item: u64) -> Result<Work, Refusal>
+        requires { IsWorker worker }
         ensures own { IfOk result (λ work. IsOwn self.now worker work) }
         ensures number { IfOk result (λ work. work.item ≡ item) }
         ensures refused { IfErr result (λ e. RefusesWork self.now worker item e) }
@@ -203,12 +202,13 @@ impl Board {
         Ok(Work::new(item, job, answers))
     }
 
-    /// The events so far. They lead to the state.
+    /// The events so far. They lead to the state, and name the workers 0 to 63 alone.
     pub fn history(&self) -> &Vec<Event>
         ensures events { map event_view result.now.items ≡ self.now.history }
         ensures replays { Run self.now.code self.now.history self.now.state }
         ensures within { length self.now.history ≤ self.now.limit }
         ensures flat { IsFlat self.now.code }
+        ensures workers { AreByWorkers self.now.history }
     {
         &self.history
     }

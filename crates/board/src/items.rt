@@ -10,9 +10,9 @@ ghost use Rattle.board.specs.State.{answer_to, can_begin, is_task_known, IsThere
 ghost use Rattle.board.specs.View.{task_view};
 
 use crate::item::{Item, Stored, Task};
-use crate::values_known::{answers, are_needs_known};
+use crate::values_known::{answers, are_answers, are_needs_known};
 use board_work::answer::Answer;
-use board_work::work::Job;
+use board_work::work::{Done, Job};
 use std::alloc::{AllocError, Global};
 use task_code::code::Code;
 use task_code::entry::Kind;
@@ -87,6 +87,24 @@ pub(crate) fn task_answers(
         Task::Entry(number) => match code.entry(number) {
             Some(entry) => answers(alloc, stored, &entry.needs),
             None => Ok(Vec::new(alloc)),
+        },
+    }
+}
+
+/// Whether the work was done for the task's entry, from the answers that its needs have. Takes no memory.
+#[tactic(auto, using(crate::proofs::Past::needs_past))]
+pub(crate) fn is_done_for(code: &Code, stored: &Vec<Stored>, task: Task, done: &Done) -> bool
+    requires { IsThere code.now (task_view task) }
+    ensures yes { result ≡ true → (done.now.job ≡ job_of code.now (task_view task)) × (done.now.answers ≡ map (answer_to stored.now.items) (needs_of code.now (task_view task))) }
+    ensures no { result ≡ false → ¬ ((done.now.job ≡ job_of code.now (task_view task)) × (done.now.answers ≡ map (answer_to stored.now.items) (needs_of code.now (task_view task)))) }
+{
+    match task {
+        Task::Main => done.is_script() && done.answers().is_empty(),
+        Task::Entry(number) => match code.entry(number) {
+            Some(entry) => {
+                done.is_of(entry) && are_answers(stored, &entry.needs, done.answers())
+            }
+            None => false,
         },
     }
 }

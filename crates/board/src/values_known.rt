@@ -2,6 +2,8 @@
 ghost use Rattle.std.specs.Prelude.{◌≡◌, map, is_some, IfOk, MatchOption, Some, None};
 ghost use Rattle.task_code.specs.Places.{variable_eq};
 ghost use Rattle.task_code.specs.View.{variable_view, need_view};
+ghost use lib.Pointwise.{pointwise};
+ghost use Rattle.board_work.specs.Same.{answer_eq};
 ghost use Rattle.board_work.specs.View.{answer_view, answers_view};
 ghost use Rattle.board.specs.State.{known, known_need, are_known, answer_to};
 
@@ -78,4 +80,28 @@ pub(crate) fn answers(
         answers.push(answer(stored, need)?)?;
     }
     Ok(answers)
+}
+
+/// Whether the answer is the one to the need.
+fn is_answer(stored: &Vec<Stored>, need: &Need, answer: &Answer) -> bool
+    ensures { result ≡ answer_eq (answer_to stored.now.items (need_view need.now)) (answer_view answer.now) }
+{
+    match value_needed(stored, need) {
+        Some(value) => answer.is_found(value),
+        None => answer.is_missing(),
+    }
+}
+
+/// Whether these are the answers to the needs, in order. Takes no memory.
+pub(crate) fn are_answers(stored: &Vec<Stored>, needs: &Vec<Need>, answers: &Vec<Answer>) -> bool
+    ensures { result ≡ pointwise answer_eq (map (answer_to stored.now.items) (map need_view needs.now.items)) (answers_view answers.now.items) }
+{
+    let mut rest = answers.as_slice();
+    for need in needs {
+        match rest {
+            [answer, left @ ..] if is_answer(stored, need, answer) => rest = left,
+            _ => return false,
+        }
+    }
+    rest.is_empty()
 }

@@ -24,8 +24,8 @@ use Rattle.task_code.specs.declared.expr.Expr.{Expr as Written}
 use Rattle.task_code.specs.View.{exprs_view}
 use Rattle.task_code.specs.Places.{Place, Constant, Datum, Nowhere, name_eq}
 use Rattle.task_code.proofs.Equal.{true_and, both_true, nat_sound, nat_same, name_sound, name_same, place_sound, place_same}
-use Rattle.board_work.specs.Assigned.{Task, opens_script, runs}
-use Rattle.board_work.specs.Same.{option_eq, scalar_eq, need_eq, argument_eq, sign_eq, factor_eq, order_eq, piece_eq, operation_eq, expr_eq, exprs_eq, loop_eq, header_eq, act_eq, entry_eq, task_eq, element_eq, answer_eq}
+use Rattle.board_work.specs.Assigned.{runs}
+use Rattle.board_work.specs.Same.{option_eq, scalar_eq, need_eq, argument_eq, sign_eq, factor_eq, order_eq, piece_eq, operation_eq, expr_eq, exprs_eq, loop_eq, header_eq, act_eq, entry_eq, element_eq, answer_eq}
 
 -- a comparison that is true of equal values alone, and of each value and itself
 record Exact {A : Type 0} (f : A → A → Bool) : Type 0 where
@@ -367,18 +367,6 @@ entries = record { sound = sound'; own = own' }
         (both_true (act_eq a.act a.act) _ (acts.own a.act)
         (both_true (pointwise name_eq a.reads a.reads) _ ((lists names).own a.reads) ((lists names).own a.writes)))))))
 
-tasks : Exact task_eq
-tasks = record { sound = sound'; own = own' }
-  where
-    sound' : (a b : Task) → task_eq a b ≡ true → a ≡ b
-    sound' opens_script opens_script h = refl
-    sound' (runs e) (runs f) h = ap runs (entries.sound e f h)
-    sound' _ _ h = absurd (cc)
-
-    own' : (a : Task) → task_eq a a ≡ true
-    own' opens_script = refl
-    own' (runs e) = entries.own e
-
 elements : Exact element_eq
 elements = record { sound = sound'; own = own' }
   where
@@ -411,9 +399,12 @@ pub no_exprs : (es : List Written) → exprs_eq (exprs_view []) (exprs_view es) 
 no_exprs [] = refl
 no_exprs (e ∷ es) = let past : false ≡ (suc (length es) == 0) = grind arith in past
 
--- the same job, and the same answers
-pub same_job : (a b : Task) → Decides (task_eq a b) (a ≡ b)
-same_job = decides tasks
+-- the same entry's job, and the same answers
+pub same_entry : (e f : Entry) → Decides (entry_eq f e) (runs f ≡ runs e)
+same_entry e f = (λ h. ap runs (entries.sound f e h), λ p. (decides entries f e).1 (by p))
+  where
+    by : runs f ≡ runs e → f ≡ e
+    by p = cc
 
 pub same_answers : (xs ys : List (Answer Key Scalar)) → Decides (pointwise answer_eq xs ys) (xs ≡ ys)
 same_answers = decides (lists answers)

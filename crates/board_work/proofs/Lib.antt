@@ -1,3 +1,3 @@
 mod Answered
 mod Meanings
-mod Comparisons
+pub mod Comparisons

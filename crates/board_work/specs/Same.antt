@@ -1,4 +1,4 @@
--- When two entries, answers and jobs are the same.
+-- When two entries or answers are the same.
 use Rattle.std.specs.Prelude.{Bool, true, false, ◌&&◌, Option, Some, None, nat_eq}
 use Rattle.std.specs.Ordering.{int_eq}
 use lib.Pointwise.{pointwise}
@@ -19,7 +19,6 @@ use Rattle.values.specs.Values.{same}
 use Rattle.values.specs.Operators.{Operation, sum_of, product_of, compare, equal, unequal, all_true, any_true, not_true, negate, join, from_int, to_int, size, printf, assert, literal}
 use Rattle.task_code.specs.Code.{Need, Stored, Closed, At, AtKey, Expr, constant, need, operation, Exprs, no_operand, operand, Argument, Named, Fixed, Loop, Header, Act, Cell, Read, Call, Set, Fill, Copy, Put, Print, Assert, If, Range, Each, Wait, Entry}
 use Rattle.task_code.specs.Places.{name_eq}
-use Rattle.board_work.specs.Assigned.{Task, opens_script, runs}
 
 -- values that there are both or neither
 abbrev pub option_eq : {X : Type 0} → (X → X → Bool) → Option X → Option X → Bool
@@ -134,11 +133,6 @@ entry_eq e f =
     && (act_eq e.act f.act
     && (pointwise name_eq e.reads f.reads
     && pointwise name_eq e.writes f.writes))))))
-
-abbrev pub task_eq : Task → Task → Bool
-task_eq opens_script opens_script = true
-task_eq (runs e) (runs f) = entry_eq e f
-task_eq _ _ = false
 
 -- answers
 abbrev pub element_eq : Key × Scalar → Key × Scalar → Bool

@@ -1,8 +1,11 @@
 //! The answers to what an entry waits for.
 ghost use Rattle.std.specs.Prelude.{◌≡◌, IfOk, MatchOption, Some, None};
-ghost use Rattle.task_code.specs.Compute.{answer_at, answer_value};
+ghost use Rattle.dataflow.specs.System.{Found, Missing, Content};
+ghost use Rattle.task_code.specs.Compute.{answer_at, answer_value, pairs};
+ghost use Rattle.board_work.specs.Same.{answer_eq};
 ghost use Rattle.board_work.specs.View.{answer_view, answers_view};
 
+use crate::same::{Same, all_same};
 use std::alloc::AllocError;
 use values::map::Map;
 use values::value::{Scalar, Value};
@@ -27,6 +30,33 @@ impl Answer {
             Answer::Found(scalar) => Ok(Answer::Found(scalar.share()?)),
             Answer::Missing => Ok(Answer::Missing),
             Answer::Content(map) => Ok(Answer::Content(map.share()?)),
+        }
+    }
+
+    /// Whether it is this scalar, told by what the scalar stands for and not by where it lies. Takes no memory.
+    pub fn is_found(&self, scalar: &Scalar) -> bool
+        ensures { result ≡ answer_eq (Found scalar.now) (answer_view self.now) }
+    {
+        match self {
+            Answer::Found(found) => scalar.is_same(found),
+            _ => false,
+        }
+    }
+
+    /// Whether an element was asked for that there is not.
+    pub fn is_missing(&self) -> bool
+        ensures { result ≡ answer_eq Missing (answer_view self.now) }
+    {
+        matches!(self, Answer::Missing)
+    }
+
+    /// Whether it is an array of these elements, told as `is_found` does. Takes no memory.
+    pub fn is_content(&self, map: &Map) -> bool
+        ensures { result ≡ answer_eq (Content (pairs map.now)) (answer_view self.now) }
+    {
+        match self {
+            Answer::Content(content) => all_same(map.elements(), content.elements()),
+            _ => false,
         }
     }
 }

@@ -1,23 +1,18 @@
-//! When two jobs, and the answers to their needs, are the same.
+//! When two entries, and the answers to their needs, are the same.
 //!
 //! Two values are the same where they stand for the same. Where they lie in memory is no part of it: a shared entry, text or
 //! map is compared by its content.
 ghost use Rattle.std.specs.Prelude.{◌≡◌, List, Bool, map};
 ghost use Rattle.std.specs.Arc.{arc_value};
 ghost use lib.Pointwise.{pointwise};
-ghost use Rattle.dataflow.specs.System as Flow;
 ghost use Rattle.values.specs.declared.key.Key.{Key as PureKey};
 ghost use Rattle.values.specs.declared.value.Scalar.{Scalar as PureScalar};
 ghost use Rattle.values.specs.Operators.{Operation};
 ghost use Rattle.task_code.specs.Code as Pure;
 ghost use Rattle.task_code.specs.Places.{name_eq};
 ghost use Rattle.task_code.specs.View.{name_view, need_view, argument_view, loop_view, header_view, act_view, entry_view, expr_view, exprs_view, operation_view};
-ghost use Rattle.board_work.specs.Assigned.{Task, job_view};
-ghost use Rattle.board_work.specs.Same.{scalar_eq, need_eq, argument_eq, loop_eq, header_eq, operation_eq, expr_eq, exprs_eq, act_eq, entry_eq, task_eq, element_eq, answer_eq};
-ghost use Rattle.board_work.specs.View.{answer_view};
+ghost use Rattle.board_work.specs.Same.{scalar_eq, need_eq, argument_eq, loop_eq, header_eq, operation_eq, expr_eq, exprs_eq, act_eq, entry_eq, element_eq};
 
-use crate::answer::Answer;
-use crate::work::Job;
 use task_code::entry::{Act, Argument, Entry, Header, Loop, Name, Need};
 use task_code::expr::{Expr, Operator};
 use values::map::Element;
@@ -49,7 +44,7 @@ impl<T: Same> Same for Vec<T> {
 }
 
 /// Whether there are as many, and those at each place are the same.
-fn all_same<T: Same>(ones: &[T], others: &[T]) -> bool
+pub(crate) fn all_same<T: Same>(ones: &[T], others: &[T]) -> bool
     ensures { result ≡ pointwise T.same (map T.meaning ones.now) (map T.meaning others.now) }
 {
     let mut rest = others;
@@ -268,22 +263,6 @@ impl Same for Entry {
     }
 }
 
-impl Same for Job {
-    ghost Meaning = { Task };
-
-    ghost meaning = { job_view };
-
-    ghost same = { task_eq };
-
-    fn is_same(&self, other: &Job) -> bool {
-        match (self, other) {
-            (Job::Script, Job::Script) => true,
-            (Job::Entry(a), Job::Entry(b)) => a.is_same(b),
-            _ => false,
-        }
-    }
-}
-
 impl Same for Element {
     ghost Meaning = { PureKey × PureScalar };
 
@@ -293,22 +272,5 @@ impl Same for Element {
 
     fn is_same(&self, other: &Element) -> bool {
         self.key.is_same(&other.key) && self.value.is_same(&other.value)
-    }
-}
-
-impl Same for Answer {
-    ghost Meaning = { Flow.Answer PureKey PureScalar };
-
-    ghost meaning = { answer_view };
-
-    ghost same = { answer_eq };
-
-    fn is_same(&self, other: &Answer) -> bool {
-        match (self, other) {
-            (Answer::Found(a), Answer::Found(b)) => a.is_same(b),
-            (Answer::Missing, Answer::Missing) => true,
-            (Answer::Content(a), Answer::Content(b)) => all_same(a.elements(), b.elements()),
-            _ => false,
-        }
     }
 }

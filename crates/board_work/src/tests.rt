@@ -283,17 +283,24 @@ fn stores(alloc: Global, sign: Sign) -> Result<Act, AllocError> {
 }
 
 #[test]
-fn what_is_done_belongs_to_its_own_job(rt: HostRuntime) -> Result<(), Fail> {
+fn what_is_done_is_of_its_own_entry(rt: HostRuntime) -> Result<(), Fail> {
     let alloc = rt.alloc();
     let given = Vec::from_array(alloc, [Answer::Content(array(alloc, 1, 2)?)])?;
-    let again = Vec::from_array(alloc, [Answer::Content(array(alloc, 1, 2)?)])?;
-    let other = Vec::from_array(alloc, [Answer::Content(array(alloc, 1, 3)?)])?;
+    let again = array(alloc, 1, 2)?;
+    let other = array(alloc, 1, 3)?;
     let done = computed(alloc, stores(alloc, Sign::Plus)?, given)?;
-    let same = job(alloc, stores(alloc, Sign::Plus)?)?;
-    assert!(rt; done.belongs_to(&same, &again));
-    assert!(rt; !done.belongs_to(&same, &other));
-    assert!(rt; !done.belongs_to(&same, &Vec::new(alloc)));
-    assert!(rt; !done.belongs_to(&job(alloc, stores(alloc, Sign::Minus)?)?, &again));
-    assert!(rt; !done.belongs_to(&Job::Script, &again));
+    assert!(rt; !done.is_script());
+    for (sign, is_own) in [(Sign::Plus, true), (Sign::Minus, false)] {
+        match job(alloc, stores(alloc, sign)?)? {
+            Job::Entry(entry) => assert!(rt; done.is_of(&entry) == is_own),
+            Job::Script => assert!(rt; false),
+        }
+    }
+    let got = done.answers();
+    assert_eq!(rt; got.len(), 1);
+    assert!(rt; got[0].is_content(&again));
+    assert!(rt; !got[0].is_content(&other));
+    assert!(rt; !got[0].is_missing());
+    assert!(rt; !got[0].is_found(&Scalar::Number(2)));
     Ok(())
 }

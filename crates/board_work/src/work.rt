@@ -1,10 +1,10 @@
 //! Items that run, and what they come to.
-ghost use Rattle.std.specs.Prelude.{◌≡◌, true, false, IfOk, IfErr};
+ghost use Rattle.std.specs.Prelude.{◌≡◌, ◌↔◌, IfOk, IfErr, IsTrue};
 ghost use Rattle.std.specs.Option.{option_copied};
-ghost use Rattle.task_code.specs.View.{kind_view};
+ghost use Rattle.task_code.specs.View.{entry_view, kind_view};
 ghost use Rattle.board_work.specs.View.{answers_view};
 ghost use Rattle.board_work.specs.Outcome.{result_in, control_in};
-ghost use Rattle.board_work.specs.Assigned.{job_view, job_kind, job_result, job_control, job_computed, meaning};
+ghost use Rattle.board_work.specs.Assigned.{opens_script, runs, job_view, job_kind, job_result, job_control, job_computed, meaning};
 
 use crate::answer::Answer;
 use crate::outcome::{Computed, Outcome, outcome_of};
@@ -148,13 +148,28 @@ impl Done {
         }
     }
 
-    /// Whether it is of this job with these answers, told by what they stand for and not by where they lie.
-    #[tactic(auto, using(crate::proofs::Comparisons::same_job, crate::proofs::Comparisons::same_answers))]
-    pub fn belongs_to(&self, job: &Job, answers: &Vec<Answer>) -> bool
-        ensures yes { result ≡ true → (self.now.job ≡ job_view job.now) × (self.now.answers ≡ answers_view answers.now.items) }
-        ensures no { result ≡ false → ¬ ((self.now.job ≡ job_view job.now) × (self.now.answers ≡ answers_view answers.now.items)) }
+    /// Whether it is the opening of the script.
+    pub fn is_script(&self) -> bool
+        ensures { IsTrue result ↔ (self.now.job ≡ opens_script) }
     {
-        self.job.is_same(job) && self.answers.is_same(answers)
+        matches!(&self.job, Job::Script)
+    }
+
+    /// Whether it is of this entry, told by what the entry stands for and not by where it lies. Takes no memory.
+    pub fn is_of(&self, entry: &Entry) -> bool
+        ensures { IsTrue result ↔ (self.now.job ≡ runs (entry_view entry.now)) }
+    {
+        match &self.job {
+            Job::Script => false,
+            Job::Entry(own) => own.is_same(entry),
+        }
+    }
+
+    /// The answers from which it was computed.
+    pub fn answers(&self) -> &Vec<Answer>
+        ensures { answers_view result.now.items ≡ self.now.answers }
+    {
+        &self.answers
     }
 
     /// What the item computed.

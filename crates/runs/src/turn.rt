@@ -2,7 +2,7 @@
 ghost use Rattle.std.specs.Prelude.{◌≡◌, ◌<◌, ◌%◌, length, slice_index, IfOk, OnOk, MatchBool};
 ghost use Rattle.dataflow.specs.Machine.{Begin, End};
 ghost use Rattle.task_code.specs.View.{kind_view};
-ghost use Rattle.board.specs.Board.{Accepts, IsGoing, IsOwn, MayBegin};
+ghost use Rattle.board.specs.Board.{Accepts, IsGoing, IsOwn, IsWorker, MayBegin};
 ghost use Rattle.runs.specs.Turns.{TurnsTo, worker_for};
 
 use board::board::Board;
@@ -53,7 +53,8 @@ fn pick(ready: &Vec<u64>, choice: u32) -> u64
 
 /// The worker that runs items of this kind.
 fn worker_of(kind: Kind) -> u8
-    ensures { result ≡ worker_for (kind_view kind) }
+    ensures kind { result ≡ worker_for (kind_view kind) }
+    ensures known { IsWorker result }
 {
     match kind {
         Kind::Control => 0,
@@ -63,6 +64,7 @@ fn worker_of(kind: Kind) -> u8
 
 /// Begins an item that can begin.
 fn begin(board: &mut Board, worker: u8, item: u64) -> Result<Work, AllocError>
+    requires worker { IsWorker worker }
     requires going { IsGoing board.old }
     requires can { MayBegin board.old item }
     ensures accepted { OnOk result (Accepts board.old (Begin worker item) board.new) }
@@ -83,7 +85,8 @@ fn begin(board: &mut Board, worker: u8, item: u64) -> Result<Work, AllocError>
 ///
 /// `AllocError` where memory that was asked for was refused.
 pub fn finish(board: &mut Board, worker: u8, work: Work) -> Result<bool, AllocError>
-    requires { IsOwn board.old worker work }
+    requires worker { IsWorker worker }
+    requires own { IsOwn board.old worker work }
     ensures { IfOk result (λ taken. MatchBool taken (Accepts board.old (End worker work.item) board.new) ((board.new ≡ board.old) × ¬ IsGoing board.old)) }
 {
     match work.compute() {
@@ -97,7 +100,8 @@ pub fn finish(board: &mut Board, worker: u8, work: Work) -> Result<bool, AllocEr
 
 /// Ends the item of what was done, as `finish` does.
 fn hand_in(board: &mut Board, worker: u8, done: Done) -> Result<bool, AllocError>
-    requires { IsOwn board.old worker done }
+    requires worker { IsWorker worker }
+    requires own { IsOwn board.old worker done }
     ensures { IfOk result (λ taken. MatchBool taken (Accepts board.old (End worker done.item) board.new) ((board.new ≡ board.old) × ¬ IsGoing board.old)) }
 {
     match board.end(worker, done) {

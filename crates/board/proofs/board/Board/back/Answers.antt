@@ -5,7 +5,7 @@ use Rattle.task_code.specs.Machine.{CodeStep}
 use Rattle.board.specs.Board.{IsGoing, Seen}
 use Rattle.board.specs.State.{core_of}
 use Rattle.board.proofs.Moves.{backs}
-use Rattle.board.proofs.Own.{history_goes, not_theirs, run_goes, running, unmet}
+use Rattle.board.proofs.Own.{history_goes, not_theirs, run_goes, running, unmet, workers_more}
 use Rattle.board.proofs.board.Board.back.Goals as goal
 
 pub returns-in_default-clause-refused : goal.returns-in_default-clause-refused
@@ -26,6 +26,7 @@ invariant_of-self c =
       room = grind (arith, common_steps);
       numbers = grind (arith, common_steps);
       within = grind (arith, common_steps);
+      workers = rw (c.push_reserved.ensures.items) (workers_more _ _ c.self.invariant.workers c.requires);
     }
 
 pub returns-clause-accepted : goal.returns-clause-accepted

@@ -5,7 +5,7 @@ use Rattle.task_code.specs.Machine.{CodeStep}
 use Rattle.board.specs.Board.{IsGoing, Seen}
 use Rattle.board.specs.State.{core_of}
 use Rattle.board.proofs.Moves.{begins}
-use Rattle.board.proofs.Own.{begun_own, found, history_goes, may_begin, may_not_begin, opened, run_goes, task_there, unmet}
+use Rattle.board.proofs.Own.{begun_own, found, history_goes, may_begin, may_not_begin, opened, run_goes, task_there, unmet, workers_more}
 use Rattle.board.proofs.board.Board.begin.Goals as goal
 
 pub returns-in_default-clause-refused : goal.returns-in_default-clause-refused
@@ -42,6 +42,7 @@ invariant_of-self-2 c =
       room = grind (arith, common_steps);
       numbers = grind (arith, common_steps);
       within = grind (arith, common_steps);
+      workers = rw (c.push_reserved.ensures.items, c.reserve.ensures.items) (workers_more _ _ c.self.invariant.workers c.requires);
     }
 
 pub returns-clause-accepted : goal.returns-clause-accepted
