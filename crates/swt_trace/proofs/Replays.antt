@@ -1,24 +1,31 @@
 -- The reports and faults of a trace that is run again.
-use Rattle.std.proofs.Common.{◌≡◌, ◌∙◌, sym, ap, subst, ℕ, ◌+◌, ◌<◌, Bool, false, List, length, map, take, get_or}
+use Rattle.std.proofs.Common.{◌≡◌, ◌∙◌, sym, ap, subst, ℕ, ◌+◌, ◌<◌, Bool, false, List, [], length, map, take, get_or, All}
 use Rattle.std.proofs.lemmas.List.{get_or_default}
 use Rattle.dataflow.specs.Machine as Machine
 use Rattle.task_code.specs.declared.event.Event.{Event}
 use Rattle.task_code.specs.Code.{Code}
 use Rattle.task_code.specs.Machine.{Run}
 use Rattle.task_code.specs.View.{event_view}
-use Rattle.board.specs.Board.{Seen}
+use Rattle.board.specs.Board.{IsWorker, Seen}
 use Rattle.runs.specs.declared.report.Report.{Report}
 use Rattle.runs.specs.Report.{Reports, Tells}
 use Rattle.swt_trace.specs.declared.fault.ReplayFault.{ReplayFault}
 use Rattle.swt_trace.specs.declared.fault.ReplayFault.TheVariants.{BadLine, Memory, NotARun}
 use Rattle.swt_trace.specs.Replay.{IsFirstNoStep, IsNoStep, ReplaysTo, Takes}
-use Rattle.swt_trace.specs.Trace.{IsTrace}
+use Rattle.swt_trace.specs.Trace.{IsInRange, IsTrace, worker_of}
+use Rattle.swt_trace.proofs.Lines.{lines_are}
 
 -- the number that a fault names
 abbrev line_number : ReplayFault → ℕ
 line_number (BadLine n) = n
 line_number (NotARun n) = n
 line_number Memory = 0
+
+-- the events of a trace are by workers
+pub by_worker : (bytes : List ℕ) (events items : List Event) (place : ℕ) (d : Event) → IsTrace bytes events → items ≡ events → place < length items → IsWorker (worker_of (get_or items place d))
+by_worker bytes events items place d trace same l =
+    let all : All IsInRange items = subst (λ (es : List Event). All IsInRange es) (sym same) (lines_are trace.behind events [] trace.lines).1 in
+    (all place d l).worker
 
 -- an event that is refused behind a run of those before it
 pub no_step_at : (C : Code) (bytes : List ℕ) (events items : List Event) (place n : ℕ) (d : Event) (old new : Seen) (taken : Bool)

@@ -2,8 +2,9 @@
 ghost use Rattle.std.specs.Prelude.{◌≡◌, ◌<◌, ℕ, length, IfOk, IfErr};
 ghost use Rattle.dataflow.specs.Machine.{Back, Begin, End};
 ghost use Rattle.task_code.specs.View.{event_view};
+ghost use Rattle.board.specs.Board.{IsWorker};
 ghost use Rattle.board.specs.Flat.{IsFlat};
-ghost use Rattle.swt_trace.specs.Trace.{IsFirstBad};
+ghost use Rattle.swt_trace.specs.Trace.{IsFirstBad, worker_of};
 ghost use Rattle.swt_trace.specs.Replay.{IsFirstNoStep, ReplaysTo, Takes};
 
 use crate::fault::ReplayFault;
@@ -43,7 +44,8 @@ pub fn replay(alloc: Global, code: &Code, trace: &[u8]) -> Result<Report, Replay
 
 /// Does what the event says, and says whether it is a step.
 fn take_step(board: &mut Board, event: &Event) -> Result<bool, AllocError>
-    requires { length board.old.history < board.old.limit }
+    requires worker { IsWorker (worker_of event.now) }
+    requires room { length board.old.history < board.old.limit }
     ensures { IfOk result (λ taken. Takes board.old (event_view event.now) board.new taken) }
 {
     match event {
@@ -55,7 +57,8 @@ fn take_step(board: &mut Board, event: &Event) -> Result<bool, AllocError>
 
 /// Begins an item, as `take_step` does.
 fn take_begin(board: &mut Board, worker: u8, item: u64) -> Result<bool, AllocError>
-    requires { length board.old.history < board.old.limit }
+    requires worker { IsWorker worker }
+    requires room { length board.old.history < board.old.limit }
     ensures { IfOk result (λ taken. Takes board.old (Begin worker item) board.new taken) }
 {
     match board.begin(worker, item) {
@@ -72,7 +75,8 @@ fn take_begin(board: &mut Board, worker: u8, item: u64) -> Result<bool, AllocErr
 
 /// Computes an item that runs and ends it, as `take_step` does.
 fn take_end(board: &mut Board, worker: u8, item: u64) -> Result<bool, AllocError>
-    requires { length board.old.history < board.old.limit }
+    requires worker { IsWorker worker }
+    requires room { length board.old.history < board.old.limit }
     ensures { IfOk result (λ taken. Takes board.old (End worker item) board.new taken) }
 {
     match board.work(worker, item) {
@@ -86,7 +90,8 @@ fn take_end(board: &mut Board, worker: u8, item: u64) -> Result<bool, AllocError
 
 /// Gives an item back, as `take_step` does.
 fn take_back(board: &mut Board, worker: u8, item: u64) -> Result<bool, AllocError>
-    requires { length board.old.history < board.old.limit }
+    requires worker { IsWorker worker }
+    requires room { length board.old.history < board.old.limit }
     ensures { IfOk result (λ taken. Takes board.old (Back worker item) board.new taken) }
 {
     match board.back(worker, item) {

@@ -4,8 +4,12 @@ use Rattle.task_code.specs.declared.event.Event.{Event}
 use Rattle.task_code.specs.declared.event.Event.TheVariants.{Begin}
 use Rattle.task_code.specs.View.{event_view}
 use Rattle.board.specs.Board.{Seen}
-use Rattle.swt_trace.proofs.Replays.{no_step_at, replayed}
+use Rattle.swt_trace.proofs.Replays.{by_worker, no_step_at, replayed}
 use Rattle.swt_trace.proofs.replay.replay.Goals as goal
+
+pub take_step-requires-clause-worker : goal.take_step-requires-clause-worker
+take_step-requires-clause-worker c =
+    by_worker c.args.trace.now c.in_ok-events.events.items c.deref-event-items.result.now c.loop-place.place (Begin 0 0) c.in_ok-events.ensures.ok c.deref-event-items.ensures.value c.loop-place-test.true
 
 pub returns-then-not-branch-clause-no_step : goal.returns-then-not-branch-clause-no_step
 returns-then-not-branch-clause-no_step c = λ n e.
