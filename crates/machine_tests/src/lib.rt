@@ -2,6 +2,8 @@
 #![tactic(auto)]
 
 #[cfg(test)]
+mod data_store_tests;
+#[cfg(test)]
 mod pool_tests;
 #[cfg(test)]
 mod work_queue_tests;
