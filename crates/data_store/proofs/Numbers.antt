@@ -1,8 +1,7 @@
 -- What a change of one datum leaves under each number, for callers.
-use Rattle.std.proofs.Common.{◌≡◌, ◌∙◌, ap, sym, subst, ℕ, zero, suc, List, [], ◌∷◌, refl}
+use Rattle.std.proofs.Common.{◌≡◌, ap, sym, subst, ℕ, zero, suc, List, [], ◌∷◌, refl}
 use Rattle.std.specs.Prelude.{Option, Some, None, option_map, slice_set, slice_index_or, IsSomeAnd}
 use Rattle.data_store.specs.Arrays.{Array}
-use Rattle.data_store.specs.declared.datum.Content.TheVariants.{OfArray}
 use Rattle.data_store.specs.declared.datum.Datum.{Datum}
 use Rattle.data_store.specs.Data.{IsArray, with_array}
 use Rattle.data_store.specs.Stores.{Store, at, changed, given_up, kept_after, IsArrayAt}
