@@ -265,7 +265,7 @@ pub record Passes (s : Core) : Type 0 where
   pub hidden : every hidden_fine (script_stmts s) ≡ true
   pub fills : every fill_fine (script_stmts s) ≡ true
 
-find_once : (cs : List Call) (c : Call) → distinct (flat offset cs) ≡ true → c ∈ cs → find (λ d. nat_eq d.at c.at) cs ≡ Some c
+pub find_once : (cs : List Call) (c : Call) → distinct (flat offset cs) ≡ true → c ∈ cs → find (λ d. nat_eq d.at c.at) cs ≡ Some c
 find_once [] c h m = elim m [ ]
 find_once (d ∷ cs) c h m = by (nat_eq d.at c.at) refl (split_in m) (λ k. find_once cs c (distinct_right (d.at ∷ []) (flat offset cs) h) k)
   where
@@ -278,7 +278,7 @@ find_once (d ∷ cs) c h m = by (nat_eq d.at c.at) refl (split_in m) (λ k. find
         no_self : false ≡ true → ⊥
         no_self h = absurd (cc (h))
 
-get_below : (xs : List Name) (j : ℕ) → j < length xs → (x : Name) × (slice_get xs j ≡ Some x)
+pub get_below : (xs : List Name) (j : ℕ) → j < length xs → (x : Name) × (slice_get xs j ≡ Some x)
 get_below [] j h = absurd (omega arith)
 get_below (x ∷ xs) zero h = (x, refl)
 get_below (x ∷ xs) (suc j) h = get_below xs j (omega arith)
@@ -289,12 +289,12 @@ alone_calls (inner x ∷ ps) c d m = alone_calls ps c d m
 alone_calls (calls x ∷ ps) c d m = elim (split_in m) [ inl e ↦ inl (subst (λ (z : Call). d ∈ (z ∷ part_calls ps)) e first) | inr k ↦ elim (alone_calls ps c d k) [ inl i ↦ inl (later i) | inr e ↦ inr e ] ]
 
 -- a call of a statement stands in an expression, or is the statement's own
-record IsOwnCall (a : Action) (c : Call) : Type 0 where
-  priority : ℤ
-  parts : List Part
-  is : a ≡ call_alone priority parts c
+pub record IsOwnCall (a : Action) (c : Call) : Type 0 where
+  pub priority : ℤ
+  pub parts : List Part
+  pub is : a ≡ call_alone priority parts c
 
-kinds : (a : Action) (c : Call) → c ∈ part_calls (parts a) → (c ∈ hidden_calls a) ⊎ IsOwnCall a c
+pub kinds : (a : Action) (c : Call) → c ∈ part_calls (parts a) → (c ∈ hidden_calls a) ⊎ IsOwnCall a c
 kinds (declare v) c m = inl m
 kinds (call_alone p ps d) c m = elim (alone_calls ps d c m) [ inl i ↦ inl i | inr e ↦ inr (record { priority = p; parts = ps; is = ap (λ (z : Call). call_alone p ps z) (sym e) }) ]
 kinds (assign x e) c m = inl m
@@ -308,7 +308,7 @@ kinds (range lo hi st v t b) c m = inl m
 kinds (each a v t b) c m = inl m
 kinds (wait ns b) c m = inl m
 
-hidden_shape : (xs : List Name) → one_hidden xs ≡ true → (n : ℕ) × (xs ≡ here n ∷ [])
+pub hidden_shape : (xs : List Name) → one_hidden xs ≡ true → (n : ℕ) × (xs ≡ here n ∷ [])
 hidden_shape [] h = absurd (cc (h))
 hidden_shape (x ∷ []) h = by x.up x.what h
   where
@@ -319,7 +319,7 @@ hidden_shape (x ∷ []) h = by x.up x.what h
     by (suc up) what h = absurd (cc (h))
 hidden_shape (x ∷ y ∷ xs) h = absurd (cc (h))
 
-is_many_form : (f : Form) → is_many f ≡ true → IsMany f
+pub is_many_form : (f : Form) → is_many f ≡ true → IsMany f
 is_many_form (compute (whole a)) h = a_copy
 is_many_form (compute (lit v)) h = absurd (cc (h))
 is_many_form (compute (nm x)) h = absurd (cc (h))
@@ -341,7 +341,7 @@ is_many_form (compute (operator (op.printf ps) es)) h = absurd (cc (h))
 is_many_form (compute (operator op.assert es)) h = absurd (cc (h))
 is_many_form (compute (operator op.literal es)) h = a_list
 
-abbrev hidden_of_stmt : Stmt → List ℕ
+abbrev pub hidden_of_stmt : Stmt → List ℕ
 hidden_of_stmt (stmt at n a) = hidden_of a
 
 abbrev hidden_of_action : Stmt → List Call

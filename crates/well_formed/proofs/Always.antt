@@ -1,26 +1,22 @@
 -- What holds of the core of a well typed script without single assignment.
-use Rattle.std.specs.Prelude.{◌≡◌, ◌⊎◌, ℕ, zero, suc, ◌<◌, Bool, true, false, List, [], ◌∷◌, length, Option, Some, ℤ, cond, nat_eq, find, slice_get, refl}
+use Rattle.std.specs.Prelude.{◌≡◌, ◌⊎◌, ℕ, ◌<◌, true, List, ◌∷◌, length, Option, Some, slice_get}
 use Rattle.std.proofs.Common.{inl, inr, sym, ap, ◌∙◌, subst, arith}
-use Rattle.std.proofs.lemmas.Bool.{eqb-true}
-use Rattle.values.specs.Operators as op
-use Rattle.values.specs.Operators.{literal}
-use Rattle.syntax_trees.specs.Core.{Owned, local, input, output, Name, here, literal as lit, name as nm, whole, operator, Form, compute, read, Call, Part, calls, Outer, Stmt, stmt, Action, declare, call_alone, assign, fill, insert, print, assert, when, choose, range, each, wait, Block, Function, Core}
+use Rattle.syntax_trees.specs.Core.{Owned, input, output, Name, Call, Outer, Stmt, stmt, Action, declare, fill, insert, Block, Function, Core}
 use Rattle.syntax_trees.specs.Members.{◌∈◌, first}
 use Rattle.syntax_trees.specs.Numbered.{numbered}
-use Rattle.syntax_trees.specs.Parts.{block_list, script_blocks, script_stmts, stmt_calls, part_calls, parts, calls_among}
+use Rattle.syntax_trees.specs.Parts.{block_list, script_blocks, script_stmts, stmt_calls, calls_among}
 use Rattle.syntax_trees.specs.Resolved.{core}
 use Rattle.syntax_trees.specs.Scopes.{Signature, signatures}
 use Rattle.syntax_trees.specs.Table.{Table}
 use Rattle.syntax_trees.specs.Tree.{Tree}
 use Rattle.syntax_trees.specs.Typing.{WellTyped}
-use Rattle.syntax_trees.specs.WellFormed.{Declares, Uses, IsHidden, IsAlone, IsMany, a_list, a_copy}
+use Rattle.syntax_trees.specs.WellFormed.{Declares, Uses, IsHidden, IsAlone}
 use Rattle.syntax_trees.proofs.Blocks.{among_script}
 use Rattle.meaning_laws.proofs.Declared.{local_same}
-use Rattle.syntax_trees.proofs.Members.{split_in, either}
 use Rattle.meaning_laws.proofs.OneAssign.{function_in}
-use Rattle.syntax_trees.proofs.Tested.{distinct, flat, self_eq, distinct_apart, distinct_right, flat_in, flat_once, every_in, name_nodes, hidden_calls, hidden_of, nodes, writer_of, block_nodes, declared_node, hidden_node, stmt_once, one_block, cell_once, role_once, role_cells, call_among}
-use Rattle.meaning_laws.proofs.TestedNames.{uses_used, declares_it, declared_it, declares, one_hidden, is_local, hidden_fine, is_many, fill_fine, offset}
-use Rattle.meaning_laws.proofs.TreeCalls.{calls-append, hidden, fills}
+use Rattle.syntax_trees.proofs.Tested.{distinct, flat, flat_in, flat_once, every_in, name_nodes, hidden_calls, nodes, writer_of, block_nodes, declared_node, hidden_node, stmt_once, one_block, cell_once, role_once, role_cells, call_among}
+use Rattle.meaning_laws.proofs.TestedNames.{uses_used, declares_it, declared_it, declares, one_hidden, hidden_fine, fill_fine, find_once, get_below, kinds, hidden_shape, is_many_form, hidden_of_stmt}
+use Rattle.meaning_laws.proofs.TreeCalls.{hidden, fills}
 use Rattle.meaning_laws.proofs.TreeNodes.{nodes_once}
 use Rattle.meaning_laws.proofs.TreeOffsets.{tree_offsets, offsets_once}
 use Rattle.meaning_laws.proofs.TreeStmts.{writers_once}
@@ -30,83 +26,6 @@ use Rattle.well_formed.proofs.Everywhere.{IsParameter, AllPlaced, block_ok}
 use Rattle.well_formed.proofs.Bodies.{all_placed, scoped_block}
 use Rattle.well_formed.proofs.Once.{numbers_once}
 use Rattle.well_formed.proofs.Formed.{called, call_of}
-
--- CALLS
-
-find_once : (cs : List Call) (c : Call) → distinct (flat offset cs) ≡ true → c ∈ cs → find (λ d. nat_eq d.at c.at) cs ≡ Some c
-find_once [] c h m = elim m [ ]
-find_once (d ∷ cs) c h m = by (nat_eq d.at c.at) refl (split_in m) (λ k. find_once cs c (distinct_right (d.at ∷ []) (flat offset cs) h) k)
-  where
-    by : (b : Bool) → nat_eq d.at c.at ≡ b → ((c ≡ d) ⊎ (c ∈ cs)) → (c ∈ cs → find (λ d. nat_eq d.at c.at) cs ≡ Some c) → cond b (Some d) (find (λ d. nat_eq d.at c.at) cs) ≡ Some c
-    by true e (inl q) rec = ap (λ (z : Call). Some z) (sym q)
-    by true e (inr k) rec = distinct_apart (d.at ∷ []) (flat offset cs) h first (subst (λ (n : ℕ). n ∈ flat offset cs) (sym (eqb-true d.at c.at e)) (flat_in offset cs k first))
-    by false e (inr k) rec = rec k
-    by false e (inl q) rec = absurd (no_self (sym e ∙ subst (λ (z : Call). nat_eq z.at c.at ≡ true) q (self_eq c.at)))
-      where
-        no_self : false ≡ true → ⊥
-        no_self h = absurd (cc (h))
-
-get_below : (xs : List Name) (j : ℕ) → j < length xs → (x : Name) × (slice_get xs j ≡ Some x)
-get_below [] j h = absurd (omega arith)
-get_below (x ∷ xs) zero h = (x, refl)
-get_below (x ∷ xs) (suc j) h = get_below xs j (omega arith)
-
--- a call of a statement stands in an expression, or is the statement's own
-IsOwnCall : Action → Call → Type 0
-IsOwnCall a c = (p : ℤ) × (ps : List Part) × (a ≡ call_alone p ps c)
-
-kinds : (a : Action) (c : Call) → c ∈ part_calls (parts a) → (c ∈ hidden_calls a) ⊎ IsOwnCall a c
-unfolding IsOwnCall
-kinds (declare v) c m = inl m
-kinds (call_alone p ps d) c m = elim (either (part_calls ps) (d ∷ []) (subst (λ (cs : List Call). c ∈ cs) (calls-append ps (calls d ∷ [])) m)) [
-  | inl i ↦ inl i
-  | inr i ↦ elim (split_in i) [ inl e ↦ inr (p, ps, ap (λ (z : Call). call_alone p ps z) (sym e)) | inr j ↦ elim j [ ] ]
-]
-kinds (assign x e) c m = inl m
-kinds (fill a e) c m = inl m
-kinds (insert a k e) c m = inl m
-kinds (print p e) c m = inl m
-kinds (assert p e) c m = inl m
-kinds (when e b) c m = inl m
-kinds (choose e b d) c m = inl m
-kinds (range lo hi st v t b) c m = inl m
-kinds (each a v t b) c m = inl m
-kinds (wait ns b) c m = inl m
-
-hidden_shape : (xs : List Name) → one_hidden xs ≡ true → (n : ℕ) × (xs ≡ here n ∷ [])
-hidden_shape [] h = absurd (cc (h))
-hidden_shape (x ∷ []) h = by x.up x.what h
-  where
-    by : (up : ℕ) (what : Owned) → is_local up what ≡ true → (n : ℕ) × (record { up = up; what = what } ∷ [] ≡ here n ∷ [])
-    by zero (local n) h = (n, refl)
-    by zero (input i) h = absurd (cc (h))
-    by zero (output j) h = absurd (cc (h))
-    by (suc up) what h = absurd (cc (h))
-hidden_shape (x ∷ y ∷ xs) h = absurd (cc (h))
-
--- WHOLE ARRAYS
-
-is_many_form : (f : Form) → is_many f ≡ true → IsMany f
-is_many_form (compute (whole a)) h = a_copy
-is_many_form (compute (lit v)) h = absurd (cc (h))
-is_many_form (compute (nm x)) h = absurd (cc (h))
-is_many_form (read a i) h = absurd (cc (h))
-is_many_form (compute (operator (op.sum_of ss) es)) h = absurd (cc (h))
-is_many_form (compute (operator (op.product_of fs) es)) h = absurd (cc (h))
-is_many_form (compute (operator (op.compare o) es)) h = absurd (cc (h))
-is_many_form (compute (operator op.equal es)) h = absurd (cc (h))
-is_many_form (compute (operator op.unequal es)) h = absurd (cc (h))
-is_many_form (compute (operator op.all_true es)) h = absurd (cc (h))
-is_many_form (compute (operator op.any_true es)) h = absurd (cc (h))
-is_many_form (compute (operator op.not_true es)) h = absurd (cc (h))
-is_many_form (compute (operator op.negate es)) h = absurd (cc (h))
-is_many_form (compute (operator op.join es)) h = absurd (cc (h))
-is_many_form (compute (operator op.from_int es)) h = absurd (cc (h))
-is_many_form (compute (operator op.to_int es)) h = absurd (cc (h))
-is_many_form (compute (operator op.size es)) h = absurd (cc (h))
-is_many_form (compute (operator (op.printf ps) es)) h = absurd (cc (h))
-is_many_form (compute (operator op.assert es)) h = absurd (cc (h))
-is_many_form (compute (operator op.literal es)) h = a_list
 
 -- WRITERS
 
@@ -118,9 +37,6 @@ insert_parts h = (cc (h), cc (h))
 
 fill_no_insert : {at n at' n' : ℕ} {x x' : Name} {i c c' : Outer} → stmt at n (fill x c) ≡ stmt at' n' (insert x' i c') → ⊥
 fill_no_insert h = absurd (cc (h))
-
-abbrev hidden_of_stmt : Stmt → List ℕ
-hidden_of_stmt (stmt at n a) = hidden_of a
 
 module _ (t : Table) (u : Tree) (typed : WellTyped (numbered 1 u) t) where
   abbrev s : Core
@@ -205,10 +121,9 @@ module _ (t : Table) (u : Tree) (typed : WellTyped (numbered 1 u) t) where
       }
 
   call_kinds : (b : Block) (st : Stmt) (c : Call) → b ∈ script_blocks s → st ∈ block_list b → c ∈ stmt_calls st → IsAlone st c ⊎ IsHidden s c
-  unfolding IsOwnCall
   call_kinds b (stmt at n a) c k i m = elim (kinds a c m) [
     | inl h ↦ inr (hidden_of_call (among_script s k i) h)
-    | inr o ↦ inl (record { at = at; node = n; priority = o.0; parts = o.1; is = ap (λ (z : Action). stmt at n z) o.2 })
+    | inr o ↦ inl (record { at = at; node = n; priority = o.priority; parts = o.parts; is = ap (λ (z : Action). stmt at n z) o.is })
   ]
 
   writer_once : {st st' : Stmt} {n : ℕ} → st ∈ script_stmts s → st' ∈ script_stmts s → n ∈ writer_of st → n ∈ writer_of st' → st ≡ st'
