@@ -376,12 +376,15 @@ mutual
       → elements fs g es (Some b) s ≡ got (tt {0}) s' → Agrees t s' → Agrees t s × AllHaveType fs t (scope_of g) es b
   elements_sound fs g t no_expressions b s s' is all = (kept t s s' (cc) all, rules.none_left)
   elements_sound fs g t (and_expression e es) b s s' is all =
-      let two = bind_got (typed fs g e s >>= λ c. has_wanted c (Some b) (first_of e)) (λ u. elements fs g es (Some b)) (tt {0}) s' is in
-      let one = bind_got (typed fs g e s) (λ c. has_wanted c (Some b) (first_of e)) (tt {0}) two.1 two.2 in
-      let base = has_base_got one.0 b (first_of e) one.1 two.1 one.3 in
+      let two = bind_got (whole fs g e s >>= λ τ. has_wanted τ (Some b) (first_of e)) (λ u. elements fs g es (Some b)) (tt {0}) s' is in
+      let one = bind_got (whole fs g e s) (λ τ. has_wanted τ (Some b) (first_of e)) (tt {0}) two.1 two.2 in
+      let three = bind_got (scalar one.0 (first_of e) one.1) (λ c. has_base c b (first_of e)) (tt {0}) two.1 one.3 in
+      let type = scalar_got one.0 (first_of e) one.1 three.1 three.0 three.2 in
+      let base = has_base_got three.0 b (first_of e) three.1 two.1 three.3 in
       let others = elements_sound fs g t es b two.1 s' two.3 all in
-      let has = typed_sound fs g t e one.0 s one.1 one.2 (kept t one.1 two.1 base.1 others.0) in
-      (has.0, rules.one_more (subst (λ (c : Base). HasType fs t (scope_of g) e c) base.0 has.1) others.1)
+      let has = whole_sound fs g t e one.0 s one.1 one.2 (kept t one.1 two.1 (type.1 ∙ base.1) others.0) in
+      let scalar_type = scalar_sound fs t (scope_of g) e one.0 three.0 type.0 has.1 in
+      (has.0, rules.one_more (subst (λ (c : Base). HasType fs t (scope_of g) e c) base.0 scalar_type) others.1)
 
   chained_sound : (fs : List Signature) (g : Around) (t : Table) (nd : Node) (es : Expressions) (os : List Operator) (at : Span) (c : Base) (s s' : List Settled)
       → chained fs g es os at s ≡ got c s' → Agrees t s' → Agrees t s × HasType fs t (scope_of g) (expression nd (chain os es)) c

@@ -28,7 +28,7 @@ use Rattle.types.specs.Outcomes.{Outcome, refused, got, Check, ◌>>=◌}
 use Rattle.types.specs.Names.{seen, referred, refer, free, fresh, builtin_of, called, settles, missing, found, find, find_from, counted, function_called}
 use Rattle.types.specs.Agrees.{visible_at, scope_of}
 use Rattle.types.specs.Expressions.{same_base, has_base, scalar, scalar_by, elements_of, elements_by, gives, base_of, given_or, given_by, takes, first_given, first_of, count, has_wanted, named, array_name, fits_by, fits, of_one, builtin_by, output_of, either, whole, typed, expected, whole_form, chained, further, elements, arguments, only, builtin_type}
-use Rattle.types.specs.Wants.{OfType, Gives, Want, of_type, any_scalar, any_array, before, IsName, Meets, each, argument_by, argument, Takes, function_takes, builtin_takes, strcat_takes, fromint_takes, toint_takes, size_takes}
+use Rattle.types.specs.Wants.{OfType, Gives, Want, of_type, anything, any_array, before, IsName, Meets, each, argument_by, argument, Takes, function_takes, builtin_takes, strcat_takes, fromint_takes, toint_takes, size_takes}
 use Rattle.types.specs.Breaks.{Purpose, giving, outputs_for, Thing, used, introduced, call, expects, as_array, uneven, BuiltinCounts, Broken, unknown, visible_before, wrong_count, wrong_count_of_builtin, no_function, wrong_type, no_array, no_chain, InExpression, its_name, its_array, its_elements, its_index, its_operand, no_operands, no_operators, first_operand, in_first_operand, its_operands, its_call, its_arguments, InOperands, its_operator, next_operand, behind_operand, too_few, too_many, InWanted, itself, within, InExpressions, first_expression, later_expression}
 use Rattle.types.proofs.Accepted.{given_got, array_name_got, call_counted, builtin_named}
 use Rattle.types.proofs.Typing.{same_self, bind_got, scalar_got, gives_complete, prefix_sound}
@@ -219,9 +219,9 @@ abbrev one_want : Builtin → Want
 one_want Named.FromInt = of_type (one_of Int)
 one_want Named.ToInt = of_type (one_of Text)
 one_want Named.Size = any_array
-one_want Named.Strcat = any_scalar
-one_want Named.Printf = any_scalar
-one_want Named.Assert = any_scalar
+one_want Named.Strcat = anything
+one_want Named.Printf = anything
+one_want Named.Assert = anything
 
 one_taken : (fs : List Signature) (f : Builtin) (name : List ℕ) (es : Expressions) → BuiltinCounts (builtin_name f) 1 (giving 1) → (f ≢ Named.Strcat) → builtin_of name ≡ Some f → Takes fs name es (one_want f ∷ [])
 one_taken fs Named.FromInt name es counts one is = builtin_takes (builtin_name Named.FromInt) (builtin_named name Named.FromInt is) fromint_takes
@@ -285,16 +285,12 @@ output_there (τ ∷ τs) at s y one is = absurd (cc)
 
 -- what is wanted of elements
 abbrev pub element_want : Option Base → Want
-element_want None = any_scalar
+element_want None = anything
 element_want (Some b) = of_type (one_of b)
 
 -- an expression that is no scalar
 abbrev NoScalar : List Signature → TypeFault → Scope → Expression → Type 0
 NoScalar fs y g e = (τ : Typ) × Gives fs g e τ × (Mismatch (first_of e) ≡ y) × (τ.shape ≡ Array)
-
-no_scalar_broken : (fs : List Signature) (g : Scope) (e : Expression) (b : Option Base) (y : TypeFault) → NoScalar fs y g e → Broken fs g (expects (element_want b) e) y
-no_scalar_broken fs g e None y it = type_broken fs g e any_scalar it.0 y it.1 (it.2, λ meets. let scalar : it.0.shape ≡ Scalar = meets in let array : it.0.shape ≡ Array = it.3 in absurd (cc))
-no_scalar_broken fs g e (Some b) y it = type_broken fs g e (of_type (one_of b)) it.0 y it.1 (it.2, array_apart it.0 b it.3)
 
 no_operand_broken : (fs : List Signature) (g : Scope) (e : Expression) (o : Operator) (y : TypeFault) → NoScalar fs y g e → (c : Base) → Broken fs g (expects (before o c) e) y
 no_operand_broken fs g e o y it c = type_broken fs g e (before o c) it.0 y it.1 (it.2, λ meets. array_apart it.0 meets.0 it.3 meets.1)
@@ -305,10 +301,10 @@ operator_apart e o b c other meets =
     let same : b ≡ meets.0 = ap (λ (x : Typ). x.base) meets.1 in
     other (subst (λ (x : Base). Operates o x c) (sym same) meets.2)
 
-wanted_refused : (b : Base) (o : Option Base) (e : Expression) (s : List Settled) (y : TypeFault) → has_wanted b o (first_of e) s ≡ refused y
-    → (Mismatch (first_of e) ≡ y) × (¬ Meets (element_want o) e (one_of b))
-wanted_refused b None e s y is = absurd (cc)
-wanted_refused b (Some c) e s y is = let it = has_base_refused b c (first_of e) s y is in (it.0, other_base b c it.1)
+wanted_refused : (τ : Typ) (o : Option Base) (e : Expression) (s : List Settled) (y : TypeFault) → has_wanted τ o (first_of e) s ≡ refused y
+    → (Mismatch (first_of e) ≡ y) × (¬ Meets (element_want o) e τ)
+wanted_refused τ None e s y is = absurd (cc)
+wanted_refused τ (Some b) e s y is = fits_refused Scalar τ b e s y is
 
 mutual
   unfolding whole typed expected whole_form chained further elements arguments only
@@ -446,13 +442,10 @@ mutual
       → InExpressions fs (Breaking fs y) (scope_of g) (each (element_want b) es) es
   elements_broken fs g no_expressions b s y is = absurd (cc)
   elements_broken fs g (and_expression e es) b s y is =
-      elim (bind_refused (typed fs g e s >>= λ c. has_wanted c b (first_of e)) (λ u. elements fs g es b) y is) [
-        | inl c ↦ elim (bind_refused (typed fs g e s) (λ c. has_wanted c b (first_of e)) y c) [
-          | inl a ↦ elim (typed_broken fs g e s y a) [
-            | inl x ↦ first_expression (within x)
-            | inr x ↦ first_expression (itself (no_scalar_broken fs (scope_of g) e b y x))
-          ]
-          | inr a ↦ first_expression (itself (type_broken fs (scope_of g) e (element_want b) (one_of a.0) y (typed_gives fs g e a.0 s a.1 a.2) (wanted_refused a.0 b e a.1 y a.3)))
+      elim (bind_refused (whole fs g e s >>= λ τ. has_wanted τ b (first_of e)) (λ u. elements fs g es b) y is) [
+        | inl c ↦ elim (bind_refused (whole fs g e s) (λ τ. has_wanted τ b (first_of e)) y c) [
+          | inl a ↦ first_expression (within (whole_broken fs g e s y a))
+          | inr a ↦ first_expression (itself (type_broken fs (scope_of g) e (element_want b) a.0 y (whole_gives fs g e a.0 s a.1 a.2) (wanted_refused a.0 b e a.1 y a.3)))
         ]
         | inr a ↦ later_expression (elements_broken fs g es b a.1 y a.3)
       ]

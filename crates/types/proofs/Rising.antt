@@ -90,9 +90,11 @@ pub output_end : (τs : List Typ) (at : Span) (τ : Typ) (s s' : List Settled) �
 output_end [] at τ s s' is = absurd (cc)
 output_end (σ ∷ σs) at τ s s' is = cc
 
-wanted_end : (c : Base) (b : Option Base) (at : Span) (s s' : List Settled) → has_wanted c b at s ≡ got (tt {0}) s' → s ≡ s'
-wanted_end c None at s s' is = cc
-wanted_end c (Some b) at s s' is = (has_base_got c b at s s' is).1
+wanted_end : (τ : Typ) (b : Option Base) (at : Span) (s s' : List Settled) → has_wanted τ b at s ≡ got (tt {0}) s' → s ≡ s'
+wanted_end τ None at s s' is = cc
+wanted_end τ (Some b) at s s' is =
+    let one = bind_got (scalar τ at s) (λ c. has_base c b at) (tt {0}) s' is in
+    (scalar_got τ at s one.1 one.0 one.2).1 ∙ (has_base_got one.0 b at one.1 s' one.3).1
 
 first_end : (os : List Operator) (b c : Base) (at : Span) (s s' : List Settled) → first_given os b at s ≡ got c s' → s ≡ s'
 first_end [] b c at s s' is = absurd (cc)
@@ -186,10 +188,10 @@ mutual
       → Rises (n + expressions_size es) s'
   elements_rises fs g n no_expressions b s s' is rises = rises_same (n + 0) s s' (cc) (rises_on (n + 0) rises (omega arith))
   elements_rises fs g n (and_expression e es) b s s' is rises =
-      let two = bind_got (typed fs g (numbered_expression n e) s >>= λ c. has_wanted c b (first_of (numbered_expression n e))) (λ u. elements fs g (numbered_expressions (n + expression_size e) es) b) (tt {0}) s' is in
-      let one = bind_got (typed fs g (numbered_expression n e) s) (λ c. has_wanted c b (first_of (numbered_expression n e))) (tt {0}) two.1 two.2 in
+      let two = bind_got (whole fs g (numbered_expression n e) s >>= λ τ. has_wanted τ b (first_of (numbered_expression n e))) (λ u. elements fs g (numbered_expressions (n + expression_size e) es) b) (tt {0}) s' is in
+      let one = bind_got (whole fs g (numbered_expression n e) s) (λ τ. has_wanted τ b (first_of (numbered_expression n e))) (tt {0}) two.1 two.2 in
       let end = wanted_end one.0 b (first_of (numbered_expression n e)) one.1 two.1 one.3 in
-      let first = rises_same (n + expression_size e) one.1 two.1 end (typed_rises fs g n e one.0 s one.1 one.2 rises) in
+      let first = rises_same (n + expression_size e) one.1 two.1 end (whole_rises fs g n e one.0 s one.1 one.2 rises) in
       rises_on (n + (expression_size e + expressions_size es)) (elements_rises fs g (n + expression_size e) es b two.1 s' two.3 first) (omega arith)
 
   chained_rises : (fs : List Signature) (g : Around) (n : ℕ) (es : Expressions) (os : List Operator) (at : Span) (c : Base) (s s' : List Settled) → chained fs g (numbered_expressions n es) os at s ≡ got c s' → Rises n s

@@ -112,10 +112,10 @@ abbrev pub count : Expressions → ℕ
 count no_expressions = 0
 count (and_expression e es) = suc (count es)
 
--- the type that is wanted, where one is
-abbrev pub has_wanted : Base → Option Base → Span → Check (Unit {0})
-has_wanted b None at settled = got tt settled
-has_wanted b (Some c) at settled = has_base b c at settled
+-- a scalar of the type that is wanted, where one is; else any type, also an array's
+abbrev pub has_wanted : Typ → Option Base → Span → Check (Unit {0})
+has_wanted τ None at settled = got tt settled
+has_wanted τ (Some b) at settled = scalar τ at settled >>= λ c. has_base c b at
 
 -- whether an expression is a variable's name
 abbrev pub named_form : Form → Bool
@@ -216,7 +216,7 @@ unfoldable mutual
   -- expressions of a type that is wanted, or of any
   pub elements : List Signature → Around → Expressions → Option Base → Check (Unit {0})
   elements fs g no_expressions b settled = got tt settled
-  elements fs g (and_expression e es) b settled = (typed fs g e settled >>= λ c. has_wanted c b (first_of e)) >>= λ u. elements fs g es b
+  elements fs g (and_expression e es) b settled = (whole fs g e settled >>= λ τ. has_wanted τ b (first_of e)) >>= λ u. elements fs g es b
 
   -- arguments, each of the type of its input
   pub arguments : List Signature → Around → Expressions → List Typ → Span → Check (Unit {0})

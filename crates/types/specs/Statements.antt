@@ -23,7 +23,7 @@ use Rattle.types.specs.Expressions.{has_type, elements_of, first_of, either, who
 
 -- RIGHT SIDES
 
--- an array literal: its target is an array, and its elements have the type of the target's
+-- an array literal: its target is an array, and its elements have the type of the target's; with a scalar target they are compared with nothing
 abbrev pub literal_by : Shape → List Signature → Around → Base → List Expression → Node → Check (Unit {0})
 literal_by Array fs g b es nd settled = elements fs g (expressions_of es) (Some b) settled
 literal_by Scalar fs g b es nd settled = elements fs g (expressions_of es) None settled >>= λ u s. refused (Mismatch nd.first)

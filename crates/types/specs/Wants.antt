@@ -56,7 +56,7 @@ pub data Gives (fs : List Signature) (g : Scope) : Expression → Typ → Type 0
 -- what is wanted of an expression
 pub data Want : Type 0 where
   of_type : Typ → Want
-  any_scalar : Want
+  anything : Want
   -- the name of an array, with elements of a type or of any
   array_of : Base → Want
   any_array : Want
@@ -69,7 +69,7 @@ IsName e = (nd : Node) × (w : Word) × (e ≡ expression nd (variable w))
 -- an expression that gives a type is what is wanted
 abbrev pub Meets : Want → Expression → Typ → Type 0
 Meets (of_type σ) e τ = τ ≡ σ
-Meets any_scalar e τ = τ.shape ≡ Scalar
+Meets anything e τ = Unit {0}
 Meets (array_of b) e τ = IsName e × (τ ≡ many_of b)
 Meets any_array e τ = IsName e × (τ.shape ≡ Array)
 Meets (before o c) e τ = (b : Base) × (τ ≡ one_of b) × Operates o b c
@@ -87,9 +87,9 @@ argument_by Array b = array_of b
 abbrev pub argument : Typ → Want
 argument τ = argument_by τ.shape τ.base
 
--- of an element of an array literal, by the type of its target
+-- of an element of an array literal, by the type of its target: of one that stands for a scalar nothing
 abbrev pub element_by : Shape → Base → Want
-element_by Scalar b = any_scalar
+element_by Scalar b = anything
 element_by Array b = of_type (one_of b)
 
 abbrev pub element_of : Typ → Want

@@ -414,7 +414,7 @@ fn array_name<A: Allocator>(found: VariableType, value: &Expr<A>) -> Result<Base
     }
 }
 
-/// Expressions that all have the wanted type, or any where none is wanted.
+/// Expressions that are all scalars of the wanted type, or of any type where none is wanted.
 #[tactic(auto, unfolding(crate::specs::Expressions::elements))]
 #[cycle(expr)]
 pub fn elements<A: Allocator>(
@@ -428,18 +428,18 @@ pub fn elements<A: Allocator>(
 {
     for i in 0..values.len() {
         let value = &values[i];
-        let found = expr(functions, scope, settled, value)?;
+        let found = whole(functions, scope, settled, value)?;
         has_wanted(found, wanted, value.first)?;
     }
     Ok(())
 }
 
-/// Refuses a type that is not the wanted one, where one is wanted.
-fn has_wanted(found: Base, wanted: Option<Base>, at: Span) -> Result<(), TypeFault>
-    ensures { Judges (λ _. tt) result (checks.has_wanted found wanted at) }
+/// Refuses a type that is not a scalar of the wanted one, where one is wanted.
+fn has_wanted(found: VariableType, wanted: Option<Base>, at: Span) -> Result<(), TypeFault>
+    ensures { Judges (λ _. tt) result (checks.has_wanted (type_of found) wanted at) }
 {
     match wanted {
-        Some(base) => same_base(found, base, at),
+        Some(base) => same_base(scalar(found, at)?, base, at),
         None => Ok(()),
     }
 }

@@ -47,7 +47,8 @@ fn right<A: Allocator>(
     }
 }
 
-/// An array literal: its elements have the type of the target's, and the target is an array.
+/// An array literal: its elements have the type of the target's, and the target is an array. With a scalar target they are compared
+/// with nothing, before the literal is refused.
 fn literal<A: Allocator>(
     functions: &Functions,
     scope: &Scope,
