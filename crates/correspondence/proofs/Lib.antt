@@ -33,3 +33,5 @@ pub mod Exact
 pub mod ClosingFrom
 pub mod OwnFacts
 pub mod Within
+pub mod Listing
+pub mod RunsWithin

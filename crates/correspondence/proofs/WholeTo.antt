@@ -189,7 +189,7 @@ module _ (s : Core) (C : Code) (w : IsCodeOf s C) (K : Knowledge) (wf : WellForm
   abbrev Chunked : ℕ → ℕ → Type 0
   Chunked i c = (c ≡ 0) ⊎ ((lp : Loop) × (loop_of (entry C i).act ≡ Some lp))
 
-  first_chunk : (u : Task) → Live (code_system C) (Reading (code_system C) (Answers s K)) u → (i c : ℕ) (p : List Step) → u ≡ Item i p c → Chunked i c
+  pub first_chunk : (u : Task) → Live (code_system C) (Reading (code_system C) (Answers s K)) u → (i c : ℕ) (p : List Step) → u ≡ Item i p c → Chunked i c
   first_chunk u live_main i c p q = absurd (cc (q))
   first_chunk u (live_opened t u' e o lv f io iu) i c p q = by t lv f
     where
