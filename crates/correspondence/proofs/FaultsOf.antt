@@ -90,10 +90,10 @@ module _ (s : Core) (C : Code) (w : IsCodeOf s C) (K : Knowledge) (wf : WellForm
     abbrev pub IsFault : OpFault → Type 0
     IsFault f = Faults K (operation f) (entry C i).at (script_path p)
 
-    placed : {at : ℕ} (f : OpFault) (n : ℕ) → (entry C i).at ≡ at → K (fault (operation f) at (script_path p, n)) → IsFault f
+    pub placed : {at : ℕ} (f : OpFault) (n : ℕ) → (entry C i).at ≡ at → K (fault (operation f) at (script_path p, n)) → IsFault f
     placed f n e h = (n, subst (λ (z : ℕ). K (fault (operation f) z (script_path p, n))) (sym e) h)
 
-    live_here : {st : Stmt} → st ∈ block_list b → LiveStmt s K (script_path p) st
+    pub live_here : {st : Stmt} → st ∈ block_list b → LiveStmt s K (script_path p) st
     live_here m = in_block (chain_live s C w.layout K wf.names I sc ch) m
 
     -- of the cell that the entry works out itself: cells, assignments, literals, lines and assertions

@@ -35,3 +35,4 @@ pub mod OwnFacts
 pub mod Within
 pub mod Listing
 pub mod RunsWithin
+pub mod FaultsTo

@@ -8,10 +8,8 @@ use Rattle.values.specs.declared.value.Scalar.{Scalar}
 use Rattle.values.specs.declared.value.Scalar.TheVariants.{Text}
 use Rattle.values.specs.declared.value.Value.TheVariants.{One}
 use Rattle.values.specs.Values.{text_of}
-
 use Rattle.syntax_trees.specs.Members.{◌∈◌, first, later}
 use Rattle.syntax_trees.specs.Outcomes.{Written, texts, OnceEach}
-
 use Rattle.syntax_trees.specs.Places.{Place}
 use Rattle.syntax_trees.proofs.Members.{split_in, to_left, to_right, either}
 use Rattle.task_code.specs.Code.{Code, entry}

@@ -56,16 +56,16 @@ use Rattle.correspondence.proofs.Roles.{parts_of, PartOf, OwnAs, own_simple, own
 use Rattle.correspondence.proofs.Transfer.{reading_valid}
 
 -- a condition that opens a block
-record Branched (r : Result Value OpFault) (t : ℕ) (d : Option ℕ) (mark : ℕ) (p : List Step) (s : ℕ × List Step) : Type 0 where
-  condition : Value
+pub record Branched (r : Result Value OpFault) (t : ℕ) (d : Option ℕ) (mark : ℕ) (p : List Step) (s : ℕ × List Step) : Type 0 where
+  pub condition : Value
   pub is : r ≡ Ok condition
-  taken : ((truth_of condition ≡ true) × (s ≡ (t, step_at mark (Key.Number (pos 0)) p))) ⊎ ((truth_of condition ≡ false) × ((u : ℕ) × (d ≡ Some u) × (s ≡ (u, step_at mark (Key.Number (pos 1)) p))))
+  pub taken : ((truth_of condition ≡ true) × (s ≡ (t, step_at mark (Key.Number (pos 0)) p))) ⊎ ((truth_of condition ≡ false) × ((u : ℕ) × (d ≡ Some u) × (s ≡ (u, step_at mark (Key.Number (pos 1)) p))))
 
 pub in_one : {X : Type 0} (x y : X) → In x (y ∷ []) → x ≡ y
 in_one x y (inl e) = e
 in_one x y (inr z) = absurd z
 
-branch_of : (c : ℕ) (r : Result Value OpFault) (t : ℕ) (d : Option ℕ) (mark : ℕ) (p : List Step) (s : ℕ × List Step) → In s (at_first c (branch_instances (branched r) t d mark p)) → Branched r t d mark p s
+pub branch_of : (c : ℕ) (r : Result Value OpFault) (t : ℕ) (d : Option ℕ) (mark : ℕ) (p : List Step) (s : ℕ × List Step) → In s (at_first c (branch_instances (branched r) t d mark p)) → Branched r t d mark p s
 branch_of (suc c) r t d mark p s h = absurd h
 branch_of zero (Err f) t d mark p s h = absurd h
 branch_of zero (Ok v) t d mark p s h = by (truth_of v) refl d h
@@ -87,25 +87,25 @@ listed_in xs y h = by (in_key_order xs) h
     by false h = absurd h
 
 -- a turn of a range
-record Ranged (rl rh rs : Result Value OpFault) (y : Key × Scalar) : Type 0 where
-  low : Value
-  high : Value
-  step : Value
-  low_is : rl ≡ Ok low
-  high_is : rh ≡ Ok high
-  step_is : rs ≡ Ok step
-  many : ℕ
-  count : range_count (number_of low) (number_of high) (number_of step) ≡ Ok many
-  place : ℕ
-  below : place < many
-  key_is : y.0 ≡ Key.Number (pos place)
+pub record Ranged (rl rh rs : Result Value OpFault) (y : Key × Scalar) : Type 0 where
+  pub low : Value
+  pub high : Value
+  pub step : Value
+  pub low_is : rl ≡ Ok low
+  pub high_is : rh ≡ Ok high
+  pub step_is : rs ≡ Ok step
+  pub many : ℕ
+  pub count : range_count (number_of low) (number_of high) (number_of step) ≡ Ok many
+  pub place : ℕ
+  pub below : place < many
+  pub key_is : y.0 ≡ Key.Number (pos place)
 
 pub turn_in : (low step : ℤ) (m n : ℕ) (y : Key × Scalar) → In y (range_turns low step m n) → (j : ℕ) × (j < m + n) × (y.0 ≡ Key.Number (pos j))
 turn_in low step m zero y h = absurd h
 turn_in low step m (suc n) y (inl e) = (m, omega arith, ap (λ (z : Key × Scalar). z.0) e)
 turn_in low step m (suc n) y (inr h) = let r = turn_in low step (suc m) n y h in (r.0, (let z = r.1 in omega arith), r.2)
 
-ranged_of : (rl rh rs : Result Value OpFault) (y : Key × Scalar) → In y (turns_of (ranged rl rh rs)) → Ranged rl rh rs y
+pub ranged_of : (rl rh rs : Result Value OpFault) (y : Key × Scalar) → In y (turns_of (ranged rl rh rs)) → Ranged rl rh rs y
 ranged_of (Err f) rh rs y h = absurd h
 ranged_of (Ok l) (Err f) rs y h = absurd h
 ranged_of (Ok l) (Ok g) (Err f) y h = absurd h
@@ -152,7 +152,7 @@ outer_among (x ∷ os) o (later h) = to_right x.parts _ (later (outer_among os o
 pub call_of : (st : Stmt) (x : Call) → Co.calls x ∈ parts_of st → x ∈ stmt_calls st
 call_of (stmt at n a) x h = call_among (parts a) h
 
-simple_opens_none : (l : Layout) (k c mark : ℕ) (p : List Step) (ys : List Got) (a : Action) → IsSimple a → instances (simple_act l k (own_needs l k a) a) mark p c (compute (simple_act l k (own_needs l k a) a) ys) ≡ []
+pub simple_opens_none : (l : Layout) (k c mark : ℕ) (p : List Step) (ys : List Got) (a : Action) → IsSimple a → instances (simple_act l k (own_needs l k a) a) mark p c (compute (simple_act l k (own_needs l k a) a) ys) ≡ []
 simple_opens_none l k c mark p ys (Co.assign x o) z = refl
 simple_opens_none l k c mark p ys (Co.fill x o) z = by (own_expr o)
   where
@@ -238,7 +238,7 @@ module _ (s : Core) (C : Code) (w : IsCodeOf s C) (K : Knowledge) (wf : WellForm
         let u = value_of (seen w.layout o.cell) (seen_scoped k w.layout o.cell g) (each_once (wanted k (seen w.layout o.cell) ++ [])) q (λ x j. in_once x _ (in_left x (wanted k (seen w.layout o.cell)) [] j)) in
         (lv, seen_known s wf K kn w.layout o.cell lv cm (subst (λ (r : Result Value OpFault). ValueUnder s K (script_path p) (seen w.layout o.cell) r) ev u))
 
-    truth_is : (v : Value) (d : Bool) → v ≡ One (Truth d) → (e : Bool) → truth_of v ≡ e → v ≡ One (Truth e)
+    pub truth_is : (v : Value) (d : Bool) → v ≡ One (Truth d) → (e : Bool) → truth_of v ≡ e → v ≡ One (Truth e)
     truth_is v d q e h = let z : d ≡ e = sym (ap truth_of q) ∙ h in q ∙ ap (λ (x : Bool). One (Truth x)) z
 
     moved_to : {at u : ℕ} {key : Key} {kk : ℕ} {bb : Block} (q : ℕ × List Step) → (entry C i).mark ≡ at → q ≡ (u, step_at (entry C i).mark key p) → Chain s C w.layout K (step_at at key p) u kk bb → OpenedBlock q
@@ -328,7 +328,7 @@ module _ (s : Core) (C : Code) (w : IsCodeOf s C) (K : Knowledge) (wf : WellForm
         }
 
     -- LOOPS
-    turns_are : (lp : code.Loop) (x : Computed) (q : ℕ × List Step) → In q (turn_instances lp (entry C i).mark p (chunk c (turns_of x))) → (y : Key × Scalar) × In y (turns_of x) × (q ≡ (lp.body, step_at (entry C i).mark y.0 p))
+    pub turns_are : (lp : code.Loop) (x : Computed) (q : ℕ × List Step) → In q (turn_instances lp (entry C i).mark p (chunk c (turns_of x))) → (y : Key × Scalar) × In y (turns_of x) × (q ≡ (lp.body, step_at (entry C i).mark y.0 p))
     turns_are lp x q h =
         let r = in_unmap (λ (y : Key × Scalar). (lp.body, step_at (entry C i).mark y.0 p)) q (chunk c (turns_of x)) h in
         (r.0, in_chunk c (turns_of x) r.0 r.1, sym r.2)

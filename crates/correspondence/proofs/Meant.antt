@@ -11,13 +11,12 @@ use Rattle.syntax_trees.specs.Single.{SinglyAssigned}
 use Rattle.syntax_trees.specs.WellFormed.{WellFormed}
 use Rattle.meaning_laws.proofs.Ever.{shut, backed, one_value, one_element}
 use Rattle.meaning_laws.proofs.Rounds.{known_later}
+use Rattle.meaning_laws.proofs.Whole as law
 use Rattle.correspondence.specs.Knows.{Knows}
 
-module _ (s : Core) (w : WellFormed s) (single : SinglyAssigned s) (clean : Clean s)
-    (one_scalar : (p : Place) (v u : Scalar) → HasValue s (Meaning s) p v → HasValue s (Meaning s) p u → v ≡ u)
-    (listed : (a : Place) → Closed s (Meaning s) a → (es : List Element) × Elements (Meaning s) a es) where
-  one_writer : (a : Place) → OneWriter (Meaning s) a
-  one_writer a k u u' v v' h g =
+module _ (s : Core) (w : WellFormed s) (single : SinglyAssigned s) (clean : Clean s) where
+  writers : (a : Place) → OneWriter (Meaning s) a
+  writers a k u u' v v' h g =
       let m = max h.0 g.0 in
       clean m a k u u' v v' (known_later s h.0 m _ (omega arith) h.1) (known_later s g.0 m _ (omega arith) g.1)
 
@@ -27,7 +26,7 @@ module _ (s : Core) (w : WellFormed s) (single : SinglyAssigned s) (clean : Clea
     backed = backed s w single clean;
     one_value = one_value s w single;
     one_element = one_element s w single;
-    one_writer = one_writer;
-    one_scalar = one_scalar;
-    listed = listed;
+    one_writer = writers;
+    one_scalar = λ p v u a b. law.one_scalar s w single p v u a b;
+    listed = λ a d. law.listed_meaning s w single a d;
   }

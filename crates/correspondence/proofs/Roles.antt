@@ -1,11 +1,11 @@
 -- What an entry of a body is for: a part of a statement of its block, or the statement itself.
-use Rattle.std.proofs.Common.{◌≡◌, ◌⊎◌, inl, inr, ℕ, ℤ, pos, List, [], ◌∷◌, ◌++◌, sym, subst, Option, Some, None}
+use Rattle.std.proofs.Common.{◌≡◌, ◌⊎◌, inl, inr, ℕ, ℤ, pos, List, [], ◌∷◌, ◌++◌, sym, subst, Option, Some, None, refl}
 use Rattle.std.specs.List.{flat_map}
 use Rattle.dataflow.specs.System.{In}
 use Rattle.dataflow.proofs.Lists.{in_split}
 use Rattle.syntax_trees.specs.Core.{Name, Form, compute, read, Cell, Call, Part, inner, calls, Outer, Awaited, Stmt, stmt, Action, declare, call_alone, assign, fill, insert, print, assert, when, choose, range, each, wait, Block}
 use Rattle.syntax_trees.specs.Members.{◌∈◌, first, later}
-use Rattle.syntax_trees.specs.Parts.{parts, part_cells, part_calls, cells, block_list}
+use Rattle.syntax_trees.specs.Parts.{stmt_at, parts, part_cells, part_calls, cells, block_list}
 use Rattle.syntax_trees.proofs.Members.{split_in, to_left, to_right, either}
 use Rattle.task_code.specs.Code.{Header, If, Range, Each, Wait, Code, entry}
 use Rattle.agreement.specs.CodeNames.{over, each_once}
@@ -85,6 +85,7 @@ module _ (C : Code) (l : Layout) where
     pub in_own : part ∈ own_of st
     pub in_stmt : part ∈ parts_of st
     pub cells_in : (d : Cell) → d ∈ part_cells all → d ∈ cells st
+    pub at_is : at ≡ stmt_at st
 
   -- a statement's own entry
   pub data OwnAs (k : ℕ) : Stmt → ℕ → Type 0 where
@@ -108,12 +109,12 @@ module _ (C : Code) (l : Layout) where
     pub there : st ∈ block_list b
     pub role : PartOf k st j ⊎ OwnAs k st j
 
-  part_role : {k at j : ℕ} {p : ℤ} {all xs : List Part} {js : List ℕ} (st : Stmt) → PartsAs C l k all at p xs js → In j js → ((x : Part) → x ∈ xs → x ∈ own_of st) → ((x : Part) → x ∈ xs → x ∈ parts_of st) → ((d : Cell) → d ∈ part_cells all → d ∈ cells st) → PartOf k st j
-  part_role st no_part h o f g = absurd h
-  part_role {k} {at} {j} {p} {all} st (one_part {x = x} {is = is} {js = js} a as' q) h o f g =
+  part_role : {k at j : ℕ} {p : ℤ} {all xs : List Part} {js : List ℕ} (st : Stmt) → PartsAs C l k all at p xs js → In j js → ((x : Part) → x ∈ xs → x ∈ own_of st) → ((x : Part) → x ∈ xs → x ∈ parts_of st) → ((d : Cell) → d ∈ part_cells all → d ∈ cells st) → at ≡ stmt_at st → PartOf k st j
+  part_role st no_part h o f g e = absurd h
+  part_role {k} {at} {j} {p} {all} st (one_part {x = x} {is = is} {js = js} a as' q) h o f g e =
       elim (in_split j is js (subst (λ (l : List ℕ). In j l) q h)) [
-        | inl i ↦ record { all = all; at = at; priority = p; part = x; numbers = is; as_part = a; there = i; in_own = o x first; in_stmt = f x first; cells_in = g }
-        | inr i ↦ part_role st as' i (λ y m. o y (later m)) (λ y m. f y (later m)) g
+        | inl i ↦ record { all = all; at = at; priority = p; part = x; numbers = is; as_part = a; there = i; in_own = o x first; in_stmt = f x first; cells_in = g; at_is = e }
+        | inr i ↦ part_role st as' i (λ y m. o y (later m)) (λ y m. f y (later m)) g e
       ]
 
   cells_of : (at n : ℕ) (a : Action) (ps : List Part) → ((x : Part) → x ∈ ps → x ∈ parts a) → (d : Cell) → d ∈ part_cells ps → d ∈ cells (stmt at n a)
@@ -124,18 +125,18 @@ module _ (C : Code) (l : Layout) where
 
   pub stmt_role : {k : ℕ} {st : Stmt} {es : List ℕ} {j : ℕ} → StmtAs C l k st es → In j es → PartOf k st j ⊎ OwnAs k st j
   stmt_role declares h = absurd h
-  stmt_role (calls_alone {at = at} {n = n} {p = p} {ps = ps} {c = c} as') h = inl (part_role (stmt at n (call_alone p ps c)) as' h (λ x m. m) (λ x m. m) (cells_of at n (call_alone p ps c) _ (λ x m. m)))
+  stmt_role (calls_alone {at = at} {n = n} {p = p} {ps = ps} {c = c} as') h = inl (part_role (stmt at n (call_alone p ps c)) as' h (λ x m. m) (λ x m. m) (cells_of at n (call_alone p ps c) _ (λ x m. m)) refl)
   stmt_role {k} {j = j} (simple {at = at} {n = n} i {a = a} {is = is} z op as' e q r) h =
-      one_more is (subst (λ (l : List ℕ). In j l) r h) (λ m. part_role (stmt at n a) as' m (λ x y. y) (λ x y. part_of_stmt a y) (cells_of at n a _ (λ x y. part_of_stmt a y)))
+      one_more is (subst (λ (l : List ℕ). In j l) r h) (λ m. part_role (stmt at n a) as' m (λ x y. y) (λ x y. part_of_stmt a y) (cells_of at n a _ (λ x y. part_of_stmt a y)) refl)
       (λ m. subst (λ (x : ℕ). OwnAs k (stmt at n a) x) (sym m) (own_simple z e q))
   stmt_role {k} {j = j} (branch {at = at} {n = n} i {c = c} {b = b} {is = is} as' e m ba r) h =
-      one_more is (subst (λ (l : List ℕ). In j l) r h) (λ m. part_role (stmt at n (when c b)) as' m (λ x y. y) (λ x y. y) (cells_of at n (when c b) _ (λ x y. y)))
+      one_more is (subst (λ (l : List ℕ). In j l) r h) (λ m. part_role (stmt at n (when c b)) as' m (λ x y. y) (λ x y. y) (cells_of at n (when c b) _ (λ x y. y)) refl)
       (λ q. subst (λ (x : ℕ). OwnAs k (stmt at n (when c b)) x) (sym q) (own_branch e m ba))
   stmt_role {k} {j = j} (branches {at = at} {n = n} i {c = c} {b = b} {d = d} {is = is} as' e m ba bb r) h =
-      one_more is (subst (λ (l : List ℕ). In j l) r h) (λ m. part_role (stmt at n (choose c b d)) as' m (λ x y. y) (λ x y. y) (cells_of at n (choose c b d) _ (λ x y. y)))
+      one_more is (subst (λ (l : List ℕ). In j l) r h) (λ m. part_role (stmt at n (choose c b d)) as' m (λ x y. y) (λ x y. y) (cells_of at n (choose c b d) _ (λ x y. y)) refl)
       (λ q. subst (λ (x : ℕ). OwnAs k (stmt at n (choose c b d)) x) (sym q) (own_branches e m ba bb))
   stmt_role {k} {j = j} (range_loop {at = at} {n = n} {x = x} i {lo = lo} {hi = hi} {st = st} {y = y} {b = b} {is = is} as' e m ba r) h =
-      one_more is (subst (λ (l : List ℕ). In j l) r h) (λ m. part_role (stmt at n (range lo hi st x y b)) as' m (λ x y. y) (λ x y. y) (cells_of at n (range lo hi st x y b) _ (λ x y. y)))
+      one_more is (subst (λ (l : List ℕ). In j l) r h) (λ m. part_role (stmt at n (range lo hi st x y b)) as' m (λ x y. y) (λ x y. y) (cells_of at n (range lo hi st x y b) _ (λ x y. y)) refl)
       (λ q. subst (λ (z : ℕ). OwnAs k (stmt at n (range lo hi st x y b)) z) (sym q) (own_range e m ba))
   stmt_role {k} {j = j} (array_loop {at = at} {n = n} {x = x} i {a = a} {y = y} {b = b} e m ba r) h =
       elim (subst (λ (l : List ℕ). In j l) r h) [ inl q ↦ inr (subst (λ (z : ℕ). OwnAs k (stmt at n (each a x y b)) z) (sym q) (own_each e m ba)) | inr z ↦ absurd z ]

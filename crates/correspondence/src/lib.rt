@@ -5,12 +5,14 @@ ghost use Rattle.correspondence.specs.Backs.{Backs};
 ghost use Rattle.correspondence.specs.Closing.{OutputsApart};
 ghost use Rattle.correspondence.specs.Halves.{Half, HalfIn};
 ghost use Rattle.correspondence.specs.Knows.{Knows};
-ghost use Rattle.correspondence.specs.Inclusions.{Facts, WrittenTo, WrittenFrom, ClosedTo, ClosedFrom, ArraysOnce, LinesTo, LinesFrom};
+ghost use Rattle.correspondence.specs.Inclusions.{Facts, WrittenTo, WrittenFrom, ClosedTo, ClosedFrom, ArraysOnce, LinesTo, LinesFrom, FaultsTo};
 ghost use Rattle.agreement.specs.NodesOnce.{NodesOnce};
 ghost use Rattle.meaning_laws.specs.Scoped.{Scoped};
 ghost use Rattle.agreement.specs.IsCodeOf.{IsCodeOf};
 ghost use Rattle.meaning_laws.specs.TypedValues.{TypedValues};
+ghost use Rattle.agreement.specs.Headline.{Agrees};
 ghost use Rattle.dataflow.specs.Facts.{Ever};
+ghost use Rattle.dataflow.specs.Machine.{Event};
 ghost use Rattle.dataflow.specs.System.{Effect};
 ghost use Rattle.std.specs.Prelude.{ℕ, ◌<◌, List};
 ghost use Rattle.syntax_trees.specs.Core.{Core};
@@ -23,7 +25,7 @@ ghost use Rattle.syntax_trees.specs.WellFormed.{WellFormed};
 ghost use Rattle.task_code.specs.Code.{Code};
 ghost use Rattle.task_code.specs.Effects.{Task};
 ghost use Rattle.task_code.specs.Exact.{IsExact};
-ghost use Rattle.task_code.specs.Machine.{CleanCode};
+ghost use Rattle.task_code.specs.Machine.{CleanCode, CodeState, Run};
 ghost use Rattle.task_code.specs.Places.{Place};
 ghost use Rattle.task_code.specs.System.{code_system};
 ghost use Rattle.task_code.specs.Whole.{IsCode};
@@ -53,6 +55,19 @@ pub fn code_within_script()
     ensures facts { (s : Core) (C : Code) → IsCodeOf s C → IsCode C → WellFormed s → Knows s (Meaning s) → Scoped s → TypedValues s (Meaning s) → NodesOnce C → IsExact C → OutputsApart s
         → (t : Task) (e : Effect Task Place Key Scalar) → Ever (code_system C) t e → Facts s C (Meaning s) t e }
     ensures clean { (s : Core) (C : Code) → IsCodeOf s C → IsCode C → WellFormed s → Knows s (Meaning s) → Scoped s → TypedValues s (Meaning s) → NodesOnce C → IsExact C → OutputsApart s → CleanCode C }
+{}
+
+/// For the whole language: of a script that writes no key twice, every state that a run of its code reaches agrees with the script. What is
+/// stored is the script's value at its place, an array that is closed by rights is closed in the script, the lines are some of its lines, no line
+/// taken twice, and a fault is one of its faults, at the statement and path of the item that met it.
+pub fn runs_agree()
+    ensures { (s : Core) (C : Code) → IsCodeOf s C → IsCode C → IsExact C → NodesOnce C → WellFormed s → SinglyAssigned s → Scoped s → TypedValues s (Meaning s) → OutputsApart s
+        → Clean s → (events : List Event) (st : CodeState) → Run C events st → Agrees s C st }
+{}
+
+/// For the whole language: a fault that comes of what the code knows, by the script's answers, is one of the script's.
+pub fn faults_agree()
+    ensures { (s : Core) (C : Code) → IsCodeOf s C → IsCode C → IsExact C → NodesOnce C → WellFormed s → Knows s (Meaning s) → Scoped s → TypedValues s (Meaning s) → OutputsApart s → FaultsTo s C (Meaning s) }
 {}
 
 /// Rounds, without the premise that the script writes no key twice: half a round (what is known after n rounds, and the scalars that follow)

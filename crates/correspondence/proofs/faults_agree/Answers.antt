@@ -1,0 +1,7 @@
+use Rattle.syntax_trees.specs.Meaning.{Meaning}
+use Rattle.correspondence.proofs.FaultsTo.{faults_to}
+use Rattle.correspondence.proofs.Within.{script_right}
+use Rattle.correspondence.proofs.faults_agree.Goals as goal
+
+pub returns : goal.returns
+returns g = λ s C w I ex nodes wf kn sc ty apart. faults_to s C w (Meaning s) wf kn I sc ty (script_right s C w (Meaning s) wf kn I sc ty nodes ex apart)
