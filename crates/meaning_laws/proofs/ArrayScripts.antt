@@ -1,27 +1,25 @@
 -- What small scripts with arrays mean.
-use Rattle.std.specs.Prelude.{◌≡◌, ◌≢◌, ℕ, zero, suc, List, [], ◌∷◌, pos, refl, codes}
+use Rattle.std.specs.Prelude.{◌≡◌, ℕ, List, [], ◌∷◌, pos, refl, codes}
 use Rattle.std.specs.Fmt.{digits}
-use Rattle.std.proofs.Common.{inl, inr, sym, ap, subst, ◌∙◌, arith}
+use Rattle.std.proofs.Common.{inl, inr}
 use Rattle.values.specs.declared.key.Key.{Key}
 use Rattle.values.specs.declared.map.Element.{Element}
 use Rattle.values.specs.declared.value.Scalar.{Scalar}
 use Rattle.values.specs.declared.value.Scalar.TheVariants.{Number}
-use Rattle.values.specs.declared.value.Value.{Value}
 use Rattle.values.specs.declared.value.Value.TheVariants.{One, Many}
 use Rattle.values.specs.Maps.{element as entry}
-use Rattle.syntax_trees.specs.Core.{local, Name, here, Awaited, array, Stmt, stmt, Core}
+use Rattle.syntax_trees.specs.Core.{local, Name, here, Awaited, array, Stmt, Core}
 use Rattle.meaning_laws.specs.ArrayExamples as example
 use Rattle.syntax_trees.specs.Facts.{value, element, line, Elements, a_number}
-use Rattle.syntax_trees.specs.Meaning.{Live, script, waited, Closed, closed, Finished, no_target, value_known, content_finished, Ready, names_known, Come, array_closed, of_literal, of_name, of_array, of_operator, no_operand, operand, stored, computed, found, now, in_block, cell_value, filled, printed, Known, Meaning}
+use Rattle.syntax_trees.specs.Meaning.{script, waited, Closed, closed, Finished, no_target, value_known, names_known, Come, array_closed, of_literal, of_name, of_array, of_operator, no_operand, operand, stored, computed, found, now, in_block, cell_value, filled, printed, Known, Meaning}
 use Rattle.syntax_trees.specs.Members.{◌∈◌, first, later}
 use Rattle.syntax_trees.specs.Outcomes.{Lines}
 use Rattle.syntax_trees.specs.Parts.{block_list, script_stmts}
-use Rattle.syntax_trees.specs.Places.{Path, Place, place}
+use Rattle.syntax_trees.specs.Places.{Place, place}
 use Rattle.syntax_trees.specs.Single.{SinglyAssigned}
 use Rattle.syntax_trees.specs.WellFormed.{WellFormed}
 use Rattle.meaning_laws.proofs.ArrayWriters.{Writer, writers, sole_writer, one_writer, one_write, filled_elements}
 use Rattle.meaning_laws.proofs.Printing.{flat_prints, one_line}
-use Rattle.meaning_laws.proofs.Rounds.{known_later}
 use Rattle.meaning_laws.proofs.TestedNames.{well_formed}
 use Rattle.meaning_laws.proofs.TestedSingle.{singly_assigned}
 

@@ -2,8 +2,8 @@
 use Rattle.std.specs.Prelude.{◌≡◌, ◌≢◌, ◌⊎◌, ℕ, Result, Ok, Err, refl}
 use Rattle.std.proofs.Common.{inl, inr, sym, ap, ◌∙◌, subst}
 use Rattle.values.specs.declared.value.Value.{Value}
-use Rattle.syntax_trees.specs.Core.{Cell, Stmt, stmt, range, Core}
-use Rattle.syntax_trees.specs.Facts.{Fault, operation, element_twice, too_deep, Fact, value, fault, Knowledge}
+use Rattle.syntax_trees.specs.Core.{Cell, Stmt, Core}
+use Rattle.syntax_trees.specs.Facts.{Fault, Fact, value, fault, Knowledge}
 use Rattle.syntax_trees.specs.Meaning.{Gives, LiveStmt, New, cell_value, cell_fault, assigned, filled, inserted, printed, bad_range, too_deep_header, too_deep_call, written_twice, Known, Meaning}
 use Rattle.syntax_trees.specs.Members.{◌∈◌}
 use Rattle.syntax_trees.specs.Parts.{stmt_at, stmt_node, script_stmts, cells}

@@ -1,6 +1,6 @@
 -- What small scripts with loops and conditions mean.
-use Rattle.std.specs.Prelude.{◌≡◌, ◌⊎◌, ℕ, zero, suc, ◌<◌, List, [], length, slice_get, Some, None, true, false, refl}
-use Rattle.std.proofs.Common.{inl, inr, ap, subst, arith}
+use Rattle.std.specs.Prelude.{◌≡◌, ◌⊎◌, ℕ, zero, suc, ◌<◌, List, [], slice_get, Some, None, true, false, refl}
+use Rattle.std.proofs.Common.{inl, inr, subst, arith}
 use Rattle.values.specs.declared.fault.OpFault.TheVariants.{BadStep}
 use Rattle.values.specs.declared.key.Key.{Key}
 use Rattle.values.specs.declared.value.Scalar.{Scalar}

@@ -1,6 +1,6 @@
 -- Where values, elements and lines lie: at live instances of blocks.
-use Rattle.std.specs.Prelude.{◌≡◌, ◌⊎◌, ℕ, zero, suc, ◌≤◌, List, [], ◌∷◌, length, refl}
-use Rattle.std.proofs.Common.{inl, inr, sym, ap, subst, arith}
+use Rattle.std.specs.Prelude.{◌⊎◌, ℕ, zero, suc, ◌≤◌, [], ◌∷◌, length, refl}
+use Rattle.std.proofs.Common.{inl, inr, sym, subst, arith}
 use Rattle.values.specs.declared.value.Scalar.{Scalar}
 use Rattle.values.specs.declared.value.Value.{Value}
 use Rattle.syntax_trees.specs.Core.{Owned, local, input, output, Stmt, Block, Core}

@@ -1,5 +1,5 @@
 -- A closed array has finitely many elements: those that the finished statements of its block have written.
-use Rattle.std.specs.Prelude.{◌≡◌, ◌⊎◌, ℕ, List, [], ◌∷◌, ◌++◌, Option, Some, None, slice_get, refl}
+use Rattle.std.specs.Prelude.{◌≡◌, ℕ, List, [], ◌∷◌, ◌++◌, Option, Some, None, slice_get, refl}
 use Rattle.std.proofs.Common.{inl, inr, sym, ap, ◌∙◌, subst}
 use Rattle.values.specs.declared.key.Key.{Key}
 use Rattle.values.specs.declared.map.Element.{Element}
@@ -7,21 +7,21 @@ use Rattle.values.specs.declared.value.Scalar.{Scalar}
 use Rattle.values.specs.declared.value.Value.{Value}
 use Rattle.values.specs.declared.value.Value.TheVariants.{Many}
 use Rattle.values.specs.Maps.{element as entry}
-use Rattle.syntax_trees.specs.Core.{Owned, local, Name, Outer, Stmt, stmt, Action, declare, call_alone, assign, fill, insert, print, assert, when, choose, range, each, wait, Block, Function, Core}
+use Rattle.syntax_trees.specs.Core.{Owned, Name, Outer, Stmt, stmt, declare, call_alone, assign, fill, insert, print, assert, when, choose, range, each, wait, Block, Function, Core}
 use Rattle.syntax_trees.specs.Facts.{value, element, Knowledge, OneWriter, Elements}
-use Rattle.syntax_trees.specs.Meaning.{IsTarget, Closed, closed, Finished, no_target, value_known, write_known, body_finished, blocks_finished, content_finished, LiveStmt}
+use Rattle.syntax_trees.specs.Meaning.{IsTarget, Closed, closed, Finished, no_target, value_known, write_known, body_finished, blocks_finished, content_finished}
 use Rattle.syntax_trees.specs.Members.{◌∈◌, first, later}
 use Rattle.syntax_trees.specs.Openings.{Opens}
 use Rattle.syntax_trees.specs.Parts.{block_list, script_blocks, script_stmts, stmts_of, function_body}
 use Rattle.syntax_trees.specs.Places.{Path, Place, place}
 use Rattle.syntax_trees.specs.WellFormed.{WellFormed}
 use Rattle.syntax_trees.proofs.Blocks.{header_inner, inner_block, function_block, among_script}
-use Rattle.syntax_trees.proofs.Members.{split_in, to_left, to_right, either}
+use Rattle.syntax_trees.proofs.Members.{to_left, to_right, either}
 use Rattle.meaning_laws.proofs.Declared.{header_of, live_block, stmt_in}
 use Rattle.meaning_laws.proofs.Frozen.{FinishedIn, no_target_in, fill_in, insert_in, body_in, blocks_in, content_in, ClosedIn, live_finished, finished_more}
 use Rattle.meaning_laws.proofs.Hinge.{Later, choice_stays}
 use Rattle.meaning_laws.proofs.PlacesEqual.{place_is}
-use Rattle.meaning_laws.proofs.Rounds.{Sound, FromFill, FromInsert, From, later_of, fills_agree, inserts_agree, fill_not_insert}
+use Rattle.meaning_laws.proofs.Rounds.{Sound, From, later_of, inserts_agree, fill_not_insert}
 use Rattle.meaning_laws.proofs.Sorted.{sorted, sorted_rising, sorted_from, sorted_all}
 use Rattle.meaning_laws.proofs.Sources.{IsFull}
 use Rattle.meaning_laws.proofs.Stages.{all_stmts, all_body, all_opened}

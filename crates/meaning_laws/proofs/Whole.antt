@@ -1,12 +1,12 @@
 -- What the meaning of a script has as a whole, and what is known after a round: one scalar at a place, closed arrays that can be listed.
-use Rattle.std.specs.Prelude.{◌≡◌, ◌⊎◌, ℕ, zero, suc, ◌≤◌, Bool, List, Result, Ok, Err, max}
+use Rattle.std.specs.Prelude.{◌≡◌, ◌⊎◌, ℕ, ◌≤◌, Bool, List, Result}
 use Rattle.std.proofs.Common.{inl, inr, sym, arith}
 use Rattle.values.specs.declared.key.Key.{Key}
 use Rattle.values.specs.declared.map.Element.{Element}
 use Rattle.values.specs.declared.value.Scalar.{Scalar}
 use Rattle.values.specs.declared.value.Value.{Value}
 use Rattle.syntax_trees.specs.Core.{Form, Stmt, Core}
-use Rattle.syntax_trees.specs.Facts.{Fault, Fact, value, element, Knowledge, Elements}
+use Rattle.syntax_trees.specs.Facts.{Fault, value, element, Elements}
 use Rattle.syntax_trees.specs.Meaning.{Closed, HasValue, Gives, Known, Meaning}
 use Rattle.syntax_trees.specs.Members.{◌∈◌}
 use Rattle.syntax_trees.specs.Parts.{script_stmts}
@@ -17,7 +17,7 @@ use Rattle.meaning_laws.proofs.Compact.{value_round}
 use Rattle.meaning_laws.proofs.Ever.{sound, grow, grow_meaning, one_value, one_element}
 use Rattle.meaning_laws.proofs.Hinge.{Later}
 use Rattle.meaning_laws.proofs.Listed.{listed}
-use Rattle.meaning_laws.proofs.OneValue.{OneEach, scalar_same, gives_same}
+use Rattle.meaning_laws.proofs.OneValue.{scalar_same, gives_same}
 use Rattle.meaning_laws.proofs.Rounds.{Sound, From, later_of, known_later, grow_fill, grow_insert, live_fill, live_insert}
 use Rattle.meaning_laws.proofs.Sources.{IsFull, known_full}
 

@@ -1,5 +1,5 @@
 -- Cores of small scripts with arrays. The text of each stands above it; nodes are numbered in reading order.
-use Rattle.std.specs.Prelude.{ℕ, pos, List, [], ◌∷◌}
+use Rattle.std.specs.Prelude.{ℕ, pos, [], ◌∷◌}
 use Rattle.values.specs.declared.format.Piece.{Piece}
 use Rattle.values.specs.Operators.{size, printf, literal}
 use Rattle.syntax_trees.specs.Core.{here, Expr, whole, operator, compute, read, inner, array, stmt, declare, fill, insert, print, wait, Core}

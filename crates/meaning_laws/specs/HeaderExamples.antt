@@ -1,5 +1,5 @@
 -- Cores of small scripts with loops and conditions. The text of each stands above it; nodes are numbered in reading order.
-use Rattle.std.specs.Prelude.{ℕ, zero, suc, pos, true, false, List, [], ◌∷◌, Some, None}
+use Rattle.std.specs.Prelude.{ℕ, zero, suc, pos, true, false, [], ◌∷◌, Some, None}
 use Rattle.values.specs.declared.format.Piece.{Piece}
 use Rattle.values.specs.declared.key.Key.{Key}
 use Rattle.values.specs.declared.op.Factor.TheVariants as Factor
