@@ -36,6 +36,7 @@ pub mod TestedNames
 pub mod Passing
 pub mod TestedSingle
 pub mod Loop
+pub mod OneCore
 pub mod TreeNodes
 pub mod TreeStmts
 pub mod TreeEach

@@ -12,7 +12,11 @@ ghost use Rattle.syntax_trees.specs.Members.{◌∈◌};
 ghost use Rattle.syntax_trees.specs.Outcomes.{Clean};
 ghost use Rattle.syntax_trees.specs.Parts.{cells, script_stmts, stmt_node};
 ghost use Rattle.syntax_trees.specs.Places.{Path, Place, most_steps};
+ghost use Rattle.syntax_trees.specs.Resolved.{core};
 ghost use Rattle.syntax_trees.specs.Single.{SinglyAssigned};
+ghost use Rattle.syntax_trees.specs.Table.{Table};
+ghost use Rattle.syntax_trees.specs.Tree.{Tree};
+ghost use Rattle.syntax_trees.specs.Typing.{WellTyped};
 ghost use Rattle.syntax_trees.specs.WellFormed.{WellFormed};
 
 /// A cell and a variable have one value, whenever they come to have it. Variables are futures that are assigned once, as in the Swift/T Guide.
@@ -110,4 +114,9 @@ pub fn meaning_is_least()
         → ((p : Place) (v u : Value) → IsTrue (test (value p v)) → IsTrue (test (value p u)) → v ≡ u)
         → ((a : Place) → OneWriter (λ f. IsTrue (test f)) a)
         → (f : Fact) → Meaning s f → IsTrue (test f) }
+{}
+
+/// A tree has one core: names are found by their texts, so two tables by which a tree is well typed say the same of all that its core is made of.
+pub fn one_core()
+    ensures { (tree : Tree) (t u : Table) → WellTyped tree t → WellTyped tree u → core t tree ≡ core u tree }
 {}
