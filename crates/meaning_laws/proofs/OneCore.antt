@@ -1,5 +1,5 @@
 -- Two tables by which a tree is well typed give it one core: names are found by their texts.
-use Rattle.std.specs.Prelude.{◌≡◌, ◌⊎◌, ℕ, zero, suc, ◌+◌, nat_eq, ℤ, pos, List, [], ◌∷◌, length, map, Option, Some, slice_get, option_map, refl}
+use Rattle.std.specs.Prelude.{◌≡◌, ◌⊎◌, ℕ, zero, suc, ◌+◌, nat_eq, ℤ, pos, List, [], ◌∷◌, length, map, Option, Some, slice_get, option_map, if◌then◌else◌, refl}
 use Rattle.std.proofs.Common.{inl, inr, sym, ap, ◌∙◌, subst}
 use Rattle.values.specs.Operators as op
 use Rattle.syntax_trees.specs.declared.tree.Base.{Base}
