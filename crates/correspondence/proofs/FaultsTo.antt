@@ -1,9 +1,9 @@
 -- A fault of the code is one of the script's: of the cell that an entry works out, of a range, of an element that is not there, or of a path that would be too long.
-use Rattle.std.proofs.Common.{◌≡◌, ◌⊎◌, inl, inr, ℕ, zero, suc, ◌<◌, ◌≤◌, arith, Bool, true, false, List, [], ◌∷◌, ◌++◌, length, refl, sym, ap, ◌∙◌, subst, Option, Some, None, Result, Ok, Err}
+use Rattle.std.proofs.Common.{◌≡◌, ◌⊎◌, inl, inr, ℕ, suc, ◌≤◌, arith, Bool, true, false, List, [], ◌∷◌, length, refl, sym, ap, ◌∙◌, subst, Option, Some, None, Result, Ok, Err}
 use Rattle.std.specs.Prelude.{pos, ℤ, ◌&&◌, nat_le}
 use Rattle.std.specs.List.{flat_map}
 use Rattle.dataflow.specs.System.{In, Found, Missing, Content, Outcome, Bad, Effect}
-use Rattle.dataflow.specs.Facts.{Live, Comes}
+use Rattle.dataflow.specs.Facts.{Live}
 use Rattle.dataflow.specs.Machine.{OfTask}
 use Rattle.dataflow.proofs.Lists.{in_left, in_right, in_unmap}
 use Rattle.values.specs.declared.fault.OpFault.{OpFault}
@@ -11,19 +11,19 @@ use Rattle.values.specs.declared.key.Key.{Key}
 use Rattle.values.specs.declared.value.Scalar.{Scalar}
 use Rattle.values.specs.declared.value.Scalar.TheVariants.{Number, Truth}
 use Rattle.values.specs.declared.value.Value.{Value}
-use Rattle.values.specs.declared.value.Value.TheVariants.{One, Many}
+use Rattle.values.specs.declared.value.Value.TheVariants.{One}
 use Rattle.values.specs.Operators.{literal, evaluated}
 use Rattle.values.specs.Ranges.{range_count}
 use Rattle.values.specs.Values.{number_of, truth_of}
 use Rattle.syntax_trees.specs.Core as Co
 use Rattle.syntax_trees.specs.Core.{here, Name, Expr, Form, compute, read, Cell, Call, Part, Outer, Stmt, stmt, Action, fill, insert, when, choose, range, each, wait, Block, Core}
-use Rattle.syntax_trees.specs.Facts.{operation, no_element, too_deep, value, element, fault, Knowledge, KnownAll, no_cell, next_cell, IsKey, a_number}
-use Rattle.syntax_trees.specs.Meaning.{Closed, ValueUnder, of_literal, of_name, LiveStmt, in_block, Gives, computed, missing, New, cell_value, cell_fault, bad_range, too_deep_header, too_deep_call, ComeAll, none_comes, next_comes, before, Ready, cells_known, source_closed}
+use Rattle.syntax_trees.specs.Facts.{value, fault, Knowledge, KnownAll, no_cell, next_cell, IsKey, a_number}
+use Rattle.syntax_trees.specs.Meaning.{ValueUnder, of_literal, of_name, LiveStmt, in_block, computed, missing, cell_value, cell_fault, bad_range, too_deep_header, too_deep_call, ComeAll, none_comes, next_comes, before, Ready, cells_known, source_closed}
 use Rattle.syntax_trees.specs.Members.{◌∈◌, first, later}
 use Rattle.syntax_trees.specs.Openings.{Bounds, bounds, one_way, two_ways, in_turns, Opens, then_alone, then_first, else_second, turn, item}
 use Rattle.syntax_trees.specs.Outcomes.{Faults}
-use Rattle.syntax_trees.specs.Parts.{stmt_at, stmt_node, cells, part_cells, block_list, outer_cells, stmt_calls}
-use Rattle.syntax_trees.specs.Places.{Path, Place, place, most_steps}
+use Rattle.syntax_trees.specs.Parts.{stmt_node, cells, part_cells, block_list, outer_cells}
+use Rattle.syntax_trees.specs.Places.{Place, place, most_steps}
 use Rattle.syntax_trees.specs.WellFormed.{WellFormed, IsMany, a_list, a_copy}
 use Rattle.meaning_laws.proofs.Declared.{stmt_in, place_here}
 use Rattle.meaning_laws.proofs.Sources.{outer_in}
@@ -40,19 +40,18 @@ use Rattle.task_code.specs.System.{answered, code_system}
 use Rattle.task_code.specs.Whole.{IsCode}
 use Rattle.task_code.proofs.Kept.{code_laws}
 use Rattle.agreement.specs.Headline.{script_path, script_fault}
-use Rattle.agreement.specs.CodeNames.{name_as, wanted, over, all_over, each_once}
-use Rattle.agreement.specs.IsCodeOf.{seen, own_form, own_expr, own_needs, own_exprs, own_priority, simple_act, fill_act, step_expr, IsSimple, IsEntry, CallAs, PartAs, plain_literal, plain_name, a_cell, a_read, a_call, IndexAs, at_literal, at_name, at_datum, BodyAs, body_as, IsCodeOf}
-use Rattle.meaning_laws.specs.Scoped.{IsIn, FormIn, Scoped}
+use Rattle.agreement.specs.CodeNames.{name_as, wanted, over}
+use Rattle.agreement.specs.IsCodeOf.{seen, own_form, own_expr, own_needs, own_exprs, own_priority, simple_act, fill_act, step_expr, IsSimple, IsEntry, PartAs, plain_literal, plain_name, a_cell, a_read, a_call, IndexAs, at_literal, at_name, at_datum, BodyAs, body_as, IsCodeOf}
+use Rattle.meaning_laws.specs.Scoped.{IsIn, Scoped}
 use Rattle.meaning_laws.specs.TypedValues.{TypedValues}
 use Rattle.correspondence.specs.Answered.{ReadAll, Reading, IsRight}
 use Rattle.correspondence.specs.Chains.{Answers, Chain, at_script, by_header, by_wait, by_call, HasElement, Lacks}
-use Rattle.correspondence.specs.Inclusions as In_
 use Rattle.correspondence.specs.Inclusions.{FaultsTo}
 use Rattle.correspondence.specs.Knows.{Knows}
 use Rattle.correspondence.proofs.Backing.{backs}
 use Rattle.correspondence.proofs.Evaluate.{Got, Ans, AnsAll, SaysScript, answers_of, in_once}
 use Rattle.correspondence.proofs.FaultsOf.{value_at, own_fails, seen_fails, assign_fails, print_fails, assert_fails, when_fails, choose_fails, insert_fails, cell_fails}
-use Rattle.correspondence.proofs.LiveTo.{ItemLive, live_to, in_one, Branched, branch_of, Ranged, ranged_of, bounds_two, bounds_three, ok_step, outer_among, call_of, simple_opens_none, listed_in}
+use Rattle.correspondence.proofs.LiveTo.{ItemLive, live_to, in_one, branch_of, ranged_of, bounds_two, bounds_three, ok_step, outer_among, call_of, simple_opens_none, listed_in}
 use Rattle.correspondence.proofs.Means.{chain_live, chain_body, chain_scope}
 use Rattle.correspondence.proofs.Opening.{arrays_are_data, seen_known, seen_scoped}
 use Rattle.correspondence.proofs.Readings.{name_stands, says_script, same_array, to_script, IsSame, element_in}

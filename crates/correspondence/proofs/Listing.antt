@@ -1,8 +1,8 @@
 -- The lines of facts with their writers, in the order of a log.
 use Rattle.std.proofs.Common.{◌≡◌, ◌⊎◌, inl, inr, ℕ, List, [], ◌∷◌, ◌++◌, map, refl, sym, ap, ◌∙◌, subst}
 use Rattle.dataflow.specs.System.{In, Effect}
-use Rattle.dataflow.specs.Promises.{lines_of, tasks_in_log}
-use Rattle.dataflow.proofs.Lists.{in_map, map_append}
+use Rattle.dataflow.specs.Promises.{lines_of}
+use Rattle.dataflow.proofs.Lists.{map_append}
 use Rattle.values.specs.declared.key.Key.{Key}
 use Rattle.values.specs.declared.value.Scalar.{Scalar}
 use Rattle.values.specs.declared.value.Scalar.TheVariants.{Text}

@@ -1,10 +1,8 @@
 -- The meaning of a clean script is knowledge of the kind that is asked for.
-use Rattle.std.proofs.Common.{◌≡◌, max, List, arith}
-use Rattle.values.specs.declared.map.Element.{Element}
-use Rattle.values.specs.declared.value.Scalar.{Scalar}
+use Rattle.std.proofs.Common.{max, arith}
 use Rattle.syntax_trees.specs.Core.{Core}
-use Rattle.syntax_trees.specs.Facts.{Elements, OneWriter}
-use Rattle.syntax_trees.specs.Meaning.{Closed, HasValue, Meaning}
+use Rattle.syntax_trees.specs.Facts.{OneWriter}
+use Rattle.syntax_trees.specs.Meaning.{Meaning}
 use Rattle.syntax_trees.specs.Outcomes.{Clean}
 use Rattle.syntax_trees.specs.Places.{Place}
 use Rattle.syntax_trees.specs.Single.{SinglyAssigned}

@@ -1,6 +1,6 @@
 -- Every run of a clean script's code: what it stores, closes, prints and reports is the script's.
-use Rattle.std.proofs.Common.{◌≡◌, ◌⊎◌, inl, inr, ℕ, Bool, true, false, List, [], ◌∷◌, ◌++◌, map, refl, sym, ap, ◌∙◌, subst, Some, None}
-use Rattle.dataflow.specs.System.{In, Distinct, Write, Effect, Outcome, Good, Bad}
+use Rattle.std.proofs.Common.{◌≡◌, ◌⊎◌, inl, inr, ℕ, Bool, true, false, List, [], ◌∷◌, map, refl, sym, ap, ◌∙◌, subst, Some}
+use Rattle.dataflow.specs.System.{In, Distinct, Outcome}
 use Rattle.dataflow.specs.Facts as Fa
 use Rattle.dataflow.specs.Facts.{Live, live_main, live_opened, Ever, Faulty, Comes, Written}
 use Rattle.dataflow.specs.Laws.{Can}
@@ -14,7 +14,7 @@ use Rattle.values.specs.declared.value.Scalar.{Scalar}
 use Rattle.values.specs.declared.value.Scalar.TheVariants.{Text}
 use Rattle.syntax_trees.specs.Core.{Core}
 use Rattle.syntax_trees.specs.Facts.{line}
-use Rattle.syntax_trees.specs.Meaning.{Meaning, HasValue}
+use Rattle.syntax_trees.specs.Meaning.{Meaning}
 use Rattle.syntax_trees.specs.Outcomes.{OnceEach}
 use Rattle.syntax_trees.specs.Places.{Place}
 use Rattle.syntax_trees.specs.WellFormed.{WellFormed}
@@ -43,7 +43,7 @@ use Rattle.correspondence.specs.Inclusions.{Facts, FaultsTo}
 use Rattle.correspondence.specs.Inclusions as In_
 use Rattle.correspondence.specs.Knows.{Knows}
 use Rattle.correspondence.proofs.ClosingTo.{closed_to}
-use Rattle.correspondence.proofs.Listing.{TaskEffect, LogFacts, text, writer, its_lines, listing, Prints, PrintedBy, its_printed, printed_by, once_append, listing_texts, all_texts}
+use Rattle.correspondence.proofs.Listing.{TaskEffect, LogFacts, text, writer, its_lines, listing, Prints, its_printed, printed_by, once_append, listing_texts, all_texts}
 use Rattle.correspondence.proofs.LinesOf.{lines_to}
 use Rattle.correspondence.proofs.LiveTo.{ItemLive, live_to, good_in}
 use Rattle.correspondence.proofs.Transfer.{shown_one, shown_grounded, shown_writer, reading_valid}
