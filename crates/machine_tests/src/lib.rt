@@ -6,4 +6,6 @@ mod data_store_tests;
 #[cfg(test)]
 mod pool_tests;
 #[cfg(test)]
+mod rules_tests;
+#[cfg(test)]
 mod work_queue_tests;
