@@ -1,0 +1,95 @@
+use Rattle.std.proofs.Common.{arith, ◌≡◌, ◌<◌, ◌≤◌, ◌+◌, ◌++◌, ◌∷◌, [], IfOk, map, length, get_or, ap, ap₂, sym, subst, ◌∙◌}
+use Rattle.std.proofs.lemmas.Grind.{common_steps}
+use Rattle.std.proofs.lemmas.Result.{IfOk-weaker}
+use Rattle.syntax_trees.specs.View.{word_of, expression_view, form_view}
+use Rattle.syntax_trees.specs.Tree as pure
+use Rattle.syntax_trees.specs.Tree.{expressions_of}
+use Rattle.syntax_trees.specs.Core as core
+use Rattle.syntax_trees.specs.Core.{none, also}
+use Rattle.syntax_trees.specs.Resolved as rules
+use Rattle.syntax_trees.specs.Table as table
+use Rattle.values.specs.Operators.{Operation}
+use Rattle.types.specs.Typed.{table_of, callee_name, builtin_name}
+use Rattle.flow.specs.declared.cell.Form.{Form}
+use Rattle.flow.specs.View as seen
+use Rattle.flow.specs.View.{expr_view, exprs_view, names_view}
+use Rattle.lowering.specs.View.{Leaves}
+use Rattle.lowering.proofs.Operands.{before, from_on, operands_more, operands_all, arguments_more, arguments_all}
+use Rattle.lowering.proofs.Views.{view_call, view_chain, view_prefixed, view_operation, prefixed_found}
+use Rattle.lowering.proofs.expression.+expression.Goals as goal
+
+pub called-returns-in-BuiltIn : goal.called-returns-in-BuiltIn
+called-returns-in-BuiltIn g t c =
+    let A = g.row.A.Denot in
+    let tb = table_of c.args.typed.now in
+    let es = expressions_of (map (expression_view {A = A}) c.args.arguments.now.items) in
+    let w = word_of c.args.name.now in
+    let P : table.Callee → Type 0 = λ f. IfOk c.built_in.result (λ x. Leaves c.args.parts.now.items c.built_in.new.parts.items (seen.form_view x) (rules.call_form tb w f es (rules.arguments_of tb es) (rules.operands_of tb es))) in
+    let told : Form A → Type 0 = λ x. (v : pure.Word) (passed : rules.Arguments)
+    → Leaves c.args.parts.now.items c.built_in.new.parts.items (seen.form_view x) (rules.call_form tb v (table.built_in (builtin_name c.in-BuiltIn.builtin)) es passed (rules.operands_of tb es)) in
+    let wanted : Form A → Type 0 = λ x. Leaves c.args.parts.now.items c.built_in.new.parts.items (seen.form_view x) (rules.call_form tb w (table.built_in (builtin_name c.in-BuiltIn.builtin)) es (rules.arguments_of tb es) (rules.operands_of tb es)) in
+    subst P (sym (ap callee_name c.in-BuiltIn.is) ∙ c.callee.ensures)
+    (IfOk-weaker c.built_in.result told wanted (λ x is. is w (rules.arguments_of tb es)) c.built_in.ensures)
+
+pub inputs-loop-expr-preserved : goal.inputs-loop-expr-preserved
+inputs-loop-expr-preserved g t c =
+    let A = g.row.A.Denot in
+    let tb = table_of c.args.typed.now in
+    let xs = c.args.exprs.now.items in
+    let i = c.loop-expr.expr-index in
+    let more = arguments_more (expression_view {A = A}) tb xs i c.expr-item.result c.args.parts.now.items c.loop-expr.parts.items c.argument.new.parts.items
+    (grind (arith, common_steps)) (grind (arith, common_steps)) c.loop-expr.found.items c.in_ok-argument.field-0 (rules.arguments_of tb (from_on (expression_view {A = A}) xs 0)) c.loop-expr.invariant c.in_ok-argument.ensures in
+    (more.0, ap (λ ys. names_view ys ++ (rules.arguments_of tb (from_on (expression_view {A = A}) xs (i + 1))).1) c.in_ok-push.ensures.items ∙ more.1)
+
+pub inputs-returns : goal.inputs-returns
+inputs-returns g t c =
+    let A = g.row.A.Denot in
+    let tb = table_of c.args.typed.now in
+    let xs = c.args.exprs.now.items in
+    arguments_all (expression_view {A = A}) tb xs c.loop-expr.expr-index c.args.parts.now.items c.loop-expr.parts.items (grind (arith, common_steps)) c.loop-expr.found.items
+    (rules.arguments_of tb (from_on (expression_view {A = A}) xs 0)) c.loop-expr.invariant
+
+pub kind_form-returns-in-Call : goal.kind_form-returns-in-Call
+kind_form-returns-in-Call g t c =
+    let tb = table_of c.args.typed.now in
+    let P : pure.Form → Type 0 = λ k. IfOk c.called.result (λ x. Leaves c.args.parts.now.items c.called.new.parts.items (seen.form_view x) (rules.form_in tb k)) in
+    subst P (sym (ap form_view c.in-Call.is ∙ view_call c.in-Call.name c.in-Call.arguments)) c.called.ensures
+
+pub kind_form-returns-in_ok-operands-in-Prefixed : goal.kind_form-returns-in_ok-operands-in-Prefixed
+kind_form-returns-in_ok-operands-in-Prefixed g t c =
+    let A = g.row.A.Denot in
+    let tb = table_of c.args.typed.now in
+    let one = c.in_ok-one-in-Prefixed.one in
+    let ops = c.in_ok-operands-in-Prefixed.operands in
+    prefixed_found tb c.in-Prefixed.prefix (form_view c.args.kind.now) (expression_view {A = A} c.deref-in-Prefixed.result.now) c.args.parts.now.items c.operand.new.parts.items one _
+    (ap form_view c.in-Prefixed.is ∙ view_prefixed c.in-Prefixed.prefix c.in-Prefixed.expr ∙ ap (λ e. pure.prefixed c.in-Prefixed.prefix (expression_view {A = A} e)) (sym c.deref-in-Prefixed.ensures))
+    c.in_ok-one-in-Prefixed.ensures
+    (view_operation c.of_prefix.result ops ∙ ap₂ core.operator c.of_prefix.ensures (ap exprs_view c.in_ok-operands-in-Prefixed.ensures))
+
+pub kind_form-returns-in_ok-operation-in-Chain : goal.kind_form-returns-in_ok-operation-in-Chain
+kind_form-returns-in_ok-operation-in-Chain g t c =
+    let A = g.row.A.Denot in
+    let tb = table_of c.args.typed.now in
+    let es = expressions_of (map (expression_view {A = A}) c.in-Chain.exprs.items) in
+    let P : pure.Form → Type 0 = λ f. IfOk c.operation_on.result (λ x. Leaves c.args.parts.now.items c.operation_on.new.parts.items (seen.form_view x) (rules.form_in tb f)) in
+    let Q : Operation → Type 0 = λ o. IfOk c.operation_on.result (λ x. Leaves c.args.parts.now.items c.operation_on.new.parts.items (seen.form_view x) (rules.computes o (rules.operands_of tb es))) in
+    subst P (sym (ap form_view c.in-Chain.is ∙ view_chain c.in-Chain.operators c.in-Chain.exprs))
+    (subst Q (c.in_ok-operation-in-Chain.ensures ∙ ap rules.chain_operation c.as_slice-in-Chain.ensures.value) c.operation_on.ensures)
+
+pub operands-loop-i-preserved : goal.operands-loop-i-preserved
+operands-loop-i-preserved g t c =
+    let A = g.row.A.Denot in
+    let tb = table_of c.args.typed.now in
+    let xs = c.args.exprs.now.items in
+    let i = c.loop-i.i in
+    let more = operands_more (expression_view {A = A}) tb xs i c.index.result.now c.args.parts.now.items c.loop-i.parts.items c.operand.new.parts.items
+    (omega (arith, c.loop-i-test.true, c.len-i-end.ensures)) c.index.ensures c.loop-i.found.items c.in_ok-operand.field-0 (rules.operands_of tb (from_on (expression_view {A = A}) xs c.args.from)) c.loop-i.invariant c.in_ok-operand.ensures in
+    (more.0, ap (λ ys. before (map expr_view ys) (rules.operands_of tb (from_on (expression_view {A = A}) xs (i + 1))).1) c.in_ok-push.ensures.items ∙ more.1)
+
+pub operands-returns : goal.operands-returns
+operands-returns g t c =
+    let A = g.row.A.Denot in
+    let tb = table_of c.args.typed.now in
+    let xs = c.args.exprs.now.items in
+    operands_all (expression_view {A = A}) tb xs c.loop-i.i c.args.parts.now.items c.loop-i.parts.items (omega (arith, c.loop-i-test.false, c.len-i-end.ensures)) c.loop-i.found.items
+    (rules.operands_of tb (from_on (expression_view {A = A}) xs c.args.from)) c.loop-i.invariant

@@ -1,0 +1,23 @@
+use Rattle.std.proofs.Common.{arith, ◌≡◌, [], ap, ◌∙◌}
+use Rattle.std.proofs.lemmas.Grind.{common_steps}
+use Rattle.syntax_trees.specs.View.{calling_of}
+use Rattle.syntax_trees.specs.Tree.{expressions_of}
+use Rattle.syntax_trees.specs.Table as table
+use Rattle.syntax_trees.specs.Resolved as rules
+use Rattle.types.specs.Typed.{table_of, builtin_name}
+use Rattle.flow.specs.declared.cell.Outer.{Outer}
+use Rattle.flow.specs.View.{outer_view}
+use Rattle.lowering.proofs.Actions.{found_outer}
+use Rattle.lowering.proofs.right.boxed_built_in.Goals as goal
+
+pub returns : goal.returns
+returns g c =
+    let A = g.row.A.Denot in
+    let t = table_of c.args.typed.now in
+    let k = calling_of {A = A} c.args.call.now in
+    let es = expressions_of k.arguments in
+    let w = rules.call_form t k.name (table.built_in (builtin_name c.args.builtin)) es ([], []) (rules.operands_of t es) in
+    let found : Outer A = record { parts = c.built_in.new.parts; cell = record { node = c.args.call.now.number; at = c.args.call.now.first.from; form = c.in_ok-form.form } } in
+    let boxed : c.in_ok-new.field-0.value ≡ found = grind (arith, common_steps) in
+    ap outer_view boxed
+    ∙ found_outer c.args.call.now.number c.new-parts.result.items c.built_in.new.parts.items c.in_ok-form.form w c.new-parts.ensures.items (c.in_ok-form.ensures k.name ([], []))

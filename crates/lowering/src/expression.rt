@@ -1,0 +1,310 @@
+//! Expressions: their cells and calls behind those before, and what is left of them.
+ghost use Rattle.std.specs.Prelude.{◌≡◌, ◌++◌, ◌∷◌, [], IfOk, OnOk, map, drop, option_map};
+ghost use Rattle.syntax_trees.specs.Core as core;
+ghost use Rattle.syntax_trees.specs.Tree as pure;
+ghost use Rattle.syntax_trees.specs.Tree.{expressions_of};
+ghost use Rattle.syntax_trees.specs.Table.{built_in};
+ghost use Rattle.syntax_trees.specs.Resolved as rules;
+ghost use Rattle.syntax_trees.specs.View.{word_of, expression_view, form_view};
+ghost use Rattle.types.specs.Typed.{table_of, builtin_name};
+ghost use Rattle.flow.specs.View as seen;
+ghost use Rattle.flow.specs.View.{parts_view, names_view};
+ghost use Rattle.lowering.specs.View.{Leaves, calling, array_named, variable_named};
+
+use crate::names::{here, refer};
+use crate::operators::{of_builtin, of_chain, of_prefix};
+use flow::cell::{Call, Cell, Form, Part};
+use flow::expression::{Expr, Operation};
+use flow::name::Name;
+use std::alloc::{AllocError, Allocator};
+use syntax_trees::tree::{self, ExprKind, Shape};
+use types::typed::{Builtin, Callee, Typed};
+
+/// What the cell of an expression is.
+#[cycle(expression)]
+pub fn form<A: Allocator + Clone>(
+    alloc: &A,
+    typed: &Typed,
+    parts: &mut Vec<Part<A>, A>,
+    expr: &tree::Expr<A>,
+) -> Result<Form<A>, AllocError>
+    ensures { IfOk result (λ f. Leaves parts.old.items parts.new.items (seen.form_view f) (rules.form_of (table_of typed.now) (expression_view expr.now))) }
+{
+    kind_form(alloc, typed, parts, &expr.kind)
+}
+
+#[cycle(expression)]
+fn kind_form<A: Allocator + Clone>(
+    alloc: &A,
+    typed: &Typed,
+    parts: &mut Vec<Part<A>, A>,
+    kind: &ExprKind<A>,
+) -> Result<Form<A>, AllocError>
+    ensures { IfOk result (λ f. Leaves parts.old.items parts.new.items (seen.form_view f) (rules.form_in (table_of typed.now) (form_view kind.now))) }
+{
+    match kind {
+        ExprKind::Number(n) => Ok(Form::Compute(Expr::Number(*n))),
+        ExprKind::Text(bytes) => Ok(Form::Compute(Expr::Text(Vec::from_slice(
+            alloc.clone()?,
+            bytes.as_slice(),
+        )?))),
+        ExprKind::Truth(b) => Ok(Form::Compute(Expr::Truth(*b))),
+        ExprKind::Variable(name) => Ok(Form::Compute(Expr::Name(refer(typed, name)))),
+        ExprKind::Element(name, index) => {
+            inner_cell(alloc, typed, parts, index)?;
+            Ok(Form::Read {
+                array: refer(typed, name),
+                index: index.number,
+            })
+        }
+        ExprKind::Call(name, arguments) => called(alloc, typed, parts, name, arguments),
+        ExprKind::Prefixed(prefix, expr) => {
+            let one = operand(alloc, typed, parts, expr)?;
+            let operands = single(alloc, one)?;
+            Ok(Form::Compute(Expr::Operation(of_prefix(*prefix), operands)))
+        }
+        ExprKind::Chain(operators, exprs) => {
+            let operation = of_chain(alloc, operators.as_slice())?;
+            operation_on(alloc, typed, parts, operation, exprs, 0)
+        }
+    }
+}
+
+/// Adds the cell of an expression.
+#[cycle(expression)]
+fn inner_cell<A: Allocator + Clone>(
+    alloc: &A,
+    typed: &Typed,
+    parts: &mut Vec<Part<A>, A>,
+    expr: &tree::Expr<A>,
+) -> Result<(), AllocError>
+    ensures { OnOk result (let e = expression_view expr.now in parts_view parts.new.items ≡ parts_view parts.old.items ++ rules.as_cell (rules.number_of e) (rules.form_of (table_of typed.now) e)) }
+{
+    let found = form(alloc, typed, parts, expr)?;
+    add_cell(parts, expr.number, expr.first.from, found)
+}
+
+/// Adds a cell.
+fn add_cell<A: Allocator>(
+    parts: &mut Vec<Part<A>, A>,
+    node: u32,
+    at: usize,
+    form: Form<A>,
+) -> Result<(), AllocError>
+    ensures { OnOk result (parts_view parts.new.items ≡ parts_view parts.old.items ++ core.inner (record { node = node; form = seen.form_view form }) ∷ []) }
+{
+    parts.push(Part::Inner(Cell { node, at, form }))?;
+    Ok(())
+}
+
+/// An operand.
+#[cycle(expression)]
+fn operand<A: Allocator + Clone>(
+    alloc: &A,
+    typed: &Typed,
+    parts: &mut Vec<Part<A>, A>,
+    expr: &tree::Expr<A>,
+) -> Result<Expr<A>, AllocError>
+    ensures { IfOk result (λ one. let e = expression_view expr.now in Leaves parts.old.items parts.new.items (seen.expr_view one) (rules.as_operand (rules.number_of e) (rules.form_of (table_of typed.now) e))) }
+{
+    let found = form(alloc, typed, parts, expr)?;
+    match found {
+        Form::Compute(one) => Ok(one),
+        Form::Read { array, index } => {
+            let read = Form::Read { array, index };
+            add_cell(parts, expr.number, expr.first.from, read)?;
+            Ok(Expr::Name(here(expr.number)))
+        }
+    }
+}
+
+/// An operation on the expressions from a place on.
+#[cycle(expression)]
+pub fn operation_on<A: Allocator + Clone>(
+    alloc: &A,
+    typed: &Typed,
+    parts: &mut Vec<Part<A>, A>,
+    operation: Operation<A>,
+    exprs: &Vec<tree::Expr<A>, A>,
+    from: usize,
+) -> Result<Form<A>, AllocError>
+    ensures { IfOk result (λ f. Leaves parts.old.items parts.new.items (seen.form_view f) (rules.computes (seen.operation_view operation) (rules.operands_of (table_of typed.now) (expressions_of (map expression_view (drop from exprs.now.items)))))) }
+{
+    let found = operands(alloc, typed, parts, exprs, from)?;
+    Ok(Form::Compute(Expr::Operation(operation, found)))
+}
+
+/// The operands that the expressions from a place on are.
+#[cycle(expression)]
+fn operands<A: Allocator + Clone>(
+    alloc: &A,
+    typed: &Typed,
+    parts: &mut Vec<Part<A>, A>,
+    exprs: &Vec<tree::Expr<A>, A>,
+    from: usize,
+) -> Result<Vec<Expr<A>, A>, AllocError>
+    ensures { IfOk result (λ v. Leaves parts.old.items parts.new.items (seen.exprs_view v.items) (rules.operands_of (table_of typed.now) (expressions_of (map expression_view (drop from exprs.now.items))))) }
+{
+    let mut found = Vec::new(alloc.clone()?);
+    for i in from..exprs.len() {
+        found.push(operand(alloc, typed, parts, &exprs[i])?)?;
+    }
+    Ok(found)
+}
+
+// CALLS
+
+/// A call in an expression.
+#[cycle(expression)]
+fn called<A: Allocator + Clone>(
+    alloc: &A,
+    typed: &Typed,
+    parts: &mut Vec<Part<A>, A>,
+    name: &tree::Name<A>,
+    arguments: &Vec<tree::Expr<A>, A>,
+) -> Result<Form<A>, AllocError>
+    ensures { IfOk result (λ f. let t = table_of typed.now in let es = expressions_of (map expression_view arguments.now.items) in
+        Leaves parts.old.items parts.new.items (seen.form_view f) (rules.call_form t (word_of name.now) (t.callee_of name.now.number) es (rules.arguments_of t es) (rules.operands_of t es))) }
+{
+    match typed.callee(name.number) {
+        Callee::Function(function) => {
+            let outputs = single(alloc, here(name.number))?;
+            let call = call_of(alloc, typed, parts, name, function, arguments, outputs)?;
+            parts.push(Part::Calls(call))?;
+            Ok(Form::Compute(Expr::Name(here(name.number))))
+        }
+        Callee::BuiltIn(builtin) => built_in(alloc, typed, parts, builtin, arguments),
+    }
+}
+
+/// A call of a built-in function.
+#[cycle(expression)]
+pub fn built_in<A: Allocator + Clone>(
+    alloc: &A,
+    typed: &Typed,
+    parts: &mut Vec<Part<A>, A>,
+    builtin: Builtin,
+    arguments: &Vec<tree::Expr<A>, A>,
+) -> Result<Form<A>, AllocError>
+    ensures { IfOk result (λ f. (w : pure.Word) (passed : rules.Arguments) → let t = table_of typed.now in let es = expressions_of (map expression_view arguments.now.items) in
+        Leaves parts.old.items parts.new.items (seen.form_view f) (rules.call_form t w (built_in (builtin_name builtin)) es passed (rules.operands_of t es))) }
+{
+    match builtin {
+        Builtin::Size => {
+            let array = sized(alloc, typed, arguments)?;
+            Ok(Form::Compute(Expr::Operation(Operation::Size, array)))
+        }
+        _ => {
+            let operation = of_builtin(alloc, builtin, arguments)?;
+            operation_on(alloc, typed, parts, operation, arguments, 0)
+        }
+    }
+}
+
+/// The array whose size is asked for.
+fn sized<A: Allocator + Clone>(
+    alloc: &A,
+    typed: &Typed,
+    arguments: &Vec<tree::Expr<A>, A>,
+) -> Result<Vec<Expr<A>, A>, AllocError>
+    ensures { IfOk result (λ v. seen.exprs_view v.items ≡ rules.sized (table_of typed.now) (expressions_of (map expression_view arguments.now.items))) }
+{
+    if arguments.is_empty() {
+        return Ok(Vec::new(alloc.clone()?));
+    }
+    match variable_named(typed, &arguments[0].kind) {
+        Some(array) => single(alloc, Expr::Whole(array)),
+        None => Ok(Vec::new(alloc.clone()?)),
+    }
+}
+
+/// A call of a composite function, whose outputs stand for these names.
+#[cycle(expression)]
+pub fn call_of<A: Allocator + Clone>(
+    alloc: &A,
+    typed: &Typed,
+    parts: &mut Vec<Part<A>, A>,
+    name: &tree::Name<A>,
+    function: usize,
+    arguments: &Vec<tree::Expr<A>, A>,
+    outputs: Vec<Name, A>,
+) -> Result<Call<A>, AllocError>
+    ensures { IfOk result (λ c. let passed = rules.arguments_of (table_of typed.now) (expressions_of (map expression_view arguments.now.items)) in
+        Leaves parts.old.items parts.new.items (seen.call_view c) (calling passed (word_of name.now) function (names_view outputs.items))) }
+{
+    let inputs = inputs(alloc, typed, parts, arguments)?;
+    Ok(Call {
+        at: name.span.from,
+        function,
+        inputs,
+        outputs,
+    })
+}
+
+/// What the inputs of a call stand for.
+#[cycle(expression)]
+fn inputs<A: Allocator + Clone>(
+    alloc: &A,
+    typed: &Typed,
+    parts: &mut Vec<Part<A>, A>,
+    exprs: &Vec<tree::Expr<A>, A>,
+) -> Result<Vec<Name, A>, AllocError>
+    ensures { IfOk result (λ v. Leaves parts.old.items parts.new.items (names_view v.items) (rules.arguments_of (table_of typed.now) (expressions_of (map expression_view exprs.now.items)))) }
+{
+    let mut found = Vec::new(alloc.clone()?);
+    for expr in exprs {
+        found.push(argument(alloc, typed, parts, expr)?)?;
+    }
+    Ok(found)
+}
+
+/// An argument of a composite call.
+#[cycle(expression)]
+fn argument<A: Allocator + Clone>(
+    alloc: &A,
+    typed: &Typed,
+    parts: &mut Vec<Part<A>, A>,
+    expr: &tree::Expr<A>,
+) -> Result<Name, AllocError>
+    ensures { IfOk result (λ x. let t = table_of typed.now in let e = expression_view expr.now in Leaves parts.old.items parts.new.items (seen.name_view x) (rules.as_argument t e (rules.form_of t e))) }
+{
+    match array_named(typed, &expr.kind) {
+        Some(array) => Ok(array),
+        None => {
+            inner_cell(alloc, typed, parts, expr)?;
+            Ok(here(expr.number))
+        }
+    }
+}
+
+/// The array that an expression is the name of.
+pub fn array_named<A: Allocator>(typed: &Typed, kind: &ExprKind<A>) -> Option<Name>
+    ensures { option_map seen.name_view result ≡ array_named (table_of typed.now) (form_view kind.now) }
+{
+    let ExprKind::Variable(name) = kind else {
+        return None;
+    };
+    match typed.shape(name.number) {
+        Shape::Array => Some(refer(typed, name)),
+        Shape::Scalar => None,
+    }
+}
+
+/// The variable that an expression is the name of.
+pub fn variable_named<A: Allocator>(typed: &Typed, kind: &ExprKind<A>) -> Option<Name>
+    ensures { option_map seen.name_view result ≡ variable_named (table_of typed.now) (form_view kind.now) }
+{
+    match kind {
+        ExprKind::Variable(name) => Some(refer(typed, name)),
+        _ => None,
+    }
+}
+
+/// One element.
+pub fn single<T: Drop, A: Allocator + Clone>(alloc: &A, one: T) -> Result<Vec<T, A>, AllocError>
+    ensures { IfOk result (λ v. v.items ≡ one ∷ []) }
+{
+    let mut found = Vec::new(alloc.clone()?);
+    found.push(one)?;
+    Ok(found)
+}

@@ -1,0 +1,320 @@
+//! Right sides and calls that are statements.
+ghost use Rattle.std.specs.Prelude.{◌≡◌, ◌∷◌, [], IfOk, map, drop, pos};
+ghost use Rattle.syntax_trees.specs.Core as core;
+ghost use Rattle.syntax_trees.specs.Table as table;
+ghost use Rattle.syntax_trees.specs.Tree.{expressions_of, value};
+ghost use Rattle.syntax_trees.specs.Resolved as rules;
+ghost use Rattle.syntax_trees.specs.View.{word_of, words_view, expression_view, right_of, calling_of};
+ghost use Rattle.types.specs.Typed.{table_of, builtin_name};
+ghost use Rattle.flow.specs.View as seen;
+ghost use Rattle.flow.specs.View.{action_view, outer_view, name_view, names_view, operation_view};
+
+use crate::expression::{built_in, call_of, form, operation_on, single};
+use crate::names::{all, here, refer};
+use crate::operators::format_bytes;
+use flow::cell::{Cell, Form, Outer};
+use flow::expression::{Expr, Operation};
+use flow::name::Name;
+use flow::statement::Action;
+use std::alloc::{AllocError, Allocator};
+use syntax_trees::tree::{self, Call, ExprKind, Right, Shape};
+use types::typed::{Builtin, Callee, Typed};
+
+/// An expression as an outermost cell.
+pub fn outer<A: Allocator + Clone>(
+    alloc: &A,
+    typed: &Typed,
+    expr: &tree::Expr<A>,
+) -> Result<Outer<A>, AllocError>
+    ensures { IfOk result (λ o. outer_view o ≡ rules.outer (table_of typed.now) (expression_view expr.now)) }
+{
+    let mut parts = Vec::new(alloc.clone()?);
+    let form = form(alloc, typed, &mut parts, expr)?;
+    let cell = Cell {
+        node: expr.number,
+        at: expr.first.from,
+        form,
+    };
+    Ok(Outer { parts, cell })
+}
+
+/// An expression as an outermost cell, in a box.
+pub fn boxed_outer<A: Allocator + Clone>(
+    alloc: &A,
+    typed: &Typed,
+    expr: &tree::Expr<A>,
+) -> Result<Box<Outer<A>, A>, AllocError>
+    ensures { IfOk result (λ o. outer_view o.value ≡ rules.outer (table_of typed.now) (expression_view expr.now)) }
+{
+    Ok(Box::new(alloc.clone()?, outer(alloc, typed, expr)?)?)
+}
+
+/// The node and the offset of a cell.
+#[derive(Clone, Copy, Drop)]
+pub struct Place {
+    pub node: u32,
+    pub at: usize,
+}
+
+/// An operation on the expressions from a place on, as an outermost cell.
+fn outer_operation<A: Allocator + Clone>(
+    alloc: &A,
+    typed: &Typed,
+    place: Place,
+    operation: Operation<A>,
+    exprs: &Vec<tree::Expr<A>, A>,
+    from: usize,
+) -> Result<Box<Outer<A>, A>, AllocError>
+    ensures { IfOk result (λ o. outer_view o.value ≡ rules.outer_of place.node (rules.computes (operation_view operation) (rules.operands_of (table_of typed.now) (expressions_of (map expression_view (drop from exprs.now.items)))))) }
+{
+    let mut parts = Vec::new(alloc.clone()?);
+    let form = operation_on(alloc, typed, &mut parts, operation, exprs, from)?;
+    let cell = Cell {
+        node: place.node,
+        at: place.at,
+        form,
+    };
+    Ok(Box::new(alloc.clone()?, Outer { parts, cell })?)
+}
+
+// RIGHT SIDES
+
+/// A variable gets a right side.
+pub fn assignment<A: Allocator + Clone>(
+    alloc: &A,
+    typed: &Typed,
+    target: Name,
+    right: &Right<A>,
+) -> Result<Action<A>, AllocError>
+    ensures { IfOk result (λ a. action_view a ≡ rules.right_of (table_of typed.now) (name_view target) target.shape (right_of right.now)) }
+{
+    match right {
+        Right::Value(expr) => of_value(alloc, typed, target, expr),
+        Right::List(list) => {
+            let place = Place {
+                node: list.number,
+                at: list.first.from,
+            };
+            Ok(Action::Fill {
+                array: target,
+                right: outer_operation(alloc, typed, place, Operation::Literal, &list.elements, 0)?,
+            })
+        }
+    }
+}
+
+/// A variable gets a value.
+fn of_value<A: Allocator + Clone>(
+    alloc: &A,
+    typed: &Typed,
+    target: Name,
+    expr: &tree::Expr<A>,
+) -> Result<Action<A>, AllocError>
+    ensures { IfOk result (λ a. action_view a ≡ rules.right_of (table_of typed.now) (name_view target) target.shape (value (expression_view expr.now))) }
+{
+    match &expr.kind {
+        ExprKind::Call(name, arguments) => match typed.callee(name.number) {
+            Callee::Function(function) => {
+                let outputs = single(alloc, target)?;
+                call_alone(alloc, typed, 0, name, function, arguments, outputs)
+            }
+            Callee::BuiltIn(_) => assign(alloc, typed, target, expr),
+        },
+        ExprKind::Variable(name) => match target.shape {
+            Shape::Array => filled(
+                alloc,
+                target,
+                expr.number,
+                expr.first.from,
+                refer(typed, name),
+            ),
+            Shape::Scalar => assign(alloc, typed, target, expr),
+        },
+        _ => assign(alloc, typed, target, expr),
+    }
+}
+
+/// A scalar gets the value of an expression.
+fn assign<A: Allocator + Clone>(
+    alloc: &A,
+    typed: &Typed,
+    target: Name,
+    expr: &tree::Expr<A>,
+) -> Result<Action<A>, AllocError>
+    ensures { IfOk result (λ a. action_view a ≡ core.assign (name_view target) (rules.outer (table_of typed.now) (expression_view expr.now))) }
+{
+    Ok(Action::Assign {
+        target,
+        right: boxed_outer(alloc, typed, expr)?,
+    })
+}
+
+/// An array gets the elements of another.
+fn filled<A: Allocator + Clone>(
+    alloc: &A,
+    array: Name,
+    node: u32,
+    at: usize,
+    elements: Name,
+) -> Result<Action<A>, AllocError>
+    ensures { IfOk result (λ a. action_view a ≡ core.fill (name_view array) (rules.outer_of node ([], core.compute (core.whole (name_view elements))))) }
+{
+    let right = boxed_whole(alloc, node, at, elements)?;
+    Ok(Action::Fill { array, right })
+}
+
+/// A whole array as an outermost cell.
+fn boxed_whole<A: Allocator + Clone>(
+    alloc: &A,
+    node: u32,
+    at: usize,
+    elements: Name,
+) -> Result<Box<Outer<A>, A>, AllocError>
+    ensures { IfOk result (λ o. outer_view o.value ≡ rules.outer_of node ([], core.compute (core.whole (name_view elements)))) }
+{
+    let cell = Cell {
+        node,
+        at,
+        form: Form::Compute(Expr::Whole(elements)),
+    };
+    let parts = Vec::new(alloc.clone()?);
+    Ok(Box::new(alloc.clone()?, Outer { parts, cell })?)
+}
+
+// CALLS THAT ARE STATEMENTS
+
+/// A call of a composite function, whose outputs stand for these names.
+fn call_alone<A: Allocator + Clone>(
+    alloc: &A,
+    typed: &Typed,
+    priority: i32,
+    name: &tree::Name<A>,
+    function: usize,
+    arguments: &Vec<tree::Expr<A>, A>,
+    outputs: Vec<Name, A>,
+) -> Result<Action<A>, AllocError>
+    ensures { IfOk result (λ a. action_view a ≡ rules.composite_call priority (word_of name.now) function (rules.arguments_of (table_of typed.now) (expressions_of (map expression_view arguments.now.items))) (names_view outputs.items)) }
+{
+    let mut parts = Vec::new(alloc.clone()?);
+    let call = call_of(alloc, typed, &mut parts, name, function, arguments, outputs)?;
+    Ok(Action::Call {
+        priority,
+        parts,
+        call: Box::new(alloc.clone()?, call)?,
+    })
+}
+
+/// A call that is a statement: of a function without outputs, of `printf` or of `assert`.
+pub fn statement_call<A: Allocator + Clone>(
+    alloc: &A,
+    typed: &Typed,
+    priority: i32,
+    call: &Call<A>,
+) -> Result<Action<A>, AllocError>
+    ensures { IfOk result (λ a. let t = table_of typed.now in let c = calling_of call.now in
+        action_view a ≡ rules.call_action t priority c.node.number c.name (expressions_of c.arguments) (t.callee_of c.name.number)) }
+{
+    let place = Place {
+        node: call.number,
+        at: call.first.from,
+    };
+    match typed.callee(call.name.number) {
+        Callee::Function(function) => {
+            let outputs = Vec::new(alloc.clone()?);
+            call_alone(
+                alloc,
+                typed,
+                priority,
+                &call.name,
+                function,
+                &call.arguments,
+                outputs,
+            )
+        }
+        Callee::BuiltIn(Builtin::Printf) => {
+            let operation = Operation::Printf(format_bytes(alloc, &call.arguments)?);
+            let line = outer_operation(alloc, typed, place, operation, &call.arguments, 1)?;
+            Ok(Action::Print { priority, line })
+        }
+        Callee::BuiltIn(_) => {
+            let operation = Operation::Assert;
+            let check = outer_operation(alloc, typed, place, operation, &call.arguments, 0)?;
+            Ok(Action::Assert { priority, check })
+        }
+    }
+}
+
+/// Several names get the outputs of a call, or one name what a built-in function gives.
+pub fn several<A: Allocator + Clone>(
+    alloc: &A,
+    typed: &Typed,
+    names: &Vec<tree::Name<A>, A>,
+    call: &Call<A>,
+) -> Result<Action<A>, AllocError>
+    ensures { IfOk result (λ a. let t = table_of typed.now in let c = calling_of call.now in
+        action_view a ≡ rules.several t c.node.number c.name (expressions_of c.arguments) (map (rules.refers t) (words_view names.now)) (t.callee_of c.name.number)) }
+{
+    match typed.callee(call.name.number) {
+        Callee::Function(function) => {
+            let outputs = all(alloc, typed, names)?;
+            call_alone(
+                alloc,
+                typed,
+                0,
+                &call.name,
+                function,
+                &call.arguments,
+                outputs,
+            )
+        }
+        Callee::BuiltIn(builtin) => {
+            let target = first(typed, names);
+            built_in_assigned(alloc, typed, target, builtin, call)
+        }
+    }
+}
+
+/// What the first name refers to.
+fn first<A: Allocator>(typed: &Typed, names: &Vec<tree::Name<A>, A>) -> Name
+    ensures { name_view result ≡ rules.first_name (map (rules.refers (table_of typed.now)) (words_view names.now)) }
+{
+    if names.is_empty() {
+        return here(0);
+    }
+    refer(typed, &names[0])
+}
+
+/// A name gets what a built-in function gives.
+fn built_in_assigned<A: Allocator + Clone>(
+    alloc: &A,
+    typed: &Typed,
+    target: Name,
+    builtin: Builtin,
+    call: &Call<A>,
+) -> Result<Action<A>, AllocError>
+    ensures { IfOk result (λ a. let t = table_of typed.now in let c = calling_of call.now in let es = expressions_of c.arguments in
+        action_view a ≡ core.assign (name_view target) (rules.outer_of c.node.number (rules.call_form t c.name (table.built_in (builtin_name builtin)) es ([], []) (rules.operands_of t es)))) }
+{
+    let right = boxed_built_in(alloc, typed, builtin, call)?;
+    Ok(Action::Assign { target, right })
+}
+
+/// A call of a built-in function as an outermost cell.
+fn boxed_built_in<A: Allocator + Clone>(
+    alloc: &A,
+    typed: &Typed,
+    builtin: Builtin,
+    call: &Call<A>,
+) -> Result<Box<Outer<A>, A>, AllocError>
+    ensures { IfOk result (λ o. let t = table_of typed.now in let c = calling_of call.now in let es = expressions_of c.arguments in
+        outer_view o.value ≡ rules.outer_of c.node.number (rules.call_form t c.name (table.built_in (builtin_name builtin)) es ([], []) (rules.operands_of t es))) }
+{
+    let mut parts = Vec::new(alloc.clone()?);
+    let form = built_in(alloc, typed, &mut parts, builtin, &call.arguments)?;
+    let cell = Cell {
+        node: call.number,
+        at: call.first.from,
+        form,
+    };
+    Ok(Box::new(alloc.clone()?, Outer { parts, cell })?)
+}
