@@ -36,3 +36,4 @@ pub mod Within
 pub mod Listing
 pub mod RunsWithin
 pub mod FaultsTo
+pub mod Worked

@@ -11,6 +11,7 @@ ghost use Rattle.meaning_laws.specs.Scoped.{Scoped};
 ghost use Rattle.agreement.specs.IsCodeOf.{IsCodeOf};
 ghost use Rattle.meaning_laws.specs.TypedValues.{TypedValues};
 ghost use Rattle.agreement.specs.Headline.{Agrees};
+ghost use Rattle.correspondence.specs.Worked.{fibonacci, fibonacci_code, filled, filled_code};
 ghost use Rattle.dataflow.specs.Facts.{Ever};
 ghost use Rattle.dataflow.specs.Machine.{Event};
 ghost use Rattle.dataflow.specs.System.{Effect};
@@ -32,6 +33,12 @@ ghost use Rattle.task_code.specs.Whole.{IsCode};
 ghost use Rattle.values.specs.declared.key.Key.{Key};
 ghost use Rattle.values.specs.declared.map.Element.{Element};
 ghost use Rattle.values.specs.declared.value.Scalar.{Scalar};
+
+/// Two scripts and their codes: a recursive function, and a function that fills its caller's array in a loop.
+pub fn worked_codes()
+    ensures fibonacci { IsCodeOf fibonacci fibonacci_code × IsCode fibonacci_code × NodesOnce fibonacci_code }
+    ensures filled { IsCodeOf filled filled_code × IsCode filled_code × NodesOnce filled_code }
+{}
 
 /// For the whole language: what the code writes by the script's answers the script knows, what the script knows the code writes where a
 /// live task may read it, one task writes an array's key, and lines agree, writer for writer.
