@@ -1,10 +1,9 @@
 -- Two scripts have their codes.
-use Rattle.std.proofs.Common.{◌≡◌, inl, inr, ℕ, zero, suc, true, false, List, [], ◌∷◌, refl, subst, Some}
+use Rattle.std.proofs.Common.{◌≡◌, ℕ, zero, suc, true, false, List, [], ◌∷◌, refl, subst, Some}
 use Rattle.std.specs.Prelude.{ℤ, slice_get}
-use Rattle.dataflow.specs.System.{In}
 use Rattle.syntax_trees.specs.Core.{Expr, Part, inner, compute, Function}
 use Rattle.syntax_trees.specs.Members.{first, later}
-use Rattle.task_code.specs.Code.{Name, Named, Need, Act, Cell, Entry, Code, entry}
+use Rattle.task_code.specs.Code.{Need, Act, Cell, Entry, Code, entry}
 use Rattle.task_code.specs.Whole.{IsCode}
 use Rattle.task_code.proofs.Checked.{code_checked}
 use Rattle.agreement.specs.IsCodeOf.{Layout, IsEntry, of_literal, of_datum, no_input, one_input, no_output, one_output, PartAs, plain_literal, plain_name, a_cell, a_read, at_literal, a_call, no_part, one_part, declares, calls_alone, simple, branches, range_loop, no_stmt, one_stmt, BodyAs, body_as, IsCodeOf}
