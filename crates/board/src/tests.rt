@@ -3,6 +3,7 @@ ghost use Rattle.std.specs.Prelude.{◌≡◌, IfOk};
 ghost use Rattle.values.specs.Operators.{printf};
 ghost use Rattle.task_code.specs.Code.{Print, no_operand, operation};
 ghost use Rattle.task_code.specs.View.{act_view};
+ghost use Rattle.board.specs.Board.{IsWorker};
 ghost use Rattle.board.specs.Flat.{IsFlat};
 
 use crate::board::Board;
@@ -47,7 +48,9 @@ fn hello(alloc: Global) -> Result<Code, FormatFault>
 }
 
 /// Begins the item, computes it and ends it.
-fn work_on(board: &mut Board, worker: u8, item: u64) -> Result<(), Refusal> {
+fn work_on(board: &mut Board, worker: u8, item: u64) -> Result<(), Refusal>
+    requires { IsWorker worker }
+{
     let work = board.begin(worker, item)?;
     let Ok(done) = work.compute() else {
         return Err(Refusal::Memory);
