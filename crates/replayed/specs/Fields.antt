@@ -71,6 +71,7 @@ pub record Fields : Type 0 where
   pub cells : List (Option Counted)
   pub lists : Want ℕ → List ℕ
   pub missing : ℕ → Option ℕ
+  pub turns : ℕ → Option Elements  -- those left to an item that goes on with a loop, by its number
   pub queue : Kind → ℤ → List ℕ
   pub lines : List Scalar
   pub fault : Option (Task × Fault EntryFault)
