@@ -18,8 +18,10 @@ use Rattle.syntax_trees.specs.Members.{◌∈◌, first}
 use Rattle.syntax_trees.specs.Openings.{Opens, Branches}
 use Rattle.syntax_trees.specs.Parts.{stmt_calls, block_list, blocks_below, script_blocks, targets, function_body, stmts_of, owners, call_at, input_name, output_name}
 use Rattle.syntax_trees.specs.Places.{Path, Place, place, place_of, most_steps}
+use Rattle.syntax_trees.specs.Single.{SinglyAssigned}
 use Rattle.syntax_trees.specs.WellFormed.{Declares, Uses, own, inside, in_wait, IsAlone, IsHidden, header_blocks, WellFormed}
 use Rattle.syntax_trees.proofs.Blocks.{header_inner, inner_below, below_below, inner_block, among_script}
+use Rattle.meaning_laws.proofs.OneAssign.{found_below}
 use Rattle.meaning_laws.proofs.Declared.{declared, live_block, header_of, output_found, output_in, place_here, nat_is}
 use Rattle.syntax_trees.proofs.Members.{split_in, either}
 use Rattle.task_code.specs.Code as code
@@ -36,7 +38,6 @@ use Rattle.task_code.proofs.Kept.{code_laws}
 use Rattle.task_code.proofs.Places.{spot_path, spot_variable}
 use Rattle.agreement.specs.Headline.{script_path, script_place}
 use Rattle.correspondence.specs.Answered.{Reading}
-use Rattle.correspondence.specs.Closing.{OutputsApart}
 use Rattle.correspondence.specs.Knows.{Knows}
 use Rattle.correspondence.specs.Inclusions.{Facts, ArraysOnce, ClosedFrom}
 use Rattle.correspondence.specs.Chains.{Answers, Chain, at_script, by_header, by_wait, by_call, Waited, one_ready, more_ready}
@@ -52,6 +53,7 @@ use Rattle.correspondence.proofs.ClosingTo.{array_made}
 use Rattle.correspondence.proofs.LiveFrom.{Alive}
 use Rattle.correspondence.proofs.LiveTo.{call_of}
 use Rattle.correspondence.proofs.Means.{chain_live, chain_body, chain_scope, covering_writes, means}
+use Rattle.correspondence.proofs.Owner.{OwnerOf, owner_here, owner_output, owner_header, owner_wait, outputs_apart}
 use Rattle.correspondence.proofs.Readings.{same_array}
 use Rattle.correspondence.proofs.Rights.{only_one, fill_stored}
 use Rattle.correspondence.proofs.Roles.{PartOf, OwnAs, own_simple, own_wait, find_role, parts_of}
@@ -173,7 +175,7 @@ module _ (s : Core) (C : Code) (w : IsCodeOf s C) (K : Knowledge) (wf : WellForm
         → AllReady k (script_path p) st hs → ReadsAs j p 0 OpensIt
     pub called : (p : List Step) (t k : ℕ) (b : Block) → Chain s C w.layout K p t k b → (j : ℕ) → In j (body C t).entries → (c : Call) (all : List Part) (at : ℕ) (pr : ℤ) → CallAs C w.layout k all at pr c j → length (script_path p) < most_steps → ReadsAs j p 0 OpensIt
 
-  module _ (ty : TypedValues s K) (ex : IsExact C) (apart : OutputsApart s) (ff : FactsFrom) (p0 : List Step) (v0 : Variable) (ar : IsArrayAt s C w K wf kn I sc v0) (db : Block) (dbs : db ∈ script_blocks s) (dd : Declares db (local v0.node)) where
+  module _ (ty : TypedValues s K) (ex : IsExact C) (single : SinglyAssigned s) (ff : FactsFrom) (p0 : List Step) (v0 : Variable) (ar : IsArrayAt s C w K wf kn I sc v0) (db : Block) (dbs : db ∈ script_blocks s) (dd : Declares db (local v0.node)) where
     abbrev A : CodePlaces.Place
     A = Datum p0 v0
 
@@ -189,6 +191,7 @@ module _ (s : Core) (C : Code) (w : IsCodeOf s C) (K : Knowledge) (wf : WellForm
       none : NoneInside b what
       one : (u : ℕ) (y : Owned) → Uses b u y → place s (script_path p) (record { up = u; what = y }) ≡ script_place p0 v0 → y ≡ what
       far : (c : Block) → c ∈ blocks_below b → Declares c (local v0.node) → script_path p ≡ script_path p0 → ⊥
+      owner : OwnerOf s single b what
 
     -- NO RIGHT
     record Hit (k j : ℕ) (p : List Step) : Type 0 where
@@ -278,6 +281,7 @@ module _ (s : Core) (C : Code) (w : IsCodeOf s C) (K : Knowledge) (wf : WellForm
       none = none_inner b inv.none m (header_inner a h);
       one = λ u y us e. one u y us e;
       far = λ d dm dc e. (let z = no_longer inv in let q : suc (length (script_path p)) ≡ length (script_path p0) = ap (λ (x : Path). length x) e in absurd (omega arith));
+      owner = owner_header s single a m h inv.owner;
     }
       where
         one : (u : ℕ) (y : Owned) → Uses c u y → place s (script_path (step_at at key p)) (record { up = u; what = y }) ≡ script_place p0 v0 → y ≡ what
@@ -300,6 +304,7 @@ module _ (s : Core) (C : Code) (w : IsCodeOf s C) (K : Knowledge) (wf : WellForm
         | inr nd ↦ inv.one u y (in_wait m us nd) e
       ];
       far = λ d dm dc e. inv.far d (below_below b (inner_below b m first) dm) dc e;
+      owner = owner_wait s single m inv.owner;
     }
 
     -- what is to be shown of a statement that is finished
@@ -407,6 +412,7 @@ module _ (s : Core) (C : Code) (w : IsCodeOf s C) (K : Knowledge) (wf : WellForm
       none = none_output f.body j;
       one = one;
       far = λ d dm dc e. (let z = no_longer inv in let q : suc (length (script_path p)) ≡ length (script_path p0) = ap (λ (x : Path). length x) e in absurd (omega arith));
+      owner = owner_output s single c.function f j fq (let h = found_below c.outputs j x e in let n = wf.names.call_count b (stmt at n (call_alone pr ps c)) c f (in_script ch) m cm fq in omega arith);
     }
       where
         inner_path : Path
@@ -432,7 +438,7 @@ module _ (s : Core) (C : Code) (w : IsCodeOf s C) (K : Knowledge) (wf : WellForm
                   let x' = wf.names.call_outputs b (stmt at n (call_alone pr ps c)) c f o.0 (in_script ch) m cm fq us' in
                   let pl : place s (script_path p) x'.0 ≡ script_place p0 v0 = sym (given o.0 x'.0 x'.1) ∙ (λ z. place_of s ((c.at, Key.Number (pos 0)) ∷ script_path p) (sym (r.0) z) (sym (o.1) z)) ∙ pe in
                   let w' : (x'.0).what ≡ what = inv.one (x'.0).up (x'.0).what (own m (inl (output_in c.outputs o.0 x'.0 x'.1))) pl in
-                  o.1 ∙ ap output (apart (stmt at n (call_alone pr ps c)) c o.0 j x'.0 x (among_script s (in_script ch) m) cm x'.1 e (w' ∙ sym q)))
+                  o.1 ∙ ap output (outputs_apart s single inv.owner m o.0 j x'.0 x x'.1 e w' q))
             ]
 
     call_done : {what : Owned} {p : List Step} {at n : ℕ} {pr : ℤ} {ps : List Part} {c : Call} → length (script_path p) < most_steps
@@ -576,6 +582,7 @@ module _ (s : Core) (C : Code) (w : IsCodeOf s C) (K : Knowledge) (wf : WellForm
           none = none_declared s wf.names (local v0.node) b (in_script ch) d;
           one = λ u y us e. own_place p0 u y (λ q. root_local ch q u y us) e;
           far = λ c cm dc e. none_declared s wf.names (local v0.node) b (in_script ch) d c cm dc;
+          owner = owner_here s single (in_script ch) d;
         }) (λ st m. finish (fs st m) p0 refl) j h lv
 
   -- what some live task may read is made
@@ -588,8 +595,8 @@ module _ (s : Core) (C : Code) (w : IsCodeOf s C) (K : Knowledge) (wf : WellForm
       ]
 
   -- CLOSED IN THE SCRIPT, CLOSED IN THE CODE
-  pub closed_from : TypedValues s K → IsExact C → OutputsApart s → FactsFrom → ArraysOnce s C K → ClosedFrom s C K
-  closed_from ty ex apart ff once p0 v0 a0 rd cl =
+  pub closed_from : TypedValues s K → IsExact C → SinglyAssigned s → FactsFrom → ArraysOnce s C K → ClosedFrom s C K
+  closed_from ty ex single ff once p0 v0 a0 rd cl =
       let mk = read_made rd.1 (Datum p0 v0) rd.2 in
       let md = made_in_block s C w K wf kn I sc ty mk.task mk.effect mk.opening (Datum p0 v0) mk.fact mk.opens mk.makes in
       record { made = mk; finished = fin mk md.path md.variable md.is md.body_number md.inputs md.block_of md.chain md.opening_is md.made; one_writer = once p0 v0 a0 }
@@ -608,4 +615,4 @@ module _ (s : Core) (C : Code) (w : IsCodeOf s C) (K : Knowledge) (wf : WellForm
           let lu : Alive s C w K wf (backs s K kn) I sc u = live_opened mk.task u mk.effect mk.opening mk.fact.live mk.fact.reading mk.opens iu in
           subst (λ (z : CodePlaces.Place). Fa.Finished (code_system C) (Facts s C K) z u) (sym e)
           (subst (λ (z : Task). Fa.Finished (code_system C) (Facts s C K) (Datum path v) z) r.2
-          (block_done ty ex apart ff path v am.0 b bs am.1 ch am.1 (λ st m. ci.3 st (subst (λ (z : Block). st ∈ block_list z) (sym same) m)) r.0 r.1 (subst (λ (z : Task). Alive s C w K wf (backs s K kn) I sc z) (sym r.2) lu)))
+          (block_done ty ex single ff path v am.0 b bs am.1 ch am.1 (λ st m. ci.3 st (subst (λ (z : Block). st ∈ block_list z) (sym same) m)) r.0 r.1 (subst (λ (z : Task). Alive s C w K wf (backs s K kn) I sc z) (sym r.2) lu)))

@@ -30,6 +30,7 @@ pub mod Steps
 pub mod Carries
 pub mod ClosingTo
 pub mod Exact
+pub mod Owner
 pub mod ClosingFrom
 pub mod OwnFacts
 pub mod Within

@@ -17,6 +17,7 @@ use Rattle.syntax_trees.specs.Facts.{line}
 use Rattle.syntax_trees.specs.Meaning.{Meaning}
 use Rattle.syntax_trees.specs.Outcomes.{OnceEach}
 use Rattle.syntax_trees.specs.Places.{Place}
+use Rattle.syntax_trees.specs.Single.{SinglyAssigned}
 use Rattle.syntax_trees.specs.WellFormed.{WellFormed}
 use Rattle.meaning_laws.specs.Scoped.{Scoped}
 use Rattle.meaning_laws.specs.TypedValues.{TypedValues}
@@ -38,7 +39,6 @@ use Rattle.agreement.specs.IsCodeOf.{IsCodeOf}
 use Rattle.agreement.specs.NodesOnce.{TellsNode, NodesOnce}
 use Rattle.correspondence.specs.Answered.{Reading, IsRight}
 use Rattle.correspondence.specs.Chains.{Answers}
-use Rattle.correspondence.specs.Closing.{OutputsApart}
 use Rattle.correspondence.specs.Inclusions.{Facts, FaultsTo}
 use Rattle.correspondence.specs.Inclusions as In_
 use Rattle.correspondence.specs.Knows.{Knows}
@@ -87,15 +87,15 @@ prints_once (code.Range l g s w) x q = tt
 prints_once (code.Each w) x q = tt
 prints_once (code.Wait hs b) x q = tt
 
-module _ (s : Core) (C : Code) (w : IsCodeOf s C) (wf : WellFormed s) (kn : Knows s (Meaning s)) (I : IsCode C) (sc : Scoped s) (ty : TypedValues s (Meaning s)) (nodes : NodesOnce C) (ex : IsExact C) (apart : OutputsApart s) where
+module _ (s : Core) (C : Code) (w : IsCodeOf s C) (wf : WellFormed s) (kn : Knows s (Meaning s)) (I : IsCode C) (sc : Scoped s) (ty : TypedValues s (Meaning s)) (nodes : NodesOnce C) (ex : IsExact C) (single : SinglyAssigned s) where
   abbrev Its : Task → TaskEffect → Type 0
   Its t e = Facts s C (Meaning s) t e
 
   right : IsRight (code_system C) (Answers s (Meaning s))
-  right = script_right s C w (Meaning s) wf kn I sc ty nodes ex apart
+  right = script_right s C w (Meaning s) wf kn I sc ty nodes ex single
 
   within : (n : ℕ) (t : Task) (e : TaskEffect) → Fa.Known (code_system C) n t e → Its t e
-  within n t e h = ever_in s C w (Meaning s) wf kn I sc ty nodes ex apart t e (record { round = n; known = h })
+  within n t e h = ever_in s C w (Meaning s) wf kn I sc ty nodes ex single t e (record { round = n; known = h })
 
   -- what comes in the code's meaning comes of what the script's answers yield
   pub comes_in : (n : ℕ) {t : Task} {r : Outcome Task CodePlaces.Place Key Scalar EntryFault} → Comes (code_system C) (Fa.Known (code_system C) n) t r → Comes (code_system C) Its t r

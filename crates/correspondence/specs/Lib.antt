@@ -2,7 +2,6 @@ pub mod Answered
 pub mod Chains
 pub mod Knows
 pub mod Backs
-pub mod Closing
 pub mod Inclusions
 pub mod Halves
 pub mod Worked

@@ -2,7 +2,6 @@
 #![tactic(auto)]
 
 ghost use Rattle.correspondence.specs.Backs.{Backs};
-ghost use Rattle.correspondence.specs.Closing.{OutputsApart};
 ghost use Rattle.correspondence.specs.Halves.{Half, HalfIn};
 ghost use Rattle.correspondence.specs.Knows.{Knows};
 ghost use Rattle.correspondence.specs.Inclusions.{Facts, WrittenTo, WrittenFrom, ClosedTo, ClosedFrom, ArraysOnce, LinesTo, LinesFrom, FaultsTo};
@@ -54,27 +53,27 @@ pub fn writes_agree()
 /// closed in the script is closed in the code, if a live task may read it.
 pub fn closed_agrees()
     ensures to { (s : Core) (C : Code) → IsCodeOf s C → IsCode C → WellFormed s → Knows s (Meaning s) → Scoped s → TypedValues s (Meaning s) → ClosedTo s C (Meaning s) }
-    ensures from { (s : Core) (C : Code) → IsCodeOf s C → IsCode C → WellFormed s → Knows s (Meaning s) → Scoped s → TypedValues s (Meaning s) → NodesOnce C → IsExact C → OutputsApart s → ClosedFrom s C (Meaning s) }
+    ensures from { (s : Core) (C : Code) → IsCodeOf s C → IsCode C → WellFormed s → Knows s (Meaning s) → Scoped s → TypedValues s (Meaning s) → NodesOnce C → IsExact C → SinglyAssigned s → ClosedFrom s C (Meaning s) }
 {}
 
 /// For the whole language: all that the code ever knows is what the script's answers yield, and no key has two writers.
 pub fn code_within_script()
-    ensures facts { (s : Core) (C : Code) → IsCodeOf s C → IsCode C → WellFormed s → Knows s (Meaning s) → Scoped s → TypedValues s (Meaning s) → NodesOnce C → IsExact C → OutputsApart s
+    ensures facts { (s : Core) (C : Code) → IsCodeOf s C → IsCode C → WellFormed s → Knows s (Meaning s) → Scoped s → TypedValues s (Meaning s) → NodesOnce C → IsExact C → SinglyAssigned s
         → (t : Task) (e : Effect Task Place Key Scalar) → Ever (code_system C) t e → Facts s C (Meaning s) t e }
-    ensures clean { (s : Core) (C : Code) → IsCodeOf s C → IsCode C → WellFormed s → Knows s (Meaning s) → Scoped s → TypedValues s (Meaning s) → NodesOnce C → IsExact C → OutputsApart s → CleanCode C }
+    ensures clean { (s : Core) (C : Code) → IsCodeOf s C → IsCode C → WellFormed s → Knows s (Meaning s) → Scoped s → TypedValues s (Meaning s) → NodesOnce C → IsExact C → SinglyAssigned s → CleanCode C }
 {}
 
 /// For the whole language: of a script that writes no key twice, every state that a run of its code reaches agrees with the script. What is
 /// stored is the script's value at its place, an array that is closed by rights is closed in the script, the lines are some of its lines, no line
 /// taken twice, and a fault is one of its faults, at the statement and path of the item that met it.
 pub fn runs_agree()
-    ensures { (s : Core) (C : Code) → IsCodeOf s C → IsCode C → IsExact C → NodesOnce C → WellFormed s → SinglyAssigned s → Scoped s → TypedValues s (Meaning s) → OutputsApart s
+    ensures { (s : Core) (C : Code) → IsCodeOf s C → IsCode C → IsExact C → NodesOnce C → WellFormed s → SinglyAssigned s → Scoped s → TypedValues s (Meaning s)
         → Clean s → (events : List Event) (st : CodeState) → Run C events st → Agrees s C st }
 {}
 
 /// For the whole language: a fault that comes of what the code knows, by the script's answers, is one of the script's.
 pub fn faults_agree()
-    ensures { (s : Core) (C : Code) → IsCodeOf s C → IsCode C → IsExact C → NodesOnce C → WellFormed s → Knows s (Meaning s) → Scoped s → TypedValues s (Meaning s) → OutputsApart s → FaultsTo s C (Meaning s) }
+    ensures { (s : Core) (C : Code) → IsCodeOf s C → IsCode C → IsExact C → NodesOnce C → WellFormed s → Knows s (Meaning s) → Scoped s → TypedValues s (Meaning s) → SinglyAssigned s → FaultsTo s C (Meaning s) }
 {}
 
 /// Rounds, without the premise that the script writes no key twice: half a round (what is known after n rounds, and the scalars that follow)

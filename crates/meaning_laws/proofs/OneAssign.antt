@@ -53,7 +53,7 @@ within_within b {c} m i =
       | inr k ↦ later (below_below b m k)
     ]) r.2
 
-outwards : (b : Block) {c : Block} {what : Owned} → c ∈ blocks_below b → IsNamed what c → IsNamed what b
+pub outwards : (b : Block) {c : Block} {what : Owned} → c ∈ blocks_below b → IsNamed what c → IsNamed what b
 outwards b m h = record { st = h.st; target = h.target; there = within_within b m h.there; assigns = h.assigns; is = h.is }
 
 mutual

@@ -7,4 +7,4 @@ pub returns-clause-to : goal.returns-clause-to
 returns-clause-to g = λ s C w I wf kn sc ty. closed_to s C w (Meaning s) wf kn I sc ty
 
 pub returns-clause-from : goal.returns-clause-from
-returns-clause-from g = λ s C w I wf kn sc ty once ex apart. script_closed s C w (Meaning s) wf kn I sc ty once ex apart
+returns-clause-from g = λ s C w I wf kn sc ty once ex single. script_closed s C w (Meaning s) wf kn I sc ty once ex single

@@ -11,7 +11,7 @@ use Rattle.correspondence.proofs.Within.{clean_code, script_right}
 use Rattle.correspondence.proofs.runs_agree.Goals as goal
 
 pub returns : goal.returns
-returns g = λ s C w I ex nodes wf single sc ty apart clean events st run.
+returns g = λ s C w I ex nodes wf single sc ty clean events st run.
     let kn = meaning_knows s wf single clean in
-    run_agrees s C w wf kn I sc ty nodes ex apart (faults_to s C w (Meaning s) wf kn I sc ty (script_right s C w (Meaning s) wf kn I sc ty nodes ex apart)) st
-    (agrees_with (code_system C) (code_laws C I) st (log_of (code_system C) events st run) (run_follows (code_system C) (code_laws C I) events st run) (clean_code s C w (Meaning s) wf kn I sc ty nodes ex apart))
+    run_agrees s C w wf kn I sc ty nodes ex single (faults_to s C w (Meaning s) wf kn I sc ty (script_right s C w (Meaning s) wf kn I sc ty nodes ex single)) st
+    (agrees_with (code_system C) (code_laws C I) st (log_of (code_system C) events st run) (run_follows (code_system C) (code_laws C I) events st run) (clean_code s C w (Meaning s) wf kn I sc ty nodes ex single))
