@@ -35,7 +35,7 @@ head_is : {X : Type 0} {a b : X} {xs ys : List X} → ◌≡◌ {A = List X} (a 
 head_is h = cc
 
 -- a row that runs on a worker, told by its item
-runs_on : (w : ℕ) (m : Mark) (y : IsItem m) → y.runs ≡ Some w → m ≡ Running w
+pub runs_on : (w : ℕ) (m : Mark) (y : IsItem m) → y.runs ≡ Some w → m ≡ Running w
 runs_on w Waiting y h = some_none (sym h ∙ ap (λ (i : CodeItem). i.runs) (head_is (sym (y.is 0 Main []))))
 runs_on w Ready y h = some_none (sym h ∙ ap (λ (i : CodeItem). i.runs) (head_is (sym (y.is 0 Main []))))
 runs_on w (Running v) y h = ap Running (some_same (sym (runs_of (Running v) v y refl) ∙ h))
