@@ -7,8 +7,8 @@ use Rattle.values.specs.declared.value.Scalar.{Scalar}
 use Rattle.values.specs.declared.value.Value.{Value}
 use Rattle.values.specs.declared.value.Value.TheVariants.{One, Many}
 use Rattle.syntax_trees.specs.Core.{Form, Cell, Stmt, Core}
-use Rattle.syntax_trees.specs.Facts.{Fault, Fact, value, element, a_number, Knowledge, OneWriter, Elements}
-use Rattle.syntax_trees.specs.Meaning.{New, cell_value, cell_fault, assigned, filled, inserted, printed, bad_range, too_deep_header, too_deep_call, written_twice, LiveStmt, Gives, Comes, before, now, ComeAll, none_comes, next_comes, Closed, HasValue, Known}
+use Rattle.syntax_trees.specs.Facts.{Fault, Fact, value, element, a_number, Knowledge, OneWriter}
+use Rattle.syntax_trees.specs.Meaning.{New, cell_value, cell_fault, assigned, filled, inserted, printed, bad_range, too_deep_header, too_deep_call, written_twice, LiveStmt, Gives, Comes, before, now, ComeAll, none_comes, next_comes, HasValue, Known}
 use Rattle.syntax_trees.specs.Members.{◌∈◌}
 use Rattle.syntax_trees.specs.Parts.{cells}
 use Rattle.syntax_trees.specs.Places.{Path, Place}
@@ -17,6 +17,7 @@ use Rattle.syntax_trees.specs.WellFormed.{WellFormed}
 use Rattle.meaning_laws.proofs.Ever as Ever
 use Rattle.meaning_laws.proofs.Growth.{Grows, keeps_stmt, keeps_ready}
 use Rattle.meaning_laws.proofs.Keeps.{keeps_gives, keeps_comes}
+use Rattle.meaning_laws.proofs.Listed.{listed}
 use Rattle.meaning_laws.proofs.OneValue.{OneEach, scalar_same}
 use Rattle.meaning_laws.proofs.Rounds.{Sound, From, came, known_later, later_of}
 use Rattle.meaning_laws.proofs.Sources.{IsFull, known_full, outer_in, index_in, right_in}
@@ -121,8 +122,8 @@ module _ (s : Core) (wf : WellFormed s) (single : SinglyAssigned s) (n : ℕ) wh
     both f (inl k) = let c = came s n f k in kept_earlier c.round c.below c.new
     both f (inr z) = kept_now z.3 (λ p v e. (z.1, value_is (sym e ∙ z.2)))
 
-    pub half_backs : ((a : Place) → Closed s H a → (es : List Element) × Elements H a es) → Backs s H
-    half_backs listed = record { backed = λ f k. (both f k).0; behind = λ f k. (both f k).1; one_scalar = one_scalar; listed = listed }
+    pub half_backs : Backs s H
+    half_backs = record { backed = λ f k. (both f k).0; behind = λ f k. (both f k).1; one_scalar = one_scalar; listed = listed s wf H full sound }
 
     -- what a round adds to an array follows from the half round
     pub element_backed : {a : Place} {k : Key} {w : Place} {v : Scalar} → Known s (suc n) (element a k w v) → (x : New s H (element a k w v)) × RightKnown s H x

@@ -23,6 +23,7 @@ pub mod WholeTo
 pub mod NodesChecked
 pub mod LinesOf
 pub mod RoundsOf
+pub mod Compact
 pub mod FaultsOf
 pub mod Targets
 pub mod Hits

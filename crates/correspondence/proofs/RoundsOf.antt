@@ -2,14 +2,13 @@
 use Rattle.std.proofs.Common.{◌≡◌, inl, inr, ℕ, zero, suc, true, List, [], ◌∷◌, refl, sym, ap, ◌∙◌, subst, max, arith}
 use Rattle.std.specs.Prelude.{◌<◌, ◌≤◌, ◌⊎◌}
 use Rattle.dataflow.specs.Facts as Fa
-use Rattle.dataflow.specs.Facts.{Written, Ever}
+use Rattle.dataflow.specs.Facts.{Written}
 use Rattle.dataflow.proofs.Ever.{known_later}
 use Rattle.values.specs.declared.key.Key.{Key}
-use Rattle.values.specs.declared.map.Element.{Element}
 use Rattle.values.specs.declared.value.Scalar.{Scalar}
 use Rattle.syntax_trees.specs.Core.{Core}
-use Rattle.syntax_trees.specs.Facts.{element, OneWriter, Elements}
-use Rattle.syntax_trees.specs.Meaning.{Closed, Known}
+use Rattle.syntax_trees.specs.Facts.{element, OneWriter}
+use Rattle.syntax_trees.specs.Meaning.{Known}
 use Rattle.syntax_trees.specs.Outcomes.{Clean}
 use Rattle.syntax_trees.specs.Places.{Path, Place}
 use Rattle.syntax_trees.specs.Single.{SinglyAssigned}
@@ -79,14 +78,13 @@ module _ (s : Core) (C : Code) (w : IsCodeOf s C) (wf : WellFormed s) (single : 
     one_writer_next a = subst (λ (p : Path). OneWriter (Known s (suc n)) (p, a.1)) (path_back a.0) (one_writer_at (code_path a.0) a.1)
 
   -- ALL ROUNDS, from the step for half a round
-  module _ (listed : (n : ℕ) (a : Place) → Closed s (Half s n) a → (es : List Element) × Elements (Half s n) a es)
-      (step : (n : ℕ) → ((a : Place) → OneWriter (Known s n) a) → Backs s (Half s n) → ((m : ℕ) → m < n → HalfIn s C m) → HalfIn s C n) where
+  module _ (step : (n : ℕ) → ((a : Place) → OneWriter (Known s n) a) → Backs s (Half s n) → ((m : ℕ) → m < n → HalfIn s C m) → HalfIn s C n) where
     record To (n : ℕ) : Type 0 where
       clean : (a : Place) → OneWriter (Known s n) a
       below : (m : ℕ) → m < n → HalfIn s C m
 
     half_at : (n : ℕ) → To n → HalfIn s C n
-    half_at n r = step n r.clean (half_backs s wf single n r.clean (listed n)) r.below
+    half_at n r = step n r.clean (half_backs s wf single n r.clean) r.below
 
     all_to : (n : ℕ) → To n
     all_to zero = record { clean = λ a k u u' v v' h g. absurd h; below = λ m h. none_below h }
@@ -94,7 +92,7 @@ module _ (s : Core) (C : Code) (w : IsCodeOf s C) (wf : WellFormed s) (single : 
         let r = all_to n in
         let into = half_at n r in
         record {
-          clean = one_writer_next n r.clean (half_backs s wf single n r.clean (listed n)) into;
+          clean = one_writer_next n r.clean (half_backs s wf single n r.clean) into;
           below = λ m h. elim (below_suc m n h) [ inl l ↦ r.below m l | inr e ↦ subst (HalfIn s C) (sym e) into ];
         }
 

@@ -16,8 +16,8 @@ ghost use Rattle.dataflow.specs.Machine.{Event};
 ghost use Rattle.dataflow.specs.System.{Effect};
 ghost use Rattle.std.specs.Prelude.{ℕ, ◌<◌, List};
 ghost use Rattle.syntax_trees.specs.Core.{Core};
-ghost use Rattle.syntax_trees.specs.Facts.{OneWriter, Elements};
-ghost use Rattle.syntax_trees.specs.Meaning.{Closed, Known, Meaning};
+ghost use Rattle.syntax_trees.specs.Facts.{OneWriter};
+ghost use Rattle.syntax_trees.specs.Meaning.{Known, Meaning};
 ghost use Rattle.syntax_trees.specs.Outcomes.{Clean};
 ghost use Rattle.syntax_trees.specs.Places as ScriptPlaces;
 ghost use Rattle.syntax_trees.specs.Single.{SinglyAssigned};
@@ -30,7 +30,6 @@ ghost use Rattle.task_code.specs.Places.{Place};
 ghost use Rattle.task_code.specs.System.{code_system};
 ghost use Rattle.task_code.specs.Whole.{IsCode};
 ghost use Rattle.values.specs.declared.key.Key.{Key};
-ghost use Rattle.values.specs.declared.map.Element.{Element};
 ghost use Rattle.values.specs.declared.value.Scalar.{Scalar};
 
 /// Two scripts and their codes: a recursive function, and a function that fills its caller's array in a loop.
@@ -78,16 +77,17 @@ pub fn faults_agree()
 
 /// Rounds, without the premise that the script writes no key twice: half a round (what is known after n rounds, and the scalars that follow)
 /// is knowledge that the lemmas from the script to the code stand over as long as round n is clean; and once the facts of each half round are facts of clean
-/// code (`step`, which may use that of all rounds before), the script is clean, and all half rounds are in what the code ever has.
+/// code (`step`, which may use that of all rounds before), the script is clean, and all half rounds are in what the code ever has,
+/// and so is all that the script's answers yield.
 pub fn rounds_agree()
-    ensures backs { (s : Core) → WellFormed s → SinglyAssigned s → (n : ℕ) → ((a : ScriptPlaces.Place) → OneWriter (Known s n) a)
-        → ((a : ScriptPlaces.Place) → Closed s (Half s n) a → (es : List Element) × Elements (Half s n) a es) → Backs s (Half s n) }
+    ensures backs { (s : Core) → WellFormed s → SinglyAssigned s → (n : ℕ) → ((a : ScriptPlaces.Place) → OneWriter (Known s n) a) → Backs s (Half s n) }
     ensures clean { (s : Core) (C : Code) → IsCodeOf s C → WellFormed s → SinglyAssigned s → IsCode C → Scoped s → CleanCode C
-        → ((n : ℕ) (a : ScriptPlaces.Place) → Closed s (Half s n) a → (es : List Element) × Elements (Half s n) a es)
         → ((n : ℕ) → ((a : ScriptPlaces.Place) → OneWriter (Known s n) a) → Backs s (Half s n) → ((m : ℕ) → m < n → HalfIn s C m) → HalfIn s C n)
         → Clean s }
     ensures half { (s : Core) (C : Code) → IsCodeOf s C → WellFormed s → SinglyAssigned s → IsCode C → Scoped s → CleanCode C
-        → ((n : ℕ) (a : ScriptPlaces.Place) → Closed s (Half s n) a → (es : List Element) × Elements (Half s n) a es)
         → ((n : ℕ) → ((a : ScriptPlaces.Place) → OneWriter (Known s n) a) → Backs s (Half s n) → ((m : ℕ) → m < n → HalfIn s C m) → HalfIn s C n)
         → (n : ℕ) → HalfIn s C n }
+    ensures meaning { (s : Core) (C : Code) → IsCodeOf s C → WellFormed s → SinglyAssigned s → IsCode C → Scoped s → CleanCode C
+        → ((n : ℕ) → ((a : ScriptPlaces.Place) → OneWriter (Known s n) a) → Backs s (Half s n) → ((m : ℕ) → m < n → HalfIn s C m) → HalfIn s C n)
+        → (t : Task) (e : Effect Task Place Key Scalar) → Facts s C (Meaning s) t e → Ever (code_system C) t e }
 {}

@@ -1,12 +1,17 @@
+use Rattle.correspondence.proofs.Compact.{meaning_in}
 use Rattle.correspondence.proofs.Halves.{half_backs}
 use Rattle.correspondence.proofs.RoundsOf.{script_clean, half_in}
 use Rattle.correspondence.proofs.rounds_agree.Goals as goal
 
 pub returns-clause-backs : goal.returns-clause-backs
-returns-clause-backs g = λ s wf single n clean listed. half_backs s wf single n clean listed
+returns-clause-backs g = λ s wf single n clean. half_backs s wf single n clean
 
 pub returns-clause-clean : goal.returns-clause-clean
-returns-clause-clean g = λ s C w wf single I sc clean listed step. script_clean s C w wf single I sc clean listed step
+returns-clause-clean g = λ s C w wf single I sc clean step. script_clean s C w wf single I sc clean step
 
 pub returns-clause-half : goal.returns-clause-half
-returns-clause-half g = λ s C w wf single I sc clean listed step. half_in s C w wf single I sc clean listed step
+returns-clause-half g = λ s C w wf single I sc clean step. half_in s C w wf single I sc clean step
+
+pub returns-clause-meaning : goal.returns-clause-meaning
+returns-clause-meaning g = λ s C w wf single I sc clean step t e f.
+    meaning_in s C wf single (script_clean s C w wf single I sc clean step) (half_in s C w wf single I sc clean step) t e f
