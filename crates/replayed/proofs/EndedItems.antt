@@ -85,7 +85,7 @@ row_below [] j r h = none_some h
 row_below (q ∷ rows) zero r h = omega arith
 row_below (q ∷ rows) (suc j) r h = let b = row_below rows j r h in omega arith
 
-new_above : {T : Type 0} (k : ℕ) (ts : List T) (i : MachineItem T) → In i (new_items k ts) → k ≤ i.number
+pub new_above : {T : Type 0} (k : ℕ) (ts : List T) (i : MachineItem T) → In i (new_items k ts) → k ≤ i.number
 new_above k [] i h = absurd h
 new_above k (t ∷ ts) i h =
     elim h [
@@ -94,7 +94,7 @@ new_above k (t ∷ ts) i h =
     ]
 
 -- a number is one item's
-one_number : {T : Type 0} (is : List (MachineItem T)) (i j : MachineItem T) → Distinct (map number_of_item is) → In i is → In j is → i.number ≡ j.number → i ≡ j
+pub one_number : {T : Type 0} (is : List (MachineItem T)) (i j : MachineItem T) → Distinct (map number_of_item is) → In i is → In j is → i.number ≡ j.number → i ≡ j
 one_number [] i j d h g e = absurd h
 one_number (k ∷ is) i j d h g e =
     elim h [

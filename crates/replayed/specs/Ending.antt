@@ -1,9 +1,12 @@
--- What an End without fault does to a board's rows of items.
-use Rattle.std.specs.Prelude.{◌≡◌, ℕ, suc, ◌+◌, Bool, false, ◌||◌, List, [], ◌∷◌, ◌++◌, map, length, Option, Some, nat_eq, if◌then◌else◌}
-use Rattle.dataflow.specs.System.{Answer, Effect, Good, System, tasks_of}
+-- What an End without fault does to a board's rows of items and to its queue.
+use Rattle.std.specs.Prelude.{◌≡◌, ◌⊎◌, ℕ, ℤ, suc, ◌+◌, Bool, false, ◌||◌, List, [], ◌∷◌, ◌++◌, map, length, Option, Some, nat_eq, if◌then◌else◌}
+use Rattle.dataflow.specs.System.{Answer, Distinct, Effect, Good, In, System, tasks_of}
 use Rattle.dataflow.specs.Machine.{Item, SeesAll, State, new_items}
 use Rattle.replayed.specs.Fields.{Frame, Job, Mark, Over, Ready, Row, Waiting, row_of, task_of}
+use Rattle.task_code.specs.Code.{Code, Kind}
 use Rattle.task_code.specs.Effects.{Task}
+use Rattle.task_code.specs.Machine.{CodeItem, CodeState}
+use Rattle.task_code.specs.System.{task_kind, task_priority}
 
 -- the number is one of the list
 abbrev pub is_one : ℕ → List ℕ → Bool
@@ -48,3 +51,10 @@ module _ {T D K V E : Type 0} (S : System T D K V E) where
     pub items : t.items ≡ (before ++ after) ++ new_items s.next (tasks_of effect.opens)
     pub next : t.next ≡ s.next + length (tasks_of effect.opens)
     pub lines : t.lines ≡ s.lines ++ effect.lines
+
+-- the queue afterwards: the numbers that were in it, and those newly enabled in the part of their item's kind and priority
+pub record QueueAfter (C : Code) (old new : Kind → ℤ → List ℕ) (t : CodeState) (newly : List ℕ) : Type 0 where
+  pub kept : (k : Kind) (z : ℤ) (m : ℕ) → In m (old k z) → In m (new k z)
+  pub added : (i : CodeItem) → In i t.items → In i.number newly → In i.number (new (task_kind C i.task) (task_priority C i.task))
+  pub only : (k : Kind) (z : ℤ) (m : ℕ) → In m (new k z) → In m (old k z) ⊎ ((i : CodeItem) × In i t.items × In m newly × (i.number ≡ m) × (task_kind C i.task ≡ k) × (task_priority C i.task ≡ z))
+  pub once : (k : Kind) (z : ℤ) → Distinct (new k z)

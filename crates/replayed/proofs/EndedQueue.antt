@@ -1,0 +1,138 @@
+-- The queue of a board after an End without fault, and the turns that an item of a loop keeps.
+use Rattle.std.proofs.Common.{◌≡◌, inl, inr, ℕ, suc, ◌<◌, List, ◌∷◌, ◌++◌, refl, sym, ap, ◌∙◌, subst, None, Some, arith, []}
+use Rattle.std.specs.Prelude.{ℤ}
+use Rattle.dataflow.specs.System.{Answer, In, tasks_of}
+use Rattle.dataflow.specs.Machine.{End, Event, Run, SeesAll, new_items}
+use Rattle.dataflow.specs.Events.{CanBegin, NewlyAt}
+use Rattle.dataflow.specs.History.{log_of}
+use Rattle.dataflow.proofs.Counted.{can_begin_is}
+use Rattle.dataflow.proofs.Follows.{Follows}
+use Rattle.dataflow.proofs.Known.{answers_are_one, one_value}
+use Rattle.dataflow.proofs.Lists.{in_left, in_map, in_seam, in_split, seam_in}
+use Rattle.dataflow.proofs.Numbers.{Numbered, number_of_item, run_numbered, step_numbered}
+use Rattle.dataflow.proofs.Steps.{run_follows}
+use Rattle.replayed.specs.CodeReplay.{replayed}
+use Rattle.replayed.specs.Elements.{code_tests}
+use Rattle.replayed.specs.Ending.{OpensItems, QueueAfter}
+use Rattle.replayed.specs.Fields.{Fields, Layout}
+use Rattle.replayed.specs.Stands.{QueueStands, Queued, Stands, turns_left}
+use Rattle.replayed.specs.Static.{computed_by}
+use Rattle.replayed.proofs.Elements.{code_told}
+use Rattle.replayed.proofs.EndedItems.{enabled_later, new_above, one_number, opens_items, step}
+use Rattle.replayed.proofs.Replays.{run_replayed}
+use Rattle.replayed.proofs.Seen.{OneValue, all_known, all_told, answers_see}
+use Rattle.replayed.proofs.Tests.{none_some}
+use Rattle.task_code.proofs.Kept.{code_laws}
+use Rattle.task_code.specs.Code.{Code, Kind}
+use Rattle.task_code.specs.Effects.{Item, Task, left_at, turns_of}
+use Rattle.task_code.specs.Machine.{CodeItem, CodeState, CodeStep}
+use Rattle.task_code.specs.Places.{Step}
+use Rattle.task_code.specs.System.{code_system, task_inputs, task_kind, task_priority}
+use Rattle.task_code.specs.Whole.{IsCode}
+use Rattle.values.specs.declared.key.Key.{Key}
+use Rattle.values.specs.declared.value.Scalar.{Scalar}
+
+-- an item that goes on with a loop, and whose answers are these, keeps what is left of the turns
+pub turns_told : (C : Code) → IsCode C → (L : Layout) (es : List Event) (F : Fields) (x : Stands C L es F) (i : CodeItem) → In i x.state.items → (e c : ℕ) (p : List Step) → i.task ≡ Item e p (suc c) → (xs : List (Answer Key Scalar)) → SeesAll (code_system C) x.state (task_inputs C i.task) xs → F.turns i.number ≡ Some (left_at (suc c) (turns_of (computed_by C i.task xs)))
+turns_told C I L es F x i h e c p q xs known =
+    let run = (run_replayed (code_system C) code_tests (code_told C) (code_laws C I) es x.state x.reached).0 in
+    let log = log_of (code_system C) es x.state run in
+    let f = run_follows (code_system C) (code_laws C I) es x.state run in
+    let one : OneValue (code_system C) code_tests (code_told C) x.state = one_value (code_system C) (code_laws C I) x.state log f in
+    let a = all_told (code_system C) code_tests (code_told C) x.state one (task_inputs C i.task) (all_known (code_system C) code_tests (code_told C) x.state (task_inputs C i.task) xs known) in
+    let same = (answers_are_one (code_system C) (code_laws C I) x.state log f).one i h a.0 xs (answers_see (code_system C) code_tests (code_told C) x.state one (task_inputs C i.task) a.0 a.1) known in
+    x.turns.kept i h
+    ∙ ap (turns_left C i.task) (a.1 ∙ ap Some same)
+    ∙ subst (λ (u : Task). turns_left C u (Some xs) ≡ Some (left_at (suc c) (turns_of (computed_by C u xs)))) (sym q) refl
+
+module _ (C : Code) (I : IsCode C) (L : Layout) (es : List Event) (F : Fields) (x : Stands C L es F) (w n : ℕ) (t : CodeState) (reached : replayed C (es ++ End w n ∷ []) ≡ Some t) (good : t.fault ≡ None) (newly : List ℕ) (new : NewlyAt (code_system C) x.state t newly) (queue : Kind → ℤ → List ℕ) (after : QueueAfter C F.queue queue t newly) where
+  abbrev s : CodeState
+  s = x.state
+
+  run : Run (code_system C) es s
+  run = (run_replayed (code_system C) code_tests (code_told C) (code_laws C I) es s x.reached).0
+
+  follows : Follows (code_system C) s (log_of (code_system C) es s run)
+  follows = run_follows (code_system C) (code_laws C I) es s run
+
+  ended : CodeStep C s (End w n) t
+  ended = step C I L es F x w n t reached good
+
+  abbrev o : OpensItems (code_system C) s w n t
+  o = opens_items (code_system C) s t w n ended good
+
+  numbers : Numbered (code_system C) s
+  numbers = run_numbered (code_system C) es s run
+
+  numbers_after : Numbered (code_system C) t
+  numbers_after = step_numbered (code_system C) s (End w n) t numbers ended
+
+  -- an item that could begin before is there afterwards, and can begin
+  still : (k : Kind) (z : ℤ) (m : ℕ) → Queued C s k z m → Queued C t k z m
+  still k z m q =
+      elim (in_seam q.item o.item o.before o.after (subst (λ (is : List CodeItem). In q.item is) o.there q.there)) [
+        | inl g ↦ (let there : In q.item t.items = subst (λ (is : List CodeItem). In q.item is) (sym o.items) (in_left q.item (o.before ++ o.after) (new_items s.next (tasks_of o.effect.opens)) g) in
+            record {
+              item = q.item;
+              there = there;
+              number_is = q.number_is;
+              idle = q.idle;
+              enabled = enabled_later (code_system C) (code_laws C I) s t (log_of (code_system C) es s run) follows w n ended q.item q.item q.there there refl q.enabled;
+              kind_is = q.kind_is;
+              priority_is = q.priority_is;
+            })
+        | inr p ↦ none_some (sym q.idle ∙ ap (λ (i : CodeItem). i.runs) p ∙ o.runs)
+      ]
+
+  -- one that can begin now could before, or is newly enabled
+  was : (k : Kind) (z : ℤ) (m : ℕ) → Queued C t k z m → CanBegin (code_system C) s m → Queued C s k z m
+  was k z m q c =
+      elim (in_split q.item (o.before ++ o.after) (new_items s.next (tasks_of o.effect.opens)) (subst (λ (is : List CodeItem). In q.item is) o.items q.there)) [
+        | inl g ↦ (let there : In q.item s.items = subst (λ (is : List CodeItem). In q.item is) (sym o.there) (seam_in q.item o.item o.before o.after g) in
+            let same = one_number s.items c.item q.item numbers.once c.there there (c.number_is ∙ sym q.number_is) in
+            record {
+              item = c.item;
+              there = c.there;
+              number_is = c.number_is;
+              idle = c.idle;
+              enabled = c.enabled;
+              kind_is = ap (λ (i : CodeItem). task_kind C i.task) same ∙ q.kind_is;
+              priority_is = ap (λ (i : CodeItem). task_priority C i.task) same ∙ q.priority_is;
+            })
+        | inr g ↦ (let a = new_above s.next (tasks_of o.effect.opens) q.item g in
+            let b : c.item.number < s.next = numbers.below c.item.number (in_map number_of_item c.item s.items c.there) in
+            let d = q.number_is in
+            let e = c.number_is in
+            absurd (omega arith))
+      ]
+
+  all : (k : Kind) (z : ℤ) (m : ℕ) → Queued C t k z m → In m (queue k z)
+  all k z m q =
+      elim (can_begin_is (code_system C) (code_laws C I) s (log_of (code_system C) es s run) follows m) [
+        | inl c ↦ after.kept k z m (x.queue.all k z m (was k z m q c))
+        | inr d ↦ (let g = new.all m (record { item = q.item; there = q.there; number_is = q.number_is; idle = q.idle; enabled = q.enabled }) d in
+            let a = after.added q.item q.there (subst (λ (l : ℕ). In l newly) (sym q.number_is) g) in
+            subst (λ (l : ℕ). In l (queue k z)) q.number_is
+            (subst (λ (y : ℤ). In q.item.number (queue k y)) q.priority_is
+            (subst (λ (j : Kind). In q.item.number (queue j (task_priority C q.item.task))) q.kind_is a)))
+      ]
+
+  only : (k : Kind) (z : ℤ) (m : ℕ) → In m (queue k z) → Queued C t k z m
+  only k z m h =
+      elim (after.only k z m h) [
+        | inl g ↦ still k z m (x.queue.only k z m g)
+        | inr q ↦ (let c = new.can m q.2 in
+            let same = one_number t.items c.item q.0 numbers_after.once c.there q.1 (c.number_is ∙ sym q.3) in
+            record {
+              item = c.item;
+              there = c.there;
+              number_is = c.number_is;
+              idle = c.idle;
+              enabled = c.enabled;
+              kind_is = ap (λ (i : CodeItem). task_kind C i.task) same ∙ q.4;
+              priority_is = ap (λ (i : CodeItem). task_priority C i.task) same ∙ q.5;
+            })
+      ]
+
+  pub queue_after : QueueStands C (record F { queue = queue }) t
+  queue_after = record { all = all; only = only; once = after.once }
