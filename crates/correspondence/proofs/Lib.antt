@@ -37,5 +37,6 @@ pub mod OwnFacts
 pub mod Within
 pub mod Listing
 pub mod RunsWithin
+pub mod QuietLines
 pub mod FaultsTo
 pub mod Worked

@@ -88,13 +88,13 @@ prints_once (code.Each w) x q = tt
 prints_once (code.Wait hs b) x q = tt
 
 module _ (s : Core) (C : Code) (w : IsCodeOf s C) (wf : WellFormed s) (kn : Knows s (Meaning s)) (I : IsCode C) (sc : Scoped s) (ty : TypedValues s (Meaning s)) (nodes : NodesOnce C) (ex : IsExact C) (single : SinglyAssigned s) where
-  abbrev Its : Task → TaskEffect → Type 0
+  abbrev pub Its : Task → TaskEffect → Type 0
   Its t e = Facts s C (Meaning s) t e
 
   right : IsRight (code_system C) (Answers s (Meaning s))
   right = script_right s C w (Meaning s) wf kn I sc ty nodes ex single
 
-  within : (n : ℕ) (t : Task) (e : TaskEffect) → Fa.Known (code_system C) n t e → Its t e
+  pub within : (n : ℕ) (t : Task) (e : TaskEffect) → Fa.Known (code_system C) n t e → Its t e
   within n t e h = ever_in s C w (Meaning s) wf kn I sc ty nodes ex single t e (record { round = n; known = h })
 
   -- what comes in the code's meaning comes of what the script's answers yield
@@ -138,7 +138,7 @@ module _ (s : Core) (C : Code) (w : IsCodeOf s C) (wf : WellFormed s) (kn : Know
           let can : Can (code_system C) (Item x.number x.path x.chunk) e = record { answers = g.answers; is = g.is; valid = reading_valid (code_system C) (code_laws C I) (Answers s (Meaning s)) lv } in
           record { item = x; live = lv; computed = Compute.compute (entry C x.number).act (answered C x.path (entry C x.number).needs g.answers); lines_are = ap (λ (z : TaskEffect). z.lines) (effect_is C x.number x.chunk x.path e can) }
 
-  abbrev AllIts : LogFacts → Type 0
+  abbrev pub AllIts : LogFacts → Type 0
   AllIts fs = (t : Task) (e : TaskEffect) → In (t, e) fs → Its t e
 
   -- a fact that prints, by its item
@@ -169,7 +169,7 @@ module _ (s : Core) (C : Code) (w : IsCodeOf s C) (wf : WellFormed s) (kn : Know
         | inr r ↦ subst (λ (l : List Scalar). OnceEach (map (λ (u : Scalar). (writer C t, text u)) l)) r.lines_are (prints_once (entry C (r.item).number).act r.computed (writer C t))
       ]
 
-  once_listing : (fs : LogFacts) → Distinct (tasks_in_log (code_system C) fs) → AllIts fs → OnceEach (listing C fs)
+  pub once_listing : (fs : LogFacts) → Distinct (tasks_in_log (code_system C) fs) → AllIts fs → OnceEach (listing C fs)
   once_listing [] d h = tt
   once_listing (x ∷ fs) d h =
       once_append C (listing C fs) (its_lines C x) (once_listing fs d.1 (λ t e i. h t e (inr i))) (once_its x.0 x.1 (h x.0 x.1 (inl refl))) apart_from
@@ -193,7 +193,7 @@ module _ (s : Core) (C : Code) (w : IsCodeOf s C) (wf : WellFormed s) (kn : Know
       let r = lines_to s C w (Meaning s) wf kn I sc ty (l.item).number (l.item).chunk (l.item).path e v f' h in
       (r.0, r.1, subst (λ (z : Task). Meaning s (line (writer C z) r.0)) (l.item).is r.2)
 
-  listing_known : (fs : LogFacts) → AllIts fs → (p : Place) (x : List ℕ) → Prints C p x (listing C fs) → Meaning s (line p x)
+  pub listing_known : (fs : LogFacts) → AllIts fs → (p : Place) (x : List ℕ) → Prints C p x (listing C fs) → Meaning s (line p x)
   listing_known fs h p x m =
       let a = printed_by C fs p x m in
       let r = its_line a.task a.effect a.value (h a.task a.effect a.there) a.prints in
@@ -208,7 +208,7 @@ module _ (s : Core) (C : Code) (w : IsCodeOf s C) (wf : WellFormed s) (kn : Know
         | inr i ↦ (x.0, x.1, inl refl, i)
       ]
 
-  line_text : (fs : LogFacts) → AllIts fs → (v : Scalar) → In v (lines_of (code_system C) fs) → (bytes : List ℕ) × (v ≡ Text bytes)
+  pub line_text : (fs : LogFacts) → AllIts fs → (v : Scalar) → In v (lines_of (code_system C) fs) → (bytes : List ℕ) × (v ≡ Text bytes)
   line_text fs h v i = (let r = in_lines v fs i in let z = its_line r.0 r.1 v (h r.0 r.1 r.2) r.3 in (z.0, z.1))
 
   -- THE STATES OF A RUN

@@ -1,6 +1,8 @@
 //! Which code is a script's code, and what ties the two meanings together. Nothing here runs.
 #![tactic(auto)]
 
+pub mod lines;
+
 ghost use Rattle.correspondence.specs.Backs.{Backs};
 ghost use Rattle.correspondence.specs.Halves.{Half, HalfIn};
 ghost use Rattle.correspondence.specs.Knows.{Knows};
