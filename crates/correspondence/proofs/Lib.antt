@@ -40,3 +40,9 @@ pub mod RunsWithin
 pub mod QuietLines
 pub mod FaultsTo
 pub mod Worked
+pub mod BlockedRounds
+pub mod BlockedInputs
+pub mod BlockedFacts
+pub mod BlockedTo
+pub mod BlockedHas
+pub mod BlockedFrom

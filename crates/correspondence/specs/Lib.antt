@@ -5,3 +5,4 @@ pub mod Backs
 pub mod Inclusions
 pub mod Halves
 pub mod Worked
+pub mod Asserted

@@ -3,6 +3,7 @@
 
 pub mod lines;
 
+ghost use Rattle.correspondence.specs.Asserted.{Asserted};
 ghost use Rattle.correspondence.specs.Backs.{Backs};
 ghost use Rattle.correspondence.specs.Halves.{Half, HalfIn};
 ghost use Rattle.correspondence.specs.Knows.{Knows};
@@ -11,24 +12,25 @@ ghost use Rattle.agreement.specs.NodesOnce.{NodesOnce};
 ghost use Rattle.meaning_laws.specs.Scoped.{Scoped};
 ghost use Rattle.agreement.specs.IsCodeOf.{IsCodeOf};
 ghost use Rattle.meaning_laws.specs.TypedValues.{TypedValues};
-ghost use Rattle.agreement.specs.Headline.{Agrees};
+ghost use Rattle.agreement.specs.Headline.{Agrees, script_path};
 ghost use Rattle.correspondence.specs.Worked.{fibonacci, fibonacci_code, filled, filled_code};
 ghost use Rattle.dataflow.specs.Facts.{Ever};
 ghost use Rattle.dataflow.specs.Machine.{Event};
 ghost use Rattle.dataflow.specs.System.{Effect};
 ghost use Rattle.std.specs.Prelude.{ℕ, ◌<◌, List};
 ghost use Rattle.syntax_trees.specs.Core.{Core};
-ghost use Rattle.syntax_trees.specs.Facts.{OneWriter};
+ghost use Rattle.syntax_trees.specs.Facts.{Fault, OneWriter};
 ghost use Rattle.syntax_trees.specs.Meaning.{Known, Meaning};
-ghost use Rattle.syntax_trees.specs.Outcomes.{Clean};
+ghost use Rattle.syntax_trees.specs.Outcomes.{Blocked, Clean, Faults};
 ghost use Rattle.syntax_trees.specs.Places as ScriptPlaces;
 ghost use Rattle.syntax_trees.specs.Single.{SinglyAssigned};
 ghost use Rattle.syntax_trees.specs.WellFormed.{WellFormed};
 ghost use Rattle.task_code.specs.Code.{Code};
 ghost use Rattle.task_code.specs.Effects.{Task};
 ghost use Rattle.task_code.specs.Exact.{IsExact};
-ghost use Rattle.task_code.specs.Machine.{CleanCode, CodeState, Run};
-ghost use Rattle.task_code.specs.Places.{Place};
+ghost use Rattle.task_code.specs.Machine.{CleanCode, CodeState, Run, Quiet};
+ghost use Rattle.task_code.specs.Places.{Place, Step};
+ghost use Rattle.task_code.specs.Runs.{Blocked as CodeBlocked};
 ghost use Rattle.task_code.specs.System.{code_system};
 ghost use Rattle.task_code.specs.Whole.{IsCode};
 ghost use Rattle.values.specs.declared.key.Key.{Key};
@@ -92,4 +94,19 @@ pub fn rounds_agree()
     ensures meaning { (s : Core) (C : Code) → IsCodeOf s C → WellFormed s → SinglyAssigned s → IsCode C → Scoped s → CleanCode C
         → ((n : ℕ) → ((a : ScriptPlaces.Place) → OneWriter (Known s n) a) → Backs s (Half s n) → ((m : ℕ) → m < n → HalfIn s C m) → HalfIn s C n)
         → (t : Task) (e : Effect Task Place Key Scalar) → Facts s C (Meaning s) t e → Ever (code_system C) t e }
+{}
+
+/// For the whole language: of a script that writes no key twice, and whose answers yield nothing that the code does not come to (the inclusion of the
+/// script's facts in the code's is a premise), the blocked statements of a state that is quiet without fault are the script's: each is blocked in the
+/// script if the script has no fault, and each one that is blocked in the script is one of them.
+pub fn blocked_agrees()
+    ensures to { (s : Core) (C : Code) → IsCodeOf s C → IsCode C → IsExact C → NodesOnce C → WellFormed s → SinglyAssigned s → Scoped s → TypedValues s (Meaning s) → Clean s
+        → ((t : Task) (e : Effect Task Place Key Scalar) → Facts s C (Meaning s) t e → Ever (code_system C) t e)
+        → ((f : Fault) (at : ℕ) (path : ScriptPlaces.Path) → Faults (Meaning s) f at path → ⊥)
+        → (events : List Event) (st : CodeState) → Run C events st → Quiet C st
+        → (at : ℕ) (path : List Step) → CodeBlocked C st at path → Blocked s (Meaning s) at (script_path path) }
+    ensures from { (s : Core) (C : Code) → IsCodeOf s C → IsCode C → IsExact C → NodesOnce C → WellFormed s → SinglyAssigned s → Scoped s → TypedValues s (Meaning s) → Asserted s → Clean s
+        → ((t : Task) (e : Effect Task Place Key Scalar) → Facts s C (Meaning s) t e → Ever (code_system C) t e)
+        → (events : List Event) (st : CodeState) → Run C events st → Quiet C st
+        → (at : ℕ) (path : List Step) → Blocked s (Meaning s) at (script_path path) → CodeBlocked C st at path }
 {}
