@@ -24,6 +24,7 @@ pub mod NodesChecked
 pub mod LinesOf
 pub mod RoundsOf
 pub mod Compact
+pub mod Fed
 pub mod FaultsOf
 pub mod Targets
 pub mod Hits

@@ -6,3 +6,4 @@ pub mod Inclusions
 pub mod Halves
 pub mod Worked
 pub mod Asserted
+pub mod Feeding

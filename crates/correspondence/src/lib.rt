@@ -1,6 +1,7 @@
 //! Which code is a script's code, and what ties the two meanings together. Nothing here runs.
 #![tactic(auto)]
 
+pub mod feeding;
 pub mod lines;
 
 ghost use Rattle.correspondence.specs.Asserted.{Asserted};
