@@ -2,6 +2,7 @@ pub mod Past
 pub mod Cuts
 pub mod Holds
 pub mod Opened
+pub mod Named
 pub mod Moves
 pub mod Own
 pub mod Does

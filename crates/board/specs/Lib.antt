@@ -3,6 +3,7 @@ pub mod View
 pub mod State
 pub mod Effects
 pub mod Board
+pub mod Numbers
 pub mod Inside
 pub mod Ready
 pub mod Blocked

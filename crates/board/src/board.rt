@@ -7,6 +7,7 @@ ghost use Rattle.task_code.specs.Machine.{CodeItem, Quiet, Run};
 ghost use Rattle.task_code.specs.System.{code_system, task_kind};
 ghost use Rattle.task_code.specs.View.{event_view, kind_view};
 ghost use Rattle.board.specs.Board.{AreByWorkers, IsWorker, IsGoing, Accepts, IsOwn, RefusesBegin, RefusesEnd, RefusesBack, RefusesWork};
+ghost use Rattle.board.specs.Numbers.{AreNumbered};
 ghost use Rattle.board.specs.Flat.{IsFlat};
 ghost use Rattle.board.specs.Ready.{AreReady, IsNext, IsReady};
 ghost use Rattle.board.specs.Blocked.{AreBlocked, IsFaultOf};
@@ -202,14 +203,17 @@ impl Board {
         Ok(Work::new(item, job, answers))
     }
 
-    /// The events so far. They lead to the state, and name the workers 0 to 63 alone.
+    /// The events so far. They lead to the state, name the workers 0 to 63 alone, and items by numbers above 0.
     pub fn history(&self) -> &Vec<Event>
         ensures events { map event_view result.now.items ≡ self.now.history }
         ensures replays { Run self.now.code self.now.history self.now.state }
         ensures within { length self.now.history ≤ self.now.limit }
+        ensures few { self.now.limit ≤ u32.MAX }
         ensures flat { IsFlat self.now.code }
         ensures workers { AreByWorkers self.now.history }
+        ensures numbers { AreNumbered self.now.history }
     {
+        let _few = self.limit;
         &self.history
     }
 

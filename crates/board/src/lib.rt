@@ -12,3 +12,7 @@ mod state;
 #[cfg(test)]
 mod tests;
 mod values_known;
+
+pub use board_work::answer::Answer;
+pub use board_work::outcome::EntryFault;
+pub use board_work::work::{Done, Work};

@@ -42,7 +42,7 @@ pub record Tells (b : Seen) (r : Report) : Type 0 where
   pub lines : b.state.lines ≡ map (λ t. Text t) r.lines.items
   pub end : EndsAs b r.end
   pub blocked : AreBlockedAt b r.end r.blocked.items
-  pub tallies : AreTallies b.history r.tallies.items
+  pub tallies : AreTallies b.history r.tallies
 
 -- the report is one of a run of the code, of at most so many events
 pub record Reports (C : Code) (limit : ℕ) (r : Report) : Type 0 where

@@ -34,7 +34,7 @@ pub struct Report {
     /// none unless the end is `Quiet`.
     pub blocked: Vec<Statement>,
     /// The number of events of each worker, by its number.
-    pub tallies: Vec<u64>,
+    pub tallies: [u32; 64],
 }
 
 /// What is said of a board on which nothing is left to be done.
@@ -54,7 +54,7 @@ pub fn report_of(alloc: Global, board: &Board) -> Result<Report, AllocError>
         lines: shared(alloc, board.lines())?,
         end,
         blocked,
-        tallies: tallies(alloc, board.history())?,
+        tallies: tallies(board.history()),
     })
 }
 

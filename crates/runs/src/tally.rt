@@ -1,34 +1,30 @@
 //! How many events each worker has.
-ghost use Rattle.std.specs.Prelude.{◌≡◌, ◌<◌, ◌+◌, map, slice_index, slice_set, IfOk};
+ghost use Rattle.std.specs.Prelude.{◌≡◌, ◌<◌, ◌≤◌, ◌+◌, length, map, slice_index, slice_set};
 ghost use Rattle.task_code.specs.View.{event_view};
 ghost use Rattle.dataflow.specs.Events.{worker_of};
 ghost use Rattle.runs.specs.Report.{AreTallies};
 
-use std::alloc::{AllocError, Global};
 use task_code::event::Event;
 
 /// Workers are numbered from 0 on.
 const WORKERS: usize = 64;
 
-/// The number of events of each worker.
-///
-/// # Errors
-///
-/// `AllocError` where memory that was asked for was refused.
-pub(crate) fn tallies(alloc: Global, history: &Vec<Event>) -> Result<Vec<u64>, AllocError>
-    ensures { IfOk result (λ tallies. AreTallies (map event_view history.now.items) tallies.items) }
+/// The number of events of each worker. None is greater than the number of all events.
+pub(crate) fn tallies(history: &Vec<Event>) -> [u32; WORKERS]
+    requires { length history.now.items ≤ u32.MAX }
+    ensures { AreTallies (map event_view history.now.items) result }
 {
-    let mut tallies = vec![in alloc; 0u64; WORKERS]?;
+    let mut tallies = [0u32; WORKERS];
     for event in history {
         count(&mut tallies, worker_of_event(event));
     }
-    Ok(tallies)
+    tallies
 }
 
 /// One event more of this worker, if it is one of those that are counted.
-fn count(tallies: &mut Vec<u64>, worker: usize)
-    requires { slice_index tallies.old.items worker < u64.MAX }
-    ensures { tallies.new.items ≡ slice_set tallies.old.items worker (slice_index tallies.old.items worker + 1) }
+fn count(tallies: &mut [u32; WORKERS], worker: usize)
+    requires { slice_index tallies.old worker < u32.MAX }
+    ensures { tallies.new ≡ slice_set tallies.old worker (slice_index tallies.old worker + 1) }
 {
     if worker < tallies.len() {
         tallies[worker] += 1;

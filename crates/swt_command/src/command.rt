@@ -259,7 +259,7 @@ fn traced<S: Sink>(
     requires { S.failures trace.old < u64.MAX }
 {
     let report = run?;
-    if wanted && write_trace(report.history.as_slice(), trace).is_err() {
+    if wanted && write_trace(&report, trace).is_err() {
         return Err(Trouble::Unwritten);
     }
     Ok(status_of(&report))

@@ -88,7 +88,7 @@ fn chosen_order(rt: HostRuntime) -> Result<(), Fail> {
     write_report(&report, &mut out)?;
     assert_eq!(rt; out.bytes(), b"a\n1\n".as_slice());
     let mut trace = Buffer::new(alloc);
-    write_trace(report.history.as_slice(), &mut trace)?;
+    write_trace(&report, &mut trace)?;
     let events = b"swt-trace 1\nB 0 1\nE 0 1\nB 1 3\nE 1 3\nB 1 2\nE 1 2\nB 1 4\nE 1 4\n";
     assert_eq!(rt; trace.bytes(), events.as_slice());
     Ok(())

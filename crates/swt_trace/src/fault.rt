@@ -1,4 +1,4 @@
-//! Why a text was not read as a trace, and why a report was not written.
+//! Why a text was not read as a trace, and why a report or a trace was not written.
 use std::alloc::{AllocError, AllocFailed};
 use thiserror::Error;
 use values::sink::SinkFault;
@@ -75,7 +75,7 @@ impl From<TraceFault> for ReplayFault {
     }
 }
 
-/// Why a report was not written.
+/// Why a report, or its trace, was not written.
 #[derive(Clone, Copy, PartialEq, Eq, Debug, Drop, Error)]
 pub enum WriteFault {
     /// A write failed.

@@ -158,7 +158,8 @@ fn writes_hello(rt: HostRuntime) -> Result<(), Fail> {
     let alloc = rt.alloc();
     for at_once in [1, 5, 100] {
         let mut sink = sink_of(alloc, at_once, 0);
-        assert_eq!(rt; write_trace(&HELLO_EVENTS, &mut sink).err(), None);
+        let report = report_of(alloc, &HELLO_EVENTS)?;
+        assert_eq!(rt; write_trace(&report, &mut sink).err(), None);
         assert_eq!(rt; sink.taken.as_slice(), HELLO);
     }
     let mut sink = sink_of(alloc, 100, 0);
@@ -166,7 +167,8 @@ fn writes_hello(rt: HostRuntime) -> Result<(), Fail> {
         worker: 63,
         item: u64::MAX,
     }];
-    assert_eq!(rt; write_trace(&most, &mut sink).err(), None);
+    let report = report_of(alloc, &most)?;
+    assert_eq!(rt; write_trace(&report, &mut sink).err(), None);
     let wanted: &[u8] = b"swt-trace 1\nK 63 18446744073709551615\n";
     assert_eq!(rt; sink.taken.as_slice(), wanted);
     Ok(())
@@ -176,16 +178,29 @@ fn writes_hello(rt: HostRuntime) -> Result<(), Fail> {
 #[test]
 fn stops_at_a_refused_write(rt: HostRuntime) -> Result<(), Fail> {
     let alloc = rt.alloc();
+    let report = report_of(alloc, &HELLO_EVENTS)?;
     for refused in 1..37u8 {
         let mut sink = sink_of(alloc, 1, refused);
         assert_eq!(rt;
-            write_trace(&HELLO_EVENTS, &mut sink).err(),
-            Some(SinkFault)
+            write_trace(&report, &mut sink).err(),
+            Some(WriteFault::Write)
         );
         assert_eq!(rt; sink.taken.as_slice(), &HELLO[..refused as usize - 1]);
         assert_eq!(rt; sink.failures, 1);
     }
     Ok(())
+}
+
+/// A report of these events.
+fn report_of(alloc: Global, events: &[Event]) -> Result<Report, AllocError> {
+    Ok(Report {
+        code: Code::new(alloc),
+        history: Vec::from_slice(alloc, events)?,
+        lines: Vec::new(alloc),
+        end: End::Limit,
+        blocked: Vec::new(alloc),
+        tallies: [0; 64],
+    })
 }
 
 /// A report after one event, with the lines `a` and the empty one.
@@ -199,7 +214,7 @@ fn report_with(alloc: Global, end: End, blocked: Vec<Statement>) -> Result<Repor
         lines,
         end,
         blocked,
-        tallies: Vec::new(alloc),
+        tallies: [0; 64],
     })
 }
 

@@ -4,4 +4,4 @@ use Rattle.runs.specs.Report.{AreTallies}
 use Rattle.runs.proofs.tally.tallies.Given as goal
 
 abbrev pub invariant-loop-event : goal.invariant-loop-event
-invariant-loop-event l = AreTallies (map event_view (take l.event-index l.history.items)) l.tallies.items
+invariant-loop-event l = AreTallies (map event_view (take l.event-index l.history.items)) l.tallies

@@ -3,7 +3,7 @@ use Rattle.task_code.specs.declared.event.Event.TheVariants.{Begin}
 use Rattle.values.specs.Sinks.{Beginning}
 use Rattle.swt_trace.specs.Trace.{TraceText, event_lines, first_line}
 use Rattle.swt_trace.proofs.Pieces.{beginning_in, trace_at, next_written}
-use Rattle.swt_trace.proofs.write.write_trace.Goals as goal
+use Rattle.swt_trace.proofs.write.write_events.Goals as goal
 
 pub returns-in_err-write_all-clause-err : goal.returns-in_err-write_all-clause-err
 returns-in_err-write_all-clause-err g c =

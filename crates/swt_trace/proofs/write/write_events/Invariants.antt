@@ -1,6 +1,6 @@
 use Rattle.std.proofs.Common.{◌≡◌, ◌++◌, [], take}
 use Rattle.swt_trace.specs.Trace.{first_line, event_lines}
-use Rattle.swt_trace.proofs.write.write_trace.Given as goal
+use Rattle.swt_trace.proofs.write.write_events.Given as goal
 
 abbrev pub invariant-loop-event : goal.invariant-loop-event
 invariant-loop-event g l = record {
