@@ -57,7 +57,7 @@ fn prints_hello(report: &Report) -> bool {
 }
 
 /// Whether the first two tallies are these.
-fn begins_with(tallies: &[u64], control: u64, leaf: u64) -> bool {
+fn begins_with(tallies: &[u32], control: u32, leaf: u32) -> bool {
     match tallies {
         [first, second, ..] => *first == control && *second == leaf,
         _ => false,
