@@ -52,7 +52,9 @@ use Rattle.correspondence.proofs.BlockedInputs.{Reads, Alive, round_of, header_e
 use Rattle.correspondence.proofs.ClosingFrom.{AllReady, last_ready, outer_ready}
 use Rattle.correspondence.proofs.Evaluate.{in_once}
 use Rattle.correspondence.proofs.Facts.{fact_of, not_too_deep}
-use Rattle.correspondence.proofs.LiveFrom.{find_call, CallFound, StmtFound, found_body, only_stmt, branch_works, condition_value, branch_key, taken, LoopRun, range_run, each_run, ready_names}
+use Rattle.correspondence.proofs.HeaderWorks.{find_call, CallFound, StmtFound, found_body, only_stmt, branch_works, condition_value, branch_key, taken, ready_names}
+use Rattle.correspondence.proofs.LiveBy.{LoopRun, range_run, each_run}
+use Rattle.correspondence.proofs.LiveFrom.{by_answers}
 use Rattle.correspondence.proofs.LiveTo.{awaited_come}
 use Rattle.correspondence.proofs.Means.{chain_live, chain_body, chain_scope}
 use Rattle.correspondence.proofs.OwnFacts.{facts_from}
@@ -211,7 +213,7 @@ module _ (s : Core) (C : Code) (w : IsCodeOf s C) (K : Knowledge) (wf : WellForm
         by false r g = under j there 0 (Takes false) m mk (subst (λ (a : Act). In (Through, u') (ways a)) (sym en.act_is) (inr (inl refl))) bb r else_second dp (alive j there) g
             (subst (λ (a : Act). In (u', step_at (entry C j).mark (Key.Number (pos 1)) p) (instances a (entry C j).mark p 0 (Takes false))) (sym en.act_is) (inl refl))
 
-    turn_under : {at n x : ℕ} {y : Option ℕ} {d : Block} {a : Action} {vs : List Value} (u : Key × Scalar) → LoopRun s C w K wf (backs s K kn) I sc p t k at x y d u → stmt at n a ∈ block_list b → Ready s K (script_path p) a vs → Opens a vs u.0 d
+    turn_under : {at n x : ℕ} {y : Option ℕ} {d : Block} {a : Action} {vs : List Value} (u : Key × Scalar) → LoopRun s C w K wf (backs s K kn) I sc (by_answers s C w K wf (backs s K kn) I sc) p t k at x y d u → stmt at n a ∈ block_list b → Ready s K (script_path p) a vs → Opens a vs u.0 d
         → length (script_path p) < most_steps → Spot ((at, u.0) ∷ script_path p) d
     turn_under u run m r o dp =
         under run.number run.there run.chunk_number (Turns run.turns) m run.mark_is run.way run.stands r o dp run.alive run.fact
@@ -223,8 +225,8 @@ module _ (s : Core) (C : Code) (w : IsCodeOf s C) (K : Knowledge) (wf : WellForm
     header_under m sa sub r then_alone dp = when_under m sa sub r dp
     header_under m sa sub r then_first dp = choose_under true m sa sub r dp
     header_under m sa sub r else_second dp = choose_under false m sa sub r dp
-    header_under m sa sub r (turn {st = st} e f i) dp = turn_under _ (range_run s C w K wf (backs s K kn) I sc ch alive st m sa sub r e f i dp) m r (turn e f i) dp
-    header_under m sa sub r (item i) dp = turn_under _ (each_run s C w K wf (backs s K kn) I sc ch alive m sa sub r i dp) m r (item i) dp
+    header_under m sa sub r (turn {st = st} e f i) dp = turn_under _ (range_run s C w K wf (backs s K kn) I sc (by_answers s C w K wf (backs s K kn) I sc) ch alive st m sa sub r e f i dp) m r (turn e f i) dp
+    header_under m sa sub r (item i) dp = turn_under _ (each_run s C w K wf (backs s K kn) I sc (by_answers s C w K wf (backs s K kn) I sc) ch alive m sa sub r tt i dp) m r (item i) dp
 
     -- A CALL
     call_under : {st : Stmt} {c : Call} {f : Function} {js : List ℕ} → st ∈ block_list b → c ∈ stmt_calls st → CallFound C w.layout k st c js → ((j : ℕ) → In j js → In j (body C t).entries) → slice_get s.functions c.function ≡ Some f → length c.inputs ≡ f.inputs

@@ -39,7 +39,7 @@ use Rattle.correspondence.specs.Knows.{Knows}
 use Rattle.correspondence.proofs.Backing.{backs}
 use Rattle.correspondence.proofs.BlockedRounds.{live_round, scalar_given, array_given}
 use Rattle.correspondence.proofs.Evaluate.{Got, AsValue, AsScalar}
-use Rattle.correspondence.proofs.LiveFrom.{come_answer, awaited_of}
+use Rattle.correspondence.proofs.HeaderWorks.{come_answer, awaited_of}
 use Rattle.correspondence.proofs.Readings.{IsSame, name_stands, same_array, says_script}
 use Rattle.correspondence.proofs.Transfer.{live_shown, live_reading, shown_one, shown_grounded, shown_writer}
 use Rattle.correspondence.proofs.Within.{script_right, ever_in, clean_code}

@@ -38,7 +38,7 @@ use Rattle.correspondence.proofs.Backing.{backs}
 use Rattle.correspondence.proofs.BlockedFacts.{item_parts, HasReading, simple_reading, header_reading}
 use Rattle.correspondence.proofs.BlockedInputs.{Alive, alive_of, header_ever, come_back}
 use Rattle.correspondence.proofs.Evaluate.{in_once}
-use Rattle.correspondence.proofs.LiveFrom.{ready_names}
+use Rattle.correspondence.proofs.HeaderWorks.{ready_names}
 use Rattle.correspondence.proofs.LiveTo.{ItemLive, live_to, in_one}
 use Rattle.correspondence.proofs.Means.{chain_live, chain_body, chain_scope}
 use Rattle.correspondence.proofs.Roles.{PartOf, OwnAs, own_simple, own_branch, own_branches, own_range, own_each, own_wait, RoleIn, find_role}

@@ -14,7 +14,7 @@ use Rattle.task_code.specs.Code.{Variable, Header, Act, Way, InPlace, Through, C
 use Rattle.task_code.specs.Whole.{IsCode}
 use Rattle.agreement.specs.CodeNames.{name_as}
 use Rattle.agreement.specs.IsCodeOf.{Layout, own_expr, own_needs, fill_act, CallAs, StmtAs, declares, calls_alone, simple, branch, branches, range_loop, array_loop, waits, BodyAs}
-use Rattle.correspondence.proofs.LiveFrom.{find_call}
+use Rattle.correspondence.proofs.HeaderWorks.{find_call}
 use Rattle.correspondence.proofs.Rights.{target_right, fill_target, step_right, both, output_right, alone_call, only_one, right_of, IsArray}
 use Rattle.correspondence.proofs.Roles.{OwnAs, own_simple, own_branch, own_branches, own_range, own_each, own_wait}
 use Rattle.correspondence.proofs.Targets.{UsesIn, own_target, in_header, in_content}

@@ -49,7 +49,7 @@ use Rattle.meaning_laws.specs.TypedValues.{TypedValues}
 use Rattle.correspondence.proofs.Carries.{node_of, Carries, by_own, by_alone, carrier, carries_right}
 use Rattle.correspondence.proofs.Evaluate.{Got, AnsAll, in_once}
 use Rattle.correspondence.proofs.Hits.{IsArrayAt, right_hits, made_in_block}
-use Rattle.correspondence.proofs.LiveFrom.{turn_there}
+use Rattle.correspondence.proofs.HeaderWorks.{turn_there}
 use Rattle.correspondence.proofs.LiveTo.{value_of, says, answers_all, condition_known, cell_known_by, range_known, awaited_come, awaited_all, bounds_two, bounds_three, ok_step}
 use Rattle.correspondence.proofs.Means.{chain_live, chain_body, chain_scope}
 use Rattle.correspondence.proofs.Opening.{depth_below, shallow}

@@ -48,7 +48,8 @@ use Rattle.correspondence.proofs.Backing.{backs, element_known}
 use Rattle.correspondence.proofs.Evaluate.{Got, Ans, AnsAll, in_once, once_in}
 use Rattle.correspondence.proofs.Facts.{Known, known, fact_of, computes_so, has_answers}
 use Rattle.correspondence.proofs.Inputs.{read_real}
-use Rattle.correspondence.proofs.LiveFrom.{Alive, Works, cell_seen, needs_answered, wanted_in}
+use Rattle.correspondence.proofs.HeaderWorks.{Works, cell_seen, needs_answered, wanted_in}
+use Rattle.correspondence.proofs.LiveFrom.{Alive}
 use Rattle.correspondence.proofs.Means.{chain_scope, means, covering_writes}
 use Rattle.correspondence.proofs.Readings.{IsSame, same_array, name_stands, gives_all, all_in_order, in_element}
 use Rattle.correspondence.proofs.TurnsFrom.{turns_stored}

@@ -9,6 +9,8 @@ pub mod Roles
 pub mod Opening
 pub mod LiveTo
 pub mod Facts
+pub mod HeaderWorks
+pub mod LiveBy
 pub mod LiveFrom
 pub mod Assembled
 pub mod WrittenTo

@@ -46,7 +46,7 @@ use Rattle.correspondence.proofs.ClosingFrom.{OpenedAs, HeaderFact, AllReady, la
 use Rattle.correspondence.proofs.ElementsFrom.{put_works}
 use Rattle.correspondence.proofs.Evaluate.{Got, Ans, once_in, in_once}
 use Rattle.correspondence.proofs.Facts.{Known, known, computes_so, has_answers, fact_of, IsGood, not_too_deep}
-use Rattle.correspondence.proofs.LiveFrom.{Works, branch_works, condition_value, each_turns, range_seen, range_works, ready_names, come_answer, awaited_of}
+use Rattle.correspondence.proofs.HeaderWorks.{no_simple, Works, branch_works, condition_value, each_turns, range_seen, range_works, ready_names, come_answer, awaited_of}
 use Rattle.correspondence.proofs.LiveTo.{first_one, turn_in}
 use Rattle.correspondence.proofs.Means.{chain_live, chain_scope}
 use Rattle.correspondence.proofs.Readings.{element_in}
@@ -120,20 +120,6 @@ module _ (s : Core) (C : Code) (w : IsCodeOf s C) (K : Knowledge) (wf : WellForm
 
     headers : (at n : ℕ) (a : Action) (vs : List Value) → stmt at n a ∈ block_list b → OwnAs C w.layout k (stmt at n a) j → Branches a → Ready s K (script_path p) a vs → ((key : Key) (c : Block) → Opens a vs key c → length (script_path p) < most_steps) → HeaderFact s C w K wf kn I sc j k at p a vs
     headers at n a vs m (own_simple z en nd) br r dp = absurd (no_simple a z br)
-      where
-        no_simple : (a : Action) → IsSimple a → Branches a → ⊥
-        no_simple (Co.assign x o) z h = h
-        no_simple (fill x o) z h = h
-        no_simple (insert x i o) z h = h
-        no_simple (Co.print x o) z h = h
-        no_simple (Co.assert x o) z h = h
-        no_simple (Co.declare v) z h = z
-        no_simple (Co.call_alone x y o) z h = z
-        no_simple (when o d) z h = z
-        no_simple (choose o d e) z h = z
-        no_simple (range o d e f g i) z h = z
-        no_simple (each o d e f) z h = z
-        no_simple (wait o d) z h = z
     headers at n (when o d) vs m (own_branch en mk ba) br (cells_known ks (one_way {t = x})) dp =
         let kv = condition_value s C w K wf (backs s K kn) I sc ch j there (cells_known ks (one_way {c = o} {b = d} {t = x})) refl refl (λ ns c e. absurd (cc (e))) (λ x y z c e. absurd (cc (e))) in
         header_fact (branch_works s C w K wf (backs s K kn) I sc ch j there o x m (outer_in o.parts o.cell) kv en) tt mk (when_opens {o = o} x en.act_is ba) dp

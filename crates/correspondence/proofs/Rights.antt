@@ -16,7 +16,7 @@ use Rattle.agreement.specs.IsCodeOf.{Layout, own_expr, own_needs, fill_act, Outp
 use Rattle.std.specs.Prelude.{ℤ}
 use Rattle.correspondence.proofs.Means.{here_owned}
 use Rattle.correspondence.proofs.Roles.{call_among}
-use Rattle.correspondence.proofs.LiveFrom.{find_call, StmtFound, find_stmt}
+use Rattle.correspondence.proofs.HeaderWorks.{find_call, StmtFound, find_stmt}
 
 pub only_one : {X : Type 0} {x y : X} → x ∈ (y ∷ []) → x ≡ y
 only_one h = elim (split_in h) [ inl e ↦ e | inr z ↦ elim z [ ] ]

@@ -46,7 +46,7 @@ use Rattle.meaning_laws.specs.Scoped.{AreIn, FormIn, Scoped, IsIn, IsScoped}
 use Rattle.agreement.specs.IsCodeOf.{seen, own_form, own_expr, own_needs, fill_act, step_expr, IsEntry, IsCodeOf}
 use Rattle.meaning_laws.specs.TypedValues.{TypedValues}
 use Rattle.correspondence.proofs.Evaluate.{Got, AnsAll, in_once}
-use Rattle.correspondence.proofs.LiveFrom.{outer_among}
+use Rattle.correspondence.proofs.HeaderWorks.{outer_among}
 use Rattle.correspondence.proofs.LiveTo.{Fact, value_of, says, answers_all, cell_known_by, range_known, bounds_two, bounds_three, listed_in, ok_step, depth}
 use Rattle.correspondence.proofs.Means.{chain_live, chain_scope, means, covering_writes}
 use Rattle.correspondence.proofs.Readings.{IsSame, same_array, element_in}

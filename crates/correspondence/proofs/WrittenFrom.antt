@@ -44,7 +44,9 @@ use Rattle.meaning_laws.specs.TypedValues.{own_cell, own_outer, own_parts}
 use Rattle.correspondence.proofs.Evaluate.{in_once, once_in, Got, Ans, AnsAll, inputs_of}
 use Rattle.correspondence.proofs.Facts.{known, fact_of, computes_so, has_answers, Known}
 use Rattle.correspondence.proofs.Backing.{value_known}
-use Rattle.correspondence.proofs.LiveFrom.{Alive, Where, at_body, between, live_from, StmtFound, found_body, cells_of}
+use Rattle.correspondence.proofs.HeaderWorks.{StmtFound, found_body, cells_of}
+use Rattle.correspondence.proofs.LiveBy.{at_body, between}
+use Rattle.correspondence.proofs.LiveFrom.{Alive, Where, live_from}
 use Rattle.correspondence.proofs.Means.{chain_body, chain_scope, means, covering_writes}
 use Rattle.correspondence.proofs.Roles.{among_cells, part_of_stmt}
 
