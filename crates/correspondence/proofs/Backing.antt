@@ -12,7 +12,8 @@ use Rattle.syntax_trees.specs.Meaning.{New, cell_value, cell_fault, assigned, fi
 use Rattle.syntax_trees.specs.Members.{◌∈◌}
 use Rattle.syntax_trees.specs.Parts.{cells}
 use Rattle.syntax_trees.specs.Places.{Path, Place}
-use Rattle.meaning_laws.proofs.Sources.{CellValue, AssignValue, FillElement, InsertElement, outer_in, index_in, right_in}
+use Rattle.syntax_trees.specs.WellFormed.{WellFormed}
+use Rattle.meaning_laws.proofs.Sources.{IsFull, cell_gives, many_given, CellValue, AssignValue, FillElement, InsertElement, outer_in, index_in, right_in}
 use Rattle.correspondence.specs.Backs.{RightKnown, Backs}
 use Rattle.correspondence.specs.Knows.{Knows}
 
@@ -105,6 +106,13 @@ module _ (s : Core) (K : Knowledge) (kn : Knows s K) where
   right_known (too_deep_header h g e z) = tt
   right_known (too_deep_call h i e) = tt
   right_known (written_twice h b z e) = tt
+
+  -- a fill's value comes with its elements
+  pub knows_full : WellFormed s → IsFull s K
+  knows_full wf path at n x o v m kv =
+      let g = cell_gives s wf.cells K m (outer_in o.parts o.cell) (kn.backed _ kv) in
+      let e = many_given (wf.cells.fill_many at n x o m) g.1 in
+      (e.elements, e.is, λ k u i. kn.shut _ (filled g.0 (before (subst (λ (z : Value). K (value (path, o.cell.node) z)) e.is kv)) i))
 
   pub backs : Backs s K
   backs = record { backed = kn.backed; behind = λ f k. right_known (kn.backed f k); one_scalar = kn.one_scalar; listed = kn.listed }

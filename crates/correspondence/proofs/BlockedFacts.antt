@@ -42,7 +42,7 @@ use Rattle.correspondence.specs.Answered.{Reading}
 use Rattle.correspondence.specs.Chains.{Answers, Chain, at_script, by_header, by_wait, by_call}
 use Rattle.correspondence.specs.Inclusions.{Facts}
 use Rattle.correspondence.specs.Knows.{Knows}
-use Rattle.correspondence.proofs.Backing.{backs}
+use Rattle.correspondence.proofs.Backing.{backs, knows_full}
 use Rattle.correspondence.proofs.Evaluate.{Got, once_in, in_once}
 use Rattle.correspondence.proofs.Facts.{known, computes_so, has_answers, fact_of}
 use Rattle.correspondence.proofs.LinesOf.{lines_from}
@@ -144,8 +144,8 @@ module _ (s : Core) (C : Code) (w : IsCodeOf s C) (K : Knowledge) (wf : WellForm
         let cm = outer_in o.parts o.cell in
         let u = ty.assign_one (script_path p) at n x o h.0 (stmt_in s (live m)) h.1 in
         one_reading (code.Set (name_as k false x)) (λ x ys. refl) (λ x. refl) en (once_is o) (scoped o m cm) (own_under o m cm (subst (λ (v : Value). K (value (script_path p, o.cell.node) v)) u.1 h.1))
-    simple_reading at n (fill x o) z m en nd h = (let r = (facts_from s C w K wf kn I sc).filled p t k b ch i there at n x o h.0 m en h.1 in (_, r.1))
-    simple_reading at n (insert x j o) z m en nd h = (let r = (facts_from s C w K wf kn I sc).inserted p t k b ch i there at n x j o h.0 h.1 m en h.2 in (_, r.1))
+    simple_reading at n (fill x o) z m en nd h = (let r = (facts_from s C w K wf (backs s K kn) I sc (knows_full s K kn wf)).filled p t k b ch i there at n x o h.0 m en h.1 in (_, r.1))
+    simple_reading at n (insert x j o) z m en nd h = (let r = (facts_from s C w K wf (backs s K kn) I sc (knows_full s K kn wf)).inserted p t k b ch i there at n x j o h.0 h.1 m en h.2 in (_, r.1))
     simple_reading at n (print x o) z m en nd h = line_reading n h.0 (subst (λ (a : Act). TellsNode a) (sym en.act_is) tt) nd h.1
     simple_reading at n (assert x o) z m en nd h = (let cm = outer_in o.parts o.cell in one_reading code.Assert (λ x ys. refl) (λ x. refl) en (once_is o) (scoped o m cm) (own_under o m cm h))
     simple_reading at n (Co.declare v) z m en nd h = absurd z
@@ -165,4 +165,4 @@ module _ (s : Core) (C : Code) (w : IsCodeOf s C) (K : Knowledge) (wf : WellForm
         ]
 
     pub header_reading : (at n : ℕ) (a : Action) → stmt at n a ∈ block_list b → OwnAs C w.layout k (stmt at n a) i → Branches a → IsReady s K (script_path p) a → (c : ℕ) → HasReading c
-    header_reading at n a m ow br r c = (let h = (facts_from s C w K wf kn I sc).header p t k b ch i there at n a r.0 m ow br r.1 (shallow_so at n a r.0 m r.1) in (_, h.fact c))
+    header_reading at n a m ow br r c = (let h = (facts_from s C w K wf (backs s K kn) I sc (knows_full s K kn wf)).header p t k b ch i there at n a r.0 m ow br r.1 (shallow_so at n a r.0 m r.1) in (_, h.fact c))

@@ -46,7 +46,7 @@ use Rattle.correspondence.specs.Asserted.{Asserted}
 use Rattle.correspondence.specs.Chains.{Chain, at_script, by_header, by_wait, by_call, Waited, one_ready, more_ready}
 use Rattle.correspondence.specs.Inclusions.{Facts}
 use Rattle.correspondence.specs.Knows.{Knows}
-use Rattle.correspondence.proofs.Backing.{backs}
+use Rattle.correspondence.proofs.Backing.{backs, knows_full}
 use Rattle.correspondence.proofs.BlockedHas.{NoWait, own_has}
 use Rattle.correspondence.proofs.BlockedInputs.{Reads, Alive, round_of, header_ever, come_back}
 use Rattle.correspondence.proofs.ClosingFrom.{AllReady, last_ready, outer_ready}
@@ -160,7 +160,7 @@ module _ (s : Core) (C : Code) (w : IsCodeOf s C) (K : Knowledge) (wf : WellForm
     as_wait : WaitAs C w.layout k inner below content
     scope : InScope s k b
     wrap : (c : Block) → Waited s C w.layout K (script_path p) inner c → Waited s C w.layout K (script_path p) outermost c
-    wrap_ready : AllReady s C w K wf kn I sc k (script_path p) inner below → AllReady s C w K wf kn I sc k (script_path p) outermost headers
+    wrap_ready : AllReady s C w K wf (backs s K kn) I sc k (script_path p) inner below → AllReady s C w K wf (backs s K kn) I sc k (script_path p) outermost headers
     sub : (n : Need) → In n (flat_map (λ h. h.needs) below) → In n (entry C number).needs
     before : (at : ℕ) → FirstUnknown C Known p below at → FirstUnknown C Known p headers at
 
@@ -234,7 +234,7 @@ module _ (s : Core) (C : Code) (w : IsCodeOf s C) (K : Knowledge) (wf : WellForm
     call_under {c = c} {f = f} m n cf sub fq len dp =
         let j = cf.number in
         let there = sub cf.number cf.there in
-        let fact = (facts_from s C w K wf kn I sc).called p t k b ch cf.number there c cf.all cf.at cf.priority cf.as_call dp in
+        let fact = (facts_from s C w K wf (backs s K kn) I sc (knows_full s K kn wf)).called p t k b ch cf.number there c cf.all cf.at cf.priority cf.as_call dp in
         let opens = subst (λ (a : Act). In (w.layout.body_of c.function, step_at (entry C cf.number).mark (Key.Number (pos 0)) p) (instances a (entry C cf.number).mark p 0 OpensIt)) (sym (cf.as_call).is.act_is) (inl refl) in
         at_body refl (by_call cf.number ch m n there cf.as_call cf.cells_in fq len (w.functions c.function f fq) dp)
         (λ i m'. subst (λ (z : ℕ). IsAlive (Item i (step_at z (Key.Number (pos 0)) p) 0)) (cf.as_call).mark_is (opens_alive OpensIt (alive j there) fact (w.layout.body_of c.function, step_at (entry C cf.number).mark (Key.Number (pos 0)) p) opens i m'))
@@ -243,10 +243,10 @@ module _ (s : Core) (C : Code) (w : IsCodeOf s C) (K : Knowledge) (wf : WellForm
     content : (st0 : Stmt) → st0 ∈ block_list b → (j : ℕ) (there : In j (body C t).entries) (hs : List Header) (t' : ℕ) → (entry C j).needs ≡ each_once (flat_map (λ h. h.needs) hs) → (entry C j).act ≡ code.Wait hs t'
         → {at n : ℕ} {ns : List Awaited} {c bb : Block} {gs : List Header} → InScope s k bb → stmt at n (wait ns c) ∈ block_list bb → WaitAs C w.layout k (stmt at n (wait ns c)) gs t' → Ready s K (script_path p) (wait ns c) []
         → ((d : Block) → Waited s C w.layout K (script_path p) (stmt at n (wait ns c)) d → Waited s C w.layout K (script_path p) st0 d)
-        → (AllReady s C w K wf kn I sc k (script_path p) (stmt at n (wait ns c)) gs → AllReady s C w K wf kn I sc k (script_path p) st0 hs)
+        → (AllReady s C w K wf (backs s K kn) I sc k (script_path p) (stmt at n (wait ns c)) gs → AllReady s C w K wf (backs s K kn) I sc k (script_path p) st0 hs)
         → ((x : Need) → In x (flat_map (λ h. h.needs) gs) → In x (entry C j).needs) → ((at : ℕ) → FirstUnknown C Known p gs at → FirstUnknown C Known p hs at) → Spot (script_path p) c
     content st0 m0 j there hs t' nq aq sp mm (one_wait ba q) r wrap wr sub bf =
-        let fact = (facts_from s C w K wf kn I sc).waited p t k b ch j there st0 hs t' m0 nq aq (wr (last_ready r q)) in
+        let fact = (facts_from s C w K wf (backs s K kn) I sc (knows_full s K kn wf)).waited p t k b ch j there st0 hs t' m0 nq aq (wr (last_ready r q)) in
         at_body refl (by_wait j ch m0 there (subst (λ (a : Act). In (InPlace, t') (ways a)) (sym aq) (inl refl)) ba (wrap _ (one_ready r)))
         (λ i m'. opens_alive OpensIt (alive j there) fact (t', p) (subst (λ (a : Act). In (t', p) (instances a (entry C j).mark p 0 OpensIt)) (sym aq) (inl refl)) i m')
     content st0 m0 j there hs t' nq aq {bb = bb} sp mm (merged {at = at} {n = n} {ns = ns} {st = st'} {gs = gs'} wa q) r wrap wr sub bf =
@@ -322,7 +322,7 @@ module _ (s : Core) (C : Code) (w : IsCodeOf s C) (K : Knowledge) (wf : WellForm
           subst (λ (z : Path). Spot z c) x.path_is
           (content x.chain x.alive x.outermost x.in_outer x.number x.there x.headers x.content x.needs_is x.act_is x.scope m (subst (λ (z : Stmt). WaitAs C w.layout x.k z x.below x.content) (sym q) x.as_wait)
           (subst (λ (z : Path). Ready s K z (wait ns c) []) (sym x.path_is) r) (λ d y. x.wrap d (subst (λ (z : Stmt). Waited s C w.layout K (script_path x.p) z d) q y))
-          (λ y. x.wrap_ready (subst (λ (z : Stmt). AllReady s C w K wf kn I sc x.k (script_path x.p) z x.below) q y)) x.sub x.before)
+          (λ y. x.wrap_ready (subst (λ (z : Stmt). AllReady s C w K wf (backs s K kn) I sc x.k (script_path x.p) z x.below) q y)) x.sub x.before)
   spot (Mn.called {path = path} {b = b} {f = f} {st = st} {c = c} lv m n fq dp) = by (spot lv)
     where
       by : Spot path b → Spot ((c.at, Key.Number (pos 0)) ∷ path) f.body

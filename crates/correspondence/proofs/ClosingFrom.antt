@@ -1,4 +1,4 @@
--- What is closed in the script is closed in the code, by the script's answers, where rights are exact; but for the facts of a statement's own entry.
+-- Where rights are exact, the items of a statement that is finished in the script are finished in the code, for any facts to which fed items come; but for the facts of a statement's own entry.
 use Rattle.std.proofs.Common.{◌≡◌, ◌⊎◌, inl, inr, ℕ, zero, suc, ◌<◌, ◌≤◌, ◌+◌, Bool, true, false, List, [], ◌∷◌, ◌++◌, map, length, refl, sym, ap, ◌∙◌, subst, Option, Some, None, arith}
 use Rattle.std.specs.Prelude.{pos, ℤ, slice_get, drop}
 use Rattle.std.specs.List.{flat_map}
@@ -11,7 +11,12 @@ use Rattle.values.specs.declared.value.Scalar.{Scalar}
 use Rattle.values.specs.declared.value.Value.{Value}
 use Rattle.syntax_trees.specs.Core as Co
 use Rattle.syntax_trees.specs.Core.{Owned, local, input, output, Name, Cell, Call, Part, Outer, Awaited, Stmt, stmt, Action, declare, call_alone, assign, fill, insert, print, assert, when, choose, range, each, wait, Block, stmts, no_stmts, Function, Core}
-use Rattle.syntax_trees.specs.Facts.{value, element, Knowledge}
+use Rattle.syntax_trees.specs.Facts.{value, element, Knowledge, IsKey, a_number}
+use Rattle.values.specs.declared.value.Scalar.TheVariants.{Number}
+use Rattle.values.specs.declared.value.Value.TheVariants.{One}
+use Rattle.syntax_trees.specs.Parts.{script_stmts}
+use Rattle.agreement.specs.IsCodeOf.{Layout}
+use Rattle.correspondence.proofs.HeaderWorks.{no_simple}
 use Rattle.syntax_trees.specs.Meaning as Mn
 use Rattle.syntax_trees.specs.Meaning.{IsTarget, Finished, no_target, value_known, write_known, body_finished, blocks_finished, content_finished, Ready}
 use Rattle.syntax_trees.specs.Members.{◌∈◌, first}
@@ -38,25 +43,34 @@ use Rattle.task_code.proofs.Kept.{code_laws}
 use Rattle.task_code.proofs.Places.{spot_path, spot_variable}
 use Rattle.agreement.specs.Headline.{script_path, script_place}
 use Rattle.correspondence.specs.Answered.{Reading}
-use Rattle.correspondence.specs.Knows.{Knows}
-use Rattle.correspondence.specs.Inclusions.{Facts, ArraysOnce, ClosedFrom}
+use Rattle.correspondence.specs.Backs.{Backs}
 use Rattle.correspondence.specs.Chains.{Answers, Chain, at_script, by_header, by_wait, by_call, Waited, one_ready, more_ready}
 use Rattle.agreement.specs.CodeNames.{owned_as, name_as, each_once, header}
 use Rattle.meaning_laws.specs.Scoped.{IsIn, Scoped}
 use Rattle.agreement.specs.IsCodeOf.{own_expr, own_needs, simple_act, IsEntry, CallAs, PartAs, plain_literal, plain_name, a_cell, a_read, a_call, WaitAs, one_wait, merged, BodyAs, body_as, IsCodeOf}
 use Rattle.meaning_laws.specs.TypedValues.{TypedValues}
-use Rattle.correspondence.proofs.Backing.{backs}
+use Rattle.correspondence.proofs.Backing.{element_known}
 use Rattle.correspondence.proofs.Carries.{node_of}
 use Rattle.correspondence.proofs.Exact.{IsArr, InPart, leads_in, part_leads, no_way, scalar_target}
-use Rattle.correspondence.proofs.Hits.{IsArrayAt, right_kind, made_in_block}
-use Rattle.correspondence.proofs.ClosingTo.{array_made}
-use Rattle.correspondence.proofs.LiveFrom.{Alive}
+use Rattle.correspondence.proofs.Hits.{IsArrayAt, right_kind}
+use Rattle.correspondence.proofs.LiveBy.{TaskEffect, Feed, ReadyFed, header_fed, needs_fed, known_cell}
+use Rattle.correspondence.proofs.WrittenFrom.{nothing_behind}
+use Rattle.correspondence.proofs.WholeTo.{bound_place}
+use Rattle.correspondence.proofs.Evaluate.{once_in, in_once}
+use Rattle.meaning_laws.proofs.Sources.{index_in, right_in, InsertElement, FillElement}
+use Rattle.meaning_laws.proofs.Declared.{stmt_in}
+use Rattle.syntax_trees.specs.Meaning.{in_block}
+use Rattle.agreement.specs.IsCodeOf.{seen}
+use Rattle.agreement.specs.CodeNames.{wanted}
+use Rattle.task_code.specs.Code.{Need, Calling}
+use Rattle.task_code.specs.Effects.{Main, stores, bound, chunk}
+use Rattle.task_code.proofs.Rights.{in_gather}
 use Rattle.correspondence.proofs.LiveTo.{call_of}
 use Rattle.correspondence.proofs.Means.{chain_live, chain_body, chain_scope, covering_writes, means}
 use Rattle.correspondence.proofs.Owner.{OwnerOf, owner_here, owner_output, owner_header, owner_wait, outputs_apart}
 use Rattle.correspondence.proofs.Readings.{same_array}
 use Rattle.correspondence.proofs.Rights.{only_one, fill_stored}
-use Rattle.correspondence.proofs.Roles.{PartOf, OwnAs, own_simple, own_wait, find_role, parts_of}
+use Rattle.correspondence.proofs.Roles.{PartOf, OwnAs, own_simple, own_branch, own_branches, own_range, own_each, own_wait, find_role, parts_of}
 use Rattle.correspondence.proofs.Targets.{uses_block, uses_is_target, NoneInside, none_inner, none_output, OnlyAt, only_declared, none_declared, only_output, only_header, only_wait}
 use Rattle.correspondence.proofs.Transfer.{reading_valid}
 
@@ -138,9 +152,85 @@ fewer_left zero [] h = absurd (cc (h))
 fewer_left zero (x ∷ xs) h = (let z = drop_shorter 63 xs in omega arith)
 fewer_left (suc c) xs h = fewer_left c (drop 64 xs) h
 
-module _ (s : Core) (C : Code) (w : IsCodeOf s C) (K : Knowledge) (wf : WellFormed s) (kn : Knows s K) (I : IsCode C) (sc : Scoped s) where
-  abbrev ReadsAs : ℕ → List Step → ℕ → Computed → Type 0
+-- an entry that opens bodies has a way to them
+pub instance_way : (a : Act) (mark : ℕ) (p : List Step) (c : ℕ) (x : Computed) (q : ℕ × List Step) → In q (instances a mark p c x) → (y : Way × ℕ) × In y (ways a)
+instance_way (code.Cell e) mark p c x q h = absurd h
+instance_way code.Read mark p c x q h = absurd h
+instance_way (code.Call b rs os) mark p c x q h = ((Calling, b), inl refl)
+instance_way (code.Set r e) mark p c x q h = absurd h
+instance_way (code.Fill r es) mark p c x q h = absurd h
+instance_way (code.Copy r) mark p c x q h = absurd h
+instance_way (code.Put r j e) mark p c x q h = absurd h
+instance_way (code.Print e) mark p c x q h = absurd h
+instance_way (code.Assert e) mark p c x q h = absurd h
+instance_way (code.If e b None) mark p c x q h = ((Through, b), inl refl)
+instance_way (code.If e b (Some d)) mark p c x q h = ((Through, b), inl refl)
+instance_way (code.Range l g st lp) mark p c x q h = ((Through, lp.body), inl refl)
+instance_way (code.Each lp) mark p c x q h = ((Through, lp.body), inl refl)
+instance_way (code.Wait hs b) mark p c x q h = ((InPlace, b), inl refl)
+
+-- the values of the index and of the right side of an element that is written
+pub record WrittenCells (K : Knowledge) (path : Path) (i o : Outer) (key : Key) (v : Scalar) : Type 0 where
+  pub number : ℤ
+  pub key_is : key ≡ Key.Number number
+  pub index : K (value (path, i.cell.node) (One (Number number)))
+  pub right : K (value (path, o.cell.node) (One v))
+
+pub written_cells : (s : Core) (wf : WellFormed s) (K : Knowledge) (kn : Backs s K) {path : Path} {at n : ℕ} {x : Name} {i o : Outer} {key : Key} {v : Scalar} → stmt at n (insert x i o) ∈ script_stmts s → K (element (place s path x) key (path, n) v) → WrittenCells K path i o key v
+written_cells s wf K kn {path} {at} {n} {x} {i} {o} {key} {v} there_is kv = elim (element_known (kn.backed _ kv) (kn.behind _ kv) refl) [ inl a ↦ absurd (other a) | inr a ↦ by_key a.0 a.1 a.2 ]
+  where
+    other : FillElement s K (place s path x) key (path, n) v → ⊥
+    other a = wf.writers.fill_insert a.at n at a.array x i a.right o (subst (λ (z : ℕ). stmt a.at z (fill a.array a.right) ∈ script_stmts s) (ap (λ (z : Place). z.1) a.writer_is) (stmt_in s a.live)) there_is
+
+    by_key : (a : InsertElement s K (place s path x) key (path, n) v) → K (value (a.path, a.index.cell.node) a.index_value) → K (value (a.path, a.right.cell.node) (One v)) → WrittenCells K path i o key v
+    by_key a ki ko =
+        let same = wf.writers.insert_once a.at n at a.array x a.index i a.right o (subst (λ (z : ℕ). stmt a.at z (insert a.array a.index a.right) ∈ script_stmts s) (ap (λ (z : Place). z.1) a.writer_is) (stmt_in s a.live)) there_is in
+        let pq : a.path ≡ path = ap (λ (z : Place). z.0) a.writer_is in
+        by a.is_key (λ h. subst (λ (z : Path). K (value (z, i.cell.node) a.index_value)) pq (subst (λ (z : Outer). K (value (a.path, z.cell.node) a.index_value)) same.0 h)) ki
+        (subst (λ (z : Path). K (value (z, o.cell.node) (One v))) pq (subst (λ (z : Outer). K (value (a.path, z.cell.node) (One v))) same.1 ko))
+      where
+        by : {u : Value} {key : Key} → IsKey u key → (K (value (a.path, a.index.cell.node) u) → K (value (path, i.cell.node) u)) → K (value (a.path, a.index.cell.node) u) → K (value (path, o.cell.node) (One v)) → WrittenCells K path i o key v
+        by (a_number {z = num}) f ki ko = record { number = num; key_is = refl; index = f ki; right = ko }
+
+-- a header's entry opens bodies
+own_way : {C : Code} {l : Layout} {k j at n : ℕ} {a : Action} → OwnAs C l k (stmt at n a) j → Branches a → (y : Way × ℕ) × In y (ways (entry C j).act)
+own_way (own_simple {a = a} z en nd) hb = absurd (no_simple a z hb)
+own_way (own_branch {t = t} en mk ba) hb = ((Through, t), subst (λ (a : Act). In (Through, t) (ways a)) (sym en.act_is) (inl refl))
+own_way (own_branches {t = t} en mk ba bb) hb = ((Through, t), subst (λ (a : Act). In (Through, t) (ways a)) (sym en.act_is) (inl refl))
+own_way (own_range {t = t} en mk ba) hb = ((Through, t), subst (λ (a : Act). In (Through, t) (ways a)) (sym en.act_is) (inl refl))
+own_way (own_each {t = t} en mk ba) hb = ((Through, t), subst (λ (a : Act). In (Through, t) (ways a)) (sym en.act_is) (inl refl))
+own_way (own_wait wa en) hb = absurd hb
+
+turn_write : (C : Code) (lp : Loop) (mark : ℕ) (p : List Step) (ts : List (Key × Scalar)) (q : List Step) (v : Variable) (key : Key) (u : Scalar) → v.array ≡ true → In (record { place = Datum q v; key = key; value = u }) (flat_map (bound lp mark p) ts) → ⊥
+turn_write C lp mark p ts q v key u va i =
+    let r = in_gather C (bound lp mark p) ts _ i in
+    let z = bound_place lp mark p r.0 _ r.2 in
+    let e : true ≡ false = sym va ∙ ap (λ (x : Variable). x.array) (spot_variable z.2) ∙ z.3 in
+    absurd (cc (e))
+
+-- an entry that opens bodies writes no array
+way_writes : (C : Code) (a : Act) (node mark : ℕ) (p : List Step) (c : ℕ) (x : Computed) (y : Way × ℕ) → In y (ways a) → (q : List Step) (v : Variable) (key : Key) (u : Scalar) → v.array ≡ true → In (record { place = Datum q v; key = key; value = u }) (stores C a node mark p c x) → ⊥
+way_writes C (code.Cell e) node mark p c x y h q v key u va i = h
+way_writes C code.Read node mark p c x y h q v key u va i = h
+way_writes C (code.Call b rs os) node mark p c x y h q v key u va i = i
+way_writes C (code.Set r e) node mark p c x y h q v key u va i = h
+way_writes C (code.Fill r es) node mark p c x y h q v key u va i = h
+way_writes C (code.Copy r) node mark p c x y h q v key u va i = h
+way_writes C (code.Put r j e) node mark p c x y h q v key u va i = h
+way_writes C (code.Print e) node mark p c x y h q v key u va i = h
+way_writes C (code.Assert e) node mark p c x y h q v key u va i = h
+way_writes C (code.If e b d) node mark p c x y h q v key u va i = i
+way_writes C (code.Range l g st lp) node mark p c x y h q v key u va i = turn_write C lp mark p (chunk c (turns_of x)) q v key u va i
+way_writes C (code.Each lp) node mark p c x y h q v key u va i = turn_write C lp mark p (chunk c (turns_of x)) q v key u va i
+way_writes C (code.Wait hs b) node mark p c x y h q v key u va i = i
+
+module _ (s : Core) (C : Code) (w : IsCodeOf s C) (K : Knowledge) (wf : WellFormed s) (kn : Backs s K) (I : IsCode C) (sc : Scoped s) where
+  abbrev pub ReadsAs : ℕ → List Step → ℕ → Computed → Type 0
   ReadsAs j p c x = Reading (code_system C) (Answers s K) (Item j p c) (effect_at C j p c x)
+
+  -- the elements that an item writes are known
+  abbrev pub KnownWrites : ℕ → List Step → ℕ → Computed → Type 0
+  KnownWrites j p c x = (q : List Step) (v : Variable) (key : Key) (y : Scalar) → v.array ≡ true → In (record { place = Datum q v; key = key; value = y }) (stores C (entry C j).act (entry C j).node (entry C j).mark p c x) → (u : Place) × K (element (script_place q v) key u y)
 
   -- a block that a header's item opens, as the script opens it
   pub record OpenedAs (j k : ℕ) (p : List Step) (a : Action) (vs : List Value) (q : ℕ × List Step) : Type 0 where
@@ -166,32 +256,44 @@ module _ (s : Core) (C : Code) (w : IsCodeOf s C) (K : Knowledge) (wf : WellForm
   -- what is still asked of the facts: an entry has its fact once the script knows what it works out
   pub record FactsFrom : Type 0 where
     pub filled : (p : List Step) (t k : ℕ) (b : Block) → Chain s C w.layout K p t k b → (j : ℕ) → In j (body C t).entries → (at n : ℕ) (x : Name) (o : Outer) (v : Value) → stmt at n (fill x o) ∈ block_list b
-        → IsEntry (entry C j) at (pos 0) (own_needs w.layout k (fill x o)) (simple_act w.layout k (own_needs w.layout k (fill x o)) (fill x o)) → K (value (script_path p, o.cell.node) v) → (c : Computed) × ReadsAs j p 0 c
+        → IsEntry (entry C j) at (pos 0) (own_needs w.layout k (fill x o)) (simple_act w.layout k (own_needs w.layout k (fill x o)) (fill x o)) → K (value (script_path p, o.cell.node) v) → (c : Computed) × ReadsAs j p 0 c × KnownWrites j p 0 c
     pub inserted : (p : List Step) (t k : ℕ) (b : Block) → Chain s C w.layout K p t k b → (j : ℕ) → In j (body C t).entries → (at n : ℕ) (x : Name) (i o : Outer) (key : Key) (v : Scalar) → stmt at n (insert x i o) ∈ block_list b
-        → IsEntry (entry C j) at (pos 0) (own_needs w.layout k (insert x i o)) (simple_act w.layout k (own_needs w.layout k (insert x i o)) (insert x i o)) → K (element (place s (script_path p) x) key (script_path p, n) v) → (c : Computed) × ReadsAs j p 0 c
+        → IsEntry (entry C j) at (pos 0) (own_needs w.layout k (insert x i o)) (simple_act w.layout k (own_needs w.layout k (insert x i o)) (insert x i o)) → K (element (place s (script_path p) x) key (script_path p, n) v) → (c : Computed) × ReadsAs j p 0 c × KnownWrites j p 0 c
     pub header : (p : List Step) (t k : ℕ) (b : Block) → Chain s C w.layout K p t k b → (j : ℕ) → In j (body C t).entries → (at n : ℕ) (a : Action) (vs : List Value) → stmt at n a ∈ block_list b → OwnAs C w.layout k (stmt at n a) j → Branches a
         → Ready s K (script_path p) a vs → ((key : Key) (c : Block) → Opens a vs key c → length (script_path p) < most_steps) → HeaderFact j k at p a vs
     pub waited : (p : List Step) (t k : ℕ) (b : Block) → Chain s C w.layout K p t k b → (j : ℕ) → In j (body C t).entries → (st : Stmt) (hs : List Header) (u : ℕ) → st ∈ block_list b → (entry C j).needs ≡ each_once (flat_map (λ h. h.needs) hs) → (entry C j).act ≡ code.Wait hs u
         → AllReady k (script_path p) st hs → ReadsAs j p 0 OpensIt
     pub called : (p : List Step) (t k : ℕ) (b : Block) → Chain s C w.layout K p t k b → (j : ℕ) → In j (body C t).entries → (c : Call) (all : List Part) (at : ℕ) (pr : ℤ) → CallAs C w.layout k all at pr c j → length (script_path p) < most_steps → ReadsAs j p 0 OpensIt
 
-  module _ (ty : TypedValues s K) (ex : IsExact C) (single : SinglyAssigned s) (ff : FactsFrom) (p0 : List Step) (v0 : Variable) (ar : IsArrayAt s C w K wf kn I sc v0) (db : Block) (dbs : db ∈ script_blocks s) (dd : Declares db (local v0.node)) where
+  -- what opens bodies writes no array
+  pub no_writes : (j c : ℕ) (p : List Step) (x : Computed) → (y : Way × ℕ) × In y (ways (entry C j).act) → KnownWrites j p c x
+  no_writes j c p x h q v key u va i = absurd (way_writes C (entry C j).act (entry C j).node (entry C j).mark p c x h.0 h.1 q v key u va i)
+
+  -- what counts for the end of an array: facts whose writes to it are known
+  pub record Ends (fd : Feed s C w K wf kn I sc) : Type 1 where
+    pub Counted : List Step → Variable → Task → TaskEffect → Type 0
+    pub main : (q : List Step) (v : Variable) → Counted q v Main (record { writes = []; lines = []; opens = block C (0, []) ∷ [] })
+    pub counts : (q : List Step) (v : Variable) (j c : ℕ) (p : List Step) (x : Computed) → v.array ≡ true → Live (code_system C) fd.Fact (Item j p c) → fd.Fact (Item j p c) (effect_at C j p c x) → KnownWrites j p c x → Counted q v (Item j p c) (effect_at C j p c x)
+    -- the right side of a whole array, once its value is known
+    pub right : (p : List Step) (t k : ℕ) (b : Block) → Chain s C w.layout K p t k b → (j : ℕ) → In j (body C t).entries → (at n : ℕ) (x : Name) (o : Outer) (v : Value) → stmt at n (fill x o) ∈ block_list b → K (value (script_path p, o.cell.node) v) → (z : Need) → In z (wanted k (own_expr o)) → In z (entry C j).needs → fd.Fed p z
+
+  module _ (fd : Feed s C w K wf kn I sc) (ends : Ends fd) (ex : IsExact C) (single : SinglyAssigned s) (ff : FactsFrom) (p0 : List Step) (v0 : Variable) (ar : IsArrayAt s C w K wf I sc v0) (db : Block) (dbs : db ∈ script_blocks s) (dd : Declares db (local v0.node)) where
     abbrev A : CodePlaces.Place
     A = Datum p0 v0
 
     abbrev Fin : Task → Type 0
-    Fin u = Fa.Finished (code_system C) (Facts s C K) (Datum p0 v0) u
+    Fin u = Fa.Finished (code_system C) (ends.Counted p0 v0) (Datum p0 v0) u
 
     abbrev IsLive : Task → Type 0
-    IsLive u = Alive s C w K wf (backs s K kn) I sc u
+    IsLive u = Live (code_system C) fd.Fact u
 
-    record Every (p : List Step) (b : Block) (up : ℕ) (what : Owned) : Type 0 where
-      place_is : place s (script_path p) (record { up = up; what = what }) ≡ script_place p0 v0
-      only : OnlyAt s wf.names what b up
-      none : NoneInside b what
-      one : (u : ℕ) (y : Owned) → Uses b u y → place s (script_path p) (record { up = u; what = y }) ≡ script_place p0 v0 → y ≡ what
-      far : (c : Block) → c ∈ blocks_below b → Declares c (local v0.node) → script_path p ≡ script_path p0 → ⊥
-      owner : OwnerOf s single b what
+    pub record Every (p : List Step) (b : Block) (up : ℕ) (what : Owned) : Type 0 where
+      pub place_is : place s (script_path p) (record { up = up; what = what }) ≡ script_place p0 v0
+      pub only : OnlyAt s wf.names what b up
+      pub none : NoneInside b what
+      pub one : (u : ℕ) (y : Owned) → Uses b u y → place s (script_path p) (record { up = u; what = y }) ≡ script_place p0 v0 → y ≡ what
+      pub far : (c : Block) → c ∈ blocks_below b → Declares c (local v0.node) → script_path p ≡ script_path p0 → ⊥
+      pub owner : OwnerOf s single b what
 
     -- NO RIGHT
     record Hit (k j : ℕ) (p : List Step) : Type 0 where
@@ -206,7 +308,7 @@ module _ (s : Core) (C : Code) (w : IsCodeOf s C) (K : Knowledge) (wf : WellForm
     hit : {p : List Step} {t k : ℕ} {b : Block} (ch : Chain s C w.layout K p t k b) (j : ℕ) → In j (body C t).entries → In (Datum p0 v0) (map (place_at C p) (entry C j).writes) → Hit k j p
     hit {p} {k = k} ch j there h =
         let r = in_unmap (place_at C p) (Datum p0 v0) (entry C j).writes h in
-        let kd = right_kind s C w K wf kn I sc (λ z. z.writes) (covering_writes s C w.layout K wf.names I sc) ch j there r.0 r.1 p0 v0 r.2 in
+        let kd = right_kind s C w K wf I sc (λ z. z.writes) (covering_writes s C w.layout K wf.names I sc) ch j there r.0 r.1 p0 v0 r.2 in
         let x = name_back k r.0 (kd.of_name ∙ ar.array) in
         let st = means s C w.layout K wf.names I sc (λ z. z.writes) (covering_writes s C w.layout K wf.names I sc) ch j there true x.0 (subst (λ (z : code.Name). In z (entry C j).writes) (sym x.1) r.1) x.2 in
         let sm = same_array s wf K st refl in
@@ -223,27 +325,33 @@ module _ (s : Core) (C : Code) (w : IsCodeOf s C) (K : Knowledge) (wf : WellForm
           place_is = pl;
         }
 
-    in_script : {p : List Step} {t k : ℕ} {b : Block} → Chain s C w.layout K p t k b → b ∈ script_blocks s
+    pub in_script : {p : List Step} {t k : ℕ} {b : Block} → Chain s C w.layout K p t k b → b ∈ script_blocks s
     in_script ch = live_block s (chain_live s C w.layout K wf.names I sc ch)
 
-    no_right : {p : List Step} {t k : ℕ} {b : Block} (ch : Chain s C w.layout K p t k b) (j : ℕ) → In j (body C t).entries → (st : Stmt) → st ∈ block_list b → InPart s C w wf I sc ex k st j → (up : ℕ) (what : Owned) → Every p b up what → (IsTarget what st → ⊥) → In (Datum p0 v0) (map (place_at C p) (entry C j).writes) → ⊥
+    pub no_right : {p : List Step} {t k : ℕ} {b : Block} (ch : Chain s C w.layout K p t k b) (j : ℕ) → In j (body C t).entries → (st : Stmt) → st ∈ block_list b → InPart s C w wf I sc ex k st j → (up : ℕ) (what : Owned) → Every p b up what → (IsTarget what st → ⊥) → In (Datum p0 v0) (map (place_at C p) (entry C j).writes) → ⊥
     no_right {k = k} {b = b} ch j there st m role up what inv h i =
         let z = hit ch j there i in
         let us = leads_in s C w wf I sc ex (ex.writes j z.right z.led) k b st m (chain_scope s C w.layout K wf.names I sc ch) (in_script ch) role z.name z.is z.scoped z.arr in
         h (subst (λ (y : Owned). IsTarget y st) (inv.one (z.name).up (z.name).what (uses_block us m) z.place_is) (uses_is_target us))
 
-    part_no_right : {p : List Step} {t k : ℕ} {b : Block} (ch : Chain s C w.layout K p t k b) (j : ℕ) → In j (body C t).entries → (st : Stmt) → st ∈ block_list b → PartOf C w.layout k st j → ((c : Call) → IsAlone st c → ⊥) → In (Datum p0 v0) (map (place_at C p) (entry C j).writes) → ⊥
+    pub part_no_right : {p : List Step} {t k : ℕ} {b : Block} (ch : Chain s C w.layout K p t k b) (j : ℕ) → In j (body C t).entries → (st : Stmt) → st ∈ block_list b → PartOf C w.layout k st j → ((c : Call) → IsAlone st c → ⊥) → In (Datum p0 v0) (map (place_at C p) (entry C j).writes) → ⊥
     part_no_right {k = k} {b = b} ch j there st m po h i =
         let z = hit ch j there i in
         let a = part_leads s C w wf I sc ex (ex.writes j z.right z.led) k b st m (chain_scope s C w.layout K wf.names I sc ch) (in_script ch) po z.name z.is z.scoped z.arr in
         h a.call a.alone
 
     -- AN ITEM WITH ITS FACT
-    item_done : (j c : ℕ) (p : List Step) (x : Computed) → IsLive (Item j p c) → ReadsAs j p c x
+    abbrev AllFed : ℕ → List Step → Type 0
+    AllFed j p = (z : Need) → In z (entry C j).needs → fd.Fed p z
+
+    item_done : (j c : ℕ) (p : List Step) (x : Computed) → IsLive (Item j p c) → AllFed j p → ReadsAs j p c x → KnownWrites j p c x
         → ((q : ℕ × List Step) → In q (instances (entry C j).act (entry C j).mark p c x) → (i : ℕ) → In i (body C q.0).entries → IsLive (Item i q.1 0) → Fin (Item i q.1 0))
         → ((lp : Loop) → loop_of (entry C j).act ≡ Some lp → is_some_list (left_at (suc c) (turns_of x)) ≡ true → IsLive (Item j p (suc c)) → Fin (Item j p (suc c))) → Fin (Item j p c)
-    item_done j c p x lv rd f g = done (record { live = lv; reading = rd }) (λ o u io iu. by o u io iu (live_opened (Item j p c) u (effect_at C j p c x) o lv rd io iu))
+    item_done j c p x lv nd rd kw f g = done (ends.counts p0 v0 j c p x ar.array lv fact kw) (λ o u io iu. by o u io iu (live_opened (Item j p c) u (effect_at C j p c x) o lv fact io iu))
       where
+        fact : fd.Fact (Item j p c) (effect_at C j p c x)
+        fact = fd.yields j c p (effect_at C j p c x) lv nd rd
+
         in_block_tasks : (q : ℕ × List Step) (u : Task) → In u (map (λ (i : ℕ). Item i q.1 0) (body C q.0).entries) → In q (instances (entry C j).act (entry C j).mark p c x) → IsLive u → Fin u
         in_block_tasks q u iu h lu =
             let r = in_unmap (λ (i : ℕ). Item i q.1 0) u (body C q.0).entries iu in
@@ -262,10 +370,10 @@ module _ (s : Core) (C : Code) (w : IsCodeOf s C) (K : Knowledge) (wf : WellForm
             one (inl e) = e
             one (inr z) = absurd z
 
-    loop_done : (fuel j c : ℕ) (p : List Step) (x : Computed) → length (left_at c (turns_of x)) ≤ fuel → IsLive (Item j p c) → ((c : ℕ) → ReadsAs j p c x)
+    loop_done : (fuel j c : ℕ) (p : List Step) (x : Computed) → length (left_at c (turns_of x)) ≤ fuel → IsLive (Item j p c) → AllFed j p → ((c : ℕ) → ReadsAs j p c x) → ((c : ℕ) → KnownWrites j p c x)
         → ((c : ℕ) (q : ℕ × List Step) → In q (instances (entry C j).act (entry C j).mark p c x) → (i : ℕ) → In i (body C q.0).entries → IsLive (Item i q.1 0) → Fin (Item i q.1 0)) → Fin (Item j p c)
-    loop_done zero j c p x le lv rd f = item_done j c p x lv (rd c) (f c) (λ lp q h l. (let z = fewer_left c (turns_of x) h in absurd (omega arith)))
-    loop_done (suc fuel) j c p x le lv rd f = item_done j c p x lv (rd c) (f c) (λ lp q h l. loop_done fuel j (suc c) p x (let z = fewer_left c (turns_of x) h in omega arith) l rd f)
+    loop_done zero j c p x le lv nd rd kw f = item_done j c p x lv nd (rd c) (kw c) (f c) (λ lp q h l. (let z = fewer_left c (turns_of x) h in absurd (omega arith)))
+    loop_done (suc fuel) j c p x le lv nd rd kw f = item_done j c p x lv nd (rd c) (kw c) (f c) (λ lp q h l. loop_done fuel j (suc c) p x (let z = fewer_left c (turns_of x) h in omega arith) l nd rd kw f)
 
     -- THE NAME IN INNER BLOCKS
     no_longer : {p : List Step} {b : Block} {up : ℕ} {what : Owned} → Every p b up what → length (script_path p0) ≤ length (script_path p)
@@ -292,7 +400,7 @@ module _ (s : Core) (C : Code) (w : IsCodeOf s C) (K : Knowledge) (wf : WellForm
             absurd (omega arith)
         one (suc u) y us e = inv.one u y (inside m h us) e
 
-    in_wait_block : {p : List Step} {b c : Block} {up : ℕ} {what : Owned} {at n : ℕ} {ns : List Awaited} → b ∈ script_blocks s → Every p b up what → stmt at n (wait ns c) ∈ block_list b → Every p c up what
+    pub in_wait_block : {p : List Step} {b c : Block} {up : ℕ} {what : Owned} {at n : ℕ} {ns : List Awaited} → b ∈ script_blocks s → Every p b up what → stmt at n (wait ns c) ∈ block_list b → Every p c up what
     in_wait_block {p} {b} {c} {up} {what} {at} {n} {ns} bs inv m = record {
       place_is = inv.place_is;
       only = only_wait s wf.names what inv.none m inv.only;
@@ -308,7 +416,7 @@ module _ (s : Core) (C : Code) (w : IsCodeOf s C) (K : Knowledge) (wf : WellForm
     }
 
     -- what is to be shown of a statement that is finished
-    abbrev Concl : Owned → List Step → Stmt → Type 0
+    abbrev pub Concl : Owned → List Step → Stmt → Type 0
     Concl what p st = (t k : ℕ) (b : Block) → Chain s C w.layout K p t k b → st ∈ block_list b → (up : ℕ) → Every p b up what → (j : ℕ) → In j (body C t).entries → IsLive (Item j p 0) → InPart s C w wf I sc ex k st j → Fin (Item j p 0)
 
     -- the items of a block whose statements are finished
@@ -318,12 +426,12 @@ module _ (s : Core) (C : Code) (w : IsCodeOf s C) (K : Knowledge) (wf : WellForm
         by : BodyAs C w.layout k b t → Fin (Item j p 0)
         by (body_as bl mk) = (let r = find_role C w.layout bl h in f r.st r.there t k b ch r.there up inv j h lv r.role)
 
-    idle_item : {p : List Step} (j : ℕ) → (In (Datum p0 v0) (map (place_at C p) (entry C j).writes) → ⊥) → Fin (Item j p 0)
+    pub idle_item : {p : List Step} (j : ℕ) → (In (Datum p0 v0) (map (place_at C p) (entry C j).writes) → ⊥) → Fin (Item j p 0)
     idle_item j h = idle h
 
-    header_done : {what : Owned} {p : List Step} {at n : ℕ} {a : Action} {vs : List Value} → Branches a → Ready s K (script_path p) a vs → ((key : Key) (b : Block) → Opens a vs key b → length (script_path p) < most_steps)
+    pub header_done : {what : Owned} {p : List Step} {at n : ℕ} {a : Action} {vs : List Value} → Branches a → Ready s K (script_path p) a vs → ReadyFed s C w K wf kn I sc fd (script_path p) a → ((key : Key) (b : Block) → Opens a vs key b → length (script_path p) < most_steps)
         → ((key : Key) (b : Block) → Opens a vs key b → (st : Stmt) → st ∈ block_list b → Concl what (step_at at key p) st) → Concl what p (stmt at n a)
-    header_done {what} {p} {at} {n} {a} {vs} hb r dp rec t k b ch m up inv j there lv (inl po) = idle_item j (part_no_right ch j there (stmt at n a) m po (λ c al. by a hb al.is))
+    header_done {what} {p} {at} {n} {a} {vs} hb r rf dp rec t k b ch m up inv j there lv (inl po) = idle_item j (part_no_right ch j there (stmt at n a) m po (λ c al. by a hb al.is))
       where
         by : {at' n' : ℕ} {pr : ℤ} {ps : List Part} {c : Call} (a : Action) → Branches a → stmt at n a ≡ stmt at' n' (call_alone pr ps c) → ⊥
         by (when o d) z e = absurd (cc (e))
@@ -338,8 +446,8 @@ module _ (s : Core) (C : Code) (w : IsCodeOf s C) (K : Knowledge) (wf : WellForm
         by (print x y) z e = absurd z
         by (assert x y) z e = absurd z
         by (wait x y) z e = absurd z
-    header_done {what} {p} {at} {n} {a} {vs} hb r dp rec t k b ch m up inv j there lv (inr ow) =
-        loop_done (length (turns_of hf.computed)) j 0 p hf.computed (omega arith) lv hf.fact (λ c q h i im li. by q (hf.opens c q h) i im li)
+    header_done {what} {p} {at} {n} {a} {vs} hb r rf dp rec t k b ch m up inv j there lv (inr ow) =
+        loop_done (length (turns_of hf.computed)) j 0 p hf.computed (omega arith) lv (header_fed s C w K wf kn I sc fd ch j there at n a vs m ow hb r rf) hf.fact (λ c. no_writes j c p hf.computed (own_way ow hb)) (λ c q h i im li. by q (hf.opens c q h) i im li)
       where
         hf : HeaderFact j k at p a vs
         hf = ff.header p t k b ch j there at n a vs m ow hb r dp
@@ -352,18 +460,22 @@ module _ (s : Core) (C : Code) (w : IsCodeOf s C) (K : Knowledge) (wf : WellForm
             (subst (λ (y : ℕ × List Step). In i (body C y.0).entries) e im) (subst (λ (y : ℕ × List Step). IsLive (Item i y.1 0)) e li))
 
     -- the content of waits, innermost of those merged
-    record WaitEnd (what : Owned) (p : List Step) (k u up : ℕ) (st : Stmt) (hs : List Header) : Type 0 where
-      content : Block
-      waited : Waited s C w.layout K (script_path p) st content
-      ready : AllReady k (script_path p) st hs
-      stands : BodyAs C w.layout k content u
-      every : Every p content up what
-      each_done : (st' : Stmt) → st' ∈ block_list content → Concl what p st'
+    pub record WaitEnd (what : Owned) (p : List Step) (k u up : ℕ) (st : Stmt) (hs : List Header) : Type 0 where
+      pub content : Block
+      pub waited : Waited s C w.layout K (script_path p) st content
+      pub ready : AllReady k (script_path p) st hs
+      pub stands : BodyAs C w.layout k content u
+      pub fed : (t : ℕ) (b : Block) → Chain s C w.layout K p t k b → (j : ℕ) → In j (body C t).entries → ((z : Need) → In z (flat_map (λ h. h.needs) hs) → In z (entry C j).needs) → (z : Need) → In z (flat_map (λ h. h.needs) hs) → fd.Fed p z
+      pub every : Every p content up what
+      pub each_done : (st' : Stmt) → st' ∈ block_list content → Concl what p st'
 
-    wait_done : {what : Owned} {p : List Step} (st : Stmt) {t k : ℕ} {b : Block} (ch : Chain s C w.layout K p t k b) → st ∈ block_list b → (j : ℕ) → In j (body C t).entries → IsLive (Item j p 0) → {hs : List Header} {u : ℕ} → (entry C j).needs ≡ each_once (flat_map (λ h. h.needs) hs) → (entry C j).act ≡ code.Wait hs u → (up : ℕ) → WaitEnd what p k u up st hs → Fin (Item j p 0)
+    pub wait_done : {what : Owned} {p : List Step} (st : Stmt) {t k : ℕ} {b : Block} (ch : Chain s C w.layout K p t k b) → st ∈ block_list b → (j : ℕ) → In j (body C t).entries → IsLive (Item j p 0) → {hs : List Header} {u : ℕ} → (entry C j).needs ≡ each_once (flat_map (λ h. h.needs) hs) → (entry C j).act ≡ code.Wait hs u → (up : ℕ) → WaitEnd what p k u up st hs → Fin (Item j p 0)
     wait_done {what} {p} st {t} {k} {b} ch m j there lv {hs} {u} nq aq up z =
-        item_done j 0 p OpensIt lv (ff.waited p t k b ch j there st hs u m nq aq z.ready) (λ q h i im li. by q (one (subst (λ (a : Act). In q (instances a (entry C j).mark p 0 OpensIt)) aq h)) i im li) (λ lp q h l. absurd (cc (h)))
+        item_done j 0 p OpensIt lv (λ y h. z.fed t b ch j there into y (once_in y _ (subst (λ (l : List Need). In y l) nq h))) (ff.waited p t k b ch j there st hs u m nq aq z.ready) (no_writes j 0 p OpensIt ((InPlace, u), subst (λ (a : Act). In (InPlace, u) (ways a)) (sym aq) (inl refl))) (λ q h i im li. by q (one (subst (λ (a : Act). In q (instances a (entry C j).mark p 0 OpensIt)) aq h)) i im li) (λ lp q h l. absurd (cc (h)))
       where
+        into : (y : Need) → In y (flat_map (λ h. h.needs) hs) → In y (entry C j).needs
+        into y h = subst (λ (l : List Need). In y l) (sym nq) (in_once y _ h)
+
         one : {A : Type 0} {x y : A} → In x (y ∷ []) → x ≡ y
         one (inl e) = e
         one (inr z) = absurd z
@@ -375,25 +487,34 @@ module _ (s : Core) (C : Code) (w : IsCodeOf s C) (K : Knowledge) (wf : WellForm
             (subst (λ (y : ℕ × List Step). In i (body C y.0).entries) e im) (subst (λ (y : ℕ × List Step). IsLive (Item i y.1 0)) e li))
 
     -- SIMPLE STATEMENTS
-    target_done : {p : List Step} (j : ℕ) (r : code.Name) (x : Computed) → IsLive (Item j p 0) → ReadsAs j p 0 x → In r (stored_of (entry C j).node (entry C j).act) → Fin (Item j p 0)
-    target_done {p = p} j r x lv rd h =
-        item_done j 0 p x lv rd (λ q g i im li. absurd (target_opens_none C (entry C j).act (entry C j).node (entry C j).mark p 0 x r q h g))
+    target_done : {p : List Step} (j : ℕ) (r : code.Name) (x : Computed) → IsLive (Item j p 0) → AllFed j p → ReadsAs j p 0 x → KnownWrites j p 0 x → In r (stored_of (entry C j).node (entry C j).act) → Fin (Item j p 0)
+    target_done {p = p} j r x lv nd rd kw h =
+        item_done j 0 p x lv nd rd kw (λ q g i im li. absurd (target_opens_none C (entry C j).act (entry C j).node (entry C j).mark p 0 x r q h g))
         (λ lp q g l. absurd (none_some (sym (target_no_loop C (entry C j).act (entry C j).node r h) ∙ q)))
       where
         none_some : {lp : Loop} → ◌≡◌ {A = Option Loop} None (Some lp) → ⊥
         none_some h = cc
 
-    fill_done : {what : Owned} {p : List Step} {at n : ℕ} {x : Name} {o : Outer} {v : Value} → K (value (script_path p, o.cell.node) v) → Concl what p (stmt at n (fill x o))
+    pub fill_done : {what : Owned} {p : List Step} {at n : ℕ} {x : Name} {o : Outer} {v : Value} → K (value (script_path p, o.cell.node) v) → Concl what p (stmt at n (fill x o))
     fill_done {at = at} {n = n} {x = x} {o = o} kv t k b ch m up inv j there lv (inl po) = idle_item j (part_no_right ch j there (stmt at n (fill x o)) m po (λ c al. (let e = al.is in absurd (cc (e)))))
     fill_done {what} {p} {at} {n} {x} {o} {v} kv t k b ch m up inv j there lv (inr (own_simple z en nd)) =
         let r = ff.filled p t k b ch j there at n x o v m en kv in
-        target_done j (name_as k true x) r.0 lv r.1 (subst (λ (a : Act). In (name_as k true x) (stored_of (entry C j).node a)) (sym en.act_is) (fill_stored C w.layout I k (entry C j).node (own_needs w.layout k (fill x o)) x (own_expr o)))
+        target_done j (name_as k true x) r.0 lv (λ y h. ends.right p t k b ch j there at n x o v m kv y (once_in y _ (subst (λ (l : List Need). In y l) (en.needs_is ∙ ap each_once (nothing_behind s C w K wf kn I sc (wanted k (own_expr o)))) h)) h) r.1 r.2 (subst (λ (a : Act). In (name_as k true x) (stored_of (entry C j).node a)) (sym en.act_is) (fill_stored C w.layout I k (entry C j).node (own_needs w.layout k (fill x o)) x (own_expr o)))
 
-    insert_done : {what : Owned} {p : List Step} {at n : ℕ} {x : Name} {i o : Outer} {key : Key} {v : Scalar} → K (element (place s (script_path p) x) key (script_path p, n) v) → Concl what p (stmt at n (insert x i o))
+    -- the index and the right side of an element that is written
+    insert_fed : {p : List Step} {t k : ℕ} {b : Block} (ch : Chain s C w.layout K p t k b) (j : ℕ) (there : In j (body C t).entries) {at n : ℕ} {x : Name} {i o : Outer} {key : Key} {v : Scalar} → stmt at n (insert x i o) ∈ block_list b → (entry C j).needs ≡ own_needs w.layout k (insert x i o) → K (element (place s (script_path p) x) key (script_path p, n) v) → AllFed j p
+    insert_fed {p} {t} {k} {b} ch j there {at} {n} {x} {i} {o} m q kv =
+        let r = written_cells s wf K kn (stmt_in s (in_block (chain_live s C w.layout K wf.names I sc ch) m)) kv in
+        needs_fed s C w K wf kn I sc fd ch j there (seen w.layout i.cell ∷ seen w.layout o.cell ∷ []) q (λ e h. elim (split_in h) [
+          | inl z ↦ known_cell s C w K wf kn I sc fd ch j there i.cell m (index_in i o) r.index e z
+          | inr h ↦ elim (split_in h) [ inl z ↦ known_cell s C w K wf kn I sc fd ch j there o.cell m (right_in i o) r.right e z | inr h ↦ elim h [ ] ]
+        ])
+
+    pub insert_done : {what : Owned} {p : List Step} {at n : ℕ} {x : Name} {i o : Outer} {key : Key} {v : Scalar} → K (element (place s (script_path p) x) key (script_path p, n) v) → Concl what p (stmt at n (insert x i o))
     insert_done {at = at} {n = n} {x = x} {i = i} {o = o} kv t k b ch m up inv j there lv (inl po) = idle_item j (part_no_right ch j there (stmt at n (insert x i o)) m po (λ c al. (let e = al.is in absurd (cc (e)))))
     insert_done {what} {p} {at} {n} {x} {i} {o} {key} {v} kv t k b ch m up inv j there lv (inr (own_simple z en nd)) =
         let r = ff.inserted p t k b ch j there at n x i o key v m en kv in
-        target_done j (name_as k true x) r.0 lv r.1 (subst (λ (a : Act). In (name_as k true x) (stored_of (entry C j).node a)) (sym en.act_is) (inl refl))
+        target_done j (name_as k true x) r.0 lv (insert_fed ch j there m en.needs_is kv) r.1 r.2 (subst (λ (a : Act). In (name_as k true x) (stored_of (entry C j).node a)) (sym en.act_is) (inl refl))
 
     -- CALLS ALONE
     cell_no_right : {p : List Step} {t k : ℕ} {b : Block} (ch : Chain s C w.layout K p t k b) (j : ℕ) → In j (body C t).entries → (act : Act) → (entry C j).act ≡ act → ways act ≡ []
@@ -441,7 +562,7 @@ module _ (s : Core) (C : Code) (w : IsCodeOf s C) (K : Knowledge) (wf : WellForm
                   o.1 ∙ ap output (outputs_apart s single inv.owner m o.0 j x'.0 x x'.1 e w' q))
             ]
 
-    call_done : {what : Owned} {p : List Step} {at n : ℕ} {pr : ℤ} {ps : List Part} {c : Call} → length (script_path p) < most_steps
+    pub call_done : {what : Owned} {p : List Step} {at n : ℕ} {pr : ℤ} {ps : List Part} {c : Call} → length (script_path p) < most_steps
         → ((j : ℕ) (x : Name) (st : Stmt) → slice_get c.outputs j ≡ Some x → x.what ≡ what → st ∈ function_body s c.function → Concl (output j) (step_at c.at (Key.Number (pos 0)) p) st) → Concl what p (stmt at n (call_alone pr ps c))
     call_done dp rec t k b ch m up inv j there lv (inr (own_simple z en nd)) = absurd z
     call_done {what} {p} {at} {n} {pr} {ps} {c} dp rec t k b ch m up inv j there lv (inl po) = by po.as_part po.there po.in_stmt refl
@@ -459,7 +580,8 @@ module _ (s : Core) (C : Code) (w : IsCodeOf s C) (K : Knowledge) (wf : WellForm
             g = sc.calls (stmt at n (call_alone pr ps c)) c (among_script s (in_script ch) m) cm'
 
             with_output : (i : ℕ) (x : Name) → slice_get c.outputs i ≡ Some x → x.what ≡ what → Fin (Item j p 0)
-            with_output i x e q = item_done j 0 p OpensIt lv (ff.called p t k b ch j there c po.all po.at po.priority ca' dp) opened (λ lp y h l. absurd (cc (h)))
+            with_output i x e q = item_done j 0 p OpensIt lv (λ y h. absurd (subst (λ (l : List Need). In y l) (ca').is.needs_is h)) (ff.called p t k b ch j there c po.all po.at po.priority ca' dp)
+                (no_writes j 0 p OpensIt ((Calling, w.layout.body_of c.function), subst (λ (a : Act). In (Calling, w.layout.body_of c.function) (ways a)) (sym (ca').is.act_is) (inl refl))) opened (λ lp y h l. absurd (cc (h)))
               where
                 one : {A : Type 0} {x y : A} → In x (y ∷ []) → x ≡ y
                 one (inl e) = e
@@ -502,50 +624,15 @@ module _ (s : Core) (C : Code) (w : IsCodeOf s C) (K : Knowledge) (wf : WellForm
             ]
 
     -- THE INDUCTION
-    no_branch : {k u at n : ℕ} {hs : List Header} {a : Action} → WaitAs C w.layout k (stmt at n a) hs u → Branches a → ⊥
+    pub no_branch : {k u at n : ℕ} {hs : List Header} {a : Action} → WaitAs C w.layout k (stmt at n a) hs u → Branches a → ⊥
     no_branch (one_wait ba q) hb = hb
     no_branch (merged wa q) hb = hb
 
-    wait_not_alone : {at n at' n' : ℕ} {ns : List Awaited} {b : Block} {pr : ℤ} {ps : List Part} {c : Call} → stmt at n (wait ns b) ≡ stmt at' n' (call_alone pr ps c) → ⊥
+    pub wait_not_alone : {at n at' n' : ℕ} {ns : List Awaited} {b : Block} {pr : ℤ} {ps : List Part} {c : Call} → stmt at n (wait ns b) ≡ stmt at' n' (call_alone pr ps c) → ⊥
     wait_not_alone h = absurd (cc (h))
 
-    only_target : (st : Stmt) {what : Owned} → what ∈ (targets st ++ []) → IsTarget what st
+    pub only_target : (st : Stmt) {what : Owned} → what ∈ (targets st ++ []) → IsTarget what st
     only_target st h = elim (either (targets st) [] h) [ inl i ↦ i | inr z ↦ elim z [ ] ]
-
-    mutual
-      finish : {what : Owned} {path : Path} {st : Stmt} → Finished s K what path st → (p : List Step) → script_path p ≡ path → Concl what p st
-      finish {what} {path} {st} (no_target h) p e t k b ch m up inv j there lv role = idle_item j (no_right ch j there st m role up what inv h)
-      finish {what} {path} (value_known {c = c} {v = v} kv) p e t k b ch m up inv j there lv role =
-          fill_done {what = what} {p = p} {o = c} (subst (λ (z : Path). K (value (z, c.cell.node) v)) (sym e) kv) t k b ch m up inv j there lv role
-      finish {what} {path} (write_known {n = n} {x = x} {k = key} {v = v} kv) p e t k b ch m up inv j there lv role =
-          insert_done {what = what} {p = p} {x = x} {key = key} (subst (λ (z : Path). K (element (place s z x) key (z, n) v)) (sym e) kv) t k b ch m up inv j there lv role
-      finish {what} {path} (body_finished {c = c} dp f) p e t k b ch m up inv j there lv role =
-          call_done {what = what} {p = p} (subst (λ (z : Path). length z < most_steps) (sym e) dp) (λ j x st' e' q m'. finish (f j x st' e' q m') (step_at c.at (Key.Number (pos 0)) p) (λ z. (c.at, Key.Number (pos 0)) ∷ e z)) t k b ch m up inv j there lv role
-      finish {what} {path} (blocks_finished {at = at} {header = header} {vs = vs} hb r dp f) p e t k b ch m up inv j there lv role =
-          header_done {what = what} {p = p} hb (subst (λ (z : Path). Ready s K z header vs) (sym e) r) (λ key c o. subst (λ (z : Path). length z < most_steps) (sym e) (dp key c o)) (λ key c o st' m'. finish (f key c st' o m') (step_at at key p) (λ z. (at, key) ∷ e z)) t k b ch m up inv j there lv role
-      finish (content_finished {at = at} {n = n} {ns = ns} {b = c} r f) p e t k b ch m up inv j there lv (inl po) = idle_item j (part_no_right ch j there (stmt at n (wait ns c)) m po (λ c' al. wait_not_alone al.is))
-      finish (content_finished r f) p e t k b ch m up inv j there lv (inr (own_simple z en nd)) = absurd z
-      finish (content_finished {at = at} {n = n} {ns = ns} {b = c} r f) p e t k b ch m up inv j there lv (inr (own_wait (one_wait ba q) en)) =
-          wait_done (stmt at n (wait ns c)) ch m j there lv en.needs_is en.act_is up
-          (record { content = c; waited = one_ready (subst (λ (z : Path). Ready s K z (wait ns c) []) (sym e) r); ready = last_ready (subst (λ (z : Path). Ready s K z (wait ns c) []) (sym e) r) q; stands = ba; every = in_wait_block (in_script ch) inv m; each_done = λ st' m'. finish (f st' m') p e })
-      finish {what} (content_finished {at = at} {n = n} {ns = ns} r f) p e t k b ch m up inv j there lv (inr (own_wait (merged {st = st'} wa q) en)) =
-          elim (wait_end wa (f st' first) p e first (inner_block s (in_script ch) m first) up (in_wait_block (in_script ch) inv m)) [
-            | inl z ↦ idle_item j (no_right ch j there (stmt at n (wait ns (stmts st' no_stmts))) m (inr (own_wait (merged wa q) en)) up what inv (λ tg. z (only_target st' tg)))
-            | inr z ↦ wait_done (stmt at n (wait ns (stmts st' no_stmts))) ch m j there lv en.needs_is en.act_is up (record { content = z.content; waited = more_ready (subst (λ (y : Path). Ready s K y (wait ns (stmts st' no_stmts)) []) (sym e) r) z.waited; ready = outer_ready (subst (λ (y : Path). Ready s K y (wait ns (stmts st' no_stmts)) []) (sym e) r) q z.ready; stands = z.stands; every = z.every; each_done = z.each_done })
-          ]
-
-      wait_end : {what : Owned} {path : Path} {st : Stmt} {k u : ℕ} {hs : List Header} {b : Block} → WaitAs C w.layout k st hs u → Finished s K what path st → (p : List Step) → script_path p ≡ path → st ∈ block_list b → b ∈ script_blocks s → (up : ℕ) → Every p b up what → (IsTarget what st → ⊥) ⊎ WaitEnd what p k u up st hs
-      wait_end wa (no_target h) p e m bs up inv = inl h
-      wait_end wa (blocks_finished hb r dp f) p e m bs up inv = absurd (no_branch wa hb)
-      wait_end wa (value_known kv) p e m bs up inv = elim wa [ ]
-      wait_end wa (write_known kv) p e m bs up inv = elim wa [ ]
-      wait_end wa (body_finished dp f) p e m bs up inv = elim wa [ ]
-      wait_end (one_wait {ns = ns} {b = c} ba q) (content_finished r f) p e m bs up inv = inr (record { content = c; waited = one_ready (subst (λ (z : Path). Ready s K z (wait ns c) []) (sym e) r); ready = last_ready (subst (λ (z : Path). Ready s K z (wait ns c) []) (sym e) r) q; stands = ba; every = in_wait_block bs inv m; each_done = λ st' m'. finish (f st' m') p e })
-      wait_end (merged {ns = ns} {st = st'} wa q) (content_finished r f) p e m bs up inv =
-          elim (wait_end wa (f st' first) p e first (inner_block s bs m first) up (in_wait_block bs inv m)) [
-            | inl z ↦ inl (λ tg. z (only_target st' tg))
-            | inr z ↦ inr (record { content = z.content; waited = more_ready (subst (λ (y : Path). Ready s K y (wait ns (stmts st' no_stmts)) []) (sym e) r) z.waited; ready = outer_ready (subst (λ (y : Path). Ready s K y (wait ns (stmts st' no_stmts)) []) (sym e) r) q z.ready; stands = z.stands; every = z.every; each_done = z.each_done })
-          ]
 
     -- AT THE DECLARING BLOCK
     -- at the script's own path all names are of its block
@@ -574,7 +661,7 @@ module _ (s : Core) (C : Code) (w : IsCodeOf s C) (K : Knowledge) (wf : WellForm
         let q : length (place_of s (script_path p) x.up x.what).0 ≡ suc (length (script_path p)) = ap (λ (z : Place). length z.0) e in
         absurd (omega arith)
 
-    pub block_done : {t k : ℕ} {b : Block} (ch : Chain s C w.layout K p0 t k b) → Declares b (local v0.node) → ((st : Stmt) → st ∈ block_list b → Finished s K (local v0.node) (script_path p0) st) → (j : ℕ) → In j (body C t).entries → IsLive (Item j p0 0) → Fin (Item j p0 0)
+    pub block_done : {t k : ℕ} {b : Block} (ch : Chain s C w.layout K p0 t k b) → Declares b (local v0.node) → ((st : Stmt) → st ∈ block_list b → Concl (local v0.node) p0 st) → (j : ℕ) → In j (body C t).entries → IsLive (Item j p0 0) → Fin (Item j p0 0)
     block_done {b = b} ch d fs j h lv =
         in_block_done ch 0 (record {
           place_is = place_here s (script_path p0) v0.node;
@@ -583,36 +670,4 @@ module _ (s : Core) (C : Code) (w : IsCodeOf s C) (K : Knowledge) (wf : WellForm
           one = λ u y us e. own_place p0 u y (λ q. root_local ch q u y us) e;
           far = λ c cm dc e. none_declared s wf.names (local v0.node) b (in_script ch) d c cm dc;
           owner = owner_here s single (in_script ch) d;
-        }) (λ st m. finish (fs st m) p0 refl) j h lv
-
-  -- what some live task may read is made
-  read_made : {t : Task} → Live (code_system C) (Reading (code_system C) (Answers s K)) t → (a : CodePlaces.Place) → In a ((code_system C).may_read t) → Fa.Made (code_system C) (Facts s C K) a
-  read_made live_main a h = absurd h
-  read_made (live_opened t u e o lv f io iu) a h =
-      elim ((code_laws C I).opens_reads t u e o a (record { answers = f.answers; is = f.is; valid = reading_valid (code_system C) (code_laws C I) (Answers s K) lv }) io iu h) [
-        | inl m ↦ record { task = t; effect = e; opening = o; fact = record { live = lv; reading = f }; opens = io; makes = m }
-        | inr r ↦ read_made lv a r
-      ]
-
-  -- CLOSED IN THE SCRIPT, CLOSED IN THE CODE
-  pub closed_from : TypedValues s K → IsExact C → SinglyAssigned s → FactsFrom → ArraysOnce s C K → ClosedFrom s C K
-  closed_from ty ex single ff once p0 v0 a0 rd cl =
-      let mk = read_made rd.1 (Datum p0 v0) rd.2 in
-      let md = made_in_block s C w K wf kn I sc ty mk.task mk.effect mk.opening (Datum p0 v0) mk.fact mk.opens mk.makes in
-      record { made = mk; finished = fin mk md.path md.variable md.is md.body_number md.inputs md.block_of md.chain md.opening_is md.made; one_writer = once p0 v0 a0 }
-    where
-      inv_closed : {pl : Place} → Mn.Closed s K pl → (b : Block) × (b ∈ script_blocks s) × Declares b (local pl.1) × ((st : Stmt) → st ∈ block_list b → Finished s K (local pl.1) pl.0 st)
-      inv_closed (Mn.closed {n = n} {at = at} {m = m} {b = b} lv i fs o) = (b, live_block s lv, record { node = n; at = at; stmt_node = m; is = refl; there = i }, fs)
-
-      fin : (mk : Fa.Made (code_system C) (Facts s C K) (Datum p0 v0)) (path : List Step) (v : Variable) → Datum p0 v0 ≡ Datum path v → (t k : ℕ) (b : Block) → Chain s C w.layout K path t k b → mk.opening ≡ block C (t, path) → In v (body C t).makes
-          → (u : Task) → In u mk.opening.tasks → Fa.Finished (code_system C) (Facts s C K) (Datum p0 v0) u
-      fin mk path v e t k b ch oq h u iu =
-          let ci = inv_closed (subst (λ (z : Place). Mn.Closed s K z) (λ z. script_place (spot_path e z) (spot_variable e z)) cl) in
-          let am = array_made s C w K wf kn I sc (chain_body s C w.layout K wf.names I sc ch) h (ap (λ (z : Variable). z.array) (sym (spot_variable e)) ∙ a0) in
-          let bs = live_block s (chain_live s C w.layout K wf.names I sc ch) in
-          let same : ci.0 ≡ b = wf.names.one_block ci.0 b (local v.node) ci.1 bs ci.2 am.1 in
-          let r = in_unmap (λ (i : ℕ). Item i path 0) u (body C t).entries (subst (λ (o : Opening Task CodePlaces.Place). In u o.tasks) oq iu) in
-          let lu : Alive s C w K wf (backs s K kn) I sc u = live_opened mk.task u mk.effect mk.opening mk.fact.live mk.fact.reading mk.opens iu in
-          subst (λ (z : CodePlaces.Place). Fa.Finished (code_system C) (Facts s C K) z u) (sym e)
-          (subst (λ (z : Task). Fa.Finished (code_system C) (Facts s C K) (Datum path v) z) r.2
-          (block_done ty ex single ff path v am.0 b bs am.1 ch am.1 (λ st m. ci.3 st (subst (λ (z : Block). st ∈ block_list z) (sym same) m)) r.0 r.1 (subst (λ (z : Task). Alive s C w K wf (backs s K kn) I sc z) (sym r.2) lu)))
+        }) fs j h lv

@@ -48,7 +48,7 @@ use Rattle.agreement.specs.IsCodeOf.{seen, own_form, own_expr, own_needs, own_pr
 use Rattle.meaning_laws.specs.TypedValues.{TypedValues}
 use Rattle.correspondence.proofs.Carries.{node_of, Carries, by_own, by_alone, carrier, carries_right}
 use Rattle.correspondence.proofs.Evaluate.{Got, AnsAll, in_once}
-use Rattle.correspondence.proofs.Hits.{IsArrayAt, right_hits, made_in_block}
+use Rattle.correspondence.proofs.Hits.{IsArrayAt, right_hits, made_in_block, array_made}
 use Rattle.correspondence.proofs.HeaderWorks.{turn_there}
 use Rattle.correspondence.proofs.LiveTo.{value_of, says, answers_all, condition_known, cell_known_by, range_known, awaited_come, awaited_all, bounds_two, bounds_three, ok_step}
 use Rattle.correspondence.proofs.Means.{chain_live, chain_body, chain_scope}
@@ -95,7 +95,7 @@ ok_same h = cc
 value_ok : {v u : Value} → ◌≡◌ {A = Result Value OpFault} (Ok v) (Ok u) → v ≡ u
 value_ok h = cc
 
-module _ (s : Core) (C : Code) (w : IsCodeOf s C) (K : Knowledge) (wf : WellFormed s) (kn : Knows s K) (I : IsCode C) (sc : Scoped s) (ty : TypedValues s K) (p0 : List Step) (v0 : Variable) (ar : IsArrayAt s C w K wf kn I sc v0) where
+module _ (s : Core) (C : Code) (w : IsCodeOf s C) (K : Knowledge) (wf : WellFormed s) (kn : Knows s K) (I : IsCode C) (sc : Scoped s) (ty : TypedValues s K) (p0 : List Step) (v0 : Variable) (ar : IsArrayAt s C w K wf I sc v0) where
   -- a name that means the array in a live block, at one depth
   record Means (p : List Step) (b : Block) (up : ℕ) (what : Owned) : Type 0 where
     place_is : place s (script_path p) (record { up = up; what = what }) ≡ script_place p0 v0
@@ -117,7 +117,7 @@ module _ (s : Core) (C : Code) (w : IsCodeOf s C) (K : Knowledge) (wf : WellForm
       let u = uses_stmt s wf.names what st b m (live_block s (chain_live s C w.layout K wf.names I sc ch)) inv.none tg in
       let e : u.0 ≡ up = inv.only u.0 (uses_block u.1 m) in
       let r = carries_right C w.layout I cr (subst (λ (z : ℕ). UsesIn st z what) e u.1) (is_array inv) in
-      let h = right_hits s C w K wf kn I sc ch i there r.0 (record { up = up; what = what }) r.1 (λ j q. absurd (inv.no_input j q)) p0 v0 ar inv.place_is in
+      let h = right_hits s C w K wf I sc ch i there r.0 (record { up = up; what = what }) r.1 (λ j q. absurd (inv.no_input j q)) p0 v0 ar inv.place_is in
       subst (λ (z : CodePlaces.Place). In z (map (place_at C p) (entry C i).writes)) h.1 (in_map (place_at C p) (name_as k r.0 (record { up = up; what = what })) (entry C i).writes r.1)
 
   -- the statements of a block whose items are finished
@@ -422,7 +422,7 @@ module _ (s : Core) (C : Code) (w : IsCodeOf s C) (K : Knowledge) (wf : WellForm
             let up_is : x.up ≡ up = inv.only x.up (subst (λ (z : Owned). Uses b x.up z) (sym e) (own m (inl first))) in
             let right = target_right C w.layout I k i false x aq (inl refl) in
             let place_is : place s (script_path p) x ≡ script_place p0 v0 = (λ z. place_of s (script_path p) (up_is z) (sym e z)) ∙ inv.place_is in
-            let h = right_hits s C w K wf kn I sc ch i there false x right (λ j q. absurd (inv.no_input j (e ∙ q))) p0 v0 ar place_is in
+            let h = right_hits s C w K wf I sc ch i there false x right (λ j q. absurd (inv.no_input j (e ∙ q))) p0 v0 ar place_is in
             absurd (cc (h.0))
 
     simple_finished : {at n : ℕ} {a : Action} → stmt at n a ∈ block_list b → IsSimple a → IsEntry (entry C i) at (own_priority a) (own_needs w.layout k a) (simple_act w.layout k (own_needs w.layout k a) a) → Finished s K what (script_path p) (stmt at n a)
@@ -453,13 +453,6 @@ module _ (s : Core) (C : Code) (w : IsCodeOf s C) (K : Knowledge) (wf : WellForm
   close i p (inl z) t k b ch there st m cr up what inv = no_target (λ tg. z (right_to ch i there st m cr up what inv tg))
   close i p (inr d) t k b ch there st m cr up what inv = carried ch i there d up what inv m cr
 
-module _ (s : Core) (C : Code) (w : IsCodeOf s C) (K : Knowledge) (wf : WellFormed s) (kn : Knows s K) (I : IsCode C) (sc : Scoped s) where
-  -- the body of a block that makes an array declares it
-  pub array_made : {k t : ℕ} {b : Block} {v : Variable} → BodyAs C w.layout k b t → In v (body C t).makes → v.array ≡ true → IsArrayAt s C w K wf kn I sc v × Declares b (local v.node)
-  array_made {t = t} {v = v} (body_as bl mk) h a =
-      let r = mk.arrays v.node (subst (λ (z : Variable). In z (body C t).makes) (λ i. record { node = v.node; array = a i }) h) in
-      (record { array = a; of_layout = sym (mk.kinds v h) ∙ a; real = mk.real v h }, record { node = v.node; at = r.0; stmt_node = r.1; is = refl; there = r.2 })
-
 module _ (s : Core) (C : Code) (w : IsCodeOf s C) (K : Knowledge) (wf : WellFormed s) (kn : Knows s K) (I : IsCode C) (sc : Scoped s) (ty : TypedValues s K) where
   -- CLOSED IN THE CODE, CLOSED IN THE SCRIPT
   pub closed_to : ClosedTo s C K
@@ -469,13 +462,13 @@ module _ (s : Core) (C : Code) (w : IsCodeOf s C) (K : Knowledge) (wf : WellForm
     where
       by : (path : List Step) (v : Variable) → Datum p0 v0 ≡ Datum path v → (t k : ℕ) (b : Block) → Chain s C w.layout K path t k b → cl.made.opening ≡ block C (t, path) → In v (body C t).makes → Mn.Closed s K (script_place p0 v0)
       by path v e t k b ch oq h =
-          let am = array_made s C w K wf kn I sc (chain_body s C w.layout K wf.names I sc ch) h (ap (λ (z : Variable). z.array) (sym (spot_variable e)) ∙ a0) in
+          let am = array_made s C w K wf I sc (chain_body s C w.layout K wf.names I sc ch) h (ap (λ (z : Variable). z.array) (sym (spot_variable e)) ∙ a0) in
           subst (λ (z : Place). Mn.Closed s K z) (sym (λ z. script_place (spot_path e z) (spot_variable e z))) (closed (chain_live s C w.layout K wf.names I sc ch) (decl am.1 (sym (local_same (am.1).is))) (fin am.0 am.1) (kn.one_writer (script_place path v)))
         where
           decl : (d : Declares b (local v.node)) → d.node ≡ v.node → stmt d.at d.stmt_node (declare v.node) ∈ block_list b
           decl d q = subst (λ (z : ℕ). stmt d.at d.stmt_node (declare z) ∈ block_list b) q d.there
 
-          fin : IsArrayAt s C w K wf kn I sc v → Declares b (local v.node) → (st : Stmt) → st ∈ block_list b → Finished s K (local v.node) (script_path path) st
+          fin : IsArrayAt s C w K wf I sc v → Declares b (local v.node) → (st : Stmt) → st ∈ block_list b → Finished s K (local v.node) (script_path path) st
           fin ar d st m =
               let bs = live_block s (chain_live s C w.layout K wf.names I sc ch) in
               inner s C w K wf kn I sc ty path v ar ch

@@ -298,6 +298,7 @@ module _ (s : Core) (C : Code) (w : IsCodeOf s C) (K : Knowledge) (wf : WellForm
   awaited_of k [] n h = absurd h
   awaited_of k (x ∷ ns) n (inl e) = (x, first, e)
   awaited_of k (x ∷ ns) n (inr h) = let r = awaited_of k ns n h in (r.0, later r.1, r.2)
+
   pub ready_source : {path : Path} {a : Name} {x : ℕ} {y : Option ℕ} {d : Block} {es : List Element} → Ready s K path (each a x y d) (Many es ∷ []) → Mn.Closed s K (place s path a) × Elements_ K (place s path a) es
   ready_source (cells_known ks d) = elim d [ ]
   ready_source (source_closed c el) = (c, el)

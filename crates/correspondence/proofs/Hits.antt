@@ -8,7 +8,7 @@ use Rattle.values.specs.declared.value.Scalar.{Scalar}
 use Rattle.syntax_trees.specs.Core.{Owned, local, input, output, Name, Block, Core}
 use Rattle.syntax_trees.specs.Facts.{Knowledge}
 use Rattle.syntax_trees.specs.Places.{Place, place}
-use Rattle.syntax_trees.specs.WellFormed.{WellFormed}
+use Rattle.syntax_trees.specs.WellFormed.{Declares, WellFormed}
 use Rattle.task_code.specs.Code as code
 use Rattle.task_code.specs.Code.{Variable, Local, Parameter, Entry, Code, Way, InPlace, Through, Calling, entry, body, ways, arguments, is_array_name}
 use Rattle.task_code.specs.Effects.{Task, Main, Item, block}
@@ -33,7 +33,7 @@ use Rattle.correspondence.proofs.Means.{Covering, covering_writes, means}
 use Rattle.correspondence.proofs.Transfer.{reading_valid}
 use Rattle.correspondence.proofs.WrittenFrom.{path_same}
 
-module _ (s : Core) (C : Code) (w : IsCodeOf s C) (K : Knowledge) (wf : WellFormed s) (kn : Knows s K) (I : IsCode C) (sc : Scoped s) where
+module _ (s : Core) (C : Code) (w : IsCodeOf s C) (K : Knowledge) (wf : WellFormed s) (I : IsCode C) (sc : Scoped s) where
   -- the kind of a datum that a name of a right means
   pub record Kind (r : code.Name) (v : Variable) : Type 0 where
     pub of_layout : v.array ≡ w.layout.array v.node
@@ -122,6 +122,13 @@ module _ (s : Core) (C : Code) (w : IsCodeOf s C) (K : Knowledge) (wf : WellForm
           by (input i) = refl
           by (output j) = refl
 
+  -- the body of a block that makes an array declares it
+  pub array_made : {k t : ℕ} {b : Block} {v : Variable} → BodyAs C w.layout k b t → In v (body C t).makes → v.array ≡ true → IsArrayAt v × Declares b (local v.node)
+  array_made {t = t} {v = v} (body_as bl mk) h a =
+      let r = mk.arrays v.node (subst (λ (z : Variable). In z (body C t).makes) (λ i. record { node = v.node; array = a i }) h) in
+      (record { array = a; of_layout = sym (mk.kinds v h) ∙ a; real = mk.real v h }, record { node = v.node; at = r.0; stmt_node = r.1; is = refl; there = r.2 })
+
+module _ (s : Core) (C : Code) (w : IsCodeOf s C) (K : Knowledge) (wf : WellFormed s) (kn : Knows s K) (I : IsCode C) (sc : Scoped s) where
   module _ (ty : TypedValues s K) where
     -- WHO MAKES A DATUM
     pub record MadeIn (o : Opening Task CodePlaces.Place) (a : CodePlaces.Place) : Type 0 where

@@ -37,6 +37,8 @@ pub mod Exact
 pub mod Owner
 pub mod ClosingFrom
 pub mod OwnFacts
+pub mod Derived
+pub mod ClosedFrom
 pub mod Within
 pub mod Listing
 pub mod RunsWithin

@@ -53,7 +53,7 @@ use Rattle.correspondence.proofs.Readings.{name_stands, to_code, IsSame, same_ar
 use Rattle.correspondence.proofs.HeaderWorks.{find_call, CallFound, StmtFound, find_stmt, in_some_chunk, some_of, none_taken, left_before, branch_key, taken, two_numbers, three_numbers, outer_among, turn_there, branch_takes, condition_value, Works, branch_works, cell_seen, needs_answered, wanted_in, ready_names, come_answer, awaited_of, ready_source, EachTurns, each_turns, ready_cells, known_two, known_three, RangeSeen, range_seen, range_works, IsLoop, only_stmt, opens_no_wait, calls_no_wait, found_body, no_simple, cells_of, some_bounds}
 use Rattle.correspondence.proofs.Roles.{cell_among, OwnAs, own_simple, own_branch, own_branches, own_range, own_each, own_wait}
 
-abbrev TaskEffect : Type 0
+abbrev pub TaskEffect : Type 0
 TaskEffect = Effect Task CodePlaces.Place Key Scalar
 
 module _ (s : Core) (C : Code) (w : IsCodeOf s C) (K : Knowledge) (wf : WellFormed s) (kn : Backs s K) (I : IsCode C) (sc : Scoped s) where
@@ -112,6 +112,11 @@ module _ (s : Core) (C : Code) (w : IsCodeOf s C) (K : Knowledge) (wf : WellForm
         (subst (λ (b : Bool). In (record { makes = []; tasks = Item j p (suc c) ∷ [] }) (rest_if b j p c)) (sym h) (inl refl))))
         (inl refl)
 
+    -- who opened the body at that path
+    pub data Opener (t : ℕ) (p : List Step) : Type 0 where
+      of_main : t ≡ 0 → p ≡ [] → Opener t p
+      of_item : {j c : ℕ} {q : List Step} (x : Computed) → Alive (Item j q c) → fd.Fact (Item j q c) (effect_at C j q c x) → In (t, p) (instances (entry C j).act (entry C j).mark q c x) → Opener t p
+
     -- WHERE A LIVE BLOCK'S ITEMS ARE
     -- between the headers of merged waits no body stands for the block; the entry is that of the outermost one
     pub record Between (path : Path) (b : Block) : Type 0 where
@@ -138,7 +143,7 @@ module _ (s : Core) (C : Code) (w : IsCodeOf s C) (K : Knowledge) (wf : WellForm
       pub answers : (n : Need) → In n (flat_map (λ h. h.needs) headers) → Given p n ⊎ In n (flat_map (λ h. h.needs) below)
 
     pub data Where (path : Path) (b : Block) : Type 0 where
-      at_body : {p : List Step} {t k : ℕ} → script_path p ≡ path → Chained p t k b → AllAlive p t → Where path b
+      at_body : {p : List Step} {t k : ℕ} → script_path p ≡ path → Chained p t k b → AllAlive p t → Opener t p → Where path b
       between : Between path b → Where path b
 
     module _ {p : List Step} {t k : ℕ} {b : Block} (ch : Chained p t k b) (j : ℕ) (there : In j (body C t).entries) where
@@ -149,16 +154,17 @@ module _ (s : Core) (C : Code) (w : IsCodeOf s C) (K : Knowledge) (wf : WellForm
           → Where ((at, key) ∷ script_path p) c
       header_where {at} {u = u} {key = key} cn x m mk wy ba r o d lv f h =
           at_body refl (by_header j ch m there mk wy ba r o d) (λ i m'. subst (λ (z : ℕ). Alive (Item i (step_at z key p) 0)) mk (opens_alive x lv f (u, step_at (entry C j).mark key p) h i m'))
+          (subst (λ (z : ℕ). Opener u (step_at z key p)) mk (of_item x lv f h))
 
       -- THE NEEDS OF A HEADER ARE FED
-      needs_fed : (es : List Expr) → (entry C j).needs ≡ each_once (flat_map (wanted k) es) → ((e : Expr) → e ∈ es → (x : Need) → In x (wanted k e) → In x (entry C j).needs → fd.Fed p x) → (x : Need) → In x (entry C j).needs → fd.Fed p x
+      pub needs_fed : (es : List Expr) → (entry C j).needs ≡ each_once (flat_map (wanted k) es) → ((e : Expr) → e ∈ es → (x : Need) → In x (wanted k e) → In x (entry C j).needs → fd.Fed p x) → (x : Need) → In x (entry C j).needs → fd.Fed p x
       needs_fed es q f x h = among es (λ e i m. f e i x m h) (once_in x _ (subst (λ (l : List Need). In x l) q h))
         where
           among : (es : List Expr) → ((e : Expr) → e ∈ es → In x (wanted k e) → fd.Fed p x) → In x (flat_map (wanted k) es) → fd.Fed p x
           among [] f h = absurd h
           among (e ∷ es) f h = elim (in_split x (wanted k e) (flat_map (wanted k) es) h) [ inl i ↦ f e first i | inr i ↦ among es (λ e m. f e (later m)) i ]
 
-      known_cell : {at n : ℕ} {a : Action} (o : Cell) {u : Scalar} → stmt at n a ∈ block_list b → o ∈ cells (stmt at n a) → K (value (script_path p, o.node) (One u)) → (e : Expr) → e ≡ seen w.layout o → (x : Need) → In x (wanted k e) → In x (entry C j).needs → fd.Fed p x
+      pub known_cell : {at n : ℕ} {a : Action} (o : Cell) {u : Scalar} → stmt at n a ∈ block_list b → o ∈ cells (stmt at n a) → K (value (script_path p, o.node) (One u)) → (e : Expr) → e ≡ seen w.layout o → (x : Need) → In x (wanted k e) → In x (entry C j).needs → fd.Fed p x
       known_cell {at} {n} {a} o {u} m cm kv e q x h g = fd.cell p t k b ch j there at n a m o cm u kv x (subst (λ (y : Expr). In x (wanted k y)) q h) g
 
       range_fed : {at n y : ℕ} {lo hi : Outer} (st : Option Outer) {z : Option ℕ} {d : Block} {vs : List Value} {rr : Bounds} → stmt at n (range lo hi st y z d) ∈ block_list b → KnownAll K (script_path p) (outer_cells (range lo hi st y z d)) vs → bounds vs ≡ Some rr
@@ -244,6 +250,7 @@ module _ (s : Core) (C : Code) (w : IsCodeOf s C) (K : Knowledge) (wf : WellForm
     call_where {p} {t} {k} ch alive {c = c} {f = f} m n cf sub fq len dp =
         at_body refl (by_call j ch m n there ca cf.cells_in fq len (w.functions c.function f fq) dp)
         (λ i m'. subst (λ (z : ℕ). Alive (Item i (step_at z (Key.Number (pos 0)) p) 0)) ca.mark_is (opens_alive OpensIt (alive j there) fact (w.layout.body_of c.function, step_at (entry C j).mark (Key.Number (pos 0)) p) opens i m'))
+        (subst (λ (z : ℕ). Opener (w.layout.body_of c.function) (step_at z (Key.Number (pos 0)) p)) ca.mark_is (of_item OpensIt (alive j there) fact opens))
       where
         j : ℕ
         j = cf.number
@@ -282,7 +289,8 @@ module _ (s : Core) (C : Code) (w : IsCodeOf s C) (K : Knowledge) (wf : WellForm
           → ((x : Need) → In x (flat_map (λ h. h.needs) hs) → Given p x ⊎ In x (flat_map (λ h. h.needs) gs)) → Where (script_path p) c
       wait_where {bb = bb} sp mm (one_wait {at = at} {n = n} {ns = ns} {b = c} ba q) r rf wrap an =
           at_body refl (by_wait j ch m0 there wy ba (wrap c (one_ready r)))
-          (λ i m'. opens_alive OpensIt (alive j there) fact (t', p) (subst (λ (a : Act). In (t', p) (instances a (entry C j).mark p 0 OpensIt)) (sym en.act_is) (inl refl)) i m')
+          (λ i m'. opens_alive OpensIt (alive j there) fact (t', p) opens i m')
+          (of_item OpensIt (alive j there) fact opens)
         where
           wy : In (InPlace, t') (ways (entry C j).act)
           wy = subst (λ (a : Act). In (InPlace, t') (ways a)) (sym en.act_is) (inl refl)
@@ -294,6 +302,9 @@ module _ (s : Core) (C : Code) (w : IsCodeOf s C) (K : Knowledge) (wf : WellForm
                 | inl y ↦ y
                 | inr m ↦ elim (header_answers at ns [] (λ z u. sc.waits k bb at n ns c z sp mm u) (ready_names s C w K wf kn I sc r ns c refl) rf x i (subst (λ (l : List Header). In x (flat_map (λ h. h.needs) l)) q m)) [ inl y ↦ y | inr z ↦ absurd z ]
               ]
+
+          opens : In (t', p) (instances (entry C j).act (entry C j).mark p 0 OpensIt)
+          opens = subst (λ (a : Act). In (t', p) (instances a (entry C j).mark p 0 OpensIt)) (sym en.act_is) (inl refl)
 
           z : Known s C w K wf kn I sc ch j there
           z = known s C w K wf kn I sc ch j there (λ x h. (all x h).0)
@@ -439,17 +450,17 @@ module _ (s : Core) (C : Code) (w : IsCodeOf s C) (K : Knowledge) (wf : WellForm
 
     pub live_script : Where [] s.body
     live_script =
-        at_body refl (at_script w.script) (λ j m. live_opened Main (Item j [] 0) _ (block C (0, [])) live_main fd.main (inl refl) (in_map (λ (j : ℕ). Item j [] 0) j (body C 0).entries m))
+        at_body refl (at_script w.script) (λ j m. live_opened Main (Item j [] 0) _ (block C (0, [])) live_main fd.main (inl refl) (in_map (λ (j : ℕ). Item j [] 0) j (body C 0).entries m)) (of_main refl refl)
 
     pub opened_from : {path : Path} {b c : Block} {at n : ℕ} {header : Action} {vs : List Value} {key : Key} → Where path b → stmt at n header ∈ block_list b → Ready s K path header vs → ReadyFed path header → Opens header vs key c → length path < most_steps → Where ((at, key) ∷ path) c
-    opened_from {c = c} {at = at} {header = header} {vs = vs} {key = key} (at_body {p = p} e ch alive) m r rf o dp =
+    opened_from {c = c} {at = at} {header = header} {vs = vs} {key = key} (at_body {p = p} e ch alive op) m r rf o dp =
         let f = found_body s C w K wf kn I sc (chain_body s C w.layout K wf.names I sc ch) m in
         subst (λ (z : Path). Where ((at, key) ∷ z) c) e
         (header_step ch alive m f.as_stmt f.among (subst (λ (z : Path). Ready s K z header vs) (sym e) r) (subst (λ (z : Path). ReadyFed z header) (sym e) rf) o (subst (λ (z : Path). length z < most_steps) (sym e) dp))
     opened_from (between x) m r rf o dp = absurd (opens_no_wait s C w K wf kn I sc (subst (λ (z : Stmt). WaitAs C w.layout x.k z x.below x.content) (sym (only_stmt s C w K wf kn I sc m x.block_is)) x.as_wait) o)
 
     pub waited_from : {path : Path} {b c : Block} {at n : ℕ} {ns : List Awaited} → Where path b → stmt at n (wait ns c) ∈ block_list b → Ready s K path (wait ns c) [] → ReadyFed path (wait ns c) → Where path c
-    waited_from {c = c} {ns = ns} (at_body {p = p} e ch alive) m r rf =
+    waited_from {c = c} {ns = ns} (at_body {p = p} e ch alive op) m r rf =
         let f = found_body s C w K wf kn I sc (chain_body s C w.layout K wf.names I sc ch) m in
         subst (λ (z : Path). Where z c) e (wait_stmt ch alive m f.as_stmt f.among (subst (λ (z : Path). Ready s K z (wait ns c) []) (sym e) r) (subst (λ (z : Path). ReadyFed z (wait ns c)) (sym e) rf))
     waited_from {c = c} {ns = ns} (between x) m r rf =
@@ -459,7 +470,7 @@ module _ (s : Core) (C : Code) (w : IsCodeOf s C) (K : Knowledge) (wf : WellForm
         (subst (λ (z : Path). Ready s K z (wait ns c) []) (sym x.path_is) r) (subst (λ (z : Path). ReadyFed z (wait ns c)) (sym x.path_is) rf) (λ d y. x.wrap d (subst (λ (z : Stmt). Waited s C w.layout K (script_path x.p) z d) q y)) x.answers)
 
     pub called_from : {path : Path} {b : Block} {f : Function} {st : Stmt} {c : Call} → Where path b → st ∈ block_list b → c ∈ stmt_calls st → slice_get s.functions c.function ≡ Some f → length path < most_steps → Where ((c.at, Key.Number (pos 0)) ∷ path) f.body
-    called_from {f = f} {st = st} {c = c} (at_body {p = p} e ch alive) m n fq dp =
+    called_from {f = f} {st = st} {c = c} (at_body {p = p} e ch alive op) m n fq dp =
         let fs = found_body s C w K wf kn I sc (chain_body s C w.layout K wf.names I sc ch) m in
         let g = sc.calls st c (stmt_in s (in_block (chain_live s C w.layout K wf.names I sc ch) m)) n in
         subst (λ (z : Path). Where ((c.at, Key.Number (pos 0)) ∷ z) f.body) e

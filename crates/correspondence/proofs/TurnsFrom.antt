@@ -107,7 +107,7 @@ module _ (s : Core) (C : Code) (w : IsCodeOf s C) (K : Knowledge) (wf : WellForm
   -- a loop variable of a live block is stored
   pub turn_from : {path : Path} {b : Block} → Where s C w K wf kn I sc fd path b → {at n x : ℕ} {a : Action} {vs : List Value} {key : Key} {c : Block} {u : Scalar} → stmt at n a ∈ block_list b → Opens a vs key c → InTurn a vs key x u → Ready s K path a vs → ReadyFed s C w K wf kn I sc fd path a
       → length path < most_steps → (p : List Step) × (script_path p ≡ path) × StoredIn (step_at at key p) (scalar x) u
-  turn_from (at_body {p = p} e ch al) {a = a} {vs = vs} m o tn rd rf dp =
+  turn_from (at_body {p = p} e ch al op) {a = a} {vs = vs} m o tn rd rf dp =
       let f = found_body s C w K wf kn I sc (chain_body s C w.layout K wf.names I sc ch) m in
       (p, e, stored_turn ch al m f.as_stmt f.among o tn (subst (λ (z : Path). Ready s K z a vs) (sym e) rd) (subst (λ (z : Path). ReadyFed s C w K wf kn I sc fd z a) (sym e) rf) (subst (λ (z : Path). length z < most_steps) (sym e) dp))
   turn_from (between x) m o tn rd rf dp = absurd (opens_no_wait s C w K wf kn I sc (subst (λ (z : Stmt). WaitAs C w.layout x.k z x.below x.content) (sym (only_stmt s C w K wf kn I sc m x.block_is)) x.as_wait) o)

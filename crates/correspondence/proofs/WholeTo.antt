@@ -58,7 +58,7 @@ stored_place d (Compute.Takes b) x h = absurd h
 stored_place d (Turns ts) x h = absurd h
 stored_place d Compute.Opens x h = absurd h
 
-bound_place : (lp : Loop) (mark : ℕ) (p : List Step) (u : Key × Scalar) (x : Write CodePlaces.Place Key Scalar) → In x (bound lp mark p u) → AtScalar x
+pub bound_place : (lp : Loop) (mark : ℕ) (p : List Step) (u : Key × Scalar) (x : Write CodePlaces.Place Key Scalar) → In x (bound lp mark p u) → AtScalar x
 bound_place lp mark p u x (inl e) = (step_at mark u.0 p, scalar lp.value, ap (λ (z : Write CodePlaces.Place Key Scalar). z.place) e, refl)
 bound_place lp mark p u x (inr h) = by lp.turn h
   where

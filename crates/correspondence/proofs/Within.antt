@@ -22,16 +22,15 @@ use Rattle.correspondence.specs.Chains.{Answers}
 use Rattle.correspondence.specs.Inclusions.{Facts, ClosedFrom}
 use Rattle.correspondence.specs.Knows.{Knows}
 use Rattle.correspondence.proofs.Assembled as As
-use Rattle.correspondence.proofs.ClosingFrom.{closed_from}
+use Rattle.correspondence.proofs.ClosedFrom.{closed_from}
 use Rattle.correspondence.proofs.ClosingTo.{closed_to}
 use Rattle.correspondence.proofs.ElementsFrom.{written_from}
 use Rattle.correspondence.proofs.Inputs.{inputs_fit}
-use Rattle.correspondence.proofs.OwnFacts.{facts_from}
 use Rattle.correspondence.proofs.WholeTo.{written_to, arrays_once}
 
 module _ (s : Core) (C : Code) (w : IsCodeOf s C) (K : Knowledge) (wf : WellFormed s) (kn : Knows s K) (I : IsCode C) (sc : Scoped s) (ty : TypedValues s K) (nodes : NodesOnce C) (ex : IsExact C) (single : SinglyAssigned s) where
   pub script_closed : ClosedFrom s C K
-  script_closed = closed_from s C w K wf kn I sc ty ex single (facts_from s C w K wf kn I sc) (arrays_once s C w K wf kn I sc ty nodes)
+  script_closed = closed_from s C w K wf kn I sc ty ex single (arrays_once s C w K wf kn I sc ty nodes)
 
   pub script_right : IsRight (code_system C) (Answers s K)
   script_right = As.right s C I K kn (written_to s C w K wf kn I sc ty) (written_from s C w K wf kn I sc ty) (closed_to s C w K wf kn I sc ty) script_closed (inputs_fit s C w K wf kn I sc ty) (arrays_once s C w K wf kn I sc ty nodes)

@@ -54,14 +54,14 @@ use Rattle.correspondence.proofs.TurnsFrom.{key_same}
 use Rattle.correspondence.proofs.WrittenTo.{IsKnown}
 
 -- elements that are stored
-record InsertedOne (d : CodePlaces.Place) (xs : List (Key × Scalar)) (x : Write CodePlaces.Place Key Scalar) : Type 0 where
-  one : Key × Scalar
-  there : In one xs
-  place_is : x.place ≡ d
-  key_is : x.key ≡ one.0
-  value_is : x.value ≡ one.1
+pub record InsertedOne (d : CodePlaces.Place) (xs : List (Key × Scalar)) (x : Write CodePlaces.Place Key Scalar) : Type 0 where
+  pub one : Key × Scalar
+  pub there : In one xs
+  pub place_is : x.place ≡ d
+  pub key_is : x.key ≡ one.0
+  pub value_is : x.value ≡ one.1
 
-inserted_one : (d : CodePlaces.Place) (xs : List (Key × Scalar)) (x : Write CodePlaces.Place Key Scalar) → In x (inserted_at d (Inserts xs)) → InsertedOne d xs x
+pub inserted_one : (d : CodePlaces.Place) (xs : List (Key × Scalar)) (x : Write CodePlaces.Place Key Scalar) → In x (inserted_at d (Inserts xs)) → InsertedOne d xs x
 inserted_one d xs x h =
     let r = in_unmap (λ (y : Key × Scalar). record { place = d; key = y.0; value = y.1 }) x xs h in
     let e = sym r.2 in

@@ -172,7 +172,7 @@ module _ (s : Core) (C : Code) (w : IsCodeOf s C) (K : Knowledge) (wf : WellForm
   stmt_live {path} {st} (in_block {b = b} lv m) c cm = by (live_from s C w K wf kn I sc lv)
     where
       by : Where s C w K wf kn I sc path b → StmtLive path st
-      by (at_body {p = p} {t = t} {k = k} e ch al) = record { p = p; t = t; k = k; block = b; path_is = e; chain = ch; alive = al; there = m; entries = found_body s C w K wf kn I sc (chain_body s C w.layout K wf.names I sc ch) m }
+      by (at_body {p = p} {t = t} {k = k} e ch al op) = record { p = p; t = t; k = k; block = b; path_is = e; chain = ch; alive = al; there = m; entries = found_body s C w K wf kn I sc (chain_body s C w.layout K wf.names I sc ch) m }
       by (between x) = absurd (wait_cells (subst (λ (z : Stmt). WaitAs C w.layout x.k z x.below x.content) (sym (only_stmt m x.block_is)) x.as_wait) cm)
 
   -- A CELL'S VALUE IS STORED
