@@ -2,3 +2,6 @@ pub mod Picked
 pub mod Tallies
 pub mod Idle
 pub mod Turned
+pub mod Alike
+pub mod Ordered
+pub mod Told

@@ -9,6 +9,7 @@ use Rattle.task_code.specs.View.{event_view}
 use Rattle.board.specs.declared.place.Statement.{Statement}
 use Rattle.board.specs.Blocked.{AreBlocked, IsFaultOf}
 use Rattle.board.specs.Board.{AreByWorkers, IsGoing, Seen}
+use Rattle.board.specs.Numbers.{AreNumbered}
 use Rattle.runs.specs.declared.report.End.{End}
 use Rattle.runs.specs.declared.report.End.TheVariants as Ends
 use Rattle.runs.specs.declared.report.Report.{Report}
@@ -39,6 +40,7 @@ pub record Tells (b : Seen) (r : Report) : Type 0 where
   pub code : r.code ≡ b.code
   pub history : map event_view r.history.items ≡ b.history
   pub workers : AreByWorkers b.history
+  pub numbers : AreNumbered b.history
   pub lines : b.state.lines ≡ map (λ t. Text t) r.lines.items
   pub end : EndsAs b r.end
   pub blocked : AreBlockedAt b r.end r.blocked.items

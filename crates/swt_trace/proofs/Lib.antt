@@ -4,3 +4,4 @@ pub mod Pieces
 pub mod Parts
 pub mod Steps
 pub mod Replays
+pub mod Again

@@ -1,5 +1,5 @@
 -- Traces that are run again.
-use Rattle.std.specs.Prelude.{◌≡◌, ℕ, ◌+◌, ◌<◌, Bool, true, false, List, length, map, take, slice_index_or}
+use Rattle.std.specs.Prelude.{◌≡◌, ℕ, ◌+◌, ◌<◌, ◌≤◌, Bool, true, false, List, length, map, take, slice_index_or}
 use Rattle.dataflow.specs.Machine as Machine
 use Rattle.task_code.specs.declared.event.Event.{Event}
 use Rattle.task_code.specs.Code.{Code}
@@ -8,7 +8,7 @@ use Rattle.task_code.specs.View.{event_view}
 use Rattle.board.specs.Board.{Accepts, Seen}
 use Rattle.runs.specs.declared.report.Report.{Report}
 use Rattle.runs.specs.Report.{Reports}
-use Rattle.swt_trace.specs.Trace.{IsTrace}
+use Rattle.swt_trace.specs.Trace.{IsTrace, TraceText, most_events}
 
 -- the event is no step from the state
 abbrev pub IsNoStep : Code → CodeState → Machine.Event → Type 0
@@ -38,3 +38,10 @@ pub record IsFirstNoStep (C : Code) (bytes : List ℕ) (n : ℕ) : Type 0 where
   pub event : Event
   pub here : slice_index_or events place event ≡ event
   pub no_step : IsNoStep C state (event_view event)
+
+-- the bytes are the trace of the report's events, and the report is one of a run of the code of no more events than a trace has
+pub record IsTraceOf (C : Code) (bytes : List ℕ) (r : Report) : Type 0 where
+  pub limit : ℕ
+  pub few : limit ≤ most_events
+  pub reports : Reports C limit r
+  pub text : bytes ≡ TraceText r.history.items

@@ -5,7 +5,9 @@ ghost use Rattle.task_code.specs.View.{event_view};
 ghost use Rattle.board.specs.Board.{IsWorker};
 ghost use Rattle.board.specs.Flat.{IsFlat};
 ghost use Rattle.swt_trace.specs.Trace.{IsFirstBad, worker_of};
-ghost use Rattle.swt_trace.specs.Replay.{IsFirstNoStep, ReplaysTo, Takes};
+ghost use Rattle.runs.specs.declared.report.Report.{Report};
+ghost use Rattle.runs.specs.Same.{SameReport};
+ghost use Rattle.swt_trace.specs.Replay.{IsFirstNoStep, IsTraceOf, ReplaysTo, Takes};
 
 use crate::fault::ReplayFault;
 use crate::read::read_trace;
@@ -20,6 +22,8 @@ use task_code::event::Event;
 /// Runs the events of a trace on the code, and reports that run. Its limit is the number of events, so its end is `Limit`
 /// where the trace stops in the midst of the run.
 ///
+/// The trace of a report of a run of the code, whoever made it, gives a report that tells the same, want of memory aside.
+///
 /// # Errors
 ///
 /// `BadLine` with the number of the first line that leaves the grammar of traces, before any event is run. `NotARun` with
@@ -30,6 +34,8 @@ pub fn replay(alloc: Global, code: &Code, trace: &[u8]) -> Result<Report, Replay
     ensures report { IfOk result (ReplaysTo code.now trace.now) }
     ensures bad { IfErr result (λ fault. (n : ℕ) → fault ≡ ReplayFault.BadLine n → IsFirstBad trace.now n) }
     ensures no_step { IfErr result (λ fault. (n : ℕ) → fault ≡ ReplayFault.NotARun n → IsFirstNoStep code.now trace.now n) }
+    ensures again { (report : Report) → IsTraceOf code.now trace.now report → IfOk result (SameReport report) }
+    ensures only_memory { (report : Report) → IsTraceOf code.now trace.now report → IfErr result (λ fault. fault ≡ ReplayFault.Memory) }
 {
     let events = read_trace(alloc, trace)?;
     let mut board = Board::new(alloc, code.copy()?, events.len() as u32)?;

@@ -1,0 +1,110 @@
+-- The trace of a report, run again.
+use Rattle.std.proofs.Common.{◌≡◌, ◌∙◌, sym, ap, subst, refl, inl, inr, ℕ, zero, suc, ◌+◌, ◌^◌, ◌<◌, ◌≤◌, List, [], ◌∷◌, length, map, take, get_or, All, arith}
+use Rattle.std.proofs.lemmas.List.{length-map}
+use Rattle.dataflow.specs.Events.{worker_of as worker_in}
+use Rattle.dataflow.specs.Machine as Machine
+use Rattle.dataflow.specs.Machine.{Steps, start}
+use Rattle.dataflow.specs.System.{In}
+use Rattle.task_code.specs.declared.event.Event.{Event}
+use Rattle.task_code.specs.declared.event.Event.TheVariants.{Back, Begin, End}
+use Rattle.task_code.specs.Code.{Code}
+use Rattle.task_code.specs.Machine.{CodeState, CodeStep, Run}
+use Rattle.task_code.specs.System.{code_system}
+use Rattle.task_code.specs.View.{event_view}
+use Rattle.task_code.specs.Whole.{IsCode}
+use Rattle.board.specs.Numbers.{number_in}
+use Rattle.runs.specs.declared.report.Report.{Report}
+use Rattle.runs.specs.Report.{Reports}
+use Rattle.runs.specs.Same.{SameReport}
+use Rattle.runs.proofs.Alike.{step_too}
+use Rattle.runs.proofs.Told.{told}
+use Rattle.swt_trace.specs.declared.fault.TraceFault.{TraceFault}
+use Rattle.swt_trace.specs.declared.fault.TraceFault.TheVariants as Read
+use Rattle.swt_trace.specs.declared.fault.ReplayFault.{ReplayFault}
+use Rattle.swt_trace.specs.declared.fault.ReplayFault.TheVariants as Replay
+use Rattle.swt_trace.specs.Faults.{replay_fault}
+use Rattle.swt_trace.specs.Replay.{IsFirstNoStep, IsTraceOf, ReplaysTo}
+use Rattle.swt_trace.specs.Trace.{IsFirstBad, IsInRange, IsTrace, TraceText, most_events}
+use Rattle.swt_trace.proofs.Lines.{bad, begins, one_meaning}
+
+-- events are told by what they stand for
+same_event : (e f : Event) → event_view e ≡ event_view f → e ≡ f
+same_event (Begin v i) (Begin w j) e = (let p : v ≡ w = cc in let q : i ≡ j = cc in (λ k. Begin (p k) (q k)))
+same_event (End v i) (End w j) e = (let p : v ≡ w = cc in let q : i ≡ j = cc in (λ k. End (p k) (q k)))
+same_event (Back v i) (Back w j) e = (let p : v ≡ w = cc in let q : i ≡ j = cc in (λ k. Back (p k) (q k)))
+same_event (Begin v i) (End w j) e = absurd (cc (e))
+same_event (Begin v i) (Back w j) e = absurd (cc (e))
+same_event (End v i) (Begin w j) e = absurd (cc (e))
+same_event (End v i) (Back w j) e = absurd (cc (e))
+same_event (Back v i) (Begin w j) e = absurd (cc (e))
+same_event (Back v i) (End w j) e = absurd (cc (e))
+
+same_events : (es fs : List Event) → map event_view es ≡ map event_view fs → es ≡ fs
+same_events [] [] e = refl
+same_events [] (g ∷ fs) e = absurd (cc (e))
+same_events (f ∷ es) [] e = absurd (cc (e))
+same_events (f ∷ es) (g ∷ fs) e =
+    let first : event_view f ≡ event_view g = cc in
+    let rest : map event_view es ≡ map event_view fs = cc in
+    let one = same_event f g first in
+    let more = same_events es fs rest in
+    (λ k. one k ∷ more k)
+
+-- an event of a list, as the machine's
+at_in : (es : List Event) (k : ℕ) (d : Event) → k < length es → In (event_view (get_or es k d)) (map event_view es)
+at_in [] k d l = absurd (omega (arith, l))
+at_in (e ∷ es) zero d l = inl refl
+at_in (e ∷ es) (suc k) d l = inr (at_in es k d (omega (arith, l)))
+
+event_in_range : (e : Event) → worker_in (event_view e) < 64 → (0 < number_in (event_view e)) × (number_in (event_view e) < 2 ^ 64) → IsInRange e
+event_in_range (Begin w i) p q = record { worker = p; item = q.0; fits = q.1 }
+event_in_range (End w i) p q = record { worker = p; item = q.0; fits = q.1 }
+event_in_range (Back w i) p q = record { worker = p; item = q.0; fits = q.1 }
+
+-- the events of a report are in range
+in_range : (C : Code) (limit : ℕ) (r : Report) → Reports C limit r → All IsInRange r.history.items
+in_range C limit r p k d l =
+    let e = get_or r.history.items k d in
+    let there : In (event_view e) p.board.history = subst (λ (es : List Machine.Event). In (event_view e) es) p.tells.history (at_in r.history.items k d l) in
+    event_in_range e (p.tells.workers (event_view e) there) (p.tells.numbers (event_view e) there)
+
+module _ (C : Code) (bytes : List ℕ) (r : Report) (t : IsTraceOf C bytes r) where
+  -- the bytes are a trace of its events
+  its_trace : IsTrace bytes r.history.items
+  its_trace =
+      let few : length r.history.items ≤ most_events = omega (arith, length-map r.history.items event_view, ap (λ (es : List Machine.Event). length es) t.reports.tells.history, t.reports.within, t.few) in
+      subst (λ (bs : List ℕ). IsTrace bs r.history.items) (sym t.text) (begins (TraceText r.history.items) r.history.items [] (in_range C t.limit r t.reports) few refl)
+
+  pub not_bad : (n : ℕ) → IsFirstBad bytes n → ⊥
+  not_bad n b = bad bytes n r.history.items b its_trace
+
+  -- so reading them is refused for memory alone
+  pub read_refused : (fault : TraceFault) → ((n : ℕ) → fault ≡ Read.BadLine n → IsFirstBad bytes n) → replay_fault fault ≡ Replay.Memory
+  read_refused (Read.BadLine n) b = absurd (not_bad n (b n refl))
+  read_refused Read.Memory b = refl
+
+  pub same_again : IsCode C → (s : Report) → ReplaysTo C bytes s → SameReport r s
+  same_again whole s x =
+      told C whole t.limit (length x.events) r s t.reports x.reports
+      (one_meaning bytes r.history.items x.events its_trace x.trace ∙ sym (same_events s.history.items x.events x.history))
+
+-- the step at a place of a run
+step_at : (C : Code) (es : List Event) (place : ℕ) (d : Event) (old new : CodeState) → Steps (code_system C) old (map event_view es) new → place < length es
+    → (mid next : CodeState) × Steps (code_system C) old (map event_view (take place es)) mid × CodeStep C mid (event_view (get_or es place d)) next
+step_at C [] place d old new x l = absurd (omega (arith, l))
+step_at C (e ∷ es) zero d old new x l = (old, x.0, refl, x.1)
+step_at C (e ∷ es) (suc place) d old new x l =
+    let more = step_at C es place d x.0 new x.2 (omega (arith, l)) in
+    (more.0, more.1, (x.0, x.1, more.2), more.3)
+
+-- none of its events is refused
+pub not_refused : (C : Code) (bytes : List ℕ) (r : Report) → IsCode C → IsTraceOf C bytes r → (n : ℕ) → IsFirstNoStep C bytes n → ⊥
+not_refused C bytes r whole t n x =
+    let same : r.history.items ≡ x.events = one_meaning bytes r.history.items x.events (its_trace C bytes r t) x.trace in
+    let b = t.reports.board in
+    let run : Run C (map event_view x.events) b.state =
+        subst (λ (es : List Event). Run C (map event_view es) b.state) same (subst (λ (es : List Machine.Event). Run C es b.state) (sym t.reports.tells.history) t.reports.run) in
+    let at = step_at C x.events x.place x.event (start (code_system C)) b.state run x.within in
+    let step : CodeStep C at.0 (event_view x.event) at.1 = subst (λ (e : Event). CodeStep C at.0 (event_view e) at.1) x.here at.3 in
+    let other = step_too C whole (map event_view (take x.place x.events)) at.0 x.state at.2 x.run (event_view x.event) at.1 step in
+    x.no_step other.0 other.1
