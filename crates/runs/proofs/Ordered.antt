@@ -97,8 +97,8 @@ never_back s t u v h k first second =
     let a : u.at ≡ t.at = ap (λ (x : ℕ × List Places.Step). x.0) first in
     let b : v.at ≡ s.at = ap (λ (x : ℕ × List Places.Step). x.0) second in
     let back : Before t.at t.path.items s.at s.path.items =
-        subst (λ (n : ℕ). Before n t.path.items s.at s.path.items) a (subst (λ (r : List Step). Before u.at r s.at s.path.items) p
-        (subst (λ (n : ℕ). Before u.at u.path.items n s.path.items) b (subst (λ (r : List Step). Before u.at u.path.items v.at r) q (before u v k)))) in
+    subst (λ (n : ℕ). Before n t.path.items s.at s.path.items) a (subst (λ (r : List Step). Before u.at r s.at s.path.items) p
+    (subst (λ (n : ℕ). Before u.at u.path.items n s.path.items) b (subst (λ (r : List Step). Before u.at u.path.items v.at r) q (before u v k)))) in
     one_before s.at t.at s.path.items t.path.items (before s t h) back
 
 -- each statement of the one list is, for what it stands for, one of the other

@@ -132,13 +132,13 @@ told C whole limit other r s p q same =
     let y : Run C es q.board.state = subst (λ (hs : List Event). Run C hs q.board.state) events q.run in
     let first : EndsAs (here C p.board.state es p.board.limit) r.end = subst (λ (D : Code). EndsAs (here D p.board.state es p.board.limit) r.end) p.code p.tells.end in
     let second : EndsAs (here C q.board.state es q.board.limit) s.end =
-        subst (λ (hs : List Event). EndsAs (here C q.board.state hs q.board.limit) s.end) events
-        (subst (λ (D : Code). EndsAs (here D q.board.state q.board.history q.board.limit) s.end) q.code q.tells.end) in
+    subst (λ (hs : List Event). EndsAs (here C q.board.state hs q.board.limit) s.end) events
+    (subst (λ (D : Code). EndsAs (here D q.board.state q.board.history q.board.limit) s.end) q.code q.tells.end) in
     let ends = same_ends C whole es p.board.state q.board.state p.run y p.board.limit q.board.limit r.end s.end first second in
     let left : AreBlockedAt (here C p.board.state es p.board.limit) r.end r.blocked.items = subst (λ (D : Code). AreBlockedAt (here D p.board.state es p.board.limit) r.end r.blocked.items) p.code p.tells.blocked in
     let right : AreBlockedAt (here C q.board.state es q.board.limit) s.end s.blocked.items =
-        subst (λ (hs : List Event). AreBlockedAt (here C q.board.state hs q.board.limit) s.end s.blocked.items) events
-        (subst (λ (D : Code). AreBlockedAt (here D q.board.state q.board.history q.board.limit) s.end s.blocked.items) q.code q.tells.blocked) in
+    subst (λ (hs : List Event). AreBlockedAt (here C q.board.state hs q.board.limit) s.end s.blocked.items) events
+    (subst (λ (D : Code). AreBlockedAt (here D q.board.state q.board.history q.board.limit) s.end s.blocked.items) q.code q.tells.blocked) in
     record {
       code = p.tells.code ∙ p.code ∙ sym q.code ∙ sym q.tells.code;
       history = same;

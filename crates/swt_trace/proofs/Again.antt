@@ -1,5 +1,5 @@
 -- The trace of a report, run again.
-use Rattle.std.proofs.Common.{◌≡◌, ◌∙◌, sym, ap, subst, refl, inl, inr, ℕ, zero, suc, ◌+◌, ◌^◌, ◌<◌, ◌≤◌, List, [], ◌∷◌, length, map, take, get_or, All, arith}
+use Rattle.std.proofs.Common.{◌≡◌, ◌∙◌, sym, ap, subst, refl, inl, inr, ℕ, zero, suc, ◌^◌, ◌<◌, ◌≤◌, List, [], ◌∷◌, length, map, take, get_or, All, arith}
 use Rattle.std.proofs.lemmas.List.{length-map}
 use Rattle.dataflow.specs.Events.{worker_of as worker_in}
 use Rattle.dataflow.specs.Machine as Machine
@@ -20,7 +20,6 @@ use Rattle.runs.proofs.Alike.{step_too}
 use Rattle.runs.proofs.Told.{told}
 use Rattle.swt_trace.specs.declared.fault.TraceFault.{TraceFault}
 use Rattle.swt_trace.specs.declared.fault.TraceFault.TheVariants as Read
-use Rattle.swt_trace.specs.declared.fault.ReplayFault.{ReplayFault}
 use Rattle.swt_trace.specs.declared.fault.ReplayFault.TheVariants as Replay
 use Rattle.swt_trace.specs.Faults.{replay_fault}
 use Rattle.swt_trace.specs.Replay.{IsFirstNoStep, IsTraceOf, ReplaysTo}
@@ -103,7 +102,7 @@ not_refused C bytes r whole t n x =
     let same : r.history.items ≡ x.events = one_meaning bytes r.history.items x.events (its_trace C bytes r t) x.trace in
     let b = t.reports.board in
     let run : Run C (map event_view x.events) b.state =
-        subst (λ (es : List Event). Run C (map event_view es) b.state) same (subst (λ (es : List Machine.Event). Run C es b.state) (sym t.reports.tells.history) t.reports.run) in
+    subst (λ (es : List Event). Run C (map event_view es) b.state) same (subst (λ (es : List Machine.Event). Run C es b.state) (sym t.reports.tells.history) t.reports.run) in
     let at = step_at C x.events x.place x.event (start (code_system C)) b.state run x.within in
     let step : CodeStep C at.0 (event_view x.event) at.1 = subst (λ (e : Event). CodeStep C at.0 (event_view e) at.1) x.here at.3 in
     let other = step_too C whole (map event_view (take x.place x.events)) at.0 x.state at.2 x.run (event_view x.event) at.1 step in

@@ -1,9 +1,10 @@
-use Rattle.std.proofs.Common.{rules, arith, ◌≡◌, ◌∙◌, ap, false, List, length, map, take}
+use Rattle.std.proofs.Common.{rules, arith, ◌≡◌, ◌∙◌, ap, refl, false, ◌+◌, List, length, map, take}
 use Rattle.std.proofs.Math.Seq.{take-length}
 use Rattle.task_code.specs.declared.event.Event.{Event}
 use Rattle.task_code.specs.declared.event.Event.TheVariants.{Begin}
 use Rattle.task_code.specs.View.{event_view}
 use Rattle.board.specs.Board.{Seen}
+use Rattle.swt_trace.proofs.Again.{not_refused, read_refused, same_again}
 use Rattle.swt_trace.proofs.Replays.{by_worker, no_step_at, replayed}
 use Rattle.swt_trace.proofs.replay.replay.Goals as goal
 
@@ -31,3 +32,16 @@ returns-clause-report c =
     (ap (λ (es : List Event). length es) c.deref-event-items.ensures.value)
     (c.loop-place.invariant.history ∙ ap (λ (es : List Event). map event_view es) all)
     c.in_ok-report_of.ensures.tells c.in_ok-report_of.ensures.reports
+
+pub returns-in_err-events-clause-only_memory : goal.returns-in_err-events-clause-only_memory
+returns-in_err-events-clause-only_memory c = λ r t.
+    let refused = read_refused c.args.code.now c.args.trace.now r t c.in_err-events.field-0.0 c.in_err-events.ensures.bad in
+    search (rules, refused)
+
+pub returns-then-not-branch-clause-only_memory : goal.returns-then-not-branch-clause-only_memory
+returns-then-not-branch-clause-only_memory c = λ r t.
+    absurd (not_refused c.args.code.now c.args.trace.now r c.requires.whole t (c.loop-place.place + 2) (returns-then-not-branch-clause-no_step c (c.loop-place.place + 2) refl))
+
+pub returns-clause-again : goal.returns-clause-again
+returns-clause-again c = λ r t.
+    same_again c.args.code.now c.args.trace.now r t c.requires.whole c.in_ok-report_of.field-0 (returns-clause-report c)
