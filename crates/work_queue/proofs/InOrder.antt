@@ -94,7 +94,7 @@ erased_here x (y ∷ l) r s =
       | false ↦ λ e. ap (λ z. y ∷ z) (erased_here x l r s.1)
     ] refl
 
-or_true : (b : Bool) → (b || true) ≡ true
+pub or_true : (b : Bool) → (b || true) ≡ true
 or_true true = refl
 or_true false = refl
 
@@ -102,11 +102,11 @@ pub holds_here : (x : Entry) (l r : List Entry) → holds x (l ++ x ∷ r) ≡ t
 holds_here x [] r = rw (same_itself x)
 holds_here x (y ∷ l) r = rw (holds_here x l r) (or_true (same x y))
 
-all_behind : (x y : Entry) (ys : List Entry) → precedes y x ≡ false → IsFirst y ys → IsFirst x ys
+pub all_behind : (x y : Entry) (ys : List Entry) → precedes y x ≡ false → IsFirst y ys → IsFirst x ys
 all_behind x y [] h f = tt
 all_behind x y (v ∷ ys) h f = (precedes_order.chain v y x f.0 h, all_behind x y ys h f.1)
 
-all_inserted : (P : Entry → Type 0) (x : Entry) (ys : List Entry) → P x → AllByRecursion P ys → AllByRecursion P (inserted x ys)
+pub all_inserted : (P : Entry → Type 0) (x : Entry) (ys : List Entry) → P x → AllByRecursion P ys → AllByRecursion P (inserted x ys)
 all_inserted P x [] p a = (p, tt)
 all_inserted P x (y ∷ ys) p a =
     elim (precedes x y) as (λ b. AllByRecursion P (cond b (x ∷ y ∷ ys) (y ∷ inserted x ys))) [

@@ -1,5 +1,7 @@
 pub mod Both
 pub mod Entries
+pub mod Merged
 pub mod Node
 pub mod Order
+pub mod Slots
 pub mod Waiting

@@ -5,4 +5,6 @@
 pub mod entry;
 mod pile;
 pub mod queue;
+mod run;
+mod slot;
 mod tree;

@@ -1,10 +1,12 @@
 //! The entries of one kind, with nodes laid by for further ones.
-ghost use Rattle.std.specs.Prelude.{◌≡◌, ◌+◌, ◌<◌, ◌≤◌, ◌++◌, ◌↔◌, map, Contains, OnOk, OnErr, IfSome, IfOk, IsOk, IsTrue};
+ghost use Rattle.std.specs.Prelude.{◌≡◌, ◌+◌, ◌-◌, ◌<◌, ◌≤◌, ◌++◌, ◌↔◌, map, length, Contains, IsPermutation, OnOk, OnErr, IfSome, IsSomeAnd, IfOk, IsOk, IsTrue, false};
 ghost use Rattle.std.specs.Bool.{OnTrue, OnFalse};
 ghost use Rattle.work_queue.specs.Entries.{IsForemost, first_of, listed};
+ghost use Rattle.work_queue.specs.Order.{precedes};
 ghost use Rattle.work_queue.specs.Waiting.{none, with_put, with_room, without_first, without};
 
 use crate::entry::{Entry, Kind};
+use crate::run::Run;
 use crate::tree::{Node, Tree};
 use std::alloc::{AllocError, Global};
 use std::marker::Model;
@@ -12,26 +14,30 @@ use std::marker::Model;
 // What a node holds that stands nowhere. It means nothing.
 const NOTHING: Entry = Entry { priority: 0, no: 0 };
 
-/// The entries that wait, and nodes that stand nowhere. A node that is laid by is one more entry that
-/// needs no memory, and an entry that leaves lays its node by.
+/// The entries that wait, in a run where they have a place there and else in a tree, and nodes that stand
+/// nowhere. A node that is laid by is one more entry that needs no memory, if it is not for an entry of
+/// the run, so that each of those could go into the tree.
 #[derive(Drop)]
 pub struct Pile {
+    run: Run,
     tree: Tree,
+    // How many are in the tree.
     len: usize,
     // Has place for all nodes there are, so that each can be laid by without asking for memory.
     spare: Vec<Box<Node>>,
 }
 
 impl Model for Pile {
-    ghost use Rattle.std.specs.Prelude.{vec_len};
+    ghost use Rattle.std.specs.Prelude.{vec_len, length, ◌-◌};
     ghost use Rattle.std.specs.Vec.{vec_capacity};
-    ghost use Rattle.work_queue.specs.Waiting.{Waiting, IsKept};
+    ghost use Rattle.work_queue.specs.Waiting.{Waiting};
+    ghost use Rattle.work_queue.specs.Merged.{merged, IsShared};
 
     ghost Value = { Waiting };
 
-    ghost view = { λ a. record { entries = a.tree; room = vec_len a.spare } };
+    ghost view = { λ a. record { entries = merged a.tree a.run; room = vec_len a.spare - length a.run } };
 
-    ghost invariant = { λ a. IsKept a.tree a.len (vec_len a.spare) (vec_capacity a.spare) };
+    ghost invariant = { λ a. IsShared a.tree a.run a.len (vec_len a.spare) (vec_capacity a.spare) };
 }
 
 impl Pile {
@@ -39,10 +45,18 @@ impl Pile {
         ensures { result ≡ none }
     {
         Pile {
+            run: Run::new(alloc),
             tree: Tree::new(),
             len: 0,
             spare: Vec::new(alloc),
         }
+    }
+
+    // How many further entries need no memory.
+    fn room(&self) -> usize
+        ensures { result ≡ self.now.room }
+    {
+        self.spare.len() - self.run.len()
     }
 
     /// Lays by one more node.
@@ -51,9 +65,18 @@ impl Pile {
         ensures err { OnErr result (self.new ≡ self.old) }
     {
         self.spare.reserve(self.len + 1)?;
+        self.run.reserve(self.len + self.spare.len() + 1)?;
         let node = Box::new(*self.spare.allocator(), Node::single(NOTHING))?;
         self.spare.push_reserved(node);
         Ok(())
+    }
+
+    // Frees nodes that are laid by, until there is room for so many entries.
+    fn give_back(&mut self, room: usize)
+        requires { room ≤ self.old.room }
+        ensures { self.new ≡ record self.old { room = room } }
+    {
+        self.spare.truncate(self.run.len() + room);
     }
 
     /// Lays by what `n` further entries need.
@@ -62,14 +85,24 @@ impl Pile {
         ensures succeeds { n ≤ self.old.room → IsOk result }
         ensures err { OnErr result (self.new ≡ self.old) }
     {
-        let before = self.spare.len();
+        let before = self.room();
         for _laid in before..n {
             if let Err(refused) = self.lay_by() {
-                self.spare.truncate(before);
+                self.give_back(before);
                 return Err(refused);
             }
         }
         Ok(())
+    }
+
+    // Puts an entry that the run has no place for.
+    fn put_in_tree(&mut self, entry: Entry)
+        requires { 0 < self.old.room }
+        ensures { self.new ≡ with_put entry self.old }
+    {
+        let node = self.spare.take_last();
+        self.tree.put(entry, node);
+        self.len += 1;
     }
 
     pub fn put(&mut self, entry: Entry) -> Result<(), AllocError>
@@ -77,12 +110,10 @@ impl Pile {
         ensures succeeds { 0 < self.old.room → IsOk result }
         ensures err { OnErr result (self.new ≡ self.old) }
     {
-        if self.spare.is_empty() {
-            self.lay_by()?;
+        self.reserve(1)?;
+        if !self.run.put(&entry) {
+            self.put_in_tree(entry);
         }
-        let node = self.spare.take_last();
-        self.tree.put(entry, node);
-        self.len += 1;
         Ok(())
     }
 
@@ -90,19 +121,25 @@ impl Pile {
         ensures first { result ≡ first_of self.now.entries }
         ensures foremost { IfSome result (λ e. IsForemost e self.now.entries) }
     {
-        self.tree.first()
+        let (of_tree, of_run) = (self.tree.first(), self.run.first());
+        if leads(&of_tree, &of_run) {
+            of_tree
+        } else {
+            of_run
+        }
     }
 
-    /// Adds all to the end of the list, in order.
+    /// Adds all to the end of the list.
     pub fn append_to(&self, kind: Kind, list: &mut Vec<(Kind, i32, u64)>) -> Result<(), AllocError>
-        ensures { OnOk result (list.new.items ≡ list.old.items ++ map (listed kind) self.now.entries) }
+        ensures { OnOk result (IsPermutation (list.old.items ++ map (listed kind) self.now.entries) list.new.items) }
     {
-        self.tree.append_to(kind, list)
+        self.tree.append_to(kind, list)?;
+        self.run.append_to(kind, list)
     }
 
-    /// A list of all, in order.
+    /// A list of all.
     pub fn list(&self, kind: Kind) -> Result<Vec<(Kind, i32, u64)>, AllocError>
-        ensures { IfOk result (λ list. list.items ≡ map (listed kind) self.now.entries) }
+        ensures { IfOk result (λ list. IsPermutation (map (listed kind) self.now.entries) list.items) }
     {
         let mut list = Vec::new(*self.spare.allocator());
         self.append_to(kind, &mut list)?;
@@ -114,6 +151,10 @@ impl Pile {
         ensures foremost { IfSome result (λ e. IsForemost e self.old.entries) }
         ensures rest { self.new ≡ without_first self.old }
     {
+        let (of_tree, of_run) = (self.tree.first(), self.run.first());
+        if !leads(&of_tree, &of_run) {
+            return self.run.take();
+        }
         let node = self.tree.take_first()?;
         let entry = node.entry;
         self.len -= 1;
@@ -126,6 +167,9 @@ impl Pile {
         ensures removed { OnTrue result (self.new ≡ without entry self.old) }
         ensures absent { OnFalse result (self.new ≡ self.old) }
     {
+        if self.run.remove(&entry) {
+            return true;
+        }
         match self.tree.remove(entry) {
             None => false,
             Some(node) => {
@@ -134,5 +178,17 @@ impl Pile {
                 true
             }
         }
+    }
+}
+
+// Whether there is the one, and it is taken before the other or there is no other.
+fn leads(entry: &Option<Entry>, other: &Option<Entry>) -> bool
+    ensures ahead { OnTrue result (IsSomeAnd entry.now (λ x. IfSome other.now (λ y. precedes y x ≡ false))) }
+    ensures behind { OnFalse result (IfSome entry.now (λ x. IsSomeAnd other.now (λ y. precedes x y ≡ false))) }
+{
+    match (entry, other) {
+        (None, _) => false,
+        (Some(_), None) => true,
+        (Some(entry), Some(other)) => entry.precedes(other),
     }
 }
