@@ -1,5 +1,5 @@
 -- What statements do.
-use Rattle.std.proofs.Common.{rules, ◌≡◌, ℕ, ℤ, ◌++◌, List, [], ◌∷◌, map, refl, sym, ap, ap₂, ◌∙◌}
+use Rattle.std.proofs.Common.{rules, ◌≡◌, ℕ, ℤ, ◌++◌, List, [], ◌∷◌, refl, sym, ap, ap₂, ◌∙◌}
 use Rattle.std.specs.Prelude.{Vec, Box, pos}
 use Rattle.syntax_trees.specs.declared.tree.Shape.{Shape}
 use Rattle.syntax_trees.specs.Tree.{Word, Node, Form, Expression, expression, Expressions, call, value}

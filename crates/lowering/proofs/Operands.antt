@@ -1,5 +1,5 @@
 -- Operands and arguments, one after another.
-use Rattle.std.proofs.Common.{◌≡◌, ℕ, ◌+◌, ◌<◌, ◌≤◌, List, [], ◌∷◌, ◌++◌, map, drop, length, get_or, refl, sym, ap, ap₂, ◌∙◌, append_assoc}
+use Rattle.std.proofs.Common.{◌≡◌, ℕ, ◌+◌, ◌<◌, ◌≤◌, List, [], ◌∷◌, ◌++◌, map, drop, length, get_or, refl, sym, ap, ◌∙◌, append_assoc}
 use Rattle.std.proofs.lemmas.List.{drop_more, drop_all, map-append, append-nil}
 use Rattle.syntax_trees.specs.Tree.{Expression, Expressions, no_expressions, and_expression, expressions_of}
 use Rattle.syntax_trees.specs.Table.{Table}

@@ -1,5 +1,5 @@
 -- How parts of a tree and of a flow are seen.
-use Rattle.std.proofs.Common.{rules, arith, ◌≡◌, ◌<◌, ◌++◌, List, [], ◌∷◌, map, length, get_or, Some, None, refl, sym, ap, ap₂, subst, ◌∙◌}
+use Rattle.std.proofs.Common.{rules, arith, ◌≡◌, ◌<◌, ◌++◌, List, [], ◌∷◌, map, length, get_or, Some, None, refl, sym, ap, ◌∙◌}
 use Rattle.std.specs.Prelude.{Option, Vec, Box}
 use Rattle.syntax_trees.specs.declared.tree.Operator.{Operator}
 use Rattle.syntax_trees.specs.declared.tree.Prefix.{Prefix}
@@ -12,7 +12,7 @@ use Rattle.syntax_trees.specs.View.{word_of, expression_view, form_view}
 use Rattle.syntax_trees.specs.Table.{Table}
 use Rattle.syntax_trees.specs.Core as core
 use Rattle.syntax_trees.specs.Core.{none, also}
-use Rattle.syntax_trees.specs.Resolved.{as_operand, computes, one_operand, form_in, form_of, number_of, prefix_operation, refers, sized}
+use Rattle.syntax_trees.specs.Resolved.{as_operand, computes, one_operand, form_in, form_of, number_of, prefix_operation, sized}
 use Rattle.values.specs.Operators as op
 use Rattle.flow.specs.declared.name.Name.{Name as Resolved}
 use Rattle.flow.specs.declared.cell.Part.{Part}

@@ -1,5 +1,5 @@
 -- What lowering finds of a script, apart from where it lies in memory.
-use Rattle.std.specs.Prelude.{◌≡◌, ℕ, false, List, [], ◌∷◌, ◌++◌, Option, Some, None}
+use Rattle.std.specs.Prelude.{◌≡◌, ℕ, false, List, ◌++◌, length, Option, Some, None}
 use Rattle.values.specs.declared.format.Piece.{Piece}
 use Rattle.values.specs.declared.op.Sign.{Sign}
 use Rattle.values.specs.declared.op.Sign.TheVariants as Signs
@@ -10,10 +10,11 @@ use Rattle.syntax_trees.specs.declared.tree.Operator.{Operator}
 use Rattle.syntax_trees.specs.declared.tree.Operator.TheVariants.{Minus, Quotient, Remainder}
 use Rattle.syntax_trees.specs.declared.tree.Shape.{Shape}
 use Rattle.syntax_trees.specs.Core as core
-use Rattle.syntax_trees.specs.Core.{Name}
-use Rattle.syntax_trees.specs.Tree.{Word, Declaration, Form, variable}
+use Rattle.syntax_trees.specs.Core.{Name, Stmt, no_stmts}
+use Rattle.syntax_trees.specs.Parts.{block_list}
+use Rattle.syntax_trees.specs.Tree.{Word, Node, Declaration, Form, variable, Command, Statement, statements_of, Composite, Tree}
 use Rattle.syntax_trees.specs.Table.{Table}
-use Rattle.syntax_trees.specs.Resolved.{Arguments, call_to, pieces_or_none, refers}
+use Rattle.syntax_trees.specs.Resolved.{Arguments, call_to, pieces_or_none, refers, with_command, with_statement, block_of, block_in, script_block}
 use Rattle.flow.specs.declared.cell.Part.{Part}
 use Rattle.flow.specs.declared.statement.Variable.{Variable}
 use Rattle.flow.specs.View.{parts_view}
@@ -68,3 +69,25 @@ as_declared s w = record { node = w.number; shape = s; name = w.text }
 -- the variable of a declaration
 abbrev pub variable_of : Declaration → Declared
 variable_of d = as_declared d.shape d.name
+
+-- STATEMENTS AND FUNCTIONS
+
+-- the statements of a core that a form of statement is, at a node: two for a declaration with a right side, else one
+abbrev pub command_alone : Table → Node → Command → List Stmt
+command_alone t nd c = block_list (with_command t nd c no_stmts)
+
+-- those that a statement is
+abbrev pub statement_alone : Table → Statement → List Stmt
+statement_alone t s = block_list (with_statement t s no_stmts)
+
+-- those that several are, one after another
+abbrev pub statements_among : Table → List Statement → List Stmt
+statements_among t ss = block_list (block_in t (statements_of ss))
+
+-- those of a script that stand in no function
+abbrev pub own_statements : Table → Tree → List Stmt
+own_statements t ps = block_list (script_block t ps)
+
+-- the core of a function
+abbrev pub function_core : Table → Composite → core.Function
+function_core t f = record { inputs = length f.inputs; outputs = length f.outputs; body = block_of t f.body }

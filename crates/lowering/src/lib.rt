@@ -1,9 +1,11 @@
-//! From the parts of a script's tree to those of its flow, with names resolved and cells taken out.
-//!
-//! Names, operators, expressions, right sides and calls so far; statements and scripts are to come.
+//! From a script's tree to its flow, with names resolved and cells taken out.
 #![tactic(auto)]
 
 pub mod expression;
 pub mod names;
 pub mod operators;
 pub mod right;
+pub mod script;
+pub mod statement;
+
+pub use script::lower;

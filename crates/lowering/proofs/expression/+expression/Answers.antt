@@ -1,4 +1,4 @@
-use Rattle.std.proofs.Common.{arith, ◌≡◌, ◌<◌, ◌≤◌, ◌+◌, ◌++◌, ◌∷◌, [], IfOk, map, length, get_or, ap, ap₂, sym, subst, ◌∙◌}
+use Rattle.std.proofs.Common.{arith, ◌+◌, ◌++◌, IfOk, map, ap, ap₂, sym, subst, ◌∙◌}
 use Rattle.std.proofs.lemmas.Grind.{common_steps}
 use Rattle.std.proofs.lemmas.Result.{IfOk-weaker}
 use Rattle.syntax_trees.specs.View.{word_of, expression_view, form_view}

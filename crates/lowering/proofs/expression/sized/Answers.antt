@@ -1,4 +1,4 @@
-use Rattle.std.proofs.Common.{arith, ◌≡◌, ◌∷◌, [], Some, IfOk, map, option_map, ap, sym, ◌∙◌, ◌<◌, length}
+use Rattle.std.proofs.Common.{arith, ◌≡◌, ◌∷◌, [], map, option_map, ap, sym, ◌∙◌, ◌<◌, length}
 use Rattle.std.specs.Prelude.{Vec}
 use Rattle.std.proofs.lemmas.Grind.{common_steps}
 use Rattle.std.proofs.lemmas.Result.{IfOk-weaker}

@@ -5,7 +5,7 @@ use Rattle.syntax_trees.specs.Tree.{expressions_of}
 use Rattle.syntax_trees.specs.Core as core
 use Rattle.syntax_trees.specs.Resolved as rules
 use Rattle.types.specs.Typed.{table_of}
-use Rattle.flow.specs.View.{action_view, call_view, parts_view, names_view}
+use Rattle.flow.specs.View.{call_view, parts_view, names_view}
 use Rattle.lowering.proofs.Actions.{view_call_alone, found_call}
 use Rattle.lowering.proofs.right.call_alone.Goals as goal
 

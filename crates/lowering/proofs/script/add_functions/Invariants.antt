@@ -1,0 +1,11 @@
+use Rattle.std.proofs.Common.{◌≡◌, ◌++◌, map, drop}
+use Rattle.syntax_trees.specs.View.{part_of}
+use Rattle.syntax_trees.specs.Resolved.{functions_of}
+use Rattle.types.specs.Typed.{table_of}
+use Rattle.flow.specs.View.{function_view}
+use Rattle.lowering.proofs.script.add_functions.Given as goal
+
+abbrev pub invariant-loop-item : goal.invariant-loop-item
+invariant-loop-item g l =
+    map function_view l.fn.found.items ++ functions_of (table_of l.typed) (map part_of l.items.items)
+    ≡ map function_view l.found.items ++ functions_of (table_of l.typed) (map part_of (drop l.item-index l.items.items))

@@ -1,0 +1,14 @@
+use Rattle.std.proofs.Common.{map, ap, ◌∙◌}
+use Rattle.syntax_trees.specs.Resolved.{script_block}
+use Rattle.syntax_trees.specs.View.{part_of}
+use Rattle.types.specs.Typed.{table_of}
+use Rattle.flow.specs.View.{statements_view}
+use Rattle.lowering.proofs.Statements.{gathered}
+use Rattle.lowering.proofs.script.own_block.Goals as goal
+
+pub returns : goal.returns
+returns g c =
+    let A = g.row.A.Denot in
+    c.block_at.ensures
+    ∙ gathered (script_block (table_of c.args.typed.now) (map (part_of {A = A}) c.args.items.now.items)) (statements_view c.new-statements.result.items)
+    (statements_view c.add_statements.new.found.items) (ap (statements_view {A = A}) c.new-statements.ensures.items) c.in_ok-add_statements.ensures

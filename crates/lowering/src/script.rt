@@ -1,0 +1,133 @@
+//! Whole scripts.
+ghost use Rattle.std.specs.Prelude.{◌≡◌, ◌++◌, ◌∷◌, [], IfOk, OnOk, map, length};
+ghost use Rattle.syntax_trees.specs.Core as core;
+ghost use Rattle.syntax_trees.specs.Resolved as rules;
+ghost use Rattle.syntax_trees.specs.View.{composite_of, part_of, tree_of};
+ghost use Rattle.types.specs.Typed.{table_of};
+ghost use Rattle.flow.specs.View.{block_view, core_of, function_view, statements_view};
+ghost use Rattle.lowering.specs.View.{own_statements, function_core};
+
+use crate::names::variables;
+use crate::statement::{block, block_at, statement};
+use flow::script::{Flow, Function};
+use flow::statement::{Block, Statement};
+use std::alloc::{AllocError, Allocator};
+use syntax_trees::tree::{self, Item, Script};
+use types::typed::Typed;
+
+/// The flow of a script, with what the check of its types found out of its names, in memory of this allocator.
+///
+/// # Errors
+///
+/// Want of memory alone.
+pub fn lower<A: Allocator + Clone>(
+    alloc: A,
+    script: &Script<A>,
+    typed: &Typed,
+) -> Result<Flow<A>, AllocError>
+    ensures { IfOk result (λ flow. core_of flow ≡ rules.core (table_of typed.now) (tree_of script.now)) }
+{
+    let body = own_block(&alloc, typed, &script.items)?;
+    let mut functions = Vec::new(alloc.clone()?);
+    add_functions(&alloc, typed, &script.items, &mut functions)?;
+    Ok(Flow { body, functions })
+}
+
+/// The script's own block.
+fn own_block<A: Allocator + Clone>(
+    alloc: &A,
+    typed: &Typed,
+    items: &Vec<Item<A>, A>,
+) -> Result<Block<A>, AllocError>
+    ensures { IfOk result (λ b. block_view b ≡ rules.script_block (table_of typed.now) (map part_of items.now.items)) }
+{
+    let mut statements = Vec::new(alloc.clone()?);
+    add_statements(alloc, typed, items, &mut statements)?;
+    Ok(block_at(0, statements))
+}
+
+/// Adds the statements that stand in no function.
+fn add_statements<A: Allocator + Clone>(
+    alloc: &A,
+    typed: &Typed,
+    items: &Vec<Item<A>, A>,
+    found: &mut Vec<Statement<A>, A>,
+) -> Result<(), AllocError>
+    ensures { OnOk result (statements_view found.new.items ≡ statements_view found.old.items ++ own_statements (table_of typed.now) (map part_of items.now.items)) }
+{
+    for item in items {
+        add_statement(alloc, typed, item, found)?;
+    }
+    Ok(())
+}
+
+/// Adds a part that is a statement.
+fn add_statement<A: Allocator + Clone>(
+    alloc: &A,
+    typed: &Typed,
+    item: &Item<A>,
+    found: &mut Vec<Statement<A>, A>,
+) -> Result<(), AllocError>
+    ensures { OnOk result (statements_view found.new.items ≡ statements_view found.old.items ++ own_statements (table_of typed.now) (part_of item.now ∷ [])) }
+{
+    match item {
+        Item::Import(_) | Item::Function(_) => Ok(()),
+        Item::Statement(one) => statement(alloc, typed, one, found),
+    }
+}
+
+// FUNCTIONS
+
+/// Adds the functions, in the order of the text.
+fn add_functions<A: Allocator + Clone>(
+    alloc: &A,
+    typed: &Typed,
+    items: &Vec<Item<A>, A>,
+    found: &mut Vec<Function<A>, A>,
+) -> Result<(), AllocError>
+    ensures { OnOk result (map function_view found.new.items ≡ map function_view found.old.items ++ rules.functions_of (table_of typed.now) (map part_of items.now.items)) }
+{
+    for item in items {
+        add_function(alloc, typed, item, found)?;
+    }
+    Ok(())
+}
+
+/// Adds a part that is a function.
+fn add_function<A: Allocator + Clone>(
+    alloc: &A,
+    typed: &Typed,
+    item: &Item<A>,
+    found: &mut Vec<Function<A>, A>,
+) -> Result<(), AllocError>
+    ensures { OnOk result (map function_view found.new.items ≡ map function_view found.old.items ++ rules.functions_of (table_of typed.now) (part_of item.now ∷ [])) }
+{
+    match item {
+        Item::Import(_) | Item::Statement(_) => Ok(()),
+        Item::Function(one) => {
+            found.push(function(alloc, typed, one)?)?;
+            Ok(())
+        }
+    }
+}
+
+/// A composite function.
+fn function<A: Allocator + Clone>(
+    alloc: &A,
+    typed: &Typed,
+    function: &tree::Function<A>,
+) -> Result<Function<A>, AllocError>
+    ensures { IfOk result (λ f. function_view f ≡ function_core (table_of typed.now) (composite_of function.now)) }
+{
+    let name = Vec::from_slice(alloc.clone()?, function.name.text.as_slice())?;
+    let inputs = variables(alloc, &function.inputs)?;
+    let outputs = variables(alloc, &function.outputs)?;
+    let body = block(alloc, typed, &function.body)?;
+    Ok(Function {
+        at: function.name.span.from,
+        name,
+        inputs,
+        outputs,
+        body,
+    })
+}

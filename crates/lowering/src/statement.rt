@@ -1,0 +1,325 @@
+//! Statements and the blocks inside them: what each does, behind the statements before it.
+ghost use Rattle.std.specs.Prelude.{◌≡◌, ℕ, ◌++◌, ◌∷◌, [], IfOk, OnOk, map, option_map};
+ghost use Rattle.syntax_trees.specs.Core as core;
+ghost use Rattle.syntax_trees.specs.Tree as trees;
+ghost use Rattle.syntax_trees.specs.Resolved as rules;
+ghost use Rattle.syntax_trees.specs.View.{word_of, words_view, expression_view, declaration_of, right_of, over_of, statement_view, command_view, body_view};
+ghost use Rattle.types.specs.Typed.{table_of};
+ghost use Rattle.flow.specs.View as seen;
+ghost use Rattle.flow.specs.View.{action_view, block_view, name_view, outer_view, statements_view};
+ghost use Rattle.lowering.specs.View.{statement_alone, command_alone, statements_among};
+
+use crate::names::{all, optional, refer, variable};
+use crate::right::{assignment, boxed_outer, outer, several, statement_call};
+use flow::cell::Outer;
+use flow::name::{Name, Owned};
+use flow::statement::{Action, Block, Range, Statement};
+use lexer::token::Span;
+use std::alloc::{AllocError, Allocator};
+use syntax_trees::tree::{self, Decl, Expr, Right, Shape, Source, Stmt, StmtKind};
+use types::typed::Typed;
+
+/// Adds a statement.
+fn add<A: Allocator>(
+    found: &mut Vec<Statement<A>, A>,
+    node: u32,
+    at: usize,
+    action: Action<A>,
+) -> Result<(), AllocError>
+    ensures { OnOk result (statements_view found.new.items ≡ statements_view found.old.items ++ core.stmt at node (action_view action) ∷ []) }
+{
+    found.push(Statement { at, node, action })?;
+    Ok(())
+}
+
+// DECLARATIONS
+
+/// The name of a variable in the block that declares it.
+fn own_name<A: Allocator>(decl: &Decl<A>) -> Name
+    ensures name { name_view result ≡ core.here decl.now.name.number }
+    ensures shape { result.shape ≡ decl.now.shape }
+{
+    Name {
+        up: 0,
+        what: Owned::Local(decl.name.number),
+        shape: decl.shape,
+    }
+}
+
+/// Adds a declaration; one with a right side is two statements.
+fn declaration<A: Allocator + Clone>(
+    alloc: &A,
+    typed: &Typed,
+    number: u32,
+    first: Span,
+    decl: &Decl<A>,
+    right: &Option<Right<A>>,
+    found: &mut Vec<Statement<A>, A>,
+) -> Result<(), AllocError>
+    ensures { OnOk result ((to : ℕ) → statements_view found.new.items ≡ statements_view found.old.items ++ command_alone (table_of typed.now) (record { number = number; first = first; to = to }) (trees.declare (declaration_of decl.now) (option_map right_of right.now))) }
+{
+    let variable = variable(alloc, &decl.name, decl.shape)?;
+    add(found, number, first.from, Action::Declare(variable))?;
+    match right {
+        None => Ok(()),
+        Some(right) => {
+            let action = assignment(alloc, typed, own_name(decl), right)?;
+            add(found, number, first.from, action)
+        }
+    }
+}
+
+// ELEMENTS AND RANGES
+
+/// An array gets an element.
+fn insertion<A: Allocator + Clone>(
+    alloc: &A,
+    typed: &Typed,
+    name: &tree::Name<A>,
+    index: &Expr<A>,
+    value: &Expr<A>,
+) -> Result<Action<A>, AllocError>
+    ensures { IfOk result (λ a. let t = table_of typed.now in action_view a ≡ core.insert (rules.refers t (word_of name.now)) (rules.outer t (expression_view index.now)) (rules.outer t (expression_view value.now))) }
+{
+    let index = boxed_outer(alloc, typed, index)?;
+    let right = boxed_outer(alloc, typed, value)?;
+    Ok(Action::Insert {
+        array: refer(typed, name),
+        index,
+        right,
+    })
+}
+
+/// The step of a range, where it has one.
+fn step<A: Allocator + Clone>(
+    alloc: &A,
+    typed: &Typed,
+    step: &Option<Expr<A>>,
+) -> Result<Option<Outer<A>>, AllocError>
+    ensures { IfOk result (λ o. option_map outer_view o ≡ option_map (rules.outer (table_of typed.now)) (option_map expression_view step.now)) }
+{
+    match step {
+        None => Ok(None),
+        Some(expr) => Ok(Some(outer(alloc, typed, expr)?)),
+    }
+}
+
+/// A range.
+fn range<A: Allocator + Clone>(
+    alloc: &A,
+    typed: &Typed,
+    range: &tree::Range<A>,
+) -> Result<Range<A>, AllocError>
+    ensures low { IfOk result (λ r. outer_view r.low ≡ rules.outer (table_of typed.now) (expression_view range.now.low)) }
+    ensures high { IfOk result (λ r. outer_view r.high ≡ rules.outer (table_of typed.now) (expression_view range.now.high)) }
+    ensures step { IfOk result (λ r. option_map outer_view r.step ≡ option_map (rules.outer (table_of typed.now)) (option_map expression_view range.now.step)) }
+{
+    let low = outer(alloc, typed, &range.low)?;
+    let high = outer(alloc, typed, &range.high)?;
+    let step = step(alloc, typed, &range.step)?;
+    Ok(Range { low, high, step })
+}
+
+// STATEMENTS AND BLOCKS
+
+/// Adds a statement of the script.
+#[cycle(statement)]
+pub fn statement<A: Allocator + Clone>(
+    alloc: &A,
+    typed: &Typed,
+    stmt: &Stmt<A>,
+    found: &mut Vec<Statement<A>, A>,
+) -> Result<(), AllocError>
+    ensures { OnOk result (statements_view found.new.items ≡ statements_view found.old.items ++ statement_alone (table_of typed.now) (statement_view stmt.now)) }
+{
+    command(alloc, typed, stmt.number, stmt.first, &stmt.kind, found)
+}
+
+/// Adds a form of statement, of a number and with its first token at a place.
+#[cycle(statement)]
+fn command<A: Allocator + Clone>(
+    alloc: &A,
+    typed: &Typed,
+    number: u32,
+    first: Span,
+    kind: &StmtKind<A>,
+    found: &mut Vec<Statement<A>, A>,
+) -> Result<(), AllocError>
+    ensures { OnOk result ((to : ℕ) → statements_view found.new.items ≡ statements_view found.old.items ++ command_alone (table_of typed.now) (record { number = number; first = first; to = to }) (command_view kind.now)) }
+{
+    match kind {
+        StmtKind::Declare(decl, right) => {
+            declaration(alloc, typed, number, first, decl, right, found)
+        }
+        StmtKind::Assign(name, right) => {
+            let action = assignment(alloc, typed, refer(typed, name), right)?;
+            add(found, number, first.from, action)
+        }
+        StmtKind::Write(name, index, value) => {
+            let action = insertion(alloc, typed, name, index, value)?;
+            add(found, number, first.from, action)
+        }
+        StmtKind::AssignAll(names, call) => {
+            let action = several(alloc, typed, names, call)?;
+            add(found, number, first.from, action)
+        }
+        StmtKind::Call(priority, call) => {
+            let action = statement_call(alloc, typed, *priority, call)?;
+            add(found, number, first.from, action)
+        }
+        StmtKind::If(test, then, None) => {
+            let action = branch(alloc, typed, test, then)?;
+            add(found, number, first.from, action)
+        }
+        StmtKind::If(test, then, Some(other)) => {
+            let action = branches(alloc, typed, test, then, other)?;
+            add(found, number, first.from, action)
+        }
+        StmtKind::Foreach(value, key, source, body) => {
+            let action = repeated(alloc, typed, value, key, source, body)?;
+            add(found, number, first.from, action)
+        }
+        StmtKind::Wait(names, body) => {
+            let action = waiting(alloc, typed, names, body)?;
+            add(found, number, first.from, action)
+        }
+    }
+}
+
+/// An `if` without `else`.
+#[cycle(statement)]
+fn branch<A: Allocator + Clone>(
+    alloc: &A,
+    typed: &Typed,
+    test: &Expr<A>,
+    then: &tree::Block<A>,
+) -> Result<Action<A>, AllocError>
+    ensures { IfOk result (λ a. let t = table_of typed.now in action_view a ≡ core.when (rules.outer t (expression_view test.now)) (rules.block_of t (body_view then.now))) }
+{
+    let condition = boxed_outer(alloc, typed, test)?;
+    let then = boxed_block(alloc, typed, then)?;
+    Ok(Action::When { condition, then })
+}
+
+/// An `if` with `else`.
+#[cycle(statement)]
+fn branches<A: Allocator + Clone>(
+    alloc: &A,
+    typed: &Typed,
+    test: &Expr<A>,
+    then: &tree::Block<A>,
+    other: &tree::Block<A>,
+) -> Result<Action<A>, AllocError>
+    ensures { IfOk result (λ a. let t = table_of typed.now in action_view a ≡ core.choose (rules.outer t (expression_view test.now)) (rules.block_of t (body_view then.now)) (rules.block_of t (body_view other.now))) }
+{
+    let condition = boxed_outer(alloc, typed, test)?;
+    let then = boxed_block(alloc, typed, then)?;
+    let other = boxed_block(alloc, typed, other)?;
+    Ok(Action::Choose {
+        condition,
+        then,
+        other,
+    })
+}
+
+/// A `foreach`.
+#[cycle(statement)]
+fn repeated<A: Allocator + Clone>(
+    alloc: &A,
+    typed: &Typed,
+    value: &tree::Name<A>,
+    key: &Option<tree::Name<A>>,
+    source: &Source<A>,
+    body: &tree::Block<A>,
+) -> Result<Action<A>, AllocError>
+    ensures { IfOk result (λ a. let t = table_of typed.now in action_view a ≡ rules.loop_action t (word_of value.now) (option_map word_of key.now) (over_of source.now) (rules.block_of t (body_view body.now))) }
+{
+    let value = variable(alloc, value, Shape::Scalar)?;
+    let key = optional(alloc, key)?;
+    let body = boxed_block(alloc, typed, body)?;
+    match source {
+        Source::Array(name) => Ok(Action::Each {
+            array: refer(typed, name),
+            value,
+            key,
+            body,
+        }),
+        Source::Range(over) => {
+            let range = Box::new(alloc.clone()?, range(alloc, typed, over)?)?;
+            Ok(Action::Range {
+                range,
+                value,
+                turn: key,
+                body,
+            })
+        }
+    }
+}
+
+/// A `wait`. Those right inside of it stay statements of its block.
+#[cycle(statement)]
+fn waiting<A: Allocator + Clone>(
+    alloc: &A,
+    typed: &Typed,
+    names: &Vec<tree::Name<A>, A>,
+    content: &tree::Block<A>,
+) -> Result<Action<A>, AllocError>
+    ensures { IfOk result (λ a. let t = table_of typed.now in action_view a ≡ core.wait (map (rules.awaited t) (words_view names.now)) (rules.block_of t (body_view content.now))) }
+{
+    let names = all(alloc, typed, names)?;
+    let content = boxed_block(alloc, typed, content)?;
+    Ok(Action::Wait {
+        names,
+        inner: Vec::new(alloc.clone()?),
+        content,
+    })
+}
+
+/// A block in a box.
+#[cycle(statement)]
+fn boxed_block<A: Allocator + Clone>(
+    alloc: &A,
+    typed: &Typed,
+    body: &tree::Block<A>,
+) -> Result<Box<Block<A>, A>, AllocError>
+    ensures { IfOk result (λ b. block_view b.value ≡ rules.block_of (table_of typed.now) (body_view body.now)) }
+{
+    Ok(Box::new(alloc.clone()?, block(alloc, typed, body)?)?)
+}
+
+/// A block.
+#[cycle(statement)]
+pub fn block<A: Allocator + Clone>(
+    alloc: &A,
+    typed: &Typed,
+    body: &tree::Block<A>,
+) -> Result<Block<A>, AllocError>
+    ensures { IfOk result (λ b. block_view b ≡ rules.block_of (table_of typed.now) (body_view body.now)) }
+{
+    let mut statements = Vec::new(alloc.clone()?);
+    each(alloc, typed, &body.statements, &mut statements)?;
+    Ok(block_at(body.from, statements))
+}
+
+/// Adds statements, one after another.
+#[cycle(statement)]
+fn each<A: Allocator + Clone>(
+    alloc: &A,
+    typed: &Typed,
+    statements: &Vec<Stmt<A>, A>,
+    found: &mut Vec<Statement<A>, A>,
+) -> Result<(), AllocError>
+    ensures { OnOk result (statements_view found.new.items ≡ statements_view found.old.items ++ statements_among (table_of typed.now) (map statement_view statements.now.items)) }
+{
+    for stmt in statements {
+        statement(alloc, typed, stmt, found)?;
+    }
+    Ok(())
+}
+
+/// A block with statements, whose brace, or whose inner `if`, stands at an offset.
+pub fn block_at<A: Allocator>(from: usize, statements: Vec<Statement<A>, A>) -> Block<A>
+    ensures { block_view result ≡ seen.block_of (statements_view statements.items) }
+{
+    Block { from, statements }
+}
