@@ -22,7 +22,7 @@ use Rattle.correspondence.proofs.Rights.{only_one}
 use Rattle.correspondence.proofs.Roles.{PartOf, OwnAs, own_simple, own_branch, own_branches, own_range, own_each, own_wait, find_role, parts_of}
 use Rattle.correspondence.proofs.Targets.{UsesIn, own_target, in_header, in_content, uses_block}
 
-kind_of : (k : ℕ) (b : Bool) (x : Name) → is_array_name (name_as k b x) ≡ b
+pub kind_of : (k : ℕ) (b : Bool) (x : Name) → is_array_name (name_as k b x) ≡ b
 kind_of k b x = by x.what
   where
     by : (what : Owned) → is_array_name (record { up = x.up; owned = owned_as k b what }) ≡ b
@@ -58,7 +58,7 @@ module _ (C : Code) (l : Layout) where
   output_name_of r (one_output d {x = y} os) (inl e) = (d, y, first, e)
   output_name_of r (one_output d os) (inr h) = (let z = output_name_of r os h in (z.0, z.1, later z.2, z.3))
 
-  simple_no_ways : (k : ℕ) (a : Action) → IsSimple a → (y : Way × ℕ) → In y (ways (simple_act l k (own_needs l k a) a)) → ⊥
+  pub simple_no_ways : (k : ℕ) (a : Action) → IsSimple a → (y : Way × ℕ) → In y (ways (simple_act l k (own_needs l k a) a)) → ⊥
   simple_no_ways k (assign x o) z y' h = h
   simple_no_ways k (fill x o) z y h = by (own_expr o) h
     where

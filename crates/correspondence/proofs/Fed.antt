@@ -26,33 +26,32 @@ use Rattle.correspondence.specs.Chains.{AllElements, Lacks, Answers}
 use Rattle.correspondence.specs.Feeding.{WritesKnown}
 use Rattle.correspondence.specs.Inclusions.{Facts}
 
-abbrev TaskEffect : Type 0
+abbrev pub TaskEffect : Type 0
 TaskEffect = Effect Task CodePlaces.Place Key Scalar
 
 abbrev Got : Type 0
 Got = Answer Key Scalar
 
 module _ (s : Core) (C : Code) (I : IsCode C) (clean : CleanCode C) (K : Knowledge) where
-  abbrev Comes_to : Task → TaskEffect → Type 0
+  abbrev pub Comes_to : Task → TaskEffect → Type 0
   Comes_to = Ever (code_system C)
 
-  settled : Settled (code_system C) (Ever (code_system C))
+  pub settled : Settled (code_system C) (Ever (code_system C))
   settled = ever_settled (code_system C) (code_laws C I) clean
 
-  come : (t : Task) (e : TaskEffect) (xs : List Got) → Live (code_system C) (Ever (code_system C)) t → Fa.GivesAll (code_system C) (Ever (code_system C)) ((code_system C).inputs t) xs → (code_system C).effect t xs ≡ Good e → Comes_to t e
+  pub come : (t : Task) (e : TaskEffect) (xs : List Got) → Live (code_system C) (Ever (code_system C)) t → Fa.GivesAll (code_system C) (Ever (code_system C)) ((code_system C).inputs t) xs → (code_system C).effect t xs ≡ Good e → Comes_to t e
   come t e xs l g q = ever_saturated (code_system C) (code_laws C I) clean t e (record { live = l; answers = xs; known = g; is = q })
 
   -- INPUTS THAT THE SCRIPT ANSWERS AND THE CODE COMES TO
-  module _ (fed : (t : Task) (i : Input CodePlaces.Place Key) (x : Got) → Live (code_system C) (Ever (code_system C)) t → In i ((code_system C).inputs t) → Answers s K i x → Fa.Gives (code_system C) (Ever (code_system C)) i x) where
-    given : (t : Task) → Live (code_system C) (Ever (code_system C)) t → (is : List (Input CodePlaces.Place Key)) → ((i : Input CodePlaces.Place Key) → In i is → In i ((code_system C).inputs t)) → (xs : List Got)
-        → ReadAll (code_system C) (Answers s K) is xs → Fa.GivesAll (code_system C) (Ever (code_system C)) is xs
-    given t l [] sub [] h = tt
-    given t l [] sub (x ∷ xs) h = absurd h
-    given t l (i ∷ is) sub [] h = absurd h
-    given t l (i ∷ is) sub (x ∷ xs) h = (fed t i x l (sub i (inl refl)) h.0, given t l is (λ j m. sub j (inr m)) xs h.1)
+  pub given : (is : List (Input CodePlaces.Place Key)) → ((i : Input CodePlaces.Place Key) → In i is → (x : Got) → Answers s K i x → Fa.Gives (code_system C) (Ever (code_system C)) i x) → (xs : List Got) → ReadAll (code_system C) (Answers s K) is xs → Fa.GivesAll (code_system C) (Ever (code_system C)) is xs
+  given [] f [] h = tt
+  given [] f (x ∷ xs) h = absurd h
+  given (i ∷ is) f [] h = absurd h
+  given (i ∷ is) f (x ∷ xs) h = (f i (inl refl) x h.0, given is (λ j m. f j (inr m)) xs h.1)
 
+  module _ (fed : (t : Task) (i : Input CodePlaces.Place Key) (x : Got) → Live (code_system C) (Ever (code_system C)) t → In i ((code_system C).inputs t) → Answers s K i x → Fa.Gives (code_system C) (Ever (code_system C)) i x) where
     read : (t : Task) (e : TaskEffect) → Live (code_system C) (Ever (code_system C)) t → Reading (code_system C) (Answers s K) t e → Comes_to t e
-    read t e l r = come t e r.answers l (given t l ((code_system C).inputs t) (λ i m. m) r.answers r.read) r.is
+    read t e l r = come t e r.answers l (given ((code_system C).inputs t) (λ i m x a. fed t i x l m a) r.answers r.read) r.is
 
     fed_live : {t : Task} → Live (code_system C) (Reading (code_system C) (Answers s K)) t → Live (code_system C) (Ever (code_system C)) t
     fed_live live_main = live_main

@@ -43,7 +43,7 @@ module _ (s : Core) (C : Code) (w : IsCodeOf s C) (K : Knowledge) (wf : WellForm
   made_kind : {k t : ℕ} {b : Block} → BodyAs C w.layout k b t → (r : code.Name) (d : Declared C t r) → Kind r d.variable
   made_kind (body_as bl mk) r d = record { of_layout = mk.kinds d.variable d.made; of_name = ap is_array_name d.is; real = mk.real d.variable d.made }
 
-  declared_kind : {k t : ℕ} {b : Block} → BodyAs C w.layout k b t → (p : List Step) (r : code.Name) → Declared C t r → (q : List Step) (v : Variable) → place_at C p r ≡ Datum q v → Kind r v
+  pub declared_kind : {k t : ℕ} {b : Block} → BodyAs C w.layout k b t → (p : List Step) (r : code.Name) → Declared C t r → (q : List Step) (v : Variable) → place_at C p r ≡ Datum q v → Kind r v
   declared_kind {t = t} ba p r d q v e = subst (λ (z : Variable). Kind r z) (spot_variable (sym (declared_place C t p r d) ∙ e)) (made_kind ba r d)
 
   module _ (rights : Entry → List code.Name) (cov : Covering s C w.layout K wf.names I sc rights) where
@@ -52,10 +52,10 @@ module _ (s : Core) (C : Code) (w : IsCodeOf s C) (K : Knowledge) (wf : WellForm
     seen_kind j Through r h = ap is_array_name (sym h.seen)
     seen_kind j Calling r h = argument_kind (arguments (entry C _).act) h.seen.0 h.seen.1 h.outside h.seen.3 ∙ sym (ap is_array_name h.seen.2)
 
-    abbrev Kinds : List Step → ℕ → Type 0
+    abbrev pub Kinds : List Step → ℕ → Type 0
     Kinds p j = (r : code.Name) → In r (rights (entry C j)) → (q : List Step) (v : Variable) → place_at C p r ≡ Datum q v → Kind r v
 
-    outside_kind : (p p' : List Step) (j : ℕ) (y : Way) (r : code.Name) (sf : SeenFrom C rights j y r) → place_at C p r ≡ place_at C p' sf.outside → Kinds p' j → (q : List Step) (v : Variable) → place_at C p r ≡ Datum q v → Kind r v
+    pub outside_kind : (p p' : List Step) (j : ℕ) (y : Way) (r : code.Name) (sf : SeenFrom C rights j y r) → place_at C p r ≡ place_at C p' sf.outside → Kinds p' j → (q : List Step) (v : Variable) → place_at C p r ≡ Datum q v → Kind r v
     outside_kind p p' j y r sf z rec q v e =
         let k = rec sf.outside sf.right q v (sym z ∙ e) in
         record { of_layout = k.of_layout; of_name = sym (seen_kind j y r sf) ∙ k.of_name; real = k.real }

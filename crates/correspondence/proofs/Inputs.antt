@@ -30,7 +30,7 @@ use Rattle.meaning_laws.specs.TypedValues.{TypedValues}
 use Rattle.correspondence.proofs.LiveTo.{live_to}
 use Rattle.correspondence.proofs.Opening.{kind_fixed}
 
-not_true : (a : Bool) → not a ≡ true → a ≡ false
+pub not_true : (a : Bool) → not a ≡ true → a ≡ false
 not_true true h = absurd (cc)
 not_true false h = refl
 

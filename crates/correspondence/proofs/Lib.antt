@@ -38,6 +38,8 @@ pub mod Owner
 pub mod ClosingFrom
 pub mod OwnFacts
 pub mod Derived
+pub mod LiveKinds
+pub mod EverFed
 pub mod ClosedFrom
 pub mod Within
 pub mod Listing

@@ -91,18 +91,19 @@ module _ (s : Core) (wf : WellFormed s) (K : Knowledge) where
 
   module _ (kn : Backs s K) (C : Code) (l : Layout) where
     -- what the cell of a statement has
-    cell_under : {path : Path} {st : Stmt} {n : ℕ} {e : Expr} {v : Scalar} {pl : Place} → LiveStmt s K path st → record { node = n; form = compute e } ∈ cells st → HasValue s K pl v → pl ≡ (path, n)
-        → ValueUnder s K path e (Ok (One v))
-    cell_under {path} {st} {n} {e} {v} live i h q =
-        let m = stmt_in s live in
+    cell_under : {path : Path} {st : Stmt} {n : ℕ} {e : Expr} {v : Scalar} {pl : Place} → st ∈ script_stmts s → record { node = n; form = compute e } ∈ cells st → HasValue s K pl v → pl ≡ (path, n) → ValueUnder s K path e (Ok (One v))
+    cell_under {path} {st} {n} {e} {v} m i h q =
         let f = cell_has h path st (record { node = n; form = compute e }) m i q in
         gives_value (cell_gives s wf.cells K m i (kn.backed _ f)).1 refl
 
-    -- FROM THE SCRIPT'S NAME TO THE CODE'S
+    -- FROM THE SCRIPT'S NAME TO THE CODE'S, by cells of statements that are live in any knowledge
+    pub to_code_of : (L : Knowledge) {d : Bool} {a : CodePlaces.Place} {pl : Place} → Stands s C l L d a pl → (v : Scalar) → HasValue s K pl v → AsValue s C K a v
+    to_code_of L same v h = h
+    to_code_of L (plain live i pl st) v h = to_code_of L st v (name_inv (cell_under (stmt_in s live) i h refl) refl refl)
+    to_code_of L (constant live i pl) v h = literal_inv (cell_under (stmt_in s live) i h refl) refl refl
+
     pub to_code : {d : Bool} {a : CodePlaces.Place} {pl : Place} → Stands s C l K d a pl → (v : Scalar) → HasValue s K pl v → AsValue s C K a v
-    to_code same v h = h
-    to_code (plain {path = path} {n = n} {x = x} live i pl st) v h = to_code st v (name_inv (cell_under live i h refl) refl refl)
-    to_code (constant live i pl) v h = literal_inv (cell_under live i h refl) refl refl
+    to_code st v h = to_code_of K st v h
 
   module _ (kn : Knows s K) (C : Code) (l : Layout) where
     -- FROM THE CODE'S NAME TO THE SCRIPT'S

@@ -28,6 +28,7 @@ use Rattle.correspondence.specs.Inclusions.{Facts}
 use Rattle.meaning_laws.specs.Scoped.{Scoped}
 use Rattle.agreement.specs.IsCodeOf.{IsCodeOf}
 use Rattle.correspondence.proofs.ElementsFrom.{StoredBy, element_from}
+use Rattle.correspondence.proofs.EverFed.{facts_ever}
 use Rattle.correspondence.proofs.Halves.{half_backs, element_backed}
 
 -- a path of the script as one of the code

@@ -423,7 +423,7 @@ module _ (s : Core) (C : Code) (w : IsCodeOf s C) (K : Knowledge) (wf : WellForm
         by (read y i) g =
             finish (by_read (subst (λ (z : Cell). z ∈ cells st) (λ i. record { node = c.node; form = g i }) cm) (subst (λ (z : Form). Gives s K path z (Ok (One u))) g gv) refl)
 
-    from_fact : (p : List Step) (v : Variable) (u : Scalar) → v.array ≡ false → w.layout.plain v.node ≡ false → {pl : Place} (n : New s K (value pl (One u))) → RightKnown s K n → pl ≡ script_place p v → Written (code_system C) (Facts s C K) (Datum p v) only u
+    pub from_fact : (p : List Step) (v : Variable) (u : Scalar) → v.array ≡ false → w.layout.plain v.node ≡ false → {pl : Place} (n : New s K (value pl (One u))) → RightKnown s K n → pl ≡ script_place p v → Written (code_system C) (Facts s C K) (Datum p v) only u
     from_fact p v u va pl n h q =
         elim (value_known n h refl) [
           | inl a ↦ from_cell p v u va pl a.cell a.live a.there a.gives (sym q ∙ a.is)
