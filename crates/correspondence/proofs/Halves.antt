@@ -1,131 +1,131 @@
--- Half a round is knowledge for the lemmas from the script to the code, as long as no key has two writers in the round.
-use Rattle.std.proofs.Common.{◌≡◌, inl, inr, ℕ, suc, List, Result, refl, sym, ap, ◌∙◌, arith}
+-- Half a round, and the parts of it: the cells that follow come before what is assigned by them.
+use Rattle.std.proofs.Common.{◌≡◌, ◌⊎◌, inl, inr, ℕ, suc, Ok, refl, sym, ap, ◌∙◌, subst, arith}
 use Rattle.std.specs.Prelude.{◌≤◌}
 use Rattle.values.specs.declared.key.Key.{Key}
-use Rattle.values.specs.declared.map.Element.{Element}
 use Rattle.values.specs.declared.value.Scalar.{Scalar}
-use Rattle.values.specs.declared.value.Value.{Value}
-use Rattle.values.specs.declared.value.Value.TheVariants.{One, Many}
-use Rattle.syntax_trees.specs.Core.{Form, Cell, Stmt, Core}
-use Rattle.syntax_trees.specs.Facts.{Fault, Fact, value, element, a_number, Knowledge, OneWriter}
-use Rattle.syntax_trees.specs.Meaning.{New, cell_value, cell_fault, assigned, filled, inserted, printed, bad_range, too_deep_header, too_deep_call, written_twice, LiveStmt, Gives, Comes, before, now, ComeAll, none_comes, next_comes, HasValue, Known}
+use Rattle.values.specs.declared.value.Value.TheVariants.{One}
+use Rattle.syntax_trees.specs.Core.{Cell, Stmt, Core}
+use Rattle.syntax_trees.specs.Facts.{Fact, value, element, Knowledge, OneWriter}
+use Rattle.syntax_trees.specs.Meaning.{New, cell_value, LiveStmt, Gives, Known}
 use Rattle.syntax_trees.specs.Members.{◌∈◌}
 use Rattle.syntax_trees.specs.Parts.{cells}
 use Rattle.syntax_trees.specs.Places.{Path, Place}
 use Rattle.syntax_trees.specs.Single.{SinglyAssigned}
 use Rattle.syntax_trees.specs.WellFormed.{WellFormed}
-use Rattle.meaning_laws.proofs.Ever as Ever
-use Rattle.meaning_laws.proofs.Growth.{Grows, keeps_stmt, keeps_ready}
-use Rattle.meaning_laws.proofs.Keeps.{keeps_gives, keeps_comes}
-use Rattle.meaning_laws.proofs.Listed.{listed}
-use Rattle.meaning_laws.proofs.OneValue.{OneEach, scalar_same}
-use Rattle.meaning_laws.proofs.Rounds.{Sound, From, came, known_later, later_of}
-use Rattle.meaning_laws.proofs.Sources.{IsFull, known_full, outer_in, index_in, right_in}
+use Rattle.meaning_laws.proofs.Growth.{Grows}
 use Rattle.correspondence.specs.Backs.{RightKnown, Backs}
 use Rattle.correspondence.specs.Halves.{Half}
+use Rattle.correspondence.proofs.Between as Be
+use Rattle.correspondence.proofs.Next.{Follows}
+use Rattle.agreement.specs.IsCodeOf.{IsCodeOf}
+use Rattle.meaning_laws.proofs.Hinge.{grows}
+use Rattle.meaning_laws.proofs.Rounds.{later_of}
+use Rattle.meaning_laws.proofs.Sources.{IsFull}
+use Rattle.meaning_laws.specs.Scoped.{Scoped}
+use Rattle.task_code.specs.Code.{Code}
+use Rattle.task_code.specs.Machine.{CleanCode}
+use Rattle.task_code.specs.Whole.{IsCode}
 
-value_is : {p q : Place} {v u : Value} → value p v ≡ value q u → v ≡ u
-value_is h = cc
+-- the scalar of a cell that follows from a round
+pub record NewCell (s : Core) (n : ℕ) (f : Fact) : Type 0 where
+  pub path : Path
+  pub st : Stmt
+  pub cell : Cell
+  pub scalar : Scalar
+  pub live : LiveStmt s (Known s n) path st
+  pub there : cell ∈ cells st
+  pub gives : Gives s (Known s n) path cell.form (Ok (One scalar))
+  pub is : f ≡ value (path, cell.node) (One scalar)
 
-one_many : {A : Type 0} {x : Scalar} {y : List Element} → One x ≡ Many y → A
-one_many h = absurd (cc (h))
+-- what is known after a round, and the scalars of cells that follow
+abbrev pub Cells : Core → ℕ → Knowledge
+Cells s n f = Known s n f ⊎ NewCell s n f
 
 module _ (s : Core) (wf : WellFormed s) (single : SinglyAssigned s) (n : ℕ) where
-  abbrev H : Knowledge
-  H f = Half s n f
+  half_cell : (path : Path) (st : Stmt) (c : Cell) (u : Scalar) → LiveStmt s (Known s n) path st → c ∈ cells st → Gives s (Known s n) path c.form (Ok (One u)) → Half s n (value (path, c.node) (One u))
+  half_cell path st c u l i g = inr ((path, c.node), u, refl, cell_value l i g)
 
-  pub element_half : {a : Place} {k : Key} {w : Place} {v : Scalar} → H (element a k w v) → Known s n (element a k w v)
-  element_half (inl k) = k
-  element_half (inr z) = absurd (cc (z.2))
+  pub grows_half : (r : ℕ) → r ≤ n → Grows s (Known s r) (Half s n)
+  grows_half r h = Be.grows_half s wf single n (Half s n) (λ f k. inl k) (λ f h. h) r h
 
-  up : {f : Fact} → H f → Known s (suc n) f
-  up (inl k) = inl k
-  up (inr z) = inr z.3
+  cells_split : (f : Fact) → Cells s n f → Known s n f ⊎ Be.NewScalar s n f
+  cells_split f (inl k) = inl k
+  cells_split f (inr z) = inr ((z.path, z.cell.node), z.scalar, z.is, subst (λ (y : Fact). New s (Known s n) y) (sym z.is) (cell_value z.live z.there z.gives))
 
-  pub grows_half : (r : ℕ) → r ≤ n → Grows s (Known s r) H
-  grows_half r h = record { more = λ f k. inl (known_later s r n f h k); stays = λ a c k u v g. (Ever.grow s wf single r n h).stays a c k u v (element_half g) }
+  new_cell : (path : Path) (st : Stmt) (c : Cell) (u : Scalar) → LiveStmt s (Known s n) path st → c ∈ cells st → Gives s (Known s n) path c.form (Ok (One u)) → Cells s n (value (path, c.node) (One u))
+  new_cell path st c u l i g = inr (record { path = path; st = st; cell = c; scalar = u; live = l; there = i; gives = g; is = refl })
 
-  full : IsFull s H
-  full path at m x c v i (inl f) = let r = known_full s wf.cells n path at m x c v i f in (r.0, r.1, λ k u j. inl (r.2 k u j))
-  full path at m x c v i (inr z) = let r = known_full s wf.cells (suc n) path at m x c v i (inr z.3) in one_many (sym (value_is z.2) ∙ r.1)
+  pub cells_full : IsFull s (λ f. Cells s n f)
+  cells_full = Be.full s wf single n (λ f. Cells s n f) (λ f k. inl k) cells_split
 
-  here : n ≤ n
-  here = omega arith
+  pub half_full : IsFull s (Half s n)
+  half_full = Be.full s wf single n (Half s n) (λ f k. inl k) (λ f h. h)
 
-  one_each : OneEach s H
-  one_each = let o = (Ever.sound s wf single (suc n)).one_each in record {
-    one_value = λ p v u h k. o.one_value p v u (up h) (up k);
-    one_element = λ a k w v u h g. o.one_element a k w v u (up h) (up g);
-    no_loop_value = λ st x r path v m role h. o.no_loop_value st x r path v m role (up h);
-  }
+  cells_up : (f : Fact) → Cells s n f → Known s (suc n) f
+  cells_up = Be.up s wf single n (λ f. Cells s n f) (λ f k. inl k) cells_split
 
-  from_half : {a : Place} {k : Key} {u : Place} {v : Scalar} → From s (Known s n) (Known s n) a k u v → From s H H a k u v
-  from_half (inl e) = inl (record { path = e.path; at = e.at; node = e.node; array = e.array; right = e.right; elements = e.elements; live = keeps_stmt s (Known s n) H (grows_half n here) e.live; known = inl e.known; there = e.there; array_is = e.array_is; writer_is = e.writer_is })
-  from_half (inr e) = inr (record { path = e.path; at = e.at; node = e.node; array = e.array; index = e.index; right = e.right; index_value = e.index_value; live = keeps_stmt s (Known s n) H (grows_half n here) e.live; known_index = inl e.known_index; is_key = e.is_key; known = inl e.known; array_is = e.array_is; writer_is = e.writer_is })
+  half_up : (f : Fact) → Half s n f → Known s (suc n) f
+  half_up = Be.up s wf single n (Half s n) (λ f k. inl k) (λ f h. h)
 
-  sound : Sound s H
-  sound = record { one_each = one_each; wrote = λ a k u v h. from_half ((Ever.sound s wf single n).wrote a k u v (element_half h)) }
+  cells_half : (f : Fact) → Cells s n f → Half s n f
+  cells_half f h = cells_split f h
 
-  one_scalar : (p : Place) (v u : Scalar) → HasValue s H p v → HasValue s H p u → v ≡ u
-  one_scalar = scalar_same s wf.names wf.loops H one_each (later_of s wf.names wf.cells wf.loops wf.writers H H full sound sound (λ f k. k))
+  grows_cells : Grows s (λ f. Cells s n f) (Half s n)
+  grows_cells = grows s wf.names (λ f. Cells s n f) (Half s n) (later_of s wf.names wf.cells wf.loops wf.writers (λ f. Cells s n f) (Half s n) cells_full (Be.sound s wf single n (λ f. Cells s n f) (λ f k. inl k) cells_split) (Be.sound s wf single n (Half s n) (λ f k. inl k) (λ f h. h)) cells_half)
 
   module _ (clean : (a : Place) → OneWriter (Known s n) a) where
-    pub clean_half : (a : Place) → OneWriter H a
-    clean_half a k w w' v v' h g = clean a k w w' v v' (element_half h) (element_half g)
+    pub clean_half : (a : Place) → OneWriter (Half s n) a
+    clean_half a = Be.clean_half s wf single n (Half s n) (λ f k. inl k) (λ f h. h) clean a
 
-    -- what follows in an earlier round, or in this one, follows from the half round, with the values behind it
-    module _ (r : ℕ) (h : r ≤ n) (P : Value → Type 0) (one : (u : Scalar) → P (One u))
-        (right : (path : Path) (st : Stmt) (c : Cell) (v : Value) → LiveStmt s (Known s r) path st → c ∈ cells st → Comes s (Known s r) path c v → P v → H (value (path, c.node) v)) where
-      stmt : {path : Path} {st : Stmt} → LiveStmt s (Known s r) path st → LiveStmt s H path st
-      stmt l = keeps_stmt s (Known s r) H (grows_half r h) l
+    pub cells_backs : Backs s (λ f. Cells s n f)
+    cells_backs = Be.backs_half s wf single n (λ f. Cells s n f) (λ f k. inl k) cells_split clean new_cell
 
-      gives : {path : Path} {f : Form} {v : Result Value Fault} → Gives s (Known s r) path f v → Gives s H path f v
-      gives g = keeps_gives s (Known s r) H (grows_half r h) clean_half g
+    pub known_backs : Backs s (Known s n)
+    known_backs = Be.backs_known s wf single n (Known s n) (λ f k. k) (λ f k. inl k) clean (λ f k. k)
 
-      comes : {path : Path} {c : Cell} {v : Value} → Comes s (Known s r) path c v → Comes s H path c v
-      comes g = keeps_comes s (Known s r) H (grows_half r h) clean_half g
-
-      come_all : {path : Path} {cs : List Cell} {vs : List Value} → ComeAll s (Known s r) path cs vs → ComeAll s H path cs vs
-      come_all none_comes = none_comes
-      come_all (next_comes g gs) = next_comes (comes g) (come_all gs)
-
-      kept : {f : Fact} → New s (Known s r) f → ((p : Place) (v : Value) → f ≡ value p v → P v) → (x : New s H f) × RightKnown s H x
-      kept (assigned {c = c} l g) q = (assigned (stmt l) (comes g), right _ _ _ _ l (outer_in c.parts c.cell) g (q _ _ refl))
-      kept (inserted {i = i} {c = c} l g a_number m) q = (inserted (stmt l) (comes g) a_number (comes m), (right _ _ _ _ l (index_in i c) g (one _), right _ _ _ _ l (right_in i c) m (one _)))
-      kept (printed {c = c} l g) q = (printed (stmt l) (comes g), right _ _ _ _ l (outer_in c.parts c.cell) g (one _))
-      kept (filled l g i) q = (filled (stmt l) (comes g) i, tt)
-      kept (cell_value l i g) q = (cell_value (stmt l) i (gives g), tt)
-      kept (cell_fault l i g) q = (cell_fault (stmt l) i (gives g), tt)
-      kept (bad_range l g e z) q = (bad_range (stmt l) (come_all g) e z, tt)
-      kept (too_deep_header l (inl x) e z) q = (too_deep_header (stmt l) (inl (come_all x)) e z, tt)
-      kept (too_deep_header l (inr x) e z) q = (too_deep_header (stmt l) (inr (keeps_ready s (Known s r) H (grows_half r h) x)) e z, tt)
-      kept (too_deep_call l i e) q = (too_deep_call (stmt l) i e, tt)
-      kept (written_twice l a b e) q = (written_twice (stmt l) ((grows_half r h).more _ a) ((grows_half r h).more _ b) e, tt)
-
-    -- of earlier rounds the values behind are known
-    earlier : (r : ℕ) → suc r ≤ n → {path : Path} {st : Stmt} {c : Cell} {v : Value} → LiveStmt s (Known s r) path st → c ∈ cells st → Comes s (Known s r) path c v → H (value (path, c.node) v)
-    earlier r h l i (before k) = inl (known_later s r n _ (omega arith) k)
-    earlier r h l i (now g) = inl (known_later s (suc r) n _ h (inr (cell_value l i g)))
-
-    kept_earlier : (r : ℕ) → suc r ≤ n → {f : Fact} → New s (Known s r) f → (x : New s H f) × RightKnown s H x
-    kept_earlier r h x = kept r (omega arith) (λ v. Unit {0}) (λ u. tt) (λ path st c v l i g z. earlier r h l i g) x (λ p v e. tt)
-
-    -- of this round the scalars behind are in the half round
-    at_once : {path : Path} {st : Stmt} {c : Cell} {v : Value} → LiveStmt s (Known s n) path st → c ∈ cells st → Comes s (Known s n) path c v → ((u : Scalar) × (v ≡ One u)) → H (value (path, c.node) v)
-    at_once l i (before k) z = inl k
-    at_once {path} {st} {c} {v} l i (now g) z = inr ((path, c.node), z.0, ap (λ (y : Value). value (path, c.node) y) z.1, cell_value l i g)
-
-    kept_now : {f : Fact} → New s (Known s n) f → ((p : Place) (v : Value) → f ≡ value p v → (u : Scalar) × (v ≡ One u)) → (x : New s H f) × RightKnown s H x
-    kept_now x q = kept n here (λ v. (u : Scalar) × (v ≡ One u)) (λ u. (u, refl)) (λ path st c v l i g z. at_once l i g z) x q
-
-    both : (f : Fact) → H f → (x : New s H f) × RightKnown s H x
-    both f (inl k) = let c = came s n f k in kept_earlier c.round c.below c.new
-    both f (inr z) = kept_now z.3 (λ p v e. (z.1, value_is (sym e ∙ z.2)))
-
-    pub half_backs : Backs s H
-    half_backs = record { backed = λ f k. (both f k).0; behind = λ f k. (both f k).1; one_scalar = one_scalar; listed = listed s wf H full sound }
+    pub half_backs : Backs s (Half s n)
+    half_backs = Be.backs_half s wf single n (Half s n) (λ f k. inl k) (λ f h. h) clean half_cell
 
     -- what a round adds to an array follows from the half round
-    pub element_backed : {a : Place} {k : Key} {w : Place} {v : Scalar} → Known s (suc n) (element a k w v) → (x : New s H (element a k w v)) × RightKnown s H x
-    element_backed (inl k) = both _ (inl k)
-    element_backed (inr x) = kept_now x (λ p v e. absurd (cc (e)))
+    pub element_backed : {a : Place} {k : Key} {w : Place} {v : Scalar} → Known s (suc n) (element a k w v) → (x : New s (Half s n) (element a k w v)) × RightKnown s (Half s n) x
+    element_backed h = Be.element_after s wf single n (Half s n) (λ f k. inl k) (λ f h. h) clean half_cell h
+
+-- EACH FOLLOWS FROM THE ONE BEFORE
+module _ (s : Core) (C : Code) (w : IsCodeOf s C) (wf : WellFormed s) (I : IsCode C) (sc : Scoped s) (clean_code : CleanCode C) (single : SinglyAssigned s) (n : ℕ) (clean : (a : Place) → OneWriter (Known s n) a) where
+  abbrev Follow : Knowledge → Knowledge → Type 0
+  Follow K' K = Follows s C w wf I sc clean_code K' K
+
+  known_kept : (f : Fact) → Known s n f → (x : New s (Known s n) f) × RightKnown s (Known s n) x
+  known_kept f k = Be.kept_known s wf single n (Known s n) (λ f k. k) (λ f k. inl k) clean f k
+
+  -- the value of a cell has nothing behind it
+  moved_cell : (f : Fact) → NewCell s n f → (x : New s (Known s n) f) × RightKnown s (Known s n) x
+  moved_cell f z = subst (λ (y : Fact). (x : New s (Known s n) y) × RightKnown s (Known s n) x) (sym z.is) (cell_value z.live z.there z.gives, tt)
+
+  cells_kept : (f : Fact) → Cells s n f → (x : New s (Known s n) f) × RightKnown s (Known s n) x
+  cells_kept f (inl k) = known_kept f k
+  cells_kept f (inr z) = moved_cell f z
+
+  pub cells_follow : Follow (Known s n) (λ f. Cells s n f)
+  cells_follow = record {
+    grows = Be.grows_half s wf single n (λ f. Cells s n f) (λ f k. inl k) (cells_split s wf single n) n (omega arith);
+    news = λ f h. (cells_kept f h).0;
+    scalars = λ p u h. cells_kept _ h;
+    elements = λ a k u x h. cells_kept _ h;
+  }
+
+  -- what the next round knows follows from the cells
+  module _ (K : Knowledge) (up : (f : Fact) → K f → Known s (suc n) f) (g : Grows s (λ f. Cells s n f) K) where
+    follow_cells : Follow (λ f. Cells s n f) K
+    follow_cells = record {
+      grows = g;
+      news = λ f h. Be.fact_after s wf single n (λ f. Cells s n f) (λ f k. inl k) (cells_split s wf single n) clean f (up f h);
+      scalars = λ p u h. Be.scalar_after s wf single n (λ f. Cells s n f) (λ f k. inl k) (cells_split s wf single n) clean (new_cell s wf single n) (up _ h);
+      elements = λ a k u x h. Be.element_after s wf single n (λ f. Cells s n f) (λ f k. inl k) (cells_split s wf single n) clean (new_cell s wf single n) (up _ h);
+    }
+
+  pub half_follows : Follow (λ f. Cells s n f) (Half s n)
+  half_follows = follow_cells (Half s n) (half_up s wf single n) (grows_cells s wf single n)
+
+  pub known_follows : Follow (λ f. Cells s n f) (Known s (suc n))
+  known_follows = follow_cells (Known s (suc n)) (λ f h. h) (Be.grows_next s wf single n (λ f. Cells s n f) (λ f k. inl k) (cells_split s wf single n))

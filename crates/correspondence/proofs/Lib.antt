@@ -3,7 +3,7 @@ pub mod Transfer
 pub mod Means
 pub mod Evaluate
 pub mod Backing
-pub mod Halves
+pub mod Between
 pub mod Readings
 pub mod Roles
 pub mod Opening
@@ -40,6 +40,8 @@ pub mod OwnFacts
 pub mod Derived
 pub mod LiveKinds
 pub mod EverFed
+pub mod Next
+pub mod Halves
 pub mod ClosedFrom
 pub mod Within
 pub mod Listing

@@ -1,4 +1,4 @@
--- Clean code has a clean script, round by round, once each half round's facts are facts of the code.
+-- Clean code has a clean script, round by round, and comes to what each half round yields.
 use Rattle.std.proofs.Common.{◌≡◌, inl, inr, ℕ, zero, suc, true, List, [], ◌∷◌, refl, sym, ap, ◌∙◌, subst, max, arith}
 use Rattle.std.specs.Prelude.{◌<◌, ◌≤◌, ◌⊎◌}
 use Rattle.dataflow.specs.Facts as Fa
@@ -7,7 +7,7 @@ use Rattle.dataflow.proofs.Ever.{known_later}
 use Rattle.values.specs.declared.key.Key.{Key}
 use Rattle.values.specs.declared.value.Scalar.{Scalar}
 use Rattle.syntax_trees.specs.Core.{Core}
-use Rattle.syntax_trees.specs.Facts.{element, OneWriter}
+use Rattle.syntax_trees.specs.Facts.{element, Knowledge, OneWriter}
 use Rattle.syntax_trees.specs.Meaning.{Known}
 use Rattle.syntax_trees.specs.Outcomes.{Clean}
 use Rattle.syntax_trees.specs.Places.{Path, Place}
@@ -29,7 +29,10 @@ use Rattle.meaning_laws.specs.Scoped.{Scoped}
 use Rattle.agreement.specs.IsCodeOf.{IsCodeOf}
 use Rattle.correspondence.proofs.ElementsFrom.{StoredBy, element_from}
 use Rattle.correspondence.proofs.EverFed.{facts_ever}
-use Rattle.correspondence.proofs.Halves.{half_backs, element_backed}
+use Rattle.correspondence.proofs.Next.{Level, Follows, next_level}
+use Rattle.meaning_laws.proofs.Sources.{known_full}
+use Rattle.task_code.specs.Exact.{IsExact}
+use Rattle.correspondence.proofs.Halves.{Cells, half_backs, element_backed, cells_follow, half_follows, known_follows, half_full, cells_backs, cells_full, known_backs}
 
 -- a path of the script as one of the code
 abbrev code_path : Path → List Step
@@ -42,12 +45,6 @@ path_back (t ∷ p) = ap (λ (z : Path). t ∷ z) (path_back p)
 
 item_parts : {i j c c' : ℕ} {p q : List Step} → Item i p c ≡ Item j q c' → (i ≡ j) × (p ≡ q)
 item_parts h = (cc (h), cc (h))
-
-none_below : {A : Type 0} {m : ℕ} → m < 0 → A
-none_below h = absurd (grind arith)
-
-below_suc : (m n : ℕ) → m < suc n → (m < n) ⊎ (m ≡ n)
-below_suc m n h = grind arith
 
 module _ (s : Core) (C : Code) (w : IsCodeOf s C) (wf : WellFormed s) (single : SinglyAssigned s) (I : IsCode C) (sc : Scoped s) (clean_code : CleanCode C) where
   known_at : {d : CodePlaces.Place} {k : Key} {v : Scalar} (n m : ℕ) → HalfIn s C n → (x : Written (code_system C) (Facts s C (Half s n)) d k v) → (r : ℕ) × ((m : ℕ) → r ≤ m → Fa.Known (code_system C) m x.task x.effect)
@@ -78,28 +75,52 @@ module _ (s : Core) (C : Code) (w : IsCodeOf s C) (wf : WellFormed s) (single : 
     one_writer_next : (a : Place) → OneWriter (Known s (suc n)) a
     one_writer_next a = subst (λ (p : Path). OneWriter (Known s (suc n)) (p, a.1)) (path_back a.0) (one_writer_at (code_path a.0) a.1)
 
-  -- ALL ROUNDS, from the step for half a round
-  module _ (step : (n : ℕ) → ((a : Place) → OneWriter (Known s n) a) → Backs s (Half s n) → ((m : ℕ) → m < n → HalfIn s C m) → HalfIn s C n) where
+  -- ALL ROUNDS
+  module _ (ex : IsExact C) where
+    abbrev LevelOf : Knowledge → Type 0
+    LevelOf K = Level s C w wf I sc clean_code K
+
     record To (n : ℕ) : Type 0 where
       clean : (a : Place) → OneWriter (Known s n) a
-      below : (m : ℕ) → m < n → HalfIn s C m
+      level : LevelOf (Known s n)
 
-    half_at : (n : ℕ) → To n → HalfIn s C n
-    half_at n r = step n r.clean (half_backs s wf single n r.clean) r.below
+    -- nothing is known before the first round
+    nothing : To 0
+    nothing = record {
+      clean = λ a k u u' v v' h g. absurd h;
+      level = record {
+        backs = known_backs s wf single 0 (λ a k u u' v v' h g. absurd h);
+        full = λ path at m x c v i h. absurd h;
+        elements = λ q v key x u va h. absurd h;
+        behind = record { scalar = λ pl u h d a st e. absurd h; under = λ p t k b ch j there at n a m c cm v kv e f z zi zn. absurd kv };
+      };
+    }
+
+    -- the cells that follow from a round, then half of the next round
+    cells_at : (n : ℕ) → To n → LevelOf (λ f. Cells s n f)
+    cells_at n r = next_level s C w wf I sc clean_code ex single (Known s n) (λ f. Cells s n f) r.level (cells_follow s C w wf I sc clean_code single n r.clean) (cells_backs s wf single n r.clean) (cells_full s wf single n)
+
+    half_at : (n : ℕ) → To n → LevelOf (Half s n)
+    half_at n r = next_level s C w wf I sc clean_code ex single (λ f. Cells s n f) (Half s n) (cells_at n r) (half_follows s C w wf I sc clean_code single n r.clean) (half_backs s wf single n r.clean) (half_full s wf single n)
+
+    half_facts : (n : ℕ) → To n → HalfIn s C n
+    half_facts n r = (let l = half_at n r in facts_ever s C w wf I sc clean_code (Half s n) l.backs l.elements l.behind l.full ex single)
+
+    next_to : (n : ℕ) → To n → To (suc n)
+    next_to n r =
+        let one = one_writer_next n r.clean (half_backs s wf single n r.clean) (half_facts n r) in
+        record {
+          clean = one;
+          level = next_level s C w wf I sc clean_code ex single (λ f. Cells s n f) (Known s (suc n)) (cells_at n r) (known_follows s C w wf I sc clean_code single n r.clean) (known_backs s wf single (suc n) one) (known_full s wf.cells (suc n));
+        }
 
     all_to : (n : ℕ) → To n
-    all_to zero = record { clean = λ a k u u' v v' h g. absurd h; below = λ m h. none_below h }
-    all_to (suc n) =
-        let r = all_to n in
-        let into = half_at n r in
-        record {
-          clean = one_writer_next n r.clean (half_backs s wf single n r.clean) into;
-          below = λ m h. elim (below_suc m n h) [ inl l ↦ r.below m l | inr e ↦ subst (HalfIn s C) (sym e) into ];
-        }
+    all_to zero = nothing
+    all_to (suc n) = next_to n (all_to n)
 
     -- the script writes no key twice, and each half round's facts are facts of the code
     pub script_clean : Clean s
     script_clean n = (all_to n).clean
 
     pub half_in : (n : ℕ) → HalfIn s C n
-    half_in n = half_at n (all_to n)
+    half_in n = half_facts n (all_to n)

@@ -18,7 +18,7 @@ ghost use Rattle.correspondence.specs.Worked.{fibonacci, fibonacci_code, filled,
 ghost use Rattle.dataflow.specs.Facts.{Ever};
 ghost use Rattle.dataflow.specs.Machine.{Event};
 ghost use Rattle.dataflow.specs.System.{Effect};
-ghost use Rattle.std.specs.Prelude.{ℕ, ◌<◌, List};
+ghost use Rattle.std.specs.Prelude.{ℕ, List};
 ghost use Rattle.syntax_trees.specs.Core.{Core};
 ghost use Rattle.syntax_trees.specs.Facts.{Fault, OneWriter};
 ghost use Rattle.syntax_trees.specs.Meaning.{Known, Meaning};
@@ -81,19 +81,15 @@ pub fn faults_agree()
 {}
 
 /// Rounds, without the premise that the script writes no key twice: half a round (what is known after n rounds, and the scalars that follow)
-/// is knowledge that the lemmas from the script to the code stand over as long as round n is clean; and once the facts of each half round are facts of clean
-/// code (`step`, which may use that of all rounds before), the script is clean, and all half rounds are in what the code ever has,
-/// and so is all that the script's answers yield.
+/// is knowledge that the lemmas from the script to the code stand over as long as round n is clean; and if the code writes no key twice, the script
+/// writes none twice either, and all that half a round yields the code comes to, and so all that the script's answers yield.
 pub fn rounds_agree()
     ensures backs { (s : Core) → WellFormed s → SinglyAssigned s → (n : ℕ) → ((a : ScriptPlaces.Place) → OneWriter (Known s n) a) → Backs s (Half s n) }
-    ensures clean { (s : Core) (C : Code) → IsCodeOf s C → WellFormed s → SinglyAssigned s → IsCode C → Scoped s → CleanCode C
-        → ((n : ℕ) → ((a : ScriptPlaces.Place) → OneWriter (Known s n) a) → Backs s (Half s n) → ((m : ℕ) → m < n → HalfIn s C m) → HalfIn s C n)
+    ensures clean { (s : Core) (C : Code) → IsCodeOf s C → WellFormed s → SinglyAssigned s → IsCode C → Scoped s → CleanCode C → IsExact C
         → Clean s }
-    ensures half { (s : Core) (C : Code) → IsCodeOf s C → WellFormed s → SinglyAssigned s → IsCode C → Scoped s → CleanCode C
-        → ((n : ℕ) → ((a : ScriptPlaces.Place) → OneWriter (Known s n) a) → Backs s (Half s n) → ((m : ℕ) → m < n → HalfIn s C m) → HalfIn s C n)
+    ensures half { (s : Core) (C : Code) → IsCodeOf s C → WellFormed s → SinglyAssigned s → IsCode C → Scoped s → CleanCode C → IsExact C
         → (n : ℕ) → HalfIn s C n }
-    ensures meaning { (s : Core) (C : Code) → IsCodeOf s C → WellFormed s → SinglyAssigned s → IsCode C → Scoped s → CleanCode C
-        → ((n : ℕ) → ((a : ScriptPlaces.Place) → OneWriter (Known s n) a) → Backs s (Half s n) → ((m : ℕ) → m < n → HalfIn s C m) → HalfIn s C n)
+    ensures meaning { (s : Core) (C : Code) → IsCodeOf s C → WellFormed s → SinglyAssigned s → IsCode C → Scoped s → CleanCode C → IsExact C
         → (t : Task) (e : Effect Task Place Key Scalar) → Facts s C (Meaning s) t e → Ever (code_system C) t e }
 {}
 

@@ -2,20 +2,16 @@
 
 ghost use Rattle.agreement.specs.IsCodeOf.{IsCodeOf};
 ghost use Rattle.agreement.specs.NodesOnce.{NodesOnce};
-ghost use Rattle.correspondence.specs.Backs.{Backs};
-ghost use Rattle.correspondence.specs.Halves.{Half, HalfIn};
 ghost use Rattle.correspondence.specs.Inclusions.{Facts};
 ghost use Rattle.dataflow.specs.Facts.{Ever};
 ghost use Rattle.dataflow.specs.Machine.{Event};
 ghost use Rattle.dataflow.specs.System.{Effect};
 ghost use Rattle.meaning_laws.specs.Scoped.{Scoped};
 ghost use Rattle.meaning_laws.specs.TypedValues.{TypedValues};
-ghost use Rattle.std.specs.Prelude.{◌≡◌, ℕ, ◌<◌, List, map};
+ghost use Rattle.std.specs.Prelude.{◌≡◌, ℕ, List, map};
 ghost use Rattle.syntax_trees.specs.Core.{Core};
-ghost use Rattle.syntax_trees.specs.Facts.{OneWriter};
-ghost use Rattle.syntax_trees.specs.Meaning.{Known, Meaning};
+ghost use Rattle.syntax_trees.specs.Meaning.{Meaning};
 ghost use Rattle.syntax_trees.specs.Outcomes.{Clean, Lines};
-ghost use Rattle.syntax_trees.specs.Places as ScriptPlaces;
 ghost use Rattle.syntax_trees.specs.Single.{SinglyAssigned};
 ghost use Rattle.syntax_trees.specs.WellFormed.{WellFormed};
 ghost use Rattle.task_code.specs.Code.{Code};
@@ -30,13 +26,12 @@ ghost use Rattle.values.specs.declared.value.Scalar.{Scalar};
 ghost use Rattle.values.specs.declared.value.Scalar.TheVariants.{Text};
 
 /// For the whole language: the lines of a state that is quiet without fault are all of the script's, in some order. So it is for a script that writes no
-/// key twice, once the code comes to all that the script's answers yield; and for each script, whatever it writes, once the facts of each half round are
-/// facts of clean code (the hypothesis of `rounds_agree`): a script whose code comes to such a state writes no key twice.
+/// key twice, if the code comes to all that the script's answers yield; and for each script, whatever it writes: a script whose code comes to such a
+/// state writes no key twice.
 pub fn lines_agree()
     ensures of_clean { (s : Core) (C : Code) → IsCodeOf s C → IsCode C → IsExact C → NodesOnce C → WellFormed s → SinglyAssigned s → Scoped s → TypedValues s (Meaning s)
         → Clean s → ((t : Task) (e : Effect Task Place Key Scalar) → Facts s C (Meaning s) t e → Ever (code_system C) t e)
         → (events : List Event) (st : CodeState) → Run C events st → Quiet C st → (printed : List (List ℕ)) × (st.lines ≡ map Text printed) × Lines (Meaning s) printed }
     ensures whatever { (s : Core) (C : Code) → IsCodeOf s C → IsCode C → IsExact C → NodesOnce C → WellFormed s → SinglyAssigned s → Scoped s → TypedValues s (Meaning s)
-        → ((n : ℕ) → ((a : ScriptPlaces.Place) → OneWriter (Known s n) a) → Backs s (Half s n) → ((m : ℕ) → m < n → HalfIn s C m) → HalfIn s C n)
         → (events : List Event) (st : CodeState) → Run C events st → Quiet C st → Clean s × (printed : List (List ℕ)) × (st.lines ≡ map Text printed) × Lines (Meaning s) printed }
 {}

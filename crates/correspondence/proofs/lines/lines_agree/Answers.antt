@@ -15,8 +15,8 @@ returns-clause-of_clean g = λ s C w I ex nodes wf single sc ty clean back event
     (complete (code_system C) (code_laws C I) st (log_of (code_system C) events st run) (run_follows (code_system C) (code_laws C I) events st run) quiet)
 
 pub returns-clause-whatever : goal.returns-clause-whatever
-returns-clause-whatever g = λ s C w I ex nodes wf single sc ty step events st run quiet.
+returns-clause-whatever g = λ s C w I ex nodes wf single sc ty events st run quiet.
     let whole = complete (code_system C) (code_laws C I) st (log_of (code_system C) events st run) (run_follows (code_system C) (code_laws C I) events st run) quiet in
-    let clean = script_clean s C w wf single I sc whole.clean step in
-    let lines = quiet_lines s C w wf (meaning_knows s wf single clean) I sc ty nodes ex single (meaning_in s C wf single clean (half_in s C w wf single I sc whole.clean step)) st whole in
+    let clean = script_clean s C w wf single I sc whole.clean ex in
+    let lines = quiet_lines s C w wf (meaning_knows s wf single clean) I sc ty nodes ex single (meaning_in s C wf single clean (half_in s C w wf single I sc whole.clean ex)) st whole in
     (clean, lines.0, lines.1, lines.2)
