@@ -67,12 +67,62 @@ fn time_size(
     )
 }
 
-/// Prints the times of 125,000 to 1,000,000 items, at three priorities and at many.
+/// The next of a row of numbers that look as if drawn.
+fn drawn(seed: u64) -> u64 {
+    let x = seed
+        .wrapping_mul(6_364_136_223_846_793_005)
+        .wrapping_add(1_442_695_040_888_963_407);
+    x ^ (x >> 29)
+}
+
+/// One of the `len` numbers above this one, by the seed.
+fn some_of(seed: u64, above: u64, len: u64) -> u64 {
+    let drawn = (seed & 0xffff_ffff) * (len & 0xffff_ffff) >> 32;
+    above.wrapping_add(2).wrapping_add(drawn)
+}
+
+/// While so many wait: puts one more, takes the first, and takes a drawn one out and puts it again, so many times.
+fn turn_over(queue: &mut Queue, len: u64, turns: u64) -> Result<u64, AllocError> {
+    let (mut taken, mut seed) = (0u64, 7u64);
+    for turn in 0..turns {
+        queue.put(Kind::Leaf, 0, len.wrapping_add(turn))?;
+        if queue.take(Kind::Leaf).is_some() {
+            taken = taken.wrapping_add(1);
+        }
+        seed = drawn(seed);
+        let some = some_of(seed, turn, len);
+        if queue.remove(Kind::Leaf, 0, some) {
+            queue.put(Kind::Leaf, 0, some)?;
+        }
+    }
+    Ok(taken)
+}
+
+/// Prints the time of a put, a take, a remove and a put while so many wait.
+fn time_turns(rt: &(impl Clock + Print), alloc: Global, len: u64) -> io::Result<()> {
+    let turns = 1_000_000u64;
+    let mut queue = Queue::new(alloc);
+    for number in 1..len {
+        queue.put(Kind::Leaf, 0, number)?;
+    }
+    let start = Instant::now(rt)?;
+    let taken = turn_over(&mut queue, len, turns)?;
+    let nanos = start.elapsed(rt)?.as_nanos() / u128::from(turns);
+    println!(rt;
+        "{len} waiting: a put, a take, a remove and a put in {nanos} nanoseconds; {taken} taken"
+    )
+}
+
+/// Prints the times of 125,000 to 1,000,000 items, at three priorities and at many, and those of a call
+/// while 64 to 1,000,000 wait.
 pub fn time(rt: &(impl Clock + Print), alloc: Global) -> io::Result<()> {
     for doublings in 0..4u32 {
         let count = 125_000u64 << doublings;
         time_size(rt, alloc, count, false)?;
         time_size(rt, alloc, count, true)?;
+    }
+    for len in [64u64, 1_000, 10_000, 100_000, 1_000_000] {
+        time_turns(rt, alloc, len)?;
     }
     Ok(())
 }
