@@ -1,0 +1,63 @@
+-- A list of leads as more are put behind it.
+use Rattle.std.proofs.Common.{◌≡◌, ◌⊎◌, ℕ, Bool, true, false, ◌&&◌, List, [], ◌∷◌, ◌++◌, refl, sym, ap, subst, ◌∙◌, if◌then◌else◌, append_assoc, append-nil, inl, inr}
+use Rattle.std.specs.List.{list_any}
+use Rattle.std.proofs.Math.Bool.{beq}
+use Rattle.std.proofs.Math.Dec.{eqb}
+use Rattle.std.proofs.lemmas.Bool.{eqb-true}
+use Rattle.indexmap.specs.IndexSet.{insert_key}
+use Rattle.dataflow.specs.System.{In}
+use Rattle.dataflow.proofs.Lists.{in_left, in_split}
+use Rattle.task_code.specs.Code.{Name}
+use Rattle.task_code.proofs.Equal.{true_and}
+use Rattle.ref_counting.specs.declared.lead.Lead.{Lead}
+use Rattle.ref_counting.proofs.Keys.{same_flag}
+use Rattle.ref_counting.specs.Leads.{Grows, Has, IsThis, name_of}
+
+-- leads are the same where all their fields are
+abbrev pub same_fields : Lead → Lead → Bool
+same_fields a b = eqb a.entry b.entry && (eqb a.up b.up && (beq a.local b.local && (eqb a.number b.number && beq a.array b.array)))
+
+pub same_lead : (a b : Lead) → same_fields a b ≡ true → a ≡ b
+same_lead a b h =
+    let x = true_and (eqb a.entry b.entry) _ h in
+    let y = true_and (eqb a.up b.up) _ x.1 in
+    let z = true_and (beq a.local b.local) _ y.1 in
+    let w = true_and (eqb a.number b.number) _ z.1 in
+    let e : a.entry ≡ b.entry = eqb-true a.entry b.entry x.0 in
+    let u : a.up ≡ b.up = eqb-true a.up b.up y.0 in
+    let l : a.local ≡ b.local = same_flag a.local b.local z.0 in
+    let n : a.number ≡ b.number = eqb-true a.number b.number w.0 in
+    let r : a.array ≡ b.array = same_flag a.array b.array w.1 in
+    λ i. record { entry = e i; up = u i; local = l i; number = n i; array = r i }
+
+-- GROWTH
+
+pub grows_not : {P : ℕ → Name → Type 0} (ls : List Lead) → Grows P ls ls
+grows_not ls = record { more = []; is = sym (append-nil ls); each = λ l h. absurd h }
+
+pub put_grows : (ls : List Lead) (l : Lead) (i : ℕ) (r : Name) → l.entry ≡ i → name_of l ≡ r → Grows (IsThis i r) ls (insert_key same_fields ls l)
+put_grows ls l i r e n = by (list_any (same_fields l) ls)
+  where
+    each : (m : Lead) → In m (l ∷ []) → IsThis i r m.entry (name_of m)
+    each m (inl s) = (ap (λ (x : Lead). x.entry) s ∙ e, ap name_of s ∙ n)
+    each m (inr h) = absurd h
+
+    by : (b : Bool) → Grows (IsThis i r) ls (if b then ls else ls ++ l ∷ [])
+    by true = grows_not ls
+    by false = record { more = l ∷ []; is = refl; each = each }
+
+pub grows_on : {P Q : ℕ → Name → Type 0} {a b c : List Lead} → ((i : ℕ) (r : Name) → Q i r → P i r) → Grows P a b → Grows Q b c → Grows P a c
+grows_on {P} {Q} {a} {b} {c} weaken g h = record { more = g.more ++ h.more; is = h.is ∙ ap (λ x. x ++ h.more) g.is ∙ append_assoc a g.more h.more; each = each }
+  where
+    each : (l : Lead) → In l (g.more ++ h.more) → P l.entry (name_of l)
+    each l t = elim (in_split l g.more h.more t) [ inl q ↦ g.each l q | inr q ↦ weaken l.entry (name_of l) (h.each l q) ]
+
+pub still_in : {P : ℕ → Name → Type 0} {a b : List Lead} (l : Lead) → Grows P a b → In l a → In l b
+still_in {P} {a} {b} l g t = subst (In l) (sym g.is) (in_left l a g.more t)
+
+pub still_has : {P : ℕ → Name → Type 0} {a b : List Lead} {i : ℕ} {r : Name} → Grows P a b → Has a i r → Has b i r
+still_has g h = record { lead = h.lead; there = still_in h.lead g h.there; of = h.of; to = h.to }
+
+-- each lead is old or such
+pub old_or_new : {P : ℕ → Name → Type 0} {a b : List Lead} (l : Lead) → Grows P a b → In l b → In l a ⊎ P l.entry (name_of l)
+old_or_new {P} {a} {b} l g t = elim (in_split l a g.more (subst (In l) g.is t)) [ inl q ↦ inl q | inr q ↦ inr (g.each l q) ]

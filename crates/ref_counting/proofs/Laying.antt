@@ -1,0 +1,92 @@
+-- Leads are laid out by their entries, and are the rights.
+use Rattle.std.proofs.Common.{◌≡◌, inl, inr, ℕ, zero, suc, ◌<◌, ◌≤◌, ◌+◌, List, [], ◌∷◌, ◌++◌, map, take, length, get_or, refl, sym, ap, subst, ◌∙◌, arith}
+use Rattle.dataflow.specs.System.{In}
+use Rattle.dataflow.proofs.Lists.{in_left, in_right, in_split, in_map, in_unmap}
+use Rattle.task_code.specs.declared.entry.Name.{Name as Used}
+use Rattle.task_code.specs.Code.{Code, Entry, Name, blank_entry, entry, nth}
+use Rattle.task_code.specs.Exact.{Leads, itself, through}
+use Rattle.task_code.specs.View.{name_view}
+use Rattle.ref_counting.specs.declared.lead.Lead.{Lead}
+use Rattle.ref_counting.specs.declared.uses.Right.{Right}
+use Rattle.ref_counting.specs.declared.uses.Right.TheVariants.{Read, Write}
+use Rattle.ref_counting.specs.Leads.{Has, name_of}
+use Rattle.ref_counting.specs.Rights.{Adds, AllLead, AllWithin, AreRights, IsClosed, LaysNext, LaysOut, Passes}
+use Rattle.ref_counting.specs.Rows.{row, Puts}
+use Rattle.ref_counting.specs.Uses.{UsesBelow, own_of}
+use Rattle.ref_counting.proofs.Closing.{take_next, take_past}
+use Rattle.ref_counting.proofs.Growing.{old_or_new}
+
+has_more : {i : ℕ} {r : Name} (xs ys : List Lead) → Has xs i r → Has (xs ++ ys) i r
+has_more xs ys h = record { lead = h.lead; there = in_left h.lead xs ys h.there; of = h.of; to = h.to }
+
+pub lays_nothing : (n : ℕ) (ls : List Lead) (found : List (List Used)) → length found ≡ n → ((k : ℕ) → row found k ≡ []) → LaysOut n (take 0 ls) found
+lays_nothing n ls found count empty = record { count = count; only = λ i r t. absurd (subst (λ xs. In r (map name_view xs)) (empty i) t); all = λ l t. absurd t }
+
+pub lays_next : (lead : Lead) (x : Used) (k : ℕ) (ls : List Lead) (old new : List (List Used)) → k < length ls → get_or ls k lead ≡ lead → name_view x ≡ name_of lead → Puts lead.entry x old new → LaysNext k ls old new
+lays_next lead x k ls old new h is same p n before = record { count = p.fills.count ∙ before.count; only = only; all = all }
+  where
+    more : take k ls ++ lead ∷ [] ≡ take (k + 1) ls
+    more = ap (λ l. take k ls ++ l ∷ []) (sym is) ∙ take_next ls k lead h
+
+    only : (i : ℕ) (r : Name) → In r (map name_view (row new i)) → Has (take (k + 1) ls) i r
+    only i r t =
+        let u = in_unmap name_view r (row new i) t in
+        subst (λ zs. Has zs i r) more (elim (p.fills.only i u.0 u.1) [
+          | inl o ↦ has_more (take k ls) (lead ∷ []) (before.only i r (subst (λ s. In s (map name_view (row old i))) u.2 (in_map name_view u.0 (row old i) o)))
+          | inr q ↦ record { lead = lead; there = in_right lead (take k ls) (lead ∷ []) (inl refl); of = sym q.0; to = sym same ∙ ap name_view (sym q.1) ∙ u.2 }
+        ])
+
+    all : (l : Lead) → In l (take (k + 1) ls) → l.entry < n → In (name_of l) (map name_view (row new l.entry))
+    all l t w = elim (in_split l (take k ls) (lead ∷ []) (subst (In l) (sym more) t)) [
+      | inl u ↦ (let v = in_unmap name_view (name_of l) (row old l.entry) (before.all l u w) in subst (λ s. In s (map name_view (row new l.entry))) v.2 (in_map name_view v.0 (row new l.entry) (p.fills.kept l.entry v.0 v.1)))
+      | inr u ↦ elim u [
+        | inl e ↦ subst (λ (m : Lead). In (name_of m) (map name_view (row new m.entry))) (sym e) (subst (λ s. In s (map name_view (row new lead.entry))) same (in_map name_view x (row new lead.entry) (p.there (subst (λ (m : ℕ). lead.entry < m) (sym before.count) (subst (λ (m : Lead). m.entry < n) e w)))))
+        | inr f ↦ absurd f
+      ]
+    ]
+
+pub laid_all : (n : ℕ) (ls : List Lead) (k : ℕ) (found : List (List Used)) → length ls ≤ k → LaysOut n (take k ls) found → LaysOut n ls found
+laid_all n ls k found h before = record { count = before.count; only = only; all = λ l t. before.all l (take_past l ls k h t) }
+  where
+    in_front : (l : Lead) (xs : List Lead) (j : ℕ) → In l (take j xs) → In l xs
+    in_front l [] zero t = t
+    in_front l [] (suc j) t = t
+    in_front l (y ∷ ys) zero t = absurd t
+    in_front l (y ∷ ys) (suc j) (inl e) = inl e
+    in_front l (y ∷ ys) (suc j) (inr t) = inr (in_front l ys j t)
+
+    only : (i : ℕ) (r : Name) → In r (map name_view (row found i)) → Has ls i r
+    only i r t = let g = before.only i r t in record { lead = g.lead; there = in_front g.lead ls k g.there; of = g.of; to = g.to }
+
+module _ (C : Code) (right : Right) (seeds leads : List Lead) (uses : Adds (UsesBelow C (own_of right) (length C.entries)) [] seeds) where
+  pub seeds_within : AllWithin C seeds
+  seeds_within l t = elim (old_or_new l uses.grows t) [ inl u ↦ absurd u | inr q ↦ q.0 ]
+
+  pub seeds_lead : AllLead C (own_of right) seeds
+  seeds_lead l t = elim (old_or_new l uses.grows t) [ inl u ↦ absurd u | inr q ↦ itself l.entry (name_of l) q.1 ]
+
+  -- an entry past the last uses nothing
+  used_there : (i : ℕ) (r : Name) → In r (own_of right (entry C i)) → i < length C.entries
+  used_there i r t = by right C.entries i t
+    where
+      by : (d : Right) (es : List Entry) (k : ℕ) → In r (own_of d (nth blank_entry es k)) → k < length es
+      by Read [] k t = absurd t
+      by Write [] k t = absurd t
+      by d (x ∷ xs) zero t = omega arith
+      by d (x ∷ xs) (suc k) t = let l : k < length xs = by d xs k t in omega arith
+
+  module _ (kept : (i : ℕ) (r : Name) → Has seeds i r → Has leads i r) (sound : AllLead C (own_of right) seeds → AllLead C (own_of right) leads) (within : AllWithin C leads) (closed : IsClosed C leads leads) where
+    led_has : (i : ℕ) (r : Name) → Leads C (own_of right) i r → Has leads i r
+    led_has i r (itself _ _ h) = kept i r (uses.all i r (used_there i r h, h))
+    led_has i r (through _ j b w _ q opens stands l outer seen) =
+        let g = led_has j q l in
+        closed g.lead g.there i r (subst (λ k. Passes C k (name_of g.lead) i r) (sym g.of) (subst (λ s. Passes C j s i r) (sym g.to) (record { block = b; way = w; opens = opens; stands = stands; sees = record { outer = outer; seen = seen } })))
+
+    pub rights_found : (found : List (List Used)) → LaysOut (length C.entries) leads found → AreRights C (own_of right) found
+    rights_found found laid = record { count = laid.count; sound = is_sound; complete = is_complete }
+      where
+        is_sound : (i : ℕ) (r : Name) → In r (map name_view (row found i)) → Leads C (own_of right) i r
+        is_sound i r t = let g = laid.only i r t in subst (λ k. Leads C (own_of right) k r) g.of (subst (λ s. Leads C (own_of right) g.lead.entry s) g.to (sound seeds_lead g.lead g.there))
+
+        is_complete : (i : ℕ) (r : Name) → Leads C (own_of right) i r → In r (map name_view (row found i))
+        is_complete i r l = let g = led_has i r l in subst (λ k. In r (map name_view (row found k))) g.of (subst (λ s. In s (map name_view (row found g.lead.entry))) g.to (laid.all g.lead g.there (within g.lead g.there)))

@@ -1,0 +1,9 @@
+pub mod Keys
+pub mod Growing
+pub mod Filling
+pub mod Noting
+pub mod Making
+pub mod Handing
+pub mod Adding
+pub mod Closing
+pub mod Laying

@@ -1,0 +1,74 @@
+-- What bodies declare, as it is noted.
+use Rattle.std.proofs.Common.{◌≡◌, ◌⊎◌, inl, inr, ℕ, ◌<◌, ◌+◌, Bool, true, false, ◌&&◌, List, [], ◌∷◌, ◌++◌, refl, sym, ap, subst, arith}
+use Rattle.std.specs.List.{list_any}
+use Rattle.std.proofs.Math.Bool.{beq}
+use Rattle.std.proofs.Math.Dec.{eqb}
+use Rattle.std.proofs.lemmas.Bool.{eqb-true}
+use Rattle.indexmap.specs.IndexSet.{insert_key}
+use Rattle.dataflow.specs.System.{In}
+use Rattle.dataflow.proofs.Lists.{in_left, in_right, in_split}
+use Rattle.task_code.specs.Code.{Code, Variable, body}
+use Rattle.task_code.proofs.Equal.{true_and, both_true}
+use Rattle.ref_counting.specs.declared.makes.Made.{Made}
+use Rattle.ref_counting.specs.Makes.{MadeUpTo, NotesMade, made_by, variable_of}
+use Rattle.ref_counting.proofs.Keys.{same_flag, any_in, in_any, put_there, put_kept, put_only}
+use Rattle.ref_counting.proofs.Noting.{below_or_at}
+
+abbrev pub same_made : Made → Made → Bool
+same_made a b = eqb a.body b.body && (eqb a.node b.node && beq a.array b.array)
+
+pub made_is : (a b : Made) → same_made a b ≡ true → a ≡ b
+made_is a b h =
+    let x = true_and (eqb a.body b.body) _ h in
+    let y = true_and (eqb a.node b.node) _ x.1 in
+    let e : a.body ≡ b.body = eqb-true a.body b.body x.0 in
+    let n : a.node ≡ b.node = eqb-true a.node b.node y.0 in
+    let r : a.array ≡ b.array = same_flag a.array b.array y.1 in
+    λ i. record { body = e i; node = n i; array = r i }
+
+same_bool : (a : Bool) → beq a a ≡ true
+same_bool true = refl
+same_bool false = refl
+
+same_nat : (n : ℕ) → eqb n n ≡ true
+same_nat n = grind arith
+
+pub made_self : (a : Made) → same_made a a ≡ true
+made_self a = both_true (eqb a.body a.body) _ (same_nat a.body) (both_true (eqb a.node a.node) _ (same_nat a.node) (same_bool a.array))
+
+pub declared_yes : (m : Made) (ms : List Made) → list_any (same_made m) ms ≡ true → In m ms
+declared_yes m ms h = any_in same_made made_is m ms h
+
+pub declared_no : (m : Made) (ms : List Made) → In m ms → list_any (same_made m) ms ≡ true
+declared_no m ms t = in_any same_made made_self m ms t
+
+pub nothing_made : (b : ℕ) (ms : List Made) → NotesMade b [] ms ms
+nothing_made b ms = record { kept = λ m t. t; only = λ m t. inl t; all = λ v t. absurd t }
+
+pub one_more : (b : ℕ) (v : Variable) (vs : List Variable) (x y : List Made) → NotesMade b vs x y → NotesMade b (vs ++ v ∷ []) x (insert_key same_made y (made_by b v))
+one_more b v vs x y f = record { kept = λ m t. put_kept same_made made_is y (made_by b v) m (f.kept m t); only = only; all = all }
+  where
+    only : (m : Made) → In m (insert_key same_made y (made_by b v)) → In m x ⊎ ((m.body ≡ b) × In (variable_of m) (vs ++ v ∷ []))
+    only m t = elim (put_only same_made made_is y (made_by b v) m t) [
+      | inl u ↦ elim (f.only m u) [ inl w ↦ inl w | inr q ↦ inr (q.0, in_left (variable_of m) vs (v ∷ []) q.1) ]
+      | inr e ↦ inr (ap (λ (n : Made). n.body) e, in_right (variable_of m) vs (v ∷ []) (inl (ap variable_of e)))
+    ]
+
+    all : (w : Variable) → In w (vs ++ v ∷ []) → In (made_by b w) (insert_key same_made y (made_by b v))
+    all w t = elim (in_split w vs (v ∷ []) t) [
+      | inl u ↦ put_kept same_made made_is y (made_by b v) (made_by b w) (f.all w u)
+      | inr u ↦ elim u [ inl e ↦ subst (λ z. In (made_by b z) (insert_key same_made y (made_by b v))) (sym e) (put_there same_made made_is y (made_by b v)) | inr q ↦ absurd q ]
+    ]
+
+module _ (C : Code) where
+  pub none_made : MadeUpTo C 0 []
+  none_made = record { only = λ m t. absurd t; all = λ b v h. absurd (omega arith) }
+
+  pub more_made : (n : ℕ) (x y : List Made) → MadeUpTo C n x → NotesMade n (body C n).makes x y → MadeUpTo C (n + 1) y
+  more_made n x y before new = record { only = only; all = all }
+    where
+      only : (m : Made) → In m y → In (variable_of m) (body C m.body).makes
+      only m t = elim (new.only m t) [ inl u ↦ before.only m u | inr q ↦ subst (λ k. In (variable_of m) (body C k).makes) (sym q.0) q.1 ]
+
+      all : (b : ℕ) (v : Variable) → b < n + 1 → In v (body C b).makes → In (made_by b v) y
+      all b v h t = elim (below_or_at b n h) [ inl u ↦ new.kept (made_by b v) (before.all b v u t) | inr e ↦ subst (λ k. In (made_by k v) y) (sym e) (new.all v (subst (λ k. In v (body C k).makes) e t)) ]

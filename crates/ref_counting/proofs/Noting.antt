@@ -1,0 +1,105 @@
+-- Openings and homes as they are noted.
+use Rattle.std.proofs.Common.{◌≡◌, ◌⊎◌, inl, inr, ℕ, ◌<◌, ◌+◌, List, [], ◌∷◌, ◌++◌, length, refl, sym, ap, subst, ◌∙◌, arith, Bool, true, false, nat_lt}
+use Rattle.dataflow.specs.System.{In}
+use Rattle.dataflow.proofs.Lists.{in_left, in_right, in_split}
+use Rattle.task_code.specs.Code as pure
+use Rattle.task_code.specs.Code.{Code, body, entry, ways}
+use Rattle.ref_counting.specs.declared.openings.Opening.{Opening}
+use Rattle.ref_counting.specs.declared.openings.Way.{Way}
+use Rattle.ref_counting.specs.Openings.{Noted, NotesAll, NotesHomes, OpeningsUpTo, HomesUpTo, way_of}
+use Rattle.ref_counting.specs.Rows.{row, Fills, Puts}
+use Rattle.ref_counting.proofs.Filling.{fills_not}
+
+pub below_or_at : (i n : ℕ) → i < n + 1 → (i < n) ⊎ (i ≡ n)
+below_or_at i n h = by (nat_lt i n) refl
+  where
+    by : (b : Bool) → nat_lt i n ≡ b → (i < n) ⊎ (i ≡ n)
+    by true e = inl (grind arith)
+    by false e = inr (grind arith)
+
+pub noted_one : (i : ℕ) (way : Way) (b : ℕ) (old new : List (List Opening)) → Puts b (record { entry = i; way = way }) old new → NotesAll i ((way_of way, b) ∷ []) old new
+noted_one i way b old new p = record { fills = record { count = p.fills.count; kept = p.fills.kept; only = only }; all = all }
+  where
+    only : (k : ℕ) (o : Opening) → In o (row new k) → In o (row old k) ⊎ ((o.entry ≡ i) × In {X = pure.Way × ℕ} (way_of o.way, k) ((way_of way, b) ∷ []))
+    only k o t = elim (p.fills.only k o t) [ inl u ↦ inl u | inr q ↦ inr (ap (λ (x : Opening). x.entry) q.1, inl (λ j. (way_of (q.1 j).way, q.0 j))) ]
+
+    all : (w : pure.Way) (k : ℕ) → In {X = pure.Way × ℕ} (w, k) ((way_of way, b) ∷ []) → k < length old → Noted i w (row new k)
+    all w k (inl e) h =
+        let at : k ≡ b = ap (λ (q : pure.Way × ℕ). q.1) e in
+        let by : w ≡ way_of way = ap (λ (q : pure.Way × ℕ). q.0) e in
+        record { opening = record { entry = i; way = way }; there = subst (λ n. In (record { entry = i; way = way }) (row new n)) (sym at) (p.there (subst (λ n. n < length old) at h)); of = refl; by = sym by }
+    all w k (inr f) h = absurd f
+
+pub noted_still : {P : ℕ → Opening → Type 0} {i : ℕ} {w : pure.Way} {old new : List (List Opening)} (k : ℕ) → Fills P old new → Noted i w (row old k) → Noted i w (row new k)
+noted_still k f n = record { opening = n.opening; there = f.kept k n.opening n.there; of = n.of; by = n.by }
+
+pub noted_both : (i : ℕ) (ws us : List (pure.Way × ℕ)) (a b c : List (List Opening)) → NotesAll i ws a b → NotesAll i us b c → NotesAll i (ws ++ us) a c
+noted_both i ws us a b c f g = record { fills = record { count = g.fills.count ∙ f.fills.count; kept = λ k x t. g.fills.kept k x (f.fills.kept k x t); only = only }; all = all }
+  where
+    only : (k : ℕ) (o : Opening) → In o (row c k) → In o (row a k) ⊎ ((o.entry ≡ i) × In {X = pure.Way × ℕ} (way_of o.way, k) (ws ++ us))
+    only k o t = elim (g.fills.only k o t) [
+      | inl u ↦ elim (f.fills.only k o u) [ inl v ↦ inl v | inr q ↦ inr (q.0, in_left {X = pure.Way × ℕ} (way_of o.way, k) ws us q.1) ]
+      | inr q ↦ inr (q.0, in_right {X = pure.Way × ℕ} (way_of o.way, k) ws us q.1)
+    ]
+
+    all : (w : pure.Way) (k : ℕ) → In {X = pure.Way × ℕ} (w, k) (ws ++ us) → k < length a → Noted i w (row c k)
+    all w k t h = elim (in_split {X = pure.Way × ℕ} (w, k) ws us t) [
+      | inl u ↦ noted_still k g.fills (f.all w k u h)
+      | inr u ↦ g.all w k u (subst (λ n. k < n) (sym f.fills.count) h)
+    ]
+
+module _ (C : Code) where
+  pub no_openings : (os : List (List Opening)) → length os ≡ length C.bodies → ((k : ℕ) → row os k ≡ []) → OpeningsUpTo C 0 os
+  no_openings os count empty = record { count = count; only = λ b o t. absurd (subst (In o) (empty b) t); all = λ i b w h. absurd (omega arith) }
+
+  pub more_openings : (n : ℕ) (a b : List (List Opening)) → OpeningsUpTo C n a → NotesAll n (ways (entry C n).act) a b → OpeningsUpTo C (n + 1) b
+  more_openings n a b before new = record { count = new.fills.count ∙ before.count; only = only; all = all }
+    where
+      only : (k : ℕ) (o : Opening) → In o (row b k) → In {X = pure.Way × ℕ} (way_of o.way, k) (ways (entry C o.entry).act)
+      only k o t = elim (new.fills.only k o t) [ inl u ↦ before.only k o u | inr q ↦ subst (λ m. In {X = pure.Way × ℕ} (way_of o.way, k) (ways (entry C m).act)) (sym q.0) q.1 ]
+
+      all : (i k : ℕ) (w : pure.Way) → i < n + 1 → k < length C.bodies → In {X = pure.Way × ℕ} (w, k) (ways (entry C i).act) → Noted i w (row b k)
+      all i k w h l t = elim (split) [ inl u ↦ noted_still k new.fills (before.all i k w u l t) | inr e ↦ here e ]
+        where
+          split : (i < n) ⊎ (i ≡ n)
+          split = below_or_at i n h
+
+          here : i ≡ n → Noted i w (row b k)
+          here e = subst (λ m. Noted m w (row b k)) (sym e) (new.all w k (subst (λ m. In {X = pure.Way × ℕ} (w, k) (ways (entry C m).act)) e t) (subst (λ m. k < m) (sym before.count) l))
+
+  pub no_homes : (hs : List (List ℕ)) → length hs ≡ length C.entries → ((k : ℕ) → row hs k ≡ []) → HomesUpTo C 0 hs
+  no_homes hs count empty = record { count = count; only = λ j b t. absurd (subst (In b) (empty j) t); all = λ j b h. absurd (omega arith) }
+
+  pub more_homes : (n : ℕ) (a b : List (List ℕ)) → HomesUpTo C n a → NotesHomes n (body C n).entries a b → HomesUpTo C (n + 1) b
+  more_homes n a b before new = record { count = new.fills.count ∙ before.count; only = only; all = all }
+    where
+      only : (j c : ℕ) → In c (row b j) → In j (body C c).entries
+      only j c t = elim (new.fills.only j c t) [ inl u ↦ before.only j c u | inr q ↦ subst (λ m. In j (body C m).entries) (sym q.0) q.1 ]
+
+      all : (j c : ℕ) → c < n + 1 → j < length C.entries → In j (body C c).entries → In c (row b j)
+      all j c h l t = elim (split) [ inl u ↦ new.fills.kept j c (before.all j c u l t) | inr e ↦ here e ]
+        where
+          split : (c < n) ⊎ (c ≡ n)
+          split = below_or_at c n h
+
+          here : c ≡ n → In c (row b j)
+          here e = subst (λ m. In m (row b j)) (sym e) (new.all j (subst (λ m. In j (body C m).entries) e t) (subst (λ m. j < m) (sym before.count) l))
+
+-- entries of a body, one after another
+pub no_home : (b : ℕ) (hs : List (List ℕ)) → NotesHomes b [] hs hs
+no_home b hs = record { fills = fills_not hs; all = λ j t. absurd t }
+
+pub next_home : (b j : ℕ) (js : List ℕ) (x y z : List (List ℕ)) → NotesHomes b js x y → Puts j b y z → NotesHomes b (js ++ j ∷ []) x z
+next_home b j js x y z f p = record { fills = record { count = p.fills.count ∙ f.fills.count; kept = λ k c t. p.fills.kept k c (f.fills.kept k c t); only = only }; all = all }
+  where
+    only : (k c : ℕ) → In c (row z k) → In c (row x k) ⊎ ((c ≡ b) × In k (js ++ j ∷ []))
+    only k c t = elim (p.fills.only k c t) [
+      | inl u ↦ elim (f.fills.only k c u) [ inl v ↦ inl v | inr q ↦ inr (q.0, in_left k js (j ∷ []) q.1) ]
+      | inr q ↦ inr (q.1, in_right k js (j ∷ []) (inl q.0))
+    ]
+
+    all : (k : ℕ) → In k (js ++ j ∷ []) → k < length x → In b (row z k)
+    all k t h = elim (in_split k js (j ∷ []) t) [
+      | inl u ↦ p.fills.kept k b (f.all k u h)
+      | inr u ↦ elim u [ inl e ↦ subst (λ m. In b (row z m)) (sym e) (p.there (subst (λ m. m < length y) e (subst (λ m. k < m) (sym f.fills.count) h))) | inr q ↦ absurd q ]
+    ]

@@ -1,0 +1,24 @@
+-- Lists of leads: entries with the names that they use or lead to, in the order in which they were found.
+use Rattle.std.specs.Prelude.{◌≡◌, ℕ, List, ◌++◌, if◌then◌else◌}
+use Rattle.dataflow.specs.System.{In}
+use Rattle.task_code.specs.Code.{Local, Name, Parameter}
+use Rattle.ref_counting.specs.declared.lead.Lead.{Lead}
+
+abbrev pub name_of : Lead → Name
+name_of l = record { up = l.up; owned = if l.local then Local (record { node = l.number; array = l.array }) else Parameter l.number l.array }
+
+-- one of these leads is of the entry to the name
+pub record Has (ls : List Lead) (i : ℕ) (r : Name) : Type 0 where
+  pub lead : Lead
+  pub there : In lead ls
+  pub of : lead.entry ≡ i
+  pub to : name_of lead ≡ r
+
+-- more leads stand behind, each of which is such
+pub record Grows (P : ℕ → Name → Type 0) (old new : List Lead) : Type 0 where
+  pub more : List Lead
+  pub is : new ≡ old ++ more
+  pub each : (l : Lead) → In l more → P l.entry (name_of l)
+
+abbrev pub IsThis : ℕ → Name → ℕ → Name → Type 0
+IsThis i r j s = (j ≡ i) × (s ≡ r)

@@ -1,0 +1,26 @@
+-- Which body declares which variable, as a list.
+use Rattle.std.specs.Prelude.{ℕ, ◌<◌, ◌⊎◌, ◌≡◌, List, length}
+use Rattle.dataflow.specs.System.{In}
+use Rattle.task_code.specs.Code.{Code, Variable, body}
+use Rattle.ref_counting.specs.declared.makes.Made.{Made}
+
+abbrev pub made_by : ℕ → Variable → Made
+made_by b v = record { body = b; node = v.node; array = v.array }
+
+abbrev pub variable_of : Made → Variable
+variable_of m = record { node = m.node; array = m.array }
+
+-- the variables of a body are noted, and nothing else is
+pub record NotesMade (b : ℕ) (vs : List Variable) (old new : List Made) : Type 0 where
+  pub kept : (m : Made) → In m old → In m new
+  pub only : (m : Made) → In m new → In m old ⊎ ((m.body ≡ b) × In (variable_of m) vs)
+  pub all : (v : Variable) → In v vs → In (made_by b v) new
+
+module _ (C : Code) where
+  -- what the bodies below a number declare
+  pub record MadeUpTo (n : ℕ) (ms : List Made) : Type 0 where
+    pub only : (m : Made) → In m ms → In (variable_of m) (body C m.body).makes
+    pub all : (b : ℕ) (v : Variable) → b < n → In v (body C b).makes → In (made_by b v) ms
+
+  abbrev pub AreMade : List Made → Type 0
+  AreMade ms = MadeUpTo (length C.bodies) ms

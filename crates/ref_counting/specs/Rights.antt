@@ -1,0 +1,82 @@
+-- Rights: what the entries of a code may read and write, and how what is found in a body is passed on.
+use Rattle.std.specs.Prelude.{◌≡◌, ℕ, ◌<◌, List, length, map, take, ◌+◌}
+use Rattle.dataflow.specs.System.{In}
+use Rattle.task_code.specs.Code.{Calling, Code, Entry, Name, Way, body, call_at, entry, ways}
+use Rattle.task_code.specs.Exact.{Leads}
+use Rattle.task_code.specs.declared.entry.Name.{Name as Used}
+use Rattle.task_code.specs.View.{name_view}
+use Rattle.ref_counting.specs.declared.lead.Lead.{Lead}
+use Rattle.ref_counting.specs.declared.openings.Opening.{Opening}
+use Rattle.ref_counting.specs.Leads.{Grows, Has, name_of}
+use Rattle.ref_counting.specs.Openings.{way_of}
+use Rattle.ref_counting.specs.Passing.{Sees}
+use Rattle.ref_counting.specs.Rows.{row}
+
+-- all leads that are such are there, and only they are new
+pub record Adds (P : ℕ → Name → Type 0) (old new : List Lead) : Type 0 where
+  pub grows : Grows P old new
+  pub all : (i : ℕ) (r : Name) → P i r → Has new i r
+
+module _ (C : Code) where
+  -- each call has an offset of its own
+  abbrev pub HasMarks : Type 0
+  HasMarks = (i b : ℕ) → In (Calling, b) (ways (entry C i).act) → call_at C (entry C i).mark ≡ i
+
+  -- the entry opens the body so
+  abbrev pub Opens : Opening → ℕ → Type 0
+  Opens o b = In (way_of o.way, b) (ways (entry C o.entry).act)
+
+  abbrev pub AllOpen : ℕ → List Opening → Type 0
+  AllOpen b os = (o : Opening) → In o os → Opens o b
+
+  -- a name of the entry j is passed on so: an entry opens a body in which j stands, and calls the name so
+  pub record Passes (j : ℕ) (q : Name) (i : ℕ) (r : Name) : Type 0 where
+    pub block : ℕ
+    pub way : Way
+    pub opens : In (way, block) (ways (entry C i).act)
+    pub stands : In j (body C block).entries
+    pub sees : Sees C i way block q r
+
+  -- a name of a body is passed on to an entry that opens it, to one of these, or to one of those that open one of these bodies
+  abbrev pub ByOpening : ℕ → Name → Opening → ℕ → Name → Type 0
+  ByOpening b q o i r = (i ≡ o.entry) × Sees C o.entry (way_of o.way) b q r
+
+  abbrev pub ByOpenings : ℕ → Name → List Opening → ℕ → Name → Type 0
+  ByOpenings b q os i r = (o : Opening) × In o os × ByOpening b q o i r
+
+  abbrev pub ByHomes : List (List Opening) → Name → List ℕ → ℕ → Name → Type 0
+  ByHomes os q bs i r = (b : ℕ) × In b bs × ByOpenings b q (row os b) i r
+
+  -- whatever is passed on from these leads is among those
+  abbrev pub IsClosed : List Lead → List Lead → Type 0
+  IsClosed from to = (l : Lead) → In l from → (i : ℕ) (r : Name) → Passes l.entry (name_of l) i r → Has to i r
+
+  -- each of these leads is one that its entry has
+  abbrev pub AllLead : (Entry → List Name) → List Lead → Type 0
+  AllLead own ls = (l : Lead) → In l ls → Leads C own l.entry (name_of l)
+
+  abbrev pub AllWithin : List Lead → Type 0
+  AllWithin ls = (l : Lead) → In l ls → l.entry < length C.entries
+
+  -- one more lead is passed on, behind so many
+  pub record StepsOn (n : ℕ) (old new : List Lead) : Type 0 where
+    pub kept : (i : ℕ) (r : Name) → Has old i r → Has new i r
+    pub within : AllWithin old → AllWithin new
+    pub sound : (own : Entry → List Name) → AllLead own old → AllLead own new
+    pub closed : AllWithin old → IsClosed (take n old) old → IsClosed (take (n + 1) new) new
+
+  -- these are the names that each entry leads to
+  pub record AreRights (own : Entry → List Name) (rights : List (List Used)) : Type 0 where
+    pub count : length rights ≡ length C.entries
+    pub sound : (i : ℕ) (r : Name) → In r (map name_view (row rights i)) → Leads C own i r
+    pub complete : (i : ℕ) (r : Name) → Leads C own i r → In r (map name_view (row rights i))
+
+-- the leads below a number, laid out by their entries
+pub record LaysOut (n : ℕ) (ls : List Lead) (found : List (List Used)) : Type 0 where
+  pub count : length found ≡ n
+  pub only : (i : ℕ) (r : Name) → In r (map name_view (row found i)) → Has ls i r
+  pub all : (l : Lead) → In l ls → l.entry < n → In (name_of l) (map name_view (row found l.entry))
+
+-- one more lead is laid out
+abbrev pub LaysNext : ℕ → List Lead → List (List Used) → List (List Used) → Type 0
+LaysNext k ls old new = (n : ℕ) → LaysOut n (take k ls) old → LaysOut n (take (k + 1) ls) new

@@ -1,0 +1,121 @@
+//! Which entries open a body, and in which bodies an entry stands.
+ghost use Rattle.std.specs.Prelude.{◌≡◌, ℕ, ◌<◌, ◌∷◌, [], ◌^◌, length, OnOk, IfOk};
+ghost use Rattle.task_code.specs.Code.{body, entry, ways, Through};
+ghost use Rattle.task_code.specs.View.{act_view};
+ghost use Rattle.ref_counting.specs.Openings.{AreHomes, AreOpenings, HomesUpTo, NotesAll, NotesHomes, OpeningsUpTo, way_of};
+
+use crate::rows::Rows;
+use std::alloc::{AllocError, Global};
+use task_code::code::Code;
+use task_code::entry::Act;
+
+/// How an entry opens a body.
+#[derive(Clone, Copy, PartialEq, Eq, Debug, Drop)]
+pub enum Way {
+    /// At its own path, as a `wait` does.
+    InPlace,
+    /// By a step, as a branch or a loop does.
+    Through,
+    /// By the step of a call.
+    Calling,
+}
+
+/// An entry that opens a body.
+#[derive(Clone, Copy, PartialEq, Eq, Debug, Drop)]
+pub struct Opening {
+    pub entry: u32,
+    pub way: Way,
+}
+
+/// Notes that an entry opens a body.
+fn note(openings: &mut Rows<Opening>, entry: u32, way: Way, body: u32) -> Result<(), AllocError>
+    ensures { OnOk result (NotesAll entry ((way_of way, body) ∷ []) openings.old openings.new) }
+{
+    openings.put(body as usize, Opening { entry, way })?;
+    Ok(())
+}
+
+/// Notes that an entry opens one of two branches.
+fn note_branches(
+    openings: &mut Rows<Opening>,
+    entry: u32,
+    then: u32,
+    other: u32,
+) -> Result<(), AllocError>
+    ensures { OnOk result (NotesAll entry ((Through, then) ∷ (Through, other) ∷ []) openings.old openings.new) }
+{
+    note(openings, entry, Way::Through, then)?;
+    note(openings, entry, Way::Through, other)?;
+    Ok(())
+}
+
+/// Notes what an entry's act opens.
+fn note_act(openings: &mut Rows<Opening>, entry: u32, act: &Act) -> Result<(), AllocError>
+    ensures { OnOk result (NotesAll entry (ways (act_view act.now)) openings.old openings.new) }
+{
+    match act {
+        Act::Call { body, .. } => note(openings, entry, Way::Calling, *body),
+        Act::If(_, then, None) => note(openings, entry, Way::Through, *then),
+        Act::If(_, then, Some(other)) => note_branches(openings, entry, *then, *other),
+        Act::Range(_, _, _, turns) => note(openings, entry, Way::Through, turns.body),
+        Act::Each(turns) => note(openings, entry, Way::Through, turns.body),
+        Act::Wait(_, body) => note(openings, entry, Way::InPlace, *body),
+        _ => Ok(()),
+    }
+}
+
+/// Notes what the entry of a number opens.
+fn note_entry(openings: &mut Rows<Opening>, code: &Code, number: u32) -> Result<(), AllocError>
+    requires { number < length code.now.entries }
+    ensures { OnOk result (NotesAll number (ways (entry code.now number).act) openings.old openings.new) }
+{
+    match code.entry(number) {
+        None => Ok(()),
+        Some(found) => note_act(openings, number, &found.act),
+    }
+}
+
+/// The entries that open each body.
+pub fn openings(alloc: Global, code: &Code) -> Result<Rows<Opening>, AllocError>
+    requires { length code.now.entries < 2 ^ 32 }
+    ensures { IfOk result (λ openings. AreOpenings code.now openings) }
+{
+    let mut openings = Rows::new(alloc, code.body_count())?;
+    for number in 0..code.entry_count() {
+        note_entry(&mut openings, code, number as u32)?;
+    }
+    Ok(openings)
+}
+
+/// Notes where the entries of a body stand.
+fn note_body(homes: &mut Rows<u32>, body: u32, entries: &Vec<u32>) -> Result<(), AllocError>
+    ensures { OnOk result (NotesHomes body entries.now.items homes.old homes.new) }
+{
+    for number in entries {
+        homes.put(*number as usize, body)?;
+    }
+    Ok(())
+}
+
+/// Notes where the entries of the body of a number stand.
+fn note_entries(homes: &mut Rows<u32>, code: &Code, number: u32) -> Result<(), AllocError>
+    requires { number < length code.now.bodies }
+    ensures { OnOk result (NotesHomes number (body code.now number).entries homes.old homes.new) }
+{
+    match code.body(number) {
+        None => Ok(()),
+        Some(found) => note_body(homes, number, &found.entries),
+    }
+}
+
+/// The bodies in which each entry stands.
+pub fn homes(alloc: Global, code: &Code) -> Result<Rows<u32>, AllocError>
+    requires { length code.now.bodies < 2 ^ 32 }
+    ensures { IfOk result (λ homes. AreHomes code.now homes) }
+{
+    let mut homes = Rows::new(alloc, code.entry_count())?;
+    for number in 0..code.body_count() {
+        note_entries(&mut homes, code, number as u32)?;
+    }
+    Ok(homes)
+}

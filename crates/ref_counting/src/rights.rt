@@ -1,0 +1,198 @@
+//! Rights: what each entry may read and write.
+ghost use Rattle.dataflow.specs.System.{In};
+ghost use Rattle.ref_counting.specs.Rows.{row};
+ghost use Rattle.std.specs.Prelude.{List, ◌≡◌, ℕ, ◌<◌, ◌≤◌, ◌^◌, [], length, map, OnOk, IfOk};
+ghost use Rattle.task_code.specs.Code as pure;
+ghost use Rattle.task_code.specs.Code.{body, entry};
+ghost use Rattle.ref_counting.specs.Uses.{own_of};
+ghost use Rattle.task_code.specs.View.{name_view};
+ghost use Rattle.ref_counting.specs.Leads.{Grows, Has, name_of};
+ghost use Rattle.ref_counting.specs.Makes.{AreMade};
+ghost use Rattle.ref_counting.specs.Openings.{AreHomes, AreOpenings, way_of};
+ghost use Rattle.ref_counting.specs.Passing.{Sees};
+ghost use Rattle.ref_counting.specs.Rights.{Adds, AllLead, AllOpen, AllWithin, ByHomes, ByOpening, ByOpenings, AreRights, HasMarks, IsClosed, LaysNext, LaysOut, Opens, StepsOn};
+
+use crate::lead::{Lead, put};
+use crate::makes::{Made, declarations};
+use crate::openings::{Opening, homes, openings};
+use crate::passing::outward;
+use crate::rows::Rows;
+use crate::uses::{Right, uses};
+use indexmap::IndexSet;
+use std::alloc::{AllocError, Global};
+use task_code::code::Code;
+use task_code::entry::Name;
+
+/// Passes a name of a body on to an entry that opens it.
+fn pass_to(
+    code: &Code,
+    made: &IndexSet<Made>,
+    opening: Opening,
+    body: u32,
+    name: Name,
+    leads: &mut IndexSet<Lead>,
+) -> Result<(), AllocError>
+    requires made { AreMade code.now made.now.keys }
+    requires body { body < length code.now.bodies }
+    requires marks { HasMarks code.now }
+    requires opens { Opens code.now opening body }
+    ensures { OnOk result (Adds (ByOpening code.now body (name_view name) opening) leads.old.keys leads.new.keys) }
+{
+    if let Some(outer) = outward(code, made, opening, body, name) {
+        put(leads, opening.entry, outer)?;
+    }
+    Ok(())
+}
+
+/// Passes a name of a body on to each entry that opens it.
+fn pass_body(
+    code: &Code,
+    made: &IndexSet<Made>,
+    found: &[Opening],
+    body: u32,
+    name: Name,
+    leads: &mut IndexSet<Lead>,
+) -> Result<(), AllocError>
+    requires made { AreMade code.now made.now.keys }
+    requires body { body < length code.now.bodies }
+    requires marks { HasMarks code.now }
+    requires opens { AllOpen code.now body found.now }
+    ensures { OnOk result (Adds (ByOpenings code.now body (name_view name) found.now) leads.old.keys leads.new.keys) }
+{
+    for opening in found {
+        pass_to(code, made, *opening, body, name, leads)?;
+    }
+    Ok(())
+}
+
+/// What is looked up while names are passed on.
+#[derive(Drop)]
+struct Index {
+    homes: Rows<u32>,
+    openings: Rows<Opening>,
+    made: IndexSet<Made>,
+}
+
+impl Index {
+    fn new(alloc: Global, code: &Code) -> Result<Index, AllocError>
+        requires entries { length code.now.entries < 2 ^ 32 }
+        requires bodies { length code.now.bodies < 2 ^ 32 }
+        ensures homes { IfOk result (λ index. AreHomes code.now index.homes) }
+        ensures openings { IfOk result (λ index. AreOpenings code.now index.openings) }
+        ensures made { IfOk result (λ index. AreMade code.now index.made.keys) }
+    {
+        Ok(Index {
+            homes: homes(alloc, code)?,
+            openings: openings(alloc, code)?,
+            made: declarations(alloc, code)?,
+        })
+    }
+}
+
+/// Passes a lead on to each entry that opens a body in which its entry stands.
+fn pass_on(
+    code: &Code,
+    index: &Index,
+    lead: Lead,
+    leads: &mut IndexSet<Lead>,
+) -> Result<(), AllocError>
+    requires homes { AreHomes code.now index.now.homes }
+    requires openings { AreOpenings code.now index.now.openings }
+    requires made { AreMade code.now index.now.made.keys }
+    requires marks { HasMarks code.now }
+    ensures { OnOk result (Adds (ByHomes code.now index.now.openings (name_of lead) (row index.now.homes lead.entry)) leads.old.keys leads.new.keys) }
+{
+    for body in index.homes.at(lead.entry as usize) {
+        let found = index.openings.at(*body as usize);
+        pass_body(code, &index.made, found, *body, lead.name(), leads)?;
+    }
+    Ok(())
+}
+
+/// Passes the lead of a number on.
+fn pass_next(
+    code: &Code,
+    index: &Index,
+    next: usize,
+    leads: &mut IndexSet<Lead>,
+) -> Result<(), AllocError>
+    requires homes { AreHomes code.now index.now.homes }
+    requires openings { AreOpenings code.now index.now.openings }
+    requires made { AreMade code.now index.now.made.keys }
+    requires marks { HasMarks code.now }
+    requires next { next < length leads.old.keys }
+    ensures { OnOk result (StepsOn code.now next leads.old.keys leads.new.keys) }
+{
+    match leads.get_index(next) {
+        None => Ok(()),
+        Some(found) => {
+            let lead = *found;
+            pass_on(code, index, lead, leads)?;
+            Ok(())
+        }
+    }
+}
+
+/// Passes all leads on, until nothing new is found.
+fn pass_all(code: &Code, index: &Index, leads: &mut IndexSet<Lead>) -> Result<(), AllocError>
+    requires homes { AreHomes code.now index.now.homes }
+    requires openings { AreOpenings code.now index.now.openings }
+    requires made { AreMade code.now index.now.made.keys }
+    requires marks { HasMarks code.now }
+    requires within { AllWithin code.now leads.old.keys }
+    ensures within { OnOk result (AllWithin code.now leads.new.keys) }
+    ensures closed { OnOk result (IsClosed code.now leads.new.keys leads.new.keys) }
+    ensures kept { OnOk result ((i : ℕ) (r : pure.Name) → Has leads.old.keys i r → Has leads.new.keys i r) }
+    ensures sound { OnOk result ((own : pure.Entry → List pure.Name) → AllLead code.now own leads.old.keys → AllLead code.now own leads.new.keys) }
+{
+    let mut next = 0;
+    while next < leads.len() {
+        pass_next(code, index, next, leads)?;
+        next += 1;
+    }
+    Ok(())
+}
+
+/// Lays the lead of a number out.
+fn lay_next(leads: &IndexSet<Lead>, next: usize, found: &mut Rows<Name>) -> Result<(), AllocError>
+    requires { next < length leads.now.keys }
+    ensures { OnOk result (LaysNext next leads.now.keys found.old found.new) }
+{
+    match leads.get_index(next) {
+        None => Ok(()),
+        Some(lead) => {
+            found.put(lead.entry as usize, lead.name())?;
+            Ok(())
+        }
+    }
+}
+
+/// The names of each entry's leads.
+fn lay_out(alloc: Global, count: usize, leads: &IndexSet<Lead>) -> Result<Rows<Name>, AllocError>
+    ensures { IfOk result (λ found. LaysOut count leads.now.keys found) }
+{
+    let mut found = Rows::new(alloc, count)?;
+    for next in 0..leads.len() {
+        lay_next(leads, next, &mut found)?;
+    }
+    Ok(found)
+}
+
+/// The names that each entry of a code has a right of: those that it uses itself, and those that the entries of the bodies
+/// that it opens lead to, through any number of bodies and through functions that call themselves.
+///
+/// # Errors
+///
+/// `AllocError` where memory that was asked for was refused.
+pub fn rights(alloc: Global, code: &Code, right: Right) -> Result<Rows<Name>, AllocError>
+    requires entries { length code.now.entries < 2 ^ 32 }
+    requires bodies { length code.now.bodies < 2 ^ 32 }
+    requires marks { HasMarks code.now }
+    ensures { IfOk result (λ found. AreRights code.now (own_of right) found) }
+{
+    let index = Index::new(alloc, code)?;
+    let mut leads = uses(alloc, code, right)?;
+    pass_all(code, &index, &mut leads)?;
+    let found = lay_out(alloc, code.entry_count(), &leads)?;
+    Ok(found)
+}
