@@ -91,7 +91,7 @@ module _ {s : Core} {K : Knowledge} where
 
 -- KNOWLEDGE THAT IS CLOSED UNDER THE RULES HAS WHAT IS BEHIND ITS FACTS
 module _ (s : Core) (K : Knowledge) (kn : Knows s K) where
-  came : {path : Path} {st : Stmt} {c : Cell} {v : Value} → LiveStmt s K path st → c ∈ cells st → Comes s K path c v → K (value (path, c.node) v)
+  pub came : {path : Path} {st : Stmt} {c : Cell} {v : Value} → LiveStmt s K path st → c ∈ cells st → Comes s K path c v → K (value (path, c.node) v)
   came live i (before k) = k
   came live i (now g) = kn.shut _ (cell_value live i g)
 

@@ -47,7 +47,10 @@ pub mod Within
 pub mod Listing
 pub mod RunsWithin
 pub mod QuietLines
+pub mod QuietFaults
 pub mod FaultsTo
+pub mod CellsOf
+pub mod FaultsFrom
 pub mod Worked
 pub mod BlockedRounds
 pub mod BlockedInputs
@@ -55,3 +58,4 @@ pub mod BlockedFacts
 pub mod BlockedTo
 pub mod BlockedHas
 pub mod BlockedFrom
+pub mod HeadlineOf

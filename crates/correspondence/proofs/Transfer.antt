@@ -57,7 +57,7 @@ module _ {T D K V E : Type 0} (S : System T D K V E) (L : Laws S) (R : Input D K
         by false h = single S L (Shown S R) shown_grounded shown_one a h
 
   module _ (right : IsRight S R) where
-    given : (t : T) → Live S (Reading S R) t → (is : List (Input D K)) → ((i : Input D K) → In i is → In i (S.inputs t)) → (xs : List (Answer K V)) → ReadAll S R is xs → GivesAll S (Shown S R) is xs
+    pub given : (t : T) → Live S (Reading S R) t → (is : List (Input D K)) → ((i : Input D K) → In i is → In i (S.inputs t)) → (xs : List (Answer K V)) → ReadAll S R is xs → GivesAll S (Shown S R) is xs
     given t l [] h [] g = tt
     given t l [] h (x ∷ xs) g = absurd g
     given t l (i ∷ is) h [] g = absurd g

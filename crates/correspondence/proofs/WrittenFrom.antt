@@ -84,7 +84,7 @@ module _ (C : Code) (l : Layout) where
     pub node_is : (entry C number).node ≡ c.node
     pub cells_in : (d : Cell) → d ∈ part_cells all → d ∈ cells st
 
-  widen_cell : {k : ℕ} {st : Stmt} {c : Cell} {js es : List ℕ} (is : List ℕ) → es ≡ is ++ js → CellFound k st c js → CellFound k st c es
+  pub widen_cell : {k : ℕ} {st : Stmt} {c : Cell} {js es : List ℕ} (is : List ℕ) → es ≡ is ++ js → CellFound k st c js → CellFound k st c es
   widen_cell {js = js} is q r = record { number = r.number; there = subst (λ (z : List ℕ). In r.number z) (sym q) (in_right r.number is js r.there); all = r.all; at = r.at; priority = r.priority; as_cell = r.as_cell; node_is = r.node_is; cells_in = r.cells_in }
 
   inner_same : {x y : Cell} → Co.inner x ≡ Co.inner y → x ≡ y
@@ -111,7 +111,7 @@ module _ (C : Code) (l : Layout) where
       ]
   found_in st c sub (one_part (a_call {j = j} ca) rest q) h pl = elim (split_in h) [ inl e ↦ absurd (cc (e)) | inr m ↦ widen_cell (j ∷ []) q (found_in st c sub rest m pl) ]
 
-  before_own : {k : ℕ} {st : Stmt} {c : Cell} {is es : List ℕ} (j : ℕ) → es ≡ is ++ j ∷ [] → CellFound k st c is → CellFound k st c es
+  pub before_own : {k : ℕ} {st : Stmt} {c : Cell} {is es : List ℕ} (j : ℕ) → es ≡ is ++ j ∷ [] → CellFound k st c is → CellFound k st c es
   before_own {is = is} j q r = record { number = r.number; there = subst (λ (z : List ℕ). In r.number z) (sym q) (in_left r.number is (j ∷ []) r.there); all = r.all; at = r.at; priority = r.priority; as_cell = r.as_cell; node_is = r.node_is; cells_in = r.cells_in }
 
   -- a cell that makes no entry before its statement's own is that one's cell
@@ -299,25 +299,24 @@ module _ (s : Core) (C : Code) (w : IsCodeOf s C) (K : Knowledge) (wf : WellForm
 
   -- AN ELEMENT READ'S VALUE IS STORED
   module _ {p : List Step} {t k : ℕ} {b : Block} (ch : Chain s C w.layout K p t k b) (alive : (j : ℕ) → In j (body C t).entries → Alive s C w K wf kn I sc (Item j p 0)) (j : ℕ) (there : In j (body C t).entries) where
-    element_has : (y : Name) (n : Need) → IsIn k y → In n (entry C j).needs → In (name_as k true y) (code.needed n) → (v : Scalar) (key : Key) (u : Scalar) → key_of v ≡ key → OneWrite K (place s (script_path p) y) key u
-        → HasElement s K (place_at C p (name_as k true y)) (key_of v) (Found u)
-    element_has y n g m h v key u q one =
+    element_has : (y : Name) (n : Need) → IsIn k y → In n (entry C j).needs → In (name_as k true y) (code.needed n) → (v : Scalar) (key : Key) (x : Got) → key_of v ≡ key → ((q : List Step) (d : Variable) → place s (script_path p) y ≡ script_place q d → HasElement s K (Datum q d) key x)
+        → HasElement s K (place_at C p (name_as k true y)) (key_of v) x
+    element_has y n g m h v key x q has =
         let z = same_array s wf K (name_stands s wf K kn C w.layout I sc ch j there true y n g m h) refl in
-        subst (λ (d : CodePlaces.Place). HasElement s K d (key_of v) (Found u)) (sym z.is)
-        (subst (λ (pl : Place). OneWrite K pl (key_of v) u) z.place_is (subst (λ (e : Key). OneWrite K (place s (script_path p) y) e u) (sym q) one))
+        subst (λ (d : CodePlaces.Place). HasElement s K d (key_of v) x) (sym z.is) (subst (λ (e : Key). HasElement s K (Datum z.path z.variable) e x) (sym q) (has z.path z.variable z.place_is))
 
-    -- what the read needs is answered with the element
-    index_answer : {st : Stmt} {all : List Part} {y : Name} {i : ℕ} {need : Need} {key : Key} {u : Scalar} (v : Scalar) → LiveStmt s K (script_path p) st → ((d : Cell) → d ∈ part_cells all → d ∈ cells st) → IsScoped k st → IndexAs C w.layout k all y i need → In need (entry C j).needs → IsIn k y
-        → K (value (script_path p, i) (One v)) → key_of v ≡ key → OneWrite K (place s (script_path p) y) key u → Ans s C K p need (Found u)
-    index_answer {y = y} {key = key} {u = u} v live sub scp (at_literal {n = n} {v = v'} im pl) m g kv ik one =
+    -- what the read needs is answered as the element is
+    pub index_answer : {st : Stmt} {all : List Part} {y : Name} {i : ℕ} {need : Need} {key : Key} (x : Got) (v : Scalar) → LiveStmt s K (script_path p) st → ((d : Cell) → d ∈ part_cells all → d ∈ cells st) → IsScoped k st → IndexAs C w.layout k all y i need → In need (entry C j).needs → IsIn k y
+        → K (value (script_path p, i) (One v)) → key_of v ≡ key → ((q : List Step) (d : Variable) → place s (script_path p) y ≡ script_place q d → HasElement s K (Datum q d) key x) → Ans s C K p need x
+    index_answer {y = y} {key = key} u v live sub scp (at_literal {n = n} {v = v'} im pl) m g kv ik has =
         let e : v' ≡ v = literal_inv s wf K (gives_value (cell_gives s wf.cells K (stmt_in s live) (sub _ im) (kn.backed _ kv)).1 refl) refl refl in
-        element_has y _ g m (inl refl) v' key u (ap key_of e ∙ ik) one
-    index_answer {y = y} {key = key} {u = u} v live sub scp (at_name {n = n} {x = x} im pl) m g kv ik one =
+        element_has y _ g m (inl refl) v' key u (ap key_of e ∙ ik) has
+    index_answer {y = y} {key = key} u v live sub scp (at_name {n = n} {x = x} im pl) m g kv ik has =
         let hv = name_inv s wf K (gives_value (cell_gives s wf.cells K (stmt_in s live) (sub _ im) (kn.backed _ kv)).1 refl) refl refl in
-        (v, to_code s wf K kn C w.layout (name_stands s wf K kn C w.layout I sc ch j there false x _ (scp.in_cells _ (sub _ im)) m (inr (inl refl))) v hv, element_has y _ g m (inl refl) v key u ik one)
-    index_answer {y = y} {key = key} {u = u} v live sub scp (at_datum {c = d} im pl) m g kv ik one =
+        (v, to_code s wf K kn C w.layout (name_stands s wf K kn C w.layout I sc ch j there false x _ (scp.in_cells _ (sub _ im)) m (inr (inl refl))) v hv, element_has y _ g m (inl refl) v key u ik has)
+    index_answer {y = y} {key = key} u v live sub scp (at_datum {c = d} im pl) m g kv ik has =
         let hv = subst (λ (z : Place). HasValue s K z v) (sym (place_here s (script_path p) d.node)) (stored kv) in
-        (v, to_code s wf K kn C w.layout (name_stands s wf K kn C w.layout I sc ch j there false (here d.node) _ (λ i e. absurd (cc (e))) m (inr (inl refl))) v hv, element_has y _ g m (inl refl) v key u ik one)
+        (v, to_code s wf K kn C w.layout (name_stands s wf K kn C w.layout I sc ch j there false (here d.node) _ (λ i e. absurd (cc (e))) m (inr (inl refl))) v hv, element_has y _ g m (inl refl) v key u ik has)
 
     read_fact : {need : Need} {n : ℕ} {u : Scalar} {at : ℕ} {pr : ℤ} → (entry C j).node ≡ n → IsEntry (entry C j) at pr (need ∷ []) code.Read → Ans s C K p need (Found u) → Written (code_system C) (Facts s C K) (Datum p (scalar n)) only u
     read_fact {need} {n} {u} nd en an =
@@ -365,7 +364,7 @@ module _ (s : Core) (C : Code) (w : IsCodeOf s C) (K : Knowledge) (wf : WellForm
                   let kv' = subst (λ (z : Path). K (value (z, i) (One (Number num)))) (sym sl.path_is) kv in
                   let one' = subst (λ (z : Path). OneWrite K (place s z y) (Key.Number num) u) (sym sl.path_is) one in
                   read_fact sl.chain sl.alive cf.number there cf.node_is en
-                  (index_answer sl.chain sl.alive cf.number there (Number num) live' cf.cells_in scp ia' (subst (λ (l : List Need). In need l) (sym en.needs_is) (inl refl)) (scp.in_cells _ cm) kv' refl one')
+                  (index_answer sl.chain sl.alive cf.number there (Found u) (Number num) live' cf.cells_in scp ia' (subst (λ (l : List Need). In need l) (sym en.needs_is) (inl refl)) (scp.in_cells _ cm) kv' refl (λ q d e. subst (λ (z : Place). OneWrite K z (Key.Number num) u) e one'))
               by_part (a_call ca) q = absurd (cc (q))
 
   -- a datum that a live body makes

@@ -1,9 +1,6 @@
 //! Which code is a script's code, and what ties the two meanings together. Nothing here runs.
 #![tactic(auto)]
 
-pub mod feeding;
-pub mod lines;
-
 ghost use Rattle.correspondence.specs.Asserted.{Asserted};
 ghost use Rattle.correspondence.specs.Backs.{Backs};
 ghost use Rattle.correspondence.specs.Halves.{Half, HalfIn};
@@ -13,16 +10,16 @@ ghost use Rattle.agreement.specs.NodesOnce.{NodesOnce};
 ghost use Rattle.meaning_laws.specs.Scoped.{Scoped};
 ghost use Rattle.agreement.specs.IsCodeOf.{IsCodeOf};
 ghost use Rattle.meaning_laws.specs.TypedValues.{TypedValues};
-ghost use Rattle.agreement.specs.Headline.{Agrees, script_path};
+ghost use Rattle.agreement.specs.Headline.{Agrees, Headline};
 ghost use Rattle.correspondence.specs.Worked.{fibonacci, fibonacci_code, filled, filled_code};
 ghost use Rattle.dataflow.specs.Facts.{Ever};
 ghost use Rattle.dataflow.specs.Machine.{Event};
 ghost use Rattle.dataflow.specs.System.{Effect};
 ghost use Rattle.std.specs.Prelude.{ℕ, List};
 ghost use Rattle.syntax_trees.specs.Core.{Core};
-ghost use Rattle.syntax_trees.specs.Facts.{Fault, OneWriter};
+ghost use Rattle.syntax_trees.specs.Facts.{OneWriter};
 ghost use Rattle.syntax_trees.specs.Meaning.{Known, Meaning};
-ghost use Rattle.syntax_trees.specs.Outcomes.{Blocked, Clean, Faults};
+ghost use Rattle.syntax_trees.specs.Outcomes.{Clean};
 ghost use Rattle.syntax_trees.specs.Places as ScriptPlaces;
 ghost use Rattle.syntax_trees.specs.Single.{SinglyAssigned};
 ghost use Rattle.syntax_trees.specs.WellFormed.{WellFormed};
@@ -30,8 +27,7 @@ ghost use Rattle.task_code.specs.Code.{Code};
 ghost use Rattle.task_code.specs.Effects.{Task};
 ghost use Rattle.task_code.specs.Exact.{IsExact};
 ghost use Rattle.task_code.specs.Machine.{CleanCode, CodeState, Run, Quiet};
-ghost use Rattle.task_code.specs.Places.{Place, Step};
-ghost use Rattle.task_code.specs.Runs.{Blocked as CodeBlocked};
+ghost use Rattle.task_code.specs.Places.{Place};
 ghost use Rattle.task_code.specs.System.{code_system};
 ghost use Rattle.task_code.specs.Whole.{IsCode};
 ghost use Rattle.values.specs.declared.key.Key.{Key};
@@ -93,17 +89,11 @@ pub fn rounds_agree()
         → (t : Task) (e : Effect Task Place Key Scalar) → Facts s C (Meaning s) t e → Ever (code_system C) t e }
 {}
 
-/// For the whole language: of a script that writes no key twice, and whose answers yield nothing that the code does not come to (the inclusion of the
-/// script's facts in the code's is a premise), the blocked statements of a state that is quiet without fault are the script's: each is blocked in the
-/// script if the script has no fault, and each one that is blocked in the script is one of them.
-pub fn blocked_agrees()
-    ensures to { (s : Core) (C : Code) → IsCodeOf s C → IsCode C → IsExact C → NodesOnce C → WellFormed s → SinglyAssigned s → Scoped s → TypedValues s (Meaning s) → Clean s
-        → ((t : Task) (e : Effect Task Place Key Scalar) → Facts s C (Meaning s) t e → Ever (code_system C) t e)
-        → ((f : Fault) (at : ℕ) (path : ScriptPlaces.Path) → Faults (Meaning s) f at path → ⊥)
-        → (events : List Event) (st : CodeState) → Run C events st → Quiet C st
-        → (at : ℕ) (path : List Step) → CodeBlocked C st at path → Blocked s (Meaning s) at (script_path path) }
-    ensures from { (s : Core) (C : Code) → IsCodeOf s C → IsCode C → IsExact C → NodesOnce C → WellFormed s → SinglyAssigned s → Scoped s → TypedValues s (Meaning s) → Asserted s → Clean s
-        → ((t : Task) (e : Effect Task Place Key Scalar) → Facts s C (Meaning s) t e → Ever (code_system C) t e)
-        → (events : List Event) (st : CodeState) → Run C events st → Quiet C st
-        → (at : ℕ) (path : List Step) → Blocked s (Meaning s) at (script_path path) → CodeBlocked C st at path }
+/// The headline, for the whole language, from the relation alone: every state that a run of a script's code reaches agrees with a script that writes no
+/// key twice; every state that is quiet without fault has all that the script means, whatever the script writes: the script has no fault, the lines are
+/// the script's, and the blocked statements are the script's. A script whose code comes to such a state writes no key twice (`clean`).
+pub fn headline()
+    ensures every_run { (s : Core) (C : Code) → IsCodeOf s C → IsCode C → IsExact C → NodesOnce C → WellFormed s → SinglyAssigned s → Scoped s → TypedValues s (Meaning s) → Asserted s → Headline s C }
+    ensures clean { (s : Core) (C : Code) → IsCodeOf s C → IsCode C → IsExact C → NodesOnce C → WellFormed s → SinglyAssigned s → Scoped s → TypedValues s (Meaning s)
+        → (events : List Event) (st : CodeState) → Run C events st → Quiet C st → Clean s }
 {}

@@ -1,0 +1,160 @@
+-- Where a cell of a statement is worked out: by an entry of its own, by the statement's own entry, or it is a literal or a name.
+use Rattle.std.proofs.Common.{◌≡◌, ◌⊎◌, inl, inr, ℕ, suc, ◌<◌, Bool, true, false, List, [], ◌∷◌, ◌++◌, length, refl, sym, ap, ◌∙◌, subst, Option, Some, None, Result, Ok, Err, arith}
+use Rattle.std.specs.Prelude.{pos, ℤ, ◌&&◌, nat_le, slice_get}
+use Rattle.dataflow.specs.System.{In, Missing, Effect, Outcome, Bad}
+use Rattle.dataflow.specs.Facts.{Live}
+use Rattle.dataflow.proofs.Lists.{in_right}
+use Rattle.values.specs.declared.fault.OpFault.{OpFault}
+use Rattle.values.specs.declared.key.Key.{Key}
+use Rattle.values.specs.declared.map.Element.{Element}
+use Rattle.values.specs.Maps.{element as element_of}
+use Rattle.values.specs.declared.value.Scalar.{Scalar}
+use Rattle.values.specs.declared.value.Scalar.TheVariants.{Number, Truth}
+use Rattle.values.specs.declared.value.Value.{Value}
+use Rattle.values.specs.declared.value.Value.TheVariants.{One, Many}
+use Rattle.values.specs.Operators.{literal as list_of}
+use Rattle.values.specs.Ranges.{range_count}
+use Rattle.syntax_trees.specs.Core as Co
+use Rattle.syntax_trees.specs.Core.{Name, Expr, literal, name, whole, operator, Form, compute, read, Cell, Call, Part, inner, Outer, Awaited, Stmt, stmt, Action, assign, fill, insert, print, assert, when, choose, range, each, wait, Block, Function, Core}
+use Rattle.syntax_trees.specs.Facts.{Fault, operation, no_element, Fact, value, element, fault, Knowledge, IsKey, a_number, KnownAll, no_cell, next_cell}
+use Rattle.syntax_trees.specs.Meaning as Mn
+use Rattle.syntax_trees.specs.Meaning.{ValueUnder, of_literal, of_name, of_array, of_operator, Gives, computed, faulty, found, missing, Comes, ComeAll, none_comes, next_comes, LiveStmt, in_block, Ready, cells_known, source_closed, names_known, New, cell_value, cell_fault, assigned, filled, inserted, printed, bad_range, too_deep_header, too_deep_call, written_twice}
+use Rattle.syntax_trees.specs.Members.{◌∈◌, first, later}
+use Rattle.syntax_trees.specs.Openings.{Bounds, bounds, Decides, one_way, two_ways, in_turns, Opens, then_alone, then_first, else_second, turn, item}
+use Rattle.syntax_trees.specs.Outcomes.{Faults}
+use Rattle.syntax_trees.specs.Parts.{outer_cells, parts, part_cells, cells, stmt_calls, block_list}
+use Rattle.syntax_trees.specs.Places.{Path, Place, place, most_steps}
+use Rattle.syntax_trees.specs.WellFormed.{WellFormed, IsMany, a_list, a_copy}
+use Rattle.syntax_trees.proofs.Members.{split_in, to_left, to_right, either}
+use Rattle.meaning_laws.proofs.Declared.{stmt_in}
+use Rattle.meaning_laws.proofs.Sources.{outer_in}
+use Rattle.meaning_laws.specs.Scoped.{AreIn, FormIn, Scoped}
+use Rattle.meaning_laws.specs.TypedValues.{own_cell, own_outer, own_parts}
+use Rattle.task_code.proofs.Opens.{some_same}
+use Rattle.task_code.specs.Code as code
+use Rattle.task_code.specs.Code.{Need, Act, Code, entry, body}
+use Rattle.task_code.specs.Compute as Compute
+use Rattle.task_code.specs.Compute.{Computed, Fails, EntryFault, InOperation, NoElement, TooDeep, given, filled as filled_by, eval}
+use Rattle.task_code.specs.Effects.{Task, Item, effect_at, instances, is_too_deep, steps_on, is_some_list, outcome_of}
+use Rattle.task_code.specs.Places as CodePlaces
+use Rattle.task_code.specs.Places.{Step, Datum}
+use Rattle.task_code.specs.System.{answered, code_system}
+use Rattle.task_code.specs.Whole.{IsCode}
+use Rattle.task_code.specs.Code.{Variable}
+use Rattle.agreement.specs.CodeNames.{name_as, wanted, over, each_once}
+use Rattle.agreement.specs.Headline.{script_path, script_place}
+use Rattle.agreement.specs.IsCodeOf.{Layout, own_form, own_expr, own_needs, own_priority, fill_act, simple_act, IsSimple, IsEntry, PartAs, plain_literal, plain_name, a_cell, a_read, a_call, PartsAs, no_part, one_part, StmtAs, declares, calls_alone, simple, branch, branches, range_loop, array_loop, waits, WaitAs, IsCodeOf}
+use Rattle.correspondence.specs.Answered.{ReadAll, Reading}
+use Rattle.correspondence.specs.Chains.{Answers, Chain, Lacks}
+use Rattle.correspondence.specs.Knows.{Knows}
+use Rattle.correspondence.proofs.Backing.{backs, came}
+use Rattle.correspondence.proofs.Evaluate.{Got, Ans, AnsAll, inputs_of, in_once, once_in}
+use Rattle.correspondence.proofs.Facts.{Known, known, computes_so, has_answers, IsGood}
+use Rattle.correspondence.proofs.HeaderWorks.{StmtFound, find_call, found_body, only_stmt, opens_no_wait, calls_no_wait, branch_works, condition_value, each_turns, range_seen, range_works, turn_there, in_some_chunk, some_of, cells_of, outer_among, known_two, known_three}
+use Rattle.correspondence.proofs.LiveBy.{at_body, between}
+use Rattle.correspondence.proofs.LiveFrom.{Alive, Where, live_from}
+use Rattle.correspondence.proofs.Means.{chain_body, chain_scope}
+use Rattle.correspondence.proofs.Roles.{among_cells, among_calls, part_of_stmt, cell_among}
+use Rattle.correspondence.proofs.WrittenFrom.{CellFound, widen_cell, before_own, StmtLive, stmt_live, nothing_behind, own_scope, index_answer}
+
+inner_same : {x y : Cell} → inner x ≡ inner y → x ≡ y
+inner_same h = cc
+
+last_in : {es : List ℕ} (is : List ℕ) (j : ℕ) → es ≡ is ++ j ∷ [] → In j es
+last_in is j q = subst (λ (z : List ℕ). In j z) (sym q) (in_right j is (j ∷ []) (inl refl))
+
+-- WHERE A CELL IS WORKED OUT
+-- a literal or a name
+pub data IsPlain : Form → Type 0 where
+  is_literal : {v : Scalar} → IsPlain (compute (literal v))
+  is_name : {x : Name} → IsPlain (compute (name x))
+
+-- the statements whose own entry works out their right side
+pub data Works_own : Action → Outer → Type 0 where
+  of_assign : {x : Name} {o : Outer} → Works_own (assign x o) o
+  of_fill : {x : Name} {o : Outer} → Works_own (fill x o) o
+  of_print : {p : ℤ} {o : Outer} → Works_own (print p o) o
+  of_assert : {p : ℤ} {o : Outer} → Works_own (assert p o) o
+
+module _ (C : Code) (l : Layout) where
+  pub record OwnCell (k : ℕ) (c : Cell) (es : List ℕ) (at n : ℕ) (a : Action) : Type 0 where
+    pub number : ℕ
+    pub there : In number es
+    pub outer : Outer
+    pub works : Works_own a outer
+    pub as_entry : IsEntry (entry C number) at (own_priority a) (own_needs l k a) (simple_act l k (own_needs l k a) a)
+    pub is : c ≡ outer.cell
+    pub expr : Expr
+    pub form_is : outer.cell.form ≡ compute expr
+
+  any_in : {k at : ℕ} {p : ℤ} {all xs : List Part} {js : List ℕ} (st : Stmt) (c : Cell) → ((d : Cell) → d ∈ part_cells all → d ∈ cells st) → PartsAs C l k all at p xs js → inner c ∈ xs → CellFound C l k st c js ⊎ IsPlain c.form
+  any_in st c sub no_part h = elim h [ ]
+  any_in st c sub (one_part (plain_literal {n = n} {v = v} z) rest q) h =
+      elim (split_in h) [
+        | inl e ↦ inr (subst IsPlain (ap (λ (y : Cell). y.form) (sym (inner_same e))) is_literal)
+        | inr m ↦ elim (any_in st c sub rest m) [ inl r ↦ inl (widen_cell C l [] q r) | inr r ↦ inr r ]
+      ]
+  any_in st c sub (one_part (plain_name {n = n} {x = x} z) rest q) h =
+      elim (split_in h) [
+        | inl e ↦ inr (subst IsPlain (ap (λ (y : Cell). y.form) (sym (inner_same e))) is_name)
+        | inr m ↦ elim (any_in st c sub rest m) [ inl r ↦ inl (widen_cell C l [] q r) | inr r ↦ inr r ]
+      ]
+  any_in {k} {at} {p} {all} st c sub (one_part (a_cell {j = j} z nd en) rest q) h =
+      elim (split_in h) [
+        | inl e ↦ inl (record { number = j; there = subst (λ (y : List ℕ). In j y) (sym q) (inl refl); all = all; at = at; priority = p; as_cell = subst (λ (y : Part). PartAs C l k all at p y (j ∷ [])) (sym e) (a_cell z nd en); node_is = nd ∙ sym (ap (λ (y : Cell). y.node) (inner_same e)); cells_in = sub })
+        | inr m ↦ elim (any_in st c sub rest m) [ inl r ↦ inl (widen_cell C l (j ∷ []) q r) | inr r ↦ inr r ]
+      ]
+  any_in {k} {at} {p} {all} st c sub (one_part (a_read {j = j} z nd ix en) rest q) h =
+      elim (split_in h) [
+        | inl e ↦ inl (record { number = j; there = subst (λ (y : List ℕ). In j y) (sym q) (inl refl); all = all; at = at; priority = p; as_cell = subst (λ (y : Part). PartAs C l k all at p y (j ∷ [])) (sym e) (a_read z nd ix en); node_is = nd ∙ sym (ap (λ (y : Cell). y.node) (inner_same e)); cells_in = sub })
+        | inr m ↦ elim (any_in st c sub rest m) [ inl r ↦ inl (widen_cell C l (j ∷ []) q r) | inr r ↦ inr r ]
+      ]
+  any_in st c sub (one_part (a_call {j = j} ca) rest q) h =
+      elim (split_in h) [ inl e ↦ absurd (cc (e)) | inr m ↦ elim (any_in st c sub rest m) [ inl r ↦ inl (widen_cell C l (j ∷ []) q r) | inr r ↦ inr r ] ]
+
+  -- the right side's own cell, or a part
+  own_split : (o : Outer) (c : Cell) → inner c ∈ (o.parts ++ inner o.cell ∷ []) → (inner c ∈ own_outer o) ⊎ ((c ≡ o.cell) × (e : Expr) × (o.cell.form ≡ compute e))
+  own_split o c h = elim (either o.parts _ h) [ inl m ↦ inl (to_left o.parts _ m) | inr m ↦ by o.cell.form refl (inner_same (one m)) ]
+    where
+      one : inner c ∈ (inner o.cell ∷ []) → inner c ≡ inner o.cell
+      one m = elim (split_in m) [ inl e ↦ e | inr z ↦ elim z [ ] ]
+
+      by : (f : Form) → o.cell.form ≡ f → c ≡ o.cell → (inner c ∈ own_outer o) ⊎ ((c ≡ o.cell) × (e : Expr) × (o.cell.form ≡ compute e))
+      by (compute e) q h = inr (h, e, q)
+      by (read a i) q h = inl (to_right o.parts _ (subst (λ (f : Form). inner c ∈ own_cell o.cell f) (sym q) (subst (λ (y : Cell). inner c ∈ (inner y ∷ [])) h first)))
+
+  module _ {k : ℕ} {at n : ℕ} {es is : List ℕ} (j : ℕ) (q : es ≡ is ++ j ∷ []) where
+    by_outer : {a : Action} (o : Outer) (c : Cell) → Works_own a o → IsEntry (entry C j) at (own_priority a) (own_needs l k a) (simple_act l k (own_needs l k a) a) → PartsAs C l k (own_parts a) at (own_priority a) (own_outer o) is → ((d : Cell) → d ∈ part_cells (own_parts a) → d ∈ cells (stmt at n a))
+        → inner c ∈ (o.parts ++ inner o.cell ∷ []) → CellFound C l k (stmt at n a) c es ⊎ (IsPlain c.form ⊎ OwnCell k c es at n a)
+    by_outer {a} o c wo en as' sub h =
+        elim (own_split o c h) [
+          | inl m ↦ elim (any_in (stmt at n a) c sub as' m) [ inl r ↦ inl (before_own C l j q r) | inr r ↦ inr (inl r) ]
+          | inr z ↦ inr (inr (record { number = j; there = last_in is j q; outer = o; works = wo; as_entry = en; is = z.0; expr = z.1; form_is = z.2 }))
+        ]
+
+    by_simple : (a : Action) → IsSimple a → (c : Cell) → IsEntry (entry C j) at (own_priority a) (own_needs l k a) (simple_act l k (own_needs l k a) a) → PartsAs C l k (own_parts a) at (own_priority a) (own_parts a) is → inner c ∈ parts a → CellFound C l k (stmt at n a) c es ⊎ (IsPlain c.form ⊎ OwnCell k c es at n a)
+    by_simple (assign x o) z c en as' h = by_outer o c of_assign en as' (cells_of C l at n (assign x o) _ (λ x' y. part_of_stmt (assign x o) y)) h
+    by_simple (fill x o) z c en as' h = by_outer o c of_fill en as' (cells_of C l at n (fill x o) _ (λ x' y. part_of_stmt (fill x o) y)) h
+    by_simple (print x o) z c en as' h = by_outer o c of_print en as' (cells_of C l at n (print x o) _ (λ x' y. part_of_stmt (print x o) y)) h
+    by_simple (assert x o) z c en as' h = by_outer o c of_assert en as' (cells_of C l at n (assert x o) _ (λ x' y. part_of_stmt (assert x o) y)) h
+    by_simple (insert x i o) z c en as' h = elim (any_in (stmt at n (insert x i o)) c (cells_of C l at n (insert x i o) _ (λ x y. y)) as' h) [ inl r ↦ inl (before_own C l j q r) | inr r ↦ inr (inl r) ]
+    by_simple (Co.declare v) z c en as' h = absurd z
+    by_simple (Co.call_alone x y o) z c en as' h = absurd z
+    by_simple (when o d) z c en as' h = absurd z
+    by_simple (choose o d e) z c en as' h = absurd z
+    by_simple (range o d e f g i) z c en as' h = absurd z
+    by_simple (each o d e f) z c en as' h = absurd z
+    by_simple (wait o d) z c en as' h = absurd z
+
+    by_header : (a : Action) {p : ℤ} {c : Cell} → PartsAs C l k (parts a) at p (parts a) is → inner c ∈ parts a → CellFound C l k (stmt at n a) c es ⊎ (IsPlain c.form ⊎ OwnCell k c es at n a)
+    by_header a {c = c} as' h = elim (any_in (stmt at n a) c (cells_of C l at n a _ (λ x y. y)) as' h) [ inl r ↦ inl (before_own C l j q r) | inr r ↦ inr (inl r) ]
+
+  pub find_any : {k at n : ℕ} {a : Action} {es : List ℕ} (c : Cell) → StmtAs C l k (stmt at n a) es → c ∈ cells (stmt at n a) → CellFound C l k (stmt at n a) c es ⊎ (IsPlain c.form ⊎ OwnCell k c es at n a)
+  find_any c declares h = elim h [ ]
+  find_any c (calls_alone {at = at} {n = n} {p = p} {ps = ps} {c = d} as') h = elim (any_in (stmt at n (Co.call_alone p ps d)) c (λ x m. m) as' (among_cells _ h)) [ inl r ↦ inl r | inr r ↦ inr (inl r) ]
+  find_any c (simple j {a = a} z op as' en nd q) h = by_simple j q a z c en as' (among_cells (parts a) h)
+  find_any c (branch j {c = o} {b = b} as' e mk ba q) h = by_header j q (when o b) as' (among_cells _ h)
+  find_any c (branches j {c = o} {b = b} {d = d} as' e mk ba bb q) h = by_header j q (choose o b d) as' (among_cells _ h)
+  find_any c (range_loop {x = x} j {lo = lo} {hi = hi} {st = st} {y = y} {b = b} as' e mk ba q) h = by_header j q (range lo hi st x y b) as' (among_cells _ h)
+  find_any c (array_loop j e mk ba q) h = elim h [ ]
+  find_any c (waits j wa e q) h = elim h [ ]
