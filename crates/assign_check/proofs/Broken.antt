@@ -13,6 +13,7 @@ use Rattle.assign_check.specs.Outline.{Kind, named, written, read, Use, Role, ow
 use Rattle.assign_check.specs.Faults.{same, is_kind, is_used, other_form, form_faults, never_faults, output_faults, role_faults, variable_faults, uses_in, declared_in}
 use Rattle.assign_check.specs.Breaks.{IsTarget, BreaksIn}
 use Rattle.assign_check.proofs.Counts.{same_is}
+use Rattle.assign_check.proofs.Like.{own_is_not_given, result_is_not_given}
 use Rattle.assign_check.proofs.Variables.{used_when, unused_when, both_true, and_true, not_kind, kind_or, is_target, target_true}
 
 -- LISTS
@@ -47,9 +48,9 @@ turned false h = refl
 
 -- A SCALAR THAT IS READ
 
-never_broken : (o : Outline) (d : Declared) (s : Shape) (f : AssignFault) → d ∈ declared_in o → d.shape ≡ s → f ∈ never_faults s d.what d.span (uses_in o) → BreaksIn o f
-never_broken o d Array f there shape i = elim i [ ]
-never_broken o d Scalar f there shape i =
+never_broken : (o : Outline) (d : Declared) (s : Shape) (f : AssignFault) → d ∈ declared_in o → (d.role ≡ given → ⊥) → d.shape ≡ s → f ∈ never_faults s d.what d.span (uses_in o) → BreaksIn o f
+never_broken o d Array f there role shape i = elim i [ ]
+never_broken o d Scalar f there role shape i =
     let r = only_if (is_used read d.what (uses_in o) && not (is_used named d.what (uses_in o))) (NeverAssigned d.span) f i in
     let uses = both_true (is_used read d.what (uses_in o)) (not (is_used named d.what (uses_in o))) r.0 in
     subst (BreaksIn o) (sym r.1) (record {
@@ -57,6 +58,7 @@ never_broken o d Scalar f there shape i =
       declared = there;
       place = refl;
       scalar = shape;
+      not_given = role;
       is_read = used_when read d.what (uses_in o) uses.0;
       not_named = unused_when named d.what (uses_in o) (turned (is_used named d.what (uses_in o)) uses.1);
     })
@@ -78,12 +80,12 @@ output_broken o d f there role i =
 
 -- FORMS
 
-target_of : (k : Kind) → (k ≡ read → ⊥) → (k ≡ named) ⊎ (k ≡ written)
+pub target_of : (k : Kind) → (k ≡ read → ⊥) → (k ≡ named) ⊎ (k ≡ written)
 target_of named no_read = inl refl
 target_of written no_read = inr refl
 target_of read no_read = absurd (no_read refl)
 
-no_target_read : (k : Kind) → (k ≡ named) ⊎ (k ≡ written) → k ≡ read → ⊥
+pub no_target_read : (k : Kind) → (k ≡ named) ⊎ (k ≡ written) → k ≡ read → ⊥
 no_target_read k (inl e) f = absurd (cc (e, f))
 no_target_read k (inr e) f = absurd (cc (e, f))
 
@@ -207,8 +209,8 @@ both_found x (u ∷ us) f i = by (is_target x u) refl i (λ j. both_found x us f
           is_target_too = o.is_target_too;
         }
 
-forms_broken : (o : Outline) (d : Declared) (f : AssignFault) → d ∈ declared_in o → f ∈ form_faults d.what (uses_in o) → BreaksIn o f
-forms_broken o d f there i =
+forms_broken : (o : Outline) (d : Declared) (f : AssignFault) → d ∈ declared_in o → (d.role ≡ given → ⊥) → f ∈ form_faults d.what (uses_in o) → BreaksIn o f
+forms_broken o d f there role i =
     let b = both_found d.what (uses_in o) f i in
     subst (BreaksIn o) (sym b.fault) (record {
       variable = d;
@@ -221,7 +223,7 @@ forms_broken o d f there i =
       form = b.form;
       place = refl;
       differs = b.differs;
-      has_other = inr (b.one_before, b.is_before_it, b.of_it, b.is_target_too);
+      has_other = inr (role, b.one_before, b.is_before_it, b.of_it, b.is_target_too);
     })
 
 written_of : (k : Kind) → (k ≡ named) ⊎ (k ≡ written) → (k ≡ named → ⊥) → k ≡ written
@@ -249,15 +251,15 @@ given_broken o d f there role i =
 
 role_broken : (o : Outline) (d : Declared) (r : Role) (f : AssignFault) → d ∈ declared_in o → d.role ≡ r → f ∈ role_faults r d.shape d.what d.span (uses_in o) → BreaksIn o f
 role_broken o d own f there role i = elim (either (never_faults d.shape d.what d.span (uses_in o)) (form_faults d.what (uses_in o)) i) [
-  | inl j ↦ never_broken o d d.shape f there refl j
-  | inr j ↦ forms_broken o d f there j
+  | inl j ↦ never_broken o d d.shape f there (λ e. own_is_not_given role e) refl j
+  | inr j ↦ forms_broken o d f there (λ e. own_is_not_given role e) j
 ]
 role_broken o d result f there role i = elim (either (never_faults d.shape d.what d.span (uses_in o) ++ output_faults d.what d.span (uses_in o)) (form_faults d.what (uses_in o)) i) [
   | inl j ↦ elim (either (never_faults d.shape d.what d.span (uses_in o)) (output_faults d.what d.span (uses_in o)) j) [
-    | inl k ↦ never_broken o d d.shape f there refl k
+    | inl k ↦ never_broken o d d.shape f there (λ e. result_is_not_given role e) refl k
     | inr k ↦ output_broken o d f there role k
   ]
-  | inr j ↦ forms_broken o d f there j
+  | inr j ↦ forms_broken o d f there (λ e. result_is_not_given role e) j
 ]
 role_broken o d given f there role i = given_broken o d f there role i
 

@@ -1,7 +1,7 @@
 -- Counts of variables in lists, and lists of faults that are empty.
 use Rattle.std.specs.Prelude.{◌≡◌, ◌⊎◌, ◌+◌, ◌≤◌, Bool, true, false, ◌||◌, cond, List, [], ◌∷◌, ◌++◌, refl}
 use Rattle.std.specs.List.{list_any, flat_map}
-use Rattle.std.proofs.Common.{inl, inr, ap, ◌∙◌, subst, arith}
+use Rattle.std.proofs.Common.{inl, inr, sym, ap, ◌∙◌, subst, arith}
 use Rattle.std.proofs.lemmas.Bool.{eqb-true, eq-eqb}
 use Rattle.syntax_trees.specs.Core.{Owned, local, input, output}
 use Rattle.syntax_trees.specs.Members.{◌∈◌, first, later}
@@ -98,6 +98,20 @@ counts_in x (y ∷ ys) h = elim (same_or y x) [
   | inl e ↦ subst (λ (z : Owned). z ∈ (y ∷ ys)) e first
   | inr e ↦ (let none : one_if (same y x) ≡ 0 = ap one_if e in later (counts_in x ys (omega arith)))
 ]
+
+pub among_in : (x : Owned) (ys : List Owned) → is_among x ys ≡ true → x ∈ ys
+among_in x ys h = counts_in x ys (among_counts x ys h)
+
+pub in_among : (x : Owned) (ys : List Owned) → x ∈ ys → is_among x ys ≡ true
+in_among x [] i = elim i [ ]
+in_among x (y ∷ ys) i = elim (split_in i) [
+  | inl e ↦ ap (λ (b : Bool). b || is_among x ys) (same_from (sym e))
+  | inr j ↦ by (same y x) (in_among x ys j)
+]
+  where
+    by : (b : Bool) → is_among x ys ≡ true → (b || is_among x ys) ≡ true
+    by true h = refl
+    by false h = h
 
 pub times_zero : (x : Owned) (ys : List Owned) → (x ∈ ys → ⊥) → times x ys ≡ 0
 times_zero x [] h = refl

@@ -11,12 +11,17 @@ pub mod Visible
 pub mod Variables
 pub mod Bodies
 pub mod Ways
+pub mod Numbers
+pub mod Even
 pub mod Clean
 pub mod NoFault
 pub mod Faultless
 pub mod NotSingle
 pub mod BrokenWays
 pub mod Named
+pub mod Found
+pub mod FoundWays
+pub mod Exact
 pub mod Walks
 pub mod Views
 pub mod Among

@@ -1,8 +1,8 @@
 -- A scoped outline without a fault is singly assigned.
-use Rattle.std.specs.Prelude.{[], None, refl}
+use Rattle.std.specs.Prelude.{◌≡◌, [], ◌++◌, None, refl}
 use Rattle.std.specs.List.{flat_map}
 use Rattle.assign_check.specs.Outline.{Declared, Outline}
-use Rattle.assign_check.specs.Faults.{way_faults, uses_in, declared_in, variable_faults}
+use Rattle.assign_check.specs.Faults.{way_faults, split_faults, uses_in, declared_in, variable_faults}
 use Rattle.assign_check.proofs.Claims.{NoFault}
 use Rattle.assign_check.proofs.SingleOutline.{Owns}
 use Rattle.assign_check.proofs.Counts.{none_left, none_right}
@@ -22,8 +22,11 @@ no_fault o s none = record {
   output_assigned = λ d b w. (used d b w).output_assigned;
 }
   where
+    on_ways : way_faults None [] o ++ split_faults None o ≡ []
+    on_ways = none_left (way_faults None [] o ++ split_faults None o) (flat_map (variable_faults (uses_in o)) (declared_in o)) none
+
     assigned : (d : Declared) (b : Outline) → Owns o d b → WellAssigned d b
-    assigned d b w = body_well [] s (λ v i l. elim i [ ]) (λ x a. refl) (none_left (way_faults None [] o) (flat_map (variable_faults (uses_in o)) (declared_in o)) none) w.block w.declared
+    assigned d b w = body_well [] s (λ v i l. elim i [ ]) (none_left (way_faults None [] o) (split_faults None o) on_ways) (none_right (way_faults None [] o) (split_faults None o) on_ways) w.block w.declared
 
     used : (d : Declared) (b : Outline) → Owns o d b → UsedWell d b
-    used d b w = used_well o s (none_right (way_faults None [] o) (flat_map (variable_faults (uses_in o)) (declared_in o)) none) d b w.block w.declared
+    used d b w = used_well o s (none_right (way_faults None [] o ++ split_faults None o) (flat_map (variable_faults (uses_in o)) (declared_in o)) none) d b w.block w.declared

@@ -1,6 +1,8 @@
 -- A scoped outline that is singly assigned has no fault.
-use Rattle.std.specs.Prelude.{[], refl}
+use Rattle.std.specs.Prelude.{[], ◌++◌, None, refl}
+use Rattle.std.specs.List.{flat_map}
 use Rattle.assign_check.specs.Outline.{Declared, Outline, declares}
+use Rattle.assign_check.specs.Faults.{way_faults, split_faults, uses_in, declared_in, variable_faults}
 use Rattle.assign_check.proofs.Claims.{NotSingle}
 use Rattle.assign_check.specs.Through.{HasStep, BlockIn}
 use Rattle.assign_check.proofs.SingleOutline.{Owns, Single}
@@ -29,4 +31,6 @@ well_used {b = b} {d = d} s i h = record {
 
 pub not_single : NotSingle
 not_single o scoped s =
-    none_both (body_free [] scoped (λ v i l. elim i [ ]) (λ x a. refl) (λ x a. elim a.visible [ ]) (well_assigned s)) (no_variable_fault o scoped (λ d b i h. well_used s i h))
+    let free = body_free [] scoped (λ v i l. elim i [ ]) (λ x a i. elim i [ ]) (λ x a. elim a.visible [ ]) (well_assigned s) in
+    none_both {xs = way_faults None [] o ++ split_faults None o} {ys = flat_map (variable_faults (uses_in o)) (declared_in o)}
+    (none_both {xs = way_faults None [] o} {ys = split_faults None o} free.targets free.branches) (no_variable_fault o scoped (λ d b i h. well_used s i h))

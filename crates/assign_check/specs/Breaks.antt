@@ -10,7 +10,7 @@ use Rattle.assign_check.specs.declared.fault.AssignFault.{AssignFault}
 use Rattle.assign_check.specs.declared.fault.AssignFault.TheVariants.{AssignedTwice, PartlyAssigned, NeverAssigned, OuterInLoop, WholeAndElements, OutputUnassigned, Memory}
 use Rattle.assign_check.specs.Outline.{Kind, named, written, read, Use, result, given, Declared, Outline, splits, repeats, outlines}
 use Rattle.assign_check.specs.Faults.{is_before, uses_in, declared_in}
-use Rattle.assign_check.specs.Through.{Within, OnWay, Reaches}
+use Rattle.assign_check.specs.Through.{Within, Counts, OnWay, Reaches}
 
 -- a variable is used so
 pub record Used (k : Kind) (x : Owned) (us : List Use) : Type 0 where
@@ -30,28 +30,31 @@ pub record IsTwice (o : Outline) (at : Span) : Type 0 where
   pub place : target.span ≡ at
   pub before : ℕ
   pub reached : Reaches target.of target o before
-  pub assigned : (1 ≤ before) ⊎ ((d : Declared) × (d ∈ declared_in o) × (d.role ≡ given) × (d.what ≡ target.of))
+  pub assigned : 1 ≤ before
 
--- S2: the branches of an `if` assign a variable from outside of it differently often on some ways
+-- on some way through the one block, and on no way through the other, the variable is assigned so often
+pub record OnOne (x : Owned) (one other : Outline) : Type 0 where
+  pub so_often : ℕ
+  pub there : OnWay x one so_often
+  pub nowhere : OnWay x other so_often → ⊥
+
+-- S2: of a variable from outside of an `if`, one branch has a number of assignments that the other does not have
 pub record IsPartly (o : Outline) (at : Span) : Type 0 where
   pub number : ℕ
   pub branch : Outline
   pub other : Outline
-  pub there : Within (splits number at branch other) o
   pub variable : Owned
+  pub there : Counts variable (splits number at branch other) o
   pub outside : is_before number variable ≡ true
-  pub so_often : ℕ
-  pub and_so_often : ℕ
-  pub on_one : OnWay variable branch so_often
-  pub on_other : OnWay variable other and_so_often
-  pub differ : so_often ≡ and_so_often → ⊥
+  pub differ : OnOne variable branch other ⊎ OnOne variable other branch
 
--- S3: a scalar is read and not assigned
+-- S3: a scalar is read and not assigned, neither by its name nor at its declaration
 pub record IsNever (o : Outline) (at : Span) : Type 0 where
   pub variable : Declared
   pub declared : variable ∈ declared_in o
   pub place : variable.span ≡ at
   pub scalar : variable.shape ≡ Scalar
+  pub not_given : variable.role ≡ given → ⊥
   pub is_read : Used read variable.what (uses_in o)
   pub not_named : Used named variable.what (uses_in o) → ⊥
 
@@ -66,7 +69,8 @@ pub record IsOuter (o : Outline) (at : Span) : Type 0 where
   pub place : target.span ≡ at
   pub outside : is_before number target.of ≡ true
 
--- S5: a target of the other form than all targets of the variable before it, of which there is one; or one that writes an element of what counts as assigned whole
+-- S5: a target of the other form than all targets of the variable before it, of which there is one; or of a variable that counts as
+-- assigned whole the first that writes an element
 pub record IsBoth (o : Outline) (at : Span) : Type 0 where
   pub variable : Declared
   pub declared : variable ∈ declared_in o
@@ -78,7 +82,7 @@ pub record IsBoth (o : Outline) (at : Span) : Type 0 where
   pub form : IsTarget target
   pub place : target.span ≡ at
   pub differs : (u : Use) → u ∈ earlier → u.of ≡ variable.what → IsTarget u → u.kind ≡ target.kind → ⊥
-  pub has_other : (variable.role ≡ given × target.kind ≡ written) ⊎ ((u : Use) × (u ∈ earlier) × (u.of ≡ variable.what) × IsTarget u)
+  pub has_other : (variable.role ≡ given × target.kind ≡ written) ⊎ ((variable.role ≡ given → ⊥) × (u : Use) × (u ∈ earlier) × (u.of ≡ variable.what) × IsTarget u)
 
 -- S6: an output is never assigned
 pub record IsUnassigned (o : Outline) (at : Span) : Type 0 where

@@ -1,5 +1,5 @@
 -- The faults of an outline against single assignment. States docs/LANGUAGE.md: Single assignment.
-use Rattle.std.specs.Prelude.{ℕ, ◌+◌, Bool, true, false, not, ◌&&◌, ◌||◌, cond, nat_eq, nat_lt, List, [], ◌∷◌, ◌++◌, Option, Some, None}
+use Rattle.std.specs.Prelude.{ℕ, ◌+◌, Bool, true, false, not, ◌&&◌, ◌||◌, cond, nat_eq, nat_lt, List, [], ◌∷◌, ◌++◌, map, Option, Some, None}
 use Rattle.std.specs.List.{list_any, flat_map}
 use Rattle.lexer.specs.declared.token.Span.{Span}
 use Rattle.syntax_trees.specs.declared.tree.Shape.{Shape}
@@ -54,7 +54,8 @@ given_by given x = x ∷ []
 given_by own x = []
 given_by result x = []
 
--- the variables that are assigned by name on the way that takes each first branch; the innermost loop's outer variables do not count
+-- the variables that some way assigns by name, or that count as assigned where they are declared; the innermost loop's outer variables do
+-- not count
 abbrev mutual
   pub way : Option ℕ → Outline → List Owned
   way l nothing = []
@@ -63,26 +64,19 @@ abbrev mutual
   pub step_way : Option ℕ → Step → List Owned
   step_way l (declares d) = given_by d.role d.what
   step_way l (uses u) = named_by l u.kind u.of
-  step_way l (splits n at o p) = way l o
+  step_way l (splits n at o p) = way l o ++ way l p
   step_way l (repeats n o) = []
   step_way l (encloses o) = way l o
 
--- FAULTS ON WAYS
+-- FAULTS OF TARGETS
 
--- a target, where these are assigned on the way before it
+-- a target, where these are assigned on some way before it
 abbrev pub target_faults : Option ℕ → List Owned → Kind → Owned → Span → List AssignFault
 target_faults l before named x at = cond (is_outer l x) (OuterInLoop at ∷ []) (cond (is_among x before) (AssignedTwice at ∷ []) [])
 target_faults l before written x at = []
 target_faults l before read x at = []
 
--- a variable from outside of an `if` is counted differently in its branches
-abbrev pub is_uneven : ℕ → List Owned → List Owned → Owned → Bool
-is_uneven n xs ys x = is_before n x && not (nat_eq (times x xs) (times x ys))
-
-abbrev pub branch_faults : ℕ → Span → List Owned → List Owned → List AssignFault
-branch_faults n at xs ys = cond (list_any (is_uneven n xs ys) (xs ++ ys)) (PartlyAssigned at ∷ []) []
-
--- the faults of a block inside a loop or none, where these are assigned on the way before it
+-- the faults of targets in a block inside a loop or none, where these are assigned on some way before it
 abbrev mutual
   pub way_faults : Option ℕ → List Owned → Outline → List AssignFault
   way_faults l before nothing = []
@@ -91,9 +85,58 @@ abbrev mutual
   pub step_faults : Option ℕ → List Owned → Step → List AssignFault
   step_faults l before (declares d) = []
   step_faults l before (uses u) = target_faults l before u.kind u.of u.span
-  step_faults l before (splits n at o p) = way_faults l before o ++ way_faults l before p ++ branch_faults n at (way l o) (way l p)
+  step_faults l before (splits n at o p) = way_faults l before o ++ way_faults l before p
   step_faults l before (repeats n o) = way_faults (Some n) before o
   step_faults l before (encloses o) = way_faults l before o
+
+-- NUMBERS OF ASSIGNMENTS
+
+-- each number of one list and each of another, added
+abbrev pub sums : List ℕ → List ℕ → List ℕ
+sums [] ns = []
+sums (m ∷ ms) ns = map (λ n. m + n) ns ++ sums ms ns
+
+-- how often each way assigns a variable by name, the innermost loop's outer variables never
+abbrev mutual
+  pub counts : Option ℕ → Owned → Outline → List ℕ
+  counts l x nothing = 0 ∷ []
+  counts l x (followed s o) = sums (step_counts l x s) (counts l x o)
+
+  pub step_counts : Option ℕ → Owned → Step → List ℕ
+  step_counts l x (declares d) = 0 ∷ []
+  step_counts l x (uses u) = times x (named_by l u.kind u.of) ∷ []
+  step_counts l x (splits n at o p) = counts l x o ++ counts l x p
+  step_counts l x (repeats n o) = 0 ∷ []
+  step_counts l x (encloses o) = counts l x o
+
+abbrev pub is_in : ℕ → List ℕ → Bool
+is_in n ns = list_any (nat_eq n) ns
+
+-- a number of the one list is not in the other
+abbrev pub has_more : List ℕ → List ℕ → Bool
+has_more ms ns = list_any (λ m. not (is_in m ns)) ms
+
+-- FAULTS OF BRANCHES
+
+-- a variable from outside of an `if` has other numbers of assignments in the one branch than in the other
+abbrev pub is_uneven : Option ℕ → ℕ → Outline → Outline → Owned → Bool
+is_uneven l n o p x = is_before n x && (has_more (counts l x o) (counts l x p) || has_more (counts l x p) (counts l x o))
+
+abbrev pub branch_faults : Option ℕ → ℕ → Span → Outline → Outline → List AssignFault
+branch_faults l n at o p = cond (list_any (is_uneven l n o p) (way l o ++ way l p)) (PartlyAssigned at ∷ []) []
+
+-- the faults of the `if`s in a block inside a loop or none
+abbrev mutual
+  pub split_faults : Option ℕ → Outline → List AssignFault
+  split_faults l nothing = []
+  split_faults l (followed s o) = split_step l s ++ split_faults l o
+
+  pub split_step : Option ℕ → Step → List AssignFault
+  split_step l (declares d) = []
+  split_step l (uses u) = []
+  split_step l (splits n at o p) = split_faults l o ++ split_faults l p ++ branch_faults l n at o p
+  split_step l (repeats n o) = split_faults (Some n) o
+  split_step l (encloses o) = split_faults l o
 
 -- FAULTS OF A VARIABLE
 
@@ -161,7 +204,7 @@ variable_faults us d = role_faults d.role d.shape d.what d.span us
 
 -- of a block that stands in no other
 abbrev pub faults_of : Outline → List AssignFault
-faults_of o = way_faults None [] o ++ flat_map (variable_faults (uses_in o)) (declared_in o)
+faults_of o = way_faults None [] o ++ split_faults None o ++ flat_map (variable_faults (uses_in o)) (declared_in o)
 
 -- of a script
 abbrev pub faults : Table → Tree → List AssignFault

@@ -1,8 +1,9 @@
 -- Blocks inside an outline, and the ways through it: an `if` takes one branch, a loop counts by its own rule. States docs/LANGUAGE.md: Single assignment.
-use Rattle.std.specs.Prelude.{◌≡◌, ℕ, ◌+◌}
+use Rattle.std.specs.Prelude.{◌≡◌, ℕ, ◌+◌, false}
 use Rattle.lexer.specs.declared.token.Span.{Span}
 use Rattle.syntax_trees.specs.Core.{Owned}
-use Rattle.assign_check.specs.Outline.{named, Use, Declared, Outline, nothing, followed, Step, declares, uses, splits, repeats, encloses}
+use Rattle.assign_check.specs.Outline.{named, Use, given, Declared, Outline, nothing, followed, Step, declares, uses, splits, repeats, encloses}
+use Rattle.assign_check.specs.Faults.{is_before}
 
 -- a step of a block, in no block inside it
 pub data HasStep (s : Step) : Outline → Type 0 where
@@ -27,6 +28,19 @@ pub record Within (s : Step) (o : Outline) : Type 0 where
   pub there : BlockIn block o
   pub has : HasStep s block
 
+-- a step in a block or inside it, in no loop there inside which the variable is not declared
+mutual
+  pub data Counts (x : Owned) (s : Step) : Outline → Type 0 where
+    in_this_step : {s' : Step} {o : Outline} → CountsIn x s s' → Counts x s (followed s' o)
+    in_a_later_step : {s' : Step} {o : Outline} → Counts x s o → Counts x s (followed s' o)
+
+  pub data CountsIn (x : Owned) (s : Step) : Step → Type 0 where
+    the_step : CountsIn x s s
+    in_the_first : {n : ℕ} {at : Span} {o p : Outline} → Counts x s o → CountsIn x s (splits n at o p)
+    in_the_other : {n : ℕ} {at : Span} {o p : Outline} → Counts x s p → CountsIn x s (splits n at o p)
+    in_the_body : {n : ℕ} {o : Outline} → is_before n x ≡ false → Counts x s o → CountsIn x s (repeats n o)
+    in_the_block : {o : Outline} → Counts x s o → CountsIn x s (encloses o)
+
 mutual
   -- some way through a block assigns the variable so often
   pub data OnWay (x : Owned) : Outline → ℕ → Type 0 where
@@ -44,14 +58,16 @@ mutual
     a_wait : {m : ℕ} {o : Outline} → OnWay x o m → OnStep x (encloses o) m
 
 mutual
-  -- some way from the beginning of a block up to a use assigns the variable so often before it
+  -- some way from the beginning of a block up to a use assigns the variable so often before it, where the declaration of one that counts
+  -- as assigned there is an assignment; in no loop inside which the variable is not declared
   pub data Reaches (x : Owned) (u : Use) : Outline → ℕ → Type 0 where
     at_a_step : {s : Step} {o : Outline} {n : ℕ} → ReachesIn x u s n → Reaches x u (followed s o) n
     behind_a_step : {s : Step} {o : Outline} {m n k : ℕ} → OnStep x s m → Reaches x u o n → k ≡ m + n → Reaches x u (followed s o) k
+    behind_its_own : {d : Declared} {o : Outline} {n k : ℕ} → d.role ≡ given → d.what ≡ x → Reaches x u o n → k ≡ 1 + n → Reaches x u (followed (declares d) o) k
 
   pub data ReachesIn (x : Owned) (u : Use) : Step → ℕ → Type 0 where
     the_use : ReachesIn x u (uses u) 0
     in_its_first : {n m : ℕ} {at : Span} {o p : Outline} → Reaches x u o m → ReachesIn x u (splits n at o p) m
     in_its_other : {n m : ℕ} {at : Span} {o p : Outline} → Reaches x u p m → ReachesIn x u (splits n at o p) m
-    in_its_body : {n m : ℕ} {o : Outline} → Reaches x u o m → ReachesIn x u (repeats n o) m
+    in_its_body : {n m : ℕ} {o : Outline} → is_before n x ≡ false → Reaches x u o m → ReachesIn x u (repeats n o) m
     in_its_block : {m : ℕ} {o : Outline} → Reaches x u o m → ReachesIn x u (encloses o) m

@@ -17,10 +17,12 @@ pub fn single_assignment()
     ensures single { (n : ℕ) (u tree : Tree) (t : Table) → tree ≡ numbered n u → WellTyped tree t → SinglyAssigned (core t tree) → faults t tree ≡ [] }
 {}
 
-/// The fault that is answered is a fault of the script, and none of its faults precedes it. Each fault of a well typed script,
-/// numbered in reading order, names a rule that the script breaks at the fault's place.
+/// The fault that is answered is a fault of the script, and none of its faults precedes it. The faults of a well typed script, numbered in
+/// reading order, are the rules that it breaks, each at its place; so it breaks none before the fault that is answered.
 pub fn refusals_name_broken_rules()
     ensures there { (t : Table) (tree : Tree) (f : AssignFault) → first_fault (faults t tree) ≡ Some f → f ∈ faults t tree }
     ensures first { (t : Table) (tree : Tree) (f g : AssignFault) → first_fault (faults t tree) ≡ Some f → g ∈ faults t tree → precedes g f ≡ false }
     ensures names { (n : ℕ) (u tree : Tree) (t : Table) (f : AssignFault) → tree ≡ numbered n u → WellTyped tree t → f ∈ faults t tree → Breaks t tree f }
+    ensures all { (n : ℕ) (u tree : Tree) (t : Table) (f : AssignFault) → tree ≡ numbered n u → WellTyped tree t → Breaks t tree f → f ∈ faults t tree }
+    ensures none_before { (n : ℕ) (u tree : Tree) (t : Table) (f g : AssignFault) → tree ≡ numbered n u → WellTyped tree t → first_fault (faults t tree) ≡ Some f → Breaks t tree g → precedes g f ≡ false }
 {}
