@@ -1,12 +1,9 @@
 -- How often a variable stands among others.
-use Rattle.std.proofs.Common.{◌≡◌, ℕ, ◌+◌, ◌-◌, ◌≤◌, List, [], ◌∷◌, ◌++◌, Bool, true, false, suc, cond, nat_eq, nat_lt, map, length, refl, ap, ap₂, sym, ◌∙◌, subst, arith}
-use Rattle.std.specs.Prelude.{not, ◌&&◌, ◌||◌}
-use Rattle.std.specs.List.{list_any}
-use Rattle.std.proofs.lemmas.List.Folds.{list_any-append}
+use Rattle.std.proofs.Common.{◌≡◌, ℕ, ◌+◌, ◌-◌, ◌≤◌, List, [], ◌∷◌, ◌++◌, Bool, true, false, suc, cond, nat_lt, length, refl, ap, sym, ◌∙◌, subst, arith}
+use Rattle.std.specs.Prelude.{◌||◌}
 use Rattle.std.proofs.lemmas.Grind.{common_steps}
 use Rattle.syntax_trees.specs.Core.{Owned}
-use Rattle.assign_check.specs.Faults.{same, one_if, times, is_among, is_before, is_uneven}
-use Rattle.assign_check.specs.Ways.{with_times, is_other}
+use Rattle.assign_check.specs.Faults.{same, one_if, times, is_among}
 use Rattle.assign_check.proofs.Counts.{same_is, same_self, times_append}
 
 pub among_times : (x : Owned) (ys : List Owned) → nat_lt 0 (times x ys) ≡ is_among x ys
@@ -24,33 +21,6 @@ times_le x (y ∷ ys) = let e = times_le x ys in by_one (same y x) (times x ys) 
     by_one : (b : Bool) (n m : ℕ) → n ≤ m → one_if b + n ≤ suc m
     by_one true n m e = omega arith
     by_one false n m e = omega arith
-
--- FAULTS OF AN IF
-
-nat_eq-symm : (m n : ℕ) → nat_eq m n ≡ nat_eq n m
-nat_eq-symm m n = grind (arith, common_steps)
-
-nat_eq-add : (k m n : ℕ) → nat_eq (k + m) (k + n) ≡ nat_eq m n
-nat_eq-add k m n = grind (arith, common_steps)
-
--- variables of one branch, with how often the way with that branch assigns them, beside the way with the other branch
-taken_differs : (n : ℕ) (front xs ys zs : List Owned) → list_any (is_other n (front ++ ys)) (map (with_times (front ++ xs)) zs) ≡ list_any (is_uneven n xs ys) zs
-taken_differs n front xs ys [] = refl
-taken_differs n front xs ys (z ∷ zs) =
-    let one = ap₂ (λ (a b : ℕ). is_before n z && not (nat_eq a b)) (times_append z front xs) (times_append z front ys) in
-    let other = ap (λ (b : Bool). is_before n z && not b) (nat_eq-add (times z front) (times z xs) (times z ys)) in
-    ap₂ (λ (a b : Bool). a || b) (one ∙ other) (taken_differs n front xs ys zs)
-
-uneven-symm : (n : ℕ) (xs ys zs : List Owned) → list_any (is_uneven n xs ys) zs ≡ list_any (is_uneven n ys xs) zs
-uneven-symm n xs ys [] = refl
-uneven-symm n xs ys (z ∷ zs) = ap₂ (λ (a b : Bool). (is_before n z && not a) || b) (nat_eq-symm (times z xs) (times z ys)) (uneven-symm n xs ys zs)
-
--- both together
-pub branches_differ : (n : ℕ) (front xs ys : List Owned)
-    → (list_any (is_other n (front ++ ys)) (map (with_times (front ++ xs)) xs) || list_any (is_other n (front ++ xs)) (map (with_times (front ++ ys)) ys)) ≡ list_any (is_uneven n xs ys) (xs ++ ys)
-branches_differ n front xs ys =
-    ap₂ (λ (a b : Bool). a || b) (taken_differs n front xs ys xs) (taken_differs n front ys xs ys ∙ uneven-symm n ys xs ys)
-    ∙ sym (list_any-append (is_uneven n xs ys) xs ys)
 
 -- COUNTS THAT ARE KEPT
 

@@ -1,5 +1,5 @@
 -- A fault on a way names a rule that is broken at its place.
-use Rattle.std.proofs.Common.{◌≡◌, ◌⊎◌, inl, inr, ℕ, suc, ◌+◌, ◌≤◌, Bool, true, false, List, [], ◌∷◌, ◌++◌, refl, sym, ap, ◌∙◌, subst, arith}
+use Rattle.std.proofs.Common.{◌≡◌, ◌⊎◌, inl, inr, ℕ, suc, ◌≤◌, Bool, true, false, List, [], ◌∷◌, ◌++◌, refl, sym, subst, arith}
 use Rattle.std.specs.Prelude.{◌||◌, cond, Option, Some, None}
 use Rattle.std.specs.List.{list_any}
 use Rattle.lexer.specs.declared.token.Span.{Span}

@@ -1,7 +1,7 @@
 -- The branches of an `if`: what their numbers of assignments have in common.
-use Rattle.std.specs.Prelude.{◌≡◌, ◌⊎◌, ℕ, ◌≤◌, Bool, true, false, ◌&&◌, ◌||◌, cond, List, [], ◌∷◌, ◌++◌, Option, refl}
+use Rattle.std.specs.Prelude.{◌≡◌, ◌⊎◌, ℕ, Bool, true, false, ◌&&◌, ◌||◌, cond, List, [], ◌∷◌, ◌++◌, Option, refl}
 use Rattle.std.specs.List.{list_any}
-use Rattle.std.proofs.Common.{inl, inr, sym, ap, ◌∙◌, subst, arith}
+use Rattle.std.proofs.Common.{inl, inr, sym, ap, ◌∙◌, subst}
 use Rattle.lexer.specs.declared.token.Span.{Span}
 use Rattle.syntax_trees.specs.Core.{Owned}
 use Rattle.syntax_trees.specs.Members.{◌∈◌, first, later}
@@ -13,7 +13,7 @@ use Rattle.assign_check.specs.Through.{OnWay}
 use Rattle.assign_check.specs.Breaks.{OnOne}
 use Rattle.assign_check.proofs.Counts.{only_if_none, any_false, false_any}
 use Rattle.assign_check.proofs.Ways.{owned_is, some_way, nat_zero, way_holds}
-use Rattle.assign_check.proofs.Numbers.{More, more_from, from_more, no_more, on_way, way_on}
+use Rattle.assign_check.proofs.WayNumbers.{More, more_from, from_more, no_more, on_way, way_on}
 
 -- MEMBERS
 
@@ -68,15 +68,15 @@ same_numbers l n at p q x none h out = elim (owned_in x (way l p ++ way l q)) [
       (sym (ap (λ (b : Bool). b && (has_more (counts l x p) (counts l x q) || has_more (counts l x q) (counts l x p))) h) ∙ even)
       )
   | inr k ↦ (
-      false_unless (has_more (counts l x p) (counts l x q)) (λ m. elim (one_listed l x p q out (one_more l x p q out m)) [
-        | inl i ↦ k (to_left (way l p) (way l q) i)
-        | inr i ↦ k (to_right (way l p) (way l q) i)
-      ]),
-      false_unless (has_more (counts l x q) (counts l x p)) (λ m. elim (one_listed l x q p out (one_more l x q p out m)) [
-        | inl i ↦ k (to_right (way l p) (way l q) i)
-        | inr i ↦ k (to_left (way l p) (way l q) i)
-      ])
-      )
+    false_unless (has_more (counts l x p) (counts l x q)) (λ m. elim (one_listed l x p q out (one_more l x p q out m)) [
+      | inl i ↦ k (to_left (way l p) (way l q) i)
+      | inr i ↦ k (to_right (way l p) (way l q) i)
+    ]),
+    false_unless (has_more (counts l x q) (counts l x p)) (λ m. elim (one_listed l x q p out (one_more l x q p out m)) [
+      | inl i ↦ k (to_right (way l p) (way l q) i)
+      | inr i ↦ k (to_left (way l p) (way l q) i)
+    ]),
+  )
 ]
 
 -- a number of the first branch is one of the other

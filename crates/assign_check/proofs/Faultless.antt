@@ -1,5 +1,5 @@
 -- Where each variable is well assigned, no way has a fault.
-use Rattle.std.specs.Prelude.{◌≡◌, ◌⊎◌, ℕ, suc, ◌+◌, ◌≤◌, Bool, true, false, cond, List, [], ◌∷◌, ◌++◌, Option, Some, None, refl}
+use Rattle.std.specs.Prelude.{◌≡◌, ◌⊎◌, ℕ, suc, ◌+◌, Bool, true, false, cond, List, [], ◌∷◌, ◌++◌, Option, Some, None, refl}
 use Rattle.std.proofs.Common.{inl, inr, sym, ◌∙◌, subst, arith}
 use Rattle.lexer.specs.declared.token.Span.{Span}
 use Rattle.syntax_trees.specs.Core.{Owned}
@@ -85,10 +85,13 @@ wanted_new : (l : Option ℕ) (before : List Owned) (d : Declared) (o : Outline)
 wanted_new l before d o w inner none = record {
   room = λ n out v. elim (role_given d.role) [
     | inl g ↦ (let m = w.given_once (0 + n) g (and_then a_declaration v refl) in record { once = omega arith; never = λ i. omega arith })
-    | inr g ↦ (let m = w.once (0 + n) g (and_then a_declaration v refl) in record { once = omega arith; never = λ i. elim (either before (given_by d.role d.what) i) [
-      | inl j ↦ absurd (none j)
-      | inr j ↦ absurd (g (given_in d.role d.what d.what j).1)
-    ] })
+    | inr g ↦ (let m = w.once (0 + n) g (and_then a_declaration v refl) in record {
+      once = omega arith;
+      never = λ i. elim (either before (given_by d.role d.what) i) [
+        | inl j ↦ absurd (none j)
+        | inr j ↦ absurd (g (given_in d.role d.what d.what j).1)
+      ];
+    })
   ];
   alike = λ out. elim (role_given d.role) [
     | inl g ↦ inl (to_right before (given_by d.role d.what) (given_self d.role d.what g))

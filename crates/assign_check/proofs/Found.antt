@@ -13,7 +13,7 @@ use Rattle.assign_check.specs.declared.fault.AssignFault.TheVariants.{NeverAssig
 use Rattle.assign_check.specs.Outline.{Kind, named, written, read, Use, Role, own, result, given, Declared, Outline}
 use Rattle.assign_check.specs.Faults.{same, is_kind, is_used, other_form, form_faults, never_faults, output_faults, role_faults, variable_faults, uses_in, declared_in}
 use Rattle.assign_check.specs.Breaks.{Used, IsTarget, IsNever, IsBoth, IsUnassigned}
-use Rattle.assign_check.proofs.Counts.{same_is, same_from, kind_is, kind_from}
+use Rattle.assign_check.proofs.Counts.{same_is, kind_from}
 use Rattle.assign_check.proofs.Variables.{both_true, and_true, used_or, not_kind, kind_or, is_target, target_true}
 use Rattle.assign_check.proofs.Broken.{no_target_read, target_of}
 

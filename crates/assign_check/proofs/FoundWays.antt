@@ -1,14 +1,14 @@
 -- Each rule that is broken on a way has its fault.
-use Rattle.std.specs.Prelude.{◌≡◌, ◌⊎◌, ℕ, suc, ◌+◌, ◌≤◌, Bool, true, false, ◌&&◌, ◌||◌, cond, List, [], ◌∷◌, ◌++◌, Option, Some, None, refl}
+use Rattle.std.specs.Prelude.{◌≡◌, ◌⊎◌, ℕ, suc, ◌≤◌, Bool, true, false, ◌&&◌, ◌||◌, cond, List, [], ◌∷◌, ◌++◌, Option, Some, None, refl}
 use Rattle.std.specs.List.{list_any}
 use Rattle.std.proofs.Common.{inl, inr, sym, ap, ◌∙◌, subst, arith}
 use Rattle.lexer.specs.declared.token.Span.{Span}
 use Rattle.syntax_trees.specs.Core.{Owned}
-use Rattle.syntax_trees.specs.Members.{◌∈◌, first, later}
+use Rattle.syntax_trees.specs.Members.{◌∈◌, first}
 use Rattle.syntax_trees.proofs.Members.{split_in, to_left, to_right, either}
 use Rattle.assign_check.specs.declared.fault.AssignFault.{AssignFault}
 use Rattle.assign_check.specs.declared.fault.AssignFault.TheVariants.{AssignedTwice, PartlyAssigned, OuterInLoop}
-use Rattle.assign_check.specs.Outline.{Kind, named, Use, given, Declared, Outline, followed, Step, declares, uses, splits, repeats, encloses}
+use Rattle.assign_check.specs.Outline.{Kind, named, Use, Outline, Step, repeats}
 use Rattle.assign_check.specs.Faults.{is_before, is_outer, is_among, given_by, way, step_way, target_faults, counts, has_more, is_uneven, branch_faults, way_faults, step_faults, split_faults, split_step, uses_in, uses_at}
 use Rattle.assign_check.specs.Through.{HasStep, first_step, later_step, BlockIn, the_block, in_a_step, BlockOf, in_first, in_other, in_loop, in_wait, Counts, in_this_step, in_a_later_step, CountsIn, the_step, in_the_first, in_the_other, in_the_body, in_the_block, Reaches, at_a_step, behind_a_step, behind_its_own, ReachesIn, the_use, in_its_first, in_its_other, in_its_body, in_its_block}
 use Rattle.assign_check.specs.Breaks.{OnOne, IsPartly}

@@ -11,8 +11,9 @@ pub mod Visible
 pub mod Variables
 pub mod Bodies
 pub mod Ways
-pub mod Numbers
+pub mod WayNumbers
 pub mod Even
+pub mod Sums
 pub mod Clean
 pub mod NoFault
 pub mod Faultless
@@ -28,6 +29,7 @@ pub mod Among
 pub mod Answered
 pub mod Tallied
 pub mod Outlined
+pub mod Handed
 pub mod Like
 pub mod CoreBlocks
 pub mod LikeWays

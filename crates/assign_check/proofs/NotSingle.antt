@@ -1,5 +1,5 @@
 -- A scoped outline that is singly assigned has no fault.
-use Rattle.std.specs.Prelude.{[], ◌++◌, None, refl}
+use Rattle.std.specs.Prelude.{[], ◌++◌, None}
 use Rattle.std.specs.List.{flat_map}
 use Rattle.assign_check.specs.Outline.{Declared, Outline, declares}
 use Rattle.assign_check.specs.Faults.{way_faults, split_faults, uses_in, declared_in, variable_faults}

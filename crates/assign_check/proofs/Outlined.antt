@@ -9,7 +9,7 @@ use Rattle.syntax_trees.specs.Tree.{Part, import, function, single}
 use Rattle.assign_check.specs.declared.fault.AssignFault.{AssignFault}
 use Rattle.assign_check.specs.declared.tally.Tally.{Tally}
 use Rattle.assign_check.specs.Outline.{Outline, Step, outlined, Use, Declared, function_outlines, function_steps}
-use Rattle.assign_check.specs.Faults.{precedes, first_among, way_faults, uses_in, declared_in, variable_faults, faults_of}
+use Rattle.assign_check.specs.Faults.{precedes, first_among, way_faults, split_faults, uses_in, declared_in, variable_faults, faults_of}
 use Rattle.assign_check.specs.Tallies.{unused, tally_from, tally_faults}
 use Rattle.assign_check.proofs.Answered.{first_among-append}
 use Rattle.assign_check.proofs.Tallied.{all_tallied}
@@ -27,14 +27,16 @@ pub none_answered : (fs : List AssignFault) → first_among None fs ≡ None →
 none_answered [] is = refl
 none_answered (f ∷ fs) is = absurd (some_stays f fs is)
 
-pub outline_best : (o : Outline) (b walked a : Option AssignFault) (w : List Owned) (us : List Use) (ds : List Declared) (f : Owned → Tally)
-    → w ≡ [] → walked ≡ first_among b (way_faults None w o) → us ≡ uses_in o → ds ≡ declared_in o → ((x : Owned) → f x ≡ tally_from unused x us)
-    → a ≡ first_among walked (flat_map (λ d. tally_faults d.role d.shape d.span (f d.what)) ds) → a ≡ first_among b (faults_of o)
-outline_best o b walked a w us ds f empty ways used declared tallies adds =
+pub outline_best : (o : Outline) (b walked counted a : Option AssignFault) (w : List Owned) (us : List Use) (ds : List Declared) (f : Owned → Tally)
+    → w ≡ [] → walked ≡ first_among b (way_faults None w o) → counted ≡ first_among walked (split_faults None o) → us ≡ uses_in o → ds ≡ declared_in o → ((x : Owned) → f x ≡ tally_from unused x us)
+    → a ≡ first_among counted (flat_map (λ d. tally_faults d.role d.shape d.span (f d.what)) ds) → a ≡ first_among b (faults_of o)
+outline_best o b walked counted a w us ds f empty ways splits used declared tallies adds =
     adds
-    ∙ ap (first_among walked) (all_tallied f us tallies ds ∙ ap₂ (λ (u : List Use) (d : List Declared). flat_map (variable_faults u) d) used declared)
-    ∙ ap (λ (z : Option AssignFault). first_among z (flat_map (variable_faults (uses_in o)) (declared_in o))) (ways ∙ ap (λ (z : List Owned). first_among b (way_faults None z o)) empty)
-    ∙ sym (first_among-append b (way_faults None [] o) (flat_map (variable_faults (uses_in o)) (declared_in o)))
+    ∙ ap (first_among counted) (all_tallied f us tallies ds ∙ ap₂ (λ (u : List Use) (d : List Declared). flat_map (variable_faults u) d) used declared)
+    ∙ ap (λ (z : Option AssignFault). first_among z (flat_map (variable_faults (uses_in o)) (declared_in o)))
+    (splits ∙ ap (λ (z : Option AssignFault). first_among z (split_faults None o)) (ways ∙ ap (λ (z : List Owned). first_among b (way_faults None z o)) empty)
+    ∙ sym (first_among-append b (way_faults None [] o) (split_faults None o)))
+    ∙ sym (first_among-append b (way_faults None [] o ++ split_faults None o) (flat_map (variable_faults (uses_in o)) (declared_in o)))
 
 -- one more step of a walk
 pub best_more : {X Y : Type 0} (view : X → Y) (one : Y → List AssignFault) (all : List Y → List AssignFault) → ((y : Y) (ys : List Y) → all (y ∷ ys) ≡ one y ++ all ys)

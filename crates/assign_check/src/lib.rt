@@ -3,12 +3,15 @@
 
 mod best;
 mod blocks;
+mod count;
 pub mod fault;
 pub mod laws;
+mod numbers;
 mod outline;
 mod parts;
 mod reads;
 mod script;
+mod sets;
 mod table;
 mod tally;
 #[cfg(test)]

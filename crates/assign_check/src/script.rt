@@ -6,11 +6,13 @@ ghost use Rattle.syntax_trees.specs.View.{part_of, tree_of};
 ghost use Rattle.types.specs.Typed.{table_of};
 ghost use Rattle.assign_check.specs.Faults as faults;
 ghost use Rattle.assign_check.specs.Outline.{function_outlines};
+ghost use Rattle.assign_check.specs.Sets.{are_empty};
 ghost use Rattle.assign_check.specs.Tables.{at};
 ghost use Rattle.assign_check.specs.Tallies as tallies;
 ghost use Rattle.assign_check.specs.View.{outline_view};
 ghost use Rattle.assign_check.specs.Ways.{listed};
 
+use crate::count::{Branches, count, no_branches};
 use crate::fault::AssignFault;
 use crate::outline::Step;
 use crate::parts::{function_steps, script_steps};
@@ -58,12 +60,28 @@ fn answer<A: Allocator>(
     ensures { IfOk result (λ best. best ≡ faults.first_fault (faults.faults (table_of typed.now) (tree_of script.now))) }
 {
     let mut way = Way::new(alloc);
+    let mut branches = no_branches(alloc);
     let mut tallied = Table::new(alloc, unused());
     let mut best = None;
     let own = script_steps(alloc, typed, &script.items)?;
-    outline(alloc, &own, &mut way, &mut tallied, &mut best)?;
+    outline(
+        alloc,
+        &own,
+        &mut way,
+        &mut branches,
+        &mut tallied,
+        &mut best,
+    )?;
     for item in &script.items {
-        part(alloc, typed, item, &mut way, &mut tallied, &mut best)?;
+        part(
+            alloc,
+            typed,
+            item,
+            &mut way,
+            &mut branches,
+            &mut tallied,
+            &mut best,
+        )?;
     }
     Ok(best)
 }
@@ -74,40 +92,48 @@ fn part<A: Allocator>(
     typed: &Typed,
     item: &Item<A>,
     way: &mut Way,
+    branches: &mut Branches,
     tallied: &mut Table<Tally>,
     best: &mut Option<AssignFault>,
 ) -> Result<(), AllocError>
     requires way { listed way.old ≡ [] }
+    requires branches { are_empty branches.old }
     requires tallied { (of : core.Owned) → at tallied.old of ≡ tallies.unused }
     ensures best { OnOk result (best.new ≡ faults.first_among best.old (flat_map faults.faults_of (function_outlines (table_of typed.now) (part_of item.now ∷ [])))) }
     ensures way { OnOk result (listed way.new ≡ []) }
+    ensures branches { OnOk result (are_empty branches.new) }
     ensures tallied { OnOk result ((of : core.Owned) → at tallied.new of ≡ tallies.unused) }
 {
     match item {
         Item::Import(_) | Item::Statement(_) => Ok(()),
         Item::Function(one) => {
             let steps = function_steps(alloc, typed, one)?;
-            outline(alloc, &steps, way, tallied, best)
+            outline(alloc, &steps, way, branches, tallied, best)
         }
     }
 }
 
-/// The faults of a block that stands in no other. The way and the tallies are empty before it and behind it.
+/// The faults of a block that stands in no other. The way, the sets of branches and the tallies are empty before it and behind it.
 fn outline(
     alloc: Global,
     steps: &Vec<Step>,
     way: &mut Way,
+    branches: &mut Branches,
     tallied: &mut Table<Tally>,
     best: &mut Option<AssignFault>,
 ) -> Result<(), AllocError>
     requires way { listed way.old ≡ [] }
+    requires branches { are_empty branches.old }
     requires tallied { (of : core.Owned) → at tallied.old of ≡ tallies.unused }
     ensures best { OnOk result (best.new ≡ faults.first_among best.old (faults.faults_of (outline_view steps.now.items))) }
     ensures way { OnOk result (listed way.new ≡ []) }
+    ensures branches { OnOk result (are_empty branches.new) }
     ensures tallied { OnOk result ((of : core.Owned) → at tallied.new of ≡ tallies.unused) }
 {
     walk(alloc, None, steps, way, best)?;
     way.truncate(0);
+    let mut parts = Vec::new(alloc);
+    count(alloc, None, steps, branches, &mut parts, best)?;
     let mut uses = Vec::new(alloc);
     let mut declared = Vec::new(alloc);
     collect(steps, &mut uses, &mut declared)?;

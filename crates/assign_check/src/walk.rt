@@ -1,22 +1,21 @@
-//! The faults on ways.
-ghost use Rattle.std.specs.Prelude.{◌≡◌, ◌++◌, ◌∷◌, [], List, map, length, OnOk, ◌||◌, cond};
-ghost use Rattle.syntax_trees.specs.Core as core;
+//! The faults of targets: what some way before them assigns already, and what stands in a loop.
+ghost use Rattle.std.specs.Prelude.{◌≡◌, ◌++◌, ◌∷◌, [], OnOk, cond};
 ghost use Rattle.types.specs.Typed.{owned_name};
 ghost use Rattle.assign_check.specs.Faults as faults;
 ghost use Rattle.assign_check.specs.Outline as outline;
 ghost use Rattle.assign_check.specs.View.{outline_view, step_view, use_view, role_of};
-ghost use Rattle.assign_check.specs.Ways.{listed, counted_view, with_times};
+ghost use Rattle.assign_check.specs.Ways.{listed};
 
 use crate::best::note;
 use crate::fault::AssignFault;
 use crate::outline::{Kind, Role, Step, Use};
-use crate::way::{Counted, Way, is_before};
+use crate::way::{Way, is_before};
 use lexer::token::Span;
 use std::alloc::{AllocError, Global};
 use types::typed::Owned;
 
 /// Whether a variable is not declared inside the loop, if this is in one; the loop by its number.
-fn is_outer(inside: Option<u32>, of: Owned) -> bool
+pub fn is_outer(inside: Option<u32>, of: Owned) -> bool
     ensures { result ≡ faults.is_outer inside (owned_name of) }
 {
     match inside {
@@ -79,36 +78,6 @@ fn twice(of: Owned, at: Span, way: &Way, best: &mut Option<AssignFault>)
     }
 }
 
-/// What lies behind an `if` of a number, which begins at a place: the branches are compared, and the way takes the first one.
-fn join(
-    alloc: Global,
-    number: u32,
-    at: Span,
-    before: usize,
-    taken: &[Counted],
-    way: &mut Way,
-    best: &mut Option<AssignFault>,
-) -> Result<(), AllocError>
-    ensures way { OnOk result ((front xs ys : List core.Owned) → listed way.old ≡ front ++ ys → length front ≡ before → map counted_view taken.now ≡ map (with_times (front ++ xs)) xs → listed way.new ≡ front ++ xs) }
-    ensures best { OnOk result ((front xs ys : List core.Owned) → listed way.old ≡ front ++ ys → length front ≡ before → map counted_view taken.now ≡ map (with_times (front ++ xs)) xs → best.new ≡ faults.first_among best.old (faults.branch_faults number at xs ys)) }
-{
-    let uneven = way.differs(number, taken);
-    let left = way.set_aside(alloc, before)?;
-    way.extend(taken)?;
-    let also = way.differs(number, left.as_slice());
-    compared(uneven, also, at, best);
-    Ok(())
-}
-
-/// Whether a branch of an `if` that begins at a place, or the other one, has a variable that is assigned differently often.
-fn compared(uneven: bool, also: bool, at: Span, best: &mut Option<AssignFault>)
-    ensures { best.new ≡ faults.first_among best.old (cond (uneven || also) (AssignFault.PartlyAssigned at ∷ []) []) }
-{
-    if uneven || also {
-        note(best, AssignFault::PartlyAssigned(at));
-    }
-}
-
 /// The steps of a block, behind those that the way shows; the innermost loop round it by its number.
 #[cycle(walk)]
 pub fn walk(
@@ -141,12 +110,14 @@ fn walk_step(
     match step {
         Step::Declares(one) => declared(one.role, one.what, way),
         Step::Uses(one) => used(inside, *one, way, best),
-        Step::Splits(number, at, first, other) => {
+        Step::Splits(_, _, first, other) => {
             let before = way.len();
             walk(alloc, inside, first, way, best)?;
             let taken = way.set_aside(alloc, before)?;
             walk(alloc, inside, other, way, best)?;
-            join(alloc, *number, *at, before, taken.as_slice(), way, best)
+            let left = way.set_aside(alloc, before)?;
+            way.extend(taken.as_slice())?;
+            way.extend(left.as_slice())
         }
         Step::Repeats(number, body) => {
             let before = way.len();

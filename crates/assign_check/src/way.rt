@@ -1,4 +1,4 @@
-//! The variables that a way assigns.
+//! The variables that some way assigns.
 ghost use Rattle.std.specs.Prelude.{◌≡◌, map};
 ghost use Rattle.syntax_trees.specs.Core as core;
 ghost use Rattle.types.specs.Typed.{owned_name};
@@ -9,14 +9,7 @@ use crate::table::Table;
 use std::alloc::{AllocError, Global};
 use types::typed::Owned;
 
-/// A variable, with how often a way assigned it.
-#[derive(Clone, Copy, Debug, PartialEq, Eq)]
-pub struct Counted {
-    pub of: Owned,
-    pub times: usize,
-}
-
-/// The variables that are assigned on a way, in their order, and how often each of them is.
+/// The variables that are assigned on some way, in their order, and how often each of them stands there.
 #[derive(Drop)]
 pub struct Way {
     list: Vec<Owned>,
@@ -36,9 +29,8 @@ pub fn is_before(number: u32, of: Owned) -> bool
 }
 
 impl Way {
-    ghost use Rattle.std.specs.Prelude.{◌-◌, ◌++◌, ◌∷◌, [], OnOk, OnErr, IfOk, take, drop, length};
-    ghost use Rattle.std.specs.List.{list_any};
-    ghost use Rattle.assign_check.specs.Ways.{listed, counted_view, with_times, is_other};
+    ghost use Rattle.std.specs.Prelude.{◌-◌, ◌++◌, ◌∷◌, [], OnOk, IfOk, take, drop, length};
+    ghost use Rattle.assign_check.specs.Ways.{listed};
 
     /// The way that assigns nothing.
     pub fn new(alloc: Global) -> Way
@@ -103,50 +95,26 @@ impl Way {
         }
     }
 
-    /// The variables that are assigned from a place on, each with how often the whole way assigns it.
-    fn counted(&self, alloc: Global, from: usize) -> Result<Vec<Counted>, AllocError>
-        ensures { IfOk result (λ part. map counted_view part.items ≡ map (with_times (listed self.now)) (drop from (listed self.now))) }
+    /// Takes back all assignments but the first ones, and hands those out.
+    pub fn set_aside(&mut self, alloc: Global, from: usize) -> Result<Vec<Owned>, AllocError>
+        ensures kept { OnOk result (listed self.new ≡ take from (listed self.old)) }
+        ensures part { IfOk result (λ part. map owned_name part.items ≡ drop from (listed self.old)) }
     {
         let mut part = Vec::new(alloc);
         for i in from..self.list.len() {
-            let of = self.list[i];
-            part.push(Counted {
-                of,
-                times: self.times(of),
-            })?;
+            part.push(self.list[i])?;
         }
-        Ok(part)
-    }
-
-    /// Takes back all assignments but the first ones, and hands out those, each with how often the whole way assigned it.
-    pub fn set_aside(&mut self, alloc: Global, from: usize) -> Result<Vec<Counted>, AllocError>
-        ensures kept { OnOk result (listed self.new ≡ take from (listed self.old)) }
-        ensures part { IfOk result (λ part. map counted_view part.items ≡ map (with_times (listed self.old)) (drop from (listed self.old))) }
-    {
-        let part = self.counted(alloc, from)?;
         self.truncate(from);
         Ok(part)
     }
 
     /// Assigns variables, one after another.
-    pub fn extend(&mut self, part: &[Counted]) -> Result<(), AllocError>
-        ensures { OnOk result (listed self.new ≡ listed self.old ++ map (λ c. owned_name c.of) part.now) }
+    pub fn extend(&mut self, part: &[Owned]) -> Result<(), AllocError>
+        ensures { OnOk result (listed self.new ≡ listed self.old ++ map owned_name part.now) }
     {
         for one in part {
-            self.push(one.of)?;
+            self.push(*one)?;
         }
         Ok(())
-    }
-
-    /// Whether one of the variables, which is declared before the statement of a number, is assigned differently often.
-    pub fn differs(&self, number: u32, part: &[Counted]) -> bool
-        ensures { result ≡ list_any (is_other number (listed self.now)) (map counted_view part.now) }
-    {
-        for one in part {
-            if is_before(number, one.of) && one.times != self.times(one.of) {
-                return true;
-            }
-        }
-        false
     }
 }

@@ -16,6 +16,7 @@ loop-item-init g c =
     record {
       best = own_first (steps_view c.in_ok-own.own.items) (script_steps t tree) (part_faults t tree) c.outline.new.best c.in_ok-own.ensures c.in_ok-outline.ensures.best;
       way = c.in_ok-outline.ensures.way;
+      branches = c.in_ok-outline.ensures.branches;
       tallied = c.in_ok-outline.ensures.tallied;
     }
 
@@ -27,5 +28,6 @@ loop-item-preserved g c =
           (faults.first_fault (faults.faults t (tree_of {A = g.row.A.Denot} c.args.script.now))) c.loop-item.best c.part.new.best c.args.script.now.items.items c.loop-item.item-index c.item-item.result
           c.loop-item.invariant.best (grind (arith, common_steps)) (grind (arith, common_steps)) c.in_ok-part.ensures.best;
       way = c.in_ok-part.ensures.way;
+      branches = c.in_ok-part.ensures.branches;
       tallied = c.in_ok-part.ensures.tallied;
     }

@@ -20,9 +20,9 @@ returns-clause-best c =
     let used = c.in_ok-collect.ensures.uses ∙ ap (λ (us : List Use). map use_view us ++ faults.uses_in o) c.new-uses.ensures.items in
     let declared = c.in_ok-collect.ensures.declared ∙ ap (λ (ds : List Declared). map declared_view ds ++ faults.declared_in o) c.new-declared.ensures.items in
     let tallies = λ (x : Owned). c.in_ok-add_all.ensures x ∙ ap₂ (λ (t : Tally) (us : List Use). tally_from t x (map use_view us)) (c.requires.tallied x) c.as_slice.ensures.value in
-    let notes = c.note_all.ensures ∙ ap (λ (ds : List Declared). faults.first_among c.walk.new.best (flat_map (λ d. tally_faults d.role d.shape d.span (at c.add_all.new.table d.what)) (map declared_view ds))) c.as_slice-2.ensures.value in
-    on_ok_weaker c.clear.result (λ _. outline_best o c.args.best.now c.walk.new.best c.note_all.new.best (listed c.args.way.now) (map use_view c.collect.new.uses.items) (map declared_view c.collect.new.declared.items) (at c.add_all.new.table)
-    c.requires.way c.in_ok-walk.ensures.best used declared tallies notes) c.clear.ensures
+    let notes = c.note_all.ensures ∙ ap (λ (ds : List Declared). faults.first_among c.count.new.best (flat_map (λ d. tally_faults d.role d.shape d.span (at c.add_all.new.table d.what)) (map declared_view ds))) c.as_slice-2.ensures.value in
+    on_ok_weaker c.clear.result (λ _. outline_best o c.args.best.now c.walk.new.best c.count.new.best c.note_all.new.best (listed c.args.way.now) (map use_view c.collect.new.uses.items) (map declared_view c.collect.new.declared.items) (at c.add_all.new.table)
+    c.requires.way c.in_ok-walk.ensures.best c.in_ok-count.ensures.best used declared tallies notes) c.clear.ensures
 
 pub returns-clause-tallied : goal.returns-clause-tallied
 returns-clause-tallied c =

@@ -1,10 +1,10 @@
-use Rattle.std.proofs.Common.{◌++◌, List, map, refl, ap, sym, ◌∙◌, arith}
+use Rattle.std.proofs.Common.{◌++◌, List, refl, ap, sym, ◌∙◌, arith}
 use Rattle.std.proofs.lemmas.Grind.{common_steps}
 use Rattle.std.proofs.lemmas.Result.{on_ok_weaker}
 use Rattle.assign_check.specs.Outline as outline
 use Rattle.assign_check.specs.Faults as faults
 use Rattle.assign_check.specs.View.{step_view, outline_view}
-use Rattle.assign_check.specs.Ways.{listed, counted_view}
+use Rattle.assign_check.specs.Ways.{listed}
 use Rattle.assign_check.proofs.Walks.{walked_more}
 use Rattle.assign_check.proofs.Answered.{step_best, split_best, loop_way, view-Repeats, view-Splits}
 use Rattle.assign_check.proofs.walk.+walk.Goals as goal
@@ -19,16 +19,14 @@ walk-loop-step-preserved t c = record {
       c.loop-step.invariant.best (grind (arith, common_steps)) (grind (arith, common_steps)) c.in_ok-walk_step.ensures.way c.in_ok-walk_step.ensures.best;
 }
 
-pub walk_step-returns-in_ok-walk-in-Splits-2-clause-best : goal.walk_step-returns-in_ok-walk-in-Splits-2-clause-best
-walk_step-returns-in_ok-walk-in-Splits-2-clause-best t c =
-    let view = ap step_view c.in-Splits.is ∙ view-Splits c.in-Splits.number c.in-Splits.at c.in-Splits.first c.in-Splits.other in
-    on_ok_weaker c.join.result (λ joins.
-    split_best c.args.inside c.in-Splits.number c.in-Splits.at (outline_view c.in-Splits.first.items) (outline_view c.in-Splits.other.items) c.len-before.result
-    (listed c.args.way.now) (listed c.walk.new.way) (listed c.set_aside.new.self) (listed c.walk-in-Splits.new.way) c.args.best.now c.walk.new.best c.walk-in-Splits.new.best c.join.new.best c.in_ok-taken-in-Splits.taken.items
-    (sym c.len-before.ensures) c.in_ok-walk-in-Splits.ensures.way c.in_ok-walk-in-Splits.ensures.best c.in_ok-taken-in-Splits.ensures.kept c.in_ok-taken-in-Splits.ensures.part
-    c.in_ok-walk-in-Splits-2.ensures.way c.in_ok-walk-in-Splits-2.ensures.best
-    (λ front xs ys is long taken. joins front xs ys is long (ap (map counted_view) c.as_slice.ensures.value ∙ taken))
-    ∙ ap (λ (s : outline.Step). faults.first_among c.args.best.now (faults.step_faults c.args.inside (listed c.args.way.now) s)) (sym view)) c.join.ensures.best
+pub walk_step-returns-in_ok-extend-in-Splits-clause-best : goal.walk_step-returns-in_ok-extend-in-Splits-clause-best
+walk_step-returns-in_ok-extend-in-Splits-clause-best t c =
+    let view = ap step_view c.in-Splits.is ∙ view-Splits c.in-Splits.field-0 c.in-Splits.field-1 c.in-Splits.first c.in-Splits.other in
+    on_ok_weaker c.extend-in-Splits.result (λ _.
+    split_best c.args.inside c.in-Splits.field-0 c.in-Splits.field-1 (outline_view c.in-Splits.first.items) (outline_view c.in-Splits.other.items) c.len-before.result
+    (listed c.args.way.now) (listed c.walk.new.way) (listed c.set_aside.new.self) c.args.best.now c.walk.new.best c.walk-in-Splits.new.best
+    (sym c.len-before.ensures) c.in_ok-walk-in-Splits.ensures.way c.in_ok-walk-in-Splits.ensures.best c.in_ok-taken-in-Splits.ensures.kept c.in_ok-walk-in-Splits-2.ensures.best
+    ∙ ap (λ (s : outline.Step). faults.first_among c.args.best.now (faults.step_faults c.args.inside (listed c.args.way.now) s)) (sym view)) c.extend-in-Splits.ensures
 
 pub walk_step-returns-in_ok-walk-in-Repeats-clause-way : goal.walk_step-returns-in_ok-walk-in-Repeats-clause-way
 walk_step-returns-in_ok-walk-in-Repeats-clause-way t c =

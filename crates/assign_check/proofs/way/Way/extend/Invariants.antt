@@ -4,5 +4,4 @@ use Rattle.assign_check.specs.Ways.{listed}
 use Rattle.assign_check.proofs.way.Way.extend.Given as goal
 
 abbrev pub invariant-loop-one : goal.invariant-loop-one
-invariant-loop-one l =
-    listed l.fn.self ++ map (λ c. owned_name c.of) l.part ≡ listed l.self ++ map (λ c. owned_name c.of) (drop l.one-index l.part)
+invariant-loop-one l = listed l.fn.self ++ map owned_name l.part ≡ listed l.self ++ map owned_name (drop l.one-index l.part)
