@@ -1,5 +1,5 @@
 -- What a chain is, by what its parts are.
-use Rattle.std.proofs.Common.{◌≡◌, ℕ, zero, suc, ◌<◌, length, List, [], ◌∷◌, ◌++◌, map, Bool, true, false, refl, ap, ap₂, sym, ◌∙◌, subst, append_assoc, arith}
+use Rattle.std.proofs.Common.{◌≡◌, ℕ, zero, suc, length, List, [], ◌∷◌, ◌++◌, map, Bool, true, false, refl, ap, ap₂, sym, ◌∙◌, subst, append_assoc}
 use Rattle.std.proofs.lemmas.List.{append-nil}
 use Rattle.syntax_trees.specs.declared.tree.Operator.{Operator}
 use Rattle.syntax_trees.specs.declared.tree.Level.{Level}
@@ -10,10 +10,11 @@ use Rattle.syntax_trees.specs.Rules.{Place}
 use Rattle.syntax_trees.specs.Grammar.{spans, chained}
 use Rattle.lexer.specs.declared.token.TokenKind.{TokenKind}
 use Rattle.lexer.specs.declared.token.TokenKind.TheVariants as Kind
-use Rattle.syntax.specs.Readers.{Read, refused, got, Reader, ◌>>=◌, second, cond, choose, made, ◌∗◌, many_over, many, once, opened}
+use Rattle.syntax.specs.declared.stop.Stop.{Stop}
+use Rattle.syntax.specs.Readers.{refused, got, Reader, ◌>>=◌, second, cond, choose, made, ◌∗◌, many_over, many, once, opened}
 use Rattle.syntax.specs.Reading.{at_operator, read_operator, operands, chain_over, read_name, read_unary, read_form, read_prefixed, read_arguments, read_index, read_named, read_operand, read_operands, read_chain}
 use Rattle.syntax.proofs.Combine.{bind_got, got_value}
-use Rattle.syntax.proofs.Forms.{many_stop, both_got, both_fails, operands_none, chain_alone, form_same}
+use Rattle.syntax.proofs.Forms.{both_got, both_fails, operands_none, chain_alone, form_same}
 
 -- a repetition only appends
 many_extends : {A : Type 0} (test : Place → Bool) (r : Reader A) (n : ℕ) (xs : List A) (s : Place) (ys : List A) (u : Place) → many_over test r n xs s ≡ got ys u
@@ -81,13 +82,13 @@ pub chain_short : (depth : ℕ) (l : Level) (s : Place) (x : Expression) (v : Pl
 unfolding read_chain
 chain_short depth l s x v one none = chain_alone l (read_operand depth l) s x v one none
 
-pub chain_fails : (depth : ℕ) (l : Level) (s : Place) → read_operand depth l s ≡ refused → read_chain depth l s ≡ refused
+pub chain_fails : (depth : ℕ) (l : Level) (s : Place) (stop : Stop) → read_operand depth l s ≡ refused stop → read_chain depth l s ≡ refused stop
 unfolding read_chain
-chain_fails depth l s one = ap (λ z. (z >>= λ a w. operands l (read_operand depth l) [] w >>= λ b u. got (a, b) u) >>= λ p u. got (chained s p u) u) one
+chain_fails depth l s stop one = ap (λ z. (z >>= λ a w. operands l (read_operand depth l) [] w >>= λ b u. got (a, b) u) >>= λ p u. got (chained s p u) u) one
 
-pub chain_stops : (depth : ℕ) (l : Level) (s : Place) (x : Expression) (v : Place) → read_operand depth l s ≡ got x v → read_operands depth l [] v ≡ refused → read_chain depth l s ≡ refused
+pub chain_stops : (depth : ℕ) (l : Level) (s : Place) (x : Expression) (v : Place) → read_operand depth l s ≡ got x v → (stop : Stop) → read_operands depth l [] v ≡ refused stop → read_chain depth l s ≡ refused stop
 unfolding read_chain read_operands
-chain_stops depth l s x v one more =
+chain_stops depth l s x v one stop more =
     ap (λ z. (z >>= λ a w. operands l (read_operand depth l) [] w >>= λ b u. got (a, b) u) >>= λ p u. got (chained s p u) u) one
     ∙ ap (λ z. (z >>= λ b u. got (x, b) u) >>= λ p u. got (chained s p u) u) more
 
@@ -100,13 +101,13 @@ operand_one depth l s o v e u is holds one two =
     ∙ ap (λ b. cond b ((read_operator l ∗ read_operand depth l) s >>= λ a u. got (a ∷ []) u) (got [] s)) holds
     ∙ ap (λ z. z >>= λ a u. got (a ∷ []) u) (both_got (read_operator l) (read_operand depth l) s o v e u one two)
 
-pub operand_fails : (depth : ℕ) (l : Level) (s : Place) (o : Operator) (v : Place) → repeats l ≡ false → at_operator l s ≡ true
-    → read_operator l s ≡ got o v → read_operand depth l v ≡ refused → read_operands depth l [] s ≡ refused
+pub operand_fails : (depth : ℕ) (l : Level) (s : Place) (o : Operator) (v : Place) (stop : Stop) → repeats l ≡ false → at_operator l s ≡ true
+    → read_operator l s ≡ got o v → read_operand depth l v ≡ refused stop → read_operands depth l [] s ≡ refused stop
 unfolding read_operands
-operand_fails depth l s o v is holds one two =
+operand_fails depth l s o v stop is holds one two =
     ap (λ b. cond b (many (at_operator l) (read_operator l ∗ read_operand depth l) []) (once (at_operator l) (read_operator l ∗ read_operand depth l) []) s) is
     ∙ ap (λ b. cond b ((read_operator l ∗ read_operand depth l) s >>= λ a u. got (a ∷ []) u) (got [] s)) holds
-    ∙ ap (λ z. z >>= λ a u. got (a ∷ []) u) (both_fails (read_operator l) (read_operand depth l) s o v one two)
+    ∙ ap (λ z. z >>= λ a u. got (a ∷ []) u) (both_fails (read_operator l) (read_operand depth l) s o v stop one two)
 
 pub no_operand : (depth : ℕ) (l : Level) (s : Place) → at_operator l s ≡ false → read_operands depth l [] s ≡ got [] s
 unfolding read_operands

@@ -7,8 +7,9 @@ use Rattle.syntax_trees.specs.Tree.{Word, Calling, assign_all, calls, Part, func
 use Rattle.syntax_trees.specs.View.{choice_of}
 use Rattle.syntax_trees.specs.Rules.{Place}
 use Rattle.syntax_trees.specs.Grammar.{first_of, node, does, or_zero}
-use Rattle.syntax.specs.Readers.{Read, refused, got, ◌>>=◌, at, at_end, the, ◌▸◌, ◌◂◌, made, never, maybe, many_over}
-use Rattle.syntax.specs.Reading.{read_names, read_call, read_many, read_priority, read_calling, read_name, read_test, read_source, read_stmt, read_stmts, read_block, read_else, read_if, read_foreach, read_wait, read_named_stmt, read_command, read_part, read_script, read_parameters, read_function}
+use Rattle.syntax.specs.declared.stop.Stop.{Stop}
+use Rattle.syntax.specs.Readers.{refused, got, ◌>>=◌, at, at_end, the, ◌▸◌, made, maybe, many_over}
+use Rattle.syntax.specs.Reading.{read_names, read_call, read_many, read_priority, read_calling, read_name, read_test, read_source, read_stmt, read_stmts, read_block, read_else, read_if, read_foreach, read_wait, read_command, read_part, read_script, read_parameters, read_function}
 use Rattle.syntax.proofs.Combine.{bind_got, got_value, got_place}
 use Rattle.syntax.proofs.Chains.{taken}
 use Rattle.syntax.proofs.Statements.{command_same}
@@ -54,10 +55,10 @@ unfolding read_if read_else
 if_reads depth s t v e w b x o u one two three four = rw (one, two, three, four) refl
 
 pub if_branch_fails : (depth : ℕ) (s : Place) (t : Lexeme) (v : Place) (e : Expression) (w : Place) (b : Body) (x : Place)
-    → the Kind.If s ≡ got t v → read_test depth v ≡ got e w → read_block depth w ≡ got b x → maybe (at Kind.Else) (the Kind.Else ▸ read_else depth) x ≡ refused
-    → read_if depth s ≡ refused
+    → the Kind.If s ≡ got t v → read_test depth v ≡ got e w → read_block depth w ≡ got b x → (stop : Stop) → maybe (at Kind.Else) (the Kind.Else ▸ read_else depth) x ≡ refused stop
+    → read_if depth s ≡ refused stop
 unfolding read_if read_else
-if_branch_fails depth s t v e w b x one two three four = rw (one, two, three, four) refl
+if_branch_fails depth s t v e w b x one two three stop four = rw (one, two, three, four) refl
 
 pub foreach_reads : (depth : ℕ) (s : Place) (t : Lexeme) (v : Place) (n : Word) (v' : Place) (k : Option Word) (w : Place) (i : Lexeme) (w' : Place) (o : Over) (x : Place) (b : Body) (u : Place)
     → the Kind.Foreach s ≡ got t v → read_name v ≡ got n v' → maybe (at Kind.Comma) (the Kind.Comma ▸ read_name) v' ≡ got k w → the Kind.In w ≡ got i w' → read_source depth w' ≡ got o x

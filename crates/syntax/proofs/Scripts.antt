@@ -8,6 +8,8 @@ use Rattle.lexer.specs.declared.token.TokenKind.TheVariants as Kind
 use Rattle.syntax_trees.specs.Kinds.{same}
 use Rattle.syntax_trees.specs.Rules.{Place, Rule, The, ◌⋆◌, ◌▹◌, ◌◃◌, Never, Many, Made, Maybe, Commas, Perhaps, Deeper}
 use Rattle.syntax_trees.specs.Grammar.{first_of, node, IsName, IsDecl, AreParameters, IsCall, IsPriority, IsStmtOver, a_declaration, an_assignment, a_write, many_assigned, a_call, an_if, a_foreach, a_wait, IsBlockOver, IsStmt, IsBlock, IsModule, io, assert, string, IsPart, an_import, a_function, a_statement, IsScript}
+use Rattle.syntax.specs.declared.stop.Stop.{Stop}
+use Rattle.syntax.specs.declared.stop.Stop.TheVariants.{Unexpected}
 use Rattle.syntax.specs.Readers.{refused, got, ◌>>=◌, kind_of, kind_at, second_at, at, second, start, none_of, at_end, cond, choose, the, made, checked}
 use Rattle.syntax.specs.Reading.{spells, is_module, read_module, read_import, read_function, at_function, read_stmt, read_part, read_script}
 use Rattle.syntax.proofs.Spelling.{spells_true}
@@ -23,6 +25,9 @@ module_spelled s t u is true c one other h = io is (spells_is t.text (105 ∷ 11
 module_spelled s t u is false true one other h = assert is (spells_is t.text (97 ∷ 115 ∷ 115 ∷ 101 ∷ 114 ∷ 116 ∷ []) other)
 module_spelled s t u is false false one other h = absurd (cc)
 
+pub module_named : (s : Place) (t : Lexeme) (u : Place) → The Kind.Name s t u → is_module t ≡ true → IsModule s t u
+module_named s t u is holds = module_spelled s t u is (spells t.text (105 ∷ 111 ∷ [])) (spells t.text (97 ∷ 115 ∷ 115 ∷ 101 ∷ 114 ∷ 116 ∷ [])) refl refl holds
+
 or_true : (b c : Bool) → c ≡ true → (b || c) ≡ true
 or_true true c h = refl
 or_true false c h = h
@@ -37,7 +42,7 @@ module_law = record { sound = sound.gives; complete = complete }
           let word : Law 1 (checked is_module (the Kind.Name)) (λ s t u. The Kind.Name s t u × (is_module t ≡ true)) Any
           = checked_law (the_law Kind.Name) (λ s t u is holds. (is, holds)) (λ s t u is. is) in
           let p = word.sound s t u h in
-          (module_spelled s t u p.0.0 (spells t.text (105 ∷ 111 ∷ [])) (spells t.text (97 ∷ 115 ∷ 115 ∷ 101 ∷ 114 ∷ 116 ∷ [])) refl refl p.0.1, p.1);
+          (module_named s t u p.0.0 p.0.1, p.1);
     }
 
     sound : Sound read_module IsModule
@@ -46,8 +51,8 @@ module_law = record { sound = sound.gives; complete = complete }
     by_name : (s : Place) (t : Lexeme) (u : Place) → The Kind.Name s t u → is_module t ≡ true → read_module s ≡ got t u
     by_name s t u is holds =
         choose_second (at Kind.String) (the Kind.String) (checked is_module (the Kind.Name)) s (ap (λ k. same k Kind.String) (kind_the Kind.Name s t u is))
-        ∙ ap (λ z. z >>= λ a v. cond (is_module a) (got a v) refused) ((the_law Kind.Name).complete s t u is tt)
-        ∙ ap (λ b. cond b (got t u) refused) holds
+        ∙ ap (λ z. z >>= λ a v. cond (is_module a) (got a v) (refused (Unexpected a.span))) ((the_law Kind.Name).complete s t u is tt)
+        ∙ ap (λ b. cond b (got t u) (refused (Unexpected t.span))) holds
 
     complete : (s : Place) (t : Lexeme) (u : Place) → IsModule s t u → Any (kind_at u) → read_module s ≡ got t u
     complete s t u (io is text) after = by_name s t u is (ap (λ b. b || spells t.text (97 ∷ 115 ∷ 115 ∷ 101 ∷ 114 ∷ 116 ∷ [])) (spells_true t.text (105 ∷ 111 ∷ []) text))
@@ -77,7 +82,7 @@ function_law depth =
     made_law composite (both_law (parameters_law depth) (both_law name_law (both_law (parameters_law depth) (block_law depth) (λ s b u is after. tt)) (λ s b u is after. tt)) (λ s b u is after. tt))
 
 -- the test of a function, by the first two kinds
-function_is : (s : Place) → at_function s ≡ cond (same (kind_at s) Kind.OpenRound) (not (same (second_at s) Kind.Name)) false
+pub function_is : (s : Place) → at_function s ≡ cond (same (kind_at s) Kind.OpenRound) (not (same (second_at s) Kind.Name)) false
 unfolding at_function at second
 function_is s = refl
 
@@ -205,8 +210,8 @@ script_complete depth ts tree (u, parts, end) = (
 )
 
 -- where reading refuses, the tokens have no tree
-pub script_refused : (depth : ℕ) (ts : List Lexeme) → read_script depth (start ts) ≡ refused → (tree : Tree) → IsScript depth ts tree → ⊥
-script_refused depth ts none tree is = let p = script_complete depth ts tree is in let bad = sym none ∙ p.1 in absurd (cc)
+pub script_refused : (depth : ℕ) (ts : List Lexeme) (stop : Stop) → read_script depth (start ts) ≡ refused stop → (tree : Tree) → IsScript depth ts tree → ⊥
+script_refused depth ts stop none tree is = let p = script_complete depth ts tree is in let bad = sym none ∙ p.1 in absurd (cc)
 
 -- tokens have at most one tree
 pub one_tree : (depth : ℕ) (ts : List Lexeme) (t u : Tree) → IsScript depth ts t → IsScript depth ts u → t ≡ u

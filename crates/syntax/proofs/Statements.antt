@@ -10,9 +10,9 @@ use Rattle.lexer.specs.declared.token.TokenKind.TheVariants as Kind
 use Rattle.syntax_trees.specs.Kinds.{same}
 use Rattle.syntax_trees.specs.Rules.{Place, behind, Rule, The, ◌⋆◌, ◌▹◌, ◌◃◌, Never, Many, Made, Maybe, Round, Square, Deeper}
 use Rattle.syntax_trees.specs.Grammar.{first_of, does, or_zero, IsName, IsExpr, IsDecl, AreNames, IsCall, IsRight, IsPriority, IsSource, IsElse, a_block, an_if, IsStmtOver, a_declaration, an_assignment, a_write, many_assigned, a_call, a_foreach, a_wait, IsBlockOver, IsStmt, IsBlock}
-use Rattle.syntax.specs.Readers.{Read, refused, got, Reader, ◌>>=◌, kind_of, kind_at, second_at, at, second, cond, the, ◌◂◌, made, never, many, deeper}
+use Rattle.syntax.specs.Readers.{Read, refused, got, Reader, ◌>>=◌, kind_of, kind_at, second_at, at, second, cond, the, ◌◂◌, made, stop_at, nested, tight, many, deeper}
 use Rattle.syntax.specs.Reading.{at_type, read_declaration, read_assignment, read_write, read_many, read_calling, else_over, if_over, foreach_over, wait_over, stmt_over, block_over, read_stmt, read_stmts, read_block, read_else, read_if, read_foreach, read_wait, read_named_stmt, read_command}
-use Rattle.syntax.proofs.Combine.{Law, Any, Tests, Begins, Stops, Sound, kind_the, kind_same, same_kind, the_law, both_law, both_last_law, drop_law, keep_law, made_law, before_law, same_law, never_law, sound_as, sound_never, sound_choose, sound_test, cond_first, choose_first, choose_second, begins_the, not_kind, maybe_law, many_law, tests_at, opened_deep, opened_zero}
+use Rattle.syntax.proofs.Combine.{Law, Any, Tests, Begins, Stops, Sound, kind_the, kind_same, same_kind, the_law, both_law, both_last_law, drop_law, keep_law, made_law, before_law, same_law, tight_law, tight_stays, nested_law, sound_as, sound_never, sound_choose, sound_test, cond_first, choose_first, choose_second, begins_the, not_kind, maybe_law, many_law, tests_at, opened_deep, opened_zero}
 use Rattle.syntax.proofs.Expressions.{Ends, ends_of, name_law, expr_law, second_the}
 use Rattle.syntax.proofs.Declarations.{names_type, tests_type, decl_law, decl_begins, names_law, index_law, test_law, call_law, right_law, priority_law, priority_begins, source_law}
 
@@ -202,7 +202,7 @@ stmt_by depth block stmt k l s =
     (cond (same l Kind.Assign) (read_assignment depth s)
     (cond (same l Kind.OpenSquare) (read_write depth s)
     (read_calling depth s)))
-    refused))))))
+    (refused (stop_at s))))))))
 
 stmt_is : (depth : ℕ) (block : Reader Body) (stmt : Reader Statement) (s : Place) → stmt_over depth block stmt s ≡ stmt_by depth block stmt (kind_at s) (second_at s) s
 unfolding at second at_type
@@ -263,7 +263,7 @@ stmt_over_law {block} {stmt} {B} {S} depth one begins two = record { sound = sou
 
 -- BLOCKS
 
-tests_open : Tests (λ s. not (at Kind.CloseCurly s)) (λ k. not (same k Kind.CloseCurly))
+pub tests_open : Tests (λ s. not (at Kind.CloseCurly s)) (λ k. not (same k Kind.CloseCurly))
 unfolding at
 tests_open = record { is = λ s. refl }
 
@@ -286,7 +286,7 @@ block_over_begins S s b u (cs, (t, v, here, more), is) = same_kind (kind_at s) K
 
 pub stmt_law : (depth : ℕ) → Law 1 (read_stmt depth) (IsStmt depth) After_stmt
 unfolding read_stmt IsStmt
-stmt_law zero = stmt_over_law zero never_law (λ s b u is. absurd is) (before_law never_law (λ k h. tt))
+stmt_law zero = stmt_over_law zero (tight_law Kind.OpenCurly (λ s a u is. is)) (λ s b u is. absurd is) nested_law
 stmt_law (suc depth) = stmt_over_law (suc depth) (block_over_law (stmt_law depth) (stmt_begins depth)) (block_over_begins (IsStmt depth)) (stmt_law depth)
 
 pub stmts_law : (depth : ℕ) → Law 0 (read_stmts depth) (Many (IsStmt depth)) (Stops After_stmt (λ k. not (same k Kind.CloseCurly)))
@@ -295,16 +295,17 @@ stmts_law depth = many_stmts_law (stmt_law depth) (stmt_begins depth)
 
 -- THE READERS BY THEIR DEPTH
 
-pub block_zero : read_block zero ≡ never
+pub block_zero : read_block zero ≡ tight Kind.OpenCurly
 unfolding read_block
-block_zero = fun_ext (λ s. ap (λ z. z >>= λ cs u. got (body (first_of s.rest).from (statements_of cs)) u) (opened_zero Kind.OpenCurly (λ d v. (read_stmts d ◂ the Kind.CloseCurly) v) s))
+block_zero = fun_ext (λ s. ap (λ z. z >>= λ cs u. got (body (first_of s.rest).from (statements_of cs)) u) (opened_zero Kind.OpenCurly (λ d v. (read_stmts d ◂ the Kind.CloseCurly) v) s)
+    ∙ tight_stays (the Kind.OpenCurly s) (λ cs u. got (body (first_of s.rest).from (statements_of cs)) u))
 
 pub block_deep : (depth : ℕ) → read_block (suc depth) ≡ block_over (read_stmt depth)
 unfolding read_block read_stmts
 block_deep depth = fun_ext (λ s. ap (λ z. z >>= λ cs u. got (body (first_of s.rest).from (statements_of cs)) u) (opened_deep Kind.OpenCurly depth (λ d v. (read_stmts d ◂ the Kind.CloseCurly) v) s))
 
 pub block_law : (depth : ℕ) → Law 1 (read_block depth) (IsBlock depth) Any
-block_law zero = same_law never_law (λ s. ap (λ r. r s) block_zero)
+block_law zero = same_law (tight_law Kind.OpenCurly (λ s a u is. is)) (λ s. ap (λ r. r s) block_zero)
 block_law (suc depth) = same_law (block_over_law (stmt_law depth) (stmt_begins depth)) (λ s. ap (λ r. r s) (block_deep depth))
 
 pub block_begins : (depth : ℕ) → Begins (IsBlock depth) (λ k. same k Kind.OpenCurly)
@@ -312,7 +313,7 @@ block_begins zero s b u is = absurd is
 block_begins (suc depth) s b u is = block_over_begins (IsStmt depth) s b u is
 
 pub deeper_law : (depth : ℕ) → Law 1 (deeper read_stmt depth) (Deeper IsStmt depth) After_stmt
-deeper_law zero = before_law never_law (λ k h. tt)
+deeper_law zero = nested_law
 deeper_law (suc depth) = stmt_law depth
 
 pub else_law : (depth : ℕ) → Law 1 (read_else depth) (IsElse (IsBlock depth) (Deeper IsStmt depth)) After_stmt
@@ -334,7 +335,7 @@ wait_law depth = wait_over_law depth (block_law depth)
 -- the statement by what its parts read at its depth is the statement
 pub command_same : (depth : ℕ) (s : Place) → read_command depth s ≡ read_stmt depth s
 unfolding read_command read_if read_foreach read_wait read_named_stmt read_stmt
-command_same zero s = ap (λ b. stmt_over zero b never s) block_zero
+command_same zero s = ap (λ b. stmt_over zero b nested s) block_zero
 command_same (suc depth) s = ap (λ b. stmt_over (suc depth) b (read_stmt depth) s) (block_deep depth)
 
 pub command_law : (depth : ℕ) → Law 1 (read_command depth) (IsStmt depth) After_stmt

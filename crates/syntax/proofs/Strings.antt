@@ -1,8 +1,8 @@
 -- Strings in quotes, by a test of their bytes.
-use Rattle.std.proofs.Common.{◌≡◌, ℕ, ◌+◌, Bool, true, false, List, [], ◌∷◌, ◌++◌, refl, sym, ap, ◌∙◌, subst, arith}
+use Rattle.std.proofs.Common.{◌≡◌, ℕ, Bool, true, false, List, [], ◌∷◌, ◌++◌, refl, sym, ap, ◌∙◌, subst, arith}
 use Rattle.std.specs.Prelude.{Option, Some, None, ◌&&◌, IsTrue, nat_eq, if◌then◌else◌, is_some}
 use Rattle.std.proofs.lemmas.Bool.Decides.{nat_tests}
-use borrow.Author.Tests.{eqb-true, eqb-false}
+use borrow.Author.Tests.{eqb-true}
 use Rattle.lexer.specs.Bytes.{is_plain, is_empty, escaped_byte}
 use Rattle.lexer.specs.Tokens.{Spells, ended, plain, escape, Quotes, IsString}
 use Rattle.syntax_trees.specs.Grammar.{or_itself, spelled_from, behind_quote}

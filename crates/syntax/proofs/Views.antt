@@ -1,5 +1,5 @@
 -- The views of nodes as they are made.
-use Rattle.std.proofs.Common.{rules, ◌≡◌, ℕ, List, map, ap, ap₂, sym, ◌∙◌}
+use Rattle.std.proofs.Common.{rules, ◌≡◌, ℕ, ap, ap₂, ◌∙◌}
 use Rattle.std.specs.Prelude.{ℤ, Vec, Box, Option, Some, None, option_map}
 use Rattle.lexer.specs.declared.token.Span.{Span}
 use Rattle.syntax_trees.specs.declared.tree.Name.{Name}
@@ -15,7 +15,7 @@ use Rattle.syntax_trees.specs.declared.tree.Decl.{Decl}
 use Rattle.syntax_trees.specs.declared.tree.Function.{Function}
 use Rattle.syntax.specs.Answers.{branch_view}
 use Rattle.syntax_trees.specs.declared.tree.StmtKind.{StmtKind, AssignAll, If, Foreach, Wait, the_lemmas as statement_lemmas}
-use Rattle.syntax_trees.specs.Tree.{Composite, Command, Statement, statement, assign_all, calls, loop, waits, Word, Node, Expression, expression, Form, text, call, prefixed, chain, expressions_of}
+use Rattle.syntax_trees.specs.Tree.{Composite, Command, statement, assign_all, calls, loop, waits, expression, Form, text, call, prefixed, chain, expressions_of}
 use Rattle.syntax_trees.specs.View.{word_of, expression_view, form_view, expressions_view, words_view, calling_of, statement_view, command_view, body_view, over_of, choice_of, composite_of, declarations_view}
 use Rattle.syntax_trees.specs.Rules.{Place}
 use Rattle.syntax_trees.specs.Grammar.{first_of, node, spans, does}

@@ -7,17 +7,16 @@ use Rattle.syntax_trees.specs.View.{body_view, statement_view}
 use Rattle.syntax.specs.declared.stop.Stop.{Stop}
 use Rattle.syntax.specs.declared.stop.Stop.TheVariants.{AtEnd, Unexpected, TooNested, Memory}
 use Rattle.syntax_trees.specs.Rules.{Place}
-use Rattle.lexer.specs.declared.token.Span.{Span}
 use Rattle.lexer.specs.declared.fault.LexFault.{LexFault}
 use Rattle.syntax.specs.declared.error.ParseFault.{ParseFault}
 use Rattle.syntax.specs.declared.error.ParseFault.TheVariants as Fault
 use Rattle.syntax.specs.Readers.{Read, refused, got}
 
--- a function stops where reading refuses, or where memory ran out
+-- a function stops where reading does, or where memory ran out
 abbrev pub Fails : {A : Type 0} → Stop → Read A → Type 0
-Fails AtEnd read = read ≡ refused
-Fails (Unexpected s) read = read ≡ refused
-Fails (TooNested s) read = read ≡ refused
+Fails AtEnd read = read ≡ refused AtEnd
+Fails (Unexpected s) read = read ≡ refused (Unexpected s)
+Fails (TooNested s) read = read ≡ refused (TooNested s)
 Fails Memory read = Unit {0}
 
 -- what a function returned is what reading gives, unless memory ran out

@@ -1,11 +1,18 @@
 -- What a refusal says of a text.
-use Rattle.std.specs.Prelude.{◌≡◌, ℕ, ◌<◌, ◌≤◌, List, [], ◌∷◌, ◌++◌, map, length, Ok, Err, Option, Some, None}
+use Rattle.std.specs.Prelude.{◌≡◌, ℕ, ◌<◌, ◌≤◌, List, [], ◌∷◌, ◌++◌, map, length, Ok, Err, Option, Some, None, ◌⊎◌}
 use Rattle.lexer.specs.Items.{Lexeme, span_of}
 use Rattle.lexer.specs.declared.token.Span.{Span}
 use Rattle.lexer.specs.Tokens.{Tokens}
 use Rattle.lexer.specs.declared.fault.LexFault.{LexFault}
 use Rattle.syntax_trees.specs.Tree.{Tree}
 use Rattle.syntax_trees.specs.Reads.{Reads}
+use Rattle.syntax_trees.specs.Grammar.{IsScript}
+use Rattle.syntax.specs.declared.stop.Stop.{Stop}
+use Rattle.syntax.specs.declared.stop.Stop.TheVariants.{AtEnd}
+use Rattle.syntax.specs.Endings.{ending}
+use Rattle.syntax.specs.Readers.{refused, start}
+use Rattle.syntax.specs.Reading.{read_script}
+use Rattle.syntax.specs.Viable.{StopsFirst}
 use Rattle.syntax.specs.declared.error.ParseFault.{ParseFault}
 use Rattle.syntax.specs.declared.error.ParseFault.TheVariants.{Lex, Unexpected, TooNested, TooLong, Memory}
 
@@ -13,15 +20,19 @@ use Rattle.syntax.specs.declared.error.ParseFault.TheVariants.{Lex, Unexpected, 
 abbrev pub HasNone : List ℕ → Type 0
 HasNone bytes = (tree : Tree) → ¬ Reads bytes tree
 
--- its tokens end with this fault, which is its first
-abbrev pub FirstFault : List ℕ → LexFault → Type 0
-FirstFault bytes f = (ts : List Lexeme) × Tokens bytes (map Ok ts ++ Err f ∷ [])
+-- its tokens, which this ends, are read within 64 levels of nesting up to this stop, the first place with which no script goes on
+abbrev pub Stopped : List ℕ → Option LexFault → Stop → Type 0
+Stopped bytes fault stop = (ts : List Lexeme) × Tokens bytes (map Ok ts ++ ending fault) × (read_script 64 (start ts) ≡ refused stop) × StopsFirst ts stop
+
+-- its tokens are a script of their own, and then comes its first lexical fault
+abbrev pub Spoilt : List ℕ → LexFault → Type 0
+Spoilt bytes f = (ts : List Lexeme) × (tree : Tree) × Tokens bytes (map Ok ts ++ Err f ∷ []) × IsScript 64 ts tree
 
 -- a text that is refused has no tree; a text of more than 1,048,576 bytes is refused as too long, and no other is
 abbrev pub Refuses : List ℕ → ParseFault → Type 0
-Refuses bytes (Lex f) = (length bytes ≤ 1048576) × HasNone bytes × FirstFault bytes f
-Refuses bytes (Unexpected s) = (length bytes ≤ 1048576) × HasNone bytes
-Refuses bytes (TooNested s) = (length bytes ≤ 1048576) × HasNone bytes
+Refuses bytes (Lex f) = (length bytes ≤ 1048576) × HasNone bytes × (Stopped bytes (Some f) AtEnd ⊎ Spoilt bytes f)
+Refuses bytes (Unexpected s) = (length bytes ≤ 1048576) × HasNone bytes × (((fault : Option LexFault) × Stopped bytes fault (Stop.Unexpected s)) ⊎ (Stopped bytes None AtEnd × (s ≡ record { from = length bytes; to = length bytes })))
+Refuses bytes (TooNested s) = (length bytes ≤ 1048576) × HasNone bytes × (fault : Option LexFault) × Stopped bytes fault (Stop.TooNested s)
 Refuses bytes (TooLong s) = (1048576 < length bytes) × HasNone bytes × (s ≡ record { from = 1048576; to = 1048576 })
 Refuses bytes Memory = length bytes ≤ 1048576
 

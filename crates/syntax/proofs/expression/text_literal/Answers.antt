@@ -1,4 +1,4 @@
-use Rattle.std.proofs.Common.{◌≡◌, ap, sym, ◌∙◌}
+use Rattle.std.proofs.Common.{ap, sym, ◌∙◌}
 use Rattle.lexer.specs.Given.{lexeme_of}
 use Rattle.syntax_trees.specs.Tree.{text}
 use Rattle.lexer.specs.declared.token.TokenKind.TheVariants as Kind

@@ -1,6 +1,5 @@
 use Rattle.std.proofs.Common.{◌≡◌, ap, sym, ◌∙◌, arith}
 use Rattle.std.proofs.lemmas.Grind.{common_steps}
-use Rattle.syntax_trees.specs.declared.tree.Function.{Function}
 use Rattle.syntax_trees.specs.Tree.{function}
 use Rattle.syntax_trees.specs.View.{declarations_view, word_of, body_view}
 use Rattle.syntax.specs.Readers.{got}

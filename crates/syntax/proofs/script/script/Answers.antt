@@ -1,10 +1,10 @@
-use Rattle.std.proofs.Common.{rules, ◌≡◌, ℕ, ◌+◌, ◌-◌, ◌<◌, ◌≤◌, ◌++◌, ◌∷◌, [], Bool, true, false, suc, length, map, ap, sym, ◌∙◌, arith}
+use Rattle.std.proofs.Common.{◌≡◌, ◌-◌, ◌<◌, ◌++◌, ◌∷◌, [], Bool, suc, length, map, ap, sym, ◌∙◌, arith}
 use Rattle.std.specs.Prelude.{not}
 use Rattle.std.proofs.lemmas.Grind.{common_steps}
 use Rattle.std.proofs.lemmas.Result.{err_from_is_err_and}
 use Rattle.syntax_trees.specs.View.{part_of}
 use Rattle.syntax_trees.specs.Rules.{Place}
-use Rattle.syntax.specs.Readers.{got, at_end, many_over}
+use Rattle.syntax.specs.Readers.{at_end, many_over}
 use Rattle.syntax.specs.Reading.{read_part, read_script}
 use Rattle.syntax.proofs.Forms.{many_stop, many_more, many_fails, fails_on}
 use Rattle.syntax.proofs.Commands.{script_begin}
@@ -36,8 +36,10 @@ loop-items-preserved g c =
 pub returns-in_err-part : goal.returns-in_err-part
 returns-in_err-part g c =
     let inv = c.loop-items.invariant in
+    let left = inv.1 in
+    let some : 0 < inv.0 = omega arith in
     let fails = fails_on c.in_err-part.field-0.0 (read_part c.args.depth c.loop-items.cursor) (read_script c.args.depth c.args.cursor.now)
-    (λ none. inv.2 ∙ many_fails (λ s. not (at_end s)) (read_part c.args.depth) inv.0 (map (part_of {A = g.row.A.Denot}) c.loop-items.items.items) c.loop-items.cursor
+    (λ stop none. inv.2 ∙ many_fails (λ s. not (at_end s)) (read_part c.args.depth) inv.0 (map (part_of {A = g.row.A.Denot}) c.loop-items.items.items) c.loop-items.cursor stop some
     (ap not (sym c.is_empty.ensures ∙ c.loop-items-test.true)) none) c.in_err-part.ensures.reads in
     let p = err_from_is_err_and c.from_residual-in_err-part.result c.from_residual-in_err-part.ensures.1 in
     rw (p.1, p.2) fails

@@ -1,4 +1,4 @@
-use Rattle.std.proofs.Common.{rules, ◌≡◌, ℕ, ◌+◌, ◌-◌, ◌<◌, ◌≤◌, ◌++◌, ◌∷◌, [], Bool, true, false, suc, length, map, ap, ap₂, sym, ◌∙◌, arith}
+use Rattle.std.proofs.Common.{◌≡◌, ◌-◌, ◌<◌, ◌++◌, ◌∷◌, [], Bool, suc, length, map, ap, ap₂, sym, ◌∙◌, arith}
 use Rattle.std.specs.Prelude.{not, option_map}
 use Rattle.std.proofs.lemmas.Grind.{common_steps}
 use Rattle.std.proofs.lemmas.Result.{err_from_is_err_and}
@@ -6,7 +6,6 @@ use Rattle.lexer.specs.Given.{lexeme_of}
 use Rattle.syntax_trees.specs.Tree.{body, statements_of, loop, waits}
 use Rattle.syntax_trees.specs.View.{word_of, words_view, expression_view, statement_view, body_view, over_of, choice_of}
 use Rattle.syntax_trees.specs.Rules.{Place}
-use Rattle.syntax_trees.specs.Grammar.{first_of}
 use Rattle.lexer.specs.declared.token.TokenKind.TheVariants as Kind
 use Rattle.syntax.specs.Answers.{branch_view}
 use Rattle.syntax.specs.Readers.{got, at, the, ◌▸◌, maybe, many_over}
@@ -47,8 +46,10 @@ stmts-loop-statements-preserved g t c =
 pub stmts-returns-in_err-statement-clause-reads : goal.stmts-returns-in_err-statement-clause-reads
 stmts-returns-in_err-statement-clause-reads g t c =
     let inv = c.loop-statements.invariant in
+    let left = inv.1 in
+    let some : 0 < inv.0 = omega arith in
     let fails = fails_on c.in_err-statement.field-0.0 (read_command c.args.depth c.loop-statements.cursor) (read_stmts c.args.depth c.args.cursor.now)
-    (λ none. inv.2 ∙ many_fails (λ s. not (at Kind.CloseCurly s)) (read_stmt c.args.depth) inv.0 (map (statement_view {A = g.row.A.Denot}) c.loop-statements.statements.items) c.loop-statements.cursor
+    (λ stop none. inv.2 ∙ many_fails (λ s. not (at Kind.CloseCurly s)) (read_stmt c.args.depth) inv.0 (map (statement_view {A = g.row.A.Denot}) c.loop-statements.statements.items) c.loop-statements.cursor stop some
     (ap not (sym c.at.ensures ∙ c.loop-statements-test.true)) (sym (command_same c.args.depth c.loop-statements.cursor) ∙ none)) c.in_err-statement.ensures.reads in
     let p = err_from_is_err_and c.from_residual-in_err-statement.result c.from_residual-in_err-statement.ensures.1 in
     rw (p.1, p.2) fails

@@ -1,4 +1,4 @@
-use Rattle.std.proofs.Common.{◌≡◌, ℕ, ◌++◌, length, map}
+use Rattle.std.proofs.Common.{◌++◌, length, map}
 use Rattle.std.specs.Prelude.{Ok, IsTrue}
 use Rattle.lexer.specs.Given.{lexeme_of}
 use Rattle.lexer.specs.Tokens.{Tokens}

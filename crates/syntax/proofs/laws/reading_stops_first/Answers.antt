@@ -1,0 +1,5 @@
+use Rattle.syntax.proofs.Viable.{stops_first}
+use Rattle.syntax.proofs.laws.reading_stops_first.Goals as goal
+
+pub returns : goal.returns
+returns c = stops_first
