@@ -1,5 +1,5 @@
 //! A turn: an item begins, is computed and ends.
-ghost use Rattle.std.specs.Prelude.{◌≡◌, ◌<◌, ◌%◌, length, slice_index, IfOk, OnOk, MatchBool};
+ghost use Rattle.std.specs.Prelude.{◌≡◌, ◌<◌, ◌%◌, length, slice_index, IfOk, OnErr, OnOk, MatchBool};
 ghost use Rattle.dataflow.specs.Machine.{Begin, End};
 ghost use Rattle.task_code.specs.View.{kind_view};
 ghost use Rattle.board.specs.Board.{Accepts, IsGoing, IsOwn, IsWorker, MayBegin};
@@ -83,11 +83,12 @@ fn begin(board: &mut Board, worker: u8, item: u64) -> Result<Work, AllocError>
 ///
 /// # Errors
 ///
-/// `AllocError` where memory that was asked for was refused.
+/// `AllocError` where memory that was asked for was refused. The item then still runs.
 pub fn finish(board: &mut Board, worker: u8, work: Work) -> Result<bool, AllocError>
     requires worker { IsWorker worker }
     requires own { IsOwn board.old worker work }
-    ensures { IfOk result (λ taken. MatchBool taken (Accepts board.old (End worker work.item) board.new) ((board.new ≡ board.old) × ¬ IsGoing board.old)) }
+    ensures ends { IfOk result (λ taken. MatchBool taken (Accepts board.old (End worker work.item) board.new) ((board.new ≡ board.old) × ¬ IsGoing board.old)) }
+    ensures unchanged { OnErr result (board.new ≡ board.old) }
 {
     match work.compute() {
         Ok(done) => hand_in(board, worker, done),
@@ -102,7 +103,8 @@ pub fn finish(board: &mut Board, worker: u8, work: Work) -> Result<bool, AllocEr
 fn hand_in(board: &mut Board, worker: u8, done: Done) -> Result<bool, AllocError>
     requires worker { IsWorker worker }
     requires own { IsOwn board.old worker done }
-    ensures { IfOk result (λ taken. MatchBool taken (Accepts board.old (End worker done.item) board.new) ((board.new ≡ board.old) × ¬ IsGoing board.old)) }
+    ensures ends { IfOk result (λ taken. MatchBool taken (Accepts board.old (End worker done.item) board.new) ((board.new ≡ board.old) × ¬ IsGoing board.old)) }
+    ensures unchanged { OnErr result (board.new ≡ board.old) }
 {
     match board.end(worker, done) {
         Ok(()) => Ok(true),

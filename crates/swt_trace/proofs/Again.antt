@@ -26,29 +26,6 @@ use Rattle.swt_trace.specs.Replay.{IsFirstNoStep, IsTraceOf, ReplaysTo}
 use Rattle.swt_trace.specs.Trace.{IsFirstBad, IsInRange, IsTrace, TraceText, most_events}
 use Rattle.swt_trace.proofs.Lines.{bad, begins, one_meaning}
 
--- events are told by what they stand for
-same_event : (e f : Event) → event_view e ≡ event_view f → e ≡ f
-same_event (Begin v i) (Begin w j) e = (let p : v ≡ w = cc in let q : i ≡ j = cc in (λ k. Begin (p k) (q k)))
-same_event (End v i) (End w j) e = (let p : v ≡ w = cc in let q : i ≡ j = cc in (λ k. End (p k) (q k)))
-same_event (Back v i) (Back w j) e = (let p : v ≡ w = cc in let q : i ≡ j = cc in (λ k. Back (p k) (q k)))
-same_event (Begin v i) (End w j) e = absurd (cc (e))
-same_event (Begin v i) (Back w j) e = absurd (cc (e))
-same_event (End v i) (Begin w j) e = absurd (cc (e))
-same_event (End v i) (Back w j) e = absurd (cc (e))
-same_event (Back v i) (Begin w j) e = absurd (cc (e))
-same_event (Back v i) (End w j) e = absurd (cc (e))
-
-same_events : (es fs : List Event) → map event_view es ≡ map event_view fs → es ≡ fs
-same_events [] [] e = refl
-same_events [] (g ∷ fs) e = absurd (cc (e))
-same_events (f ∷ es) [] e = absurd (cc (e))
-same_events (f ∷ es) (g ∷ fs) e =
-    let first : event_view f ≡ event_view g = cc in
-    let rest : map event_view es ≡ map event_view fs = cc in
-    let one = same_event f g first in
-    let more = same_events es fs rest in
-    (λ k. one k ∷ more k)
-
 -- an event of a list, as the machine's
 at_in : (es : List Event) (k : ℕ) (d : Event) → k < length es → In (event_view (get_or es k d)) (map event_view es)
 at_in [] k d l = absurd (omega (arith, l))
@@ -85,7 +62,7 @@ module _ (C : Code) (bytes : List ℕ) (r : Report) (t : IsTraceOf C bytes r) wh
   pub same_again : IsCode C → (s : Report) → ReplaysTo C bytes s → SameReport r s
   same_again whole s x =
       told C whole t.limit (length x.events) r s t.reports x.reports
-      (one_meaning bytes r.history.items x.events its_trace x.trace ∙ sym (same_events s.history.items x.events x.history))
+      (one_meaning bytes r.history.items x.events its_trace x.trace ∙ sym x.history)
 
 -- the step at a place of a run
 step_at : (C : Code) (es : List Event) (place : ℕ) (d : Event) (old new : CodeState) → Steps (code_system C) old (map event_view es) new → place < length es

@@ -13,6 +13,7 @@ use Rattle.swt_trace.specs.declared.fault.ReplayFault.{ReplayFault}
 use Rattle.swt_trace.specs.declared.fault.ReplayFault.TheVariants.{BadLine, Memory, NotARun}
 use Rattle.swt_trace.specs.Replay.{IsFirstNoStep, IsNoStep, ReplaysTo, Takes}
 use Rattle.swt_trace.specs.Trace.{IsInRange, IsTrace, worker_of}
+use Rattle.swt_trace.proofs.Events.{same_events}
 use Rattle.swt_trace.proofs.Lines.{lines_are}
 
 -- the number that a fault names
@@ -55,6 +56,6 @@ pub replayed : (C : Code) (bytes : List ℕ) (events items : List Event) (limit 
 replayed C bytes events items limit b r trace same code is_limit all history tells reports = record {
   events = events;
   trace = trace;
-  history = tells.history ∙ history ∙ ap (λ (es : List Event). map event_view es) same;
+  history = same_events r.history.items events (tells.history ∙ history ∙ ap (λ (es : List Event). map event_view es) same);
   reports = subst (λ (K : Code). Reports K (length events) r) code (subst (λ (n : ℕ). Reports b.code n r) (is_limit ∙ all) reports);
 }

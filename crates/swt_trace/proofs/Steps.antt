@@ -1,16 +1,13 @@
 -- What a board refuses is no step.
-use Rattle.std.proofs.Common.{◌≡◌, sym, subst, refl, inl, inr, ℕ, ◌<◌, List, [], ◌∷◌, ◌++◌, length}
+use Rattle.std.proofs.Common.{◌≡◌, sym, subst, refl, ℕ, ◌<◌, List, length}
 use Rattle.dataflow.specs.Machine.{Back, Begin, End, Event}
 use Rattle.dataflow.specs.System.{In}
+use Rattle.dataflow.proofs.Lists.{seam_here}
 use Rattle.task_code.specs.Machine.{CodeItem}
 use Rattle.board.specs.declared.refusal.Refusal.{Refusal}
 use Rattle.board.specs.declared.refusal.Refusal.TheVariants.{Ended, Memory, NotReady, NotYours, Stranger}
 use Rattle.board.specs.Board.{IsGoing, IsTheirs, MayBegin, RefusesBack, RefusesBegin, RefusesWork, Seen}
 use Rattle.swt_trace.specs.Replay.{IsNoStep}
-
-in_middle : (before after : List CodeItem) (item : CodeItem) → In item (before ++ item ∷ after)
-in_middle [] after item = inl refl
-in_middle (x ∷ before) after item = inr (in_middle before after item)
 
 -- after the end of a run there is no step
 pub no_going : (b : Seen) (e : Event) → length b.history < b.limit → ¬ IsGoing b → IsNoStep b.code b.state e
@@ -23,7 +20,7 @@ no_begin_if b w n cannot = λ new step.
     let begins = step.1 in
     cannot (record {
       item = begins.item;
-      there = subst (λ (xs : List CodeItem). In begins.item xs) (sym begins.at.items) (in_middle begins.before begins.after begins.item);
+      there = subst (λ (xs : List CodeItem). In begins.item xs) (sym begins.at.items) (seam_here begins.item begins.before begins.after);
       number_is = begins.at.number_is;
       idle = begins.idle;
       enabled = begins.enabled;
@@ -34,7 +31,7 @@ no_end_if b w n not = λ new step.
     let ends = step.1 in
     not (record {
       item = ends.item;
-      there = subst (λ (xs : List CodeItem). In ends.item xs) (sym ends.at.items) (in_middle ends.before ends.after ends.item);
+      there = subst (λ (xs : List CodeItem). In ends.item xs) (sym ends.at.items) (seam_here ends.item ends.before ends.after);
       number_is = ends.at.number_is;
       runs = ends.runs;
     })
@@ -44,7 +41,7 @@ no_back_if b w n not = λ new step.
     let backs = step.1 in
     not (record {
       item = backs.item;
-      there = subst (λ (xs : List CodeItem). In backs.item xs) (sym backs.at.items) (in_middle backs.before backs.after backs.item);
+      there = subst (λ (xs : List CodeItem). In backs.item xs) (sym backs.at.items) (seam_here backs.item backs.before backs.after);
       number_is = backs.at.number_is;
       runs = backs.runs;
     })

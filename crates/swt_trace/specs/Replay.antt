@@ -23,7 +23,7 @@ Takes old e new false = (new ≡ old) × IsNoStep old.code old.state e
 pub record ReplaysTo (C : Code) (bytes : List ℕ) (r : Report) : Type 0 where
   pub events : List Event
   pub trace : IsTrace bytes events
-  pub history : map event_view r.history.items ≡ map event_view events
+  pub history : r.history.items ≡ events
   pub reports : Reports C (length events) r
 
 -- the bytes are a trace whose events are a run up to line n, and the event of line n is no step from where they lead to
