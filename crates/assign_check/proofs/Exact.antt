@@ -1,10 +1,12 @@
 -- Each rule that a script breaks has its fault, so none is broken before the one that is answered.
 use Rattle.std.specs.Prelude.{◌≡◌, ℕ, false, [], ◌++◌, Some, None, refl}
 use Rattle.std.specs.List.{flat_map}
-use Rattle.std.proofs.Common.{inl, subst}
+use Rattle.std.proofs.Common.{inl, subst, sym, ap, ◌∙◌}
 use Rattle.lexer.specs.declared.token.Span.{Span}
 use Rattle.syntax_trees.specs.Members.{◌∈◌}
 use Rattle.syntax_trees.specs.Numbered.{numbered}
+use Rattle.syntax_trees.specs.Resolved.{core}
+use Rattle.syntax_trees.specs.Single.{SinglyAssigned}
 use Rattle.syntax_trees.specs.Table.{Table}
 use Rattle.syntax_trees.specs.Tree.{Tree}
 use Rattle.syntax_trees.specs.Typing.{WellTyped}
@@ -13,10 +15,12 @@ use Rattle.assign_check.specs.declared.fault.AssignFault.{AssignFault}
 use Rattle.assign_check.specs.declared.fault.AssignFault.TheVariants.{AssignedTwice, PartlyAssigned, NeverAssigned, OuterInLoop, WholeAndElements, OutputUnassigned, Memory}
 use Rattle.assign_check.specs.Outline.{Outline, outlines}
 use Rattle.assign_check.specs.Faults.{way_faults, split_faults, variable_faults, uses_in, declared_in, faults_of, faults, precedes, first_fault}
-use Rattle.assign_check.specs.Breaks.{IsTwice, IsOuter, BreaksIn, Breaks}
+use Rattle.assign_check.specs.Breaks.{IsTwice, IsOuter, BreaksIn, Breaks, IsTyped}
 use Rattle.assign_check.proofs.Scoped.{IsScoped}
 use Rattle.assign_check.proofs.TypedScopes.{all_scoped}
-use Rattle.assign_check.proofs.Earliest.{first_before_all}
+use Rattle.assign_check.proofs.Earliest.{first_there, first_before_all}
+use Rattle.assign_check.proofs.Law.{singly_assigned, without_fault}
+use Rattle.assign_check.proofs.Named.{breaks}
 use Rattle.assign_check.proofs.FoundWays.{twice_found, body_loop_found, partly_found}
 use Rattle.assign_check.proofs.Found.{in_flat, never_there, output_there, both_there}
 
@@ -45,3 +49,19 @@ found n u tree t f is typed w = in_flat faults_of (outlines t tree) w.block f w.
 
 pub none_before : (n : ℕ) (u tree : Tree) (t : Table) (f g : AssignFault) → tree ≡ numbered n u → WellTyped tree t → first_fault (faults t tree) ≡ Some f → Breaks t tree g → precedes g f ≡ false
 none_before n u tree t f g is typed answered w = first_before_all (faults t tree) f g answered (found n u tree t g is typed w)
+
+-- WHAT THE ANSWER SAYS OF A TYPED SCRIPT
+
+pub is_single : (t : Table) (tree : Tree) → faults t tree ≡ [] → IsTyped t tree → SinglyAssigned (core t tree)
+is_single t tree none w = singly_assigned w.first w.plain tree t w.is_numbered w.typed none
+
+pub is_not_single : (t : Table) (tree : Tree) (f : AssignFault) → first_fault (faults t tree) ≡ Some f → IsTyped t tree → ¬ SinglyAssigned (core t tree)
+is_not_single t tree f is w single =
+    let nothing : None ≡ Some f = sym (ap first_fault (without_fault w.first w.plain tree t w.is_numbered w.typed single)) ∙ is in
+    absurd (cc (nothing))
+
+pub is_broken : (t : Table) (tree : Tree) (f : AssignFault) → first_fault (faults t tree) ≡ Some f → IsTyped t tree → Breaks t tree f
+is_broken t tree f is w = breaks w.first w.plain tree t f w.is_numbered w.typed (first_there (faults t tree) f is)
+
+pub is_first : (t : Table) (tree : Tree) (f : AssignFault) → first_fault (faults t tree) ≡ Some f → IsTyped t tree → (g : AssignFault) → Breaks t tree g → precedes g f ≡ false
+is_first t tree f is w g broken = none_before w.first w.plain tree t f g w.is_numbered w.typed is broken

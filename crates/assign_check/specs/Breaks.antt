@@ -5,7 +5,9 @@ use Rattle.syntax_trees.specs.declared.tree.Shape.TheVariants.{Scalar}
 use Rattle.syntax_trees.specs.Core.{Owned}
 use Rattle.syntax_trees.specs.Members.{◌∈◌}
 use Rattle.syntax_trees.specs.Table.{Table}
+use Rattle.syntax_trees.specs.Numbered.{numbered}
 use Rattle.syntax_trees.specs.Tree.{Tree}
+use Rattle.syntax_trees.specs.Typing.{WellTyped}
 use Rattle.assign_check.specs.declared.fault.AssignFault.{AssignFault}
 use Rattle.assign_check.specs.declared.fault.AssignFault.TheVariants.{AssignedTwice, PartlyAssigned, NeverAssigned, OuterInLoop, WholeAndElements, OutputUnassigned, Memory}
 use Rattle.assign_check.specs.Outline.{Kind, named, written, read, Use, result, given, Declared, Outline, splits, repeats, outlines}
@@ -108,3 +110,10 @@ pub record Breaks (t : Table) (tree : Tree) (f : AssignFault) : Type 0 where
   pub block : Outline
   pub there : block ∈ outlines t tree
   pub broken : BreaksIn block f
+
+-- the tree is well typed by the table, and its nodes are numbered in reading order
+pub record IsTyped (t : Table) (tree : Tree) : Type 0 where
+  pub first : ℕ
+  pub plain : Tree
+  pub is_numbered : tree ≡ numbered first plain
+  pub typed : WellTyped tree t

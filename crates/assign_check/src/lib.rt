@@ -21,4 +21,4 @@ mod trees;
 mod walk;
 mod way;
 
-pub use script::{Single, check};
+pub use script::check;

@@ -1,9 +1,12 @@
 //! Whether a script is singly assigned.
-ghost use Rattle.std.specs.Prelude.{◌≡◌, ◌≢◌, ◌∷◌, [], OnOk, IfOk, IfErr, Some};
+ghost use Rattle.std.specs.Prelude.{◌≡◌, ◌≢◌, ◌∷◌, [], OnOk, IfOk, IfErr, Some, false};
 ghost use Rattle.std.specs.List.{flat_map};
 ghost use Rattle.syntax_trees.specs.Core as core;
+ghost use Rattle.syntax_trees.specs.Resolved as resolved;
+ghost use Rattle.syntax_trees.specs.Single.{SinglyAssigned};
 ghost use Rattle.syntax_trees.specs.View.{part_of, tree_of};
 ghost use Rattle.types.specs.Typed.{table_of};
+ghost use Rattle.assign_check.specs.Breaks.{Breaks, IsTyped};
 ghost use Rattle.assign_check.specs.Faults as faults;
 ghost use Rattle.assign_check.specs.Outline.{function_outlines};
 ghost use Rattle.assign_check.specs.Sets.{are_empty};
@@ -24,29 +27,29 @@ use std::alloc::{AllocError, Allocator, Global};
 use syntax_trees::tree::{Item, Script};
 use types::typed::Typed;
 
-/// That a script is singly assigned: `check` alone makes one.
-#[derive(Debug, Drop)]
-pub struct Single {
-    made: (),
-}
-
 /// Whether a script is singly assigned, by what the check of its types found out of its names.
 ///
-/// It holds no data.
+/// The clauses that speak of rules and of single assignment are of a script that is well typed by that table, with its nodes numbered in
+/// reading order; the others of every script.
 ///
 /// # Errors
 ///
-/// The fault whose place begins first, and at one place the one of the smallest number; or `Memory`.
+/// The broken rule whose place begins first, and at one place the one of the smallest number; or `Memory`.
 pub fn check<A: Allocator>(
     alloc: Global,
     script: &Script<A>,
     typed: &Typed,
-) -> Result<Single, AssignFault>
+) -> Result<(), AssignFault>
     ensures accepted { IfOk result (λ _. faults.faults (table_of typed.now) (tree_of script.now) ≡ []) }
     ensures refused { IfErr result (λ fault. fault ≢ AssignFault.Memory → faults.first_fault (faults.faults (table_of typed.now) (tree_of script.now)) ≡ Some fault) }
+
+    ensures single { IfOk result (λ _. IsTyped (table_of typed.now) (tree_of script.now) → SinglyAssigned (resolved.core (table_of typed.now) (tree_of script.now))) }
+    ensures not_single { IfErr result (λ fault. fault ≢ AssignFault.Memory → IsTyped (table_of typed.now) (tree_of script.now) → ¬ SinglyAssigned (resolved.core (table_of typed.now) (tree_of script.now))) }
+    ensures broken { IfErr result (λ fault. fault ≢ AssignFault.Memory → IsTyped (table_of typed.now) (tree_of script.now) → Breaks (table_of typed.now) (tree_of script.now) fault) }
+    ensures none_before { IfErr result (λ fault. fault ≢ AssignFault.Memory → IsTyped (table_of typed.now) (tree_of script.now) → (other : AssignFault) → Breaks (table_of typed.now) (tree_of script.now) other → faults.precedes other fault ≡ false) }
 {
     match answer(alloc, script, typed)? {
-        None => Ok(Single { made: () }),
+        None => Ok(()),
         Some(fault) => Err(fault),
     }
 }
