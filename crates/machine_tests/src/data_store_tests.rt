@@ -42,7 +42,7 @@ fn order_of(map: &values::map::Map) -> i64 {
 }
 
 fn hold(store: &mut Store, d: DatumNo) {
-    if store.is_live(d) && store.reads(d) < 9 && store.writes(d) < 9 {
+    if store.is_live(d) && store.reads(d) < 9 && store.writes(d) > 0 && store.writes(d) < 9 {
         store.hold(d, 1, 1);
     }
 }

@@ -10,7 +10,7 @@ use Rattle.work_queue.specs.Entries.{IsInOrder, inserted, erased, holds, first_o
 use Rattle.work_queue.specs.Waiting.{Waiting, with_put, with_room, without, behind_first}
 use Rattle.work_queue.specs.Merged.{merged}
 use Rattle.work_queue.proofs.InOrder.{in_order_erased, length_inserted, length_erased}
-use Rattle.work_queue.proofs.Merging.{merged_inserted, inserted_merged, merged_erased, erased_merged, merged_leads, leads_merged, IsPermutation-merged}
+use Rattle.work_queue.proofs.Merging.{inserted_first, merged_inserted, inserted_merged, merged_erased, erased_merged, merged_leads, leads_merged, IsPermutation-merged}
 
 -- the entries of both, and the nodes that are not for an entry of the run
 abbrev pub shared : List Entry → List Entry → ℕ → Waiting
@@ -30,6 +30,12 @@ put_in_run x tree run spare =
 pub put_in_tree : (x : Entry) (tree run : List Entry) (spare less : ℕ) → less + 1 ≡ spare → shared (inserted x tree) run less ≡ with_put x (shared tree run spare)
 put_in_tree x tree run spare less e =
     same_waiting _ _ _ _ (inserted_merged x tree run) (omega (arith, e))
+
+-- the first of the run is put into the tree
+pub moved_to_tree : (x : Entry) (tree run rest : List Entry) (spare : ℕ) → IsInOrder run → run ≡ x ∷ rest → with_put x (shared tree rest spare) ≡ shared tree run spare
+moved_to_tree x tree run rest spare s e =
+    let first : inserted x rest ≡ run = inserted_first x rest (subst IsInOrder e s).0 ∙ sym e in
+    sym (put_in_run x tree rest spare) ∙ ap (λ v. shared tree v spare) first
 
 pub first_taken : (o : Option Entry) (run rest : List Entry) → MatchOption o ((run ≡ []) × (rest ≡ [])) (λ e. run ≡ e ∷ rest) → o ≡ first_of run
 first_taken None run rest m = rw m.0 refl

@@ -14,6 +14,9 @@ use std::marker::Model;
 // What a node holds that stands nowhere. It means nothing.
 const NOTHING: Entry = Entry { priority: 0, no: 0 };
 
+// A run of so many entries, or fewer, gives way to an entry that it has no place for.
+const SHORT: usize = 2;
+
 /// The entries that wait, in a run where they have a place there and else in a tree, and nodes that stand
 /// nowhere. A node that is laid by is one more entry that needs no memory, if it is not for an entry of
 /// the run, so that each of those could go into the tree.
@@ -105,6 +108,32 @@ impl Pile {
         self.len += 1;
     }
 
+    // Puts the entries of the run into the tree.
+    fn clear_run(&mut self)
+        ensures { self.new ≡ self.old }
+    {
+        for _cleared in 0..self.run.len() {
+            if let Some(entry) = self.run.take() {
+                self.put_in_tree(entry);
+            }
+        }
+    }
+
+    // Puts an entry that the run has no place for: into the tree, or, if the run is short, into a run that begins
+    // anew. So one entry that waits long keeps no others from the run.
+    fn put_aside(&mut self, entry: Entry)
+        requires { 0 < self.old.room }
+        ensures { self.new ≡ with_put entry self.old }
+    {
+        if self.run.len() <= SHORT {
+            self.clear_run();
+            if self.run.put(&entry) {
+                return;
+            }
+        }
+        self.put_in_tree(entry);
+    }
+
     pub fn put(&mut self, entry: Entry) -> Result<(), AllocError>
         ensures ok { OnOk result (self.new ≡ with_put entry self.old) }
         ensures succeeds { 0 < self.old.room → IsOk result }
@@ -112,7 +141,7 @@ impl Pile {
     {
         self.reserve(1)?;
         if !self.run.put(&entry) {
-            self.put_in_tree(entry);
+            self.put_aside(entry);
         }
         Ok(())
     }
