@@ -1,5 +1,5 @@
 -- Knowledge between a round and the next, with some of the scalars that follow: it serves the lemmas from the script to the code, as long as no key has two writers in the round.
-use Rattle.std.proofs.Common.{◌≡◌, ◌⊎◌, inl, inr, ℕ, suc, List, Result, Ok, refl, sym, ap, ◌∙◌, subst, arith}
+use Rattle.std.proofs.Common.{◌≡◌, ◌⊎◌, inl, inr, ℕ, suc, List, Result, Ok, refl, sym, ◌∙◌, subst, arith}
 use Rattle.std.specs.Prelude.{◌≤◌}
 use Rattle.values.specs.declared.key.Key.{Key}
 use Rattle.values.specs.declared.map.Element.{Element}

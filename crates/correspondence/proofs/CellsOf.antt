@@ -1,61 +1,20 @@
 -- Where a cell of a statement is worked out: by an entry of its own, by the statement's own entry, or it is a literal or a name.
-use Rattle.std.proofs.Common.{◌≡◌, ◌⊎◌, inl, inr, ℕ, suc, ◌<◌, Bool, true, false, List, [], ◌∷◌, ◌++◌, length, refl, sym, ap, ◌∙◌, subst, Option, Some, None, Result, Ok, Err, arith}
-use Rattle.std.specs.Prelude.{pos, ℤ, ◌&&◌, nat_le, slice_get}
-use Rattle.dataflow.specs.System.{In, Missing, Effect, Outcome, Bad}
-use Rattle.dataflow.specs.Facts.{Live}
+use Rattle.std.proofs.Common.{◌≡◌, ◌⊎◌, inl, inr, ℕ, List, [], ◌∷◌, ◌++◌, refl, sym, ap, ◌∙◌, subst}
+use Rattle.std.specs.Prelude.{ℤ}
+use Rattle.dataflow.specs.System.{In}
 use Rattle.dataflow.proofs.Lists.{in_right}
-use Rattle.values.specs.declared.fault.OpFault.{OpFault}
-use Rattle.values.specs.declared.key.Key.{Key}
-use Rattle.values.specs.declared.map.Element.{Element}
-use Rattle.values.specs.Maps.{element as element_of}
 use Rattle.values.specs.declared.value.Scalar.{Scalar}
-use Rattle.values.specs.declared.value.Scalar.TheVariants.{Number, Truth}
-use Rattle.values.specs.declared.value.Value.{Value}
-use Rattle.values.specs.declared.value.Value.TheVariants.{One, Many}
-use Rattle.values.specs.Operators.{literal as list_of}
-use Rattle.values.specs.Ranges.{range_count}
 use Rattle.syntax_trees.specs.Core as Co
 use Rattle.syntax_trees.specs.Core.{Name, Expr, literal, name, whole, operator, Form, compute, read, Cell, Call, Part, inner, Outer, Awaited, Stmt, stmt, Action, assign, fill, insert, print, assert, when, choose, range, each, wait, Block, Function, Core}
-use Rattle.syntax_trees.specs.Facts.{Fault, operation, no_element, Fact, value, element, fault, Knowledge, IsKey, a_number, KnownAll, no_cell, next_cell}
-use Rattle.syntax_trees.specs.Meaning as Mn
-use Rattle.syntax_trees.specs.Meaning.{ValueUnder, of_literal, of_name, of_array, of_operator, Gives, computed, faulty, found, missing, Comes, ComeAll, none_comes, next_comes, LiveStmt, in_block, Ready, cells_known, source_closed, names_known, New, cell_value, cell_fault, assigned, filled, inserted, printed, bad_range, too_deep_header, too_deep_call, written_twice}
-use Rattle.syntax_trees.specs.Members.{◌∈◌, first, later}
-use Rattle.syntax_trees.specs.Openings.{Bounds, bounds, Decides, one_way, two_ways, in_turns, Opens, then_alone, then_first, else_second, turn, item}
-use Rattle.syntax_trees.specs.Outcomes.{Faults}
-use Rattle.syntax_trees.specs.Parts.{outer_cells, parts, part_cells, cells, stmt_calls, block_list}
-use Rattle.syntax_trees.specs.Places.{Path, Place, place, most_steps}
-use Rattle.syntax_trees.specs.WellFormed.{WellFormed, IsMany, a_list, a_copy}
+use Rattle.syntax_trees.specs.Members.{◌∈◌, first}
+use Rattle.syntax_trees.specs.Parts.{parts, part_cells, cells}
 use Rattle.syntax_trees.proofs.Members.{split_in, to_left, to_right, either}
-use Rattle.meaning_laws.proofs.Declared.{stmt_in}
-use Rattle.meaning_laws.proofs.Sources.{outer_in}
-use Rattle.meaning_laws.specs.Scoped.{AreIn, FormIn, Scoped}
 use Rattle.meaning_laws.specs.TypedValues.{own_cell, own_outer, own_parts}
-use Rattle.task_code.proofs.Opens.{some_same}
-use Rattle.task_code.specs.Code as code
-use Rattle.task_code.specs.Code.{Need, Act, Code, entry, body}
-use Rattle.task_code.specs.Compute as Compute
-use Rattle.task_code.specs.Compute.{Computed, Fails, EntryFault, InOperation, NoElement, TooDeep, given, filled as filled_by, eval}
-use Rattle.task_code.specs.Effects.{Task, Item, effect_at, instances, is_too_deep, steps_on, is_some_list, outcome_of}
-use Rattle.task_code.specs.Places as CodePlaces
-use Rattle.task_code.specs.Places.{Step, Datum}
-use Rattle.task_code.specs.System.{answered, code_system}
-use Rattle.task_code.specs.Whole.{IsCode}
-use Rattle.task_code.specs.Code.{Variable}
-use Rattle.agreement.specs.CodeNames.{name_as, wanted, over, each_once}
-use Rattle.agreement.specs.Headline.{script_path, script_place}
-use Rattle.agreement.specs.IsCodeOf.{Layout, own_form, own_expr, own_needs, own_priority, fill_act, simple_act, IsSimple, IsEntry, PartAs, plain_literal, plain_name, a_cell, a_read, a_call, PartsAs, no_part, one_part, StmtAs, declares, calls_alone, simple, branch, branches, range_loop, array_loop, waits, WaitAs, IsCodeOf}
-use Rattle.correspondence.specs.Answered.{ReadAll, Reading}
-use Rattle.correspondence.specs.Chains.{Answers, Chain, Lacks}
-use Rattle.correspondence.specs.Knows.{Knows}
-use Rattle.correspondence.proofs.Backing.{backs, came}
-use Rattle.correspondence.proofs.Evaluate.{Got, Ans, AnsAll, inputs_of, in_once, once_in}
-use Rattle.correspondence.proofs.Facts.{Known, known, computes_so, has_answers, IsGood}
-use Rattle.correspondence.proofs.HeaderWorks.{StmtFound, find_call, found_body, only_stmt, opens_no_wait, calls_no_wait, branch_works, condition_value, each_turns, range_seen, range_works, turn_there, in_some_chunk, some_of, cells_of, outer_among, known_two, known_three}
-use Rattle.correspondence.proofs.LiveBy.{at_body, between}
-use Rattle.correspondence.proofs.LiveFrom.{Alive, Where, live_from}
-use Rattle.correspondence.proofs.Means.{chain_body, chain_scope}
-use Rattle.correspondence.proofs.Roles.{among_cells, among_calls, part_of_stmt, cell_among}
-use Rattle.correspondence.proofs.WrittenFrom.{CellFound, widen_cell, before_own, StmtLive, stmt_live, nothing_behind, own_scope, index_answer}
+use Rattle.task_code.specs.Code.{Code, entry}
+use Rattle.agreement.specs.IsCodeOf.{Layout, own_needs, own_priority, simple_act, IsSimple, IsEntry, PartAs, plain_literal, plain_name, a_cell, a_read, a_call, PartsAs, no_part, one_part, StmtAs, declares, calls_alone, simple, branch, branches, range_loop, array_loop, waits}
+use Rattle.correspondence.proofs.HeaderWorks.{cells_of}
+use Rattle.correspondence.proofs.Roles.{among_cells, part_of_stmt}
+use Rattle.correspondence.proofs.WrittenFrom.{CellFound, widen_cell, before_own}
 
 inner_same : {x y : Cell} → inner x ≡ inner y → x ≡ y
 inner_same h = cc

@@ -1,5 +1,5 @@
 -- What is closed in the script is closed in the code, by the script's answers, where rights are exact.
-use Rattle.std.proofs.Common.{◌≡◌, inl, inr, true, refl, sym, ap, ◌∙◌}
+use Rattle.std.proofs.Common.{inl, inr, refl, sym, ap, ◌∙◌}
 use Rattle.dataflow.specs.System.{In}
 use Rattle.dataflow.specs.Facts as Fa
 use Rattle.dataflow.specs.Facts.{Live, live_main, live_opened}
@@ -20,7 +20,6 @@ use Rattle.agreement.specs.IsCodeOf.{IsCodeOf}
 use Rattle.meaning_laws.specs.Scoped.{Scoped}
 use Rattle.meaning_laws.specs.TypedValues.{TypedValues}
 use Rattle.correspondence.specs.Answered.{Reading}
-use Rattle.correspondence.specs.Backs.{Backs}
 use Rattle.correspondence.specs.Chains.{Answers}
 use Rattle.correspondence.specs.Inclusions.{Facts, ArraysOnce, ClosedFrom}
 use Rattle.correspondence.specs.Knows.{Knows}

@@ -17,8 +17,7 @@ use Rattle.values.specs.declared.value.Value.TheVariants.{One}
 use Rattle.syntax_trees.specs.Parts.{script_stmts}
 use Rattle.agreement.specs.IsCodeOf.{Layout}
 use Rattle.correspondence.proofs.HeaderWorks.{no_simple}
-use Rattle.syntax_trees.specs.Meaning as Mn
-use Rattle.syntax_trees.specs.Meaning.{IsTarget, Finished, no_target, value_known, write_known, body_finished, blocks_finished, content_finished, Ready}
+use Rattle.syntax_trees.specs.Meaning.{IsTarget, Ready}
 use Rattle.syntax_trees.specs.Members.{◌∈◌, first}
 use Rattle.syntax_trees.specs.Openings.{Opens, Branches}
 use Rattle.syntax_trees.specs.Parts.{stmt_calls, block_list, blocks_below, script_blocks, targets, function_body, stmts_of, owners, call_at, input_name, output_name}
@@ -39,7 +38,6 @@ use Rattle.task_code.specs.System.{code_system}
 use Rattle.task_code.specs.Exact.{IsExact, Leads, itself, through}
 use Rattle.task_code.specs.Whole.{IsCode}
 use Rattle.task_code.proofs.Rights.{target_opens_none, target_no_loop}
-use Rattle.task_code.proofs.Kept.{code_laws}
 use Rattle.task_code.proofs.Places.{spot_path, spot_variable}
 use Rattle.agreement.specs.Headline.{script_path, script_place}
 use Rattle.correspondence.specs.Answered.{Reading}
@@ -48,7 +46,6 @@ use Rattle.correspondence.specs.Chains.{Answers, Chain, at_script, by_header, by
 use Rattle.agreement.specs.CodeNames.{owned_as, name_as, each_once, header}
 use Rattle.meaning_laws.specs.Scoped.{IsIn, Scoped}
 use Rattle.agreement.specs.IsCodeOf.{own_expr, own_needs, simple_act, IsEntry, CallAs, PartAs, plain_literal, plain_name, a_cell, a_read, a_call, WaitAs, one_wait, merged, BodyAs, body_as, IsCodeOf}
-use Rattle.meaning_laws.specs.TypedValues.{TypedValues}
 use Rattle.correspondence.proofs.Backing.{element_known}
 use Rattle.correspondence.proofs.Carries.{node_of}
 use Rattle.correspondence.proofs.Exact.{IsArr, InPart, leads_in, part_leads, no_way, scalar_target}
@@ -72,7 +69,6 @@ use Rattle.correspondence.proofs.Readings.{same_array}
 use Rattle.correspondence.proofs.Rights.{only_one, fill_stored}
 use Rattle.correspondence.proofs.Roles.{PartOf, OwnAs, own_simple, own_branch, own_branches, own_range, own_each, own_wait, find_role, parts_of}
 use Rattle.correspondence.proofs.Targets.{uses_block, uses_is_target, NoneInside, none_inner, none_output, OnlyAt, only_declared, none_declared, only_output, only_header, only_wait}
-use Rattle.correspondence.proofs.Transfer.{reading_valid}
 
 -- NAMES BACK
 

@@ -44,7 +44,7 @@ use Rattle.correspondence.specs.Inclusions.{Facts, ClosedTo}
 use Rattle.correspondence.specs.Chains.{Answers, Chain, by_header, by_wait, by_call, Waited, one_ready, more_ready}
 use Rattle.agreement.specs.CodeNames.{name_as, wanted, over, each_once, awaited_need}
 use Rattle.meaning_laws.specs.Scoped.{FormIn, AreIn, InScope, in_wait, Scoped}
-use Rattle.agreement.specs.IsCodeOf.{seen, own_form, own_expr, own_needs, own_priority, fill_act, simple_act, step_expr, IsSimple, IsEntry, CallAs, WaitAs, one_wait, merged, BodyAs, body_as, IsCodeOf}
+use Rattle.agreement.specs.IsCodeOf.{seen, own_form, own_expr, own_needs, own_priority, fill_act, simple_act, step_expr, IsSimple, IsEntry, CallAs, WaitAs, one_wait, merged, BodyAs, IsCodeOf}
 use Rattle.meaning_laws.specs.TypedValues.{TypedValues}
 use Rattle.correspondence.proofs.Carries.{node_of, Carries, by_own, by_alone, carrier, carries_right}
 use Rattle.correspondence.proofs.Evaluate.{Got, AnsAll, in_once}

@@ -1,8 +1,8 @@
 -- By induction on what the script derives: its live blocks, closed arrays, ready headers and loop variables are those of the code, for any facts to which fed items come.
-use Rattle.std.proofs.Common.{◌≡◌, ◌⊎◌, inl, inr, ℕ, suc, ◌<◌, Bool, true, false, List, [], ◌∷◌, ◌++◌, map, length, refl, sym, ap, ◌∙◌, subst, Option, Some}
-use Rattle.std.specs.Prelude.{pos, slice_get}
+use Rattle.std.proofs.Common.{◌≡◌, ◌⊎◌, inl, inr, ℕ, ◌<◌, Bool, true, List, [], ◌∷◌, map, length, refl, sym, ap, ◌∙◌, subst}
+use Rattle.std.specs.Prelude.{pos}
 use Rattle.std.specs.List.{flat_map}
-use Rattle.dataflow.specs.System.{In, Effect, Opening}
+use Rattle.dataflow.specs.System.{In, Opening}
 use Rattle.dataflow.specs.Facts as Fa
 use Rattle.dataflow.specs.Facts.{Live, Written}
 use Rattle.dataflow.proofs.Lists.{in_left, in_right, in_split, in_map, in_unmap}
@@ -10,24 +10,22 @@ use Rattle.values.specs.declared.key.Key.{Key}
 use Rattle.values.specs.declared.value.Scalar.{Scalar}
 use Rattle.values.specs.declared.value.Value.{Value}
 use Rattle.values.specs.declared.value.Value.TheVariants.{One}
-use Rattle.syntax_trees.specs.Core as Co
-use Rattle.syntax_trees.specs.Core.{Owned, local, output, Name, Call, Awaited, Stmt, stmt, Action, declare, call_alone, when, choose, range, each, wait, Block, stmts, no_stmts, Core}
+use Rattle.syntax_trees.specs.Core.{Owned, local, Awaited, Stmt, stmt, Action, declare, wait, Block, stmts, no_stmts, Core}
 use Rattle.syntax_trees.specs.Facts.{value, element, Knowledge}
 use Rattle.syntax_trees.specs.Meaning as Mn
 use Rattle.syntax_trees.specs.Meaning.{IsTarget, Finished, no_target, value_known, write_known, body_finished, blocks_finished, content_finished, Ready, cells_known, source_closed, names_known, Come, scalar_known, array_closed, HasValue, stored, in_turn}
 use Rattle.syntax_trees.specs.Members.{◌∈◌, first}
-use Rattle.syntax_trees.specs.Openings.{Opens, Branches, Decides, one_way, two_ways, in_turns}
+use Rattle.syntax_trees.specs.Openings.{one_way, two_ways, in_turns}
 use Rattle.syntax_trees.specs.Parts.{block_list, script_blocks}
 use Rattle.syntax_trees.specs.Places.{Path, Place, place, most_steps}
 use Rattle.syntax_trees.specs.Single.{SinglyAssigned}
 use Rattle.syntax_trees.specs.WellFormed.{Declares, WellFormed}
 use Rattle.syntax_trees.proofs.Blocks.{inner_block}
-use Rattle.syntax_trees.proofs.Members.{split_in}
 use Rattle.meaning_laws.proofs.Declared.{live_block}
 use Rattle.meaning_laws.proofs.Sources.{IsFull}
 use Rattle.meaning_laws.specs.Scoped.{InScope, in_wait, Scoped}
 use Rattle.task_code.specs.Code.{Variable, Need, Header, Code, entry, body, scalar}
-use Rattle.task_code.specs.Effects.{Task, Main, Item, only, block, effect_at, instances, rest, step_at}
+use Rattle.task_code.specs.Effects.{Task, Main, Item, only, block, effect_at, instances, step_at}
 use Rattle.task_code.specs.Exact.{IsExact}
 use Rattle.task_code.specs.Places as CodePlaces
 use Rattle.task_code.specs.Places.{Step, Datum}

@@ -1,30 +1,30 @@
 -- Knowledge whose values and elements clean code comes to: then clean code comes to all that the script's answers yield by it.
-use Rattle.std.proofs.Common.{◌≡◌, ◌⊎◌, inl, inr, ℕ, Bool, true, false, List, [], ◌∷◌, refl, sym, ap, ◌∙◌, subst, Ok}
+use Rattle.std.proofs.Common.{◌≡◌, ◌⊎◌, inl, inr, ℕ, Bool, true, false, List, [], ◌∷◌, refl, sym, ap, ◌∙◌, subst}
 use Rattle.std.specs.Prelude.{not}
 use Rattle.std.specs.List.{list_all}
-use Rattle.dataflow.specs.System.{In, Input, StoredScalar, ClosedArray, ElementOf, ElementAt, Answer, Found, Missing, Content, Effect, Good}
+use Rattle.dataflow.specs.System.{In, Input, StoredScalar, ClosedArray, ElementAt, Found, Missing, Content}
 use Rattle.dataflow.specs.Facts as Fa
 use Rattle.dataflow.specs.Facts.{Live, live_main, live_opened, Written, Ever}
 use Rattle.values.specs.declared.key.Key.{Key}
 use Rattle.values.specs.declared.value.Scalar.{Scalar}
 use Rattle.values.specs.declared.value.Value.{Value}
 use Rattle.values.specs.declared.value.Value.TheVariants.{One}
-use Rattle.syntax_trees.specs.Core.{Name, here, name, Expr, Form, compute, read, Cell, Outer, Stmt, stmt, Action, fill, Block, Core}
+use Rattle.syntax_trees.specs.Core.{Name, here, name, Expr, Form, compute, read, Cell, Outer, stmt, Action, fill, Block, Core}
 use Rattle.syntax_trees.specs.Facts.{value, element, Knowledge}
 use Rattle.syntax_trees.specs.Meaning as Mn
 use Rattle.syntax_trees.specs.Meaning.{HasValue, stored, in_block}
 use Rattle.syntax_trees.specs.Members.{◌∈◌}
-use Rattle.syntax_trees.specs.Parts.{cells, block_list, script_stmts}
-use Rattle.syntax_trees.specs.Places.{Path, Place, place}
+use Rattle.syntax_trees.specs.Parts.{cells, block_list}
+use Rattle.syntax_trees.specs.Places.{Place, place}
 use Rattle.syntax_trees.specs.Single.{SinglyAssigned}
-use Rattle.syntax_trees.specs.WellFormed.{IsMany, a_list, a_copy, WellFormed}
+use Rattle.syntax_trees.specs.WellFormed.{IsMany, WellFormed}
 use Rattle.meaning_laws.proofs.Declared.{stmt_in, place_here}
 use Rattle.meaning_laws.proofs.Sources.{IsFull, outer_in}
 use Rattle.meaning_laws.specs.Scoped.{IsIn, Scoped}
 use Rattle.task_code.specs.Code as code
 use Rattle.task_code.specs.Code.{Variable, Need, Code, entry, body, scalar, is_array_name}
 use Rattle.task_code.specs.Compute.{key_of}
-use Rattle.task_code.specs.Effects.{Task, Main, Item, only, block, effect_at}
+use Rattle.task_code.specs.Effects.{Task, Main, Item, only}
 use Rattle.task_code.specs.Exact.{IsExact}
 use Rattle.task_code.specs.Machine.{CleanCode}
 use Rattle.task_code.specs.Places as CodePlaces
@@ -41,7 +41,7 @@ use Rattle.agreement.specs.Headline.{script_path, script_place}
 use Rattle.agreement.specs.IsCodeOf.{seen, seen_as, own_form, own_expr, IsCodeOf}
 use Rattle.correspondence.specs.Answered.{Reading}
 use Rattle.correspondence.specs.Backs.{Backs}
-use Rattle.correspondence.specs.Chains.{Has, HasElement, HasAll, Answers, Chain, Stands, same, plain, constant}
+use Rattle.correspondence.specs.Chains.{HasElement, HasAll, Answers, Chain, Stands, same, plain, constant}
 use Rattle.correspondence.specs.Feeding.{WritesKnown}
 use Rattle.correspondence.specs.Inclusions.{Facts}
 use Rattle.correspondence.proofs.ClosingFrom.{Ends}

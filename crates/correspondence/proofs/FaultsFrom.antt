@@ -1,8 +1,7 @@
 -- What fails in the script, fails in the code: where no live item comes to a fault, the script has none.
-use Rattle.std.proofs.Common.{◌≡◌, ◌⊎◌, inl, inr, ℕ, suc, ◌<◌, Bool, true, false, List, [], ◌∷◌, ◌++◌, map, length, refl, sym, ap, ◌∙◌, subst, Option, Some, None, Result, Ok, Err, arith}
-use Rattle.std.specs.Prelude.{pos, ℤ, ◌&&◌, nat_le, slice_get}
+use Rattle.std.proofs.Common.{◌≡◌, ◌⊎◌, inl, inr, ℕ, suc, ◌<◌, Bool, true, false, List, [], ◌∷◌, ◌++◌, map, length, refl, sym, ap, ◌∙◌, subst, Option, Some, Result, Ok, Err, arith}
+use Rattle.std.specs.Prelude.{pos, ℤ, ◌&&◌, nat_le}
 use Rattle.dataflow.specs.System.{In, Missing, Effect, Outcome, Bad}
-use Rattle.dataflow.specs.Facts.{Live}
 use Rattle.dataflow.proofs.Lists.{in_right, in_map}
 use Rattle.values.specs.declared.fault.OpFault.{OpFault}
 use Rattle.values.specs.declared.key.Key.{Key}
@@ -16,20 +15,19 @@ use Rattle.values.specs.Operators.{literal as list_of}
 use Rattle.values.specs.Ranges.{range_count, value_in}
 use Rattle.syntax_trees.specs.Core as Co
 use Rattle.syntax_trees.specs.Core.{Name, Expr, literal, name, whole, operator, Form, compute, read, Cell, Call, Part, inner, Outer, Awaited, Stmt, stmt, Action, assign, fill, insert, print, assert, when, choose, range, each, wait, Block, Function, Core}
-use Rattle.syntax_trees.specs.Facts.{Fault, operation, no_element, Fact, value, element, fault, Knowledge, IsKey, a_number, KnownAll, no_cell, next_cell}
+use Rattle.syntax_trees.specs.Facts.{Fault, Fact, value, element, fault, Knowledge, IsKey, a_number, KnownAll, no_cell, next_cell}
 use Rattle.syntax_trees.specs.Meaning as Mn
 use Rattle.syntax_trees.specs.Meaning.{ValueUnder, of_literal, of_name, of_array, of_operator, Gives, computed, faulty, found, missing, Comes, ComeAll, none_comes, next_comes, LiveStmt, in_block, Ready, cells_known, source_closed, names_known, New, cell_value, cell_fault, assigned, filled, inserted, printed, bad_range, too_deep_header, too_deep_call, written_twice}
 use Rattle.syntax_trees.specs.Members.{◌∈◌, first, later}
-use Rattle.syntax_trees.specs.Openings.{Bounds, bounds, Decides, one_way, two_ways, in_turns, Opens, then_alone, then_first, else_second, turn, item}
+use Rattle.syntax_trees.specs.Openings.{Bounds, bounds, Opens, then_alone, then_first, else_second, turn, item}
 use Rattle.syntax_trees.specs.Outcomes.{Faults}
-use Rattle.syntax_trees.specs.Parts.{outers, outer_cells, outer_parts, parts, part_cells, cells, stmt_calls, block_list}
+use Rattle.syntax_trees.specs.Parts.{outers, outer_cells, outer_parts, cells, block_list}
 use Rattle.syntax_trees.specs.Places.{Path, Place, place, most_steps}
 use Rattle.syntax_trees.specs.WellFormed.{WellFormed, IsMany, a_list, a_copy}
-use Rattle.syntax_trees.proofs.Members.{split_in, to_left, to_right, either}
+use Rattle.syntax_trees.proofs.Members.{to_right}
 use Rattle.meaning_laws.proofs.Declared.{stmt_in}
 use Rattle.meaning_laws.proofs.Sources.{outer_in}
 use Rattle.meaning_laws.specs.Scoped.{AreIn, FormIn, Scoped}
-use Rattle.meaning_laws.specs.TypedValues.{own_cell, own_outer, own_parts}
 use Rattle.task_code.specs.Code as code
 use Rattle.task_code.specs.Code.{Need, Act, Code, entry, body, loop_of}
 use Rattle.task_code.proofs.Rights.{loop_instances}
@@ -37,7 +35,7 @@ use Rattle.correspondence.proofs.HeaderWorks.{CallFound}
 use Rattle.correspondence.proofs.Readings.{in_element}
 use Rattle.task_code.specs.Compute as Compute
 use Rattle.task_code.specs.Compute.{Computed, Fails, Turns, Elements, turns_or, range_turns, EntryFault, InOperation, NoElement, TooDeep, given, filled as filled_by, eval}
-use Rattle.task_code.specs.Effects.{Task, Item, chunk, step_at, effect_at, instances, is_too_deep, steps_on, is_some_list, outcome_of}
+use Rattle.task_code.specs.Effects.{Task, Item, chunk, step_at, effect_at, instances, is_too_deep, steps_on, outcome_of}
 use Rattle.task_code.specs.Places as CodePlaces
 use Rattle.task_code.specs.Places.{Step, Datum}
 use Rattle.task_code.specs.System.{answered, code_system}
@@ -45,20 +43,20 @@ use Rattle.task_code.specs.Whole.{IsCode}
 use Rattle.task_code.specs.Code.{Variable}
 use Rattle.agreement.specs.CodeNames.{name_as, wanted, over, each_once}
 use Rattle.agreement.specs.Headline.{script_path, script_place}
-use Rattle.agreement.specs.IsCodeOf.{Layout, own_form, own_expr, own_needs, own_priority, fill_act, simple_act, IsSimple, IsEntry, PartAs, plain_literal, plain_name, a_cell, a_read, a_call, PartsAs, no_part, one_part, StmtAs, declares, calls_alone, simple, branch, branches, range_loop, array_loop, waits, WaitAs, IsCodeOf}
-use Rattle.correspondence.specs.Answered.{ReadAll, Reading}
+use Rattle.agreement.specs.IsCodeOf.{own_form, own_expr, own_needs, own_priority, fill_act, simple_act, IsEntry, PartAs, a_cell, a_read, a_call, StmtAs, simple, branch, branches, range_loop, array_loop, WaitAs, IsCodeOf}
+use Rattle.correspondence.specs.Answered.{ReadAll}
 use Rattle.correspondence.specs.Chains.{Answers, Chain, Lacks}
 use Rattle.correspondence.specs.Knows.{Knows}
 use Rattle.correspondence.proofs.Backing.{backs, came}
 use Rattle.correspondence.proofs.Evaluate.{Got, Ans, AnsAll, inputs_of, in_once, once_in}
 use Rattle.correspondence.proofs.Facts.{Known, known, computes_so, has_answers, IsGood}
-use Rattle.correspondence.proofs.HeaderWorks.{StmtFound, find_call, found_body, only_stmt, opens_no_wait, calls_no_wait, branch_works, condition_value, each_turns, range_seen, range_works, turn_there, in_some_chunk, some_of, cells_of, outer_among, known_two, known_three}
+use Rattle.correspondence.proofs.HeaderWorks.{StmtFound, find_call, found_body, only_stmt, opens_no_wait, calls_no_wait, branch_works, each_turns, range_seen, range_works, turn_there, some_of}
 use Rattle.correspondence.proofs.LiveBy.{at_body, between}
 use Rattle.correspondence.proofs.LiveFrom.{Alive, Where, live_from}
 use Rattle.correspondence.proofs.Means.{chain_live, chain_body, chain_scope}
-use Rattle.correspondence.proofs.Roles.{among_cells, among_calls, part_of_stmt, cell_among}
+use Rattle.correspondence.proofs.Roles.{cell_among}
 use Rattle.correspondence.proofs.CellsOf.{IsPlain, is_literal, is_name, Works_own, of_assign, of_fill, of_print, of_assert, OwnCell, find_any}
-use Rattle.correspondence.proofs.WrittenFrom.{CellFound, widen_cell, before_own, StmtLive, stmt_live, nothing_behind, own_scope, index_answer}
+use Rattle.correspondence.proofs.WrittenFrom.{CellFound, StmtLive, stmt_live, nothing_behind, own_scope, index_answer}
 
 path_length : (p : List Step) → length (script_path p) ≡ length p
 path_length [] = refl

@@ -1,5 +1,5 @@
 -- Half a round, and the parts of it: the cells that follow come before what is assigned by them.
-use Rattle.std.proofs.Common.{◌≡◌, ◌⊎◌, inl, inr, ℕ, suc, Ok, refl, sym, ap, ◌∙◌, subst, arith}
+use Rattle.std.proofs.Common.{◌≡◌, ◌⊎◌, inl, inr, ℕ, suc, Ok, refl, sym, subst, arith}
 use Rattle.std.specs.Prelude.{◌≤◌}
 use Rattle.values.specs.declared.key.Key.{Key}
 use Rattle.values.specs.declared.value.Scalar.{Scalar}

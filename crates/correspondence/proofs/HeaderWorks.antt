@@ -1,14 +1,11 @@
 -- What the entries of headers work out by the script's answers, and which entries are a statement's.
-use Rattle.std.proofs.Common.{◌≡◌, ◌⊎◌, inl, inr, ℕ, zero, suc, ◌<◌, ◌≤◌, ◌+◌, arith, Bool, true, false, List, [], ◌∷◌, ◌++◌, map, length, refl, sym, ap, ◌∙◌, subst, Option, Some, None, Result, Ok}
-use Rattle.std.specs.Prelude.{pos, ℤ, if◌then◌else◌, ◌&&◌, nat_le, take, drop, slice_get}
+use Rattle.std.proofs.Common.{◌≡◌, ◌⊎◌, inl, inr, ℕ, zero, suc, ◌<◌, ◌≤◌, ◌+◌, arith, Bool, true, false, List, [], ◌∷◌, ◌++◌, map, length, refl, sym, ap, ◌∙◌, subst, Option, Some, None, Ok}
+use Rattle.std.specs.Prelude.{pos, ℤ, if◌then◌else◌, take, drop}
 use Rattle.std.specs.List.{flat_map}
 use Rattle.dataflow.specs.System.{In, Found, Content}
-use Rattle.dataflow.specs.Facts.{Live, live_main, live_opened}
-use Rattle.dataflow.proofs.Lists.{in_left, in_right, in_split, in_map}
-use Rattle.values.specs.declared.fault.OpFault.{OpFault}
+use Rattle.dataflow.proofs.Lists.{in_left, in_right, in_split}
 use Rattle.values.specs.declared.key.Key.{Key}
 use Rattle.values.specs.declared.map.Element.{Element}
-use Rattle.values.specs.Maps.{element as element_of}
 use Rattle.values.specs.declared.value.Scalar.{Scalar}
 use Rattle.values.specs.declared.value.Scalar.TheVariants.{Number, Text, Truth}
 use Rattle.values.specs.Ranges.{range_count, value_in}
@@ -20,35 +17,32 @@ use Rattle.syntax_trees.specs.Facts.{Elements as Elements_, value, Knowledge, Kn
 use Rattle.syntax_trees.specs.Meaning as Mn
 use Rattle.syntax_trees.specs.Meaning.{ValueUnder, LiveStmt, in_block, Ready, cells_known, source_closed, names_known, Come, scalar_known, array_closed}
 use Rattle.syntax_trees.specs.Members.{◌∈◌, first, later}
-use Rattle.syntax_trees.specs.Openings.{Branches, Bounds, bounds, Decides, one_way, two_ways, in_turns, Opens, then_alone, then_first, else_second, turn, item}
-use Rattle.syntax_trees.specs.Parts.{stmt_at, outer_cells, outer_parts, parts, part_cells, cells, stmt_calls, block_list}
+use Rattle.syntax_trees.specs.Openings.{Branches, Bounds, bounds, Decides, one_way, two_ways, in_turns, Opens}
+use Rattle.syntax_trees.specs.Parts.{outer_cells, outer_parts, parts, part_cells, cells, stmt_calls, block_list}
 use Rattle.syntax_trees.specs.Places.{Path, place, most_steps}
 use Rattle.syntax_trees.specs.WellFormed.{WellFormed}
 use Rattle.syntax_trees.proofs.Members.{split_in, to_left, to_right, either}
-use Rattle.meaning_laws.proofs.Declared.{stmt_in, nat_is}
-use Rattle.meaning_laws.proofs.Sources.{outer_in}
-use Rattle.task_code.proofs.Opens.{some_same}
+use Rattle.meaning_laws.proofs.Declared.{nat_is}
 use Rattle.task_code.specs.Code as code
 use Rattle.task_code.specs.Code.{Need, Header, Act, If, Wait, Way, Code, Through, InPlace, Calling, Loop, entry, body, ways, loop_of}
-use Rattle.task_code.specs.Compute.{Computed, Takes, Turns, Opens as OpensIt, Elements, elements, pairs, content, answer_at, in_key_order, ranged, range_turns, turns_or, compute, branched}
-use Rattle.task_code.specs.Effects.{Task, Main, Item, block, effect_at, is_too_deep, instances, rest, rest_if, left_at, chunk, is_some_list, step_at}
+use Rattle.task_code.specs.Compute.{Computed, Takes, Turns, Elements, elements, pairs, content, answer_at, in_key_order, ranged, range_turns, turns_or, compute, branched}
+use Rattle.task_code.specs.Effects.{Item, effect_at, rest, left_at, chunk, is_some_list}
 use Rattle.task_code.specs.Places.{Step, place_at}
-use Rattle.task_code.proofs.Rights.{loop_instances}
 use Rattle.task_code.specs.System.{answered, code_system}
 use Rattle.task_code.specs.Whole.{IsCode}
 use Rattle.agreement.specs.Headline.{script_path}
 use Rattle.correspondence.specs.Answered.{Reading}
 use Rattle.correspondence.specs.Backs.{Backs}
-use Rattle.correspondence.specs.Chains.{Answers, Chain, at_script, by_header, by_wait, by_call, Waited, one_ready, more_ready}
-use Rattle.agreement.specs.CodeNames.{name_as, wanted, over, each_once, awaited_need, header}
-use Rattle.meaning_laws.specs.Scoped.{IsIn, AreIn, AwaitedIn, InScope, in_wait, Scoped}
+use Rattle.correspondence.specs.Chains.{Answers, Chain}
+use Rattle.agreement.specs.CodeNames.{name_as, wanted, over, each_once, awaited_need}
+use Rattle.meaning_laws.specs.Scoped.{IsIn, AreIn, AwaitedIn, Scoped}
 use Rattle.agreement.specs.IsCodeOf.{Layout, seen, own_needs, step_expr, IsSimple, IsEntry, CallAs, plain_literal, plain_name, a_cell, a_read, a_call, PartsAs, no_part, one_part, StmtAs, declares, calls_alone, simple, branch, branches, range_loop, array_loop, waits, WaitAs, one_wait, merged, BlockAs, no_stmt, one_stmt, BodyAs, body_as, IsCodeOf}
 use Rattle.meaning_laws.specs.TypedValues.{own_outer, own_parts}
 use Rattle.correspondence.proofs.Evaluate.{Got, Ans, AnsAll, once_in, in_once}
 use Rattle.correspondence.proofs.Facts.{Known, known, fact_of, computes_so, has_answers, seen_value, not_too_deep}
-use Rattle.correspondence.proofs.Means.{chain_live, chain_body, chain_scope}
+use Rattle.correspondence.proofs.Means.{chain_live, chain_scope}
 use Rattle.correspondence.proofs.Opening.{seen_scoped}
-use Rattle.correspondence.proofs.Readings.{name_stands, to_code, IsSame, same_array, gives_all, all_in_order, in_element}
+use Rattle.correspondence.proofs.Readings.{name_stands, to_code, IsSame, same_array, gives_all, all_in_order}
 use Rattle.correspondence.proofs.Roles.{cell_among, among_cells, among_calls, part_of_stmt}
 
 -- LOOKING UP A STATEMENT'S ENTRIES

@@ -1,6 +1,6 @@
 -- What the inputs of live items are, by the code alone: the names of a live item's reads mean data of their kinds, that stand for no plain cell.
 use Rattle.std.proofs.Common.{◌≡◌, ◌⊎◌, inl, inr, ℕ, suc, List, [], ◌∷◌, refl, sym, ap, ◌∙◌, subst}
-use Rattle.dataflow.specs.System.{In, Effect, Opening}
+use Rattle.dataflow.specs.System.{In, Opening}
 use Rattle.dataflow.specs.Facts.{Live, live_main, live_opened}
 use Rattle.dataflow.specs.Laws.{Can}
 use Rattle.syntax_trees.specs.Core as Co
@@ -10,11 +10,10 @@ use Rattle.syntax_trees.specs.Meaning as Mn
 use Rattle.syntax_trees.specs.Members.{◌∈◌, first, later}
 use Rattle.syntax_trees.specs.Parts.{block_list, script_blocks}
 use Rattle.syntax_trees.specs.WellFormed.{WellFormed}
-use Rattle.syntax_trees.proofs.Blocks.{header_inner, inner_block, function_block, among_script}
+use Rattle.syntax_trees.proofs.Blocks.{inner_block, function_block, among_script}
 use Rattle.meaning_laws.proofs.Declared.{live_block}
 use Rattle.meaning_laws.specs.Scoped.{Scoped}
 use Rattle.values.specs.declared.key.Key.{Key}
-use Rattle.values.specs.declared.value.Scalar.{Scalar}
 use Rattle.task_code.specs.Code as code
 use Rattle.task_code.specs.Code.{Variable, Act, Header, Way, InPlace, Through, Calling, Code, entry, body, ways}
 use Rattle.task_code.specs.Effects.{Task, Main, Item, block}
@@ -22,7 +21,7 @@ use Rattle.task_code.specs.Places as CodePlaces
 use Rattle.task_code.specs.Places.{Step, Datum, Constant, place_at}
 use Rattle.task_code.specs.System.{code_system}
 use Rattle.task_code.specs.Whole.{Declared, SeenFrom, Fixes, IsCode}
-use Rattle.task_code.proofs.Opens.{PathBy, stepped, opened, in_block, in_rest, seen_place}
+use Rattle.task_code.proofs.Opens.{PathBy, opened, in_block, in_rest, seen_place}
 use Rattle.task_code.proofs.Places.{argued, not_constant}
 use Rattle.agreement.specs.IsCodeOf.{PartAs, plain_literal, plain_name, a_cell, a_read, a_call, WaitAs, one_wait, merged, BodyAs, body_as, IsCodeOf}
 use Rattle.correspondence.proofs.Exact.{simple_no_ways}

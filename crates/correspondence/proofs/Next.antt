@@ -1,22 +1,21 @@
 -- From knowledge that clean code comes to, to the knowledge that follows from it.
-use Rattle.std.proofs.Common.{◌≡◌, inl, inr, ℕ, Bool, true, false, List, [], ◌∷◌, Result, Ok, refl, sym, ap, ◌∙◌, subst}
+use Rattle.std.proofs.Common.{◌≡◌, inl, inr, ℕ, Bool, List, Result, refl, sym, subst}
 use Rattle.dataflow.specs.System.{In}
-use Rattle.dataflow.specs.Facts as Fa
 use Rattle.dataflow.specs.Facts.{Written, Ever}
 use Rattle.dataflow.proofs.Frozen.{Within, written_grows, made_grows, finished_grows}
-use Rattle.dataflow.proofs.Lists.{in_left, in_right, in_split}
+use Rattle.dataflow.proofs.Lists.{in_split}
 use Rattle.values.specs.declared.fault.OpFault.{OpFault}
 use Rattle.values.specs.declared.key.Key.{Key}
 use Rattle.values.specs.declared.value.Scalar.{Scalar}
 use Rattle.values.specs.declared.value.Value.{Value}
 use Rattle.values.specs.declared.value.Value.TheVariants.{One}
-use Rattle.syntax_trees.specs.Core.{Expr, Exprs, compute, Cell, Stmt, stmt, Action, Block, Core}
+use Rattle.syntax_trees.specs.Core.{Expr, Exprs, compute, Cell, stmt, Action, Block, Core}
 use Rattle.syntax_trees.specs.Facts.{Fact, value, element, Knowledge}
 use Rattle.syntax_trees.specs.Meaning as Mn
 use Rattle.syntax_trees.specs.Meaning.{HasValue, New, ValueUnder, of_literal, of_name, of_array, of_operator, ValuesUnder, no_operand, operand, in_block}
 use Rattle.syntax_trees.specs.Members.{◌∈◌}
 use Rattle.syntax_trees.specs.Parts.{cells, block_list}
-use Rattle.syntax_trees.specs.Places.{Place, place}
+use Rattle.syntax_trees.specs.Places.{Place}
 use Rattle.syntax_trees.specs.Single.{SinglyAssigned}
 use Rattle.syntax_trees.specs.WellFormed.{WellFormed}
 use Rattle.meaning_laws.proofs.Declared.{stmt_in}
@@ -24,7 +23,7 @@ use Rattle.meaning_laws.proofs.Growth.{Grows, keeps_value}
 use Rattle.meaning_laws.proofs.Sources.{IsFull, cell_gives}
 use Rattle.meaning_laws.specs.Scoped.{AreIn, AllAreIn, FormIn, Scoped}
 use Rattle.task_code.specs.Code.{Variable, Need, Code, entry, body}
-use Rattle.task_code.specs.Effects.{Task, only}
+use Rattle.task_code.specs.Effects.{Task}
 use Rattle.task_code.specs.Exact.{IsExact}
 use Rattle.task_code.specs.Machine.{CleanCode}
 use Rattle.task_code.specs.Places as CodePlaces
@@ -42,7 +41,7 @@ use Rattle.correspondence.specs.Feeding.{WritesKnown}
 use Rattle.correspondence.specs.Inclusions.{Facts}
 use Rattle.correspondence.proofs.ElementsFrom.{element_from}
 use Rattle.correspondence.proofs.Evaluate.{AsValue}
-use Rattle.correspondence.proofs.EverFed.{Stored, NeedFed, IsStored, ScalarEver, ArrayEver, ElementsStored, Behind, scalar_fed, array_fed_by, closed_ever, facts_ever}
+use Rattle.correspondence.proofs.EverFed.{Stored, NeedFed, IsStored, ArrayEver, ElementsStored, Behind, scalar_fed, array_fed_by, closed_ever, facts_ever}
 use Rattle.correspondence.proofs.Fed.{settled}
 use Rattle.correspondence.proofs.LiveBy.{TaskEffect}
 use Rattle.correspondence.proofs.Means.{chain_live, chain_scope}

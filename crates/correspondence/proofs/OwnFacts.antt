@@ -14,12 +14,12 @@ use Rattle.values.specs.declared.value.Value.{Value}
 use Rattle.values.specs.declared.value.Value.TheVariants.{One, Many}
 use Rattle.syntax_trees.specs.Core as Co
 use Rattle.syntax_trees.specs.Core.{Name, Expr, Form, Cell, Call, Part, Outer, Awaited, Stmt, stmt, Action, fill, insert, when, choose, range, each, wait, Block, no_stmts, stmts, Core}
-use Rattle.syntax_trees.specs.Facts.{value, element, Knowledge, IsKey, a_number}
+use Rattle.syntax_trees.specs.Facts.{value, element, Knowledge}
 use Rattle.syntax_trees.specs.Meaning.{Gives, ValueUnder, of_literal, of_name, of_array, of_operator, LiveStmt, in_block, Ready, cells_known, source_closed}
 use Rattle.syntax_trees.specs.Members.{◌∈◌, first}
 use Rattle.syntax_trees.specs.Openings.{Branches, one_way, two_ways, in_turns, Opens, then_alone, then_first, else_second, turn, item}
-use Rattle.syntax_trees.specs.Parts.{block_list, cells, script_stmts}
-use Rattle.syntax_trees.specs.Places.{Path, Place, place, most_steps}
+use Rattle.syntax_trees.specs.Parts.{block_list, cells}
+use Rattle.syntax_trees.specs.Places.{Place, place, most_steps}
 use Rattle.syntax_trees.specs.WellFormed.{WellFormed, IsMany, a_list, a_copy}
 use Rattle.meaning_laws.proofs.Sources.{outer_in, cell_gives, IsFull}
 use Rattle.meaning_laws.proofs.Declared.{stmt_in}
@@ -38,7 +38,7 @@ use Rattle.task_code.specs.System.{answered, code_system}
 use Rattle.task_code.specs.Whole.{IsCode}
 use Rattle.agreement.specs.Headline.{script_path, script_place}
 use Rattle.agreement.specs.CodeNames.{awaited_need, each_once, wanted, over, name_as}
-use Rattle.agreement.specs.IsCodeOf.{Layout, own_form, own_expr, own_needs, fill_act, simple_act, IsSimple, IsEntry, CallAs, BodyAs, IsCodeOf}
+use Rattle.agreement.specs.IsCodeOf.{Layout, own_form, own_expr, own_needs, fill_act, simple_act, IsEntry, CallAs, BodyAs, IsCodeOf}
 use Rattle.meaning_laws.specs.Scoped.{IsIn, AreIn, FormIn, InScope, in_wait, Scoped}
 use Rattle.correspondence.specs.Answered.{Reading}
 use Rattle.correspondence.specs.Chains.{Answers, Chain}

@@ -11,7 +11,7 @@ use Rattle.values.specs.declared.value.Value.TheVariants.{One}
 use Rattle.values.specs.Maps.{rising, element as entry}
 use Rattle.syntax_trees.specs.Core.{Name, Expr, literal, name, compute, Cell, Stmt, stmt, Action, Block, Core}
 use Rattle.syntax_trees.specs.Facts.{value, Knowledge, Elements}
-use Rattle.syntax_trees.specs.Meaning.{Closed, HasValue, stored, in_turn, ValueUnder, of_literal, of_name, of_array, of_operator, computed, LiveStmt, in_block, cell_value}
+use Rattle.syntax_trees.specs.Meaning.{Closed, HasValue, stored, in_turn, ValueUnder, of_literal, of_name, of_array, of_operator, computed, in_block, cell_value}
 use Rattle.syntax_trees.specs.Members.{◌∈◌, first, later}
 use Rattle.syntax_trees.specs.Openings.{InTurn, range_value, range_turn, each_value, each_key}
 use Rattle.syntax_trees.specs.Parts.{cells, script_stmts}

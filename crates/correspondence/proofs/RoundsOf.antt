@@ -1,6 +1,6 @@
 -- Clean code has a clean script, round by round, and comes to what each half round yields.
-use Rattle.std.proofs.Common.{◌≡◌, inl, inr, ℕ, zero, suc, true, List, [], ◌∷◌, refl, sym, ap, ◌∙◌, subst, max, arith}
-use Rattle.std.specs.Prelude.{◌<◌, ◌≤◌, ◌⊎◌}
+use Rattle.std.proofs.Common.{◌≡◌, ℕ, zero, suc, true, List, [], ◌∷◌, refl, sym, ap, ◌∙◌, subst, max, arith}
+use Rattle.std.specs.Prelude.{◌≤◌}
 use Rattle.dataflow.specs.Facts as Fa
 use Rattle.dataflow.specs.Facts.{Written}
 use Rattle.dataflow.proofs.Ever.{known_later}
@@ -29,7 +29,7 @@ use Rattle.meaning_laws.specs.Scoped.{Scoped}
 use Rattle.agreement.specs.IsCodeOf.{IsCodeOf}
 use Rattle.correspondence.proofs.ElementsFrom.{StoredBy, element_from}
 use Rattle.correspondence.proofs.EverFed.{facts_ever}
-use Rattle.correspondence.proofs.Next.{Level, Follows, next_level}
+use Rattle.correspondence.proofs.Next.{Level, next_level}
 use Rattle.meaning_laws.proofs.Sources.{known_full}
 use Rattle.task_code.specs.Exact.{IsExact}
 use Rattle.correspondence.proofs.Halves.{Cells, half_backs, element_backed, cells_follow, half_follows, known_follows, half_full, cells_backs, cells_full, known_backs}

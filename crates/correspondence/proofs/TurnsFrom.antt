@@ -12,7 +12,7 @@ use Rattle.values.specs.declared.value.Value.{Value}
 use Rattle.values.specs.Ranges.{value_in}
 use Rattle.syntax_trees.specs.Core.{Stmt, stmt, Action, Block, Core}
 use Rattle.syntax_trees.specs.Facts.{Knowledge, key_value}
-use Rattle.syntax_trees.specs.Meaning.{LiveStmt, in_block, Ready}
+use Rattle.syntax_trees.specs.Meaning.{in_block, Ready}
 use Rattle.syntax_trees.specs.Members.{◌∈◌}
 use Rattle.syntax_trees.specs.Parts.{block_list}
 use Rattle.syntax_trees.specs.Openings.{Bounds, Opens, then_alone, then_first, else_second, turn, item, InTurn, range_value, range_turn, each_value, each_key}
@@ -37,7 +37,7 @@ use Rattle.correspondence.proofs.HeaderWorks.{opens_no_wait, only_stmt, found_bo
 use Rattle.correspondence.proofs.LiveBy.{Feed, Where, at_body, between, ReadyFed, AllAlive, LoopRun, range_run, each_run}
 use Rattle.correspondence.proofs.LiveFrom.{by_answers, no_need, live_from}
 use Rattle.correspondence.proofs.Means.{chain_body}
-use Rattle.correspondence.proofs.WrittenFrom.{path_same, StmtLive, TurnsStored}
+use Rattle.correspondence.proofs.WrittenFrom.{path_same, TurnsStored}
 
 -- what a loop stores are its turns' variables
 pub loop_stores : (C : Code) (a : Act) (l : Loop) (node mark : ℕ) (p : List Step) (c : ℕ) (x : Computed) → loop_of a ≡ Some l → stores C a node mark p c x ≡ flat_map (bound l mark p) (chunk c (turns_of x))
