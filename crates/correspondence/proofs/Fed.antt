@@ -1,5 +1,4 @@
--- What feeds the code's meaning: inputs that the script answers and the code comes to yield facts that the code comes to; an array that is closed by
--- such facts, whose writes to it the script knows, is answered by the code as by the script.
+-- What feeds the code's meaning: an array that is closed by facts that the code comes to, whose writes to it the script knows, is answered by the code as by the script.
 use Rattle.std.proofs.Common.{◌≡◌, inl, inr, List, [], ◌∷◌, refl}
 use Rattle.dataflow.specs.System.{In, Input, ClosedArray, ElementOf, Answer, Missing, Content, Effect, Good}
 use Rattle.dataflow.specs.Facts as Fa
@@ -48,18 +47,6 @@ module _ (s : Core) (C : Code) (I : IsCode C) (clean : CleanCode C) (K : Knowled
   given [] f (x ∷ xs) h = absurd h
   given (i ∷ is) f [] h = absurd h
   given (i ∷ is) f (x ∷ xs) h = (f i (inl refl) x h.0, given is (λ j m. f j (inr m)) xs h.1)
-
-  module _ (fed : (t : Task) (i : Input CodePlaces.Place Key) (x : Got) → Live (code_system C) (Ever (code_system C)) t → In i ((code_system C).inputs t) → Answers s K i x → Fa.Gives (code_system C) (Ever (code_system C)) i x) where
-    read : (t : Task) (e : TaskEffect) → Live (code_system C) (Ever (code_system C)) t → Reading (code_system C) (Answers s K) t e → Comes_to t e
-    read t e l r = come t e r.answers l (given ((code_system C).inputs t) (λ i m x a. fed t i x l m a) r.answers r.read) r.is
-
-    fed_live : {t : Task} → Live (code_system C) (Reading (code_system C) (Answers s K)) t → Live (code_system C) (Ever (code_system C)) t
-    fed_live live_main = live_main
-    fed_live (live_opened t u e o l f io iu) = (let q = fed_live l in live_opened t u e o q (read t e q f) io iu)
-
-    -- facts that are fed so are facts of the code
-    pub fed_in : Within (Facts s C K) (Ever (code_system C))
-    fed_in t e f = read t e (fed_live f.live) f.reading
 
   -- AN ARRAY THAT IS CLOSED BY FACTS WHOSE WRITES TO IT ARE KNOWN
   module _ (F : Task → TaskEffect → Type 0) (into : Within F (Ever (code_system C))) (p : List Step) (v : Variable) where

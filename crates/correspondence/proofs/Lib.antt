@@ -59,3 +59,4 @@ pub mod BlockedTo
 pub mod BlockedHas
 pub mod BlockedFrom
 pub mod HeadlineOf
+pub mod AssertedCores

@@ -21,7 +21,10 @@ ghost use Rattle.syntax_trees.specs.Facts.{OneWriter};
 ghost use Rattle.syntax_trees.specs.Meaning.{Known, Meaning};
 ghost use Rattle.syntax_trees.specs.Outcomes.{Clean};
 ghost use Rattle.syntax_trees.specs.Places as ScriptPlaces;
+ghost use Rattle.syntax_trees.specs.Resolved.{core};
 ghost use Rattle.syntax_trees.specs.Single.{SinglyAssigned};
+ghost use Rattle.syntax_trees.specs.Table.{Table};
+ghost use Rattle.syntax_trees.specs.Tree.{Tree};
 ghost use Rattle.syntax_trees.specs.WellFormed.{WellFormed};
 ghost use Rattle.task_code.specs.Code.{Code};
 ghost use Rattle.task_code.specs.Effects.{Task};
@@ -96,4 +99,9 @@ pub fn headline()
     ensures every_run { (s : Core) (C : Code) → IsCodeOf s C → IsCode C → IsExact C → NodesOnce C → WellFormed s → SinglyAssigned s → Scoped s → TypedValues s (Meaning s) → Asserted s → Headline s C }
     ensures clean { (s : Core) (C : Code) → IsCodeOf s C → IsCode C → IsExact C → NodesOnce C → WellFormed s → SinglyAssigned s → Scoped s → TypedValues s (Meaning s)
         → (events : List Event) (st : CodeState) → Run C events st → Quiet C st → Clean s }
+{}
+
+/// The core of each tree, by any table of its names, applies in each assertion the operator that gives true or a fault.
+pub fn asserted_cores()
+    ensures { (t : Table) (tree : Tree) → Asserted (core t tree) }
 {}
