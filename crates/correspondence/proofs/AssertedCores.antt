@@ -1,12 +1,12 @@
 -- The core of a tree applies the operator of assertions in each of its assertions.
-use Rattle.std.proofs.Common.{◌≡◌, inl, inr, ℕ, List, [], ◌∷◌, ◌++◌, map, refl, sym, subst, Option, Some, None}
-use Rattle.std.specs.Prelude.{ℤ, pos}
+use Rattle.std.proofs.Common.{◌≡◌, inl, inr, ℕ, List, [], ◌∷◌, map, refl, sym, subst, Option, Some, None}
+use Rattle.std.specs.Prelude.{ℤ}
 use Rattle.values.specs.Operators as op
 use Rattle.values.specs.Operators.{Operation}
 use Rattle.syntax_trees.specs.declared.tree.Shape.{Shape}
-use Rattle.syntax_trees.specs.Core.{Name, here, Exprs, operator, compute, Outer, Stmt, stmt, Action, declare, call_alone, assign, fill, insert, print, assert, when, choose, range, each, wait, Block, no_stmts, stmts, Function, Core}
+use Rattle.syntax_trees.specs.Core.{Name, here, Exprs, operator, compute, Outer, Stmt, stmt, Action, declare, call_alone, assign, fill, insert, print, assert, when, choose, range, each, wait, Block, no_stmts, stmts, Function}
 use Rattle.syntax_trees.specs.Members.{◌∈◌, first, later}
-use Rattle.syntax_trees.specs.Parts.{block_list, blocks_below, blocks_in, blocks_inside, blocks_of, function_blocks, script_blocks, stmts_among, script_stmts}
+use Rattle.syntax_trees.specs.Parts.{block_list, blocks_below, blocks_in, blocks_inside, blocks_of, function_blocks, script_blocks, stmts_among}
 use Rattle.syntax_trees.specs.Resolved.{refers, operands_of, plain_right, call_right, right_of, call_action, several, loop_action, block_of, block_in, with_statement, with_command, script_block, functions_of, core}
 use Rattle.syntax_trees.specs.Table as table
 use Rattle.syntax_trees.specs.Table.{Table, Builtin, Callee, composite, built_in}

@@ -29,18 +29,18 @@ pub data IsPlain : Form → Type 0 where
   is_name : {x : Name} → IsPlain (compute (name x))
 
 -- the statements whose own entry works out their right side
-pub data Works_own : Action → Outer → Type 0 where
-  of_assign : {x : Name} {o : Outer} → Works_own (assign x o) o
-  of_fill : {x : Name} {o : Outer} → Works_own (fill x o) o
-  of_print : {p : ℤ} {o : Outer} → Works_own (print p o) o
-  of_assert : {p : ℤ} {o : Outer} → Works_own (assert p o) o
+pub data WorksOwn : Action → Outer → Type 0 where
+  of_assign : {x : Name} {o : Outer} → WorksOwn (assign x o) o
+  of_fill : {x : Name} {o : Outer} → WorksOwn (fill x o) o
+  of_print : {p : ℤ} {o : Outer} → WorksOwn (print p o) o
+  of_assert : {p : ℤ} {o : Outer} → WorksOwn (assert p o) o
 
 module _ (C : Code) (l : Layout) where
   pub record OwnCell (k : ℕ) (c : Cell) (es : List ℕ) (at n : ℕ) (a : Action) : Type 0 where
     pub number : ℕ
     pub there : In number es
     pub outer : Outer
-    pub works : Works_own a outer
+    pub works : WorksOwn a outer
     pub as_entry : IsEntry (entry C number) at (own_priority a) (own_needs l k a) (simple_act l k (own_needs l k a) a)
     pub is : c ≡ outer.cell
     pub expr : Expr
@@ -83,7 +83,7 @@ module _ (C : Code) (l : Layout) where
       by (read a i) q h = inl (to_right o.parts _ (subst (λ (f : Form). inner c ∈ own_cell o.cell f) (sym q) (subst (λ (y : Cell). inner c ∈ (inner y ∷ [])) h first)))
 
   module _ {k : ℕ} {at n : ℕ} {es is : List ℕ} (j : ℕ) (q : es ≡ is ++ j ∷ []) where
-    by_outer : {a : Action} (o : Outer) (c : Cell) → Works_own a o → IsEntry (entry C j) at (own_priority a) (own_needs l k a) (simple_act l k (own_needs l k a) a) → PartsAs C l k (own_parts a) at (own_priority a) (own_outer o) is → ((d : Cell) → d ∈ part_cells (own_parts a) → d ∈ cells (stmt at n a))
+    by_outer : {a : Action} (o : Outer) (c : Cell) → WorksOwn a o → IsEntry (entry C j) at (own_priority a) (own_needs l k a) (simple_act l k (own_needs l k a) a) → PartsAs C l k (own_parts a) at (own_priority a) (own_outer o) is → ((d : Cell) → d ∈ part_cells (own_parts a) → d ∈ cells (stmt at n a))
         → inner c ∈ (o.parts ++ inner o.cell ∷ []) → CellFound C l k (stmt at n a) c es ⊎ (IsPlain c.form ⊎ OwnCell k c es at n a)
     by_outer {a} o c wo en as' sub h =
         elim (own_split o c h) [

@@ -42,17 +42,16 @@ use Rattle.agreement.specs.IsCodeOf.{seen, seen_as, own_form, own_expr, IsCodeOf
 use Rattle.correspondence.specs.Answered.{Reading}
 use Rattle.correspondence.specs.Backs.{Backs}
 use Rattle.correspondence.specs.Chains.{HasElement, HasAll, Answers, Chain, Stands, same, plain, constant}
-use Rattle.correspondence.specs.Feeding.{WritesKnown}
 use Rattle.correspondence.specs.Inclusions.{Facts}
 use Rattle.correspondence.proofs.ClosingFrom.{Ends}
 use Rattle.correspondence.proofs.Derived.{EndedAt, ended_by, value_by}
 use Rattle.correspondence.proofs.Evaluate.{Got, AsValue}
 use Rattle.correspondence.proofs.Exact.{kind_of}
-use Rattle.correspondence.proofs.Fed.{settled, come, given, array_fed, missing_fed}
+use Rattle.correspondence.proofs.Fed.{WritesKnown, settled, come, given, array_fed, missing_fed}
 use Rattle.correspondence.proofs.Hits.{Kind, right_kind}
 use Rattle.correspondence.proofs.Inputs.{not_true}
 use Rattle.correspondence.proofs.LiveBy.{TaskEffect, Feed}
-use Rattle.correspondence.proofs.LiveKinds.{Standing_item, live_item}
+use Rattle.correspondence.proofs.LiveKinds.{StandingItem, live_item}
 use Rattle.correspondence.proofs.Means.{chain_live, covering_reads}
 use Rattle.correspondence.proofs.Readings.{cell_has, to_code, name_stands, same_array}
 use Rattle.correspondence.proofs.Transfer.{reading_valid}
@@ -308,7 +307,7 @@ module _ (s : Core) (C : Code) (w : IsCodeOf s C) (wf : WellFormed s) (I : IsCod
           needs_in : (n : Need) → In n (entry C j).needs → NeedFed p n
           needs_in n m = need_in n m (every_in fits_kinds (entry C j).needs (true_and (list_all fits_kinds (entry C j).needs) (has_shape (entry C j).act (entry C j).needs) (I.shape j)).0 n m)
 
-        task_in : {t : Task} → (t ≡ Main) ⊎ Standing_item s C w K wf I sc t → (i : Input CodePlaces.Place Key) → In i ((code_system C).inputs t) → (x : Got) → Answers s K i x → Gets i x
+        task_in : {t : Task} → (t ≡ Main) ⊎ StandingItem s C w K wf I sc t → (i : Input CodePlaces.Place Key) → In i ((code_system C).inputs t) → (x : Got) → Answers s K i x → Gets i x
         task_in (inl q) i h x a = absurd (subst (λ (z : Task). In i ((code_system C).inputs z)) q h)
         task_in (inr it) i h x a =
             let n = in_gather C (inputs_at C it.path) (entry C it.number).needs i (subst (λ (z : Task). In i ((code_system C).inputs z)) it.is h) in

@@ -55,7 +55,7 @@ use Rattle.correspondence.proofs.LiveBy.{at_body, between}
 use Rattle.correspondence.proofs.LiveFrom.{Alive, Where, live_from}
 use Rattle.correspondence.proofs.Means.{chain_live, chain_body, chain_scope}
 use Rattle.correspondence.proofs.Roles.{cell_among}
-use Rattle.correspondence.proofs.CellsOf.{IsPlain, is_literal, is_name, Works_own, of_assign, of_fill, of_print, of_assert, OwnCell, find_any}
+use Rattle.correspondence.proofs.CellsOf.{IsPlain, is_literal, is_name, WorksOwn, of_assign, of_fill, of_print, of_assert, OwnCell, find_any}
 use Rattle.correspondence.proofs.WrittenFrom.{CellFound, StmtLive, stmt_live, nothing_behind, own_scope, index_answer}
 
 path_length : (p : List Step) → length (script_path p) ≡ length p
@@ -144,7 +144,7 @@ module _ (s : Core) (C : Code) (w : IsCodeOf s C) (K : Knowledge) (wf : WellForm
     once_is : (o : Outer) → each_once (wanted k (own_expr o) ++ []) ≡ each_once (wanted k (own_expr o))
     once_is o = ap each_once (nothing_behind s C w K wf (backs s K kn) I sc (wanted k (own_expr o)))
 
-    own_fails : {at n : ℕ} {a : Action} {o : Outer} {f : OpFault} → Works_own a o → stmt at n a ∈ block_list b → IsEntry (entry C j) at (own_priority a) (own_needs w.layout k a) (simple_act w.layout k (own_needs w.layout k a) a) → (e : Expr) → o.cell.form ≡ compute e → ValueUnder s K (script_path p) e (Err f) → ⊥
+    own_fails : {at n : ℕ} {a : Action} {o : Outer} {f : OpFault} → WorksOwn a o → stmt at n a ∈ block_list b → IsEntry (entry C j) at (own_priority a) (own_needs w.layout k a) (simple_act w.layout k (own_needs w.layout k a) a) → (e : Expr) → o.cell.form ≡ compute e → ValueUnder s K (script_path p) e (Err f) → ⊥
     own_fails {at} {n} {a} {o} {f} wo m en e fq vu = by wo m en
       where
         under : ValueUnder s K (script_path p) (own_expr o) (Err f)
@@ -153,7 +153,7 @@ module _ (s : Core) (C : Code) (w : IsCodeOf s C) (K : Knowledge) (wf : WellForm
         scoped : {a : Action} → stmt at n a ∈ block_list b → o.cell ∈ cells (stmt at n a) → AreIn k (own_expr o)
         scoped {a} m cm = own_scope s C w K wf (backs s K kn) I sc k o ((sc.statements k b (stmt at n a) (chain_scope s C w.layout K wf.names I sc ch) m).in_cells o.cell cm)
 
-        by : {a : Action} → Works_own a o → stmt at n a ∈ block_list b → IsEntry (entry C j) at (own_priority a) (own_needs w.layout k a) (simple_act w.layout k (own_needs w.layout k a) a) → ⊥
+        by : {a : Action} → WorksOwn a o → stmt at n a ∈ block_list b → IsEntry (entry C j) at (own_priority a) (own_needs w.layout k a) (simple_act w.layout k (own_needs w.layout k a) a) → ⊥
         by (of_assign {x = x}) m en = one_fails (code.Set (name_as k false x)) given (λ x ys. refl) refl en (once_is o) (scoped m (outer_in o.parts o.cell)) under
         by of_print m en = one_fails code.Print given (λ x ys. refl) refl en (once_is o) (scoped m (outer_in o.parts o.cell)) under
         by of_assert m en = one_fails code.Assert given (λ x ys. refl) refl en (once_is o) (scoped m (outer_in o.parts o.cell)) under
@@ -230,7 +230,7 @@ module _ (s : Core) (C : Code) (w : IsCodeOf s C) (K : Knowledge) (wf : WellForm
               by_part (a_call ca) q = absurd (cc (q))
 
   -- WHERE A STATEMENT STANDS
-  record Stands_at (path : Path) (st : Stmt) : Type 0 where
+  record StandsAt (path : Path) (st : Stmt) : Type 0 where
     p : List Step
     t : ℕ
     k : ℕ
@@ -241,10 +241,10 @@ module _ (s : Core) (C : Code) (w : IsCodeOf s C) (K : Knowledge) (wf : WellForm
     there : st ∈ block_list block
     entries : StmtFound C w.layout k st (body C t).entries
 
-  stands_at : {path : Path} {st : Stmt} → LiveStmt s K path st → ((k t : ℕ) (gs : List code.Header) → WaitAs C w.layout k st gs t → ⊥) → Stands_at path st
+  stands_at : {path : Path} {st : Stmt} → LiveStmt s K path st → ((k t : ℕ) (gs : List code.Header) → WaitAs C w.layout k st gs t → ⊥) → StandsAt path st
   stands_at {path} {st} (in_block {b = b} lv m) no_wait = by (live_from s C w K wf (backs s K kn) I sc lv)
     where
-      by : Where s C w K wf (backs s K kn) I sc path b → Stands_at path st
+      by : Where s C w K wf (backs s K kn) I sc path b → StandsAt path st
       by (at_body {p = p} {t = t} {k = k} e ch al op) = record { p = p; t = t; k = k; block = b; path_is = e; chain = ch; alive = al; there = m; entries = found_body s C w K wf (backs s K kn) I sc (chain_body s C w.layout K wf.names I sc ch) m }
       by (between x) = absurd (no_wait x.k x.content x.below (subst (λ (z : Stmt). WaitAs C w.layout x.k z x.below x.content) (sym (only_stmt s C w K wf (backs s K kn) I sc m x.block_is)) x.as_wait))
 

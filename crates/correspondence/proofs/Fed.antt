@@ -20,16 +20,18 @@ use Rattle.task_code.specs.System.{code_system}
 use Rattle.task_code.specs.Whole.{IsCode}
 use Rattle.task_code.proofs.Kept.{code_laws}
 use Rattle.agreement.specs.Headline.{script_place}
-use Rattle.correspondence.specs.Answered.{ReadAll, Reading}
+use Rattle.correspondence.specs.Answered.{ReadAll}
 use Rattle.correspondence.specs.Chains.{AllElements, Lacks, Answers}
-use Rattle.correspondence.specs.Feeding.{WritesKnown}
-use Rattle.correspondence.specs.Inclusions.{Facts}
 
 abbrev pub TaskEffect : Type 0
 TaskEffect = Effect Task CodePlaces.Place Key Scalar
 
 abbrev Got : Type 0
 Got = Answer Key Scalar
+
+-- a fact, each of whose writes to the array is an element that is known there
+abbrev pub WritesKnown : Knowledge → (Task → Effect Task CodePlaces.Place Key Scalar → Type 0) → List Step → Variable → Task → Effect Task CodePlaces.Place Key Scalar → Type 0
+WritesKnown K F p v t e = F t e × ((k : Key) (x : Scalar) → In (record { place = Datum p v; key = k; value = x }) e.writes → (writer : Place) × K (element (script_place p v) k writer x))
 
 module _ (s : Core) (C : Code) (I : IsCode C) (clean : CleanCode C) (K : Knowledge) where
   abbrev pub Comes_to : Task → TaskEffect → Type 0

@@ -95,7 +95,7 @@ module _ (s : Core) (C : Code) (w : IsCodeOf s C) (K : Knowledge) (wf : WellForm
   abbrev pub ReadKinds : List Step → ℕ → Type 0
   ReadKinds p j = Kinds s C w K wf I sc (λ e. e.reads) (covering_reads s C w.layout K wf.names I sc) p j
 
-  pub record Standing_item (t : Task) : Type 0 where
+  pub record StandingItem (t : Task) : Type 0 where
     pub number : ℕ
     pub chunk : ℕ
     pub path : List Step
@@ -121,14 +121,14 @@ module _ (s : Core) (C : Code) (w : IsCodeOf s C) (K : Knowledge) (wf : WellForm
       by (inr fx) = absurd (not_fixed (entry C j).mark p q key wy r pb fx d v e)
 
   module _ (F : Task → TaskEffect → Type 0) (can : (t : Task) (e : TaskEffect) → Live (code_system C) F t → F t e → Can (code_system C) t e) where
-    script_item : {t u : Task} (e : TaskEffect) (o : Opening Task CodePlaces.Place) → t ≡ Main → Can (code_system C) t e → In o e.opens → In u o.tasks → Standing_item u
+    script_item : {t u : Task} (e : TaskEffect) (o : Opening Task CodePlaces.Place) → t ≡ Main → Can (code_system C) t e → In o e.opens → In u o.tasks → StandingItem u
     script_item {t} {u} e o q c io iu =
         let io' : In o (block C (0, []) ∷ []) = subst (λ (x : TaskEffect). In o x.opens) (sym (good_in (ap (λ (z : Task). (code_system C).effect z c.answers) (sym q) ∙ c.is))) io in
         let r = in_block C (0, []) o u (in_one o _ io') iu in
         let lv : Mn.Live s K [] s.body = Mn.script in
         record { number = r.0; chunk = 0; path = []; is = r.2; body_number = 0; standing = stands_as w.script (live_block s lv); there = r.1; kinds = λ x xm d v e. declared_kind s C w K wf I sc w.script [] x (I.script_reads r.0 x r.1 xm) d v e }
 
-    opened_item : {t u : Task} (e : TaskEffect) (o : Opening Task CodePlaces.Place) → Standing_item t → Can (code_system C) t e → In o e.opens → In u o.tasks → Standing_item u
+    opened_item : {t u : Task} (e : TaskEffect) (o : Opening Task CodePlaces.Place) → StandingItem t → Can (code_system C) t e → In o e.opens → In u o.tasks → StandingItem u
     opened_item {t} {u} e o x c io iu =
         elim (opened C x.number x.chunk x.path e (subst (λ (z : Task). Can (code_system C) z e) x.is c) o io) [
           | inl ob ↦ (let r = in_block C ob.instance o u ob.is iu in
@@ -137,6 +137,6 @@ module _ (s : Core) (C : Code) (w : IsCodeOf s C) (K : Knowledge) (wf : WellForm
           | inr rs ↦ record { number = x.number; chunk = suc x.chunk; path = x.path; is = in_rest C x.number x.chunk x.path o u rs iu; body_number = x.body_number; standing = x.standing; there = x.there; kinds = x.kinds }
         ]
 
-    pub live_item : {t : Task} → Live (code_system C) F t → (t ≡ Main) ⊎ Standing_item t
+    pub live_item : {t : Task} → Live (code_system C) F t → (t ≡ Main) ⊎ StandingItem t
     live_item live_main = inl refl
     live_item (live_opened t u e o lv f io iu) = inr (elim (live_item lv) [ inl q ↦ script_item e o q (can t e lv f) io iu | inr x ↦ opened_item e o x (can t e lv f) io iu ])

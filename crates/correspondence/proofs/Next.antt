@@ -37,12 +37,11 @@ use Rattle.agreement.specs.Headline.{script_path, script_place}
 use Rattle.agreement.specs.IsCodeOf.{IsCodeOf}
 use Rattle.correspondence.specs.Backs.{RightKnown, Backs}
 use Rattle.correspondence.specs.Chains.{Chain, Stands, same, plain, constant}
-use Rattle.correspondence.specs.Feeding.{WritesKnown}
 use Rattle.correspondence.specs.Inclusions.{Facts}
 use Rattle.correspondence.proofs.ElementsFrom.{element_from}
 use Rattle.correspondence.proofs.Evaluate.{AsValue}
 use Rattle.correspondence.proofs.EverFed.{Stored, NeedFed, IsStored, ArrayEver, ElementsStored, Behind, scalar_fed, array_fed_by, closed_ever, facts_ever}
-use Rattle.correspondence.proofs.Fed.{settled}
+use Rattle.correspondence.proofs.Fed.{WritesKnown, settled}
 use Rattle.correspondence.proofs.LiveBy.{TaskEffect}
 use Rattle.correspondence.proofs.Means.{chain_live, chain_scope}
 use Rattle.correspondence.proofs.Readings.{name_inv, to_code_of}

@@ -6,6 +6,8 @@ use Rattle.syntax_trees.specs.Members.{first, later}
 use Rattle.task_code.specs.Code.{Need, Act, Cell, Entry, Code, entry}
 use Rattle.task_code.specs.Whole.{IsCode}
 use Rattle.task_code.proofs.Checked.{code_checked}
+use Rattle.task_code.proofs.Exactly.{exact_checked}
+use Rattle.task_code.specs.Exact.{IsExact}
 use Rattle.agreement.specs.IsCodeOf.{Layout, IsEntry, of_literal, of_datum, no_input, one_input, no_output, one_output, PartAs, plain_literal, plain_name, a_cell, a_read, at_literal, a_call, no_part, one_part, declares, calls_alone, simple, branches, range_loop, no_stmt, one_stmt, BodyAs, body_as, IsCodeOf}
 use Rattle.task_code.proofs.Opens.{some_same}
 use Rattle.agreement.specs.CodeNames.{wanted, each_once, over}
@@ -78,3 +80,11 @@ fibonacci_nodes = nodes_checked fibonacci_code fibonacci_whole refl
 
 pub filled_nodes : NodesOnce filled_code
 filled_nodes = nodes_checked filled_code filled_whole refl
+
+-- NO RIGHT IS IDLE
+
+pub fibonacci_exact : IsExact fibonacci_code
+fibonacci_exact = exact_checked fibonacci_code 4 refl
+
+pub filled_exact : IsExact filled_code
+filled_exact = exact_checked filled_code 4 refl

@@ -6,4 +6,3 @@ pub mod Inclusions
 pub mod Halves
 pub mod Worked
 pub mod Asserted
-pub mod Feeding

@@ -38,8 +38,8 @@ ghost use Rattle.values.specs.declared.value.Scalar.{Scalar};
 
 /// Two scripts and their codes: a recursive function, and a function that fills its caller's array in a loop.
 pub fn worked_codes()
-    ensures fibonacci { IsCodeOf fibonacci fibonacci_code × IsCode fibonacci_code × NodesOnce fibonacci_code }
-    ensures filled { IsCodeOf filled filled_code × IsCode filled_code × NodesOnce filled_code }
+    ensures fibonacci { IsCodeOf fibonacci fibonacci_code × IsCode fibonacci_code × NodesOnce fibonacci_code × IsExact fibonacci_code }
+    ensures filled { IsCodeOf filled filled_code × IsCode filled_code × NodesOnce filled_code × IsExact filled_code }
 {}
 
 /// For the whole language: what the code writes by the script's answers the script knows, what the script knows the code writes where a
