@@ -9,8 +9,6 @@ mod order;
 pub mod place;
 pub mod refusal;
 mod state;
-#[cfg(test)]
-mod tests;
 mod values_known;
 
 pub use board_work::answer::Answer;

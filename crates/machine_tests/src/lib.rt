@@ -2,6 +2,10 @@
 #![tactic(auto)]
 
 #[cfg(test)]
+mod board_tests;
+#[cfg(test)]
+mod codes;
+#[cfg(test)]
 mod data_store_tests;
 #[cfg(test)]
 mod pool_tests;

@@ -1,5 +1,5 @@
 use Rattle.board.proofs.Scripts.{one_print_flat}
-use Rattle.board.proofs.tests.hello.Goals as goal
+use Rattle.machine_tests.proofs.codes.printed.Goals as goal
 
 pub returns : goal.returns
 returns c =

@@ -1,0 +1,146 @@
+//! Runs of small codes, call by call, and results that are handed in where they do not belong.
+ghost use Rattle.board.specs.Board.{IsWorker};
+
+use crate::codes::{asserted, hello, printed};
+use board::board::Board;
+use board::refusal::Refusal;
+use board::{Done, Work};
+use std::alloc::Global;
+use task_code::entry::Kind;
+use task_code::event::Event;
+
+/// Begins the item and computes it.
+fn done_on(board: &mut Board, worker: u8, item: u64) -> Result<Done, Refusal>
+    requires { IsWorker worker }
+{
+    let work: Work = board.begin(worker, item)?;
+    work.compute().map_err(|(_work, _refused)| Refusal::Memory)
+}
+
+/// Ends an item, and says why not where that is refused.
+fn end_on(board: &mut Board, worker: u8, done: Done) -> Result<(), Refusal>
+    requires { IsWorker worker }
+{
+    board.end(worker, done).map_err(|(_done, refused)| refused)
+}
+
+/// Begins the item, computes it and ends it.
+fn work_on(board: &mut Board, worker: u8, item: u64) -> Result<(), Refusal>
+    requires { IsWorker worker }
+{
+    let done = done_on(board, worker, item)?;
+    end_on(board, worker, done)
+}
+
+/// Whether the board has printed the one line `hello`.
+fn prints_hello(board: &Board) -> bool {
+    match board.lines().as_slice() {
+        [line] => line.as_bytes() == b"hello".as_slice(),
+        _ => false,
+    }
+}
+
+#[test]
+fn hello_is_printed(rt: HostRuntime) {
+    let code = hello(rt.alloc()).expect(&rt, "a code");
+    let mut board = Board::new(rt.alloc(), code, 100).expect(&rt, "memory");
+    assert_eq!(rt; (board.limit(), board.code().entry_count()), (100, 1));
+    assert_eq!(rt;
+        (board.next(Kind::Control), board.next(Kind::Leaf)),
+        (Some(1), None)
+    );
+    assert_eq!(rt; work_on(&mut board, 0, 1), Ok(()));
+    assert!(rt; board.is_going() && !board.is_quiet());
+    let ready = board.ready_items().expect(&rt, "memory");
+    assert!(rt; ready.as_slice() == [2].as_slice());
+    assert_eq!(rt; board.kind(2), Some(Kind::Leaf));
+    let blocked = board.blocked().expect(&rt, "memory");
+    assert_eq!(rt; blocked.len(), 1);
+    assert_eq!(rt; work_on(&mut board, 2, 2), Ok(()));
+    assert!(rt; board.is_quiet() && board.fault().is_none() && prints_hello(&board));
+    let last = Event::End { worker: 2, item: 2 };
+    assert_eq!(rt; board.history().last(), Some(&last));
+}
+
+#[test]
+fn an_item_runs_on_one_worker(rt: HostRuntime) {
+    let code = hello(rt.alloc()).expect(&rt, "a code");
+    let mut board = Board::new(rt.alloc(), code, 100).expect(&rt, "memory");
+    let _work = board.begin(1, 1).expect(&rt, "begun");
+    let again = board.work(1, 1).expect(&rt, "its work");
+    assert_eq!(rt; again.item(), 1);
+    assert_eq!(rt; board.begin(1, 1).err(), Some(Refusal::NotReady));
+    assert_eq!(rt; board.back(2, 1), Err(Refusal::NotYours));
+    assert_eq!(rt; board.back(1, 1), Ok(()));
+    assert_eq!(rt; board.back(1, 1), Err(Refusal::NotYours));
+}
+
+#[test]
+fn the_limit_ends_a_board(rt: HostRuntime) {
+    let code = hello(rt.alloc()).expect(&rt, "a code");
+    let mut board = Board::new(rt.alloc(), code, 1).expect(&rt, "memory");
+    let done = done_on(&mut board, 0, 1).expect(&rt, "done");
+    assert!(rt; !board.is_going());
+    assert_eq!(rt; board.back(0, 1), Err(Refusal::Ended));
+    assert_eq!(rt; end_on(&mut board, 0, done), Err(Refusal::Ended));
+    assert_eq!(rt; board.begin(0, 1).err(), Some(Refusal::Ended));
+    assert_eq!(rt; board.next(Kind::Control), None);
+}
+
+/// The result of another entry is refused, and the item still runs.
+#[test]
+fn another_entry_is_a_stranger(rt: HostRuntime) {
+    let code = hello(rt.alloc()).expect(&rt, "a code");
+    let mut board = Board::new(rt.alloc(), code, 100).expect(&rt, "memory");
+    let code = printed(rt.alloc(), b"other").expect(&rt, "a code");
+    let mut other = Board::new(rt.alloc(), code, 100).expect(&rt, "memory");
+    assert_eq!(rt; work_on(&mut board, 0, 1), Ok(()));
+    assert_eq!(rt; work_on(&mut other, 0, 1), Ok(()));
+    let own = done_on(&mut board, 1, 2).expect(&rt, "done");
+    let strange = done_on(&mut other, 1, 2).expect(&rt, "done");
+    assert_eq!(rt; end_on(&mut board, 1, strange), Err(Refusal::Stranger));
+    assert!(rt; board.lines().is_empty());
+    assert_eq!(rt; end_on(&mut board, 1, own), Ok(()));
+    assert!(rt; prints_hello(&board));
+}
+
+/// A board on which the script and the assignment of `asserted` have ended, and the other item runs on worker 1, with what it
+/// comes to.
+fn asserting(alloc: Global, holds: bool) -> Result<(Board, Done), Refusal> {
+    let Ok(code) = asserted(alloc, holds) else {
+        return Err(Refusal::Memory);
+    };
+    let Ok(mut board) = Board::new(alloc, code, 100) else {
+        return Err(Refusal::Memory);
+    };
+    work_on(&mut board, 0, 1)?;
+    work_on(&mut board, 1, 2)?;
+    let done = done_on(&mut board, 1, 3)?;
+    Ok((board, done))
+}
+
+/// The result of the same entry with another input is refused, and that with the same input is not, from wherever it comes.
+#[test]
+fn other_inputs_are_strange(rt: HostRuntime) {
+    let (mut board, _own) = asserting(rt.alloc(), true).expect(&rt, "a board");
+    let (_other, strange) = asserting(rt.alloc(), false).expect(&rt, "a board");
+    assert_eq!(rt; end_on(&mut board, 1, strange), Err(Refusal::Stranger));
+    let (_another, same) = asserting(rt.alloc(), true).expect(&rt, "a board");
+    assert_eq!(rt; end_on(&mut board, 1, same), Ok(()));
+    assert!(rt; board.is_quiet());
+}
+
+/// A result comes too late once its item was given back; another worker that begins the item may hand it in.
+#[test]
+fn a_result_given_back_is_another_workers(rt: HostRuntime) {
+    let code = hello(rt.alloc()).expect(&rt, "a code");
+    let mut board = Board::new(rt.alloc(), code, 100).expect(&rt, "memory");
+    assert_eq!(rt; work_on(&mut board, 0, 1), Ok(()));
+    let done = done_on(&mut board, 4, 2).expect(&rt, "done");
+    assert_eq!(rt; board.back(4, 2), Ok(()));
+    let (done, refused) = board.end(4, done).err().expect(&rt, "refused");
+    assert_eq!(rt; refused, Refusal::NotYours);
+    let _work = board.begin(5, 2).expect(&rt, "begun");
+    assert_eq!(rt; end_on(&mut board, 5, done), Ok(()));
+    assert!(rt; prints_hello(&board));
+}
