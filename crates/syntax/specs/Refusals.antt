@@ -20,7 +20,7 @@ use Rattle.syntax.specs.declared.error.ParseFault.TheVariants.{Lex, Unexpected, 
 abbrev pub HasNone : List ℕ → Type 0
 HasNone bytes = (tree : Tree) → ¬ Reads bytes tree
 
--- its tokens, which this ends, are read within 64 levels of nesting up to this stop, the first place with which no script goes on
+-- its tokens, which this ends, are read within 64 levels of nesting up to this stop, and so far they begin a script
 abbrev pub Stopped : List ℕ → Option LexFault → Stop → Type 0
 Stopped bytes fault stop = (ts : List Lexeme) × Tokens bytes (map Ok ts ++ ending fault) × (read_script 64 (start ts) ≡ refused stop) × StopsFirst ts stop
 
