@@ -5,6 +5,4 @@ pub mod answer;
 pub mod evaluation;
 pub mod outcome;
 mod same;
-#[cfg(test)]
-mod tests;
 pub mod work;

@@ -4,6 +4,8 @@
 #[cfg(test)]
 mod board_tests;
 #[cfg(test)]
+mod board_work_tests;
+#[cfg(test)]
 mod codes;
 #[cfg(test)]
 mod data_store_tests;
@@ -11,5 +13,11 @@ mod data_store_tests;
 mod pool_tests;
 #[cfg(test)]
 mod rules_tests;
+#[cfg(test)]
+mod runs_tests;
+#[cfg(test)]
+mod swt_trace_tests;
+#[cfg(test)]
+mod task_code_tests;
 #[cfg(test)]
 mod work_queue_tests;

@@ -1,76 +1,91 @@
 //! Numbers by priority, room that comes back, and what is listed.
 
+use std::process::Abort;
 use std::test::Fail;
 use work_queue::entry::Kind;
 use work_queue::queue::Queue;
 
-#[test]
-fn greatest_priority_then_smallest_number(rt: HostRuntime) -> Result<(), Fail> {
-    let mut queue = Queue::new(rt.alloc());
-    queue.put(Kind::Leaf, 0, 4)?;
-    queue.put(Kind::Leaf, 5, 9)?;
-    queue.put(Kind::Leaf, 5, 7)?;
-    queue.put(Kind::Control, 9, 1)?;
-    assert_eq!(rt; queue.first(Kind::Leaf), Some(7));
-    assert_eq!(rt; queue.take(Kind::Leaf), Some(7));
-    assert_eq!(rt; queue.take(Kind::Leaf), Some(9));
-    assert_eq!(rt; queue.take(Kind::Leaf), Some(4));
-    assert_eq!(rt; queue.take(Kind::Leaf), None);
-    assert_eq!(rt; queue.take(Kind::Control), Some(1));
-    Ok(())
+/// Puts each number with its priority.
+fn put(rt: &impl Abort, queue: &mut Queue, kind: Kind, entries: &[(i32, u64)]) {
+    for (priority, no) in entries {
+        queue.put(kind, *priority, *no).expect(rt, "memory");
+    }
+}
+
+/// The queue gives these numbers one after another, and then none of this kind.
+fn gives(rt: &impl Abort, queue: &mut Queue, kind: Kind, numbers: &[u64]) {
+    for no in numbers {
+        assert_eq!(rt; queue.first(kind), Some(*no));
+        assert_eq!(rt; queue.take(kind), Some(*no));
+    }
+    assert_eq!(rt; queue.take(kind), None);
 }
 
 #[test]
-fn listed_by_priority_and_number(rt: HostRuntime) -> Result<(), Fail> {
+fn greatest_priority_then_smallest_number(rt: HostRuntime) {
     let mut queue = Queue::new(rt.alloc());
-    queue.put(Kind::Leaf, 0, 4)?;
-    queue.put(Kind::Leaf, 5, 9)?;
-    queue.put(Kind::Leaf, -3, 2)?;
-    queue.put(Kind::Control, 5, 8)?;
-    queue.put(Kind::Control, 9, 1)?;
-    let list = queue.list()?;
-    assert_eq!(rt; list.len(), 5);
-    assert!(rt; list[0] == (Kind::Control, 9, 1));
-    assert!(rt; list[1] == (Kind::Control, 5, 8));
-    assert!(rt; list[2] == (Kind::Leaf, 5, 9));
-    assert!(rt; list[3] == (Kind::Leaf, 0, 4));
-    assert!(rt; list[4] == (Kind::Leaf, -3, 2));
-    Ok(())
+    put(&rt, &mut queue, Kind::Leaf, &[(0, 4), (5, 9), (5, 7)]);
+    put(&rt, &mut queue, Kind::Control, &[(9, 1)]);
+    gives(&rt, &mut queue, Kind::Leaf, &[7, 9, 4]);
+    gives(&rt, &mut queue, Kind::Control, &[1]);
 }
 
 #[test]
-fn removed_only_where_it_is(rt: HostRuntime) -> Result<(), Fail> {
+fn listed_by_priority_and_number(rt: HostRuntime) {
     let mut queue = Queue::new(rt.alloc());
-    queue.put(Kind::Leaf, 5, 7)?;
-    queue.put(Kind::Leaf, 5, 9)?;
-    assert!(rt; !queue.remove(Kind::Control, 5, 7));
-    assert!(rt; !queue.remove(Kind::Leaf, 4, 7));
-    assert!(rt; queue.remove(Kind::Leaf, 5, 7));
-    assert!(rt; !queue.remove(Kind::Leaf, 5, 7));
-    assert_eq!(rt; queue.first(Kind::Leaf), Some(9));
-    Ok(())
+    put(&rt, &mut queue, Kind::Leaf, &[(0, 4), (5, 9), (-3, 2)]);
+    put(&rt, &mut queue, Kind::Control, &[(5, 8), (9, 1)]);
+    let wanted = [
+        (Kind::Control, 9, 1),
+        (Kind::Control, 5, 8),
+        (Kind::Leaf, 5, 9),
+        (Kind::Leaf, 0, 4),
+        (Kind::Leaf, -3, 2),
+    ];
+    let list = queue.list().expect(&rt, "memory");
+    assert!(rt; list.as_slice() == wanted.as_slice());
+}
+
+/// Whether the queue holds the entry and has taken it away.
+fn removes(queue: &mut Queue, kind: Kind, priority: i32, no: u64) -> bool {
+    queue.remove(kind, priority, no)
+}
+
+#[test]
+fn removed_only_where_it_is(rt: HostRuntime) {
+    let mut queue = Queue::new(rt.alloc());
+    put(&rt, &mut queue, Kind::Leaf, &[(5, 7), (5, 9)]);
+    assert!(rt; !removes(&mut queue, Kind::Control, 5, 7));
+    assert!(rt; !removes(&mut queue, Kind::Leaf, 4, 7));
+    assert!(rt; removes(&mut queue, Kind::Leaf, 5, 7));
+    assert!(rt; !removes(&mut queue, Kind::Leaf, 5, 7));
+    gives(&rt, &mut queue, Kind::Leaf, &[9]);
+}
+
+/// Puts a thousand numbers, removes every other and takes the rest.
+fn fill_and_empty(rt: &impl Abort, queue: &mut Queue, parity: u64) {
+    for no in 0..1000u64 {
+        put(rt, queue, Kind::Leaf, &[((no * 7919 % 31) as i32, no)]);
+    }
+    for no in 0..1000u64 {
+        if no % 2 == parity {
+            assert!(rt; removes(queue, Kind::Leaf, (no * 7919 % 31) as i32, no));
+        }
+    }
+    for _ in 0..500u64 {
+        assert!(rt; queue.take(Kind::Leaf).is_some());
+    }
 }
 
 // Room for a thousand, then puts, takes and removes in turn, none of which asks for memory.
 #[test]
-fn room_comes_back(rt: HostRuntime) -> Result<(), Fail> {
+fn room_comes_back(rt: HostRuntime) {
     let mut queue = Queue::new(rt.alloc());
-    queue.reserve(Kind::Leaf, 1000)?;
+    queue.reserve(Kind::Leaf, 1000).expect(&rt, "memory");
     for round in 0..20u64 {
-        for no in 0..1000u64 {
-            queue.put(Kind::Leaf, (no * 7919 % 31) as i32, no)?;
-        }
-        for no in 0..1000u64 {
-            if no % 2 == round % 2 {
-                assert!(rt; queue.remove(Kind::Leaf, (no * 7919 % 31) as i32, no));
-            }
-        }
-        for _ in 0..500u64 {
-            assert!(rt; queue.take(Kind::Leaf).is_some());
-        }
-        assert_eq!(rt; queue.take(Kind::Leaf), None);
+        fill_and_empty(&rt, &mut queue, round % 2);
+        gives(&rt, &mut queue, Kind::Leaf, &[]);
     }
-    Ok(())
 }
 
 // Also run with each request for memory refused in turn: what is refused changes nothing, and the

@@ -5,6 +5,4 @@ pub mod laws;
 pub mod one;
 pub mod report;
 mod tally;
-#[cfg(test)]
-mod tests;
 pub mod turn;

@@ -12,11 +12,7 @@ pub mod fault;
 mod number;
 pub mod read;
 pub mod replay;
-#[cfg(test)]
-mod replay_tests;
 pub mod report;
-#[cfg(test)]
-mod tests;
 pub mod write;
 
 /// The grammar of traces and their text fit together: a text is a trace of at most one list of events, `TraceText` of

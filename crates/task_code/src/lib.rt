@@ -26,8 +26,6 @@ pub mod code;
 pub mod entry;
 pub mod event;
 pub mod expr;
-#[cfg(test)]
-mod tests;
 
 /// The theorem for every list of events of whole code. If no key is written twice in any round, each state agrees with
 /// the code's meaning. A quiet state without fault has all of it, with that premise or without, and its blocked
