@@ -21,10 +21,12 @@ ghost use Rattle.syntax_trees.specs.Facts.{OneWriter};
 ghost use Rattle.syntax_trees.specs.Meaning.{Known, Meaning};
 ghost use Rattle.syntax_trees.specs.Outcomes.{Clean};
 ghost use Rattle.syntax_trees.specs.Places as ScriptPlaces;
+ghost use Rattle.syntax_trees.specs.Reads.{Reads};
 ghost use Rattle.syntax_trees.specs.Resolved.{core};
 ghost use Rattle.syntax_trees.specs.Single.{SinglyAssigned};
 ghost use Rattle.syntax_trees.specs.Table.{Table};
 ghost use Rattle.syntax_trees.specs.Tree.{Tree};
+ghost use Rattle.syntax_trees.specs.Typing.{WellTyped};
 ghost use Rattle.syntax_trees.specs.WellFormed.{WellFormed};
 ghost use Rattle.task_code.specs.Code.{Code};
 ghost use Rattle.task_code.specs.Effects.{Task};
@@ -104,4 +106,11 @@ pub fn headline()
 /// The core of each tree, by any table of its names, applies in each assertion the operator that gives true or a fault.
 pub fn asserted_cores()
     ensures { (t : Table) (tree : Tree) → Asserted (core t tree) }
+{}
+
+/// For every accepted script, one that reads as a tree which is well typed and singly assigned: what any code that stands for it, whole and with exact
+/// rights, owes to it, it keeps over every list of events. Nothing else is asked of the script.
+pub fn accepted_scripts()
+    ensures { (bytes : List ℕ) (t : Table) (tree : Tree) (C : Code) → Reads bytes tree → WellTyped tree t → SinglyAssigned (core t tree)
+        → IsCodeOf (core t tree) C → IsCode C → IsExact C → NodesOnce C → Headline (core t tree) C }
 {}
