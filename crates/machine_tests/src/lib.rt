@@ -12,6 +12,8 @@ mod data_store_tests;
 #[cfg(test)]
 mod pool_tests;
 #[cfg(test)]
+mod ref_counting_tests;
+#[cfg(test)]
 mod rules_tests;
 #[cfg(test)]
 mod runs_tests;

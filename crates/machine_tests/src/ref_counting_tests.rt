@@ -1,0 +1,97 @@
+//! Rights of a function that calls itself: `(int B[]) f(int n) { B = f(n); } int A[]; A = f(0);`.
+ghost use Rattle.std.specs.Prelude.{◌≡◌, ◌<◌, ◌∷◌, [], ◌^◌, pos, IfOk, length};
+ghost use Rattle.task_code.specs.Code.{Call};
+ghost use Rattle.task_code.specs.View.{argument_view, entry_view, name_view};
+ghost use Rattle.ref_counting.specs.Rights.{HasMarks};
+
+use ref_counting::rights::rights;
+use ref_counting::uses::Right;
+use std::alloc::{AllocError, Global};
+use std::test::Fail;
+use task_code::code::{Body, Code, Opener};
+use task_code::entry::{Act, Argument, Entry, Name, Owned, Variable};
+use values::value::Scalar;
+
+/// The call at an offset, with an input and an output.
+fn call(alloc: Global, mark: u32, input: Argument, output: Name) -> Result<Entry, AllocError>
+    ensures { IfOk result (λ e. entry_view e ≡ record { node = 0; at = mark; mark = mark; priority = pos 0; needs = []; act = Call 1 (argument_view input ∷ []) (name_view output ∷ []); reads = []; writes = [] }) }
+{
+    let mut inputs = Vec::new(alloc);
+    inputs.push(input)?;
+    let mut outputs = Vec::new(alloc);
+    outputs.push(output)?;
+    Ok(Entry {
+        node: 0,
+        at: mark,
+        mark,
+        priority: 0,
+        needs: Vec::new(alloc),
+        act: Act::Call {
+            body: 1,
+            inputs,
+            outputs,
+        },
+        reads: Vec::new(alloc),
+        writes: Vec::new(alloc),
+    })
+}
+
+/// The array of a node.
+fn array(node: u32) -> Name {
+    Name {
+        up: 0,
+        owned: Owned::Local(Variable { node, array: true }),
+    }
+}
+
+/// A parameter of the function.
+fn parameter(place: u32, array: bool) -> Name {
+    Name {
+        up: 0,
+        owned: Owned::Parameter(place, array),
+    }
+}
+
+/// The code of that script.
+fn calls_itself(alloc: Global) -> Result<Code, AllocError>
+    ensures marks { IfOk result (λ code. HasMarks code) }
+    ensures entries { IfOk result (λ code. length code.entries < 2 ^ 32) }
+    ensures bodies { IfOk result (λ code. length code.bodies < 2 ^ 32) }
+{
+    let mut code = Code::new(alloc);
+    let zero = Argument::Fixed(Scalar::Number(0));
+    code.push_entry(call(alloc, 10, zero, array(1))?)?;
+    let same = Argument::Named(parameter(0, false));
+    code.push_entry(call(alloc, 20, same, parameter(1, true))?)?;
+    code.push_body(Body {
+        opener: Opener::ByMain,
+        makes: Vec::from_array(alloc, [Variable { node: 1, array: true }])?,
+        entries: Vec::from_array(alloc, [0])?,
+    })?;
+    code.push_body(Body {
+        opener: Opener::ByCalls,
+        makes: Vec::new(alloc),
+        entries: Vec::from_array(alloc, [1])?,
+    })?;
+    Ok(code)
+}
+
+#[test]
+fn a_call_may_write_its_outputs(rt: HostRuntime) -> Result<(), Fail> {
+    let alloc = rt.alloc();
+    let code = calls_itself(alloc)?;
+    let writes = rights(alloc, &code, Right::Write)?;
+    assert!(rt; writes.at(0) == [array(1)].as_slice());
+    assert!(rt; writes.at(1) == [parameter(1, true)].as_slice());
+    Ok(())
+}
+
+#[test]
+fn a_literal_is_no_datum_to_read(rt: HostRuntime) -> Result<(), Fail> {
+    let alloc = rt.alloc();
+    let code = calls_itself(alloc)?;
+    let reads = rights(alloc, &code, Right::Read)?;
+    assert_eq!(rt; reads.at(0).len(), 0);
+    assert_eq!(rt; reads.at(1).len(), 0);
+    Ok(())
+}
