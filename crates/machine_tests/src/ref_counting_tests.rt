@@ -65,7 +65,13 @@ fn calls_itself(alloc: Global) -> Result<Code, AllocError>
     code.push_entry(call(alloc, 20, same, parameter(1, true))?)?;
     code.push_body(Body {
         opener: Opener::ByMain,
-        makes: Vec::from_array(alloc, [Variable { node: 1, array: true }])?,
+        makes: Vec::from_array(
+            alloc,
+            [Variable {
+                node: 1,
+                array: true,
+            }],
+        )?,
         entries: Vec::from_array(alloc, [0])?,
     })?;
     code.push_body(Body {

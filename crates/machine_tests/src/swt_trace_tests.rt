@@ -54,6 +54,20 @@ fn traces_are_read(rt: HostRuntime) {
     is_read(&rt, rt.alloc(), b"swt-trace 1\n", &[]);
 }
 
+/// A beginning is read where it ends behind a line, and else its last line is bad.
+#[test]
+fn beginnings_are_read(rt: HostRuntime) {
+    assert_eq!(rt; HELLO.len(), 36);
+    for length in 0..36 {
+        if length >= 12 && length % 6 == 0 {
+            assert!(rt; read_trace(rt.alloc(), &HELLO[..length]).is_ok());
+        } else {
+            let line = (length as u64 / 6).max(1);
+            is_bad(&rt, rt.alloc(), &HELLO[..length], line);
+        }
+    }
+}
+
 const BAD_SECOND_LINES: &str =
     "B 64 1\n|B 0 0\n|B 00 1\n|B 0 01\n|B 0 18446744073709551616\n|B 0 1|B  0 1\n|B 0  1\n|B 0 1 \n|B 0 1\r\n| B 0 1\n|B +0 1\n|B -0 1\n|B 0\n|B\n|b 0 1\n|Q\n|\n";
 

@@ -1,7 +1,6 @@
 //! Numbers by priority, room that comes back, and what is listed.
 
 use std::process::Abort;
-use std::test::Fail;
 use work_queue::entry::Kind;
 use work_queue::queue::Queue;
 
@@ -88,32 +87,37 @@ fn room_comes_back(rt: HostRuntime) {
     }
 }
 
+/// Puts a number, and where the memory is refused, sees that nothing changed and puts it again.
+fn put_again(rt: &impl Abort, queue: &mut Queue, priority: i32, no: u64) {
+    let before = queue.first(Kind::Control);
+    if queue.put(Kind::Control, priority, no).is_err() {
+        assert_eq!(rt; queue.first(Kind::Control), before);
+        assert!(rt; !removes(queue, Kind::Control, priority, no));
+        put(rt, queue, Kind::Control, &[(priority, no)]);
+    }
+    assert_eq!(rt; queue.first(Kind::Control), Some(no));
+}
+
+/// How many entries are listed, asked for again where memory was refused.
+fn listed(rt: &impl Abort, queue: &Queue) -> usize {
+    match queue.list() {
+        Ok(list) => list.len(),
+        Err(_) => queue.list().expect(rt, "memory").len(),
+    }
+}
+
 // Also run with each request for memory refused in turn: what is refused changes nothing, and the
 // same call succeeds once memory is there again.
 #[test]
-fn refused_calls_change_nothing(rt: HostRuntime) -> Result<(), Fail> {
+fn refused_calls_change_nothing(rt: HostRuntime) {
     let mut queue = Queue::new(rt.alloc());
     for no in 1..6u64 {
-        let before = queue.first(Kind::Control);
-        if queue.put(Kind::Control, no as i32, no).is_err() {
-            assert_eq!(rt; queue.first(Kind::Control), before);
-            assert!(rt; !queue.remove(Kind::Control, no as i32, no));
-            queue.put(Kind::Control, no as i32, no)?;
-        }
-        assert_eq!(rt; queue.first(Kind::Control), Some(no));
+        put_again(&rt, &mut queue, no as i32, no);
     }
     if queue.reserve(Kind::Leaf, 3).is_err() {
         assert_eq!(rt; queue.first(Kind::Leaf), None);
-        queue.reserve(Kind::Leaf, 3)?;
+        queue.reserve(Kind::Leaf, 3).expect(&rt, "memory");
     }
-    let list = match queue.list() {
-        Ok(list) => list,
-        Err(_) => queue.list()?,
-    };
-    assert_eq!(rt; list.len(), 5);
-    for no in 1..6u64 {
-        assert_eq!(rt; queue.take(Kind::Control), Some(6 - no));
-    }
-    assert_eq!(rt; queue.take(Kind::Control), None);
-    Ok(())
+    assert_eq!(rt; listed(&rt, &queue), 5);
+    gives(&rt, &mut queue, Kind::Control, &[5, 4, 3, 2, 1]);
 }
