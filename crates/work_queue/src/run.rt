@@ -4,9 +4,7 @@ ghost use Rattle.std.specs.Bool.{OnTrue, OnFalse};
 ghost use Rattle.work_queue.specs.Entries.{first_of, inserted, erased, holds, listed};
 
 use crate::entry::{Entry, Kind};
-use crate::slot::{
-    self, Slot, add_first, add_last, comes_first, comes_last, rest, tidy, trim, wake,
-};
+use crate::slot::{self, Slot, rest, tidy, trim};
 use std::alloc::{AllocError, Global};
 use std::collections::VecDeque;
 use std::marker::Model;
