@@ -1,14 +1,14 @@
 -- The fault that is answered, of several lists one after another.
-use Rattle.std.proofs.Common.{rules, ◌≡◌, ℕ, ◌+◌, ◌<◌, List, [], ◌∷◌, ◌++◌, map, take, drop, length, get_or, Vec, Global, refl, ap, ap₂, sym, ◌∙◌, append_assoc}
+use Rattle.std.proofs.Common.{rules, ◌≡◌, ℕ, ◌+◌, ◌<◌, List, [], ◌∷◌, ◌++◌, map, take, drop, length, get_or, Vec, Global, refl, ap, ap₂, sym, ◌∙◌}
 use Rattle.std.specs.Prelude.{Option}
-use Rattle.std.proofs.Math.Seq.{take-append_seam, drop-append_seam}
+use Rattle.std.proofs.Math.Seq.{take-append_seam}
 use Rattle.std.proofs.lemmas.List.{drop_more, append-nil}
 use Rattle.lexer.specs.declared.token.Span.{Span}
 use Rattle.syntax_trees.specs.Core.{Owned}
-use Rattle.assign_check.specs.declared.outline.Step.{Declares, Splits, Repeats, Encloses, the_lemmas}
+use Rattle.assign_check.specs.declared.outline.Step.{Declares, Splits, Repeats, the_lemmas}
 use Rattle.assign_check.specs.declared.outline.Declared.{Declared}
 use Rattle.assign_check.specs.declared.outline.Step.{Step as Code}
-use Rattle.assign_check.specs.Outline.{Outline, followed, Step, declares, splits, repeats, encloses, outlined}
+use Rattle.assign_check.specs.Outline.{Outline, followed, Step, declares, splits, repeats, outlined}
 use Rattle.assign_check.specs.View.{declared_view, step_view}
 use Rattle.assign_check.specs.declared.fault.AssignFault.{AssignFault}
 use Rattle.assign_check.specs.Faults.{earlier, first_among, way, step_way, way_faults, step_faults}
@@ -37,18 +37,6 @@ step_best {X = X} view l total before after w v xs i x so_far below is moves add
 kept : (w v : List Owned) (before : ℕ) → length w ≡ before → take before (w ++ v) ≡ w
 kept w v before is = ap (λ (n : ℕ). take n (w ++ v)) (sym is) ∙ take-append_seam w v
 
-left : (w v : List Owned) (before : ℕ) → length w ≡ before → drop before (w ++ v) ≡ v
-left w v before is = ap (λ (n : ℕ). drop n (w ++ v)) (sym is) ∙ drop-append_seam w v
-
-pub split_way : (l : Option ℕ) (n : ℕ) (at : Span) (o p : Outline) (before : ℕ) (w w' v v' z y u taken rest : List Owned) → length w ≡ before → w' ≡ w ++ way l o → v ≡ take before w'
-    → taken ≡ drop before w' → v' ≡ v ++ way l p → z ≡ take before v' → rest ≡ drop before v' → y ≡ z ++ taken → u ≡ y ++ rest → u ≡ w ++ step_way l (splits n at o p)
-split_way l n at o p before w w' v v' z y u taken rest long one back aside two again behind puts more =
-    let first = aside ∙ ap (drop before) one ∙ left w (way l o) before long in
-    let there : v' ≡ w ++ way l p = two ∙ ap (λ (q : List Owned). q ++ way l p) (back ∙ ap (take before) one ∙ kept w (way l o) before long) in
-    let other = behind ∙ ap (drop before) there ∙ left w (way l p) before long in
-    let front = again ∙ ap (take before) there ∙ kept w (way l p) before long in
-    more ∙ ap₂ (λ (a b : List Owned). a ++ b) (puts ∙ ap₂ (λ (a b : List Owned). a ++ b) front first) other ∙ append_assoc w (way l o) (way l p)
-
 pub split_best : (l : Option ℕ) (n : ℕ) (at : Span) (o p : Outline) (before : ℕ) (w w' v : List Owned) (b b' a : Option AssignFault) → length w ≡ before → w' ≡ w ++ way l o
     → b' ≡ first_among b (way_faults l w o) → v ≡ take before w' → a ≡ first_among b' (way_faults l v p) → a ≡ first_among b (step_faults l w (splits n at o p))
 split_best l n at o p before w w' v b b' a long one_way one_best keeps other_best =
@@ -64,9 +52,6 @@ view-Repeats n b = search (rules, the_lemmas)
 
 pub view-Splits : (n : ℕ) (at : Span) (b d : Vec Code Global) → step_view (Splits n at b d) ≡ splits n at (outlined (map step_view b.items)) (outlined (map step_view d.items))
 view-Splits n at b d = search (rules, the_lemmas)
-
-pub view-Encloses : (b : Vec Code Global) → step_view (Encloses b) ≡ encloses (outlined (map step_view b.items))
-view-Encloses b = search (rules, the_lemmas)
 
 pub view-Declares : (d : Declared) → step_view (Declares d) ≡ declares (declared_view d)
 view-Declares d = search (rules, the_lemmas)

@@ -70,9 +70,6 @@ times_append x (z ∷ xs) ys = let rest = times_append x xs ys in omega arith
 pub times_self : (x : Owned) → times x (x ∷ []) ≡ 1
 times_self x = ap (λ (b : Bool). one_if b + 0) (same_self x)
 
-pub times_same : {x y : Owned} → y ≡ x → times x (y ∷ []) ≡ 1
-times_same {x} {y} e = ap (λ (b : Bool). one_if b + 0) (same_from e)
-
 pub times_other : {x y : Owned} → (y ≡ x → ⊥) → times x (y ∷ []) ≡ 0
 times_other {x} {y} h = ap (λ (b : Bool). one_if b + 0) (same_not y x h)
 
@@ -83,14 +80,6 @@ among_counts x (y ∷ ys) h = by (same y x) refl h (λ k. among_counts x ys k)
     by : (b : Bool) → same y x ≡ b → (b || is_among x ys) ≡ true → (is_among x ys ≡ true → 1 ≤ times x ys) → 1 ≤ times x (y ∷ ys)
     by true e k rec = let one : one_if (same y x) ≡ 1 = ap one_if e in omega arith
     by false e k rec = let rest = rec k in omega arith
-
-pub among_none : (x : Owned) (ys : List Owned) → is_among x ys ≡ false → times x ys ≡ 0
-among_none x [] h = refl
-among_none x (y ∷ ys) h = by (same y x) refl h (λ k. among_none x ys k)
-  where
-    by : (b : Bool) → same y x ≡ b → (b || is_among x ys) ≡ false → (is_among x ys ≡ false → times x ys ≡ 0) → times x (y ∷ ys) ≡ 0
-    by true e k rec = absurd (cc (k))
-    by false e k rec = let rest = rec k in let none : one_if (same y x) ≡ 0 = ap one_if e in omega arith
 
 pub counts_in : (x : Owned) (ys : List Owned) → 1 ≤ times x ys → x ∈ ys
 counts_in x [] h = absurd (omega arith)

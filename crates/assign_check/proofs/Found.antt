@@ -45,16 +45,6 @@ output_found x at us n w =
 
 -- FORMS
 
--- a use that is no target of the variable is passed over
-no_form : (x : Owned) (u : Use) → (u.of ≡ x → IsTarget u → ⊥) → is_target x u ≡ false
-no_form x u h = by (is_target x u) refl
-  where
-    by : (b : Bool) → is_target x u ≡ b → is_target x u ≡ false
-    by true e =
-        let q = both_true (same u.of x) (not (is_kind u.kind read)) e in
-        absurd (h (same_is u.of x q.0) (target_of u.kind (not_kind u.kind read q.1)))
-    by false e = e
-
 form_true : (x : Owned) (u : Use) → u.of ≡ x → IsTarget u → is_target x u ≡ true
 form_true x u e form = target_true x u e (no_target_read u.kind form)
 

@@ -1,5 +1,5 @@
 -- Lists with the same numbers, and sets.
-use Rattle.std.specs.Prelude.{◌≡◌, ◌⊎◌, ℕ, zero, suc, ◌+◌, ◌-◌, ◌<◌, ◌≤◌, Bool, true, false, ◌&&◌, ◌||◌, not, nat_eq, nat_lt, nat_le, List, [], ◌∷◌, ◌++◌, length, get_or, refl}
+use Rattle.std.specs.Prelude.{◌≡◌, ◌⊎◌, ℕ, zero, suc, ◌+◌, ◌-◌, ◌<◌, ◌≤◌, Bool, true, false, ◌||◌, not, nat_eq, nat_lt, List, [], ◌∷◌, ◌++◌, length, get_or, refl}
 use Rattle.std.proofs.Common.{inl, inr, sym, ap, ap₂, ◌∙◌, subst, arith}
 use Rattle.std.proofs.Math.Seq.{get_or-append_seam}
 use Rattle.std.proofs.lemmas.List.{get_or_append_left, length-append}
@@ -82,11 +82,6 @@ zero_last ns = same_on (sums_swap ns (0 ∷ [])) (zero_first ns)
 
 pub twice_zero : Same ((0 ∷ []) ++ (0 ∷ [])) (0 ∷ [])
 twice_zero = record { to = λ n i. elim (split_in i) [ inl e ↦ subst (λ (z : ℕ). z ∈ (0 ∷ [])) (sym e) first | inr j ↦ j ]; back = λ n i. later i }
-
--- sums of sums, the middle ones swapped
-pub sums_cross : (ks ms ns : List ℕ) → Same (sums (sums ks ms) ns) (sums (sums ks ns) ms)
-sums_cross ks ms ns =
-    same_on (sums_group ks ms ns) (same_on (sums_same ks ks (sums ms ns) (sums ns ms) (same_self ks) (sums_swap ms ns)) (turned (sums_group ks ns ms)))
 
 -- MORE
 
@@ -180,10 +175,6 @@ filled (b ∷ bs) ms some each none = record { to = to; back = back }
     ]
 
 -- WHAT THE LOOPS OVER SETS FIND
-
--- a number of the one set and another of the other make the sum
-abbrev pub makes : List Bool → List Bool → ℕ → ℕ → Bool
-makes one other n i = nat_le i n && (has one i && has other (n - i))
 
 pub found_sum : (one other : List Bool) (n i : ℕ) → i ≤ n → has one i ≡ true → has other (n - i) ≡ true → true ≡ is_in n (sums (numbers one) (numbers other))
 found_sum one other n i le h k =

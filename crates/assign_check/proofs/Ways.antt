@@ -23,11 +23,6 @@ pub record WellAssigned (d : Declared) (b : Outline) : Type 0 where
 
 -- A STEP'S PART OF A WAY
 
-pub given_other : (r : Role) (y x : Owned) → (y ≡ x → ⊥) → times x (given_by r y) ≡ 0
-given_other given y x h = times_other h
-given_other own y x h = refl
-given_other result y x h = refl
-
 pub named_other : (l : Option ℕ) (k : Kind) (y x : Owned) → (y ≡ x → ⊥) → times x (named_by l k y) ≡ 0
 named_other l named y x h = by (is_outer l y)
   where

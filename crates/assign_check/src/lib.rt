@@ -14,10 +14,6 @@ mod script;
 mod sets;
 mod table;
 mod tally;
-#[cfg(test)]
-mod tests;
-#[cfg(test)]
-mod trees;
 mod walk;
 mod way;
 
