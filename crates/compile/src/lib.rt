@@ -6,5 +6,3 @@
 
 pub mod compile;
 pub mod fault;
-#[cfg(test)]
-mod tests;

@@ -2,4 +2,3 @@ pub mod Once
 pub mod Bound
 pub mod Owed
 pub mod Placed
-pub mod Scripts

@@ -9,8 +9,6 @@ ghost use Rattle.agreement.specs.Scalars.{IsScalars};
 mod added;
 mod names;
 mod over;
-#[cfg(test)]
-mod tests;
 
 use crate::added::{Added, added_by};
 use scalar_flow::statement::Flow;

@@ -5,4 +5,3 @@ mod Blocked
 mod Printed
 mod Whole
 mod Listed
-mod Worked

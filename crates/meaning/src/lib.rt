@@ -9,5 +9,3 @@ pub mod knowledge;
 pub mod laws;
 pub mod reading;
 pub mod rounds;
-#[cfg(test)]
-mod tests;

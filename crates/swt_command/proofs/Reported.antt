@@ -5,11 +5,10 @@ use Rattle.values.specs.declared.value.Scalar.{Scalar}
 use Rattle.values.specs.declared.value.Scalar.TheVariants.{Text}
 use Rattle.syntax_trees.specs.Core.{Core}
 use Rattle.syntax_trees.specs.Meaning.{Meaning}
-use Rattle.syntax_trees.specs.Outcomes.{Lines, Faults}
+use Rattle.syntax_trees.specs.Outcomes.{Clean, Lines, Faults}
 use Rattle.task_code.specs.Code.{Code}
 use Rattle.task_code.specs.Machine.{CodeState, Run, Quiet}
-use Rattle.agreement.specs.Headline.{Headline, Agrees, script_path, script_fault}
-use Rattle.agreement.proofs.Sources.{clean}
+use Rattle.agreement.specs.Headline.{Headline, Agrees, PartOfLines, script_path, script_fault}
 use Rattle.board.specs.declared.place.Fault.{Fault}
 use Rattle.board.specs.Blocked.{AreBlocked, IsFaultOf, path_of}
 use Rattle.board.specs.Board.{Seen}
@@ -60,8 +59,13 @@ fault_of s C st f a i =
     subst (λ (at : ℕ). Faults (Meaning s) (script_fault (kind_of_fault f.kind)) at (script_path (path_of f.statement))) (sym i.stands)
     (a.fault _ (kind_of_fault f.kind) i.is)
 
-pub reported_fault : (src : List ℕ) (code : Code) (limit : ℕ) (r : Report) (f : Fault) (w : Compiles src code) → Reports code limit r → r.end ≡ Ends.Fault f → IsScriptFault w.script f
-reported_fault src code limit r f w t faulty =
+pub reported_part : (src : List ℕ) (code : Code) (limit : ℕ) (r : Report) (w : Compiles src code) → Clean w.script → Reports code limit r → PartOfLines (Meaning w.script) r.lines.items
+reported_part src code limit r w clean t =
+    let a = w.headline.agrees clean t.board.history t.board.state t.run in
+    subst (λ (ls : List (List ℕ)). PartOfLines (Meaning w.script) ls) (same_texts a.printed r.lines.items (sym a.printed_is ∙ t.tells.lines)) a.lines
+
+pub reported_fault : (src : List ℕ) (code : Code) (limit : ℕ) (r : Report) (f : Fault) (w : Compiles src code) → Clean w.script → Reports code limit r → r.end ≡ Ends.Fault f → IsScriptFault w.script f
+reported_fault src code limit r f w clean t faulty =
     fault_of w.script code t.board.state f
-    (w.headline.agrees (clean w.script w.script_of.scalars) t.board.history t.board.state t.run)
+    (w.headline.agrees clean t.board.history t.board.state t.run)
     (subst (λ (D : Code). IsFaultOf D t.board.state f) t.code (subst (EndsAs t.board) faulty t.tells.end))

@@ -1,2 +1,11 @@
-pub mod Statuses
+pub mod Causes
+pub mod Checks
+pub mod Files
+pub mod Means
+pub mod Names
 pub mod OneThread
+pub mod Owes
+pub mod Runs
+pub mod Sinks
+pub mod Statuses
+pub mod Troubles

@@ -1,4 +1,4 @@
--- What the report of a run owes to the script.
+-- What the report of a run, and what is printed of it, owe to the script.
 use Rattle.std.specs.Prelude.{◌≡◌, ℕ, List}
 use Rattle.dataflow.specs.System.{In}
 use Rattle.syntax_trees.specs.Core.{Core}
@@ -13,6 +13,9 @@ use Rattle.board.specs.declared.place.Statement.{Statement}
 use Rattle.board.specs.Blocked.{InTextOrder, path_of}
 use Rattle.board.specs.View.{kind_of_fault}
 use Rattle.runs.specs.declared.report.Report.{Report}
+use Rattle.swt_trace.specs.Report.{ReportText}
+use Rattle.swt_command.specs.Files.{Files, HasScript}
+use Rattle.swt_command.specs.Sinks.{Held, Took}
 
 -- the script has no fault; the report has exactly its lines, in some order, and exactly its blocked statements, in theirs
 pub record IsWhole (s : Core) (r : Report) : Type 0 where
@@ -25,3 +28,7 @@ pub record IsWhole (s : Core) (r : Report) : Type 0 where
 -- the fault is among the script's, at its statement
 abbrev pub IsScriptFault : Core → Fault → Type 0
 IsScriptFault s f = Faults (Meaning s) (script_fault (kind_of_fault f.kind)) f.statement.at (script_path (path_of f.statement))
+
+-- the text of a report was printed that has all that the first file's script means
+abbrev pub PrintsWhole : Files → (out new : Held) → Type 0
+PrintsWhole files out new = (s : Core) × HasScript files 0 s × ((r : Report) × IsWhole s r × Took out (ReportText r) new)

@@ -1,18 +1,48 @@
-//! What the report of a run owes to the script that was compiled.
-ghost use Rattle.std.specs.Prelude.{◌≡◌, ℕ, List};
+//! What a run and what it prints owe to the script.
+ghost use Rattle.std.specs.Prelude.{◌≡◌, ◌⊎◌, ℕ, List, Option};
+ghost use Rattle.syntax_trees.specs.Meaning.{Meaning};
+ghost use Rattle.syntax_trees.specs.Outcomes.{Clean};
+ghost use Rattle.agreement.specs.Headline.{PartOfLines};
 ghost use Rattle.task_code.specs.Code.{Code};
 ghost use Rattle.board.specs.declared.place.Fault.{Fault};
 ghost use Rattle.runs.specs.declared.report.End.TheVariants as Ends;
 ghost use Rattle.runs.specs.declared.report.Report.{Report};
 ghost use Rattle.runs.specs.Report.{Reports};
 ghost use Rattle.compile.specs.Compiles.{Compiles};
-ghost use Rattle.swt_command.specs.OneThread.{IsWhole, IsScriptFault};
+ghost use Rattle.swt_line.specs.declared.line.Line.{Line};
+ghost use Rattle.swt_line.specs.declared.line.Line.TheVariants.{Run, Replay};
+ghost use Rattle.swt_command.specs.Causes.{AsksTooMuch, SomeRefused};
+ghost use Rattle.swt_command.specs.Files.{Files};
+ghost use Rattle.swt_command.specs.OneThread.{IsWhole, IsScriptFault, PrintsWhole};
+ghost use Rattle.swt_command.specs.Owes.{Owes};
+ghost use Rattle.swt_command.specs.Sinks.{Held};
 
 /// A report of a run of a script's code, whoever made it, by whatever choices. One that ends quiet shows that the script has
-/// no fault, and has exactly its lines, in some order, and exactly its blocked statements, in the order of texts. The fault of
-/// one that ends in a fault is among the script's.
+/// no fault, and has exactly its lines, in some order, and exactly its blocked statements, in the order of texts. Of a script
+/// that writes no key twice the lines of every report are a part of the script's, and the fault of one that ends in a fault is
+/// among the script's.
 pub fn reports_are_meant()
     ensures quiet { (src : List ℕ) (code : Code) (limit : ℕ) (r : Report) (w : Compiles src code) → Reports code limit r → r.end ≡ Ends.Quiet → IsWhole w.script r }
-    ensures fault { (src : List ℕ) (code : Code) (limit : ℕ) (r : Report) (f : Fault) (w : Compiles src code) → Reports code limit r → r.end ≡ Ends.Fault f
+    ensures part { (src : List ℕ) (code : Code) (limit : ℕ) (r : Report) (w : Compiles src code) → Clean w.script → Reports code limit r
+        → PartOfLines (Meaning w.script) r.lines.items }
+    ensures fault { (src : List ℕ) (code : Code) (limit : ℕ) (r : Report) (f : Fault) (w : Compiles src code) → Clean w.script → Reports code limit r → r.end ≡ Ends.Fault f
         → IsScriptFault w.script f }
+{}
+
+/// A command that ran or replayed a script and ended with status 0 or 4 has printed all that the script means, and nothing
+/// else.
+pub fn runs_print_the_meaning()
+    ensures run { (file : List ℕ) (engines workers steps : ℕ) (wanted : Option (List ℕ)) (files : Files) (out out_new err err_new trace trace_new : Held) (number : ℕ)
+        → Owes (Run file engines workers steps wanted) files out out_new err err_new trace trace_new number → (number ≡ 0) ⊎ (number ≡ 4) → PrintsWhole files out out_new }
+    ensures replay { (file events : List ℕ) (files : Files) (out out_new err err_new trace trace_new : Held) (number : ℕ)
+        → Owes (Replay file events) files out out_new err err_new trace trace_new number → (number ≡ 0) ⊎ (number ≡ 4) → PrintsWhole files out out_new }
+{}
+
+/// A process ends with status 1 only where the script of a file is refused, and with status 2 only where its line asks for too
+/// many engines and workers or for a command that is not built.
+pub fn statuses_tell()
+    ensures refused { (line : Line) (files : Files) (out out_new err err_new trace trace_new : Held) (number : ℕ)
+        → Owes line files out out_new err err_new trace trace_new number → number ≡ 1 → SomeRefused files }
+    ensures usage { (line : Line) (files : Files) (out out_new err err_new trace trace_new : Held) (number : ℕ)
+        → Owes line files out out_new err err_new trace trace_new number → number ≡ 2 → AsksTooMuch line }
 {}

@@ -2,12 +2,13 @@
 #![tactic(auto)]
 
 pub mod buffer;
+mod check;
 pub mod command;
 pub mod laws;
 mod mean;
-#[cfg(test)]
-mod orders;
+mod parts;
+pub mod refusal;
+mod run;
 pub mod status;
-#[cfg(test)]
-mod tests;
+pub mod stop;
 pub mod trouble;

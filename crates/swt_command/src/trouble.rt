@@ -1,95 +1,97 @@
 //! What ends a command before its end, and what is said of it.
-ghost use Rattle.std.specs.Prelude.{◌<◌};
+ghost use Rattle.std.specs.Prelude.{◌≡◌, ◌<◌, ◌++◌};
+ghost use Rattle.swt_command.specs.Sinks.{Writes, held};
+ghost use Rattle.swt_command.specs.Troubles.{trouble_line, trouble_status};
 
+use crate::parts::write_parts;
+use crate::refusal::Refusal;
 use crate::status::Status;
-use arrayvec::ArrayString;
-use compile::fault::CompileFault;
-use std::fmt::Write;
-use swt_trace::fault::ReplayFault;
-use values::sink::{Sink, SinkFault, write_all};
+use itoa::Buffer;
+use values::sink::{Sink, SinkFault};
 
 /// What ended a command.
 #[derive(Clone, Copy, PartialEq, Eq, Debug)]
 pub enum Trouble {
     /// The file could not be read.
     Unread,
-    /// The script was refused, or memory was while it was compiled.
-    Refused(CompileFault),
-    /// The trace could not be read.
-    UnreadTrace,
-    /// The trace is none, or is not one of the script's.
-    NotReplayed(ReplayFault),
+    /// The script was refused.
+    Refused(Refusal),
+    /// This line of the trace, or the end behind it, is none of a trace.
+    BadLine(u64),
+    /// This line's event is no step of the script's code.
+    NotARun(u64),
     /// More than 64 engines and workers.
     BadCount,
     /// A command that this program does not have yet.
     NotBuilt,
     /// Memory that was asked for was refused.
     Memory,
-    /// A text could not be written.
-    Unwritten,
+    /// What was to be printed could not be written.
+    Unprinted,
+    /// The trace of a run could not be written.
+    Untraced,
 }
 
 impl Trouble {
     /// The status that it ends the command with.
-    pub fn status(self) -> Status {
+    pub fn status(self) -> Status
+        ensures { result ≡ trouble_status self }
+    {
         match self {
-            Trouble::Unread | Trouble::UnreadTrace | Trouble::Unwritten => Status::Failed,
-            Trouble::NotReplayed(ReplayFault::Memory) => Status::Memory,
-            Trouble::NotReplayed(_) => Status::Failed,
-            Trouble::Refused(fault) => match fault.span() {
-                Some(_) => Status::Refused,
-                None => Status::Memory,
-            },
-            Trouble::BadCount | Trouble::NotBuilt => Status::Usage,
+            Trouble::Unread => Status::Failed,
+            Trouble::Refused(_) => Status::Refused,
+            Trouble::BadLine(_) => Status::Failed,
+            Trouble::NotARun(_) => Status::Failed,
+            Trouble::BadCount => Status::Usage,
+            Trouble::NotBuilt => Status::Usage,
             Trouble::Memory => Status::Memory,
+            Trouble::Unprinted => Status::Failed,
+            Trouble::Untraced => Status::Failed,
         }
     }
 }
 
-/// A refusal with its place, as `S1 AssignedTwice 11 12`. Want of memory is `no memory`.
-pub fn refusal(fault: CompileFault) -> ArrayString<80> {
-    let mut text = ArrayString::new();
-    // The text fits: a name, and two numbers of at most twenty digits.
-    let _ = match fault.span() {
-        Some(span) => write!(text, "{fault} {} {}", span.from, span.to),
-        None => write!(text, "{fault}"),
-    };
-    text
-}
-
-/// Why a trace was not replayed, as `T1 BadLine 4`.
-fn replay_text(fault: ReplayFault) -> ArrayString<80> {
-    let mut text = ArrayString::new();
-    let _ = write!(text, "{fault}");
-    text
-}
-
-/// Says what ended the command, of the file that it names.
+/// Says what ended the command, of the file of this name.
+///
+/// # Errors
+///
+/// `SinkFault` where a write failed. The sink then has a beginning of the line.
 pub fn tell<E: Sink>(trouble: Trouble, file: &str, err: &mut E) -> Result<(), SinkFault>
     requires { E.failures err.old < u64.MAX }
+    ensures { Writes result (held (E.taken err.old) (E.failures err.old)) (trouble_line trouble file.now)
+        (held (E.taken err.new) (E.failures err.new)) }
 {
+    let mut buffer = Buffer::new();
     match trouble {
-        Trouble::Unread | Trouble::UnreadTrace => {
-            write_all(err, b"swt: cannot read ")?;
-            write_all(err, file.as_bytes())?;
-            write_all(err, b"\n")
+        Trouble::Unread => write_parts(err, b"swt: cannot read ", file.as_bytes(), b"\n"),
+        Trouble::Refused(refusal) => {
+            write_parts(
+                err,
+                b"swt: refused ",
+                refusal.text().as_str().as_bytes(),
+                b"\n",
+            )
         }
-        Trouble::Refused(fault) => {
-            write_all(err, b"swt: ")?;
-            if fault.span().is_some() {
-                write_all(err, b"refused ")?;
-            }
-            write_all(err, refusal(fault).as_str().as_bytes())?;
-            write_all(err, b"\n")
+        Trouble::BadLine(line) => {
+            write_parts(
+                err,
+                b"swt: T1 BadLine ",
+                buffer.format(line).as_bytes(),
+                b"\n",
+            )
         }
-        Trouble::NotReplayed(fault) => {
-            write_all(err, b"swt: ")?;
-            write_all(err, replay_text(fault).as_str().as_bytes())?;
-            write_all(err, b"\n")
+        Trouble::NotARun(line) => {
+            write_parts(
+                err,
+                b"swt: T2 NotARun ",
+                buffer.format(line).as_bytes(),
+                b"\n",
+            )
         }
-        Trouble::BadCount => write_all(err, b"swt: bad count\n"),
-        Trouble::NotBuilt => write_all(err, b"swt: not built yet\n"),
-        Trouble::Memory => write_all(err, b"swt: no memory\n"),
-        Trouble::Unwritten => write_all(err, b"swt: cannot write\n"),
+        Trouble::BadCount => write_parts(err, b"swt: ", b"bad count", b"\n"),
+        Trouble::NotBuilt => write_parts(err, b"swt: ", b"not built yet", b"\n"),
+        Trouble::Memory => write_parts(err, b"swt: ", b"no memory", b"\n"),
+        Trouble::Unprinted => write_parts(err, b"swt: ", b"cannot write", b"\n"),
+        Trouble::Untraced => write_parts(err, b"swt: ", b"cannot write", b"\n"),
     }
 }

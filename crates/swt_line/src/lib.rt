@@ -10,7 +10,5 @@ pub mod command;
 pub mod fault;
 pub mod line;
 mod reading;
-#[cfg(test)]
-mod tests;
 pub mod word;
 mod words;

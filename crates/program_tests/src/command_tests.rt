@@ -1,0 +1,390 @@
+//! Commands on small scripts: what they print, what they say, the trace, and the status.
+use std::alloc::Global;
+use std::test::Fail;
+use swt_command::command::command;
+use swt_command::trouble::{Trouble, tell};
+use swt_line::line::Line;
+use values::sink::{Sink, SinkFault};
+
+const HELLO: &[u8] = b"printf(\"hello\");";
+
+/// A sink that takes one byte a write, and none once it has no room.
+#[derive(Drop)]
+struct Small {
+    bytes: Vec<u8>,
+    room: usize,
+    failures: u64,
+}
+
+impl Small {
+    ghost use Rattle.std.specs.Prelude.{◌≡◌};
+
+    fn new(alloc: Global, room: usize) -> Small
+        ensures { result.failures ≡ 0 }
+    {
+        Small {
+            bytes: Vec::new(alloc),
+            room,
+            failures: 0,
+        }
+    }
+}
+
+impl Sink for Small {
+    ghost taken = { λ sink. sink.bytes.items };
+
+    ghost failures = { λ sink. sink.failures };
+
+    fn write(&mut self, piece: &[u8]) -> Result<usize, SinkFault> {
+        let Some(first) = piece.first() else {
+            return Ok(0);
+        };
+        if self.bytes.len() < self.room && self.bytes.push(*first).is_ok() {
+            return Ok(1);
+        }
+        self.failures += 1;
+        Err(SinkFault)
+    }
+}
+
+/// What a command printed, said and traced, and its status, in one text. `None` is a file that cannot be read; the first
+/// room is for what is printed, the second for the trace.
+fn done_in(
+    alloc: Global,
+    words: &[&str],
+    sources: &[Option<&[u8]>],
+    rooms: (usize, usize),
+) -> Result<String, Fail> {
+    let mut list = Vec::new(alloc);
+    for word in words {
+        list.push(String::from_str(alloc, word)?)?;
+    }
+    let line = Line::read(alloc, list)?;
+    let mut files = Vec::new(alloc);
+    for source in sources {
+        match source {
+            Some(bytes) => files.push(Some(Vec::from_slice(alloc, bytes)?))?,
+            None => files.push(None)?,
+        }
+    }
+    let mut out = Small::new(alloc, rooms.0);
+    let mut err = Small::new(alloc, 1000);
+    let mut trace = Small::new(alloc, rooms.1);
+    let status = command(
+        alloc,
+        &line,
+        files.as_slice(),
+        &mut out,
+        &mut err,
+        &mut trace,
+    );
+    let mut text = String::new(alloc);
+    for part in [
+        out.bytes.as_slice(),
+        err.bytes.as_slice(),
+        trace.bytes.as_slice(),
+    ] {
+        text.push_str(std::str::from_utf8(part)?)?;
+        text.push_str("|")?;
+    }
+    text.push_str(format!(in alloc; "{status}")?.as_str())?;
+    Ok(text)
+}
+
+/// The same for one file, with room for all.
+fn done(alloc: Global, words: &[&str], source: &[u8]) -> Result<String, Fail> {
+    done_in(alloc, words, &[Some(source)], (1000, 1000))
+}
+
+#[test]
+fn runs_scripts(rt: HostRuntime) -> Result<(), Fail> {
+    let alloc = rt.alloc();
+    let rows: [(&[u8], &str); 18] = [
+        (b"", "|||0"),
+        (HELLO, "hello\n|||0"),
+        (b"int x = 5; printf(\"%i %d%%\", x, 7);", "5 7%\n|||0"),
+        (b"printf(\"%i\", y);", "|swt: refused Y1 Unknown 13 14\n||1"),
+        (
+            b"int x; int y; x = y + 1; y = 2; printf(\"%i\", x);",
+            "3\n|||0",
+        ),
+        (
+            b"int x; int y; x = y; y = x; printf(\"%i\", x);",
+            "swt: blocked 14 /\nswt: blocked 21 /\nswt: blocked 28 /\n|||4",
+        ),
+        (
+            b"int x = 9223372036854775807 + 1; printf(\"%i\", x);",
+            "swt: fault F1 Overflow 0 /\n|||3",
+        ),
+        (
+            b"int a; int b; b = a * a - 1; a = 3 - 5; printf(\"%i\", b);",
+            "3\n|||0",
+        ),
+        (b"if (true) { }", "|swt: refused N1 NotYet 0 2\n||1"),
+        (b"printf(\"a\"); @prio=5 printf(\"b\");", "b\na\n|||0"),
+        (
+            b"printf(\"%i %i %i\", -7 %/ 2, -7 %% 2, 7 %% -2);",
+            "-3 -1 1\n|||0",
+        ),
+        (
+            b"printf(\"%s\", strcat(\"a\", fromint(toint(\"-007\"))));",
+            "a-7\n|||0",
+        ),
+        (
+            b"printf(\"%i\", toint(\"1x\"));",
+            "swt: fault F7 NotANumber 0 /\n|||3",
+        ),
+        (
+            b"assert(1 == 2, \"m\");",
+            "swt: fault F8 AssertFailed 0 /\n|||3",
+        ),
+        (
+            b"boolean b; boolean c; c = b; b = c; boolean d = false && b; assert(d, \"m\");",
+            "swt: blocked 22 /\nswt: blocked 29 /\nswt: blocked 36 /\nswt: blocked 60 /\n|||4",
+        ),
+        (
+            b"string s = t + \"b\" + t; string t; (t) = strcat(\"a\"); printf(\"%s\", s);",
+            "|swt: refused Y1 Unknown 11 12\n||1",
+        ),
+        (
+            b"string t; string s = t + \"b\" + t; (t) = strcat(\"a\"); printf(\"%s\", s);",
+            "aba\n|||0",
+        ),
+        (
+            b"int n = 3; boolean b = !(n < 2 || n == 5); assert(b && n >= 3 && \"x\" != \"y\", \"m\"); printf(\"%i\", -n);",
+            "-3\n|||0",
+        ),
+    ];
+    for (source, wanted) in rows {
+        assert_eq!(rt; done(alloc, &["run", "f"], source)?.as_str(), wanted);
+    }
+    Ok(())
+}
+
+#[test]
+fn takes_options(rt: HostRuntime) -> Result<(), Fail> {
+    let alloc = rt.alloc();
+    let traced = "hello\n||swt-trace 1\nB 0 1\nE 0 1\nB 1 2\nE 1 2\n|0";
+    let rows: [(&[&str], &str); 6] = [
+        (
+            &[
+                "run",
+                "f",
+                "--engines",
+                "1",
+                "--workers",
+                "1",
+                "--trace",
+                "t",
+            ],
+            traced,
+        ),
+        (&["run", "f", "--steps", "1"], "swt: limit 1\n|||5"),
+        (
+            &["run", "f", "--engines", "63", "--workers", "2"],
+            "|swt: bad count\n||2",
+        ),
+        (
+            &["run", "f", "--engines", "63", "--workers", "1"],
+            "hello\n|||0",
+        ),
+        (&["mean", "f", "--rounds", "1"], "hello\n|||0"),
+        (&["code", "f"], "|swt: not built yet\n||2"),
+    ];
+    for (words, wanted) in rows {
+        assert_eq!(rt; done(alloc, words, HELLO)?.as_str(), wanted);
+    }
+    Ok(())
+}
+
+#[test]
+fn says_what_scripts_mean(rt: HostRuntime) -> Result<(), Fail> {
+    let alloc = rt.alloc();
+    let swapped = b"int x; int y; x = y + 1; y = 2; printf(\"%i\", x);";
+    let cut = done(alloc, &["mean", "f", "--rounds", "2"], swapped)?;
+    assert_eq!(rt; cut.as_str(), "swt: blocked 32 /\nswt: limit 2\n|||5");
+    let rows: [(&[u8], &str); 4] = [
+        (swapped, "3\n|||0"),
+        (
+            b"printf(\"b\"); int x = 9223372036854775807 + 1; printf(\"a\");",
+            "a\nb\nswt: fault F1 Overflow 13 /\n|||3",
+        ),
+        (
+            b"int x; int y; x = y; y = x;",
+            "swt: blocked 14 /\nswt: blocked 21 /\n|||4",
+        ),
+        (
+            b"int x = 1; x = 2;",
+            "|swt: refused S1 AssignedTwice 11 12\n||1",
+        ),
+    ];
+    for (source, wanted) in rows {
+        assert_eq!(rt; done(alloc, &["mean", "f"], source)?.as_str(), wanted);
+    }
+    Ok(())
+}
+
+#[test]
+fn checks_scripts(rt: HostRuntime) -> Result<(), Fail> {
+    let alloc = rt.alloc();
+    assert_eq!(rt;
+        done(alloc, &["check", "f"], HELLO)?.as_str(),
+        "f: accepted\n|||0"
+    );
+    let rows: [(&[u8], &str); 20] = [
+        (b"#", "L1 BadByte 0 1"),
+        (b"01", "L2 BadNumber 0 2"),
+        (b"\"a", "L3 OpenString 0 2"),
+        (b"/*", "L4 OpenComment 0 2"),
+        (b"printf(\"\\q\");", "L5 BadEscape 8 10"),
+        (b"printf(\"%i\", 1 < 2 < 3);", "P2 Unexpected 19 20"),
+        (b"int x = 1; x = 2;", "S1 AssignedTwice 11 12"),
+        (
+            b"boolean b = true; int x; if (b) { x = 1; } printf(\"%i\", x);",
+            "S2 PartlyAssigned 25 27",
+        ),
+        (b"int x; printf(\"%i\", x);", "S3 NeverAssigned 4 5"),
+        (
+            b"int x; foreach i in [0:1] { x = i; }",
+            "S4 OuterInLoop 28 29",
+        ),
+        (b"int A[] = [1]; A[2] = 3;", "S5 WholeAndElements 15 16"),
+        (b"(int r) f() { }", "S6 OutputUnassigned 5 6"),
+        (b"printf(\"%i\", y);", "Y1 Unknown 13 14"),
+        (b"int x = 1; int x = 2;", "Y2 Declared 15 16"),
+        (b"string s = \"a\" + 1;", "Y3 Mismatch 17 18"),
+        (b"int x = fromint(3);", "Y3 Mismatch 8 15"),
+        (b"printf(\"%i\");", "Y4 WrongCount 0 6"),
+        (b"printf(\"%q\");", "Y5 BadFormat 7 11"),
+        (b"foo(1);", "Y6 NotAFunction 0 3"),
+        (b"int A[];", "N1 NotYet 0 3"),
+    ];
+    for (source, wanted) in rows {
+        let wanted = format!(in alloc; "f: refused {wanted}\n|||1")?;
+        assert_eq!(rt;
+            done(alloc, &["check", "f"], source)?.as_str(),
+            wanted.as_str()
+        );
+    }
+    Ok(())
+}
+
+#[test]
+fn replays_traces(rt: HostRuntime) -> Result<(), Fail> {
+    let alloc = rt.alloc();
+    let rows: [(&[u8], &str); 5] = [
+        (b"swt-trace 1\nB 0 1\nE 0 1\nB 1 2\nE 1 2\n", "hello\n|||0"),
+        (b"swt-trace 1\nB 0 1\nE 0 1\nB 1 2\n", "swt: limit 3\n|||5"),
+        (b"swt-trace 1\nB 0 1\nE 0 1\nB 1", "|swt: T1 BadLine 4\n||7"),
+        (
+            b"swt-trace 1\nB 0 1\nE 0 1\nB 1 2\nE 1 2\nE 1 2\n",
+            "|swt: T2 NotARun 6\n||7",
+        ),
+        (b"", "|swt: T1 BadLine 1\n||7"),
+    ];
+    for (trace, wanted) in rows {
+        let sources = [Some(HELLO), Some(trace)];
+        let words = ["replay", "f", "t"];
+        assert_eq!(rt;
+            done_in(alloc, &words, &sources, (1000, 1000))?.as_str(),
+            wanted
+        );
+    }
+    Ok(())
+}
+
+#[test]
+fn stops_at_files(rt: HostRuntime) -> Result<(), Fail> {
+    let alloc = rt.alloc();
+    let twice: &[u8] = b"int x = 1; x = 2;";
+    let rows: [(&[&str], &[Option<&[u8]>], &str); 8] = [
+        (&["run", "f"], &[None], "|swt: cannot read f\n||7"),
+        (&["mean", "f"], &[None], "|swt: cannot read f\n||7"),
+        (
+            &["replay", "f", "t"],
+            &[None, None],
+            "|swt: cannot read f\n||7",
+        ),
+        (
+            &["replay", "f", "t"],
+            &[Some(HELLO), None],
+            "|swt: cannot read t\n||7",
+        ),
+        (
+            &["replay", "f", "t"],
+            &[Some(twice), None],
+            "|swt: refused S1 AssignedTwice 11 12\n||1",
+        ),
+        (
+            &["check", "a", "b"],
+            &[Some(twice), Some(HELLO)],
+            "a: refused S1 AssignedTwice 11 12\nb: accepted\n|||1",
+        ),
+        (
+            &["check", "a", "b", "c"],
+            &[Some(twice), None, Some(HELLO)],
+            "a: refused S1 AssignedTwice 11 12\n|swt: cannot read b\n||7",
+        ),
+        (&["check", "a"], &[], "|swt: cannot read a\n||7"),
+    ];
+    for (words, sources, wanted) in rows {
+        assert_eq!(rt;
+            done_in(alloc, words, sources, (1000, 1000))?.as_str(),
+            wanted
+        );
+    }
+    Ok(())
+}
+
+#[test]
+fn stops_at_writes(rt: HostRuntime) -> Result<(), Fail> {
+    let alloc = rt.alloc();
+    let trace: &[u8] = b"swt-trace 1\nB 0 1\nE 0 1\n";
+    let rows: [(&[&str], &[Option<&[u8]>], (usize, usize), &str); 5] = [
+        (
+            &["run", "f", "--trace", "t"],
+            &[Some(HELLO)],
+            (3, 1000),
+            "hel|swt: cannot write\n||7",
+        ),
+        (
+            &["run", "f", "--trace", "t"],
+            &[Some(HELLO)],
+            (6, 20),
+            "hello\n|swt: cannot write\n|swt-trace 1\nB 0 1\nE |7",
+        ),
+        (
+            &["mean", "f"],
+            &[Some(HELLO)],
+            (0, 0),
+            "|swt: cannot write\n||7",
+        ),
+        (
+            &["check", "a", "b"],
+            &[Some(HELLO), Some(HELLO)],
+            (14, 0),
+            "a: accepted\nb:|swt: cannot write\n||7",
+        ),
+        (
+            &["replay", "f", "t"],
+            &[Some(HELLO), Some(trace)],
+            (12, 0),
+            "swt: limit 2|swt: cannot write\n||7",
+        ),
+    ];
+    for (words, sources, rooms, wanted) in rows {
+        assert_eq!(rt; done_in(alloc, words, sources, rooms)?.as_str(), wanted);
+    }
+    Ok(())
+}
+
+/// No memory: the line and the status, and a command of which any allocation may fail.
+#[test]
+fn lacks_memory(rt: HostRuntime) -> Result<(), Fail> {
+    let alloc = rt.alloc();
+    let mut err = Small::new(alloc, 1000);
+    assert!(rt; tell(Trouble::Memory, "f", &mut err).is_ok());
+    assert_eq!(rt; err.bytes.as_slice(), b"swt: no memory\n".as_slice());
+    assert_eq!(rt; Trouble::Memory.status().number(), 6);
+    Ok(())
+}

@@ -1,0 +1,14 @@
+//! Tests of the crates from a script to its code and its meaning, of the command line, and of the commands, over their public
+//! contracts. Nothing here runs outside of tests.
+#![tactic(auto)]
+
+#[cfg(test)]
+mod code_tests;
+#[cfg(test)]
+mod command_tests;
+#[cfg(test)]
+mod line_tests;
+#[cfg(test)]
+mod meaning_tests;
+#[cfg(test)]
+mod order_tests;

@@ -1,0 +1,238 @@
+//! Each command on plain words, its defaults and ranges, and words that are no command.
+use std::alloc::{AllocError, Global};
+use std::test::Fail;
+use swt_line::command::Command;
+use swt_line::fault::LineFault;
+use swt_line::line::Line;
+use swt_line::word::Word;
+
+fn read(alloc: Global, words: &[&str]) -> Result<Line, LineFault> {
+    let mut list = Vec::new(alloc);
+    for word in words {
+        list.push(String::from_str(alloc, word)?)?;
+    }
+    Line::read(alloc, list)
+}
+
+fn is_usage(alloc: Global, words: &[&str]) -> bool {
+    matches!(read(alloc, words), Err(LineFault::Usage))
+}
+
+/// A line in one text, to compare.
+fn shown(alloc: Global, words: &[&str]) -> Result<String, Fail> {
+    let line = match read(alloc, words) {
+        Ok(line) => line,
+        Err(LineFault::Usage) => return Ok(String::from_str(alloc, "usage")?),
+        Err(LineFault::Memory) => return Ok(String::from_str(alloc, "memory")?),
+    };
+    let text = match &line {
+        Line::Check { files } => {
+            let mut text = String::from_str(alloc, "check")?;
+            for file in files.as_slice() {
+                text.push_str(" ")?;
+                text.push_str(file.as_str())?;
+            }
+            text
+        }
+        Line::Mean { file, rounds } => format!(in alloc; "mean {} {}", file.as_str(), rounds)?,
+        Line::Code { file } => format!(in alloc; "code {}", file.as_str())?,
+        Line::Run {
+            file,
+            engines,
+            workers,
+            steps,
+            trace,
+        } => {
+            let trace = match trace {
+                Some(name) => name.as_str(),
+                None => "none",
+            };
+            format!(in alloc;
+                "run {} {} {} {} {}",
+                file.as_str(),
+                engines,
+                workers,
+                steps,
+                trace
+            )?
+        }
+        Line::Replay { file, trace } => {
+            format!(in alloc; "replay {} {}", file.as_str(), trace.as_str())?
+        }
+    };
+    Ok(text)
+}
+
+#[test]
+fn commands(rt: HostRuntime) -> Result<(), Fail> {
+    let alloc = rt.alloc();
+    let rows: [(&[&str], &str); 9] = [
+        (&["check", "a.swift"], "check a.swift"),
+        (&["check", "a", "b", "a"], "check a b a"),
+        (&["mean", "a"], "mean a 1000000"),
+        (&["mean", "a", "--rounds", "7"], "mean a 7"),
+        (
+            &["mean", "--rounds", "4294967295", "a"],
+            "mean a 4294967295",
+        ),
+        (&["code", "a"], "code a"),
+        (&["run", "a"], "run a 1 3 10000000 none"),
+        (
+            &[
+                "run",
+                "--trace",
+                "t",
+                "--engines",
+                "2",
+                "a",
+                "--steps",
+                "0",
+                "--workers",
+                "63",
+            ],
+            "run a 2 63 0 t",
+        ),
+        (&["replay", "a", "t"], "replay a t"),
+    ];
+    for (words, text) in rows {
+        assert_eq!(rt; shown(alloc, words)?.as_str(), text);
+    }
+    Ok(())
+}
+
+#[test]
+fn no_commands(rt: HostRuntime) -> Result<(), Fail> {
+    let alloc = rt.alloc();
+    let rows: [&[&str]; 30] = [
+        &[],
+        &[""],
+        &["--help"],
+        &["help"],
+        &["run", "--help"],
+        &["-h"],
+        &["walk", "a"],
+        &["Run", "a"],
+        &["check"],
+        &["check", "a", "--rounds", "1"],
+        &["mean"],
+        &["mean", "a", "b"],
+        &["mean", "a", "--rounds", "0"],
+        &["mean", "a", "--rounds", "4294967296"],
+        &["mean", "a", "--steps", "1"],
+        &["code"],
+        &["code", "a", "b"],
+        &["run"],
+        &["run", "a", "b"],
+        &["run", "a", "--engines", "0"],
+        &["run", "a", "--engines", "64"],
+        &["run", "a", "--workers", "64"],
+        &["run", "a", "--workers", "0"],
+        &["run", "a", "--workers", "+5"],
+        &["run", "a", "--workers", "-5"],
+        &["run", "a", "--engines", "1", "--engines", "1"],
+        &["run", "a", "--trace"],
+        &["run", "a", "--trace", "--steps", "1"],
+        &["replay", "a"],
+        &["replay", "a", "t", "u"],
+    ];
+    for words in rows {
+        assert!(rt; is_usage(alloc, words));
+    }
+    Ok(())
+}
+
+/// Words that a reader of command lines often takes in other ways.
+#[test]
+fn other_forms(rt: HostRuntime) -> Result<(), Fail> {
+    let alloc = rt.alloc();
+    let rows: [&[&str]; 14] = [
+        &["--", "run", "a"],
+        &["run", "--", "a"],
+        &["run", "a", "--"],
+        &["check", "--", "-a"],
+        &["check", "-"],
+        &["run", "a", "--trace", "-"],
+        &["run", "a", "--steps=1"],
+        &["run", "a", "--step", "1"],
+        &["run", "a", "--=1"],
+        &["run", "a", "-s", "1"],
+        &["run", "a", "-V"],
+        &["run", "a", "--version"],
+        &["run", "a", "--trace", "t", "--trace", "t"],
+        &["help", "run"],
+    ];
+    for words in rows {
+        assert!(rt; is_usage(alloc, words));
+    }
+    assert_eq!(rt;
+        shown(alloc, &["check", "", "=", "a=b"])?.as_str(),
+        "check  = a=b"
+    );
+    assert_eq!(rt;
+        shown(alloc, &["run", "help", "--trace", "run"])?.as_str(),
+        "run help 1 3 10000000 run"
+    );
+    assert_eq!(rt;
+        shown(alloc, &["mean", "--rounds", "007", "./-a"])?.as_str(),
+        "mean ./-a 7"
+    );
+    Ok(())
+}
+
+#[test]
+fn steps_range(rt: HostRuntime) -> Result<(), Fail> {
+    let alloc = rt.alloc();
+    assert_eq!(rt;
+        shown(alloc, &["run", "a", "--steps", "4294967295"])?.as_str(),
+        "run a 1 3 4294967295 none"
+    );
+    assert!(rt; is_usage(alloc, &["run", "a", "--steps", "4294967296"]));
+    assert!(rt; is_usage(alloc, &["run", "a", "--steps", "99999999999999999999"]));
+    assert!(rt; is_usage(alloc, &["run", "a", "--steps", "ten"]));
+    assert!(rt; is_usage(alloc, &["run", "a", "--steps", ""]));
+    Ok(())
+}
+
+#[test]
+fn files_to_be_read(rt: HostRuntime) -> Result<(), Fail> {
+    let alloc = rt.alloc();
+    let rows: [(&[&str], &[&str]); 5] = [
+        (&["check", "b", "a"], &["b", "a"]),
+        (&["mean", "a"], &["a"]),
+        (&["code", "a"], &["a"]),
+        (&["run", "a", "--trace", "t"], &["a"]),
+        (&["replay", "a", "t"], &["a", "t"]),
+    ];
+    for (words, names) in rows {
+        let read = read(alloc, words);
+        assert!(rt; read.is_ok());
+        let Ok(line) = read else { continue };
+        let files = line.files(alloc)?;
+        assert_eq!(rt; files.len(), names.len());
+        for (file, name) in files.iter().zip(names.iter()) {
+            assert_eq!(rt; file.as_str(), *name);
+        }
+    }
+    Ok(())
+}
+
+#[test]
+fn single_words(rt: HostRuntime) -> Result<(), Fail> {
+    let alloc = rt.alloc();
+    assert_eq!(rt; Command::of("replay"), Some(Command::Replay));
+    assert_eq!(rt; Command::of("replays"), None);
+    let word = Word::new(String::from_str(alloc, "-x")?);
+    assert_eq!(rt; word.copy(alloc)?.as_str(), "-x");
+    Ok(())
+}
+
+#[test]
+fn fault_texts(rt: HostRuntime) -> Result<(), Fail> {
+    let usage = format!(in rt.alloc(); "{}", LineFault::Usage)?;
+    assert!(rt; usage.as_str().starts_with("usage: swt check FILE..\n"));
+    assert_eq!(rt;
+        format!(in rt.alloc(); "{}", LineFault::Memory)?.as_str(),
+        "no memory"
+    );
+    Ok(())
+}

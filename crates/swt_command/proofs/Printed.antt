@@ -1,0 +1,74 @@
+-- What a run prints that ends quiet, against the script.
+use Rattle.std.proofs.Common.{◌≡◌, ◌∙◌, sym, ap, refl, inl, inr, ◌⊎◌, ℕ, List, [], ◌∷◌, arith, Option, Result, Ok, Err}
+use Rattle.std.specs.Prelude.{◌+◌, is_some, Bool}
+use Rattle.task_code.specs.Code.{Code}
+use Rattle.board.specs.declared.place.Statement.{Statement}
+use Rattle.runs.specs.declared.report.End.{End}
+use Rattle.runs.specs.declared.report.End.TheVariants as Was
+use Rattle.runs.specs.declared.report.Report.{Report}
+use Rattle.runs.specs.Report.{Reports}
+use Rattle.compile.specs.Compiles.{Compiles}
+use Rattle.swt_trace.specs.Report.{ReportText}
+use Rattle.swt_line.specs.declared.line.Line.TheVariants.{Run, Replay}
+use Rattle.swt_command.specs.declared.status.Status.{Status}
+use Rattle.swt_command.specs.declared.stop.Stop.{Stop}
+use Rattle.swt_command.specs.declared.trouble.Trouble.{Trouble}
+use Rattle.swt_command.specs.declared.trouble.Trouble.TheVariants as Is
+use Rattle.swt_command.specs.Files.{Files, HasCode}
+use Rattle.swt_command.specs.OneThread.{PrintsWhole}
+use Rattle.swt_command.specs.Owes.{Owes, status_of}
+use Rattle.swt_command.specs.Runs.{Replays, Runs, end_status, report_status}
+use Rattle.swt_command.specs.Sinks.{Held, Took}
+use Rattle.swt_command.specs.Statuses.{number_of}
+use Rattle.swt_command.specs.Troubles.{trouble_status}
+use Rattle.swt_command.proofs.Reported.{reported}
+
+-- 0 and 4 are the statuses of quiet ends
+abbrev IsQuiet : ℕ → Type 0
+IsQuiet n = (n ≡ 0) ⊎ (n ≡ 4)
+
+is_none_of : (n k : ℕ) → n ≡ k → (k ≡ 0 → ⊥) → (k ≡ 4 → ⊥) → IsQuiet n → ⊥
+is_none_of n k e zero four (inl h) = zero (sym e ∙ h)
+is_none_of n k e zero four (inr h) = four (sym e ∙ h)
+
+quiet_end : (e : End) (blocked : List Statement) (n : ℕ) → n ≡ number_of (end_status e blocked) → IsQuiet n → e ≡ Was.Quiet
+quiet_end (Was.Fault f) blocked n is h = absurd (is_none_of n 3 is (λ x. omega (arith, x)) (λ x. omega (arith, x)) h)
+quiet_end Was.Quiet [] n is h = refl
+quiet_end Was.Quiet (b ∷ bs) n is h = refl
+quiet_end Was.Limit blocked n is h = absurd (is_none_of n 5 is (λ x. omega (arith, x)) (λ x. omega (arith, x)) h)
+
+not_stopped : (t : Trouble) (n : ℕ) → n ≡ number_of (trouble_status t) → IsQuiet n → ⊥
+not_stopped Is.Unread n is h = is_none_of n 7 is (λ x. omega (arith, x)) (λ x. omega (arith, x)) h
+not_stopped (Is.Refused r) n is h = is_none_of n 1 is (λ x. omega (arith, x)) (λ x. omega (arith, x)) h
+not_stopped (Is.BadLine m) n is h = is_none_of n 7 is (λ x. omega (arith, x)) (λ x. omega (arith, x)) h
+not_stopped (Is.NotARun m) n is h = is_none_of n 7 is (λ x. omega (arith, x)) (λ x. omega (arith, x)) h
+not_stopped Is.BadCount n is h = is_none_of n 2 is (λ x. omega (arith, x)) (λ x. omega (arith, x)) h
+not_stopped Is.NotBuilt n is h = is_none_of n 2 is (λ x. omega (arith, x)) (λ x. omega (arith, x)) h
+not_stopped Is.Memory n is h = is_none_of n 6 is (λ x. omega (arith, x)) (λ x. omega (arith, x)) h
+not_stopped Is.Unprinted n is h = is_none_of n 7 is (λ x. omega (arith, x)) (λ x. omega (arith, x)) h
+not_stopped Is.Untraced n is h = is_none_of n 7 is (λ x. omega (arith, x)) (λ x. omega (arith, x)) h
+
+whole_printed : (files : Files) (code : Code) (limit : ℕ) (r : Report) (out new : Held) → HasCode files 0 code → Reports code limit r → Took out (ReportText r) new → r.end ≡ Was.Quiet → PrintsWhole files out new
+whole_printed files code limit r out new (src, read, w) reports took quiet =
+    (w.script, (src, read, w.script_of), (r, reported src code limit r w reports quiet, took))
+
+run_done : (files : Files) (threads steps : ℕ) (wanted : Bool) (done : Result Status Stop) (out out_new trace trace_new : Held) (n : ℕ) → Runs files threads steps wanted done out out_new trace trace_new
+    → n ≡ number_of (status_of done) → IsQuiet n → PrintsWhole files out out_new
+run_done files threads steps wanted (Ok status) out out_new trace trace_new n d is h =
+    whole_printed files d.1.0 steps d.0 out out_new d.1.1 d.1.3 d.3 (quiet_end d.0.end d.0.blocked.items n (is ∙ ap number_of d.2) h)
+run_done files threads steps wanted (Err stop) out out_new trace trace_new n d is h = absurd (not_stopped stop.trouble n is h)
+
+pub run_prints : (file : List ℕ) (engines workers steps : ℕ) (wanted : Option (List ℕ)) (files : Files) (out out_new err err_new trace trace_new : Held) (number : ℕ)
+    → Owes (Run file engines workers steps wanted) files out out_new err err_new trace trace_new number → (number ≡ 0) ⊎ (number ≡ 4) → PrintsWhole files out out_new
+run_prints file engines workers steps wanted files out out_new err err_new trace trace_new number o h =
+    run_done files (engines + workers) steps (is_some wanted) o.ended out out_new trace trace_new number o.does o.number_is h
+
+replay_done : (files : Files) (done : Result Status Stop) (out out_new : Held) (n : ℕ) → Replays files done out out_new → n ≡ number_of (status_of done) → IsQuiet n → PrintsWhole files out out_new
+replay_done files (Ok status) out out_new n d is h =
+    whole_printed files d.1.0 _ d.0 out out_new d.1.1 d.1.2.2.reports d.3 (quiet_end d.0.end d.0.blocked.items n (is ∙ ap number_of d.2) h)
+replay_done files (Err stop) out out_new n d is h = absurd (not_stopped stop.trouble n is h)
+
+pub replay_prints : (file events : List ℕ) (files : Files) (out out_new err err_new trace trace_new : Held) (number : ℕ)
+    → Owes (Replay file events) files out out_new err err_new trace trace_new number → (number ≡ 0) ⊎ (number ≡ 4) → PrintsWhole files out out_new
+replay_prints file events files out out_new err err_new trace trace_new number o h =
+    replay_done files o.ended out out_new number o.does.0 o.number_is h

@@ -1,0 +1,91 @@
+-- Where commands stop.
+use Rattle.std.proofs.Common.{◌≡◌, refl, sym, subst, ℕ, zero, suc, Bool, true, List, Option, Some, None, Result, Ok, Err}
+use Rattle.std.specs.Prelude.{MatchResult}
+use Rattle.runs.specs.declared.report.Report.{Report}
+use Rattle.swt_trace.specs.Report.{ReportText}
+use Rattle.swt_trace.specs.Trace.{TraceText}
+use Rattle.swt_command.specs.declared.status.Status.{Status}
+use Rattle.swt_command.specs.declared.stop.Stop.{Stop}
+use Rattle.task_code.specs.Code.{Code}
+use Rattle.swt_command.specs.declared.trouble.Trouble.{Trouble}
+use Rattle.swt_command.specs.declared.trouble.Trouble.TheVariants as Is
+use Rattle.swt_command.specs.Files.{Files, StopsAt, StopsOn, source_of}
+use Rattle.swt_command.specs.Means.{StopsMean}
+use Rattle.swt_command.specs.Runs.{Ran, Runs, StopsAtTrace, StopsBeforeReplay, StopsBeforeRun, StopsReplay, StopsRun, Traces, report_status}
+use Rattle.swt_command.specs.Sinks.{Held, Lost, Took}
+
+-- a stop at the script of the first file
+pub stops_on : (files : Files) (src : List ℕ) (t : Trouble) → source_of files 0 ≡ Some src → StopsOn src t → StopsAt files 0 t
+stops_on files src Is.Unread e h = absurd h
+stops_on files src (Is.Refused r) e h = (src, e, h)
+stops_on files src (Is.BadLine n) e h = absurd h
+stops_on files src (Is.NotARun n) e h = absurd h
+stops_on files src Is.BadCount e h = absurd h
+stops_on files src Is.NotBuilt e h = absurd h
+stops_on files src Is.Memory e h = (src, e, h)
+stops_on files src Is.Unprinted e h = absurd h
+stops_on files src Is.Untraced e h = absurd h
+
+-- a command that stops before anything is written
+pub mean_stopped : (files : Files) (limit : ℕ) (t : Trouble) (out : Held) → StopsAt files 0 t → StopsMean files limit t out out
+mean_stopped files limit Is.Unread out h = (h, refl)
+mean_stopped files limit (Is.Refused r) out h = (h, refl)
+mean_stopped files limit (Is.BadLine n) out h = (h, refl)
+mean_stopped files limit (Is.NotARun n) out h = (h, refl)
+mean_stopped files limit Is.BadCount out h = (h, refl)
+mean_stopped files limit Is.NotBuilt out h = (h, refl)
+mean_stopped files limit Is.Memory out h = (h, refl)
+mean_stopped files limit Is.Unprinted out h = absurd h.2
+mean_stopped files limit Is.Untraced out h = (h, refl)
+
+pub run_stopped : (files : Files) (threads steps : ℕ) (wanted : Bool) (t : Trouble) (out trace : Held) → StopsBeforeRun files threads t → StopsRun files threads steps wanted t out out trace trace
+run_stopped files threads steps wanted Is.Unread out trace h = (h, refl, refl)
+run_stopped files threads steps wanted (Is.Refused r) out trace h = (h, refl, refl)
+run_stopped files threads steps wanted (Is.BadLine n) out trace h = (h, refl, refl)
+run_stopped files threads steps wanted (Is.NotARun n) out trace h = (h, refl, refl)
+run_stopped files threads steps wanted Is.BadCount out trace h = (h, refl, refl)
+run_stopped files threads steps wanted Is.NotBuilt out trace h = (h, refl, refl)
+run_stopped files threads steps wanted Is.Memory out trace h = (h, refl, refl)
+run_stopped files threads steps wanted Is.Unprinted out trace h = absurd h.2
+run_stopped files threads steps wanted Is.Untraced out trace h = absurd h.2
+
+-- a run whose report was printed, by what came of its trace
+pub run_traced : (files : Files) (threads steps : ℕ) (wanted : Bool) (report : Report) (r : Result Status Stop) (out out_new trace trace_new : Held) → Ran files threads steps report → Took out (ReportText report) out_new
+    → MatchResult r (λ status. (status ≡ report_status report) × Traces wanted report trace trace_new) (λ stop. (stop.place ≡ 0) × (stop.trouble ≡ Is.Untraced) × (wanted ≡ true) × Lost trace (TraceText report.history.items) trace_new)
+    → Runs files threads steps wanted r out out_new trace trace_new
+run_traced files threads steps wanted report (Ok status) out out_new trace trace_new ran took h = (report, ran, h.0, took, h.1)
+run_traced files threads steps wanted report (Err stop) out out_new trace trace_new ran took h =
+    (h.0, subst (λ (t : Trouble). StopsRun files threads steps wanted t out out_new trace trace_new) (sym h.1) (report, ran, took, h.2, h.3))
+
+-- what stops at a script stops a run before it begins
+pub before_run : (files : Files) (threads : ℕ) (t : Trouble) → StopsAt files 0 t → StopsBeforeRun files threads t
+before_run files threads Is.Unread h = h
+before_run files threads (Is.Refused r) h = h
+before_run files threads (Is.BadLine n) h = h
+before_run files threads (Is.NotARun n) h = h
+before_run files threads Is.BadCount h = absurd h.2
+before_run files threads Is.NotBuilt h = h
+before_run files threads Is.Memory h = h
+before_run files threads Is.Unprinted h = h
+before_run files threads Is.Untraced h = h
+
+not_at_trace : (source : Option (List ℕ)) (code : Code) → StopsAtTrace source code Is.Unprinted → ⊥
+not_at_trace None code h = h
+not_at_trace (Some bytes) code h = h
+
+-- nothing of a report was written
+no_unprinted : (files : Files) (place : ℕ) → StopsBeforeReplay files place Is.Unprinted → ⊥
+no_unprinted files zero h = h.2
+no_unprinted files (suc zero) h = not_at_trace (source_of files 1) h.0 h.2
+no_unprinted files (suc (suc n)) h = h
+
+pub replay_stopped : (files : Files) (place : ℕ) (t : Trouble) (out : Held) → StopsBeforeReplay files place t → StopsReplay files place t out out
+replay_stopped files place Is.Unread out h = (h, refl)
+replay_stopped files place (Is.Refused r) out h = (h, refl)
+replay_stopped files place (Is.BadLine n) out h = (h, refl)
+replay_stopped files place (Is.NotARun n) out h = (h, refl)
+replay_stopped files place Is.BadCount out h = (h, refl)
+replay_stopped files place Is.NotBuilt out h = (h, refl)
+replay_stopped files place Is.Memory out h = (h, refl)
+replay_stopped files place Is.Unprinted out h = absurd (no_unprinted files place h)
+replay_stopped files place Is.Untraced out h = (h, refl)

@@ -1,0 +1,79 @@
+-- What `check` owes: a line for each file, up to one that ends it.
+use Rattle.std.specs.Prelude.{◌≡◌, ℕ, ◌<◌, List, [], ◌∷◌, ◌++◌, length, Result, Ok, Err, Option, Some, None, slice_get, codes}
+use Rattle.task_code.specs.Code.{Code}
+use Rattle.compile.specs.Compiles.{Compiles}
+use Rattle.swt_trace.specs.Report.{text_line}
+use Rattle.swt_command.specs.declared.refusal.Refusal.{Refusal}
+use Rattle.swt_command.specs.declared.status.Status.{Status}
+use Rattle.swt_command.specs.declared.status.Status.TheVariants as Ends
+use Rattle.swt_command.specs.declared.stop.Stop.{Stop}
+use Rattle.swt_command.specs.declared.trouble.Trouble.{Trouble}
+use Rattle.swt_command.specs.declared.trouble.Trouble.TheVariants as Is
+use Rattle.swt_command.specs.Files.{Files, source_of, name_at, IsRefusal}
+use Rattle.swt_command.specs.Names.{refusal_text}
+use Rattle.swt_command.specs.Sinks.{Held, Kept, Took, Lost}
+
+-- of a file: none where its script is accepted, else the refusal
+abbrev pub Verdict : Type 0
+Verdict = Option Refusal
+
+-- the text is accepted, or refused for this reason
+abbrev pub IsVerdict : List ℕ → Verdict → Type 0
+IsVerdict src None = (code : Code) × Compiles src code
+IsVerdict src (Some r) = IsRefusal src r
+
+abbrev pub verdict_text : Verdict → List ℕ
+verdict_text None = codes ": accepted"
+verdict_text (Some r) = codes ": refused " ++ refusal_text r
+
+-- `FILE: accepted` or `FILE: refused S1 AssignedTwice 11 12`
+abbrev pub verdict_line : List ℕ → Verdict → List ℕ
+verdict_line file v = text_line (file ++ verdict_text v)
+
+-- a line for each verdict, with the name of its file
+abbrev pub verdict_lines : List (List ℕ) → List Verdict → List ℕ
+verdict_lines [] vs = []
+verdict_lines (name ∷ names) [] = []
+verdict_lines (name ∷ names) (v ∷ vs) = verdict_line name v ++ verdict_lines names vs
+
+-- the file of that place can be read, and this is its verdict
+abbrev pub HasVerdict : Files → ℕ → Verdict → Type 0
+HasVerdict files place v = (src : List ℕ) × (source_of files place ≡ Some src) × IsVerdict src v
+
+-- so it is said of the file of that place
+abbrev pub IsSaid : (name : List ℕ) → Files → ℕ → Verdict → Held → Held → Type 0
+IsSaid name files place v out new = HasVerdict files place v × Took out (verdict_line name v) new
+
+-- these are the verdicts of the first files
+abbrev pub AreVerdicts : Files → List Verdict → Type 0
+AreVerdicts files vs = (place : ℕ) (v : Verdict) → slice_get vs place ≡ Some v → HasVerdict files place v
+
+-- the status is 0 where all are accepted, and 1 where any is refused
+abbrev pub check_status : List Verdict → Status
+check_status [] = Ends.Done
+check_status (Some r ∷ vs) = Ends.Refused
+check_status (None ∷ vs) = check_status vs
+
+-- the status behind one more verdict
+abbrev pub after : Verdict → Status → Status
+after None status = status
+after (Some r) status = Ends.Refused
+
+-- a file at which it stops: one that cannot be read, one for which memory was refused, or one whose line was not taken whole
+abbrev pub StopsBy : (name : List ℕ) → (source : Option (List ℕ)) → Trouble → Held → Held → Type 0
+StopsBy name None Is.Unread out new = Kept out new
+StopsBy name (Some src) Is.Memory out new = Kept out new
+StopsBy name (Some src) Is.Unprinted out new = (v : Verdict) × IsVerdict src v × Lost out (verdict_line name v) new
+StopsBy name _ _ out new = ⊥
+
+-- these lines were printed, for these verdicts on the first files
+pub record Judged (names : List (List ℕ)) (files : Files) (vs : List Verdict) (out new : Held) : Type 0 where
+  pub verdicts : AreVerdicts files vs
+  pub printed : Took out (verdict_lines names vs) new
+
+-- all files have their lines; or those before the one at which it stops
+abbrev pub Checks : List (List ℕ) → Files → Result Status Stop → Held → Held → Type 0
+Checks names files (Ok status) out new = (vs : List Verdict) × (length vs ≡ length names) × Judged names files vs out new × (status ≡ check_status vs)
+Checks names files (Err stop) out new =
+    (vs : List Verdict) × (length vs ≡ stop.place) × (stop.place < length names)
+    × ((mid : Held) × Judged names files vs out mid × StopsBy (name_at names stop.place) (source_of files stop.place) stop.trouble mid new)

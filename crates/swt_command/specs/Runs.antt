@@ -1,0 +1,101 @@
+-- What `run` and `replay` owe: the report of a run of the script.
+use Rattle.std.specs.Prelude.{◌≡◌, ℕ, zero, suc, ◌<◌, ◌≤◌, Bool, true, false, List, [], ◌∷◌, Result, Ok, Err, Option, Some, None}
+use Rattle.task_code.specs.Code.{Code}
+use Rattle.board.specs.declared.place.Statement.{Statement}
+use Rattle.runs.specs.declared.report.End.{End}
+use Rattle.runs.specs.declared.report.End.TheVariants as Was
+use Rattle.runs.specs.declared.report.Report.{Report}
+use Rattle.runs.specs.Report.{Reports}
+use Rattle.swt_trace.specs.declared.fault.ReplayFault.{ReplayFault}
+use Rattle.swt_trace.specs.declared.fault.ReplayFault.TheVariants as Faulty
+use Rattle.swt_trace.specs.Replay.{IsFirstNoStep, ReplaysTo}
+use Rattle.swt_trace.specs.Report.{ReportText}
+use Rattle.swt_trace.specs.Trace.{IsFirstBad, TraceText}
+use Rattle.swt_command.specs.declared.status.Status.{Status}
+use Rattle.swt_command.specs.declared.status.Status.TheVariants as Ends
+use Rattle.swt_command.specs.declared.stop.Stop.{Stop}
+use Rattle.swt_command.specs.declared.trouble.Trouble.{Trouble}
+use Rattle.swt_command.specs.declared.trouble.Trouble.TheVariants as Is
+use Rattle.swt_command.specs.Files.{Files, source_of, HasCode, StopsAt}
+use Rattle.swt_command.specs.Sinks.{Held, Kept, Took, Lost}
+
+-- the most engines and workers together
+abbrev pub most_threads : ℕ
+most_threads = 64
+
+abbrev pub end_status : End → List Statement → Status
+end_status (Was.Fault f) blocked = Ends.Fault
+end_status Was.Quiet [] = Ends.Done
+end_status Was.Quiet (b ∷ bs) = Ends.Blocked
+end_status Was.Limit blocked = Ends.Limit
+
+-- the status that a report comes with
+abbrev pub report_status : Report → Status
+report_status r = end_status r.end r.blocked.items
+
+-- RUN
+
+-- the report is of a run of the script's code, of so many events at most
+abbrev pub Ran : Files → (threads steps : ℕ) → Report → Type 0
+Ran files threads steps r = (code : Code) × HasCode files 0 code × (threads ≤ most_threads) × Reports code steps r
+
+-- the trace was written where it is wanted
+abbrev pub Traces : (wanted : Bool) → Report → Held → Held → Type 0
+Traces true r trace new = Took trace (TraceText r.history.items) new
+Traces false r trace new = Kept trace new
+
+-- before the run: the file cannot be read or its script is refused, there are too many threads, or memory was refused
+abbrev pub StopsBeforeRun : Files → (threads : ℕ) → Trouble → Type 0
+StopsBeforeRun files threads Is.BadCount = (code : Code) × HasCode files 0 code × (most_threads < threads)
+StopsBeforeRun files threads trouble = StopsAt files 0 trouble
+
+-- a write of the report or of the trace failed; or the command stopped before, with nothing written
+abbrev pub StopsRun : Files → (threads steps : ℕ) → (wanted : Bool) → Trouble → (out out_new trace trace_new : Held) → Type 0
+StopsRun files threads steps wanted Is.Unprinted out out_new trace trace_new =
+    (r : Report) × Ran files threads steps r × Lost out (ReportText r) out_new × Kept trace trace_new
+StopsRun files threads steps wanted Is.Untraced out out_new trace trace_new =
+    (r : Report) × Ran files threads steps r × Took out (ReportText r) out_new × (wanted ≡ true) × Lost trace (TraceText r.history.items) trace_new
+StopsRun files threads steps wanted trouble out out_new trace trace_new = StopsBeforeRun files threads trouble × Kept out out_new × Kept trace trace_new
+
+-- the report was printed, and then its trace was written where it is wanted; or the command stops
+abbrev pub Runs : Files → (threads steps : ℕ) → (wanted : Bool) → Result Status Stop → (out out_new trace trace_new : Held) → Type 0
+Runs files threads steps wanted (Ok status) out out_new trace trace_new =
+    (r : Report) × Ran files threads steps r × (status ≡ report_status r) × Took out (ReportText r) out_new × Traces wanted r trace trace_new
+Runs files threads steps wanted (Err stop) out out_new trace trace_new =
+    (stop.place ≡ 0) × StopsRun files threads steps wanted stop.trouble out out_new trace trace_new
+
+-- REPLAY
+
+-- the report is of the events of the second file, run again on the code of the first
+abbrev pub Replayed : Files → Report → Type 0
+Replayed files r = (code : Code) × HasCode files 0 code × ((bytes : List ℕ) × (source_of files 1 ≡ Some bytes) × ReplaysTo code bytes r)
+
+-- the stop that a trace's fault is
+abbrev pub stop_of : ReplayFault → Stop
+stop_of (Faulty.BadLine n) = record { place = 1; trouble = Is.BadLine n }
+stop_of (Faulty.NotARun n) = record { place = 1; trouble = Is.NotARun n }
+stop_of Faulty.Memory = record { place = 1; trouble = Is.Memory }
+
+-- the trace cannot be read, or is none, or has an event that is no step of the code; or memory was refused
+abbrev pub StopsAtTrace : Option (List ℕ) → Code → Trouble → Type 0
+StopsAtTrace None code Is.Unread = Unit {0}
+StopsAtTrace (Some bytes) code (Is.BadLine n) = IsFirstBad bytes n
+StopsAtTrace (Some bytes) code (Is.NotARun n) = IsFirstNoStep code bytes n
+StopsAtTrace (Some bytes) code Is.Memory = Unit {0}
+StopsAtTrace _ code _ = ⊥
+
+-- before there is a report: at the script, which has place 0, or at its trace, which has place 1
+abbrev pub StopsBeforeReplay : Files → (place : ℕ) → Trouble → Type 0
+StopsBeforeReplay files zero trouble = StopsAt files 0 trouble
+StopsBeforeReplay files (suc zero) trouble = (code : Code) × HasCode files 0 code × StopsAtTrace (source_of files 1) code trouble
+StopsBeforeReplay files (suc (suc place)) trouble = ⊥
+
+-- a write of the report failed; or the command stopped before, with nothing written
+abbrev pub StopsReplay : Files → (place : ℕ) → Trouble → (out new : Held) → Type 0
+StopsReplay files place Is.Unprinted out new = (r : Report) × Replayed files r × Lost out (ReportText r) new
+StopsReplay files place trouble out new = StopsBeforeReplay files place trouble × Kept out new
+
+-- the report was printed; or the command stops
+abbrev pub Replays : Files → Result Status Stop → (out new : Held) → Type 0
+Replays files (Ok status) out new = (r : Report) × Replayed files r × (status ≡ report_status r) × Took out (ReportText r) new
+Replays files (Err stop) out new = StopsReplay files stop.place stop.trouble out new

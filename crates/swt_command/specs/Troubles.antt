@@ -1,0 +1,32 @@
+-- What is said of trouble on standard error, and the status that it ends a command with.
+use Rattle.std.specs.Prelude.{ℕ, List, ◌++◌, codes}
+use Rattle.std.specs.Fmt.{decimal}
+use Rattle.swt_trace.specs.Report.{text_line}
+use Rattle.swt_command.specs.declared.status.Status.{Status}
+use Rattle.swt_command.specs.declared.status.Status.TheVariants as Ends
+use Rattle.swt_command.specs.declared.trouble.Trouble.{Trouble}
+use Rattle.swt_command.specs.declared.trouble.Trouble.TheVariants as Is
+use Rattle.swt_command.specs.Names.{refusal_text}
+
+-- the line, where the trouble is with a file of this name
+abbrev pub trouble_line : Trouble → List ℕ → List ℕ
+trouble_line Is.Unread file = text_line (codes "swt: cannot read " ++ file)
+trouble_line (Is.Refused r) file = text_line (codes "swt: refused " ++ refusal_text r)
+trouble_line (Is.BadLine n) file = text_line (codes "swt: T1 BadLine " ++ decimal n)
+trouble_line (Is.NotARun n) file = text_line (codes "swt: T2 NotARun " ++ decimal n)
+trouble_line Is.BadCount file = text_line (codes "swt: bad count")
+trouble_line Is.NotBuilt file = text_line (codes "swt: not built yet")
+trouble_line Is.Memory file = text_line (codes "swt: no memory")
+trouble_line Is.Unprinted file = text_line (codes "swt: cannot write")
+trouble_line Is.Untraced file = text_line (codes "swt: cannot write")
+
+abbrev pub trouble_status : Trouble → Status
+trouble_status Is.Unread = Ends.Failed
+trouble_status (Is.Refused r) = Ends.Refused
+trouble_status (Is.BadLine n) = Ends.Failed
+trouble_status (Is.NotARun n) = Ends.Failed
+trouble_status Is.BadCount = Ends.Usage
+trouble_status Is.NotBuilt = Ends.Usage
+trouble_status Is.Memory = Ends.Memory
+trouble_status Is.Unprinted = Ends.Failed
+trouble_status Is.Untraced = Ends.Failed

@@ -1,0 +1,84 @@
+//! Where a command stops, and the scripts that it reads.
+ghost use Rattle.std.specs.Prelude.{◌≡◌, ℕ, List, Some, None, MatchResult};
+ghost use Rattle.scalar_flow.specs.View.{core_of};
+ghost use Rattle.board.specs.Flat.{IsFlat};
+ghost use Rattle.swt_command.specs.Files.{HasCode, HasScript, StopsAt, StopsOn, contents, source_of};
+ghost use Rattle.compile.specs.Compiles.{IsRefused};
+
+use crate::refusal::Refusal;
+use crate::trouble::Trouble;
+use compile::compile::{compile, read};
+use compile::fault::CompileFault;
+use scalar_flow::statement::Flow;
+use std::alloc::Global;
+use task_code::code::Code;
+
+/// What ended a command, and at which of the files that its line names to be read.
+#[derive(Clone, Copy, PartialEq, Eq, Debug)]
+pub struct Stop {
+    /// The place of the file, counted from 0.
+    pub place: usize,
+    pub trouble: Trouble,
+}
+
+/// The bytes of the file of a place.
+///
+/// # Errors
+///
+/// `Unread` where it could not be read.
+pub fn source(files: &[Option<Vec<u8>>], place: usize) -> Result<&[u8], Stop>
+    ensures { MatchResult result (λ src. source_of (contents files.now) place ≡ Some src.now)
+        (λ stop. (stop.place ≡ place) × (stop.trouble ≡ Trouble.Unread) × (source_of (contents files.now) place ≡ None)) }
+{
+    match files.get(place) {
+        Some(Some(bytes)) => Ok(bytes.as_slice()),
+        _ => Err(Stop {
+            place,
+            trouble: Trouble::Unread,
+        }),
+    }
+}
+
+/// The code of the first file's script.
+///
+/// # Errors
+///
+/// `Unread`, `Refused` or `Memory`.
+pub fn code_of(alloc: Global, files: &[Option<Vec<u8>>]) -> Result<Code, Stop>
+    ensures { MatchResult result (λ code. HasCode (contents files.now) 0 code × IsFlat code)
+        (λ stop. (stop.place ≡ 0) × StopsAt (contents files.now) 0 stop.trouble) }
+{
+    let source = source(files, 0)?;
+    match compile(alloc, alloc, source) {
+        Ok(code) => Ok(code),
+        Err(fault) => Err(at_script(fault)),
+    }
+}
+
+/// The statements of the first file's script.
+///
+/// # Errors
+///
+/// `Unread`, `Refused` or `Memory`.
+pub fn flow_of(alloc: Global, files: &[Option<Vec<u8>>]) -> Result<Flow, Stop>
+    ensures { MatchResult result (λ flow. HasScript (contents files.now) 0 (core_of flow))
+        (λ stop. (stop.place ≡ 0) × StopsAt (contents files.now) 0 stop.trouble) }
+{
+    let source = source(files, 0)?;
+    match read(alloc, alloc, source) {
+        Ok(flow) => Ok(flow),
+        Err(fault) => Err(at_script(fault)),
+    }
+}
+
+/// A stop at the first file, for this reason.
+fn at_script(fault: CompileFault) -> Stop
+    ensures place { result.place ≡ 0 }
+    ensures trouble { (src : List ℕ) → IsRefused src fault → StopsOn src result.trouble }
+{
+    let trouble = match fault.span() {
+        Some(at) => Trouble::Refused(Refusal { fault, at }),
+        None => Trouble::Memory,
+    };
+    Stop { place: 0, trouble }
+}
