@@ -2,8 +2,16 @@
 #![tactic(auto)]
 
 #[cfg(test)]
+mod assign_check_tests;
+#[cfg(test)]
 mod lexer_tests;
 #[cfg(test)]
+mod rows;
+#[cfg(test)]
+mod syntax_tests;
+#[cfg(test)]
 mod syntax_trees_tests;
+#[cfg(test)]
+mod types_tests;
 #[cfg(test)]
 mod values_tests;

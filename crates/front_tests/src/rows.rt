@@ -1,0 +1,63 @@
+//! Tables of texts, a row a line: the answer that is wanted, ` | `, and the text.
+
+use lexer::token::Span;
+use std::alloc::{AllocError, Global};
+use std::fmt::Display;
+use std::process::Abort;
+use syntax::parser::parse;
+
+/// A fault's name, and the bytes where its place begins and ends.
+fn told(alloc: Global, fault: &impl Display, place: Option<Span>) -> Result<String, AllocError> {
+    match place {
+        Some(at) => format!(in alloc; "{fault} {} {}", at.from, at.to),
+        None => format!(in alloc; "{fault}"),
+    }
+}
+
+/// What the parser says of a text.
+fn reading(alloc: Global, text: &[u8]) -> Result<String, AllocError> {
+    match parse(alloc, text) {
+        Ok(_script) => String::from_str(alloc, "accepted"),
+        Err(fault) => told(alloc, &fault, fault.span()),
+    }
+}
+
+/// What the first of the parser and the checks that refuses a text says of it.
+fn judgement(alloc: Global, text: &[u8]) -> Result<String, AllocError> {
+    let script = match parse(alloc, text) {
+        Ok(script) => script,
+        Err(fault) => return told(alloc, &fault, fault.span()),
+    };
+    let typed = match types::check(alloc, &script) {
+        Ok(typed) => typed,
+        Err(fault) => return told(alloc, &fault, fault.span()),
+    };
+    match assign_check::check(alloc, &script, &typed) {
+        Ok(()) => String::from_str(alloc, "accepted"),
+        Err(fault) => told(alloc, &fault, fault.span()),
+    }
+}
+
+/// What a row wants, and its text.
+fn parts<'a>(rt: &impl Abort, row: &'a str) -> (&'a str, &'a [u8]) {
+    let (wanted, text) = row.split_once(" | ").expect(rt, "a row has two parts");
+    (wanted, text.as_bytes())
+}
+
+/// The parser answers each row as wanted.
+pub fn are_read(rt: &impl Abort, alloc: Global, rows: &str) {
+    for row in rows.lines() {
+        let (wanted, text) = parts(rt, row);
+        let answer = reading(alloc, text).expect(rt, "memory");
+        assert_eq!(rt; answer.as_str(), wanted, "{row}");
+    }
+}
+
+/// The parser and the checks answer each row as wanted.
+pub fn are_judged(rt: &impl Abort, alloc: Global, rows: &str) {
+    for row in rows.lines() {
+        let (wanted, text) = parts(rt, row);
+        let answer = judgement(alloc, text).expect(rt, "memory");
+        assert_eq!(rt; answer.as_str(), wanted, "{row}");
+    }
+}

@@ -1,0 +1,103 @@
+//! Scripts that are well typed, scripts that break each of the six rules, with the places, and what names are.
+
+use crate::rows::are_judged;
+use lexer::token::Span;
+use std::test::Fail;
+use syntax::parser::parse;
+use syntax_trees::tree::Shape;
+use types::check;
+use types::fault::TypeFault;
+use types::typed::{Builtin, Callee, Meaning, Owned, Reference, Settled, by_number};
+
+const REFUSED: &str = r#"Y1 Unknown 13 14 | printf("%i", y);
+Y1 Unknown 6 7 | wait (q) { }
+Y1 Unknown 14 15 | foreach i in [i:3] { }
+Y1 Unknown 33 34 | if (true) { int x = 1; } int y = x;
+Y1 Unknown 34 35 | int x = 1; (int r) f(int n) { r = x; }
+Y2 Declared 15 16 | int x = 1; int x = 2;
+Y2 Declared 11 12 | foreach v, v in [1:3] { }
+Y2 Declared 8 14 | (int r) strcat(int n) { }
+Y2 Declared 27 28 | int x = 1; if (true) { int x; }
+Y2 Declared 14 15 | () f() { } () f() { }
+Y3 Mismatch 17 18 | string s = "a" + 1;
+Y3 Mismatch 8 15 | int x = fromint(3);
+Y3 Mismatch 7 8 | int x; x[y] = 2;
+Y3 Mismatch 17 18 | int A[]; int x = [A];
+Y3 Mismatch 4 5 | if (1) { }
+Y4 WrongCount 0 6 | printf("%i");
+Y4 WrongCount 0 6 | strcat("a");
+Y4 WrongCount 8 14 | int x = printf(3);
+Y4 WrongCount 31 32 | (int r) f() { r = 1; } int x = f(2);
+Y5 BadFormat 7 11 | printf("%q");
+Y5 BadFormat 7 12 | printf(x + y);
+Y5 BadFormat 7 8 | printf(3);
+Y6 NotAFunction 0 3 | foo(1);
+Y6 NotAFunction 7 8 | int x; f();
+Y6 NotAFunction 8 9 | int x = g(1);"#;
+
+#[test]
+fn refused_scripts(rt: HostRuntime) {
+    are_judged(&rt, rt.alloc(), REFUSED);
+}
+
+const ACCEPTED: &str = r#"accepted | printf("hello");
+accepted | int x; int y; x = y + 1; y = 2; printf("%i", x);
+accepted | int A[] = [3, 1]; foreach v, k in A { printf("%i %i", k, v); } printf("%i", size(A));
+accepted | string s = strcat("a", fromint(toint("7"))); boolean b = s == "a7" || !(1 < 2); assert(b, s);
+accepted | foreach v, k in [10:20:5] { printf("%i %i", k, v); } int x = 1; wait (x) { @prio=5 printf("%%"); }
+accepted | (int a, int b) two(int n) { a = n + 1; b = a * 2; } int p; int q; (p, q) = two(3); printf("%i %i", p, q);
+accepted | (int r) f(int A[]) { r = A[0]; } int B[] = [7]; int f = f(B); if (f >= 0) { printf("%i", f); } else { }"#;
+
+#[test]
+fn accepted_scripts(rt: HostRuntime) {
+    are_judged(&rt, rt.alloc(), ACCEPTED);
+}
+
+fn own(what: Owned) -> Reference {
+    Reference { up: 0, what }
+}
+
+// In reading order: the function 1, r 2, f 3, A 4, the assignment 5, r 6, its right side 7, size 8, A 9 and its name 10,
+// B's statement 11 and B 12, x's statement 13 and x 14, the call 15, f 16, B 17 and its name 18, the branch 19, its test 20,
+// the statement 21, the call 22, printf 23, the format 24, x 25 and its name 26.
+#[test]
+fn what_names_are(rt: HostRuntime) -> Result<(), Fail> {
+    let text =
+        b"(int r) f(int A[]) { r = size(A); } int B[]; int x = f(B); if (true) { printf(\"%i\", x); }";
+    let script = parse(rt.alloc(), text.as_slice())?;
+    let typed = check(rt.alloc(), &script)?;
+    assert_eq!(rt; typed.name(6), own(Owned::Output(0)));
+    assert_eq!(rt; typed.name(10), own(Owned::Input(0)));
+    assert_eq!(rt; typed.name(18), own(Owned::Local(12)));
+    let outer = Reference {
+        up: 1,
+        what: Owned::Local(14),
+    };
+    assert_eq!(rt; typed.name(26), outer);
+    assert_eq!(rt; typed.shape(10), Shape::Array);
+    assert_eq!(rt; typed.shape(26), Shape::Scalar);
+    assert_eq!(rt; typed.callee(8), Callee::BuiltIn(Builtin::Size));
+    assert_eq!(rt; typed.callee(16), Callee::Function(0));
+    assert_eq!(rt; typed.callee(23), Callee::BuiltIn(Builtin::Printf));
+    Ok(())
+}
+
+#[test]
+fn what_was_settled_last_holds(rt: HostRuntime) -> Result<(), Fail> {
+    let meanings = [
+        (3, Meaning::Called(Callee::Function(1))),
+        (1, Meaning::Variable(own(Owned::Input(4)), Shape::Array)),
+        (3, Meaning::Called(Callee::Function(2))),
+    ];
+    let settled = meanings.map(|(number, meaning)| Settled { number, meaning });
+    let typed = by_number(rt.alloc(), &settled)?;
+    assert_eq!(rt; typed.callee(3), Callee::Function(2));
+    assert_eq!(rt; typed.name(1), own(Owned::Input(4)));
+    assert_eq!(rt; typed.name(2), own(Owned::Local(0)));
+    assert_eq!(rt; TypeFault::Memory.span(), None);
+    assert_eq!(rt;
+        TypeFault::Unknown(Span::at(3, 1)).span(),
+        Some(Span::at(3, 1))
+    );
+    Ok(())
+}
