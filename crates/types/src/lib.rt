@@ -13,8 +13,6 @@ mod scope;
 mod script;
 mod signatures;
 mod statements;
-#[cfg(test)]
-mod tests;
 pub mod typed;
 
 pub use script::check;
