@@ -79,8 +79,8 @@ fn repeated(
 }
 
 /// The text nests 64 deep and is read, or one deeper at this place and is refused for that.
-fn nests(rt: &impl Abort, alloc: Global, text: &[u8], deeper: bool, from: usize) {
-    let fault = ParseFault::TooNested(Span::at(from, 1));
+fn nests(rt: &impl Abort, alloc: Global, text: &[u8], deeper: bool, place: Span) {
+    let fault = ParseFault::TooNested(place);
     let wanted = if deeper { Some(fault) } else { None };
     assert_eq!(rt; parse(alloc, text).err(), wanted);
 }
@@ -92,11 +92,11 @@ fn nesting(rt: HostRuntime) -> Result<(), Fail> {
         let deeper = n == 65;
         let closed = repeated(alloc, b"1", b")", n, b";")?;
         let text = repeated(alloc, b"int x = ", b"(", n, closed.as_slice())?;
-        nests(&rt, alloc, text.as_slice(), deeper, 72);
+        nests(&rt, alloc, text.as_slice(), deeper, Span::at(72, 1));
         let text = repeated(alloc, b"boolean b = ", b"!", n, b"true;")?;
-        nests(&rt, alloc, text.as_slice(), deeper, 76);
+        nests(&rt, alloc, text.as_slice(), deeper, Span::at(76, 1));
         let text = repeated(alloc, b"if (true) { }", b" else if (true) { }", n - 1, b"")?;
-        nests(&rt, alloc, text.as_slice(), deeper, 1219);
+        nests(&rt, alloc, text.as_slice(), deeper, Span::at(1219, 1));
     }
     Ok(())
 }
