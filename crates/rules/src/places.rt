@@ -111,7 +111,8 @@ impl Places {
     /// So many lists, with all that wait noted in them.
     pub fn of(alloc: Global, size: usize, waiters: &Slab<Waiter>) -> Result<Places, AllocError>
         requires { 0 < size }
-        ensures { IfOk result (λ places. IsNoted places waiters.now.slots) }
+        ensures count { IfOk result (λ places. length places ≡ size) }
+        ensures noted { IfOk result (λ places. IsNoted places waiters.now.slots) }
     {
         let mut places = Places::sized(alloc, size)?;
         for slot in 0..waiters.capacity() {
