@@ -8,6 +8,10 @@ use values::sink::{Sink, SinkFault};
 
 const HELLO: &[u8] = b"printf(\"hello\");";
 
+const TWICE: &[u8] = b"int x = 1; x = 2;";
+
+const TRACE: &[u8] = b"swt-trace 1\nB 0 1\nE 0 1\n";
+
 /// A sink that takes one byte a write, and none once it has no room.
 #[derive(Drop)]
 struct Small {
@@ -293,88 +297,78 @@ fn replays_traces(rt: HostRuntime) -> Result<(), Fail> {
     Ok(())
 }
 
+/// Whether a command with these rooms for what is printed and for the trace did so.
+fn does(
+    alloc: Global,
+    words: &[&str],
+    sources: &[Option<&[u8]>],
+    rooms: (usize, usize),
+    wanted: &str,
+) -> Result<bool, Fail> {
+    let text = done_in(alloc, words, sources, rooms)?;
+    Ok(text.as_str() == wanted)
+}
+
+const WIDE: (usize, usize) = (1000, 1000);
+
 #[test]
-fn stops_at_files(rt: HostRuntime) -> Result<(), Fail> {
+fn stops_at_a_file(rt: HostRuntime) -> Result<(), Fail> {
     let alloc = rt.alloc();
-    let twice: &[u8] = b"int x = 1; x = 2;";
-    let rows: [(&[&str], &[Option<&[u8]>], &str); 8] = [
-        (&["run", "f"], &[None], "|swt: cannot read f\n||7"),
-        (&["mean", "f"], &[None], "|swt: cannot read f\n||7"),
-        (
-            &["replay", "f", "t"],
-            &[None, None],
-            "|swt: cannot read f\n||7",
-        ),
-        (
-            &["replay", "f", "t"],
-            &[Some(HELLO), None],
-            "|swt: cannot read t\n||7",
-        ),
-        (
-            &["replay", "f", "t"],
-            &[Some(twice), None],
-            "|swt: refused S1 AssignedTwice 11 12\n||1",
-        ),
-        (
-            &["check", "a", "b"],
-            &[Some(twice), Some(HELLO)],
-            "a: refused S1 AssignedTwice 11 12\nb: accepted\n|||1",
-        ),
-        (
-            &["check", "a", "b", "c"],
-            &[Some(twice), None, Some(HELLO)],
-            "a: refused S1 AssignedTwice 11 12\n|swt: cannot read b\n||7",
-        ),
-        (&["check", "a"], &[], "|swt: cannot read a\n||7"),
-    ];
-    for (words, sources, wanted) in rows {
-        assert_eq!(rt;
-            done_in(alloc, words, sources, (1000, 1000))?.as_str(),
-            wanted
-        );
-    }
+    let lacks = "|swt: cannot read f\n||7";
+    assert!(rt; does(alloc, &["run", "f"], &[None], WIDE, lacks)?);
+    assert!(rt; does(alloc, &["mean", "f"], &[None], WIDE, lacks)?);
+    let none = "|swt: cannot read a\n||7";
+    assert!(rt; does(alloc, &["check", "a"], &[], WIDE, none)?);
     Ok(())
 }
 
 #[test]
-fn stops_at_writes(rt: HostRuntime) -> Result<(), Fail> {
+fn stops_at_a_trace(rt: HostRuntime) -> Result<(), Fail> {
     let alloc = rt.alloc();
-    let trace: &[u8] = b"swt-trace 1\nB 0 1\nE 0 1\n";
-    let rows: [(&[&str], &[Option<&[u8]>], (usize, usize), &str); 5] = [
-        (
-            &["run", "f", "--trace", "t"],
-            &[Some(HELLO)],
-            (3, 1000),
-            "hel|swt: cannot write\n||7",
-        ),
-        (
-            &["run", "f", "--trace", "t"],
-            &[Some(HELLO)],
-            (6, 20),
-            "hello\n|swt: cannot write\n|swt-trace 1\nB 0 1\nE |7",
-        ),
-        (
-            &["mean", "f"],
-            &[Some(HELLO)],
-            (0, 0),
-            "|swt: cannot write\n||7",
-        ),
-        (
-            &["check", "a", "b"],
-            &[Some(HELLO), Some(HELLO)],
-            (14, 0),
-            "a: accepted\nb:|swt: cannot write\n||7",
-        ),
-        (
-            &["replay", "f", "t"],
-            &[Some(HELLO), Some(trace)],
-            (12, 0),
-            "swt: limit 2|swt: cannot write\n||7",
-        ),
-    ];
-    for (words, sources, rooms, wanted) in rows {
-        assert_eq!(rt; done_in(alloc, words, sources, rooms)?.as_str(), wanted);
-    }
+    let words = ["replay", "f", "t"];
+    let lacks = "|swt: cannot read f\n||7";
+    assert!(rt; does(alloc, &words, &[None, None], WIDE, lacks)?);
+    let lacks = "|swt: cannot read t\n||7";
+    assert!(rt; does(alloc, &words, &[Some(HELLO), None], WIDE, lacks)?);
+    let refused = "|swt: refused S1 AssignedTwice 11 12\n||1";
+    assert!(rt; does(alloc, &words, &[Some(TWICE), None], WIDE, refused)?);
+    Ok(())
+}
+
+#[test]
+fn checks_files_up_to_one_that_lacks(rt: HostRuntime) -> Result<(), Fail> {
+    let alloc = rt.alloc();
+    let all = "a: refused S1 AssignedTwice 11 12\nb: accepted\n|||1";
+    let sources = [Some(TWICE), Some(HELLO)];
+    assert!(rt; does(alloc, &["check", "a", "b"], &sources, WIDE, all)?);
+    let part = "a: refused S1 AssignedTwice 11 12\n|swt: cannot read b\n||7";
+    let sources = [Some(TWICE), None, Some(HELLO)];
+    assert!(rt; does(alloc, &["check", "a", "b", "c"], &sources, WIDE, part)?);
+    Ok(())
+}
+
+#[test]
+fn stops_at_a_write(rt: HostRuntime) -> Result<(), Fail> {
+    let alloc = rt.alloc();
+    let words = ["run", "f", "--trace", "t"];
+    let part = "hel|swt: cannot write\n||7";
+    assert!(rt; does(alloc, &words, &[Some(HELLO)], (3, 1000), part)?);
+    let part = "hello\n|swt: cannot write\n|swt-trace 1\nB 0 1\nE |7";
+    assert!(rt; does(alloc, &words, &[Some(HELLO)], (6, 20), part)?);
+    let part = "|swt: cannot write\n||7";
+    assert!(rt; does(alloc, &["mean", "f"], &[Some(HELLO)], (0, 0), part)?);
+    Ok(())
+}
+
+#[test]
+fn stops_at_a_write_among_others(rt: HostRuntime) -> Result<(), Fail> {
+    let alloc = rt.alloc();
+    let part = "a: accepted\nb:|swt: cannot write\n||7";
+    let sources = [Some(HELLO), Some(HELLO)];
+    assert!(rt; does(alloc, &["check", "a", "b"], &sources, (14, 0), part)?);
+    let part = "swt: limit 2|swt: cannot write\n||7";
+    let sources = [Some(HELLO), Some(TRACE)];
+    assert!(rt; does(alloc, &["replay", "f", "t"], &sources, (12, 0), part)?);
     Ok(())
 }
 
