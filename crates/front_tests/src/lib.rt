@@ -6,6 +6,8 @@ mod assign_check_tests;
 #[cfg(test)]
 mod lexer_tests;
 #[cfg(test)]
+mod lowering_tests;
+#[cfg(test)]
 mod rows;
 #[cfg(test)]
 mod syntax_tests;
