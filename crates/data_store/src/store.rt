@@ -170,10 +170,9 @@ impl Store {
         self.cells[d].writes == 0
     }
 
-    /// Gives out more holds on a datum, those for writing only while there is one: a closed array stays closed.
+    /// Gives out more holds on a datum.
     pub fn hold(&mut self, d: DatumNo, reads: u64, writes: u64)
         requires live { IsLive self.old d }
-        requires open { 0 < writes → 0 < (datum self.old d).writes }
         requires reads { (datum self.old d).reads + reads < 2 ^ 64 }
         requires writes { (datum self.old d).writes + writes < 2 ^ 64 }
         ensures { self.new ≡ changed d (with_holds reads writes) self.old }
