@@ -159,7 +159,7 @@ pub(crate) fn numbers(alloc: Global, items: &Vec<Item>) -> Result<Vec<u64>, Allo
 
 /// The offset of the entry's statement.
 #[tactic(auto, using(crate::proofs::Past::at_past))]
-pub(crate) fn offset_of(code: &Code, number: u32) -> u32
+pub(crate) fn offset_of(code: &Code, number: u32) -> usize
     ensures { result ≡ (entry code.now number).at }
 {
     match code.entry(number) {
@@ -169,7 +169,7 @@ pub(crate) fn offset_of(code: &Code, number: u32) -> u32
 }
 
 /// Where the offset's place is, unless it is there.
-fn offset_place(found: &Vec<u32>, at: u32) -> Option<usize>
+fn offset_place(found: &Vec<usize>, at: usize) -> Option<usize>
     ensures there { IfNone result (with_offset at found.now.items ≡ found.now.items) }
     ensures place { IfSome result (λ p. with_offset at found.now.items ≡ take p found.now.items ++ at ∷ drop p found.now.items) }
     ensures within { IfSome result (λ p. p ≤ vec_len found.now) }
@@ -186,7 +186,7 @@ fn offset_place(found: &Vec<u32>, at: u32) -> Option<usize>
 }
 
 /// Adds the offset of the task's statement.
-fn add_offset(code: &Code, found: &mut Vec<u32>, task: Task) -> Result<(), AllocError>
+fn add_offset(code: &Code, found: &mut Vec<usize>, task: Task) -> Result<(), AllocError>
     ensures { OnOk result (found.new.items ≡ with_task code.now task found.old.items) }
 {
     if let Task::Entry(number) = task {
@@ -199,7 +199,7 @@ fn add_offset(code: &Code, found: &mut Vec<u32>, task: Task) -> Result<(), Alloc
 }
 
 /// The offsets of the items' statements, rising, each once.
-pub(crate) fn offsets(alloc: Global, code: &Code, items: &Vec<Item>) -> Result<Vec<u32>, AllocError>
+pub(crate) fn offsets(alloc: Global, code: &Code, items: &Vec<Item>) -> Result<Vec<usize>, AllocError>
     ensures { IfOk result (λ found. found.items ≡ with_offsets code.now items.now.items []) }
 {
     let mut found = Vec::new(alloc);
@@ -210,7 +210,7 @@ pub(crate) fn offsets(alloc: Global, code: &Code, items: &Vec<Item>) -> Result<V
 }
 
 /// The statements of the script's block at these offsets.
-pub(crate) fn statements(alloc: Global, offsets: &Vec<u32>) -> Result<Vec<Statement>, AllocError>
+pub(crate) fn statements(alloc: Global, offsets: &Vec<usize>) -> Result<Vec<Statement>, AllocError>
     ensures { IfOk result (λ statements. map statement_view statements.items ≡ map in_script offsets.now.items) }
 {
     let mut statements = Vec::new(alloc);

@@ -6,14 +6,14 @@ use values::key::Key;
 /// A step to a block: the offset that opens it, and the branch, the turn's key, or 0 for a call.
 #[derive(Debug, Drop)]
 pub struct Step {
-    pub offset: u32,
+    pub offset: usize,
     pub key: Key,
 }
 
 /// A statement of a block's instance: its offset, and the path of the instance.
 #[derive(Debug, Drop)]
 pub struct Statement {
-    pub at: u32,
+    pub at: usize,
     pub path: Vec<Step>,
 }
 

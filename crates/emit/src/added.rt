@@ -103,8 +103,8 @@ fn entry(
 {
     Ok(Entry {
         node: place.node,
-        at: place.at,
-        mark: place.at,
+        at: place.at as usize,
+        mark: place.at as usize,
         priority: place.priority,
         needs: needs_of(alloc, names)?,
         act,

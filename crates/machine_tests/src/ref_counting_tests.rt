@@ -45,7 +45,7 @@ fn array(node: u32) -> Name {
 }
 
 /// A parameter of the function.
-fn parameter(place: u32, array: bool) -> Name {
+fn parameter(place: usize, array: bool) -> Name {
     Name {
         up: 0,
         owned: Owned::Parameter(place, array),

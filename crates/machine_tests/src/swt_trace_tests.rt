@@ -188,7 +188,7 @@ fn is_shown(rt: &impl Abort, alloc: Global, report: &Report, text: &[u8]) {
     }
 }
 
-fn statement(rt: &impl Abort, alloc: Global, at: u32, steps: &[(u32, i64)]) -> Statement {
+fn statement(rt: &impl Abort, alloc: Global, at: usize, steps: &[(usize, i64)]) -> Statement {
     let mut path = Vec::new(alloc);
     for (offset, key) in steps {
         let step = Step {

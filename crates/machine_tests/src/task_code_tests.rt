@@ -18,7 +18,7 @@ fn own(node: u32) -> Name {
     }
 }
 
-fn parameter(up: u32, index: u32) -> Name {
+fn parameter(up: usize, index: usize) -> Name {
     Name {
         up,
         owned: Owned::Parameter(index, false),

@@ -71,7 +71,7 @@ fn made(code: &Code, place: usize) -> Option<Name> {
 }
 
 /// Whether the entry of this number stands at this offset, and waits for the scalars of these places alone.
-fn waits_for(code: &Code, number: u32, at: u32, places: &[usize]) -> bool {
+fn waits_for(code: &Code, number: u32, at: usize, places: &[usize]) -> bool {
     let Some(entry) = code.entry(number) else {
         return false;
     };

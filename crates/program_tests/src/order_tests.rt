@@ -30,10 +30,10 @@ fn is_meant(alloc: Global, report: &Report, known: &Knowledge) -> Result<bool, F
                 && blocked
                     .iter()
                     .zip(report.blocked.iter())
-                    .all(|(a, b)| a.at == b.at);
+                    .all(|(a, b)| a.at as usize == b.at);
             Ok(same_lines && same_blocked && known.faults()?.is_empty())
         }
-        End::Fault(fault) => Ok(known.faults()?.iter().any(|f| f.at == fault.statement.at)),
+        End::Fault(fault) => Ok(known.faults()?.iter().any(|f| f.at as usize == fault.statement.at)),
         End::Limit => Ok(false),
     }
 }

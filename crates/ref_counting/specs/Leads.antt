@@ -5,7 +5,7 @@ use Rattle.task_code.specs.Code.{Local, Name, Parameter}
 use Rattle.ref_counting.specs.declared.lead.Lead.{Lead}
 
 abbrev pub name_of : Lead → Name
-name_of l = record { up = l.up; owned = if l.local then Local (record { node = l.number; array = l.array }) else Parameter l.number l.array }
+name_of l = record { up = l.up; owned = if l.local then Local (record { node = l.node; array = l.array }) else Parameter l.place l.array }
 
 -- one of these leads is of the entry to the name
 pub record Has (ls : List Lead) (i : ℕ) (r : Name) : Type 0 where

@@ -11,11 +11,13 @@ use task_code::entry::{Name, Owned, Variable};
 #[derive(Clone, Copy, PartialEq, Eq, Hash, Debug)]
 pub struct Lead {
     pub entry: u32,
-    pub up: u32,
+    pub up: usize,
     /// Whether it names a variable of a block, and not a parameter.
     pub local: bool,
-    /// The variable's node, or the parameter's place.
-    pub number: u32,
+    /// The variable's node, and 0 for a parameter.
+    pub node: u32,
+    /// The parameter's place, and 0 for a variable.
+    pub place: usize,
     pub array: bool,
 }
 
@@ -25,16 +27,23 @@ impl Lead {
         ensures entry { result.entry ≡ entry }
         ensures name { name_of result ≡ name_view name }
     {
-        let (local, number, array) = match name.owned {
-            Owned::Local(variable) => (true, variable.node, variable.array),
-            Owned::Parameter(place, array) => (false, place, array),
-        };
-        Lead {
-            entry,
-            up: name.up,
-            local,
-            number,
-            array,
+        match name.owned {
+            Owned::Local(variable) => Lead {
+                entry,
+                up: name.up,
+                local: true,
+                node: variable.node,
+                place: 0,
+                array: variable.array,
+            },
+            Owned::Parameter(place, array) => Lead {
+                entry,
+                up: name.up,
+                local: false,
+                node: 0,
+                place,
+                array,
+            },
         }
     }
 
@@ -44,11 +53,11 @@ impl Lead {
     {
         let owned = if self.local {
             Owned::Local(Variable {
-                node: self.number,
+                node: self.node,
                 array: self.array,
             })
         } else {
-            Owned::Parameter(self.number, self.array)
+            Owned::Parameter(self.place, self.array)
         };
         Name { up: self.up, owned }
     }

@@ -61,7 +61,7 @@ fn argument_at(
 }
 
 /// The name that a parameter stands for at a call, if it has one there.
-fn argument(act: &Act, place: u32, array: bool) -> Option<Name>
+fn argument(act: &Act, place: usize, array: bool) -> Option<Name>
     ensures { Answers result (λ r. argument_in (arguments (act_view act.now)) place array ≡ Some (Named r)) }
 {
     match act {
@@ -69,7 +69,7 @@ fn argument(act: &Act, place: u32, array: bool) -> Option<Name>
             inputs,
             outputs,
             ..
-        } => argument_at(inputs, outputs, place as usize, array),
+        } => argument_at(inputs, outputs, place, array),
         _ => None,
     }
 }

@@ -19,11 +19,11 @@ use values::key::Key;
 use values::sink::{Sink, SinkFault, write_all};
 use values::text::Text;
 
-/// The most bytes of a step: `/`, ten digits of an offset, `.`, and twenty bytes of a key.
-const LONGEST_STEP: usize = 32;
+/// The most bytes of a step: `/`, twenty digits of an offset, `.`, and twenty bytes of a key.
+const LONGEST_STEP: usize = 42;
 
-/// The most bytes of what stands before a path: the longest is `swt: fault F4 ElementTwice `, ten digits and a space.
-const LONGEST_START: usize = 38;
+/// The most bytes of what stands before a path: the longest is `swt: fault F4 ElementTwice `, twenty digits and a space.
+const LONGEST_START: usize = 48;
 
 /// The most bytes of the line of a limit: `swt: limit `, twenty digits and the byte 10.
 const LONGEST_LIMIT: usize = 32;
@@ -193,7 +193,7 @@ fn write_statement<W: Sink>(
 }
 
 /// What a line begins with, an offset and a space.
-fn before_path(start: &str, at: u32) -> ArrayString<LONGEST_START>
+fn before_path(start: &str, at: usize) -> ArrayString<LONGEST_START>
     requires { length start.now ≤ 27 }
     ensures { result.bytes ≡ start.now ++ (decimal at ++ 32 ∷ []) }
 {

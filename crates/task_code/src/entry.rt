@@ -20,13 +20,13 @@ pub enum Owned {
     Local(Variable),
     /// An input or output of the function, by its place among the inputs and the outputs behind them, and whether it is an
     /// array.
-    Parameter(u32, bool),
+    Parameter(usize, bool),
 }
 
 /// A name, seen from a block: its owner lies `up` steps of the path further out.
 #[derive(Clone, Copy, PartialEq, Eq, Debug, Drop)]
 pub struct Name {
-    pub up: u32,
+    pub up: usize,
     pub owned: Owned,
 }
 
@@ -62,7 +62,7 @@ pub struct Loop {
 /// One `wait` of those that were merged into one: its statement's offset, and what it waits for.
 #[derive(Debug, Drop)]
 pub struct Header {
-    pub at: u32,
+    pub at: usize,
     pub needs: Vec<Need>,
 }
 
@@ -112,9 +112,9 @@ pub struct Entry {
     /// The variable of this node gets the value of a cell or of an element read.
     pub node: u32,
     /// The offset of its statement, where its faults are reported.
-    pub at: u32,
+    pub at: usize,
     /// The offset that a listing shows, and that the paths of the blocks that it opens have.
-    pub mark: u32,
+    pub mark: usize,
     pub priority: i32,
     pub needs: Vec<Need>,
     pub act: Act,
