@@ -7,3 +7,6 @@ pub mod Worked
 pub mod CodeNames
 pub mod IsCodeOf
 pub mod NodesOnce
+pub mod Laying
+pub mod Laid
+pub mod Emitted

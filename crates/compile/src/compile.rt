@@ -4,7 +4,7 @@ ghost use Rattle.scalar_flow.specs.View.{core_of};
 ghost use Rattle.compile.specs.Compiles.{IsScriptOf, Compiles, IsRefused};
 
 use crate::fault::CompileFault;
-use emit::emit;
+use scalar_emit::emit;
 use scalar_flow::statement::Flow;
 use scalar_lowering::lower;
 use std::alloc::{Allocator, Global};

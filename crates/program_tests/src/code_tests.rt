@@ -1,6 +1,6 @@
 //! Scripts that are accepted, with their code, and the first refusal of those that are not.
 use compile::compile::{compile, read};
-use emit::emit;
+use scalar_emit::emit;
 use std::alloc::Global;
 use std::test::Fail;
 use task_code::code::{Code, Opener};

@@ -15,20 +15,22 @@ use Rattle.ref_counting.specs.Leads.{Grows, Has, IsThis, name_of}
 
 -- leads are the same where all their fields are
 abbrev pub same_fields : Lead → Lead → Bool
-same_fields a b = eqb a.entry b.entry && (eqb a.up b.up && (beq a.local b.local && (eqb a.number b.number && beq a.array b.array)))
+same_fields a b = eqb a.entry b.entry && (eqb a.up b.up && (beq a.local b.local && (eqb a.node b.node && (eqb a.place b.place && beq a.array b.array))))
 
 pub same_lead : (a b : Lead) → same_fields a b ≡ true → a ≡ b
 same_lead a b h =
     let x = true_and (eqb a.entry b.entry) _ h in
     let y = true_and (eqb a.up b.up) _ x.1 in
     let z = true_and (beq a.local b.local) _ y.1 in
-    let w = true_and (eqb a.number b.number) _ z.1 in
+    let w = true_and (eqb a.node b.node) _ z.1 in
+    let q = true_and (eqb a.place b.place) _ w.1 in
     let e : a.entry ≡ b.entry = eqb-true a.entry b.entry x.0 in
     let u : a.up ≡ b.up = eqb-true a.up b.up y.0 in
     let l : a.local ≡ b.local = same_flag a.local b.local z.0 in
-    let n : a.number ≡ b.number = eqb-true a.number b.number w.0 in
-    let r : a.array ≡ b.array = same_flag a.array b.array w.1 in
-    λ i. record { entry = e i; up = u i; local = l i; number = n i; array = r i }
+    let n : a.node ≡ b.node = eqb-true a.node b.node w.0 in
+    let p : a.place ≡ b.place = eqb-true a.place b.place q.0 in
+    let r : a.array ≡ b.array = same_flag a.array b.array q.1 in
+    λ i. record { entry = e i; up = u i; local = l i; node = n i; place = p i; array = r i }
 
 -- GROWTH
 

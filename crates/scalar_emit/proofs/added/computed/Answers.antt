@@ -2,8 +2,8 @@ use Rattle.std.proofs.Common.{◌++◌, ◌∙◌, sym, ap, subst}
 use Rattle.dataflow.specs.System.{Distinct}
 use Rattle.scalar_flow.specs.View.{expr_view}
 use Rattle.agreement.specs.Compile.{named, each_once}
-use Rattle.emit.proofs.Once.{once_distinct}
-use Rattle.emit.proofs.added.computed.Goals as goal
+use Rattle.scalar_emit.proofs.Once.{once_distinct}
+use Rattle.scalar_emit.proofs.added.computed.Goals as goal
 
 pub placed-requires : goal.placed-requires
 placed-requires c =

@@ -2,8 +2,8 @@ use Rattle.std.proofs.Common.{◌≡◌, [], map}
 use Rattle.std.specs.Vec.Iter.{into_iter_items}
 use Rattle.scalar_flow.specs.View.{statement_view}
 use Rattle.task_code.specs.View.{variable_view}
-use Rattle.emit.proofs.Owed.{Owed}
-use Rattle.emit.proofs.emit.Given as goal
+use Rattle.scalar_emit.proofs.Owed.{Owed}
+use Rattle.scalar_emit.proofs.emit.Given as goal
 
 abbrev pub invariant-loop-statement : goal.invariant-loop-statement
 invariant-loop-statement l = record {

@@ -4,7 +4,7 @@ ghost use Rattle.scalar_flow.specs.View.{expr_view, statement_view};
 ghost use Rattle.task_code.specs.View as code_view;
 ghost use Rattle.task_code.specs.Code.{Stored};
 ghost use Rattle.agreement.specs.Compile.{named, each_once, over, variable};
-ghost use Rattle.emit.specs.Added.{IsAdded};
+ghost use Rattle.scalar_emit.specs.Added.{IsAdded};
 
 use crate::names::note_names;
 use crate::over::placed;

@@ -1,6 +1,6 @@
 use Rattle.std.proofs.Common.{◌≢◌, ◌+◌, ◌<◌, ◌^◌, ap, subst, arith, length, get_or}
-use Rattle.emit.proofs.Bound.{others_more, small_more, place_more, place_past}
-use Rattle.emit.proofs.names.place_of.Goals as goal
+use Rattle.scalar_emit.proofs.Bound.{others_more, small_more, place_more, place_past}
+use Rattle.scalar_emit.proofs.names.place_of.Goals as goal
 
 pub overflow_add-place : goal.overflow_add-place
 overflow_add-place c =

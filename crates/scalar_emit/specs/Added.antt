@@ -4,8 +4,8 @@ use Rattle.syntax_trees.specs.Core.{Stmt}
 use Rattle.task_code.specs.Code.{scalar}
 use Rattle.task_code.specs.View.{entry_view, variable_view}
 use Rattle.agreement.specs.Compile.{acts, declared, entry_of}
-use Rattle.emit.specs.declared.added.Added.{Added}
-use Rattle.emit.specs.declared.added.Added.TheVariants.{Scalar, Work}
+use Rattle.scalar_emit.specs.declared.added.Added.{Added}
+use Rattle.scalar_emit.specs.declared.added.Added.TheVariants.{Scalar, Work}
 
 -- a declaration adds its scalar, any other statement its entry, whose node is one of 32 bits
 abbrev pub IsAdded : Added → Stmt → Type 0

@@ -1,6 +1,6 @@
 use Rattle.std.proofs.Common.{◌∙◌, sym}
-use Rattle.emit.proofs.Placed.{viewed_over, none_left}
-use Rattle.emit.proofs.over.+placed.Goals as goal
+use Rattle.scalar_emit.proofs.Placed.{viewed_over, none_left}
+use Rattle.scalar_emit.proofs.over.+placed.Goals as goal
 
 pub all_placed-returns : goal.all_placed-returns
 all_placed-returns t c =

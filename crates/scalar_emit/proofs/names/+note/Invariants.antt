@@ -1,7 +1,7 @@
 use Rattle.std.proofs.Common.{◌≡◌, ◌++◌, take}
 use Rattle.scalar_flow.specs.View.{exprs_view}
 use Rattle.agreement.specs.Compile.{each_once, named_all}
-use Rattle.emit.proofs.names.+note.Given as goal
+use Rattle.scalar_emit.proofs.names.+note.Given as goal
 
 abbrev pub invariant-note_all-loop-expr : goal.invariant-note_all-loop-expr
 invariant-note_all-loop-expr l =

@@ -2,8 +2,8 @@ use Rattle.std.proofs.Common.{◌≡◌, ◌++◌, sym, ap, ◌∙◌, arith, ta
 use Rattle.std.proofs.lemmas.Grind.{common_steps}
 use Rattle.scalar_flow.specs.View.{exprs_view}
 use Rattle.agreement.specs.Compile.{each_once, named_all}
-use Rattle.emit.proofs.Once.{once_twice, noted_more}
-use Rattle.emit.proofs.names.+note.Goals as goal
+use Rattle.scalar_emit.proofs.Once.{once_twice, noted_more}
+use Rattle.scalar_emit.proofs.names.+note.Goals as goal
 
 pub note_all-loop-expr-preserved : goal.note_all-loop-expr-preserved
 note_all-loop-expr-preserved t c =

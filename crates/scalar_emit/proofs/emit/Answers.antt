@@ -6,13 +6,13 @@ use Rattle.scalar_flow.specs.View.{statement_view, core_of}
 use Rattle.task_code.specs.View.{entry_view, variable_view}
 use Rattle.agreement.specs.Compile.{acts}
 use Rattle.agreement.proofs.Members.{block_list_of}
-use Rattle.emit.specs.Added.{IsAdded}
-use Rattle.emit.specs.declared.added.Added.{Added}
-use Rattle.emit.proofs.Owed.{Owed, room, entry_more, whole}
-use Rattle.emit.proofs.Placed.{none_left}
+use Rattle.scalar_emit.specs.Added.{IsAdded}
+use Rattle.scalar_emit.specs.declared.added.Added.{Added}
+use Rattle.scalar_emit.proofs.Owed.{Owed, room, entry_more, whole}
+use Rattle.scalar_emit.proofs.Placed.{none_left}
 use Rattle.scalar_flow.specs.declared.statement.Statement.{Statement}
 use Rattle.task_code.specs.Code.{Entry, Body, ByMain}
-use Rattle.emit.proofs.emit.Goals as goal
+use Rattle.scalar_emit.proofs.emit.Goals as goal
 
 pub overflow_cast-number : goal.overflow_cast-number
 overflow_cast-number c =

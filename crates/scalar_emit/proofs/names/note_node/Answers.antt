@@ -1,8 +1,8 @@
 use Rattle.std.proofs.Common.{◌++◌, ◌∷◌, [], sym, ap, ◌∙◌}
 use Rattle.std.specs.Prelude.{nat_eq}
 use Rattle.std.specs.List.{list_any}
-use Rattle.emit.proofs.Once.{once_there, once_new}
-use Rattle.emit.proofs.names.note_node.Goals as goal
+use Rattle.scalar_emit.proofs.Once.{once_there, once_new}
+use Rattle.scalar_emit.proofs.names.note_node.Goals as goal
 
 pub returns-in_ok-push : goal.returns-in_ok-push
 returns-in_ok-push c =

@@ -1,8 +1,8 @@
 use Rattle.std.proofs.Common.{◌≡◌, ◌+◌, ◌^◌, take, drop}
 use Rattle.dataflow.specs.System.{In}
 use Rattle.agreement.specs.Compile.{place_in}
-use Rattle.emit.proofs.Bound.{AreBelow}
-use Rattle.emit.proofs.names.place_of.Given as goal
+use Rattle.scalar_emit.proofs.Bound.{AreBelow}
+use Rattle.scalar_emit.proofs.names.place_of.Given as goal
 
 abbrev pub invariant-loop-name : goal.invariant-loop-name
 invariant-loop-name l = record {

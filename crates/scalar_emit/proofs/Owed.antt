@@ -8,7 +8,7 @@ use Rattle.syntax_trees.specs.Core.{Stmt, stmt, Core}
 use Rattle.syntax_trees.specs.Parts.{stmt_node, stmt_action, block_list}
 use Rattle.task_code.specs.Code.{Variable, Entry, Code, ByMain, scalar}
 use Rattle.agreement.specs.Compile.{is_act, acts, declared_by, declared, entry_of, numbers_from, compiled}
-use Rattle.emit.proofs.Bound.{AreBelow, at_most, below_one, front_distinct}
+use Rattle.scalar_emit.proofs.Bound.{AreBelow, at_most, below_one, front_distinct}
 
 -- the entries, scalars and numbers that there are, with those of the rest, are all
 pub record Owed (all rest : List Stmt) (entries : List Entry) (makes : List Variable) (numbers : List ℕ) : Type 0 where
