@@ -4,12 +4,13 @@ use Rattle.std.specs.Prelude.{◌≡◌, ◌⊎◌, ℕ, suc, ◌<◌, Bool, tru
 use Rattle.dataflow.specs.System.{Distinct, In}
 use Rattle.syntax_trees.specs.Core.{Name, Call, Part, Outer, Awaited, Stmt, stmt, Action, declare, call_alone, when, choose, range, each, wait, Block, Function, Core}
 use Rattle.syntax_trees.specs.Members.{◌∈◌}
-use Rattle.syntax_trees.specs.Parts.{parts, block_list, script_blocks}
+use Rattle.syntax_trees.specs.Parts.{parts, block_list, script_blocks, script_stmts, stmt_action}
 use Rattle.meaning_laws.specs.TypedValues.{own_parts}
-use Rattle.task_code.specs.Code.{Variable, Header, If, Range, Each, Wait, Entry, Opener, Code, ByMain, ByCalls, ByStep, ByWait, entry, body, loop_variables}
+use Rattle.task_code.specs.Code as code
+use Rattle.task_code.specs.Code.{Variable, Argument, Header, If, Range, Each, Wait, Entry, Opener, Code, ByMain, ByCalls, ByStep, ByWait, entry, body, loop_variables}
 use Rattle.agreement.specs.CodeNames.{over, each_once}
 use Rattle.agreement.specs.IsCodeOf.{Layout, OwnPlain, IsSimple, own_needs, own_priority, simple_act, step_expr, seen, IsEntry, PartsAs}
-use Rattle.agreement.specs.Laying.{Headers, Kinds, CallsFit, Suits, data_in, data_of}
+use Rattle.agreement.specs.Laying.{Headers, Kinds, IsCallOf, Suits, data_in, data_of}
 
 -- for each body, by its number: the block that it stands for, how many inputs the function has whose block it is or is in, and the variables of the loop that opens it
 pub record Table : Type 0 where
@@ -83,7 +84,9 @@ pub record IsLaid (s : Core) (fs : List Kinds) (ds : List (ℕ × Bool)) (C : Co
   pub stands : (j : ℕ) → j < length C.entries → (t : ℕ) × In j (body C t).entries
   pub once : (t u j : ℕ) → In j (body C t).entries → In j (body C u).entries → t ≡ u
   pub distinct : (t : ℕ) → Distinct (body C t).entries
-  pub fit : CallsFit fs C.entries
+  -- each call hands over arrays for arrays and scalars for scalars
+  pub fit : (j f : ℕ) (ins : List Argument) (outs : List code.Name) → (entry C j).act ≡ code.Call (suc f) ins outs
+      → (st : Stmt) × st ∈ script_stmts s × IsCallOf fs (own_parts (stmt_action st)) (entry C j) f ins outs
   -- a variable that is declared is an array where it is declared as one
   pub arrays : (t : ℕ) (v : Variable) → In v (body C t).makes → v.array ≡ true → (v.node, true) ∈ ds
   pub scalars : (t : ℕ) (v : Variable) (at n : ℕ) → In v (body C t).makes → v.array ≡ false → t < length C.bodies → stmt at n (declare v.node) ∈ block_list (table.block_of t) → (v.node, false) ∈ ds

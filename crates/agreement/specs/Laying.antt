@@ -3,8 +3,9 @@
 use Rattle.std.specs.Prelude.{◌≡◌, ℕ, zero, suc, ◌+◌, Bool, true, false, not, List, [], ◌∷◌, ◌++◌, length, Option, Some, None, slice_get, nat_eq, ℤ, pos, if◌then◌else◌}
 use Rattle.std.specs.List.{list_any, flat_map}
 use Rattle.dataflow.specs.System.{In}
-use Rattle.syntax_trees.specs.Core.{Owned, local, input, output, Name, here, Expr, literal, name, whole, operator, Form, compute, read, Call, Part, inner, calls, Outer, Awaited, Stmt, stmt, Action, declare, call_alone, when, choose, range, each, wait, Block, no_stmts, stmts, Function, Core}
-use Rattle.syntax_trees.specs.Parts.{parts}
+use Rattle.syntax_trees.specs.Core.{Owned, local, input, output, Name, here, Expr, literal, name, whole, operator, Form, compute, read, Cell, Call, Part, inner, calls, Outer, Awaited, Stmt, stmt, Action, declare, call_alone, when, choose, range, each, wait, Block, no_stmts, stmts, Function, Core}
+use Rattle.syntax_trees.specs.Members.{◌∈◌}
+use Rattle.syntax_trees.specs.Parts.{parts, part_calls, part_cells}
 use Rattle.meaning_laws.specs.TypedValues.{own_parts}
 use Rattle.task_code.specs.Code as code
 use Rattle.task_code.specs.Code.{Variable, Named, Fixed, Argument, Header, Act, If, Range, Each, Wait, Entry, Body, Code, ByMain, ByCalls, ByStep, ByWait, is_array_name, loop_variables, scalar}
@@ -83,15 +84,27 @@ abbrev pub is_array_argument : Argument → Bool
 is_array_argument (Named r) = is_array_name r
 is_array_argument (Fixed v) = false
 
-pub record CallFits (fs : List Kinds) (f : ℕ) (ins : List Argument) (outs : List code.Name) : Type 0 where
-  pub kinds : Kinds
-  pub there : slice_get fs f ≡ Some kinds
-  pub inputs : (i : ℕ) (a : Argument) (b : Bool) → slice_get ins i ≡ Some a → slice_get kinds.0 i ≡ Some b → is_array_argument a ≡ b
-  pub outputs : (i : ℕ) (r : code.Name) (b : Bool) → slice_get outs i ≡ Some r → slice_get kinds.1 i ≡ Some b → is_array_name r ≡ b
+-- for an input that is a scalar, a cell that stands among the parts
+pub record StandsAmong (all : List Part) (x : Name) : Type 0 where
+  pub cell : Cell
+  pub there : cell ∈ part_cells all
+  pub is : x ≡ here cell.node
 
--- each call among the entries does so, if its function is there
-abbrev pub CallsFit : List Kinds → List Entry → Type 0
-CallsFit fs es = (e : Entry) (f : ℕ) (ins : List Argument) (outs : List code.Name) (kinds : Kinds) → In e es → e.act ≡ code.Call (suc f) ins outs → slice_get fs f ≡ Some kinds → CallFits fs f ins outs
+pub record CallFits (fs : List Kinds) (all : List Part) (c : Call) (ins : List Argument) (outs : List code.Name) : Type 0 where
+  pub inputs : (kinds : Kinds) (i : ℕ) (x : Name) (a : Argument) (b : Bool) → slice_get fs c.function ≡ Some kinds → slice_get c.inputs i ≡ Some x → slice_get ins i ≡ Some a
+      → slice_get kinds.0 i ≡ Some b → (b ≡ false → StandsAmong all x) → is_array_argument a ≡ b
+  pub outputs : (kinds : Kinds) (i : ℕ) (r : code.Name) (b : Bool) → slice_get fs c.function ≡ Some kinds → slice_get outs i ≡ Some r → slice_get kinds.1 i ≡ Some b → is_array_name r ≡ b
+
+-- an entry that calls a function is of a call among the parts, and does so
+pub record IsCallOf (fs : List Kinds) (all : List Part) (e : Entry) (f : ℕ) (ins : List Argument) (outs : List code.Name) : Type 0 where
+  pub call : Call
+  pub there : call ∈ part_calls all
+  pub function : call.function ≡ f
+  pub mark : e.mark ≡ call.at
+  pub fits : CallFits fs all call ins outs
+
+abbrev pub CallsFit : List Kinds → List Part → List Entry → Type 0
+CallsFit fs all es = (e : Entry) (f : ℕ) (ins : List Argument) (outs : List code.Name) → In e es → e.act ≡ code.Call (suc f) ins outs → IsCallOf fs all e f ins outs
 
 -- LAYING
 
@@ -121,7 +134,7 @@ pub record LaysParts (fs : List Kinds) (k : ℕ) (all : List Part) (at : ℕ) (p
   pub entries : t.entries ≡ s.entries ++ more
   pub bodies : t.bodies ≡ s.bodies
   pub numbers : es ≡ counted (length s.entries) (length more)
-  pub fit : CallsFit fs more
+  pub fit : CallsFit fs all more
   pub parts_as : (l : Layout) → PlainAs l None all → ((i : ℕ) → l.body_of i ≡ suc i) → PartsAs (code_of t) l k all at p all es
 
 -- the number of the next body
