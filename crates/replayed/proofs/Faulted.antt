@@ -130,5 +130,5 @@ module _ (C : Code) (I : IsCode C) (L : Layout) (es : List Event) (F : Fields) (
         subst (λ (is : List CodeItem). In only.item is) (sym only.there) (seam_here only.item only.before only.after),
         only.number_is,
         told,
-        subst (λ (rows : List Row). Stands C L (es ++ End w n ∷ []) (record { frames = F.frames; rows = rows; cells = F.cells; lists = F.lists; missing = F.missing; turns = F.turns; queue = F.queue; lines = F.lines; fault = Some (only.item.task, only.fault); running = F.running; newly = [] })) rows_same r,
+        subst (λ (rows : List Row). Stands C L (es ++ End w n ∷ []) (record { frames = F.frames; rows = rows; cells = F.cells; waiting = F.waiting; turns = F.turns; queue = F.queue; lines = F.lines; fault = Some (only.item.task, only.fault); running = F.running; newly = [] })) rows_same r,
       )

@@ -64,13 +64,17 @@ pub data Want (D : Type 0) : Type 0 where
   Whole : D → Want D
   AnElement : D → Key → Want D
 
+-- an item that waits, and what it misses, in the order of its inputs
+pub record Waiter : Type 0 where
+  pub item : ℕ
+  pub missing : List (Want ℕ)
+
 -- the fields
 pub record Fields : Type 0 where
   pub frames : List (Option Frame)
   pub rows : List Row
   pub cells : List (Option Counted)
-  pub lists : Want ℕ → List ℕ
-  pub missing : ℕ → Option ℕ
+  pub waiting : List Waiter
   pub turns : ℕ → Option Elements  -- those left to an item that goes on with a loop, by its number
   pub queue : Kind → ℤ → List ℕ
   pub lines : List Scalar
