@@ -1,5 +1,5 @@
 -- The queue of a board after an End without fault, and the turns that an item of a loop keeps.
-use Rattle.std.proofs.Common.{◌≡◌, inl, inr, ℕ, suc, ◌<◌, List, ◌∷◌, ◌++◌, refl, sym, ap, ◌∙◌, subst, None, Some, arith, []}
+use Rattle.std.proofs.Common.{◌≡◌, inl, inr, ℕ, suc, ◌<◌, List, ◌∷◌, ◌++◌, refl, sym, ap, ◌∙◌, subst, Option, None, Some, arith, []}
 use Rattle.std.specs.Prelude.{ℤ}
 use Rattle.dataflow.specs.System.{Answer, In, tasks_of}
 use Rattle.dataflow.specs.Machine.{End, Event, Run, SeesAll, new_items}
@@ -13,12 +13,13 @@ use Rattle.dataflow.proofs.Numbers.{Numbered, number_of_item, run_numbered, step
 use Rattle.dataflow.proofs.Steps.{run_follows}
 use Rattle.replayed.specs.CodeReplay.{replayed}
 use Rattle.replayed.specs.Elements.{code_tests}
-use Rattle.replayed.specs.Ending.{OpensItems, QueueAfter}
-use Rattle.replayed.specs.Fields.{Fields, Layout}
-use Rattle.replayed.specs.Stands.{QueueStands, Queued, Stands, turns_left}
+use Rattle.replayed.specs.Ending.{OpensItems, QueueAfter, job_kind, job_priority}
+use Rattle.replayed.specs.Fields.{Does, Fields, Frame, Job, Layout, Row, Script, row_of, task_of}
+use Rattle.replayed.specs.Stands.{ItemsStand, QueueStands, Queued, Stands, turns_left}
 use Rattle.replayed.specs.Static.{computed_by}
 use Rattle.replayed.proofs.Elements.{code_told}
 use Rattle.replayed.proofs.EndedItems.{enabled_later, new_above, one_number, opens_items, step}
+use Rattle.replayed.proofs.Marking.{RowIs, row_found}
 use Rattle.replayed.proofs.Replays.{run_replayed}
 use Rattle.replayed.proofs.Seen.{OneValue, all_known, all_told, answers_see}
 use Rattle.replayed.proofs.Tests.{none_some}
@@ -45,7 +46,19 @@ turns_told C I L es F x i h e c p q xs known =
     ∙ ap (turns_left C i.task) (a.1 ∙ ap Some same)
     ∙ subst (λ (u : Task). turns_left C u (Some xs) ≡ Some (left_at (suc c) (turns_of (computed_by C u xs)))) (sym q) refl
 
-module _ (C : Code) (I : IsCode C) (L : Layout) (es : List Event) (F : Fields) (x : Stands C L es F) (w n : ℕ) (t : CodeState) (reached : replayed C (es ++ End w n ∷ []) ≡ Some t) (good : t.fault ≡ None) (newly : List ℕ) (new : NewlyAt (code_system C) x.state t newly) (queue : Kind → ℤ → List ℕ) (after : QueueAfter C F.queue queue t newly) where
+-- who runs a job, and its priority
+kind_of_job : (C : Code) (fs : List (Option Frame)) (j : Job) → job_kind C j ≡ task_kind C (task_of fs j)
+kind_of_job C fs Script = refl
+kind_of_job C fs (Does k e c) = refl
+
+priority_of_job : (C : Code) (fs : List (Option Frame)) (j : Job) → job_priority C j ≡ task_priority C (task_of fs j)
+priority_of_job C fs Script = refl
+priority_of_job C fs (Does k e c) = refl
+
+some_same : {X : Type 0} {a b : X} → ◌≡◌ {A = Option X} (Some a) (Some b) → a ≡ b
+some_same h = cc
+
+module _ (C : Code) (I : IsCode C) (L : Layout) (es : List Event) (F : Fields) (x : Stands C L es F) (w n : ℕ) (t : CodeState) (reached : replayed C (es ++ End w n ∷ []) ≡ Some t) (good : t.fault ≡ None) (G : Fields) (items : ItemsStand C G t) (new : NewlyAt (code_system C) x.state t G.newly) (after : QueueAfter C F G) where
   abbrev s : CodeState
   s = x.state
 
@@ -106,33 +119,48 @@ module _ (C : Code) (I : IsCode C) (L : Layout) (es : List Event) (F : Fields) (
             absurd (omega arith))
       ]
 
-  all : (k : Kind) (z : ℤ) (m : ℕ) → Queued C t k z m → In m (queue k z)
+  row_there : (i : CodeItem) → In i t.items → RowIs G.frames G.rows 1 i
+  row_there i h = row_found G.frames 1 G.rows i (subst (λ (is : List CodeItem). In i is) (sym items.items) h)
+
+  -- a row of an item's number is that item's
+  row_is : (i : CodeItem) (h : In i t.items) (m : ℕ) (r : Row) → row_of G.rows m ≡ Some r → i.number ≡ m → (row_there i h).row ≡ r
+  row_is i h m r q e =
+      let f = row_there i h in
+      let a = f.number_is in
+      let at : m ≡ suc f.at = omega arith in
+      some_same (sym f.there ∙ subst (λ (l : ℕ). row_of G.rows l ≡ Some r) at q)
+
+  all : (k : Kind) (z : ℤ) (m : ℕ) → Queued C t k z m → In m (G.queue k z)
   all k z m q =
       elim (can_begin_is (code_system C) (code_laws C I) s (log_of (code_system C) es s run) follows m) [
         | inl c ↦ after.kept k z m (x.queue.all k z m (was k z m q c))
         | inr d ↦ (let g = new.all m (record { item = q.item; there = q.there; number_is = q.number_is; idle = q.idle; enabled = q.enabled }) d in
-            let a = after.added q.item q.there (subst (λ (l : ℕ). In l newly) (sym q.number_is) g) in
-            subst (λ (l : ℕ). In l (queue k z)) q.number_is
-            (subst (λ (y : ℤ). In q.item.number (queue k y)) q.priority_is
-            (subst (λ (j : Kind). In q.item.number (queue j (task_priority C q.item.task))) q.kind_is a)))
+            let f = row_there q.item q.there in
+            let e = f.number_is in
+            let at : suc f.at ≡ m = (let n = q.number_is in omega arith) in
+            let a = after.added m f.row (subst (λ (l : ℕ). row_of G.rows l ≡ Some f.row) at f.there) g in
+            let kind : job_kind C f.row.job ≡ k = kind_of_job C G.frames f.row.job ∙ ap (task_kind C) (sym f.task_is) ∙ q.kind_is in
+            let priority : job_priority C f.row.job ≡ z = priority_of_job C G.frames f.row.job ∙ ap (task_priority C) (sym f.task_is) ∙ q.priority_is in
+            subst (λ (y : ℤ). In m (G.queue k y)) priority (subst (λ (j : Kind). In m (G.queue j (job_priority C f.row.job))) kind a))
       ]
 
-  only : (k : Kind) (z : ℤ) (m : ℕ) → In m (queue k z) → Queued C t k z m
+  only : (k : Kind) (z : ℤ) (m : ℕ) → In m (G.queue k z) → Queued C t k z m
   only k z m h =
       elim (after.only k z m h) [
         | inl g ↦ still k z m (x.queue.only k z m g)
         | inr q ↦ (let c = new.can m q.2 in
-            let same = one_number t.items c.item q.0 numbers_after.once c.there q.1 (c.number_is ∙ sym q.3) in
+            let f = row_there c.item c.there in
+            let same = row_is c.item c.there m q.0 q.1 c.number_is in
             record {
               item = c.item;
               there = c.there;
               number_is = c.number_is;
               idle = c.idle;
               enabled = c.enabled;
-              kind_is = ap (λ (i : CodeItem). task_kind C i.task) same ∙ q.4;
-              priority_is = ap (λ (i : CodeItem). task_priority C i.task) same ∙ q.5;
+              kind_is = ap (task_kind C) f.task_is ∙ sym (kind_of_job C G.frames f.row.job) ∙ ap (λ (y : Row). job_kind C y.job) same ∙ q.3;
+              priority_is = ap (task_priority C) f.task_is ∙ sym (priority_of_job C G.frames f.row.job) ∙ ap (λ (y : Row). job_priority C y.job) same ∙ q.4;
             })
       ]
 
-  pub queue_after : QueueStands C (record F { queue = queue }) t
+  pub queue_after : QueueStands C G t
   queue_after = record { all = all; only = only; once = after.once }
