@@ -1,8 +1,9 @@
 -- What the emission of code owes: code that is laid for a core, in which each entry has exactly the rights that it, or an entry that it leads to, has a use for.
+use Rattle.std.specs.List.{flat_map}
 use Rattle.std.specs.Prelude.{ℕ, suc, ◌+◌, Bool, List, [], ◌∷◌, map, length}
 use Rattle.dataflow.specs.System.{Distinct, In}
-use Rattle.syntax_trees.specs.Core.{Stmt, stmt, Core}
-use Rattle.syntax_trees.specs.Parts.{parts, calls_among, script_stmts}
+use Rattle.syntax_trees.specs.Core.{Cell, Stmt, stmt, Core}
+use Rattle.syntax_trees.specs.Parts.{cells, parts, calls_among, script_stmts}
 use Rattle.task_code.specs.Code.{Code, Name, entry, targets}
 use Rattle.task_code.specs.Exact.{Leads, needs_of}
 use Rattle.agreement.specs.Laying.{Kinds, LaysScript}
@@ -23,6 +24,10 @@ pub record IsEmitted (c : Core) (fs : List Kinds) (ds : List (ℕ × Bool)) (C :
 -- each call has an offset of its own
 abbrev pub CallsOnce : Core → Type 0
 CallsOnce c = Distinct (map (λ call. call.at) (calls_among (script_stmts c)))
+
+-- each cell has a node of its own
+abbrev pub CellsOnce : Core → Type 0
+CellsOnce c = Distinct (map (λ (cell : Cell). cell.node) (flat_map cells (script_stmts c)))
 
 -- how many functions, statements, cells and calls there are: no more entries can come of it
 abbrev pub stmt_size : Stmt → ℕ

@@ -90,3 +90,6 @@ pub record IsLaid (s : Core) (fs : List Kinds) (ds : List (ℕ × Bool)) (C : Co
   -- a variable that is declared is an array where it is declared as one
   pub arrays : (t : ℕ) (v : Variable) → In v (body C t).makes → v.array ≡ true → (v.node, true) ∈ ds
   pub scalars : (t : ℕ) (v : Variable) (at n : ℕ) → In v (body C t).makes → v.array ≡ false → t < length C.bodies → stmt at n (declare v.node) ∈ block_list (table.block_of t) → (v.node, false) ∈ ds
+  -- a variable is an array where the layout says so, and is no plain cell
+  pub kinds : (t : ℕ) (v : Variable) → In v (body C t).makes → v.array ≡ l.array v.node
+  pub real : (t : ℕ) (v : Variable) → In v (body C t).makes → l.plain v.node ≡ false
