@@ -1,6 +1,6 @@
 -- How code is laid for a core, rule by rule: which entries and bodies a statement adds behind those that are there, which numbers its entries have, and which variables its block
 -- declares for it. Rights, and the offsets that only a listing shows, are free.
-use Rattle.std.specs.Prelude.{◌≡◌, ℕ, zero, suc, ◌+◌, Bool, true, false, not, List, [], ◌∷◌, ◌++◌, length, Option, Some, None, slice_get, nat_eq, ℤ, pos, if◌then◌else◌}
+use Rattle.std.specs.Prelude.{◌≡◌, ℕ, zero, suc, ◌+◌, Bool, true, false, not, List, [], ◌∷◌, ◌++◌, map, length, Option, Some, None, slice_get, nat_eq, ℤ, pos, if◌then◌else◌}
 use Rattle.std.specs.List.{list_any, flat_map}
 use Rattle.dataflow.specs.System.{In}
 use Rattle.syntax_trees.specs.Core.{Owned, local, input, output, Name, here, Expr, literal, name, whole, operator, Form, compute, read, Cell, Call, Part, inner, calls, Outer, Awaited, Stmt, stmt, Action, declare, call_alone, when, choose, range, each, wait, Block, no_stmts, stmts, Function, Core}
@@ -128,6 +128,10 @@ with_entry s e = record { entries = s.entries ++ e ∷ []; bodies = s.bodies }
 abbrev pub with_bodies : Laying → List Body → Laying
 with_bodies s bs = record { entries = s.entries; bodies = s.bodies ++ bs }
 
+-- the cell that gives the index of each read stands among the parts
+abbrev pub IndexesStand : List Part → Type 0
+IndexesStand all = (n i : ℕ) (a : Name) → inner (record { node = n; form = read a i }) ∈ all → (c : Cell) × (c ∈ part_cells all) × (c.node ≡ i)
+
 -- the entries of parts, numbered on, for the statement whose parts they are
 pub record LaysParts (fs : List Kinds) (k : ℕ) (all : List Part) (at : ℕ) (p : ℤ) (s t : Laying) (es : List ℕ) : Type 0 where
   pub more : List Entry
@@ -135,7 +139,7 @@ pub record LaysParts (fs : List Kinds) (k : ℕ) (all : List Part) (at : ℕ) (p
   pub bodies : t.bodies ≡ s.bodies
   pub numbers : es ≡ counted (length s.entries) (length more)
   pub fit : CallsFit fs all more
-  pub parts_as : (l : Layout) → PlainAs l None all → ((i : ℕ) → l.body_of i ≡ suc i) → PartsAs (code_of t) l k all at p all es
+  pub parts_as : (l : Layout) → PlainAs l None all → ((i : ℕ) → l.body_of i ≡ suc i) → IndexesStand all → PartsAs (code_of t) l k all at p all es
 
 -- the number of the next body
 abbrev pub next_body : (roots : ℕ) → Laying → ℕ
@@ -216,7 +220,11 @@ pub data LaysFunctions (fs : List Kinds) (roots : ℕ) : List Function → List 
       → all ≡ cs ++ ds → bodies ≡ record { opener = ByCalls; makes = vs; entries = js } ∷ bs
       → LaysFunctions fs roots (f ∷ gs) all s u bodies
 
--- code is laid for a script: its own block first, then its functions; the variables are those declared in it
+-- an entry without its rights
+abbrev pub bare : Entry → Entry
+bare e = record e { reads = []; writes = [] }
+
+-- code is laid for a script, whatever rights its entries have: its own block first, then its functions; the variables are those declared in it
 pub record LaysScript (c : Core) (fs : List Kinds) (ds : List (ℕ × Bool)) (C : Code) : Type 0 where
   pub own_declared : List (ℕ × Bool)
   pub function_declared : List (ℕ × Bool)
@@ -228,5 +236,5 @@ pub record LaysScript (c : Core) (fs : List Kinds) (ds : List (ℕ × Bool)) (C 
   pub function_bodies : List Body
   pub script : LaysBlock fs (suc (length c.functions)) 0 c.body own_declared (record { entries = []; bodies = [] }) first entries_are makes_are
   pub functions : LaysFunctions fs (suc (length c.functions)) c.functions function_declared first last function_bodies
-  pub entries : C.entries ≡ last.entries
+  pub entries : map bare C.entries ≡ last.entries
   pub bodies : C.bodies ≡ (record { opener = ByMain; makes = makes_are; entries = entries_are } ∷ function_bodies) ++ last.bodies
