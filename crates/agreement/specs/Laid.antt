@@ -5,6 +5,7 @@ use Rattle.dataflow.specs.System.{Distinct, In}
 use Rattle.syntax_trees.specs.Core.{Name, Call, Part, Outer, Awaited, Stmt, stmt, Action, declare, call_alone, when, choose, range, each, wait, Block, Function, Core}
 use Rattle.syntax_trees.specs.Members.{◌∈◌}
 use Rattle.syntax_trees.specs.Parts.{parts, block_list, script_blocks, script_stmts, stmt_action}
+use Rattle.meaning_laws.specs.Scoped.{InScope}
 use Rattle.meaning_laws.specs.TypedValues.{own_parts}
 use Rattle.task_code.specs.Code as code
 use Rattle.task_code.specs.Code.{Variable, Argument, Header, If, Range, Each, Wait, Entry, Opener, Code, ByMain, ByCalls, ByStep, ByWait, entry, body, loop_variables}
@@ -68,6 +69,7 @@ module _ (C : Code) (l : Layout) (T : Table) where
     pub stmts : StmtsLaid (T.inputs_of t) (block_list (T.block_of t)) (body C t).entries own
     pub makes : (body C t).makes ≡ T.variables_of t ++ own
     pub there : T.block_of t ∈ script_blocks s
+    pub scope : InScope s (T.inputs_of t) (T.block_of t)
     pub suits : (at n : ℕ) (a : Action) → stmt at n a ∈ block_list (T.block_of t) → Suits l a
 
 -- code is laid for a script, whose functions have inputs and outputs of these kinds, and in which these variables are declared, each an array or not
@@ -84,6 +86,9 @@ pub record IsLaid (s : Core) (fs : List Kinds) (ds : List (ℕ × Bool)) (C : Co
   pub stands : (j : ℕ) → j < length C.entries → (t : ℕ) × In j (body C t).entries
   pub once : (t u j : ℕ) → In j (body C t).entries → In j (body C u).entries → t ≡ u
   pub distinct : (t : ℕ) → Distinct (body C t).entries
+  -- and every variable is declared once
+  pub made_once : (t u : ℕ) (v : Variable) → In v (body C t).makes → In v (body C u).makes → t ≡ u
+  pub made_distinct : (t : ℕ) → Distinct (body C t).makes
   -- each call hands over arrays for arrays and scalars for scalars
   pub fit : (j f : ℕ) (ins : List Argument) (outs : List code.Name) → (entry C j).act ≡ code.Call (suc f) ins outs
       → (st : Stmt) × st ∈ script_stmts s × IsCallOf fs (own_parts (stmt_action st)) (entry C j) f ins outs
