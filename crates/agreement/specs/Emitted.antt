@@ -2,11 +2,13 @@
 use Rattle.std.specs.List.{flat_map}
 use Rattle.std.specs.Prelude.{ℕ, suc, ◌+◌, Bool, List, [], ◌∷◌, map, length}
 use Rattle.dataflow.specs.System.{Distinct, In}
-use Rattle.syntax_trees.specs.Core.{Cell, Stmt, stmt, Core}
+use Rattle.syntax_trees.specs.Core.{Cell, Stmt, stmt, Action, Core}
+use Rattle.syntax_trees.specs.Members.{◌∈◌}
 use Rattle.syntax_trees.specs.Parts.{cells, parts, calls_among, script_stmts}
+use Rattle.meaning_laws.specs.TypedValues.{own_parts}
 use Rattle.task_code.specs.Code.{Code, Name, entry, targets}
 use Rattle.task_code.specs.Exact.{Leads, needs_of}
-use Rattle.agreement.specs.Laying.{Kinds, LaysScript}
+use Rattle.agreement.specs.Laying.{IndexesStand, Kinds, LaysScript}
 
 -- each entry has the rights that it leads to, and no others
 pub record HasRights (C : Code) : Type 0 where
@@ -28,6 +30,10 @@ CallsOnce c = Distinct (map (λ call. call.at) (calls_among (script_stmts c)))
 -- each cell has a node of its own
 abbrev pub CellsOnce : Core → Type 0
 CellsOnce c = Distinct (map (λ (cell : Cell). cell.node) (flat_map cells (script_stmts c)))
+
+-- the cell that gives the index of a read stands before it
+abbrev pub ReadsStand : Core → Type 0
+ReadsStand c = (at n : ℕ) (a : Action) → stmt at n a ∈ script_stmts c → IndexesStand (own_parts a)
 
 -- how many functions, statements, cells and calls there are: no more entries can come of it
 abbrev pub stmt_size : Stmt → ℕ
