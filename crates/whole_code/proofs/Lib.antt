@@ -1,0 +1,5 @@
+mod Needs
+mod Roles
+mod Shapes
+mod Openings
+mod Standings
