@@ -1,5 +1,5 @@
--- The pairs of a table as elements by rising key.
-use Rattle.std.proofs.Common.{◌≡◌, ◌∙◌, sym, ap, subst, inl, inr, ℕ, suc, ◌<◌, ◌≤◌, ◌+◌, ◌-◌, List, [], ◌∷◌, length, map, get_or, None, Some, true, false, arith, rules, refl}
+-- Pairs in any order as elements by rising key.
+use Rattle.std.proofs.Common.{◌≡◌, ◌∙◌, sym, ap, subst, inl, inr, ℕ, suc, ◌<◌, ◌≤◌, ◌+◌, ◌-◌, List, [], ◌∷◌, ◌++◌, length, map, get_or, None, Some, true, false, arith, rules, refl}
 use Rattle.std.specs.Prelude.{Option, IsTrue, ℤ, All, is_some, max, if◌then◌else◌}
 use Rattle.std.specs.Cmp.{IsStrictWeakOrder}
 use Rattle.std.specs.List.{IsDistinct, AllByRecursion}
@@ -9,6 +9,10 @@ use Rattle.std.specs.Ordering.{int_eq}
 use Rattle.std.proofs.lemmas.Bool.{cases_Bool}
 use Rattle.std.proofs.lemmas.Grind.{common_steps}
 use Rattle.std.proofs.lemmas.Int.{ints}
+use Rattle.std.proofs.lemmas.Cmp.{int_eq_equiv}
+use Rattle.std.proofs.lemmas.Bool.Decides.{Decides-int_eq}
+use Rattle.std.proofs.lemmas.Map.Entries.{lookup_from_place}
+use Rattle.std.proofs.lemmas.Option.{slice_get-get_or}
 use Rattle.std.proofs.lemmas.Map.Keys.{IsDistinct-head, IsDistinct-tail, IsDistinct-IsPermutation}
 use Rattle.std.proofs.lemmas.List.Elements.{All-map}
 use Rattle.std.proofs.lemmas.List.Sorted.{IsPermutation-map, All-permutation, length_permutation}
@@ -21,6 +25,7 @@ use Rattle.values.specs.Maps.{rising, found, inserted, element}
 use Rattle.values.proofs.Keys.{key_below-trans, key_below-asymmetric, same_key-refl, same_key-eq, same_key-other, key_below-other, below_differs, above_differs}
 use Rattle.values.proofs.Maps.{found-none, rising-tail, rising-first, rising-inserted, found-inserted, found-inserted_other}
 use Rattle.data_store.specs.Arrays.{Array, arranged, element_of, IsKept, with_room, with_element}
+use Rattle.data_store.specs.Filled.{IsPut}
 
 -- what a key finds among them is what it finds in the table
 pub found_arranged : (q : ℤ) (es : List (ℤ × Scalar)) → found (Number q) (arranged es) ≡ lookup (int_eq q) es
@@ -29,6 +34,10 @@ found_arranged q (e ∷ es) = elim (cases_Bool (int_eq q e.0)) [
   | inl same ↦ rw (same, same_key-eq (Number q) (Number e.0) same) (found-inserted (Number e.0) e.1 (arranged es))
   | inr other ↦ rw other (found-inserted_other (Number e.0) (Number q) e.1 (arranged es) (same_key-other (Number q) (Number e.0) other) ∙ found_arranged q es)
 ]
+
+-- the same of a key that stands for that number
+pub found_by_key : (key : Key) (k : ℤ) (es : List (ℤ × Scalar)) → key ≡ Number k → found key (arranged es) ≡ lookup (int_eq k) es
+found_by_key key k es is = subst (λ j. found j (arranged es) ≡ lookup (int_eq k) es) (sym is) (found_arranged k es)
 
 pub rising_arranged : (es : List (ℤ × Scalar)) → IsTrue (rising (arranged es))
 rising_arranged [] = search rules
@@ -168,9 +177,72 @@ same_key_flips x y = elim (cases_Bool (same_key x y)) [
   | inr other ↦ other ∙ sym (same_key-other x y other)
 ]
 
--- what a sort by keys makes of the elements of a table
-pub sorted_is_arranged : (es : List (ℤ × Scalar)) (xs ys : List Element) → xs ≡ map element_of es → IsPermutation xs ys → IsSortedBy (λ (a : Element) (b : Element). key_below a.key b.key) ys → IsDistinct int_eq (map (λ e. e.0) es) → All (λ e. lookup (int_eq e.0) es ≡ Some e.1) es → length (arranged es) ≡ length es → ys ≡ arranged es
-sorted_is_arranged es xs ys e moved up u f l =
+-- an element that makes the list longer had no element under its key
+absent_if_longer : (k : Key) (v : Scalar) (es : List Element) → IsTrue (rising es) → length (inserted k v es) ≡ length es + 1 → found k es ≡ None
+absent_if_longer k v [] r l = refl
+absent_if_longer k v (e ∷ es) r l = elim (cases_Bool (same_key e.key k)) [
+  | inl same ↦ let l' = rw same at l in absurd (omega (arith, l'))
+  | inr other ↦ elim (cases_Bool (key_below k e.key)) [
+    | inl below ↦ absent_below k e es r below
+    | inr more ↦
+        let l' = rw (other, more) at l in
+        found_behind k e es other ∙ absent_if_longer k v es (rising-tail e es r) (omega (arith, l'))
+  ]
+]
+
+length_inserted_most : (k : Key) (v : Scalar) (es : List Element) → length (inserted k v es) ≤ length es + 1
+length_inserted_most k v [] = omega arith
+length_inserted_most k v (e ∷ es) = elim (cases_Bool (same_key e.key k)) [
+  | inl same ↦ rw same (omega arith)
+  | inr other ↦ elim (cases_Bool (key_below k e.key)) [
+    | inl below ↦ rw (other, below) (omega arith)
+    | inr more ↦ rw (other, more) (omega (arith, length_inserted_most k v es))
+  ]
+]
+
+length_arranged_most : (es : List (ℤ × Scalar)) → length (arranged es) ≤ length es
+length_arranged_most [] = omega arith
+length_arranged_most (e ∷ es) = omega (arith, length_arranged_most es, length_inserted_most (Number e.0) e.1 (arranged es))
+
+none_some_pair : {X : Type 0} (v : Scalar) → ◌≡◌ {A = Option Scalar} (Some v) None → X
+none_some_pair v e = absurd (cc)
+
+-- a key that finds nothing is none of the keys
+apart_all : (n : ℤ) (es : List (ℤ × Scalar)) → lookup (int_eq n) es ≡ None → AllByRecursion (λ m. int_eq n m ≡ false) (map (λ e. e.0) es)
+apart_all n [] h = tt
+apart_all n (e ∷ es) h = elim (cases_Bool (int_eq n e.0)) [
+  | inl same ↦ let h' = rw same at h in none_some_pair e.1 h'
+  | inr other ↦ let h' = rw other at h in (other, apart_all n es h')
+]
+
+map_both : (es fs : List (ℤ × Scalar)) → map element_of es ++ map element_of fs ≡ map element_of (es ++ fs)
+map_both [] fs = refl
+map_both (e ∷ es) fs = ap (λ xs. element_of e ∷ xs) (map_both es fs)
+
+-- pairs that are listed one behind the other
+pub listed_both : (es fs : List (ℤ × Scalar)) (xs ys zs : List Element) → xs ≡ [] → ys ≡ xs ++ map element_of es → zs ≡ ys ++ map element_of fs → zs ≡ map element_of (es ++ fs)
+listed_both es fs xs ys zs none first second =
+    second ∙ ap (λ (us : List Element). us ++ map element_of fs) (first ∙ ap (λ (us : List Element). us ++ map element_of es) none) ∙ map_both es fs
+
+-- where no pair is lost, the keys differ
+pub distinct_arranged : (es : List (ℤ × Scalar)) → length (arranged es) ≡ length es → IsDistinct int_eq (map (λ e. e.0) es)
+unfolding IsDistinct
+distinct_arranged [] l = tt
+distinct_arranged (e ∷ es) l =
+    let most = length_inserted_most (Number e.0) e.1 (arranged es) in
+    let short : length (arranged es) ≡ length es = omega (arith, l, most, length_arranged_most es) in
+    let longer : length (inserted (Number e.0) e.1 (arranged es)) ≡ length (arranged es) + 1 = omega (arith, l, short) in
+    (apart_all e.0 es (sym (found_arranged e.0 es) ∙ absent_if_longer (Number e.0) e.1 (arranged es) (rising_arranged es) longer), distinct_arranged es short)
+
+-- and each pair is found by its key
+each_found : (es : List (ℤ × Scalar)) → IsDistinct int_eq (map (λ e. e.0) es) → All (λ e. lookup (int_eq e.0) es ≡ Some e.1) es
+each_found es u k d l = lookup_from_place int_eq_equiv es k (get_or es k d).0 (get_or es k d).1 u (slice_get-get_or es k d l)
+
+-- what a sort by keys makes of elements whose keys differ
+pub sorted_is_arranged : (es : List (ℤ × Scalar)) (xs ys : List Element) → xs ≡ map element_of es → IsPermutation xs ys → IsSortedBy (λ (a : Element) (b : Element). key_below a.key b.key) ys → length (arranged es) ≡ length es → ys ≡ arranged es
+sorted_is_arranged es xs ys e moved up l =
+    let u : IsDistinct int_eq (map (λ e. e.0) es) = distinct_arranged es l in
+    let f : All (λ e. lookup (int_eq e.0) es ≡ Some e.1) es = each_found es u in
     let p : IsPermutation (map element_of es) ys = subst (λ zs. IsPermutation zs ys) e moved in
     let apart : IsDistinct same_key (map (λ x. x.key) ys) =
     IsDistinct-IsPermutation same_key same_key_flips (map (λ x. x.key) (map element_of es)) (map (λ x. x.key) ys) (IsPermutation-map (λ x. x.key) (map element_of es) ys p) (distinct_elements es u) in
@@ -201,18 +273,18 @@ arranged_same es fs h = same_found (arranged fs) (arranged es) (rising_arranged 
   finds : (j : Key) → found j (arranged fs) ≡ found j (arranged es)
   finds (Number q) = found_arranged q fs ∙ h q ∙ sym (found_arranged q es)
 
--- a table with one more pair is kept too, with one place less of the room
-pub kept_more : {spare less room : ℕ} {sorted : Option (List Element)} (key : Key) (k : ℤ) (v : Scalar) (es fs : List (ℤ × Scalar)) → IsKept es spare sorted room → key ≡ Number k → found key (arranged es) ≡ None → ((q : ℤ) → lookup (int_eq q) fs ≡ (if int_eq k q then Some v else lookup (int_eq q) es)) → length fs ≡ length es + 1 → spare ≤ less + 1 → IsKept fs less None (room - 1)
-kept_more key k v es fs kept is absent h long s =
+-- with one more pair they are kept too, with one place less of the room
+pub kept_more : {spare less room : ℕ} {sorted : Option (List Element)} (key : Key) (k : ℤ) (v : Scalar) (es fs : List (ℤ × Scalar)) → IsKept es spare sorted room → key ≡ Number k → found key (arranged es) ≡ None → IsPut k v es fs → spare ≤ less + 1 → IsKept fs less None (room - 1)
+kept_more key k v es fs kept is absent put s =
     let absent' : found (Number k) (arranged es) ≡ None = subst (λ j. found j (arranged es) ≡ None) is absent in
-    let more : arranged fs ≡ inserted (Number k) v (arranged es) = arranged_more k v es fs h in
+    let more : arranged fs ≡ inserted (Number k) v (arranged es) = arranged_more k v es fs put.finds in
     record {
-      counted = omega (arith, ap length more, length_inserted (Number k) v (arranged es) absent', kept.counted, long);
+      counted = omega (arith, ap length more, length_inserted (Number k) v (arranged es) absent', kept.counted, put.longer);
       in_order = tt;
       has_room = omega (arith, kept.has_room, s);
     }
 
--- and one with the same pairs
+-- and so they are with the same pairs
 pub kept_same : {spare more room : ℕ} {sorted : Option (List Element)} (es fs : List (ℤ × Scalar)) → IsKept es spare sorted room → ((q : ℤ) → lookup (int_eq q) fs ≡ lookup (int_eq q) es) → length fs ≡ length es → (n : ℕ) → n ≤ more → IsKept fs more None n
 kept_same es fs kept h long n s =
     record { counted = omega (arith, ap length (arranged_same es fs h), kept.counted, long); in_order = tt; has_room = s }
@@ -221,13 +293,6 @@ pub room_grown : (new old : List Element) (n room : ℕ) → new ≡ old → roo
 room_grown new old n room e l =
     let m : n ≡ max room n = omega (arith, l) in
     subst (λ r. ◌≡◌ {A = Array} (record { elements = new; room = n }) (record { elements = old; room = r })) m (ap (λ es. record { elements = es; room = n }) e)
-
--- a table that does not have the key gives back no scalar for it
-pub old_none : (key : Key) (k : ℤ) (es : List (ℤ × Scalar)) (old : Option Scalar) → key ≡ Number k → found key (arranged es) ≡ None → old ≡ lookup (int_eq k) es → old ≡ None
-old_none key k es old is absent o = o ∙ sym (found_arranged k es) ∙ subst (λ j. found j (arranged es) ≡ None) is absent
-
-pub one_more : (n : ℕ) (old : Option Scalar) → old ≡ None → n + (if is_some old then 0 else 1) ≡ n + 1
-one_more n old e = rw e refl
 
 pub element_added : (key : Key) (v : Scalar) (new old : List Element) (less room : ℕ) → new ≡ inserted key v old → less ≡ room - 1 → ◌≡◌ {A = Array} (record { elements = new; room = less }) (with_element key v (record { elements = old; room = room }))
 element_added key v new old less room e l = subst (λ r. ◌≡◌ {A = Array} (record { elements = new; room = less }) (record { elements = inserted key v old; room = r })) l (ap (λ es. record { elements = es; room = less }) e)

@@ -38,8 +38,8 @@ abbrev pub arranged : List (ℤ × Scalar) → List Element
 arranged [] = []
 arranged (e ∷ es) = inserted (Number e.0) e.1 (arranged es)
 
--- what holds of pairs in a table with this much spare room, a list of the same by rising key, if it was made, and the
--- room that is promised
+-- what holds of pairs in slots and in a table with this much spare room, a list of the same by rising key, if it was made,
+-- and the room that is promised
 pub record IsKept (es : List (ℤ × Scalar)) (spare : ℕ) (sorted : Option (List Element)) (room : ℕ) : Type 0 where
   pub counted : length (arranged es) ≡ length es
   pub in_order : IfSome sorted (λ map. map ≡ arranged es)

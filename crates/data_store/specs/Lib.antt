@@ -1,3 +1,4 @@
 pub mod Arrays
 pub mod Data
+pub mod Filled
 pub mod Stores

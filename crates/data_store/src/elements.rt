@@ -1,11 +1,14 @@
-//! The elements of an array: found by their keys in a hash table, and listed by rising key once they are asked for.
-ghost use Rattle.std.specs.Prelude.{◌≡◌, ◌<◌, ◌≤◌, Some, None, length, map, All, IfOk, IsOk, OnOk, OnErr, option_copied};
-ghost use Rattle.std.specs.HashMap.{get, IsUnique};
+//! The elements of an array: found by their keys in slots or in a hash table, and listed by rising key once they are asked for.
+ghost use Rattle.std.specs.Prelude.{◌≡◌, ◌<◌, ◌≤◌, ◌+◌, ◌++◌, None, length, map, IfOk, IsOk, OnOk, OnErr, option_copied};
+ghost use Rattle.std.specs.HashMap.{spare};
+ghost use Rattle.std.specs.Map.{lookup};
 ghost use Rattle.std.specs.Ordering.{int_eq, is_lt};
 ghost use Rattle.values.specs.Keys.{key_below};
 ghost use Rattle.values.specs.Maps.{found};
 ghost use Rattle.data_store.specs.Arrays.{arranged, element_of, empty, with_element, with_room};
+ghost use Rattle.data_store.specs.Filled.{IsPut};
 
+use crate::slots::Slots;
 use std::alloc::{AllocError, Global};
 use std::cmp::Ordering;
 use std::collections::HashMap;
@@ -14,9 +17,12 @@ use values::key::Key;
 use values::map::{Element, Map};
 use values::value::Scalar;
 
-/// A table of elements, with a list of them that is made when it is first asked for.
+/// The elements, with a list of them that is made when it is first asked for.
 #[derive(Drop)]
 pub struct Index {
+    // The elements under small keys, as long as there is memory for their slots.
+    slots: Slots,
+    // The others. It has spare places for all the room, so that an element without a slot finds one.
     by_key: HashMap<i64, Scalar>,
     // All elements, from the first call of `whole` to the next insert.
     sorted: Option<Map>,
@@ -24,14 +30,15 @@ pub struct Index {
 }
 
 impl Model for Index {
+    ghost use Rattle.std.specs.Prelude.{◌++◌};
     ghost use Rattle.std.specs.HashMap.{spare};
     ghost use Rattle.data_store.specs.Arrays.{Array, arranged, IsKept};
 
     ghost Value = { Array };
 
-    ghost view = { λ a. record { elements = arranged a.by_key.entries; room = a.room } };
+    ghost view = { λ a. record { elements = arranged (a.slots ++ a.by_key.entries); room = a.room } };
 
-    ghost invariant = { λ a. IsKept a.by_key.entries (spare a.by_key) a.sorted a.room };
+    ghost invariant = { λ a. IsKept (a.slots ++ a.by_key.entries) (spare a.by_key) a.sorted a.room };
 }
 
 impl Index {
@@ -39,6 +46,7 @@ impl Index {
         ensures { result ≡ empty }
     {
         Index {
+            slots: Slots::new(alloc),
             by_key: HashMap::new(alloc),
             sorted: None,
             room: 0,
@@ -48,14 +56,16 @@ impl Index {
     pub fn len(&self) -> usize
         ensures { result ≡ length self.now.elements }
     {
-        self.by_key.len()
+        self.slots.len() + self.by_key.len()
     }
 
     pub fn get(&self, key: &Key) -> Option<&Scalar>
         ensures { option_copied result ≡ found key.now self.now.elements }
     {
-        match key {
-            Key::Number(n) => self.by_key.get(n),
+        let n = number(key);
+        match self.slots.get(n) {
+            Some(value) => Some(value),
+            None => self.by_key.get(&n),
         }
     }
 
@@ -78,7 +88,7 @@ impl Index {
         ensures succeeds { 0 < self.old.room → IsOk result }
         ensures err { OnErr result (self.new ≡ self.old) }
     {
-        self.by_key.insert(number(&key), value)?;
+        put(&mut self.slots, &mut self.by_key, number(&key), value)?;
         self.sorted = None;
         self.room = self.room.saturating_sub(1);
         Ok(())
@@ -91,7 +101,7 @@ impl Index {
         if let Some(map) = &self.sorted {
             return map.share();
         }
-        let map = Map::new(alloc, sorted(alloc, &self.by_key)?)?;
+        let map = Map::new(alloc, sorted(alloc, &self.slots, &self.by_key)?)?;
         let shared = map.share()?;
         self.sorted = Some(map);
         Ok(shared)
@@ -192,31 +202,55 @@ fn number(key: &Key) -> i64
     }
 }
 
-// The elements of a table by rising key.
-fn sorted(alloc: Global, by_key: &HashMap<i64, Scalar>) -> Result<Vec<Element>, AllocError>
-    requires { length (arranged by_key.now.entries) ≡ length by_key.now.entries }
-    ensures { IfOk result (λ list. list.items ≡ arranged by_key.now.entries) }
+// Puts in an element under a key that has none: into a slot, if there is one for it, and else into the table.
+fn put(
+    slots: &mut Slots,
+    by_key: &mut HashMap<i64, Scalar>,
+    key: i64,
+    value: Scalar,
+) -> Result<(), AllocError>
+    requires { lookup (int_eq key) (slots.old ++ by_key.old.entries) ≡ None }
+    ensures ok { OnOk result (IsPut key value (slots.old ++ by_key.old.entries) (slots.new ++ by_key.new.entries)) }
+    ensures succeeds { 0 < spare by_key.old → IsOk result }
+    ensures spare { spare by_key.old ≤ spare by_key.new + 1 }
+    ensures err { OnErr result ((slots.new ≡ slots.old) × (by_key.new.entries ≡ by_key.old.entries)) }
 {
-    let mut list = listed(alloc, by_key)?;
+    match slots.put(key, value) {
+        None => Ok(()),
+        Some(value) => {
+            by_key.insert(key, value)?;
+            Ok(())
+        }
+    }
+}
+
+// The elements in slots and in a table, by rising key.
+fn sorted(
+    alloc: Global,
+    slots: &Slots,
+    by_key: &HashMap<i64, Scalar>,
+) -> Result<Vec<Element>, AllocError>
+    requires { length (arranged (slots.now ++ by_key.now.entries)) ≡ length (slots.now ++ by_key.now.entries) }
+    ensures { IfOk result (λ list. list.items ≡ arranged (slots.now ++ by_key.now.entries)) }
+{
+    let mut list = Vec::with_capacity(alloc, slots.len() + by_key.len())?;
+    slots.append_to(&mut list)?;
+    append_to(&mut list, by_key)?;
     list.sort_unstable_by(|a, b| order(a, b));
     Ok(list)
 }
 
-// The elements of a table as they come.
-fn listed(alloc: Global, by_key: &HashMap<i64, Scalar>) -> Result<Vec<Element>, AllocError>
-    ensures list { IfOk result (λ list. list.items ≡ map element_of by_key.now.entries) }
-    ensures distinct { IsUnique int_eq by_key.now }
-    ensures found { All (λ e. get int_eq by_key.now e.0 ≡ Some e.1) by_key.now.entries }
+// Adds the elements of a table to the end of the list, as they come.
+fn append_to(list: &mut Vec<Element>, by_key: &HashMap<i64, Scalar>) -> Result<(), AllocError>
+    ensures { OnOk result (list.new.items ≡ list.old.items ++ map element_of by_key.now.entries) }
 {
-    let pairs = by_key.iter();
-    let mut list = Vec::with_capacity(alloc, by_key.len())?;
-    for (key, value) in pairs {
+    for (key, value) in by_key {
         list.push(Element {
             key: Key::Number(*key),
             value: value.share()?,
         })?;
     }
-    Ok(list)
+    Ok(())
 }
 
 fn order(a: &Element, b: &Element) -> Ordering

@@ -9,4 +9,5 @@
 mod datum;
 mod elements;
 pub mod refusal;
+mod slots;
 pub mod store;

@@ -1,0 +1,138 @@
+//! The elements of an array under small keys, each in the slot of its key.
+ghost use Rattle.std.specs.Prelude.{◌≡◌, ◌≢◌, ℕ, pos, MatchOption, slice_index_or, ◌++◌, ◌∷◌, ◌<◌, ◌^◌, [], None, length, map, vec_len, IfNone, IfSome, OnOk, option_copied};
+ghost use Rattle.std.specs.Bool.{OnTrue};
+ghost use Rattle.std.specs.Map.{lookup};
+ghost use Rattle.std.specs.Ordering.{int_eq};
+ghost use Rattle.data_store.specs.Arrays.{element_of};
+ghost use Rattle.data_store.specs.Filled.{filled, IsPut};
+
+use std::alloc::{AllocError, Global};
+use std::marker::Model;
+use values::key::Key;
+use values::map::Element;
+use values::value::Scalar;
+
+// So many slots there may be before the first is taken.
+const FEW: usize = 64;
+
+/// Elements under keys from 0 on. So the keys 0, 1, 2 and so on lie side by side, in whatever order they come.
+#[derive(Drop)]
+pub struct Slots {
+    slots: Vec<Option<Scalar>>,
+    // How many are taken.
+    len: usize,
+}
+
+impl Model for Slots {
+    ghost use Rattle.std.specs.Prelude.{◌≡◌, ℤ, List, length};
+    ghost use Rattle.values.specs.declared.value.Scalar.{Scalar};
+    ghost use Rattle.data_store.specs.Filled.{filled};
+
+    ghost Value = { List (ℤ × Scalar) };
+
+    ghost view = { λ a. filled 0 a.slots.items };
+
+    ghost invariant = { λ a. a.len ≡ length (filled 0 a.slots.items) };
+}
+
+impl Slots {
+    pub fn new(alloc: Global) -> Slots
+        ensures { result ≡ [] }
+    {
+        Slots {
+            slots: Vec::new(alloc),
+            len: 0,
+        }
+    }
+
+    pub fn len(&self) -> usize
+        ensures len { result ≡ length self.now }
+        ensures small { result < 2 ^ 63 }
+    {
+        self.len
+    }
+
+    pub fn get(&self, key: i64) -> Option<&Scalar>
+        ensures { option_copied result ≡ lookup (int_eq key) self.now }
+    {
+        match place_of(key) {
+            Some(place) => at(self.slots.as_slice(), place),
+            None => None,
+        }
+    }
+
+    /// Puts in an element under a key that has none. Gives the scalar back where there is no slot for it.
+    pub fn put(&mut self, key: i64, value: Scalar) -> Option<Scalar>
+        requires { lookup (int_eq key) self.old ≡ None }
+        ensures added { IfNone result (IsPut key value self.old self.new) }
+        ensures left { IfSome result (λ back. (back ≡ value) × (self.new ≡ self.old)) }
+    {
+        let Some(place) = place_of(key) else {
+            return Some(value);
+        };
+        if !make_slot(&mut self.slots, self.len, place) {
+            return Some(value);
+        }
+        self.slots[place] = Some(value);
+        self.len += 1;
+        None
+    }
+
+    /// Adds all to the end of the list, by rising key.
+    pub fn append_to(&self, list: &mut Vec<Element>) -> Result<(), AllocError>
+        ensures { OnOk result (list.new.items ≡ list.old.items ++ map element_of self.now) }
+    {
+        for place in 0..self.slots.len() {
+            append(list, place, &self.slots[place])?;
+        }
+        Ok(())
+    }
+}
+
+// The place of a key's slot, and none of a negative key.
+fn place_of(key: i64) -> Option<usize>
+    ensures { MatchOption result ((j : ℕ) → key ≢ pos j) (λ j. key ≡ pos j) }
+{
+    usize::try_from(key).ok()
+}
+
+// What the slot at a place holds.
+fn at(slots: &[Option<Scalar>], place: usize) -> Option<&Scalar>
+    ensures { option_copied result ≡ slice_index_or slots.now place None }
+{
+    match slots.get(place) {
+        Some(slot) => slot.as_ref(),
+        None => None,
+    }
+}
+
+// Makes a slot for a place, where about half of all are taken then, and there is memory.
+#[tactic(auto, using(crate::proofs::Filled::one_slot_more))]
+fn make_slot(slots: &mut Vec<Option<Scalar>>, taken: usize, place: usize) -> bool
+    ensures same { filled 0 slots.new.items ≡ filled 0 slots.old.items }
+    ensures there { OnTrue result (place < vec_len slots.new) }
+{
+    if place / 2 > taken.saturating_add(FEW / 2) {
+        return false;
+    }
+    while slots.len() <= place {
+        if slots.push(None).is_err() {
+            return false;
+        }
+    }
+    true
+}
+
+// Adds what a slot holds to the end of the list.
+fn append(list: &mut Vec<Element>, place: usize, slot: &Option<Scalar>) -> Result<(), AllocError>
+    requires { place < 2 ^ 63 }
+    ensures { OnOk result (list.new.items ≡ list.old.items ++ map element_of (filled place (slot.now ∷ []))) }
+{
+    if let Some(value) = slot {
+        list.push(Element {
+            key: Key::Number(place as i64),
+            value: value.share()?,
+        })?;
+    }
+    Ok(())
+}
