@@ -6,3 +6,4 @@ pub mod Statements
 pub mod Views
 pub mod Walks
 pub mod Wholes
+pub mod Declaring

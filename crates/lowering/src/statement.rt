@@ -8,6 +8,9 @@ ghost use Rattle.types.specs.Typed.{table_of};
 ghost use Rattle.flow.specs.View as seen;
 ghost use Rattle.flow.specs.View.{action_view, block_view, name_view, outer_view, statements_view};
 ghost use Rattle.lowering.specs.View.{statement_alone, command_alone, statements_among};
+ghost use Rattle.flow.specs.Shapes.{action_declared, block_declared, is_array};
+ghost use Rattle.well_formed.specs.Types.{statement_declarations, command_declarations, body_declarations};
+ghost use Rattle.lowering.specs.Shapes.{among, declared_by, flagged};
 
 use crate::names::{all, optional, refer, variable};
 use crate::right::{assignment, boxed_outer, outer, several, statement_call};
@@ -26,7 +29,8 @@ fn add<A: Allocator>(
     at: usize,
     action: Action<A>,
 ) -> Result<(), AllocError>
-    ensures { OnOk result (statements_view found.new.items ≡ statements_view found.old.items ++ core.stmt at node (action_view action) ∷ []) }
+    ensures core { OnOk result (statements_view found.new.items ≡ statements_view found.old.items ++ core.stmt at node (action_view action) ∷ []) }
+    ensures declared { OnOk result (declared_by found.new.items ≡ declared_by found.old.items ++ action_declared action) }
 {
     found.push(Statement { at, node, action })?;
     Ok(())
@@ -56,7 +60,8 @@ fn declaration<A: Allocator + Clone>(
     right: &Option<Right<A>>,
     found: &mut Vec<Statement<A>, A>,
 ) -> Result<(), AllocError>
-    ensures { OnOk result ((to : ℕ) → statements_view found.new.items ≡ statements_view found.old.items ++ command_alone (table_of typed.now) (record { number = number; first = first; to = to }) (trees.declare (declaration_of decl.now) (option_map right_of right.now))) }
+    ensures core { OnOk result ((to : ℕ) → statements_view found.new.items ≡ statements_view found.old.items ++ command_alone (table_of typed.now) (record { number = number; first = first; to = to }) (trees.declare (declaration_of decl.now) (option_map right_of right.now))) }
+    ensures declared { OnOk result (declared_by found.new.items ≡ declared_by found.old.items ++ (decl.now.name.number, is_array decl.now.shape) ∷ []) }
 {
     let variable = variable(alloc, &decl.name, decl.shape)?;
     add(found, number, first.from, Action::Declare(variable))?;
@@ -79,7 +84,8 @@ fn insertion<A: Allocator + Clone>(
     index: &Expr<A>,
     value: &Expr<A>,
 ) -> Result<Action<A>, AllocError>
-    ensures { IfOk result (λ a. let t = table_of typed.now in action_view a ≡ core.insert (rules.refers t (word_of name.now)) (rules.outer t (expression_view index.now)) (rules.outer t (expression_view value.now))) }
+    ensures core { IfOk result (λ a. let t = table_of typed.now in action_view a ≡ core.insert (rules.refers t (word_of name.now)) (rules.outer t (expression_view index.now)) (rules.outer t (expression_view value.now))) }
+    ensures declared { IfOk result (λ a. action_declared a ≡ []) }
 {
     let index = boxed_outer(alloc, typed, index)?;
     let right = boxed_outer(alloc, typed, value)?;
@@ -130,7 +136,8 @@ pub fn statement<A: Allocator + Clone>(
     stmt: &Stmt<A>,
     found: &mut Vec<Statement<A>, A>,
 ) -> Result<(), AllocError>
-    ensures { OnOk result (statements_view found.new.items ≡ statements_view found.old.items ++ statement_alone (table_of typed.now) (statement_view stmt.now)) }
+    ensures core { OnOk result (statements_view found.new.items ≡ statements_view found.old.items ++ statement_alone (table_of typed.now) (statement_view stmt.now)) }
+    ensures declared { OnOk result (declared_by found.new.items ≡ declared_by found.old.items ++ flagged (statement_declarations (statement_view stmt.now))) }
 {
     command(alloc, typed, stmt.number, stmt.first, &stmt.kind, found)
 }
@@ -145,7 +152,8 @@ fn command<A: Allocator + Clone>(
     kind: &StmtKind<A>,
     found: &mut Vec<Statement<A>, A>,
 ) -> Result<(), AllocError>
-    ensures { OnOk result ((to : ℕ) → statements_view found.new.items ≡ statements_view found.old.items ++ command_alone (table_of typed.now) (record { number = number; first = first; to = to }) (command_view kind.now)) }
+    ensures core { OnOk result ((to : ℕ) → statements_view found.new.items ≡ statements_view found.old.items ++ command_alone (table_of typed.now) (record { number = number; first = first; to = to }) (command_view kind.now)) }
+    ensures declared { OnOk result (declared_by found.new.items ≡ declared_by found.old.items ++ flagged (command_declarations (command_view kind.now))) }
 {
     match kind {
         StmtKind::Declare(decl, right) => {
@@ -194,7 +202,8 @@ fn branch<A: Allocator + Clone>(
     test: &Expr<A>,
     then: &tree::Block<A>,
 ) -> Result<Action<A>, AllocError>
-    ensures { IfOk result (λ a. let t = table_of typed.now in action_view a ≡ core.when (rules.outer t (expression_view test.now)) (rules.block_of t (body_view then.now))) }
+    ensures core { IfOk result (λ a. let t = table_of typed.now in action_view a ≡ core.when (rules.outer t (expression_view test.now)) (rules.block_of t (body_view then.now))) }
+    ensures declared { IfOk result (λ a. action_declared a ≡ flagged (body_declarations (body_view then.now))) }
 {
     let condition = boxed_outer(alloc, typed, test)?;
     let then = boxed_block(alloc, typed, then)?;
@@ -210,7 +219,8 @@ fn branches<A: Allocator + Clone>(
     then: &tree::Block<A>,
     other: &tree::Block<A>,
 ) -> Result<Action<A>, AllocError>
-    ensures { IfOk result (λ a. let t = table_of typed.now in action_view a ≡ core.choose (rules.outer t (expression_view test.now)) (rules.block_of t (body_view then.now)) (rules.block_of t (body_view other.now))) }
+    ensures core { IfOk result (λ a. let t = table_of typed.now in action_view a ≡ core.choose (rules.outer t (expression_view test.now)) (rules.block_of t (body_view then.now)) (rules.block_of t (body_view other.now))) }
+    ensures declared { IfOk result (λ a. action_declared a ≡ flagged (body_declarations (body_view then.now)) ++ flagged (body_declarations (body_view other.now))) }
 {
     let condition = boxed_outer(alloc, typed, test)?;
     let then = boxed_block(alloc, typed, then)?;
@@ -232,7 +242,8 @@ fn repeated<A: Allocator + Clone>(
     source: &Source<A>,
     body: &tree::Block<A>,
 ) -> Result<Action<A>, AllocError>
-    ensures { IfOk result (λ a. let t = table_of typed.now in action_view a ≡ rules.loop_action t (word_of value.now) (option_map word_of key.now) (over_of source.now) (rules.block_of t (body_view body.now))) }
+    ensures core { IfOk result (λ a. let t = table_of typed.now in action_view a ≡ rules.loop_action t (word_of value.now) (option_map word_of key.now) (over_of source.now) (rules.block_of t (body_view body.now))) }
+    ensures declared { IfOk result (λ a. action_declared a ≡ flagged (body_declarations (body_view body.now))) }
 {
     let value = variable(alloc, value, Shape::Scalar)?;
     let key = optional(alloc, key)?;
@@ -264,7 +275,8 @@ fn waiting<A: Allocator + Clone>(
     names: &Vec<tree::Name<A>, A>,
     content: &tree::Block<A>,
 ) -> Result<Action<A>, AllocError>
-    ensures { IfOk result (λ a. let t = table_of typed.now in action_view a ≡ core.wait (map (rules.awaited t) (words_view names.now)) (rules.block_of t (body_view content.now))) }
+    ensures core { IfOk result (λ a. let t = table_of typed.now in action_view a ≡ core.wait (map (rules.awaited t) (words_view names.now)) (rules.block_of t (body_view content.now))) }
+    ensures declared { IfOk result (λ a. action_declared a ≡ flagged (body_declarations (body_view content.now))) }
 {
     let names = all(alloc, typed, names)?;
     let content = boxed_block(alloc, typed, content)?;
@@ -282,7 +294,8 @@ fn boxed_block<A: Allocator + Clone>(
     typed: &Typed,
     body: &tree::Block<A>,
 ) -> Result<Box<Block<A>, A>, AllocError>
-    ensures { IfOk result (λ b. block_view b.value ≡ rules.block_of (table_of typed.now) (body_view body.now)) }
+    ensures core { IfOk result (λ b. block_view b.value ≡ rules.block_of (table_of typed.now) (body_view body.now)) }
+    ensures declared { IfOk result (λ b. block_declared b.value ≡ flagged (body_declarations (body_view body.now))) }
 {
     Ok(Box::new(alloc.clone()?, block(alloc, typed, body)?)?)
 }
@@ -294,7 +307,8 @@ pub fn block<A: Allocator + Clone>(
     typed: &Typed,
     body: &tree::Block<A>,
 ) -> Result<Block<A>, AllocError>
-    ensures { IfOk result (λ b. block_view b ≡ rules.block_of (table_of typed.now) (body_view body.now)) }
+    ensures core { IfOk result (λ b. block_view b ≡ rules.block_of (table_of typed.now) (body_view body.now)) }
+    ensures declared { IfOk result (λ b. block_declared b ≡ flagged (body_declarations (body_view body.now))) }
 {
     let mut statements = Vec::new(alloc.clone()?);
     each(alloc, typed, &body.statements, &mut statements)?;
@@ -309,7 +323,8 @@ fn each<A: Allocator + Clone>(
     statements: &Vec<Stmt<A>, A>,
     found: &mut Vec<Statement<A>, A>,
 ) -> Result<(), AllocError>
-    ensures { OnOk result (statements_view found.new.items ≡ statements_view found.old.items ++ statements_among (table_of typed.now) (map statement_view statements.now.items)) }
+    ensures core { OnOk result (statements_view found.new.items ≡ statements_view found.old.items ++ statements_among (table_of typed.now) (map statement_view statements.now.items)) }
+    ensures declared { OnOk result (declared_by found.new.items ≡ declared_by found.old.items ++ flagged (among (map statement_view statements.now.items))) }
 {
     for stmt in statements {
         statement(alloc, typed, stmt, found)?;
@@ -319,7 +334,8 @@ fn each<A: Allocator + Clone>(
 
 /// A block with statements, whose brace, or whose inner `if`, stands at an offset.
 pub fn block_at<A: Allocator>(from: usize, statements: Vec<Statement<A>, A>) -> Block<A>
-    ensures { block_view result ≡ seen.block_of (statements_view statements.items) }
+    ensures core { block_view result ≡ seen.block_of (statements_view statements.items) }
+    ensures declared { block_declared result ≡ declared_by statements.items }
 {
     Block { from, statements }
 }

@@ -9,8 +9,8 @@ use Rattle.flow.specs.View.{call_view, parts_view, names_view}
 use Rattle.lowering.proofs.Actions.{view_call_alone, found_call}
 use Rattle.lowering.proofs.right.call_alone.Goals as goal
 
-pub returns : goal.returns
-returns g c =
+pub returns-clause-core : goal.returns-clause-core
+returns-clause-core g c =
     let A = g.row.A.Denot in
     let t = table_of c.args.typed.now in
     let es = expressions_of (map (expression_view {A = A}) c.args.arguments.now.items) in

@@ -12,8 +12,8 @@ use Rattle.lowering.proofs.Views.{view_call, view_expr}
 use Rattle.lowering.proofs.Actions.{value_called}
 use Rattle.lowering.proofs.right.of_value.Goals as goal
 
-pub returns-in_ok-outputs-in-Function : goal.returns-in_ok-outputs-in-Function
-returns-in_ok-outputs-in-Function g c =
+pub returns-in_ok-outputs-in-Function-clause-core : goal.returns-in_ok-outputs-in-Function-clause-core
+returns-in_ok-outputs-in-Function-clause-core g c =
     let A = g.row.A.Denot in
     let t = table_of c.args.typed.now in
     let e = out-Expr A c.args.expr.now in
@@ -26,4 +26,4 @@ returns-in_ok-outputs-in-Function g c =
     let told : Action A → Type 0 = λ a. action_view a ≡ rules.composite_call (pos 0) w c.in-Function.function (rules.arguments_of t es) (names_view c.in_ok-outputs-in-Function.outputs.items) in
     let wanted : Action A → Type 0 = λ a. action_view a ≡ rules.right_of t x c.args.target.shape (value (expression_view {A = A} c.args.expr.now)) in
     IfOk-weaker c.call_alone.result told wanted
-    (λ a so. so ∙ ap (λ os. rules.composite_call (pos 0) w c.in-Function.function (rules.arguments_of t es) (names_view os)) c.in_ok-outputs-in-Function.ensures ∙ sym is) c.call_alone.ensures
+    (λ a so. so ∙ ap (λ os. rules.composite_call (pos 0) w c.in-Function.function (rules.arguments_of t es) (names_view os)) c.in_ok-outputs-in-Function.ensures ∙ sym is) c.call_alone.ensures.core

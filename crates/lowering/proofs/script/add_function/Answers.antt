@@ -1,21 +1,48 @@
-use Rattle.std.proofs.Common.{◌++◌, ◌∷◌, [], map, ap, sym, ◌∙◌}
-use Rattle.std.proofs.lemmas.List.{map-append}
+use Rattle.std.proofs.Common.{◌++◌, ◌∷◌, [], ◌≡◌, Bool, List, map, ap, sym, ◌∙◌}
+use Rattle.std.proofs.lemmas.List.{append-nil, map-append}
 use Rattle.syntax_trees.specs.declared.tree.Function.{Function as Composite'}
 use Rattle.syntax_trees.specs.Core as core
 use Rattle.syntax_trees.specs.Resolved.{functions_of}
-use Rattle.syntax_trees.specs.Tree.{Part}
+use Rattle.syntax_trees.specs.Tree.{Part, function}
 use Rattle.syntax_trees.specs.View.{composite_of, part_of}
 use Rattle.types.specs.Typed.{table_of}
+use Rattle.syntax_trees.specs.Scopes.{signature_of, signatures}
+use Rattle.well_formed.specs.Types.{body_declarations}
+use Rattle.flow.specs.Shapes.{functions_declared, kinds_of_function}
 use Rattle.flow.specs.View.{function_view}
+use Rattle.lowering.specs.Shapes.{flagged, function_declarations, kinds_of_signature}
+use Rattle.lowering.proofs.Declaring.{one_more_function}
 use Rattle.lowering.specs.View.{function_core}
 use Rattle.lowering.proofs.script.add_function.Goals as goal
 
-pub returns-in_ok-push-in-Function : goal.returns-in_ok-push-in-Function
-returns-in_ok-push-in-Function g c =
+pub returns-in_ok-push-in-Function-clause-core : goal.returns-in_ok-push-in-Function-clause-core
+returns-in_ok-push-in-Function-clause-core g c =
     let A = g.row.A.Denot in
     let tb = table_of c.args.typed.now in
     let before = map (function_view {A = A}) c.args.found.now.items in
     ap (map (function_view {A = A})) c.in_ok-push-in-Function.ensures.items
     ∙ map-append (function_view {A = A}) c.args.found.now.items (c.in_ok-function-in-Function.field-0 ∷ [])
-    ∙ ap (λ (y : core.Function). before ++ y ∷ []) (c.in_ok-function-in-Function.ensures ∙ ap (λ (f : Composite' A). function_core tb (composite_of f)) c.deref.ensures)
+    ∙ ap (λ (y : core.Function). before ++ y ∷ []) (c.in_ok-function-in-Function.ensures.core ∙ ap (λ (f : Composite' A). function_core tb (composite_of f)) c.deref.ensures)
     ∙ ap (λ (p : Part). before ++ functions_of tb (p ∷ [])) (sym (ap part_of c.in-Function.is))
+
+pub returns-in_ok-push-in-Function-clause-declared : goal.returns-in_ok-push-in-Function-clause-declared
+returns-in_ok-push-in-Function-clause-declared g c =
+    let A = g.row.A.Denot in
+    let before = functions_declared c.args.found.now.items in
+    let inside : (f : Composite' A) → flagged (function_declarations (function (composite_of f) ∷ [])) ≡ flagged (body_declarations (composite_of f).body) = λ f. ap flagged (append-nil (body_declarations (composite_of f).body)) in
+    ap (functions_declared {A = A}) c.in_ok-push-in-Function.ensures.items
+    ∙ one_more_function c.args.found.now.items c.in_ok-function-in-Function.field-0
+    ∙ ap (λ ds. before ++ ds)
+    (c.in_ok-function-in-Function.ensures.declared
+    ∙ ap (λ (f : Composite' A). flagged (body_declarations (composite_of f).body)) c.deref.ensures
+    ∙ sym (inside c.in-Function.one.value))
+    ∙ ap (λ (p : Part). before ++ flagged (function_declarations (p ∷ []))) (sym (ap part_of c.in-Function.is))
+
+pub returns-in_ok-push-in-Function-clause-kinds : goal.returns-in_ok-push-in-Function-clause-kinds
+returns-in_ok-push-in-Function-clause-kinds g c =
+    let A = g.row.A.Denot in
+    let before = map (kinds_of_function {A = A}) c.args.found.now.items in
+    ap (map (kinds_of_function {A = A})) c.in_ok-push-in-Function.ensures.items
+    ∙ map-append (kinds_of_function {A = A}) c.args.found.now.items (c.in_ok-function-in-Function.field-0 ∷ [])
+    ∙ ap (λ (k : List Bool × List Bool). before ++ k ∷ []) (c.in_ok-function-in-Function.ensures.kinds ∙ ap (λ (f : Composite' A). kinds_of_signature (signature_of (composite_of f))) c.deref.ensures)
+    ∙ ap (λ (p : Part). before ++ map kinds_of_signature (signatures (p ∷ []))) (sym (ap part_of c.in-Function.is))

@@ -3,9 +3,16 @@ use Rattle.syntax_trees.specs.View.{part_of}
 use Rattle.syntax_trees.specs.Resolved.{functions_of}
 use Rattle.types.specs.Typed.{table_of}
 use Rattle.flow.specs.View.{function_view}
+use Rattle.flow.specs.Shapes.{functions_declared, kinds_of_function}
+use Rattle.syntax_trees.specs.Scopes.{signatures}
+use Rattle.lowering.specs.Shapes.{flagged, function_declarations, kinds_of_signature}
 use Rattle.lowering.proofs.script.add_functions.Given as goal
 
 abbrev pub invariant-loop-item : goal.invariant-loop-item
 invariant-loop-item g l =
-    map function_view l.fn.found.items ++ functions_of (table_of l.typed) (map part_of l.items.items)
-    ≡ map function_view l.found.items ++ functions_of (table_of l.typed) (map part_of (drop l.item-index l.items.items))
+    (map function_view l.fn.found.items ++ functions_of (table_of l.typed) (map part_of l.items.items)
+    ≡ map function_view l.found.items ++ functions_of (table_of l.typed) (map part_of (drop l.item-index l.items.items)))
+    × (functions_declared l.fn.found.items ++ flagged (function_declarations (map part_of l.items.items))
+    ≡ functions_declared l.found.items ++ flagged (function_declarations (map part_of (drop l.item-index l.items.items))))
+    × (map kinds_of_function l.fn.found.items ++ map kinds_of_signature (signatures (map part_of l.items.items))
+    ≡ map kinds_of_function l.found.items ++ map kinds_of_signature (signatures (map part_of (drop l.item-index l.items.items))))

@@ -1,14 +1,15 @@
-use Rattle.std.proofs.Common.{length}
+use Rattle.std.proofs.Common.{ap₂, length, Bool, List}
 use Rattle.syntax_trees.specs.Resolved.{block_of}
 use Rattle.syntax_trees.specs.View.{declarations_view, body_view}
 use Rattle.types.specs.Typed.{table_of}
 use Rattle.flow.specs.View.{block_view}
 use Rattle.lowering.specs.View.{declared, variable_of}
+use Rattle.lowering.proofs.Declaring.{same_shapes}
 use Rattle.lowering.proofs.Statements.{same_count, same_function}
 use Rattle.lowering.proofs.script.function.Goals as goal
 
-pub returns : goal.returns
-returns g c =
+pub returns-clause-core : goal.returns-clause-core
+returns-clause-core g c =
     let A = g.row.A.Denot in
     let inputs = declarations_view {A = A} c.args.function.now.inputs in
     let outputs = declarations_view {A = A} c.args.function.now.outputs in
@@ -16,4 +17,11 @@ returns g c =
     (block_view c.in_ok-body.body) (block_of (table_of c.args.typed.now) (body_view {A = A} c.args.function.now.body))
     (same_count (declared {A = A}) variable_of c.in_ok-inputs.inputs.items inputs c.in_ok-inputs.ensures)
     (same_count (declared {A = A}) variable_of c.in_ok-outputs.outputs.items outputs c.in_ok-outputs.ensures)
-    c.in_ok-body.ensures
+    c.in_ok-body.ensures.core
+
+pub returns-clause-kinds : goal.returns-clause-kinds
+returns-clause-kinds g c =
+    let A = g.row.A.Denot in
+    ap₂ (λ (xs ys : List Bool). (xs, ys))
+    (same_shapes {A = A} c.in_ok-inputs.inputs.items (declarations_view {A = A} c.args.function.now.inputs) c.in_ok-inputs.ensures)
+    (same_shapes {A = A} c.in_ok-outputs.outputs.items (declarations_view {A = A} c.args.function.now.outputs) c.in_ok-outputs.ensures)

@@ -6,9 +6,9 @@ use Rattle.flow.specs.View.{statements_view}
 use Rattle.lowering.proofs.Statements.{gathered}
 use Rattle.lowering.proofs.script.own_block.Goals as goal
 
-pub returns : goal.returns
-returns g c =
+pub returns-clause-core : goal.returns-clause-core
+returns-clause-core g c =
     let A = g.row.A.Denot in
-    c.block_at.ensures
+    c.block_at.ensures.core
     ∙ gathered (script_block (table_of c.args.typed.now) (map (part_of {A = A}) c.args.items.now.items)) (statements_view c.new-statements.result.items)
-    (statements_view c.add_statements.new.found.items) (ap (statements_view {A = A}) c.new-statements.ensures.items) c.in_ok-add_statements.ensures
+    (statements_view c.add_statements.new.found.items) (ap (statements_view {A = A}) c.new-statements.ensures.items) c.in_ok-add_statements.ensures.core

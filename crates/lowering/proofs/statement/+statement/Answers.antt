@@ -1,4 +1,4 @@
-use Rattle.std.proofs.Common.{rules, to_z, of_z, w32, ℤ, ◌≡◌, ◌++◌, ◌≤◌, map, option_map, refl, ap, sym, ◌∙◌, arith}
+use Rattle.std.proofs.Common.{rules, to_z, of_z, w32, ℤ, ◌≡◌, ◌++◌, ◌≤◌, List, map, option_map, refl, ap, sym, ◌∙◌, arith}
 use Rattle.std.proofs.lemmas.Grind.{common_steps}
 use Rattle.std.proofs.lemmas.Result.{on_ok_weaker}
 use Rattle.std.specs.List.{sum_by}
@@ -14,10 +14,15 @@ use Rattle.syntax_trees.specs.Resolved as rules_of
 use Rattle.syntax_trees.proofs.Views.{size_of_element, block-size, view-Block, view-Foreach}
 use Rattle.types.specs.Typed.{table_of}
 use Rattle.flow.specs.declared.statement.Range.{Range as Found}
+use Rattle.flow.specs.declared.statement.Statement.{Statement as Added}
 use Rattle.flow.specs.View.{action_view, outer_view, statements_view}
 use Rattle.lowering.specs.View.{command_alone, statement_alone, statements_among}
 use Rattle.lowering.proofs.Loops.{view_stmt, view_declaration, view_assign_all, view_calls, range_found}
 use Rattle.lowering.proofs.Statements.{statement_first, one_form, block_found}
+use Rattle.well_formed.specs.Types.{statement_declarations, command_declarations, body_declarations}
+use Rattle.flow.specs.Shapes.{action_declared}
+use Rattle.lowering.specs.Shapes.{among, declared_by, flagged}
+use Rattle.lowering.proofs.Declaring.{range_declared, statement_next}
 use Rattle.lowering.proofs.Walks.{walked_more, walked_all}
 use Rattle.lowering.proofs.statement.+statement.Goals as goal
 
@@ -34,44 +39,49 @@ block-each-requires g t c κs within =
 
 pub each-loop-stmt-preserved : goal.each-loop-stmt-preserved
 each-loop-stmt-preserved g t c =
-    let tb = table_of c.args.typed.now in
-    walked_more (statement_view {A = g.row.A.Denot}) (statement_alone tb) (statements_among tb) (statement_first tb)
-    (statements_view c.args.found.now.items ++ statements_among tb (map (statement_view {A = g.row.A.Denot}) c.args.statements.now.items))
-    (statements_view c.loop-stmt.found.items) (statements_view c.statement.new.found.items) c.args.statements.now.items c.loop-stmt.stmt-index c.stmt-item.result
-    c.loop-stmt.invariant (grind (arith, common_steps)) (grind (arith, common_steps)) c.in_ok-statement.ensures
+    let tb = table_of c.args.typed.now in (
+      walked_more (statement_view {A = g.row.A.Denot}) (statement_alone tb) (statements_among tb) (statement_first tb)
+          (statements_view c.args.found.now.items ++ statements_among tb (map (statement_view {A = g.row.A.Denot}) c.args.statements.now.items))
+          (statements_view c.loop-stmt.found.items) (statements_view c.statement.new.found.items) c.args.statements.now.items c.loop-stmt.stmt-index c.stmt-item.result
+          c.loop-stmt.invariant.0 (grind (arith, common_steps)) (grind (arith, common_steps)) c.in_ok-statement.ensures.core,
+      walked_more (statement_view {A = g.row.A.Denot}) (λ (x : Statement). flagged (statement_declarations x)) (λ (xs : List Statement). flagged (among xs)) statement_next
+          (declared_by c.args.found.now.items ++ flagged (among (map (statement_view {A = g.row.A.Denot}) c.args.statements.now.items)))
+          (declared_by c.loop-stmt.found.items) (declared_by c.statement.new.found.items) c.args.statements.now.items c.loop-stmt.stmt-index c.stmt-item.result
+          c.loop-stmt.invariant.1 (grind (arith, common_steps)) (grind (arith, common_steps)) c.in_ok-statement.ensures.declared,
+    )
 
-pub each-returns : goal.each-returns
-each-returns g t c =
+pub each-returns-clause-core : goal.each-returns-clause-core
+each-returns-clause-core g t c =
     let tb = table_of c.args.typed.now in
     walked_all (statement_view {A = g.row.A.Denot}) (statements_among tb) refl
     (statements_view c.args.found.now.items ++ statements_among tb (map (statement_view {A = g.row.A.Denot}) c.args.statements.now.items))
-    (statements_view c.loop-stmt.found.items) c.args.statements.now.items c.loop-stmt.stmt-index c.loop-stmt.invariant (grind (arith, common_steps))
+    (statements_view c.loop-stmt.found.items) c.args.statements.now.items c.loop-stmt.stmt-index c.loop-stmt.invariant.0 (grind (arith, common_steps))
 
-pub statement-returns : goal.statement-returns
-statement-returns g t c =
+pub statement-returns-clause-core : goal.statement-returns-clause-core
+statement-returns-clause-core g t c =
     let A = g.row.A.Denot in
     let s = out-Stmt A c.args.stmt.now in
-    on_ok_weaker c.command.result (λ adds. adds s.to ∙ ap (λ (x : Statement). statements_view c.args.found.now.items ++ statement_alone (table_of c.args.typed.now) x) (sym (view_stmt A c.args.stmt.now))) c.command.ensures
+    on_ok_weaker c.command.result (λ adds. adds s.to ∙ ap (λ (x : Statement). statements_view c.args.found.now.items ++ statement_alone (table_of c.args.typed.now) x) (sym (view_stmt A c.args.stmt.now))) c.command.ensures.core
 
-pub block-returns : goal.block-returns
-block-returns g t c =
+pub block-returns-clause-core : goal.block-returns-clause-core
+block-returns-clause-core g t c =
     let A = g.row.A.Denot in
     let b = out-Block A c.args.body.now in
-    c.block_at.ensures
+    c.block_at.ensures.core
     ∙ block_found (table_of c.args.typed.now) b.from (map (statement_view {A = A}) b.statements.items) (body_view {A = A} c.args.body.now) (statements_view c.new-statements.result.items)
-    (statements_view c.each.new.found.items) (ap (statements_view {A = A}) c.new-statements.ensures.items) c.in_ok-each.ensures (view-Block A c.args.body.now)
+    (statements_view c.each.new.found.items) (ap (statements_view {A = A}) c.new-statements.ensures.items) c.in_ok-each.ensures.core (view-Block A c.args.body.now)
 
-pub command-returns-in-Declare : goal.command-returns-in-Declare
-command-returns-in-Declare g t c =
+pub command-returns-in-Declare-clause-core : goal.command-returns-in-Declare-clause-core
+command-returns-in-Declare-clause-core g t c =
     let A = g.row.A.Denot in
     on_ok_weaker c.declaration.result
     (λ adds. λ to. adds to
     ∙ ap (λ (k : Command). statements_view c.args.found.now.items ++ command_alone (table_of c.args.typed.now) (record { number = c.args.number; first = c.args.first; to = to }) k)
     (sym (ap command_view c.in-Declare.is ∙ view_declaration c.in-Declare.decl c.in-Declare.right)))
-    c.declaration.ensures
+    c.declaration.ensures.core
 
-pub command-returns-in_ok-action-in-AssignAll : goal.command-returns-in_ok-action-in-AssignAll
-command-returns-in_ok-action-in-AssignAll g t c =
+pub command-returns-in_ok-action-in-AssignAll-clause-core : goal.command-returns-in_ok-action-in-AssignAll-clause-core
+command-returns-in_ok-action-in-AssignAll-clause-core g t c =
     let A = g.row.A.Denot in
     let tb = table_of c.args.typed.now in
     let ws = words_view {A = A} c.in-AssignAll.names in
@@ -81,11 +91,11 @@ command-returns-in_ok-action-in-AssignAll g t c =
     (λ adds. λ to. one_form tb (record { number = c.args.number; first = c.args.first; to = to }) (command_view {A = A} c.args.kind.now) (trees.assign_all ws called)
     (statements_view c.args.found.now.items) (statements_view c.add-in-AssignAll.new.found.items) (action_view c.in_ok-action-in-AssignAll.action) (F called)
     (ap command_view c.in-AssignAll.is ∙ view_assign_all c.in-AssignAll.names c.in-AssignAll.call) refl adds
-    (c.in_ok-action-in-AssignAll.ensures ∙ ap F (ap (calling_of {A = A}) c.deref-in-AssignAll.ensures)))
-    c.add-in-AssignAll.ensures
+    (c.in_ok-action-in-AssignAll.ensures.core ∙ ap F (ap (calling_of {A = A}) c.deref-in-AssignAll.ensures)))
+    c.add-in-AssignAll.ensures.core
 
-pub command-returns-in_ok-action-in-Call : goal.command-returns-in_ok-action-in-Call
-command-returns-in_ok-action-in-Call g t c =
+pub command-returns-in_ok-action-in-Call-clause-core : goal.command-returns-in_ok-action-in-Call-clause-core
+command-returns-in_ok-action-in-Call-clause-core g t c =
     let A = g.row.A.Denot in
     let tb = table_of c.args.typed.now in
     let called = calling_of {A = A} c.in-Call.call.value in
@@ -95,11 +105,11 @@ command-returns-in_ok-action-in-Call g t c =
     (λ adds. λ to. one_form tb (record { number = c.args.number; first = c.args.first; to = to }) (command_view {A = A} c.args.kind.now) (trees.calls c.in-Call.priority called)
     (statements_view c.args.found.now.items) (statements_view c.add-in-Call.new.found.items) (action_view c.in_ok-action-in-Call.action) (F c.in-Call.priority called)
     (ap command_view c.in-Call.is ∙ view_calls c.in-Call.priority c.in-Call.call) refl adds
-    (c.in_ok-action-in-Call.ensures ∙ ap (F (to_z w32 (of_z w32 c.in-Call.priority))) (ap (calling_of {A = A}) c.deref-in-Call.ensures) ∙ ap (λ (p : ℤ). F p called) same))
-    c.add-in-Call.ensures
+    (c.in_ok-action-in-Call.ensures.core ∙ ap (F (to_z w32 (of_z w32 c.in-Call.priority))) (ap (calling_of {A = A}) c.deref-in-Call.ensures) ∙ ap (λ (p : ℤ). F p called) same))
+    c.add-in-Call.ensures.core
 
-pub command-returns-in_ok-action-in-Foreach : goal.command-returns-in_ok-action-in-Foreach
-command-returns-in_ok-action-in-Foreach g t c =
+pub command-returns-in_ok-action-in-Foreach-clause-core : goal.command-returns-in_ok-action-in-Foreach-clause-core
+command-returns-in_ok-action-in-Foreach-clause-core g t c =
     let A = g.row.A.Denot in
     let tb = table_of c.args.typed.now in
     let w = word_of {A = A} c.in-Foreach.value in
@@ -111,11 +121,11 @@ command-returns-in_ok-action-in-Foreach g t c =
     (trees.loop w k o (body_view {A = A} c.in-Foreach.body.value))
     (statements_view c.args.found.now.items) (statements_view c.add-in-Foreach.new.found.items) (action_view c.in_ok-action-in-Foreach.action) (F (body_view {A = A} c.in-Foreach.body.value))
     (ap command_view c.in-Foreach.is ∙ view-Foreach c.in-Foreach.value c.in-Foreach.key c.in-Foreach.source c.in-Foreach.body) refl adds
-    (c.in_ok-action-in-Foreach.ensures ∙ ap F (ap (body_view {A = A}) c.deref-in-Foreach.ensures)))
-    c.add-in-Foreach.ensures
+    (c.in_ok-action-in-Foreach.ensures.core ∙ ap F (ap (body_view {A = A}) c.deref-in-Foreach.ensures)))
+    c.add-in-Foreach.ensures.core
 
-pub repeated-returns-in_ok-range-in-Range-2 : goal.repeated-returns-in_ok-range-in-Range-2
-repeated-returns-in_ok-range-in-Range-2 g t c =
+pub repeated-returns-in_ok-range-in-Range-2-clause-core : goal.repeated-returns-in_ok-range-in-Range-2-clause-core
+repeated-returns-in_ok-range-in-Range-2-clause-core g t c =
     let A = g.row.A.Denot in
     let tb = table_of c.args.typed.now in
     let over = c.in-Range.over.value in
@@ -127,4 +137,31 @@ repeated-returns-in_ok-range-in-Range-2 g t c =
     (ap (λ (r : Found A). outer_view r.low) boxed ∙ c.in_ok-range-in-Range.ensures.low ∙ ap (λ (r : Range A). rules_of.outer tb (expression_view r.low)) c.deref.ensures)
     (ap (λ (r : Found A). outer_view r.high) boxed ∙ c.in_ok-range-in-Range.ensures.high ∙ ap (λ (r : Range A). rules_of.outer tb (expression_view r.high)) c.deref.ensures)
     (ap (λ (r : Found A). option_map outer_view r.step) boxed ∙ c.in_ok-range-in-Range.ensures.step ∙ ap (λ (r : Range A). option_map (rules_of.outer tb) (option_map expression_view r.step)) c.deref.ensures)
-    c.in_ok-value.ensures.node c.in_ok-key.ensures.node c.in_ok-body.ensures
+    c.in_ok-value.ensures.node c.in_ok-key.ensures.node c.in_ok-body.ensures.core
+
+pub each-returns-clause-declared : goal.each-returns-clause-declared
+each-returns-clause-declared g t c =
+    walked_all (statement_view {A = g.row.A.Denot}) (λ (xs : List Statement). flagged (among xs)) refl
+    (declared_by c.args.found.now.items ++ flagged (among (map (statement_view {A = g.row.A.Denot}) c.args.statements.now.items)))
+    (declared_by c.loop-stmt.found.items) c.args.statements.now.items c.loop-stmt.stmt-index c.loop-stmt.invariant.1 (grind (arith, common_steps))
+
+pub block-returns-clause-declared : goal.block-returns-clause-declared
+block-returns-clause-declared g t c =
+    let A = g.row.A.Denot in
+    let b = out-Block A c.args.body.now in
+    c.block_at.ensures.declared
+    ∙ c.in_ok-each.ensures.declared
+    ∙ ap (λ (xs : List (Added A)). declared_by xs ++ flagged (among (map (statement_view {A = A}) b.statements.items))) c.new-statements.ensures.items
+    ∙ ap (λ (x : trees.Body). flagged (body_declarations x)) (sym (view-Block A c.args.body.now))
+
+pub command-returns-in_ok-action-in-Foreach-clause-declared : goal.command-returns-in_ok-action-in-Foreach-clause-declared
+command-returns-in_ok-action-in-Foreach-clause-declared g t c =
+    let A = g.row.A.Denot in
+    let old = declared_by c.args.found.now.items in
+    let inside = ap (λ (b : _). flagged (body_declarations (body_view {A = A} b))) c.deref-in-Foreach.ensures in
+    let is = ap (λ (k : Command). flagged (command_declarations k)) (ap (command_view {A = A}) c.in-Foreach.is ∙ view-Foreach c.in-Foreach.value c.in-Foreach.key c.in-Foreach.source c.in-Foreach.body) in
+    on_ok_weaker c.add-in-Foreach.result (λ adds. adds ∙ ap (λ ds. old ++ ds) (c.in_ok-action-in-Foreach.ensures.declared ∙ inside ∙ sym is)) c.add-in-Foreach.ensures.declared
+
+pub repeated-returns-in_ok-range-in-Range-2-clause-declared : goal.repeated-returns-in_ok-range-in-Range-2-clause-declared
+repeated-returns-in_ok-range-in-Range-2-clause-declared g t c =
+    range_declared c.in_ok-range-in-Range-2.range c.in_ok-value.value c.in_ok-key.key c.in_ok-body.body ∙ c.in_ok-body.ensures.declared

@@ -4,6 +4,7 @@ use Rattle.syntax_trees.specs.View.{statement_view, command_view, body_view}
 use Rattle.syntax_trees.specs.Numbered.{statement_size, command_size, body_size}
 use Rattle.types.specs.Typed.{table_of}
 use Rattle.flow.specs.View.{statements_view}
+use Rattle.lowering.specs.Shapes.{among, declared_by, flagged}
 use Rattle.lowering.specs.View.{statements_among}
 use Rattle.lowering.proofs.statement.+statement.Given as goal
 
@@ -36,5 +37,7 @@ decreases-each g l = 6 * sum_by statement_size (map statement_view l.statements.
 
 abbrev pub invariant-each-loop-stmt : goal.invariant-each-loop-stmt
 invariant-each-loop-stmt g l =
-    statements_view l.fn.found.items ++ statements_among (table_of l.typed) (map statement_view l.statements.items)
-    ≡ statements_view l.found.items ++ statements_among (table_of l.typed) (map statement_view (drop l.stmt-index l.statements.items))
+    (statements_view l.fn.found.items ++ statements_among (table_of l.typed) (map statement_view l.statements.items)
+    ≡ statements_view l.found.items ++ statements_among (table_of l.typed) (map statement_view (drop l.stmt-index l.statements.items)))
+    × (declared_by l.fn.found.items ++ flagged (among (map statement_view l.statements.items))
+    ≡ declared_by l.found.items ++ flagged (among (map statement_view (drop l.stmt-index l.statements.items))))

@@ -9,14 +9,14 @@ use Rattle.lowering.proofs.Loops.{view_declare}
 use Rattle.lowering.proofs.Statements.{declared_with}
 use Rattle.lowering.proofs.statement.declaration.Goals as goal
 
-pub returns-in_ok-action-in-Some : goal.returns-in_ok-action-in-Some
-returns-in_ok-action-in-Some g c =
+pub returns-in_ok-action-in-Some-clause-core : goal.returns-in_ok-action-in-Some-clause-core
+returns-in_ok-action-in-Some-clause-core g c =
     let A = g.row.A.Denot in
     let tb = table_of c.args.typed.now in
     on_ok_weaker c.add-in-Some.result
     (λ adds. λ to. declared_with tb (record { number = c.args.number; first = c.args.first; to = to }) (declaration_of {A = A} c.args.decl.now) (right_of {A = A} c.in-Some.right)
     (option_map (right_of {A = A}) c.args.right.now) (statements_view c.args.found.now.items) (statements_view c.add.new.found.items) (statements_view c.add-in-Some.new.found.items)
     (action_view (Declare c.in_ok-variable.variable)) (action_view c.in_ok-action-in-Some.action) (name_view c.own_name.result) c.own_name.result.shape
-    (ap (option_map (right_of {A = A})) c.in-Some.is) c.in_ok-add.ensures (view_declare c.in_ok-variable.variable ∙ ap core.declare c.in_ok-variable.ensures.node)
-    adds c.in_ok-action-in-Some.ensures c.own_name.ensures.name c.own_name.ensures.shape)
-    c.add-in-Some.ensures
+    (ap (option_map (right_of {A = A})) c.in-Some.is) c.in_ok-add.ensures.core (view_declare c.in_ok-variable.variable ∙ ap core.declare c.in_ok-variable.ensures.node)
+    adds c.in_ok-action-in-Some.ensures.core c.own_name.ensures.name c.own_name.ensures.shape)
+    c.add-in-Some.ensures.core

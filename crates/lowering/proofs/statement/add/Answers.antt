@@ -1,0 +1,12 @@
+use Rattle.std.proofs.Common.{rules, ◌≡◌, ◌++◌, ap, ◌∙◌}
+use Rattle.flow.specs.declared.statement.Statement.{the_lemmas}
+use Rattle.flow.specs.Shapes.{action_declared}
+use Rattle.lowering.specs.Shapes.{declared_by}
+use Rattle.lowering.proofs.Declaring.{one_more}
+use Rattle.lowering.proofs.statement.add.Goals as goal
+
+pub returns-clause-declared : goal.returns-clause-declared
+returns-clause-declared g c =
+    ap declared_by c.in_ok-push.ensures.items
+    ∙ one_more c.args.found.now.items _
+    ∙ ap (λ ds. declared_by c.args.found.now.items ++ ds) (search (rules, the_lemmas))

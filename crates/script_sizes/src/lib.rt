@@ -1,0 +1,17 @@
+//! How much code a script can come to. Nothing here runs: the function has an empty body, and its contract is a law.
+#![tactic(auto)]
+
+ghost use Rattle.agreement.specs.Emitted.{CallsOnce, size_of};
+ghost use Rattle.std.specs.Prelude.{◌≤◌, ◌*◌, ℕ, List};
+ghost use Rattle.syntax_trees.specs.Numbered.{tree_size};
+ghost use Rattle.syntax_trees.specs.Reads.{Reads};
+ghost use Rattle.syntax_trees.specs.Resolved.{core};
+ghost use Rattle.syntax_trees.specs.Table.{Table};
+ghost use Rattle.syntax_trees.specs.Tree.{Tree};
+
+/// The core of a tree, by any table of its names, has at most twice as many functions, statements, cells and calls as the tree has numbers; and no two calls
+/// of a text that reads as the tree have one offset.
+pub fn script_sizes()
+    ensures within { (t : Table) (tree : Tree) → size_of (core t tree) ≤ 2 * tree_size tree }
+    ensures calls { (bytes : List ℕ) (t : Table) (tree : Tree) → Reads bytes tree → CallsOnce (core t tree) }
+{}
