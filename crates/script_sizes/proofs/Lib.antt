@@ -1,2 +1,3 @@
 pub mod Sizes
 pub mod Calls
+pub mod Room

@@ -50,7 +50,7 @@ weight (p ∷ ps) = part_weight p + weight ps
 single_operand : (p : List core.Part × core.Expr) → weight (one_operand p).0 + all_names (one_operand p).1 ≡ weight p.0 + names p.1
 single_operand (ps, e) = omega arith
 
-append : (ps qs : List core.Part) → weight (ps ++ qs) ≡ weight ps + weight qs
+pub append : (ps qs : List core.Part) → weight (ps ++ qs) ≡ weight ps + weight qs
 append [] qs = omega arith
 append (p ∷ ps) qs = let e = append ps qs in omega arith
 
@@ -251,7 +251,7 @@ stmts_append : (xs ys : List Stmt) → stmts_weight (xs ++ ys) ≡ stmts_weight 
 stmts_append [] ys = omega arith
 stmts_append (stmt at n a ∷ xs) ys = let e = stmts_append xs ys in omega arith
 
-among_append : (xs ys : List Block) → stmts_weight (stmts_among (xs ++ ys)) ≡ stmts_weight (stmts_among xs) + stmts_weight (stmts_among ys)
+pub among_append : (xs ys : List Block) → stmts_weight (stmts_among (xs ++ ys)) ≡ stmts_weight (stmts_among xs) + stmts_weight (stmts_among ys)
 among_append [] ys = omega arith
 among_append (b ∷ xs) ys =
     let e = among_append xs ys in
@@ -260,13 +260,13 @@ among_append (b ∷ xs) ys =
     omega arith
 
 -- a block with those inside it
-abbrev inside : Block → ℕ
+abbrev pub inside : Block → ℕ
 inside b = stmts_weight (block_list b) + stmts_weight (stmts_among (blocks_below b))
 
-within : (b : Block) → stmts_weight (stmts_among (b ∷ blocks_below b)) ≡ inside b
+pub within : (b : Block) → stmts_weight (stmts_among (b ∷ blocks_below b)) ≡ inside b
 within b = stmts_append (block_list b) (stmts_among (blocks_below b))
 
-front : (at m : ℕ) (a : Action) (b : Block) → inside (stmts (stmt at m a) b) ≡ suc (weight (parts a)) + stmts_weight (stmts_among (blocks_inside a)) + inside b
+pub front : (at m : ℕ) (a : Action) (b : Block) → inside (stmts (stmt at m a) b) ≡ suc (weight (parts a)) + stmts_weight (stmts_among (blocks_inside a)) + inside b
 front at m a b = let y = among_append (blocks_inside a) (blocks_below b) in omega arith
 
 alone : (at m : ℕ) (a : Action) (b : Block) → blocks_inside a ≡ [] → inside (stmts (stmt at m a) b) ≡ suc (weight (parts a)) + inside b

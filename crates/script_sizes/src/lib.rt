@@ -2,16 +2,19 @@
 #![tactic(auto)]
 
 ghost use Rattle.agreement.specs.Emitted.{CallsOnce, size_of};
-ghost use Rattle.std.specs.Prelude.{◌≤◌, ◌*◌, ℕ, List};
+ghost use Rattle.agreement.specs.Room.{CoreRoom};
+ghost use Rattle.std.specs.Prelude.{◌<◌, ◌≤◌, ◌*◌, ◌^◌, ℕ, List};
 ghost use Rattle.syntax_trees.specs.Numbered.{tree_size};
 ghost use Rattle.syntax_trees.specs.Reads.{Reads};
 ghost use Rattle.syntax_trees.specs.Resolved.{core};
 ghost use Rattle.syntax_trees.specs.Table.{Table};
 ghost use Rattle.syntax_trees.specs.Tree.{Tree};
+ghost use Rattle.syntax_trees.specs.Typing.{WellTyped};
 
 /// The core of a tree, by any table of its names, has at most twice as many functions, statements, cells and calls as the tree has numbers; and no two calls
-/// of a text that reads as the tree have one offset.
+/// of a text that reads as the tree have one offset. If the text is well typed, its names and expressions have room in code.
 pub fn script_sizes()
     ensures within { (t : Table) (tree : Tree) → size_of (core t tree) ≤ 2 * tree_size tree }
     ensures calls { (bytes : List ℕ) (t : Table) (tree : Tree) → Reads bytes tree → CallsOnce (core t tree) }
+    ensures room { (bytes : List ℕ) (t : Table) (tree : Tree) → Reads bytes tree → WellTyped tree t → 2 * tree_size tree < 2 ^ 30 → CoreRoom (core t tree) }
 {}
