@@ -54,7 +54,7 @@ fn push(
     rt: &impl Abort,
     code: &mut Code,
     alloc: Global,
-    place: (u32, u32),
+    place: (u32, usize),
     act: Act,
     reads: &[Name],
     writes: Name,
@@ -119,8 +119,8 @@ fn push_call(
     code: &mut Code,
     alloc: Global,
     below: i64,
-    argument: (u32, u32),
-    called: (u32, u32),
+    argument: (u32, usize),
+    called: (u32, usize),
 ) {
     let cell = Act::Cell(sum(rt, alloc, Sign::Minus, number(below)));
     push(
