@@ -1,4 +1,4 @@
--- What emission asks of the names and expressions of a core: that places of parameters fit 64 bits, and places of needs 32.
+-- What emission asks of the names and expressions of a core: that places of parameters fit 64 bits, and places of needs and numbers of functions 32.
 use Rattle.std.specs.Prelude.{ℕ, ◌+◌, ◌<◌, ◌^◌, List, [], ◌∷◌, Option, Some, None, length}
 use Rattle.syntax_trees.specs.Core.{Owned, local, input, output, Name, Expr, Exprs, literal, name, whole, operator, none, also, Form, compute, read, Cell, Call, Part, inner, calls, Outer, Awaited, scalar, array, Stmt, stmt, Action, declare, call_alone, assign, fill, insert, print, assert, when, choose, range, each, wait, Block, no_stmts, stmts, Function, Core}
 use Rattle.agreement.specs.CodeNames.{wanted}
@@ -37,7 +37,7 @@ module _ (k : ℕ) where
 
   abbrev pub PartRoom : Part → Type 0
   PartRoom (inner c) = FormRoom c.form
-  PartRoom (calls c) = Each NameRoom c.inputs × Each NameRoom c.outputs
+  PartRoom (calls c) = (c.function + 1 < 2 ^ 32) × (Each NameRoom c.inputs × Each NameRoom c.outputs)
 
   abbrev pub OuterRoom : Outer → Type 0
   OuterRoom o = Each PartRoom o.parts × FormRoom o.cell.form

@@ -1,0 +1,4 @@
+pub mod Once
+pub mod Keys
+pub mod Walks
+pub mod Befores

@@ -1,0 +1,10 @@
+//! What entries of code wait for and work out: names, needs and expressions of a flow as code has them, and what others see of
+//! a cell.
+#![tactic(auto)]
+
+pub mod names;
+pub mod needs;
+pub mod operators;
+pub mod over;
+pub mod plain;
+pub mod seen;
