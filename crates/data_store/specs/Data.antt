@@ -18,6 +18,11 @@ abbrev pub nothing : Shape → Content
 nothing Single = OfScalar None
 nothing Keyed = OfArray arrays.empty
 
+-- what it is
+abbrev pub shape_of : Content → Shape
+shape_of (OfScalar value) = Single
+shape_of (OfArray array) = Keyed
+
 -- it is a scalar
 abbrev pub IsScalar : Content → Type 0
 IsScalar (OfScalar value) = Unit {0}

@@ -5,7 +5,7 @@ use Rattle.data_store.specs.Arrays.{Array}
 use Rattle.data_store.specs.declared.datum.Content.TheVariants.{OfScalar}
 use Rattle.data_store.specs.declared.datum.Datum.{Datum}
 use Rattle.data_store.specs.declared.datum.Shape.{Shape}
-use Rattle.data_store.specs.Data.{IsScalar, IsArray, array_in, value_of, nothing, kept}
+use Rattle.data_store.specs.Data.{shape_of, IsScalar, IsArray, array_in, value_of, nothing, kept}
 
 -- the datum under each number from 0 on, or nothing, and how many further data are sure to find memory
 pub record Store : Type 0 where
@@ -27,6 +27,10 @@ live s = count_by is_some s.cells
 -- a number has a datum
 abbrev pub IsLive : Store → ℕ → Type 0
 IsLive s d = IsSome (at s d)
+
+-- what the datum under a number is
+abbrev pub shape_at : Store → ℕ → Option Shape
+shape_at s d = option_map (λ x. shape_of x.content) (at s d)
 
 -- it has a scalar
 abbrev pub IsScalarAt : Store → ℕ → Type 0

@@ -2,7 +2,7 @@
 ghost use Rattle.std.specs.Prelude.{◌≡◌, ◌+◌, ◌<◌, ◌≤◌, ◌^◌, None, length, IfErr, IfOk, IsOk, OnOk, OnErr, option_copied};
 ghost use Rattle.values.specs.Maps.{found};
 ghost use Rattle.data_store.specs.Arrays.{with_element, with_room};
-ghost use Rattle.data_store.specs.Data.{nothing, IsScalar, IsArray, value_of, array_in, with_value, with_array, with_holds, without_read, without_write, is_spent, RefusesPut, RefusesInsert};
+ghost use Rattle.data_store.specs.Data.{nothing, shape_of, IsScalar, IsArray, value_of, array_in, with_value, with_array, with_holds, without_read, without_write, is_spent, RefusesPut, RefusesInsert};
 
 use crate::elements::Elements;
 use crate::refusal::Refusal;
@@ -61,6 +61,25 @@ impl Content {
         match self {
             Content::OfArray(elements) => elements.get(key),
             Content::OfScalar(_) => None,
+        }
+    }
+
+    pub fn shape(&self) -> Shape
+        ensures { result ≡ shape_of self.now }
+    {
+        match self {
+            Content::OfScalar(_) => Shape::Single,
+            Content::OfArray(_) => Shape::Keyed,
+        }
+    }
+
+    pub fn listed(&self, alloc: Global) -> Result<Map, AllocError>
+        requires { IsArray self.now }
+        ensures { IfOk result (λ map. map ≡ (array_in self.now).elements) }
+    {
+        match self {
+            Content::OfArray(elements) => elements.listed(alloc),
+            Content::OfScalar(_) => unreachable!(),
         }
     }
 

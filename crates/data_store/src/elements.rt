@@ -94,6 +94,15 @@ impl Index {
         Ok(())
     }
 
+    pub fn listed(&self, alloc: Global) -> Result<Map, AllocError>
+        ensures { IfOk result (λ map. map ≡ self.now.elements) }
+    {
+        if let Some(map) = &self.sorted {
+            return map.share();
+        }
+        Map::new(alloc, sorted(alloc, &self.slots, &self.by_key)?)
+    }
+
     pub fn whole(&mut self, alloc: Global) -> Result<Map, AllocError>
         ensures whole { IfOk result (λ map. map ≡ self.old.elements) }
         ensures same { self.new ≡ self.old }
@@ -179,6 +188,16 @@ impl Elements {
                 self.index = Some(index);
                 Ok(())
             }
+        }
+    }
+
+    /// All elements by rising key: the list that `whole` keeps, or a new one.
+    pub fn listed(&self, alloc: Global) -> Result<Map, AllocError>
+        ensures { IfOk result (λ map. map ≡ self.now.elements) }
+    {
+        match &self.index {
+            Some(index) => index.listed(alloc),
+            None => Map::new(alloc, Vec::new(alloc)),
         }
     }
 

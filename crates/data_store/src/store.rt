@@ -4,7 +4,7 @@ ghost use Rattle.values.specs.Maps.{found};
 ghost use Rattle.data_store.specs.Arrays as arrays;
 ghost use Rattle.data_store.specs.Arrays.{with_element};
 ghost use Rattle.data_store.specs.Data.{with_value, with_array, with_holds, without_read, without_write, RefusesPut, RefusesInsert};
-ghost use Rattle.data_store.specs.Stores.{empty, live, IsLive, IsScalarAt, IsArrayAt, datum, value_at, array_at, fresh, changed, given_up, with_room, Adds};
+ghost use Rattle.data_store.specs.Stores.{empty, live, shape_at, IsLive, IsScalarAt, IsArrayAt, datum, value_at, array_at, fresh, changed, given_up, with_room, Adds};
 
 pub use crate::datum::Shape;
 use crate::datum::{Content, Datum};
@@ -133,6 +133,24 @@ impl Store {
         ensures { result ≡ length (array_at self.now d).elements }
     {
         self.cells[d].content.size()
+    }
+
+    /// What the datum of a number is, where there is one.
+    pub fn shape(&self, d: DatumNo) -> Option<Shape>
+        ensures { result ≡ shape_at self.now d }
+    {
+        match self.cells.get(d) {
+            Some(datum) => Some(datum.content.shape()),
+            None => None,
+        }
+    }
+
+    /// All elements of an array by rising key, shared with those whom `whole` gave them, if it did since the last insert.
+    pub fn listed(&self, d: DatumNo) -> Result<Map, AllocError>
+        requires { IsArrayAt self.now d }
+        ensures { IfOk result (λ map. map ≡ (array_at self.now d).elements) }
+    {
+        self.cells[d].content.listed(self.alloc)
     }
 
     /// All elements of an array by rising key. The first call after an insert sorts them and asks for memory for a list

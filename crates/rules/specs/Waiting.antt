@@ -1,5 +1,5 @@
 -- Items that wait, and what becomes of them.
-use Rattle.std.specs.Prelude.{◌≡◌, ℕ, ◌+◌, ◌<◌, ◌≤◌, ◌==◌, Bool, not, if◌then◌else◌, List, [], ◌∷◌, ◌++◌, length, filter, map, filter_map, Option, Some, None, IsPermutation}
+use Rattle.std.specs.Prelude.{◌≡◌, max, ℕ, ◌+◌, ◌<◌, ◌≤◌, ◌==◌, Bool, not, if◌then◌else◌, List, [], ◌∷◌, ◌++◌, length, filter, map, filter_map, Option, Some, None, IsPermutation}
 use Rattle.rules.specs.declared.input.Input.{Input}
 use Rattle.rules.specs.Inputs.{covers}
 
@@ -52,6 +52,10 @@ pub record IsAdded (old new : Listing) (w : Waiting) : Type 0 where
   pub waiting : IsPermutation (w ∷ old.waiting) new.waiting
   pub room : old.room ≤ new.room + 1
   pub had_room : 0 < old.room → new.room + 1 ≡ old.room
+
+-- the same items, with room for n or more
+abbrev pub with_room : ℕ → Listing → Listing
+with_room n l = record l { room = max l.room n }
 
 -- each item that left has given its place back
 abbrev pub GivesRoomBack : Listing → Listing → Type 0

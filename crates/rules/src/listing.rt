@@ -1,7 +1,7 @@
 //! The items that wait, with what they wait for.
 ghost use Rattle.std.specs.Prelude.{◌≡◌, ◌==◌, ℕ, ◌+◌, ◌<◌, ◌≤◌, ◌∷◌, false, length, OnOk, OnErr, IfOk, IsOk, IsPermutation, Some, slice_index_or, None, vec_len, vec_capacity};
 ghost use Rattle.slab.specs.Slab.{slab_len, HasRoomFor};
-ghost use Rattle.rules.specs.Waiting.{empty, IsAdded, IsListed, GivesRoomBack, still_waiting, woken, without_item};
+ghost use Rattle.rules.specs.Waiting.{empty, with_room, IsAdded, IsListed, GivesRoomBack, still_waiting, woken, without_item};
 ghost use Rattle.rules.specs.Slots.{after_slot, unless_item, present, is_idle, IsSettled, Shrinks, Learnt, AllBusy};
 ghost use Rattle.rules.specs.Places.{IsNoted};
 
@@ -171,6 +171,26 @@ impl Rules {
         if self.waiters.len() == self.slots {
             self.waiters.reserve(1)?;
             self.slots = self.waiters.capacity();
+        }
+        Ok(())
+    }
+
+    /// Makes the next `n` calls of `add` ask for no memory that they can be refused.
+    ///
+    /// # Errors
+    ///
+    /// `AllocError` where there was less room and memory is refused.
+    pub fn reserve(&mut self, n: usize) -> Result<(), AllocError>
+        ensures ok { OnOk result (self.new ≡ with_room n self.old) }
+        ensures succeeds { n ≤ self.old.room → IsOk result }
+        ensures err { OnErr result (self.new ≡ self.old) }
+    {
+        if self.slots - self.waiters.len() < n {
+            self.waiters.reserve(n)?;
+            let most = self.waiters.capacity();
+            let slots = self.waiters.len() + n;
+            prove!(slots <= most);
+            self.slots = slots;
         }
         Ok(())
     }
