@@ -75,6 +75,8 @@ module _ (C : Code) (l : Layout) (T : Table) where
 -- code is laid for a script, whose functions have inputs and outputs of these kinds, and in which these variables are declared, each an array or not
 pub record IsLaid (s : Core) (fs : List Kinds) (ds : List (ℕ × Bool)) (C : Code) (l : Layout) : Type 0 where
   pub table : Table
+  -- the body of a function stands behind the script's
+  pub places : (i : ℕ) → l.body_of i ≡ suc i
   pub script : Stands C l table 0 s.body [] ByMain 0
   pub functions : (i : ℕ) (f : Function) → slice_get s.functions i ≡ Some f → Stands C l table f.inputs f.body [] ByCalls (suc i)
   pub bodies : (t : ℕ) → t < length C.bodies → BodyLaid C l table s t

@@ -4,3 +4,17 @@ pub mod Layouts
 pub mod Few
 pub mod Marks
 pub mod Small
+pub mod Rows
+pub mod Numbering
+pub mod Nodes
+pub mod Made
+pub mod Moves
+pub mod Tables
+pub mod Placed
+pub mod Origins
+pub mod Fits
+pub mod Whole
+pub mod IndexParts
+pub mod Accepted
+pub mod CodeOf
+pub mod Told

@@ -6,7 +6,15 @@ ghost use Rattle.dataflow.specs.System.{In};
 ghost use Rattle.syntax_trees.specs.Core.{Core};
 ghost use Rattle.task_code.specs.Code.{Calling, Code, call_at, entry, ways};
 ghost use Rattle.agreement.specs.Emitted.{CallsOnce, CellsOnce, ReadsStand, size_of};
+ghost use Rattle.agreement.specs.IsCodeOf.{IsCodeOf, Layout};
+ghost use Rattle.agreement.specs.Laid.{IsLaid};
 ghost use Rattle.agreement.specs.Laying.{Kinds, LaysScript};
+ghost use Rattle.agreement.specs.NodesOnce.{NodesOnce};
+ghost use Rattle.syntax_trees.specs.Typing.{WellTyped};
+ghost use Rattle.syntax_trees.specs.Reads.{Reads};
+ghost use Rattle.syntax_trees.specs.Resolved.{core};
+ghost use Rattle.syntax_trees.specs.Table.{Table};
+ghost use Rattle.syntax_trees.specs.Tree.{Tree};
 
 /// In code that is laid for a core whose calls have offsets of their own and whose cells have nodes of their own, with the index of each read among them, an entry that calls a function is found by its mark.
 pub fn calls_are_found()
@@ -17,4 +25,27 @@ pub fn calls_are_found()
 /// Code that is laid for a core has no more entries than the core has functions, statements, cells and calls.
 pub fn laid_code_is_small()
     ensures { (c : Core) (fs : List Kinds) (ds : List (ℕ × Bool)) (C : Code) → LaysScript c fs ds C → CellsOnce c → ReadsStand c → length C.entries ≤ size_of c }
+{}
+
+/// What the emission of code asks of a core the core of each text that reads as a well typed tree has: each of its cells has a node of its own, and the index of each read stands before it.
+pub fn accepted_cores_can_be_laid()
+    ensures cells { (bytes : List ℕ) (t : Table) (tree : Tree) → Reads bytes tree → CellsOnce (core t tree) }
+    ensures reads { (t : Table) (tree : Tree) → ReadsStand (core t tree) }
+{}
+
+/// Code that is laid for the core of a text that reads as a tree is a table of it, whatever its functions' kinds and however its variables are declared: each body stands for a block, with the
+/// entries of its statements and their variables, and each entry and each variable stands once.
+pub fn laid_code_is_a_table()
+    ensures { (bytes : List ℕ) (t : Table) (tree : Tree) (fs : List Kinds) (ds : List (ℕ × Bool)) (C : Code) → Reads bytes tree → LaysScript (core t tree) fs ds C → (l : Layout) × IsLaid (core t tree) fs ds C l }
+{}
+
+/// Code that is a table of a core, by any layout, is the core's code.
+pub fn a_table_is_the_cores_code()
+    ensures { (s : Core) (fs : List Kinds) (ds : List (ℕ × Bool)) (C : Code) (l : Layout) → IsLaid s fs ds C l → IsCodeOf s C }
+{}
+
+/// So code that is laid for the core of a text that reads as a well typed tree is this core's code, and an entry of it that works out, writes or prints something has its node to itself.
+pub fn laid_code_is_the_cores_code()
+    ensures code { (bytes : List ℕ) (t : Table) (tree : Tree) (fs : List Kinds) (ds : List (ℕ × Bool)) (C : Code) → Reads bytes tree → LaysScript (core t tree) fs ds C → IsCodeOf (core t tree) C }
+    ensures nodes { (bytes : List ℕ) (t : Table) (tree : Tree) (fs : List Kinds) (ds : List (ℕ × Bool)) (C : Code) → Reads bytes tree → WellTyped tree t → LaysScript (core t tree) fs ds C → NodesOnce C }
 {}
