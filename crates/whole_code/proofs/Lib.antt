@@ -3,3 +3,14 @@ mod Roles
 mod Shapes
 mod Openings
 mod Standings
+mod Scoping
+mod Coming
+mod Stating
+mod Settling
+mod Lookup
+mod Made
+mod Arguments
+mod Led
+mod Bases
+mod Fields
+mod Accepted

@@ -1,5 +1,5 @@
 -- The bodies that an entry of laid code opens: an inner block, the content of waits, or a function's body.
-use Rattle.std.proofs.Common.{◌≡◌, inl, inr, ℕ, suc, ◌<◌, ℤ, Bool, List, [], ◌∷◌, ◌++◌, length, refl, sym, ap, subst, Option, Some}
+use Rattle.std.proofs.Common.{◌≡◌, inl, inr, ℕ, suc, ◌<◌, ℤ, Bool, List, [], ◌∷◌, ◌++◌, length, refl, sym, ap, subst, Option, Some, None}
 use Rattle.std.specs.Prelude.{slice_get}
 use Rattle.dataflow.specs.System.{In}
 use Rattle.syntax_trees.specs.Core as Co
@@ -9,8 +9,9 @@ use Rattle.syntax_trees.specs.Parts.{block_list, parts, part_calls, stmt_calls, 
 use Rattle.syntax_trees.specs.WellFormed.{header_blocks}
 use Rattle.syntax_trees.proofs.Members.{split_in, to_left, to_right, either}
 use Rattle.syntax_trees.proofs.Blocks.{among}
+use Rattle.syntax_trees.proofs.Tested.{roles_of, with_turn}
 use Rattle.task_code.specs.Code as code
-use Rattle.task_code.specs.Code.{Variable, Header, Loop, Act, Way, InPlace, Through, Calling, Code, ByCalls, ByStep, ByWait, Opener, entry, body, ways, loop_of, loop_variables, blank_entry, Entry}
+use Rattle.task_code.specs.Code.{Variable, Header, Loop, Act, Way, InPlace, Through, Calling, Code, ByCalls, ByStep, ByWait, Opener, entry, body, ways, loop_of, loop_variables, turn_variables, scalar, blank_entry, Entry}
 use Rattle.meaning_laws.specs.Scoped.{Scoped}
 use Rattle.meaning_laws.specs.TypedValues.{own_cell, own_outer, own_parts}
 use Rattle.agreement.specs.IsCodeOf.{Layout, own_expr, own_needs, fill_act, simple_act, IsSimple, CallAs, PartAs, plain_literal, plain_name, a_cell, a_read, a_call}
@@ -61,6 +62,10 @@ pub data LoopsOver : Stmt → Loop → Block → Type 0 where
   over_range : {at n x t : ℕ} {lo hi : Outer} {st : Option Outer} {y : Option ℕ} {b : Block} → LoopsOver (stmt at n (range lo hi st x y b)) (record { body = t; value = x; turn = y }) b
   over_each : {at n x t : ℕ} {a : Name} {y : Option ℕ} {b : Block} → LoopsOver (stmt at n (each a x y b)) (record { body = t; value = x; turn = y }) b
 
+role_made : (x : ℕ) (y : Option ℕ) (z : ℕ) → z ∈ with_turn x y → In (scalar z) (scalar x ∷ turn_variables y)
+role_made x None z m = elim (split_in m) [ inl e ↦ inl (ap scalar e) | inr i ↦ elim i [ ] ]
+role_made x (Some t) z m = elim (split_in m) [ inl e ↦ inl (ap scalar e) | inr i ↦ elim (split_in i) [ inl e ↦ inr (inl (ap scalar e)) | inr j ↦ elim j [ ] ] ]
+
 no_fill_way : {A : Type 0} (l : Layout) (k : ℕ) (ms : List code.Need) (x : Name) (e : Expr) (y : Way × ℕ) → In y (ways (fill_act l k ms x e)) → A
 no_fill_way l k ms x (Co.whole b) y h = absurd h
 no_fill_way l k ms x (Co.literal v) y h = absurd h
@@ -104,7 +109,7 @@ no_simple_loop l k (wait ns b) w z h = absurd z
 module _ (s : Core) (C : Code) (l : Layout) (T : Table) where
   -- an entry of a body opens another body so
   pub data OpensAs (t i : ℕ) : Way → ℕ → Type 0 where
-    opens_header : {at n b : ℕ} {a : Action} {c : Block} (vs : List Variable) → stmt at n a ∈ block_list (T.block_of t) → c ∈ header_blocks a → (entry C i).mark ≡ at → Stands C l T (T.inputs_of t) c vs (ByStep i) b → OpensAs t i Through b
+    opens_header : {at n b : ℕ} {a : Action} {c : Block} (vs : List Variable) → ((x : ℕ) → x ∈ roles_of a → In (scalar x) vs) → stmt at n a ∈ block_list (T.block_of t) → c ∈ header_blocks a → (entry C i).mark ≡ at → Stands C l T (T.inputs_of t) c vs (ByStep i) b → OpensAs t i Through b
     opens_wait : {at n b : ℕ} {ns : List Awaited} {d c : Block} {hs : List Header} → stmt at n (wait ns d) ∈ block_list (T.block_of t) → Headers (T.inputs_of t) (stmt at n (wait ns d)) hs c
         → Stands C l T (T.inputs_of t) c [] (ByWait i) b → OpensAs t i InPlace b
     opens_call : {b : ℕ} {st : Stmt} {c : Call} {f : Function} (at : ℕ) (p : ℤ) → st ∈ block_list (T.block_of t) → calls c ∈ own_of st → CallAs C l (T.inputs_of t) (own_of st) at p c i
@@ -126,10 +131,10 @@ module _ (s : Core) (C : Code) (l : Layout) (T : Table) where
 
   own_opens : {t : ℕ} (i b : ℕ) (w : Way) {st : Stmt} → st ∈ block_list (T.block_of t) → OwnOf C l T (T.inputs_of t) st i → In (w, b) (ways (entry C i).act) → OpensAs t i w b
   own_opens {t} i b w m (own_simple {a = a} z e q) h = no_simple_way l (T.inputs_of t) a (w, b) z (by_act i (w, b) e.act_is h)
-  own_opens i b w m (own_branch {t = u} e q s) h = one_way Through u (opens_header [] m first q s) (by_act i (w, b) e.act_is h)
-  own_opens i b w m (own_branches {t = u} {u = v} e q s r) h = two_ways Through Through u v (opens_header [] m first q s) (opens_header [] m (later first) q r) (by_act i (w, b) e.act_is h)
-  own_opens i b w m (own_range {t = u} {x = x} {y = y} e q s) h = one_way Through u (opens_header _ m first q s) (by_act i (w, b) e.act_is h)
-  own_opens i b w m (own_each {t = u} e q s) h = one_way Through u (opens_header _ m first q s) (by_act i (w, b) e.act_is h)
+  own_opens i b w m (own_branch {t = u} e q s) h = one_way Through u (opens_header [] (λ x i. elim i [ ]) m first q s) (by_act i (w, b) e.act_is h)
+  own_opens i b w m (own_branches {t = u} {u = v} e q s r) h = two_ways Through Through u v (opens_header [] (λ x i. elim i [ ]) m first q s) (opens_header [] (λ x i. elim i [ ]) m (later first) q r) (by_act i (w, b) e.act_is h)
+  own_opens i b w m (own_range {t = u} {x = x} {y = y} e q s) h = one_way Through u (opens_header _ (role_made x y) m first q s) (by_act i (w, b) e.act_is h)
+  own_opens i b w m (own_each {t = u} {x = x} {y = y} e q s) h = one_way Through u (opens_header _ (role_made x y) m first q s) (by_act i (w, b) e.act_is h)
   own_opens i b w m (own_wait {t = u} x e s) h = one_way InPlace u (opens_wait m x s) (by_act i (w, b) e.act_is h)
 
   -- a call's entry, where the called function stands

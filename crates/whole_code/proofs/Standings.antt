@@ -74,7 +74,7 @@ module _ {s : Core} {fs : List Kinds} {ds : List (ℕ × Bool)} (C : Code) (l : 
   opened i w b h = let r = home_of C l L i (opener_within C l L i (w, b) h) in by w h (opens_as C l L scoped r.home i b w r.stands h)
     where
       by : {t : ℕ} (w : Way) → In (w, b) (ways (entry C i).act) → OpensAs s C l L.table t i w b → OpenedBy C i w (body C b).opener
-      by Through h (opens_header vs m c e s) = s.opener
+      by Through h (opens_header vs v m c e s) = s.opener
       by InPlace h (opens_wait m x s) = s.opener
       by Calling h (opens_call at p m k a f s q) = (s.opener, found i b h)
 

@@ -1,2 +1,3 @@
 pub mod Described
 pub mod Standing
+pub mod Within

@@ -8,8 +8,16 @@ ghost use Rattle.agreement.specs.Laying.{Kinds};
 ghost use Rattle.meaning_laws.specs.Scoped.{Scoped};
 ghost use Rattle.std.specs.Prelude.{◌≡◌, ℕ, Bool, true, List};
 ghost use Rattle.syntax_trees.specs.Core.{Core};
+ghost use Rattle.syntax_trees.specs.Reads.{Reads};
+ghost use Rattle.syntax_trees.specs.Resolved.{core};
+ghost use Rattle.syntax_trees.specs.Single.{SinglyAssigned};
+ghost use Rattle.syntax_trees.specs.Table.{Table};
+ghost use Rattle.syntax_trees.specs.Tree.{Tree};
+ghost use Rattle.syntax_trees.specs.Typing.{WellTyped};
 ghost use Rattle.task_code.specs.Code.{Code, entry};
 ghost use Rattle.task_code.specs.Shape.{is_shaped};
+ghost use Rattle.whole_code.specs.Described.{DeclaredIn, KindsOf};
+ghost use Rattle.whole_code.specs.Within.{IsWithin};
 ghost use Rattle.whole_code.specs.Standing.{CallsAreFound, IsStanding};
 
 /// Each entry of laid code has its shape: what it stores is of the kind of its target, and it has the needs that it uses.
@@ -21,4 +29,11 @@ pub fn laid_entries_have_their_shape()
 /// may read and write what it needs and stores itself, the content of a wait hides what it declares, a loop's variables are its body's, and nothing stands or is declared twice.
 pub fn laid_code_stands()
     ensures { (s : Core) (fs : List Kinds) (ds : List (ℕ × Bool)) (C : Code) (l : Layout) → IsLaid s fs ds C l → HasRights C → CallsAreFound C → Scoped s → IsStanding C }
+{}
+
+/// In laid code of an accepted script, with exact rights, what the entries of a body may read and write is declared in the body, or belongs to the entry that opens it: the
+/// script's entries name the script's own variables, an inner block's what is seen from it, and a called function's what the call hands over. A name is an array's where it is declared as one.
+pub fn accepted_code_is_within()
+    ensures { (bytes : List ℕ) (t : Table) (tree : Tree) (fs : List Kinds) (ds : List (ℕ × Bool)) (C : Code) (l : Layout) → Reads bytes tree → WellTyped tree t → SinglyAssigned (core t tree)
+        → KindsOf fs tree → DeclaredIn ds tree → IsLaid (core t tree) fs ds C l → HasRights C → CallsAreFound C → IsWithin C }
 {}
