@@ -1,5 +1,5 @@
 -- Laid code of an accepted script keeps the scopes of names.
-use Rattle.std.proofs.Common.{◌≡◌, ◌⊎◌, inl, inr, ℕ, Bool, List, map, refl, sym, ap, ◌∙◌, subst}
+use Rattle.std.proofs.Common.{◌≡◌, ◌⊎◌, inl, inr, ℕ, Bool, List, map, sym, ap, ◌∙◌, subst}
 use Rattle.dataflow.specs.System.{In}
 use Rattle.syntax_trees.specs.Core.{Core}
 use Rattle.syntax_trees.specs.Members.{◌∈◌}
@@ -28,7 +28,7 @@ use Rattle.whole_code.specs.Standing.{CallsAreFound}
 use Rattle.whole_code.specs.Within.{IsWithin}
 use Rattle.whole_code.proofs.Settling.{ScriptScoped, scopes_of}
 use Rattle.whole_code.proofs.Bases.{Assigns, has_target, keeps_targets, Free, keeps_all, base_reads, base_written}
-use Rattle.whole_code.proofs.Fields.{script_settled, Literal, Outcome, passes}
+use Rattle.whole_code.proofs.Fields.{script_settled, passes}
 
 module _ {s : Core} {fs : List Kinds} {ds : List (ℕ × Bool)} (C : Code) (l : Layout) (L : IsLaid s fs ds C l) (R : HasRights C) (found : CallsAreFound C) (scoped : Scoped s)
     (sigs : List Signature) (type_of : ℕ → Typ) (S : ScriptScoped sigs type_of s) (D : (n : ℕ) (b : Bool) → ◌∈◌ {X = ℕ × Bool} (n, b) ds → is_array_shape (type_of n).shape ≡ b) (kinds : fs ≡ map kinds_of_signature sigs) (single : SinglyAssigned s) where

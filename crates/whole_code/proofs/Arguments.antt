@@ -1,5 +1,5 @@
 -- What a call hands over, place by place.
-use Rattle.std.proofs.Common.{◌≡◌, ◌⊎◌, inl, inr, ℕ, zero, suc, ◌+◌, ◌<◌, Bool, true, false, List, [], ◌∷◌, ◌++◌, map, length, refl, sym, ap, ◌∙◌, subst, Option, Some, None, arith}
+use Rattle.std.proofs.Common.{◌≡◌, ◌⊎◌, inl, inr, ℕ, zero, suc, ◌+◌, ◌<◌, Bool, true, false, List, [], ◌∷◌, ◌++◌, map, length, refl, sym, ap, subst, Option, Some, None, arith}
 use Rattle.std.specs.Prelude.{slice_get}
 use Rattle.dataflow.specs.System.{In}
 use Rattle.syntax_trees.specs.Core.{Name, here, Cell, Part, inner}

@@ -1,5 +1,5 @@
 -- What an entry of laid code needs or stores itself is declared in its body, or is a variable that its block sees.
-use Rattle.std.proofs.Common.{◌≡◌, ◌⊎◌, inl, inr, ℕ, zero, suc, ◌<◌, ℤ, Bool, true, false, List, [], ◌∷◌, ◌++◌, map, length, refl, sym, ap, ◌∙◌, subst, Option, Some, None}
+use Rattle.std.proofs.Common.{◌≡◌, inl, inr, ℕ, suc, ℤ, Bool, true, false, List, [], ◌∷◌, map, refl, sym, ap, ◌∙◌, subst, Option, Some, None}
 use Rattle.std.specs.Prelude.{slice_get}
 use Rattle.std.specs.List.{flat_map}
 use Rattle.dataflow.specs.System.{In}
@@ -7,7 +7,7 @@ use Rattle.dataflow.proofs.Lists.{in_split}
 use Rattle.syntax_trees.specs.Core as Co
 use Rattle.syntax_trees.specs.Core.{Owned, input, Name, here, Expr, Exprs, none, also, Form, compute, read, Cell, Call, Part, inner, calls, Outer, Awaited, Stmt, stmt, Action, declare, call_alone, assign, fill, insert, print, assert, when, choose, range, each, wait, Block, no_stmts, stmts, Function, Core}
 use Rattle.syntax_trees.specs.Members.{◌∈◌, first, later}
-use Rattle.syntax_trees.specs.Parts.{block_list, blocks_below, part_cells, outers, outer_parts, by_name, by_element}
+use Rattle.syntax_trees.specs.Parts.{block_list, blocks_below, outers, outer_parts, by_name, by_element}
 use Rattle.syntax_trees.specs.Scopes.{Typ, Scope, Signature}
 use Rattle.syntax_trees.specs.Single.{SinglyAssigned, an_input}
 use Rattle.syntax_trees.proofs.Blocks.{inner_blocks, inner_below, below_below}
@@ -20,19 +20,19 @@ use Rattle.task_code.specs.Whole.{Declared}
 use Rattle.meaning_laws.specs.Scoped.{Scoped}
 use Rattle.meaning_laws.specs.TypedValues.{own_outer, own_parts}
 use Rattle.agreement.specs.CodeNames.{name_as, wanted, wanted_all, each_once, awaited_need, header}
-use Rattle.agreement.specs.IsCodeOf.{Layout, seen, seen_as, own_form, own_expr, own_exprs, own_needs, fill_act, simple_act, step_expr, IsSimple, IsEntry, IndexAs, at_literal, at_name, at_datum, CallAs, PartAs, plain_literal, plain_name, a_cell, a_read, a_call}
-use Rattle.agreement.specs.Laying.{Kinds, Headers, one_header, more_headers, IsCallOf}
+use Rattle.agreement.specs.IsCodeOf.{Layout, seen, seen_as, own_form, own_expr, own_exprs, own_needs, fill_act, simple_act, step_expr, IsSimple, IndexAs, at_literal, at_name, at_datum, CallAs, PartAs, plain_literal, plain_name, a_cell, a_read, a_call}
+use Rattle.agreement.specs.Laying.{Kinds, Headers, one_header, more_headers}
 use Rattle.agreement.specs.Laid.{IsLaid}
 use Rattle.well_formed.proofs.Given.{HasTarget, no_target}
 use Rattle.whole_code.specs.Described.{is_array_shape, kinds_of_signature}
 use Rattle.whole_code.specs.Standing.{CallsAreFound}
 use Rattle.whole_code.proofs.Needs.{of_once, of_flat}
-use Rattle.whole_code.proofs.Roles.{own_of, PartOf, OwnOf, own_simple, own_branch, own_branches, own_range, own_each, own_wait, Role}
+use Rattle.whole_code.proofs.Roles.{OwnOf, own_simple, own_branch, own_branches, own_range, own_each, own_wait, Role}
 use Rattle.whole_code.proofs.Shapes.{HomeIn, home_in, body_within}
-use Rattle.whole_code.proofs.Scoping.{SeesAs, Comes, ExprComes, AllCome, FormComes, before, AwaitedSeen, InScopes, Hidden, OutputsCome}
+use Rattle.whole_code.proofs.Scoping.{SeesAs, Comes, ExprComes, AllCome, FormComes, before, AwaitedSeen, InScopes}
 use Rattle.whole_code.proofs.Settling.{ScriptScoped}
 use Rattle.whole_code.proofs.Lookup.{lookup, one_wait, inner_before}
-use Rattle.whole_code.proofs.Made.{PartsMade, stmt_made, cell_declared, read_declared, read_real, plain_before}
+use Rattle.whole_code.proofs.Made.{PartsMade, stmt_made, cell_declared, read_real, plain_before}
 use Rattle.whole_code.proofs.Arguments.{some_same, get_map, get_one, get_some, out_at, out_type}
 use Rattle.whole_code.proofs.Led.{cell_part, Keeping, Within, Settled, settle, come, CallKnown, call_known, out_settled}
 

@@ -1,24 +1,20 @@
 -- Where the names in the parts of typed expressions and statements come from.
-use Rattle.std.specs.Prelude.{◌≡◌, ℕ, suc, ℤ, pos, Bool, true, false, List, [], ◌∷◌, ◌++◌, map, Option, Some, None, option_map, refl}
+use Rattle.std.specs.Prelude.{◌≡◌, ℕ, false, List, [], ◌∷◌, ◌++◌, refl}
 use Rattle.std.proofs.Common.{inl, inr, sym, ap, subst}
-use Rattle.values.specs.Operators as op
 use Rattle.syntax_trees.specs.declared.tree.Base.{Base}
 use Rattle.syntax_trees.specs.declared.tree.Operator.{Operator}
 use Rattle.syntax_trees.specs.declared.tree.Shape.{Shape}
-use Rattle.syntax_trees.specs.Tree as T
-use Rattle.syntax_trees.specs.Tree.{Word, Node, Expression, expression, number, text, truth, variable, element, call, prefixed, chain, Expressions, no_expressions, and_expression, expressions_of, RightSide, value, list, Calling, Over, Statement, statement}
+use Rattle.syntax_trees.specs.Tree.{Word, Expression, expression, number, text, truth, variable, element, call, prefixed, chain, Expressions, no_expressions, and_expression}
 use Rattle.syntax_trees.specs.Core.{Name, here, Expr, whole, Form, compute, read, Cell, Call, Part, inner, calls, Awaited, Action, declare, assign, fill, insert, print, assert, when, choose, range, each, wait, Block}
 use Rattle.syntax_trees.specs.Members.{◌∈◌, first, later}
-use Rattle.syntax_trees.specs.Parts.{outer_parts, parts}
-use Rattle.syntax_trees.specs.Resolved.{refers, Formed, Operands, Arguments, form_of, operands_of, arguments_of, as_cell, as_operand, as_argument, variable_or_cell, computes, call_form, call_to, number_of, outer_of, outer, composite_call, call_right, right_of, call_action, several, awaited, awaited_as, loop_action, format_of}
+use Rattle.syntax_trees.specs.Resolved.{refers, Formed, Operands, Arguments, form_of, operands_of, arguments_of, as_cell, as_operand, as_argument, variable_or_cell, call_form, call_to, number_of}
 use Rattle.syntax_trees.specs.Table.{Table, Builtin, Callee, built_in}
 use Rattle.syntax_trees.specs.Scopes.{Typ, one_of, many_of, Scope, Signature, Refers, Calls}
 use Rattle.syntax_trees.specs.Typing as rules
 use Rattle.syntax_trees.specs.Typing.{HasType, RestType, ArgumentTypes, BuiltinType, AllHaveType, RightType, ReferAll, StepType, SourceType, CallTyped, StatementTyped}
 use Rattle.syntax_trees.proofs.Members.{split_in, either, to_left, to_right}
-use Rattle.meaning_laws.specs.TypedValues.{own_cell, own_parts}
 use Rattle.whole_code.specs.Described.{is_array_shape}
-use Rattle.whole_code.proofs.Scoping.{SeesAs, Comes, of_scope, of_cell, of_call, ExprComes, AllCome, FormComes, InputsCome, no_input_comes, array_comes, cell_comes, OutputsCome, no_output_comes, output_comes, Hidden, CallComes, PartComes, PartsCome, AwaitedSeen, StmtComes}
+use Rattle.whole_code.proofs.Scoping.{SeesAs, of_scope, of_cell, of_call, ExprComes, AllCome, FormComes, InputsCome, no_input_comes, array_comes, cell_comes, PartComes, PartsCome}
 
 module _ (fs : List Signature) (t : Table) (g : Scope) where
   pub seen_as : {w : Word} {τ : Typ} → Refers g t w τ → SeesAs g (refers t w) (is_array_shape τ.shape)
@@ -95,10 +91,11 @@ module _ (fs : List Signature) (t : Table) (g : Scope) where
         → FormedComes ((arguments_of t es).0 ++ calls (call_to w c.place (arguments_of t es).1 (here n ∷ [])) ∷ [], compute (Rattle.syntax_trees.specs.Core.name (here n)))
     behind_call w f es n b c e h s =
         let k = call_to w c.place (arguments_of t es).1 (here n ∷ []) in
-        let q = h (left_sub (arguments_of t es).0 _ s) in
-        (both_come (arguments_of t es).0 (calls k ∷ []) q.0
-            (one_comes (calls k) [] (record { signature = f; there = c.there; inputs = q.1; outputs = record { node = n; is = refl; type = one_of b; typed = e; scalar = refl } }) none_come),
-          of_call {c = k} (right_sub (arguments_of t es).0 (calls k ∷ []) s _ first) refl)
+        let q = h (left_sub (arguments_of t es).0 _ s) in (
+          both_come (arguments_of t es).0 (calls k ∷ []) q.0
+              (one_comes (calls k) [] (record { signature = f; there = c.there; inputs = q.1; outputs = record { node = n; is = refl; type = one_of b; typed = e; scalar = refl } }) none_come),
+          of_call {c = k} (right_sub (arguments_of t es).0 (calls k ∷ []) s _ first) refl,
+        )
 
     mutual
       pub expression_comes : {e : Expression} {b : Base} → HasType fs t g e b → FormedComes (form_of t e)

@@ -1,12 +1,11 @@
 -- What the entries of a body may read and write is declared in it, or seen from the entry that opens it.
-use Rattle.std.proofs.Common.{◌≡◌, ◌⊎◌, inl, inr, ℕ, zero, suc, ◌+◌, ◌<◌, ℤ, Bool, true, false, List, [], ◌∷◌, ◌++◌, map, length, refl, sym, ap, ap₂, ◌∙◌, subst, Option, Some, None}
+use Rattle.std.proofs.Common.{◌≡◌, ◌⊎◌, inl, inr, ℕ, suc, ◌+◌, ◌<◌, ℤ, Bool, true, false, List, [], ◌∷◌, ◌++◌, map, length, refl, sym, ap, ap₂, ◌∙◌, subst, Some}
 use Rattle.std.specs.Prelude.{slice_get}
 use Rattle.dataflow.specs.System.{In}
-use Rattle.syntax_trees.specs.Core as Co
-use Rattle.syntax_trees.specs.Core.{Owned, input, output, Name, here, Cell, Call, Part, inner, calls, Stmt, stmt, Action, call_alone, wait, Block, Function, Core}
+use Rattle.syntax_trees.specs.Core.{Owned, input, Name, here, Cell, Call, Part, inner, calls, Stmt, stmt, Action, Block, Function, Core}
 use Rattle.syntax_trees.specs.Members.{◌∈◌, first, later}
 use Rattle.syntax_trees.specs.Parts.{block_list, part_cells, part_calls, script_blocks, script_stmts, stmt_action}
-use Rattle.syntax_trees.specs.Scopes.{Typ, Scope, Signature, further}
+use Rattle.syntax_trees.specs.Scopes.{Typ, Scope, Signature}
 use Rattle.syntax_trees.specs.Single.{SinglyAssigned}
 use Rattle.syntax_trees.proofs.Members.{split_in}
 use Rattle.syntax_trees.specs.WellFormed.{header_blocks}
@@ -21,15 +20,14 @@ use Rattle.meaning_laws.specs.Scoped.{InScope, of_script, of_function, inside, i
 use Rattle.meaning_laws.specs.TypedValues.{own_parts}
 use Rattle.agreement.specs.CodeNames.{name_as}
 use Rattle.agreement.specs.IsCodeOf.{Layout, CallAs}
-use Rattle.agreement.specs.Laying.{Kinds, Headers, StandsAmong, is_array_argument, IsCallOf}
+use Rattle.agreement.specs.Laying.{Kinds, StandsAmong, is_array_argument, IsCallOf}
 use Rattle.agreement.specs.Laid.{Stands, IsLaid}
 use Rattle.well_formed.proofs.Bodies.{scoped_block}
 use Rattle.whole_code.specs.Described.{is_array_shape, kinds_of_signature}
 use Rattle.whole_code.specs.Standing.{CallsAreFound}
 use Rattle.whole_code.proofs.Roles.{own_of}
-use Rattle.whole_code.proofs.Shapes.{body_within}
 use Rattle.whole_code.proofs.Openings.{OpensAs, opens_header, opens_wait, opens_call, home_of, opener_within, opens_as}
-use Rattle.whole_code.proofs.Scoping.{SeesAs, before, InScopes, StmtComes}
+use Rattle.whole_code.proofs.Scoping.{before, InScopes}
 use Rattle.whole_code.proofs.Settling.{IsParameter, is_output, is_input, FunctionScoped, ScriptScoped}
 use Rattle.whole_code.proofs.Lookup.{deeper_of, HeaderScope, lookup, before_own}
 use Rattle.whole_code.proofs.Arguments.{some_same, Kind, arg_of, get_left, get_right, get_map, get_one, get_below, out_of, input_of, inputs_length, InputComes, come_at, comes_length, outs_at}
@@ -182,10 +180,10 @@ module _ {s : Core} {fs : List Kinds} {ds : List (ℕ × Bool)} (C : Code) (l : 
           | inl k ↦ (let u = deeper_of w.known.scope z.sees.variable k in
               pass i j b Through r (name_as (L.table.inputs_of b) z.flag u.variable.refers_to) way h right (z.is ∙ ap (λ (y : Name). name_as (L.table.inputs_of b) z.flag y) (z.sees.is ∙ u.is)))
           | inr v ↦ inl (inl (record {
-              variable = scalar v.node;
-              is = z.is ∙ ap₂ (λ (f : Bool) (y : Name). name_as (L.table.inputs_of b) f y) (sym z.sees.shape ∙ v.shape) (z.sees.is ∙ v.is);
-              made = role_made (scalar v.node) st (roles v.node v.role);
-            }))
+            variable = scalar v.node;
+            is = z.is ∙ ap₂ (λ (f : Bool) (y : Name). name_as (L.table.inputs_of b) f y) (sym z.sees.shape ∙ v.shape) (z.sees.is ∙ v.is);
+            made = role_made (scalar v.node) st (roles v.node v.role);
+          }))
         ]
 
     out_call : {t i b at : ℕ} {p : ℤ} {g : Scope} {a : Action} {c : Call} {f : Function} {vs : List Variable} {o : code.Opener} (j : ℕ) (r : code.Name) (w : Here t g a) → l.body_of c.function ≡ suc c.function → calls c ∈ own_parts a
@@ -226,7 +224,7 @@ module _ {s : Core} {fs : List Kinds} {ds : List (ℕ × Bool)} (C : Code) (l : 
             let o = out_of C l k x.0 ca.outputs x.1 in
             let kind : is_array_name o.0 ≡ z.flag = call_kind C l L found scoped sigs type_of S D single kinds known.there bf ca k o.0 τ o.1 ty' ∙ z.sees.shape in
             let place : slice_get (ca.ins ++ map Named ca.outs) (f.inputs + k) ≡ Some (Named o.0) =
-                subst (λ (n : ℕ). slice_get (ca.ins ++ map Named ca.outs) (n + k) ≡ Some (Named o.0)) counted (get_right ca.ins (map Named ca.outs) k ∙ get_map Named ca.outs k o.0 o.1) in
+            subst (λ (n : ℕ). slice_get (ca.ins ++ map Named ca.outs) (n + k) ≡ Some (Named o.0)) counted (get_right ca.ins (map Named ca.outs) k ∙ get_map Named ca.outs k o.0 o.1) in
             given (f.inputs + k) z.flag (Named o.0) (named z ∙ ap (λ (y : Name). name_as f.inputs z.flag y) e) place kind (λ v q. absurd (cc (q)))
         parameter z (is_input k e ty) =
             let τ = z.sees.variable.type in

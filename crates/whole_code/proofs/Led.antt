@@ -1,12 +1,11 @@
 -- What an entry of laid code leads to is declared in its body, or is a variable that its block sees.
-use Rattle.std.proofs.Common.{◌≡◌, ◌⊎◌, inl, inr, ℕ, zero, suc, ◌+◌, ◌<◌, Bool, true, false, List, [], ◌∷◌, ◌++◌, map, length, refl, sym, ap, ap₂, ◌∙◌, subst, Option, Some, None, arith}
+use Rattle.std.proofs.Common.{◌≡◌, ◌⊎◌, inl, inr, ℕ, suc, ◌+◌, ◌<◌, Bool, true, false, List, [], ◌∷◌, ◌++◌, map, length, refl, sym, ap, ap₂, ◌∙◌, subst, Some, arith}
 use Rattle.std.specs.Prelude.{slice_get, ℤ}
 use Rattle.dataflow.specs.System.{In}
-use Rattle.syntax_trees.specs.Core as Co
-use Rattle.syntax_trees.specs.Core.{Owned, local, input, output, Name, here, Form, compute, read, Cell, Call, Part, inner, calls, Awaited, Stmt, stmt, Action, declare, call_alone, wait, Block, no_stmts, stmts, Function, Core}
+use Rattle.syntax_trees.specs.Core.{Owned, input, Name, here, Cell, Call, Part, inner, calls, Awaited, Stmt, stmt, Action, call_alone, wait, Block, no_stmts, stmts, Function, Core}
 use Rattle.syntax_trees.specs.Members.{◌∈◌, first, later}
 use Rattle.syntax_trees.specs.Parts.{block_list, part_cells}
-use Rattle.syntax_trees.specs.Scopes.{Typ, Visible, Scope, deeper, further, Signature}
+use Rattle.syntax_trees.specs.Scopes.{Typ, Visible, Scope, further, Signature}
 use Rattle.syntax_trees.specs.WellFormed.{header_blocks}
 use Rattle.syntax_trees.proofs.Blocks.{inner_blocks, header_inner}
 use Rattle.syntax_trees.proofs.Members.{split_in}
@@ -17,21 +16,21 @@ use Rattle.task_code.specs.Exact.{Leads, itself, through}
 use Rattle.task_code.specs.Whole.{Declared, Seen}
 use Rattle.meaning_laws.specs.Scoped.{Scoped}
 use Rattle.meaning_laws.specs.TypedValues.{own_parts}
-use Rattle.agreement.specs.CodeNames.{owned_as, name_as}
+use Rattle.agreement.specs.CodeNames.{name_as}
 use Rattle.agreement.specs.IsCodeOf.{Layout, InputAs, of_literal, of_name, of_datum, of_array, CallAs, OutputsAs}
 use Rattle.agreement.specs.Laying.{Kinds, Headers, one_header, more_headers}
-use Rattle.agreement.specs.Laid.{Table, Stands, BodyLaid, IsLaid}
+use Rattle.agreement.specs.Laid.{Table, Stands, IsLaid}
 use Rattle.whole_code.specs.Described.{is_array_shape}
 use Rattle.whole_code.specs.Standing.{CallsAreFound}
 use Rattle.whole_code.proofs.Needs.{flag_of}
 use Rattle.whole_code.proofs.Roles.{own_of}
-use Rattle.whole_code.proofs.Shapes.{HomeIn, home_in, body_within}
+use Rattle.whole_code.proofs.Shapes.{body_within}
 use Rattle.whole_code.proofs.Openings.{OpensAs, opens_header, opens_wait, opens_call, opens_as}
-use Rattle.whole_code.proofs.Scoping.{SeesAs, Comes, of_scope, of_cell, of_call, FormComes, before, Hidden, OutputsCome, InputsCome, CallComes, StmtComes, InScopes}
+use Rattle.whole_code.proofs.Scoping.{SeesAs, Comes, of_scope, of_cell, of_call, before, Hidden, OutputsCome, InputsCome, StmtComes, InScopes}
 use Rattle.whole_code.proofs.Settling.{IsParameter, is_output, is_input, FunctionScoped, ScriptScoped}
-use Rattle.whole_code.proofs.Lookup.{deeper_of, DeclaredBy, HeaderScope, StmtAt, lookup, Waits, one_wait, inner_before, AloneComes, call_comes}
+use Rattle.whole_code.proofs.Lookup.{deeper_of, HeaderScope, StmtAt, lookup, one_wait, inner_before, call_comes}
 use Rattle.whole_code.proofs.Made.{declares, PartsMade, parts_made, cell_declared, read_declared, call_declared}
-use Rattle.whole_code.proofs.Arguments.{some_same, arg_at, get_left, get_right, get_map, get_unmap, get_in, get_one, get_below, out_at, input_at, input_of, inputs_length, InputComes, come_at, comes_length, outs_at}
+use Rattle.whole_code.proofs.Arguments.{some_same, arg_at, get_left, get_right, get_unmap, get_in, get_one, get_below, out_at, input_at, input_of, inputs_length, InputComes, come_at, comes_length, outs_at}
 
 -- a name of code that is this one, of a variable that is seen
 pub record SeenAs (k : ℕ) (g : Scope) (Q : Bool → Owned → Type 0) (r : code.Name) : Type 0 where

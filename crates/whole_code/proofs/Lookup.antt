@@ -1,17 +1,15 @@
 -- What is known of a statement of a block that stands in a scope: its own scope, what it names, and the scopes of the blocks inside it.
 use Rattle.std.specs.Prelude.{◌≡◌, ◌⊎◌, ℕ, Bool, true, false, List, [], ◌∷◌, ◌++◌, map, refl}
 use Rattle.std.proofs.Common.{inl, inr, sym, ap, ◌∙◌, subst}
-use Rattle.syntax_trees.specs.Core.{Name, here, Part, inner, calls, Cell, Call, Outer, Awaited, Stmt, stmt, Action, declare, call_alone, assign, fill, insert, print, assert, when, choose, range, each, wait, Block, no_stmts, stmts}
+use Rattle.syntax_trees.specs.Core.{here, Part, inner, calls, Cell, Call, Awaited, Stmt, stmt, Action, declare, call_alone, assign, fill, insert, print, assert, when, choose, range, each, wait, Block, no_stmts, stmts}
 use Rattle.syntax_trees.specs.Members.{◌∈◌, first, later}
 use Rattle.syntax_trees.specs.Parts.{block_list}
 use Rattle.syntax_trees.specs.WellFormed.{header_blocks}
 use Rattle.syntax_trees.specs.Scopes.{Typ, Visible, Scope, deeper, further, Signature}
-use Rattle.syntax_trees.proofs.Members.{split_in, either, to_left, to_right}
-use Rattle.task_code.specs.Code.{Header}
-use Rattle.agreement.specs.Laying.{Headers, one_header, more_headers}
+use Rattle.syntax_trees.proofs.Members.{split_in, either, to_left}
 use Rattle.well_formed.proofs.Placed.{IsPlain, Loops, over_range, over_each}
 use Rattle.meaning_laws.specs.TypedValues.{own_parts}
-use Rattle.whole_code.proofs.Scoping.{SeesAs, OutputsCome, Hidden, CallComes, PartComes, before, StmtComes, OwnComes, LoopSees, InScopes, scoped_end, scoped_declaration, scoped_plain, scoped_when, scoped_choose, scoped_loop, scoped_wait}
+use Rattle.whole_code.proofs.Scoping.{OutputsCome, Hidden, CallComes, before, StmtComes, LoopSees, InScopes, scoped_end, scoped_declaration, scoped_plain, scoped_when, scoped_choose, scoped_loop, scoped_wait}
 
 -- a variable of a scope further in
 pub record Deeper (g : Scope) (v : Visible) : Type 0 where
@@ -102,25 +100,25 @@ module _ (fs : List Signature) (type_of : ℕ → Typ) where
   lookup scoped_end m = elim m [ ]
   lookup {g} {at = at'} {n = n'} {a = a} (scoped_declaration {v = v} {at = at} {n = n} {w = w} {b = b} e q p) m = elim (split_in m) [
     | inl s ↦ subst (λ (z : Action). StmtAt g (stmts (stmt at n (declare v)) b) z) (sym (action_same s)) (record {
-        scope = g;
-        grows = λ u i. inl i;
-        comes = record { parts = λ x i. elim i [ ]; own = tt };
-        headers = λ c i. elim i [ ];
-        content = λ ns c x. absurd (cc (x));
-      })
+      scope = g;
+      grows = λ u i. inl i;
+      comes = record { parts = λ x i. elim i [ ]; own = tt };
+      headers = λ c i. elim i [ ];
+      content = λ ns c x. absurd (cc (x));
+    })
     | inr i ↦ (let r = lookup p i in record {
-        scope = r.scope;
-        grows = λ u j. elim (r.grows u j) [
-          | inl k ↦ elim (split_in k) [
-            | inl s ↦ inr (record { node = v; at = at; stmt_node = n; is = ap (λ (z : Visible). z.refers_to) s ∙ e; typed = q ∙ sym (ap (λ (z : Visible). z.type) s); there = first })
-            | inr o ↦ inl o
-          ]
-          | inr d ↦ inr (later_by (stmt at n (declare v)) b u d)
-        ];
-        comes = r.comes;
-        headers = r.headers;
-        content = r.content;
-      })
+      scope = r.scope;
+      grows = λ u j. elim (r.grows u j) [
+        | inl k ↦ elim (split_in k) [
+          | inl s ↦ inr (record { node = v; at = at; stmt_node = n; is = ap (λ (z : Visible). z.refers_to) s ∙ e; typed = q ∙ sym (ap (λ (z : Visible). z.type) s); there = first })
+          | inr o ↦ inl o
+        ]
+        | inr d ↦ inr (later_by (stmt at n (declare v)) b u d)
+      ];
+      comes = r.comes;
+      headers = r.headers;
+      content = r.content;
+    })
   ]
   lookup {g} (scoped_plain {a = a} {b = b} h f p) m =
       head_or b m (record { scope = g; grows = λ v i. inl i; comes = f; headers = λ c i. plain_headers a h i; content = λ ns c e. absurd (subst IsPlain e h) }) (λ i. lookup p i)

@@ -1,23 +1,21 @@
 -- The data that a body declares: those of cells, of calls in expressions, of loops, and the variables that are declared.
-use Rattle.std.proofs.Common.{◌≡◌, ◌⊎◌, inl, inr, ℕ, suc, ◌<◌, Bool, true, false, List, [], ◌∷◌, ◌++◌, length, refl, sym, ap, ◌∙◌, subst, Option, Some, None}
+use Rattle.std.proofs.Common.{◌≡◌, inl, inr, ℕ, ◌<◌, Bool, true, false, List, [], ◌∷◌, ◌++◌, length, refl, sym, ap, ◌∙◌, subst, Option, Some, None}
 use Rattle.dataflow.specs.System.{In}
 use Rattle.dataflow.proofs.Lists.{in_left, in_right}
-use Rattle.syntax_trees.specs.Core as Co
-use Rattle.syntax_trees.specs.Core.{Name, here, Form, compute, read, Cell, Call, Part, inner, calls, Stmt, stmt, Action, declare, call_alone, assign, fill, insert, print, assert, when, choose, range, each, wait, Block, Core}
-use Rattle.syntax_trees.specs.Members.{◌∈◌, first, later}
+use Rattle.syntax_trees.specs.Core.{Name, here, Form, read, Cell, Call, Part, inner, calls, Stmt, stmt, Action, declare, call_alone, assign, fill, insert, print, assert, when, choose, range, each, wait, Core}
+use Rattle.syntax_trees.specs.Members.{◌∈◌}
 use Rattle.syntax_trees.specs.Parts.{block_list}
 use Rattle.syntax_trees.specs.Scopes.{Typ}
-use Rattle.syntax_trees.proofs.Members.{split_in, to_left}
+use Rattle.syntax_trees.proofs.Members.{split_in}
 use Rattle.task_code.specs.Code as code
 use Rattle.task_code.specs.Code.{Variable, Code, body, scalar}
 use Rattle.task_code.specs.Whole.{Declared}
 use Rattle.meaning_laws.specs.TypedValues.{own_parts}
-use Rattle.agreement.specs.IsCodeOf.{Layout, IsSimple}
-use Rattle.agreement.specs.Laying.{Kinds, PlainAs, plain_after, Suits, cell_data, output_scalars, data_in, data_of}
+use Rattle.agreement.specs.IsCodeOf.{Layout}
+use Rattle.agreement.specs.Laying.{Kinds, PlainAs, plain_after, cell_data, output_scalars, data_in, data_of}
 use Rattle.agreement.specs.Laid.{Table, StmtLaid, declares_laid, call_laid, simple_laid, branch_laid, branches_laid, range_laid, each_laid, wait_laid, StmtsLaid, none_laid, one_laid, BodyLaid, IsLaid}
 use Rattle.whole_code.specs.Described.{is_array_shape}
 use Rattle.whole_code.proofs.Scoping.{before}
-use Rattle.whole_code.proofs.Lookup.{before_own}
 use Rattle.whole_code.proofs.Shapes.{HomeIn}
 
 inner_same : {x y : Cell} → inner x ≡ inner y → x ≡ y

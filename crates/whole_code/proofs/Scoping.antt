@@ -1,8 +1,8 @@
 -- Blocks of a core in scopes: where each name that a statement reads or stores comes from, and whether it is an array.
-use Rattle.std.specs.Prelude.{◌≡◌, ◌⊎◌, ℕ, Bool, true, false, List, [], ◌∷◌, Option, Some, slice_get}
-use Rattle.syntax_trees.specs.Core.{Name, here, Expr, Exprs, literal, name, whole, operator, none, also, Form, compute, read, Cell, Call, Part, inner, calls, Outer, Awaited, scalar, array, stmt, Action, declare, call_alone, assign, fill, insert, print, assert, when, choose, range, each, wait, Block, no_stmts, stmts}
+use Rattle.std.specs.Prelude.{◌≡◌, ◌⊎◌, ℕ, Bool, true, false, List, [], ◌∷◌, Some, slice_get}
+use Rattle.syntax_trees.specs.Core.{Name, here, Expr, Exprs, literal, name, whole, operator, none, also, Form, compute, read, Cell, Call, Part, inner, calls, Outer, Awaited, scalar, array, stmt, Action, declare, call_alone, assign, fill, insert, print, assert, when, choose, each, wait, Block, no_stmts, stmts}
 use Rattle.syntax_trees.specs.Members.{◌∈◌}
-use Rattle.syntax_trees.specs.Scopes.{Typ, one_of, many_of, Visible, Scope, deeper, Signature}
+use Rattle.syntax_trees.specs.Scopes.{Typ, Visible, Scope, deeper, Signature}
 use Rattle.syntax_trees.proofs.Tested.{roles_of}
 use Rattle.meaning_laws.specs.TypedValues.{own_parts}
 use Rattle.well_formed.proofs.Placed.{IsPlain, Loops}

@@ -1,16 +1,15 @@
 -- The blocks of a typed script stand in scopes.
-use Rattle.std.specs.Prelude.{◌≡◌, ◌⊎◌, ℕ, zero, suc, ◌+◌, Bool, true, false, ℤ, List, [], ◌∷◌, ◌++◌, map, Option, Some, None, option_map, length, slice_get, refl}
+use Rattle.std.specs.Prelude.{◌≡◌, ◌⊎◌, ℕ, zero, suc, ◌+◌, List, [], ◌∷◌, ◌++◌, map, Option, Some, None, length, slice_get, refl}
 use Rattle.std.proofs.Common.{inl, inr, sym, ap, ◌∙◌, subst, arith}
 use Rattle.syntax_trees.specs.declared.tree.Base.{Base}
-use Rattle.syntax_trees.specs.declared.tree.Base.TheVariants.{Int}
 use Rattle.syntax_trees.specs.declared.tree.Shape.{Shape}
 use Rattle.syntax_trees.specs.Tree as T
 use Rattle.syntax_trees.specs.Tree.{Word, Node, Declaration, Expression, RightSide, Over, Statement, statement, choice, choice_else, loop, waits, Body, body, Statements, no_statements, and_statement, Composite, Tree, import, function, single}
-use Rattle.syntax_trees.specs.Core.{Owned, local, input, output, Name, here, Block, Function, Core}
+use Rattle.syntax_trees.specs.Core.{Owned, input, output, here, Block, Function, Core}
 use Rattle.syntax_trees.specs.Members.{◌∈◌, first, later}
 use Rattle.syntax_trees.specs.Resolved.{refers, right_of, loop_action, block_of, block_in, with_statement, script_block, functions_of, core}
 use Rattle.syntax_trees.specs.Table.{Table}
-use Rattle.syntax_trees.specs.Scopes.{Typ, one_of, declared_type, Visible, Scope, deeper, own, Signature, signature_of, signatures}
+use Rattle.syntax_trees.specs.Scopes.{Typ, declared_type, Visible, Scope, deeper, own, Signature, signature_of, signatures}
 use Rattle.syntax_trees.specs.Typing as rules
 use Rattle.syntax_trees.specs.Typing.{LoopScope, StatementTyped, StatementsTyped, BodyTyped, Parameters, FunctionTyped, PartsTyped, WellTyped}
 use Rattle.syntax_trees.proofs.Members.{split_in, to_left, to_right}
@@ -18,7 +17,7 @@ use Rattle.syntax_trees.proofs.Tested.{roles_of}
 use Rattle.well_formed.specs.Types.{DeclaredAs, statement_declarations, body_declarations, statements_declarations, tree_declarations}
 use Rattle.well_formed.proofs.Placed.{Loops, over_range, over_each}
 use Rattle.whole_code.specs.Described.{is_array_shape}
-use Rattle.whole_code.proofs.Scoping.{SeesAs, IsRole, LoopSees, InScopes, scoped_end, scoped_declaration, scoped_plain, scoped_when, scoped_choose, scoped_loop, scoped_wait}
+use Rattle.whole_code.proofs.Scoping.{LoopSees, InScopes, scoped_end, scoped_declaration, scoped_plain, scoped_when, scoped_choose, scoped_loop, scoped_wait}
 use Rattle.whole_code.proofs.Coming.{seen_as}
 use Rattle.whole_code.proofs.Stating.{Plain, right_comes, write_comes, several_comes, called_comes, when_comes, choose_comes, loop_comes, wait_comes}
 

@@ -1,5 +1,5 @@
 -- Where the names of typed statements come from.
-use Rattle.std.specs.Prelude.{◌≡◌, ℕ, suc, ℤ, pos, Bool, true, false, List, [], ◌∷◌, ◌++◌, map, Option, Some, None, option_map, refl}
+use Rattle.std.specs.Prelude.{◌≡◌, ℕ, ℤ, pos, true, false, List, [], ◌∷◌, ◌++◌, map, Option, Some, None, option_map, refl}
 use Rattle.std.proofs.Common.{inl, inr, sym, ap, subst}
 use Rattle.values.specs.Operators as op
 use Rattle.values.specs.declared.format.Piece.{Piece}
@@ -7,19 +7,19 @@ use Rattle.syntax_trees.specs.declared.tree.Base.{Base}
 use Rattle.syntax_trees.specs.declared.tree.Shape.{Shape}
 use Rattle.syntax_trees.specs.Tree as T
 use Rattle.syntax_trees.specs.Tree.{Word, Node, Expression, expression, number, text, truth, variable, element, call, prefixed, chain, Expressions, no_expressions, and_expression, expressions_of, RightSide, value, list, Calling, Over, Statement, statement}
-use Rattle.syntax_trees.specs.Core.{Name, here, Expr, whole, Form, compute, read, Cell, Call, Part, inner, calls, Outer, Awaited, Action, declare, assign, fill, insert, print, assert, when, choose, range, each, wait, Block}
-use Rattle.syntax_trees.specs.Members.{◌∈◌, first, later}
-use Rattle.syntax_trees.specs.Parts.{outer_parts, parts}
-use Rattle.syntax_trees.specs.Resolved.{refers, Formed, Operands, Arguments, form_of, operands_of, arguments_of, computes, call_form, call_to, number_of, outer_of, outer, composite_call, call_right, right_of, call_action, several, awaited, awaited_as, loop_action, format_of}
-use Rattle.syntax_trees.specs.Table.{Table, Builtin, Callee, built_in}
-use Rattle.syntax_trees.specs.Scopes.{Typ, one_of, many_of, Scope, Signature, Refers, Calls}
+use Rattle.syntax_trees.specs.Core.{Name, whole, Form, compute, read, Cell, Part, inner, Outer, Awaited, Action, declare, assign, fill, insert, print, assert, when, choose, range, wait, Block}
+use Rattle.syntax_trees.specs.Members.{◌∈◌, later}
+use Rattle.syntax_trees.specs.Parts.{outer_parts}
+use Rattle.syntax_trees.specs.Resolved.{refers, Formed, form_of, operands_of, arguments_of, computes, call_form, number_of, outer_of, outer, composite_call, call_right, right_of, call_action, several, awaited, awaited_as, loop_action, format_of}
+use Rattle.syntax_trees.specs.Table.{Table, Callee, built_in}
+use Rattle.syntax_trees.specs.Scopes.{Typ, one_of, many_of, Scope, Signature, Calls}
 use Rattle.syntax_trees.specs.Typing as rules
 use Rattle.syntax_trees.specs.Typing.{HasType, ArgumentTypes, BuiltinType, AllHaveType, RightType, ReferAll, StepType, SourceType, CallTyped, StatementTyped}
-use Rattle.syntax_trees.proofs.Members.{split_in, either, to_left, to_right}
-use Rattle.meaning_laws.specs.TypedValues.{own_cell, own_outer, own_parts}
+use Rattle.syntax_trees.proofs.Members.{split_in, to_left, to_right}
+use Rattle.meaning_laws.specs.TypedValues.{own_cell, own_outer}
 use Rattle.well_formed.proofs.Placed.{IsPlain}
 use Rattle.whole_code.specs.Described.{is_array_shape}
-use Rattle.whole_code.proofs.Scoping.{SeesAs, FormComes, AllCome, OutputsCome, no_output_comes, output_comes, CallComes, PartsCome, AwaitedSeen, OwnComes, StmtComes}
+use Rattle.whole_code.proofs.Scoping.{SeesAs, FormComes, OutputsCome, no_output_comes, output_comes, PartsCome, AwaitedSeen, StmtComes}
 use Rattle.whole_code.proofs.Coming.{seen_as, Sub, none_come, both_come, one_comes, FormedComes, OperandsCome, ArgumentsCome, expression_comes, arguments_come, builtin_comes, all_come, printed_come}
 
 module _ (fs : List Signature) (t : Table) (g : Scope) where
@@ -98,12 +98,14 @@ module _ (fs : List Signature) (t : Table) (g : Scope) where
   pub write_comes : (x : Name) {i e : Expression} {b c : Base} → SeesAs g x true → HasType fs t g i b → HasType fs t g e c → Plain (insert x (outer t i) (outer t e))
   write_comes x {i = i} {e = e} s h r =
       let qs = outer_parts (outer t e ∷ []) in
-      let all = outer_parts (outer t i ∷ outer t e ∷ []) in
-      (tt, record {
-        parts = outer_comes all (number_of i) (form_of t i) qs (expression_comes fs t g all h) (λ p m. m)
-            (outer_comes all (number_of e) (form_of t e) [] (expression_comes fs t g all r) (λ p m. to_right (form_of t i).0 _ (later m)) (none_come fs t g all));
-        own = s;
-      })
+      let all = outer_parts (outer t i ∷ outer t e ∷ []) in (
+        tt,
+        record {
+          parts = outer_comes all (number_of i) (form_of t i) qs (expression_comes fs t g all h) (λ p m. m)
+              (outer_comes all (number_of e) (form_of t e) [] (expression_comes fs t g all r) (λ p m. to_right (form_of t i).0 _ (later m)) (none_come fs t g all));
+          own = s;
+        },
+      )
 
   all_seen : {ws : List Word} {τs : List Typ} → ReferAll t g ws τs → OutputsCome g (map (refers t) ws) τs
   all_seen rules.no_name = no_output_comes
