@@ -1,0 +1,5 @@
+pub mod Settled
+pub mod Sights
+pub mod News
+pub mod Steady
+pub mod Told
