@@ -17,6 +17,7 @@ use Rattle.syntax_trees.specs.Typing.{WellTyped}
 use Rattle.meaning_laws.proofs.Declared.{local_same}
 use Rattle.syntax_trees.proofs.Members.{either}
 use Rattle.syntax_trees.proofs.Numbers.{numbers-numbered}
+use Rattle.syntax_trees.proofs.Rows.{row_distinct}
 use Rattle.syntax_trees.proofs.Tested.{has, distinct, flat, both, has_in, self_eq, distinct_right, distinct_apart, flat_once, flat_in, cell_nodes}
 use Rattle.syntax_trees.proofs.TreeNumbers.{hit, hit_self, times, times-append, few_distinct, distinct_few}
 use Rattle.agreement.specs.Compile.{node_of, acts, declared_by, declared, script_list}
@@ -46,24 +47,11 @@ on_scalars (an_assertion o m) st (later i) = on_scalars m st i
 
 -- NUMBERS
 
--- none of the numbers from m on is below m
-none_below : (n m k : ℕ) → n < m → has n (numbers_from m k) ≡ false
-none_below n m zero l = refl
-none_below n m (suc k) l = by (nat_eq n m) refl (none_below n (m + 1) k (omega arith))
-  where
-    by : (b : Bool) → nat_eq n m ≡ b → has n (numbers_from (m + 1) k) ≡ false → (b || has n (numbers_from (m + 1) k)) ≡ false
-    by true e rec = let q = eqb-true n m e in absurd (omega arith)
-    by false e rec = rec
-
-rising : (m k : ℕ) → distinct (numbers_from m k) ≡ true
-rising m zero = refl
-rising m (suc k) = ap₂ (λ (a b : Bool). not a && b) (none_below m (m + 1) k (omega arith)) (rising (m + 1) k)
-
 -- no number stands twice in a numbered tree
 numbered_once : (tree u : Tree) → tree ≡ numbered 1 u → (n : ℕ) → times n (numbers tree) ≤ 1
 numbered_once tree u e n =
     let q : numbers tree ≡ numbers_from 1 (tree_size u) = ap numbers e ∙ numbers-numbered 1 u in
-    distinct_few (numbers tree) (ap distinct q ∙ rising 1 (tree_size u)) n
+    distinct_few (numbers tree) (ap distinct q ∙ row_distinct 1 (tree_size u)) n
 
 -- the nodes of a statement's cells
 abbrev cell_of : Stmt → List ℕ

@@ -8,12 +8,12 @@ use Rattle.syntax_trees.specs.Tree.{Tree}
 use Rattle.syntax_trees.specs.Typing.{WellTyped}
 use Rattle.assign_check.specs.Outline.{outlines}
 use Rattle.assign_check.specs.Faults.{faults_of, faults}
-use Rattle.assign_check.proofs.Claims.{ByOutlines, ToOutlines, AllScoped, NoFault, NotSingle}
-use Rattle.assign_check.proofs.ByOutlines.{by_outlines, to_outlines}
-use Rattle.assign_check.proofs.Counts.{none_each, each_none}
-use Rattle.assign_check.proofs.TypedScopes.{all_scoped}
-use Rattle.assign_check.proofs.NoFault.{no_fault}
-use Rattle.assign_check.proofs.NotSingle.{not_single}
+use Rattle.assign_check.proofs.clauses.Claims.{ByOutlines, ToOutlines, AllScoped, NoFault, NotSingle}
+use Rattle.assign_check.proofs.clauses.ByOutlines.{by_outlines, to_outlines}
+use Rattle.assign_check.proofs.counting.Counts.{none_each, each_none}
+use Rattle.assign_check.proofs.outlines.TypedScopes.{all_scoped}
+use Rattle.assign_check.proofs.faults.NoFault.{no_fault}
+use Rattle.assign_check.proofs.faults.NotSingle.{not_single}
 
 singly : ByOutlines → AllScoped → NoFault → (n : ℕ) (u tree : Tree) (t : Table) → tree ≡ numbered n u → WellTyped tree t → faults t tree ≡ [] → SinglyAssigned (core t tree)
 singly blocks scoped clean n u tree t is typed none =

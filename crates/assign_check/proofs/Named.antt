@@ -12,10 +12,10 @@ use Rattle.assign_check.specs.declared.fault.AssignFault.{AssignFault}
 use Rattle.assign_check.specs.Outline.{Outline, outlines}
 use Rattle.assign_check.specs.Faults.{way_faults, split_faults, variable_faults, uses_in, declared_in, faults_of, faults}
 use Rattle.assign_check.specs.Breaks.{BreaksIn, Breaks}
-use Rattle.assign_check.proofs.Scoped.{IsScoped}
-use Rattle.assign_check.proofs.TypedScopes.{all_scoped}
-use Rattle.assign_check.proofs.Broken.{came, variable_broken}
-use Rattle.assign_check.proofs.BrokenWays.{on_way_broken, split_is_broken}
+use Rattle.assign_check.proofs.outlines.Scoped.{IsScoped}
+use Rattle.assign_check.proofs.outlines.TypedScopes.{all_scoped}
+use Rattle.assign_check.proofs.faults.Broken.{came, variable_broken}
+use Rattle.assign_check.proofs.through.BrokenWays.{on_way_broken, split_is_broken}
 
 broken_in : (o : Outline) (f : AssignFault) → IsScoped o → f ∈ faults_of o → BreaksIn o f
 broken_in o f scoped i = elim (either (way_faults None [] o ++ split_faults None o) (flat_map (variable_faults (uses_in o)) (declared_in o)) i) [

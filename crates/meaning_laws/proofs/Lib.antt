@@ -37,6 +37,7 @@ pub mod Passing
 pub mod TestedSingle
 pub mod Loop
 pub mod OneCore
+pub mod TreeBlocks
 pub mod TreeNodes
 pub mod TreeStmts
 pub mod TreeEach

@@ -12,7 +12,7 @@ use Rattle.syntax_trees.specs.Resolved.{refers, number_of, format_of, Formed, Op
 use Rattle.syntax_trees.specs.Scopes.{Typ, declared_type, Visible, Scope, further, deeper, own, IsVisible, Signature, signature_of, signatures, Refers, Calls, CallsBuiltin, IsBuiltinName}
 use Rattle.syntax_trees.specs.Table as table
 use Rattle.syntax_trees.specs.Table.{Table, Builtin, builtin_text, Callee, composite, built_in}
-use Rattle.syntax_trees.specs.Tree.{Word, Node, Expression, expression, number, text, variable, call, Expressions, no_expressions, and_expression, expressions_of, Declaration, RightSide, value, Over, Statement, statement, Body, body, Statements, Composite, Tree, import, function, single}
+use Rattle.syntax_trees.specs.Tree.{Word, Node, Expression, expression, text, variable, call, Expressions, no_expressions, and_expression, expressions_of, Declaration, RightSide, value, Over, Statement, Body, Statements, Composite, Tree, import, function, single}
 use Rattle.syntax_trees.specs.Typing.{HasType, of_number, of_text, of_truth, of_variable, of_element, of_prefixed, of_chain, of_call, of_builtin, RestType, last_operand, next_operand, ArgumentTypes, no_argument, scalar_argument, array_argument, BuiltinType, of_strcat, of_fromint, of_toint, of_size, AllHaveType, none_left, one_more, RightType, of_scalar, of_copy, of_list, of_array_call, ReferAll, no_name, one_name, Declares, fresh, LoopScope, value_only, with_key, StepType, no_step, a_step, SourceType, of_elements, of_range, CallTyped, function_called, printf_called, assert_called, StatementTyped, declaration, definition, assignment, element_write, several as several_functions, several_builtin, call_statement, if_statement, if_else_statement, loop_statement, wait_statement, StatementsTyped, no_more_statements, next_statement, BodyTyped, in_braces, Parameters, no_more, one_parameter, FunctionTyped, function_typed, PartsTyped, no_parts, an_import, a_function, a_statement, WellTyped}
 use Rattle.syntax_trees.proofs.Members.{split_in}
 

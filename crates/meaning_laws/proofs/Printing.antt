@@ -15,7 +15,7 @@ use Rattle.syntax_trees.specs.Parts.{block_list, blocks_below, blocks_of, functi
 use Rattle.syntax_trees.specs.Places.{Path, Place}
 use Rattle.syntax_trees.specs.Single.{SinglyAssigned}
 use Rattle.syntax_trees.specs.WellFormed.{WellFormed}
-use Rattle.syntax_trees.proofs.Blocks.{inner_blocks, header_inner, inner_below, below_below, of_below, among}
+use Rattle.syntax_trees.proofs.Blocks.{inner_blocks, header_inner, inner_below, below_below, of_below, functions_below, body_block, among}
 use Rattle.syntax_trees.proofs.Members.{to_left, to_right, either}
 use Rattle.meaning_laws.proofs.Declared.{header_of}
 use Rattle.meaning_laws.proofs.Ever.{one_value}
@@ -54,23 +54,6 @@ flat_prints s flat m at n path p c l = let r = flat_stmt s flat l in (r.0, print
 abbrev pub other_blocks : Core → List Block
 other_blocks s = blocks_below s.body ++ function_blocks s.functions
 
-functions_below : (fs : List Function) {d c : Block} → d ∈ function_blocks fs → c ∈ blocks_below d → c ∈ function_blocks fs
-functions_below [] m h = elim m [ ]
-functions_below (f ∷ fs) m h =
-    elim (either (blocks_of f.body) (function_blocks fs) m) [
-      | inl i ↦ to_left (blocks_of f.body) (function_blocks fs) (of_below f.body (λ z. below_below (f.body) z h) i h)
-      | inr i ↦ to_right (blocks_of f.body) (function_blocks fs) (functions_below fs i h)
-    ]
-
-some_same : {A : Type 0} {x y : A} → ◌≡◌ {A = Option A} (Some x) (Some y) → x ≡ y
-some_same h = cc
-
-function_other : (fs : List Function) (i : ℕ) (f : Function) → slice_get fs i ≡ Some f → f.body ∈ function_blocks fs
-function_other [] zero f e = absurd (cc (e))
-function_other [] (suc i) f e = absurd (cc (e))
-function_other (g ∷ fs) zero f e = to_left (blocks_of g.body) (function_blocks fs) (subst (λ (x : Function). x.body ∈ (g.body ∷ blocks_below g.body)) (some_same e) first)
-function_other (g ∷ fs) (suc i) f e = to_right (blocks_of g.body) (function_blocks fs) (function_other fs i f e)
-
 inner_other : (s : Core) {path : Path} {b c : Block} {at n : ℕ} {a : Action} → ((path ≡ []) × (b ≡ s.body)) ⊎ (b ∈ other_blocks s) → stmt at n a ∈ block_list b → c ∈ inner_blocks a → c ∈ other_blocks s
 inner_other s {c = c} {at = at} {n = n} {a = a} (inl r) m h = to_left (blocks_below s.body) (function_blocks s.functions) (inner_below s.body (subst (λ (z : Block). stmt at n a ∈ block_list z) r.1 m) h)
 inner_other s {b = b} (inr o) m h =
@@ -85,7 +68,7 @@ pub main_or_other : (s : Core) {K : Knowledge} {path : Path} {b : Block} → Liv
 main_or_other s script = inl (refl, refl)
 main_or_other s (opened {c = c} {header = a} l m r o d) = inr (inner_other s (main_or_other s l) m (header_inner a (header_of o)))
 main_or_other s (waited l m r) = inr (inner_other s (main_or_other s l) m first)
-main_or_other s (called {f = f} {c = c} l m i e d) = inr (to_right (blocks_below s.body) (function_blocks s.functions) (function_other s.functions c.function f e))
+main_or_other s (called {f = f} {c = c} l m i e d) = inr (to_right (blocks_below s.body) (function_blocks s.functions) (body_block s.functions c.function f e))
 
 both : (a b : Bool) → (a && b) ≡ true → (a ≡ true) × (b ≡ true)
 both true b h = (refl, h)

@@ -347,10 +347,47 @@ hidden_of_stmt (stmt at n a) = hidden_of a
 abbrev hidden_of_action : Stmt → List Call
 hidden_of_action (stmt at n a) = hidden_calls a
 
-module _ (s : Core) (g : Passes s) where
+-- WRITERS: two that are the same have the same parts
+
+pub fill_parts : {at n at' n' : ℕ} {x x' : Name} {c c' : Outer} → stmt at n (fill x c) ≡ stmt at' n' (fill x' c') → (x ≡ x') × (c ≡ c')
+fill_parts h = (cc (h), cc (h))
+
+pub insert_parts : {at n at' n' : ℕ} {x x' : Name} {i i' c c' : Outer} → stmt at n (insert x i c) ≡ stmt at' n' (insert x' i' c') → (i ≡ i') × (c ≡ c')
+insert_parts h = (cc (h), cc (h))
+
+pub fill_no_insert : {at n at' n' : ℕ} {x x' : Name} {i c c' : Outer} → stmt at n (fill x c) ≡ stmt at' n' (insert x' i c') → ⊥
+fill_no_insert h = absurd (cc (h))
+
+-- HIDDEN OUTPUTS: they are cells that no statement declares
+
+module _ (s : Core) (once : distinct (0 ∷ flat block_nodes (script_blocks s)) ≡ true) (fine : every hidden_fine (script_stmts s) ≡ true) where
   no_number : {n : ℕ} {A : Type 0} → n ∈ [] → A
   no_number m = elim m [ ]
 
+  declares_hidden : {at k v n : ℕ} {st : Stmt} {A : Type 0} → stmt at k (declare v) ∈ script_stmts s → st ∈ script_stmts s → v ≡ n → n ∈ hidden_of_stmt st → A
+  declares_hidden {at} {k} {v} {n} {st} {A} i j e h =
+      let same : stmt at k (declare v) ≡ st = stmt_once s once i j (subst (λ (z : ℕ). z ∈ nodes (stmt at k (declare v))) e (declared_node (declare v) first)) (in_nodes st h) in
+      no_number (subst (λ (z : Stmt). n ∈ hidden_of_stmt z) (sym same) h)
+    where
+      in_nodes : (z : Stmt) → n ∈ hidden_of_stmt z → n ∈ nodes z
+      in_nodes (stmt at n a) m = hidden_node a m
+
+  hidden_of_call : {at n : ℕ} {a : Action} {c : Call} → stmt at n a ∈ script_stmts s → c ∈ hidden_calls a → IsHidden s c
+  hidden_of_call {at} {n} {a} {c} i m =
+      let r = hidden_shape c.outputs (every_in (λ (c : Call). one_hidden c.outputs) (hidden_calls a) (every_in hidden_fine (script_stmts s) fine i) m) in
+      record {
+        node = r.0;
+        is = r.1;
+        undeclared = λ b k d. declares_hidden (among_script s k d.there) i (local_same (sym d.is)) (flat_in (λ (d : Call). name_nodes d.outputs) (hidden_calls a) m (subst (λ (xs : List Name). r.0 ∈ name_nodes xs) (sym r.1) first));
+      }
+
+  pub kinds_of : (b : Block) (st : Stmt) (c : Call) → b ∈ script_blocks s → st ∈ block_list b → c ∈ stmt_calls st → IsAlone st c ⊎ IsHidden s c
+  kinds_of b (stmt at n a) c k i m = elim (kinds a c m) [
+    | inl h ↦ inr (hidden_of_call (among_script s k i) h)
+    | inr o ↦ inl (record { at = at; node = n; priority = o.priority; parts = o.parts; is = ap (λ (z : Action). stmt at n z) o.is })
+  ]
+
+module _ (s : Core) (g : Passes s) where
   -- what nothing declares is no target by name
   alone_declared : {at n m : ℕ} {a : Action} → stmt at n a ∈ script_stmts s → here m ∈ by_name a → m ∈ all_declared s
   alone_declared {at} {n} {m} {a} i j = in_has m (all_declared s) (every_in (λ (x : Name). is_declared s x.what) (by_name a) (every_in (named_fine s) (script_stmts s) g.named i) j)
@@ -360,29 +397,6 @@ module _ (s : Core) (g : Passes s) where
       let r = split_flat declared_by (script_stmts s) i in
       let q = among_split (script_blocks s) r.1 in
       (q.0, q.1, declares_it q.0 (local m) (has_in (flat_in declared_by (block_list q.0) q.2 r.2)))
-
-  declares_hidden : {at k v n : ℕ} {st : Stmt} {A : Type 0} → stmt at k (declare v) ∈ script_stmts s → st ∈ script_stmts s → v ≡ n → n ∈ hidden_of_stmt st → A
-  declares_hidden {at} {k} {v} {n} {st} {A} i j e h =
-      let same : stmt at k (declare v) ≡ st = stmt_once s g.nodes_once i j (subst (λ (z : ℕ). z ∈ nodes (stmt at k (declare v))) e (declared_node (declare v) first)) (in_nodes st h) in
-      no_number (subst (λ (z : Stmt). n ∈ hidden_of_stmt z) (sym same) h)
-    where
-      in_nodes : (z : Stmt) → n ∈ hidden_of_stmt z → n ∈ nodes z
-      in_nodes (stmt at n a) m = hidden_node a m
-
-  hidden_of_call : {at n : ℕ} {a : Action} {c : Call} → stmt at n a ∈ script_stmts s → c ∈ hidden_calls a → IsHidden s c
-  hidden_of_call {at} {n} {a} {c} i m =
-      let r = hidden_shape c.outputs (every_in (λ (c : Call). one_hidden c.outputs) (hidden_calls a) (every_in hidden_fine (script_stmts s) g.hidden i) m) in
-      record {
-        node = r.0;
-        is = r.1;
-        undeclared = λ b k d. declares_hidden (among_script s k d.there) i (local_same (sym d.is)) (flat_in (λ (d : Call). name_nodes d.outputs) (hidden_calls a) m (subst (λ (xs : List Name). r.0 ∈ name_nodes xs) (sym r.1) first));
-      }
-
-  kinds_of : (b : Block) (st : Stmt) (c : Call) → b ∈ script_blocks s → st ∈ block_list b → c ∈ stmt_calls st → IsAlone st c ⊎ IsHidden s c
-  kinds_of b (stmt at n a) c k i m = elim (kinds a c m) [
-    | inl h ↦ inr (hidden_of_call (among_script s k i) h)
-    | inr o ↦ inl (record { at = at; node = n; priority = o.priority; parts = o.parts; is = ap (λ (z : Action). stmt at n z) o.is })
-  ]
 
   hidden_once : (st st' : Stmt) (c c' : Call) (h : IsHidden s c) (h' : IsHidden s c') → st ∈ script_stmts s → st' ∈ script_stmts s → c ∈ stmt_calls st → c' ∈ stmt_calls st' → h.node ≡ h'.node → c ≡ c'
   hidden_once (stmt at n a) (stmt at' n' a') c c' h h' i i' m m' e = by (kinds a c m) (kinds a' c' m')
@@ -409,15 +423,6 @@ module _ (s : Core) (g : Passes s) where
 
   writer_once : {st st' : Stmt} {n : ℕ} → st ∈ script_stmts s → st' ∈ script_stmts s → n ∈ writer_of st → n ∈ writer_of st' → st ≡ st'
   writer_once i j m k = flat_once writer_of (script_stmts s) g.writers_once i j m k
-
-  fill_parts : {at n at' n' : ℕ} {x x' : Name} {c c' : Outer} → stmt at n (fill x c) ≡ stmt at' n' (fill x' c') → (x ≡ x') × (c ≡ c')
-  fill_parts h = (cc (h), cc (h))
-
-  insert_parts : {at n at' n' : ℕ} {x x' : Name} {i i' c c' : Outer} → stmt at n (insert x i c) ≡ stmt at' n' (insert x' i' c') → (i ≡ i') × (c ≡ c')
-  insert_parts h = (cc (h), cc (h))
-
-  fill_no_insert : {at n at' n' : ℕ} {x x' : Name} {i c c' : Outer} → stmt at n (fill x c) ≡ stmt at' n' (insert x' i c') → ⊥
-  fill_no_insert h = absurd (cc (h))
 
   used_script : (up : ℕ) (what : Owned) → Uses s.body up what → (up ≡ 0) × Declares s.body what
   used_script up what u =
@@ -472,7 +477,7 @@ module _ (s : Core) (g : Passes s) where
       call_found = call_found;
       call_outputs = call_outputs;
       call_count = call_count;
-      call_kinds = kinds_of;
+      call_kinds = kinds_of s g.nodes_once g.hidden;
     };
     calls = record { hidden_once = hidden_once };
     cells = record { cell_once = cell_once s g.nodes_once; assign_apart = assign_apart s g.nodes_once g.targets; fill_many = fill_many };

@@ -9,7 +9,7 @@ use Rattle.syntax_trees.specs.Parts.{stmts_among, script_stmts, block_list, bloc
 use Rattle.syntax_trees.specs.Resolved.{refers, outer, right_of, call_action, several, awaited, loop_action, stmt_of, block_of, block_in, with_statement, with_command, script_block, functions_of, core}
 use Rattle.syntax_trees.specs.Table.{Table, Callee}
 use Rattle.syntax_trees.proofs.Tested.{every, both}
-use Rattle.meaning_laws.proofs.TreeStmts.{right_no_block, several_no_block, call_no_block, loop_block}
+use Rattle.meaning_laws.proofs.TreeBlocks.{right_no_block, several_no_block, call_no_block, loop_block}
 
 pub every-append : {X : Type 0} (p : X → Bool) (xs ys : List X) → every p xs ≡ true → every p ys ≡ true → every p (xs ++ ys) ≡ true
 every-append p [] ys h k = k

@@ -1,17 +1,18 @@
 -- Where no number stands twice in a tree, no node stands twice in its core.
 use Rattle.std.specs.Prelude.{◌≡◌, ℕ, ◌+◌, ◌≤◌, ℤ, pos, true, List, [], ◌∷◌, ◌++◌, map, Option, Some, None, option_map, length, refl}
-use Rattle.std.proofs.Common.{arith}
+use Rattle.std.proofs.Common.{ap, arith}
 use Rattle.values.specs.Operators as op
 use Rattle.syntax_trees.specs.declared.tree.Shape.{Shape}
 use Rattle.syntax_trees.specs.Tree as T
 use Rattle.syntax_trees.specs.Tree.{Word, Node, Declaration, Expression, expression, number, text, truth, variable, element, call, prefixed, chain, Expressions, no_expressions, and_expression, expressions_of, RightSide, value, list, Calling, Over, Statement, statement, Command, choice, choice_else, loop, waits, Body, body, Statements, no_statements, and_statement, Composite, Tree, import, function, single}
-use Rattle.syntax_trees.specs.Core.{Name, here, Call, Part, inner, calls, Outer, Action, declare, assign, insert, print, assert, when, choose, wait, stmt, Block, stmts, Function}
-use Rattle.syntax_trees.specs.Parts.{part_cells, parts, blocks_below, blocks_inside, blocks_of, function_blocks, script_blocks}
+use Rattle.syntax_trees.specs.Core.{Name, here, Call, Part, inner, calls, Outer, Action, declare, assign, insert, print, assert, when, choose, wait, Stmt, stmt, Block, stmts, Function}
+use Rattle.syntax_trees.specs.Parts.{part_cells, parts, stmts_among, script_stmts, block_list, blocks_below, blocks_inside, blocks_of, function_blocks, script_blocks}
 use Rattle.syntax_trees.specs.Resolved.{refers, Arguments, operands_of, arguments_of, computes, call_form, call_to, outer_of, outer, after_first, composite_call, call_right, right_of, call_action, several, awaited, loop_action, stmt_of, block_of, block_in, with_statement, with_command, script_block, functions_of, core, format_of}
 use Rattle.syntax_trees.specs.Table as table
 use Rattle.syntax_trees.specs.Table.{Table, Callee, composite, built_in}
 use Rattle.syntax_trees.proofs.Tested.{distinct, flat, cell_nodes, declared_of, roles_of, with_turn, hidden_of, action_nodes, block_nodes}
 use Rattle.syntax_trees.proofs.TreeNumbers.{hit, times, times-append, times-flat, few_distinct, distinct_few, expression_numbers, expressions_numbers, part_times, part-append, call_part, expression_part, operands_part, arguments_part}
+use Rattle.meaning_laws.proofs.TreeBlocks.{among-append, right_no_block, several_no_block, call_no_block, loop_block}
 
 -- THE NUMBERS OF STATEMENTS
 
@@ -90,7 +91,7 @@ own-append n a =
     omega arith
 
 -- a statement in front of a block
-pub front : (n at m : ℕ) (a : Action) (b : Block) → block_times n (stmts (stmt at m a) b) ≡ whole_times n a + block_times n b
+front : (n at m : ℕ) (a : Action) (b : Block) → block_times n (stmts (stmt at m a) b) ≡ whole_times n a + block_times n b
 front n at m a b =
     let x = times-append n (action_nodes a) (block_nodes b) in
     let y = times-flat block_nodes n (blocks_inside a) (blocks_below b) in
@@ -175,10 +176,10 @@ roles_times n v None = omega arith
 roles_times n v (Some k) = omega arith
 
 -- a block inside a statement counts whole
-pub inner_times : (n : ℕ) (b : Block) → times n (flat block_nodes (b ∷ blocks_below b)) ≡ block_times n b
+inner_times : (n : ℕ) (b : Block) → times n (flat block_nodes (b ∷ blocks_below b)) ≡ block_times n b
 inner_times n b = times-append n (block_nodes b) (flat block_nodes (blocks_below b))
 
-pub loop_times : (n : ℕ) (t : Table) (v : Word) (k : Option Word) (o : Over) (b : Block) → whole_times n (loop_action t v k o b) ≤ hit n v.number + (times n (maybe_numbers word_numbers k) + (times n (over_numbers o) + block_times n b))
+loop_times : (n : ℕ) (t : Table) (v : Word) (k : Option Word) (o : Over) (b : Block) → whole_times n (loop_action t v k o b) ≤ hit n v.number + (times n (maybe_numbers word_numbers k) + (times n (over_numbers o) + block_times n b))
 loop_times n t v k (T.array w) b = let r = roles_times n v k in let i = inner_times n b in omega arith
 loop_times n t v k (T.range low high None) b =
     let r = roles_times n v k in
@@ -200,10 +201,10 @@ loop_times n t v k (T.range low high (Some step)) b =
     let c = times-append n (expression_numbers high) (expression_numbers step) in
     omega arith
 
-pub when_times : (n : ℕ) (t : Table) (e : Expression) (d : Block) → whole_times n (when (outer t e) d) ≤ times n (expression_numbers e) + block_times n d
+when_times : (n : ℕ) (t : Table) (e : Expression) (d : Block) → whole_times n (when (outer t e) d) ≤ times n (expression_numbers e) + block_times n d
 when_times n t e d = let x = outer_times n t e in let q = one_outer n (outer t e) in let i = inner_times n d in omega arith
 
-pub choose_times : (n : ℕ) (t : Table) (e : Expression) (d f : Block) → whole_times n (choose (outer t e) d f) ≤ times n (expression_numbers e) + (block_times n d + block_times n f)
+choose_times : (n : ℕ) (t : Table) (e : Expression) (d f : Block) → whole_times n (choose (outer t e) d f) ≤ times n (expression_numbers e) + (block_times n d + block_times n f)
 choose_times n t e d f =
     let x = outer_times n t e in
     let q = one_outer n (outer t e) in
@@ -215,111 +216,177 @@ choose_times n t e d f =
 write_times : (n : ℕ) (t : Table) (x : Name) (i e : Expression) → whole_times n (insert x (outer t i) (outer t e)) ≤ times n (expression_numbers i) + times n (expression_numbers e)
 write_times n t x i e = let a = outer_times n t i in let c = outer_times n t e in let q = two_outers n (outer t i) (outer t e) in omega arith
 
-mutual
-  body_times : (n : ℕ) (t : Table) (b : Body) → block_times n (block_of t b) ≤ times n (body_numbers b)
-  body_times n t (body from ss) = statements_times n t ss
+-- SCRIPTS: the nodes of a core, beside numbers of its statements, each at most once of a statement, and of a definition once for both of its statements
+module _ (head : Stmt → List ℕ) (few : (n at m : ℕ) (a : Action) → times n (head (stmt at m a)) ≤ hit n m)
+    (pair : (n at m v : ℕ) (t : Table) (x : Name) (sh : Shape) (r : RightSide) → times n (head (stmt at m (declare v))) + times n (head (stmt at m (right_of t x sh r))) ≤ hit n m) where
+  abbrev head_times : ℕ → Block → ℕ
+  head_times n b = times n (flat head (block_list b)) + times n (flat head (stmts_among (blocks_below b)))
 
-  statements_times : (n : ℕ) (t : Table) (ss : Statements) → block_times n (block_in t ss) ≤ times n (statements_numbers ss)
-  statements_times n t no_statements = omega arith
-  statements_times n t (and_statement s ss) =
-      let h = statement_times n t s (block_in t ss) in
-      let k = statements_times n t ss in
-      let a = times-append n (statement_numbers s) (statements_numbers ss) in
-      omega arith
+  abbrev both_times : ℕ → Block → ℕ
+  both_times n b = head_times n b + block_times n b
 
-  statement_times : (n : ℕ) (t : Table) (s : Statement) (b : Block) → block_times n (with_statement t s b) ≤ times n (statement_numbers s) + block_times n b
-  statement_times n t (statement nd c) b = let h = command_times n t nd c b in omega arith
+  inner_heads : (n : ℕ) (b : Block) → times n (flat head (stmts_among (b ∷ blocks_below b))) ≡ head_times n b
+  inner_heads n b = times-flat head n (block_list b) (stmts_among (blocks_below b))
 
-  pub command_times : (n : ℕ) (t : Table) (nd : Node) (c : Command) (b : Block) → block_times n (with_command t nd c b) ≤ times n (command_numbers c) + block_times n b
-  command_times n t nd (T.declare d None) b = let f = front n nd.first.from nd.number (declare d.name.number) b in omega arith
-  command_times n t nd (T.declare d (Some r)) b =
-      let x = right_of t (here d.name.number) d.shape r in
-      let f = front n nd.first.from nd.number (declare d.name.number) (stmts (stmt_of nd x) b) in
-      let g = front n nd.first.from nd.number x b in
-      let h = right_times n t (here d.name.number) d.shape r in
-      omega arith
-  command_times n t nd (T.assign w r) b =
-      let f = front n nd.first.from nd.number (right_of t (refers t w) (t.shape_of w.number) r) b in
-      let h = right_times n t (refers t w) (t.shape_of w.number) r in
-      omega arith
-  command_times n t nd (T.write w i e) b =
-      let f = front n nd.first.from nd.number (insert (refers t w) (outer t i) (outer t e)) b in
-      let h = write_times n t (refers t w) i e in
-      let a = times-append n (expression_numbers i) (expression_numbers e) in
-      omega arith
-  command_times n t nd (T.assign_all ws c) b =
-      let f = front n nd.first.from nd.number (several t c.node.number c.name (expressions_of c.arguments) (map (refers t) ws) (t.callee_of c.name.number)) b in
-      let h = several_times n c.node.number t c.name (expressions_of c.arguments) (map (refers t) ws) (t.callee_of c.name.number) in
-      let a = times-append n (words_numbers ws) (calling_numbers c) in
-      omega arith
-  command_times n t nd (T.calls p c) b =
-      let f = front n nd.first.from nd.number (call_action t p c.node.number c.name (expressions_of c.arguments) (t.callee_of c.name.number)) b in
-      let h = call_times n c.node.number t p c.name (expressions_of c.arguments) (t.callee_of c.name.number) in
-      omega arith
-  command_times n t nd (choice e d) b =
-      let f = front n nd.first.from nd.number (when (outer t e) (block_of t d)) b in
-      let h = when_times n t e (block_of t d) in
-      let k = body_times n t d in
-      let a = times-append n (expression_numbers e) (body_numbers d) in
-      omega arith
-  command_times n t nd (choice_else e d other) b =
-      let f = front n nd.first.from nd.number (choose (outer t e) (block_of t d) (block_of t other)) b in
-      let h = choose_times n t e (block_of t d) (block_of t other) in
-      let k = body_times n t d in
-      let l = body_times n t other in
-      let a = times-append n (expression_numbers e) (body_numbers d ++ body_numbers other) in
-      let c = times-append n (body_numbers d) (body_numbers other) in
-      omega arith
-  command_times n t nd (loop v k o d) b =
-      let f = front n nd.first.from nd.number (loop_action t v k o (block_of t d)) b in
-      let h = loop_times n t v k o (block_of t d) in
-      let l = body_times n t d in
-      let a = times-append n (maybe_numbers word_numbers k) (over_numbers o ++ body_numbers d) in
-      let c = times-append n (over_numbers o) (body_numbers d) in
-      omega arith
-  command_times n t nd (waits ws d) b =
-      let f = front n nd.first.from nd.number (wait (map (awaited t) ws) (block_of t d)) b in
-      let k = body_times n t d in
-      let i = inner_times n (block_of t d) in
-      let a = times-append n (words_numbers ws) (body_numbers d) in
+  -- a statement in front of a block
+  front_exact : (n at m : ℕ) (a : Action) (b : Block) → head_times n (stmts (stmt at m a) b) ≡ (times n (head (stmt at m a)) + times n (flat head (stmts_among (blocks_inside a)))) + head_times n b
+  front_exact n at m a b =
+      let x = times-append n (head (stmt at m a)) (flat head (block_list b)) in
+      let y = among-append (blocks_inside a) (blocks_below b) n head in
       omega arith
 
--- SCRIPTS
+  front_heads : (n at m : ℕ) (a : Action) (b : Block) → head_times n (stmts (stmt at m a) b) ≤ (hit n m + times n (flat head (stmts_among (blocks_inside a)))) + head_times n b
+  front_heads n at m a b = let x = front_exact n at m a b in let z = few n at m a in omega arith
 
-abbrev functions_times : ℕ → List Function → ℕ
-functions_times n fs = times n (flat block_nodes (function_blocks fs))
+  none_inside : (n at m : ℕ) (a : Action) (b : Block) → blocks_inside a ≡ [] → head_times n (stmts (stmt at m a) b) ≤ hit n m + head_times n b
+  none_inside n at m a b e =
+      let f = front_heads n at m a b in
+      let q : times n (flat head (stmts_among (blocks_inside a))) ≡ 0 = ap (λ (bs : List Block). times n (flat head (stmts_among bs))) e in
+      omega arith
 
-function_front : (n : ℕ) (f : Function) (fs : List Function) → functions_times n (f ∷ fs) ≡ block_times n f.body + functions_times n fs
-function_front n f fs =
-    let a = times-flat block_nodes n (f.body ∷ blocks_below f.body) (function_blocks fs) in
-    let b = inner_times n f.body in
-    omega arith
+  mutual
+    body_both : (n : ℕ) (t : Table) (b : Body) → both_times n (block_of t b) ≤ times n (body_numbers b)
+    body_both n t (body from ss) = statements_both n t ss
 
-parts_times : (n : ℕ) (t : Table) (ps : Tree) → block_times n (script_block t ps) + functions_times n (functions_of t ps) ≤ times n (tree_numbers ps)
-parts_times n t [] = omega arith
-parts_times n t (import sp ∷ ps) = parts_times n t ps
-parts_times n t (single s ∷ ps) =
-    let h = statement_times n t s (script_block t ps) in
-    let r = parts_times n t ps in
-    let a = times-append n (statement_numbers s) (tree_numbers ps) in
-    omega arith
-parts_times n t (function f ∷ ps) =
-    let h = body_times n t f.body in
-    let r = parts_times n t ps in
-    let g = function_front n (record { inputs = length f.inputs; outputs = length f.outputs; body = block_of t f.body }) (functions_of t ps) in
-    let a = times-append n (declarations_numbers f.outputs) (f.name.number ∷ (declarations_numbers f.inputs ++ (body_numbers f.body ++ tree_numbers ps))) in
-    let b = times-append n (declarations_numbers f.inputs) (body_numbers f.body ++ tree_numbers ps) in
-    let c = times-append n (body_numbers f.body) (tree_numbers ps) in
-    omega arith
+    statements_both : (n : ℕ) (t : Table) (ss : Statements) → both_times n (block_in t ss) ≤ times n (statements_numbers ss)
+    statements_both n t no_statements = omega arith
+    statements_both n t (and_statement s ss) =
+        let h = statement_both n t s (block_in t ss) in
+        let k = statements_both n t ss in
+        let a = times-append n (statement_numbers s) (statements_numbers ss) in
+        omega arith
 
--- each node of the core is a number of the tree, at most as often
-core_times : (n : ℕ) (t : Table) (tree : Tree) → times n (flat block_nodes (script_blocks (core t tree))) ≤ times n (tree_numbers tree)
-core_times n t tree =
-    let h = parts_times n t tree in
-    let a = times-flat block_nodes n (blocks_of (script_block t tree)) (function_blocks (functions_of t tree)) in
-    let i = inner_times n (script_block t tree) in
-    omega arith
+    statement_both : (n : ℕ) (t : Table) (s : Statement) (b : Block) → both_times n (with_statement t s b) ≤ times n (statement_numbers s) + both_times n b
+    statement_both n t (statement nd c) b = let h = command_both n t nd c b in omega arith
 
--- WHERE NO NUMBER OF A TREE STANDS TWICE, NO NODE OF ITS CORE DOES
+    command_both : (n : ℕ) (t : Table) (nd : Node) (c : Command) (b : Block) → both_times n (with_command t nd c b) ≤ (hit n nd.number + times n (command_numbers c)) + both_times n b
+    command_both n t nd (T.declare d None) b =
+        let f = none_inside n nd.first.from nd.number (declare d.name.number) b refl in
+        let x = front n nd.first.from nd.number (declare d.name.number) b in
+        omega arith
+    command_both n t nd (T.declare d (Some r)) b =
+        let a = right_of t (here d.name.number) d.shape r in
+        let f = front_exact n nd.first.from nd.number (declare d.name.number) (stmts (stmt_of nd a) b) in
+        let g = front_exact n nd.first.from nd.number a b in
+        let p = pair n nd.first.from nd.number d.name.number t (here d.name.number) d.shape r in
+        let q : times n (flat head (stmts_among (blocks_inside a))) ≡ 0 = ap (λ (bs : List Block). times n (flat head (stmts_among bs))) (right_no_block t (here d.name.number) d.shape r) in
+        let x = front n nd.first.from nd.number (declare d.name.number) (stmts (stmt_of nd a) b) in
+        let y = front n nd.first.from nd.number a b in
+        let z = right_times n t (here d.name.number) d.shape r in
+        omega arith
+    command_both n t nd (T.assign w r) b =
+        let a = right_of t (refers t w) (t.shape_of w.number) r in
+        let f = none_inside n nd.first.from nd.number a b (right_no_block t (refers t w) (t.shape_of w.number) r) in
+        let x = front n nd.first.from nd.number a b in
+        let y = right_times n t (refers t w) (t.shape_of w.number) r in
+        omega arith
+    command_both n t nd (T.write w i e) b =
+        let f = none_inside n nd.first.from nd.number (insert (refers t w) (outer t i) (outer t e)) b refl in
+        let x = front n nd.first.from nd.number (insert (refers t w) (outer t i) (outer t e)) b in
+        let y = write_times n t (refers t w) i e in
+        let a = times-append n (expression_numbers i) (expression_numbers e) in
+        omega arith
+    command_both n t nd (T.assign_all ws c) b =
+        let es = expressions_of c.arguments in
+        let a = several t c.node.number c.name es (map (refers t) ws) (t.callee_of c.name.number) in
+        let f = none_inside n nd.first.from nd.number a b (several_no_block t c.node.number c.name es (map (refers t) ws) (t.callee_of c.name.number)) in
+        let x = front n nd.first.from nd.number a b in
+        let y = several_times n c.node.number t c.name es (map (refers t) ws) (t.callee_of c.name.number) in
+        let z = times-append n (words_numbers ws) (calling_numbers c) in
+        omega arith
+    command_both n t nd (T.calls p c) b =
+        let es = expressions_of c.arguments in
+        let a = call_action t p c.node.number c.name es (t.callee_of c.name.number) in
+        let f = none_inside n nd.first.from nd.number a b (call_no_block t p c.node.number c.name es (t.callee_of c.name.number)) in
+        let x = front n nd.first.from nd.number a b in
+        let y = call_times n c.node.number t p c.name es (t.callee_of c.name.number) in
+        omega arith
+    command_both n t nd (choice e d) b =
+        let f = front_heads n nd.first.from nd.number (when (outer t e) (block_of t d)) b in
+        let x = front n nd.first.from nd.number (when (outer t e) (block_of t d)) b in
+        let y = when_times n t e (block_of t d) in
+        let k = body_both n t d in
+        let i = inner_heads n (block_of t d) in
+        let a = times-append n (expression_numbers e) (body_numbers d) in
+        omega arith
+    command_both n t nd (choice_else e d other) b =
+        let f = front_heads n nd.first.from nd.number (choose (outer t e) (block_of t d) (block_of t other)) b in
+        let x = front n nd.first.from nd.number (choose (outer t e) (block_of t d) (block_of t other)) b in
+        let y = choose_times n t e (block_of t d) (block_of t other) in
+        let k = body_both n t d in
+        let l = body_both n t other in
+        let i = inner_heads n (block_of t d) in
+        let j = inner_heads n (block_of t other) in
+        let m = among-append (block_of t d ∷ blocks_below (block_of t d)) (block_of t other ∷ blocks_below (block_of t other)) n head in
+        let a = times-append n (expression_numbers e) (body_numbers d ++ body_numbers other) in
+        let c = times-append n (body_numbers d) (body_numbers other) in
+        omega arith
+    command_both n t nd (loop v k o d) b =
+        let f = front_heads n nd.first.from nd.number (loop_action t v k o (block_of t d)) b in
+        let x = front n nd.first.from nd.number (loop_action t v k o (block_of t d)) b in
+        let y = loop_times n t v k o (block_of t d) in
+        let q : times n (flat head (stmts_among (blocks_inside (loop_action t v k o (block_of t d))))) ≡ times n (flat head (stmts_among (block_of t d ∷ blocks_below (block_of t d)))) =
+        ap (λ (bs : List Block). times n (flat head (stmts_among bs))) (loop_block t v k o (block_of t d)) in
+        let i = inner_heads n (block_of t d) in
+        let l = body_both n t d in
+        let a = times-append n (maybe_numbers word_numbers k) (over_numbers o ++ body_numbers d) in
+        let c = times-append n (over_numbers o) (body_numbers d) in
+        omega arith
+    command_both n t nd (waits ws d) b =
+        let f = front_heads n nd.first.from nd.number (wait (map (awaited t) ws) (block_of t d)) b in
+        let x = front n nd.first.from nd.number (wait (map (awaited t) ws) (block_of t d)) b in
+        let y = inner_times n (block_of t d) in
+        let k = body_both n t d in
+        let i = inner_heads n (block_of t d) in
+        let a = times-append n (words_numbers ws) (body_numbers d) in
+        omega arith
+
+  abbrev functions_both : ℕ → List Function → ℕ
+  functions_both n fs = times n (flat head (stmts_among (function_blocks fs))) + times n (flat block_nodes (function_blocks fs))
+
+  function_both : (n : ℕ) (f : Function) (fs : List Function) → functions_both n (f ∷ fs) ≡ both_times n f.body + functions_both n fs
+  function_both n f fs =
+      let a = among-append (f.body ∷ blocks_below f.body) (function_blocks fs) n head in
+      let b = inner_heads n f.body in
+      let c = times-flat block_nodes n (f.body ∷ blocks_below f.body) (function_blocks fs) in
+      let d = inner_times n f.body in
+      omega arith
+
+  parts_both : (n : ℕ) (t : Table) (ps : Tree) → both_times n (script_block t ps) + functions_both n (functions_of t ps) ≤ times n (tree_numbers ps)
+  parts_both n t [] = omega arith
+  parts_both n t (import sp ∷ ps) = parts_both n t ps
+  parts_both n t (single s ∷ ps) =
+      let h = statement_both n t s (script_block t ps) in
+      let r = parts_both n t ps in
+      let a = times-append n (statement_numbers s) (tree_numbers ps) in
+      omega arith
+  parts_both n t (function f ∷ ps) =
+      let h = body_both n t f.body in
+      let r = parts_both n t ps in
+      let g = function_both n (record { inputs = length f.inputs; outputs = length f.outputs; body = block_of t f.body }) (functions_of t ps) in
+      let a = times-append n (declarations_numbers f.outputs) (f.name.number ∷ (declarations_numbers f.inputs ++ (body_numbers f.body ++ tree_numbers ps))) in
+      let b = times-append n (declarations_numbers f.inputs) (body_numbers f.body ++ tree_numbers ps) in
+      let c = times-append n (body_numbers f.body) (tree_numbers ps) in
+      omega arith
+
+  pub core_both : (n : ℕ) (t : Table) (tree : Tree) → times n (flat head (script_stmts (core t tree))) + times n (flat block_nodes (script_blocks (core t tree))) ≤ times n (tree_numbers tree)
+  core_both n t tree =
+      let h = parts_both n t tree in
+      let a = among-append (blocks_of (script_block t tree)) (function_blocks (functions_of t tree)) n head in
+      let i = inner_heads n (script_block t tree) in
+      let b = times-flat block_nodes n (blocks_of (script_block t tree)) (function_blocks (functions_of t tree)) in
+      let j = inner_times n (script_block t tree) in
+      omega arith
+
+-- where no number of a tree stands twice, no node of its core does
+abbrev no_head : Stmt → List ℕ
+no_head s = []
+
+no_few : (n at m : ℕ) (a : Action) → times n (no_head (stmt at m a)) ≤ hit n m
+no_few n at m a = omega arith
+
+no_pair : (n at m v : ℕ) (t : Table) (x : Name) (sh : Shape) (r : RightSide) → times n (no_head (stmt at m (declare v))) + times n (no_head (stmt at m (right_of t x sh r))) ≤ hit n m
+no_pair n at m v t x sh r = omega arith
+
 pub nodes_once : (t : Table) (tree : Tree) → distinct (0 ∷ tree_numbers tree) ≡ true → distinct (0 ∷ flat block_nodes (script_blocks (core t tree))) ≡ true
-nodes_once t tree h = few_distinct (0 ∷ flat block_nodes (script_blocks (core t tree))) (λ n. (let a = distinct_few (0 ∷ tree_numbers tree) h n in let b = core_times n t tree in omega arith))
+nodes_once t tree h = few_distinct (0 ∷ flat block_nodes (script_blocks (core t tree))) (λ n. (let a = distinct_few (0 ∷ tree_numbers tree) h n in let b = core_both no_head no_few no_pair n t tree in omega arith))

@@ -16,7 +16,7 @@ use Rattle.meaning_laws.proofs.TreeNodes.{maybe_numbers}
 use Rattle.syntax_trees.specs.Resolved.{form_in, as_cell, as_operand, as_argument, variable_or_cell}
 use Rattle.meaning_laws.proofs.TestedNames.{offset}
 use Rattle.meaning_laws.proofs.TreeCalls.{calls-append}
-use Rattle.meaning_laws.proofs.TreeStmts.{among-append, right_no_block, several_no_block, call_no_block, loop_block}
+use Rattle.meaning_laws.proofs.TreeBlocks.{among-append, right_no_block, several_no_block, call_no_block, loop_block}
 
 -- THE OFFSETS OF CALLED NAMES
 

@@ -41,7 +41,7 @@ fn answer(stop: Stop, fault: Option<LexFault>, length: usize) -> ParseFault
 }
 
 /// The script of a text.
-#[tactic(auto, using(crate::proofs::Texts::stop_refuses, crate::proofs::Texts::fault_refuses, crate::proofs::Texts::long_refuses, crate::proofs::Texts::text_fits, crate::proofs::Texts::text_reads))]
+#[tactic(auto, using(crate::proofs::scripts::Texts::stop_refuses, crate::proofs::scripts::Texts::fault_refuses, crate::proofs::scripts::Texts::long_refuses, crate::proofs::scripts::Texts::text_fits, crate::proofs::scripts::Texts::text_reads))]
 pub fn parse<A: Allocator + Clone>(alloc: A, src: &[u8]) -> Result<Script<A>, ParseFault>
     ensures read { IfOk result (λ script. Reads src.now (tree_of script)) }
     ensures refused { IfErr result (λ fault. Refuses src.now fault) }

@@ -88,7 +88,7 @@ mutual
   opened_below (each a v k b) m h = of_below b (λ z. below_below b z h) m h
   opened_below (wait ns b) m h = of_below b (λ z. below_below b z h) m h
 
-functions_below : (fs : List Function) {d c : Block} → d ∈ function_blocks fs → c ∈ blocks_below d → c ∈ function_blocks fs
+pub functions_below : (fs : List Function) {d c : Block} → d ∈ function_blocks fs → c ∈ blocks_below d → c ∈ function_blocks fs
 functions_below [] m h = elim m [ ]
 functions_below (f ∷ fs) m h =
     elim (either (blocks_of f.body) (function_blocks fs) m) [
@@ -111,7 +111,7 @@ main_block s = first
 some_same : {A : Type 0} {x y : A} → ◌≡◌ {A = Option A} (Some x) (Some y) → x ≡ y
 some_same h = cc
 
-body_block : (fs : List Function) (i : ℕ) (f : Function) → slice_get fs i ≡ Some f → f.body ∈ function_blocks fs
+pub body_block : (fs : List Function) (i : ℕ) (f : Function) → slice_get fs i ≡ Some f → f.body ∈ function_blocks fs
 body_block [] zero f e = absurd (cc (e))
 body_block [] (suc i) f e = absurd (cc (e))
 body_block (g ∷ fs) zero f e = to_left (blocks_of g.body) (function_blocks fs) (subst (λ (x : Function). x.body ∈ (g.body ∷ blocks_below g.body)) (some_same e) first)

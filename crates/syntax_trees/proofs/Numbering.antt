@@ -1,11 +1,11 @@
 -- Numbers and sizes of lists, and of the variants that hold lists.
-use Rattle.std.proofs.Common.{◌≡◌, ℕ, ◌<◌, ◌≤◌, ◌+◌, List, [], ◌∷◌, ◌++◌, map, take, length, get_or, append_assoc, ap, ap₂, subst, refl, sym, ◌∙◌, Vec, arith}
+use Rattle.std.proofs.Common.{◌≡◌, ℕ, Bool, false, ◌<◌, ◌≤◌, ◌+◌, List, [], ◌∷◌, ◌++◌, map, take, length, get_or, append_assoc, ap, ap₂, subst, refl, sym, ◌∙◌, Vec, arith}
 use Rattle.std.proofs.lemmas.List.{map_push, map_more, take_all, take-map, get_or-map, length-map}
 use Rattle.std.proofs.lemmas.List.Sums.{sum_by-cons, sum_by_push, sum_by_more_le}
 use Rattle.std.specs.List.{sum_by}
 use Rattle.syntax_trees.specs.Tree.{Expression, expressions_of, and_expression, call, chain, Statement, statements_of, and_statement, body}
 use Rattle.syntax_trees.specs.View.{word_of, expression_view, form_view, statement_view, body_view}
-use Rattle.syntax_trees.specs.Numbered.{expression_size, form_size, expressions_size, statement_size, numbered_word, numbered_each, numbered_expression, numbered_expressions, numbered_form, numbered_statement, numbered_statements, numbered_body}
+use Rattle.syntax_trees.specs.Numbered.{unit, expression_size, expressions_size, expression_room, form_room, expressions_room, statement_room, copied_word, numbered_each, copied_expression, copied_expressions, copied_form, copied_statement, copied_statements, copied_body}
 use Rattle.syntax_trees.specs.declared.tree.Name.{Name}
 use Rattle.syntax_trees.specs.declared.tree.Operator.{Operator}
 use Rattle.syntax_trees.specs.declared.tree.Expr.{Expr}
@@ -57,37 +57,42 @@ fits_more v size n m top xs i x counted fits below is =
     let here : size (get_or (map v xs) i (v x)) ≡ size (v x) = ap size (get_or-map v xs i x (v x) below ∙ ap v (sym is)) in
     omega arith
 
+-- the room of a list, and its copy
+pub room-expressions_of : (kept : Bool) (es : List Expression) → expressions_room kept (expressions_of es) ≡ sum_by (expression_room kept) es
+room-expressions_of kept [] = refl
+room-expressions_of kept (e ∷ es) = ap (λ n. expression_room kept e + n) (room-expressions_of kept es) ∙ sym (sum_by-cons (expression_room kept) e es)
+
 pub expressions_size-expressions_of : (es : List Expression) → expressions_size (expressions_of es) ≡ sum_by expression_size es
-expressions_size-expressions_of [] = refl
-expressions_size-expressions_of (e ∷ es) = ap (λ n. expression_size e + n) (expressions_size-expressions_of es) ∙ sym (sum_by-cons expression_size e es)
+expressions_size-expressions_of es = room-expressions_of false es
 
-pub numbered_expressions-expressions_of : (n : ℕ) (es : List Expression)
-    → numbered_expressions n (expressions_of es) ≡ expressions_of (numbered_each numbered_expression expression_size n es)
-numbered_expressions-expressions_of n [] = refl
-numbered_expressions-expressions_of n (e ∷ es) = ap (and_expression (numbered_expression n e)) (numbered_expressions-expressions_of (n + expression_size e) es)
+pub copied-expressions_of : (kept : Bool) (n : ℕ) (es : List Expression)
+    → copied_expressions kept n (expressions_of es) ≡ expressions_of (numbered_each (copied_expression kept) (expression_room kept) n es)
+copied-expressions_of kept n [] = refl
+copied-expressions_of kept n (e ∷ es) = ap (and_expression (copied_expression kept n e)) (copied-expressions_of kept (n + expression_room kept e) es)
 
-pub numbered_statements-statements_of : (n : ℕ) (ss : List Statement)
-    → numbered_statements n (statements_of ss) ≡ statements_of (numbered_each numbered_statement statement_size n ss)
-numbered_statements-statements_of n [] = refl
-numbered_statements-statements_of n (s ∷ ss) = ap (and_statement (numbered_statement n s)) (numbered_statements-statements_of (n + statement_size s) ss)
+pub copied-statements_of : (kept : Bool) (n : ℕ) (ss : List Statement)
+    → copied_statements kept n (statements_of ss) ≡ statements_of (numbered_each (copied_statement kept) (statement_room kept) n ss)
+copied-statements_of kept n [] = refl
+copied-statements_of kept n (s ∷ ss) = ap (and_statement (copied_statement kept n s)) (copied-statements_of kept (n + statement_room kept s) ss)
 
-pub size-Call : (A : Type 0) (w : Name A) (v : Vec (Expr A) A) → form_size (form_view (Call w v)) ≡ 1 + sum_by expression_size (map expression_view v.items)
-size-Call A w v = ap form_size (view-Call w v) ∙ ap (λ n. 1 + n) (expressions_size-expressions_of (map expression_view v.items))
+-- the variants that hold lists
+pub room-Call : (A : Type 0) (kept : Bool) (w : Name A) (v : Vec (Expr A) A) → form_room kept (form_view (Call w v)) ≡ unit kept + sum_by (expression_room kept) (map expression_view v.items)
+room-Call A kept w v = ap (form_room kept) (view-Call w v) ∙ ap (λ n. unit kept + n) (room-expressions_of kept (map expression_view v.items))
 
-pub size-Chain : (A : Type 0) (o : Vec Operator A) (v : Vec (Expr A) A) → form_size (form_view (Chain o v)) ≡ sum_by expression_size (map expression_view v.items)
-size-Chain A o v = ap form_size (view-Chain o v) ∙ expressions_size-expressions_of (map expression_view v.items)
+pub room-Chain : (A : Type 0) (kept : Bool) (o : Vec Operator A) (v : Vec (Expr A) A) → form_room kept (form_view (Chain o v)) ≡ sum_by (expression_room kept) (map expression_view v.items)
+room-Chain A kept o v = ap (form_room kept) (view-Chain o v) ∙ room-expressions_of kept (map expression_view v.items)
 
-pub numbered-Call : (A : Type 0) (n : ℕ) (w : Name A) (v : Vec (Expr A) A)
-    → numbered_form n (form_view (Call w v)) ≡ call (numbered_word n (word_of w)) (expressions_of (numbered_each numbered_expression expression_size (n + 1) (map expression_view v.items)))
-numbered-Call A n w v = ap (numbered_form n) (view-Call w v) ∙ ap (call (numbered_word n (word_of w))) (numbered_expressions-expressions_of (n + 1) (map expression_view v.items))
+pub copied-Call : (A : Type 0) (kept : Bool) (n : ℕ) (w : Name A) (v : Vec (Expr A) A)
+    → copied_form kept n (form_view (Call w v)) ≡ call (copied_word kept n (word_of w)) (expressions_of (numbered_each (copied_expression kept) (expression_room kept) (n + unit kept) (map expression_view v.items)))
+copied-Call A kept n w v = ap (copied_form kept n) (view-Call w v) ∙ ap (call (copied_word kept n (word_of w))) (copied-expressions_of kept (n + unit kept) (map expression_view v.items))
 
-pub numbered-Chain : (A : Type 0) (n : ℕ) (o : Vec Operator A) (v : Vec (Expr A) A)
-    → numbered_form n (form_view (Chain o v)) ≡ chain o.items (expressions_of (numbered_each numbered_expression expression_size n (map expression_view v.items)))
-numbered-Chain A n o v = ap (numbered_form n) (view-Chain o v) ∙ ap (chain o.items) (numbered_expressions-expressions_of n (map expression_view v.items))
+pub copied-Chain : (A : Type 0) (kept : Bool) (n : ℕ) (o : Vec Operator A) (v : Vec (Expr A) A)
+    → copied_form kept n (form_view (Chain o v)) ≡ chain o.items (expressions_of (numbered_each (copied_expression kept) (expression_room kept) n (map expression_view v.items)))
+copied-Chain A kept n o v = ap (copied_form kept n) (view-Chain o v) ∙ ap (chain o.items) (copied-expressions_of kept n (map expression_view v.items))
 
-pub numbered-Block : (A : Type 0) (n : ℕ) (b : Block A)
-    → numbered_body n (body_view b) ≡ body (out-Block A b).from (statements_of (numbered_each numbered_statement statement_size n (map statement_view (out-Block A b).statements.items)))
-numbered-Block A n b = ap (numbered_body n) (view-Block A b) ∙ ap (body (out-Block A b).from) (numbered_statements-statements_of n (map statement_view (out-Block A b).statements.items))
+pub copied-Block : (A : Type 0) (kept : Bool) (n : ℕ) (b : Block A)
+    → copied_body kept n (body_view b) ≡ body (out-Block A b).from (statements_of (numbered_each (copied_statement kept) (statement_room kept) n (map statement_view (out-Block A b).statements.items)))
+copied-Block A kept n b = ap (copied_body kept n) (view-Block A b) ∙ ap (body (out-Block A b).from) (copied-statements_of kept n (map statement_view (out-Block A b).statements.items))
 
 -- once none is left, all are viewed
 pub viewed_all : {X Z : Type 0} (v : X → Z) (xs : List X) (i : ℕ) → length xs ≤ i → map v (take i xs) ≡ map v xs

@@ -10,6 +10,8 @@ use Rattle.syntax_trees.specs.Resolved.{Formed, Operands, Arguments, form_of, fo
 use Rattle.syntax_trees.specs.Table as table
 use Rattle.syntax_trees.specs.Table.{Table, Callee, composite, built_in}
 use Rattle.syntax_trees.specs.declared.tree.Shape.{Shape}
+pub use Rattle.syntax_trees.specs.Numbers.{expression_numbers, form_numbers, expressions_numbers}
+use Rattle.syntax_trees.specs.Members.{◌∈◌, first, later}
 use Rattle.syntax_trees.proofs.Tested.{has, distinct, flat, both, self_eq, cell_nodes, name_nodes}
 
 -- COUNTS
@@ -56,6 +58,10 @@ has_times n (x ∷ xs) h = by (nat_eq n x) refl (λ k. has_times n xs k)
     by true e rec = refl
     by false e rec = let q : hit n x ≡ 0 = ap (λ (b : Bool). cond b 1 0) e in rec (omega arith)
 
+pub in_times : {n : ℕ} {xs : List ℕ} → n ∈ xs → 1 ≤ times n xs
+in_times {n} first = let e = hit_self n in omega arith
+in_times (later m) = let e = in_times m in omega arith
+
 -- what stands at most once each is distinct
 pub few_distinct : (xs : List ℕ) → ((n : ℕ) → times n xs ≤ 1) → distinct xs ≡ true
 few_distinct [] h = refl
@@ -92,26 +98,6 @@ distinct_few (x ∷ xs) h n = by (nat_eq n x) refl (distinct_few xs (both (not (
         let z = few (times n xs) (λ k. none_more (subst (λ (m : ℕ). has m xs ≡ true) same (has_times n xs k))) in
         omega arith
     by false e rec = let q : hit n x ≡ 0 = ap (λ (b : Bool). cond b 1 0) e in omega arith
-
--- THE NUMBERS OF A TREE
-
-abbrev mutual
-  pub expression_numbers : Expression → List ℕ
-  expression_numbers (expression nd f) = nd.number ∷ form_numbers f
-
-  pub form_numbers : T.Form → List ℕ
-  form_numbers (number z) = []
-  form_numbers (text bytes) = []
-  form_numbers (truth b) = []
-  form_numbers (variable w) = w.number ∷ []
-  form_numbers (element w e) = w.number ∷ expression_numbers e
-  form_numbers (call w es) = w.number ∷ expressions_numbers es
-  form_numbers (prefixed p e) = expression_numbers e
-  form_numbers (chain os es) = expressions_numbers es
-
-  pub expressions_numbers : Expressions → List ℕ
-  expressions_numbers no_expressions = []
-  expressions_numbers (and_expression e es) = expression_numbers e ++ expressions_numbers es
 
 -- THE NODES OF PARTS
 

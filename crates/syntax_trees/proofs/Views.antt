@@ -1,12 +1,12 @@
 -- The view of each variant, and lists that are viewed one by one.
-use Rattle.std.proofs.Common.{◌≡◌, ℕ, ◌<◌, ◌≤◌, ◌+◌, List, [], ◌∷◌, ◌++◌, Option, map, take, length, get_or, rules, append_assoc, ap, ap₂, subst, refl, sym, ◌∙◌, Vec, Box}
-use Rattle.std.proofs.lemmas.List.{take_more, take_all, map-append, length-map, get_or-map}
+use Rattle.std.proofs.Common.{◌≡◌, ℕ, Bool, false, ◌<◌, ◌≤◌, ◌+◌, List, [], ◌∷◌, Option, map, length, get_or, rules, ap, subst, refl, sym, ◌∙◌, Vec, Box}
+use Rattle.std.proofs.lemmas.List.{length-map, get_or-map}
 use Rattle.std.proofs.lemmas.List.Sums.{get_or-le-sum_by, sum_by-cons}
 use Rattle.std.specs.List.{sum_by}
 use Rattle.std.specs.Prelude.{option_map}
 use Rattle.syntax_trees.specs.Tree.{call, chain, expressions_of, Word, Over, Statement, statements_of, Body, body, loop, waits}
 use Rattle.syntax_trees.specs.View.{word_of, expression_view, form_view, words_view, over_of, statement_view, command_view, body_view}
-use Rattle.syntax_trees.specs.Numbered.{statement_size, statements_size, body_size}
+use Rattle.syntax_trees.specs.Numbered.{statement_room, statements_room, body_room, statement_size, body_size}
 use Rattle.syntax_trees.specs.declared.tree.Name.{Name}
 use Rattle.syntax_trees.specs.declared.tree.Operator.{Operator}
 use Rattle.syntax_trees.specs.declared.tree.Expr.{Expr}
@@ -21,19 +21,6 @@ view-Call n v = search (rules, the_lemmas)
 pub view-Chain : {A : Type 0} → (o : Vec Operator A) (v : Vec (Expr A) A) → form_view (Chain o v) ≡ chain o.items (expressions_of (map expression_view v.items))
 view-Chain n v = search (rules, the_lemmas)
 
--- one more on each side, behind what was there
-pub appended_more : {X Y Z : Type 0} (f : X → Z) (g : Y → Z) (front : List Z) (xs : List X) (ys : List Y) (i : ℕ) (x : X) (y : Y)
-    → map g ys ≡ front ++ map f (take i xs) → i < length xs → x ≡ get_or xs i x → g y ≡ f x
-    → map g (ys ++ y ∷ []) ≡ front ++ map f (take (i + 1) xs)
-appended_more f g front xs ys i x y before below is same =
-    map-append g ys (y ∷ []) ∙ ap₂ (λ a b. a ++ b ∷ []) before (same ∙ ap f is) ∙ append_assoc front (map f (take i xs)) (f (get_or xs i x) ∷ [])
-    ∙ ap (λ a. front ++ a) (sym (map-append f (take i xs) (get_or xs i x ∷ [])) ∙ ap (map f) (sym (take_more xs i x below)))
-
--- all of them, once none is left
-pub appended_all : {X Y Z : Type 0} (f : X → Z) (g : Y → Z) (front : List Z) (xs : List X) (ys : List Y) (i : ℕ)
-    → map g ys ≡ front ++ map f (take i xs) → length xs ≤ i → map g ys ≡ front ++ map f xs
-appended_all f g front xs ys i before done = before ∙ ap (λ a. front ++ map f a) (take_all i xs done)
-
 -- an element is no larger than the list
 pub size_of_element : {X Y : Type 0} (f : X → Y) (size : Y → ℕ) (xs : List X) (i : ℕ) (x : X)
     → i < length xs → x ≡ get_or xs i x → size (f x) ≤ sum_by size (map f xs)
@@ -42,15 +29,19 @@ size_of_element f size xs i x below is =
     let same : f x ≡ get_or (map f xs) i (f x) = ap f is ∙ sym (get_or-map f xs i x (f x) below) in
     subst (λ y. size y ≤ sum_by size (map f xs)) (sym same) here
 
-pub statements_size-statements_of : (ss : List Statement) → statements_size (statements_of ss) ≡ sum_by statement_size ss
-statements_size-statements_of [] = refl
-statements_size-statements_of (s ∷ ss) = ap (λ n. statement_size s + n) (statements_size-statements_of ss) ∙ sym (sum_by-cons statement_size s ss)
+-- the room of statements, and of a block
+pub room-statements_of : (kept : Bool) (ss : List Statement) → statements_room kept (statements_of ss) ≡ sum_by (statement_room kept) ss
+room-statements_of kept [] = refl
+room-statements_of kept (s ∷ ss) = ap (λ n. statement_room kept s + n) (room-statements_of kept ss) ∙ sym (sum_by-cons (statement_room kept) s ss)
 
 pub view-Block : (A : Type 0) → (b : Block A) → body_view b ≡ body (out-Block A b).from (statements_of (map statement_view (out-Block A b).statements.items))
 view-Block A b = search (rules, statement_lemmas)
 
+pub block-room : (A : Type 0) (kept : Bool) (b : Block A) → body_room kept (body_view b) ≡ sum_by (statement_room kept) (map statement_view (out-Block A b).statements.items)
+block-room A kept b = ap (body_room kept) (view-Block A b) ∙ room-statements_of kept (map statement_view (out-Block A b).statements.items)
+
 pub block-size : (A : Type 0) → (b : Block A) → body_size (body_view b) ≡ sum_by statement_size (map statement_view (out-Block A b).statements.items)
-block-size A b = ap body_size (view-Block A b) ∙ statements_size-statements_of (map statement_view (out-Block A b).statements.items)
+block-size A b = block-room A false b
 
 pub view-Foreach : {A : Type 0} → (v : Name A) (k : Option (Name A)) (s : Source A) (b : Box (Block A) A) → command_view (Foreach v k s b) ≡ loop (word_of v) (option_map word_of k) (over_of s) (body_view b.value)
 view-Foreach v k s b = search (rules, statement_lemmas)

@@ -15,7 +15,7 @@ use Rattle.syntax_trees.proofs.Blocks.{among_script}
 use Rattle.meaning_laws.proofs.Declared.{local_same}
 use Rattle.meaning_laws.proofs.OneAssign.{function_in}
 use Rattle.syntax_trees.proofs.Tested.{distinct, flat, flat_in, flat_once, every_in, name_nodes, hidden_calls, nodes, writer_of, block_nodes, declared_node, hidden_node, stmt_once, one_block, cell_once, role_once, role_cells, call_among}
-use Rattle.meaning_laws.proofs.TestedNames.{uses_used, declares_it, declared_it, declares, one_hidden, hidden_fine, fill_fine, find_once, get_below, kinds, hidden_shape, is_many_form, hidden_of_stmt}
+use Rattle.meaning_laws.proofs.TestedNames.{uses_used, declares_it, declared_it, declares, one_hidden, hidden_fine, fill_fine, find_once, get_below, is_many_form, fill_parts, insert_parts, fill_no_insert, kinds_of}
 use Rattle.meaning_laws.proofs.TreeCalls.{hidden, fills}
 use Rattle.meaning_laws.proofs.TreeNodes.{nodes_once}
 use Rattle.meaning_laws.proofs.TreeOffsets.{tree_offsets, offsets_once}
@@ -26,17 +26,6 @@ use Rattle.well_formed.proofs.Everywhere.{IsParameter, AllPlaced, block_ok}
 use Rattle.well_formed.proofs.Bodies.{all_placed, scoped_block}
 use Rattle.well_formed.proofs.Once.{numbers_once}
 use Rattle.well_formed.proofs.Formed.{called, call_of}
-
--- WRITERS
-
-fill_parts : {at n at' n' : ℕ} {x x' : Name} {c c' : Outer} → stmt at n (fill x c) ≡ stmt at' n' (fill x' c') → (x ≡ x') × (c ≡ c')
-fill_parts h = (cc (h), cc (h))
-
-insert_parts : {at n at' n' : ℕ} {x x' : Name} {i i' c c' : Outer} → stmt at n (insert x i c) ≡ stmt at' n' (insert x' i' c') → (i ≡ i') × (c ≡ c')
-insert_parts h = (cc (h), cc (h))
-
-fill_no_insert : {at n at' n' : ℕ} {x x' : Name} {i c c' : Outer} → stmt at n (fill x c) ≡ stmt at' n' (insert x' i c') → ⊥
-fill_no_insert h = absurd (cc (h))
 
 module _ (t : Table) (u : Tree) (typed : WellTyped (numbered 1 u) t) where
   abbrev s : Core
@@ -102,30 +91,6 @@ module _ (t : Table) (u : Tree) (typed : WellTyped (numbered 1 u) t) where
       let n = call_count b st c f k i m e in
       get_below c.outputs j (omega arith)
 
-  declares_hidden : {at k v n : ℕ} {st : Stmt} {A : Type 0} → stmt at k (declare v) ∈ script_stmts s → st ∈ script_stmts s → v ≡ n → n ∈ hidden_of_stmt st → A
-  declares_hidden {at} {k} {v} {n} {st} {A} i j e h =
-      let same : stmt at k (declare v) ≡ st = stmt_once s once i j (subst (λ (z : ℕ). z ∈ nodes (stmt at k (declare v))) e (declared_node (declare v) first)) (in_nodes st h) in
-      let m : n ∈ hidden_of_stmt (stmt at k (declare v)) = subst (λ (z : Stmt). n ∈ hidden_of_stmt z) (sym same) h in
-      elim m [ ]
-    where
-      in_nodes : (z : Stmt) → n ∈ hidden_of_stmt z → n ∈ nodes z
-      in_nodes (stmt at n a) m = hidden_node a m
-
-  hidden_of_call : {at n : ℕ} {a : Action} {c : Call} → stmt at n a ∈ script_stmts s → c ∈ hidden_calls a → IsHidden s c
-  hidden_of_call {at} {n} {a} {c} i m =
-      let r = hidden_shape c.outputs (every_in (λ (c : Call). one_hidden c.outputs) (hidden_calls a) (every_in hidden_fine (script_stmts s) (hidden t (numbered 1 u)) i) m) in
-      record {
-        node = r.0;
-        is = r.1;
-        undeclared = λ b k d. declares_hidden (among_script s k d.there) i (local_same (sym d.is)) (flat_in (λ (d : Call). name_nodes d.outputs) (hidden_calls a) m (subst (λ (xs : List Name). r.0 ∈ name_nodes xs) (sym r.1) first));
-      }
-
-  call_kinds : (b : Block) (st : Stmt) (c : Call) → b ∈ script_blocks s → st ∈ block_list b → c ∈ stmt_calls st → IsAlone st c ⊎ IsHidden s c
-  call_kinds b (stmt at n a) c k i m = elim (kinds a c m) [
-    | inl h ↦ inr (hidden_of_call (among_script s k i) h)
-    | inr o ↦ inl (record { at = at; node = n; priority = o.priority; parts = o.parts; is = ap (λ (z : Action). stmt at n z) o.is })
-  ]
-
   writer_once : {st st' : Stmt} {n : ℕ} → st ∈ script_stmts s → st' ∈ script_stmts s → n ∈ writer_of st → n ∈ writer_of st' → st ≡ st'
   writer_once i j m k = flat_once writer_of (script_stmts s) (writers_once t (numbered 1 u) (numbers_once u)) i j m k
 
@@ -138,7 +103,7 @@ module _ (t : Table) (u : Tree) (typed : WellTyped (numbered 1 u) t) where
     call_found = λ b st c k i m. find_once (calls_among (script_stmts s)) c (offsets_once t (numbered 1 u) offsets) (call_among (script_stmts s) (among_script s k i) m);
     call_outputs = call_outputs;
     call_count = call_count;
-    call_kinds = call_kinds;
+    call_kinds = kinds_of s once (hidden t (numbered 1 u));
     cell_once = cell_once s once;
     fill_many = λ at n x c i. is_many_form c.cell.form (every_in fill_fine (script_stmts s) (fills t (numbered 1 u)) i);
     role_once = role_once s once;

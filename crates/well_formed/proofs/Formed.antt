@@ -14,7 +14,7 @@ use Rattle.syntax_trees.specs.Typing.{WellTyped}
 use Rattle.syntax_trees.specs.WellFormed.{WellFormed, header_blocks}
 use Rattle.syntax_trees.proofs.Members.{split_in, to_left, to_right, either}
 use Rattle.syntax_trees.proofs.Tested.{distinct, has_in, self_eq, flat_in, every, every_in, among_split, declared_of, hidden_calls, hidden_of, name_nodes, local_node, may_be, may_be_target, target_nodes, stmt_targets, targets_fine, split_flat}
-use Rattle.meaning_laws.proofs.TestedNames.{declared_by, all_declared, is_declared, named_fine, declares, used, is_here, here_and_declared, here_then_declared, declared_then_here, implies, block_names, headers_fine, waits_fine, output_below, is_output, function_name, function_fine, counts_of, call_fine, calls_fine, one_hidden, is_local, hidden_fine, Passes, well_formed}
+use Rattle.meaning_laws.proofs.TestedNames.{declared_by, all_declared, is_declared, named_fine, declares, used, is_here, here_and_declared, here_then_declared, declared_then_here, implies, block_names, headers_fine, waits_fine, output_below, is_output, function_name, function_fine, counts_of, call_fine, calls_fine, one_hidden, is_local, hidden_fine, Passes, kinds, well_formed}
 use Rattle.meaning_laws.proofs.TreeCalls.{calls-append, hidden, fills}
 use Rattle.meaning_laws.proofs.TreeNodes.{nodes_once}
 use Rattle.meaning_laws.proofs.TreeOffsets.{tree_offsets, offsets_once}
@@ -60,22 +60,8 @@ call_part (inner d ∷ ps) c m = later (call_part ps c m)
 call_part (calls d ∷ ps) c m = elim (split_in m) [ inl e ↦ subst (λ (z : Call). calls c ∈ (calls z ∷ ps)) e first | inr i ↦ later (call_part ps c i) ]
 
 -- a call of a statement stands in an expression, or its outputs are the statement's targets
-kinds : (a : Action) (c : Call) → c ∈ part_calls (parts a) → (c ∈ hidden_calls a) ⊎ (c.outputs ≡ by_name a)
-kinds (declare v) c m = inl m
-kinds (call_alone p ps d) c m = elim (either (part_calls ps) (d ∷ []) (subst (λ (cs : List Call). c ∈ cs) (calls-append ps (calls d ∷ [])) m)) [
-  | inl i ↦ inl i
-  | inr i ↦ elim (split_in i) [ inl e ↦ inr (ap (λ (z : Call). z.outputs) e) | inr j ↦ elim j [ ] ]
-]
-kinds (assign x e) c m = inl m
-kinds (fill a e) c m = inl m
-kinds (insert a k e) c m = inl m
-kinds (print p e) c m = inl m
-kinds (assert p e) c m = inl m
-kinds (when e b) c m = inl m
-kinds (choose e b d) c m = inl m
-kinds (range lo hi st v t b) c m = inl m
-kinds (each a v t b) c m = inl m
-kinds (wait ns b) c m = inl m
+call_targets : (a : Action) (c : Call) → c ∈ part_calls (parts a) → (c ∈ hidden_calls a) ⊎ (c.outputs ≡ by_name a)
+call_targets a c m = elim (kinds a c m) [ inl i ↦ inl i | inr o ↦ inr (sym (ap by_name o.is)) ]
 
 hidden_local : (xs : List Name) (x : Name) → one_hidden xs ≡ true → x ∈ xs → (m : ℕ) × (x.what ≡ local m)
 hidden_local [] x h m = elim m [ ]
@@ -184,7 +170,7 @@ module _ (t : Table) (u : Tree) (typed : WellTyped (numbered 1 u) t) where
         ap (may_be s) r.1 ∙ has_in h))
 
     targets_true : (st : Stmt) → st ∈ script_stmts s → targets_fine s st ≡ true
-    targets_true (stmt at n a) m = and_true (by_name_true (stmt at n a) m) (every_of (λ (c : Call). every (may_be_target s) c.outputs) (stmt_calls (stmt at n a)) (λ c i. elim (kinds a c i) [
+    targets_true (stmt at n a) m = and_true (by_name_true (stmt at n a) m) (every_of (λ (c : Call). every (may_be_target s) c.outputs) (stmt_calls (stmt at n a)) (λ c i. elim (call_targets a c i) [
       | inl j ↦ hidden_true at n a c m j
       | inr e ↦ subst (λ (xs : List Name). every (may_be_target s) xs ≡ true) (sym e) (by_name_true (stmt at n a) m)
     ]))

@@ -9,6 +9,7 @@ use Rattle.syntax_trees.specs.Numbered.{numbered, tree_size}
 use Rattle.syntax_trees.specs.Numbers as N
 use Rattle.syntax_trees.specs.Numbers.{numbers, numbers_from}
 use Rattle.syntax_trees.proofs.Numbers.{numbers-numbered}
+use Rattle.syntax_trees.proofs.Rows.{row_distinct}
 use Rattle.syntax_trees.proofs.Tested.{has, distinct}
 use Rattle.syntax_trees.proofs.TreeNumbers.{times, times-append, few_distinct, distinct_few, expression_numbers, form_numbers, expressions_numbers}
 use Rattle.meaning_laws.proofs.TreeNodes.{words_numbers, right_numbers, calling_numbers, over_numbers, statement_numbers, command_numbers, body_numbers, statements_numbers, declarations_numbers, tree_numbers}
@@ -170,25 +171,12 @@ module _ (n : ℕ) where
       let g = times-append n (flat_map N.declaration_numbers f.outputs) (f.name.number ∷ flat_map N.declaration_numbers f.inputs) in
       omega arith
 
--- none of the numbers from m on is below m
-none_below : (n m k : ℕ) → n < m → has n (numbers_from m k) ≡ false
-none_below n m zero l = refl
-none_below n m (suc k) l = by (nat_eq n m) refl (none_below n (m + 1) k (omega arith))
-  where
-    by : (b : Bool) → nat_eq n m ≡ b → has n (numbers_from (m + 1) k) ≡ false → (b || has n (numbers_from (m + 1) k)) ≡ false
-    by true e rec = let q = eqb-true n m e in absurd (omega arith)
-    by false e rec = rec
-
-rising : (m k : ℕ) → distinct (numbers_from m k) ≡ true
-rising m zero = refl
-rising m (suc k) = ap₂ (λ (a b : Bool). not a && b) (none_below m (m + 1) k (omega arith)) (rising (m + 1) k)
-
 -- no number stands twice in a numbered tree, and none is 0
 pub numbers_once : (u : Tree) → distinct (0 ∷ tree_numbers (numbered 1 u)) ≡ true
 numbers_once u = few_distinct (0 ∷ tree_numbers (numbered 1 u)) (λ n. few n)
   where
     all : distinct (0 ∷ numbers (numbered 1 u)) ≡ true
-    all = subst (λ (ns : List ℕ). distinct (0 ∷ ns) ≡ true) (sym (numbers-numbered 1 u)) (rising 0 (suc (tree_size u)))
+    all = subst (λ (ns : List ℕ). distinct (0 ∷ ns) ≡ true) (sym (numbers-numbered 1 u)) (row_distinct 0 (suc (tree_size u)))
 
     few : (n : ℕ) → times n (0 ∷ tree_numbers (numbered 1 u)) ≤ 1
     few n = let a = distinct_few (0 ∷ numbers (numbered 1 u)) all n in let b = of_tree n (numbered 1 u) in omega arith

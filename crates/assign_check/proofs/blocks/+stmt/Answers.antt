@@ -8,8 +8,8 @@ use Rattle.syntax_trees.proofs.Views.{size_of_element, block-size}
 use Rattle.types.specs.Typed.{table_of}
 use Rattle.assign_check.specs.Outline as outline
 use Rattle.assign_check.specs.View.{steps_view}
-use Rattle.assign_check.proofs.Walks.{walked_more, walked_all}
-use Rattle.assign_check.proofs.Views.{view-Stmt}
+use Rattle.syntax_trees.proofs.Walks.{walked_more, walked_all}
+use Rattle.assign_check.proofs.outlines.Views.{view-Stmt}
 use Rattle.syntax_trees.specs.declared.tree.Stmt.{out-Stmt}
 use Rattle.std.proofs.lemmas.Result.{on_ok_weaker}
 use Rattle.assign_check.proofs.blocks.+stmt.Goals as goal

@@ -9,10 +9,10 @@ use Rattle.assign_check.specs.Outline as outline
 use Rattle.assign_check.specs.Faults.{first_among, split_faults, split_step, sums, counts, step_counts}
 use Rattle.assign_check.specs.Sets.{Same, part_sums}
 use Rattle.assign_check.specs.View.{step_view, outline_view}
-use Rattle.assign_check.proofs.Answered.{view-Declares, view-Splits, view-Repeats}
-use Rattle.assign_check.proofs.Handed.{view_more, counted_more, same_branches, split_best}
-use Rattle.assign_check.proofs.Outlined.{best_more}
-use Rattle.assign_check.proofs.Sums.{same_self, same_on, same_from, turned, both_same, sums_same, zero_first, zero_last}
+use Rattle.assign_check.proofs.faults.Answered.{view-Declares, view-Splits, view-Repeats}
+use Rattle.assign_check.proofs.counting.Handed.{view_more, counted_more, same_branches, split_best}
+use Rattle.assign_check.proofs.outlines.Outlined.{best_more}
+use Rattle.assign_check.proofs.counting.Sums.{same_self, same_on, same_from, turned, both_same, sums_same, zero_first, zero_last}
 use Rattle.assign_check.proofs.count.+count.Goals as goal
 
 pub count-loop-step-preserved : goal.count-loop-step-preserved

@@ -5,8 +5,8 @@ use Rattle.types.specs.Typed.{owned_name}
 use Rattle.assign_check.specs.declared.count.Part.{Part}
 use Rattle.assign_check.specs.Faults.{sums}
 use Rattle.assign_check.specs.Sets.{numbers, set_at, part_sums}
-use Rattle.assign_check.proofs.Handed.{added_part, sums_more, not_named}
-use Rattle.assign_check.proofs.Sums.{same_on, same_from, turned, zero_last}
+use Rattle.assign_check.proofs.counting.Handed.{added_part, sums_more, not_named}
+use Rattle.assign_check.proofs.counting.Sums.{same_on, same_from, turned, zero_last}
 use Rattle.assign_check.proofs.count.add_all.Goals as goal
 
 pub loop-part-preserved : goal.loop-part-preserved

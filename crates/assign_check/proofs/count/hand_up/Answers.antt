@@ -4,8 +4,8 @@ use Rattle.syntax_trees.specs.Core.{Owned}
 use Rattle.types.specs.Typed.{owned_name}
 use Rattle.assign_check.specs.Faults.{same, is_among}
 use Rattle.assign_check.specs.Sets.{set_at, names}
-use Rattle.assign_check.proofs.Handed.{handed_part, emptied, names_more}
-use Rattle.assign_check.proofs.Sums.{same_on}
+use Rattle.assign_check.proofs.counting.Handed.{handed_part, emptied, names_more}
+use Rattle.assign_check.proofs.counting.Sums.{same_on}
 use Rattle.assign_check.proofs.count.hand_up.Goals as goal
 
 pub loop-part-preserved : goal.loop-part-preserved

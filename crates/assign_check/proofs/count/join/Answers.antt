@@ -3,8 +3,8 @@ use Rattle.std.specs.Prelude.{◌&&◌, ◌||◌}
 use Rattle.std.proofs.lemmas.List.Folds.{list_any-append}
 use Rattle.assign_check.specs.Faults.{is_before}
 use Rattle.assign_check.specs.Sets.{numbers, set_at, names, part_sums, is_apart, parts_apart}
-use Rattle.assign_check.proofs.Handed.{from_empty, handed_all, both_handed, any_alike}
-use Rattle.assign_check.proofs.Sums.{differ_same}
+use Rattle.assign_check.proofs.counting.Handed.{from_empty, handed_all, both_handed, any_alike}
+use Rattle.assign_check.proofs.counting.Sums.{differ_same}
 use Rattle.assign_check.proofs.count.join.Goals as goal
 
 pub returns-clause-uneven : goal.returns-clause-uneven

@@ -4,7 +4,7 @@ use Rattle.assign_check.specs.declared.outline.Kind.{Kind}
 use Rattle.assign_check.specs.Faults.{times, named_by}
 use Rattle.assign_check.specs.Sets.{part_sums}
 use Rattle.assign_check.specs.View.{kind_of}
-use Rattle.assign_check.proofs.Handed.{no_more_part, outer_times, target_part}
+use Rattle.assign_check.proofs.counting.Handed.{no_more_part, outer_times, target_part}
 use Rattle.assign_check.proofs.count.target.Goals as goal
 
 pub returns-then-is_outer : goal.returns-then-is_outer

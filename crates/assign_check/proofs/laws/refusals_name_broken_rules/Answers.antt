@@ -1,7 +1,7 @@
 use Rattle.assign_check.specs.Faults.{faults}
 use Rattle.assign_check.proofs.Earliest.{first_there, first_before_all}
 use Rattle.assign_check.proofs.Named.{breaks}
-use Rattle.assign_check.proofs.Exact.{found, none_before}
+use Rattle.assign_check.proofs.faults.Exact.{found, none_before}
 use Rattle.assign_check.proofs.laws.refusals_name_broken_rules.Goals as goal
 
 pub returns-clause-there : goal.returns-clause-there

@@ -1,5 +1,5 @@
 use Rattle.std.proofs.Common.{sym, ◌∙◌, arith}
-use Rattle.assign_check.proofs.Sums.{found_sum, no_sum}
+use Rattle.assign_check.proofs.counting.Sums.{found_sum, no_sum}
 use Rattle.assign_check.proofs.numbers.adds_up.Goals as goal
 
 pub returns-then-has-2 : goal.returns-then-has-2

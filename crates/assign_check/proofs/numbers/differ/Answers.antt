@@ -1,5 +1,5 @@
 use Rattle.std.proofs.Common.{sym, ◌∙◌, arith}
-use Rattle.assign_check.proofs.Sums.{found_other, no_other, bools_apart}
+use Rattle.assign_check.proofs.counting.Sums.{found_other, no_other, bools_apart}
 use Rattle.assign_check.proofs.numbers.differ.Goals as goal
 
 pub returns-then-has : goal.returns-then-has

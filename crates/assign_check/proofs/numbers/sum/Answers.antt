@@ -2,7 +2,7 @@ use Rattle.std.proofs.Common.{◌≡◌, ◌+◌, ◌-◌, length, sym, ◌∙�
 use Rattle.std.proofs.lemmas.Result.{IfOk-weaker}
 use Rattle.assign_check.specs.Faults as faults
 use Rattle.assign_check.specs.Sets as sets
-use Rattle.assign_check.proofs.Sums.{filled, sum_below, some_place, empty_first, empty_last}
+use Rattle.assign_check.proofs.counting.Sums.{filled, sum_below, some_place, empty_first, empty_last}
 use Rattle.assign_check.proofs.numbers.sum.Goals as goal
 
 pub returns-then-is_empty : goal.returns-then-is_empty

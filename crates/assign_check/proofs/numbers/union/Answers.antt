@@ -2,7 +2,7 @@ use Rattle.std.proofs.Common.{◌≡◌, ◌++◌, ◌||◌, length, sym, ap, �
 use Rattle.std.proofs.lemmas.Grind.{common_steps}
 use Rattle.assign_check.specs.Faults.{is_in}
 use Rattle.assign_check.specs.Sets as sets
-use Rattle.assign_check.proofs.Sums.{has_either, pushed_filled, all_filled}
+use Rattle.assign_check.proofs.counting.Sums.{has_either, pushed_filled, all_filled}
 use Rattle.assign_check.proofs.numbers.union.Goals as goal
 use Rattle.assign_check.proofs.numbers.union.Goals.{then-has, else-has}
 

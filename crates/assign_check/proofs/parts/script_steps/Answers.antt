@@ -7,7 +7,7 @@ use Rattle.syntax_trees.specs.View.{part_of}
 use Rattle.types.specs.Typed.{table_of}
 use Rattle.assign_check.specs.Outline as outline
 use Rattle.assign_check.specs.View.{steps_view}
-use Rattle.assign_check.proofs.Walks.{walked_more}
+use Rattle.syntax_trees.proofs.Walks.{walked_more}
 use Rattle.assign_check.proofs.parts.script_steps.Goals as goal
 
 one_part : (t : Table) (p : Part) (ps : List Part) → outline.script_steps t (p ∷ ps) ≡ outline.script_steps t (p ∷ []) ++ outline.script_steps t ps

@@ -5,7 +5,7 @@ use Rattle.syntax_trees.specs.Tree.{Expression, expressions_of}
 use Rattle.types.specs.Typed.{table_of}
 use Rattle.assign_check.specs.Outline as outline
 use Rattle.assign_check.specs.View.{steps_view}
-use Rattle.assign_check.proofs.Walks.{walked_more}
+use Rattle.syntax_trees.proofs.Walks.{walked_more}
 use Rattle.assign_check.proofs.reads.+read.Goals as goal
 
 pub read_all-loop-expr-preserved : goal.read_all-loop-expr-preserved

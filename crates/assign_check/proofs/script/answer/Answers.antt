@@ -6,7 +6,7 @@ use Rattle.types.specs.Typed.{table_of}
 use Rattle.assign_check.specs.Outline.{script_steps}
 use Rattle.assign_check.specs.View.{steps_view}
 use Rattle.assign_check.specs.Faults as faults
-use Rattle.assign_check.proofs.Outlined.{best_more, one_part, part_faults, own_first}
+use Rattle.assign_check.proofs.outlines.Outlined.{best_more, one_part, part_faults, own_first}
 use Rattle.assign_check.proofs.script.answer.Goals as goal
 
 pub loop-item-init : goal.loop-item-init

@@ -2,8 +2,8 @@ use Rattle.std.proofs.Common.{sym, ◌∙◌}
 use Rattle.syntax_trees.specs.View.{tree_of}
 use Rattle.types.specs.Typed.{table_of}
 use Rattle.assign_check.specs.Faults.{faults}
-use Rattle.assign_check.proofs.Exact.{is_single, is_not_single, is_broken, is_first}
-use Rattle.assign_check.proofs.Outlined.{none_answered}
+use Rattle.assign_check.proofs.faults.Exact.{is_single, is_not_single, is_broken, is_first}
+use Rattle.assign_check.proofs.outlines.Outlined.{none_answered}
 use Rattle.assign_check.proofs.script.check.Goals as goal
 
 pub returns-in-None-clause-accepted : goal.returns-in-None-clause-accepted

@@ -10,8 +10,8 @@ use Rattle.assign_check.specs.Tables.{at}
 use Rattle.assign_check.specs.Tallies.{tally_from, cleared, tally_faults}
 use Rattle.assign_check.specs.View.{use_view, declared_view, outline_view}
 use Rattle.assign_check.specs.Ways.{listed}
-use Rattle.assign_check.proofs.Outlined.{outline_best}
-use Rattle.assign_check.proofs.Tallied.{all_cleared}
+use Rattle.assign_check.proofs.outlines.Outlined.{outline_best}
+use Rattle.assign_check.proofs.counting.Tallied.{all_cleared}
 use Rattle.assign_check.proofs.script.outline.Goals as goal
 
 pub returns-clause-best : goal.returns-clause-best

@@ -4,9 +4,9 @@ use Rattle.syntax_trees.specs.Tree.{text}
 use Rattle.lexer.specs.declared.token.TokenKind.TheVariants as Kind
 use Rattle.syntax_trees.specs.Grammar.{spelled}
 use Rattle.syntax.specs.Readers.{got}
-use Rattle.syntax.proofs.Forms.{literal_got}
-use Rattle.syntax.proofs.Strings.{spelled_as}
-use Rattle.syntax.proofs.Views.{view-Text, spans_view}
+use Rattle.syntax.proofs.expressions.Forms.{literal_got}
+use Rattle.syntax.proofs.spellings.Strings.{spelled_as}
+use Rattle.syntax.proofs.combining.Views.{view-Text, spans_view}
 use Rattle.syntax.proofs.expression.text_literal.Goals as goal
 
 pub returns-clause-reads : goal.returns-clause-reads

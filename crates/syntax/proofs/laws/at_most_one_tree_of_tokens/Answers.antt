@@ -1,4 +1,4 @@
-use Rattle.syntax.proofs.Scripts.{one_tree}
+use Rattle.syntax.proofs.scripts.Scripts.{one_tree}
 use Rattle.syntax.proofs.laws.at_most_one_tree_of_tokens.Goals as goal
 
 pub returns : goal.returns

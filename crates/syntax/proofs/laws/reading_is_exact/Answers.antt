@@ -1,4 +1,4 @@
-use Rattle.syntax.proofs.Scripts.{script_sound, script_complete, script_refused}
+use Rattle.syntax.proofs.scripts.Scripts.{script_sound, script_complete, script_refused}
 use Rattle.syntax.proofs.laws.reading_is_exact.Goals as goal
 
 pub returns-clause-sound : goal.returns-clause-sound

@@ -8,7 +8,7 @@ use Rattle.syntax.specs.Answers.{Gives}
 use Rattle.syntax.specs.Endings.{ending}
 use Rattle.syntax.specs.Readers.{start}
 use Rattle.syntax.specs.Reading.{read_script}
-use Rattle.syntax.proofs.Texts.{fault_refuses}
+use Rattle.syntax.proofs.scripts.Texts.{fault_refuses}
 use Rattle.syntax.proofs.parser.parse.Goals as goal
 
 pub returns-in-Some-clause-refused : goal.returns-in-Some-clause-refused

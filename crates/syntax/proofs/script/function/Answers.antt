@@ -3,8 +3,8 @@ use Rattle.std.proofs.lemmas.Grind.{common_steps}
 use Rattle.syntax_trees.specs.Tree.{function}
 use Rattle.syntax_trees.specs.View.{declarations_view, word_of, body_view}
 use Rattle.syntax.specs.Readers.{got}
-use Rattle.syntax.proofs.Commands.{function_reads}
-use Rattle.syntax.proofs.Views.{composite_view}
+use Rattle.syntax.proofs.statements.Commands.{function_reads}
+use Rattle.syntax.proofs.combining.Views.{composite_view}
 use Rattle.syntax.proofs.script.function.Goals as goal
 
 pub returns-clause-reads : goal.returns-clause-reads

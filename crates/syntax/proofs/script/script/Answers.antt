@@ -6,8 +6,8 @@ use Rattle.syntax_trees.specs.View.{part_of}
 use Rattle.syntax_trees.specs.Rules.{Place}
 use Rattle.syntax.specs.Readers.{at_end, many_over}
 use Rattle.syntax.specs.Reading.{read_part, read_script}
-use Rattle.syntax.proofs.Forms.{many_stop, many_more, many_fails, fails_on}
-use Rattle.syntax.proofs.Commands.{script_begin}
+use Rattle.syntax.proofs.expressions.Forms.{many_stop, many_more, many_fails, fails_on}
+use Rattle.syntax.proofs.statements.Commands.{script_begin}
 use Rattle.syntax.proofs.script.script.Goals as goal
 
 pub loop-items-init : goal.loop-items-init

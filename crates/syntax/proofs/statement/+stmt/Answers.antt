@@ -10,10 +10,10 @@ use Rattle.lexer.specs.declared.token.TokenKind.TheVariants as Kind
 use Rattle.syntax.specs.Answers.{branch_view}
 use Rattle.syntax.specs.Readers.{got, at, the, ◌▸◌, maybe, many_over}
 use Rattle.syntax.specs.Reading.{read_stmt, read_stmts, read_command, read_else, read_if}
-use Rattle.syntax.proofs.Forms.{many_stop, many_more, many_fails, fails_on}
-use Rattle.syntax.proofs.Commands.{else_if, stmts_begin, if_reads, if_branch_fails, foreach_reads, wait_reads}
-use Rattle.syntax.proofs.Statements.{command_same}
-use Rattle.syntax.proofs.Views.{does_view, view-If, view-Foreach, view-Wait}
+use Rattle.syntax.proofs.expressions.Forms.{many_stop, many_more, many_fails, fails_on}
+use Rattle.syntax.proofs.statements.Commands.{else_if, stmts_begin, if_reads, if_branch_fails, foreach_reads, wait_reads}
+use Rattle.syntax.proofs.statements.Statements.{command_same}
+use Rattle.syntax.proofs.combining.Views.{does_view, view-If, view-Foreach, view-Wait}
 use Rattle.syntax.proofs.statement.+stmt.Goals as goal
 
 pub stmts-loop-statements-init : goal.stmts-loop-statements-init

@@ -7,8 +7,8 @@ use Rattle.syntax_trees.specs.Tree.{calls}
 use Rattle.syntax_trees.specs.View.{calling_of, statement_view}
 use Rattle.syntax_trees.specs.Grammar.{does}
 use Rattle.syntax.specs.Readers.{got}
-use Rattle.syntax.proofs.Commands.{calling_reads}
-use Rattle.syntax.proofs.Views.{calls_view}
+use Rattle.syntax.proofs.statements.Commands.{calling_reads}
+use Rattle.syntax.proofs.combining.Views.{calls_view}
 use Rattle.syntax.proofs.statement.calling.Goals as goal
 
 pub returns-clause-reads : goal.returns-clause-reads

@@ -4,8 +4,8 @@ use Rattle.lexer.specs.Given.{lexeme_of}
 use Rattle.syntax_trees.specs.Tree.{assign_all}
 use Rattle.syntax_trees.specs.View.{words_view, calling_of}
 use Rattle.syntax.specs.Readers.{got}
-use Rattle.syntax.proofs.Commands.{many_reads}
-use Rattle.syntax.proofs.Views.{view-AssignAll, does_view}
+use Rattle.syntax.proofs.statements.Commands.{many_reads}
+use Rattle.syntax.proofs.combining.Views.{view-AssignAll, does_view}
 use Rattle.syntax.proofs.statement.many.Goals as goal
 
 pub returns-clause-reads : goal.returns-clause-reads

@@ -4,7 +4,7 @@ use Rattle.std.proofs.lemmas.Grind.{common_steps}
 use Rattle.lexer.specs.Items.{Item}
 use Rattle.lexer.specs.Given.{lexeme_of, item_of}
 use Rattle.lexer.specs.Tokens.{HasForm}
-use Rattle.syntax.proofs.Collected.{form_of, formed_more, tokens_more}
+use Rattle.syntax.proofs.combining.Collected.{form_of, formed_more, tokens_more}
 use Rattle.syntax.proofs.tokens.tokens.Goals as goal
 
 pub loop-item-preserved : goal.loop-item-preserved

@@ -5,7 +5,7 @@ use Rattle.std.proofs.lemmas.Result.{err_from_is_err_and}
 use Rattle.syntax_trees.specs.View.{expression_view}
 use Rattle.types.specs.Known.{type_of, signature_of}
 use Rattle.types.specs.Names.{builtin_of}
-use Rattle.types.proofs.Steps.{count_view, view_first, first_list, single_list, chain_first, chain_given, chain_rest, chain_all, call_unknown, call_refused, call_gives, only_many, only_fails, only_then, arguments_few, further_few, further_left, further_untaken, further_unlike, further_next, some_at}
+use Rattle.types.proofs.steps.Steps.{count_view, view_first, first_list, single_list, chain_first, chain_given, chain_rest, chain_all, call_unknown, call_refused, call_gives, only_many, only_fails, only_then, arguments_few, further_few, further_left, further_untaken, further_unlike, further_next, some_at}
 use Rattle.types.proofs.expressions.+expr.Goals as goal
 
 -- CALLS

@@ -2,7 +2,7 @@ use Rattle.std.proofs.Common.{◌≡◌, Some, sym, ◌∙◌}
 use Rattle.types.specs.Known.{signature_of}
 use Rattle.types.specs.Functions.{signatures_of}
 use Rattle.types.specs.Names.{find, place_of}
-use Rattle.types.proofs.Places.{function_at, function_there}
+use Rattle.types.proofs.lists.Places.{function_at, function_there}
 use Rattle.types.proofs.functions.find_function.Goals as goal
 
 pub returns-in_err-signature : goal.returns-in_err-signature

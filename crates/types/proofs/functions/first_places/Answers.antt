@@ -3,7 +3,7 @@ use Rattle.std.specs.Map.{lookup}
 use Rattle.std.specs.Str.{bytes_eq}
 use Rattle.types.specs.declared.signatures.Signature.{Signature}
 use Rattle.types.specs.Known.{signature_of}
-use Rattle.types.proofs.Places.{lookup_inserted, place_next}
+use Rattle.types.proofs.lists.Places.{lookup_inserted, place_next}
 use Rattle.types.proofs.functions.first_places.Goals as goal
 
 pub loop-behind-preserved : goal.loop-behind-preserved

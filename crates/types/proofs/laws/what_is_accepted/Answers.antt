@@ -1,4 +1,4 @@
-use Rattle.types.proofs.Accepted.{whole_sound, arguments_sound, elements_sound, builtin_sound}
+use Rattle.types.proofs.accepted.Accepted.{whole_sound, arguments_sound, elements_sound, builtin_sound}
 use Rattle.types.proofs.laws.what_is_accepted.Goals as goal
 
 pub returns-clause-wholes : goal.returns-clause-wholes

@@ -1,4 +1,4 @@
-use Rattle.types.proofs.Settling.{refer_sound, call_sound}
+use Rattle.types.proofs.settled.Settling.{refer_sound, call_sound}
 use Rattle.types.proofs.laws.what_is_settled.Goals as goal
 
 pub returns-clause-refers : goal.returns-clause-refers

@@ -1,4 +1,4 @@
-use Rattle.types.proofs.Typing.{gives_sound, gives_complete, prefix_sound}
+use Rattle.types.proofs.accepted.Typing.{gives_sound, gives_complete, prefix_sound}
 use Rattle.types.proofs.laws.what_operators_give.Goals as goal
 
 pub returns-clause-between : goal.returns-clause-between

@@ -1,6 +1,6 @@
-use Rattle.types.proofs.Checked.{script_sound}
-use Rattle.types.proofs.UnbrokenScript.{script_refused}
-use Rattle.types.proofs.Table.{script_typed}
+use Rattle.types.proofs.accepted.Checked.{script_sound}
+use Rattle.types.proofs.answered.UnbrokenScript.{script_refused}
+use Rattle.types.proofs.settled.Table.{script_typed}
 use Rattle.types.proofs.laws.what_scripts_are_accepted.Goals as goal
 
 pub returns-clause-sound : goal.returns-clause-sound

@@ -5,8 +5,8 @@ use Rattle.std.specs.Str.{bytes_eq}
 use Rattle.indexmap.proofs.CallerLemmas.{insert_entry-new}
 use Rattle.syntax_trees.specs.View.{word_of}
 use Rattle.types.specs.Known.{seen_at}
-use Rattle.types.proofs.ByText.{unseen_lookup, added_last}
-use Rattle.types.proofs.Growth.{made}
+use Rattle.types.proofs.lists.ByText.{unseen_lookup, added_last}
+use Rattle.types.proofs.visible.Growth.{made}
 use Rattle.types.proofs.scope.add.Goals as goal
 
 pub returns : goal.returns

@@ -1,6 +1,6 @@
 use Rattle.std.proofs.Common.{ap, sym, ◌∙◌, option_map}
 use Rattle.types.specs.Known.{seen_at}
-use Rattle.types.proofs.ByText.{seen_lookup}
+use Rattle.types.proofs.lists.ByText.{seen_lookup}
 use Rattle.types.proofs.scope.find.Goals as goal
 
 pub returns : goal.returns

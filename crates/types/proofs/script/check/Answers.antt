@@ -6,9 +6,9 @@ use Rattle.types.specs.declared.typed.Meaning.TheVariants.{Nothing}
 use Rattle.types.specs.Typed.{meaning_at, settled_at}
 use Rattle.types.specs.Outcomes.{refused, got}
 use Rattle.types.specs.Scripts.{checked}
-use Rattle.types.proofs.Answered.{accepted_typed}
-use Rattle.types.proofs.BreaksScript.{refusal_names}
-use Rattle.types.proofs.UnbrokenScript.{script_refused}
+use Rattle.types.proofs.answered.Answered.{accepted_typed}
+use Rattle.types.proofs.answered.BreaksScript.{refusal_names}
+use Rattle.types.proofs.answered.UnbrokenScript.{script_refused}
 use Rattle.types.proofs.script.check.Goals as goal
 
 pub returns-in_err-parts-clause-untyped : goal.returns-in_err-parts-clause-untyped

@@ -3,7 +3,7 @@ use Rattle.std.proofs.lemmas.Grind.{common_steps}
 use Rattle.std.proofs.lemmas.Result.{err_from_is_err_and}
 use Rattle.syntax_trees.specs.View.{declaration_of}
 use Rattle.types.specs.Outcomes.{refused}
-use Rattle.types.proofs.Walks.{parameters_done, parameters_refused}
+use Rattle.types.proofs.steps.Walks.{parameters_done, parameters_refused}
 use Rattle.types.proofs.script.inputs.Goals as goal
 
 pub returns-in_err-declare : goal.returns-in_err-declare

@@ -5,7 +5,7 @@ use Rattle.syntax_trees.specs.View.{part_of}
 use Rattle.types.specs.Known.{around_of}
 use Rattle.types.specs.Functions.{signatures_of}
 use Rattle.types.specs.Scripts.{parts_checked}
-use Rattle.types.proofs.Rest.{rest_more}
+use Rattle.types.proofs.lists.Rest.{rest_more}
 use Rattle.types.proofs.script.parts.Goals as goal
 
 pub returns-in_err-above : goal.returns-in_err-above

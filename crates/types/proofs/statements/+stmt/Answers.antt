@@ -11,8 +11,8 @@ use Rattle.types.specs.Outcomes.{Gives}
 use Rattle.types.specs.Statements.{commanded}
 use Rattle.types.specs.Known.{seen_at, around_of}
 use Rattle.types.specs.Functions.{signatures_of}
-use Rattle.types.proofs.Growth.{cut_back, grown_more, stated_grown}
-use Rattle.types.proofs.Walks.{order_done, order_refused, order_next, view-If}
+use Rattle.types.proofs.visible.Growth.{cut_back, grown_more, stated_grown}
+use Rattle.types.proofs.steps.Walks.{order_done, order_refused, order_next, view-If}
 use Rattle.types.proofs.statements.+stmt.Goals as goal
 
 pub each-stmt-requires : goal.each-stmt-requires

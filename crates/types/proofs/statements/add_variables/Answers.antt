@@ -4,7 +4,7 @@ use Rattle.syntax_trees.specs.View.{word_of}
 use Rattle.types.specs.Known.{Around, around_of}
 use Rattle.types.specs.Names.{seen}
 use Rattle.types.specs.Statements.{fresh_variables}
-use Rattle.types.proofs.ByText.{unseen_value, unseen_key}
+use Rattle.types.proofs.lists.ByText.{unseen_value, unseen_key}
 use Rattle.types.proofs.statements.add_variables.Goals as goal
 
 pub add-requires : goal.add-requires

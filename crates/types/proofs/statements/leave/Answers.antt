@@ -3,7 +3,7 @@ use Rattle.std.specs.Prelude.{vec_len}
 use Rattle.std.proofs.lemmas.List.{take-map}
 use Rattle.std.proofs.lemmas.Grind.{common_steps}
 use Rattle.types.specs.Known.{seen_at}
-use Rattle.types.proofs.Growth.{made}
+use Rattle.types.proofs.visible.Growth.{made}
 use Rattle.types.proofs.statements.leave.Goals as goal
 
 pub returns : goal.returns

@@ -6,7 +6,7 @@ use Rattle.syntax_trees.specs.View.{expression_view}
 use Rattle.types.specs.Known.{type_of, around_of}
 use Rattle.types.specs.Functions.{signatures_of}
 use Rattle.types.specs.Expressions.{arguments}
-use Rattle.types.proofs.Calls.{given_of, print_refused, print_other, print_rest}
+use Rattle.types.proofs.steps.Calls.{given_of, print_refused, print_other, print_rest}
 use Rattle.types.proofs.statements.print.Goals as goal
 
 pub returns-in_err-wanted : goal.returns-in_err-wanted

@@ -1,6 +1,6 @@
 use Rattle.std.proofs.Common.{◌<◌, ◌≤◌, length, ◌∙◌, arith}
 use Rattle.types.specs.Known.{type_of}
-use Rattle.types.proofs.Steps.{types_few}
+use Rattle.types.proofs.steps.Steps.{types_few}
 use Rattle.types.proofs.statements.same_types.Goals as goal
 
 pub returns-in_default : goal.returns-in_default

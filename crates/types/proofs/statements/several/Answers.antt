@@ -4,7 +4,7 @@ use Rattle.syntax_trees.specs.View.{calling_of}
 use Rattle.types.specs.Known.{around_of}
 use Rattle.types.specs.Functions.{signatures_of}
 use Rattle.types.specs.Names.{builtin_of}
-use Rattle.types.proofs.Calls.{judged, several_builtin}
+use Rattle.types.proofs.steps.Calls.{judged, several_builtin}
 use Rattle.types.proofs.statements.several.Goals as goal
 
 pub returns-in_ok-base-in-Some : goal.returns-in_ok-base-in-Some

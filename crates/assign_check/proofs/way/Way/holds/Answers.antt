@@ -1,7 +1,7 @@
 use Rattle.std.proofs.Common.{ap, ◌∙◌, nat_lt}
 use Rattle.types.specs.Typed.{owned_name}
 use Rattle.assign_check.specs.Ways.{listed}
-use Rattle.assign_check.proofs.Among.{among_times}
+use Rattle.assign_check.proofs.counting.Among.{among_times}
 use Rattle.assign_check.proofs.way.Way.holds.Goals as goal
 
 pub returns : goal.returns

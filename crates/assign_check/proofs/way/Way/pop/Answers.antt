@@ -4,7 +4,7 @@ use Rattle.syntax_trees.specs.Core.{Owned}
 use Rattle.types.specs.Typed.{owned_name}
 use Rattle.assign_check.specs.Faults.{times}
 use Rattle.assign_check.specs.Tables.{at}
-use Rattle.assign_check.proofs.Among.{last_counted, popped_times}
+use Rattle.assign_check.proofs.counting.Among.{last_counted, popped_times}
 use Rattle.assign_check.proofs.way.Way.pop.Goals as goal
 
 pub overflow_sub-times : goal.overflow_sub-times

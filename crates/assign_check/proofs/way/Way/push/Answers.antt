@@ -5,7 +5,7 @@ use Rattle.types.specs.Typed.{owned_name}
 use Rattle.assign_check.specs.Faults.{times}
 use Rattle.assign_check.specs.Tables.{at}
 use Rattle.assign_check.specs.Ways.{listed}
-use Rattle.assign_check.proofs.Among.{times_le, pushed_times}
+use Rattle.assign_check.proofs.counting.Among.{times_le, pushed_times}
 use Rattle.assign_check.proofs.way.Way.push.Goals as goal
 
 pub overflow_add-times : goal.overflow_add-times

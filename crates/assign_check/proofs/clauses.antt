@@ -1,0 +1,3 @@
+pub mod SingleOutline
+pub mod Claims
+pub mod ByOutlines

@@ -1,0 +1,5 @@
+pub mod Seeing
+pub mod Visible
+pub mod Reading
+pub mod Statements
+pub mod Calls

@@ -1,0 +1,4 @@
+pub mod Collected
+pub mod Combine
+pub mod Heights
+pub mod Views

@@ -1,0 +1,48 @@
+-- What the parts of a text's reading say of the text.
+use Rattle.std.proofs.Common.{◌≡◌, ℕ, ◌+◌, ◌^◌, ◌<◌, ◌≤◌, length, List, [], ◌∷◌, ◌++◌, map, refl, sym, subst, inl, inr}
+use Rattle.std.specs.Prelude.{Ok, Err, Option, Some, None}
+use Rattle.lexer.specs.Items.{Lexeme}
+use Rattle.lexer.specs.Tokens.{Tokens}
+use Rattle.lexer.specs.declared.fault.LexFault.{LexFault}
+use Rattle.syntax_trees.specs.Tree.{Tree}
+use Rattle.syntax_trees.specs.Numbered.{numbered, tree_size}
+use Rattle.syntax_trees.specs.Reads.{Reads}
+use Rattle.syntax_trees.specs.Rules.{Place}
+use Rattle.syntax.specs.declared.stop.Stop.{Stop}
+use Rattle.syntax.specs.declared.stop.Stop.TheVariants.{AtEnd, Unexpected, TooNested, Memory}
+use Rattle.syntax.specs.declared.error.ParseFault.TheVariants as Fault
+use Rattle.syntax.specs.Answers.{Fails, answer_of}
+use Rattle.syntax.specs.Endings.{ending}
+use Rattle.syntax.specs.Readers.{refused, got, start}
+use Rattle.syntax.specs.Reading.{read_script}
+use Rattle.syntax.specs.Refusals.{HasNone, Refuses}
+use Rattle.syntax.proofs.scripts.Scripts.{script_sound}
+use Rattle.syntax.proofs.Sizes.{numbers_fit}
+use Rattle.syntax.proofs.stopping.Viable.{stops_first}
+use Rattle.syntax.proofs.scripts.Trees.{whole, reads_text, long_text, refused_text, faulty_text}
+
+-- a text whose tokens are refused has no tree, whatever ends them
+no_tree : (bytes : List ℕ) (ts : List Lexeme) (fault : Option LexFault) (stop : Stop) → Tokens bytes (map Ok ts ++ ending fault) → read_script 64 (start ts) ≡ refused stop → HasNone bytes
+no_tree bytes ts None stop lexed read = refused_text bytes ts (whole bytes ts lexed) stop read
+no_tree bytes ts (Some f) stop lexed read = faulty_text bytes ts f lexed
+
+pub stop_refuses : (bytes : List ℕ) (ts : List Lexeme) (fault : Option LexFault) (stop : Stop) → length bytes ≤ 1048576 → Tokens bytes (map Ok ts ++ ending fault)
+    → Fails stop (read_script 64 (start ts)) → Refuses bytes (answer_of stop fault (length bytes))
+stop_refuses bytes ts None AtEnd short lexed fails = (short, no_tree bytes ts None AtEnd lexed fails, inr ((ts, lexed, fails, stops_first 64 ts AtEnd fails), refl))
+stop_refuses bytes ts (Some f) AtEnd short lexed fails = (short, faulty_text bytes ts f lexed, inl (ts, lexed, fails, stops_first 64 ts AtEnd fails))
+stop_refuses bytes ts fault (Unexpected s) short lexed fails = (short, no_tree bytes ts fault (Unexpected s) lexed fails, inl (fault, (ts, lexed, fails, stops_first 64 ts (Unexpected s) fails)))
+stop_refuses bytes ts fault (TooNested s) short lexed fails = (short, no_tree bytes ts fault (TooNested s) lexed fails, fault, (ts, lexed, fails, stops_first 64 ts (TooNested s) fails))
+stop_refuses bytes ts fault Memory short lexed fails = short
+
+pub fault_refuses : (bytes : List ℕ) (ts : List Lexeme) (f : LexFault) (tree : Tree) (u : Place) → length bytes ≤ 1048576 → Tokens bytes (map Ok ts ++ Err f ∷ []) → read_script 64 (start ts) ≡ got tree u → Refuses bytes (Fault.Lex f)
+fault_refuses bytes ts f tree u short lexed read = (short, faulty_text bytes ts f lexed, inr (ts, tree, lexed, (script_sound 64 ts tree u read).0))
+
+pub long_refuses : (bytes : List ℕ) → 1048576 < length bytes → Refuses bytes (Fault.TooLong (record { from = 1048576; to = 1048576 }))
+long_refuses bytes long = (long, long_text bytes long, refl)
+
+pub text_fits : (bytes : List ℕ) (ts : List Lexeme) (tree : Tree) (u : Place) → length bytes ≤ 1048576 → Tokens bytes (map Ok ts ++ []) → read_script 64 (start ts) ≡ got tree u → tree_size tree + 1 < 2 ^ 32
+text_fits bytes ts tree u short lexed read = numbers_fit bytes ts tree short (whole bytes ts lexed) (script_sound 64 ts tree u read).0
+
+pub text_reads : (bytes : List ℕ) (ts : List Lexeme) (tree : Tree) (u : Place) (t : Tree) → length bytes ≤ 1048576 → Tokens bytes (map Ok ts ++ []) → read_script 64 (start ts) ≡ got tree u
+    → t ≡ numbered 1 tree → Reads bytes t
+text_reads bytes ts tree u t short lexed read is = subst (Reads bytes) (sym is) (reads_text bytes ts tree u short (whole bytes ts lexed) read)

@@ -1,0 +1,3 @@
+pub mod Beginnings
+pub mod Prefixes
+pub mod Viable

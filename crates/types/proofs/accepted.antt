@@ -1,0 +1,5 @@
+pub mod Accepted
+pub mod Gives
+pub mod Checked
+pub mod Stated
+pub mod Typing

@@ -1,0 +1,6 @@
+pub mod Answered
+pub mod Breaks
+pub mod BreaksStated
+pub mod BreaksScript
+pub mod Unbroken
+pub mod UnbrokenScript

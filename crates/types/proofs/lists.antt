@@ -1,0 +1,3 @@
+pub mod ByText
+pub mod Places
+pub mod Rest

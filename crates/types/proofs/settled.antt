@@ -1,0 +1,4 @@
+pub mod Numbered
+pub mod Rising
+pub mod Settling
+pub mod Table
