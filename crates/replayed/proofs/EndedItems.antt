@@ -55,11 +55,11 @@ map_length : {X Y : Type 0} (f : X → Y) (xs : List X) → length (map f xs) �
 map_length f [] = refl
 map_length f (x ∷ xs) = let h = map_length f xs in omega arith
 
-one_in : (n : ℕ) (ms : List ℕ) → is_one n ms ≡ true → In n ms
+pub one_in : (n : ℕ) (ms : List ℕ) → is_one n ms ≡ true → In n ms
 one_in n [] h = yes_no h refl
 one_in n (m ∷ ms) h = elim (or_true (nat_eq n m) (is_one n ms) h) [ inl p ↦ inl (nat_sound n m p) | inr g ↦ inr (one_in n ms g) ]
 
-in_one : (n : ℕ) (ms : List ℕ) → In n ms → is_one n ms ≡ true
+pub in_one : (n : ℕ) (ms : List ℕ) → In n ms → is_one n ms ≡ true
 in_one n [] h = absurd h
 in_one n (m ∷ ms) h =
     elim h [
@@ -68,7 +68,7 @@ in_one n (m ∷ ms) h =
     ]
 
 -- an item that does not run, told by its row's mark
-idle_row : (m : Mark) (y : IsItem m) → y.runs ≡ None → is_idle m ≡ true
+pub idle_row : (m : Mark) (y : IsItem m) → y.runs ≡ None → is_idle m ≡ true
 idle_row Waiting y h = refl
 idle_row Ready y h = refl
 idle_row (Running w) y h = none_some (sym h ∙ ap (λ (i : CodeItem). i.runs) (head_is (sym (y.is 0 Main []))))
@@ -80,7 +80,7 @@ row_idle Ready y h = sym (ap (λ (i : CodeItem). i.runs) (head_is (y.is 0 Main [
 row_idle (Running w) y h = yes_no h refl
 row_idle Over y h = yes_no h refl
 
-row_below : (rows : List Row) (j : ℕ) (r : Row) → row_of rows (suc j) ≡ Some r → j < length rows
+pub row_below : (rows : List Row) (j : ℕ) (r : Row) → row_of rows (suc j) ≡ Some r → j < length rows
 row_below [] j r h = none_some h
 row_below (q ∷ rows) zero r h = omega arith
 row_below (q ∷ rows) (suc j) r h = let b = row_below rows j r h in omega arith
@@ -146,6 +146,7 @@ module _ {T D K V E : Type 0} (S : System T D K V E) where
         items = l.1.items;
         next = l.1.next;
         lines = l.1.lines;
+        left = l.1;
       }
 
   older : (s t : State T D K V E) (log : List (T × Effect T D K V)) (u : T) (os : List (MachineItem T)) (r : Outcome T D K V E) (y : After S s u os r t) (v : T) (e : Effect T D K V) → In (v, e) log → In (v, e) (log_after S s u os r t y log)

@@ -37,7 +37,7 @@ module _ (C : Code) where
   pointing_append p a (x ∷ xs) ys = let r = pointing_append p a xs ys in omega arith
 
   -- literals are no data
-  among_times : (q : List Step) (v : Variable) (ds : List Place) → times (code_system C) code_tests (Datum q v) (data_among ds) ≡ times (code_system C) code_tests (Datum q v) ds
+  pub among_times : (q : List Step) (v : Variable) (ds : List Place) → times (code_system C) code_tests (Datum q v) (data_among ds) ≡ times (code_system C) code_tests (Datum q v) ds
   among_times q v [] = refl
   among_times q v (Datum p w ∷ ds) = let r = among_times q v ds in omega arith
   among_times q v (Constant c ∷ ds) = let r = among_times q v ds in omega arith
@@ -82,7 +82,7 @@ module _ (C : Code) where
   in_variables v [] h = yes_no h refl
   in_variables v (w ∷ vs) h = elim (or_true (variable_eq v w) (variable_in v vs) h) [ inl p ↦ inl (variable_sound v w p) | inr i ↦ inr (in_variables v vs i) ]
 
-  declared_of : (b up : ℕ) (x : Owned) → is_declared C b (record { up = up; owned = x }) ≡ true → (v : Variable) × In v (body C b).makes × (record { up = up; owned = x } ≡ here v)
+  pub declared_of : (b up : ℕ) (x : Owned) → is_declared C b (record { up = up; owned = x }) ≡ true → (v : Variable) × In v (body C b).makes × (record { up = up; owned = x } ≡ here v)
   declared_of b zero (Local v) h = (v, in_variables v (body C b).makes h, refl)
   declared_of b zero (Parameter k a) h = yes_no h refl
   declared_of b (suc up) x h = yes_no h refl

@@ -2,7 +2,7 @@
 use Rattle.std.specs.Prelude.{◌≡◌, ◌⊎◌, ℕ, ℤ, pos, zero, suc, ◌+◌, ◌-◌, ◌<◌, Bool, true, false, ◌||◌, List, [], ◌∷◌, ◌++◌, map, length, drop, Option, Some, None, nat_eq, if◌then◌else◌}
 use Rattle.std.specs.List.{flat_map, filter}
 use Rattle.dataflow.specs.System.{Answer, Distinct, Effect, Good, In, Opening, System, tasks_of}
-use Rattle.dataflow.specs.Machine.{Item, SeesAll, State, new_items}
+use Rattle.dataflow.specs.Machine.{Item, Leaves, SeesAll, State, ended, new_items}
 use Rattle.replayed.specs.Fields.{Absent, AnElement, Content, Counted, DatumOf, Does, Fields, Frame, Holding, Job, Layout, LiteralOf, Mapping, Mark, Over, Ready, Row, Script, Slot, Unset, Waiter, Waiting, Want, Whole, level_of, path_of, row_of, slot_at, slot_for, step_before, task_of}
 use Rattle.replayed.specs.Needs.{is_array_content, is_known, job_missed, still_missed}
 use Rattle.replayed.specs.Static.{Hold, names_in, opened, outer_holds, own_count, rests}
@@ -42,7 +42,7 @@ pub record TasksStay (fs gs : List (Option Frame)) (rows : List Row) (number : �
   pub opened : map (task_of gs) jobs ≡ tasks
 
 module _ {T D K V E : Type 0} (S : System T D K V E) where
-  -- the item that ran on the worker is gone, its lines are printed, and the items that it opens stand behind the others, numbered on
+  -- the item that ran on the worker is gone, its lines are printed, the items that it opens stand behind the others, numbered on, and only data that are free leave
   pub record OpensItems (s : State T D K V E) (worker number : ℕ) (t : State T D K V E) : Type 0 where
     pub before : List (Item T)
     pub item : Item T
@@ -57,6 +57,7 @@ module _ {T D K V E : Type 0} (S : System T D K V E) where
     pub items : t.items ≡ (before ++ after) ++ new_items s.next (tasks_of effect.opens)
     pub next : t.next ≡ s.next + length (tasks_of effect.opens)
     pub lines : t.lines ≡ s.lines ++ effect.lines
+    pub left : Leaves S (ended S s (before ++ after) effect) t
 
 -- the value under one key of a slab is this, and nothing else has changed
 pub record Sets {X : Type 0} (fs : List (Option X)) (key : ℕ) (value : Option X) (gs : List (Option X)) : Type 0 where
@@ -147,6 +148,11 @@ empty_content true = Mapping []
 -- what a variable of a loop's turn stores from the start
 abbrev pub turn_content : Loop → Key × Scalar → Variable → Content
 turn_content w t v = if variable_eq v (scalar w.value) then Holding t.1 else elim w.turn [ None ↦ empty_content v.array | Some n ↦ if variable_eq v (scalar n) then Holding (key_scalar t.0) else empty_content v.array ]
+
+-- these, or others where there are none
+abbrev pub or_else : {X : Type 0} → List X → List X → List X
+or_else [] ys = ys
+or_else (x ∷ xs) ys = x ∷ xs
 
 -- some are left
 abbrev pub turns_after : Computed → (chunk : ℕ) → Option Elements → Option Elements
@@ -251,13 +257,13 @@ module _ (C : Code) where
       pub leads : slot_for L hs m.key m.body (here v) ≡ DatumOf d
 
     -- what it stores from the start: a loop gives its turn's variables their values
+    abbrev pub StartsBy : List Step → (mark chunk : ℕ) → Computed → Instance → Variable → Content → Option Loop → Type 0
+    StartsBy p mark n x m v c None = c ≡ empty_content v.array
+    StartsBy p mark n x m v c (Some w) = (t : Key × Scalar) × In t (chunk n (turns_of x)) × (m.path ≡ step_at mark t.0 p) × (c ≡ turn_content w t v)
+
     abbrev pub StartsAs : List (Option Frame) → Job → Computed → Instance → Variable → Content → Type 0
     StartsAs fs Script x m v c = c ≡ empty_content v.array
-    StartsAs fs (Does k e n) x m v c = by (loop_of (entry C e).act)
-      where
-        by : Option Loop → Type 0
-        by None = c ≡ empty_content v.array
-        by (Some w) = (t : Key × Scalar) × In t (chunk n (turns_of x)) × (m.path ≡ step_at (entry C e).mark t.0 (path_of fs k)) × (c ≡ turn_content w t v)
+    StartsAs fs (Does k e n) x m v c = StartsBy (path_of fs k) (entry C e).mark n x m v c (loop_of (entry C e).act)
 
     -- a new datum: its key was not in use, and its counts are those of its body
     pub record NewCell (fs hs : List (Option Frame)) (j : Job) (x : Computed) (m : Instance) (v : Variable) (cs ds : List (Option Counted)) : Type 0 where
@@ -294,11 +300,7 @@ module _ (C : Code) where
 
     -- what a waiter misses afterwards: what is still missed; where that is nothing, what its item misses next
     abbrev pub missed_again : Fields → List Row → List (Want ℕ) → Waiter → List (Want ℕ)
-    missed_again G rows known w = by (still_missed known w.missing)
-      where
-        by : List (Want ℕ) → List (Want ℕ)
-        by [] = elim (row_of rows w.item) [ None ↦ [] | Some r ↦ job_missed C L G r.job ]
-        by (v ∷ vs) = v ∷ vs
+    missed_again G rows known w = or_else (still_missed known w.missing) (elim (row_of rows w.item) [ None ↦ [] | Some r ↦ job_missed C L G r.job ])
 
     -- what a new item misses; one that goes on with a loop misses nothing
     abbrev pub missed_first : Fields → Job → List (Want ℕ)
