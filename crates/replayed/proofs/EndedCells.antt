@@ -156,13 +156,13 @@ module _ (C : Code) (I : IsCode C) (L : Layout) (es : List Event) (F : Fields) (
     one_datum = P.x.data_stand.naming.one_datum
 
     -- the item's own names
-    own_read_times : (x : Job) → j ≡ x → named_times (job_slot C L fs x) d (job_names C L (λ e. e.reads) x) ≡ times (code_system C) code_tests (Datum q v) (task_reads C (task_of fs x))
+    own_read_times : (x : Job) → j ≡ x → named_times (job_slot C L fs x) d (job_names C (λ e. e.reads) x) ≡ times (code_system C) code_tests (Datum q v) (task_reads C (task_of fs x))
     own_read_times Script e = refl
     own_read_times (Does k x c) e =
         named_told C names one_name one_datum d q v h (job_slot C L fs (Does k x c)) (path_of fs k) (entry C x).reads (λ r ir. own_reads C I L es F w n t G P k x c e r ir)
         ∙ sym (among_times C q v (map (place_at C (path_of fs k)) (entry C x).reads))
 
-    own_write_times : (x : Job) → j ≡ x → named_times (job_slot C L fs x) d (job_names C L (λ e. e.writes) x) ≡ times (code_system C) code_tests (Datum q v) (task_writes C (task_of fs x))
+    own_write_times : (x : Job) → j ≡ x → named_times (job_slot C L fs x) d (job_names C (λ e. e.writes) x) ≡ times (code_system C) code_tests (Datum q v) (task_writes C (task_of fs x))
     own_write_times Script e = refl
     own_write_times (Does k x c) e =
         named_told C names one_name one_datum d q v h (job_slot C L fs (Does k x c)) (path_of fs k) (entry C x).writes (λ r ir. own_writes C I L es F w n t G P k x c e r ir)

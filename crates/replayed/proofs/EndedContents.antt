@@ -281,14 +281,14 @@ module _ (C : Code) (I : IsCode C) (L : Layout) (es : List Event) (F : Fields) (
             content_held (key_scalar y.0) (ap (λ (q : Variable). q.array) ev) (held_of i (key_scalar y.0) (turn_in_bound l (entry C x).mark (path_of fs f) y i eo) ev))
             (λ z. content_empty v.array (not_bound f x c e l lo u (λ k q. ap (λ (y : ℕ). variable_eq v (scalar y)) (some_nat (sym q ∙ eo)) ∙ z)))
 
-    pub new_content : (x : Content) → StartsAs C L fs j (computed C I L es F w n t G P) m v x → ContentStands C t a v.array x
+    pub new_content : (x : Content) → StartsAs C fs j (computed C I L es F w n t G P) m v x → ContentStands C t a v.array x
     new_content x st = by j refl st
       where
-        by : (b : Job) → j ≡ b → StartsAs C L fs b (computed_of b) m v x → ContentStands C t a v.array x
+        by : (b : Job) → j ≡ b → StartsAs C fs b (computed_of b) m v x → ContentStands C t a v.array x
         by Script e st = content_at v.array x (empty_content v.array) st (content_empty v.array (λ k u h. subst (λ (q : Job). In (write a k u) (job_writes q)) e (new_held k u h)))
         by (Does f y c) e st = of (loop_of (entry C y).act) refl st
           where
-            of : (l : Option Loop) → loop_of (entry C y).act ≡ l → StartsBy C L (path_of fs f) (entry C y).mark c (computed_of (Does f y c)) m v x l → ContentStands C t a v.array x
+            of : (l : Option Loop) → loop_of (entry C y).act ≡ l → StartsBy (path_of fs f) (entry C y).mark c (computed_of (Does f y c)) m v x l → ContentStands C t a v.array x
             of None lo st =
                 content_at v.array x (empty_content v.array) st (content_empty v.array (λ k u h. let b = new_bound f y c e k u (subst (λ (q : Job). In (write a k u) (job_writes q)) e (new_held k u h)) in none_some (sym lo ∙ b.loops)))
             of (Some l) lo st = content_at v.array x (turn_content l st.0 v) st.3 (turn_stands f y c e l st.0 lo st.1 st.2)

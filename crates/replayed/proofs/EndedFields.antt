@@ -65,7 +65,7 @@ idle_mark Over y h = absurd (item_not_over Over y refl)
 
 module _ (C : Code) (I : IsCode C) (L : Layout) (es : List Event) (F : Fields) (w n : ℕ) (t : CodeState) (G : Fields) (P : Ending C L es F w n t G) where
   abbrev jobs : List Job
-  jobs = jobs_after C L (made C I L es F w n t G P) P.row.job (os C I L es F w n t G P)
+  jobs = jobs_after C (made C I L es F w n t G P) P.row.job (os C I L es F w n t G P)
 
   abbrev rows : List Row
   rows = F.rows ++ map new_row jobs
@@ -176,7 +176,7 @@ module _ (C : Code) (I : IsCode C) (L : Layout) (es : List Event) (F : Fields) (
   queue_stand = queue_after C I L es F P.x w n t P.reached P.good G items_stand newly_at P.to.queue
 
   -- lines
-  lines_by : (b : Job) → (code_system C).effect (task_of F.frames b) P.answers ≡ Good (o C I L es F w n t G P).effect → (o C I L es F w n t G P).effect.lines ≡ printed C L b (computed_by C (task_of F.frames b) P.answers)
+  lines_by : (b : Job) → (code_system C).effect (task_of F.frames b) P.answers ≡ Good (o C I L es F w n t G P).effect → (o C I L es F w n t G P).effect.lines ≡ printed C b (computed_by C (task_of F.frames b) P.answers)
   lines_by Script h = sym (ap (λ (e : Effect Task Place Key Scalar). e.lines) (good_is h))
   lines_by (Does k e c) h =
       let y = computed_by C (task_of F.frames (Does k e c)) P.answers in

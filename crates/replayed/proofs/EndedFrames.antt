@@ -95,7 +95,7 @@ module _ (C : Code) (I : IsCode C) (L : Layout) (es : List Event) (F : Fields) (
   gs = G.frames
 
   abbrev jobs : List Job
-  jobs = jobs_after C L made j os
+  jobs = jobs_after C made j os
 
   abbrev R : ℕ → ℕ
   R k = rows_in k G.rows
@@ -141,7 +141,7 @@ module _ (C : Code) (I : IsCode C) (L : Layout) (es : List Event) (F : Fields) (
       ∙ ended_in n G.newly k 1 F.rows jobs newly_live own.at P.row (subst (λ (r : Row). row_of F.rows (suc own.at) ≡ Some r) own_at.0 own.there) (let e = own_at.1 in omega arith) own_live
 
   jobs_told : (k : ℕ) → jobs_in k jobs ≡ jobs_in k (made_jobs C made) + length os * one_if (is_home (home j) k)
-  jobs_told k = jobs_append k (made_jobs C made) (rest_jobs C j os) ∙ ap (λ (m : ℕ). jobs_in k (made_jobs C made) + m) (rest_in_home C k j os)
+  jobs_told k = jobs_append k (made_jobs C made) (rest_jobs j os) ∙ ap (λ (m : ℕ). jobs_in k (made_jobs C made) + m) (rest_in_home C k j os)
 
   -- keys of new instances
   abbrev keys : List ℕ
@@ -178,10 +178,10 @@ module _ (C : Code) (I : IsCode C) (L : Layout) (es : List Event) (F : Fields) (
       ∙ ap (λ (m : ℕ). frames_in i fs + m * one_if (is_home (home j) i)) (map_length (λ (m : Instance). m.key) made)
 
   -- what the item leaves
-  leaving_told : (k : ℕ) → one_if (is_home (leaving C j os) k) + length os * one_if (is_home (home j) k) ≡ one_if (is_home (home j) k)
+  leaving_told : (k : ℕ) → one_if (is_home (leaving j os) k) + length os * one_if (is_home (home j) k) ≡ one_if (is_home (home j) k)
   leaving_told k = by os (one_rest C (task C I L es F w n t G P) (computed C I L es F w n t G P))
     where
-      by : (ps : List (Opening Task Place)) → length ps ≤ 1 → one_if (is_home (leaving C j ps) k) + length ps * one_if (is_home (home j) k) ≡ one_if (is_home (home j) k)
+      by : (ps : List (Opening Task Place)) → length ps ≤ 1 → one_if (is_home (leaving j ps) k) + length ps * one_if (is_home (home j) k) ≡ one_if (is_home (home j) k)
       by [] l = omega arith
       by (p ∷ []) l = omega arith
       by (p ∷ q ∷ ps) l = absurd (omega arith)
@@ -197,7 +197,7 @@ module _ (C : Code) (I : IsCode C) (L : Layout) (es : List Event) (F : Fields) (
   made_entries m i = (made_block m i).1
 
   -- an instance before the item leaves its own
-  middle_live : (k : ℕ) (f : Frame) → slot_at hs k ≡ Some f → (f.live ≡ (R k + frames_in k hs) + one_if (is_home (leaving C j os) k)) × (0 < f.live)
+  middle_live : (k : ℕ) (f : Frame) → slot_at hs k ≡ Some f → (f.live ≡ (R k + frames_in k hs) + one_if (is_home (leaving j os) k)) × (0 < f.live)
   middle_live k f h =
       elim (P.to.opens.only k f h) [
         | inl q ↦ (let same : with_live (q.0.live + (if is_home (home j) k then length made else 0)) q.0 ≡ f = some_same (sym (P.to.opens.old k q.0 q.1) ∙ h) in
@@ -205,7 +205,7 @@ module _ (C : Code) (I : IsCode C) (L : Layout) (es : List Event) (F : Fields) (
             let a = P.x.frames.live k q.0 q.1 in
             let b = P.x.frames.kept k q.0 q.1 in
             let none = made_none C k made (λ m i e. none_some (sym (subst (λ (z : ℕ). slot_at fs z ≡ None) e (P.to.opens.fresh m i)) ∙ q.1)) in
-            old f.live q.0.live (if is_home (home j) k then length made else 0) (length made) (one_if (is_home (home j) k)) (rows_in k F.rows) (frames_in k fs) (R k) (frames_in k hs) (one_if (is_home (leaving C j os) k)) (length os) (one_if (is_of k j)) (jobs_in k jobs) (jobs_in k (made_jobs C made))
+            old f.live q.0.live (if is_home (home j) k then length made else 0) (length made) (one_if (is_home (home j) k)) (rows_in k F.rows) (frames_in k fs) (R k) (frames_in k hs) (one_if (is_home (leaving j os) k)) (length os) (one_if (is_of k j)) (jobs_in k jobs) (jobs_in k (made_jobs C made))
             l (times_if (is_home (home j) k) (length made)) a b (rows_told k) (jobs_told k) none (frames_told k) (leaving_told k) (of_told k))
         | inr q ↦ (let p = P.to.opens.new q.0 q.1 in
             let fr = subst (λ (z : ℕ). slot_at fs z ≡ None) q.2 (P.to.opens.fresh q.0 q.1) in
@@ -214,7 +214,7 @@ module _ (C : Code) (I : IsCode C) (L : Layout) (es : List Event) (F : Fields) (
             let own_jobs : jobs_in k (made_jobs C made) ≡ length (body C q.0.body).entries = subst (λ (z : ℕ). jobs_in z (made_jobs C made) ≡ length (body C q.0.body).entries) q.2 (made_own C made P.to.opens.keys q.0 q.1) in
             let apart = key_none (home j) k (λ e. let a = around_there k e in none_some (sym fr ∙ a.1)) in
             let some = some_length (body C q.0.body).entries (made_entries q.0 q.1) in
-            new f.live (length (body C q.0.body).entries) (length made) (one_if (is_home (home j) k)) (rows_in k F.rows) (frames_in k fs) (R k) (frames_in k hs) (one_if (is_home (leaving C j os) k)) (length os) (one_if (is_of k j)) (jobs_in k jobs) (jobs_in k (made_jobs C made))
+            new f.live (length (body C q.0.body).entries) (length made) (one_if (is_home (home j) k)) (rows_in k F.rows) (frames_in k fs) (R k) (frames_in k hs) (one_if (is_home (leaving j os) k)) (length os) (one_if (is_of k j)) (jobs_in k jobs) (jobs_in k (made_jobs C made))
             l some (free_rows k fr) (free_frames k fr) apart (rows_told k) (jobs_told k) own_jobs (frames_told k) (leaving_told k) (of_told k))
       ]
     where
@@ -251,11 +251,11 @@ module _ (C : Code) (I : IsCode C) (L : Layout) (es : List Event) (F : Fields) (
             (u.0, u.1, ap (λ (y : Frame). y.level) (sym same) ∙ p.2.level ∙ level_told (home j) i g.0 a g.1 ∙ ap suc u.2.level))
       ]
 
-  middle_sound : Sound R (leaving C j os) hs
+  middle_sound : Sound R (leaving j os) hs
   middle_sound = record { live = λ k f h. (middle_live k f h).0; inside = middle_inside; kept = λ k f h. (middle_live k f h).1 }
 
   pub lighter : Lighter R hs gs
-  lighter = taken_off R gs hs (leaving C j os) middle_sound P.to.leaves
+  lighter = taken_off R gs hs (leaving j os) middle_sound P.to.leaves
 
   -- a row that is not over keeps its instance
   row_busy : (m k e c : ℕ) (r : Row) → row_of G.rows m ≡ Some r → is_over r.mark ≡ false → r.job ≡ Does k e c → 0 < R k
@@ -390,7 +390,7 @@ module _ (C : Code) (I : IsCode C) (L : Layout) (es : List Event) (F : Fields) (
       none [] h = refl
       none (x ∷ xs) h = yes_no refl h
 
-  rest_tasks : (i : Job) (y : Computed) → ((k e c : ℕ) → i ≡ Does k e c → 0 < length (rests C (task_of fs i) y) → path_of gs k ≡ path_of fs k) → map (task_of gs) (rest_jobs C i (rests C (task_of fs i) y)) ≡ tasks_of (rests C (task_of fs i) y)
+  rest_tasks : (i : Job) (y : Computed) → ((k e c : ℕ) → i ≡ Does k e c → 0 < length (rests C (task_of fs i) y) → path_of gs k ≡ path_of fs k) → map (task_of gs) (rest_jobs i (rests C (task_of fs i) y)) ≡ tasks_of (rests C (task_of fs i) y)
   rest_tasks Script y h = refl
   rest_tasks (Does k e c) y h = by (loop_of (entry C e).act) (λ z. h k e c refl z)
     where
@@ -405,7 +405,7 @@ module _ (C : Code) (I : IsCode C) (L : Layout) (es : List Event) (F : Fields) (
   pub tasks_stay : TasksStay fs gs F.rows n jobs (tasks_of (o C I L es F w n t G P).effect.opens)
   tasks_stay = record {
     others = others;
-    opened = map_append (task_of gs) (made_jobs C made) (rest_jobs C j os)
+    opened = map_append (task_of gs) (made_jobs C made) (rest_jobs j os)
         ∙ (λ i. made_part i ++ rest_part i)
         ∙ sym (tasks_append C (map (block C) (opened C (task C I L es F w n t G P) (computed C I L es F w n t G P))) os)
         ∙ ap tasks_of (sym (opens_are C I L es F w n t G P));
@@ -425,7 +425,7 @@ module _ (C : Code) (I : IsCode C) (L : Layout) (es : List Event) (F : Fields) (
       made_part : map (task_of gs) (made_jobs C made) ≡ tasks_of (map (block C) (opened C (task C I L es F w n t G P) (computed C I L es F w n t G P)))
       made_part = made_tasks made made_path ∙ ap (λ (l : List (ℕ × List Step)). tasks_of (map (block C) l)) P.to.made_are ∙ few_tasks (opened C (task C I L es F w n t G P) (computed C I L es F w n t G P))
 
-      rest_part : map (task_of gs) (rest_jobs C j os) ≡ tasks_of os
+      rest_part : map (task_of gs) (rest_jobs j os) ≡ tasks_of os
       rest_part = rest_tasks j (computed C I L es F w n t G P) (λ k e c q some. let f = own_frame k e c q in let g = home_stays k e c q some in old_path k f.0 g.0 f.1 g.1)
 
   -- a new job is an entry of a new instance, or goes on with the item's loop
@@ -434,7 +434,7 @@ module _ (C : Code) (I : IsCode C) (L : Layout) (es : List Event) (F : Fields) (
 
   pub new_job_is : (b : Job) → In b jobs → NewJob b
   new_job_is b h =
-      elim (in_split b (made_jobs C made) (rest_jobs C j os) h) [ inl g ↦ made_job made (λ m i. i) g | inr g ↦ rest_job j os refl refl g ]
+      elim (in_split b (made_jobs C made) (rest_jobs j os) h) [ inl g ↦ made_job made (λ m i. i) g | inr g ↦ rest_job j os refl refl g ]
     where
       made_job : (ms : List Instance) → ((m : Instance) → In m ms → In m made) → In b (made_jobs C ms) → NewJob b
       made_job [] inn g = absurd g
@@ -444,7 +444,7 @@ module _ (C : Code) (I : IsCode C) (L : Layout) (es : List Event) (F : Fields) (
             | inr q ↦ made_job ms (λ l i. inn l (inr i)) q
           ]
 
-      rest_job : (i : Job) (ps : List (Opening Task Place)) → j ≡ i → os ≡ ps → In b (rest_jobs C i ps) → NewJob b
+      rest_job : (i : Job) (ps : List (Opening Task Place)) → j ≡ i → os ≡ ps → In b (rest_jobs i ps) → NewJob b
       rest_job Script ps e f g = absurd g
       rest_job (Does k x c) [] e f g = absurd g
       rest_job (Does k x c) (p ∷ ps) e f g = record { is = inr (k, x, c, e, all (p ∷ ps) g, (let l = ap length f in omega arith)) }

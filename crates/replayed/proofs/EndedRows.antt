@@ -101,7 +101,7 @@ times_zero n m h = grind arith
 times_one : (n m : ℕ) → m ≡ 1 → n * m ≡ n
 times_one n m h = grind arith
 
-pub rest_in_home : (C : Code) (k : ℕ) (j : Job) (os : List (Opening Task Place)) → jobs_in k (rest_jobs C j os) ≡ length os * one_if (is_home (home j) k)
+pub rest_in_home : (C : Code) (k : ℕ) (j : Job) (os : List (Opening Task Place)) → jobs_in k (rest_jobs j os) ≡ length os * one_if (is_home (home j) k)
 rest_in_home C k Script os = (let z : (n : ℕ) → 0 ≡ n * 0 = λ n. omega arith in z (length os))
 rest_in_home C k (Does i e c) [] = omega arith
 rest_in_home C k (Does i e c) (o ∷ os) = let r = rest_in_home C k (Does i e c) os in one (length os) (one_if (nat_eq i k)) _ r

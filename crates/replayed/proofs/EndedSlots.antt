@@ -127,7 +127,7 @@ module _ (C : Code) (I : IsCode C) (L : Layout) (es : List Event) (F : Fields) (
             (ap (λ (y : ℕ). place_at C (path_of G.frames y) x) ea ∙ ap (λ (y : List Step). place_at C y x) (old_path C I L es F w n t G P a g.0 f g.1 fa))
             (resolved_stands (slot_for L fs a g.0.body x) (place_at C (path_of fs a) x) z)
 
-        by : ((u : Row) × (row_of F.rows m ≡ Some u) × (u.mark ≡ Over → ⊥) × (m ≡ n → ⊥) × (r.job ≡ u.job)) ⊎ (In r.job (jobs_after C L ms j (os C I L es F w n t G P)) × (length F.rows < m)) → SlotStands C t later (slot_for L G.frames k f.body x) (place_at C (path_of G.frames k) x)
+        by : ((u : Row) × (row_of F.rows m ≡ Some u) × (u.mark ≡ Over → ⊥) × (m ≡ n → ⊥) × (r.job ≡ u.job)) ⊎ (In r.job (jobs_after C ms j (os C I L es F w n t G P)) × (length F.rows < m)) → SlotStands C t later (slot_for L G.frames k f.body x) (place_at C (path_of G.frames k) x)
         by (inl p) = of_old m k e c p.0 p.1 (sym p.4 ∙ q) p.2 refl refl
         by (inr p) =
             elim (new_job_is C I L es F w n t G P r.job p.0).is [

@@ -136,7 +136,7 @@ module _ (C : Code) (I : IsCode C) (L : Layout) (es : List Event) (F : Fields) (
   ended_os = os C I L es F w n t G P
 
   abbrev jobs : List Job
-  jobs = jobs_after C L P.to.made P.row.job ended_os
+  jobs = jobs_after C P.to.made P.row.job ended_os
 
   -- a new item
   module _ (i : CodeItem) (h : In i t.items) (x : NewItem (task_of gs) (suc (length F.rows)) jobs i) where

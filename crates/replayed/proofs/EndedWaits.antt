@@ -63,7 +63,7 @@ module _ (C : Code) (I : IsCode C) (L : Layout) (es : List Event) (F : Fields) (
   ms = made C I L es F w n t G P
 
   abbrev jobs : List Job
-  jobs = jobs_after C L ms P.row.job (os C I L es F w n t G P)
+  jobs = jobs_after C ms P.row.job (os C I L es F w n t G P)
 
   abbrev pub rows : List Row
   rows = F.rows ++ map new_row jobs

@@ -166,6 +166,32 @@ turns_of_new x kept Script = None
 turns_of_new x kept (Does k e zero) = None
 turns_of_new x kept (Does k e (suc c)) = turns_after x c kept
 
+-- the job of the item that goes on with a loop
+abbrev pub rest_jobs : Job → List (Opening Task Place) → List Job
+rest_jobs Script os = []
+rest_jobs (Does k e c) os = map (λ o. Does k e (suc c)) os
+
+-- the item itself leaves its instance, unless another goes on with its loop
+abbrev pub leaving : Job → List (Opening Task Place) → Option ℕ
+leaving j [] = home j
+leaving j (o ∷ os) = None
+
+-- what it stores from the start: a loop gives its turn's variables their values
+abbrev pub StartsBy : List Step → (mark chunk : ℕ) → Computed → Instance → Variable → Content → Option Loop → Type 0
+StartsBy p mark n x m v c None = c ≡ empty_content v.array
+StartsBy p mark n x m v c (Some w) = (t : Key × Scalar) × In t (chunk n (turns_of x)) × (m.path ≡ step_at mark t.0 p) × (c ≡ turn_content w t v)
+
+-- those newly enabled: the rows that waited, or are new, and for which nobody waits now
+pub record NewlyAfter (G : Fields) (rows : List Row) : Type 0 where
+  pub once : Distinct G.newly
+  pub all : (m : ℕ) (r : Row) → row_of rows m ≡ Some r → r.mark ≡ Waiting → ((w : Waiter) → In w G.waiting → w.item ≡ m → ⊥) → In m G.newly
+  pub only : (m : ℕ) → In m G.newly → (r : Row) × (row_of rows m ≡ Some r) × (r.mark ≡ Waiting) × ((w : Waiter) → In w G.waiting → w.item ≡ m → ⊥)
+
+-- the item that goes on with a loop keeps the turns that are left; the other items keep what they kept
+pub record TurnsAfter (F G : Fields) (n : ℕ) (x : Computed) (rows : List Row) : Type 0 where
+  pub others : (m : ℕ) (r : Row) → row_of F.rows m ≡ Some r → (r.mark ≡ Over → ⊥) → (m ≡ n → ⊥) → G.turns m ≡ F.turns m
+  pub new : (m : ℕ) (r : Row) → length F.rows < m → row_of rows m ≡ Some r → G.turns m ≡ turns_of_new x (F.turns n) r.job
+
 -- who runs a job, and its priority
 module _ (C : Code) where
   abbrev pub job_kind : Job → Kind
@@ -184,18 +210,9 @@ module _ (C : Code) where
   abbrev pub AreMade : List Instance → Task → Computed → Type 0
   AreMade made t x = map (λ (m : Instance). (m.body, m.path)) made ≡ filter has_entries (opened C t x)
 
-  -- the jobs of their items, and of the item that goes on with a loop
+  -- the jobs of their items
   abbrev pub made_jobs : List Instance → List Job
   made_jobs made = flat_map (λ (m : Instance). map (λ e. Does m.key e 0) (body C m.body).entries) made
-
-  abbrev pub rest_jobs : Job → List (Opening Task Place) → List Job
-  rest_jobs Script os = []
-  rest_jobs (Does k e c) os = map (λ o. Does k e (suc c)) os
-
-  -- the item itself leaves its instance, unless another goes on with its loop
-  abbrev pub leaving : Job → List (Opening Task Place) → Option ℕ
-  leaving j [] = home j
-  leaving j (o ∷ os) = None
 
   -- an instance that is made: inside of the item's own
   pub record NewFrame (fs : List (Option Frame)) (around : Option ℕ) (m : Instance) (f : Frame) : Type 0 where
@@ -221,15 +238,29 @@ module _ (C : Code) where
     pub only : (k : Kind) (z : ℤ) (m : ℕ) → In m (G.queue k z) → In m (F.queue k z) ⊎ ((r : Row) × (row_of G.rows m ≡ Some r) × In m G.newly × (job_kind r.job ≡ k) × (job_priority r.job ≡ z))
     pub once : (k : Kind) (z : ℤ) → Distinct (G.queue k z)
 
+  -- the names among the rights of a job
+  abbrev pub job_names : (Entry → List Name) → Job → List Name
+  job_names rights Script = []
+  job_names rights (Does k e c) = rights (entry C e)
+
+  -- what it stores from the start
+  abbrev pub StartsAs : List (Option Frame) → Job → Computed → Instance → Variable → Content → Type 0
+  StartsAs fs Script x m v c = c ≡ empty_content v.array
+  StartsAs fs (Does k e n) x m v c = StartsBy (path_of fs k) (entry C e).mark n x m v c (loop_of (entry C e).act)
+
+  -- the jobs of all new items, and all rows with theirs
+  abbrev pub jobs_after : List Instance → Job → List (Opening Task Place) → List Job
+  jobs_after made j os = made_jobs made ++ rest_jobs j os
+
+  abbrev pub printed : Job → Computed → List Scalar
+  printed Script x = []
+  printed (Does k e c) x = prints (entry C e).act x
+
   module _ (L : Layout) where
-    -- the names of an item's entry, and what they stand for
+    -- what the names of a job stand for
     abbrev pub job_slot : List (Option Frame) → Job → Name → Slot
     job_slot fs Script r = Absent
     job_slot fs (Does k e c) r = elim (slot_at fs k) [ None ↦ Absent | Some f ↦ slot_for L fs k f.body r ]
-
-    abbrev pub job_names : (Entry → List Name) → Job → List Name
-    job_names rights Script = []
-    job_names rights (Does k e c) = rights (entry C e)
 
     -- the names of a new instance's entries stand for what the item's own names stand for, or for a literal that the item passes
     pub record NamesLead (fs hs : List (Option Frame)) (k e c : ℕ) (m : Instance) : Type 0 where
@@ -255,15 +286,6 @@ module _ (C : Code) where
       pub declared : In v (body C m.body).makes
       pub named : 0 < own_count C (λ e. e.reads) m.body v + own_count C (λ e. e.writes) m.body v
       pub leads : slot_for L hs m.key m.body (here v) ≡ DatumOf d
-
-    -- what it stores from the start: a loop gives its turn's variables their values
-    abbrev pub StartsBy : List Step → (mark chunk : ℕ) → Computed → Instance → Variable → Content → Option Loop → Type 0
-    StartsBy p mark n x m v c None = c ≡ empty_content v.array
-    StartsBy p mark n x m v c (Some w) = (t : Key × Scalar) × In t (chunk n (turns_of x)) × (m.path ≡ step_at mark t.0 p) × (c ≡ turn_content w t v)
-
-    abbrev pub StartsAs : List (Option Frame) → Job → Computed → Instance → Variable → Content → Type 0
-    StartsAs fs Script x m v c = c ≡ empty_content v.array
-    StartsAs fs (Does k e n) x m v c = StartsBy (path_of fs k) (entry C e).mark n x m v c (loop_of (entry C e).act)
 
     -- a new datum: its key was not in use, and its counts are those of its body
     pub record NewCell (fs hs : List (Option Frame)) (j : Job) (x : Computed) (m : Instance) (v : Variable) (cs ds : List (Option Counted)) : Type 0 where
@@ -314,25 +336,6 @@ module _ (C : Code) where
       pub new : (m : ℕ) (r : Row) → length F.rows < m → row_of rows m ≡ Some r → (missed_first G r.job ≡ [] → ⊥) → In (record { item = m; missing = missed_first G r.job }) G.waiting
       pub only : (w : Waiter) → In w G.waiting → (w.missing ≡ [] → ⊥) × (((v : Waiter) × In v F.waiting × (v.item ≡ w.item) × (w.missing ≡ missed_again G rows known v)) ⊎ ((r : Row) × (length F.rows < w.item) × (row_of rows w.item ≡ Some r) × (w.missing ≡ missed_first G r.job)))
       pub once : Distinct (map (λ (w : Waiter). w.item) G.waiting)
-
-    -- those newly enabled: the rows that waited, or are new, and for which nobody waits now
-    pub record NewlyAfter (G : Fields) (rows : List Row) : Type 0 where
-      pub once : Distinct G.newly
-      pub all : (m : ℕ) (r : Row) → row_of rows m ≡ Some r → r.mark ≡ Waiting → ((w : Waiter) → In w G.waiting → w.item ≡ m → ⊥) → In m G.newly
-      pub only : (m : ℕ) → In m G.newly → (r : Row) × (row_of rows m ≡ Some r) × (r.mark ≡ Waiting) × ((w : Waiter) → In w G.waiting → w.item ≡ m → ⊥)
-
-    -- the item that goes on with a loop keeps the turns that are left; the other items keep what they kept
-    pub record TurnsAfter (F G : Fields) (n : ℕ) (x : Computed) (rows : List Row) : Type 0 where
-      pub others : (m : ℕ) (r : Row) → row_of F.rows m ≡ Some r → (r.mark ≡ Over → ⊥) → (m ≡ n → ⊥) → G.turns m ≡ F.turns m
-      pub new : (m : ℕ) (r : Row) → length F.rows < m → row_of rows m ≡ Some r → G.turns m ≡ turns_of_new x (F.turns n) r.job
-
-    -- the jobs of all new items, and all rows with theirs
-    abbrev pub jobs_after : List Instance → Job → List (Opening Task Place) → List Job
-    jobs_after made j os = made_jobs made ++ rest_jobs j os
-
-    abbrev pub printed : Job → Computed → List Scalar
-    printed Script x = []
-    printed (Does k e c) x = prints (entry C e).act x
 
     -- the fields after the item of a number has ended, which had this job and computed this
     pub record EndsTo (F : Fields) (n : ℕ) (j : Job) (x : Computed) (G : Fields) : Type 0 where
