@@ -24,7 +24,7 @@ use Rattle.assign_check.proofs.Named.{breaks}
 use Rattle.agreement.specs.OfScalars.{first_other}
 use Rattle.agreement.specs.Scalars.{IsScalars}
 use Rattle.agreement.proofs.ScalarCores.{is_scalars}
-use Rattle.compile.specs.Compiles.{IsScriptOf, IsIllTyped, IsNotSingle, IsNotYet, IsRefusedByTypes, IsRefusedByAssignments}
+use Rattle.compile.specs.Compiles.{IsAccepted, IsScriptOf, IsIllTyped, IsNotSingle, IsNotYet, IsRefusedByTypes, IsRefusedByAssignments}
 
 -- a numbered tree for which this holds
 abbrev IfNumbered : Tree → Type 0 → Type 0
@@ -33,19 +33,21 @@ IfNumbered tree P = (n : ℕ) (u : Tree) → tree ≡ numbered n u → P
 typed_as_read : (src : List ℕ) (tree : Tree) (t : Table) → Reads src tree → IfNumbered tree (WellTyped tree t) → WellTyped tree t
 typed_as_read src tree t reads typed = typed 1 reads.parsed reads.is_numbered
 
-pub script_of : (src : List ℕ) (tree : Tree) (t : Table) (s : Core) → Reads src tree → IfNumbered tree (WellTyped tree t) → faults t tree ≡ [] → first_other t tree ≡ None → s ≡ core t tree
-    → IsScriptOf src s
-script_of src tree t s reads typed none all is =
+pub accepted : (src : List ℕ) (tree : Tree) (t : Table) → Reads src tree → IfNumbered tree (WellTyped tree t) → faults t tree ≡ [] → IsAccepted src t tree
+accepted src tree t reads typed none =
     let well = typed_as_read src tree t reads typed in
-    let single = singly_assigned 1 reads.parsed tree t reads.is_numbered well none in
+    record { reads = reads; typed = well; single = singly_assigned 1 reads.parsed tree t reads.is_numbered well none }
+
+pub script_of : (src : List ℕ) (tree : Tree) (t : Table) (s : Core) → IsAccepted src t tree → first_other t tree ≡ None → s ≡ core t tree → IsScriptOf src s
+script_of src tree t s told all is =
     record {
       tree = tree;
       table = t;
-      reads = reads;
-      typed = well;
+      reads = told.reads;
+      typed = told.typed;
       is = sym is;
-      single = subst SinglyAssigned (sym is) single;
-      scalars = subst IsScalars (sym is) (is_scalars t tree reads.parsed reads.is_numbered well single all);
+      single = subst SinglyAssigned (sym is) told.single;
+      scalars = subst IsScalars (sym is) (is_scalars t tree told.reads.parsed told.reads.is_numbered told.typed told.single all);
     }
 
 ill_typed : (src : List ℕ) (tree : Tree) (f : TypeFault) → Reads src tree → f ≢ Typing.Memory → (f ≢ Typing.Memory → checked tree ≡ refused f) → (f ≢ Typing.Memory → typing.Breaks tree f) → (f ≢ Typing.Memory → (t : Table) → ¬ WellTyped tree t)
@@ -89,14 +91,5 @@ refused_by_assignments src tree t (Assign.WholeAndElements at) reads typed is = 
 refused_by_assignments src tree t (Assign.OutputUnassigned at) reads typed is = not_single src tree t (Assign.OutputUnassigned at) reads typed (λ same. absurd (cc)) is
 refused_by_assignments src tree t Assign.Memory reads typed is = (tree, reads)
 
-pub not_yet : (src : List ℕ) (tree : Tree) (t : Table) (at : Span) → Reads src tree → IfNumbered tree (WellTyped tree t) → faults t tree ≡ [] → first_other t tree ≡ Some at → IsNotYet src at
-not_yet src tree t at reads typed none other =
-    let well = typed_as_read src tree t reads typed in
-    record {
-      tree = tree;
-      table = t;
-      reads = reads;
-      typed = well;
-      single = singly_assigned 1 reads.parsed tree t reads.is_numbered well none;
-      other = other;
-    }
+pub not_yet : (src : List ℕ) (tree : Tree) (t : Table) (at : Span) → IsAccepted src t tree → first_other t tree ≡ Some at → IsNotYet src at
+not_yet src tree t at told other = record { tree = tree; table = t; reads = told.reads; typed = told.typed; single = told.single; other = other }

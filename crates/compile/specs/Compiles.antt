@@ -32,6 +32,16 @@ use Rattle.board.specs.Flat.{IsFlat}
 use Rattle.compile.specs.declared.fault.CompileFault.{CompileFault}
 use Rattle.compile.specs.declared.fault.CompileFault.TheVariants as Fault
 
+-- the text reads as this tree, which is well typed by this table of its names, and singly assigned
+pub record IsAccepted (src : List ℕ) (table : Table) (tree : Tree) : Type 0 where
+  pub reads : Reads src tree
+  pub typed : WellTyped tree table
+  pub single : SinglyAssigned (core table tree)
+
+-- the text is a script
+abbrev pub IsScript : List ℕ → Type 0
+IsScript src = (table : Table) × (tree : Tree) × IsAccepted src table tree
+
 -- the text reads as a tree that is well typed and singly assigned, and this is its core, a script of scalars
 pub record IsScriptOf (src : List ℕ) (s : Core) : Type 0 where
   pub tree : Tree
@@ -95,11 +105,16 @@ abbrev pub IsRefusedByAssignments : List ℕ → AssignFault → Type 0
 IsRefusedByAssignments src Assign.Memory = IsRead src
 IsRefusedByAssignments src f = IsNotSingle src f
 
--- why a text is refused, by the first step that refuses it
+-- why a text is no script, by the first step that refuses it
+abbrev pub IsUnfit : List ℕ → CompileFault → Type 0
+IsUnfit src (Fault.Parse f) = Refuses src f
+IsUnfit src (Fault.Types f) = IsRefusedByTypes src f
+IsUnfit src (Fault.Assignments f) = IsRefusedByAssignments src f
+IsUnfit src (Fault.Lower f) = ⊥
+IsUnfit src Fault.Memory = IsRead src
+
+-- why a text has no code, by the first step that refuses it
 abbrev pub IsRefused : List ℕ → CompileFault → Type 0
-IsRefused src (Fault.Parse f) = Refuses src f
-IsRefused src (Fault.Types f) = IsRefusedByTypes src f
-IsRefused src (Fault.Assignments f) = IsRefusedByAssignments src f
 IsRefused src (Fault.Lower (Lower.NotYet at)) = IsNotYet src at
 IsRefused src (Fault.Lower Lower.Memory) = IsRead src
-IsRefused src Fault.Memory = IsRead src
+IsRefused src f = IsUnfit src f

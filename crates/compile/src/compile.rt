@@ -3,12 +3,12 @@ ghost use Rattle.std.specs.Prelude.{IfOk, IfErr};
 ghost use Rattle.scalar_flow.specs.View.{core_of};
 ghost use Rattle.compile.specs.Compiles.{IsScriptOf, Compiles, IsRefused};
 
+use crate::check::accept;
 use crate::fault::CompileFault;
 use scalar_emit::emit;
 use scalar_flow::statement::Flow;
 use scalar_lowering::lower;
 use std::alloc::{Allocator, Global};
-use syntax::parser::parse;
 use task_code::code::Code;
 
 /// The statements of a script, with their names resolved. Its tree lies in `alloc`.
@@ -16,7 +16,7 @@ use task_code::code::Code;
 /// # Errors
 ///
 /// The refusal of the first step that refuses the script, or `Memory`.
-#[tactic(auto, using(crate::proofs::Scripts::script_of, crate::proofs::Scripts::refused_by_types, crate::proofs::Scripts::refused_by_assignments, crate::proofs::Scripts::not_yet))]
+#[tactic(auto, using(crate::proofs::Scripts::script_of, crate::proofs::Scripts::not_yet))]
 pub fn read<A: Allocator + Clone>(
     machine: Global,
     alloc: A,
@@ -25,18 +25,8 @@ pub fn read<A: Allocator + Clone>(
     ensures script { IfOk result (λ flow. IsScriptOf src.now (core_of flow)) }
     ensures refused { IfErr result (λ fault. IsRefused src.now fault) }
 {
-    let script = match parse(alloc, src) {
-        Ok(script) => script,
-        Err(fault) => return Err(CompileFault::Parse(fault)),
-    };
-    let typed = match types::check(machine, &script) {
-        Ok(typed) => typed,
-        Err(fault) => return Err(CompileFault::Types(fault)),
-    };
-    if let Err(fault) = assign_check::check(machine, &script, &typed) {
-        return Err(CompileFault::Assignments(fault));
-    }
-    match lower(machine, &script, &typed) {
+    let accepted = accept(machine, alloc, src)?;
+    match lower(machine, &accepted.script, &accepted.typed) {
         Ok(flow) => Ok(flow),
         Err(fault) => Err(CompileFault::Lower(fault)),
     }

@@ -4,5 +4,6 @@
 //! left becomes code. The first step that refuses answers.
 #![tactic(auto)]
 
+pub mod check;
 pub mod compile;
 pub mod fault;
