@@ -238,18 +238,31 @@ module _ (C : Code) (I : IsCode C) (L : Layout) (es : List Event) (F : Fields) (
   middle_inside : (k i : ℕ) (f : Frame) → slot_at hs k ≡ Some f → f.parent ≡ Some i → (g : Frame) × (slot_at hs i ≡ Some g) × (f.level ≡ suc g.level)
   middle_inside k i f h e =
       elim (P.to.opens.only k f h) [
-        | inl q ↦ (let g = old_there k q.0 q.1 in
-            let same : g.0 ≡ f = some_same (sym g.1 ∙ h) in
-            let p = P.x.frames.inside k i q.0 q.1 (g.2.parent ∙ ap (λ (y : Frame). y.parent) same ∙ e) in
-            let u = old_there i p.0 p.1 in
-            (u.0, u.1, ap (λ (y : Frame). y.level) (sym same) ∙ sym g.2.level ∙ p.2 ∙ ap suc u.2.level))
-        | inr q ↦ (let p = P.to.opens.new q.0 q.1 in
-            let same : p.0 ≡ f = some_same (sym (subst (λ (z : ℕ). slot_at hs z ≡ Some p.0) q.2 p.1) ∙ h) in
-            let a : home j ≡ Some i = sym p.2.parent ∙ ap (λ (y : Frame). y.parent) same ∙ e in
-            let g = around_there i a in
-            let u = old_there i g.0 g.1 in
-            (u.0, u.1, ap (λ (y : Frame). y.level) (sym same) ∙ p.2.level ∙ level_told (home j) i g.0 a g.1 ∙ ap suc u.2.level))
+        | inl q ↦ old_inside q.0 q.1
+        | inr q ↦ (let p = P.to.opens.new q.0 q.1 in new_inside q.0 p.0 p.2 (some_same (sym (subst (λ (z : ℕ). slot_at hs z ≡ Some p.0) q.2 p.1) ∙ h)))
       ]
+    where
+      inside_at : (a b : Frame) (l : ℕ) → slot_at fs i ≡ Some a → slot_at hs i ≡ Some b → Alike a b → l ≡ suc a.level → (g : Frame) × (slot_at hs i ≡ Some g) × (l ≡ suc g.level)
+      inside_at a b l ia ib al e = (b, ib, e ∙ ap suc al.level)
+
+      old_inside : (b : Frame) → slot_at fs k ≡ Some b → (g : Frame) × (slot_at hs i ≡ Some g) × (f.level ≡ suc g.level)
+      old_inside b there = of (old_there k b there)
+        where
+          of : (g : Frame) × (slot_at hs k ≡ Some g) × Alike b g → (g : Frame) × (slot_at hs i ≡ Some g) × (f.level ≡ suc g.level)
+          of g = by (some_same (sym g.1 ∙ h)) g.2
+            where
+              by : g.0 ≡ f → Alike b g.0 → (g : Frame) × (slot_at hs i ≡ Some g) × (f.level ≡ suc g.level)
+              by same al =
+                  let p = P.x.frames.inside k i b there (al.parent ∙ ap (λ (y : Frame). y.parent) same ∙ e) in
+                  let u = old_there i p.0 p.1 in
+                  inside_at p.0 u.0 f.level p.1 u.1 u.2 (ap (λ (y : Frame). y.level) (sym same) ∙ sym al.level ∙ p.2)
+
+      new_inside : (m : Instance) (b : Frame) → NewFrame C fs (home j) m b → b ≡ f → (g : Frame) × (slot_at hs i ≡ Some g) × (f.level ≡ suc g.level)
+      new_inside m b nb same =
+          let a : home j ≡ Some i = sym nb.parent ∙ ap (λ (y : Frame). y.parent) same ∙ e in
+          let g = around_there i a in
+          let u = old_there i g.0 g.1 in
+          inside_at g.0 u.0 f.level g.1 u.1 u.2 (ap (λ (y : Frame). y.level) (sym same) ∙ nb.level ∙ level_told (home j) i g.0 a g.1)
 
   middle_sound : Sound R (leaving j os) hs
   middle_sound = record { live = λ k f h. (middle_live k f h).0; inside = middle_inside; kept = λ k f h. (middle_live k f h).1 }
