@@ -1,0 +1,9 @@
+//! The entries of the cells and calls of a statement, in reading order.
+#![tactic(auto)]
+
+pub mod cells;
+pub mod data;
+pub mod entries;
+pub mod laid;
+pub mod outers;
+pub mod parts;
