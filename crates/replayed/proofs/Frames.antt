@@ -41,10 +41,10 @@ path_none fs (suc n) = refl
 pub path_step : (fs : List (Option Frame)) (n k : ℕ) (f : Frame) → slot_at fs k ≡ Some f → path_from fs (suc n) (Some k) ≡ step_before f.way (path_from fs n f.parent)
 path_step fs n k f h = ap (λ (o : Option Frame). elim o [ None ↦ [] | Some f ↦ step_before f.way (path_from fs n f.parent) ]) h
 
-up_step : (fs : List (Option Frame)) (n k : ℕ) (f : Frame) → slot_at fs k ≡ Some f → frame_up fs (suc n) k ≡ elim f.parent [ None ↦ None | Some j ↦ frame_up fs n j ]
+pub up_step : (fs : List (Option Frame)) (n k : ℕ) (f : Frame) → slot_at fs k ≡ Some f → frame_up fs (suc n) k ≡ elim f.parent [ None ↦ None | Some j ↦ frame_up fs n j ]
 up_step fs n k f h = ap (λ (o : Option Frame). elim o [ None ↦ None | Some f ↦ elim f.parent [ None ↦ None | Some j ↦ frame_up fs n j ] ]) h
 
-abbrev slot_of : Option Frame → ℕ → Slot
+abbrev pub slot_of : Option Frame → ℕ → Slot
 slot_of o i = elim o [ None ↦ Absent | Some f ↦ nth Absent f.slots i ]
 
 module _ (fs gs : List (Option Frame)) (w : Within fs gs) where
