@@ -1,8 +1,5 @@
 -- A report of a run of a script's code, against the script.
-use Rattle.std.proofs.Common.{◌≡◌, ℕ, List, [], ◌∷◌, refl, sym, ap₂, ◌∙◌, subst}
-use Rattle.std.specs.Prelude.{map}
-use Rattle.values.specs.declared.value.Scalar.{Scalar}
-use Rattle.values.specs.declared.value.Scalar.TheVariants.{Text}
+use Rattle.std.proofs.Common.{◌≡◌, ℕ, List, sym, ◌∙◌, subst}
 use Rattle.syntax_trees.specs.Core.{Core}
 use Rattle.syntax_trees.specs.Meaning.{Meaning}
 use Rattle.syntax_trees.specs.Outcomes.{Clean, Lines, Faults}
@@ -17,23 +14,9 @@ use Rattle.runs.specs.declared.report.End.{End}
 use Rattle.runs.specs.declared.report.End.TheVariants as Ends
 use Rattle.runs.specs.declared.report.Report.{Report}
 use Rattle.runs.specs.Report.{AreBlockedAt, EndsAs, Reports, Tells}
+use Rattle.runs.proofs.Told.{same_texts}
 use Rattle.compile.specs.Compiles.{Compiles}
 use Rattle.swt_command.specs.OneThread.{IsWhole, IsScriptFault}
-
-same_text : {x y : List ℕ} → ◌≡◌ {A = Scalar} (Text x) (Text y) → x ≡ y
-same_text h = cc
-
-first_same : {x y : Scalar} {xs ys : List Scalar} → x ∷ xs ≡ y ∷ ys → x ≡ y
-first_same h = cc
-
-rest_same : {x y : Scalar} {xs ys : List Scalar} → x ∷ xs ≡ y ∷ ys → xs ≡ ys
-rest_same h = cc
-
-same_texts : (xs ys : List (List ℕ)) → map Text xs ≡ map Text ys → xs ≡ ys
-same_texts [] [] h = refl
-same_texts [] (y ∷ ys) h = absurd (cc)
-same_texts (x ∷ xs) [] h = absurd (cc)
-same_texts (x ∷ xs) (y ∷ ys) h = ap₂ (λ a b. a ∷ b) (same_text (first_same h)) (same_texts xs ys (rest_same h))
 
 whole_of : (s : Core) (C : Code) (b : Seen) (r : Report) → Headline s C → b.code ≡ C → Run C b.history b.state → Tells b r → Quiet b.code b.state
     → AreBlocked b.code b.state r.blocked.items → IsWhole s r

@@ -84,8 +84,8 @@ fn verdict(alloc: Global, source: &[u8]) -> Result<Option<Refusal>, Trouble>
 {
     match compile(alloc, alloc, source) {
         Ok(_code) => Ok(None),
-        Err(fault) => match fault.span() {
-            Some(at) => Ok(Some(Refusal { fault, at })),
+        Err(fault) => match Refusal::of(fault) {
+            Some(refusal) => Ok(Some(refusal)),
             None => Err(Trouble::Memory),
         },
     }

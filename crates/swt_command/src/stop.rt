@@ -76,8 +76,8 @@ fn at_script(fault: CompileFault) -> Stop
     ensures place { result.place ≡ 0 }
     ensures trouble { (src : List ℕ) → IsRefused src fault → StopsOn src result.trouble }
 {
-    let trouble = match fault.span() {
-        Some(at) => Trouble::Refused(Refusal { fault, at }),
+    let trouble = match Refusal::of(fault) {
+        Some(refusal) => Trouble::Refused(refusal),
         None => Trouble::Memory,
     };
     Stop { place: 0, trouble }
