@@ -24,7 +24,7 @@ use Rattle.replayed.specs.Tidy.{IsBare}
 use Rattle.replayed.proofs.Counts.{made_to_read, made_to_write}
 use Rattle.replayed.proofs.Elements.{code_told}
 use Rattle.replayed.proofs.Ended.{end_counts_of, opens_is}
-use Rattle.replayed.proofs.EndedItems.{one_number, opens_items, step as step_of}
+use Rattle.replayed.proofs.EndedItems.{opens_items, step as step_of}
 use Rattle.replayed.proofs.Marking.{RowIs, row_found}
 use Rattle.replayed.proofs.Quiet.{replayed_bare}
 use Rattle.replayed.proofs.Replays.{run_replayed}
@@ -39,9 +39,8 @@ use Rattle.task_code.specs.System.{code_system, task_inputs, task_reads, task_wr
 use Rattle.task_code.specs.Whole.{IsCode}
 use Rattle.values.specs.declared.key.Key.{Key}
 use Rattle.values.specs.declared.value.Scalar.{Scalar}
-
-some_same : {X : Type 0} {a b : X} → ◌≡◌ {A = Option X} (Some a) (Some b) → a ≡ b
-some_same h = cc
+use Rattle.replayed.proofs.Tests.{some_same}
+use Rattle.replayed.proofs.Standing.{one_number}
 
 -- fields that stand for the state before an End, what the End is, and the fields after it
 pub record Ending (C : Code) (L : Layout) (es : List Event) (F : Fields) (w n : ℕ) (t : CodeState) (G : Fields) : Type 0 where

@@ -16,9 +16,9 @@ use Rattle.replayed.proofs.Counts.{counts_free, free_counts}
 use Rattle.replayed.proofs.Elements.{code_told}
 use Rattle.replayed.proofs.EndedBase.{Ending, bare_t, can, computed, counts, made_is, is_made, made_new, o, old_place, opens_are, place_stays, place_was, task}
 use Rattle.replayed.proofs.EndedFrames.{hs, made, made_block, one_rest, os}
-use Rattle.replayed.proofs.EndedNames.{datum_only, flat_in, held_told, hold_named, in_flat, in_kept, named_told, outer_reads, outer_writes, own_reads, own_writes}
+use Rattle.replayed.proofs.EndedNames.{datum_only, flat_in, held_told, hold_named, in_flat, named_told, outer_reads, outer_writes, own_reads, own_writes}
 use Rattle.replayed.proofs.Static.{among_times}
-use Rattle.replayed.proofs.Tests.{choose, none_some, not_true, yes_no}
+use Rattle.replayed.proofs.Tests.{choose, none_some, not_true, yes_no, some_same, in_kept, kept_in}
 use Rattle.task_code.proofs.Equal.{name_same}
 use Rattle.task_code.proofs.Kept.{code_laws}
 use Rattle.task_code.proofs.Places.{spot_path, spot_variable}
@@ -29,9 +29,6 @@ use Rattle.task_code.specs.Machine.{CodeState}
 use Rattle.task_code.specs.Places.{Datum, Place, Step, name_eq, place_at}
 use Rattle.task_code.specs.System.{code_system, task_reads, task_writes}
 use Rattle.task_code.specs.Whole.{IsCode}
-
-some_same : {X : Type 0} {a b : X} → ◌≡◌ {A = Option X} (Some a) (Some b) → a ≡ b
-some_same h = cc
 
 distinct_apart : {X : Type 0} (xs ys : List X) → Distinct (xs ++ ys) → (x : X) → In x xs → In x ys → ⊥
 distinct_apart [] ys d x i j = i
@@ -86,13 +83,6 @@ name_counted r (x ∷ rs) h =
   where
     more : (a b : ℕ) → a ≡ 1 → 0 < a + b
     more a b h = omega arith
-
-block_kept : (p : ℕ × List Step → Bool) (x : ℕ × List Step) (xs : List (ℕ × List Step)) → In x xs → p x ≡ true → In x (filter p xs)
-block_kept p x [] h u = absurd h
-block_kept p x (y ∷ xs) h u =
-    choose (λ (l : List (ℕ × List Step)). In x l) (p y) (y ∷ filter p xs) (filter p xs)
-    (λ z. elim h [ inl e ↦ inl e | inr g ↦ inr (block_kept p x xs g u) ])
-    (λ z. elim h [ inl e ↦ yes_no (ap p (sym e) ∙ u) z | inr g ↦ block_kept p x xs g u ])
 
 module _ (C : Code) where
   distinct_made : (ss : List (ℕ × List Step)) (rs : List (Opening Task Place)) → Distinct (tasks_of (map (block C) ss ++ rs)) → Distinct (filter (has_entries C) ss)
@@ -300,13 +290,6 @@ module _ (C : Code) (I : IsCode C) (L : Layout) (es : List Event) (F : Fields) (
       cell None e u = yes_no u (ap is_cell e)
       cell (Some c) e u = (c, e)
 
-  kept_in : (p : ℕ × Place → Bool) (x : ℕ × Place) (xs : List (ℕ × Place)) → In x xs → p x ≡ true → In x (filter p xs)
-  kept_in p x [] h u = absurd h
-  kept_in p x (y ∷ xs) h u =
-      choose (λ (l : List (ℕ × Place)). In x l) (p y) (y ∷ filter p xs) (filter p xs)
-      (λ z. elim h [ inl e ↦ inl e | inr g ↦ inr (kept_in p x xs g u) ])
-      (λ z. elim h [ inl e ↦ yes_no (ap p (sym e) ∙ u) z | inr g ↦ kept_in p x xs g u ])
-
   pub old_name : (d : ℕ) (a : Place) (c : Counted) → In (d, a) names → slot_at G.cells d ≡ Some c → In (d, a) names_after
   old_name d a c h e = in_left (d, a) (filter still names) (flat_map names_of ms) (kept_in still (d, a) names h (ap is_cell e))
 
@@ -406,7 +389,7 @@ module _ (C : Code) (I : IsCode C) (L : Layout) (es : List Event) (F : Fields) (
                   by (x ∷ xs) z = ap is_some_list z
 
               made_of : (b : ℕ × List Step) → In b blocks → has_entries C b ≡ true → (m : Instance) × In m ms × (◌≡◌ {A = ℕ × List Step} (m.body, m.path) b)
-              made_of b ib u = in_unmap (λ (m : Instance). (m.body, m.path)) b ms (subst (λ (l : List (ℕ × List Step)). In b l) (sym P.to.made_are) (block_kept (has_entries C) b blocks ib u))
+              made_of b ib u = in_unmap (λ (m : Instance). (m.body, m.path)) b ms (subst (λ (l : List (ℕ × List Step)). In b l) (sym P.to.made_are) (kept_in (has_entries C) b blocks ib u))
 
       there_ : (d : ℕ) (a : Place) → In (d, a) names_after → In a t.places
       there_ d a h =

@@ -1,5 +1,5 @@
 -- The fields of a board after an End without fault stand for the new state.
-use Rattle.std.proofs.Common.{◌≡◌, ◌⊎◌, inl, inr, ℕ, zero, suc, ◌+◌, List, [], ◌∷◌, ◌++◌, map, length, refl, sym, ap, ◌∙◌, subst, Option, None, Some, arith}
+use Rattle.std.proofs.Common.{◌≡◌, ◌⊎◌, inl, inr, ℕ, zero, suc, ◌+◌, List, [], ◌∷◌, ◌++◌, map, length, refl, sym, ap, ◌∙◌, subst, None, Some, arith}
 use Rattle.std.specs.Prelude.{◌-◌}
 use Rattle.dataflow.specs.System.{Answer, Effect, Good, In}
 use Rattle.dataflow.specs.Events.{CanBegin, NewlyAt}
@@ -13,7 +13,7 @@ use Rattle.replayed.proofs.EndedBase.{Ending, effect_is, here, numbers_t, o, one
 use Rattle.replayed.proofs.EndedCells.{names_after}
 use Rattle.replayed.proofs.EndedContents.{data_after}
 use Rattle.replayed.proofs.EndedFrames.{made, os, tasks_stay}
-use Rattle.replayed.proofs.EndedItems.{items_after, one_number}
+use Rattle.replayed.proofs.EndedItems.{items_after}
 use Rattle.replayed.proofs.EndedQueue.{queue_after}
 use Rattle.replayed.proofs.EndedRows.{NewItem, new_job, row_kept, row_of_new, row_split_at}
 use Rattle.replayed.proofs.EndedSlots.{frames_after}
@@ -25,8 +25,8 @@ use Rattle.replayed.proofs.Remarked.{runs_of, snoc_first}
 use Rattle.replayed.proofs.Ended.{good_is, outcome_is}
 use Rattle.replayed.specs.Static.{computed_by}
 use Rattle.replayed.proofs.Rows.{row_item}
-use Rattle.replayed.proofs.Standing.{enabled_wants, wants_enabled}
-use Rattle.replayed.proofs.Tests.{none_some}
+use Rattle.replayed.proofs.Standing.{enabled_wants, wants_enabled, one_number}
+use Rattle.replayed.proofs.Tests.{none_some, some_same, none_or}
 use Rattle.task_code.specs.Code.{Code, entry}
 use Rattle.task_code.specs.Effects.{Task, effect_at, instances, is_too_deep}
 use Rattle.task_code.specs.Machine.{CodeItem, CodeState, Enabled}
@@ -35,23 +35,13 @@ use Rattle.task_code.specs.System.{code_system, task_inputs}
 use Rattle.task_code.specs.Whole.{IsCode}
 use Rattle.values.specs.declared.key.Key.{Key}
 use Rattle.values.specs.declared.value.Scalar.{Scalar}
-
-some_same : {X : Type 0} {a b : X} → ◌≡◌ {A = Option X} (Some a) (Some b) → a ≡ b
-some_same h = cc
+use Rattle.replayed.proofs.EndedWants.{left_none}
 
 waits_runs : {B : Type 0} {v : ℕ} → Waiting ≡ Running v → B
 waits_runs h = absurd (cc)
 
 ready_waits : {B : Type 0} → Ready ≡ Waiting → B
 ready_waits h = absurd (cc)
-
-left_none : (ns : List (ℕ × Place)) (vs : List (Want ℕ)) → AllStand ns vs [] → vs ≡ []
-left_none ns [] h = refl
-left_none ns (x ∷ vs) h = absurd h
-
-none_or : {X : Type 0} (xs : List X) → (xs ≡ []) ⊎ (xs ≡ [] → ⊥)
-none_or [] = inl refl
-none_or (y ∷ ys) = inr (λ h. absurd (cc (h)))
 
 -- a mark of an item that does not run
 idle_mark : (m : Mark) (y : IsItem m) → y.runs ≡ None → (m ≡ Waiting) ⊎ (m ≡ Ready)

@@ -16,7 +16,7 @@ use Rattle.replayed.proofs.Frames.{Alike, Lighter, Sound, Within, alike_live, fr
 use Rattle.replayed.proofs.Marking.{RowIs, live_mark}
 use Rattle.replayed.proofs.Next.{nat_same}
 use Rattle.replayed.proofs.Rows.{row_by}
-use Rattle.replayed.proofs.Tests.{choose, none_some, yes_no}
+use Rattle.replayed.proofs.Tests.{choose, none_some, yes_no, some_same, in_kept}
 use Rattle.task_code.specs.Code.{Code, Loop, body, entry, loop_of}
 use Rattle.task_code.specs.Compute.{Computed}
 use Rattle.task_code.specs.Effects.{Item, Main, Task, block, is_some_list, left_at, rest, rest_if, turns_of}
@@ -24,19 +24,8 @@ use Rattle.task_code.specs.Machine.{CodeState}
 use Rattle.task_code.specs.Places.{Place, Step}
 use Rattle.task_code.specs.Whole.{IsCode}
 
-some_same : {X : Type 0} {a b : X} → ◌≡◌ {A = Option X} (Some a) (Some b) → a ≡ b
-some_same h = cc
-
 some_none : {A B : Type 0} {x : A} → ◌≡◌ {A = Option A} (Some x) None → B
 some_none h = absurd (cc)
-
-in_kept : {X : Type 0} (p : X → Bool) (x : X) (xs : List X) → In x (filter p xs) → In x xs × (p x ≡ true)
-in_kept p x [] h = absurd h
-in_kept {X} p x (y ∷ xs) h =
-    choose (λ (l : List X). In x l → In x (y ∷ xs) × (p x ≡ true)) (p y) (y ∷ filter p xs) (filter p xs)
-    (λ t g. elim g [ inl e ↦ (inl e, ap p e ∙ t) | inr i ↦ (let r = in_kept p x xs i in (inr r.0, r.1)) ])
-    (λ t g. let r = in_kept p x xs g in (inr r.0, r.1))
-    h
 
 pub not_over : (m : Mark) → is_over m ≡ false → m ≡ Over → ⊥
 not_over m h e = yes_no (ap is_over e) h

@@ -1,7 +1,7 @@
 -- The items of a board after an End without fault.
 use Rattle.std.proofs.Common.{◌≡◌, ◌⊎◌, inl, inr, ℕ, zero, suc, ◌+◌, ◌<◌, ◌≤◌, true, false, List, [], ◌∷◌, ◌++◌, map, length, refl, sym, ap, ◌∙◌, subst, Option, None, Some, if◌then◌else◌, arith}
 use Rattle.std.specs.Prelude.{◌-◌, nat_eq}
-use Rattle.dataflow.specs.System.{Distinct, Effect, Good, Bad, In, Outcome, System, tasks_of}
+use Rattle.dataflow.specs.System.{Effect, Good, Bad, In, Outcome, System, tasks_of}
 use Rattle.dataflow.specs.Laws.{Laws}
 use Rattle.dataflow.specs.Log.{Logged, Waits}
 use Rattle.dataflow.specs.Machine.{After, Enabled as EnabledIn, End, Event, Item as MachineItem, Run, State, Step, new_items}
@@ -25,19 +25,17 @@ use Rattle.replayed.proofs.Marking.{IsItem, RowIs, item, item_not_over, mark_is 
 use Rattle.replayed.proofs.Next.{nat_same, nat_sound}
 use Rattle.replayed.proofs.Replays.{replayed_then, run_next, run_replayed}
 use Rattle.replayed.proofs.Rows.{AllFine, ended_items, ended_running, is_idle, no_row, opened_items, row_by, row_item, row_split, rows_length}
-use Rattle.replayed.proofs.Tests.{choose, left_true, none_some, or_true, right_true, yes_no}
+use Rattle.replayed.proofs.Tests.{choose, left_true, none_some, or_true, right_true, yes_no, some_same}
 use Rattle.task_code.proofs.Kept.{code_laws}
 use Rattle.task_code.specs.Code.{Code}
 use Rattle.task_code.specs.Effects.{Main, Task}
 use Rattle.task_code.specs.Machine.{CodeItem, CodeState, CodeStep, Enabled}
 use Rattle.task_code.specs.System.{code_system}
 use Rattle.task_code.specs.Whole.{IsCode}
+use Rattle.replayed.proofs.Standing.{one_number}
 
 some_none : {A B : Type 0} {x : A} → ◌≡◌ {A = Option A} (Some x) None → B
 some_none h = absurd (cc)
-
-some_same : {X : Type 0} {a b : X} → ◌≡◌ {A = Option X} (Some a) (Some b) → a ≡ b
-some_same h = cc
 
 head_is : {X : Type 0} {a b : X} {xs ys : List X} → ◌≡◌ {A = List X} (a ∷ xs) (b ∷ ys) → a ≡ b
 head_is h = cc
@@ -91,21 +89,6 @@ new_above k (t ∷ ts) i h =
     elim h [
       | inl p ↦ (let e = ap (λ (j : MachineItem _). j.number) p in omega arith)
       | inr g ↦ (let b = new_above (suc k) ts i g in omega arith)
-    ]
-
--- a number is one item's
-pub one_number : {T : Type 0} (is : List (MachineItem T)) (i j : MachineItem T) → Distinct (map number_of_item is) → In i is → In j is → i.number ≡ j.number → i ≡ j
-one_number [] i j d h g e = absurd h
-one_number (k ∷ is) i j d h g e =
-    elim h [
-      | inl p ↦ elim g [
-        | inl q ↦ p ∙ sym q
-        | inr b ↦ absurd (d.0 (subst (λ (m : ℕ). In m (map number_of_item is)) (sym e ∙ ap number_of_item p) (in_map number_of_item j is b)))
-      ]
-      | inr a ↦ elim g [
-        | inl q ↦ absurd (d.0 (subst (λ (m : ℕ). In m (map number_of_item is)) (e ∙ ap number_of_item q) (in_map number_of_item i is a)))
-        | inr b ↦ one_number is i j d.1 a b e
-      ]
     ]
 
 -- marks afterwards

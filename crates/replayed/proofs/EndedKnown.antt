@@ -16,7 +16,7 @@ use Rattle.replayed.proofs.EndedBase.{Ending, can, computed, here, made_is, made
 use Rattle.replayed.proofs.EndedCells.{names_after, old_cell, old_cell_there, old_name}
 use Rattle.replayed.proofs.EndedContents.{data_after, held_on, held_was, to_stored}
 use Rattle.replayed.proofs.Next.{nat_same, nat_sound}
-use Rattle.replayed.proofs.Tests.{choose, closed_sound, closed_told, held_value, left_true, none_some, or_true, right_true, value_held, yes_no, both_true}
+use Rattle.replayed.proofs.Tests.{choose, closed_sound, closed_told, held_value, left_true, none_some, or_true, right_true, value_held, yes_no, both_true, some_same}
 use Rattle.task_code.proofs.Kept.{code_laws}
 use Rattle.task_code.specs.Code.{Code, Variable, body}
 use Rattle.task_code.specs.Compute.{Elements}
@@ -29,9 +29,6 @@ use Rattle.values.proofs.Keys.{same_key-eq, same_key-refl}
 use Rattle.values.specs.Keys.{same_key}
 use Rattle.values.specs.declared.key.Key.{Key}
 use Rattle.values.specs.declared.value.Scalar.{Scalar}
-
-some_same : {X : Type 0} {a b : X} → ◌≡◌ {A = Option X} (Some a) (Some b) → a ≡ b
-some_same h = cc
 
 -- two options that tell of the same thing
 same_option : (H : Scalar → Type 0) → ((v w : Scalar) → H v → H w → v ≡ w) → (a b : Option Scalar) → ((v : Scalar) → a ≡ Some v → H v) → ((v : Scalar) → H v → a ≡ None → ⊥) → ((v : Scalar) → b ≡ Some v → H v) → ((v : Scalar) → H v → b ≡ None → ⊥) → a ≡ b

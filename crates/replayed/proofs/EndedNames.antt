@@ -1,6 +1,6 @@
 -- What the names of items stand for at an End: the item's own, and those of the instances that it makes.
 use Rattle.std.proofs.Common.{◌≡◌, ◌⊎◌, inl, inr, ℕ, zero, suc, ◌+◌, Bool, true, false, List, [], ◌∷◌, ◌++◌, map, refl, sym, ap, ◌∙◌, subst, Option, None, Some, if◌then◌else◌, arith}
-use Rattle.std.specs.List.{flat_map, filter}
+use Rattle.std.specs.List.{flat_map}
 use Rattle.std.specs.Prelude.{nat_eq}
 use Rattle.dataflow.specs.System.{Answer, Effect, Good, In, Opening}
 use Rattle.dataflow.specs.Facts.{Made}
@@ -102,14 +102,6 @@ hold_named (r ∷ rs) h i =
       | inl e ↦ inl e
       | inr p ↦ inr (subst (λ (x : Name). In x rs) (sym p.2) (hold_named rs p.0 p.1))
     ]
-
-pub in_kept : {X : Type 0} (p : X → Bool) (x : X) (xs : List X) → In x (filter p xs) → In x xs × (p x ≡ true)
-in_kept p x [] h = absurd h
-in_kept {X} p x (y ∷ xs) h =
-    choose (λ (l : List X). In x l → In x (y ∷ xs) × (p x ≡ true)) (p y) (y ∷ filter p xs) (filter p xs)
-    (λ t g. elim g [ inl e ↦ (inl e, ap p e ∙ t) | inr i ↦ (let r = in_kept p x xs i in (inr r.0, r.1)) ])
-    (λ t g. let r = in_kept p x xs g in (inr r.0, r.1))
-    h
 
 pub in_flat : {A B : Type 0} (f : A → List B) (xs : List A) (y : B) → In y (flat_map f xs) → (x : A) × In x xs × In y (f x)
 in_flat f [] y h = absurd h

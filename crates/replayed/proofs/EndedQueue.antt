@@ -18,11 +18,11 @@ use Rattle.replayed.specs.Fields.{Does, Fields, Frame, Job, Layout, Row, Script,
 use Rattle.replayed.specs.Stands.{ItemsStand, QueueStands, Queued, Stands, turns_left}
 use Rattle.replayed.specs.Static.{computed_by}
 use Rattle.replayed.proofs.Elements.{code_told}
-use Rattle.replayed.proofs.EndedItems.{enabled_later, new_above, one_number, opens_items, step}
+use Rattle.replayed.proofs.EndedItems.{enabled_later, new_above, opens_items, step}
 use Rattle.replayed.proofs.Marking.{RowIs, row_found}
 use Rattle.replayed.proofs.Replays.{run_replayed}
 use Rattle.replayed.proofs.Seen.{OneValue, all_known, all_told, answers_see}
-use Rattle.replayed.proofs.Tests.{none_some}
+use Rattle.replayed.proofs.Tests.{none_some, some_same}
 use Rattle.task_code.proofs.Kept.{code_laws}
 use Rattle.task_code.specs.Code.{Code, Kind}
 use Rattle.task_code.specs.Effects.{Item, Task, left_at, turns_of}
@@ -32,6 +32,7 @@ use Rattle.task_code.specs.System.{code_system, task_inputs, task_kind, task_pri
 use Rattle.task_code.specs.Whole.{IsCode}
 use Rattle.values.specs.declared.key.Key.{Key}
 use Rattle.values.specs.declared.value.Scalar.{Scalar}
+use Rattle.replayed.proofs.Standing.{one_number}
 
 -- an item that goes on with a loop, and whose answers are these, keeps what is left of the turns
 pub turns_told : (C : Code) → IsCode C → (L : Layout) (es : List Event) (F : Fields) (x : Stands C L es F) (i : CodeItem) → In i x.state.items → (e c : ℕ) (p : List Step) → i.task ≡ Item e p (suc c) → (xs : List (Answer Key Scalar)) → SeesAll (code_system C) x.state (task_inputs C i.task) xs → F.turns i.number ≡ Some (left_at (suc c) (turns_of (computed_by C i.task xs)))
@@ -54,9 +55,6 @@ kind_of_job C fs (Does k e c) = refl
 priority_of_job : (C : Code) (fs : List (Option Frame)) (j : Job) → job_priority C j ≡ task_priority C (task_of fs j)
 priority_of_job C fs Script = refl
 priority_of_job C fs (Does k e c) = refl
-
-some_same : {X : Type 0} {a b : X} → ◌≡◌ {A = Option X} (Some a) (Some b) → a ≡ b
-some_same h = cc
 
 module _ (C : Code) (I : IsCode C) (L : Layout) (es : List Event) (F : Fields) (x : Stands C L es F) (w n : ℕ) (t : CodeState) (reached : replayed C (es ++ End w n ∷ []) ≡ Some t) (good : t.fault ≡ None) (G : Fields) (items : ItemsStand C G t) (new : NewlyAt (code_system C) x.state t G.newly) (after : QueueAfter C F G) where
   abbrev s : CodeState

@@ -1,5 +1,5 @@
 -- How many rows of each instance are left after an End.
-use Rattle.std.proofs.Common.{◌≡◌, ◌⊎◌, inl, inr, ℕ, zero, suc, ◌+◌, ◌*◌, ◌<◌, true, false, List, [], ◌∷◌, ◌++◌, map, length, refl, sym, ap, ◌∙◌, subst, Option, None, Some, if◌then◌else◌, arith}
+use Rattle.std.proofs.Common.{◌≡◌, ◌⊎◌, inl, inr, ℕ, zero, suc, ◌+◌, ◌*◌, ◌<◌, true, false, List, [], ◌∷◌, ◌++◌, map, length, refl, sym, ap, ◌∙◌, subst, None, Some, if◌then◌else◌, arith}
 use Rattle.std.specs.Prelude.{◌-◌, nat_eq}
 use Rattle.dataflow.specs.Machine.{Item as MachineItem, new_items}
 use Rattle.dataflow.specs.System.{Distinct, In, Opening}
@@ -8,13 +8,10 @@ use Rattle.replayed.specs.Ending.{Instance, home, is_home, is_one, made_jobs, ma
 use Rattle.replayed.specs.Fields.{Does, Job, Mark, Over, Ready, Row, Script, Waiting, is_of, is_over, row_of, rows_in}
 use Rattle.replayed.proofs.Frames.{one_if}
 use Rattle.replayed.proofs.Next.{nat_same, nat_sound}
-use Rattle.replayed.proofs.Tests.{choose, none_some, yes_no}
+use Rattle.replayed.proofs.Tests.{choose, none_some, yes_no, some_same}
 use Rattle.task_code.specs.Code.{Code, body}
 use Rattle.task_code.specs.Effects.{Task}
 use Rattle.task_code.specs.Places.{Place}
-
-some_same : {X : Type 0} {a b : X} → ◌≡◌ {A = Option X} (Some a) (Some b) → a ≡ b
-some_same h = cc
 
 abbrev pub jobs_in : ℕ → List Job → ℕ
 jobs_in k [] = 0

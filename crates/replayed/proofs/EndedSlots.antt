@@ -19,9 +19,7 @@ use Rattle.task_code.specs.Code.{Code, Entry, Name, Variable, body, entry, here}
 use Rattle.task_code.specs.Machine.{CodeState}
 use Rattle.task_code.specs.Places.{Datum, Place, Step, place_at}
 use Rattle.task_code.specs.Whole.{IsCode}
-
-some_same : {X : Type 0} {a b : X} → ◌≡◌ {A = Option X} (Some a) (Some b) → a ≡ b
-some_same h = cc
+use Rattle.replayed.proofs.Tests.{some_same}
 
 module _ (C : Code) (I : IsCode C) (L : Layout) (es : List Event) (F : Fields) (w n : ℕ) (t : CodeState) (G : Fields) (P : Ending C L es F w n t G) where
   abbrev names : List (ℕ × Place)

@@ -13,7 +13,7 @@ use Rattle.replayed.proofs.EndedBase.{Ending}
 use Rattle.replayed.proofs.EndedCells.{names_after}
 use Rattle.replayed.proofs.EndedKnown.{array_unknown, closed_stays, covered_known, element_unknown, known_array, known_scalar, scalar_unknown, stays_later, value_stays_at}
 use Rattle.replayed.proofs.EndedNames.{Resolved, to_datum, to_literal}
-use Rattle.replayed.proofs.EndedWants.{flat_append, no_element_input, not_false, scalar_place}
+use Rattle.replayed.proofs.EndedWants.{flat_append, no_element_input, not_false, scalar_place, none_left}
 use Rattle.replayed.proofs.Tests.{choose, closed_sound, closed_told, or_true, yes_no}
 use Rattle.task_code.proofs.Equal.{every_in, true_and}
 use Rattle.task_code.specs.Code.{Act, Assert, At, AtKey, Call, Cell, Closed, Code, Copy, Each, Fill, Header, If, Name, Need, Print, Put, Range, Read, Set, Stored, Variable, Wait, entry, is_array_name}
@@ -321,10 +321,6 @@ module _ (C : Code) (I : IsCode C) (L : Layout) (es : List Event) (F : Fields) (
             let i : In (AtKey a k) (entry C e).needs = subst (λ (l : List Need). In (AtKey a k) l) (sym q) (inl refl) in
             let ia = I.needs e (AtKey a k) a i (inl refl) in
             single (AtKey a k) q (key_waited a k ia (kinds (AtKey a k) i) (res a ia))
-
-    none_left : (ns : List (ℕ × Place)) (ws : List (Want Place)) → AllStand ns [] ws → ws ≡ []
-    none_left ns [] h = refl
-    none_left ns (x ∷ ws) h = absurd h
 
     nil_append : (xs ys : List (Want Place)) → xs ++ ys ≡ [] → xs ≡ []
     nil_append [] ys h = refl

@@ -36,6 +36,7 @@ use Rattle.task_code.specs.System.{code_system, task_inputs}
 use Rattle.task_code.specs.Whole.{IsCode}
 use Rattle.values.specs.declared.key.Key.{Key}
 use Rattle.values.specs.declared.value.Scalar.{Scalar}
+use Rattle.replayed.proofs.EndedWants.{none_left}
 
 -- what is left a chunk further
 left_more : (c : ℕ) (ts : Elements) → drop 64 (left_at c ts) ≡ left_at (suc c) ts
@@ -172,10 +173,6 @@ module _ (C : Code) (I : IsCode C) (L : Layout) (es : List Event) (F : Fields) (
 
     chunk_is : {B : Type 0} {e f c : ℕ} {p q : List Step} → Item e p 0 ≡ Item f q (suc c) → B
     chunk_is {B} {e} {f} {c} h = let z : 0 ≡ suc c = cc (h) in absurd (omega arith)
-
-    none_left : (ns : List (ℕ × Place)) (ws : List (Want Place)) → AllStand ns [] ws → ws ≡ []
-    none_left ns [] h = refl
-    none_left ns (y ∷ ws) h = absurd h
 
     new_going : (e c : ℕ) (p : List Step) → i.task ≡ Item e p (suc c) → Enabled C t i.task
     new_going e c p q =

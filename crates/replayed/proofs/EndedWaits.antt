@@ -13,17 +13,16 @@ use Rattle.replayed.proofs.EndedBase.{Ending, follows, log, numbers, o, one_s, o
 use Rattle.replayed.proofs.EndedCells.{name_counted, names_after, own_name as own_in}
 use Rattle.replayed.specs.Static.{names_in, own_count}
 use Rattle.replayed.proofs.EndedFrames.{frame_stays, home_stays, hs, made, made_path, new_job_is, new_stays, old_path, os, own_frame, tasks_stay}
-use Rattle.replayed.proofs.EndedItems.{one_number}
 use Rattle.replayed.proofs.EndedKnown.{stays_later}
 use Rattle.replayed.proofs.EndedNames.{Resolved, flat_in, in_data, outer_reads, own_reads, resolved_at, row_reads, to_datum, to_literal}
 use Rattle.replayed.proofs.EndedRows.{NewItem, new_at_item, new_item_at, row_kept, row_of_new, row_split_at}
 use Rattle.replayed.proofs.EndedSlots.{new_slot, old_slot}
 use Rattle.replayed.proofs.EndedStill.{none_later, still_stand}
-use Rattle.replayed.proofs.EndedWants.{needs_stand}
+use Rattle.replayed.proofs.EndedWants.{needs_stand, none_left, left_none}
 use Rattle.replayed.proofs.Marking.{RowIs, live_mark}
-use Rattle.replayed.proofs.Standing.{enabled_wants}
+use Rattle.replayed.proofs.Standing.{enabled_wants, one_number}
 use Rattle.replayed.proofs.Static.{declared_of}
-use Rattle.replayed.proofs.Tests.{none_some}
+use Rattle.replayed.proofs.Tests.{none_some, some_same}
 use Rattle.dataflow.proofs.Known.{sees_only}
 use Rattle.task_code.proofs.Kept.{code_laws}
 use Rattle.task_code.proofs.Places.{declared_at}
@@ -34,17 +33,6 @@ use Rattle.task_code.specs.Machine.{CodeItem, CodeState}
 use Rattle.task_code.specs.Places.{Datum, Place, Step, place_at}
 use Rattle.task_code.specs.System.{code_system, task_reads}
 use Rattle.task_code.specs.Whole.{IsCode}
-
-some_same : {X : Type 0} {a b : X} → ◌≡◌ {A = Option X} (Some a) (Some b) → a ≡ b
-some_same h = cc
-
-none_left : (ns : List (ℕ × Place)) (ws : List (Want Place)) → AllStand ns [] ws → ws ≡ []
-none_left ns [] h = refl
-none_left ns (x ∷ ws) h = absurd h
-
-left_none : (ns : List (ℕ × Place)) (vs : List (Want ℕ)) → AllStand ns vs [] → vs ≡ []
-left_none ns [] h = refl
-left_none ns (x ∷ vs) h = absurd h
 
 module _ (C : Code) (I : IsCode C) (L : Layout) (es : List Event) (F : Fields) (w n : ℕ) (t : CodeState) (G : Fields) (P : Ending C L es F w n t G) where
   abbrev names : List (ℕ × Place)
@@ -271,10 +259,6 @@ module _ (C : Code) (I : IsCode C) (L : Layout) (es : List Event) (F : Fields) (
           | inl u ↦ subst (λ (b : Job). NewStands b) (sym u.4) (first_stand u.0 u.1 u.2 u.3 u.4)
           | inr u ↦ subst (λ (b : Job). NewStands b) (sym u.4) (rest_stand u.0 u.1 u.2 u.3 u.5 u.4)
         ]
-
-  none_or : {X : Type 0} (xs : List X) → (xs ≡ []) ⊎ (xs ≡ [] → ⊥)
-  none_or [] = inl refl
-  none_or (y ∷ ys) = inr (λ h. absurd (cc (h)))
 
   -- waiters afterwards
   pub waits_after : WaitsStand C G t later

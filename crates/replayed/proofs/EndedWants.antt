@@ -54,6 +54,14 @@ stand_append names [] ys (u ∷ us) vs h g = absurd h
 stand_append names (x ∷ xs) ys [] vs h g = absurd h
 stand_append names (x ∷ xs) ys (u ∷ us) vs h g = (h.0, stand_append names xs ys us vs h.1 g)
 
+pub none_left : (ns : List (ℕ × Place)) (ws : List (Want Place)) → AllStand ns [] ws → ws ≡ []
+none_left ns [] h = refl
+none_left ns (x ∷ ws) h = absurd h
+
+pub left_none : (ns : List (ℕ × Place)) (vs : List (Want ℕ)) → AllStand ns vs [] → vs ≡ []
+left_none ns [] h = refl
+left_none ns (x ∷ vs) h = absurd h
+
 pub scalar_place : (C : Code) (p : List Step) (r : Name) (q : List Step) (v : Variable) (b : Bool) → is_array_name r ≡ b → place_at C p r ≡ Datum q v → v.array ≡ b
 scalar_place C p r q v b h e = sym (array_of C p r.up r.owned q v e) ∙ h
 

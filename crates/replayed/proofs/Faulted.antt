@@ -9,7 +9,7 @@ use Rattle.replayed.specs.Fields.{Fields, Layout, Mark, Over, Ready, Row, Runnin
 use Rattle.replayed.specs.Stands.{Queued, Stands}
 use Rattle.replayed.specs.Marking.{faulted_fields, mark_at}
 use Rattle.replayed.specs.Tidy.{FaultOnly}
-use Rattle.replayed.proofs.Tests.{none_some}
+use Rattle.replayed.proofs.Tests.{none_some, some_same}
 use Rattle.replayed.proofs.Counts.{fault_counts}
 use Rattle.replayed.proofs.Elements.{code_told}
 use Rattle.replayed.proofs.Marking.{IsItem, item, item_not_over, mark_is as mark_split}
@@ -27,9 +27,6 @@ use Rattle.std.specs.Prelude.{ℤ}
 
 some_none : {A B : Type 0} {x : A} → ◌≡◌ {A = Option A} (Some x) None → B
 some_none h = absurd (cc)
-
-some_same : {X : Type 0} {a b : X} → ◌≡◌ {A = Option X} (Some a) (Some b) → a ≡ b
-some_same h = cc
 
 head_is : {X : Type 0} {a b : X} {xs ys : List X} → ◌≡◌ {A = List X} (a ∷ xs) (b ∷ ys) → a ≡ b
 head_is h = cc

@@ -5,13 +5,10 @@ use Rattle.dataflow.specs.System.{Distinct, In}
 use Rattle.replayed.specs.Ending.{SameSlots, Sets, TakenOff, goes, is_home, outside, stays, with_live}
 use Rattle.replayed.specs.Fields.{Absent, Does, Frame, Layout, Slot, frame_up, frames_in, level_of, lies_in, path_from, path_of, slot_at, slot_for, step_before, task_of}
 use Rattle.replayed.proofs.Next.{nat_same, nat_sound}
-use Rattle.replayed.proofs.Tests.{none_some, yes_no}
+use Rattle.replayed.proofs.Tests.{none_some, yes_no, some_same}
 use Rattle.task_code.specs.Code.{Name, nth}
 use Rattle.task_code.specs.Effects.{Item}
 use Rattle.task_code.specs.Places.{Step}
-
-pub some_same : {X : Type 0} {a b : X} → ◌≡◌ {A = Option X} (Some a) (Some b) → a ≡ b
-some_same h = cc
 
 -- the same instance, but for what is inside of it
 pub record Alike (f g : Frame) : Type 0 where

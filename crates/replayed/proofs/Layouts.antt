@@ -9,10 +9,10 @@ use Rattle.replayed.specs.Fields.{Absent, Does, Fields, Frame, Layout, LiteralOf
 use Rattle.replayed.specs.Layouts.{IsLayout, Passes, all_names, parameter}
 use Rattle.replayed.specs.Stands.{Stands}
 use Rattle.replayed.specs.Static.{Hold, names_in, outer_holds}
-use Rattle.replayed.proofs.EndedNames.{flat_in, hold_named, in_flat, in_kept}
+use Rattle.replayed.proofs.EndedNames.{flat_in, hold_named, in_flat}
 use Rattle.replayed.proofs.Frames.{Within, alike_live, slot_of, slot_same, up_step}
 use Rattle.task_code.specs.Code.{Calling, Code, Entry, Fixed, InPlace, Name, Through, Way, argument, body, entry, nth, ways}
-use Rattle.replayed.proofs.Tests.{not_true, yes_no}
+use Rattle.replayed.proofs.Tests.{not_true, yes_no, in_kept}
 use Rattle.task_code.proofs.Decided.{declared_is}
 use Rattle.task_code.specs.Check.{is_declared}
 use Rattle.task_code.specs.Whole.{Declared, IsCode, Seen}

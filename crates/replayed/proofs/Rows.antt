@@ -7,12 +7,9 @@ use Rattle.replayed.specs.Ending.{is_one, mark_after, marked_by, new_row}
 use Rattle.replayed.specs.Fields.{Frame, Job, Mark, Over, Ready, Row, Running, Waiting, is_running, item_before, items_from, row_of, running_in, task_of}
 use Rattle.replayed.proofs.Marking.{IsItem, above, first_of, in_mid, item, item_not_over, later_of, mark_is, over_before}
 use Rattle.replayed.proofs.Next.{nat_same, nat_sound}
-use Rattle.replayed.proofs.Tests.{choose, none_some, yes_no}
+use Rattle.replayed.proofs.Tests.{choose, none_some, yes_no, some_same}
 use Rattle.task_code.specs.Effects.{Task}
 use Rattle.task_code.specs.Machine.{CodeItem}
-
-some_same : {X : Type 0} {a b : X} → ◌≡◌ {A = Option X} (Some a) (Some b) → a ≡ b
-some_same h = cc
 
 no_middle : {B : Type 0} (before after : List CodeItem) (i : CodeItem) → [] ≡ before ++ i ∷ after → B
 no_middle [] after i h = absurd (cc)

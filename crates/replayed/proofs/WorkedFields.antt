@@ -13,7 +13,7 @@ use Rattle.replayed.specs.Worked.{AssignedStands, OpenedStands, assigned_fields,
 use Rattle.replayed.proofs.Begun.{begun_stands}
 use Rattle.replayed.proofs.EndedFields.{end_stands}
 use Rattle.replayed.proofs.Standing.{first_stands}
-use Rattle.replayed.proofs.Tests.{choose, none_some, yes_no}
+use Rattle.replayed.proofs.Tests.{choose, none_some, yes_no, some_same}
 use Rattle.replayed.specs.Needs.{is_array_content, is_known}
 use Rattle.task_code.proofs.Checked.{code_checked}
 use Rattle.task_code.specs.Code.{Code, Control, Kind, Leaf, Variable, body, here, scalar}
@@ -23,9 +23,6 @@ use Rattle.task_code.specs.Worked.{used_before_assigned}
 use Rattle.values.specs.declared.key.Key.{Key}
 use Rattle.values.specs.declared.value.Scalar.{Scalar}
 use Rattle.values.specs.declared.value.Scalar.TheVariants.{Number}
-
-some_same : {X : Type 0} {a b : X} → ◌≡◌ {A = Option X} (Some a) (Some b) → a ≡ b
-some_same h = cc
 
 abbrev C : Code
 C = used_before_assigned
