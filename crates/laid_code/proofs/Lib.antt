@@ -18,3 +18,6 @@ pub mod IndexParts
 pub mod Accepted
 pub mod CodeOf
 pub mod Told
+pub mod Bodies
+pub mod Worked
+pub mod Filled

@@ -1,7 +1,7 @@
 //! Code that is laid for a script's core is the core's code. Nothing here runs: each function has an empty body, and its contract is a law.
 #![tactic(auto)]
 
-ghost use Rattle.std.specs.Prelude.{◌≡◌, ◌≤◌, ℕ, Bool, List, length};
+ghost use Rattle.std.specs.Prelude.{◌≡◌, ◌≤◌, ◌+◌, ◌*◌, ℕ, Bool, List, [], length};
 ghost use Rattle.dataflow.specs.System.{In};
 ghost use Rattle.syntax_trees.specs.Core.{Core};
 ghost use Rattle.task_code.specs.Code.{Calling, Code, call_at, entry, ways};
@@ -10,6 +10,7 @@ ghost use Rattle.agreement.specs.IsCodeOf.{IsCodeOf, Layout};
 ghost use Rattle.agreement.specs.Laid.{IsLaid};
 ghost use Rattle.agreement.specs.Laying.{Kinds, LaysScript};
 ghost use Rattle.agreement.specs.NodesOnce.{NodesOnce};
+ghost use Rattle.laid_code.specs.Worked.{fibonacci, fibonacci_kinds, fibonacci_code, misplaced_code, filled, filled_kinds, filled_declared, filled_code};
 ghost use Rattle.syntax_trees.specs.Typing.{WellTyped};
 ghost use Rattle.syntax_trees.specs.Reads.{Reads};
 ghost use Rattle.syntax_trees.specs.Resolved.{core};
@@ -22,9 +23,10 @@ pub fn calls_are_found()
         → (i b : ℕ) → In (Calling, b) (ways (entry C i).act) → call_at C (entry C i).mark ≡ i }
 {}
 
-/// Code that is laid for a core has no more entries than the core has functions, statements, cells and calls.
+/// Code that is laid for a core has no more entries than the core has functions, statements, cells and calls, and no more bodies than twice as many and one.
 pub fn laid_code_is_small()
-    ensures { (c : Core) (fs : List Kinds) (ds : List (ℕ × Bool)) (C : Code) → LaysScript c fs ds C → CellsOnce c → ReadsStand c → length C.entries ≤ size_of c }
+    ensures bodies { (c : Core) (fs : List Kinds) (ds : List (ℕ × Bool)) (C : Code) → LaysScript c fs ds C → length C.bodies ≤ 2 * size_of c + 1 }
+    ensures entries { (c : Core) (fs : List Kinds) (ds : List (ℕ × Bool)) (C : Code) → LaysScript c fs ds C → CellsOnce c → ReadsStand c → length C.entries ≤ size_of c }
 {}
 
 /// What the emission of code asks of a core the core of each text that reads as a well typed tree has: each of its cells has a node of its own, and the index of each read stands before it.
@@ -48,4 +50,13 @@ pub fn a_table_is_the_cores_code()
 pub fn laid_code_is_the_cores_code()
     ensures code { (bytes : List ℕ) (t : Table) (tree : Tree) (fs : List Kinds) (ds : List (ℕ × Bool)) (C : Code) → Reads bytes tree → LaysScript (core t tree) fs ds C → IsCodeOf (core t tree) C }
     ensures nodes { (bytes : List ℕ) (t : Table) (tree : Tree) (fs : List Kinds) (ds : List (ℕ × Bool)) (C : Code) → Reads bytes tree → WellTyped tree t → LaysScript (core t tree) fs ds C → NodesOnce C }
+{}
+
+/// The code of `(int r) fib(int n) { if (n < 2) { r = n; } else { r = fib(n-1) + fib(n-2); } } printf("%i", fib(10));` is laid for its core, and so is that of
+/// `(int B[]) g(int m) { foreach i in [0:m-1] { B[i] = i*i; } } int C[]; C = g(4); printf("%i %i", size(C), C[3]);`. In the first, where the entry of the first branch stands in the function's own body in place of the
+/// branch's, the code is not, whatever the kinds of its function and the variables that are declared.
+pub fn worked_code()
+    ensures laid { LaysScript fibonacci fibonacci_kinds [] fibonacci_code }
+    ensures filled { LaysScript filled filled_kinds filled_declared filled_code }
+    ensures misplaced { (fs : List Kinds) (ds : List (ℕ × Bool)) → LaysScript fibonacci fs ds misplaced_code → ⊥ }
 {}
