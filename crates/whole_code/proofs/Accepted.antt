@@ -18,6 +18,12 @@ use Rattle.task_code.specs.Exact.{needs_of}
 use Rattle.task_code.specs.Whole.{Declared, Fixes, SeenFrom}
 use Rattle.agreement.specs.Emitted.{HasRights}
 use Rattle.agreement.specs.IsCodeOf.{Layout}
+use Rattle.agreement.specs.NodesOnce.{NodesOnce}
+use Rattle.task_code.specs.Whole.{IsCode}
+use Rattle.meaning_laws.proofs.TreeNodes.{tree_numbers, nodes_once}
+use Rattle.well_formed.proofs.Once.{numbers_once}
+use Rattle.syntax_trees.proofs.Tested.{distinct}
+use Rattle.std.specs.Prelude.{◌∷◌, true}
 use Rattle.agreement.specs.Laying.{Kinds}
 use Rattle.agreement.specs.Laid.{IsLaid}
 use Rattle.well_formed.proofs.Accepted.{accepted_scoped, typed_script}
@@ -28,6 +34,8 @@ use Rattle.whole_code.specs.Standing.{CallsAreFound}
 use Rattle.whole_code.specs.Within.{IsWithin}
 use Rattle.whole_code.proofs.Settling.{ScriptScoped, scopes_of}
 use Rattle.whole_code.proofs.Bases.{Assigns, has_target, keeps_targets, Free, keeps_all, base_reads, base_written}
+use Rattle.whole_code.proofs.Standings.{standing}
+use Rattle.whole_code.proofs.Whole.{whole}
 use Rattle.whole_code.proofs.Fields.{script_settled, passes}
 
 module _ {s : Core} {fs : List Kinds} {ds : List (ℕ × Bool)} (C : Code) (l : Layout) (L : IsLaid s fs ds C l) (R : HasRights C) (found : CallsAreFound C) (scoped : Scoped s)
@@ -65,3 +73,13 @@ pub accepted_within : (bytes : List ℕ) (t : Table) (tree : Tree) (fs : List Ki
 accepted_within bytes t tree fs ds C l reads typed single kinds declared laid rights found =
     let types : Types t tree = typed_script bytes t tree reads typed in
     within C l laid rights found (accepted_scoped t tree reads.parsed reads.is_numbered typed) (signatures tree) types.type_of (scopes_of types.type_of t tree types.declared typed) (declared_kinds types.type_of ds tree declared types.declared) kinds single
+
+-- LAID CODE OF AN ACCEPTED SCRIPT IS WHOLE
+pub accepted_whole : (bytes : List ℕ) (t : Table) (tree : Tree) (fs : List Kinds) (ds : List (ℕ × Bool)) (C : Code) (l : Layout) → Reads bytes tree → WellTyped tree t → SinglyAssigned (core t tree) → KindsOf fs tree → DeclaredIn ds tree
+    → IsLaid (core t tree) fs ds C l → HasRights C → CallsAreFound C → NodesOnce C → IsCode C
+accepted_whole bytes t tree fs ds C l reads typed single kinds declared laid rights found nodes =
+    let types : Types t tree = typed_script bytes t tree reads typed in
+    let scoped = accepted_scoped t tree reads.parsed reads.is_numbered typed in
+    whole C l laid rights found scoped (signatures tree) types.type_of (scopes_of types.type_of t tree types.declared typed) (declared_kinds types.type_of ds tree declared types.declared) kinds single nodes
+    (nodes_once t tree (subst (λ (p : Tree). distinct (0 ∷ tree_numbers p) ≡ true) (sym reads.is_numbered) (numbers_once reads.parsed)))
+    (standing C l laid rights found scoped) (accepted_within bytes t tree fs ds C l reads typed single kinds declared laid rights found)

@@ -244,12 +244,12 @@ module _ {s : Core} {fs : List Kinds} {ds : List (ℕ × Bool)} (C : Code) (l : 
     pub passes : (i b : ℕ) (w : Way) (j : ℕ) (r : code.Name) → In {X = Way × ℕ} (w, b) (ways (entry C i).act) → In j (body C b).entries → In r (rights (entry C j)) → Outcome i b w r
     passes i b w j r way h right =
         let e = home_of C l L i (opener_within C l L i (w, b) way) in
-        by e.home e.within_code (body_scope e.home e.within_code) w (opens_as C l L scoped e.home i b w e.stands way) way
+        by e.home e.within_code (body_scope e.home e.within_code) w (opens_as C l L scoped e.home i b w e.stands way).1 way
       where
         within : {t at n : ℕ} {a : Action} → t < length C.bodies → (g : Somewhere (L.table.block_of t)) → stmt at n a ∈ block_list (L.table.block_of t) → Here t g.scope a
         within lt g m = record { at = _; node = _; there = m; known = lookup sigs type_of g.scoped_in m; in_code = lt }
 
-        by : (t : ℕ) → t < length C.bodies → Somewhere (L.table.block_of t) → (w : Way) → OpensAs s C l L.table t i w b → In {X = Way × ℕ} (w, b) (ways (entry C i).act) → Outcome i b w r
+        by : (t : ℕ) {y : Stmt} → t < length C.bodies → Somewhere (L.table.block_of t) → (w : Way) → OpensAs s C l L.table t i y w b → In {X = Way × ℕ} (w, b) (ways (entry C i).act) → Outcome i b w r
         by t lt g Through (opens_header vs roles m c mk st) way = out_header j r (within lt g m) roles c st way h right
         by t lt g InPlace (opens_wait m hd st) way = pass i j b InPlace r r way h right refl
         by t lt g Calling (opens_call {st = u} {c = c} {f = f} at p m k ca fn st e) way = of_stmt u m k ca

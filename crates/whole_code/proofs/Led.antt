@@ -52,7 +52,7 @@ pub flag_is : (k : ℕ) (d b : Bool) (x : Name) (r : code.Name) → r ≡ name_a
 flag_is k d b x r e q = sym (flag_of k d x) ∙ (ap is_array_name (sym e) ∙ q)
 
 -- a name that is seen through a step
-step_out : (k : ℕ) (d : Bool) (y : Name) (r : code.Name) → record { up = suc r.up; owned = r.owned } ≡ name_as k d (further y) → r ≡ name_as k d y
+pub step_out : (k : ℕ) (d : Bool) (y : Name) (r : code.Name) → record { up = suc r.up; owned = r.owned } ≡ name_as k d (further y) → r ≡ name_as k d y
 step_out k d y r e =
     let a : suc r.up ≡ suc y.up = ap (λ (z : code.Name). z.up) e in
     let b : r.up ≡ y.up = omega arith in
@@ -61,7 +61,7 @@ step_out k d y r e =
 parameter_same : {i j : ℕ} {a b : Bool} → Parameter i a ≡ Parameter j b → (i ≡ j) × (a ≡ b)
 parameter_same h = (cc, cc)
 
-parameter_is : {i j : ℕ} {a b : Bool} → ◌≡◌ {A = code.Name} (record { up = 0; owned = Parameter i a }) (record { up = 0; owned = Parameter j b }) → (i ≡ j) × (a ≡ b)
+pub parameter_is : {i j : ℕ} {a b : Bool} → ◌≡◌ {A = code.Name} (record { up = 0; owned = Parameter i a }) (record { up = 0; owned = Parameter j b }) → (i ≡ j) × (a ≡ b)
 parameter_is e = parameter_same (ap (λ (z : code.Name). z.owned) e)
 
 call_same : {b b' : ℕ} {is is' : List Argument} {os os' : List code.Name} → code.Call b is os ≡ code.Call b' is' os' → (is ≡ is') × (os ≡ os')
@@ -302,7 +302,7 @@ module _ {s : Core} {fs : List Kinds} {ds : List (ℕ × Bool)} (C : Code) (l : 
         abbrev pub within_of : {t at n : ℕ} {g : Scope} {a : Action} → t < length C.bodies → InScopes sigs type_of g (T.block_of t) → stmt at n a ∈ block_list (T.block_of t) → Within t g a
         within_of h i m = record { at = _; node = _; there = m; known = lookup sigs type_of i m; in_code = h }
 
-        by_way : {t i b : ℕ} {g : Scope} (v : Way) (q r : code.Name) → In i (body C t).entries → InScopes sigs type_of g (T.block_of t) → In {X = Way × ℕ} (v, b) (ways (entry C i).act) → OpensAs s C l T t i v b → (Declared C b q → ⊥)
+        by_way : {t i b : ℕ} {g : Scope} {u : Stmt} (v : Way) (q r : code.Name) → In i (body C t).entries → InScopes sigs type_of g (T.block_of t) → In {X = Way × ℕ} (v, b) (ways (entry C i).act) → OpensAs s C l T t i u v b → (Declared C b q → ⊥)
             → Seen C (entry C i).mark v q r → Inner b q → Settled t g r
         by_way {t} {i} v q r h sc way (opens_header vs roles m c mk st) nd seen rec = by_header q r (within_of (body_within C t i h) sc m) roles c st nd seen rec
         by_way {t} {i} v q r h sc way (opens_wait m hd st) nd seen rec = by_wait q r (within_of (body_within C t i h) sc m) hd st nd seen rec
@@ -316,4 +316,4 @@ module _ {s : Core} {fs : List Kinds} {ds : List (ℕ × Bool)} (C : Code) (l : 
 
         pub led : (t j : ℕ) (g : Scope) (r : code.Name) → In j (body C t).entries → InScopes sigs type_of g (T.block_of t) → Leads C own j r → Settled t g r
         led t j g r h sc (itself i x u) = base t j g r h sc u
-        led t j g r h sc (through i j' b w x q way m' ld nd seen) = by_way w q r h sc way (opens_as C l L scoped t j b w h way) nd seen (λ g' sc'. led b j' g' q m' sc' ld)
+        led t j g r h sc (through i j' b w x q way m' ld nd seen) = by_way w q r h sc way (opens_as C l L scoped t j b w h way).1 nd seen (λ g' sc'. led b j' g' q m' sc' ld)

@@ -14,3 +14,8 @@ mod Led
 mod Bases
 mod Fields
 mod Accepted
+mod Owners
+mod Kept
+mod Aims
+mod Singles
+mod Whole

@@ -17,7 +17,7 @@ use Rattle.meaning_laws.specs.TypedValues.{own_cell, own_outer, own_parts}
 use Rattle.agreement.specs.IsCodeOf.{Layout, own_expr, own_needs, fill_act, simple_act, IsSimple, CallAs, PartAs, plain_literal, plain_name, a_cell, a_read, a_call}
 use Rattle.agreement.specs.Laying.{Kinds, Headers}
 use Rattle.agreement.specs.Laid.{Table, Stands, IsLaid}
-use Rattle.whole_code.proofs.Roles.{own_of, OwnOf, own_simple, own_branch, own_branches, own_range, own_each, own_wait}
+use Rattle.whole_code.proofs.Roles.{own_of, OwnOf, own_simple, own_branch, own_branches, own_range, own_each, own_wait, Role}
 use Rattle.whole_code.proofs.Shapes.{within, HomeIn, home_in}
 
 -- PARTS
@@ -92,7 +92,7 @@ no_simple_way l k (range lo hi st v t b) y z h = absurd z
 no_simple_way l k (each a v t b) y z h = absurd z
 no_simple_way l k (wait ns b) y z h = absurd z
 
-no_simple_loop : {A : Type 0} (l : Layout) (k : ℕ) (a : Action) (w : Loop) → IsSimple a → loop_of (simple_act l k (own_needs l k a) a) ≡ Some w → A
+pub no_simple_loop : {A : Type 0} (l : Layout) (k : ℕ) (a : Action) (w : Loop) → IsSimple a → loop_of (simple_act l k (own_needs l k a) a) ≡ Some w → A
 no_simple_loop l k (assign x o) w z h = absurd (cc (h))
 no_simple_loop l k (fill x o) w z h = no_fill_loop l k _ x (own_expr o) w h
 no_simple_loop l k (insert x i o) w z h = absurd (cc (h))
@@ -108,19 +108,19 @@ no_simple_loop l k (wait ns b) w z h = absurd z
 
 module _ (s : Core) (C : Code) (l : Layout) (T : Table) where
   -- an entry of a body opens another body so
-  pub data OpensAs (t i : ℕ) : Way → ℕ → Type 0 where
-    opens_header : {at n b : ℕ} {a : Action} {c : Block} (vs : List Variable) → ((x : ℕ) → x ∈ roles_of a → In (scalar x) vs) → stmt at n a ∈ block_list (T.block_of t) → c ∈ header_blocks a → (entry C i).mark ≡ at → Stands C l T (T.inputs_of t) c vs (ByStep i) b → OpensAs t i Through b
+  pub data OpensAs (t i : ℕ) : Stmt → Way → ℕ → Type 0 where
+    opens_header : {at n b : ℕ} {a : Action} {c : Block} (vs : List Variable) → ((x : ℕ) → x ∈ roles_of a → In (scalar x) vs) → stmt at n a ∈ block_list (T.block_of t) → c ∈ header_blocks a → (entry C i).mark ≡ at → Stands C l T (T.inputs_of t) c vs (ByStep i) b → OpensAs t i (stmt at n a) Through b
     opens_wait : {at n b : ℕ} {ns : List Awaited} {d c : Block} {hs : List Header} → stmt at n (wait ns d) ∈ block_list (T.block_of t) → Headers (T.inputs_of t) (stmt at n (wait ns d)) hs c
-        → Stands C l T (T.inputs_of t) c [] (ByWait i) b → OpensAs t i InPlace b
+        → Stands C l T (T.inputs_of t) c [] (ByWait i) b → OpensAs t i (stmt at n (wait ns d)) InPlace b
     opens_call : {b : ℕ} {st : Stmt} {c : Call} {f : Function} (at : ℕ) (p : ℤ) → st ∈ block_list (T.block_of t) → calls c ∈ own_of st → CallAs C l (T.inputs_of t) (own_of st) at p c i
-        → slice_get s.functions c.function ≡ Some f → Stands C l T f.inputs f.body [] ByCalls b → b ≡ suc c.function → OpensAs t i Calling b
+        → slice_get s.functions c.function ≡ Some f → Stands C l T f.inputs f.body [] ByCalls b → b ≡ suc c.function → OpensAs t i st Calling b
 
-  one_way : {i b t : ℕ} {w : Way} (v : Way) (u : ℕ) → OpensAs t i v u → In {X = Way × ℕ} (w, b) ((v, u) ∷ []) → OpensAs t i w b
-  one_way {i} {t = t} v u o (inl e) = subst (λ (z : Way × ℕ). OpensAs t i z.0 z.1) (sym e) o
+  one_way : {i b t : ℕ} {w : Way} {st : Stmt} (v : Way) (u : ℕ) → OpensAs t i st v u → In {X = Way × ℕ} (w, b) ((v, u) ∷ []) → OpensAs t i st w b
+  one_way {i} {t = t} {st = st} v u o (inl e) = subst (λ (z : Way × ℕ). OpensAs t i st z.0 z.1) (sym e) o
   one_way v u o (inr z) = absurd z
 
-  two_ways : {i b t : ℕ} {w : Way} (v v' : Way) (u u' : ℕ) → OpensAs t i v u → OpensAs t i v' u' → In {X = Way × ℕ} (w, b) ((v, u) ∷ (v', u') ∷ []) → OpensAs t i w b
-  two_ways {i} {t = t} v v' u u' o p (inl e) = subst (λ (z : Way × ℕ). OpensAs t i z.0 z.1) (sym e) o
+  two_ways : {i b t : ℕ} {w : Way} {st : Stmt} (v v' : Way) (u u' : ℕ) → OpensAs t i st v u → OpensAs t i st v' u' → In {X = Way × ℕ} (w, b) ((v, u) ∷ (v', u') ∷ []) → OpensAs t i st w b
+  two_ways {i} {t = t} {st = st} v v' u u' o p (inl e) = subst (λ (z : Way × ℕ). OpensAs t i st z.0 z.1) (sym e) o
   two_ways v v' u u' o p (inr h) = one_way v' u' p h
 
   by_act : (i : ℕ) (y : Way × ℕ) {a : Act} → (entry C i).act ≡ a → In y (ways (entry C i).act) → In y (ways a)
@@ -129,7 +129,7 @@ module _ (s : Core) (C : Code) (l : Layout) (T : Table) where
   loop_by : (i : ℕ) {a : Act} {w : Loop} → (entry C i).act ≡ a → loop_of (entry C i).act ≡ Some w → loop_of a ≡ Some w
   loop_by i {w = w} e h = subst (λ (z : Act). loop_of z ≡ Some w) e h
 
-  own_opens : {t : ℕ} (i b : ℕ) (w : Way) {st : Stmt} → st ∈ block_list (T.block_of t) → OwnOf C l T (T.inputs_of t) st i → In (w, b) (ways (entry C i).act) → OpensAs t i w b
+  own_opens : {t : ℕ} (i b : ℕ) (w : Way) {st : Stmt} → st ∈ block_list (T.block_of t) → OwnOf C l T (T.inputs_of t) st i → In (w, b) (ways (entry C i).act) → OpensAs t i st w b
   own_opens {t} i b w m (own_simple {a = a} z e q) h = no_simple_way l (T.inputs_of t) a (w, b) z (by_act i (w, b) e.act_is h)
   own_opens i b w m (own_branch {t = u} e q s) h = one_way Through u (opens_header [] (λ x i. elim i [ ]) m first q s) (by_act i (w, b) e.act_is h)
   own_opens i b w m (own_branches {t = u} {u = v} e q s r) h = two_ways Through Through u v (opens_header [] (λ x i. elim i [ ]) m first q s) (opens_header [] (λ x i. elim i [ ]) m (later first) q r) (by_act i (w, b) e.act_is h)
@@ -142,7 +142,7 @@ module _ (s : Core) (C : Code) (l : Layout) (T : Table) where
   CallOpens t st = (c : Call) (f : ℕ) → calls c ∈ own_of st → l.body_of c.function ≡ suc c.function × (g : Function) × (slice_get s.functions c.function ≡ Some g) × Stands C l T g.inputs g.body [] ByCalls (suc c.function)
 
   call_opens : {t j at : ℕ} {p : ℤ} {st : Stmt} {c : Call} (i b : ℕ) (w : Way) → CallOpens t st → st ∈ block_list (T.block_of t) → calls c ∈ own_of st → CallAs C l (T.inputs_of t) (own_of st) at p c j → In i (j ∷ []) → In (w, b) (ways (entry C i).act)
-      → OpensAs t i w b
+      → OpensAs t i st w b
   call_opens {at = at} {p = p} {c = c} i b w f m k a (inr z) h = absurd z
   call_opens {t} {at = at} {p = p} {st = st} {c = c} i b w f m k a (inl e) h =
       let r = f c 0 k in
@@ -151,7 +151,7 @@ module _ (s : Core) (C : Code) (l : Layout) (T : Table) where
       one_way Calling (suc c.function) (opens_call at p m k a' r.2 r.3 refl) h'
 
   part_opens : {t at : ℕ} {p : ℤ} {st : Stmt} {x : Part} {js : List ℕ} (i b : ℕ) (w : Way) → CallOpens t st → st ∈ block_list (T.block_of t) → x ∈ own_of st → PartAs C l (T.inputs_of t) (own_of st) at p x js → In i js → In (w, b) (ways (entry C i).act)
-      → OpensAs t i w b
+      → OpensAs t i st w b
   part_opens i b w f m k (plain_literal h) j g = absurd j
   part_opens i b w f m k (plain_name h) j g = absurd j
   part_opens i b w f m k (a_cell {j = y} h q e) (inl r) g = absurd (by_act y (w, b) e.act_is (subst (λ (z : ℕ). In (w, b) (ways (entry C z).act)) r g))
@@ -216,23 +216,16 @@ module _ {s : Core} {fs : List Kinds} {ds : List (ℕ × Bool)} (C : Code) (l : 
   loop_within i w h = acts_within i (λ e. (let g : loop_of blank_entry.act ≡ Some w = subst (λ (z : Act). loop_of z ≡ Some w) e h in absurd (cc (g))))
 
   -- WHAT AN ENTRY OPENS
-  pub opens_as : Scoped s → (t i b : ℕ) (w : Way) → In i (body C t).entries → In (w, b) (ways (entry C i).act) → OpensAs s C l L.table t i w b
-  opens_as scoped t i b w h g = by (home_in C l L t i h)
+  pub opens_by : Scoped s → (t i b : ℕ) (w : Way) (st : Stmt) → st ∈ block_list (L.table.block_of t) → Role C l L.table (L.table.inputs_of t) st i → In i (body C t).entries → In (w, b) (ways (entry C i).act) → OpensAs s C l L.table t i st w b
+  opens_by scoped t i b w st m role h g = elim role [ inl p ↦ part_opens s C l L.table i b w known m p.there p.as_part p.among g | inr o ↦ own_opens s C l L.table i b w m o g ]
     where
-      found : (x : HomeIn C l L t i) → CallOpens s C l L.table t (x.of).st
-      found x c f k =
-          let m = stmt_in t (Rattle.whole_code.proofs.Shapes.body_within C t i h) (x.of).there in
-          let r = scoped.calls (x.of).st c m (call_of_stmt (x.of).st k) in
-          (bodies_of (x.of).st (x.of).there c, r.0, r.1, L.functions c.function r.0 r.1)
-        where
-          bodies_of : (st : Stmt) → st ∈ block_list (L.table.block_of t) → (c : Call) → l.body_of c.function ≡ suc c.function
-          bodies_of (stmt at n a) m c = (x.laid.suits at n a m).bodies c.function
+      known : CallOpens s C l L.table t st
+      known c f k =
+          let r = scoped.calls st c (stmt_in t (Rattle.whole_code.proofs.Shapes.body_within C t i h) m) (call_of_stmt st k) in
+          (L.places c.function, r.0, r.1, L.functions c.function r.0 r.1)
 
-      by : HomeIn C l L t i → OpensAs s C l L.table t i w b
-      by x = elim x.role [
-        | inl p ↦ part_opens s C l L.table i b w (found x) (x.of).there p.there p.as_part p.among g
-        | inr o ↦ own_opens s C l L.table i b w (x.of).there o g
-      ]
+  pub opens_as : Scoped s → (t i b : ℕ) (w : Way) → In i (body C t).entries → In (w, b) (ways (entry C i).act) → (st : Stmt) × OpensAs s C l L.table t i st w b
+  opens_as scoped t i b w h g = let x = home_in C l L t i h in ((x.of).st, opens_by scoped t i b w (x.of).st (x.of).there x.role h g)
 
   pub loop_as : (t i : ℕ) (w : Loop) → In i (body C t).entries → loop_of (entry C i).act ≡ Some w → LoopIn s C l L.table t i w
   loop_as t i w h g =

@@ -48,7 +48,7 @@ module _ (C : Code) (l : Layout) (T : Table) where
   abbrev pub Role : ℕ → Stmt → ℕ → Type 0
   Role k st j = PartOf k st j ⊎ OwnOf k st j
 
-  part_role : {k at j : ℕ} {p : ℤ} (n : ℕ) (a : Action) {xs : List Part} {js : List ℕ} → PartsAs C l k (own_parts a) at p xs js → In j js → ((x : Part) → x ∈ xs → x ∈ own_parts a) → PartOf k (stmt at n a) j
+  pub part_role : {k at j : ℕ} {p : ℤ} (n : ℕ) (a : Action) {xs : List Part} {js : List ℕ} → PartsAs C l k (own_parts a) at p xs js → In j js → ((x : Part) → x ∈ xs → x ∈ own_parts a) → PartOf k (stmt at n a) j
   part_role n a no_part h o = absurd h
   part_role {j = j} {p = p} n a (one_part {x = x} {is = is} {js = js} one rest q) h o =
       elim (in_split j is js (subst (λ (z : List ℕ). In j z) q h)) [

@@ -2,7 +2,7 @@
 use Rattle.std.proofs.Common.{◌≡◌, inl, inr, ℕ, Bool, List, [], ◌∷◌, ◌++◌, refl, sym, ap, ◌∙◌, subst, Some, None}
 use Rattle.dataflow.specs.System.{In, Distinct}
 use Rattle.dataflow.proofs.Lists.{in_left, in_right}
-use Rattle.syntax_trees.specs.Core.{Core}
+use Rattle.syntax_trees.specs.Core.{Stmt, Core}
 use Rattle.task_code.specs.Code as code
 use Rattle.task_code.specs.Code.{Variable, Name, Need, Loop, Act, Wait, Way, InPlace, Through, Calling, Code, Header, ByCalls, ByStep, ByWait, entry, body, here, ways, targets, targets_of, needed, loop_of, loop_variables}
 use Rattle.task_code.specs.Exact.{Leads, itself, through}
@@ -71,9 +71,9 @@ inside_wait C i b v hs r e m q (through k j c w p inner h g x d s) = by (subst (
 
 module _ {s : Core} {fs : List Kinds} {ds : List (ℕ × Bool)} (C : Code) (l : Layout) (L : IsLaid s fs ds C l) (R : HasRights C) (found : CallsAreFound C) (scoped : Scoped s) where
   opened : (i : ℕ) (w : Way) (b : ℕ) → In (w, b) (ways (entry C i).act) → OpenedBy C i w (body C b).opener
-  opened i w b h = let r = home_of C l L i (opener_within C l L i (w, b) h) in by w h (opens_as C l L scoped r.home i b w r.stands h)
+  opened i w b h = let r = home_of C l L i (opener_within C l L i (w, b) h) in by w h (opens_as C l L scoped r.home i b w r.stands h).1
     where
-      by : {t : ℕ} (w : Way) → In (w, b) (ways (entry C i).act) → OpensAs s C l L.table t i w b → OpenedBy C i w (body C b).opener
+      by : {t : ℕ} {st : Stmt} (w : Way) → In (w, b) (ways (entry C i).act) → OpensAs s C l L.table t i st w b → OpenedBy C i w (body C b).opener
       by Through h (opens_header vs v m c e s) = s.opener
       by InPlace h (opens_wait m x s) = s.opener
       by Calling h (opens_call at p m k a f s q) = (s.opener, found i b h)

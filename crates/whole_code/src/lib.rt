@@ -16,6 +16,8 @@ ghost use Rattle.syntax_trees.specs.Tree.{Tree};
 ghost use Rattle.syntax_trees.specs.Typing.{WellTyped};
 ghost use Rattle.task_code.specs.Code.{Code, entry};
 ghost use Rattle.task_code.specs.Shape.{is_shaped};
+ghost use Rattle.task_code.specs.Whole.{IsCode};
+ghost use Rattle.agreement.specs.NodesOnce.{NodesOnce};
 ghost use Rattle.whole_code.specs.Described.{DeclaredIn, KindsOf};
 ghost use Rattle.whole_code.specs.Within.{IsWithin};
 ghost use Rattle.whole_code.specs.Standing.{CallsAreFound, IsStanding};
@@ -36,4 +38,11 @@ pub fn laid_code_stands()
 pub fn accepted_code_is_within()
     ensures { (bytes : List ℕ) (t : Table) (tree : Tree) (fs : List Kinds) (ds : List (ℕ × Bool)) (C : Code) (l : Layout) → Reads bytes tree → WellTyped tree t → SinglyAssigned (core t tree)
         → KindsOf fs tree → DeclaredIn ds tree → IsLaid (core t tree) fs ds C l → HasRights C → CallsAreFound C → IsWithin C }
+{}
+
+/// Laid code of an accepted script, with exact rights, is whole. A text that reads as a tree, is well typed and singly assigned, and of which the emission is told which inputs, outputs and variables
+/// are arrays: where its code is laid, each call has its own mark, each node is one entry's, and each entry has the rights that it leads to and no others, all bodies fit together.
+pub fn accepted_code_is_whole()
+    ensures { (bytes : List ℕ) (t : Table) (tree : Tree) (fs : List Kinds) (ds : List (ℕ × Bool)) (C : Code) (l : Layout) → Reads bytes tree → WellTyped tree t → SinglyAssigned (core t tree)
+        → KindsOf fs tree → DeclaredIn ds tree → IsLaid (core t tree) fs ds C l → HasRights C → CallsAreFound C → NodesOnce C → IsCode C }
 {}
