@@ -14,6 +14,7 @@ mod Led
 mod Bases
 mod Fields
 mod Accepted
+mod Offsets
 mod Owners
 mod Kept
 mod Aims

@@ -1,7 +1,7 @@
 //! Laid code of an accepted script is whole. Nothing here runs: each function has an empty body, and its contract is a law.
 #![tactic(auto)]
 
-ghost use Rattle.agreement.specs.Emitted.{HasRights};
+ghost use Rattle.agreement.specs.Emitted.{CallsOnce, HasRights};
 ghost use Rattle.agreement.specs.IsCodeOf.{Layout};
 ghost use Rattle.agreement.specs.Laid.{IsLaid};
 ghost use Rattle.agreement.specs.Laying.{Kinds};
@@ -45,4 +45,9 @@ pub fn accepted_code_is_within()
 pub fn accepted_code_is_whole()
     ensures { (bytes : List ℕ) (t : Table) (tree : Tree) (fs : List Kinds) (ds : List (ℕ × Bool)) (C : Code) (l : Layout) → Reads bytes tree → WellTyped tree t → SinglyAssigned (core t tree)
         → KindsOf fs tree → DeclaredIn ds tree → IsLaid (core t tree) fs ds C l → HasRights C → CallsAreFound C → NodesOnce C → IsCode C }
+{}
+
+/// Each call of an accepted script has an offset of its own, as the emission of code asks.
+pub fn accepted_calls_stand_once()
+    ensures { (bytes : List ℕ) (t : Table) (tree : Tree) → Reads bytes tree → CallsOnce (core t tree) }
 {}
