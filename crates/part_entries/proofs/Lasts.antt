@@ -53,7 +53,7 @@ plain_last fs k all at p ps c b old inside e datum =
 
 -- DATA
 
-data_both : (p : Option Part) (xs ys : List Part) → data_in p (xs ++ ys) ≡ data_in p xs ++ data_in (last_of p xs) ys
+pub data_both : (p : Option Part) (xs ys : List Part) → data_in p (xs ++ ys) ≡ data_in p xs ++ data_in (last_of p xs) ys
 data_both p [] ys = refl
 data_both p (inner c ∷ xs) ys = ap (λ l. cell_data (plain_after p c.form) c.node ++ l) (data_both (Some (inner c)) xs ys) ∙ sym (append_assoc (cell_data (plain_after p c.form) c.node) (data_in (Some (inner c)) xs) (data_in (last_of (Some (inner c)) xs) ys))
 data_both p (calls c ∷ xs) ys = ap (λ l. output_scalars c.outputs ++ l) (data_both (Some (calls c)) xs ys) ∙ sym (append_assoc (output_scalars c.outputs) (data_in (Some (calls c)) xs) (data_in (last_of (Some (calls c)) xs) ys))

@@ -4,3 +4,4 @@ pub mod Ready
 pub mod Calls
 pub mod Placed
 pub mod Lasts
+pub mod Selves

@@ -6,4 +6,5 @@ pub mod data;
 pub mod entries;
 pub mod laid;
 pub mod outers;
+pub mod owns;
 pub mod parts;
