@@ -45,7 +45,7 @@ in_list [] i x e = absurd (cc (e))
 in_list (y ∷ xs) zero x e = omega arith
 in_list (y ∷ xs) (suc i) x e = let q = in_list xs i x e in omega arith
 
-module _ (fs : List Signature) (type_of : ℕ → Typ) (f : Signature) (k W : ℕ) (room : k + length f.outputs < 2 ^ 64) (light : W < 2 ^ 30) where
+module _ (fs : List Signature) (type_of : ℕ → Typ) (f : Signature) (k W : ℕ) (room : k + length f.outputs < 2 ^ 64) (light : W < 2 ^ 30) (several : length fs ≤ W) where
   owned_room : (depth up : ℕ) (what : Owned) (τ : Typ) → OwnedHas fs type_of f depth up what τ → OwnedRoom k what
   owned_room depth up (local n) τ h = tt
   owned_room depth up (input i) τ h = tt
@@ -99,9 +99,13 @@ module _ (fs : List Signature) (type_of : ℕ → Typ) (f : Signature) (k W : �
   form_room (lists {es} h) le = (all_room h, few (operator op.literal es) le)
   form_room {depth} (reads {a} h i) le = name_room depth a _ h
 
+  -- a called function is one of the script's
+  called_room : (depth : ℕ) (c : Call) → CallHas fs type_of f depth c → c.function + 1 < 2 ^ 32
+  called_room depth c h = let q = in_list fs c.function h.signature h.there in omega arith
+
   part_room : (depth : ℕ) (p : Part) → PartHas fs type_of f depth p → part_weight p ≤ W → PartRoom k p
   part_room depth (inner c) h le = form_room h.2 (omega arith)
-  part_room depth (calls c) h le = (names_room h.inputs, names_room h.outputs)
+  part_room depth (calls c) h le = (called_room depth c h, (names_room h.inputs, names_room h.outputs))
 
   parts_room : (depth : ℕ) (ps : List Part) → PartsHave fs type_of f depth ps → weight ps ≤ W → Each (PartRoom k) ps
   parts_room depth [] h le = tt
@@ -133,7 +137,7 @@ module _ (fs : List Signature) (type_of : ℕ → Typ) (f : Signature) (k W : �
 
     action_room : (depth : ℕ) (a : Action) → OutersHave fs type_of f depth a → ActionHas fs type_of f depth a → weight (parts a) ≤ W → stmts_weight (stmts_among (blocks_inside a)) ≤ W → ActionRoom k a
     action_room depth (declare v) os h le lb = tt
-    action_room depth (call_alone p ps c) os (of_call hs h) le lb = let a = append ps (calls c ∷ []) in (parts_room depth ps hs (omega arith), (names_room h.inputs, names_room h.outputs))
+    action_room depth (call_alone p ps c) os (of_call hs h) le lb = let a = append ps (calls c ∷ []) in (parts_room depth ps hs (omega arith), (called_room depth c h, (names_room h.inputs, names_room h.outputs)))
     action_room depth (assign x o) os (of_assign h t) le lb = (name_room depth x _ h, outer_room depth o [] (os o first) le)
     action_room depth (fill x o) os (of_fill h t) le lb = (name_room depth x _ h, outer_room depth o [] (os o first) le)
     action_room depth (insert x i o) os (of_insert h t u) le lb =
@@ -165,17 +169,17 @@ pub record HasBody (fs : List Signature) (type_of : ℕ → Typ) (f : Function) 
   pub outputs : length signature.outputs ≡ f.outputs
   pub body : BlockHas fs type_of signature 0 f.body
 
-each_function : (fs : List Signature) (type_of : ℕ → Typ) (W : ℕ) → W < 2 ^ 30 → (gs : List Function) → ((i : ℕ) (f : Function) → slice_get gs i ≡ Some f → HasBody fs type_of f)
+each_function : (fs : List Signature) (type_of : ℕ → Typ) (W : ℕ) → W < 2 ^ 30 → length fs ≤ W → (gs : List Function) → ((i : ℕ) (f : Function) → slice_get gs i ≡ Some f → HasBody fs type_of f)
     → ((f : Function) → f ∈ gs → f.inputs + f.outputs ≤ W) → stmts_weight (stmts_among (function_blocks gs)) ≤ W → Each FunctionRoom gs
-each_function fs type_of W light [] h few le = tt
-each_function fs type_of W light (f ∷ gs) h few le =
+each_function fs type_of W light several [] h few le = tt
+each_function fs type_of W light several (f ∷ gs) h few le =
     let a = among_append (blocks_of f.body) (function_blocks gs) in
     let w = within f.body in
     let b = h 0 f refl in
     let p = few f first in
     let o = b.outputs in (
-      block_room fs type_of b.signature f.inputs W (omega arith) light 0 f.body b.body (omega arith),
-      each_function fs type_of W light gs (λ i g e. h (suc i) g e) (λ g m. few g (later m)) (omega arith),
+      block_room fs type_of b.signature f.inputs W (omega arith) light several 0 f.body b.body (omega arith),
+      each_function fs type_of W light several gs (λ i g e. h (suc i) g e) (λ g m. few g (later m)) (omega arith),
     )
 
 count : (ds : List Declaration) → sum_by declaration_size ds ≡ length ds
@@ -194,15 +198,23 @@ parameters t (function c ∷ ps) f m = by f m (sum_by-cons part_size (function c
     by g first s rec = let i = count c.inputs in let o = count c.outputs in omega arith
     by g (later m) s rec = let r = rec g m in omega arith
 
+-- each function of the script has a number
+functions : (tree : Tree) → length (signatures tree) ≤ tree_size tree
+functions [] = omega arith
+functions (import sp ∷ ps) = let r = functions ps in let s = sum_by-cons part_size (import sp) ps in omega arith
+functions (single x ∷ ps) = let r = functions ps in let s = sum_by-cons part_size (single x) ps in omega arith
+functions (function c ∷ ps) = let r = functions ps in let s = sum_by-cons part_size (function c) ps in omega arith
+
 pub room_in : (bytes : List ℕ) (t : Table) (tree : Tree) → Reads bytes tree → WellTyped tree t → 2 * tree_size tree < 2 ^ 30 → CoreRoom (core t tree)
 room_in bytes t tree r w light =
     let q = typed_script bytes t tree r w in
     let W = 2 * tree_size tree in
+    let several = functions tree in
     let all = weight_within t tree in
     let a = among_append (blocks_of (script_block t tree)) (function_blocks (functions_of t tree)) in
     let s = within (script_block t tree) in (
-      block_room (signatures tree) q.type_of no_signature 0 W (omega arith) light 0 (script_block t tree) q.has.script (omega arith),
-      each_function (signatures tree) q.type_of W light (functions_of t tree)
+      block_room (signatures tree) q.type_of no_signature 0 W (omega arith) light (omega arith) 0 (script_block t tree) q.has.script (omega arith),
+      each_function (signatures tree) q.type_of W light (omega arith) (functions_of t tree)
           (λ i f e. (let h = q.has.functions i f e in record { signature = h.signature; outputs = h.outputs; body = h.body }))
           (λ f m. (let p = parameters t tree f m in omega arith)) (omega arith),
     )

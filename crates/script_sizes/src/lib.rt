@@ -1,7 +1,7 @@
 //! How much code a script can come to. Nothing here runs: the function has an empty body, and its contract is a law.
 #![tactic(auto)]
 
-ghost use Rattle.agreement.specs.Emitted.{CallsOnce, size_of};
+ghost use Rattle.agreement.specs.Emitted.{size_of};
 ghost use Rattle.agreement.specs.Room.{CoreRoom};
 ghost use Rattle.std.specs.Prelude.{◌<◌, ◌≤◌, ◌*◌, ◌^◌, ℕ, List};
 ghost use Rattle.syntax_trees.specs.Numbered.{tree_size};
@@ -11,10 +11,9 @@ ghost use Rattle.syntax_trees.specs.Table.{Table};
 ghost use Rattle.syntax_trees.specs.Tree.{Tree};
 ghost use Rattle.syntax_trees.specs.Typing.{WellTyped};
 
-/// The core of a tree, by any table of its names, has at most twice as many functions, statements, cells and calls as the tree has numbers; and no two calls
-/// of a text that reads as the tree have one offset. If the text is well typed, its names and expressions have room in code.
+/// The core of a tree, by any table of its names, has at most twice as many functions, statements, cells and calls as the tree has numbers.
+/// If a text that reads as the tree is well typed, its names and expressions have room in code.
 pub fn script_sizes()
     ensures within { (t : Table) (tree : Tree) → size_of (core t tree) ≤ 2 * tree_size tree }
-    ensures calls { (bytes : List ℕ) (t : Table) (tree : Tree) → Reads bytes tree → CallsOnce (core t tree) }
     ensures room { (bytes : List ℕ) (t : Table) (tree : Tree) → Reads bytes tree → WellTyped tree t → 2 * tree_size tree < 2 ^ 30 → CoreRoom (core t tree) }
 {}

@@ -13,8 +13,8 @@ mod Arguments
 mod Led
 mod Bases
 mod Fields
-mod Accepted
-mod Offsets
+pub mod Accepted
+pub mod Offsets
 mod Owners
 mod Kept
 mod Aims

@@ -1,13 +1,9 @@
 use Rattle.script_sizes.proofs.Room.{room_in}
-use Rattle.script_sizes.proofs.Calls.{calls_once}
 use Rattle.script_sizes.proofs.Sizes.{size_within}
 use Rattle.script_sizes.proofs.script_sizes.Goals as goal
 
 pub returns-clause-within : goal.returns-clause-within
 returns-clause-within g = λ t tree. size_within t tree
-
-pub returns-clause-calls : goal.returns-clause-calls
-returns-clause-calls g = λ bytes t tree r. calls_once bytes t tree r
 
 pub returns-clause-room : goal.returns-clause-room
 returns-clause-room g = λ bytes t tree r w light. room_in bytes t tree r w light

@@ -1,0 +1,15 @@
+use Rattle.laid_code.proofs.Accepted.{accepted_code}
+use Rattle.emitted_code.proofs.Whole.{exact_rights, headline_emitted, whole_emitted}
+use Rattle.emitted_code.proofs.emitted_code.Goals as goal
+
+pub returns-clause-stands : goal.returns-clause-stands
+returns-clause-stands g = λ bytes t tree fs ds C reads typed single kinds declared emitted. accepted_code bytes t tree fs ds C reads emitted.laid
+
+pub returns-clause-whole : goal.returns-clause-whole
+returns-clause-whole g = λ bytes t tree fs ds C reads typed single kinds declared emitted. whole_emitted bytes t tree fs ds C reads typed single kinds declared emitted
+
+pub returns-clause-exact : goal.returns-clause-exact
+returns-clause-exact g = λ bytes t tree fs ds C emitted. exact_rights C emitted.rights
+
+pub returns-clause-headline : goal.returns-clause-headline
+returns-clause-headline g = λ bytes t tree fs ds C reads typed single kinds declared emitted. headline_emitted bytes t tree fs ds C reads typed single kinds declared emitted
