@@ -5,6 +5,7 @@ pub mod cells;
 pub mod data;
 pub mod entries;
 pub mod laid;
+pub mod laws;
 pub mod outers;
 pub mod owns;
 pub mod parts;
