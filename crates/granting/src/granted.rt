@@ -1,0 +1,122 @@
+//! Code with the rights of its entries.
+ghost use Rattle.std.specs.Prelude.{◌≡◌, ◌<◌, ◌^◌, ◌++◌, [], length, map, IfOk, OnOk};
+ghost use Rattle.task_code.specs.View.{body_view, entry_view, name_view};
+ghost use Rattle.ref_counting.specs.Rights.{HasMarks};
+ghost use Rattle.agreement.specs.Emitted.{HasRights};
+ghost use Rattle.agreement.specs.Laying.{bare};
+ghost use Rattle.granting.specs.Granted.{AddsGranted, GrantedUpTo, laid_code};
+ghost use Rattle.granting.specs.Outline.{outlined, outline_of};
+
+use crate::outline::add_outlines;
+use ref_counting::rights::rights;
+use ref_counting::rows::Rows;
+use ref_counting::uses::Right;
+use std::alloc::{AllocError, Global};
+use task_code::code::{Body, Code};
+use task_code::entry::{Entry, Name};
+
+/// Puts bodies behind the others.
+fn add_bodies(code: &mut Code, bodies: Vec<Body>) -> Result<(), AllocError>
+    ensures { OnOk result (code.new ≡ record code.old { bodies = code.old.bodies ++ map body_view bodies.items }) }
+{
+    for body in bodies {
+        code.push_body(body)?;
+    }
+    Ok(())
+}
+
+/// An entry with these rights.
+fn with_rights(
+    alloc: Global,
+    entry: Entry,
+    reads: &[Name],
+    writes: &[Name],
+) -> Result<Entry, AllocError>
+    ensures { IfOk result (λ granted. entry_view granted ≡ record (entry_view entry) { reads = map name_view reads.now; writes = map name_view writes.now }) }
+{
+    Ok(Entry {
+        node: entry.node,
+        at: entry.at,
+        mark: entry.mark,
+        priority: entry.priority,
+        needs: entry.needs,
+        act: entry.act,
+        reads: Vec::from_slice(alloc, reads)?,
+        writes: Vec::from_slice(alloc, writes)?,
+    })
+}
+
+/// Puts an entry with the rights of its number behind the others.
+fn add_entry(
+    alloc: Global,
+    code: &mut Code,
+    entry: Entry,
+    reads: &Rows<Name>,
+    writes: &Rows<Name>,
+) -> Result<(), AllocError>
+    ensures { OnOk result (AddsGranted reads.now writes.now (entry_view entry) code.old code.new) }
+{
+    let number = code.entry_count();
+    let granted = with_rights(alloc, entry, reads.at(number), writes.at(number))?;
+    code.push_entry(granted)?;
+    Ok(())
+}
+
+/// Puts entries with the rights of their numbers into a code without entries.
+fn add_entries(
+    alloc: Global,
+    code: &mut Code,
+    entries: Vec<Entry>,
+    reads: &Rows<Name>,
+    writes: &Rows<Name>,
+) -> Result<(), AllocError>
+    requires { code.old.entries ≡ [] }
+    ensures granted { OnOk result (GrantedUpTo reads.now writes.now code.new.entries [] (map entry_view entries.items)) }
+    ensures bodies { OnOk result (code.new.bodies ≡ code.old.bodies) }
+{
+    for entry in entries {
+        add_entry(alloc, code, entry, reads, writes)?;
+    }
+    Ok(())
+}
+
+/// The code of these bodies, without entries.
+fn of_bodies(alloc: Global, bodies: Vec<Body>) -> Result<Code, AllocError>
+    ensures { IfOk result (λ code. code ≡ record { entries = []; bodies = map body_view bodies.items }) }
+{
+    let mut code = Code::new(alloc);
+    add_bodies(&mut code, bodies)?;
+    Ok(code)
+}
+
+/// The code of these bodies, with the outlines of these entries.
+fn with_outlines(alloc: Global, bodies: &Code, entries: &Vec<Entry>) -> Result<Code, AllocError>
+    requires { bodies.now.entries ≡ [] }
+    ensures { IfOk result (λ code. code ≡ record { entries = map outlined (map entry_view entries.now.items); bodies = bodies.now.bodies }) }
+{
+    let mut code = bodies.copy()?;
+    add_outlines(alloc, &mut code, entries)?;
+    Ok(code)
+}
+
+/// The code of these bodies and these entries, in which each entry has exactly the rights that it, or an entry that it leads
+/// to, has a use for. The rights that the entries come with are not looked at.
+///
+/// # Errors
+///
+/// `AllocError` where memory that was asked for was refused.
+pub fn granted(alloc: Global, bodies: Vec<Body>, entries: Vec<Entry>) -> Result<Code, AllocError>
+    requires few_entries { length entries.items < 2 ^ 32 }
+    requires few_bodies { length bodies.items < 2 ^ 32 }
+    requires marks { HasMarks (laid_code bodies.items entries.items) }
+    ensures bodies { IfOk result (λ code. code.bodies ≡ map body_view bodies.items) }
+    ensures entries { IfOk result (λ code. map bare code.entries ≡ map bare (map entry_view entries.items)) }
+    ensures rights { IfOk result HasRights }
+{
+    let mut code = of_bodies(alloc, bodies)?;
+    let outlines = with_outlines(alloc, &code, &entries)?;
+    let reads = rights(alloc, &outlines, Right::Read)?;
+    let writes = rights(alloc, &outlines, Right::Write)?;
+    add_entries(alloc, &mut code, entries, &reads, &writes)?;
+    Ok(code)
+}
