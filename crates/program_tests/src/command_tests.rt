@@ -261,13 +261,32 @@ fn checks_scripts(rt: HostRuntime) -> Result<(), Fail> {
         (b"printf(\"%i\");", "Y4 WrongCount 0 6"),
         (b"printf(\"%q\");", "Y5 BadFormat 7 11"),
         (b"foo(1);", "Y6 NotAFunction 0 3"),
-        (b"int A[];", "N1 NotYet 0 3"),
     ];
     for (source, wanted) in rows {
         let wanted = format!(in alloc; "f: refused {wanted}\n|||1")?;
         assert_eq!(rt;
             done(alloc, &["check", "f"], source)?.as_str(),
             wanted.as_str()
+        );
+    }
+    Ok(())
+}
+
+#[test]
+fn accepts_the_whole_language(rt: HostRuntime) -> Result<(), Fail> {
+    let alloc = rt.alloc();
+    let scripts: [&[u8]; 6] = [
+        b"",
+        b"int A[];",
+        b"(int r) fib(int n) { if (n < 2) { r = n; } else { r = fib(n-1) + fib(n-2); } } printf(\"%i\", fib(10));",
+        b"int A[]; A[0] = 1; foreach i in [1:5] { A[i] = A[i-1] * 2; } printf(\"%i\", A[5]);",
+        b"int x = 1; int y; int z; y = z; z = y; wait (x) { wait (y) { printf(\"q\"); } }",
+        b"(int B[]) g(int m) { foreach i in [0:m-1] { B[i] = i*i; } } int C[]; C = g(4); printf(\"%i %i\", size(C), C[3]);",
+    ];
+    for script in scripts {
+        assert_eq!(rt;
+            done(alloc, &["check", "f"], script)?.as_str(),
+            "f: accepted\n|||0"
         );
     }
     Ok(())

@@ -33,7 +33,12 @@ fn is_meant(alloc: Global, report: &Report, known: &Knowledge) -> Result<bool, F
                     .all(|(a, b)| a.at as usize == b.at);
             Ok(same_lines && same_blocked && known.faults()?.is_empty())
         }
-        End::Fault(fault) => Ok(known.faults()?.iter().any(|f| f.at as usize == fault.statement.at)),
+        End::Fault(fault) => Ok(
+            known
+                .faults()?
+                .iter()
+                .any(|f| f.at as usize == fault.statement.at),
+        ),
         End::Limit => Ok(false),
     }
 }

@@ -3,7 +3,7 @@ use Rattle.std.proofs.Common.{◌≡◌, ◌∙◌, sym, ap, subst, ℕ, List, O
 use Rattle.std.specs.Prelude.{option_map}
 use Rattle.lexer.specs.declared.token.Span.{Span}
 use Rattle.compile.specs.declared.fault.CompileFault.{CompileFault}
-use Rattle.compile.specs.Compiles.{IsRefused}
+use Rattle.compile.specs.Compiles.{IsRefused, IsUnfit}
 use Rattle.compile.specs.Places.{span_of}
 use Rattle.swt_command.specs.declared.refusal.Refusal.{Refusal}
 use Rattle.swt_command.specs.Files.{IsRefusal}
@@ -15,8 +15,16 @@ same_fault fault r (Some at) e =
     let p : ◌≡◌ {A = Refusal} r (record { fault = fault; at = at }) = cc in
     ap (λ (x : Refusal). x.fault) p
 
+-- what is so of a fault is so of that of its refusal
+is_of : (P : CompileFault → Type 0) (fault : CompileFault) (r : Refusal) → Some r ≡ refusal_of fault → P fault → P r.fault × (refusal_of r.fault ≡ Some r)
+is_of P fault r e h =
+    let p : r.fault ≡ fault = same_fault fault r (span_of fault) e in
+    (subst P (sym p) h, ap (λ (f : CompileFault). refusal_of f) p ∙ sym e)
+
 -- a refused text has the refusal that its fault is
 pub is_refusal : (src : List ℕ) (fault : CompileFault) (r : Refusal) → Some r ≡ refusal_of fault → IsRefused src fault → IsRefusal src r
-is_refusal src fault r e h =
-    let p : r.fault ≡ fault = same_fault fault r (span_of fault) e in
-    (subst (λ (f : CompileFault). IsRefused src f) (sym p) h, ap (λ (f : CompileFault). refusal_of f) p ∙ sym e)
+is_refusal src fault r e h = is_of (IsRefused src) fault r e h
+
+-- and so has one that is no script
+pub is_unfit : (src : List ℕ) (fault : CompileFault) (r : Refusal) → Some r ≡ refusal_of fault → IsUnfit src fault → IsUnfit src r.fault × (refusal_of r.fault ≡ Some r)
+is_unfit src fault r e h = is_of (IsUnfit src) fault r e h

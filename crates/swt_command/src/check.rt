@@ -10,7 +10,7 @@ use crate::status::Status;
 use crate::stop::{Stop, source};
 use crate::trouble::Trouble;
 use arrayvec::ArrayString;
-use compile::compile::compile;
+use compile::check::check as check_text;
 use std::alloc::Global;
 use swt_line::word::Word;
 use values::sink::{Sink, SinkFault};
@@ -82,8 +82,8 @@ fn check_file<O: Sink>(
 fn verdict(alloc: Global, source: &[u8]) -> Result<Option<Refusal>, Trouble>
     ensures { MatchResult result (IsVerdict source.now) (λ trouble. trouble ≡ Trouble.Memory) }
 {
-    match compile(alloc, alloc, source) {
-        Ok(_code) => Ok(None),
+    match check_text(alloc, alloc, source) {
+        Ok(()) => Ok(None),
         Err(fault) => match Refusal::of(fault) {
             Some(refusal) => Ok(Some(refusal)),
             None => Err(Trouble::Memory),

@@ -1,0 +1,9 @@
+use Rattle.syntax_trees.specs.View.{tree_of}
+use Rattle.scalar_flow.specs.View.{core_of}
+use Rattle.types.specs.Typed.{table_of}
+use Rattle.compile.proofs.Scripts.{script_of}
+use Rattle.compile.proofs.compile.read.Goals as goal
+
+pub returns-in-Ok-clause-script : goal.returns-in-Ok-clause-script
+returns-in-Ok-clause-script g c =
+    script_of c.args.src.now (tree_of c.in_ok-accepted.accepted.script) (table_of c.in_ok-accepted.accepted.typed) (core_of c.in-Ok.flow) c.in_ok-accepted.ensures.script c.in-Ok.ensures.lowered.0 c.in-Ok.ensures.lowered.1
