@@ -9,6 +9,9 @@ use Rattle.runs.specs.declared.report.End.{End}
 use Rattle.runs.specs.declared.report.End.TheVariants as Was
 use Rattle.swt_line.specs.declared.line.Line.{Line}
 use Rattle.swt_line.specs.declared.line.Line.TheVariants as Lines
+use Rattle.compile.specs.declared.fault.CompileFault.{CompileFault}
+use Rattle.compile.specs.declared.fault.CompileFault.TheVariants as Fault
+use Rattle.compile.specs.Compiles.{IsRefused, IsUnfit}
 use Rattle.swt_command.specs.declared.refusal.Refusal.{Refusal}
 use Rattle.swt_command.specs.declared.status.Status.{Status}
 use Rattle.swt_command.specs.declared.status.Status.TheVariants as Ends
@@ -104,11 +107,19 @@ no_refused_trace : (source : Option (List ℕ)) (code : Code) (r : Refusal) → 
 no_refused_trace None code r h = h
 no_refused_trace (Some bytes) code r h = h
 
+-- a text that is no script has no code
+unfit_refused : (src : List ℕ) (fault : CompileFault) → IsUnfit src fault → IsRefused src fault
+unfit_refused src (Fault.Parse f) h = h
+unfit_refused src (Fault.Types f) h = h
+unfit_refused src (Fault.Assignments f) h = h
+unfit_refused src (Fault.Lower f) h = absurd h
+unfit_refused src Fault.Memory h = h
+
 check_refused : (names : List (List ℕ)) (files : Files) (done : Result Status Stop) (out new : Held) → Checks names files done out new → number_of (status_of done) ≡ 1 → SomeRefused files
 check_refused names files (Ok status) out new d e =
     let k = refused_place d.0 (ap number_of (sym d.3) ∙ e) in
     let v = d.2.verdicts k.0 (Some k.1) k.2 in
-    (k.0, k.1, v.0, v.1, v.2)
+    (k.0, k.1, v.0, v.1, (unfit_refused v.0 k.1.fault v.2.0, v.2.1))
 check_refused names files (Err stop) out new d e =
     let k = refused_only stop.trouble e in
     absurd (not_by_refusal (name_at names stop.place) (source_of files stop.place) k.0 d.3.0 new (subst (λ (t : Trouble). StopsBy (name_at names stop.place) (source_of files stop.place) t d.3.0 new) k.1 d.3.2))
