@@ -1,16 +1,18 @@
 -- Entries with the rights of their numbers have the rights that they lead to.
 use Rattle.std.proofs.Common.{◌≡◌, refl, sym, ap, ◌∙◌, subst, ℕ, zero, suc, List, [], ◌∷◌, ◌++◌, map, length}
-use Rattle.std.proofs.lemmas.List.{append_assoc, map-append, length-map}
+use Rattle.std.proofs.lemmas.List.{append_assoc, append-nil, map-append, length-map}
 use Rattle.dataflow.specs.System.{In}
 use Rattle.task_code.specs.Code.{Entry, Body, Code, Name, blank_entry, nth, entry, targets}
 use Rattle.task_code.specs.Exact.{needs_of}
 use Rattle.task_code.specs.declared.entry.Name.{Name as Used}
-use Rattle.task_code.specs.View.{name_view}
+use Rattle.task_code.specs.declared.entry.Entry.{Entry as LaidEntry}
+use Rattle.task_code.specs.declared.code.Body.{Body as LaidBody}
+use Rattle.task_code.specs.View.{name_view, entry_view, body_view}
 use Rattle.ref_counting.specs.Rights.{AreRights}
 use Rattle.ref_counting.specs.Rows.{row}
 use Rattle.agreement.specs.Emitted.{HasRights}
 use Rattle.agreement.specs.Laying.{bare}
-use Rattle.granting.specs.Granted.{HasRow, EachAt, AddsGranted, GrantedUpTo}
+use Rattle.granting.specs.Granted.{HasRow, EachAt, AddsGranted, GrantedUpTo, EmittedAs, laid_code}
 use Rattle.granting.specs.Outline.{outlined, outline_of}
 use Rattle.granting.proofs.Outlines.{targets_same, needs_same, leads_in, leads_out}
 
@@ -62,7 +64,7 @@ same_code es ds bs cs p q = ap (λ xs. record { entries = xs; bodies = bs }) p �
 same_outline : (C D : Code) → map bare D.entries ≡ map bare C.entries → D.bodies ≡ C.bodies → outline_of C ≡ outline_of D
 same_outline C D p q = same_code (map outlined C.entries) (map outlined D.entries) C.bodies D.bodies (sym (outlined_bare C.entries) ∙ ap (map outlined) (sym p) ∙ outlined_bare D.entries) (sym q)
 
-pub has_rights : (C D : Code) (reads writes : List (List Used)) → map bare D.entries ≡ map bare C.entries → D.bodies ≡ C.bodies
+has_rights : (C D : Code) (reads writes : List (List Used)) → map bare D.entries ≡ map bare C.entries → D.bodies ≡ C.bodies
     → AreRights (outline_of C) needs_of reads → AreRights (outline_of C) targets writes → EachAt (HasRow reads writes) D.entries → HasRights D
 has_rights C D reads writes p q hr hw each =
     let same : outline_of C ≡ outline_of D = same_outline C D p q in
@@ -76,3 +78,53 @@ has_rights C D reads writes p q hr hw each =
       writes = λ i r h. leads_in D targets targets_same i r (kw.sound i r (subst (λ (ns : List Name). In r ns) (ws i) h));
       all_writes = λ i r h. subst (λ (ns : List Name). In r ns) (sym (ws i)) (kw.complete i r (leads_out D targets targets_same i r h));
     }
+
+-- laying leaves rights free
+emitted_as : (C D : Code) → map bare D.entries ≡ map bare C.entries → D.bodies ≡ C.bodies → HasRights D → EmittedAs C D
+emitted_as C D p q h c fs ds l = record {
+  laid = record {
+    own_declared = l.own_declared;
+    function_declared = l.function_declared;
+    declared = l.declared;
+    first = l.first;
+    last = l.last;
+    entries_are = l.entries_are;
+    makes_are = l.makes_are;
+    function_bodies = l.function_bodies;
+    script = l.script;
+    functions = l.functions;
+    entries = p ∙ l.entries;
+    bodies = q ∙ l.bodies;
+  };
+  rights = h;
+}
+
+-- the outlines of entries, with the bodies, are the outline of the code
+pub outline_is : (bs : List LaidBody) (es : List LaidEntry) (bodies outlines : Code) → bodies ≡ record { entries = []; bodies = map body_view bs }
+    → outlines ≡ record { entries = map outlined (map entry_view es); bodies = bodies.bodies } → outlines ≡ outline_of (laid_code bs es)
+outline_is bs es bodies outlines p q = q ∙ ap (λ (x : Code). record { entries = map outlined (map entry_view es); bodies = x.bodies }) p
+
+-- what is known of the code when its entries have their rights
+pub record IsDone (C D : Code) (reads writes : List (List Used)) : Type 0 where
+  pub entries : map bare D.entries ≡ map bare C.entries
+  pub bodies : D.bodies ≡ C.bodies
+  pub reads_are : AreRights (outline_of C) needs_of reads
+  pub writes_are : AreRights (outline_of C) targets writes
+  pub each : EachAt (HasRow reads writes) D.entries
+
+pub done_rights : (C D : Code) (reads writes : List (List Used)) → IsDone C D reads writes → HasRights D
+done_rights C D reads writes h = has_rights C D reads writes h.entries h.bodies h.reads_are h.writes_are h.each
+
+pub done_emitted : (C D : Code) (reads writes : List (List Used)) → IsDone C D reads writes → EmittedAs C D
+done_emitted C D reads writes h = emitted_as C D h.entries h.bodies (done_rights C D reads writes h)
+
+pub when_done : (bs : List LaidBody) (es : List LaidEntry) (bodies outlines D : Code) (reads writes : List (List Used)) → bodies ≡ record { entries = []; bodies = map body_view bs }
+    → outlines ≡ outline_of (laid_code bs es) → AreRights outlines needs_of reads → AreRights outlines targets writes
+    → GrantedUpTo reads writes D.entries [] (map entry_view es) → D.bodies ≡ bodies.bodies → IsDone (laid_code bs es) D reads writes
+when_done bs es bodies outlines D reads writes p is hr hw g q = record {
+  entries = sym (append-nil (map bare D.entries)) ∙ g.same;
+  bodies = q ∙ ap (λ (x : Code). x.bodies) p;
+  reads_are = subst (λ (x : Code). AreRights x needs_of reads) is hr;
+  writes_are = subst (λ (x : Code). AreRights x targets writes) is hw;
+  each = g.each;
+}

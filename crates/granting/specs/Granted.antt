@@ -1,12 +1,14 @@
 -- Entries with the rights of their numbers, and the code that is laid before rights are put in.
-use Rattle.std.specs.Prelude.{◌≡◌, ℕ, suc, List, [], ◌∷◌, ◌++◌, map, length}
+use Rattle.std.specs.Prelude.{◌≡◌, ℕ, suc, List, [], ◌∷◌, ◌++◌, map, length, Bool}
 use Rattle.task_code.specs.Code.{Entry, Code}
 use Rattle.task_code.specs.declared.entry.Name.{Name as Used}
 use Rattle.task_code.specs.declared.entry.Entry.{Entry as LaidEntry}
 use Rattle.task_code.specs.declared.code.Body.{Body as LaidBody}
 use Rattle.task_code.specs.View.{name_view, entry_view, body_view}
 use Rattle.ref_counting.specs.Rows.{row}
-use Rattle.agreement.specs.Laying.{bare}
+use Rattle.syntax_trees.specs.Core.{Core}
+use Rattle.agreement.specs.Emitted.{IsEmitted}
+use Rattle.agreement.specs.Laying.{bare, Kinds, LaysScript}
 
 -- the code of these bodies and these entries
 abbrev pub laid_code : List LaidBody → List LaidEntry → Code
@@ -34,3 +36,7 @@ pub record AddsGranted (reads writes : List (List Used)) (e : Entry) (old new : 
 pub record GrantedUpTo (reads writes : List (List Used)) (done left all : List Entry) : Type 0 where
   pub same : map bare done ++ map bare left ≡ map bare all
   pub each : EachAt (HasRow reads writes) done
+
+-- whatever core the code is laid for, this one is what is emitted for it
+abbrev pub EmittedAs : (laid emitted : Code) → Type 0
+EmittedAs C D = (c : Core) (fs : List Kinds) (ds : List (ℕ × Bool)) → LaysScript c fs ds C → IsEmitted c fs ds D

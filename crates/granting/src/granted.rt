@@ -4,7 +4,7 @@ ghost use Rattle.task_code.specs.View.{body_view, entry_view, name_view};
 ghost use Rattle.ref_counting.specs.Rights.{HasMarks};
 ghost use Rattle.agreement.specs.Emitted.{HasRights};
 ghost use Rattle.agreement.specs.Laying.{bare};
-ghost use Rattle.granting.specs.Granted.{AddsGranted, GrantedUpTo, laid_code};
+ghost use Rattle.granting.specs.Granted.{AddsGranted, EmittedAs, GrantedUpTo, laid_code};
 ghost use Rattle.granting.specs.Outline.{outlined, outline_of};
 
 use crate::outline::add_outlines;
@@ -112,6 +112,7 @@ pub fn granted(alloc: Global, bodies: Vec<Body>, entries: Vec<Entry>) -> Result<
     ensures bodies { IfOk result (λ code. code.bodies ≡ map body_view bodies.items) }
     ensures entries { IfOk result (λ code. map bare code.entries ≡ map bare (map entry_view entries.items)) }
     ensures rights { IfOk result HasRights }
+    ensures emitted { IfOk result (EmittedAs (laid_code bodies.items entries.items)) }
 {
     let mut code = of_bodies(alloc, bodies)?;
     let outlines = with_outlines(alloc, &code, &entries)?;
