@@ -1,0 +1,4 @@
+pub mod Into
+pub mod Numbers
+pub mod Owns
+pub mod Starts

@@ -1,0 +1,23 @@
+use Rattle.std.proofs.Common.{[], ◌∷◌, ◌++◌, map, refl, arith}
+use Rattle.std.proofs.lemmas.Grind.{common_steps}
+use Rattle.syntax_trees.specs.Core.{calls}
+use Rattle.flow.specs.Shapes.{kinds_of_function}
+use Rattle.flow.specs.View.{call_view, parts_view}
+use Rattle.statement_entries.specs.Into.{laying}
+use Rattle.statement_entries.proofs.Into.{call_laid}
+use Rattle.statement_entries.proofs.calls.call_alone.Goals as goal
+
+pub returns : goal.returns
+returns g c roots node bodies room few =
+    let A = g.row.A.Denot in
+    let s = c.args.standing in
+    let fs = map (kinds_of_function {A = A}) c.args.functions.now.items in
+    let ps = parts_view {A = A} c.args.parts.now.items in
+    let call = call_view {A = A} c.args.call.now in
+    let all = ps ++ calls call ∷ [] in
+    let old = c.args.entries.now.items in
+    let new = c.add_call_entries.new.entries.items in
+    let added = c.in_ok-add_call_entries.ensures room.0 room.1 in
+    call_laid fs roots node s.inputs s.at s.priority ps call bodies old new c.args.filling.now (record { makes = c.add_data.new.makes; entries = c.add_numbers.new.numbers }) c.len-from.result _ few added
+    (c.parts_are_laid.ensures fs s.inputs all s.at s.priority (laying old bodies) (laying new bodies) added.more added.is refl added.chunk)
+    c.in_ok-add_data.ensures (grind (arith, common_steps)) (grind (arith, common_steps)) c.in_ok-add_numbers.ensures

@@ -1,0 +1,62 @@
+//! Calls of composite functions that are statements.
+ghost use Rattle.std.specs.Prelude.{◌∷◌, ◌++◌, ◌≤◌, ◌^◌, [], ℕ, List, map, length, OnOk};
+ghost use Rattle.syntax_trees.specs.Core as core;
+ghost use Rattle.flow.specs.Shapes.{kinds_of_function};
+ghost use Rattle.flow.specs.View.{call_view, parts_view};
+ghost use Rattle.task_code.specs.Code as pure;
+ghost use Rattle.agreement.specs.Room.{ActionRoom, PartRoom, Each};
+ghost use Rattle.part_entries.specs.Chunk.{Added};
+ghost use Rattle.statement_entries.specs.Into.{LaysInto, laying};
+
+use crate::filling::{Filling, add_numbers};
+use flow::cell::{Call, Part};
+use flow::script::Function;
+use indexmap::IndexMap;
+use part_entries::cells::pass_parts;
+use part_entries::data::add_data;
+use part_entries::entries::Standing;
+use part_entries::laid::add_parts;
+use part_entries::laws::parts_are_laid;
+use part_entries::parts::add_call;
+use std::alloc::{AllocError, Allocator, Global};
+use task_code::entry::Entry;
+
+/// Adds the entries of a call and of the parts before it.
+fn add_call_entries<A: Allocator>(
+    alloc: Global,
+    entries: &mut Vec<Entry>,
+    functions: &Vec<Function<A>, A>,
+    standing: Standing,
+    parts: &Vec<Part<A>, A>,
+    call: &Call<A>,
+) -> Result<(), AllocError>
+    ensures { OnOk result (Each (PartRoom standing.inputs) (parts_view parts.now.items) → PartRoom standing.inputs (core.calls (call_view call.now))
+        → Added (map kinds_of_function functions.now.items) standing.inputs (parts_view parts.now.items ++ core.calls (call_view call.now) ∷ []) standing.at standing.priority (parts_view parts.now.items ++ core.calls (call_view call.now) ∷ []) entries.old.items entries.new.items) }
+{
+    let mut passed = IndexMap::new(alloc);
+    pass_parts(alloc, &mut passed, standing.inputs, parts)?;
+    add_parts(alloc, entries, functions, standing, &passed, parts)?;
+    add_call(alloc, entries, functions, standing, &passed, call)?;
+    Ok(())
+}
+
+/// Lays a call of a composite function that is a statement.
+pub fn call_alone<A: Allocator>(
+    alloc: Global,
+    entries: &mut Vec<Entry>,
+    filling: &mut Filling,
+    functions: &Vec<Function<A>, A>,
+    standing: Standing,
+    parts: &Vec<Part<A>, A>,
+    call: &Call<A>,
+) -> Result<(), AllocError>
+    ensures { OnOk result ((roots node : ℕ) (bodies : List pure.Body) → ActionRoom standing.inputs (core.call_alone standing.priority (parts_view parts.now.items) (call_view call.now)) → length entries.new.items ≤ 2 ^ 32
+        → LaysInto (map kinds_of_function functions.now.items) roots standing.inputs (core.stmt standing.at node (core.call_alone standing.priority (parts_view parts.now.items) (call_view call.now))) [] (laying entries.old.items bodies) (laying entries.new.items bodies) filling.old filling.new) }
+{
+    let from = entries.len();
+    add_call_entries(alloc, entries, functions, standing, parts, call)?;
+    add_data(&mut filling.makes, parts)?;
+    add_numbers(&mut filling.entries, from, entries.len())?;
+    parts_are_laid();
+    Ok(())
+}
