@@ -235,7 +235,7 @@ fn checks_scripts(rt: HostRuntime) -> Result<(), Fail> {
         done(alloc, &["check", "f"], HELLO)?.as_str(),
         "f: accepted\n|||0"
     );
-    let rows: [(&[u8], &str); 20] = [
+    let rows: [(&[u8], &str); 19] = [
         (b"#", "L1 BadByte 0 1"),
         (b"01", "L2 BadNumber 0 2"),
         (b"\"a", "L3 OpenString 0 2"),
