@@ -20,8 +20,11 @@ once_shorter : (ns : List Need) → length (each_once ns) ≤ length ns
 once_shorter [] = omega arith
 once_shorter (n ∷ ns) = let h = once_shorter ns in let w = without_shorter n (each_once ns) in omega arith
 
-pub ready : (ns : List Need) (ks : List Wanted) → Noted ns ks → length ns < 2 ^ 30 → IsReady ks
-ready ns ks noted few = record {
+pub ready_many : (ns : List Need) (ks : List Wanted) → Noted ns ks → length ns < 2 ^ 32 → IsReady ks
+ready_many ns ks noted few = record {
   plain = noted.plain;
   few = let a = once_shorter ns in let b = ap length noted.are in omega (arith, length-map ks need_of);
 }
+
+pub ready : (ns : List Need) (ks : List Wanted) → Noted ns ks → length ns < 2 ^ 30 → IsReady ks
+ready ns ks noted few = ready_many ns ks noted (omega (arith, few))

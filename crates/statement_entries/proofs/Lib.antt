@@ -2,3 +2,4 @@ pub mod Into
 pub mod Numbers
 pub mod Owns
 pub mod Starts
+pub mod Twos

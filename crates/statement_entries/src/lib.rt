@@ -3,4 +3,5 @@
 
 pub mod calls;
 pub mod filling;
+pub mod insert;
 pub mod own;
