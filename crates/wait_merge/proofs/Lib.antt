@@ -1,0 +1,4 @@
+pub mod Actions
+pub mod Blocks
+pub mod Forms
+pub mod Lists

@@ -1,0 +1,22 @@
+-- Lists in which one element after another is put in the place of one that is seen alike.
+use Rattle.std.proofs.Common.{◌≡◌, ℕ, ◌<◌, ◌+◌, List, [], ◌∷◌, ◌++◌, map, take, length, arith, slice_set, slice_index_or, Bool, true, ◌&&◌, IsTrue, refl, ap, sym, ◌∙◌, subst}
+use Rattle.std.proofs.Math.Seq.{map-set_same}
+use Rattle.std.proofs.lemmas.List.{take_more_set}
+use Rattle.wait_merge.specs.Merged.{Seen, all_merged}
+
+pub kept_at : {X Y : Type 0} (view : X → Y) (xs olds : List X) (i : ℕ) (x y : X)
+    → map view xs ≡ map view olds → x ≡ slice_index_or xs i x → view y ≡ view x → map view (slice_set xs i y) ≡ map view olds
+kept_at view xs olds i x y before is same = map-set_same view xs i y x (same ∙ ap view is) ∙ before
+
+pub both_true : (a b : Bool) → IsTrue a → IsTrue b → IsTrue (a && b)
+both_true a b p q = grind arith
+
+merged_behind : {X : Type 0} (seen : X → Seen) (xs : List X) (y : X) → IsTrue (all_merged (map seen xs)) → IsTrue ((seen y).merged) → IsTrue (all_merged (map seen (xs ++ y ∷ [])))
+merged_behind seen [] y before one = both_true ((seen y).merged) true one refl
+merged_behind seen (x ∷ xs) y before one =
+    both_true ((seen x).merged) (all_merged (map seen (xs ++ y ∷ []))) (grind arith) (merged_behind seen xs y (grind arith) one)
+
+pub merged_more : {X : Type 0} (seen : X → Seen) (xs : List X) (i : ℕ) (y : X)
+    → IsTrue (all_merged (map seen (take i xs))) → i < length xs → IsTrue ((seen y).merged) → IsTrue (all_merged (map seen (take (i + 1) (slice_set xs i y))))
+merged_more seen xs i y before below one =
+    subst (λ zs. IsTrue (all_merged (map seen zs))) (sym (take_more_set xs i y below)) (merged_behind seen (take i xs) y before one)

@@ -1,0 +1,13 @@
+use Rattle.std.proofs.Common.{◌≡◌, IsTrue, map, take, length}
+use Rattle.flow.specs.View.{function_view}
+use Rattle.flow.specs.Shapes.{block_declared, kinds_of_function}
+use Rattle.wait_merge.specs.Merged.{functions_merged}
+use Rattle.wait_merge.proofs.script.each.Given as goal
+
+abbrev pub invariant-loop-i : goal.invariant-loop-i
+invariant-loop-i g l =
+    (length l.functions.items ≡ length l.initial.functions.items)
+    × (map function_view l.functions.items ≡ map function_view l.initial.functions.items)
+    × (map (λ f. block_declared f.body) l.functions.items ≡ map (λ f. block_declared f.body) l.initial.functions.items)
+    × (map kinds_of_function l.functions.items ≡ map kinds_of_function l.initial.functions.items)
+    × IsTrue (functions_merged (take l.i l.functions.items))

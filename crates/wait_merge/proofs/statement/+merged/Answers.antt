@@ -1,0 +1,88 @@
+use Rattle.std.proofs.Common.{rules, IsTrue, map, ap, sym, ◌∙◌, arith, subst}
+use Rattle.std.proofs.lemmas.Grind.{common_steps}
+use Rattle.std.proofs.lemmas.List.{take_all}
+use Rattle.flow.specs.View.{block_view, statement_view}
+use Rattle.flow.specs.Shapes.{action_declared, block_declared, statement_declared}
+use Rattle.wait_merge.specs.Merged.{all_merged, statement_seen}
+use Rattle.wait_merge.proofs.Actions.{both_declared, view_changed, declared_changed, seen_changed, when_core, choose_core, range_core, each_core, when_declared, choose_declared, range_declared, each_declared, when_merged, choose_merged, range_merged, each_merged}
+use Rattle.wait_merge.proofs.Lists.{both_true, kept_at, merged_more}
+use Rattle.wait_merge.proofs.statement.+merged.Goals as goal
+
+pub action-returns-in_ok-block-in-When-clause-core : goal.action-returns-in_ok-block-in-When-clause-core
+action-returns-in_ok-block-in-When-clause-core g t c =
+    when_core c.args.action.now c.in-When.condition c.in-When.then _ c.in-When.is
+    (c.in_ok-block-in-When.ensures.core ∙ ap block_view c.deref_mut.ensures.value)
+
+pub action-returns-in_ok-block-in-When-clause-declared : goal.action-returns-in_ok-block-in-When-clause-declared
+action-returns-in_ok-block-in-When-clause-declared g t c =
+    when_declared c.in-When.condition _ ∙ c.in_ok-block-in-When.ensures.declared ∙ ap block_declared c.deref_mut.ensures.value ∙ sym (ap action_declared c.in-When.is ∙ when_declared c.in-When.condition c.in-When.then)
+
+pub action-returns-in_ok-block-in-When-clause-merged : goal.action-returns-in_ok-block-in-When-clause-merged
+action-returns-in_ok-block-in-When-clause-merged g t c =
+    when_merged c.in-When.condition _ ∙ c.in_ok-block-in-When.ensures.merged
+
+pub action-returns-in_ok-block-in-Range-clause-core : goal.action-returns-in_ok-block-in-Range-clause-core
+action-returns-in_ok-block-in-Range-clause-core g t c =
+    range_core c.args.action.now c.in-Range.range c.in-Range.value c.in-Range.turn c.in-Range.body _ c.in-Range.is
+    (c.in_ok-block-in-Range.ensures.core ∙ ap block_view c.deref_mut-in-Range.ensures.value)
+
+pub action-returns-in_ok-block-in-Range-clause-declared : goal.action-returns-in_ok-block-in-Range-clause-declared
+action-returns-in_ok-block-in-Range-clause-declared g t c =
+    range_declared c.in-Range.range c.in-Range.value c.in-Range.turn _ ∙ c.in_ok-block-in-Range.ensures.declared ∙ ap block_declared c.deref_mut-in-Range.ensures.value
+    ∙ sym (ap action_declared c.in-Range.is ∙ range_declared c.in-Range.range c.in-Range.value c.in-Range.turn c.in-Range.body)
+
+pub action-returns-in_ok-block-in-Range-clause-merged : goal.action-returns-in_ok-block-in-Range-clause-merged
+action-returns-in_ok-block-in-Range-clause-merged g t c =
+    range_merged c.in-Range.range c.in-Range.value c.in-Range.turn _ ∙ c.in_ok-block-in-Range.ensures.merged
+
+pub action-returns-in_ok-block-in-Each-clause-core : goal.action-returns-in_ok-block-in-Each-clause-core
+action-returns-in_ok-block-in-Each-clause-core g t c =
+    each_core c.args.action.now c.in-Each.array c.in-Each.value c.in-Each.key c.in-Each.body _ c.in-Each.is
+    (c.in_ok-block-in-Each.ensures.core ∙ ap block_view c.deref_mut-in-Each.ensures.value)
+
+pub action-returns-in_ok-block-in-Each-clause-declared : goal.action-returns-in_ok-block-in-Each-clause-declared
+action-returns-in_ok-block-in-Each-clause-declared g t c =
+    each_declared c.in-Each.array c.in-Each.value c.in-Each.key _ ∙ c.in_ok-block-in-Each.ensures.declared ∙ ap block_declared c.deref_mut-in-Each.ensures.value
+    ∙ sym (ap action_declared c.in-Each.is ∙ each_declared c.in-Each.array c.in-Each.value c.in-Each.key c.in-Each.body)
+
+pub action-returns-in_ok-block-in-Each-clause-merged : goal.action-returns-in_ok-block-in-Each-clause-merged
+action-returns-in_ok-block-in-Each-clause-merged g t c =
+    each_merged c.in-Each.array c.in-Each.value c.in-Each.key _ ∙ c.in_ok-block-in-Each.ensures.merged
+
+pub action-returns-in_ok-block-in-Choose-2-clause-core : goal.action-returns-in_ok-block-in-Choose-2-clause-core
+action-returns-in_ok-block-in-Choose-2-clause-core g t c =
+    choose_core c.args.action.now c.in-Choose.condition c.in-Choose.then _ c.in-Choose.other _ c.in-Choose.is
+    (c.in_ok-block-in-Choose.ensures.core ∙ ap block_view c.deref_mut-in-Choose.ensures.value) (c.in_ok-block-in-Choose-2.ensures.core ∙ ap block_view c.deref_mut-in-Choose-2.ensures.value)
+
+pub action-returns-in_ok-block-in-Choose-2-clause-declared : goal.action-returns-in_ok-block-in-Choose-2-clause-declared
+action-returns-in_ok-block-in-Choose-2-clause-declared g t c =
+    choose_declared c.in-Choose.condition _ _
+    ∙ both_declared _ _ _ _ (c.in_ok-block-in-Choose.ensures.declared ∙ ap block_declared c.deref_mut-in-Choose.ensures.value) (c.in_ok-block-in-Choose-2.ensures.declared ∙ ap block_declared c.deref_mut-in-Choose-2.ensures.value)
+    ∙ sym (ap action_declared c.in-Choose.is ∙ choose_declared c.in-Choose.condition c.in-Choose.then c.in-Choose.other)
+
+pub action-returns-in_ok-block-in-Choose-2-clause-merged : goal.action-returns-in_ok-block-in-Choose-2-clause-merged
+action-returns-in_ok-block-in-Choose-2-clause-merged g t c =
+    choose_merged c.in-Choose.condition _ _ ∙ both_true _ _ c.in_ok-block-in-Choose.ensures.merged c.in_ok-block-in-Choose-2.ensures.merged
+
+pub each-loop-i-preserved : goal.each-loop-i-preserved
+each-loop-i-preserved g t c =
+    let A = g.row.A.Denot in
+    let xs = c.loop-i.statements.items in
+    let i = c.loop-i.i in
+    let here = c.index_mut-statement.ensures.value in
+    let x = c.index_mut-statement.result.now in (
+      search rules,
+      kept_at (statement_view {A = A}) xs c.args.statements.now.items i x _ c.loop-i.invariant.1 here (view_changed A x c.action.new.action c.in_ok-action.ensures.core),
+      kept_at (statement_declared {A = A}) xs c.args.statements.now.items i x _ c.loop-i.invariant.2 here (declared_changed A x c.action.new.action c.in_ok-action.ensures.declared),
+      merged_more (statement_seen {A = A}) xs i _ c.loop-i.invariant.3 (grind (arith, common_steps)) (seen_changed A x c.action.new.action ∙ c.in_ok-action.ensures.merged),
+    )
+
+pub each-returns-clause-core : goal.each-returns-clause-core
+each-returns-clause-core g t c = c.loop-i.invariant.1
+
+pub each-returns-clause-declared : goal.each-returns-clause-declared
+each-returns-clause-declared g t c = c.loop-i.invariant.2
+
+pub each-returns-clause-merged : goal.each-returns-clause-merged
+each-returns-clause-merged g t c =
+    subst (λ zs. IsTrue (all_merged (map (statement_seen {A = g.row.A.Denot}) zs))) (take_all c.loop-i.i c.loop-i.statements.items (grind (arith, common_steps))) c.loop-i.invariant.3

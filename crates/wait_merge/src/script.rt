@@ -1,0 +1,44 @@
+//! Whole scripts.
+ghost use Rattle.std.specs.Prelude.{◌≡◌, IfOk, IsTrue, OnOk, map};
+ghost use Rattle.flow.specs.View.{core_of, function_view};
+ghost use Rattle.flow.specs.Shapes.{block_declared, declared_of, kinds_of, kinds_of_function};
+ghost use Rattle.wait_merge.specs.Merged.{functions_merged, IsMerged};
+
+use crate::statement::block;
+use flow::script::{Flow, Function};
+use std::alloc::{AllocError, Allocator};
+
+/// The flow with its waits merged, as often as there is one to merge: a `wait` whose content is exactly one `wait` becomes one,
+/// which keeps the headers of both, outermost first. The flow stays that of the same script.
+///
+/// # Errors
+///
+/// Want of memory for a list of headers that grows.
+pub fn merge<A: Allocator>(flow: Flow<A>) -> Result<Flow<A>, AllocError>
+    ensures core { IfOk result (λ merged. core_of merged ≡ core_of flow) }
+    ensures declared { IfOk result (λ merged. declared_of merged ≡ declared_of flow) }
+    ensures kinds { IfOk result (λ merged. kinds_of merged ≡ kinds_of flow) }
+    ensures merged { IfOk result (λ merged. IsMerged merged) }
+{
+    let Flow {
+        mut body,
+        mut functions,
+    } = flow;
+    block(&mut body)?;
+    each(&mut functions)?;
+    Ok(Flow { body, functions })
+}
+
+/// Merges the waits of functions.
+fn each<A: Allocator>(functions: &mut Vec<Function<A>, A>) -> Result<(), AllocError>
+    ensures core { OnOk result (map function_view functions.new.items ≡ map function_view functions.old.items) }
+    ensures declared { OnOk result (map (λ f. block_declared f.body) functions.new.items ≡ map (λ f. block_declared f.body) functions.old.items) }
+    ensures kinds { OnOk result (map kinds_of_function functions.new.items ≡ map kinds_of_function functions.old.items) }
+    ensures merged { OnOk result (IsTrue (functions_merged functions.new.items)) }
+{
+    for i in 0..functions.len() {
+        let function = &mut functions[i];
+        block(&mut function.body)?;
+    }
+    Ok(())
+}

@@ -1,0 +1,140 @@
+//! Statements and the blocks inside them.
+ghost use Rattle.std.specs.Prelude.{◌≡◌, ◌∷◌, [], IsTrue, IsFalse, OnOk, map, true, false};
+ghost use Rattle.flow.specs.View.{action_view, awaited_view, block_view, statement_view, statements_view, waits_around};
+ghost use Rattle.flow.specs.Shapes.{action_declared, block_declared, statement_declared};
+ghost use Rattle.syntax_trees.specs.Core as core;
+ghost use Rattle.wait_merge.specs.Merged.{action_seen, all_merged, block_seen, statement_seen};
+
+use flow::statement::{Action, Block, Header, Statement};
+use std::alloc::{AllocError, Allocator};
+
+// A WAIT INSIDE A WAIT
+
+/// Whether an action is a `wait`.
+fn is_wait<A: Allocator>(action: &Action<A>) -> bool
+    ensures { result ≡ (action_seen action.now).wait }
+{
+    matches!(action, Action::Wait { .. })
+}
+
+/// Whether a block is exactly one `wait`.
+fn is_one_wait<A: Allocator>(block: &Block<A>) -> bool
+    ensures { result ≡ (block_seen block.now).wait }
+{
+    match block.statements.as_slice() {
+        [only] => is_wait(&only.action),
+        _ => false,
+    }
+}
+
+/// Merges a `wait` that is the whole content of another one into that: its header stands behind those that are there, with its
+/// own merged ones behind it, and its content takes the place of the content.
+fn take_in<A: Allocator>(
+    inner: &mut Vec<Header<A>, A>,
+    content: &mut Box<Block<A>, A>,
+    only: Statement<A>,
+) -> Result<(), AllocError>
+    requires { IsTrue ((statement_seen only).wait) }
+    ensures core { OnOk result (waits_around inner.new.items (block_view content.new.value) ≡ waits_around inner.old.items (core.stmts (statement_view only) core.no_stmts)) }
+    ensures declared { OnOk result (block_declared content.new.value ≡ statement_declared only) }
+    ensures alone { OnOk result (IsTrue ((statement_seen only).merged) → (block_seen content.new.value).wait ≡ false) }
+    ensures merged { OnOk result (IsTrue ((statement_seen only).merged) → (block_seen content.new.value).merged ≡ true) }
+{
+    let Statement { at, node, action } = only;
+    match action {
+        Action::Wait {
+            names,
+            inner: mut behind,
+            content: innermost,
+        } => {
+            inner.push(Header { at, node, names })?;
+            inner.append(&mut behind)?;
+            *content = innermost;
+            Ok(())
+        }
+        _ => Ok(()),
+    }
+}
+
+/// Merges the content of a `wait` into it, where that is exactly one `wait`.
+fn absorb<A: Allocator>(
+    inner: &mut Vec<Header<A>, A>,
+    content: &mut Box<Block<A>, A>,
+) -> Result<(), AllocError>
+    ensures core { OnOk result (waits_around inner.new.items (block_view content.new.value) ≡ waits_around inner.old.items (block_view content.old.value)) }
+    ensures declared { OnOk result (block_declared content.new.value ≡ block_declared content.old.value) }
+    ensures alone { OnOk result (IsTrue ((block_seen content.old.value).merged) → (block_seen content.new.value).wait ≡ false) }
+    ensures merged { OnOk result (IsTrue ((block_seen content.old.value).merged) → (block_seen content.new.value).merged ≡ true) }
+{
+    if !is_one_wait(content) {
+        return Ok(());
+    }
+    match content.statements.pop() {
+        None => Ok(()),
+        Some(only) => {
+            take_in(inner, content, only)?;
+            Ok(())
+        }
+    }
+}
+
+// STATEMENTS AND BLOCKS
+
+/// Merges the waits inside an action.
+#[cycle(merged)]
+fn action<A: Allocator>(action: &mut Action<A>) -> Result<(), AllocError>
+    ensures core { OnOk result (action_view action.new ≡ action_view action.old) }
+    ensures declared { OnOk result (action_declared action.new ≡ action_declared action.old) }
+    ensures merged { OnOk result (IsTrue ((action_seen action.new).merged)) }
+{
+    match action {
+        Action::When { then, .. } => {
+            block(then)?;
+            Ok(())
+        }
+        Action::Choose { then, other, .. } => {
+            block(then)?;
+            block(other)?;
+            Ok(())
+        }
+        Action::Range { body, .. } => {
+            block(body)?;
+            Ok(())
+        }
+        Action::Each { body, .. } => {
+            block(body)?;
+            Ok(())
+        }
+        Action::Wait { inner, content, .. } => {
+            block(content)?;
+            absorb(inner, content)?;
+            Ok(())
+        }
+        _ => Ok(()),
+    }
+}
+
+/// Merges the waits of statements.
+#[cycle(merged)]
+fn each<A: Allocator>(statements: &mut Vec<Statement<A>, A>) -> Result<(), AllocError>
+    ensures core { OnOk result (statements_view statements.new.items ≡ statements_view statements.old.items) }
+    ensures declared { OnOk result (map statement_declared statements.new.items ≡ map statement_declared statements.old.items) }
+    ensures merged { OnOk result (IsTrue (all_merged (map statement_seen statements.new.items))) }
+{
+    for i in 0..statements.len() {
+        let statement = &mut statements[i];
+        action(&mut statement.action)?;
+    }
+    Ok(())
+}
+
+/// Merges the waits of a block.
+#[cycle(merged)]
+pub fn block<A: Allocator>(block: &mut Block<A>) -> Result<(), AllocError>
+    ensures core { OnOk result (block_view block.new ≡ block_view block.old) }
+    ensures declared { OnOk result (block_declared block.new ≡ block_declared block.old) }
+    ensures merged { OnOk result (IsTrue ((block_seen block.new).merged)) }
+{
+    each(&mut block.statements)?;
+    Ok(())
+}
