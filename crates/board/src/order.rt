@@ -199,7 +199,11 @@ fn add_offset(code: &Code, found: &mut Vec<usize>, task: Task) -> Result<(), All
 }
 
 /// The offsets of the items' statements, rising, each once.
-pub(crate) fn offsets(alloc: Global, code: &Code, items: &Vec<Item>) -> Result<Vec<usize>, AllocError>
+pub(crate) fn offsets(
+    alloc: Global,
+    code: &Code,
+    items: &Vec<Item>,
+) -> Result<Vec<usize>, AllocError>
     ensures { IfOk result (λ found. found.items ≡ with_offsets code.now items.now.items []) }
 {
     let mut found = Vec::new(alloc);
