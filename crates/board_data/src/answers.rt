@@ -1,0 +1,104 @@
+//! The answers to what items waited for.
+
+use crate::data::{element, listed, size};
+use crate::wanted::View;
+use board_code::program::Wanted;
+use board_work::answer::Answer;
+use data_store::store::Store;
+use std::alloc::{AllocError, Global};
+use values::map::{Element, Map};
+use values::value::Scalar;
+
+/// The answer that is this scalar, or that there is none.
+fn found_or_missing(found: Option<&Scalar>) -> Result<Answer, AllocError> {
+    match found {
+        Some(scalar) => Ok(Answer::Found(scalar.share()?)),
+        None => Ok(Answer::Missing),
+    }
+}
+
+/// The answer that is a whole array.
+fn content(store: &Store, d: usize) -> Result<Answer, AllocError> {
+    match listed(store, d)? {
+        Some(map) => Ok(Answer::Content(map)),
+        None => Ok(Answer::Missing),
+    }
+}
+
+/// The answer to what is waited for.
+fn answer(view: View<'_>, wanted: &Wanted) -> Result<Answer, AllocError> {
+    match wanted {
+        Wanted::Closed(spot) => match view.datum(*spot) {
+            Some(d) => content(view.store, d),
+            None => Ok(Answer::Missing),
+        },
+        _ => found_or_missing(view.found(wanted)),
+    }
+}
+
+/// The answers to all that is waited for, in order.
+pub fn answers(alloc: Global, view: View<'_>, needs: &[Wanted]) -> Result<Vec<Answer>, AllocError> {
+    let mut answers = Vec::new(alloc);
+    answers.reserve_exact(needs.len())?;
+    for wanted in needs {
+        answers.push(answer(view, wanted)?)?;
+    }
+    Ok(answers)
+}
+
+/// Whether both are the same scalar.
+fn is_same(one: &Scalar, other: &Scalar) -> bool {
+    match (one, other) {
+        (Scalar::Number(a), Scalar::Number(b)) => a == b,
+        (Scalar::Truth(a), Scalar::Truth(b)) => a == b,
+        (Scalar::Text(a), Scalar::Text(b)) => a.as_bytes() == b.as_bytes(),
+        _ => false,
+    }
+}
+
+/// Whether all these are elements of the array.
+fn has_all(store: &Store, d: usize, elements: &[Element]) -> bool {
+    for one in elements {
+        match element(store, d, &one.key) {
+            Some(scalar) => {
+                if !is_same(scalar, &one.value) {
+                    return false;
+                }
+            }
+            None => return false,
+        }
+    }
+    true
+}
+
+/// Whether these are the elements of the array.
+fn is_content(store: &Store, d: usize, map: &Map) -> bool {
+    map.len() == size(store, d) && has_all(store, d, map.elements())
+}
+
+/// Whether this is the answer to what is waited for.
+fn is_answer(view: View<'_>, wanted: &Wanted, answer: &Answer) -> bool {
+    match (wanted, answer) {
+        (Wanted::Closed(spot), Answer::Content(map)) => match view.datum(*spot) {
+            Some(d) => is_content(view.store, d, map),
+            None => false,
+        },
+        (Wanted::Closed(spot), _) => answer.is_missing() && view.datum(*spot).is_none(),
+        _ => match view.found(wanted) {
+            Some(scalar) => answer.is_found(scalar),
+            None => answer.is_missing(),
+        },
+    }
+}
+
+/// Whether these are the answers to all that is waited for, in order.
+pub fn are_answers(view: View<'_>, needs: &[Wanted], answers: &[Answer]) -> bool {
+    let mut rest = answers;
+    for wanted in needs {
+        match rest {
+            [answer, left @ ..] if is_answer(view, wanted, answer) => rest = left,
+            _ => return false,
+        }
+    }
+    rest.is_empty()
+}

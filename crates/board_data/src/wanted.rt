@@ -1,0 +1,212 @@
+//! What items wait for, and what they find there.
+ghost use Rattle.std.specs.Prelude.{◌≡◌, option_copied};
+ghost use Rattle.replayed.specs.Fields.{fixed_in, literal};
+ghost use Rattle.task_code.specs.Code.{arguments};
+ghost use Rattle.task_code.specs.Compute.{key_of};
+ghost use Rattle.task_code.specs.View.{act_view};
+ghost use Rattle.replayed.specs.Needs.{array_missed, element_missed, index_missed, scalar_missed};
+ghost use Rattle.board_frames.specs.View.{slot_view};
+ghost use Rattle.board_data.specs.View.{cells_view, wants_in};
+
+use crate::data::{element, is_closed, value};
+use board_code::key::copy_key;
+use board_code::program::{Program, Wanted};
+use board_code::spot::Spot;
+use board_frames::instance::{Instance, Slot, datum_at, slot_at};
+use board_frames::opening::{Around, Inputs};
+use data_store::store::Store;
+use rules::input::Input;
+use slab::Slab;
+use std::alloc::AllocError;
+use task_code::code::Code;
+use task_code::entry::{Act, Argument};
+use values::key::Key;
+use values::value::Scalar;
+
+/// Where an instance finds what its names stand for.
+#[derive(Clone, Copy)]
+pub struct View<'a> {
+    pub program: &'a Program,
+    pub instances: &'a Slab<Instance>,
+    pub store: &'a Store,
+    pub at: usize,
+}
+
+/// The literal that a call passes at this place.
+#[tactic(auto, using(crate::proofs::Literals::none_past, crate::proofs::Literals::fixed_at, crate::proofs::Literals::named_at, crate::proofs::Literals::none_at))]
+fn literal(code: &Code, call: u32, place: usize) -> Option<&Scalar>
+    ensures { option_copied result ≡ literal code.now call place }
+{
+    match code.entry(call) {
+        Some(entry) => literal_of(&entry.act, place),
+        None => None,
+    }
+}
+
+/// The literal at a place of what a call hands over.
+#[tactic(auto, using(crate::proofs::Literals::fixed_at, crate::proofs::Literals::named_at, crate::proofs::Literals::none_at))]
+fn literal_of(act: &Act, place: usize) -> Option<&Scalar>
+    ensures { option_copied result ≡ fixed_in (arguments (act_view act.now)) place }
+{
+    match act {
+        Act::Call {
+            body: _,
+            inputs,
+            outputs: _,
+        } => {
+            if place >= inputs.len() {
+                return None;
+            }
+            match &inputs[place] {
+                Argument::Fixed(value) => Some(value),
+                Argument::Named(_) => None,
+            }
+        }
+        _ => None,
+    }
+}
+
+/// The key that a scalar is.
+fn key_of(scalar: &Scalar) -> Key
+    ensures { result ≡ key_of scalar.now }
+{
+    match scalar {
+        Scalar::Number(n) => Key::Number(*n),
+        _ => Key::Number(0),
+    }
+}
+
+/// What a scalar waits for.
+#[tactic(auto, using(crate::proofs::Cells::value_there))]
+fn missing_scalar(store: &Store, slot: Slot) -> Option<Input>
+    ensures { wants_in result ≡ scalar_missed (cells_view store.now.cells) (slot_view slot) }
+{
+    match slot {
+        Slot::Datum(d) => match value(store, d) {
+            Some(_) => None,
+            None => Some(Input::Whole(d as u64)),
+        },
+        _ => None,
+    }
+}
+
+/// What a whole array waits for.
+#[tactic(auto, using(crate::proofs::Cells::shut_there))]
+fn missing_array(store: &Store, slot: Slot) -> Option<Input>
+    ensures { wants_in result ≡ array_missed (cells_view store.now.cells) (slot_view slot) }
+{
+    match slot {
+        Slot::Datum(d) => {
+            if is_closed(store, d) {
+                None
+            } else {
+                Some(Input::Whole(d as u64))
+            }
+        }
+        _ => None,
+    }
+}
+
+/// What an element waits for.
+#[tactic(auto, using(crate::proofs::Cells::shut_there, crate::proofs::Cells::element_there))]
+fn missing_element(store: &Store, slot: Slot, key: &Key) -> Option<Input>
+    ensures { wants_in result ≡ element_missed (cells_view store.now.cells) (slot_view slot) key.now }
+{
+    match slot {
+        Slot::Datum(d) => {
+            if element(store, d, key).is_some() || is_closed(store, d) {
+                None
+            } else {
+                Some(Input::Element(d as u64, copy_key(key)))
+            }
+        }
+        _ => None,
+    }
+}
+
+/// What an element waits for at the value that a slot has: first for that value.
+#[tactic(auto, using(crate::proofs::Cells::value_there))]
+fn missing_at(code: &Code, store: &Store, array: usize, index: Slot) -> Option<Input>
+    ensures { wants_in result ≡ index_missed code.now (cells_view store.now.cells) array (slot_view index) }
+{
+    match index {
+        Slot::Absent => None,
+        Slot::Datum(i) => match value(store, i) {
+            Some(scalar) => missing_element(store, Slot::Datum(array), &key_of(scalar)),
+            None => Some(Input::Whole(i as u64)),
+        },
+        Slot::Literal(call, place) => match literal(code, call, place) {
+            Some(scalar) => missing_element(store, Slot::Datum(array), &key_of(scalar)),
+            None => None,
+        },
+    }
+}
+
+impl<'a> View<'a> {
+    /// The instance that is looked at, with the code.
+    pub fn around(self) -> Around<'a> {
+        Around {
+            program: self.program,
+            instances: self.instances,
+            at: self.at,
+        }
+    }
+
+    /// What a name stands for.
+    fn slot(self, spot: Option<Spot>) -> Slot {
+        match spot {
+            Some(spot) => slot_at(self.instances, self.at, spot),
+            None => Slot::Absent,
+        }
+    }
+
+    /// The datum that a name stands for.
+    pub fn datum(self, spot: Option<Spot>) -> Option<usize> {
+        datum_at(self.instances, self.at, spot)
+    }
+
+    /// The scalar that a name stands for, once it is known.
+    pub fn scalar(self, spot: Option<Spot>) -> Option<&'a Scalar> {
+        match self.slot(spot) {
+            Slot::Datum(d) => value(self.store, d),
+            Slot::Literal(call, place) => literal(&self.program.code, call, place),
+            Slot::Absent => None,
+        }
+    }
+
+    /// The element that is waited for, where there is one.
+    pub fn found(self, wanted: &Wanted) -> Option<&'a Scalar> {
+        match wanted {
+            Wanted::Stored(spot) => self.scalar(*spot),
+            Wanted::Closed(_) => None,
+            Wanted::At(array, index) => {
+                let key = key_of(self.scalar(*index)?);
+                element(self.store, self.datum(*array)?, &key)
+            }
+            Wanted::AtKey(array, key) => element(self.store, self.datum(*array)?, key),
+        }
+    }
+
+    /// What is missing now: an element whose index is not known waits for the index first.
+    pub fn missing(self, wanted: &Wanted) -> Option<Input> {
+        match wanted {
+            Wanted::Stored(spot) => missing_scalar(self.store, self.slot(*spot)),
+            Wanted::Closed(spot) => missing_array(self.store, self.slot(*spot)),
+            Wanted::At(array, index) => {
+                let d = self.datum(*array)?;
+                missing_at(&self.program.code, self.store, d, self.slot(*index))
+            }
+            Wanted::AtKey(array, key) => missing_element(self.store, self.slot(*array), key),
+        }
+    }
+
+    /// Puts all that is missing behind the inputs.
+    pub fn list_missing(self, needs: &[Wanted], inputs: &mut Inputs) -> Result<(), AllocError> {
+        for wanted in needs {
+            if let Some(input) = self.missing(wanted) {
+                inputs.push(input)?;
+            }
+        }
+        Ok(())
+    }
+}

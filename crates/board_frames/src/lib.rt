@@ -1,0 +1,7 @@
+//! Items and instances of blocks: what their names stand for, their paths, and how they come and go.
+#![tactic(auto)]
+
+pub mod instance;
+pub mod item;
+pub mod opening;
+pub mod place;
