@@ -58,7 +58,7 @@ pub fn own_slot(body: &Body, owned: Owned) -> Option<usize>
     match owned {
         Owned::Local(variable) => place_among(body.makes.as_slice(), variable),
         Owned::Parameter(place, _) => match body.opener {
-            Opener::ByCalls => body.makes.len().checked_add(place),
+            Opener::ByCalls => Some(body.makes.len().saturating_add(place)),
             _ => None,
         },
     }

@@ -1,0 +1,144 @@
+-- What is worked out of an entry and of a body, as it follows from the code.
+use Rattle.std.specs.Prelude.{◌≡◌, ◌≤◌, ◌^◌, nat_eq, ℕ, suc, ◌+◌, Bool, true, false, List, [], ◌∷◌, map, length, Option, Some, None, if◌then◌else◌}
+use Rattle.std.specs.List.{filter, filter_map}
+use Rattle.data_store.specs.declared.datum.Shape.{Shape}
+use Rattle.data_store.specs.declared.datum.Shape.TheVariants.{Single, Keyed}
+use Rattle.replayed.specs.Ending.{held_times, slot_is}
+use Rattle.replayed.specs.Fields.{Absent, Slot}
+use Rattle.replayed.specs.Static.{outer_holds, own_count}
+use Rattle.task_code.specs.Code.{Argument, Code, Control, Entry, Fixed, Kind, Leaf, Local, Loop, Name, Named, Need, Variable, arguments, body, entry, kind_of, loop_of, scalar, stored_of}
+use Rattle.task_code.specs.Code as Pure
+use Rattle.work_queue.specs.declared.entry.Kind.{Kind as QueueKind}
+use Rattle.work_queue.specs.declared.entry.Kind.TheVariants as Runs
+use Rattle.board_code.specs.Spots.{home_of, homes_of, place_from, spot_in}
+use Rattle.board_code.specs.declared.program.BodyTable.{BodyTable}
+use Rattle.board_code.specs.declared.program.EntryTable.{EntryTable}
+use Rattle.board_code.specs.declared.program.Hold.{Hold}
+use Rattle.board_code.specs.declared.program.Own.{Own}
+use Rattle.board_code.specs.declared.program.Passed.{Passed}
+use Rattle.board_code.specs.declared.program.Passed.TheVariants as Passes
+use Rattle.board_code.specs.declared.program.Wanted.{Wanted}
+use Rattle.board_code.specs.declared.program.Wanted.TheVariants as Wants
+use Rattle.board_code.specs.declared.spot.Spot.{Spot}
+
+-- the body that has an entry; one that no body has is taken for one of the script's
+abbrev pub body_or_script : Option ℕ → ℕ
+body_or_script None = 0
+body_or_script (Some b) = b
+
+abbrev pub body_of : Code → ℕ → ℕ
+body_of C i = body_or_script (home_of (homes_of C) i)
+
+-- who runs an entry
+abbrev pub queue_kind : Kind → QueueKind
+queue_kind Control = Runs.Control
+queue_kind Leaf = Runs.Leaf
+
+-- what a variable is
+abbrev pub shape_of : Bool → Shape
+shape_of false = Single
+shape_of true = Keyed
+
+module _ (C : Code) where
+  -- what a need waits for, by where its names lead
+  abbrev pub wanted_in : ℕ → Need → Wanted
+  wanted_in b (Pure.Stored r) = Wants.Stored (spot_in C b r)
+  wanted_in b (Pure.Closed r) = Wants.Closed (spot_in C b r)
+  wanted_in b (Pure.At a r) = Wants.At (spot_in C b a) (spot_in C b r)
+  wanted_in b (Pure.AtKey a k) = Wants.AtKey (spot_in C b a) k
+
+  -- what a call hands over
+  abbrev pub passed_in : ℕ → Argument → Passed
+  passed_in b (Named r) = Passes.Named (spot_in C b r)
+  passed_in b (Fixed v) = Passes.Fixed
+
+  -- where names lead, but for those that lead nowhere
+  abbrev pub spots_in : ℕ → List Name → List Spot
+  spots_in b rs = filter_map (spot_in C b) rs
+
+  -- where the first of names leads
+  abbrev pub first_spot : ℕ → List Name → Option Spot
+  first_spot b [] = None
+  first_spot b (r ∷ rs) = spot_in C b r
+
+  -- the slots of a loop's variables in the instances of its body
+  abbrev pub value_slot : Option Loop → Option ℕ
+  value_slot None = None
+  value_slot (Some w) = place_from 0 (scalar w.value) (body C w.body).makes
+
+  abbrev pub node_slot : ℕ → Option ℕ → Option ℕ
+  node_slot b None = None
+  node_slot b (Some n) = place_from 0 (scalar n) (body C b).makes
+
+  abbrev pub turn_slot : Option Loop → Option ℕ
+  turn_slot None = None
+  turn_slot (Some w) = node_slot w.body w.turn
+
+  -- what is worked out of an entry that the body b has
+  pub record IsEntryTable (b i : ℕ) (t : EntryTable) : Type 0 where
+    pub kind : t.kind ≡ queue_kind (kind_of (entry C i).act)
+    pub priority : t.priority ≡ (entry C i).priority
+    pub needs : t.needs.items ≡ map (wanted_in b) (entry C i).needs
+    pub reads : t.reads.items ≡ spots_in b (entry C i).reads
+    pub writes : t.writes.items ≡ spots_in b (entry C i).writes
+    pub target : t.target ≡ first_spot b (stored_of (entry C i).node (entry C i).act)
+    pub arguments_are : t.arguments.items ≡ map (passed_in b) (arguments (entry C i).act)
+    pub value : t.value ≡ value_slot (loop_of (entry C i).act)
+    pub turn : t.turn ≡ turn_slot (loop_of (entry C i).act)
+
+  -- a variable has its datum at its first place among those that the body declares
+  abbrev pub is_place : ℕ → Option ℕ → Bool
+  is_place n None = false
+  is_place n (Some k) = nat_eq n k
+
+  abbrev pub first_count : (Entry → List Name) → ℕ → ℕ → Variable → ℕ
+  first_count rights b n v = if is_place n (place_from 0 v (body C b).makes) then own_count C rights b v else 0
+
+  -- a body's own data from a place on, each with what it is and the counts that it begins with
+  abbrev pub own_from : ℕ → ℕ → List Variable → List Own
+  own_from b n [] = []
+  own_from b n (v ∷ vs) = record { shape = shape_of v.array; reads = first_count (λ e. e.reads) b n v; writes = first_count (λ e. e.writes) b n v } ∷ own_from b (suc n) vs
+
+  -- how many of a body's entries are run so
+  abbrev pub runs_as : Kind → ℕ → Bool
+  runs_as k i = by k (kind_of (entry C i).act)
+    where
+      by : Kind → Kind → Bool
+      by Control Control = true
+      by Control Leaf = false
+      by Leaf Control = false
+      by Leaf Leaf = true
+
+  abbrev pub entries_of : Kind → ℕ → ℕ
+  entries_of k b = length (filter (runs_as k) (body C b).entries)
+
+  -- what holds come to for a datum, where spots stand for slots
+  abbrev pub at_spot : (Spot → Slot) → Option Spot → Slot
+  at_spot f None = Absent
+  at_spot f (Some s) = f s
+
+  abbrev pub hold_times : (Hold → ℕ) → (Spot → Slot) → ℕ → List Hold → ℕ
+  hold_times count f d [] = 0
+  hold_times count f d (h ∷ hs) = (if slot_is d (f h.spot) then count h else 0) + hold_times count f d hs
+
+  -- what is worked out of a body
+  pub record IsBodyTable (b : ℕ) (t : BodyTable) : Type 0 where
+    pub own : t.own.items ≡ own_from b 0 (body C b).makes
+    pub reads : (f : Spot → Slot) (d : ℕ) → hold_times (λ h. h.reads) f d t.outer.items ≡ held_times (λ r. at_spot f (spot_in C b r)) d (outer_holds C (λ e. e.reads) b)
+    pub writes : (f : Spot → Slot) (d : ℕ) → hold_times (λ h. h.writes) f d t.outer.items ≡ held_times (λ r. at_spot f (spot_in C b r)) d (outer_holds C (λ e. e.writes) b)
+    pub controls : t.controls ≡ entries_of Control b
+    pub leaves : t.leaves ≡ entries_of Leaf b
+
+-- each member fits its place, counted from a number on
+abbrev pub AllFrom : {X : Type 0} → (ℕ → X → Type 0) → ℕ → List X → Type 0
+AllFrom P n [] = Unit {0}
+AllFrom P n (x ∷ xs) = P n x × AllFrom P (suc n) xs
+
+-- the tables of a code
+pub record IsProgram (C : Code) (homes : List (Option ℕ)) (entries : List EntryTable) (bodies : List BodyTable) : Type 0 where
+  pub homes_are : homes ≡ homes_of C
+  pub few : length C.bodies ≤ 2 ^ 32
+  pub each_entry : AllFrom (λ i t. IsEntryTable C (body_of C i) i t) 0 entries
+  pub all_entries : length entries ≡ length C.entries
+  pub each_body : AllFrom (λ b t. IsBodyTable C b t) 0 bodies
+  pub all_bodies : length bodies ≡ length C.bodies
