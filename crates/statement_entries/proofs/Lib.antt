@@ -1,5 +1,7 @@
+pub mod Few
 pub mod Into
 pub mod Numbers
+pub mod Outers
 pub mod Owns
+mod Puts
 pub mod Starts
-pub mod Twos

@@ -39,7 +39,7 @@ pub small_fits : (i to : ℕ) → i < to → to ≤ 2 ^ 32 → i < 2 ^ 32
 small_fits i to h b = omega (arith, h, b)
 
 -- the numbers of the entries that are added
-long : (old new : List Made) (more : List Entry) → map entry_view new ≡ map entry_view old ++ more → length new ≡ length old + length more
+pub long : (old new : List Made) (more : List Entry) → map entry_view new ≡ map entry_view old ++ more → length new ≡ length old + length more
 long old new more is = sym (length-map new entry_view) ∙ ap length is ∙ length-append (map entry_view old) more ∙ ap (λ n. n + length more) (length-map old entry_view)
 
 pub added_numbers : (old new : List Made) (more : List Entry) (from to : ℕ) (xs ys : List ℕ) → map entry_view new ≡ map entry_view old ++ more → from ≡ length old → to ≡ length new → length new ≤ 2 ^ 32

@@ -1,9 +1,13 @@
 //! Calls of composite functions that are statements.
-ghost use Rattle.std.specs.Prelude.{◌∷◌, ◌++◌, ◌≤◌, ◌^◌, [], ℕ, List, map, length, OnOk};
+ghost use Rattle.std.specs.Prelude.{◌∷◌, ◌++◌, ◌+◌, ◌≤◌, ◌^◌, [], ℕ, suc, List, map, length, OnOk};
 ghost use Rattle.syntax_trees.specs.Core as core;
 ghost use Rattle.flow.specs.Shapes.{kinds_of_function};
 ghost use Rattle.flow.specs.View.{call_view, parts_view};
+ghost use Rattle.meaning_laws.specs.TypedValues.{own_parts};
+ghost use Rattle.syntax_trees.specs.Parts.{parts as all_parts};
 ghost use Rattle.task_code.specs.Code as pure;
+ghost use Rattle.agreement.specs.IsCodeOf.{Layout};
+ghost use Rattle.agreement.specs.Laying.{IndexesStand, Suits};
 ghost use Rattle.agreement.specs.Room.{ActionRoom, PartRoom, Each};
 ghost use Rattle.part_entries.specs.Chunk.{Added};
 ghost use Rattle.statement_entries.specs.Into.{LaysInto, laying};
@@ -50,8 +54,10 @@ pub fn call_alone<A: Allocator>(
     parts: &Vec<Part<A>, A>,
     call: &Call<A>,
 ) -> Result<(), AllocError>
-    ensures { OnOk result ((roots node : ℕ) (bodies : List pure.Body) → ActionRoom standing.inputs (core.call_alone standing.priority (parts_view parts.now.items) (call_view call.now)) → length entries.new.items ≤ 2 ^ 32
+    ensures laid { OnOk result ((roots node : ℕ) (bodies : List pure.Body) → ActionRoom standing.inputs (core.call_alone standing.priority (parts_view parts.now.items) (call_view call.now)) → length entries.new.items ≤ 2 ^ 32
         → LaysInto (map kinds_of_function functions.now.items) roots standing.inputs (core.stmt standing.at node (core.call_alone standing.priority (parts_view parts.now.items) (call_view call.now))) [] (laying entries.old.items bodies) (laying entries.new.items bodies) filling.old filling.new) }
+    ensures few { OnOk result ((l : Layout) → ActionRoom standing.inputs (core.call_alone standing.priority (parts_view parts.now.items) (call_view call.now)) → Suits l (core.call_alone standing.priority (parts_view parts.now.items) (call_view call.now)) → IndexesStand (own_parts (core.call_alone standing.priority (parts_view parts.now.items) (call_view call.now)))
+        → length entries.new.items ≤ length entries.old.items + suc (length (all_parts (core.call_alone standing.priority (parts_view parts.now.items) (call_view call.now))))) }
 {
     let from = entries.len();
     add_call_entries(alloc, entries, functions, standing, parts, call)?;

@@ -1,12 +1,14 @@
 //! Writes of elements.
-ghost use Rattle.std.specs.Prelude.{◌≡◌, ◌≤◌, ◌^◌, ◌∷◌, ◌++◌, [], ℕ, ℤ, List, map, length, None, pos, OnOk, IfOk};
+ghost use Rattle.std.specs.Prelude.{◌≡◌, ◌+◌, ◌≤◌, ◌^◌, ◌∷◌, ◌++◌, [], ℕ, suc, ℤ, List, map, length, None, pos, OnOk, IfOk};
 ghost use Rattle.syntax_trees.specs.Core as core;
-ghost use Rattle.syntax_trees.specs.Parts.{outer_parts};
+ghost use Rattle.syntax_trees.specs.Parts.{outer_parts, parts};
 ghost use Rattle.flow.specs.Shapes.{kinds_of_function};
 ghost use Rattle.flow.specs.View.{name_view, outer_view};
 ghost use Rattle.task_code.specs.Code as pure;
 ghost use Rattle.task_code.specs.View as code_view;
-ghost use Rattle.agreement.specs.Laying.{data_in};
+ghost use Rattle.meaning_laws.specs.TypedValues.{own_parts};
+ghost use Rattle.agreement.specs.IsCodeOf.{Layout};
+ghost use Rattle.agreement.specs.Laying.{IndexesStand, Suits, data_in};
 ghost use Rattle.agreement.specs.Room.{ActionRoom, OuterRoom};
 ghost use Rattle.part_entries.specs.Chunk.{Added};
 ghost use Rattle.statement_entries.specs.Into.{LaysInto, OwnAdded, laying};
@@ -101,9 +103,11 @@ pub fn insert<A: Allocator>(
     index: &Outer<A>,
     right: &Outer<A>,
 ) -> Result<(), AllocError>
-    ensures { OnOk result ((roots : ℕ) (bodies : List pure.Body) → ActionRoom statement.standing.inputs (core.insert (name_view array) (outer_view index.now) (outer_view right.now)) → length entries.new.items ≤ 2 ^ 32
+    ensures laid { OnOk result ((roots : ℕ) (bodies : List pure.Body) → ActionRoom statement.standing.inputs (core.insert (name_view array) (outer_view index.now) (outer_view right.now)) → length entries.new.items ≤ 2 ^ 32
         → statement.standing.priority ≡ pos 0
         → LaysInto (map kinds_of_function functions.now.items) roots statement.standing.inputs (core.stmt statement.standing.at statement.node (core.insert (name_view array) (outer_view index.now) (outer_view right.now))) [] (laying entries.old.items bodies) (laying entries.new.items bodies) filling.old filling.new) }
+    ensures few { OnOk result ((l : Layout) → ActionRoom statement.standing.inputs (core.insert (name_view array) (outer_view index.now) (outer_view right.now)) → Suits l (core.insert (name_view array) (outer_view index.now) (outer_view right.now)) → IndexesStand (own_parts (core.insert (name_view array) (outer_view index.now) (outer_view right.now))) → statement.standing.priority ≡ pos 0
+        → length entries.new.items ≤ length entries.old.items + suc (length (parts (core.insert (name_view array) (outer_view index.now) (outer_view right.now))))) }
 {
     let from = entries.len();
     add_two_entries(alloc, entries, functions, statement.standing, index, right)?;

@@ -1,12 +1,14 @@
 //! Statements that work an outermost cell out themselves: assignments, lines and assertions.
-ghost use Rattle.std.specs.Prelude.{◌≡◌, ◌≤◌, ◌^◌, [], ℕ, ℤ, List, map, length, OnOk, IfOk};
+ghost use Rattle.std.specs.Prelude.{◌≡◌, ◌+◌, ◌≤◌, ◌^◌, [], ℕ, suc, ℤ, List, map, length, OnOk, IfOk};
 ghost use Rattle.syntax_trees.specs.Core as core;
+ghost use Rattle.syntax_trees.specs.Parts.{parts};
 ghost use Rattle.flow.specs.Shapes.{kinds_of_function};
 ghost use Rattle.flow.specs.View.{cell_view, expr_view, form_view, name_view, outer_view};
-ghost use Rattle.meaning_laws.specs.TypedValues.{own_cell, own_outer};
+ghost use Rattle.meaning_laws.specs.TypedValues.{own_cell, own_outer, own_parts};
 ghost use Rattle.task_code.specs.Code as pure;
 ghost use Rattle.task_code.specs.View as code_view;
 ghost use Rattle.agreement.specs.IsCodeOf.{Layout, fill_act, own_form, own_priority, simple_act};
+ghost use Rattle.agreement.specs.Laying.{IndexesStand, Suits};
 ghost use Rattle.agreement.specs.Room.{ActionRoom, FormRoom, NameRoom, OuterRoom};
 ghost use Rattle.emit_parts.specs.Wanted.{need_of, IsReady};
 ghost use Rattle.part_entries.specs.Chunk.{Added, Inside, Passes};
@@ -189,9 +191,11 @@ pub fn own<A: Allocator>(
     done: Use,
     outer: &Outer<A>,
 ) -> Result<(), AllocError>
-    ensures { OnOk result ((roots : ℕ) (bodies : List pure.Body) → ActionRoom statement.standing.inputs (action_of done statement.standing.priority (outer_view outer.now)) → length entries.new.items ≤ 2 ^ 32
+    ensures laid { OnOk result ((roots : ℕ) (bodies : List pure.Body) → ActionRoom statement.standing.inputs (action_of done statement.standing.priority (outer_view outer.now)) → length entries.new.items ≤ 2 ^ 32
         → statement.standing.priority ≡ own_priority (action_of done statement.standing.priority (outer_view outer.now))
         → LaysInto (map kinds_of_function functions.now.items) roots statement.standing.inputs (core.stmt statement.standing.at statement.node (action_of done statement.standing.priority (outer_view outer.now))) [] (laying entries.old.items bodies) (laying entries.new.items bodies) filling.old filling.new) }
+    ensures few { OnOk result ((l : Layout) → ActionRoom statement.standing.inputs (action_of done statement.standing.priority (outer_view outer.now)) → Suits l (action_of done statement.standing.priority (outer_view outer.now)) → IndexesStand (own_parts (action_of done statement.standing.priority (outer_view outer.now))) → statement.standing.priority ≡ own_priority (action_of done statement.standing.priority (outer_view outer.now))
+        → length entries.new.items ≤ length entries.old.items + suc (length (parts (action_of done statement.standing.priority (outer_view outer.now))))) }
 {
     let from = entries.len();
     add_own_entries(alloc, entries, functions, statement.standing, outer)?;

@@ -1,13 +1,15 @@
-use Rattle.std.proofs.Common.{[], ◌++◌, ◌∙◌, ap, map, subst, sym, true}
+use Rattle.std.proofs.Common.{List, [], ◌∷◌, ◌++◌, ◌∙◌, ap, map, subst, sym, true}
+use Rattle.std.specs.List.{flat_map}
 use Rattle.flow.specs.View.{name_view, outer_view}
-use Rattle.task_code.specs.Code.{Put}
+use Rattle.task_code.specs.Code.{Need, Put}
 use Rattle.task_code.specs.View as code_view
 use Rattle.agreement.specs.CodeNames.{name_as, over, wanted}
 use Rattle.agreement.specs.IsCodeOf.{seen_as}
 use Rattle.emit_parts.specs.Wanted.{Noted, need_of}
 use Rattle.emit_parts.proofs.Keys.{noted_none}
 use Rattle.part_entries.proofs.Ready.{ready_many}
-use Rattle.statement_entries.proofs.Twos.{few_as, few_both, put_added}
+use Rattle.statement_entries.proofs.Outers.{few_as}
+use Rattle.statement_entries.proofs.Puts.{few_both, put_added, wanted_both}
 use Rattle.statement_entries.proofs.insert.add_put.Goals as goal
 
 pub returns : goal.returns
@@ -34,5 +36,7 @@ returns g c room priority =
     let place_is = c.in_ok-place.ensures ready room.1.0.1 in
     let value_is = c.in_ok-value.ensures ready room.1.1.1 in
     let does = ap (λ r. Put r place value) (c.named.ensures room.0) ∙ ap (λ e. Put array e value) place_is ∙ ap (λ e. Put array (over k (map need_of ks) first) e) value_is in
-    put_added s c.args.statement.node (name_view c.args.array) i o b d ks (Put target place value) c.args.entries.now.items c.put.new.entries.items priority c.is_outer_plain-plain_index.ensures c.is_outer_plain-plain_right.ensures noted does
-    (c.in_ok-put.ensures (xs ++ ys) noted)
+    let listed = subst (λ (ns : List Need). Noted ns ks) (wanted_both k first second) noted in
+    put_added s c.args.statement.node (name_view c.args.array) i o first second ks (Put target place value) c.args.entries.now.items c.put.new.entries.items priority
+    (ap (λ t. seen_as t i.cell.node i.cell.form) c.is_outer_plain-plain_index.ensures) (ap (λ t. seen_as t o.cell.node o.cell.form) c.is_outer_plain-plain_right.ensures) listed does
+    (c.in_ok-put.ensures (flat_map (wanted k) (first ∷ second ∷ [])) listed)

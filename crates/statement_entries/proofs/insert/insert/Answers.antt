@@ -8,10 +8,11 @@ use Rattle.agreement.specs.IsCodeOf.{own_priority}
 use Rattle.part_entries.specs.Chunk.{Added}
 use Rattle.statement_entries.specs.Into.{laying}
 use Rattle.statement_entries.proofs.Into.{own_laid}
+use Rattle.statement_entries.proofs.Few.{own_few}
 use Rattle.statement_entries.proofs.insert.insert.Goals as goal
 
-pub returns : goal.returns
-returns g c roots bodies room few priority =
+pub returns-clause-laid : goal.returns-clause-laid
+returns-clause-laid g c roots bodies room few priority =
     let A = g.row.A.Denot in
     let s = c.args.statement.standing in
     let k = s.inputs in
@@ -25,3 +26,12 @@ returns g c roots bodies room few priority =
     (λ more is chunk. c.parts_are_laid.ensures fs k (own_parts a) s.at (own_priority a) (laying old bodies) (laying mid bodies) more is refl chunk)
     (c.in_ok-add_put.ensures room priority) c.in_ok-add_two_data.ensures
     (grind (arith, common_steps)) (grind (arith, common_steps)) c.in_ok-add_numbers.ensures
+
+pub returns-clause-few : goal.returns-clause-few
+returns-clause-few g c l room suits stand priority =
+    let A = g.row.A.Denot in
+    let s = c.args.statement.standing in
+    let fs = map (kinds_of_function {A = A}) c.args.functions.now.items in
+    let a = core.insert (name_view c.args.array) (outer_view {A = A} c.args.index.now) (outer_view {A = A} c.args.right.now) in
+    own_few fs s.inputs s.at c.args.statement.node s.priority a c.args.entries.now.items c.add_two_entries.new.entries.items c.add_put.new.entries.items
+    (c.in_ok-add_two_entries.ensures room.1.0 room.1.1) (c.in_ok-add_put.ensures room priority) (omega arith) l suits stand

@@ -11,10 +11,11 @@ use Rattle.statement_entries.specs.Doing.{action_of}
 use Rattle.statement_entries.specs.Into.{laying}
 use Rattle.statement_entries.proofs.Into.{own_laid}
 use Rattle.statement_entries.proofs.Owns.{data_done, outer_room, parts_done, simple_done}
+use Rattle.statement_entries.proofs.Few.{done_fewer, own_few}
 use Rattle.statement_entries.proofs.own.own.Goals as goal
 
-pub returns : goal.returns
-returns g c roots bodies room few priority =
+pub returns-clause-laid : goal.returns-clause-laid
+returns-clause-laid g c roots bodies room few priority =
     let A = g.row.A.Denot in
     let s = c.args.statement.standing in
     let k = s.inputs in
@@ -33,3 +34,18 @@ returns g c roots bodies room few priority =
     (c.in_ok-add_own.ensures room priority)
     (c.in_ok-add_own_data.ensures ∙ ap (λ vs. map variable_view c.args.filling.now.makes.items ++ vs) (data_done d s.priority o))
     (grind (arith, common_steps)) (grind (arith, common_steps)) c.in_ok-add_numbers.ensures
+
+pub returns-clause-few : goal.returns-clause-few
+returns-clause-few g c l room suits stand priority =
+    let A = g.row.A.Denot in
+    let s = c.args.statement.standing in
+    let k = s.inputs in
+    let fs = map (kinds_of_function {A = A}) c.args.functions.now.items in
+    let d = c.args.done in
+    let o = outer_view {A = A} c.args.outer.now in
+    let a = action_of d s.priority o in
+    let old = c.args.entries.now.items in
+    let mid = c.add_own_entries.new.entries.items in
+    let added : Added fs k (own_parts a) s.at s.priority (own_parts a) old mid =
+    subst (λ (ps : List Part). Added fs k ps s.at s.priority ps old mid) (parts_done d s.priority o) (c.in_ok-add_own_entries.ensures (outer_room d k s.priority o room)) in
+    own_few fs k s.at c.args.statement.node s.priority a old mid c.add_own.new.entries.items added (c.in_ok-add_own.ensures room priority) (done_fewer d s.priority o) l suits stand
