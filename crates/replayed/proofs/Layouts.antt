@@ -6,10 +6,11 @@ use Rattle.dataflow.specs.Machine.{Event}
 use Rattle.dataflow.proofs.Lists.{in_left}
 use Rattle.replayed.specs.Ending.{FramesOpen, Instance, NamesLead, added_times, held_times, is_home, job_slot, slot_is, with_live}
 use Rattle.replayed.specs.Fields.{Absent, Does, Fields, Frame, Layout, LiteralOf, Over, Row, Slot, frame_up, row_of, slot_at, slot_for}
-use Rattle.replayed.specs.Layouts.{IsLayout, Passes, all_names, parameter}
+use Rattle.replayed.specs.Layouts.{IsLayout, Passes, Reached, all_names, parameter}
 use Rattle.replayed.specs.Stands.{Stands}
 use Rattle.replayed.specs.Static.{Hold, names_in, outer_holds}
 use Rattle.replayed.proofs.EndedNames.{flat_in, hold_named, in_flat}
+use Rattle.replayed.proofs.Reached.{frame_reached}
 use Rattle.replayed.proofs.Frames.{Within, alike_live, slot_of, slot_same, up_step}
 use Rattle.task_code.specs.Code.{Calling, Code, Entry, Fixed, InPlace, Name, Through, Way, argument, body, entry, nth, ways}
 use Rattle.replayed.proofs.Tests.{not_true, yes_no, in_kept}
@@ -27,6 +28,10 @@ read_name C b r h =
 module _ (C : Code) (I : IsCode C) (L : Layout) (laid : IsLayout C L) (es : List Event) (F : Fields) (x : Stands C L es F) (n k e c : ℕ) (row : Row) (there : row_of F.rows n ≡ Some row) (job : row.job ≡ Does k e c) (live : row.mark ≡ Over → ⊥) (made : List Instance) (hs : List (Option Frame)) (opens : FramesOpen C F.frames (Some k) made hs) (m : Instance) (im : In m made) where
   home : (f : Frame) × (slot_at F.frames k ≡ Some f) × In e (body C f.body).entries
   home = x.frames.there n k e c row there job live
+
+  -- its body is one that runs open
+  home_reached : Reached C home.0.body
+  home_reached = frame_reached C I L es F x n k e c row there job live home.0 home.2
 
   within : Within F.frames hs
   within = record {
@@ -61,10 +66,10 @@ module _ (C : Code) (I : IsCode C) (L : Layout) (laid : IsLayout C L) (es : List
     where
       seen : (w : Way) (r s : Name) → In (w, m.body) (ways (entry C e).act) → In r (all_names C m.body) → (Declared C m.body r → ⊥) → Seen C (entry C e).mark w r s → In s ((entry C e).reads ++ (entry C e).writes) → slot_for L hs m.key m.body r ≡ job_slot C L F.frames (Does k e c) s
       seen InPlace r s iw ir nd h is =
-          let p = laid.wait e m.body home.0.body r home.2 iw ir nd in
+          let p = laid.wait e m.body home.0.body r home_reached home.2 iw ir nd in
           further r s (p.0 ∙ ap (λ (y : Name). suc (L.levels home.0.body y)) h) (p.1 ∙ ap (L.slot home.0.body) h)
       seen Through r s iw ir nd h is =
-          let p = laid.step e m.body home.0.body s home.2 iw (subst (λ (y : Name). In y (all_names C m.body)) h ir) in
+          let p = laid.step e m.body home.0.body s home_reached home.2 iw (subst (λ (y : Name). In y (all_names C m.body)) h ir) in
           further r s (ap (L.levels m.body) h ∙ p.0) (ap (L.slot m.body) h ∙ p.1)
       seen Calling r s iw ir nd h is =
           let q = opens.new m im in
