@@ -1,0 +1,6 @@
+pub mod Turned
+pub mod Listed
+mod Valued
+pub mod Kept
+pub mod Rounds
+pub mod Views

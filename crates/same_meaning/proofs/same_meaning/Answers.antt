@@ -1,0 +1,33 @@
+use Rattle.syntax_trees.specs.Meaning.{Known, Meaning}
+use Rattle.same_meaning.proofs.Kept.{same_closed, same_has}
+use Rattle.same_meaning.proofs.Rounds.{same_known}
+use Rattle.same_meaning.proofs.Turned.{turned_core}
+use Rattle.same_meaning.proofs.Views.{same_blocked, same_clean, meant, meant_back, lines_too}
+use Rattle.same_meaning.proofs.same_meaning.Goals as goal
+
+pub returns-clause-rounds : goal.returns-clause-rounds
+returns-clause-rounds g = λ c d same n f k. same_known c d same n f k
+
+pub returns-clause-turned : goal.returns-clause-turned
+returns-clause-turned g = λ c d same. turned_core same
+
+pub returns-clause-blocked : goal.returns-clause-blocked
+returns-clause-blocked g = λ c d same n at path b. same_blocked c d same (Known c n) (Known d n) (same_known c d same n) (same_known d c (turned_core same) n) b
+
+pub returns-clause-lines : goal.returns-clause-lines
+returns-clause-lines g = λ c d same ls l. lines_too c d same l
+
+pub returns-clause-faults : goal.returns-clause-faults
+returns-clause-faults g = λ c d same f at path h. (h.0, meant c d same _ h.1)
+
+pub returns-clause-ever_blocked : goal.returns-clause-ever_blocked
+returns-clause-ever_blocked g = λ c d same at path b. same_blocked c d same (Meaning c) (Meaning d) (meant c d same) (meant_back c d same) b
+
+pub returns-clause-closed : goal.returns-clause-closed
+returns-clause-closed g = λ c d same a h. same_closed c d same (Meaning c) (Meaning d) (meant c d same) (meant_back c d same) h
+
+pub returns-clause-values : goal.returns-clause-values
+returns-clause-values g = λ c d same a v h. same_has c d same (Meaning c) (Meaning d) (meant c d same) (meant_back c d same) h
+
+pub returns-clause-clean : goal.returns-clause-clean
+returns-clause-clean g = λ c d same clean. same_clean c d same clean
