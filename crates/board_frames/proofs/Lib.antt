@@ -1,2 +1,4 @@
 pub mod Frames
+pub mod Paths
 pub mod Rows
+pub mod Slots
