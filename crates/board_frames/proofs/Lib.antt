@@ -1,4 +1,6 @@
 pub mod Frames
+pub mod Openings
 pub mod Paths
+pub mod Puts
 pub mod Rows
 pub mod Slots

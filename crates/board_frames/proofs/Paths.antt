@@ -1,9 +1,10 @@
 -- Paths, step by step outwards.
-use Rattle.std.proofs.Common.{◌≡◌, ◌∙◌, refl, sym, ap, ℕ, zero, suc, ◌+◌, ◌-◌, ◌<◌, ◌≤◌, List, [], ◌∷◌, ◌++◌, map, Option, Some, None, option_map, arith}
-use Rattle.std.proofs.lemmas.List.{append-nil, append_assoc, map-append}
+use Rattle.std.proofs.Common.{◌≡◌, ◌∙◌, refl, sym, ap, ℕ, suc, ◌+◌, ◌-◌, ◌<◌, List, [], ◌∷◌, ◌++◌, map, reverse, Option, Some, None, option_map, arith}
+use Rattle.std.proofs.lemmas.List.{append-nil, append_assoc, map-append, reverse-append}
 use Rattle.slab.specs.Slab.{Slab, get}
 use Rattle.replayed.specs.Fields.{Frame, level_of, path_from, path_of, slot_at, step_before}
 use Rattle.replayed.proofs.Frames.{path_none, path_step}
+use Rattle.task_code.specs.Places as Places
 use Rattle.values.specs.declared.key.Key.{Key}
 use Rattle.board_frames.specs.View.{frame_view, frames_view, step_view}
 use Rattle.board_frames.specs.declared.instance.Instance.{Instance}
@@ -47,3 +48,11 @@ module _ (s : Slab Instance) (at : ℕ) where
 
   pub steps_done : (steps : List Step) (n : ℕ) (next : Option ℕ) → Left steps n next → n ≡ 0 → map step_view steps ≡ path_of (frames_view s.slots) at
   steps_done steps n next x e = sym (append-nil (map step_view steps)) ∙ sym (ap (λ n. map step_view steps ++ path_from (frames_view s.slots) n next) e) ∙ x
+
+-- a list that is turned round
+turned : {X Y : Type 0} (f : X → Y) (xs : List X) → map f (reverse xs) ≡ reverse (map f xs)
+turned f [] = refl
+turned f (x ∷ xs) = ap (map f) (reverse-append (x ∷ []) xs) ∙ map-append f (reverse xs) (x ∷ []) ∙ ap (λ ys. ys ++ f x ∷ []) (turned f xs) ∙ sym (reverse-append (f x ∷ []) (map f xs))
+
+pub steps_turned : (steps turned_steps : List Step) (path : List Places.Step) → turned_steps ≡ reverse steps → map step_view steps ≡ path → map step_view turned_steps ≡ reverse path
+steps_turned steps other path e h = ap (map step_view) e ∙ turned step_view steps ∙ ap reverse h

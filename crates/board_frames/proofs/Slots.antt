@@ -1,5 +1,5 @@
 -- Instances by their keys, and what is left after one is written or goes.
-use Rattle.std.proofs.Common.{◌≡◌, ◌∙◌, refl, sym, ap, subst, rules, ℕ, zero, suc, ◌+◌, ◌-◌, ◌<◌, ◌≤◌, IfSome, IsSome, List, Option, Some, None, option_map, slice_set, arith}
+use Rattle.std.proofs.Common.{◌≡◌, ◌∙◌, refl, sym, ap, subst, rules, ℕ, suc, ◌-◌, ◌<◌, ◌≤◌, IfSome, IsSome, List, Option, Some, None, option_map, slice_set, arith}
 use Rattle.slab.specs.Slab.{Slab, Updates, get, with_value}
 use Rattle.slab.proofs.SlabLemmas.{Updates-with_value}
 use Rattle.replayed.specs.Ending.{SameSlots, Sets, TakenOff, goes, outside, stays, with_live}
@@ -74,6 +74,7 @@ stays_there fs ms gs k f h more set off = stays fs (Some k) k (f.live - 2) f ref
   where
     two : (n : ℕ) → 1 < n → n ≡ suc (suc (n - 2))
     two n h = omega (arith, h)
+
     one : (n : ℕ) → 1 < n → n - 1 ≡ suc (n - 2)
     one n h = omega (arith, h)
 
@@ -102,13 +103,16 @@ lies_outward fs hs k j f h p set x = (let n = same_level x.0 (same_some x.0 f (s
   where
     same_level : (q : Frame) → q ≡ f → NestedTo q.level fs → NestedTo f.level fs
     same_level q e y = subst (λ (q : Frame). NestedTo q.level fs) e y
+
     apart : (i : ℕ) (q : Frame) → slot_at fs i ≡ Some q → f.level ≡ suc q.level → i ≡ k → ⊥
     apart i q there l e = level_apart q (same_some q f (sym there ∙ ap (slot_at fs) e ∙ h)) l
       where
         level_apart : (q : Frame) → q ≡ f → f.level ≡ suc q.level → ⊥
         level_apart q e l = let m : q.level ≡ f.level = ap (λ (x : Frame). x.level) e in omega (arith, m, l)
+
     was : (i : ℕ) (q : Frame) → slot_at hs i ≡ Some q → slot_at fs i ≡ Some q
     was i q e = sym (set.others i (λ same. some_or_none (slot_at hs i) q e (ap (slot_at hs) same ∙ set.here))) ∙ e
+
     outer : (g : Frame) → f.level ≡ suc g.level → NestedTo f.level fs → NestedTo g.level hs
     outer g l n = record {
       inside = λ i m q there most around. (let r = n.inside i m q (was i q there) (omega (arith, most, l)) around in (r.0, set.others m (lower r.0 m r.1 q r.2 most) ∙ r.1, r.2));
@@ -144,3 +148,6 @@ module _ (fs cur new : List (Option Frame)) (at key : ℕ) (last next : Option �
 -- no more is left
 pub none_off : (fs cur : List (Option Frame)) (at : ℕ) (last : Option ℕ) → last ≡ None → ((gs : List (Option Frame)) → TakenOff gs cur last → TakenOff gs fs (Some at)) → TakenOff cur fs (Some at)
 none_off fs cur at last e so = so cur (outside cur last e (λ k. refl))
+
+pub view_fresh : (s : Slab Instance) (k : ℕ) → get s k ≡ None → slot_at (frames_view s.slots) k ≡ None
+view_fresh s k e = view_absent s k (sym e)

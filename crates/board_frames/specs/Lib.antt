@@ -1,3 +1,4 @@
 pub mod Names
 pub mod Nested
+pub mod Openings
 pub mod View

@@ -131,11 +131,7 @@ fn push_step(
 }
 
 /// The steps of an instance's path, the last one first.
-fn steps_back(
-    alloc: Global,
-    instances: &Slab<Instance>,
-    at: usize,
-) -> Result<Vec<Step>, AllocError>
+fn steps_back(alloc: Global, instances: &Slab<Instance>, at: usize) -> Result<Vec<Step>, AllocError>
     ensures { IfOk result (λ steps. map step_view steps.items ≡ path_of (frames_view instances.now.slots) at) }
 {
     let mut steps = Vec::new(alloc);

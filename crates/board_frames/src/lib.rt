@@ -5,3 +5,4 @@ pub mod instance;
 pub mod item;
 pub mod opening;
 pub mod place;
+pub mod placing;

@@ -1,4 +1,4 @@
-use Rattle.std.proofs.Common.{◌≡◌, ◌+◌, ◌<◌, ◌≤◌, min, refl, sym, ap, ◌∙◌, arith}
+use Rattle.std.proofs.Common.{◌≡◌, ◌+◌, ◌<◌, min, ap, ◌∙◌, arith}
 use Rattle.replayed.specs.Ending.{with_live}
 use Rattle.replayed.specs.Fields.{Frame}
 use Rattle.board_frames.specs.View.{frame_view}

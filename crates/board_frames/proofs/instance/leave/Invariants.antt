@@ -1,4 +1,4 @@
-use Rattle.std.proofs.Common.{◌≡◌, ◌+◌, ℕ, List, Option, Some, None, IsSome}
+use Rattle.std.proofs.Common.{◌+◌, List, Option, Some, None, IsSome}
 use Rattle.slab.specs.Slab.{slab_len}
 use Rattle.replayed.specs.Ending.{TakenOff}
 use Rattle.replayed.specs.Fields.{Frame, slot_at}

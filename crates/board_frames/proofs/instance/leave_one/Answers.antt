@@ -1,4 +1,4 @@
-use Rattle.std.proofs.Common.{◌≡◌, ◌<◌, ◌≤◌, ◌-◌, refl, rules, subst, sym, ap, ◌∙◌, arith, option_map, Some, None, IfSome, Option, ℕ}
+use Rattle.std.proofs.Common.{◌≡◌, ◌-◌, refl, rules, subst, sym, ap, arith, Some, None, IfSome, Option, ℕ}
 use Rattle.replayed.specs.Ending.{Sets, TakenOff, with_live}
 use Rattle.replayed.specs.Fields.{Frame, slot_at}
 use Rattle.board_frames.specs.View.{frame_view, frames_view}

@@ -1,6 +1,4 @@
-use Rattle.std.proofs.Common.{refl, sym, ap, ◌∙◌, ◌++◌, ◌∷◌, [], map, rules}
-use Rattle.replayed.specs.Fields.{path_from}
-use Rattle.board_frames.specs.View.{frames_view, step_view}
+use Rattle.std.proofs.Common.{ap, ◌∙◌}
 use Rattle.board_frames.proofs.Paths.{ends_there, with_step, without_step}
 use Rattle.board_frames.proofs.instance.push_step.Goals as goal
 use Rattle.board_frames.proofs.instance.push_step.Goals.{in-Some-way+in_ok-push, in_default-way}

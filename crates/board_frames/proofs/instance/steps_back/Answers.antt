@@ -1,4 +1,4 @@
-use Rattle.std.proofs.Common.{◌≡◌, ◌-◌, ◌<◌, arith}
+use Rattle.std.proofs.Common.{◌-◌, arith}
 use Rattle.board_frames.proofs.Paths.{steps_begin, steps_done, steps_end, steps_go}
 use Rattle.board_frames.proofs.instance.steps_back.Goals as goal
 
