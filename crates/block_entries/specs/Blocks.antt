@@ -12,10 +12,10 @@ use Rattle.flow.specs.declared.name.Name.{Name as Named}
 use Rattle.flow.specs.declared.statement.Header.{Header}
 use Rattle.flow.specs.declared.statement.Range.{Range as Ranged}
 use Rattle.agreement.specs.CodeNames.{each_once, header, over}
-use Rattle.agreement.specs.IsCodeOf.{IsEntry, Layout, seen_as}
-use Rattle.agreement.specs.Laying.{Headers, IsOwnEntry, Kinds, Laying, LaysParts, data_in, plain_after}
+use Rattle.agreement.specs.IsCodeOf.{IsEntry, Layout}
+use Rattle.agreement.specs.Laying.{Headers, IsOwnEntry, Kinds, Laying, LaysParts, data_in}
 use Rattle.agreement.specs.Room.{AwaitedRoom, Each}
-use Rattle.emit_parts.specs.Before.{last_of}
+use Rattle.statement_entries.specs.Seen.{seen_last}
 use Rattle.statement_entries.specs.declared.filling.Filling.{Filling}
 
 -- PARTS
@@ -31,10 +31,7 @@ pub record PartsInto (fs : List Kinds) (k : ℕ) (all : List Part) (at : ℕ) (p
 abbrev pub range_outers : {A : Type 0} → Ranged A → List Outer
 range_outers r = outer_view r.low ∷ outer_view r.high ∷ option_to_list (option_map outer_view r.step)
 
--- what others see of an outermost cell, and of a step, which is 1 where it is missing
-abbrev pub seen_last : Outer → Expr
-seen_last o = seen_as (plain_after (last_of None o.parts) o.cell.form) o.cell.node o.cell.form
-
+-- what others see of a step, which is 1 where it is missing
 abbrev pub seen_step : Option Outer → Expr
 seen_step None = literal (Number (pos 1))
 seen_step (Some o) = seen_last o

@@ -68,7 +68,8 @@ pub fn loop_filling<A: Allocator>(
     value: &Variable<A>,
     turn: &Option<Variable<A>>,
 ) -> Result<Filling, AllocError>
-    ensures { IfOk result (λ filling. (filling.entries.items ≡ []) × ((body : ℕ) → map code_view.variable_view filling.makes.items ≡ pure.loop_variables (record { body = body; value = value.now.node; turn = option_map (λ x. x.node) turn.now }))) }
+    ensures entries { IfOk result (λ filling. filling.entries.items ≡ []) }
+    ensures makes { IfOk result (λ filling. (body : ℕ) → map code_view.variable_view filling.makes.items ≡ pure.loop_variables (record { body = body; value = value.now.node; turn = option_map (λ x. x.node) turn.now })) }
 {
     let mut makes = Vec::new(alloc);
     add_scalar(&mut makes, value.node)?;

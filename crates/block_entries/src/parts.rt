@@ -1,5 +1,6 @@
 //! The parts of statements that have blocks: those of a condition and of a range.
 ghost use Rattle.std.specs.Prelude.{◌≡◌, ◌≤◌, ◌^◌, ◌+◌, ◌∷◌, ◌++◌, [], ℕ, suc, List, None, length, map, option_map, OnOk};
+ghost use Rattle.syntax_trees.specs.Core as core;
 ghost use Rattle.syntax_trees.specs.Parts.{outer_parts};
 ghost use Rattle.flow.specs.Shapes.{kinds_of_function};
 ghost use Rattle.flow.specs.View.{outer_view};
@@ -8,7 +9,7 @@ ghost use Rattle.task_code.specs.View as code_view;
 ghost use Rattle.agreement.specs.IsCodeOf.{Layout};
 ghost use Rattle.agreement.specs.Laying.{IndexesStand, PlainAs, data_in};
 ghost use Rattle.agreement.specs.Room.{OuterRoom, StepRoom};
-ghost use Rattle.part_entries.specs.Chunk.{Added, IsPassed};
+ghost use Rattle.part_entries.specs.Chunk.{Added, Inside, IsPassed, Passes};
 ghost use Rattle.statement_entries.specs.Into.{laying};
 ghost use Rattle.block_entries.specs.Blocks.{PartsInto, range_outers};
 
@@ -75,8 +76,8 @@ fn pass_range<A: Allocator>(
     inputs: usize,
     range: &Range<A>,
 ) -> Result<(), AllocError>
-    ensures { OnOk result (OuterRoom inputs (outer_view range.now.low) → OuterRoom inputs (outer_view range.now.high) → StepRoom inputs (option_map outer_view range.now.step)
-        → IsPassed inputs (outer_parts []) passed.old → IsPassed inputs (outer_parts (range_outers range.now)) passed.new) }
+    ensures { OnOk result ((all : List core.Part) → OuterRoom inputs (outer_view range.now.low) → OuterRoom inputs (outer_view range.now.high) → StepRoom inputs (option_map outer_view range.now.step)
+        → Inside all (outer_parts (range_outers range.now)) → Passes inputs all (outer_parts (range_outers range.now)) passed.old passed.new) }
 {
     pass_outer(alloc, passed, inputs, &range.low)?;
     pass_outer(alloc, passed, inputs, &range.high)?;
@@ -93,8 +94,9 @@ fn add_bounds<A: Allocator>(
     passed: &IndexMap<u32, Argument>,
     range: &Range<A>,
 ) -> Result<(), AllocError>
-    ensures { OnOk result (IsPassed standing.inputs (outer_parts (range_outers range.now)) passed.now → OuterRoom standing.inputs (outer_view range.now.low) → OuterRoom standing.inputs (outer_view range.now.high) → StepRoom standing.inputs (option_map outer_view range.now.step)
-        → Added (map kinds_of_function functions.now.items) standing.inputs (outer_parts (range_outers range.now)) standing.at standing.priority (outer_parts (range_outers range.now)) entries.old.items entries.new.items) }
+    ensures { OnOk result ((all : List core.Part) → IsPassed standing.inputs all passed.now → OuterRoom standing.inputs (outer_view range.now.low) → OuterRoom standing.inputs (outer_view range.now.high)
+        → StepRoom standing.inputs (option_map outer_view range.now.step) → Inside all (outer_parts (range_outers range.now))
+        → Added (map kinds_of_function functions.now.items) standing.inputs all standing.at standing.priority (outer_parts (range_outers range.now)) entries.old.items entries.new.items) }
 {
     add_outer(alloc, entries, functions, standing, passed, &range.low)?;
     add_outer(alloc, entries, functions, standing, passed, &range.high)?;

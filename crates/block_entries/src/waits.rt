@@ -25,7 +25,10 @@ use task_code::entry::{Act, Entry, Header as Waits, Name as Used};
 fn awaited(inputs: usize, name: Name) -> Used
     ensures { AwaitedRoom inputs (awaited_view name) → need_named (code_view.name_view result) ≡ awaited_need inputs (awaited_view name) }
 {
-    named(inputs, name, name.shape == Shape::Array)
+    match name.shape {
+        Shape::Array => named(inputs, name, true),
+        Shape::Scalar => named(inputs, name, false),
+    }
 }
 
 // NEEDS
