@@ -1,8 +1,8 @@
 -- Waits, merged one in another: their headers, and what they wait for.
-use Rattle.std.proofs.Common.{◌≡◌, ◌<◌, ◌≤◌, ◌+◌, ℕ, zero, suc, List, [], ◌∷◌, ◌++◌, map, length, refl, sym, ap, subst, ◌∙◌, get_or, take, append_assoc, arith}
+use Rattle.std.proofs.Common.{◌≡◌, ◌<◌, ◌+◌, ℕ, zero, suc, List, [], ◌∷◌, ◌++◌, map, length, refl, sym, ap, subst, ◌∙◌, get_or, take, append_assoc, arith}
 use Rattle.std.specs.Prelude.{pos, false, true}
 use Rattle.std.specs.List.{flat_map}
-use Rattle.std.proofs.lemmas.List.{append-nil, map-append, take_all, take_more}
+use Rattle.std.proofs.lemmas.List.{append-nil, map-append, take_more}
 use Rattle.std.proofs.lemmas.Grind.{flat_map-append}
 use Rattle.syntax_trees.specs.Core.{Block, wait, stmt}
 use Rattle.syntax_trees.specs.Core as core
@@ -15,7 +15,6 @@ use Rattle.flow.specs.declared.name.Owned.TheVariants as Owned
 use Rattle.flow.specs.declared.statement.Header.{Header}
 use Rattle.task_code.specs.Code as code
 use Rattle.task_code.specs.Code.{Need, Wait}
-use Rattle.task_code.specs.View.{entry_view}
 use Rattle.task_code.specs.declared.entry.Entry.{Entry as Made}
 use Rattle.agreement.specs.CodeNames.{awaited_need, each_once, name_as}
 use Rattle.agreement.specs.Laying.{Headers, one_header, more_headers}

@@ -1,4 +1,4 @@
-use Rattle.std.proofs.Common.{◌≡◌, ap, map, subst, sym, refl, ◌∙◌, Option}
+use Rattle.std.proofs.Common.{◌≡◌, ap, map, subst, sym, ◌∙◌, Option}
 use Rattle.std.proofs.lemmas.Result.{IfOk-weaker}
 use Rattle.std.specs.Prelude.{option_map}
 use Rattle.syntax_trees.specs.Core.{Outer}

@@ -3,7 +3,6 @@ use Rattle.std.proofs.lemmas.Grind.{common_steps}
 use Rattle.std.proofs.lemmas.List.{map-append, take_all}
 use Rattle.flow.specs.View.{awaited_view}
 use Rattle.flow.specs.declared.name.Name.{Name}
-use Rattle.task_code.specs.Code.{Header, Need}
 use Rattle.task_code.specs.View as code_view
 use Rattle.agreement.specs.Room.{AwaitedRoom}
 use Rattle.emit_parts.specs.Wanted.{need_named}

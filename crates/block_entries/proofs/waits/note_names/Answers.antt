@@ -1,4 +1,4 @@
-use Rattle.std.proofs.Common.{◌≡◌, ◌<◌, arith, length, get_or, map, subst, sym, take, ap, List}
+use Rattle.std.proofs.Common.{◌≡◌, ◌<◌, arith, length, get_or, subst, List}
 use Rattle.std.proofs.lemmas.Grind.{common_steps}
 use Rattle.std.proofs.lemmas.List.{take_all}
 use Rattle.flow.specs.View.{awaited_view}
