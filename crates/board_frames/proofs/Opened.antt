@@ -1,12 +1,12 @@
 -- Instances that were put in are those that an End makes.
-use Rattle.std.proofs.Common.{◌≡◌, ◌∙◌, ◌⊎◌, inl, inr, refl, sym, ap, subst, rules, ℕ, zero, suc, ◌+◌, ◌<◌, List, [], ◌∷◌, ◌++◌, map, flat_map, length, Option, Some, None, nat_eq, Bool, true, false, if◌then◌else◌, arith}
+use Rattle.std.proofs.Common.{◌≡◌, ◌∙◌, ◌⊎◌, inl, inr, refl, sym, ap, subst, ℕ, suc, ◌+◌, ◌<◌, List, [], ◌∷◌, ◌++◌, map, length, Option, Some, None, nat_eq, Bool, true, false, if◌then◌else◌, arith}
 use Rattle.std.specs.List.{filter}
 use Rattle.std.proofs.lemmas.List.{length-map}
 use Rattle.dataflow.specs.Machine.{Event}
 use Rattle.dataflow.specs.System.{Distinct, In}
 use Rattle.dataflow.proofs.Lists.{in_map, in_unmap}
-use Rattle.replayed.specs.Ending.{AreMade, FramesOpen, Instance, NewFrame, Sets, has_entries, is_home, level_inside, made_jobs, new_row, path_around, with_live}
-use Rattle.replayed.specs.Fields.{Does, Fields, Frame, Job, Layout, Row, Slot, level_of, path_of, slot_at, step_before}
+use Rattle.replayed.specs.Ending.{AreMade, FramesOpen, Instance, NewFrame, Sets, has_entries, is_home, level_inside, made_jobs, new_row, with_live}
+use Rattle.replayed.specs.Fields.{Does, Fields, Frame, Layout, Row, Slot, level_of, path_of, slot_at, step_before}
 use Rattle.replayed.specs.Stands.{Stands}
 use Rattle.replayed.specs.Static.{opened}
 use Rattle.replayed.proofs.Frames.{key_split}
@@ -17,7 +17,7 @@ use Rattle.task_code.specs.Effects.{Task}
 use Rattle.task_code.specs.Places.{Step}
 use Rattle.board_frames.specs.Made.{FitsAround, IsOpened, block_of, made_as, with_slots}
 use Rattle.board_frames.specs.Nested.{IsNested}
-use Rattle.board_frames.specs.Openings.{ArePlaced, IsInner, Put, PutIn, WithMore, put_jobs, steps_in, unfilled}
+use Rattle.board_frames.specs.Openings.{ArePlaced, IsInner, Put, WithMore, put_jobs, steps_in, unfilled}
 
 none_some : {X B : Type 0} (o : Option X) (x : X) → o ≡ Some x → o ≡ None → B
 none_some o x p q = absurd (cc (p, q))

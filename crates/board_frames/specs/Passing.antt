@@ -1,5 +1,5 @@
 -- What a call hands over to the instance that it opens.
-use Rattle.std.specs.Prelude.{◌≡◌, ℕ, ◌+◌, ◌<◌, ◌^◌, List, ◌++◌, length, map, Option, Some, None}
+use Rattle.std.specs.Prelude.{◌≡◌, ℕ, ◌<◌, ◌^◌, List, ◌++◌, length, map, Option, Some, None}
 use Rattle.dataflow.specs.System.{In}
 use Rattle.replayed.specs.Ending.{Instance}
 use Rattle.replayed.specs.Fields.{Frame, Slot, slot_at}

@@ -124,13 +124,14 @@ pub fn go_on(
     ensures rows { chunk + 1 < 2 ^ 64 → OnOk result (rows_view items.new.items ≡ rows_view items.old.items ++ new_row (Does instance entry (chunk + 1)) ∷ []) }
     ensures succeeds { vec_len items.old < vec_capacity items.old → IsOk result }
 {
-    items.push(Item {
+    let next = Item {
         job: Job::Does {
             instance,
             entry,
             chunk: chunk.saturating_add(1),
         },
         mark: Mark::Waiting,
-    })?;
+    };
+    items.push(next)?;
     Ok(())
 }

@@ -1,4 +1,5 @@
 use Rattle.board_frames.proofs.Opened.{inner_opened, outermost_opened, placed_made, placed_nested, placed_opens, placed_rows, stands_nested}
+use Rattle.board_frames.proofs.Passed.{passes_over}
 use Rattle.board_frames.proofs.laws.opened_instances.Goals as goal
 
 pub returns-clause-opens : goal.returns-clause-opens
@@ -23,4 +24,4 @@ pub returns-clause-outermost : goal.returns-clause-outermost
 returns-clause-outermost c = λ C fs xs some. outermost_opened C fs xs some
 
 pub returns-clause-passes : goal.returns-clause-passes
-returns-clause-passes c = ?
+returns-clause-passes c = λ C fs k e chunk m f some x. passes_over C fs k e chunk m f some x
