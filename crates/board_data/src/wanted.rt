@@ -5,8 +5,10 @@ ghost use Rattle.task_code.specs.Code.{arguments};
 ghost use Rattle.task_code.specs.Compute.{key_of};
 ghost use Rattle.task_code.specs.View.{act_view};
 ghost use Rattle.replayed.specs.Needs.{array_missed, element_missed, index_missed, scalar_missed};
-ghost use Rattle.board_frames.specs.View.{slot_view};
+ghost use Rattle.board_frames.specs.Names.{datum_of, led_slot};
+ghost use Rattle.board_frames.specs.View.{frames_view, slot_view};
 ghost use Rattle.board_data.specs.View.{cells_view, wants_in};
+ghost use Rattle.board_data.specs.Wanted.{element_in, scalar_in, wanted_found, wanted_missed};
 
 use crate::data::{element, is_closed, value};
 use board_code::key::copy_key;
@@ -153,7 +155,9 @@ impl<'a> View<'a> {
     }
 
     /// What a name stands for.
-    fn slot(self, spot: Option<Spot>) -> Slot {
+    fn slot(self, spot: Option<Spot>) -> Slot
+        ensures { slot_view result ≡ led_slot (frames_view self.entry.instances.now.slots) self.entry.at spot }
+    {
         match spot {
             Some(spot) => slot_at(self.instances, self.at, spot),
             None => Slot::Absent,
@@ -161,12 +165,17 @@ impl<'a> View<'a> {
     }
 
     /// The datum that a name stands for.
-    pub fn datum(self, spot: Option<Spot>) -> Option<usize> {
+    pub fn datum(self, spot: Option<Spot>) -> Option<usize>
+        ensures { result ≡ datum_of (led_slot (frames_view self.entry.instances.now.slots) self.entry.at spot) }
+    {
         datum_at(self.instances, self.at, spot)
     }
 
     /// The scalar that a name stands for, once it is known.
-    pub fn scalar(self, spot: Option<Spot>) -> Option<&'a Scalar> {
+    #[tactic(auto, using(crate::proofs::Cells::value_there))]
+    pub fn scalar(self, spot: Option<Spot>) -> Option<&'a Scalar>
+        ensures { option_copied result ≡ scalar_in self.entry.program.now.code (cells_view self.entry.store.now.cells) (led_slot (frames_view self.entry.instances.now.slots) self.entry.at spot) }
+    {
         match self.slot(spot) {
             Slot::Datum(d) => value(self.store, d),
             Slot::Literal(call, place) => literal(&self.program.code, call, place),
@@ -175,7 +184,10 @@ impl<'a> View<'a> {
     }
 
     /// The element that is waited for, where there is one.
-    pub fn found(self, wanted: &Wanted) -> Option<&'a Scalar> {
+    #[tactic(auto, using(crate::proofs::Cells::element_there))]
+    pub fn found(self, wanted: &Wanted) -> Option<&'a Scalar>
+        ensures { option_copied result ≡ wanted_found self.entry.program.now.code (cells_view self.entry.store.now.cells) (led_slot (frames_view self.entry.instances.now.slots) self.entry.at) wanted.now }
+    {
         match wanted {
             Wanted::Stored(spot) => self.scalar(*spot),
             Wanted::Closed(_) => None,
@@ -188,7 +200,9 @@ impl<'a> View<'a> {
     }
 
     /// What is missing now: an element whose index is not known waits for the index first.
-    pub fn missing(self, wanted: &Wanted) -> Option<Input> {
+    pub fn missing(self, wanted: &Wanted) -> Option<Input>
+        ensures { wants_in result ≡ wanted_missed self.entry.program.now.code (cells_view self.entry.store.now.cells) (led_slot (frames_view self.entry.instances.now.slots) self.entry.at) wanted.now }
+    {
         match wanted {
             Wanted::Stored(spot) => missing_scalar(self.store, self.slot(*spot)),
             Wanted::Closed(spot) => missing_array(self.store, self.slot(*spot)),

@@ -3,7 +3,7 @@ ghost use Rattle.std.specs.Prelude.{◌≡◌, ◌<◌, ◌≤◌, ◌+◌, ◌+
 ghost use Rattle.slab.specs.Slab.{get, slab_len};
 ghost use Rattle.replayed.specs.Ending.{Sets, TakenOff, with_live};
 ghost use Rattle.replayed.specs.Fields.{Frame, frame_up, level_of, path_from, path_of, slot_at as slot_of};
-ghost use Rattle.board_frames.specs.Names.{slot_in};
+ghost use Rattle.board_frames.specs.Names.{datum_of, led_slot, slot_in, spot_slot};
 ghost use Rattle.board_frames.specs.Nested.{IsNested};
 ghost use Rattle.board_frames.specs.View.{frame_view, frames_view, slot_view, step_view};
 
@@ -83,7 +83,7 @@ fn slot_in(instance: &Instance, slot: usize) -> Slot
 
 /// What a name that leads there stands for.
 pub fn slot_at(instances: &Slab<Instance>, at: usize, spot: Spot) -> Slot
-    ensures { slot_view result ≡ slot_in (frame_up (frames_view instances.now.slots) spot.levels at) spot.slot }
+    ensures { slot_view result ≡ spot_slot (frames_view instances.now.slots) at spot }
 {
     match further_out(instances, at, spot.levels) {
         Some(instance) => slot_in(instance, spot.slot),
@@ -92,10 +92,12 @@ pub fn slot_at(instances: &Slab<Instance>, at: usize, spot: Spot) -> Slot
 }
 
 /// The datum that a name stands for, if it stands for one.
-pub fn datum_at(instances: &Slab<Instance>, at: usize, spot: Option<Spot>) -> Option<usize> {
+pub fn datum_at(instances: &Slab<Instance>, at: usize, spot: Option<Spot>) -> Option<usize>
+    ensures { result ≡ datum_of (led_slot (frames_view instances.now.slots) at spot) }
+{
     match slot_at(instances, at, spot?) {
         Slot::Datum(d) => Some(d),
-        _ => None,
+        Slot::Absent | Slot::Literal(_, _) => None,
     }
 }
 
