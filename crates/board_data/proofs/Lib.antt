@@ -1,3 +1,5 @@
 pub mod Cells
+pub mod Changes
 pub mod Literals
+pub mod Made
 pub mod Missed

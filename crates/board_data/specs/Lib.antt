@@ -1,3 +1,4 @@
 pub mod Data
+pub mod Made
 pub mod View
 pub mod Wanted

@@ -3,4 +3,5 @@
 
 pub mod answers;
 pub mod data;
+pub mod making;
 pub mod wanted;
