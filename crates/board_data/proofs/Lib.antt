@@ -3,3 +3,4 @@ pub mod Changes
 pub mod Literals
 pub mod Made
 pub mod Missed
+pub mod Rows

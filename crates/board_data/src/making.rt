@@ -53,3 +53,31 @@ fn make_datum(store: &mut Store, own: Own, value: Option<Scalar>) -> Result<Slot
     }
     Ok(Slot::Datum(d))
 }
+
+/// Makes the data of an instance's own variables, and puts them into its first slots. Makes no refusal where there is room for
+/// as many data as variables.
+///
+/// # Errors
+///
+/// `AllocError` where memory that was asked for was refused; some of the data may be made then.
+#[tactic(auto, using(crate::proofs::Rows::made_nothing, crate::proofs::Rows::made_one))]
+pub fn make_data(
+    store: &mut Store,
+    own: &[Own],
+    slots: &mut [Slot],
+    starts: Starts,
+) -> Result<(), AllocError>
+    ensures made { length own.now ≤ length slots.old → OnOk result (DataMade own.now (start_at starts) (length own.now) store.old slots.new store.new) }
+    ensures others { (i : ℕ) → length own.now ≤ i → slot_in slots.new i ≡ slot_in slots.old i }
+    ensures succeeds { length own.now ≤ store.old.room → IsOk result }
+{
+    let mut starts = starts;
+    for at in 0..own.len() {
+        let first = starts.take(at);
+        let slot = make_datum(store, own[at], first)?;
+        if at < slots.len() {
+            slots[at] = slot;
+        }
+    }
+    Ok(())
+}
