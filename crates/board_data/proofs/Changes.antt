@@ -15,3 +15,9 @@ set_here s d x y e = get_or-set_same s.cells d y None (within s.cells d x e)
 
 pub set_elsewhere : (s : Store) (d e : ℕ) (y : Option Datum) → e ≢ d → slice_index_or (slice_set s.cells d y) e None ≡ at s e
 set_elsewhere s d e y n = get_or-set_other s.cells d e y None n
+
+pub set_nowhere : {X : Type 0} (cs : List (Option X)) (d : ℕ) → slice_index_or cs d None ≡ None → slice_index_or (slice_set cs d None) d None ≡ None
+set_nowhere [] zero e = refl
+set_nowhere [] (suc d) e = refl
+set_nowhere (c ∷ cs) zero e = refl
+set_nowhere (c ∷ cs) (suc d) e = set_nowhere cs d e

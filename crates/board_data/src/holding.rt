@@ -79,3 +79,12 @@ pub fn hold_outer(
         hold_spot(store, instances, at, hold, times);
     }
 }
+
+/// Takes holds for reading back.
+fn release_all(store: &mut Store, instances: &Slab<Instance>, at: usize, reads: &[Spot])
+    ensures { GivesUp (λ d. led_times (spot_slot (frames_view instances.now.slots) at) d reads.now) (λ d. 0) store.old store.new }
+{
+    for spot in reads {
+        release_spot(store, instances, at, *spot);
+    }
+}
