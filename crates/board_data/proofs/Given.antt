@@ -17,7 +17,7 @@ use Rattle.board_data.proofs.Steps.{one_by_one}
 differ : (d k : ℕ) → nat_eq d k ≡ false → d ≢ k
 differ d k f e = let q : true ≡ false = sym (eq-eqb d k e) ∙ f in absurd cc
 
-kept_gone : (x : Datum) → is_spent x ≡ true → kept x ≡ None
+pub kept_gone : (x : Datum) → is_spent x ≡ true → kept x ≡ None
 kept_gone x h = ap (λ b. if b then None else Some x) h
 
 pub kept_there : (x : Datum) → is_spent x ≡ false → kept x ≡ Some x
@@ -61,17 +61,25 @@ module _ (count : Datum → ℕ) (take : Datum → Datum) where
       some : (n : ℕ) → 0 < n → (n == 0) ≡ false
       some n h = elim (cases_Bool (n == 0)) [ inl t ↦ absurd (omega (arith, h, eqb-true n 0 t)) | inr g ↦ g ]
 
-  slot_elsewhere : (g : Slot) (s : Store) (d : ℕ) → slot_is d g ≡ false → at (call_at (datum_of g) s) d ≡ at s d
+  call_stays : (s : Store) (d : ℕ) (x : Datum) → at s d ≡ Some x → count x ≡ 0 → at (call d s) d ≡ at s d
+  call_stays s d x e h = ap (λ b. at (if b then s else given_up d take s) d) (ap (λ c. count (or_none c) == 0) e ∙ ap (λ n. n == 0) h)
+
+  pub slot_stays : (g : Slot) (s : Store) (d : ℕ) (x : Datum) → slot_is d g ≡ true → at s d ≡ Some x → count x ≡ 0 → at (call_at (datum_of g) s) d ≡ at s d
+  slot_stays Absent s d x t e h = refl
+  slot_stays (LiteralOf i k) s d x t e h = refl
+  slot_stays (DatumOf k) s d x t e h = ap (λ j. at (call j s) d) (sym (eqb-true d k t)) ∙ call_stays s d x e h
+
+  pub slot_elsewhere : (g : Slot) (s : Store) (d : ℕ) → slot_is d g ≡ false → at (call_at (datum_of g) s) d ≡ at s d
   slot_elsewhere Absent s d h = refl
   slot_elsewhere (LiteralOf i k) s d h = refl
   slot_elsewhere (DatumOf k) s d h = call_elsewhere s d k (differ d k h)
 
-  slot_here : (g : Slot) (s : Store) (d : ℕ) (x : Datum) → slot_is d g ≡ true → at s d ≡ Some x → 0 < count x → at (call_at (datum_of g) s) d ≡ kept (take x)
+  pub slot_here : (g : Slot) (s : Store) (d : ℕ) (x : Datum) → slot_is d g ≡ true → at s d ≡ Some x → 0 < count x → at (call_at (datum_of g) s) d ≡ kept (take x)
   slot_here Absent s d x t e h = absurd cc
   slot_here (LiteralOf i k) s d x t e h = absurd cc
   slot_here (DatumOf k) s d x t e h = ap (λ j. at (call j s) d) (sym (eqb-true d k t)) ∙ call_here s d x e h
 
-  slot_nowhere : (g : Slot) (s : Store) (d : ℕ) → at s d ≡ None → at (call_at (datum_of g) s) d ≡ None
+  pub slot_nowhere : (g : Slot) (s : Store) (d : ℕ) → at s d ≡ None → at (call_at (datum_of g) s) d ≡ None
   slot_nowhere Absent s d e = e
   slot_nowhere (LiteralOf i k) s d e = e
   slot_nowhere (DatumOf k) s d e = call_nowhere s d k e

@@ -1,5 +1,6 @@
 pub mod Cells
 pub mod Changes
+pub mod Closed
 pub mod Given
 pub mod Held
 pub mod Literals

@@ -1,15 +1,15 @@
 //! Holds that new instances add to data outside of them, and holds that an item gives up.
 
-ghost use Rattle.std.specs.Prelude.{◌≡◌, ◌*◌, ◌+◌, ◌++◌, ◌≤◌, ◌<◌, ℕ, length, option_map, vec_capacity, vec_len};
+ghost use Rattle.std.specs.Prelude.{◌≡◌, ◌*◌, ◌+◌, ◌++◌, ◌≤◌, ◌<◌, ℕ, List, length, option_map, vec_capacity, vec_len};
 ghost use Rattle.board_frames.specs.Names.{datum_of, spot_slot};
 ghost use Rattle.board_frames.specs.View.{frames_view};
 ghost use Rattle.data_store.specs.Data.{with_holds};
 ghost use Rattle.data_store.specs.Stores.{at as cell};
 ghost use Rattle.board_data.specs.Data.{held};
-ghost use Rattle.board_data.specs.Holds.{Fit, GivesUp, closed_at, closing, held_at, hold_times, led_times, released_at};
+ghost use Rattle.board_data.specs.Holds.{Closes, Fit, GivesUp, closed_at, closing, held_at, hold_times, led_times, released_at};
 
 use crate::data;
-use board_code::program::Hold;
+use board_code::program::{EntryTable, Hold};
 use board_code::spot::Spot;
 use board_frames::instance::{Instance, datum_at};
 use data_store::store::Store;
@@ -87,4 +87,37 @@ fn release_all(store: &mut Store, instances: &Slab<Instance>, at: usize, reads: 
     for spot in reads {
         release_spot(store, instances, at, *spot);
     }
+}
+
+/// Takes holds for writing back, and notes the arrays that are closed so, for which there is room.
+fn close_all(
+    store: &mut Store,
+    closed: &mut Vec<usize>,
+    instances: &Slab<Instance>,
+    at: usize,
+    writes: &[Spot],
+)
+    ensures store { GivesUp (λ d. 0) (λ d. led_times (spot_slot (frames_view instances.now.slots) at) d writes.now) store.old store.new }
+    ensures closed { vec_len closed.old + length writes.now ≤ vec_capacity closed.old → (added : List ℕ) × (closed.new.items ≡ closed.old.items ++ added) × Closes (λ d. led_times (spot_slot (frames_view instances.now.slots) at) d writes.now) store.old added }
+{
+    for spot in writes {
+        close_spot(store, closed, instances, at, *spot);
+    }
+}
+
+/// The holds of an entry are given up, seen from its instance. A datum without holds goes. Notes the arrays that it was the last
+/// to write, for which there is room.
+#[tactic(auto, using(crate::proofs::Given::gives_both))]
+pub fn give_up(
+    store: &mut Store,
+    closed: &mut Vec<usize>,
+    instances: &Slab<Instance>,
+    at: usize,
+    table: &EntryTable,
+)
+    ensures store { GivesUp (λ d. led_times (spot_slot (frames_view instances.now.slots) at) d table.now.reads.items) (λ d. led_times (spot_slot (frames_view instances.now.slots) at) d table.now.writes.items) store.old store.new }
+    ensures closed { vec_len closed.old + vec_len table.now.writes ≤ vec_capacity closed.old → (added : List ℕ) × (closed.new.items ≡ closed.old.items ++ added) × Closes (λ d. led_times (spot_slot (frames_view instances.now.slots) at) d table.now.writes.items) store.old added }
+{
+    close_all(store, closed, instances, at, table.writes.as_slice());
+    release_all(store, instances, at, table.reads.as_slice());
 }
