@@ -37,10 +37,10 @@ module _ (f : Spot → Slot) where
   closed_one Absent s d i = absurd i
   closed_one (LiteralOf k n) s d i = absurd i
   closed_one (DatumOf k) s d i = elim (cases_Bool (closes (at s k))) [
-      | inl t ↦ (let j : In d (k ∷ []) = subst (λ b. In d (if b then k ∷ [] else [])) t i in
-          elim j [ inl e ↦ (eq-eqb d k e, ap (λ m. closes (at s m)) e ∙ t) | inr n ↦ absurd n ])
-      | inr n ↦ absurd (subst (λ b. In d (if b then k ∷ [] else [])) n i)
-    ]
+    | inl t ↦ (let j : In d (k ∷ []) = subst (λ b. In d (if b then k ∷ [] else [])) t i in
+        elim j [ inl e ↦ (eq-eqb d k e, ap (λ m. closes (at s m)) e ∙ t) | inr n ↦ absurd n ])
+    | inr n ↦ absurd (subst (λ b. In d (if b then k ∷ [] else [])) n i)
+  ]
 
   one_closed : (g : Slot) (s : Store) (d : ℕ) → slot_is d g ≡ true → closes (at s d) ≡ true → In d (closing (datum_of g) s)
   one_closed Absent s d t c = absurd cc
@@ -68,65 +68,70 @@ module _ (f : Spot → Slot) where
   only_closed : (ps : List Spot) (s : Store) (d : ℕ) → In d (all_closing ps s) → (x : Datum) × (at s d ≡ Some x) × (is_keyed (Some x) ≡ true) × (x.writes ≤ led_times f d ps)
   only_closed [] s d i = absurd i
   only_closed (p ∷ ps) s d i = elim (in_split d (closing (datum_of (f p)) s) (all_closing ps (step p s)) i) [
-      | inl now ↦ (let a = closed_one (f p) s d now in
-          let b = closes_is (at s d) a.1 in
-          (b.0, b.1, b.2, one_led b.0.writes (led_times f d ps) (led_times f d (p ∷ ps)) b.3 (led_once (λ (z : Datum). z.writes) without_write f p ps d a.0)))
-      | inr later ↦ (let y = only_closed ps (step p s) d later in
-          let x = before p s d y.0 y.1 in
-          elim (cases_Bool (slot_is d (f p))) [
-            | inr no_slot ↦ (let same : Some x.0 ≡ Some y.0 = sym x.1 ∙ sym (slot_elsewhere (λ (z : Datum). z.writes) without_write (f p) s d no_slot) ∙ y.1 in
+    | inl now ↦ (let a = closed_one (f p) s d now in
+        let b = closes_is (at s d) a.1 in
+        (b.0, b.1, b.2, one_led b.0.writes (led_times f d ps) (led_times f d (p ∷ ps)) b.3 (led_once (λ (z : Datum). z.writes) without_write f p ps d a.0)))
+    | inr later ↦ (let y = only_closed ps (step p s) d later in
+        let x = before p s d y.0 y.1 in
+        elim (cases_Bool (slot_is d (f p))) [
+          | inr no_slot ↦ (let same : Some x.0 ≡ Some y.0 = sym x.1 ∙ sym (slot_elsewhere (λ (z : Datum). z.writes) without_write (f p) s d no_slot) ∙ y.1 in
+              let e : x.0 ≡ y.0 = cc in
+              (x.0, x.1, ap (λ z. is_keyed (Some z)) e ∙ y.2, subst (λ k. x.0.writes ≤ k) (sym (led_not (λ (z : Datum). z.writes) without_write f p ps d no_slot)) (subst (λ (z : Datum). z.writes ≤ led_times f d ps) (sym e) y.3)))
+          | inl yes_slot ↦ elim (cases_eq x.0.writes 0) [
+            | inl none ↦ (let same : Some x.0 ≡ Some y.0 = sym x.1 ∙ sym (slot_stays (λ (z : Datum). z.writes) without_write (f p) s d x.0 yes_slot x.1 none) ∙ y.1 in
                 let e : x.0 ≡ y.0 = cc in
-                (x.0, x.1, ap (λ z. is_keyed (Some z)) e ∙ y.2, subst (λ k. x.0.writes ≤ k) (sym (led_not (λ (z : Datum). z.writes) without_write f p ps d no_slot)) (subst (λ (z : Datum). z.writes ≤ led_times f d ps) (sym e) y.3)))
-            | inl yes_slot ↦ elim (cases_eq x.0.writes 0) [
-              | inl none ↦ (let same : Some x.0 ≡ Some y.0 = sym x.1 ∙ sym (slot_stays (λ (z : Datum). z.writes) without_write (f p) s d x.0 yes_slot x.1 none) ∙ y.1 in
-                  let e : x.0 ≡ y.0 = cc in
-                  (x.0, x.1, ap (λ z. is_keyed (Some z)) e ∙ y.2, no_led x.0.writes (led_times f d (p ∷ ps)) none))
-              | inr some ↦ (let now = slot_here (λ (z : Datum). z.writes) without_write (f p) s d x.0 yes_slot x.1 (omega (arith, some)) in
-                  let e = kept_is (without_write x.0) y.0 (sym now ∙ y.1) in
-                  (x.0, x.1, ap (λ z. is_keyed (Some z)) e ∙ y.2, more_led x.0.writes y.0.writes (led_times f d ps) (led_times f d (p ∷ ps)) (ap (λ (z : Datum). z.writes) e) y.3 (led_once (λ (z : Datum). z.writes) without_write f p ps d yes_slot)))
-            ]
-          ])
-    ]
+                (x.0, x.1, ap (λ z. is_keyed (Some z)) e ∙ y.2, no_led x.0.writes (led_times f d (p ∷ ps)) none))
+            | inr some ↦ (let now = slot_here (λ (z : Datum). z.writes) without_write (f p) s d x.0 yes_slot x.1 (omega (arith, some)) in
+                let e = kept_is (without_write x.0) y.0 (sym now ∙ y.1) in
+                (x.0, x.1, ap (λ z. is_keyed (Some z)) e ∙ y.2, more_led x.0.writes y.0.writes (led_times f d ps) (led_times f d (p ∷ ps)) (ap (λ (z : Datum). z.writes) e) y.3 (led_once (λ (z : Datum). z.writes) without_write f p ps d yes_slot)))
+          ]
+        ])
+  ]
     where
       one_led : (n k m : ℕ) → n ≡ 1 → m ≡ suc k → n ≤ m
       one_led n k m e h = omega (arith, e, h)
+
       more_led : (n b k m : ℕ) → n - 1 ≡ b → b ≤ k → m ≡ suc k → n ≤ m
       more_led n b k m e h g = omega (arith, e, h, g)
+
       kept_is : (x y : Datum) → kept x ≡ Some y → x ≡ y
       kept_is x y h = elim (cases_Bool (is_spent x)) [
-          | inl t ↦ (let q : None ≡ Some y = sym (kept_gone x t) ∙ h in absurd cc)
-          | inr g ↦ (let q : Some x ≡ Some y = sym (kept_there x g) ∙ h in cc)
-        ]
+        | inl t ↦ (let q : None ≡ Some y = sym (kept_gone x t) ∙ h in absurd cc)
+        | inr g ↦ (let q : Some x ≡ Some y = sym (kept_there x g) ∙ h in cc)
+      ]
+
       no_led : (n k : ℕ) → n ≡ 0 → n ≤ k
       no_led n k e = omega (arith, e)
 
   every_closed : (ps : List Spot) (s : Store) (d : ℕ) (x : Datum) → at s d ≡ Some x → is_keyed (Some x) ≡ true → 0 < x.writes → led_times f d ps ≡ x.writes → In d (all_closing ps s)
   every_closed [] s d x e k w l = absurd (omega (arith, w, l))
   every_closed (p ∷ ps) s d x e k w l = elim (cases_Bool (slot_is d (f p))) [
-      | inr no_slot ↦ in_right d (closing (datum_of (f p)) s) (all_closing ps (step p s)) (every_closed ps (step p s) d x (slot_elsewhere (λ (z : Datum). z.writes) without_write (f p) s d no_slot ∙ e) k w (sym (led_not (λ (z : Datum). z.writes) without_write f p ps d no_slot) ∙ l))
-      | inl yes_slot ↦ (let m = sym (led_once (λ (z : Datum). z.writes) without_write f p ps d yes_slot) ∙ l in
-          elim (cases_eq x.writes 1) [
-            | inl one ↦ in_left d (closing (datum_of (f p)) s) (all_closing ps (step p s)) (one_closed (f p) s d yes_slot (is_closes (at s d) x e k one))
-            | inr more ↦ in_right d (closing (datum_of (f p)) s) (all_closing ps (step p s))
-                (every_closed ps (step p s) d (without_write x) (slot_here (λ (z : Datum). z.writes) without_write (f p) s d x yes_slot e w ∙ kept_there (without_write x) (not_spent x more w)) k (some_left x.writes more w) (one_less x.writes (led_times f d ps) m))
-          ])
-    ]
+    | inr no_slot ↦ in_right d (closing (datum_of (f p)) s) (all_closing ps (step p s)) (every_closed ps (step p s) d x (slot_elsewhere (λ (z : Datum). z.writes) without_write (f p) s d no_slot ∙ e) k w (sym (led_not (λ (z : Datum). z.writes) without_write f p ps d no_slot) ∙ l))
+    | inl yes_slot ↦ (let m = sym (led_once (λ (z : Datum). z.writes) without_write f p ps d yes_slot) ∙ l in
+        elim (cases_eq x.writes 1) [
+          | inl one ↦ in_left d (closing (datum_of (f p)) s) (all_closing ps (step p s)) (one_closed (f p) s d yes_slot (is_closes (at s d) x e k one))
+          | inr more ↦ in_right d (closing (datum_of (f p)) s) (all_closing ps (step p s))
+              (every_closed ps (step p s) d (without_write x) (slot_here (λ (z : Datum). z.writes) without_write (f p) s d x yes_slot e w ∙ kept_there (without_write x) (not_spent x more w)) k (some_left x.writes more w) (one_less x.writes (led_times f d ps) m))
+        ])
+  ]
     where
       some_left : (n : ℕ) → n ≢ 1 → 0 < n → 0 < n - 1
       some_left n h w = omega (arith, h, w)
+
       one_less : (n k : ℕ) → suc k ≡ n → k ≡ n - 1
       one_less n k h = omega (arith, h)
+
       not_spent : (x : Datum) → x.writes ≢ 1 → 0 < x.writes → is_spent (without_write x) ≡ false
       not_spent x h w = elim (cases_Bool (is_spent (without_write x))) [
-          | inl t ↦ absurd (omega (arith, (spent_zero (without_write x) t).1, some_left x.writes h w))
-          | inr g ↦ g
-        ]
+        | inl t ↦ absurd (omega (arith, (spent_zero (without_write x) t).1, some_left x.writes h w))
+        | inr g ↦ g
+      ]
 
   pub closes_all : (ps : List Spot) (s : Store) → Closes (λ d. led_times f d ps) s (all_closing ps s)
   closes_all ps s = record {
-      all = λ d x e k w l. every_closed ps s d x e k w l;
-      only = λ d i. only_closed ps s d i
-    }
+    all = λ d x e k w l. every_closed ps s d x e k w l;
+    only = λ d i. only_closed ps s d i;
+  }
 
   -- one spot more
   pub next_closing : (xs : List Spot) (i : ℕ) (d : Spot) (s t : Store) (before now all : List ℕ) → i < length xs → before ++ all_closing (drop i xs) s ≡ all → t ≡ step (get_or xs i d) s → now ≡ before ++ closing (datum_of (f (get_or xs i d))) s → now ++ all_closing (drop (i + 1) xs) t ≡ all

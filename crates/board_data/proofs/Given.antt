@@ -105,17 +105,18 @@ module _ (count : Datum → ℕ) (take : Datum → Datum) where
       pub all_given : (ps : List Spot) (s : Store) (d : ℕ) (x : Datum) → at s d ≡ Some x → is_spent x ≡ false → led_times f d ps ≤ count x → at (one_by_one give_step ps s) d ≡ kept (taken (led_times f d ps) x)
       all_given [] s d x e n h = e ∙ sym (kept_there x n)
       all_given (p ∷ ps) s d x e n h = elim (cases_Bool (slot_is d (f p))) [
-          | inr no_slot ↦ all_given ps (give_step p s) d x (slot_elsewhere (f p) s d no_slot ∙ e) n (subst (λ k. k ≤ count x) (led_not p ps d no_slot) h) ∙ ap (λ k. kept (taken k x)) (sym (led_not p ps d no_slot))
-          | inl yes_slot ↦ (let m : suc (led_times f d ps) ≤ count x = subst (λ k. k ≤ count x) (led_once p ps d yes_slot) h in
-              let now = slot_here (f p) s d x yes_slot e (omega (arith, m)) in
-              elim (cases_Bool (is_spent (take x))) [
-                | inl gone ↦ all_nowhere ps (give_step p s) d (now ∙ kept_gone (take x) gone) ∙ sym (ap (λ k. kept (taken k x)) (led_once p ps d yes_slot) ∙ ap (λ k. kept (taken k (take x))) (last (led_times f d ps) (count x) m (sym (less x) ∙ spent (take x) gone)) ∙ kept_gone (take x) gone)
-                | inr more ↦ all_given ps (give_step p s) d (take x) (now ∙ kept_there (take x) more) more (fits (led_times f d ps) (count x) (count (take x)) m (less x)) ∙ ap (λ k. kept (taken k x)) (sym (led_once p ps d yes_slot))
-              ])
-        ]
+        | inr no_slot ↦ all_given ps (give_step p s) d x (slot_elsewhere (f p) s d no_slot ∙ e) n (subst (λ k. k ≤ count x) (led_not p ps d no_slot) h) ∙ ap (λ k. kept (taken k x)) (sym (led_not p ps d no_slot))
+        | inl yes_slot ↦ (let m : suc (led_times f d ps) ≤ count x = subst (λ k. k ≤ count x) (led_once p ps d yes_slot) h in
+            let now = slot_here (f p) s d x yes_slot e (omega (arith, m)) in
+            elim (cases_Bool (is_spent (take x))) [
+              | inl gone ↦ all_nowhere ps (give_step p s) d (now ∙ kept_gone (take x) gone) ∙ sym (ap (λ k. kept (taken k x)) (led_once p ps d yes_slot) ∙ ap (λ k. kept (taken k (take x))) (last (led_times f d ps) (count x) m (sym (less x) ∙ spent (take x) gone)) ∙ kept_gone (take x) gone)
+              | inr more ↦ all_given ps (give_step p s) d (take x) (now ∙ kept_there (take x) more) more (fits (led_times f d ps) (count x) (count (take x)) m (less x)) ∙ ap (λ k. kept (taken k x)) (sym (led_once p ps d yes_slot))
+            ])
+      ]
         where
           last : (n c : ℕ) → suc n ≤ c → c - 1 ≡ 0 → n ≡ 0
           last n c m z = omega (arith, m, z)
+
           fits : (n c b : ℕ) → suc n ≤ c → b ≡ c - 1 → n ≤ b
           fits n c b m e = omega (arith, m, e)
 
@@ -140,6 +141,7 @@ both_zero a b h = (eqb-true a 0 (left (a == 0) (b == 0) h), eqb-true b 0 (right 
     left : (p q : Bool) → (p && q) ≡ true → p ≡ true
     left true q h = refl
     left false q h = h
+
     right : (p q : Bool) → (p && q) ≡ true → q ≡ true
     right true q h = h
     right false q h = absurd cc
@@ -152,20 +154,20 @@ zero_spent x r w = ap (λ k. (k == 0) && (x.writes == 0)) r ∙ ap (λ k. (0 == 
 
 pub gives_reads : (f : Spot → Slot) (ps : List Spot) (s t : Store) → t ≡ one_by_one (give_step (λ (y : Datum). y.reads) without_read f) ps s → GivesUp (λ d. led_times f d ps) (λ d. 0) s t
 gives_reads f ps s t e = record {
-    there = λ d x h n r w. ap (λ u. at u d) e ∙ all_given (λ (y : Datum). y.reads) without_read f (λ y. refl) (λ y z. (spent_zero y z).0) ps s d x h n r ∙ ap kept (taken_reads (led_times f d ps) x);
-    nothing = λ d h. ap (λ u. at u d) e ∙ all_nowhere (λ (y : Datum). y.reads) without_read f ps s d h
-  }
+  there = λ d x h n r w. ap (λ u. at u d) e ∙ all_given (λ (y : Datum). y.reads) without_read f (λ y. refl) (λ y z. (spent_zero y z).0) ps s d x h n r ∙ ap kept (taken_reads (led_times f d ps) x);
+  nothing = λ d h. ap (λ u. at u d) e ∙ all_nowhere (λ (y : Datum). y.reads) without_read f ps s d h;
+}
 
 pub gives_writes : (f : Spot → Slot) (ps : List Spot) (s t : Store) → t ≡ one_by_one (give_step (λ (y : Datum). y.writes) without_write f) ps s → GivesUp (λ d. 0) (λ d. led_times f d ps) s t
 gives_writes f ps s t e = record {
-    there = λ d x h n r w. ap (λ u. at u d) e ∙ all_given (λ (y : Datum). y.writes) without_write f (λ y. refl) (λ y z. (spent_zero y z).1) ps s d x h n w ∙ ap kept (taken_writes (led_times f d ps) x);
-    nothing = λ d h. ap (λ u. at u d) e ∙ all_nowhere (λ (y : Datum). y.writes) without_write f ps s d h
-  }
+  there = λ d x h n r w. ap (λ u. at u d) e ∙ all_given (λ (y : Datum). y.writes) without_write f (λ y. refl) (λ y z. (spent_zero y z).1) ps s d x h n w ∙ ap kept (taken_writes (led_times f d ps) x);
+  nothing = λ d h. ap (λ u. at u d) e ∙ all_nowhere (λ (y : Datum). y.writes) without_write f ps s d h;
+}
 
 -- first those for writing, then those for reading
 pub gives_both : (r w : ℕ → ℕ) (s m t : Store) → GivesUp (λ d. 0) w s m → GivesUp r (λ d. 0) m t → GivesUp r w s t
 gives_both r w s m t a b = record {
-    there = λ d x h n p q.
+  there = λ d x h n p q.
       let mid = a.there d x h n (omega arith) q in
       elim (cases_Bool (is_spent (fewer 0 (w d) x))) [
         | inl gone ↦ (let z = spent_zero (fewer 0 (w d) x) gone in
@@ -173,12 +175,14 @@ gives_both r w s m t a b = record {
         | inr more ↦ b.there d (fewer 0 (w d) x) (mid ∙ kept_there (fewer 0 (w d) x) more) more (same x.reads (r d) p) (omega arith)
             ∙ ap kept (ap (λ k. record { content = x.content; reads = k; writes = (x.writes - w d) - 0 }) (less_first x.reads (r d)) ∙ ap (λ k. record { content = x.content; reads = x.reads - r d; writes = k }) (less_nothing (x.writes - w d)))
       ];
-    nothing = λ d h. b.nothing d (a.nothing d h)
-  }
+  nothing = λ d h. b.nothing d (a.nothing d h);
+}
   where
     still : (n k : ℕ) → n - 0 ≡ 0 → n - k ≡ 0
     still n k h = omega (arith, h)
+
     same : (n k : ℕ) → k ≤ n → k ≤ n - 0
     same n k h = omega (arith, h)
+
     less_first : (n k : ℕ) → (n - 0) - k ≡ n - k
     less_first n k = omega arith

@@ -50,14 +50,15 @@ by_slot : (g : Slot) (d r w : ℕ) (s : Store) (c : Option Datum) → at s d ≡
 by_slot Absent d r w s c e h = e ∙ sym (no_more c)
 by_slot (LiteralOf i k) d r w s c e h = e ∙ sym (no_more c)
 by_slot (DatumOf k) d r w s c e h = elim (cases_eq d k) [
-    | inl same ↦ (let t : nat_eq d k ≡ true = eq-eqb d k same in here k same t c e h)
-    | inr other ↦ (let f : nat_eq d k ≡ false = differ (nat_eq d k) refl other in
-        held_elsewhere s d k r w other ∙ e ∙ sym (ap (λ b. plus (if b then r else 0) (if b then w else 0) c) f ∙ no_more c))
-  ]
+  | inl same ↦ (let t : nat_eq d k ≡ true = eq-eqb d k same in here k same t c e h)
+  | inr other ↦ (let f : nat_eq d k ≡ false = differ (nat_eq d k) refl other in
+      held_elsewhere s d k r w other ∙ e ∙ sym (ap (λ b. plus (if b then r else 0) (if b then w else 0) c) f ∙ no_more c))
+]
   where
     differ : (b : Bool) → nat_eq d k ≡ b → d ≢ k → nat_eq d k ≡ false
     differ true t n = absurd (n (eqb-true d k t))
     differ false t n = t
+
     here : (k : ℕ) → d ≡ k → nat_eq d k ≡ true → (c : Option Datum) → at s d ≡ c → Fit (part d (DatumOf k) r) (part d (DatumOf k) w) c → at (held k r w s) d ≡ plus (part d (DatumOf k) r) (part d (DatumOf k) w) c
     here k same t None e h = ap (λ j. at (held j r w s) d) (sym same) ∙ held_nowhere s d r w e
     here k same t (Some x) e h =

@@ -28,12 +28,15 @@ made_given old mid d r w v a = subst (λ s. Makes old (record { content = OfScal
   where
     unset : given d v mid ≡ changed d (with_value v) mid
     unset = ap (λ c. if is_unset c then changed d (with_value v) mid else mid) a.has
+
     made : Makes old (record { content = OfScalar (Some v); reads = r; writes = w }) (Slots.Datum d) (changed d (with_value v) mid)
     made = record {
-      key = d; slot_is = refl; was_free = a.was_free;
+      key = d;
+      slot_is = refl;
+      was_free = a.was_free;
       has = set_here mid d (fresh Single r w) (option_map (with_value v) (at mid d)) a.has ∙ ap (option_map (with_value v)) a.has;
       others = λ e n. set_elsewhere mid d e (option_map (with_value v) (at mid d)) n ∙ a.others e n;
-      room = subst (λ n. old.room ≤ n + 1) (sym a.room) (less old.room)
+      room = subst (λ n. old.room ≤ n + 1) (sym a.room) (less old.room);
     }
 
 nothing_yet : (k : Shape) → nothing k ≡ started k None

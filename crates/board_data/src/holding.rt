@@ -9,7 +9,7 @@ ghost use Rattle.board_data.specs.Data.{held};
 ghost use Rattle.board_data.specs.Holds.{Closes, Fit, GivesUp, closed_at, closing, held_at, hold_times, led_times, released_at};
 
 use crate::data;
-use board_code::program::{EntryTable, Hold};
+use board_code::program::Hold;
 use board_code::spot::Spot;
 use board_frames::instance::{Instance, datum_at};
 use data_store::store::Store;
@@ -105,19 +105,19 @@ fn close_all(
     }
 }
 
-/// The holds of an entry are given up, seen from its instance. A datum without holds goes. Notes the arrays that it was the last
-/// to write, for which there is room.
-#[tactic(auto, using(crate::proofs::Given::gives_both))]
+/// The holds of an item on these data are given up, seen from its instance. A datum without holds goes. Notes the arrays that it
+/// was the last to write, for which there is room.
 pub fn give_up(
     store: &mut Store,
     closed: &mut Vec<usize>,
     instances: &Slab<Instance>,
     at: usize,
-    table: &EntryTable,
+    reads: &[Spot],
+    writes: &[Spot],
 )
-    ensures store { GivesUp (λ d. led_times (spot_slot (frames_view instances.now.slots) at) d table.now.reads.items) (λ d. led_times (spot_slot (frames_view instances.now.slots) at) d table.now.writes.items) store.old store.new }
-    ensures closed { vec_len closed.old + vec_len table.now.writes ≤ vec_capacity closed.old → (added : List ℕ) × (closed.new.items ≡ closed.old.items ++ added) × Closes (λ d. led_times (spot_slot (frames_view instances.now.slots) at) d table.now.writes.items) store.old added }
+    ensures store { GivesUp (λ d. led_times (spot_slot (frames_view instances.now.slots) at) d reads.now) (λ d. led_times (spot_slot (frames_view instances.now.slots) at) d writes.now) store.old store.new }
+    ensures closed { vec_len closed.old + length writes.now ≤ vec_capacity closed.old → (added : List ℕ) × (closed.new.items ≡ closed.old.items ++ added) × Closes (λ d. led_times (spot_slot (frames_view instances.now.slots) at) d writes.now) store.old added }
 {
-    close_all(store, closed, instances, at, table.writes.as_slice());
-    release_all(store, instances, at, table.reads.as_slice());
+    close_all(store, closed, instances, at, writes);
+    release_all(store, instances, at, reads);
 }

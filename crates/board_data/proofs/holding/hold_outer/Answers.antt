@@ -9,4 +9,4 @@ pub returns : goal.returns
 returns c =
     let f = spot_slot (frames_view c.args.instances.now.slots) c.args.at in
     held_times f c.args.times c.args.outer.now c.args.store.now c.loop-hold.store
-      (last_step (hold_step f (λ h. c.args.times * h.reads) (λ h. c.args.times * h.writes)) c.args.outer.now c.loop-hold.hold-index c.loop-hold.store _ c.loop-hold-test.false c.loop-hold.invariant)
+    (last_step (hold_step f (λ h. c.args.times * h.reads) (λ h. c.args.times * h.writes)) c.args.outer.now c.loop-hold.hold-index c.loop-hold.store _ c.loop-hold-test.false c.loop-hold.invariant)

@@ -9,4 +9,4 @@ pub returns : goal.returns
 returns c =
     let f = spot_slot (frames_view c.args.instances.now.slots) c.args.at in
     gives_reads f c.args.reads.now c.args.store.now c.loop-spot.store
-      (last_step (give_step (λ x. x.reads) without_read f) c.args.reads.now c.loop-spot.spot-index c.loop-spot.store _ c.loop-spot-test.false c.loop-spot.invariant)
+    (last_step (give_step (λ x. x.reads) without_read f) c.args.reads.now c.loop-spot.spot-index c.loop-spot.store _ c.loop-spot-test.false c.loop-spot.invariant)
