@@ -1,8 +1,8 @@
 -- One datum has changed.
-use Rattle.std.proofs.Common.{◌≡◌, ◌≢◌, ◌∙◌, refl, sym, ap, ℕ, zero, suc, ◌<◌, ◌+◌, List, [], ◌∷◌, length, map, option_map, Option, Some, None, arith}
+use Rattle.std.proofs.Common.{◌≡◌, ◌≢◌, refl, ℕ, zero, suc, ◌<◌, List, [], ◌∷◌, length, Option, Some, None, arith}
 use Rattle.std.specs.Prelude.{slice_index_or, slice_set}
 use Rattle.std.proofs.lemmas.List.{get_or-set_same, get_or-set_other}
-use Rattle.data_store.specs.Stores.{Store, at, changed, given_up, kept_after}
+use Rattle.data_store.specs.Stores.{Store, at}
 use Rattle.data_store.specs.declared.datum.Datum.{Datum}
 
 within : {X : Type 0} (cs : List (Option X)) (d : ℕ) (x : X) → slice_index_or cs d None ≡ Some x → d < length cs

@@ -1,6 +1,6 @@
 -- The arrays that lose their last holds for writing.
-use Rattle.std.proofs.Common.{◌≡◌, ◌≢◌, ◌∙◌, refl, sym, ap, subst, inl, inr, ℕ, zero, suc, ◌<◌, ◌≤◌, ◌+◌, ◌-◌, List, [], ◌∷◌, ◌++◌, length, drop, drop-cons, get_or, add-one, append_assoc, append-nil, Option, Some, None, Bool, true, false, ◌==◌, ◌&&◌, arith}
-use Rattle.std.specs.Prelude.{if◌then◌else◌, nat_eq}
+use Rattle.std.proofs.Common.{◌≡◌, ◌≢◌, ◌∙◌, refl, sym, ap, subst, inl, inr, ℕ, suc, ◌<◌, ◌≤◌, ◌+◌, ◌-◌, List, [], ◌∷◌, ◌++◌, length, drop, drop-cons, get_or, add-one, append_assoc, append-nil, Option, Some, None, Bool, true, false, ◌==◌, ◌&&◌, arith}
+use Rattle.std.specs.Prelude.{if◌then◌else◌}
 use Rattle.std.proofs.lemmas.Bool.{cases_eq, cases_Bool, eqb-true, eq-eqb}
 use Rattle.board_code.specs.declared.spot.Spot.{Spot}
 use Rattle.board_frames.specs.Names.{datum_of}
@@ -12,7 +12,7 @@ use Rattle.data_store.specs.declared.datum.Datum.{Datum}
 use Rattle.replayed.specs.Ending.{slot_is}
 use Rattle.replayed.specs.Fields.{Absent, DatumOf, LiteralOf, Slot}
 use Rattle.board_data.specs.Data.{closes, is_keyed}
-use Rattle.board_data.specs.Holds.{Closes, closed_at, closing, led_times}
+use Rattle.board_data.specs.Holds.{Closes, closing, led_times}
 use Rattle.board_data.proofs.Given.{give_step, kept_gone, kept_there, led_not, led_once, slot_elsewhere, slot_here, slot_nowhere, slot_stays, spent_zero}
 use Rattle.board_data.proofs.Steps.{past}
 

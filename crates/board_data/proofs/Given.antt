@@ -1,5 +1,5 @@
 -- Holds that are given up, one after the other.
-use Rattle.std.proofs.Common.{◌≡◌, ◌≢◌, ◌∙◌, refl, sym, ap, subst, inl, inr, ℕ, zero, suc, ◌<◌, ◌≤◌, ◌+◌, ◌-◌, List, [], ◌∷◌, length, Option, Some, None, Bool, true, false, ◌==◌, ◌&&◌, zero-add, arith}
+use Rattle.std.proofs.Common.{◌≡◌, ◌≢◌, ◌∙◌, refl, sym, ap, subst, inl, inr, ℕ, zero, suc, ◌<◌, ◌≤◌, ◌+◌, ◌-◌, List, [], ◌∷◌, Option, Some, None, Bool, true, false, ◌==◌, ◌&&◌, zero-add, arith}
 use Rattle.std.specs.Prelude.{if◌then◌else◌, nat_eq}
 use Rattle.std.proofs.lemmas.Bool.{cases_eq, cases_Bool, eqb-true, eq-eqb}
 use Rattle.board_code.specs.declared.spot.Spot.{Spot}
@@ -9,8 +9,7 @@ use Rattle.data_store.specs.Stores.{Store, at, datum, given_up, kept_after, or_n
 use Rattle.data_store.specs.declared.datum.Datum.{Datum}
 use Rattle.replayed.specs.Ending.{slot_is}
 use Rattle.replayed.specs.Fields.{Absent, DatumOf, LiteralOf, Slot}
-use Rattle.board_data.specs.Data.{released, writer_closed}
-use Rattle.board_data.specs.Holds.{GivesUp, closed_at, fewer, led_times, released_at}
+use Rattle.board_data.specs.Holds.{GivesUp, fewer, led_times}
 use Rattle.board_data.proofs.Changes.{set_elsewhere, set_here, set_nowhere}
 use Rattle.board_data.proofs.Steps.{one_by_one}
 

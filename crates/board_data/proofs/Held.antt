@@ -1,7 +1,7 @@
 -- Holds that are added, one after the other.
-use Rattle.std.proofs.Common.{◌≡◌, ◌≢◌, ◌∙◌, refl, sym, ap, subst, inl, inr, ℕ, zero, suc, ◌<◌, ◌≤◌, ◌+◌, ◌*◌, ◌^◌, List, [], ◌∷◌, length, option_map, Option, Some, None, Bool, true, false, ◌&&◌, nat_lt, add_assoc, zero-add, arith}
+use Rattle.std.proofs.Common.{◌≡◌, ◌≢◌, ◌∙◌, refl, sym, ap, subst, inl, inr, ℕ, ◌+◌, ◌*◌, List, [], ◌∷◌, option_map, Option, Some, None, Bool, true, false, add_assoc, arith}
 use Rattle.std.specs.Prelude.{if◌then◌else◌, nat_eq}
-use Rattle.std.proofs.lemmas.Bool.{cases_eq, cases_Bool, eqb-true, eq-eqb}
+use Rattle.std.proofs.lemmas.Bool.{cases_eq, eqb-true, eq-eqb}
 use Rattle.board_code.specs.declared.program.Hold.{Hold}
 use Rattle.board_code.specs.declared.spot.Spot.{Spot}
 use Rattle.board_frames.specs.Names.{datum_of}

@@ -1,6 +1,6 @@
 -- Data that are made for the variables of an instance.
-use Rattle.std.proofs.Common.{◌≡◌, ◌≢◌, ◌∙◌, refl, sym, ap, subst, inl, inr, ℕ, zero, suc, ◌<◌, ◌≤◌, ◌+◌, ◌-◌, List, [], ◌∷◌, length, option_map, Option, Some, None, Bool, true, false, arith}
-use Rattle.std.specs.Prelude.{slice_index_or, slice_set, if◌then◌else◌}
+use Rattle.std.proofs.Common.{◌≡◌, ◌∙◌, refl, sym, ap, subst, ℕ, ◌≤◌, ◌+◌, ◌-◌, option_map, Some, None, arith}
+use Rattle.std.specs.Prelude.{if◌then◌else◌}
 use Rattle.data_store.specs.Arrays as arrays
 use Rattle.data_store.specs.Data.{nothing, with_value}
 use Rattle.data_store.specs.Stores.{Adds, Store, at, changed, fresh}
@@ -9,7 +9,6 @@ use Rattle.data_store.specs.declared.datum.Datum.{Datum}
 use Rattle.data_store.specs.declared.datum.Shape.{Shape}
 use Rattle.data_store.specs.declared.datum.Shape.TheVariants.{Single, Keyed}
 use Rattle.board_code.specs.declared.program.Own.{Own}
-use Rattle.board_frames.specs.declared.instance.Slot.{Slot}
 use Rattle.board_frames.specs.declared.instance.Slot.TheVariants as Slots
 use Rattle.board_data.specs.Data.{given, is_unset}
 use Rattle.board_data.specs.Made.{Makes, new_datum, started}

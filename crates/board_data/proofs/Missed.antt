@@ -1,5 +1,5 @@
 -- What is missed of several needs, one after the other.
-use Rattle.std.proofs.Common.{◌≡◌, ◌∙◌, refl, sym, ap, subst, ℕ, zero, suc, ◌<◌, ◌≤◌, ◌+◌, List, [], ◌∷◌, ◌++◌, length, map, drop, drop-cons, get_or, add-one, arith, append_assoc, append-nil}
+use Rattle.std.proofs.Common.{◌≡◌, ◌∙◌, refl, sym, ap, ℕ, zero, suc, ◌<◌, ◌≤◌, ◌+◌, List, [], ◌∷◌, ◌++◌, length, drop, drop-cons, get_or, add-one, arith, append_assoc, append-nil}
 use Rattle.std.specs.List.{flat_map}
 
 module _ {X Y : Type 0} (f : X → List Y) where

@@ -1,13 +1,11 @@
 -- What the calls of a store come to that ask nothing of their caller.
-use Rattle.std.specs.Prelude.{ℕ, List, ◌+◌, ◌<◌, ◌^◌, Bool, true, false, ◌&&◌, ◌==◌, Option, Some, None, nat_lt, if◌then◌else◌, is_some}
+use Rattle.std.specs.Prelude.{ℕ, List, ◌+◌, ◌^◌, Bool, true, false, ◌&&◌, ◌==◌, Option, Some, None, nat_lt, if◌then◌else◌}
 use Rattle.data_store.specs.Data.{with_array, with_holds, with_value, without_read, without_write}
 use Rattle.data_store.specs.Arrays.{with_room}
-use Rattle.data_store.specs.Stores.{Store, array_at, at, changed, datum, given_up, shape_at, value_at}
+use Rattle.data_store.specs.Stores.{Store, array_at, at, changed, datum, given_up}
 use Rattle.data_store.specs.declared.datum.Content.{Content}
 use Rattle.data_store.specs.declared.datum.Content.TheVariants.{OfArray, OfScalar}
 use Rattle.data_store.specs.declared.datum.Datum.{Datum}
-use Rattle.data_store.specs.declared.datum.Shape.{Shape}
-use Rattle.data_store.specs.declared.datum.Shape.TheVariants.{Single, Keyed}
 use Rattle.values.specs.declared.map.Element.{Element}
 use Rattle.values.specs.declared.value.Scalar.{Scalar}
 

@@ -1,8 +1,8 @@
 -- Holds that are added and given up, by what spots stand for.
-use Rattle.std.specs.Prelude.{◌≡◌, ◌+◌, ◌-◌, ◌<◌, ◌≤◌, ◌^◌, ℕ, Bool, true, false, List, [], ◌∷◌, ◌++◌, Option, Some, None, option_map, if◌then◌else◌}
+use Rattle.std.specs.Prelude.{◌≡◌, ◌+◌, ◌-◌, ◌<◌, ◌≤◌, ◌^◌, ℕ, true, false, List, [], ◌∷◌, Option, Some, None, if◌then◌else◌}
 use Rattle.board_code.specs.declared.program.Hold.{Hold}
 use Rattle.board_code.specs.declared.spot.Spot.{Spot}
-use Rattle.data_store.specs.Data.{is_spent, kept, with_holds}
+use Rattle.data_store.specs.Data.{is_spent, kept}
 use Rattle.data_store.specs.Stores.{Store, at}
 use Rattle.data_store.specs.declared.datum.Datum.{Datum}
 use Rattle.dataflow.specs.System.{In}

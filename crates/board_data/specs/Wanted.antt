@@ -1,6 +1,5 @@
 -- What is found and missed where names lead.
-use Rattle.std.specs.Prelude.{ℕ, List, [], ◌∷◌, ◌++◌, Option, Some, None}
-use Rattle.std.specs.List.{flat_map}
+use Rattle.std.specs.Prelude.{ℕ, List, Option, Some, None}
 use Rattle.board_code.specs.declared.program.Wanted.{Wanted}
 use Rattle.board_code.specs.declared.program.Wanted.TheVariants as Waits
 use Rattle.board_code.specs.declared.spot.Spot.{Spot}
