@@ -1,0 +1,4 @@
+pub mod Stored
+pub mod Fronts
+pub mod Standing
+pub mod Aims

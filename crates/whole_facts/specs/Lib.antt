@@ -1,0 +1,5 @@
+pub mod Targeted
+pub mod Kinds
+pub mod Store
+pub mod Sighted
+pub mod Stands
