@@ -1,0 +1,9 @@
+pub mod Fitting
+pub mod Emitting
+pub mod Views
+pub mod Opening
+pub mod Branching
+pub mod Looping
+pub mod Waiting
+pub mod Bare
+pub mod Scripts

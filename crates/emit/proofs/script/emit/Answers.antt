@@ -1,0 +1,44 @@
+use Rattle.std.proofs.Common.{arith}
+use Rattle.std.proofs.lemmas.List.{length-map}
+use Rattle.flow.specs.Shapes.{declared_of, kinds_of}
+use Rattle.flow.specs.View.{core_of}
+use Rattle.task_code.specs.View.{body_view, entry_view}
+use Rattle.granting.specs.Granted.{laid_code}
+use Rattle.laid_code.proofs.Bodies.{few_bodies}
+use Rattle.laid_code.proofs.Marks.{laid_marks}
+use Rattle.laid_code.proofs.Small.{laid_small}
+use Rattle.emit.specs.Emits.{CanBeEmitted}
+use Rattle.emit.proofs.script.emit.Goals as goal
+
+pub granted-requires-clause-few_entries : goal.granted-requires-clause-few_entries
+granted-requires-clause-few_entries g c =
+    let A = g.row.A.Denot in
+    let flow = c.args.flow.now in
+    let r = c.requires in
+    let laid = c.in_ok-laid.laid in
+    let can : CanBeEmitted (core_of {A = A} flow) = record { calls = r.calls; cells = r.cells; reads = r.reads; room = r.room; size = r.size } in
+    let few = laid_small (core_of {A = A} flow) (kinds_of {A = A} flow) (declared_of {A = A} flow) (laid_code laid.bodies.items laid.entries.items) (c.in_ok-laid.ensures can) r.cells r.reads in
+    let long = length-map laid.entries.items entry_view in
+    let size = r.size in
+    omega (arith, few, long, size)
+
+pub granted-requires-clause-few_bodies : goal.granted-requires-clause-few_bodies
+granted-requires-clause-few_bodies g c =
+    let A = g.row.A.Denot in
+    let flow = c.args.flow.now in
+    let r = c.requires in
+    let laid = c.in_ok-laid.laid in
+    let can : CanBeEmitted (core_of {A = A} flow) = record { calls = r.calls; cells = r.cells; reads = r.reads; room = r.room; size = r.size } in
+    let few = few_bodies (core_of {A = A} flow) (kinds_of {A = A} flow) (declared_of {A = A} flow) (laid_code laid.bodies.items laid.entries.items) (c.in_ok-laid.ensures can) in
+    let long = length-map laid.bodies.items body_view in
+    let size = r.size in
+    omega (arith, few, long, size)
+
+pub granted-requires-clause-marks : goal.granted-requires-clause-marks
+granted-requires-clause-marks g c =
+    let A = g.row.A.Denot in
+    let flow = c.args.flow.now in
+    let r = c.requires in
+    let laid = c.in_ok-laid.laid in
+    let can : CanBeEmitted (core_of {A = A} flow) = record { calls = r.calls; cells = r.cells; reads = r.reads; room = r.room; size = r.size } in
+    laid_marks (core_of {A = A} flow) (kinds_of {A = A} flow) (declared_of {A = A} flow) (laid_code laid.bodies.items laid.entries.items) (c.in_ok-laid.ensures can) r.cells r.reads r.calls

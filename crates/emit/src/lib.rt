@@ -1,0 +1,8 @@
+//! A flow's code: an entry for each cell, call and statement, a body for each block, and the rights of entries.
+#![tactic(auto)]
+
+mod body;
+mod script;
+mod statement;
+
+pub use script::emit;
