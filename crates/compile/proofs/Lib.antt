@@ -1,4 +1,7 @@
-pub mod FlatCode
 pub mod Counts
-pub mod Written
+pub mod FlatCode
+pub mod Flows
+pub mod Runs
 pub mod Scripts
+pub mod Sizes
+pub mod Written

@@ -1,54 +1,44 @@
-//! From the bytes of a script to its code.
+//! From the bytes of a script to its statements.
 ghost use Rattle.std.specs.Prelude.{IfOk, IfErr};
-ghost use Rattle.scalar_flow.specs.View.{core_of};
-ghost use Rattle.compile.specs.Compiles.{IsScriptOf, Compiles, IsRefused};
+ghost use Rattle.syntax_trees.specs.View.{tree_of};
+ghost use Rattle.types.specs.Typed.{table_of};
+ghost use Rattle.compile.specs.Compiled.{IsFlowFor, IsFlowOf};
+ghost use Rattle.compile.specs.Compiles.{IsUnfit};
 
-use crate::check::accept;
+use crate::check::{Accepted, accept};
 use crate::fault::CompileFault;
-use scalar_emit::emit;
-use scalar_flow::statement::Flow;
-use scalar_lowering::lower;
-use std::alloc::{Allocator, Global};
-use task_code::code::Code;
+use flow::script::Flow;
+use lowering::lower;
+use std::alloc::{AllocError, Allocator, Global};
+use wait_merge::merge;
 
-/// The statements of a script, with their names resolved. Its tree lies in `alloc`.
+/// The statements of a script, with their names resolved and their waits merged. They lie in `alloc`, as its tree does until
+/// the answer.
 ///
 /// # Errors
 ///
-/// The refusal of the first step that refuses the script, or `Memory`.
-#[tactic(auto, using(crate::proofs::Scripts::script_of, crate::proofs::Scripts::not_yet))]
+/// The refusal of the first step that refuses the script, or want of memory.
 pub fn read<A: Allocator + Clone>(
     machine: Global,
     alloc: A,
     src: &[u8],
-) -> Result<Flow, CompileFault>
-    ensures script { IfOk result (λ flow. IsScriptOf src.now (core_of flow)) }
-    ensures refused { IfErr result (λ fault. IsRefused src.now fault) }
+) -> Result<Flow<A>, CompileFault>
+    ensures flow { IfOk result (λ flow. IsFlowOf src.now flow) }
+    ensures unfit { IfErr result (λ fault. IsUnfit src.now fault) }
 {
     let accepted = accept(machine, alloc, src)?;
-    match lower(machine, &accepted.script, &accepted.typed) {
+    match flow_of(&accepted) {
         Ok(flow) => Ok(flow),
-        Err(fault) => Err(CompileFault::Lower(fault)),
+        Err(_) => Err(CompileFault::Memory),
     }
 }
 
-/// The code of a script. Its tree lies in `alloc`, and the code in the machine's memory.
-///
-/// # Errors
-///
-/// The refusal of the first step that refuses the script, or `Memory`.
-#[tactic(auto, using(crate::proofs::Written::compiles))]
-pub fn compile<A: Allocator + Clone>(
-    machine: Global,
-    alloc: A,
-    src: &[u8],
-) -> Result<Code, CompileFault>
-    ensures code { IfOk result (λ code. Compiles src.now code) }
-    ensures refused { IfErr result (λ fault. IsRefused src.now fault) }
+/// The same for a script that is accepted.
+fn flow_of<A: Allocator + Clone>(accepted: &Accepted<A>) -> Result<Flow<A>, AllocError>
+    ensures { IfOk result (λ flow. IsFlowFor (table_of accepted.now.typed) (tree_of accepted.now.script) flow) }
 {
-    let flow = read(machine, alloc, src)?;
-    match emit(machine, flow) {
-        Ok(code) => Ok(code),
-        Err(_) => Err(CompileFault::Memory),
-    }
+    let alloc = accepted.script.items.allocator().clone()?;
+    let flow = lower(alloc, &accepted.script, &accepted.typed)?;
+    let merged = merge(flow)?;
+    Ok(merged)
 }

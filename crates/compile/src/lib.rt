@@ -7,3 +7,5 @@
 pub mod check;
 pub mod compile;
 pub mod fault;
+pub mod laws;
+pub mod scalars;

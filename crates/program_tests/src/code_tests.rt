@@ -1,5 +1,5 @@
 //! Scripts that are accepted, with their code, and the first refusal of those that are not.
-use compile::compile::{compile, read};
+use compile::scalars::{compile, read};
 use scalar_emit::emit;
 use std::alloc::Global;
 use std::test::Fail;

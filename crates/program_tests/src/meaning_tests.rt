@@ -1,5 +1,5 @@
 //! Rounds over two small scripts of scalars.
-use compile::compile::read;
+use compile::scalars::read;
 use meaning::reading::Statement;
 use meaning::rounds::rounds;
 use std::test::Fail;

@@ -1,5 +1,5 @@
 //! Every order in which small scripts can run, each compared with what the script means.
-use compile::compile::{compile, read};
+use compile::scalars::{compile, read};
 use meaning::knowledge::Knowledge;
 use meaning::rounds::rounds;
 use runs::one::run_one;

@@ -7,7 +7,7 @@ ghost use Rattle.compile.specs.Compiles.{IsRefused};
 
 use crate::refusal::Refusal;
 use crate::trouble::Trouble;
-use compile::compile::{compile, read};
+use compile::scalars::{compile, read};
 use compile::fault::CompileFault;
 use scalar_flow::statement::Flow;
 use std::alloc::Global;

@@ -2,7 +2,7 @@ use Rattle.syntax_trees.specs.View.{tree_of}
 use Rattle.scalar_flow.specs.View.{core_of}
 use Rattle.types.specs.Typed.{table_of}
 use Rattle.compile.proofs.Scripts.{script_of}
-use Rattle.compile.proofs.compile.read.Goals as goal
+use Rattle.compile.proofs.scalars.read.Goals as goal
 
 pub returns-in-Ok-clause-script : goal.returns-in-Ok-clause-script
 returns-in-Ok-clause-script g c =

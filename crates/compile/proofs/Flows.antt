@@ -1,0 +1,71 @@
+-- A flow that is lowered and merged is that of its tree.
+use Rattle.std.proofs.Common.{◌≡◌, ◌⊎◌, inl, inr, ℕ, Bool, List, [], ◌∷◌, ◌++◌, map, refl, sym, ap, subst, ◌∙◌}
+use Rattle.syntax_trees.specs.declared.tree.Shape.{Shape}
+use Rattle.syntax_trees.specs.Members.{◌∈◌, first, later}
+use Rattle.syntax_trees.proofs.Members.{split_in, to_left, to_right, either}
+use Rattle.syntax_trees.specs.Resolved.{core}
+use Rattle.syntax_trees.specs.Scopes.{Typ, Signature, signatures}
+use Rattle.syntax_trees.specs.Table.{Table}
+use Rattle.syntax_trees.specs.Tree.{Declaration, Tree, import, function, single}
+use Rattle.well_formed.specs.Types.{statement_declarations, body_declarations, tree_declarations}
+use Rattle.flow.specs.Shapes.{Declared, is_array, declared_of, kinds_of}
+use Rattle.flow.specs.View.{core_of}
+use Rattle.flow.specs.declared.script.Flow.{Flow}
+use Rattle.lowering.specs.Shapes.{flagged, function_declarations, own_declarations}
+use Rattle.lowering.specs.Shapes as found
+use Rattle.wait_merge.specs.Merged.{IsMerged}
+use Rattle.whole_code.specs.Described.{DeclaredIn, KindsOf, is_array_shape}
+use Rattle.whole_code.specs.Described as wanted
+use Rattle.compile.specs.Compiled.{IsFlowFor}
+
+same_shape : (s : Shape) → is_array s ≡ is_array_shape s
+same_shape Shape.Scalar = refl
+same_shape Shape.Array = refl
+
+map_same : {X Y : Type 0} (f g : X → Y) → ((x : X) → f x ≡ g x) → (xs : List X) → map f xs ≡ map g xs
+map_same f g h [] = refl
+map_same f g h (x ∷ xs) = λ i. h x i ∷ map_same f g h xs i
+
+same_kinds : (f : Signature) → ◌≡◌ {A = List Bool × List Bool} (found.kinds_of_signature f) (wanted.kinds_of_signature f)
+same_kinds f = λ i. (map_same (λ (τ : Typ). is_array τ.shape) (λ (τ : Typ). is_array_shape τ.shape) (λ τ. same_shape τ.shape) f.inputs i, map_same (λ (τ : Typ). is_array τ.shape) (λ (τ : Typ). is_array_shape τ.shape) (λ τ. same_shape τ.shape) f.outputs i)
+
+-- a variable of these declarations
+abbrev Flagged : List Declaration → ℕ → Bool → Type 0
+Flagged ds n b = (d : Declaration) × d ∈ ds × (d.name.number ≡ n) × (is_array_shape d.shape ≡ b)
+
+unflagged : (ds : List Declaration) (n : ℕ) (b : Bool) → ◌∈◌ {X = ℕ × Bool} (n, b) (flagged ds) → Flagged ds n b
+unflagged [] n b h = elim h [ ]
+unflagged (d ∷ ds) n b h =
+    elim (split_in h) [
+      | inl e ↦ (d, first, sym (ap (λ (z : ℕ × Bool). z.0) e), sym (ap (λ (z : ℕ × Bool). z.1) e ∙ same_shape d.shape))
+      | inr i ↦ (let r = unflagged ds n b i in (r.0, later r.1, r.2, r.3))
+    ]
+
+own_there : (tree : Tree) (d : Declaration) → d ∈ own_declarations tree → d ∈ tree_declarations tree
+own_there [] d h = h
+own_there (import sp ∷ ps) d h = own_there ps d h
+own_there (function f ∷ ps) d h = to_right (body_declarations f.body) _ (own_there ps d h)
+own_there (single s ∷ ps) d h = elim (either (statement_declarations s) _ h) [ inl i ↦ to_left (statement_declarations s) _ i | inr i ↦ to_right (statement_declarations s) _ (own_there ps d i) ]
+
+functions_there : (tree : Tree) (d : Declaration) → d ∈ function_declarations tree → d ∈ tree_declarations tree
+functions_there [] d h = h
+functions_there (import sp ∷ ps) d h = functions_there ps d h
+functions_there (function f ∷ ps) d h = elim (either (body_declarations f.body) _ h) [ inl i ↦ to_left (body_declarations f.body) _ i | inr i ↦ to_right (body_declarations f.body) _ (functions_there ps d i) ]
+functions_there (single s ∷ ps) d h = to_right (statement_declarations s) _ (functions_there ps d h)
+
+all_declared : (tree : Tree) → DeclaredIn (flagged (own_declarations tree) ++ flagged (function_declarations tree)) tree
+all_declared tree n b h =
+    elim (either (flagged (own_declarations tree)) _ h) [
+      | inl i ↦ (let r = unflagged (own_declarations tree) n b i in (r.0, own_there tree r.0 r.1, r.2, r.3))
+      | inr i ↦ (let r = unflagged (function_declarations tree) n b i in (r.0, functions_there tree r.0 r.1, r.2, r.3))
+    ]
+
+pub flow_for : {A : Type 0} (t : Table) (tree : Tree) (lowered flow : Flow A) → core_of lowered ≡ core t tree → declared_of lowered ≡ flagged (own_declarations tree) ++ flagged (function_declarations tree)
+    → kinds_of lowered ≡ map found.kinds_of_signature (signatures tree) → core_of flow ≡ core_of lowered → declared_of flow ≡ declared_of lowered → kinds_of flow ≡ kinds_of lowered → IsMerged flow
+    → IsFlowFor t tree flow
+flow_for t tree lowered flow c d k same_core same_declared same_kinds_of merged = record {
+  core_is = same_core ∙ c;
+  kinds = same_kinds_of ∙ k ∙ map_same found.kinds_of_signature wanted.kinds_of_signature same_kinds (signatures tree);
+  declared = subst (λ (ds : Declared). DeclaredIn ds tree) (sym (same_declared ∙ d)) (all_declared tree);
+  merged = merged;
+}

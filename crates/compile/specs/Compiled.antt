@@ -1,0 +1,78 @@
+-- What it means that a flow and code are those of a script that a text reads as, and what every run of the code keeps.
+use Rattle.std.specs.Prelude.{◌≡◌, ◌⊎◌, ℕ, ◌+◌, ◌*◌, ◌≤◌, List, length}
+use Rattle.dataflow.specs.Events.{backs}
+use Rattle.dataflow.specs.Machine.{Event}
+use Rattle.dataflow.specs.System.{In}
+use Rattle.syntax_trees.specs.Core.{Core}
+use Rattle.syntax_trees.specs.Outcomes.{Clean}
+use Rattle.syntax_trees.specs.Resolved.{core}
+use Rattle.syntax_trees.specs.Table.{Table}
+use Rattle.syntax_trees.specs.Tree.{Tree}
+use Rattle.flow.specs.Shapes.{declared_of, kinds_of}
+use Rattle.flow.specs.View.{core_of}
+use Rattle.flow.specs.declared.script.Flow.{Flow}
+use Rattle.wait_merge.specs.Merged.{IsMerged}
+use Rattle.task_code.specs.Code.{Code}
+use Rattle.task_code.specs.Count.{items_in}
+use Rattle.task_code.specs.Effects.{Main}
+use Rattle.task_code.specs.Exact.{IsExact}
+use Rattle.task_code.specs.Machine.{CodeItem, CodeState, CodeStep, DataAreExact, DataAreKept, GoesOn, HasSteps, IsTidy, LeadsTo, Quiet, Run, SameEnd, run_log}
+use Rattle.task_code.specs.Places.{Step}
+use Rattle.task_code.specs.Whole.{IsCode}
+use Rattle.agreement.specs.Headline.{Headline}
+use Rattle.agreement.specs.IsCodeOf.{IsCodeOf, Layout}
+use Rattle.agreement.specs.NodesOnce.{NodesOnce}
+use Rattle.whole_code.specs.Described.{DeclaredIn, KindsOf}
+use Rattle.bounded_runs.specs.Live.{HasLiveBodies, HasLiveLoops, IsLiveItem}
+use Rattle.compile.specs.Compiles.{IsAccepted}
+
+-- the flow is that of the tree, by this table of its names: its core, which variables, inputs and outputs are arrays, and no waits left to merge
+pub record IsFlowFor {A : Type 0} (table : Table) (tree : Tree) (flow : Flow A) : Type 0 where
+  pub core_is : core_of flow ≡ core table tree
+  pub kinds : KindsOf (kinds_of flow) tree
+  pub declared : DeclaredIn (declared_of flow) tree
+  pub merged : IsMerged flow
+
+-- the text reads as a tree that is well typed and singly assigned, and the flow is that tree's
+abbrev pub IsFlowOf : {A : Type 0} → List ℕ → Flow A → Type 0
+IsFlowOf src flow = (table : Table) × (tree : Tree) × IsAccepted src table tree × IsFlowFor table tree flow
+
+-- what every run of the code keeps, over every list of events
+pub record RunsGoOn (code : Code) : Type 0 where
+  -- it is never stuck: what runs can end, what is enabled can begin, and no value is stored twice
+  pub goes_on : (events : List Event) (st : CodeState) → Run code events st → GoesOn code st
+  -- which events have a step
+  pub steps : (events : List Event) (st : CodeState) → Run code events st → HasSteps code st
+  -- no item is there twice: those that have ended and those that are left all differ in entry, path or first turn
+  pub once : (events : List Event) (st : CodeState) (run : Run code events st) → LeadsTo code (run_log code events st run) st
+  -- all runs that end quiet end the same
+  pub one_end : (events others : List Event) (st end : CodeState) → Run code events st → Run code others end → Quiet code st → Quiet code end → SameEnd code st end
+  -- each datum that was made is there or free
+  pub kept : (events : List Event) (st : CodeState) (run : Run code events st) → DataAreKept code st (run_log code events st run)
+  -- nothing that is free has to be kept: each step can be taken so that all of it leaves, and then exactly what is not free is there
+  pub can_be_tidy : (old : CodeState) (event : Event) (new : CodeState) → CodeStep code old event new → (tidy : CodeState) × CodeStep code old event tidy × IsTidy code tidy
+  pub exact : (events : List Event) (st : CodeState) (run : Run code events st) → IsTidy code st → DataAreExact code st (run_log code events st run)
+  -- two events for each item that was made and for each that was given back, at most
+  pub bound : (events : List Event) (st : CodeState) → Run code events st → length events + 2 ≤ 2 * st.next + 2 * backs events
+
+-- what every run keeps of a script that writes no key twice, by what is live in the script
+pub record RunsAreLive (s : Core) (code : Code) (l : Layout) : Type 0 where
+  -- each item is of a live block, at the block's path
+  pub live : (events : List Event) (st : CodeState) → Run code events st → (i : CodeItem) → In i st.items → (i.task ≡ Main) ⊎ IsLiveItem s code l i.task
+  -- so there are at most two events for each entry of each live block's body and each rest of a loop that runs, for the item that opens the script, and for each item that was given back
+  pub bound : (bodies : List (ℕ × List Step)) (loops : List (ℕ × List Step × ℕ)) → HasLiveBodies s code l bodies → HasLiveLoops s code l loops
+      → (events : List Event) (st : CodeState) → Run code events st → length events ≤ 2 * (items_in code bodies loops + backs events)
+
+-- the text is a script, and the code is the script's: it is whole and not too long, its rights are exact, and every run of it owes to the script what the headline says
+pub record IsCompiled (src : List ℕ) (code : Code) : Type 0 where
+  pub table : Table
+  pub tree : Tree
+  pub accepted : IsAccepted src table tree
+  pub code_of : IsCodeOf (core table tree) code
+  pub whole : IsCode code
+  pub exact : IsExact code
+  pub nodes : NodesOnce code
+  pub few : length code.entries ≤ 4194304
+  pub headline : Headline (core table tree) code
+  pub runs : RunsGoOn code
+  pub live : Clean (core table tree) → RunsAreLive (core table tree) code code_of.layout
