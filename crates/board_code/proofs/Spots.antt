@@ -43,7 +43,7 @@ place_end v (x ∷ xs) (suc i) h = shift v xs i (suc i) (omega (arith, h))
     shift v (x ∷ xs) (suc i) n h = shift v xs i n (omega (arith, h))
 
 -- a body that is not there leads nowhere
-blank : (bs : List Body) (b : ℕ) → length bs ≤ b → nth blank_body bs b ≡ blank_body
+pub blank : (bs : List Body) (b : ℕ) → length bs ≤ b → nth blank_body bs b ≡ blank_body
 blank [] b h = refl
 blank (x ∷ bs) zero h = absurd (omega (arith, h))
 blank (x ∷ bs) (suc b) h = blank bs b (omega (arith, h))

@@ -1,12 +1,13 @@
 -- What is worked out of an entry and of a body, as it follows from the code.
-use Rattle.std.specs.Prelude.{◌≡◌, ◌≤◌, ◌^◌, nat_eq, ℕ, suc, ◌+◌, Bool, true, false, List, [], ◌∷◌, map, length, Option, Some, None, if◌then◌else◌}
-use Rattle.std.specs.List.{filter, filter_map}
+use Rattle.std.specs.Prelude.{◌≡◌, ◌<◌, ◌^◌, nat_eq, not, ℕ, suc, ◌+◌, Bool, true, false, List, [], ◌∷◌, map, length, Option, Some, None, if◌then◌else◌}
+use Rattle.std.specs.List.{filter, filter_map, flat_map}
 use Rattle.data_store.specs.declared.datum.Shape.{Shape}
 use Rattle.data_store.specs.declared.datum.Shape.TheVariants.{Single, Keyed}
 use Rattle.replayed.specs.Ending.{held_times, slot_is}
 use Rattle.replayed.specs.Fields.{Absent, Slot}
-use Rattle.replayed.specs.Static.{outer_holds, own_count}
-use Rattle.task_code.specs.Code.{Argument, Code, Control, Entry, Fixed, Kind, Leaf, Local, Loop, Name, Named, Need, Variable, arguments, body, entry, kind_of, loop_of, scalar, stored_of}
+use Rattle.replayed.specs.Static.{name_times, names_in, outer_holds}
+use Rattle.task_code.specs.Check.{is_declared}
+use Rattle.task_code.specs.Code.{Argument, Code, Control, Entry, Fixed, Kind, Leaf, Local, Loop, Name, Named, Need, Variable, arguments, body, entry, here, kind_of, loop_of, scalar, stored_of}
 use Rattle.task_code.specs.Code as Pure
 use Rattle.work_queue.specs.declared.entry.Kind.{Kind as QueueKind}
 use Rattle.work_queue.specs.declared.entry.Kind.TheVariants as Runs
@@ -38,6 +39,48 @@ queue_kind Leaf = Runs.Leaf
 abbrev pub shape_of : Bool → Shape
 shape_of false = Single
 shape_of true = Keyed
+
+-- a variable has its datum at its first place among those that the body declares, which begins with a count of each of these names that is the variable
+abbrev pub is_place : ℕ → Option ℕ → Bool
+is_place n None = false
+is_place n (Some k) = nat_eq n k
+
+abbrev pub first_count : List Variable → ℕ → Variable → List Name → ℕ
+first_count makes n v rs = if is_place n (place_from 0 v makes) then name_times (here v) rs else 0
+
+-- a body's own datum at a place, with what it is and the counts that it begins with
+abbrev pub own_row : List Variable → (reads writes : List Name) → ℕ → Variable → Own
+own_row makes rs ws n v = record { shape = shape_of v.array; reads = first_count makes n v rs; writes = first_count makes n v ws }
+
+-- all from a place on
+abbrev pub own_from : List Variable → (reads writes : List Name) → ℕ → List Variable → List Own
+own_from makes rs ws n [] = []
+own_from makes rs ws n (v ∷ vs) = own_row makes rs ws n v ∷ own_from makes rs ws (suc n) vs
+
+abbrev pub is_kind : Kind → Kind → Bool
+is_kind Control Control = true
+is_kind Control Leaf = false
+is_kind Leaf Control = false
+is_kind Leaf Leaf = true
+
+-- what holds come to for a datum, where spots stand for slots
+abbrev pub at_spot : (Spot → Slot) → Option Spot → Slot
+at_spot f None = Absent
+at_spot f (Some s) = f s
+
+abbrev pub hold_times : (Hold → ℕ) → (Spot → Slot) → ℕ → List Hold → ℕ
+hold_times count f d [] = 0
+hold_times count f d (h ∷ hs) = (if slot_is d (f h.spot) then count h else 0) + hold_times count f d hs
+
+-- what so many holds for each of these names come to for a datum
+abbrev pub named_by : ℕ → (Name → Slot) → ℕ → List Name → ℕ
+named_by k f d [] = 0
+named_by k f d (r ∷ rs) = (if slot_is d (f r) then k else 0) + named_by k f d rs
+
+-- holds to which one more is added
+pub record GainsHold (old new : List Hold) (h : Hold) : Type 0 where
+  pub reads : (f : Spot → Slot) (d : ℕ) → hold_times (λ x. x.reads) f d new ≡ hold_times (λ x. x.reads) f d old + (if slot_is d (f h.spot) then h.reads else 0)
+  pub writes : (f : Spot → Slot) (d : ℕ) → hold_times (λ x. x.writes) f d new ≡ hold_times (λ x. x.writes) f d old + (if slot_is d (f h.spot) then h.writes else 0)
 
 module _ (C : Code) where
   -- what a need waits for, by where its names lead
@@ -86,48 +129,40 @@ module _ (C : Code) where
     pub value : t.value ≡ value_slot (loop_of (entry C i).act)
     pub turn : t.turn ≡ turn_slot (loop_of (entry C i).act)
 
-  -- a variable has its datum at its first place among those that the body declares
-  abbrev pub is_place : ℕ → Option ℕ → Bool
-  is_place n None = false
-  is_place n (Some k) = nat_eq n k
-
-  abbrev pub first_count : (Entry → List Name) → ℕ → ℕ → Variable → ℕ
-  first_count rights b n v = if is_place n (place_from 0 v (body C b).makes) then own_count C rights b v else 0
-
-  -- a body's own data from a place on, each with what it is and the counts that it begins with
-  abbrev pub own_from : ℕ → ℕ → List Variable → List Own
-  own_from b n [] = []
-  own_from b n (v ∷ vs) = record { shape = shape_of v.array; reads = first_count (λ e. e.reads) b n v; writes = first_count (λ e. e.writes) b n v } ∷ own_from b (suc n) vs
-
-  -- how many of a body's entries are run so
+  -- how many of these entries are run so
   abbrev pub runs_as : Kind → ℕ → Bool
-  runs_as k i = by k (kind_of (entry C i).act)
-    where
-      by : Kind → Kind → Bool
-      by Control Control = true
-      by Control Leaf = false
-      by Leaf Control = false
-      by Leaf Leaf = true
+  runs_as k i = is_kind k (kind_of (entry C i).act)
 
-  abbrev pub entries_of : Kind → ℕ → ℕ
-  entries_of k b = length (filter (runs_as k) (body C b).entries)
+  abbrev pub run_as : Kind → List ℕ → ℕ
+  run_as k js = length (filter (runs_as k) js)
 
-  -- what holds come to for a datum, where spots stand for slots
-  abbrev pub at_spot : (Spot → Slot) → Option Spot → Slot
-  at_spot f None = Absent
-  at_spot f (Some s) = f s
+  -- the names that are not the body's own
+  abbrev pub outside : ℕ → List Name → List Name
+  outside b rs = filter (λ r. not (is_declared C b r)) rs
 
-  abbrev pub hold_times : (Hold → ℕ) → (Spot → Slot) → ℕ → List Hold → ℕ
-  hold_times count f d [] = 0
-  hold_times count f d (h ∷ hs) = (if slot_is d (f h.spot) then count h else 0) + hold_times count f d hs
+  abbrev pub at_name : ℕ → (Spot → Slot) → Name → Slot
+  at_name b f r = at_spot f (spot_in C b r)
+
+  -- holds to which so many are added for each of the names that are not the body's own
+  pub record GainsNames (b reads writes : ℕ) (rs : List Name) (old new : List Hold) : Type 0 where
+    pub reads_are : (f : Spot → Slot) (d : ℕ) → hold_times (λ x. x.reads) f d new ≡ hold_times (λ x. x.reads) f d old + named_by reads (at_name b f) d (outside b rs)
+    pub writes_are : (f : Spot → Slot) (d : ℕ) → hold_times (λ x. x.writes) f d new ≡ hold_times (λ x. x.writes) f d old + named_by writes (at_name b f) d (outside b rs)
+
+  -- holds of the names that some entries have among their rights
+  abbrev pub names_of : (Entry → List Name) → List ℕ → List Name
+  names_of rights js = flat_map (λ j. rights (entry C j)) js
+
+  pub record HoldsOf (b : ℕ) (js : List ℕ) (hs : List Hold) : Type 0 where
+    pub reads : (f : Spot → Slot) (d : ℕ) → hold_times (λ x. x.reads) f d hs ≡ named_by 1 (at_name b f) d (outside b (names_of (λ e. e.reads) js))
+    pub writes : (f : Spot → Slot) (d : ℕ) → hold_times (λ x. x.writes) f d hs ≡ named_by 1 (at_name b f) d (outside b (names_of (λ e. e.writes) js))
 
   -- what is worked out of a body
   pub record IsBodyTable (b : ℕ) (t : BodyTable) : Type 0 where
-    pub own : t.own.items ≡ own_from b 0 (body C b).makes
-    pub reads : (f : Spot → Slot) (d : ℕ) → hold_times (λ h. h.reads) f d t.outer.items ≡ held_times (λ r. at_spot f (spot_in C b r)) d (outer_holds C (λ e. e.reads) b)
-    pub writes : (f : Spot → Slot) (d : ℕ) → hold_times (λ h. h.writes) f d t.outer.items ≡ held_times (λ r. at_spot f (spot_in C b r)) d (outer_holds C (λ e. e.writes) b)
-    pub controls : t.controls ≡ entries_of Control b
-    pub leaves : t.leaves ≡ entries_of Leaf b
+    pub own : t.own.items ≡ own_from (body C b).makes (names_in C (λ e. e.reads) b) (names_in C (λ e. e.writes) b) 0 (body C b).makes
+    pub reads : (f : Spot → Slot) (d : ℕ) → hold_times (λ x. x.reads) f d t.outer.items ≡ held_times (at_name b f) d (outer_holds C (λ e. e.reads) b)
+    pub writes : (f : Spot → Slot) (d : ℕ) → hold_times (λ x. x.writes) f d t.outer.items ≡ held_times (at_name b f) d (outer_holds C (λ e. e.writes) b)
+    pub controls : t.controls ≡ run_as Control (body C b).entries
+    pub leaves : t.leaves ≡ run_as Leaf (body C b).entries
 
 -- each member fits its place, counted from a number on
 abbrev pub AllFrom : {X : Type 0} → (ℕ → X → Type 0) → ℕ → List X → Type 0
@@ -137,7 +172,8 @@ AllFrom P n (x ∷ xs) = P n x × AllFrom P (suc n) xs
 -- the tables of a code
 pub record IsProgram (C : Code) (homes : List (Option ℕ)) (entries : List EntryTable) (bodies : List BodyTable) : Type 0 where
   pub homes_are : homes ≡ homes_of C
-  pub few : length C.bodies ≤ 2 ^ 32
+  pub few_bodies : length C.bodies < 2 ^ 32
+  pub few_entries : length C.entries < 2 ^ 32
   pub each_entry : AllFrom (λ i t. IsEntryTable C (body_of C i) i t) 0 entries
   pub all_entries : length entries ≡ length C.entries
   pub each_body : AllFrom (λ b t. IsBodyTable C b t) 0 bodies

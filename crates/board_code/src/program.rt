@@ -1,11 +1,18 @@
 //! Code with what is worked out once from it: where its names lead, and how an instance of each body changes the counts of data.
 
-ghost use Rattle.std.specs.Prelude.{◌≡◌, IfOk};
+ghost use Rattle.std.specs.Prelude.{◌≡◌, ◌<◌, ◌≤◌, ◌^◌, ◌++◌, length, map, option_map, IfOk, MatchOption, OnOk};
+ghost use Rattle.std.specs.Option.{option_to_list};
+ghost use Rattle.task_code.specs.Code.{Named, arguments, body as body_at, entry as entry_at, kind_of, loop_of, scalar, stored_of};
+ghost use Rattle.task_code.specs.View.{act_view, argument_view, entry_view, loop_view, name_view, need_view};
+ghost use Rattle.board_code.specs.Spots.{home_of, homes_of, place_from};
+ghost use Rattle.board_code.specs.Tables.{AllFrom, IsBodyTable, IsEntryTable, body_of, body_or_script, first_spot, passed_in, queue_kind, spots_in, turn_slot, value_slot, wanted_in};
 
-use crate::spot::{Spot, homes, own_slot, spot_of};
+use crate::bodies::body_table;
+use crate::spot::{Spot, homes, place_among, spot_in};
 use data_store::store::Shape;
 use std::alloc::{AllocError, Global};
-use task_code::code::{Body, Code};
+use std::marker::Model;
+use task_code::code::Code;
 use task_code::entry::{Act, Argument, Entry, Loop, Name, Need, Owned, Variable};
 use values::key::Key;
 use work_queue::entry::Kind;
@@ -79,7 +86,9 @@ pub struct Program {
 }
 
 /// Who runs the entry of this number.
-fn kind_of(code: &Code, number: u32) -> Kind {
+fn kind_of(code: &Code, number: u32) -> Kind
+    ensures { result ≡ queue_kind (kind_of (entry_at code.now number).act) }
+{
     match code.kind(number) {
         task_code::entry::Kind::Control => Kind::Control,
         task_code::entry::Kind::Leaf => Kind::Leaf,
@@ -87,16 +96,19 @@ fn kind_of(code: &Code, number: u32) -> Kind {
 }
 
 /// What a need comes to, by where its names lead from the body.
-fn wanted_of(code: &Code, homes: &[Option<u32>], body: u32, need: &Need) -> Wanted {
+fn wanted_of(code: &Code, homes: &[Option<u32>], body: u32, need: &Need) -> Wanted
+    requires { homes.now ≡ homes_of code.now }
+    ensures { result ≡ wanted_in code.now body (need_view need.now) }
+{
     match need {
-        Need::Stored(name) => Wanted::Stored(spot_of(code, homes, body, *name)),
-        Need::Closed(name) => Wanted::Closed(spot_of(code, homes, body, *name)),
+        Need::Stored(name) => Wanted::Stored(spot_in(code, homes, body, *name)),
+        Need::Closed(name) => Wanted::Closed(spot_in(code, homes, body, *name)),
         Need::At(array, index) => Wanted::At(
-            spot_of(code, homes, body, *array),
-            spot_of(code, homes, body, *index),
+            spot_in(code, homes, body, *array),
+            spot_in(code, homes, body, *index),
         ),
         Need::AtKey(array, key) => Wanted::AtKey(
-            spot_of(code, homes, body, *array),
+            spot_in(code, homes, body, *array),
             crate::key::copy_key(key),
         ),
     }
@@ -108,7 +120,10 @@ fn needs_of(
     homes: &[Option<u32>],
     body: u32,
     needs: &[Need],
-) -> Result<Vec<Wanted>, AllocError> {
+) -> Result<Vec<Wanted>, AllocError>
+    requires { homes.now ≡ homes_of code.now }
+    ensures { IfOk result (λ wanted. wanted.items ≡ map (wanted_in code.now body) (map need_view needs.now)) }
+{
     let mut wanted = Vec::new(alloc);
     for need in needs {
         wanted.push(wanted_of(code, homes, body, need))?;
@@ -117,16 +132,20 @@ fn needs_of(
 }
 
 /// Where the names lead that lead anywhere.
+#[tactic(auto, using(crate::proofs::Tables::spots_some, crate::proofs::Tables::spots_none, crate::proofs::Tables::spots_end))]
 fn spots_of(
     alloc: Global,
     code: &Code,
     homes: &[Option<u32>],
     body: u32,
     names: &[Name],
-) -> Result<Vec<Spot>, AllocError> {
+) -> Result<Vec<Spot>, AllocError>
+    requires { homes.now ≡ homes_of code.now }
+    ensures { IfOk result (λ spots. spots.items ≡ spots_in code.now body (map name_view names.now)) }
+{
     let mut spots = Vec::new(alloc);
-    for name in names {
-        if let Some(spot) = spot_of(code, homes, body, *name) {
+    for at in 0..names.len() {
+        if let Some(spot) = spot_in(code, homes, body, names[at]) {
             spots.push(spot)?;
         }
     }
@@ -134,7 +153,9 @@ fn spots_of(
 }
 
 /// The name that an entry stores into.
-fn target_of(entry: &Entry) -> Option<Name> {
+fn target_of(entry: &Entry) -> Option<Name>
+    ensures { option_to_list (option_map name_view result) ≡ stored_of (entry_view entry.now).node (entry_view entry.now).act }
+{
     match &entry.act {
         Act::Cell(_) | Act::Read => Some(Name {
             up: 0,
@@ -150,6 +171,17 @@ fn target_of(entry: &Entry) -> Option<Name> {
     }
 }
 
+/// Where that name leads.
+fn target_spot(code: &Code, homes: &[Option<u32>], body: u32, entry: &Entry) -> Option<Spot>
+    requires { homes.now ≡ homes_of code.now }
+    ensures { result ≡ first_spot code.now body (stored_of (entry_view entry.now).node (entry_view entry.now).act) }
+{
+    match target_of(entry) {
+        Some(name) => spot_in(code, homes, body, name),
+        None => None,
+    }
+}
+
 /// What a call hands over for its inputs.
 fn push_inputs(
     passed: &mut Vec<Passed>,
@@ -157,14 +189,25 @@ fn push_inputs(
     homes: &[Option<u32>],
     body: u32,
     inputs: &[Argument],
-) -> Result<(), AllocError> {
+) -> Result<(), AllocError>
+    requires { homes.now ≡ homes_of code.now }
+    ensures { OnOk result (passed.new.items ≡ passed.old.items ++ map (passed_in code.now body) (map argument_view inputs.now)) }
+{
     for input in inputs {
-        passed.push(match input {
-            Argument::Named(name) => Passed::Named(spot_of(code, homes, body, *name)),
-            Argument::Fixed(_) => Passed::Fixed,
-        })?;
+        passed.push(passed_of(code, homes, body, input))?;
     }
     Ok(())
+}
+
+/// What it hands over for one input.
+fn passed_of(code: &Code, homes: &[Option<u32>], body: u32, input: &Argument) -> Passed
+    requires { homes.now ≡ homes_of code.now }
+    ensures { result ≡ passed_in code.now body (argument_view input.now) }
+{
+    match input {
+        Argument::Named(name) => Passed::Named(spot_in(code, homes, body, *name)),
+        Argument::Fixed(_) => Passed::Fixed,
+    }
 }
 
 /// The same for its outputs.
@@ -174,9 +217,12 @@ fn push_outputs(
     homes: &[Option<u32>],
     body: u32,
     outputs: &[Name],
-) -> Result<(), AllocError> {
+) -> Result<(), AllocError>
+    requires { homes.now ≡ homes_of code.now }
+    ensures { OnOk result (passed.new.items ≡ passed.old.items ++ map (passed_in code.now body) (map Named (map name_view outputs.now))) }
+{
     for output in outputs {
-        passed.push(Passed::Named(spot_of(code, homes, body, *output)))?;
+        passed.push(Passed::Named(spot_in(code, homes, body, *output)))?;
     }
     Ok(())
 }
@@ -188,7 +234,10 @@ fn arguments_of(
     homes: &[Option<u32>],
     body: u32,
     act: &Act,
-) -> Result<Vec<Passed>, AllocError> {
+) -> Result<Vec<Passed>, AllocError>
+    requires { homes.now ≡ homes_of code.now }
+    ensures { IfOk result (λ passed. passed.items ≡ map (passed_in code.now body) (arguments (act_view act.now))) }
+{
     let mut passed = Vec::new(alloc);
     if let Act::Call {
         body: _,
@@ -203,30 +252,46 @@ fn arguments_of(
 }
 
 /// The slot of a scalar of the body, told by its node.
-fn scalar_slot(code: &Code, body: u32, node: u32) -> Option<usize> {
-    let variable = Variable { node, array: false };
-    own_slot(code.body(body)?, Owned::Local(variable))
+#[tactic(auto, using(crate::proofs::Counts::no_place))]
+fn scalar_slot(code: &Code, body: u32, node: u32) -> Option<usize>
+    ensures { result ≡ place_from 0 (scalar node) (body_at code.now body).makes }
+{
+    match code.body(body) {
+        Some(found) => place_among(found.makes.as_slice(), Variable { node, array: false }),
+        None => None,
+    }
 }
 
 /// The loop that an entry is.
-fn loop_of(act: &Act) -> Option<Loop> {
+fn loop_of(act: &Act) -> Option<Loop>
+    ensures { option_map loop_view result ≡ loop_of (act_view act.now) }
+{
     match act {
         Act::Range(_, _, _, found) | Act::Each(found) => Some(*found),
         _ => None,
     }
 }
 
-/// The slots of the variables that a loop's turns have.
-fn turn_slots(code: &Code, act: &Act) -> (Option<usize>, Option<usize>) {
+/// The slot of the value in the turns of a loop.
+fn value_slot(code: &Code, act: &Act) -> Option<usize>
+    ensures { result ≡ value_slot code.now (loop_of (act_view act.now)) }
+{
     match loop_of(act) {
-        Some(found) => (
-            scalar_slot(code, found.body, found.value),
-            match found.turn {
-                Some(node) => scalar_slot(code, found.body, node),
-                None => None,
-            },
-        ),
-        None => (None, None),
+        Some(found) => scalar_slot(code, found.body, found.value),
+        None => None,
+    }
+}
+
+/// The slot of the key or number of the turn.
+fn turn_slot(code: &Code, act: &Act) -> Option<usize>
+    ensures { result ≡ turn_slot code.now (loop_of (act_view act.now)) }
+{
+    match loop_of(act) {
+        Some(found) => match found.turn {
+            Some(node) => scalar_slot(code, found.body, node),
+            None => None,
+        },
+        None => None,
     }
 }
 
@@ -238,166 +303,109 @@ fn entry_table(
     body: u32,
     number: u32,
     entry: &Entry,
-) -> Result<EntryTable, AllocError> {
-    let (value, turn) = turn_slots(code, &entry.act);
+) -> Result<EntryTable, AllocError>
+    requires homes { homes.now ≡ homes_of code.now }
+    requires there { entry_view entry.now ≡ entry_at code.now number }
+    ensures { IfOk result (λ table. IsEntryTable code.now body number table) }
+{
     Ok(EntryTable {
         kind: kind_of(code, number),
         priority: entry.priority,
         needs: needs_of(alloc, code, homes, body, entry.needs.as_slice())?,
         reads: spots_of(alloc, code, homes, body, entry.reads.as_slice())?,
         writes: spots_of(alloc, code, homes, body, entry.writes.as_slice())?,
-        target: match target_of(entry) {
-            Some(name) => spot_of(code, homes, body, name),
-            None => None,
-        },
+        target: target_spot(code, homes, body, entry),
         arguments: arguments_of(alloc, code, homes, body, &entry.act)?,
-        value,
-        turn,
+        value: value_slot(code, &entry.act),
+        turn: turn_slot(code, &entry.act),
     })
 }
 
-/// What is worked out of all entries. One that no body has is taken for one of the script's.
+/// The body that has an entry. One that no body has is taken for one of the script's.
+fn body_of(homes: &[Option<u32>], number: u32) -> u32
+    ensures { result ≡ body_or_script (home_of homes.now number) }
+{
+    if number as usize >= homes.len() {
+        return 0;
+    }
+    match homes[number as usize] {
+        Some(body) => body,
+        None => 0,
+    }
+}
+
+/// What is worked out of all entries.
 fn entry_tables(
     alloc: Global,
     code: &Code,
     homes: &[Option<u32>],
-) -> Result<Vec<EntryTable>, AllocError> {
+) -> Result<Vec<EntryTable>, AllocError>
+    requires homes { homes.now ≡ homes_of code.now }
+    requires few { length code.now.entries < 2 ^ 32 }
+    ensures each { IfOk result (λ tables. AllFrom (λ i t. IsEntryTable code.now (body_of code.now i) i t) 0 tables.items) }
+    ensures all { IfOk result (λ tables. length tables.items ≡ length code.now.entries) }
+{
     let mut tables = Vec::new(alloc);
-    for number in 0..u32::MAX {
+    for number in 0..code.entry_count() {
+        let number = number as u32;
         let Some(entry) = code.entry(number) else {
             break;
         };
-        let body = match homes.get(number as usize) {
-            Some(Some(home)) => *home,
-            _ => 0,
-        };
+        let body = body_of(homes, number);
         tables.push(entry_table(alloc, code, homes, body, number, entry)?)?;
     }
     Ok(tables)
-}
-
-/// The variables of a body, without holds.
-fn own_data(alloc: Global, body: &Body) -> Result<Vec<Own>, AllocError> {
-    let mut own = Vec::new(alloc);
-    for variable in &body.makes {
-        own.push(Own {
-            shape: if variable.array {
-                Shape::Keyed
-            } else {
-                Shape::Single
-            },
-            reads: 0,
-            writes: 0,
-        })?;
-    }
-    Ok(own)
-}
-
-/// Adds a hold to those of the same spot.
-fn add_hold(outer: &mut Vec<Hold>, added: Hold) -> Result<(), AllocError> {
-    for hold in outer.iter_mut() {
-        if hold.spot == added.spot {
-            hold.reads = hold.reads.saturating_add(added.reads);
-            hold.writes = hold.writes.saturating_add(added.writes);
-            return Ok(());
-        }
-    }
-    outer.push(added)?;
-    Ok(())
-}
-
-/// Counts a hold: of the body's own datum, or of one outside.
-fn count_hold(own: &mut Vec<Own>, outer: &mut Vec<Hold>, added: Hold) -> Result<(), AllocError> {
-    if added.spot.levels == 0 {
-        if let Some(datum) = own.get_mut(added.spot.slot) {
-            datum.reads = datum.reads.saturating_add(added.reads);
-            datum.writes = datum.writes.saturating_add(added.writes);
-            return Ok(());
-        }
-    }
-    add_hold(outer, added)
-}
-
-/// Counts the holds of an entry, so many of each kind for a spot.
-fn count_holds(
-    own: &mut Vec<Own>,
-    outer: &mut Vec<Hold>,
-    spots: &[Spot],
-    reads: u64,
-    writes: u64,
-) -> Result<(), AllocError> {
-    for spot in spots {
-        let spot = *spot;
-        count_hold(
-            own,
-            outer,
-            Hold {
-                spot,
-                reads,
-                writes,
-            },
-        )?;
-    }
-    Ok(())
-}
-
-/// What is worked out of a body.
-fn body_table(alloc: Global, tables: &[EntryTable], body: &Body) -> Result<BodyTable, AllocError> {
-    let mut table = BodyTable {
-        own: own_data(alloc, body)?,
-        outer: Vec::new(alloc),
-        controls: 0,
-        leaves: 0,
-    };
-    for number in &body.entries {
-        let Some(entry) = tables.get(*number as usize) else {
-            continue;
-        };
-        count_holds(
-            &mut table.own,
-            &mut table.outer,
-            entry.reads.as_slice(),
-            1,
-            0,
-        )?;
-        count_holds(
-            &mut table.own,
-            &mut table.outer,
-            entry.writes.as_slice(),
-            0,
-            1,
-        )?;
-        match entry.kind {
-            Kind::Control => table.controls = table.controls.saturating_add(1),
-            Kind::Leaf => table.leaves = table.leaves.saturating_add(1),
-        }
-    }
-    Ok(table)
 }
 
 /// What is worked out of all bodies.
 fn body_tables(
     alloc: Global,
     code: &Code,
-    entries: &[EntryTable],
-) -> Result<Vec<BodyTable>, AllocError> {
+    homes: &[Option<u32>],
+) -> Result<Vec<BodyTable>, AllocError>
+    requires homes { homes.now ≡ homes_of code.now }
+    requires few { length code.now.bodies < 2 ^ 32 }
+    ensures each { IfOk result (λ tables. AllFrom (λ b t. IsBodyTable code.now b t) 0 tables.items) }
+    ensures all { IfOk result (λ tables. length tables.items ≡ length code.now.bodies) }
+{
     let mut tables = Vec::new(alloc);
-    for number in 0..u32::MAX {
-        match code.body(number) {
-            Some(body) => tables.push(body_table(alloc, entries, body)?)?,
-            None => break,
-        }
+    for number in 0..code.body_count() {
+        let number = number as u32;
+        let Some(body) = code.body(number) else {
+            break;
+        };
+        tables.push(body_table(alloc, code, homes, number, body)?)?;
     }
     Ok(tables)
 }
 
+impl Model for Program {
+    ghost use Rattle.task_code.specs.Code.{Code as PureCode};
+    ghost use Rattle.board_code.specs.Tables.{IsProgram};
+    ghost use Rattle.std.specs.Coded.{codes};
+    ghost use Rattle.task_code.specs.Tokens.{expr_code, exprs_code};
+
+    ghost Value = { PureCode };
+
+    ghost coded = { Prim.hlevel (codes, expr_code (Prim.hlevel codes), exprs_code (Prim.hlevel codes)) };
+
+    ghost view = { λ p. p.code };
+
+    ghost invariant = { λ p. IsProgram p.code p.homes.items p.entries.items p.bodies.items };
+}
+
 impl Program {
+    /// The code with all that is worked out of it. Code of 2^32 entries or bodies or more, or of more names than 64 bits
+    /// count, is refused as want of memory.
     pub fn new(alloc: Global, code: Code) -> Result<Program, AllocError>
-        ensures { IfOk result (λ program. program.code ≡ code) }
+        ensures { IfOk result (λ program. program ≡ code) }
     {
+        if code.body_count() > u32::MAX as usize || code.entry_count() > u32::MAX as usize {
+            return Err(AllocError);
+        }
         let homes = homes(alloc, &code)?;
         let entries = entry_tables(alloc, &code, homes.as_slice())?;
-        let bodies = body_tables(alloc, &code, entries.as_slice())?;
+        let bodies = body_tables(alloc, &code, homes.as_slice())?;
         Ok(Program {
             code,
             homes,
@@ -406,16 +414,39 @@ impl Program {
         })
     }
 
-    pub fn entry(&self, number: u32) -> Option<&EntryTable> {
-        self.entries.get(number as usize)
+    /// The code.
+    pub fn code(&self) -> &Code
+        ensures { result.now ≡ self.now }
+    {
+        &self.code
     }
 
-    pub fn body(&self, number: u32) -> Option<&BodyTable> {
-        self.bodies.get(number as usize)
+    /// What is worked out of the entry of this number, where there is one.
+    #[tactic(auto, using(crate::proofs::Tables::all_at))]
+    pub fn entry(&self, number: u32) -> Option<&EntryTable>
+        ensures { MatchOption result (length self.now.entries ≤ number) (λ table. (number < length self.now.entries) × IsEntryTable self.now (body_of self.now number) number table.now) }
+    {
+        if number as usize >= self.entries.len() {
+            return None;
+        }
+        Some(&self.entries[number as usize])
+    }
+
+    /// What is worked out of the body of this number, where there is one.
+    #[tactic(auto, using(crate::proofs::Tables::all_at))]
+    pub fn body(&self, number: u32) -> Option<&BodyTable>
+        ensures { MatchOption result (length self.now.bodies ≤ number) (λ table. (number < length self.now.bodies) × IsBodyTable self.now number table.now) }
+    {
+        if number as usize >= self.bodies.len() {
+            return None;
+        }
+        Some(&self.bodies[number as usize])
     }
 
     /// What the need comes to, seen from the body.
-    pub fn wanted(&self, body: u32, need: &Need) -> Wanted {
+    pub fn wanted(&self, body: u32, need: &Need) -> Wanted
+        ensures { result ≡ wanted_in self.now body (need_view need.now) }
+    {
         wanted_of(&self.code, self.homes.as_slice(), body, need)
     }
 }

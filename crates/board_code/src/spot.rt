@@ -1,7 +1,7 @@
 //! Where the names of a body lead, worked out from the code alone.
-ghost use Rattle.std.specs.Prelude.{◌≡◌, length, map};
-ghost use Rattle.task_code.specs.View.{body_view, opener_view, owned_view, variable_view};
-ghost use Rattle.board_code.specs.Spots.{at_home, go_out, home_of, own_if, own_slot, place_from, spot_from};
+ghost use Rattle.std.specs.Prelude.{◌≡◌, ◌<◌, ◌^◌, length, map, replicate, None, IfOk};
+ghost use Rattle.task_code.specs.View.{body_view, name_view, opener_view, owned_view, variable_view};
+ghost use Rattle.board_code.specs.Spots.{at_home, go_out, home_of, homes_of, note, own_if, own_slot, place_from, spot_from, spot_in};
 
 use std::alloc::{AllocError, Global};
 use task_code::code::{Body, Code, Opener};
@@ -15,24 +15,41 @@ pub struct Spot {
 }
 
 /// Notes the body for each of its entries.
-fn note_home(homes: &mut Vec<Option<u32>>, body: &Body, number: u32) {
-    for entry in &body.entries {
-        if let Some(home) = homes.get_mut(*entry as usize) {
-            *home = Some(number);
+#[tactic(auto, using(crate::proofs::Homes::note_next, crate::proofs::Homes::note_past, crate::proofs::Homes::note_end))]
+fn note_home(homes: &mut Vec<Option<u32>>, body: &Body, number: u32)
+    ensures { homes.new.items ≡ note number (body_view body.now).entries homes.old.items }
+{
+    for at in 0..body.entries.len() {
+        let entry = body.entries[at] as usize;
+        if entry < homes.len() {
+            homes[entry] = Some(number);
         }
     }
 }
 
-/// The body that has each entry, by the entry's number.
-pub fn homes(alloc: Global, code: &Code) -> Result<Vec<Option<u32>>, AllocError> {
+/// As many entries without a body.
+#[tactic(auto, using(crate::proofs::Homes::one_more))]
+fn no_homes(alloc: Global, count: usize) -> Result<Vec<Option<u32>>, AllocError>
+    ensures { IfOk result (λ homes. homes.items ≡ replicate count None) }
+{
     let mut homes = Vec::new(alloc);
-    for _ in 0..code.entry_count() {
+    for _ in 0..count {
         homes.push(None)?;
     }
-    for number in 0..u32::MAX {
-        match code.body(number) {
-            Some(body) => note_home(&mut homes, body, number),
-            None => break,
+    Ok(homes)
+}
+
+/// The body that has each entry, by the entry's number.
+#[tactic(auto, using(crate::proofs::Homes::noted_next, crate::proofs::Homes::noted_end))]
+pub fn homes(alloc: Global, code: &Code) -> Result<Vec<Option<u32>>, AllocError>
+    requires { length code.now.bodies < 2 ^ 32 }
+    ensures { IfOk result (λ homes. homes.items ≡ homes_of code.now) }
+{
+    let mut homes = no_homes(alloc, code.entry_count())?;
+    for number in 0..code.body_count() {
+        let number = number as u32;
+        if let Some(body) = code.body(number) {
+            note_home(&mut homes, body, number);
         }
     }
     Ok(homes)
@@ -40,7 +57,7 @@ pub fn homes(alloc: Global, code: &Code) -> Result<Vec<Option<u32>>, AllocError>
 
 /// The place of a variable among those that a block declares.
 #[tactic(auto, using(crate::proofs::Spots::place_next, crate::proofs::Spots::place_here, crate::proofs::Spots::place_end))]
-fn place_among(makes: &[Variable], variable: Variable) -> Option<usize>
+pub fn place_among(makes: &[Variable], variable: Variable) -> Option<usize>
     ensures { result ≡ place_from 0 (variable_view variable) (map variable_view makes.now) }
 {
     for at in 0..makes.len() {
@@ -96,7 +113,7 @@ fn home_of(homes: &[Option<u32>], entry: u32, up: usize) -> Option<(u32, usize)>
 
 /// Where a name of the body leads, if anywhere.
 #[tactic(auto, using(crate::proofs::Spots::spot_own, crate::proofs::Spots::spot_none, crate::proofs::Spots::spot_out, crate::proofs::Spots::spot_past, crate::proofs::Spots::spot_end))]
-pub fn spot_of(code: &Code, homes: &[Option<u32>], body: u32, name: Name) -> Option<Spot>
+fn spot_of(code: &Code, homes: &[Option<u32>], body: u32, name: Name) -> Option<Spot>
     ensures { result ≡ spot_from code.now homes.now (length code.now.bodies) body name.up (owned_view name.owned) }
 {
     let mut at = body;
@@ -111,6 +128,14 @@ pub fn spot_of(code: &Code, homes: &[Option<u32>], body: u32, name: Name) -> Opt
         up = left;
     }
     None
+}
+
+/// The same for the bodies that have the entries.
+pub fn spot_in(code: &Code, homes: &[Option<u32>], body: u32, name: Name) -> Option<Spot>
+    requires { homes.now ≡ homes_of code.now }
+    ensures { result ≡ spot_in code.now body (name_view name) }
+{
+    spot_of(code, homes, body, name)
 }
 
 /// The slot of what is the body's own, where the owner lies no step further out.
