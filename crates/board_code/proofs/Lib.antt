@@ -1,4 +1,5 @@
 pub mod Counts
+pub mod Found
 pub mod Holds
 pub mod Homes
 pub mod Spots

@@ -180,7 +180,7 @@ impl<'a> View<'a> {
     {
         match self.slot(spot) {
             Slot::Datum(d) => value(self.store, d),
-            Slot::Literal(call, place) => literal(&self.program.code, call, place),
+            Slot::Literal(call, place) => literal(self.program.code(), call, place),
             Slot::Absent => None,
         }
     }
@@ -210,7 +210,7 @@ impl<'a> View<'a> {
             Wanted::Closed(spot) => missing_array(self.store, self.slot(*spot)),
             Wanted::At(array, index) => {
                 let d = self.datum(*array)?;
-                missing_at(&self.program.code, self.store, d, self.slot(*index))
+                missing_at(self.program.code(), self.store, d, self.slot(*index))
             }
             Wanted::AtKey(array, key) => missing_element(self.store, self.slot(*array), key),
         }

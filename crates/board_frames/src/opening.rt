@@ -137,10 +137,10 @@ pub fn inner(
     way: Option<Step>,
     arguments: (u32, &[Passed]),
 ) -> Result<Option<Instance>, AllocError>
-    ensures some { IfOk result (λ found. IfSome found (λ instance. IsInner around.entry.program.now.code (frames_view around.entry.instances.now.slots) around.entry.at number (option_map step_view way) (passed_from (frames_view around.entry.instances.now.slots) around.entry.at arguments.entry.0 0 arguments.entry.1.now) (frame_view instance))) }
-    ensures none { IfOk result (λ found. IfNone found ((length around.entry.program.now.code.bodies ≤ number) ⊎ (slot_of (frames_view around.entry.instances.now.slots) around.entry.at ≡ None))) }
+    ensures some { IfOk result (λ found. IfSome found (λ instance. IsInner around.entry.program.now (frames_view around.entry.instances.now.slots) around.entry.at number (option_map step_view way) (passed_from (frames_view around.entry.instances.now.slots) around.entry.at arguments.entry.0 0 arguments.entry.1.now) (frame_view instance))) }
+    ensures none { IfOk result (λ found. IfNone found ((length around.entry.program.now.bodies ≤ number) ⊎ (slot_of (frames_view around.entry.instances.now.slots) around.entry.at ≡ None))) }
 {
-    let Some(body) = around.program.code.body(number) else {
+    let Some(body) = around.program.code().body(number) else {
         return Ok(None);
     };
     let Some(outer) = around.instances.get(around.at) else {
