@@ -176,7 +176,7 @@ impl<'a> View<'a> {
     /// The scalar that a name stands for, once it is known.
     #[tactic(auto, using(crate::proofs::Cells::value_there))]
     pub fn scalar(self, spot: Option<Spot>) -> Option<&'a Scalar>
-        ensures { option_copied result ≡ scalar_in self.entry.program.now.code (cells_view self.entry.store.now.cells) (led_slot (frames_view self.entry.instances.now.slots) self.entry.at spot) }
+        ensures { option_copied result ≡ scalar_in self.entry.program.now (cells_view self.entry.store.now.cells) (led_slot (frames_view self.entry.instances.now.slots) self.entry.at spot) }
     {
         match self.slot(spot) {
             Slot::Datum(d) => value(self.store, d),
@@ -188,7 +188,7 @@ impl<'a> View<'a> {
     /// The element that is waited for, where there is one.
     #[tactic(auto, using(crate::proofs::Cells::element_there))]
     pub fn found(self, wanted: &Wanted) -> Option<&'a Scalar>
-        ensures { option_copied result ≡ wanted_found self.entry.program.now.code (cells_view self.entry.store.now.cells) (led_slot (frames_view self.entry.instances.now.slots) self.entry.at) wanted.now }
+        ensures { option_copied result ≡ wanted_found self.entry.program.now (cells_view self.entry.store.now.cells) (led_slot (frames_view self.entry.instances.now.slots) self.entry.at) wanted.now }
     {
         match wanted {
             Wanted::Stored(spot) => self.scalar(*spot),
@@ -203,7 +203,7 @@ impl<'a> View<'a> {
 
     /// What is missing now: an element whose index is not known waits for the index first.
     pub fn missing(self, wanted: &Wanted) -> Option<Input>
-        ensures { wants_in result ≡ wanted_missed self.entry.program.now.code (cells_view self.entry.store.now.cells) (led_slot (frames_view self.entry.instances.now.slots) self.entry.at) wanted.now }
+        ensures { wants_in result ≡ wanted_missed self.entry.program.now (cells_view self.entry.store.now.cells) (led_slot (frames_view self.entry.instances.now.slots) self.entry.at) wanted.now }
     {
         match wanted {
             Wanted::Stored(spot) => missing_scalar(self.store, self.slot(*spot)),
@@ -218,7 +218,7 @@ impl<'a> View<'a> {
 
     /// Puts what is missing behind the inputs, if anything is.
     fn push_missing(self, wanted: &Wanted, inputs: &mut Inputs) -> Result<(), AllocError>
-        ensures pushed { OnOk result (map want_view inputs.new.items ≡ map want_view inputs.old.items ++ wanted_missed self.entry.program.now.code (cells_view self.entry.store.now.cells) (led_slot (frames_view self.entry.instances.now.slots) self.entry.at) wanted.now) }
+        ensures pushed { OnOk result (map want_view inputs.new.items ≡ map want_view inputs.old.items ++ wanted_missed self.entry.program.now (cells_view self.entry.store.now.cells) (led_slot (frames_view self.entry.instances.now.slots) self.entry.at) wanted.now) }
         ensures succeeds { HasRoomFor inputs.old 1 → IsOk result }
         ensures room { (n : ℕ) → HasRoomFor inputs.old (n + 1) → HasRoomFor inputs.new n }
     {
@@ -236,7 +236,7 @@ impl<'a> View<'a> {
     /// there are needs.
     #[tactic(auto, using(crate::proofs::Missed::missed_end))]
     pub fn list_missing(self, needs: &[Wanted], inputs: &mut Inputs) -> Result<(), AllocError>
-        ensures listed { OnOk result (map want_view inputs.new.items ≡ map want_view inputs.old.items ++ flat_map (wanted_missed self.entry.program.now.code (cells_view self.entry.store.now.cells) (led_slot (frames_view self.entry.instances.now.slots) self.entry.at)) needs.now) }
+        ensures listed { OnOk result (map want_view inputs.new.items ≡ map want_view inputs.old.items ++ flat_map (wanted_missed self.entry.program.now (cells_view self.entry.store.now.cells) (led_slot (frames_view self.entry.instances.now.slots) self.entry.at)) needs.now) }
         ensures succeeds { HasRoomFor inputs.old (length needs.now) → IsOk result }
     {
         for wanted in needs {
