@@ -1,15 +1,18 @@
-//! From the bytes of a script to its statements.
-ghost use Rattle.std.specs.Prelude.{IfOk, IfErr};
+//! From the bytes of a script to its statements and its code.
+ghost use Rattle.std.specs.Prelude.{IfOk, IfErr, IsOk};
 ghost use Rattle.syntax_trees.specs.View.{tree_of};
 ghost use Rattle.types.specs.Typed.{table_of};
-ghost use Rattle.compile.specs.Compiled.{IsFlowFor, IsFlowOf};
-ghost use Rattle.compile.specs.Compiles.{IsUnfit};
+ghost use Rattle.compile.specs.Compiled.{IsCompiled, IsFlowFor, IsFlowOf};
+ghost use Rattle.compile.specs.Compiles.{IsScript, IsUnfit};
 
 use crate::check::{Accepted, accept};
 use crate::fault::CompileFault;
+use code_listing::text::listing;
+use emit::emit;
 use flow::script::Flow;
 use lowering::lower;
 use std::alloc::{AllocError, Allocator, Global};
+use task_code::code::Code;
 use wait_merge::merge;
 
 /// The statements of a script, with their names resolved and their waits merged. They lie in `alloc`, as its tree does until
@@ -41,4 +44,69 @@ fn flow_of<A: Allocator + Clone>(accepted: &Accepted<A>) -> Result<Flow<A>, Allo
     let flow = lower(alloc, &accepted.script, &accepted.typed)?;
     let merged = merge(flow)?;
     Ok(merged)
+}
+
+/// The statements of a script and its code.
+#[derive(Drop)]
+pub struct Compiled<A: Allocator> {
+    pub flow: Flow<A>,
+    pub code: Code,
+}
+
+/// The statements of a script and its code. The tree and the flow lie in `alloc`, and the code in the machine's memory.
+///
+/// # Errors
+///
+/// The refusal of the first step that refuses the script, or want of memory.
+pub fn with_flow<A: Allocator + Clone>(
+    machine: Global,
+    alloc: A,
+    src: &[u8],
+) -> Result<Compiled<A>, CompileFault>
+    ensures flow { IfOk result (λ compiled. IsFlowOf src.now compiled.flow) }
+    ensures code { IfOk result (λ compiled. IsCompiled src.now compiled.code) }
+    ensures unfit { IfErr result (λ fault. IsUnfit src.now fault) }
+{
+    let flow = read(machine, alloc, src)?;
+    match emit(machine, &flow) {
+        Ok(code) => Ok(Compiled { flow, code }),
+        Err(_) => Err(CompileFault::Memory),
+    }
+}
+
+/// The code of a script.
+///
+/// # Errors
+///
+/// The refusal of the first step that refuses the script, or want of memory.
+pub fn compile<A: Allocator + Clone>(
+    machine: Global,
+    alloc: A,
+    src: &[u8],
+) -> Result<Code, CompileFault>
+    ensures code { IfOk result (λ code. IsCompiled src.now code) }
+    ensures unfit { IfErr result (λ fault. IsUnfit src.now fault) }
+{
+    let compiled = with_flow(machine, alloc, src)?;
+    Ok(compiled.code)
+}
+
+/// The listing of a script's code.
+///
+/// # Errors
+///
+/// The refusal of the first step that refuses the script, or want of memory.
+pub fn listed<A: Allocator + Clone>(
+    machine: Global,
+    alloc: A,
+    src: &[u8],
+) -> Result<Vec<u8>, CompileFault>
+    ensures script { IsOk result → IsScript src.now }
+    ensures unfit { IfErr result (λ fault. IsUnfit src.now fault) }
+{
+    let compiled = with_flow(machine, alloc, src)?;
+    match listing(machine, &compiled.flow, &compiled.code) {
+        Ok(text) => Ok(text),
+        Err(_) => Err(CompileFault::Memory),
+    }
 }

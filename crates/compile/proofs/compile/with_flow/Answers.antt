@@ -1,0 +1,20 @@
+use Rattle.compile.proofs.Runs.{compiled, flow_calls, flow_cells, flow_reads, flow_room, flow_size}
+use Rattle.compile.proofs.compile.with_flow.Goals as goal
+
+pub emit-requires-clause-calls : goal.emit-requires-clause-calls
+emit-requires-clause-calls g c = flow_calls {A = g.row.A.Denot} c.args.src.now c.in_ok-flow.flow c.in_ok-flow.ensures.flow
+
+pub emit-requires-clause-cells : goal.emit-requires-clause-cells
+emit-requires-clause-cells g c = flow_cells {A = g.row.A.Denot} c.args.src.now c.in_ok-flow.flow c.in_ok-flow.ensures.flow
+
+pub emit-requires-clause-reads : goal.emit-requires-clause-reads
+emit-requires-clause-reads g c = flow_reads {A = g.row.A.Denot} c.args.src.now c.in_ok-flow.flow c.in_ok-flow.ensures.flow
+
+pub emit-requires-clause-room : goal.emit-requires-clause-room
+emit-requires-clause-room g c = flow_room {A = g.row.A.Denot} c.args.src.now c.in_ok-flow.flow c.in_ok-flow.ensures.flow
+
+pub emit-requires-clause-size : goal.emit-requires-clause-size
+emit-requires-clause-size g c = flow_size {A = g.row.A.Denot} c.args.src.now c.in_ok-flow.flow c.in_ok-flow.ensures.flow
+
+pub returns-in-Ok-clause-code : goal.returns-in-Ok-clause-code
+returns-in-Ok-clause-code g c = compiled {A = g.row.A.Denot} c.args.src.now c.in_ok-flow.flow c.in_ok-flow.ensures.flow c.in-Ok.code c.in-Ok.ensures
