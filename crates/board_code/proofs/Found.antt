@@ -1,6 +1,6 @@
 -- The body that has an entry is found, and a name that is found is found with more steps too.
 use Rattle.std.proofs.Common.{◌≡◌, ◌∙◌, refl, sym, ap, subst, inl, inr, ℕ, zero, suc, ◌+◌, ◌-◌, ◌<◌, ◌≤◌, List, [], ◌∷◌, length, Option, Some, None, arith}
-use Rattle.std.specs.Prelude.{replicate, set, slice_index_or}
+use Rattle.std.specs.Prelude.{replicate, set}
 use Rattle.dataflow.specs.System.{In}
 use Rattle.replayed.proofs.Tests.{none_some, some_same}
 use Rattle.task_code.specs.Code.{blank_body, Body, body, Code, nth, Owned}

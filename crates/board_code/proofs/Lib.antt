@@ -2,5 +2,6 @@ pub mod Counts
 pub mod Found
 pub mod Holds
 pub mod Homes
+pub mod Laid
 pub mod Spots
 pub mod Tables

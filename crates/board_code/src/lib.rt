@@ -3,5 +3,6 @@
 
 mod bodies;
 pub mod key;
+pub mod laws;
 pub mod program;
 pub mod spot;
