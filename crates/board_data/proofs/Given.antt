@@ -13,7 +13,7 @@ use Rattle.board_data.specs.Holds.{GivesUp, fewer, led_times}
 use Rattle.board_data.proofs.Changes.{set_elsewhere, set_here, set_nowhere}
 use Rattle.board_data.proofs.Steps.{one_by_one}
 
-differ : (d k : ℕ) → nat_eq d k ≡ false → d ≢ k
+pub differ : (d k : ℕ) → nat_eq d k ≡ false → d ≢ k
 differ d k f e = let q : true ≡ false = sym (eq-eqb d k e) ∙ f in absurd cc
 
 pub kept_gone : (x : Datum) → is_spent x ≡ true → kept x ≡ None

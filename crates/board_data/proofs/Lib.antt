@@ -8,3 +8,4 @@ pub mod Made
 pub mod Missed
 pub mod Rows
 pub mod Steps
+pub mod Stored

@@ -5,4 +5,5 @@ pub mod answers;
 pub mod data;
 pub mod holding;
 pub mod making;
+pub mod storing;
 pub mod wanted;

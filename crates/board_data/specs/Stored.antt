@@ -1,0 +1,30 @@
+-- What is stored.
+use Rattle.std.specs.Prelude.{◌≡◌, ◌≤◌, ◌<◌, ℕ, Bool, true, false, List, [], ◌∷◌, length, Option, Some, None, nat_eq, IsTrue, if◌then◌else◌}
+use Rattle.dataflow.specs.System.{In}
+use Rattle.data_store.specs.Stores.{IsArrayAt, Store, array_at, at, datum}
+use Rattle.data_store.specs.declared.datum.Content.{Content}
+use Rattle.data_store.specs.declared.datum.Datum.{Datum}
+use Rattle.replayed.specs.Ending.{ContentAfter}
+use Rattle.task_code.specs.Compute.{Elements}
+use Rattle.values.specs.Maps.{found, rising}
+use Rattle.values.specs.declared.map.Element.{Element}
+use Rattle.board_data.specs.Data.{is_keyed}
+use Rattle.board_data.specs.Made.{is_place}
+use Rattle.board_data.specs.View.{content_view}
+
+-- this is stored in the datum, and nothing in another
+pub record StoresIn (target : Option ℕ) (values : Elements) (old new : Store) : Type 0 where
+  pub there : (d : ℕ) (x : Datum) → at old d ≡ Some x → (c : Content) × (at new d ≡ Some (record { content = c; reads = x.reads; writes = x.writes })) × ContentAfter (content_view x.content) (if is_place d target then values else []) (content_view c)
+  pub nothing : (d : ℕ) → at old d ≡ None → at new d ≡ None
+
+-- it is a scalar
+abbrev pub IsScalarTarget : Option ℕ → Store → Type 0
+IsScalarTarget target s = (d : ℕ) → target ≡ Some d → is_keyed (at s d) ≡ false
+
+-- an array takes all these elements: it may be written, has room for them, and has none of their keys
+pub record Takes (d : ℕ) (elements : List Element) (s : Store) : Type 0 where
+  pub is_array : IsArrayAt s d
+  pub is_open : 0 < (datum s d).writes
+  pub has_room : length elements ≤ (array_at s d).room
+  pub apart : IsTrue (rising elements)
+  pub unused : (e : Element) → In e elements → found e.key (array_at s d).elements ≡ None
