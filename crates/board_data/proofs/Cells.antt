@@ -19,7 +19,7 @@ use Rattle.values.specs.declared.map.Element.{Element}
 use Rattle.board_data.specs.Data.{is_closed_at}
 use Rattle.board_data.specs.View.{cell_view, cells_view, content_view}
 
-cell_there : (cs : List (Option Datum)) (d : ℕ) → slot_at (cells_view cs) d ≡ option_map cell_view (slice_index_or cs d None)
+pub cell_there : (cs : List (Option Datum)) (d : ℕ) → slot_at (cells_view cs) d ≡ option_map cell_view (slice_index_or cs d None)
 cell_there [] d = refl
 cell_there (c ∷ cs) zero = refl
 cell_there (c ∷ cs) (suc d) = cell_there cs d

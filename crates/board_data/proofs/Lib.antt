@@ -1,6 +1,7 @@
 pub mod Cells
 pub mod Changes
 pub mod Closed
+pub mod Ended
 pub mod Given
 pub mod Held
 pub mod Literals

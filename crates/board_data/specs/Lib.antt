@@ -1,4 +1,5 @@
 pub mod Data
+pub mod Ended
 pub mod Holds
 pub mod Made
 pub mod Stored

@@ -4,6 +4,7 @@
 pub mod answers;
 pub mod data;
 pub mod holding;
+pub mod laws;
 pub mod making;
 pub mod storing;
 pub mod wanted;
