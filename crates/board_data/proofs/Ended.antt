@@ -1,5 +1,5 @@
 -- Data after an End.
-use Rattle.std.proofs.Common.{◌≡◌, ◌≢◌, ◌⊎◌, ◌∙◌, refl, sym, ap, subst, inl, inr, ℕ, zero, suc, ◌<◌, ◌≤◌, ◌+◌, ◌-◌, List, [], ◌∷◌, option_map, Option, Some, None, Bool, true, false, ◌==◌, ◌&&◌, arith}
+use Rattle.std.proofs.Common.{◌≡◌, ◌∙◌, refl, sym, ap, subst, inl, inr, ℕ, ◌<◌, ◌≤◌, ◌+◌, ◌-◌, List, [], option_map, Option, Some, None, true, false, ◌==◌, ◌&&◌, arith}
 use Rattle.std.specs.Prelude.{if◌then◌else◌, nat_eq}
 use Rattle.std.proofs.lemmas.Bool.{cases_eq, cases_Bool, eqb-true, eq-eqb}
 use Rattle.data_store.specs.Data.{is_spent, kept, with_holds}
@@ -7,14 +7,13 @@ use Rattle.data_store.specs.Stores.{Store, at}
 use Rattle.data_store.specs.declared.datum.Content.{Content}
 use Rattle.data_store.specs.declared.datum.Datum.{Datum}
 use Rattle.dataflow.specs.System.{Opening}
-use Rattle.replayed.specs.Ending.{CellAfter, ContentAfter, Instance, added_times, given_times, job_stores, kept_cell}
+use Rattle.replayed.specs.Ending.{CellAfter, ContentAfter, Instance, added_times, given_times, kept_cell}
 use Rattle.replayed.specs.Fields.{Counted, Frame, Job, Layout, slot_at}
 use Rattle.task_code.specs.Code.{Code}
 use Rattle.task_code.specs.Compute.{Computed, Elements}
 use Rattle.task_code.specs.Effects.{Task}
 use Rattle.task_code.specs.Places.{Place}
 use Rattle.board_data.specs.Ended.{Changes, Covers, JobChanges}
-use Rattle.board_data.specs.Holds.{fewer}
 use Rattle.board_data.specs.Made.{is_place}
 use Rattle.board_data.specs.View.{cell_view, cells_view, content_view}
 use Rattle.board_data.proofs.Cells.{cell_there}
@@ -23,27 +22,29 @@ use Rattle.board_data.proofs.Given.{kept_gone, kept_there, spent_zero}
 -- what is kept, as it is seen
 kept_seen : (c : Content) (r w : ℕ) → option_map cell_view (kept (record { content = c; reads = r; writes = w })) ≡ kept_cell r w (content_view c)
 kept_seen c r w = elim (cases_Bool (is_spent x)) [
-    | inl gone ↦ (let z = spent_zero x gone in
-        ap (option_map cell_view) (kept_gone x gone) ∙ sym (ap (λ b. if b then None else Some (cell_view x)) (eq-eqb (r + w) 0 (omega (arith, z.0, z.1)))))
-    | inr more ↦ ap (option_map cell_view) (kept_there x more) ∙ sym (ap (λ b. if b then None else Some (cell_view x)) (some more))
-  ]
+  | inl gone ↦ (let z = spent_zero x gone in
+      ap (option_map cell_view) (kept_gone x gone) ∙ sym (ap (λ b. if b then None else Some (cell_view x)) (eq-eqb (r + w) 0 (omega (arith, z.0, z.1)))))
+  | inr more ↦ ap (option_map cell_view) (kept_there x more) ∙ sym (ap (λ b. if b then None else Some (cell_view x)) (some more))
+]
   where
     x : Datum
     x = record { content = c; reads = r; writes = w }
+
     both : (a b : ℕ) → a ≡ 0 → b ≡ 0 → ((a == 0) && (b == 0)) ≡ true
     both a b p q = ap (λ n. (n == 0) && (b == 0)) p ∙ ap (λ n. (0 == 0) && (n == 0)) q
+
     some : is_spent x ≡ false → nat_eq (r + w) 0 ≡ false
     some more = elim (cases_Bool (nat_eq (r + w) 0)) [
-        | inl t ↦ (let e = eqb-true (r + w) 0 t in
-            let q : true ≡ false = sym (both r w (omega (arith, e)) (omega (arith, e))) ∙ more in absurd cc)
-        | inr f ↦ f
-      ]
+      | inl t ↦ (let e = eqb-true (r + w) 0 t in
+          let q : true ≡ false = sym (both r w (omega (arith, e)) (omega (arith, e))) ∙ more in absurd cc)
+      | inr f ↦ f
+    ]
 
 positive : (x : Datum) → is_spent x ≡ false → 0 < x.reads + x.writes
 positive x h = elim (cases_eq (x.reads + x.writes) 0) [
-    | inl e ↦ (let q : true ≡ false = sym (zero_both x.reads x.writes (omega (arith, e)) (omega (arith, e))) ∙ h in absurd cc)
-    | inr n ↦ omega (arith, n)
-  ]
+  | inl e ↦ (let q : true ≡ false = sym (zero_both x.reads x.writes (omega (arith, e)) (omega (arith, e))) ∙ h in absurd cc)
+  | inr n ↦ omega (arith, n)
+]
   where
     zero_both : (a b : ℕ) → a ≡ 0 → b ≡ 0 → ((a == 0) && (b == 0)) ≡ true
     zero_both a b p q = ap (λ n. (n == 0) && (b == 0)) p ∙ ap (λ n. (0 == 0) && (n == 0)) q
@@ -63,6 +64,7 @@ module _ (target : Option ℕ) (values : Elements) (ar aw gr gw : ℕ → ℕ) (
     where
       more : (a b c d : ℕ) → 0 < a + b → 0 < (a + c) + (b + d)
       more a b c d h = omega (arith, h)
+
       up : (a b c : ℕ) → c ≤ a → c ≤ a + b
       up a b c h = omega (arith, h)
 
@@ -78,8 +80,10 @@ module _ (target : Option ℕ) (values : Elements) (ar aw gr gw : ℕ → ℕ) (
     where
       plus : (a b : ℕ) → b ≡ 0 → a + b ≡ a
       plus a b h = omega (arith, h)
+
       few : (a b : ℕ) → b ≡ 0 → b ≤ a
       few a b h = omega (arith, h)
+
       less : (a b : ℕ) → b ≡ 0 → a - b ≡ a
       less a b h = omega (arith, h)
 
@@ -111,7 +115,7 @@ cell_after C L fs hs j x made os target values s t ch d c e = by (at s d) refl (
           reads_are = back y.reads (added_times C L (λ e. e.reads) hs d made) (given_times C L (λ e. e.reads) fs d j os) held.1;
           writes_are = back y.writes (added_times C L (λ e. e.writes) hs d made) (given_times C L (λ e. e.writes) fs d j os) held.2;
           stores = subst (λ vs. ContentAfter (content_view y.content) vs (content_view w.0)) (ch.0 d) w.2;
-          is = cell_there t.cells d ∙ ap (option_map cell_view) w.1 ∙ kept_seen w.0 ((y.reads + added_times C L (λ e. e.reads) hs d made) - given_times C L (λ e. e.reads) fs d j os) ((y.writes + added_times C L (λ e. e.writes) hs d made) - given_times C L (λ e. e.writes) fs d j os)
+          is = cell_there t.cells d ∙ ap (option_map cell_view) w.1 ∙ kept_seen w.0 ((y.reads + added_times C L (λ e. e.reads) hs d made) - given_times C L (λ e. e.reads) fs d j os) ((y.writes + added_times C L (λ e. e.writes) hs d made) - given_times C L (λ e. e.writes) fs d j os);
         })
       where
         back : (a b g : ℕ) → g ≤ a → ((a + b) - g) + g ≡ a + b

@@ -1,7 +1,7 @@
 -- What is stored.
-use Rattle.std.proofs.Common.{◌≡◌, ◌≢◌, ◌⊎◌, ◌∙◌, refl, sym, ap, subst, inl, inr, ℕ, zero, suc, ◌<◌, ◌≤◌, ◌+◌, ◌-◌, List, [], ◌∷◌, ◌++◌, length, option_map, Option, Some, None, Bool, true, false, ◌&&◌, IsTrue, arith}
+use Rattle.std.proofs.Common.{◌≡◌, ◌≢◌, ◌⊎◌, ◌∙◌, refl, sym, ap, subst, inl, inr, ℕ, suc, ◌<◌, ◌≤◌, ◌-◌, List, [], ◌∷◌, length, option_map, Option, Some, None, Bool, true, false, ◌&&◌, arith}
 use Rattle.std.specs.Prelude.{if◌then◌else◌, nat_eq}
-use Rattle.std.proofs.lemmas.Bool.{cases_eq, cases_Bool, eqb-true, eq-eqb}
+use Rattle.std.proofs.lemmas.Bool.{cases_eq, cases_Bool, eqb-true}
 use Rattle.dataflow.specs.System.{In}
 use Rattle.data_store.specs.Arrays.{Array, with_element}
 use Rattle.data_store.specs.Data.{IsArray, array_in, with_array, with_value}
@@ -18,10 +18,9 @@ use Rattle.values.specs.declared.key.Key.{Key}
 use Rattle.values.specs.declared.map.Element.{Element}
 use Rattle.values.specs.declared.value.Scalar.{Scalar}
 use Rattle.values.proofs.Keys.{below_differs, key_below-trans}
-use Rattle.values.proofs.Maps.{found-inserted_other, rising-tail}
+use Rattle.values.proofs.Maps.{found-inserted_other}
 use Rattle.board_data.specs.Data.{given, is_keyed, is_unset}
-use Rattle.board_data.specs.Made.{is_place}
-use Rattle.board_data.specs.Stored.{IsScalarTarget, StoresIn, Takes}
+use Rattle.board_data.specs.Stored.{StoresIn, Takes}
 use Rattle.board_data.specs.View.{content_view}
 use Rattle.board_data.proofs.Changes.{set_elsewhere, set_here, set_nowhere}
 use Rattle.board_data.proofs.Given.{differ}
@@ -35,9 +34,9 @@ same_after (OfArray a) = (pairs a.elements, refl, (λ p i. inl i), (λ p i. elim
 
 pub stored_nothing : (xs : Elements) (s t : Store) → t ≡ s → StoresIn None xs s t
 stored_nothing xs s t e = record {
-    there = λ d x h. (x.content, ap (λ u. at u d) e ∙ h, same_after x.content);
-    nothing = λ d h. ap (λ u. at u d) e ∙ h
-  }
+  there = λ d x h. (x.content, ap (λ u. at u d) e ∙ h, same_after x.content);
+  nothing = λ d h. ap (λ u. at u d) e ∙ h;
+}
 
 -- in one datum, where the others stay
 module _ (k : ℕ) (xs : Elements) (s t : Store) where
@@ -46,17 +45,17 @@ module _ (k : ℕ) (xs : Elements) (s t : Store) where
 
   pub stored_in : ((x : Datum) → at s k ≡ Some x → (c : Content) × (at t k ≡ Some (record { content = c; reads = x.reads; writes = x.writes })) × ContentAfter (content_view x.content) xs (content_view c)) → (at s k ≡ None → at t k ≡ None) → ((d : ℕ) → d ≢ k → at t d ≡ at s d) → StoresIn (Some k) xs s t
   stored_in here gone others = record {
-      there = λ d x e. elim (cases_Bool (nat_eq d k)) [
-        | inl y ↦ (let q = eqb-true d k y in
-            let h = here x (ap (at s) (sym q) ∙ e) in
-            (h.0, ap (at t) q ∙ h.1, subst (λ b. ContentAfter (content_view x.content) (if b then xs else []) (content_view h.0)) (sym y) h.2))
-        | inr n ↦ (x.content, others d (differ d k n) ∙ e, subst (λ b. ContentAfter (content_view x.content) (if b then xs else []) (content_view x.content)) (sym n) (same_after x.content))
-      ];
-      nothing = λ d e. elim (cases_eq d k) [
-        | inl q ↦ subst (λ j. at t j ≡ None) (sym q) (gone (ap (at s) (sym q) ∙ e))
-        | inr n ↦ others d n ∙ e
-      ]
-    }
+    there = λ d x e. elim (cases_Bool (nat_eq d k)) [
+      | inl y ↦ (let q = eqb-true d k y in
+          let h = here x (ap (at s) (sym q) ∙ e) in
+          (h.0, ap (at t) q ∙ h.1, subst (λ b. ContentAfter (content_view x.content) (if b then xs else []) (content_view h.0)) (sym y) h.2))
+      | inr n ↦ (x.content, others d (differ d k n) ∙ e, subst (λ b. ContentAfter (content_view x.content) (if b then xs else []) (content_view x.content)) (sym n) (same_after x.content))
+    ];
+    nothing = λ d e. elim (cases_eq d k) [
+      | inl q ↦ subst (λ j. at t j ≡ None) (sym q) (gone (ap (at s) (sym q) ∙ e))
+      | inr n ↦ others d n ∙ e
+    ];
+  }
 
 -- a scalar
 module _ (d : ℕ) (v : Scalar) (s : Store) where
@@ -65,13 +64,18 @@ module _ (d : ℕ) (v : Scalar) (s : Store) where
     where
       test : (b : Bool) → is_unset (Some x) ≡ b → at (given d v s) d ≡ at (if b then changed d (with_value v) s else s) d
       test b q = ap (λ z. at (if z then changed d (with_value v) s else s) d) (ap is_unset e ∙ q)
+
       by : (c : Content) → x.content ≡ c → (o : Content) × (at (given d v s) d ≡ Some (record { content = o; reads = x.reads; writes = x.writes })) × ContentAfter (content_view x.content) ((only, v) ∷ []) (content_view o)
-      by (OfScalar None) q = (OfScalar (Some v),
-          test true (ap (λ c. is_unset (Some (record { content = c; reads = x.reads; writes = x.writes }))) q) ∙ set_here s d x (option_map (with_value v) (at s d)) e ∙ ap (option_map (with_value v)) e,
-          subst (λ c. ContentAfter (content_view c) ((only, v) ∷ []) (content_view (OfScalar (Some v)))) (sym q) refl)
-      by (OfScalar (Some w)) q = (x.content,
-          test false (ap (λ c. is_unset (Some (record { content = c; reads = x.reads; writes = x.writes }))) q) ∙ e,
-          subst (λ c. ContentAfter (content_view c) ((only, v) ∷ []) (content_view c)) (sym q) refl)
+      by (OfScalar None) q = (
+        OfScalar (Some v),
+        test true (ap (λ c. is_unset (Some (record { content = c; reads = x.reads; writes = x.writes }))) q) ∙ set_here s d x (option_map (with_value v) (at s d)) e ∙ ap (option_map (with_value v)) e,
+        subst (λ c. ContentAfter (content_view c) ((only, v) ∷ []) (content_view (OfScalar (Some v)))) (sym q) refl,
+      )
+      by (OfScalar (Some w)) q = (
+        x.content,
+        test false (ap (λ c. is_unset (Some (record { content = c; reads = x.reads; writes = x.writes }))) q) ∙ e,
+        subst (λ c. ContentAfter (content_view c) ((only, v) ∷ []) (content_view c)) (sym q) refl,
+      )
       by (OfArray a) q = (let n : true ≡ false = sym (ap (λ c. is_keyed (Some (record { content = c; reads = x.reads; writes = x.writes }))) q) ∙ k in absurd cc)
 
   given_elsewhere : (e : ℕ) → e ≢ d → at (given d v s) e ≡ at s e
@@ -92,10 +96,10 @@ module _ (k : Key) (v : Scalar) where
   inserted_all : (es : List Element) (p : Key × Scalar) → found k es ≡ None → In p (pairs es) → In p (pairs (inserted k v es))
   inserted_all [] p n i = absurd i
   inserted_all (e ∷ es) p n i = elim (cases_Bool (same_key e.key k)) [
-      | inl same ↦ (let q : Some e.value ≡ None = sym (ap (λ b. if b then Some e.value else found k es) same) ∙ n in absurd cc)
-      | inr other ↦ (let rest : found k es ≡ None = sym (ap (λ b. if b then Some e.value else found k es) other) ∙ n in
-          subst (λ b. In p (pairs (if b then element k v ∷ es else (if key_below k e.key then element k v ∷ e ∷ es else e ∷ inserted k v es)))) (sym other) (by (key_below k e.key) (λ h. inserted_all es p rest h)))
-    ]
+    | inl same ↦ (let q : Some e.value ≡ None = sym (ap (λ b. if b then Some e.value else found k es) same) ∙ n in absurd cc)
+    | inr other ↦ (let rest : found k es ≡ None = sym (ap (λ b. if b then Some e.value else found k es) other) ∙ n in
+        subst (λ b. In p (pairs (if b then element k v ∷ es else (if key_below k e.key then element k v ∷ e ∷ es else e ∷ inserted k v es)))) (sym other) (by (key_below k e.key) (λ h. inserted_all es p rest h)))
+  ]
     where
       by : (b : Bool) → (In p (pairs es) → In p (pairs (inserted k v es))) → In p (pairs (if b then element k v ∷ e ∷ es else e ∷ inserted k v es))
       by true rec = inr i
@@ -155,6 +159,7 @@ module _ (d : ℕ) where
       content : (x : Datum) → at s d ≡ Some x → (c : Content) → x.content ≡ c → IsArray c → (y : Datum) × (a : Array) × (at s d ≡ Some y) × (y.content ≡ OfArray a)
       content x e (OfScalar v) q i = absurd i
       content x e (OfArray a) q i = (x, a, e, q)
+
       by : (c : Option Datum) → at s d ≡ c → Rattle.std.specs.Prelude.IsSomeAnd c (λ x. IsArray x.content) → (x : Datum) × (a : Array) × (at s d ≡ Some x) × (x.content ≡ OfArray a)
       by None e i = absurd i
       by (Some x) e i = content x e x.content refl i
@@ -182,7 +187,7 @@ module _ (d : ℕ) where
         is_open = subst (λ n. 0 < n) (sym (writes_are (put_in e s) new now)) (subst (λ n. 0 < n) (writes_are s x y.2) t.is_open);
         has_room = less (length es) a.room (array_at (put_in e s) d).room (subst (λ (b : Array). suc (length es) ≤ b.room) (array_is s x a y.2 y.3) t.has_room) (ap (λ (b : Array). b.room) is);
         apart = rising_rest e es t.apart;
-        unused = λ f i. ap (λ (b : Array). found f.key b.elements) is ∙ found-inserted_other e.key f.key e.value a.elements (below_differs e.key f.key (below_rest e f es t.apart i)) ∙ sym (ap (λ (b : Array). found f.key b.elements) (array_is s x a y.2 y.3)) ∙ t.unused f (inr i)
+        unused = λ f i. ap (λ (b : Array). found f.key b.elements) is ∙ found-inserted_other e.key f.key e.value a.elements (below_differs e.key f.key (below_rest e f es t.apart i)) ∙ sym (ap (λ (b : Array). found f.key b.elements) (array_is s x a y.2 y.3)) ∙ t.unused f (inr i);
       }
     where
       less : (n r q : ℕ) → suc n ≤ r → q ≡ r - 1 → n ≤ q
@@ -205,20 +210,23 @@ module _ (d : ℕ) where
   put_all (e ∷ es) s x a h q t =
       let new : Datum = record { content = OfArray (with_element e.key e.value a); reads = x.reads; writes = x.writes } in
       let r = put_all es (put_in e s) new (with_element e.key e.value a) (put_here s e x a h q) refl (takes_next e es s t) in
-      let none : found e.key a.elements ≡ None = sym (ap (λ (b : Array). found e.key b.elements) (array_is s x a h q)) ∙ t.unused e (inl refl) in
-      (r.0, r.1,
-        ( (λ p i. elim (r.2.0 p i) [
+      let none : found e.key a.elements ≡ None = sym (ap (λ (b : Array). found e.key b.elements) (array_is s x a h q)) ∙ t.unused e (inl refl) in (
+        r.0,
+        r.1,
+        (
+          (λ p i. elim (r.2.0 p i) [
             | inl j ↦ elim (inserted_only e.key e.value a.elements p j) [ inl g ↦ inl g | inr g ↦ elim g [ inl w ↦ inr (inl w) | inr w ↦ absurd w ] ]
             | inr j ↦ inr (inr j)
-          ])
-        , (λ p i. r.2.1 p (elim i [
+          ]),
+          (λ p i. r.2.1 p (elim i [
             | inl j ↦ inl (inserted_all e.key e.value a.elements p none j)
             | inr j ↦ elim j [
               | inl w ↦ inl (let P : Key × Scalar → Type 0 = λ z. In z (pairs (inserted e.key e.value a.elements)) in subst P (sym w) (inserted_new e.key e.value a.elements))
               | inr w ↦ inr w
             ]
-          ]))
-        ))
+          ])),
+        ),
+      )
 
   put_stored : (es : List Element) (s : Store) → Takes d es s → StoresIn (Some d) (pairs es) s (one_by_one put_in es s)
   put_stored es s t = stored_in d (pairs es) s (one_by_one put_in es s) here (put_nowhere es s) (put_elsewhere es s)

@@ -1,5 +1,5 @@
 -- What is stored.
-use Rattle.std.specs.Prelude.{◌≡◌, ◌≤◌, ◌<◌, ℕ, Bool, true, false, List, [], ◌∷◌, length, Option, Some, None, nat_eq, IsTrue, if◌then◌else◌}
+use Rattle.std.specs.Prelude.{◌≡◌, ◌≤◌, ◌<◌, ℕ, false, List, [], length, Option, Some, None, IsTrue, if◌then◌else◌}
 use Rattle.dataflow.specs.System.{In}
 use Rattle.data_store.specs.Stores.{IsArrayAt, Store, array_at, at, datum}
 use Rattle.data_store.specs.declared.datum.Content.{Content}

@@ -1,4 +1,4 @@
-use Rattle.std.proofs.Common.{◌≡◌, ◌∙◌, sym, ap, subst, length, arith, rules}
+use Rattle.std.proofs.Common.{◌≡◌, ◌∙◌, sym, ap, subst, length, rules}
 use Rattle.std.specs.Vec.Iter.{into_iter_items}
 use Rattle.board_data.specs.Stored.{Takes}
 use Rattle.board_data.proofs.Stored.{last_stored, put_in, step_stored}
@@ -10,9 +10,9 @@ loop-one-preserved c = λ h.
     let so = c.loop-one.invariant h in
     let e = c.in-Some.ensures.steps.0 in
     step_stored c.args.d c.in-Some.one (into_iter_items c.next.new.self) c.loop-one.store c.insert.new.store _
-      (subst (λ es. Takes c.args.d es c.loop-one.store) e so.0)
-      (sym (ap (λ es. one_by_one (put_in c.args.d) es c.loop-one.store) e) ∙ so.1)
-      c.insert.ensures.took
+    (subst (λ es. Takes c.args.d es c.loop-one.store) e so.0)
+    (sym (ap (λ es. one_by_one (put_in c.args.d) es c.loop-one.store) e) ∙ so.1)
+    c.insert.ensures.took
 
 pub returns : goal.returns
 returns c =

@@ -8,5 +8,5 @@ use Rattle.board_data.proofs.storing.insert_all.Given as goal
 abbrev pub invariant-loop-one : goal.invariant-loop-one
 invariant-loop-one l =
     Takes l.d l.fn.elements.items l.initial.store →
-      Takes l.d (into_iter_items l.one-iterator) l.store
-      × (one_by_one (put_in l.d) (into_iter_items l.one-iterator) l.store ≡ one_by_one (put_in l.d) l.fn.elements.items l.initial.store)
+    Takes l.d (into_iter_items l.one-iterator) l.store
+    × (one_by_one (put_in l.d) (into_iter_items l.one-iterator) l.store ≡ one_by_one (put_in l.d) l.fn.elements.items l.initial.store)

@@ -1,4 +1,4 @@
-use Rattle.std.proofs.Common.{◌≡◌, ◌∙◌, ◌∷◌, [], refl, subst, sym}
+use Rattle.std.proofs.Common.{◌∷◌, [], refl, subst, sym}
 use Rattle.values.specs.Maps.{element}
 use Rattle.board_data.specs.Stored.{StoresIn}
 use Rattle.board_data.proofs.Stored.{end_stored, step_stored}
