@@ -6,3 +6,4 @@ pub mod Paths
 pub mod Puts
 pub mod Rows
 pub mod Slots
+pub mod Turned

@@ -3,4 +3,5 @@ pub mod Names
 pub mod Nested
 pub mod Openings
 pub mod Passing
+pub mod Turns
 pub mod View

@@ -7,3 +7,4 @@ pub mod laws;
 pub mod opening;
 pub mod place;
 pub mod placing;
+pub mod turns;
