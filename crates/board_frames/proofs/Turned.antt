@@ -1,11 +1,10 @@
 -- The turns of a loop, one after the other.
-use Rattle.std.proofs.Common.{◌≡◌, ◌∙◌, refl, sym, ap, subst, rules, ℕ, zero, suc, ◌+◌, ◌-◌, ◌*◌, ◌<◌, ◌≤◌, min, List, [], ◌∷◌, ◌++◌, map, take, drop, get_or, length, Option, Some, ℤ, pos, arith}
+use Rattle.std.proofs.Common.{◌≡◌, ◌∙◌, refl, sym, ap, subst, rules, ℕ, zero, suc, ◌+◌, ◌-◌, ◌<◌, ◌≤◌, List, [], ◌∷◌, ◌++◌, take, get_or, length, Option, Some, ℤ, pos, arith}
 use Rattle.std.specs.List.{AllZip}
 use Rattle.std.proofs.lemmas.List.{append_assoc, append-nil, map-append, take_more}
 use Rattle.replayed.specs.Fields.{Frame}
 use Rattle.task_code.specs.Code.{Body, Code, blank_body, body, nth}
 use Rattle.task_code.specs.Compute.{Elements, key_scalar, pairs, range_turns}
-use Rattle.task_code.specs.Places.{Step}
 use Rattle.values.specs.declared.map.Element.{Element}
 use Rattle.values.specs.declared.key.Key.{Key}
 use Rattle.values.specs.declared.key.Key.TheVariants.{Number as number_key}
@@ -60,6 +59,7 @@ range_more low step n (suc c) = ap (range_turns low step n) (one c) ∙ ap (λ t
   where
     one : (c : ℕ) → suc c + 1 ≡ suc (c + 1)
     one c = omega arith
+
     next : (n c : ℕ) → suc n + c ≡ n + suc c
     next n c = omega arith
 
@@ -69,12 +69,36 @@ range_to low step first n h = ap (λ m. range_turns low step first (n - first) +
   where
     here : (first n : ℕ) → first ≤ n → n ≡ first + (n - first)
     here first n h = omega (arith, h)
+
     more : (first n : ℕ) → first ≤ n → n - first + 1 ≡ n + 1 - first
     more first n h = omega (arith, h)
 
+pub range_from : (low step : ℤ) (first : ℕ) → [] ≡ range_turns low step first (first - first)
+range_from low step first = ap (range_turns low step first) (none first)
+  where
+    none : (n : ℕ) → 0 ≡ n - n
+    none n = omega arith
+
+pub range_done : (low step : ℤ) (first n last end : ℕ) → last ≡ end → n - first ≤ last - first → last ≤ n → range_turns low step first (n - first) ≡ range_turns low step first (end - first)
+range_done low step first n last end e to past = ap (range_turns low step first) (same first n last to past ∙ ap (λ m. m - first) e)
+  where
+    same : (first n last : ℕ) → n - first ≤ last - first → last ≤ n → n - first ≡ last - first
+    same first n last to past = omega (arith, to, past)
+
+pub to_first : (first last : ℕ) → first - first ≤ last - first
+to_first first last = omega arith
+
+pub to_next : (first n last : ℕ) → n < last → n + 1 - first ≤ last - first
+to_next first n last h = omega (arith, h)
+
 -- the elements up to one, and the next
-pub elements_more : (es : List Element) (i : ℕ) (d : Element) → i < length es → pairs (take i es) ++ ((get_or es i d).key, (get_or es i d).value) ∷ [] ≡ pairs (take (i + 1) es)
-elements_more es i d h = sym (map-append (λ (e : Element). (e.key, e.value)) (take i es) (get_or es i d ∷ [])) ∙ ap pairs (sym (take_more es i d h))
+pub elements_step : (es : List Element) (i : ℕ) (one : Element) (key : Key) (value : Scalar) → i < length es → one ≡ get_or es i one → key ≡ one.key → value ≡ one.value → pairs (take i es) ++ (key, value) ∷ [] ≡ pairs (take (i + 1) es)
+elements_step es i one key value h is k v =
+    ap (λ (q : Key). pairs (take i es) ++ (q, value) ∷ []) k
+    ∙ ap (λ (q : Scalar). pairs (take i es) ++ (one.key, q) ∷ []) v
+    ∙ ap (λ (e : Element). pairs (take i es) ++ (e.key, e.value) ∷ []) is
+    ∙ sym (map-append (λ (e : Element). (e.key, e.value)) (take i es) (get_or es i one ∷ []))
+    ∙ ap pairs (sym (take_more es i one h))
 
 -- a turn of a range is told by its key and its value
 pub turn_same : (a b : ℤ) (low step : ℤ) (n : ℕ) → a ≡ pos n → b ≡ value_in low step n → ◌≡◌ {A = Elements} ((number_key a, Number b) ∷ []) ((number_key (pos n), Number (value_in low step n)) ∷ [])

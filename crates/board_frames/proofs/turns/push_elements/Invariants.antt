@@ -1,7 +1,7 @@
-use Rattle.std.proofs.Common.{◌≡◌, ◌-◌, ◌<◌, ◌≤◌, IsSome, length, take}
+use Rattle.std.proofs.Common.{◌≡◌, ◌<◌, IsSome, length, take}
 use Rattle.replayed.specs.Fields.{slot_at}
 use Rattle.task_code.specs.Code.{body}
-use Rattle.task_code.specs.Compute.{pairs, range_turns}
+use Rattle.task_code.specs.Compute.{pairs}
 use Rattle.board_frames.specs.Turns.{AddsTurns}
 use Rattle.board_frames.specs.View.{frames_view}
 use Rattle.board_frames.proofs.turns.push_elements.Given as goal

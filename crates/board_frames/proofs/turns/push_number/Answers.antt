@@ -1,4 +1,4 @@
-use Rattle.std.proofs.Common.{◌∙◌, rules, to_z, of_z, w64}
+use Rattle.std.proofs.Common.{rules, to_z, of_z, w64}
 use Rattle.board_frames.specs.View.{frames_view}
 use Rattle.board_frames.proofs.Turned.{turn_same, turns_are}
 use Rattle.board_frames.proofs.turns.push_number.Goals as goal
