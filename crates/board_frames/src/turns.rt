@@ -44,12 +44,12 @@ pub fn push_block(
     arguments: (u32, &[Passed]),
     values: (Option<Scalar>, Option<Scalar>),
 ) -> Result<(), AllocError>
-    ensures added { OnOk result (0 < length (body_of site.entry.around.program.now.code site.entry.body).entries → IsSome (slot_of (frames_view site.entry.around.instances.now.slots) site.entry.around.at) →
+    ensures added { OnOk result (0 < length (body_of site.entry.around.program.now site.entry.body).entries → IsSome (slot_of (frames_view site.entry.around.instances.now.slots) site.entry.around.at) →
         (o : AnOpening) × (list.new.items ≡ list.old.items ++ o ∷ []) ×
-        IsOpening site.entry.around.program.now.code (frames_view site.entry.around.instances.now.slots) site.entry.around.at site.entry.body (option_map step_view way) (passed_from (frames_view site.entry.around.instances.now.slots) site.entry.around.at arguments.entry.0 0 arguments.entry.1.now) values.0 values.1 o) }
-    ensures none { OnOk result (length (body_of site.entry.around.program.now.code site.entry.body).entries ≡ 0 → list.new.items ≡ list.old.items) }
+        IsOpening site.entry.around.program.now (frames_view site.entry.around.instances.now.slots) site.entry.around.at site.entry.body (option_map step_view way) (passed_from (frames_view site.entry.around.instances.now.slots) site.entry.around.at arguments.entry.0 0 arguments.entry.1.now) values.0 values.1 o) }
+    ensures none { OnOk result (length (body_of site.entry.around.program.now site.entry.body).entries ≡ 0 → list.new.items ≡ list.old.items) }
 {
-    let Some(body) = site.around.program.code.body(site.body) else {
+    let Some(body) = site.around.program.code().body(site.body) else {
         return Ok(());
     };
     if body.entries.is_empty() {
@@ -84,9 +84,9 @@ fn push_turn(
     key: Key,
     value: Scalar,
 ) -> Result<(), AllocError>
-    ensures added { OnOk result (0 < length (body_of site.entry.around.program.now.code site.entry.body).entries → IsSome (slot_of (frames_view site.entry.around.instances.now.slots) site.entry.around.at) →
-        AddsTurns site.entry.around.program.now.code (frames_view site.entry.around.instances.now.slots) site.entry.around.at site.entry.body site.entry.offset ((key, value) ∷ []) list.old.items list.new.items) }
-    ensures none { OnOk result (length (body_of site.entry.around.program.now.code site.entry.body).entries ≡ 0 → list.new.items ≡ list.old.items) }
+    ensures added { OnOk result (0 < length (body_of site.entry.around.program.now site.entry.body).entries → IsSome (slot_of (frames_view site.entry.around.instances.now.slots) site.entry.around.at) →
+        AddsTurns site.entry.around.program.now (frames_view site.entry.around.instances.now.slots) site.entry.around.at site.entry.body site.entry.offset ((key, value) ∷ []) list.old.items list.new.items) }
+    ensures none { OnOk result (length (body_of site.entry.around.program.now site.entry.body).entries ≡ 0 → list.new.items ≡ list.old.items) }
 {
     let turn = scalar_of(&key);
     let way = Step {
@@ -115,9 +115,9 @@ pub fn push_elements(
     spare: &mut Vec<Inputs>,
     elements: &[Element],
 ) -> Result<(), AllocError>
-    ensures added { OnOk result (0 < length (body_of site.entry.around.program.now.code site.entry.body).entries → IsSome (slot_of (frames_view site.entry.around.instances.now.slots) site.entry.around.at) →
-        AddsTurns site.entry.around.program.now.code (frames_view site.entry.around.instances.now.slots) site.entry.around.at site.entry.body site.entry.offset (pairs elements.now) list.old.items list.new.items) }
-    ensures none { OnOk result (length (body_of site.entry.around.program.now.code site.entry.body).entries ≡ 0 → list.new.items ≡ list.old.items) }
+    ensures added { OnOk result (0 < length (body_of site.entry.around.program.now site.entry.body).entries → IsSome (slot_of (frames_view site.entry.around.instances.now.slots) site.entry.around.at) →
+        AddsTurns site.entry.around.program.now (frames_view site.entry.around.instances.now.slots) site.entry.around.at site.entry.body site.entry.offset (pairs elements.now) list.old.items list.new.items) }
+    ensures none { OnOk result (length (body_of site.entry.around.program.now site.entry.body).entries ≡ 0 → list.new.items ≡ list.old.items) }
 {
     for one in elements {
         push_turn(site, list, spare, copy_key(&one.key), one.value.share()?)?;
@@ -134,9 +134,9 @@ fn push_number(
     n: u64,
 ) -> Result<(), AllocError>
     requires { n < range.now.count }
-    ensures added { OnOk result (0 < length (body_of site.entry.around.program.now.code site.entry.body).entries → IsSome (slot_of (frames_view site.entry.around.instances.now.slots) site.entry.around.at) →
-        AddsTurns site.entry.around.program.now.code (frames_view site.entry.around.instances.now.slots) site.entry.around.at site.entry.body site.entry.offset ((number_key (pos n), Number (value_in range.now.low range.now.step n)) ∷ []) list.old.items list.new.items) }
-    ensures none { OnOk result (length (body_of site.entry.around.program.now.code site.entry.body).entries ≡ 0 → list.new.items ≡ list.old.items) }
+    ensures added { OnOk result (0 < length (body_of site.entry.around.program.now site.entry.body).entries → IsSome (slot_of (frames_view site.entry.around.instances.now.slots) site.entry.around.at) →
+        AddsTurns site.entry.around.program.now (frames_view site.entry.around.instances.now.slots) site.entry.around.at site.entry.body site.entry.offset ((number_key (pos n), Number (value_in range.now.low range.now.step n)) ∷ []) list.old.items list.new.items) }
+    ensures none { OnOk result (length (body_of site.entry.around.program.now site.entry.body).entries ≡ 0 → list.new.items ≡ list.old.items) }
 {
     // So many turns are more than memory has room for.
     let Ok(key) = i64::try_from(n) else {
@@ -165,9 +165,9 @@ pub fn push_range(
     first: u64,
     end: u64,
 ) -> Result<(), AllocError>
-    ensures added { OnOk result (0 < length (body_of site.entry.around.program.now.code site.entry.body).entries → IsSome (slot_of (frames_view site.entry.around.instances.now.slots) site.entry.around.at) →
-        AddsTurns site.entry.around.program.now.code (frames_view site.entry.around.instances.now.slots) site.entry.around.at site.entry.body site.entry.offset (range_turns range.now.low range.now.step first (min end range.now.count - first)) list.old.items list.new.items) }
-    ensures none { OnOk result (length (body_of site.entry.around.program.now.code site.entry.body).entries ≡ 0 → list.new.items ≡ list.old.items) }
+    ensures added { OnOk result (0 < length (body_of site.entry.around.program.now site.entry.body).entries → IsSome (slot_of (frames_view site.entry.around.instances.now.slots) site.entry.around.at) →
+        AddsTurns site.entry.around.program.now (frames_view site.entry.around.instances.now.slots) site.entry.around.at site.entry.body site.entry.offset (range_turns range.now.low range.now.step first (min end range.now.count - first)) list.old.items list.new.items) }
+    ensures none { OnOk result (length (body_of site.entry.around.program.now site.entry.body).entries ≡ 0 → list.new.items ≡ list.old.items) }
 {
     let last = end.min(range.count);
     for n in first..last {

@@ -8,7 +8,7 @@ use Rattle.board_frames.proofs.turns.push_range.Given as goal
 
 abbrev pub invariant-loop-n : goal.invariant-loop-n
 invariant-loop-n l = record {
-  added : 0 < length (body l.site.around.program.now.code l.site.body).entries → IsSome (slot_at (frames_view l.site.around.instances.now.slots) l.site.around.at) → AddsTurns l.site.around.program.now.code (frames_view l.site.around.instances.now.slots) l.site.around.at l.site.body l.site.offset (range_turns l.range.low l.range.step l.first (l.n - l.first)) l.fn.list.items l.list.items;
-  none : length (body l.site.around.program.now.code l.site.body).entries ≡ 0 → l.list.items ≡ l.fn.list.items;
+  added : 0 < length (body l.site.around.program.now l.site.body).entries → IsSome (slot_at (frames_view l.site.around.instances.now.slots) l.site.around.at) → AddsTurns l.site.around.program.now (frames_view l.site.around.instances.now.slots) l.site.around.at l.site.body l.site.offset (range_turns l.range.low l.range.step l.first (l.n - l.first)) l.fn.list.items l.list.items;
+  none : length (body l.site.around.program.now l.site.body).entries ≡ 0 → l.list.items ≡ l.fn.list.items;
   to : l.n - l.first ≤ l.last - l.first;
 }
