@@ -45,12 +45,12 @@ swap a b c e x h = omega (arith, h)
 turn : (a b x : ℕ) → (a + x) + b ≡ (b + x) + a
 turn a b x = omega arith
 
-times_set : (c : Hold → ℕ) (f : Spot → Slot) (d : ℕ) (hs : List Hold) (i : ℕ) (x h : Hold) → i < length hs → hold_times c f d (set hs i h) + (if slot_is d (f (slice_index_or hs i x).spot) then c (slice_index_or hs i x) else 0) ≡ hold_times c f d hs + (if slot_is d (f h.spot) then c h else 0)
+times_set : (c : Hold → ℕ) (f : Spot → Slot) (d : ℕ) (hs : List Hold) (i : ℕ) (x h : Hold) → i < length hs → hold_times f c d (set hs i h) + (if slot_is d (f (slice_index_or hs i x).spot) then c (slice_index_or hs i x) else 0) ≡ hold_times f c d hs + (if slot_is d (f h.spot) then c h else 0)
 times_set c f d [] i x h l = absurd (omega (arith, l))
-times_set c f d (y ∷ hs) zero x h l = turn (if slot_is d (f h.spot) then c h else 0) (if slot_is d (f y.spot) then c y else 0) (hold_times c f d hs)
+times_set c f d (y ∷ hs) zero x h l = turn (if slot_is d (f h.spot) then c h else 0) (if slot_is d (f y.spot) then c y else 0) (hold_times f c d hs)
 times_set c f d (y ∷ hs) (suc i) x h l = swap _ _ _ _ (if slot_is d (f y.spot) then c y else 0) (times_set c f d hs i x h (omega (arith, l)))
 
-times_push : (c : Hold → ℕ) (f : Spot → Slot) (d : ℕ) (hs : List Hold) (h : Hold) → hold_times c f d (hs ++ h ∷ []) ≡ hold_times c f d hs + (if slot_is d (f h.spot) then c h else 0)
+times_push : (c : Hold → ℕ) (f : Spot → Slot) (d : ℕ) (hs : List Hold) (h : Hold) → hold_times f c d (hs ++ h ∷ []) ≡ hold_times f c d hs + (if slot_is d (f h.spot) then c h else 0)
 times_push c f d [] h = let x = (if slot_is d (f h.spot) then c h else 0) in sum x
   where
     sum : (x : ℕ) → x + 0 ≡ 0 + x
@@ -69,8 +69,8 @@ set_gains hs i x h l e =
     let y = slice_index_or hs i x in
     let z : Hold = record { spot = y.spot; reads = y.reads + h.reads; writes = y.writes + h.writes } in
     record {
-      reads = λ f d. grown (slot_is d (f y.spot)) _ _ y.reads h.reads (times_set (λ a. a.reads) f d hs i x z l) ∙ ap (λ (s : Spot). hold_times (λ a. a.reads) f d hs + (if slot_is d (f s) then h.reads else 0)) e;
-      writes = λ f d. grown (slot_is d (f y.spot)) _ _ y.writes h.writes (times_set (λ a. a.writes) f d hs i x z l) ∙ ap (λ (s : Spot). hold_times (λ a. a.writes) f d hs + (if slot_is d (f s) then h.writes else 0)) e;
+      reads = λ f d. grown (slot_is d (f y.spot)) _ _ y.reads h.reads (times_set (λ a. a.reads) f d hs i x z l) ∙ ap (λ (s : Spot). hold_times f (λ a. a.reads) d hs + (if slot_is d (f s) then h.reads else 0)) e;
+      writes = λ f d. grown (slot_is d (f y.spot)) _ _ y.writes h.writes (times_set (λ a. a.writes) f d hs i x z l) ∙ ap (λ (s : Spot). hold_times f (λ a. a.writes) d hs + (if slot_is d (f s) then h.writes else 0)) e;
     }
 
 pub push_gains : (hs : List Hold) (h : Hold) → GainsHold hs (hs ++ h ∷ []) h
@@ -115,14 +115,14 @@ module _ (C : Code) (b : ℕ) where
 
   pub gains_own : (k l : ℕ) (r : Name) (hs : List Hold) → is_declared C b r ≡ true → GainsNames C b k l (r ∷ []) hs hs
   gains_own k l r hs h = record {
-    reads_are = λ f d. plus_none _ ∙ sym (ap (λ rs. hold_times (λ x. x.reads) f d hs + named_by k (at_name C b f) d rs) (declared_out r h));
-    writes_are = λ f d. plus_none _ ∙ sym (ap (λ rs. hold_times (λ x. x.writes) f d hs + named_by l (at_name C b f) d rs) (declared_out r h));
+    reads_are = λ f d. plus_none _ ∙ sym (ap (λ rs. hold_times f (λ x. x.reads) d hs + named_by k (at_name C b f) d rs) (declared_out r h));
+    writes_are = λ f d. plus_none _ ∙ sym (ap (λ rs. hold_times f (λ x. x.writes) d hs + named_by l (at_name C b f) d rs) (declared_out r h));
   }
 
   pub gains_nowhere : (k l : ℕ) (r : Name) (hs : List Hold) → is_declared C b r ≡ false → spot_in C b r ≡ None → GainsNames C b k l (r ∷ []) hs hs
   gains_nowhere k l r hs h e = record {
-    reads_are = λ f d. nothing k f d (hold_times (λ x. x.reads) f d hs);
-    writes_are = λ f d. nothing l f d (hold_times (λ x. x.writes) f d hs);
+    reads_are = λ f d. nothing k f d (hold_times f (λ x. x.reads) d hs);
+    writes_are = λ f d. nothing l f d (hold_times f (λ x. x.writes) d hs);
   }
     where
       nothing : (k : ℕ) (f : Spot → Slot) (d n : ℕ) → n ≡ n + named_by k (at_name C b f) d (outside C b (r ∷ []))
@@ -132,8 +132,8 @@ module _ (C : Code) (b : ℕ) where
 
   pub gains_one : (k l : ℕ) (r : Name) (s : Spot) (hs gs : List Hold) → is_declared C b r ≡ false → spot_in C b r ≡ Some s → GainsHold hs gs (record { spot = s; reads = k; writes = l }) → GainsNames C b k l (r ∷ []) hs gs
   gains_one k l r s hs gs h e g = record {
-    reads_are = λ f d. g.reads f d ∙ one k f d (hold_times (λ x. x.reads) f d hs);
-    writes_are = λ f d. g.writes f d ∙ one l f d (hold_times (λ x. x.writes) f d hs);
+    reads_are = λ f d. g.reads f d ∙ one k f d (hold_times f (λ x. x.reads) d hs);
+    writes_are = λ f d. g.writes f d ∙ one l f d (hold_times f (λ x. x.writes) d hs);
   }
     where
       alone : (n x : ℕ) → n + x ≡ n + (x + 0)
@@ -152,8 +152,8 @@ module _ (C : Code) (b : ℕ) where
 
   gains_more : (k l : ℕ) (xs ys : List Name) (hs ms gs : List Hold) → GainsNames C b k l xs hs ms → GainsNames C b k l ys ms gs → GainsNames C b k l (xs ++ ys) hs gs
   gains_more k l xs ys hs ms gs x y = record {
-    reads_are = λ f d. join _ _ _ _ _ (x.reads_are f d) (y.reads_are f d) ∙ ap (λ n. hold_times (λ x. x.reads) f d hs + n) (sym (out_by k (at_name C b f) d xs ys));
-    writes_are = λ f d. join _ _ _ _ _ (x.writes_are f d) (y.writes_are f d) ∙ ap (λ n. hold_times (λ x. x.writes) f d hs + n) (sym (out_by l (at_name C b f) d xs ys));
+    reads_are = λ f d. join _ _ _ _ _ (x.reads_are f d) (y.reads_are f d) ∙ ap (λ n. hold_times f (λ x. x.reads) d hs + n) (sym (out_by k (at_name C b f) d xs ys));
+    writes_are = λ f d. join _ _ _ _ _ (x.writes_are f d) (y.writes_are f d) ∙ ap (λ n. hold_times f (λ x. x.writes) d hs + n) (sym (out_by l (at_name C b f) d xs ys));
   }
 
   pub gains_next : (k l : ℕ) (xs : List NameValue) (i : ℕ) (d : NameValue) (hs ms gs : List Hold) → GainsNames C b k l (map name_view (take i xs)) hs ms → GainsNames C b k l (name_view (slice_index_or xs i d) ∷ []) ms gs → i < length xs → GainsNames C b k l (map name_view (take (i + 1) xs)) hs gs
@@ -192,9 +192,9 @@ module _ (C : Code) (b : ℕ) where
   holds_next js i n e hs ms gs x h q y z =
       let j = slice_index_or js i n in
       subst (λ is. HoldsOf C b is gs) (sym (taken js i n h)) (record {
-        reads = λ f d. joined _ _ _ _ _ (x.reads f d) (y.reads_are f d) (z.reads_are f d ∙ ap (λ m. hold_times (λ x. x.reads) f d ms + m) (by_none (at_name C b f) d (outside C b (map name_view e.writes.items))))
+        reads = λ f d. joined _ _ _ _ _ (x.reads f d) (y.reads_are f d) (z.reads_are f d ∙ ap (λ m. hold_times f (λ x. x.reads) d ms + m) (by_none (at_name C b f) d (outside C b (map name_view e.writes.items))))
             ∙ sym (one_more (λ e. e.reads) (at_name C b f) d (take i js) j ∙ ap (λ (t : Entry). named_by 1 (at_name C b f) d (outside C b (names_of C (λ e. e.reads) (take i js))) + named_by 1 (at_name C b f) d (outside C b t.reads)) (sym q));
-        writes = λ f d. joined' _ _ _ _ _ (x.writes f d) (y.writes_are f d ∙ ap (λ m. hold_times (λ x. x.writes) f d hs + m) (by_none (at_name C b f) d (outside C b (map name_view e.reads.items)))) (z.writes_are f d)
+        writes = λ f d. joined' _ _ _ _ _ (x.writes f d) (y.writes_are f d ∙ ap (λ m. hold_times f (λ x. x.writes) d hs + m) (by_none (at_name C b f) d (outside C b (map name_view e.reads.items)))) (z.writes_are f d)
             ∙ sym (one_more (λ e. e.writes) (at_name C b f) d (take i js) j ∙ ap (λ (t : Entry). named_by 1 (at_name C b f) d (outside C b (names_of C (λ e. e.writes) (take i js))) + named_by 1 (at_name C b f) d (outside C b t.writes)) (sym q));
       })
     where
@@ -240,8 +240,8 @@ module _ (C : Code) (b : ℕ) where
   held_counted g d [] = refl
   held_counted g d (r ∷ rs) = ap (λ n. (if slot_is d (g r) then 1 else 0) + n) (held_counted g d rs) ∙ sym (held_add g d r (counted_names rs))
 
-  pub body_reads : (hs : List Hold) → HoldsOf C b (body C b).entries hs → (f : Spot → Slot) (d : ℕ) → hold_times (λ x. x.reads) f d hs ≡ held_times (at_name C b f) d (outer_holds C (λ e. e.reads) b)
+  pub body_reads : (hs : List Hold) → HoldsOf C b (body C b).entries hs → (f : Spot → Slot) (d : ℕ) → hold_times f (λ x. x.reads) d hs ≡ held_times (at_name C b f) d (outer_holds C (λ e. e.reads) b)
   body_reads hs x f d = x.reads f d ∙ held_counted (at_name C b f) d (outside C b (names_in C (λ e. e.reads) b))
 
-  pub body_writes : (hs : List Hold) → HoldsOf C b (body C b).entries hs → (f : Spot → Slot) (d : ℕ) → hold_times (λ x. x.writes) f d hs ≡ held_times (at_name C b f) d (outer_holds C (λ e. e.writes) b)
+  pub body_writes : (hs : List Hold) → HoldsOf C b (body C b).entries hs → (f : Spot → Slot) (d : ℕ) → hold_times f (λ x. x.writes) d hs ≡ held_times (at_name C b f) d (outer_holds C (λ e. e.writes) b)
   body_writes hs x f d = x.writes f d ∙ held_counted (at_name C b f) d (outside C b (names_in C (λ e. e.writes) b))

@@ -3,5 +3,6 @@ pub mod Found
 pub mod Holds
 pub mod Homes
 pub mod Laid
+pub mod Slots
 pub mod Spots
 pub mod Tables

@@ -1,9 +1,9 @@
 -- Where the names of a body lead: to a slot of the body's own, or to where they lead from the body around it.
 use Rattle.std.specs.Prelude.{◌^◌, min, ℕ, zero, suc, ◌+◌, ◌-◌, List, [], ◌∷◌, length, replicate, set, Option, Some, None, slice_index_or}
-use Rattle.task_code.specs.Code.{body, Body, ByCalls, ByMain, ByStep, ByWait, Code, Local, Name, Opener, Owned, Parameter, Variable}
+use Rattle.task_code.specs.Code.{body, Body, ByCalls, ByMain, ByStep, ByWait, Code, Local, Name, Opener, Owned, Parameter, Variable, nth}
 use Rattle.task_code.specs.Places.{variable_eq}
 use Rattle.std.specs.Prelude.{if◌then◌else◌}
-use Rattle.replayed.specs.Fields.{Layout}
+use Rattle.replayed.specs.Fields.{Absent, Frame, Layout, Slot, frame_up}
 use Rattle.board_code.specs.declared.spot.Spot.{Spot}
 
 -- the body is noted for these entries
@@ -92,3 +92,7 @@ slot_of (Some s) = s.slot
 -- where the names of all bodies lead
 abbrev pub layout_of : Code → Layout
 layout_of C = record { levels = λ b r. levels_of (spot_in C b r); slot = λ b r. slot_of (spot_in C b r) }
+
+-- what stands there, seen from an instance
+abbrev pub frame_slot : List (Option Frame) → ℕ → Spot → Slot
+frame_slot fs k s = elim (frame_up fs s.levels k) [ None ↦ Absent | Some f ↦ nth Absent f.slots s.slot ]

@@ -68,9 +68,15 @@ abbrev pub at_spot : (Spot → Slot) → Option Spot → Slot
 at_spot f None = Absent
 at_spot f (Some s) = f s
 
-abbrev pub hold_times : (Hold → ℕ) → (Spot → Slot) → ℕ → List Hold → ℕ
-hold_times count f d [] = 0
-hold_times count f d (h ∷ hs) = (if slot_is d (f h.spot) then count h else 0) + hold_times count f d hs
+module _ (f : Spot → Slot) where
+  abbrev pub hold_times : (Hold → ℕ) → ℕ → List Hold → ℕ
+  hold_times count d [] = 0
+  hold_times count d (h ∷ hs) = (if slot_is d (f h.spot) then count h else 0) + hold_times count d hs
+
+  -- how often spots lead to a datum
+  abbrev pub led_times : ℕ → List Spot → ℕ
+  led_times d [] = 0
+  led_times d (p ∷ ps) = (if slot_is d (f p) then 1 else 0) + led_times d ps
 
 -- what so many holds for each of these names come to for a datum
 abbrev pub named_by : ℕ → (Name → Slot) → ℕ → List Name → ℕ
@@ -79,8 +85,8 @@ named_by k f d (r ∷ rs) = (if slot_is d (f r) then k else 0) + named_by k f d 
 
 -- holds to which one more is added
 pub record GainsHold (old new : List Hold) (h : Hold) : Type 0 where
-  pub reads : (f : Spot → Slot) (d : ℕ) → hold_times (λ x. x.reads) f d new ≡ hold_times (λ x. x.reads) f d old + (if slot_is d (f h.spot) then h.reads else 0)
-  pub writes : (f : Spot → Slot) (d : ℕ) → hold_times (λ x. x.writes) f d new ≡ hold_times (λ x. x.writes) f d old + (if slot_is d (f h.spot) then h.writes else 0)
+  pub reads : (f : Spot → Slot) (d : ℕ) → hold_times f (λ x. x.reads) d new ≡ hold_times f (λ x. x.reads) d old + (if slot_is d (f h.spot) then h.reads else 0)
+  pub writes : (f : Spot → Slot) (d : ℕ) → hold_times f (λ x. x.writes) d new ≡ hold_times f (λ x. x.writes) d old + (if slot_is d (f h.spot) then h.writes else 0)
 
 module _ (C : Code) where
   -- what a need waits for, by where its names lead
@@ -145,22 +151,22 @@ module _ (C : Code) where
 
   -- holds to which so many are added for each of the names that are not the body's own
   pub record GainsNames (b reads writes : ℕ) (rs : List Name) (old new : List Hold) : Type 0 where
-    pub reads_are : (f : Spot → Slot) (d : ℕ) → hold_times (λ x. x.reads) f d new ≡ hold_times (λ x. x.reads) f d old + named_by reads (at_name b f) d (outside b rs)
-    pub writes_are : (f : Spot → Slot) (d : ℕ) → hold_times (λ x. x.writes) f d new ≡ hold_times (λ x. x.writes) f d old + named_by writes (at_name b f) d (outside b rs)
+    pub reads_are : (f : Spot → Slot) (d : ℕ) → hold_times f (λ x. x.reads) d new ≡ hold_times f (λ x. x.reads) d old + named_by reads (at_name b f) d (outside b rs)
+    pub writes_are : (f : Spot → Slot) (d : ℕ) → hold_times f (λ x. x.writes) d new ≡ hold_times f (λ x. x.writes) d old + named_by writes (at_name b f) d (outside b rs)
 
   -- holds of the names that some entries have among their rights
   abbrev pub names_of : (Entry → List Name) → List ℕ → List Name
   names_of rights js = flat_map (λ j. rights (entry C j)) js
 
   pub record HoldsOf (b : ℕ) (js : List ℕ) (hs : List Hold) : Type 0 where
-    pub reads : (f : Spot → Slot) (d : ℕ) → hold_times (λ x. x.reads) f d hs ≡ named_by 1 (at_name b f) d (outside b (names_of (λ e. e.reads) js))
-    pub writes : (f : Spot → Slot) (d : ℕ) → hold_times (λ x. x.writes) f d hs ≡ named_by 1 (at_name b f) d (outside b (names_of (λ e. e.writes) js))
+    pub reads : (f : Spot → Slot) (d : ℕ) → hold_times f (λ x. x.reads) d hs ≡ named_by 1 (at_name b f) d (outside b (names_of (λ e. e.reads) js))
+    pub writes : (f : Spot → Slot) (d : ℕ) → hold_times f (λ x. x.writes) d hs ≡ named_by 1 (at_name b f) d (outside b (names_of (λ e. e.writes) js))
 
   -- what is worked out of a body
   pub record IsBodyTable (b : ℕ) (t : BodyTable) : Type 0 where
     pub own : t.own.items ≡ own_from (body C b).makes (names_in C (λ e. e.reads) b) (names_in C (λ e. e.writes) b) 0 (body C b).makes
-    pub reads : (f : Spot → Slot) (d : ℕ) → hold_times (λ x. x.reads) f d t.outer.items ≡ held_times (at_name b f) d (outer_holds C (λ e. e.reads) b)
-    pub writes : (f : Spot → Slot) (d : ℕ) → hold_times (λ x. x.writes) f d t.outer.items ≡ held_times (at_name b f) d (outer_holds C (λ e. e.writes) b)
+    pub reads : (f : Spot → Slot) (d : ℕ) → hold_times f (λ x. x.reads) d t.outer.items ≡ held_times (at_name b f) d (outer_holds C (λ e. e.reads) b)
+    pub writes : (f : Spot → Slot) (d : ℕ) → hold_times f (λ x. x.writes) d t.outer.items ≡ held_times (at_name b f) d (outer_holds C (λ e. e.writes) b)
     pub controls : t.controls ≡ run_as Control (body C b).entries
     pub leaves : t.leaves ≡ run_as Leaf (body C b).entries
 
