@@ -1,3 +1,4 @@
+pub mod Answered
 pub mod Data
 pub mod Ended
 pub mod Holds

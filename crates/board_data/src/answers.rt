@@ -1,5 +1,13 @@
 //! The answers to what items waited for.
 
+ghost use Rattle.std.specs.Prelude.{◌≡◌, map, option_copied, IfOk};
+ghost use Rattle.replayed.specs.Fields.{slot_at};
+ghost use Rattle.board_work.specs.View.{answer_view, answers_view};
+ghost use Rattle.board_frames.specs.Names.{led_slot};
+ghost use Rattle.board_frames.specs.View.{frames_view};
+ghost use Rattle.board_data.specs.Answered.{cell_answer, scalar_answer, wanted_answer};
+ghost use Rattle.board_data.specs.View.{cells_view};
+
 use crate::data::{element, listed, size};
 use crate::wanted::View;
 use board_code::program::Wanted;
@@ -10,7 +18,9 @@ use values::map::{Element, Map};
 use values::value::Scalar;
 
 /// The answer that is this scalar, or that there is none.
-fn found_or_missing(found: Option<&Scalar>) -> Result<Answer, AllocError> {
+fn found_or_missing(found: Option<&Scalar>) -> Result<Answer, AllocError>
+    ensures { IfOk result (λ answer. answer_view answer ≡ scalar_answer (option_copied found.entry)) }
+{
     match found {
         Some(scalar) => Ok(Answer::Found(scalar.share()?)),
         None => Ok(Answer::Missing),
@@ -18,7 +28,10 @@ fn found_or_missing(found: Option<&Scalar>) -> Result<Answer, AllocError> {
 }
 
 /// The answer that is a whole array.
-fn content(store: &Store, d: usize) -> Result<Answer, AllocError> {
+#[tactic(auto, using(crate::proofs::Answered::listed_answer, crate::proofs::Answered::unlisted_answer))]
+fn content(store: &Store, d: usize) -> Result<Answer, AllocError>
+    ensures { IfOk result (λ answer. answer_view answer ≡ cell_answer (slot_at (cells_view store.now.cells) d)) }
+{
     match listed(store, d)? {
         Some(map) => Ok(Answer::Content(map)),
         None => Ok(Answer::Missing),
@@ -26,7 +39,9 @@ fn content(store: &Store, d: usize) -> Result<Answer, AllocError> {
 }
 
 /// The answer to what is waited for.
-fn answer(view: View<'_>, wanted: &Wanted) -> Result<Answer, AllocError> {
+fn answer(view: View<'_>, wanted: &Wanted) -> Result<Answer, AllocError>
+    ensures { IfOk result (λ answer. answer_view answer ≡ wanted_answer view.entry.program.now (cells_view view.entry.store.now.cells) (led_slot (frames_view view.entry.instances.now.slots) view.entry.at) wanted.now) }
+{
     match wanted {
         Wanted::Closed(spot) => match view.datum(*spot) {
             Some(d) => content(view.store, d),
@@ -37,7 +52,13 @@ fn answer(view: View<'_>, wanted: &Wanted) -> Result<Answer, AllocError> {
 }
 
 /// The answers to all that is waited for, in order.
-pub fn answers(alloc: Global, view: View<'_>, needs: &[Wanted]) -> Result<Vec<Answer>, AllocError> {
+///
+/// # Errors
+///
+/// `AllocError` where memory that was asked for was refused.
+pub fn answers(alloc: Global, view: View<'_>, needs: &[Wanted]) -> Result<Vec<Answer>, AllocError>
+    ensures { IfOk result (λ answers. answers_view answers.items ≡ map (wanted_answer view.entry.program.now (cells_view view.entry.store.now.cells) (led_slot (frames_view view.entry.instances.now.slots) view.entry.at)) needs.now) }
+{
     let mut answers = Vec::new(alloc);
     answers.reserve_exact(needs.len())?;
     for wanted in needs {
