@@ -1,5 +1,5 @@
 -- The answers that are whole arrays.
-use Rattle.std.proofs.Common.{◌≡◌, ◌∙◌, refl, sym, ap, ℕ, List, [], ◌∷◌, option_map, Option, Some, None, Bool, true, false}
+use Rattle.std.proofs.Common.{◌≡◌, ◌∙◌, refl, sym, ap, ℕ, List, option_map, Option, Some, None}
 use Rattle.std.specs.Prelude.{if◌then◌else◌}
 use Rattle.data_store.specs.Data.{array_in}
 use Rattle.data_store.specs.Stores.{Store, at, or_none}

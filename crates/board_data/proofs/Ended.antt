@@ -14,7 +14,7 @@ use Rattle.task_code.specs.Compute.{Computed, Elements}
 use Rattle.task_code.specs.Effects.{Task}
 use Rattle.task_code.specs.Places.{Place}
 use Rattle.board_data.specs.Ended.{Changes, Covers, JobChanges}
-use Rattle.board_data.specs.Made.{is_place}
+use Rattle.board_code.specs.Tables.{is_place}
 use Rattle.board_data.specs.View.{cell_view, cells_view, content_view}
 use Rattle.board_data.proofs.Cells.{cell_there}
 use Rattle.board_data.proofs.Given.{kept_gone, kept_there, spent_zero}

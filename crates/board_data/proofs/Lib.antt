@@ -8,6 +8,7 @@ pub mod Held
 pub mod Literals
 pub mod Made
 pub mod Missed
+pub mod Named
 pub mod Rows
 pub mod Steps
 pub mod Stored

@@ -1,5 +1,5 @@
 -- The answers to what is waited for.
-use Rattle.std.specs.Prelude.{◌≡◌, ℕ, Bool, true, false, ◌&&◌, List, [], ◌∷◌, length, Option, Some, None, IsTrue, nat_eq, if◌then◌else◌}
+use Rattle.std.specs.Prelude.{List, Option, Some, None}
 use Rattle.board_code.specs.declared.program.Wanted.{Wanted}
 use Rattle.board_code.specs.declared.program.Wanted.TheVariants as Waits
 use Rattle.board_code.specs.declared.spot.Spot.{Spot}

@@ -11,7 +11,7 @@ use Rattle.task_code.specs.Compute.{Computed, Elements}
 use Rattle.task_code.specs.Effects.{Task}
 use Rattle.task_code.specs.Places.{Place}
 use Rattle.board_data.specs.Holds.{GivesUp}
-use Rattle.board_data.specs.Made.{is_place}
+use Rattle.board_code.specs.Tables.{is_place}
 use Rattle.board_data.specs.Stored.{StoresIn}
 
 -- it stores, makes data, adds the holds of new instances, and gives up its own

@@ -1,6 +1,5 @@
 -- Holds that are added and given up, by what spots stand for.
 use Rattle.std.specs.Prelude.{◌≡◌, ◌+◌, ◌-◌, ◌<◌, ◌≤◌, ◌^◌, ℕ, true, false, List, [], ◌∷◌, Option, Some, None, if◌then◌else◌}
-use Rattle.board_code.specs.declared.program.Hold.{Hold}
 use Rattle.board_code.specs.declared.spot.Spot.{Spot}
 use Rattle.data_store.specs.Data.{is_spent, kept}
 use Rattle.data_store.specs.Stores.{Store, at}
@@ -29,11 +28,6 @@ closing None s = []
 closing (Some d) s = if closes (at s d) then d ∷ [] else []
 
 module _ (f : Spot → Slot) where
-  -- what holds come to for a datum
-  abbrev pub hold_times : (Hold → ℕ) → ℕ → List Hold → ℕ
-  hold_times count d [] = 0
-  hold_times count d (h ∷ hs) = (if slot_is d (f h.spot) then count h else 0) + hold_times count d hs
-
   -- how often spots lead to a datum
   abbrev pub led_times : ℕ → List Spot → ℕ
   led_times d [] = 0

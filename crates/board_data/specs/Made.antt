@@ -1,5 +1,5 @@
 -- Data that are made for the variables of an instance.
-use Rattle.std.specs.Prelude.{◌≡◌, ◌≢◌, ◌⊎◌, ◌≤◌, ◌<◌, ◌+◌, ℕ, List, Option, Some, None, nat_eq, Bool, false, slice_index_or, if◌then◌else◌}
+use Rattle.std.specs.Prelude.{◌≡◌, ◌≢◌, ◌⊎◌, ◌≤◌, ◌<◌, ◌+◌, ℕ, List, Option, Some, None, slice_index_or, if◌then◌else◌}
 use Rattle.std.specs.List.{slice_get}
 use Rattle.data_store.specs.Arrays.{empty}
 use Rattle.data_store.specs.Stores.{Store, at}
@@ -8,6 +8,7 @@ use Rattle.data_store.specs.declared.datum.Content.TheVariants.{OfArray, OfScala
 use Rattle.data_store.specs.declared.datum.Datum.{Datum}
 use Rattle.data_store.specs.declared.datum.Shape.{Shape}
 use Rattle.data_store.specs.declared.datum.Shape.TheVariants.{Single, Keyed}
+use Rattle.board_code.specs.Tables.{is_place}
 use Rattle.board_code.specs.declared.program.Own.{Own}
 use Rattle.board_frames.specs.declared.instance.Slot.{Slot}
 use Rattle.board_frames.specs.declared.instance.Slot.TheVariants as Slots
@@ -23,10 +24,6 @@ abbrev pub new_datum : Own → Option Scalar → Datum
 new_datum o v = record { content = started o.shape v; reads = o.reads; writes = o.writes }
 
 -- the value that a place starts with
-abbrev pub is_place : ℕ → Option ℕ → Bool
-is_place n None = false
-is_place n (Some k) = nat_eq n k
-
 abbrev pub start_at : Starts → ℕ → Option Scalar
 start_at s i = if is_place i s.value_at then s.value else (if is_place i s.turn_at then s.turn else None)
 

@@ -9,7 +9,7 @@ use Rattle.task_code.specs.Compute.{Elements}
 use Rattle.values.specs.Maps.{found, rising}
 use Rattle.values.specs.declared.map.Element.{Element}
 use Rattle.board_data.specs.Data.{is_keyed}
-use Rattle.board_data.specs.Made.{is_place}
+use Rattle.board_code.specs.Tables.{is_place}
 use Rattle.board_data.specs.View.{content_view}
 
 -- this is stored in the datum, and nothing in another

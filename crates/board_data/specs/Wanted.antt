@@ -1,9 +1,9 @@
 -- What is found and missed where names lead.
-use Rattle.std.specs.Prelude.{ℕ, List, Option, Some, None}
+use Rattle.std.specs.Prelude.{◌≡◌, ◌≤◌, ◌^◌, length, ℕ, List, Option, Some, None}
 use Rattle.board_code.specs.declared.program.Wanted.{Wanted}
 use Rattle.board_code.specs.declared.program.Wanted.TheVariants as Waits
 use Rattle.board_code.specs.declared.spot.Spot.{Spot}
-use Rattle.replayed.specs.Fields.{Absent, Counted, DatumOf, LiteralOf, Slot, Want, literal, slot_at}
+use Rattle.replayed.specs.Fields.{Absent, Counted, DatumOf, Frame, LiteralOf, Slot, Want, literal, slot_at}
 use Rattle.replayed.specs.Needs.{array_missed, at_missed, cell_element, cell_value, element_missed, scalar_missed}
 use Rattle.task_code.specs.Code.{Code}
 use Rattle.task_code.specs.Compute.{key_of}
@@ -42,3 +42,7 @@ module _ (C : Code) (cs : List (Option Counted)) where
     wanted_missed (Waits.Closed r) = array_missed cs (f r)
     wanted_missed (Waits.At a r) = at_missed C cs (f a) (f r)
     wanted_missed (Waits.AtKey a k) = element_missed cs (f a) k
+
+-- no instance has more slots than numbers
+abbrev pub FewSlots : List (Option Frame) → Type 0
+FewSlots fs = (k : ℕ) (f : Frame) → slot_at fs k ≡ Some f → length f.slots ≤ 2 ^ 64

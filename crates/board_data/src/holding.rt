@@ -5,8 +5,9 @@ ghost use Rattle.board_frames.specs.Names.{datum_of, spot_slot};
 ghost use Rattle.board_frames.specs.View.{frames_view};
 ghost use Rattle.data_store.specs.Data.{with_holds};
 ghost use Rattle.data_store.specs.Stores.{at as cell};
+ghost use Rattle.board_code.specs.Tables.{hold_times};
 ghost use Rattle.board_data.specs.Data.{held};
-ghost use Rattle.board_data.specs.Holds.{Closes, Fit, GivesUp, closed_at, closing, held_at, hold_times, led_times, released_at};
+ghost use Rattle.board_data.specs.Holds.{Closes, Fit, GivesUp, closed_at, closing, held_at, led_times, released_at};
 
 use crate::data;
 use board_code::program::Hold;
@@ -72,8 +73,8 @@ pub fn hold_outer(
     times: u64,
 )
     ensures { let f = spot_slot (frames_view instances.now.slots) at in (d : ℕ) →
-        Fit (times * hold_times f (λ h. h.reads) d outer.now) (times * hold_times f (λ h. h.writes) d outer.now) (cell store.old d) →
-        cell store.new d ≡ option_map (with_holds (times * hold_times f (λ h. h.reads) d outer.now) (times * hold_times f (λ h. h.writes) d outer.now)) (cell store.old d) }
+        Fit (times * hold_times (λ h. h.reads) f d outer.now) (times * hold_times (λ h. h.writes) f d outer.now) (cell store.old d) →
+        cell store.new d ≡ option_map (with_holds (times * hold_times (λ h. h.reads) f d outer.now) (times * hold_times (λ h. h.writes) f d outer.now)) (cell store.old d) }
 {
     for hold in outer {
         hold_spot(store, instances, at, hold, times);
