@@ -42,21 +42,26 @@ struct Rules {
     }
 };
 
-static void time_size(uint64_t count) {
-    Rules rules;
+static void time_size(uint64_t parts, uint64_t count) {
+    std::vector<Rules> all;
     std::vector<uint64_t> out;
-    out.reserve(count);
+    out.reserve(1000000);
     auto adds = nanoseconds([&] {
-        for (uint64_t n = 0; n < count; n++) rules.add(n, int64_t(n), n);
+        for (uint64_t part = 0; part < parts; part++) {
+            all.emplace_back();
+            for (uint64_t n = 0; n < count; n++) all.back().add(n, int64_t(n), n);
+        }
     });
     auto knowns = nanoseconds([&] {
-        for (uint64_t n = 0; n < count; n++) rules.known(rules.scalars, n, out);
-        for (uint64_t n = 0; n < count; n++) rules.known(rules.elements, int64_t(n), out);
+        for (Rules &rules : all) {
+            for (uint64_t n = 0; n < count; n++) rules.known(rules.scalars, n, out);
+            for (uint64_t n = 0; n < count; n++) rules.known(rules.elements, int64_t(n), out);
+        }
     });
-    std::printf("%lu adds in %ld microseconds, %lu times two knowns in %ld; %zu listed\n", count, adds / 1000, count,
+    std::printf("%lu times %lu: adds in %ld microseconds, two knowns each in %ld; %zu listed\n", parts, count, adds / 1000,
                 knowns / 1000, out.size());
 }
 
 int main() {
-    for (uint64_t count : {1000, 10000, 100000, 1000000}) time_size(count);
+    for (uint64_t count = 1000; count <= 1000000; count *= 10) time_size(1000000 / count, count);
 }

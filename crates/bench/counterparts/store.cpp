@@ -41,52 +41,72 @@ struct Store {
     }
 };
 
-static void time_cells(uint64_t count) {
+struct Batch {
     Store store;
     std::vector<size_t> made;
+};
+
+static void time_cells(uint64_t parts, uint64_t count) {
+    std::vector<Batch> batches;
     auto makes = nanoseconds([&] {
-        for (uint64_t n = 0; n < count; n++) {
-            size_t d = store.put({std::optional<Scalar>(), 1, 0});
-            std::get<0>(store.data[d]->content) = Scalar(int64_t(5));
-            made.push_back(d);
+        for (uint64_t part = 0; part < parts; part++) {
+            batches.emplace_back();
+            auto &[store, made] = batches.back();
+            for (uint64_t n = 0; n < count; n++) {
+                size_t d = store.put({std::optional<Scalar>(), 1, 0});
+                std::get<0>(store.data[d]->content) = Scalar(int64_t(5));
+                made.push_back(d);
+            }
         }
     });
     auto frees = nanoseconds([&] {
-        for (size_t d : made) store.release(d);
+        for (auto &[store, made] : batches)
+            for (size_t d : made) store.release(d);
     });
-    std::printf("%lu cells made in %ld microseconds, freed in %ld\n", count, makes / 1000, frees / 1000);
+    std::printf("%lu times %lu cells made in %ld microseconds, freed in %ld\n", parts, count, makes / 1000, frees / 1000);
 }
 
 static int64_t key_of(uint64_t number, bool scattered) {
     return scattered ? int64_t(number * 0x9e3779b97f4a7c15u >> 1) : int64_t(number);
 }
 
-static void time_inserts(uint64_t count, bool scattered) {
+using Sorted = std::vector<std::pair<int64_t, Scalar>>;
+
+static void time_inserts(uint64_t parts, uint64_t count, bool scattered) {
     Store store;
-    size_t d = store.put({Elements(), 1, 1});
-    uint64_t inserted = 0, found = 0;
+    std::vector<size_t> arrays;
+    uint64_t inserted = 0, found = 0, listed = 0;
     auto inserts = nanoseconds([&] {
-        auto &elements = std::get<1>(store.data[d]->content);
-        for (uint64_t n = 0; n < count; n++) inserted += elements.emplace(key_of(n, scattered), Scalar(int64_t(5))).second;
+        for (uint64_t part = 0; part < parts; part++) {
+            size_t d = store.put({Elements(), 1, 1});
+            auto &elements = std::get<1>(store.data[d]->content);
+            for (uint64_t n = 0; n < count; n++) inserted += elements.emplace(key_of(n, scattered), Scalar(int64_t(5))).second;
+            arrays.push_back(d);
+        }
     });
     auto finds = nanoseconds([&] {
-        auto &elements = std::get<1>(store.data[d]->content);
-        for (uint64_t n = 0; n < count; n++) found += elements.count(key_of(n, scattered));
+        for (size_t d : arrays) {
+            auto &elements = std::get<1>(store.data[d]->content);
+            for (uint64_t n = 0; n < count; n++) found += elements.count(key_of(n, scattered));
+        }
     });
-    std::vector<std::pair<int64_t, Scalar>> sorted;
+    std::vector<Sorted> lists;
     auto sorts = nanoseconds([&] {
-        auto &elements = std::get<1>(store.data[d]->content);
-        sorted.assign(elements.begin(), elements.end());
-        std::sort(sorted.begin(), sorted.end(), [](auto &a, auto &b) { return a.first < b.first; });
+        for (size_t d : arrays) {
+            auto &elements = std::get<1>(store.data[d]->content);
+            lists.emplace_back(elements.begin(), elements.end());
+            std::sort(lists.back().begin(), lists.back().end(), [](auto &a, auto &b) { return a.first < b.first; });
+            listed += lists.back().size();
+        }
     });
-    std::printf("%lu inserts in %ld microseconds, %lu found in %ld, %zu sorted in %ld; scattered: %d\n", inserted,
-                inserts / 1000, found, finds / 1000, sorted.size(), sorts / 1000, scattered);
+    std::printf("%lu times %lu: %lu inserts in %ld microseconds, %lu found in %ld, %lu sorted in %ld; scattered: %d\n", parts,
+                count, inserted, inserts / 1000, found, finds / 1000, listed, sorts / 1000, scattered);
 }
 
 int main() {
-    for (uint64_t count : {1000, 10000, 100000, 1000000}) {
-        time_cells(count);
-        time_inserts(count, false);
-        time_inserts(count, true);
+    for (uint64_t count = 1000; count <= 1000000; count *= 10) {
+        time_cells(1000000 / count, count);
+        time_inserts(1000000 / count, count, false);
+        time_inserts(1000000 / count, count, true);
     }
 }

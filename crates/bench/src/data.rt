@@ -1,4 +1,5 @@
 //! How long data take in the store.
+ghost use Rattle.std.specs.Bool.{OnTrue};
 ghost use Rattle.data_store.specs.Stores.{IsArrayAt};
 
 use data_store::store::{DatumNo, Shape, Store};
@@ -66,50 +67,137 @@ fn find_all(store: &Store, d: DatumNo, count: u64, scattered: bool) -> u64
     found
 }
 
-/// Prints the times of scalars made and freed.
-fn time_cells(rt: &(impl Clock + Print), alloc: Global, count: u64) -> io::Result<()> {
-    let mut store = Store::new(alloc);
-    let start = Instant::now(rt)?;
-    let made = make_all(alloc, &mut store, count)?;
-    let makes = start.elapsed(rt)?.as_micros();
-    let start = Instant::now(rt)?;
-    free_all(&mut store, &made);
-    let frees = start.elapsed(rt)?.as_micros();
-    let left = store.len();
-    println!(rt; "{count} cells made in {makes} microseconds, freed in {frees}; {left} left")
+/// A store, and the numbers of its scalars.
+#[derive(Drop)]
+struct Batch {
+    store: Store,
+    made: Vec<DatumNo>,
 }
 
-/// Prints the times of inserts, of look-ups, and of the first call for the whole array.
+/// Makes so many stores of so many scalars each.
+fn make_batches(alloc: Global, batches: u64, count: u64) -> Result<Vec<Batch>, AllocError> {
+    let mut all = Vec::new(alloc);
+    for _batch in 0..batches {
+        let mut store = Store::new(alloc);
+        let made = make_all(alloc, &mut store, count)?;
+        all.push(Batch { store, made })?;
+    }
+    Ok(all)
+}
+
+/// Takes back the holds on the scalars of each store, and counts those that are left.
+fn free_batches(batches: &mut [Batch]) -> usize {
+    let mut left = 0usize;
+    for batch in batches.iter_mut() {
+        free_all(&mut batch.store, batch.made.as_slice());
+        left = left.wrapping_add(batch.store.len());
+    }
+    left
+}
+
+/// Whether a number has an array.
+fn is_array(store: &Store, d: DatumNo) -> bool
+    ensures { OnTrue result (IsArrayAt store.now d) }
+{
+    match store.shape(d) {
+        Some(Shape::Keyed) => true,
+        _ => false,
+    }
+}
+
+/// Makes so many arrays with so many elements each, and counts the elements.
+fn fill_arrays(
+    store: &mut Store,
+    filled: &mut Vec<DatumNo>,
+    arrays: u64,
+    count: u64,
+    scattered: bool,
+) -> Result<u64, AllocError> {
+    let mut inserted = 0u64;
+    for _array in 0..arrays {
+        let d = store.new_cell(Shape::Keyed, 1, 1)?;
+        inserted = insert_all(store, d, count, scattered).wrapping_add(inserted);
+        filled.push(d)?;
+    }
+    Ok(inserted)
+}
+
+/// Looks so many keys up in each array, and counts those found.
+fn find_each(store: &Store, filled: &[DatumNo], count: u64, scattered: bool) -> u64 {
+    let mut found = 0u64;
+    for d in filled {
+        if is_array(store, *d) {
+            found = find_all(store, *d, count, scattered).wrapping_add(found);
+        }
+    }
+    found
+}
+
+/// Asks for each array as a whole, and counts the elements.
+fn list_each(store: &mut Store, filled: &[DatumNo]) -> Result<usize, AllocError> {
+    let mut listed = 0usize;
+    for d in filled {
+        if is_array(store, *d) {
+            listed = store.whole(*d)?.len().wrapping_add(listed);
+        }
+    }
+    Ok(listed)
+}
+
+/// Prints the times of a million scalars made and freed, so many in each store.
+fn time_cells(
+    rt: &(impl Clock + Print),
+    alloc: Global,
+    batches: u64,
+    count: u64,
+) -> io::Result<()> {
+    let start = Instant::now(rt)?;
+    let mut all = make_batches(alloc, batches, count)?;
+    let makes = start.elapsed(rt)?.as_micros();
+    let start = Instant::now(rt)?;
+    let left = free_batches(all.as_mut_slice());
+    let frees = start.elapsed(rt)?.as_micros();
+    println!(rt;
+        "{batches} times {count} cells made in {makes} microseconds, freed in {frees}; {left} left"
+    )
+}
+
+/// Prints the times of a million inserts, of look-ups, and of the first call for each whole array, so many elements in each.
 fn time_inserts(
     rt: &(impl Clock + Print),
     alloc: Global,
+    arrays: u64,
     count: u64,
     scattered: bool,
 ) -> io::Result<()> {
     let mut store = Store::new(alloc);
-    let d = store.new_cell(Shape::Keyed, 1, 1)?;
+    let mut filled = Vec::new(alloc);
     let start = Instant::now(rt)?;
-    let inserted = insert_all(&mut store, d, count, scattered);
+    let inserted = fill_arrays(&mut store, &mut filled, arrays, count, scattered)?;
     let inserts = start.elapsed(rt)?.as_micros();
     let start = Instant::now(rt)?;
-    let found = find_all(&store, d, count, scattered);
+    let found = find_each(&store, filled.as_slice(), count, scattered);
     let finds = start.elapsed(rt)?.as_micros();
     let start = Instant::now(rt)?;
-    let size = store.whole(d)?.len();
+    let listed = list_each(&mut store, filled.as_slice())?;
     let sorts = start.elapsed(rt)?.as_micros();
     println!(rt;
-        "{inserted} inserts in {inserts} microseconds, {found} found in {finds}, {size} sorted in {sorts}; scattered: {scattered}"
+        "{arrays} times {count}: {inserted} inserts in {inserts} microseconds, {found} found in {finds}, {listed} sorted in {sorts}; scattered: {scattered}"
     )
 }
 
-/// Prints the times of 1,000 to 1,000,000 cells and elements.
+/// Prints the times of a million cells and elements, 1,000 to 1,000,000 in each store or array. All are kept, so that
+/// each size touches as much memory for the first time.
 pub fn time(rt: &(impl Clock + Print), alloc: Global) -> io::Result<()> {
-    let mut count = 1_000u64;
-    for _round in 0..4u32 {
-        time_cells(rt, alloc, count)?;
-        time_inserts(rt, alloc, count, false)?;
-        time_inserts(rt, alloc, count, true)?;
-        count = count.wrapping_mul(10);
+    for (parts, count) in [
+        (1_000u64, 1_000u64),
+        (100, 10_000),
+        (10, 100_000),
+        (1, 1_000_000),
+    ] {
+        time_cells(rt, alloc, parts, count)?;
+        time_inserts(rt, alloc, parts, count, false)?;
+        time_inserts(rt, alloc, parts, count, true)?;
     }
     Ok(())
 }

@@ -48,28 +48,49 @@ fn tell_all(rules: &mut Rules, count: u64, out: &mut Vec<u64>) {
     }
 }
 
-/// Prints the times of so many adds and of twice so many knowns.
-fn time_size(rt: &(impl Clock + Print), alloc: Global, count: u64) -> io::Result<()> {
-    let mut rules = Rules::new(alloc);
-    let mut out = Vec::with_capacity(alloc, count as usize)?;
+/// So many rules, in each of which so many items wait.
+fn add_each(alloc: Global, parts: u64, count: u64) -> Result<Vec<Rules>, AllocError> {
+    let mut all = Vec::new(alloc);
+    for _part in 0..parts {
+        let mut rules = Rules::new(alloc);
+        add_all(alloc, &mut rules, count)?;
+        all.push(rules)?;
+    }
+    Ok(all)
+}
+
+/// Tells each all that its items wait for.
+fn tell_each(all: &mut [Rules], count: u64, out: &mut Vec<u64>) {
+    for rules in all.iter_mut() {
+        tell_all(rules, count, out);
+    }
+}
+
+/// Prints the times of a million adds and of twice as many knowns, with so many items in each.
+fn time_size(rt: &(impl Clock + Print), alloc: Global, parts: u64, count: u64) -> io::Result<()> {
+    let mut out = Vec::with_capacity(alloc, 1_000_000)?;
     let start = Instant::now(rt)?;
-    add_all(alloc, &mut rules, count)?;
+    let mut all = add_each(alloc, parts, count)?;
     let adds = start.elapsed(rt)?.as_micros();
     let start = Instant::now(rt)?;
-    tell_all(&mut rules, count, &mut out);
+    tell_each(all.as_mut_slice(), count, &mut out);
     let knowns = start.elapsed(rt)?.as_micros();
     let listed = out.len();
     println!(rt;
-        "{count} adds in {adds} microseconds, {count} times two knowns in {knowns}; {listed} listed"
+        "{parts} times {count}: adds in {adds} microseconds, two knowns each in {knowns}; {listed} listed"
     )
 }
 
-/// Prints the times of 1,000 to 1,000,000 items.
+/// Prints the times of a million items, 1,000 to 1,000,000 of them in each value. All are kept, so that each size
+/// touches as much memory for the first time.
 pub fn time(rt: &(impl Clock + Print), alloc: Global) -> io::Result<()> {
-    let mut count = 1_000u64;
-    for _round in 0..4u32 {
-        time_size(rt, alloc, count)?;
-        count = count.wrapping_mul(10);
+    for (parts, count) in [
+        (1_000u64, 1_000u64),
+        (100, 10_000),
+        (10, 100_000),
+        (1, 1_000_000),
+    ] {
+        time_size(rt, alloc, parts, count)?;
     }
     Ok(())
 }

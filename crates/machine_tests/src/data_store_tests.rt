@@ -113,3 +113,32 @@ fn the_last_hold_frees(rt: HostRuntime) -> Result<(), Fail> {
     assert_eq!(rt; store.len(), 0);
     Ok(())
 }
+
+#[test]
+fn a_number_tells_its_shape(rt: HostRuntime) -> Result<(), Fail> {
+    let mut store = Store::new(rt.alloc());
+    let scalar = store.new_cell(Shape::Single, 1, 0)?;
+    let array = store.new_cell(Shape::Keyed, 1, 1)?;
+    assert!(rt; matches!(store.shape(scalar), Some(Shape::Single)));
+    assert!(rt; matches!(store.shape(array), Some(Shape::Keyed)));
+    release(&mut store, scalar);
+    assert!(rt; store.shape(scalar).is_none());
+    assert!(rt; store.shape(77).is_none());
+    Ok(())
+}
+
+// Before `whole` has made a list, with that list, and after the next insert.
+#[test]
+fn elements_are_listed_by_rising_key(rt: HostRuntime) -> Result<(), Fail> {
+    let mut store = Store::new(rt.alloc());
+    let d = store.new_cell(Shape::Keyed, 1, 1)?;
+    assert_eq!(rt; store.listed(d)?.elements().len(), 0);
+    assert_eq!(rt; insert(&mut store, d, 5, 50), Ok(()));
+    assert_eq!(rt; insert(&mut store, d, -3, 30), Ok(()));
+    assert_eq!(rt; order_of(&store.listed(d)?), 7);
+    assert_eq!(rt; order_of(&store.whole(d)?), 7);
+    assert_eq!(rt; order_of(&store.listed(d)?), 7);
+    assert_eq!(rt; insert(&mut store, d, 2, 20), Ok(()));
+    assert_eq!(rt; order_of(&store.listed(d)?), 16);
+    Ok(())
+}

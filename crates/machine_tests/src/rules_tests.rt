@@ -82,6 +82,22 @@ fn a_forgotten_item_is_not_woken(rt: HostRuntime) -> Result<(), Fail> {
     Ok(())
 }
 
+#[test]
+fn items_wait_in_the_room_that_was_laid_by(rt: HostRuntime) -> Result<(), Fail> {
+    let alloc = rt.alloc();
+    let mut rules = Rules::new(alloc);
+    rules.reserve(2)?;
+    rules.reserve(1)?;
+    assert!(rt; !wait_for(alloc, &mut rules, Input::Whole(1), 7)?);
+    assert!(rt; !wait_for(alloc, &mut rules, Input::Whole(1), 8)?);
+    assert_eq!(rt; rules.waiting(), 2);
+    let items = woken(alloc, &mut rules, &Input::Whole(1))?;
+    assert!(rt;
+        items.as_slice() == [7u64, 8].as_slice() || items.as_slice() == [8u64, 7].as_slice()
+    );
+    Ok(())
+}
+
 // Thousands of items come and go, and none is lost.
 #[test]
 fn many_items_are_each_woken_once(rt: HostRuntime) -> Result<(), Fail> {
