@@ -164,6 +164,9 @@ pub fn path_of(
     Ok(steps)
 }
 
+/// What an instance has inside that goes with it.
+const LAST: usize = 1;
+
 /// One item or instance less is in the instance. Where it was the last, the instance goes, and the answer is the one around it.
 fn leave_one(instances: &mut Slab<Instance>, at: usize) -> Option<usize>
     ensures goes { IfSome result (λ outer. (f : Frame) × (slot_of (frames_view instances.old.slots) at ≡ Some f) × (f.parent ≡ Some outer) × Sets (frames_view instances.old.slots) at None (frames_view instances.new.slots)) }
@@ -173,7 +176,7 @@ fn leave_one(instances: &mut Slab<Instance>, at: usize) -> Option<usize>
         (gs : List (Option Frame)) → TakenOff gs (frames_view instances.new.slots) result → TakenOff gs (frames_view instances.old.slots) (Some at) }
 {
     let instance = instances.get_mut(at)?;
-    if instance.live > 1 {
+    if instance.live > LAST {
         instance.live -= 1;
         return None;
     }

@@ -8,10 +8,10 @@ use Rattle.board_frames.proofs.instance.leave_one.Goals as goal
 pub returns-in_err-instance-clause-leaves : goal.returns-in_err-instance-clause-leaves
 returns-in_err-instance-clause-leaves c = λ f h some gs off. not_there c.args.instances.now c.args.at f c.in_err-instance.ensures.value h
 
-pub returns-then-instance-gt1-clause-leaves : goal.returns-then-instance-gt1-clause-leaves
-returns-then-instance-gt1-clause-leaves c = λ f h some gs off. (
+pub returns-then-instance-gt-LAST-clause-leaves : goal.returns-then-instance-gt-LAST-clause-leaves
+returns-then-instance-gt-LAST-clause-leaves c = λ f h some gs off. (
     let m : f.live ≡ c.in_ok-instance.instance.now.live = ap (λ (x : Frame). x.live) (view_is c.args.instances.now c.args.at c.in_ok-instance.instance.now f c.in_ok-instance.ensures.value h)
-    in stays_there _ _ gs c.args.at f h (omega (arith, m, c.if-instance-gt1.true)) (written c.args.instances.now c.args.at (f.live - 1) c.in_ok-instance.instance.now _ c.in_ok-instance.ensures.value (ap (λ n. with_live (n - 1) (frame_view c.in_ok-instance.instance.now)) (sym m)) f h) off)
+    in stays_there _ _ gs c.args.at f h (omega (arith, m, c.if-instance-gt-LAST.true)) (written c.args.instances.now c.args.at (f.live - 1) c.in_ok-instance.instance.now _ c.in_ok-instance.ensures.value (ap (λ n. with_live (n - 1) (frame_view c.in_ok-instance.instance.now)) (sym m)) f h) off)
 
 pub returns-clause-goes : goal.returns-clause-goes
 returns-clause-goes c = around c.in_ok-gone.gone.parent refl
@@ -24,4 +24,4 @@ pub returns-clause-leaves : goal.returns-clause-leaves
 returns-clause-leaves c = λ f h some gs off. (
     let e = view_is c.args.instances.now c.args.at c.in_ok-gone.gone f (gone_is c.args.instances.now c.args.at c.in_ok-instance.instance.now c.in_ok-instance.ensures.value c.in_ok-gone.gone c.in_ok-gone.ensures.value) h
     in let m : f.live ≡ c.in_ok-instance.instance.now.live = ap (λ (x : Frame). x.live) (view_is c.args.instances.now c.args.at c.in_ok-instance.instance.now f c.in_ok-instance.ensures.value h)
-    in goes_off _ _ gs c.args.at f h some (omega (arith, m, c.if-instance-gt1.false)) (gone_sets c.args.instances.now c.args.at c.in_ok-instance.instance.now c.in_ok-instance.ensures.value c.try_remove.new.self c.in_ok-gone.ensures.updates) (subst (λ (o : Option ℕ). TakenOff gs (frames_view c.try_remove.new.self.slots) o) (sym (ap (λ (x : Frame). x.parent) e)) off))
+    in goes_off _ _ gs c.args.at f h some (omega (arith, m, c.if-instance-gt-LAST.false)) (gone_sets c.args.instances.now c.args.at c.in_ok-instance.instance.now c.in_ok-instance.ensures.value c.try_remove.new.self c.in_ok-gone.ensures.updates) (subst (λ (o : Option ℕ). TakenOff gs (frames_view c.try_remove.new.self.slots) o) (sym (ap (λ (x : Frame). x.parent) e)) off))
