@@ -1,9 +1,10 @@
 -- The turns of a loop, one after the other.
-use Rattle.std.proofs.Common.{◌≡◌, ◌∙◌, refl, sym, ap, subst, rules, ℕ, zero, suc, ◌+◌, ◌-◌, ◌<◌, ◌≤◌, List, [], ◌∷◌, ◌++◌, take, get_or, length, Option, Some, ℤ, pos, arith}
+use Rattle.std.proofs.Common.{◌≡◌, ◌∙◌, refl, sym, ap, subst, rules, ℕ, zero, suc, ◌+◌, ◌-◌, ◌<◌, ◌≤◌, List, [], ◌∷◌, ◌++◌, map, take, get_or, length, Option, Some, ℤ, pos, arith}
 use Rattle.std.specs.List.{AllZip}
 use Rattle.std.proofs.lemmas.List.{append_assoc, append-nil, map-append, take_more}
-use Rattle.replayed.specs.Fields.{Frame}
+use Rattle.replayed.specs.Fields.{Frame, path_of}
 use Rattle.task_code.specs.Code.{Body, Code, blank_body, body, nth}
+use Rattle.task_code.specs.Effects.{step_at}
 use Rattle.task_code.specs.Compute.{Elements, key_scalar, pairs, range_turns}
 use Rattle.values.specs.declared.map.Element.{Element}
 use Rattle.values.specs.declared.key.Key.{Key}
@@ -11,6 +12,8 @@ use Rattle.values.specs.declared.key.Key.TheVariants.{Number as number_key}
 use Rattle.values.specs.declared.value.Scalar.{Scalar}
 use Rattle.values.specs.declared.value.Scalar.TheVariants.{Number}
 use Rattle.values.specs.Ranges.{value_in}
+use Rattle.board_frames.specs.Made.{block_of}
+use Rattle.board_frames.specs.View.{opening_frame}
 use Rattle.board_frames.specs.Turns.{AddsTurns, IsOpening, IsTurn}
 use Rattle.board_frames.specs.declared.opening.Opening.{Opening}
 
@@ -103,3 +106,12 @@ elements_step es i one key value h is k v =
 -- a turn of a range is told by its key and its value
 pub turn_same : (a b : ℤ) (low step : ℤ) (n : ℕ) → a ≡ pos n → b ≡ value_in low step n → ◌≡◌ {A = Elements} ((number_key a, Number b) ∷ []) ((number_key (pos n), Number (value_in low step n)) ∷ [])
 turn_same a b low step n e f = ap (λ (z : ℤ). (number_key z, Number b) ∷ []) e ∙ ap (λ (z : ℤ). (number_key (pos n), Number z) ∷ []) f
+
+-- instances of turns are of the blocks that steps lead to
+pub turns_blocks : (C : Code) (fs : List (Option Frame)) (at number offset : ℕ) (turns : Elements) (added : List Opening) → AllZip (IsTurn C fs at number offset) turns added → map (block_of fs (Some at)) (map opening_frame added) ≡ map (λ (t : Key × Scalar). (number, step_at offset t.0 (path_of fs at))) turns
+turns_blocks C fs at number offset [] [] x = refl
+turns_blocks C fs at number offset [] (o ∷ os) x = absurd x
+turns_blocks C fs at number offset (t ∷ ts) [] x = absurd x
+turns_blocks C fs at number offset (t ∷ ts) (o ∷ os) x =
+    ap (λ (f : Frame). block_of fs (Some at) f ∷ map (block_of fs (Some at)) (map opening_frame os)) x.0.inner.is
+    ∙ ap (λ bs. (number, step_at offset t.0 (path_of fs at)) ∷ bs) (turns_blocks C fs at number offset ts os x.1)

@@ -1,6 +1,6 @@
 //! What instances that come among the others make of the fields of a board.
 ghost use Rattle.std.specs.Prelude.{◌≡◌, ◌<◌, ◌++◌, ℕ, List, [], Option, None, Some, IsSome, length, map};
-ghost use Rattle.std.specs.List.{filter};
+ghost use Rattle.std.specs.List.{AllZip, filter};
 ghost use Rattle.dataflow.specs.Machine.{Event};
 ghost use Rattle.dataflow.specs.System.{In};
 ghost use Rattle.replayed.specs.Ending.{AreMade, FramesOpen, Instance, has_entries, made_jobs, new_row};
@@ -9,19 +9,25 @@ ghost use Rattle.replayed.specs.Layouts.{Passes};
 ghost use Rattle.replayed.specs.Stands.{Stands};
 ghost use Rattle.replayed.specs.Static.{opened};
 ghost use Rattle.task_code.specs.Code.{Code, body};
-ghost use Rattle.task_code.specs.Compute.{Computed};
-ghost use Rattle.task_code.specs.Effects.{Task};
+ghost use Rattle.task_code.specs.Compute.{Computed, Elements};
+ghost use Rattle.task_code.specs.Effects.{Task, step_at};
 ghost use Rattle.task_code.specs.Places.{Step};
 ghost use Rattle.board_code.specs.Spots.{layout_of};
 ghost use Rattle.board_frames.specs.Made.{FitsAround, IsOpened, block_of, made_as, with_slots};
 ghost use Rattle.board_frames.specs.Nested.{IsNested};
 ghost use Rattle.board_frames.specs.Openings.{ArePlaced, IsInner, WithMore, unfilled};
 ghost use Rattle.board_frames.specs.Passing.{HandsOver};
+ghost use Rattle.board_frames.specs.Turns.{IsTurn};
+ghost use Rattle.board_frames.specs.View.{opening_frame};
+ghost use Rattle.board_frames.specs.declared.opening.Opening.{Opening as AnOpening};
+ghost use Rattle.values.specs.declared.key.Key.{Key};
+ghost use Rattle.values.specs.declared.value.Scalar.{Scalar};
 
 /// What comes of instances that were put in. An instance that was made inside of another, or the script's own, is one of a block,
 /// also once its data are made. Where all that are put in are such, the instances are those of an End that opens these blocks, with
 /// the rows of their items; and they lie in one another, as they do wherever the fields stand for the state of a history.
 /// Behind the slots of its own data an instance that a call opens has what the call hands over, where the layout puts the parameters.
+/// The instances of a loop's turns are of the blocks that its steps lead to.
 pub fn opened_instances()
     ensures stands { (C : Code) (L : Layout) (events : List Event) (F : Fields) → Stands C L events F → IsNested F.frames }
     ensures inner { (C : Code) (fs : List (Option Frame)) (at number : ℕ) (way : Option Step) (passed xs : List Slot) (f : Frame) →
@@ -42,4 +48,6 @@ pub fn opened_instances()
         IsNested fs → ((f : Frame) → In f frames → IsOpened C fs around f) → FitsAround fs around (length frames) → WithMore fs around (length frames) middle →
         ArePlaced frames entries middle gs old new last → IsNested gs }
     ensures passes { (C : Code) (fs : List (Option Frame)) (k e chunk : ℕ) (m : Instance) (f : Frame) → 0 < length C.bodies → HandsOver C fs k e m f → Passes C (layout_of C) fs k e chunk m f }
+    ensures turns { (C : Code) (fs : List (Option Frame)) (at number offset : ℕ) (turns : Elements) (added : List AnOpening) → AllZip (IsTurn C fs at number offset) turns added →
+        map (block_of fs (Some at)) (map opening_frame added) ≡ map (λ (t : Key × Scalar). (number, step_at offset t.0 (path_of fs at))) turns }
 {}

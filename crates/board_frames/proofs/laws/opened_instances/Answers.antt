@@ -1,5 +1,6 @@
 use Rattle.board_frames.proofs.Opened.{inner_opened, outermost_opened, placed_made, placed_nested, placed_opens, placed_rows, stands_nested}
 use Rattle.board_frames.proofs.Passed.{passes_over}
+use Rattle.board_frames.proofs.Turned.{turns_blocks}
 use Rattle.board_frames.proofs.laws.opened_instances.Goals as goal
 
 pub returns-clause-opens : goal.returns-clause-opens
@@ -25,3 +26,6 @@ returns-clause-outermost c = λ C fs xs some. outermost_opened C fs xs some
 
 pub returns-clause-passes : goal.returns-clause-passes
 returns-clause-passes c = λ C fs k e chunk m f some x. passes_over C fs k e chunk m f some x
+
+pub returns-clause-turns : goal.returns-clause-turns
+returns-clause-turns c = λ C fs at number offset turns added x. turns_blocks C fs at number offset turns added x
