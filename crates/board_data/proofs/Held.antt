@@ -84,27 +84,27 @@ module _ (f : Spot → Slot) (r w : Hold → ℕ) where
   abbrev pub hold_step : Hold → Store → Store
   hold_step h s = held_at (datum_of (f h.spot)) (r h) (w h) s
 
-  all_holds : (hs : List Hold) (d : ℕ) (s : Store) (c : Option Datum) → at s d ≡ c → Fit (hold_times r f d hs) (hold_times w f d hs) c → at (one_by_one hold_step hs s) d ≡ plus (hold_times r f d hs) (hold_times w f d hs) c
+  all_holds : (hs : List Hold) (d : ℕ) (s : Store) (c : Option Datum) → at s d ≡ c → Fit (hold_times f r d hs) (hold_times f w d hs) c → at (one_by_one hold_step hs s) d ≡ plus (hold_times f r d hs) (hold_times f w d hs) c
   all_holds [] d s c e h = e ∙ sym (no_more c)
   all_holds (x ∷ hs) d s c e h =
-      let first = by_slot (f x.spot) d (r x) (w x) s c e (fit_first c (hold_times r f d hs) (hold_times w f d hs) _ _ h) in
-      all_holds hs d (hold_step x s) _ first (fit_rest c (hold_times r f d hs) (hold_times w f d hs) _ _ h)
-      ∙ two c (hold_times r f d hs) (hold_times w f d hs) _ _
+      let first = by_slot (f x.spot) d (r x) (w x) s c e (fit_first c (hold_times f r d hs) (hold_times f w d hs) _ _ h) in
+      all_holds hs d (hold_step x s) _ first (fit_rest c (hold_times f r d hs) (hold_times f w d hs) _ _ h)
+      ∙ two c (hold_times f r d hs) (hold_times f w d hs) _ _
 
 -- a factor of each count is one of the whole
-times_out : (f : Spot → Slot) (n : ℕ) (r : Hold → ℕ) (d : ℕ) (hs : List Hold) → hold_times (λ h. n * r h) f d hs ≡ n * hold_times r f d hs
+times_out : (f : Spot → Slot) (n : ℕ) (r : Hold → ℕ) (d : ℕ) (hs : List Hold) → hold_times f (λ h. n * r h) d hs ≡ n * hold_times f r d hs
 times_out f n r d [] = omega arith
-times_out f n r d (x ∷ hs) = ap (λ k. (if slot_is d (f x.spot) then n * r x else 0) + k) (times_out f n r d hs) ∙ by (slot_is d (f x.spot)) (hold_times r f d hs)
+times_out f n r d (x ∷ hs) = ap (λ k. (if slot_is d (f x.spot) then n * r x else 0) + k) (times_out f n r d hs) ∙ by (slot_is d (f x.spot)) (hold_times f r d hs)
   where
     by : (b : Bool) (k : ℕ) → (if b then n * r x else 0) + n * k ≡ n * ((if b then r x else 0) + k)
     by true k = grind arith
     by false k = grind arith
 
 -- so many times these holds are added
-pub held_times : (f : Spot → Slot) (n : ℕ) (hs : List Hold) (s t : Store) → t ≡ one_by_one (hold_step f (λ h. n * h.reads) (λ h. n * h.writes)) hs s → (d : ℕ) → Fit (n * hold_times (λ h. h.reads) f d hs) (n * hold_times (λ h. h.writes) f d hs) (at s d) → at t d ≡ option_map (with_holds (n * hold_times (λ h. h.reads) f d hs) (n * hold_times (λ h. h.writes) f d hs)) (at s d)
+pub held_times : (f : Spot → Slot) (n : ℕ) (hs : List Hold) (s t : Store) → t ≡ one_by_one (hold_step f (λ h. n * h.reads) (λ h. n * h.writes)) hs s → (d : ℕ) → Fit (n * hold_times f (λ h. h.reads) d hs) (n * hold_times f (λ h. h.writes) d hs) (at s d) → at t d ≡ option_map (with_holds (n * hold_times f (λ h. h.reads) d hs) (n * hold_times f (λ h. h.writes) d hs)) (at s d)
 held_times f n hs s t e d h =
     let R = times_out f n (λ h. h.reads) d hs in
     let W = times_out f n (λ h. h.writes) d hs in
     ap (λ u. at u d) e
-    ∙ all_holds f (λ h. n * h.reads) (λ h. n * h.writes) hs d s (at s d) refl (subst (λ k. Fit k (hold_times (λ h. n * h.writes) f d hs) (at s d)) (sym R) (subst (λ k. Fit (n * hold_times (λ h. h.reads) f d hs) k (at s d)) (sym W) h))
-    ∙ ap (λ k. plus k (hold_times (λ h. n * h.writes) f d hs) (at s d)) R ∙ ap (λ k. plus (n * hold_times (λ h. h.reads) f d hs) k (at s d)) W
+    ∙ all_holds f (λ h. n * h.reads) (λ h. n * h.writes) hs d s (at s d) refl (subst (λ k. Fit k (hold_times f (λ h. n * h.writes) d hs) (at s d)) (sym R) (subst (λ k. Fit (n * hold_times f (λ h. h.reads) d hs) k (at s d)) (sym W) h))
+    ∙ ap (λ k. plus k (hold_times f (λ h. n * h.writes) d hs) (at s d)) R ∙ ap (λ k. plus (n * hold_times f (λ h. h.reads) d hs) k (at s d)) W

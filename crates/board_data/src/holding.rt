@@ -73,8 +73,8 @@ pub fn hold_outer(
     times: u64,
 )
     ensures { let f = spot_slot (frames_view instances.now.slots) at in (d : ℕ) →
-        Fit (times * hold_times (λ h. h.reads) f d outer.now) (times * hold_times (λ h. h.writes) f d outer.now) (cell store.old d) →
-        cell store.new d ≡ option_map (with_holds (times * hold_times (λ h. h.reads) f d outer.now) (times * hold_times (λ h. h.writes) f d outer.now)) (cell store.old d) }
+        Fit (times * hold_times f (λ h. h.reads) d outer.now) (times * hold_times f (λ h. h.writes) d outer.now) (cell store.old d) →
+        cell store.new d ≡ option_map (with_holds (times * hold_times f (λ h. h.reads) d outer.now) (times * hold_times f (λ h. h.writes) d outer.now)) (cell store.old d) }
 {
     for hold in outer {
         hold_spot(store, instances, at, hold, times);
