@@ -12,7 +12,8 @@ use Rattle.data_store.specs.declared.datum.Datum.{Datum}
 use Rattle.replayed.specs.Ending.{slot_is}
 use Rattle.replayed.specs.Fields.{Absent, DatumOf, LiteralOf, Slot}
 use Rattle.board_data.specs.Data.{closes, is_keyed}
-use Rattle.board_data.specs.Holds.{Closes, closing, led_times}
+use Rattle.board_data.specs.Holds.{Closes, closing}
+use Rattle.board_code.specs.Tables.{led_times}
 use Rattle.board_data.proofs.Given.{give_step, kept_gone, kept_there, led_not, led_once, slot_elsewhere, slot_here, slot_nowhere, slot_stays, spent_zero}
 use Rattle.board_data.proofs.Steps.{past}
 

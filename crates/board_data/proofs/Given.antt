@@ -9,7 +9,8 @@ use Rattle.data_store.specs.Stores.{Store, at, datum, given_up, kept_after, or_n
 use Rattle.data_store.specs.declared.datum.Datum.{Datum}
 use Rattle.replayed.specs.Ending.{slot_is}
 use Rattle.replayed.specs.Fields.{Absent, DatumOf, LiteralOf, Slot}
-use Rattle.board_data.specs.Holds.{GivesUp, fewer, led_times}
+use Rattle.board_data.specs.Holds.{GivesUp, fewer}
+use Rattle.board_code.specs.Tables.{led_times}
 use Rattle.board_data.proofs.Changes.{set_elsewhere, set_here, set_nowhere}
 use Rattle.board_data.proofs.Steps.{one_by_one}
 

@@ -11,7 +11,7 @@ use Rattle.replayed.specs.Fields.{Absent, Counted, Does, Fields, Frame, Slot, fr
 use Rattle.replayed.specs.Needs.{array_missed, at_missed, element_missed, job_missed, missed, scalar_missed}
 use Rattle.replayed.specs.Static.{Hold}
 use Rattle.task_code.specs.Code.{At, AtKey, Closed, Code, Name, Need, Stored, entry, nth}
-use Rattle.board_data.specs.Holds.{led_times}
+use Rattle.board_code.specs.Tables.{led_times}
 use Rattle.board_data.specs.Wanted.{FewSlots, wanted_missed}
 
 past : (xs : List Slot) (n : ℕ) → length xs ≤ n → nth Absent xs n ≡ Absent

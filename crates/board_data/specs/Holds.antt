@@ -1,12 +1,9 @@
 -- Holds that are added and given up, by what spots stand for.
 use Rattle.std.specs.Prelude.{◌≡◌, ◌+◌, ◌-◌, ◌<◌, ◌≤◌, ◌^◌, ℕ, true, false, List, [], ◌∷◌, Option, Some, None, if◌then◌else◌}
-use Rattle.board_code.specs.declared.spot.Spot.{Spot}
 use Rattle.data_store.specs.Data.{is_spent, kept}
 use Rattle.data_store.specs.Stores.{Store, at}
 use Rattle.data_store.specs.declared.datum.Datum.{Datum}
 use Rattle.dataflow.specs.System.{In}
-use Rattle.replayed.specs.Ending.{slot_is}
-use Rattle.replayed.specs.Fields.{Slot}
 use Rattle.board_data.specs.Data.{closes, held, is_keyed, released, writer_closed}
 
 -- a call on the datum of a slot, if it stands for one
@@ -26,12 +23,6 @@ closed_at (Some d) s = writer_closed d s
 abbrev pub closing : Option ℕ → Store → List ℕ
 closing None s = []
 closing (Some d) s = if closes (at s d) then d ∷ [] else []
-
-module _ (f : Spot → Slot) where
-  -- how often spots lead to a datum
-  abbrev pub led_times : ℕ → List Spot → ℕ
-  led_times d [] = 0
-  led_times d (p ∷ ps) = (if slot_is d (f p) then 1 else 0) + led_times d ps
 
 -- both counts with so many more fit 64 bits
 abbrev pub Fit : (reads writes : ℕ) → Option Datum → Type 0

@@ -5,9 +5,9 @@ ghost use Rattle.board_frames.specs.Names.{datum_of, spot_slot};
 ghost use Rattle.board_frames.specs.View.{frames_view};
 ghost use Rattle.data_store.specs.Data.{with_holds};
 ghost use Rattle.data_store.specs.Stores.{at as cell};
-ghost use Rattle.board_code.specs.Tables.{hold_times};
 ghost use Rattle.board_data.specs.Data.{held};
-ghost use Rattle.board_data.specs.Holds.{Closes, Fit, GivesUp, closed_at, closing, held_at, led_times, released_at};
+ghost use Rattle.board_data.specs.Holds.{Closes, Fit, GivesUp, closed_at, closing, held_at, released_at};
+ghost use Rattle.board_code.specs.Tables.{hold_times, led_times};
 
 use crate::data;
 use board_code::program::Hold;

@@ -3,7 +3,7 @@
 ghost use Rattle.std.specs.Prelude.{◌≡◌, ℕ, List, Option, Some, None, map, false};
 ghost use Rattle.std.specs.List.{flat_map};
 ghost use Rattle.board_code.specs.Spots.{layout_of, spot_in};
-ghost use Rattle.board_code.specs.Tables.{at_spot, spots_in, wanted_in};
+ghost use Rattle.board_code.specs.Tables.{at_spot, led_times, spots_in, wanted_in};
 ghost use Rattle.board_frames.specs.Names.{led_slot, spot_slot};
 ghost use Rattle.data_store.specs.Data.{is_spent};
 ghost use Rattle.data_store.specs.Stores.{Store, at};
@@ -18,7 +18,6 @@ ghost use Rattle.task_code.specs.Compute.{Computed, Elements};
 ghost use Rattle.task_code.specs.Effects.{Task};
 ghost use Rattle.task_code.specs.Places.{Place};
 ghost use Rattle.board_data.specs.Ended.{Changes, Covers, JobChanges};
-ghost use Rattle.board_data.specs.Holds.{led_times};
 ghost use Rattle.board_data.specs.View.{cells_view};
 ghost use Rattle.board_data.specs.Wanted.{FewSlots, wanted_missed};
 
