@@ -1,0 +1,13 @@
+//! Tests of the crates that turn a flow into code, over their public contracts. Nothing here runs outside of tests.
+#![tactic(auto)]
+
+#[cfg(test)]
+mod emit_parts_tests;
+#[cfg(test)]
+mod flows;
+#[cfg(test)]
+mod granting_tests;
+#[cfg(test)]
+mod part_entries_tests;
+#[cfg(test)]
+mod wait_merge_tests;
