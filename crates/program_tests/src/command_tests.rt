@@ -193,7 +193,7 @@ fn takes_options(rt: HostRuntime) -> Result<(), Fail> {
             "hello\n|||0",
         ),
         (&["mean", "f", "--rounds", "1"], "hello\n|||0"),
-        (&["code", "f"], "|swt: not built yet\n||2"),
+        (&["code", "f"], "body 0 script\n  1 leaf print 0 0\n|||0"),
     ];
     for (words, wanted) in rows {
         assert_eq!(rt; done(alloc, words, HELLO)?.as_str(), wanted);

@@ -9,6 +9,8 @@ mod command_tests;
 #[cfg(test)]
 mod line_tests;
 #[cfg(test)]
+mod listing_tests;
+#[cfg(test)]
 mod meaning_tests;
 #[cfg(test)]
 mod order_tests;

@@ -9,9 +9,6 @@ use Rattle.runs.specs.declared.report.End.{End}
 use Rattle.runs.specs.declared.report.End.TheVariants as Was
 use Rattle.swt_line.specs.declared.line.Line.{Line}
 use Rattle.swt_line.specs.declared.line.Line.TheVariants as Lines
-use Rattle.compile.specs.declared.fault.CompileFault.{CompileFault}
-use Rattle.compile.specs.declared.fault.CompileFault.TheVariants as Fault
-use Rattle.compile.specs.Compiles.{IsRefused, IsUnfit}
 use Rattle.swt_command.specs.declared.refusal.Refusal.{Refusal}
 use Rattle.swt_command.specs.declared.status.Status.{Status}
 use Rattle.swt_command.specs.declared.status.Status.TheVariants as Ends
@@ -21,12 +18,14 @@ use Rattle.swt_command.specs.declared.trouble.Trouble.TheVariants as Is
 use Rattle.swt_command.specs.Causes.{AsksTooMuch, SomeRefused}
 use Rattle.swt_command.specs.Checks.{Checks, StopsBy, Verdict, check_status}
 use Rattle.swt_command.specs.Files.{Files, StopsAt, name_at, source_of}
+use Rattle.swt_command.specs.Listings.{Lists, StopsListing}
 use Rattle.swt_command.specs.Means.{Means, StopsMean, mean_status}
 use Rattle.swt_command.specs.Owes.{Does, Owes, status_of}
 use Rattle.swt_command.specs.Runs.{Replays, Runs, StopsAtTrace, StopsReplay, StopsRun, end_status, most_threads}
 use Rattle.swt_command.specs.Sinks.{Held}
 use Rattle.swt_command.specs.Statuses.{number_of}
 use Rattle.swt_command.specs.Troubles.{trouble_status}
+use Rattle.swt_command.proofs.Refused.{unfit_refused}
 
 -- the status of a script that is refused, and of a line that asks for too much
 abbrev IsCause : ℕ → Type 0
@@ -40,18 +39,16 @@ refused_only (Is.Refused r) e = (r, refl)
 refused_only (Is.BadLine n) e = absurd (omega (arith, e))
 refused_only (Is.NotARun n) e = absurd (omega (arith, e))
 refused_only Is.BadCount e = absurd (omega (arith, e))
-refused_only Is.NotBuilt e = absurd (omega (arith, e))
 refused_only Is.Memory e = absurd (omega (arith, e))
 refused_only Is.Unprinted e = absurd (omega (arith, e))
 refused_only Is.Untraced e = absurd (omega (arith, e))
 
-usage_only : (t : Trouble) → number_of (trouble_status t) ≡ 2 → (t ≡ Is.BadCount) ⊎ (t ≡ Is.NotBuilt)
+usage_only : (t : Trouble) → number_of (trouble_status t) ≡ 2 → t ≡ Is.BadCount
 usage_only Is.Unread e = absurd (omega (arith, e))
 usage_only (Is.Refused r) e = absurd (omega (arith, e))
 usage_only (Is.BadLine n) e = absurd (omega (arith, e))
 usage_only (Is.NotARun n) e = absurd (omega (arith, e))
-usage_only Is.BadCount e = inl refl
-usage_only Is.NotBuilt e = inr refl
+usage_only Is.BadCount e = refl
 usage_only Is.Memory e = absurd (omega (arith, e))
 usage_only Is.Unprinted e = absurd (omega (arith, e))
 usage_only Is.Untraced e = absurd (omega (arith, e))
@@ -107,14 +104,6 @@ no_refused_trace : (source : Option (List ℕ)) (code : Code) (r : Refusal) → 
 no_refused_trace None code r h = h
 no_refused_trace (Some bytes) code r h = h
 
--- a text that is no script has no code
-unfit_refused : (src : List ℕ) (fault : CompileFault) → IsUnfit src fault → IsRefused src fault
-unfit_refused src (Fault.Parse f) h = h
-unfit_refused src (Fault.Types f) h = h
-unfit_refused src (Fault.Assignments f) h = h
-unfit_refused src (Fault.Lower f) h = absurd h
-unfit_refused src Fault.Memory h = h
-
 check_refused : (names : List (List ℕ)) (files : Files) (done : Result Status Stop) (out new : Held) → Checks names files done out new → number_of (status_of done) ≡ 1 → SomeRefused files
 check_refused names files (Ok status) out new d e =
     let k = refused_place d.0 (ap number_of (sym d.3) ∙ e) in
@@ -148,13 +137,16 @@ replay_refused files (Err stop) out new d e =
     let k = refused_only stop.trouble e in
     replay_stop_refused files stop.place k.0 out new (subst (λ (t : Trouble). StopsReplay files stop.place t out new) k.1 d)
 
-not_built : (done : Result Status Stop) → done ≡ Err (record { place = 0; trouble = Is.NotBuilt }) → number_of (status_of done) ≡ 1 → ⊥
-not_built done b e = let two : number_of (status_of done) ≡ 2 = ap (λ d. number_of (status_of d)) b in omega (arith, e, two)
+listing_refused : (files : Files) (done : Result Status Stop) (out new : Held) → Lists files done out new → number_of (status_of done) ≡ 1 → SomeRefused files
+listing_refused files (Ok status) out new d e = let z : number_of Ends.Done ≡ 1 = ap number_of (sym d.0) ∙ e in absurd (omega (arith, z))
+listing_refused files (Err stop) out new d e =
+    let k = refused_only stop.trouble e in
+    at_file files k.0 (subst (λ (t : Trouble). StopsListing files t out new) k.1 d.1).0
 
 does_refused : (line : Line) (files : Files) (done : Result Status Stop) (out out_new trace trace_new : Held) → Does line files done out out_new trace trace_new → number_of (status_of done) ≡ 1 → SomeRefused files
 does_refused (Lines.Check names) files done out out_new trace trace_new d e = check_refused names files done out out_new d.0 e
 does_refused (Lines.Mean file rounds) files done out out_new trace trace_new d e = mean_refused files rounds done out out_new d.0 e
-does_refused (Lines.Code file) files done out out_new trace trace_new d e = absurd (not_built done d.0 e)
+does_refused (Lines.Code file) files done out out_new trace trace_new d e = listing_refused files done out out_new d.0 e
 does_refused (Lines.Run file engines workers steps wanted) files done out out_new trace trace_new d e = run_refused files (engines + workers) steps (is_some wanted) done out out_new trace trace_new d e
 does_refused (Lines.Replay file events) files done out out_new trace trace_new d e = replay_refused files done out out_new d.0 e
 
@@ -163,11 +155,9 @@ refused_tells line files out out_new err err_new trace trace_new number o e = do
 
 -- USAGE
 
-not_by_usage : (name : List ℕ) (source : Option (List ℕ)) (t : Trouble) (mid new : Held) → (t ≡ Is.BadCount) ⊎ (t ≡ Is.NotBuilt) → StopsBy name source t mid new → ⊥
-not_by_usage name None t mid new (inl e) h = subst (λ (x : Trouble). StopsBy name None x mid new) e h
-not_by_usage name None t mid new (inr e) h = subst (λ (x : Trouble). StopsBy name None x mid new) e h
-not_by_usage name (Some src) t mid new (inl e) h = subst (λ (x : Trouble). StopsBy name (Some src) x mid new) e h
-not_by_usage name (Some src) t mid new (inr e) h = subst (λ (x : Trouble). StopsBy name (Some src) x mid new) e h
+not_by_usage : (name : List ℕ) (source : Option (List ℕ)) (t : Trouble) (mid new : Held) → t ≡ Is.BadCount → StopsBy name source t mid new → ⊥
+not_by_usage name None t mid new e h = subst (λ (x : Trouble). StopsBy name None x mid new) e h
+not_by_usage name (Some src) t mid new e h = subst (λ (x : Trouble). StopsBy name (Some src) x mid new) e h
 
 check_usage : (names : List (List ℕ)) (files : Files) (done : Result Status Stop) (out new : Held) → Checks names files done out new → number_of (status_of done) ≡ 2 → ⊥
 check_usage names files (Ok status) out new d e = check_is_no_usage d.0 (ap number_of (sym d.3) ∙ e)
@@ -175,46 +165,34 @@ check_usage names files (Err stop) out new d e = not_by_usage (name_at names sto
 
 mean_usage : (files : Files) (limit : ℕ) (done : Result Status Stop) (out new : Held) → Means files limit done out new → number_of (status_of done) ≡ 2 → ⊥
 mean_usage files limit (Ok status) out new d e = let m = d.1.2 in mean_is_none m.blocked m.faults m.enough status m.status_is (inr e)
-mean_usage files limit (Err stop) out new d e = elim (usage_only stop.trouble e) [
-  | inl h ↦ (subst (λ (t : Trouble). StopsMean files limit t out new) h d.1).0.2
-  | inr h ↦ (subst (λ (t : Trouble). StopsMean files limit t out new) h d.1).0.2
-]
+mean_usage files limit (Err stop) out new d e = (subst (λ (t : Trouble). StopsMean files limit t out new) (usage_only stop.trouble e) d.1).0.2
+
+listing_usage : (files : Files) (done : Result Status Stop) (out new : Held) → Lists files done out new → number_of (status_of done) ≡ 2 → ⊥
+listing_usage files (Ok status) out new d e = let z : number_of Ends.Done ≡ 2 = ap number_of (sym d.0) ∙ e in omega (arith, z)
+listing_usage files (Err stop) out new d e = (subst (λ (t : Trouble). StopsListing files t out new) (usage_only stop.trouble e) d.1).0.2
 
 run_usage : (files : Files) (threads steps : ℕ) (wanted : Bool) (done : Result Status Stop) (out out_new trace trace_new : Held) → Runs files threads steps wanted done out out_new trace trace_new
     → number_of (status_of done) ≡ 2 → most_threads < threads
 run_usage files threads steps wanted (Ok status) out out_new trace trace_new d e = absurd (end_is_none d.0.end d.0.blocked.items status d.2 (inr e))
-run_usage files threads steps wanted (Err stop) out out_new trace trace_new d e = elim (usage_only stop.trouble e) [
-  | inl h ↦ (subst (λ (t : Trouble). StopsRun files threads steps wanted t out out_new trace trace_new) h d.1).0.2
-  | inr h ↦ absurd (subst (λ (t : Trouble). StopsRun files threads steps wanted t out out_new trace trace_new) h d.1).0.2
-]
+run_usage files threads steps wanted (Err stop) out out_new trace trace_new d e = (subst (λ (t : Trouble). StopsRun files threads steps wanted t out out_new trace trace_new) (usage_only stop.trouble e) d.1).0.2
 
-no_usage_trace : (source : Option (List ℕ)) (code : Code) (t : Trouble) → (t ≡ Is.BadCount) ⊎ (t ≡ Is.NotBuilt) → StopsAtTrace source code t → ⊥
-no_usage_trace None code t (inl e) h = subst (λ (x : Trouble). StopsAtTrace None code x) e h
-no_usage_trace None code t (inr e) h = subst (λ (x : Trouble). StopsAtTrace None code x) e h
-no_usage_trace (Some bytes) code t (inl e) h = subst (λ (x : Trouble). StopsAtTrace (Some bytes) code x) e h
-no_usage_trace (Some bytes) code t (inr e) h = subst (λ (x : Trouble). StopsAtTrace (Some bytes) code x) e h
+no_usage_trace : (source : Option (List ℕ)) (code : Code) → StopsAtTrace source code Is.BadCount → ⊥
+no_usage_trace None code h = h
+no_usage_trace (Some bytes) code h = h
 
 bad_count_replay : (files : Files) (place : ℕ) (out new : Held) → StopsReplay files place Is.BadCount out new → ⊥
 bad_count_replay files zero out new h = h.0.2
-bad_count_replay files (suc zero) out new h = no_usage_trace (source_of files 1) h.0.0 Is.BadCount (inl refl) h.0.2
+bad_count_replay files (suc zero) out new h = no_usage_trace (source_of files 1) h.0.0 h.0.2
 bad_count_replay files (suc (suc n)) out new h = h.0
-
-not_built_replay : (files : Files) (place : ℕ) (out new : Held) → StopsReplay files place Is.NotBuilt out new → ⊥
-not_built_replay files zero out new h = h.0.2
-not_built_replay files (suc zero) out new h = no_usage_trace (source_of files 1) h.0.0 Is.NotBuilt (inr refl) h.0.2
-not_built_replay files (suc (suc n)) out new h = h.0
 
 replay_usage : (files : Files) (done : Result Status Stop) (out new : Held) → Replays files done out new → number_of (status_of done) ≡ 2 → ⊥
 replay_usage files (Ok status) out new d e = end_is_none d.0.end d.0.blocked.items status d.2 (inr e)
-replay_usage files (Err stop) out new d e = elim (usage_only stop.trouble e) [
-  | inl h ↦ bad_count_replay files stop.place out new (subst (λ (t : Trouble). StopsReplay files stop.place t out new) h d)
-  | inr h ↦ not_built_replay files stop.place out new (subst (λ (t : Trouble). StopsReplay files stop.place t out new) h d)
-]
+replay_usage files (Err stop) out new d e = bad_count_replay files stop.place out new (subst (λ (t : Trouble). StopsReplay files stop.place t out new) (usage_only stop.trouble e) d)
 
 does_usage : (line : Line) (files : Files) (done : Result Status Stop) (out out_new trace trace_new : Held) → Does line files done out out_new trace trace_new → number_of (status_of done) ≡ 2 → AsksTooMuch line
 does_usage (Lines.Check names) files done out out_new trace trace_new d e = check_usage names files done out out_new d.0 e
 does_usage (Lines.Mean file rounds) files done out out_new trace trace_new d e = mean_usage files rounds done out out_new d.0 e
-does_usage (Lines.Code file) files done out out_new trace trace_new d e = tt
+does_usage (Lines.Code file) files done out out_new trace trace_new d e = listing_usage files done out out_new d.0 e
 does_usage (Lines.Run file engines workers steps wanted) files done out out_new trace trace_new d e = run_usage files (engines + workers) steps (is_some wanted) done out out_new trace trace_new d e
 does_usage (Lines.Replay file events) files done out out_new trace trace_new d e = replay_usage files done out out_new d.0 e
 

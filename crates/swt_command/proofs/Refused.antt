@@ -3,6 +3,7 @@ use Rattle.std.proofs.Common.{◌≡◌, ◌∙◌, sym, ap, subst, ℕ, List, O
 use Rattle.std.specs.Prelude.{option_map}
 use Rattle.lexer.specs.declared.token.Span.{Span}
 use Rattle.compile.specs.declared.fault.CompileFault.{CompileFault}
+use Rattle.compile.specs.declared.fault.CompileFault.TheVariants as Fault
 use Rattle.compile.specs.Compiles.{IsRefused, IsUnfit}
 use Rattle.compile.specs.Places.{span_of}
 use Rattle.swt_command.specs.declared.refusal.Refusal.{Refusal}
@@ -28,3 +29,11 @@ is_refusal src fault r e h = is_of (IsRefused src) fault r e h
 -- and so has one that is no script
 pub is_unfit : (src : List ℕ) (fault : CompileFault) (r : Refusal) → Some r ≡ refusal_of fault → IsUnfit src fault → IsUnfit src r.fault × (refusal_of r.fault ≡ Some r)
 is_unfit src fault r e h = is_of (IsUnfit src) fault r e h
+
+-- a text that is no script has no code
+pub unfit_refused : (src : List ℕ) (fault : CompileFault) → IsUnfit src fault → IsRefused src fault
+unfit_refused src (Fault.Parse f) h = h
+unfit_refused src (Fault.Types f) h = h
+unfit_refused src (Fault.Assignments f) h = h
+unfit_refused src (Fault.Lower f) h = absurd h
+unfit_refused src Fault.Memory h = h

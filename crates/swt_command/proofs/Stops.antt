@@ -10,6 +10,7 @@ use Rattle.task_code.specs.Code.{Code}
 use Rattle.swt_command.specs.declared.trouble.Trouble.{Trouble}
 use Rattle.swt_command.specs.declared.trouble.Trouble.TheVariants as Is
 use Rattle.swt_command.specs.Files.{Files, StopsAt, StopsOn, source_of}
+use Rattle.swt_command.specs.Listings.{StopsListing}
 use Rattle.swt_command.specs.Means.{StopsMean}
 use Rattle.swt_command.specs.Runs.{Ran, Runs, StopsAtTrace, StopsBeforeReplay, StopsBeforeRun, StopsReplay, StopsRun, Traces, report_status}
 use Rattle.swt_command.specs.Sinks.{Held, Lost, Took}
@@ -21,7 +22,6 @@ stops_on files src (Is.Refused r) e h = (src, e, h)
 stops_on files src (Is.BadLine n) e h = absurd h
 stops_on files src (Is.NotARun n) e h = absurd h
 stops_on files src Is.BadCount e h = absurd h
-stops_on files src Is.NotBuilt e h = absurd h
 stops_on files src Is.Memory e h = (src, e, h)
 stops_on files src Is.Unprinted e h = absurd h
 stops_on files src Is.Untraced e h = absurd h
@@ -33,10 +33,19 @@ mean_stopped files limit (Is.Refused r) out h = (h, refl)
 mean_stopped files limit (Is.BadLine n) out h = (h, refl)
 mean_stopped files limit (Is.NotARun n) out h = (h, refl)
 mean_stopped files limit Is.BadCount out h = (h, refl)
-mean_stopped files limit Is.NotBuilt out h = (h, refl)
 mean_stopped files limit Is.Memory out h = (h, refl)
 mean_stopped files limit Is.Unprinted out h = absurd h.2
 mean_stopped files limit Is.Untraced out h = (h, refl)
+
+pub listing_stopped : (files : Files) (t : Trouble) (out : Held) → StopsAt files 0 t → StopsListing files t out out
+listing_stopped files Is.Unread out h = (h, refl)
+listing_stopped files (Is.Refused r) out h = (h, refl)
+listing_stopped files (Is.BadLine n) out h = (h, refl)
+listing_stopped files (Is.NotARun n) out h = (h, refl)
+listing_stopped files Is.BadCount out h = (h, refl)
+listing_stopped files Is.Memory out h = (h, refl)
+listing_stopped files Is.Unprinted out h = absurd h.2
+listing_stopped files Is.Untraced out h = (h, refl)
 
 pub run_stopped : (files : Files) (threads steps : ℕ) (wanted : Bool) (t : Trouble) (out trace : Held) → StopsBeforeRun files threads t → StopsRun files threads steps wanted t out out trace trace
 run_stopped files threads steps wanted Is.Unread out trace h = (h, refl, refl)
@@ -44,7 +53,6 @@ run_stopped files threads steps wanted (Is.Refused r) out trace h = (h, refl, re
 run_stopped files threads steps wanted (Is.BadLine n) out trace h = (h, refl, refl)
 run_stopped files threads steps wanted (Is.NotARun n) out trace h = (h, refl, refl)
 run_stopped files threads steps wanted Is.BadCount out trace h = (h, refl, refl)
-run_stopped files threads steps wanted Is.NotBuilt out trace h = (h, refl, refl)
 run_stopped files threads steps wanted Is.Memory out trace h = (h, refl, refl)
 run_stopped files threads steps wanted Is.Unprinted out trace h = absurd h.2
 run_stopped files threads steps wanted Is.Untraced out trace h = absurd h.2
@@ -64,7 +72,6 @@ before_run files threads (Is.Refused r) h = h
 before_run files threads (Is.BadLine n) h = h
 before_run files threads (Is.NotARun n) h = h
 before_run files threads Is.BadCount h = absurd h.2
-before_run files threads Is.NotBuilt h = h
 before_run files threads Is.Memory h = h
 before_run files threads Is.Unprinted h = h
 before_run files threads Is.Untraced h = h
@@ -85,7 +92,6 @@ replay_stopped files place (Is.Refused r) out h = (h, refl)
 replay_stopped files place (Is.BadLine n) out h = (h, refl)
 replay_stopped files place (Is.NotARun n) out h = (h, refl)
 replay_stopped files place Is.BadCount out h = (h, refl)
-replay_stopped files place Is.NotBuilt out h = (h, refl)
 replay_stopped files place Is.Memory out h = (h, refl)
 replay_stopped files place Is.Unprinted out h = absurd (no_unprinted files place h)
 replay_stopped files place Is.Untraced out h = (h, refl)

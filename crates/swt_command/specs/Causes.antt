@@ -10,10 +10,10 @@ use Rattle.swt_command.specs.Runs.{most_threads}
 abbrev pub SomeRefused : Files → Type 0
 SomeRefused files = (place : ℕ) × (r : Refusal) × (src : List ℕ) × (source_of files place ≡ Some src) × IsRefusal src r
 
--- the line asks for more engines and workers than there may be, or for a command that is not built
+-- the line asks for more engines and workers than there may be
 abbrev pub AsksTooMuch : Line → Type 0
 AsksTooMuch (Check names) = ⊥
 AsksTooMuch (Mean file rounds) = ⊥
-AsksTooMuch (Code file) = Unit {0}
+AsksTooMuch (Code file) = ⊥
 AsksTooMuch (Run file engines workers steps wanted) = most_threads < engines + workers
 AsksTooMuch (Replay file events) = ⊥

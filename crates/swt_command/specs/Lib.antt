@@ -1,6 +1,7 @@
 pub mod Causes
 pub mod Checks
 pub mod Files
+pub mod Listings
 pub mod Means
 pub mod Names
 pub mod OneThread

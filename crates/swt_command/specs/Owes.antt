@@ -5,9 +5,9 @@ use Rattle.swt_line.specs.declared.line.Line.TheVariants.{Check, Mean, Code, Run
 use Rattle.swt_line.specs.Lines.{files_of}
 use Rattle.swt_command.specs.declared.status.Status.{Status}
 use Rattle.swt_command.specs.declared.stop.Stop.{Stop}
-use Rattle.swt_command.specs.declared.trouble.Trouble.TheVariants.{NotBuilt}
 use Rattle.swt_command.specs.Checks.{Checks}
 use Rattle.swt_command.specs.Files.{Files, name_at}
+use Rattle.swt_command.specs.Listings.{Lists}
 use Rattle.swt_command.specs.Means.{Means}
 use Rattle.swt_command.specs.Runs.{Replays, Runs}
 use Rattle.swt_command.specs.Sinks.{Held, Given, Kept}
@@ -18,8 +18,7 @@ use Rattle.swt_command.specs.Troubles.{trouble_line, trouble_status}
 abbrev pub Does : Line → Files → Result Status Stop → (out out_new trace trace_new : Held) → Type 0
 Does (Check names) files done out out_new trace trace_new = Checks names files done out out_new × Kept trace trace_new
 Does (Mean file rounds) files done out out_new trace trace_new = Means files rounds done out out_new × Kept trace trace_new
-Does (Code file) files done out out_new trace trace_new =
-    (done ≡ Err (record { place = 0; trouble = NotBuilt })) × Kept out out_new × Kept trace trace_new
+Does (Code file) files done out out_new trace trace_new = Lists files done out out_new × Kept trace trace_new
 Does (Run file engines workers steps wanted) files done out out_new trace trace_new =
     Runs files (engines + workers) steps (is_some wanted) done out out_new trace trace_new
 Does (Replay file events) files done out out_new trace trace_new = Replays files done out out_new × Kept trace trace_new

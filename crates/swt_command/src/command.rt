@@ -6,11 +6,12 @@ ghost use Rattle.swt_command.specs.Owes.{Does, Owes};
 ghost use Rattle.swt_command.specs.Sinks.{held};
 
 use crate::check::check;
+use crate::code::code;
 use crate::mean::mean;
 use crate::run::{replay, run};
 use crate::status::Status;
 use crate::stop::Stop;
-use crate::trouble::{Trouble, tell};
+use crate::trouble::tell;
 use std::alloc::Global;
 use swt_line::line::Line;
 use swt_line::word::Word;
@@ -73,10 +74,7 @@ fn perform<O: Sink, S: Sink>(
             let threads = *engines as u16 + *workers as u16;
             run(alloc, files, threads, *steps, wanted.is_some(), out, trace)
         }
-        Line::Code { .. } => Err(Stop {
-            place: 0,
-            trouble: Trouble::NotBuilt,
-        }),
+        Line::Code { .. } => code(alloc, files, out),
         Line::Replay { .. } => replay(alloc, files, out),
     }
 }

@@ -39,7 +39,7 @@ pub fn runs_print_the_meaning()
 {}
 
 /// A process ends with status 1 only where the script of a file is refused, and with status 2 only where its line asks for too
-/// many engines and workers or for a command that is not built.
+/// many engines and workers.
 pub fn statuses_tell()
     ensures refused { (line : Line) (files : Files) (out out_new err err_new trace trace_new : Held) (number : ℕ)
         → Owes line files out out_new err err_new trace trace_new number → number ≡ 1 → SomeRefused files }

@@ -3,6 +3,7 @@
 
 pub mod buffer;
 mod check;
+mod code;
 pub mod command;
 pub mod laws;
 mod mean;

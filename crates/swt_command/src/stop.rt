@@ -2,13 +2,15 @@
 ghost use Rattle.std.specs.Prelude.{◌≡◌, ℕ, List, Some, None, MatchResult};
 ghost use Rattle.scalar_flow.specs.View.{core_of};
 ghost use Rattle.board.specs.Flat.{IsFlat};
+ghost use Rattle.swt_command.specs.Listings.{IsAcceptedAt};
 ghost use Rattle.swt_command.specs.Files.{HasCode, HasScript, StopsAt, StopsOn, contents, source_of};
 ghost use Rattle.compile.specs.Compiles.{IsRefused};
 
 use crate::refusal::Refusal;
 use crate::trouble::Trouble;
-use compile::scalars::{compile, read};
+use compile::compile::listed;
 use compile::fault::CompileFault;
+use compile::scalars::{compile, read};
 use scalar_flow::statement::Flow;
 use std::alloc::Global;
 use task_code::code::Code;
@@ -67,6 +69,22 @@ pub fn flow_of(alloc: Global, files: &[Option<Vec<u8>>]) -> Result<Flow, Stop>
     let source = source(files, 0)?;
     match read(alloc, alloc, source) {
         Ok(flow) => Ok(flow),
+        Err(fault) => Err(at_script(fault)),
+    }
+}
+
+/// The listing of the code of the first file's script.
+///
+/// # Errors
+///
+/// `Unread`, `Refused` or `Memory`.
+pub fn listing_of(alloc: Global, files: &[Option<Vec<u8>>]) -> Result<Vec<u8>, Stop>
+    ensures { MatchResult result (λ text. IsAcceptedAt (contents files.now) 0)
+        (λ stop. (stop.place ≡ 0) × StopsAt (contents files.now) 0 stop.trouble) }
+{
+    let source = source(files, 0)?;
+    match listed(alloc, alloc, source) {
+        Ok(text) => Ok(text),
         Err(fault) => Err(at_script(fault)),
     }
 }

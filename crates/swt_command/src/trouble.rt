@@ -22,8 +22,6 @@ pub enum Trouble {
     NotARun(u64),
     /// More than 64 engines and workers.
     BadCount,
-    /// A command that this program does not have yet.
-    NotBuilt,
     /// Memory that was asked for was refused.
     Memory,
     /// What was to be printed could not be written.
@@ -43,7 +41,6 @@ impl Trouble {
             Trouble::BadLine(_) => Status::Failed,
             Trouble::NotARun(_) => Status::Failed,
             Trouble::BadCount => Status::Usage,
-            Trouble::NotBuilt => Status::Usage,
             Trouble::Memory => Status::Memory,
             Trouble::Unprinted => Status::Failed,
             Trouble::Untraced => Status::Failed,
@@ -89,7 +86,6 @@ pub fn tell<E: Sink>(trouble: Trouble, file: &str, err: &mut E) -> Result<(), Si
             )
         }
         Trouble::BadCount => write_parts(err, b"swt: ", b"bad count", b"\n"),
-        Trouble::NotBuilt => write_parts(err, b"swt: ", b"not built yet", b"\n"),
         Trouble::Memory => write_parts(err, b"swt: ", b"no memory", b"\n"),
         Trouble::Unprinted => write_parts(err, b"swt: ", b"cannot write", b"\n"),
         Trouble::Untraced => write_parts(err, b"swt: ", b"cannot write", b"\n"),

@@ -15,6 +15,3 @@ returns-in-BadLine g c =
 
 pub returns-in-BadCount : goal.returns-in-BadCount
 returns-in-BadCount g c = rw c.in-BadCount.is c.write_parts-in-BadCount.ensures
-
-pub returns-in-NotBuilt : goal.returns-in-NotBuilt
-returns-in-NotBuilt g c = rw c.in-NotBuilt.is c.write_parts-in-NotBuilt.ensures

@@ -1,0 +1,24 @@
+-- What `code` prints.
+use Rattle.std.specs.Prelude.{◌≡◌, ℕ, List, Result, Ok, Err, Some}
+use Rattle.compile.specs.Compiles.{IsScript}
+use Rattle.swt_command.specs.declared.status.Status.{Status}
+use Rattle.swt_command.specs.declared.status.Status.TheVariants.{Done}
+use Rattle.swt_command.specs.declared.stop.Stop.{Stop}
+use Rattle.swt_command.specs.declared.trouble.Trouble.{Trouble}
+use Rattle.swt_command.specs.declared.trouble.Trouble.TheVariants.{Unprinted}
+use Rattle.swt_command.specs.Files.{Files, StopsAt, source_of}
+use Rattle.swt_command.specs.Sinks.{Held, Kept, Lost, Took}
+
+-- the file of that place is a script that is accepted
+abbrev pub IsAcceptedAt : Files → ℕ → Type 0
+IsAcceptedAt files place = (src : List ℕ) × (source_of files place ≡ Some src) × IsScript src
+
+-- a write of the text failed; or the command stopped at the file, with nothing written
+abbrev pub StopsListing : Files → Trouble → Held → Held → Type 0
+StopsListing files Unprinted out new = IsAcceptedAt files 0 × ((text : List ℕ) × Lost out text new)
+StopsListing files trouble out new = StopsAt files 0 trouble × Kept out new
+
+-- of a script that is accepted a text was printed whole; or the command stops
+abbrev pub Lists : Files → Result Status Stop → Held → Held → Type 0
+Lists files (Ok status) out new = (status ≡ Done) × (IsAcceptedAt files 0 × ((text : List ℕ) × Took out text new))
+Lists files (Err stop) out new = (stop.place ≡ 0) × StopsListing files stop.trouble out new
