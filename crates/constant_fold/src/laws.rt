@@ -1,0 +1,14 @@
+//! Folding changes nothing that a script means. Nothing here runs: the function has an empty body, and its contract is a law.
+ghost use Rattle.std.specs.Prelude.{◌≡◌};
+ghost use Rattle.constant_fold.specs.Folded.{folded_tree};
+ghost use Rattle.same_meaning.specs.Same.{SameCore};
+ghost use Rattle.syntax_trees.specs.Resolved.{core};
+ghost use Rattle.syntax_trees.specs.Table.{Table};
+ghost use Rattle.syntax_trees.specs.Tree.{Tree};
+ghost use Rattle.syntax_trees.specs.Typing.{WellTyped};
+
+/// The core of the fold of a well typed script is that of the script, but that expressions of literals stand as the values that they come to. So it means the
+/// same (`same_meaning`): each node that stays has the same facts, round by round.
+pub fn folding_keeps_the_meaning()
+    ensures { (t : Table) (tree : Tree) → WellTyped tree t → SameCore (core t tree) (core t (folded_tree tree)) }
+{}
