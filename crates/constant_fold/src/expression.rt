@@ -1,0 +1,82 @@
+//! Expressions.
+ghost use Rattle.std.specs.Prelude.{◌≡◌, OnOk, map};
+ghost use Rattle.syntax_trees.specs.Tree.{Form};
+ghost use Rattle.syntax_trees.specs.View.{expression_view, form_view};
+ghost use Rattle.constant_fold.specs.Folded.{folded, folded_form};
+ghost use Rattle.constant_fold.specs.Made.{in_place};
+
+use crate::evaluation::{call, chain, prefixed};
+use std::alloc::{AllocError, Allocator, Global};
+use syntax_trees::tree::{Expr, ExprKind};
+
+/// Puts a literal in the place of a form, where there is one.
+fn put<A: Allocator>(kind: &mut ExprKind<A>, found: Option<ExprKind<A>>)
+    ensures { form_view kind.new ≡ in_place (form_view kind.old) found }
+{
+    match found {
+        None => {}
+        Some(literal) => *kind = literal,
+    }
+}
+
+/// Folds an expression.
+#[cycle(folded)]
+pub fn expression<A: Allocator + Clone>(
+    machine: Global,
+    alloc: &A,
+    expr: &mut Expr<A>,
+) -> Result<(), AllocError>
+    ensures { OnOk result (expression_view expr.new ≡ folded (expression_view expr.old)) }
+{
+    form(machine, alloc, &mut expr.kind)?;
+    Ok(())
+}
+
+/// Folds expressions.
+#[cycle(folded)]
+pub fn each<A: Allocator + Clone>(
+    machine: Global,
+    alloc: &A,
+    exprs: &mut Vec<Expr<A>, A>,
+) -> Result<(), AllocError>
+    ensures { OnOk result (map expression_view exprs.new.items ≡ map folded (map expression_view exprs.old.items)) }
+{
+    for i in 0..exprs.len() {
+        let expr = &mut exprs[i];
+        expression(machine, alloc, expr)?;
+    }
+    Ok(())
+}
+
+/// Folds the form of an expression.
+#[cycle(folded)]
+fn form<A: Allocator + Clone>(
+    machine: Global,
+    alloc: &A,
+    kind: &mut ExprKind<A>,
+) -> Result<(), AllocError>
+    ensures { OnOk result (form_view kind.new ≡ folded_form (form_view kind.old)) }
+{
+    let found = match kind {
+        ExprKind::Number(_) | ExprKind::Text(_) | ExprKind::Truth(_) | ExprKind::Variable(_) =>
+            None,
+        ExprKind::Element(_, index) => {
+            expression(machine, alloc, index)?;
+            None
+        }
+        ExprKind::Call(name, arguments) => {
+            each(machine, alloc, arguments)?;
+            call(machine, alloc, name.text.as_slice(), arguments.as_slice())?
+        }
+        ExprKind::Prefixed(prefix, operand) => {
+            expression(machine, alloc, operand)?;
+            prefixed(machine, alloc, *prefix, operand)?
+        }
+        ExprKind::Chain(operators, operands) => {
+            each(machine, alloc, operands)?;
+            chain(machine, alloc, operators.as_slice(), operands.as_slice())?
+        }
+    };
+    put(kind, found);
+    Ok(())
+}
