@@ -1,12 +1,12 @@
 -- Data by their keys.
-use Rattle.std.proofs.Common.{◌≡◌, ◌∙◌, refl, sym, ap, subst, inl, inr, ℕ, zero, suc, List, [], ◌∷◌, map, option_map, Option, Some, None, Bool, true, false, ◌==◌}
+use Rattle.std.proofs.Common.{◌≡◌, ◌∙◌, refl, sym, ap, subst, inl, inr, ℕ, zero, suc, List, [], ◌∷◌, option_map, Option, Some, None, true, ◌==◌}
 use Rattle.std.specs.Prelude.{slice_index_or, if◌then◌else◌}
 use Rattle.data_store.specs.Data.{array_in, value_of}
-use Rattle.data_store.specs.Stores.{array_at, at, datum, or_none, Store, value_at}
+use Rattle.data_store.specs.Stores.{array_at, at, or_none, Store, value_at}
 use Rattle.data_store.specs.declared.datum.Content.{Content}
 use Rattle.data_store.specs.declared.datum.Content.TheVariants.{OfArray, OfScalar}
 use Rattle.data_store.specs.declared.datum.Datum.{Datum}
-use Rattle.replayed.specs.Fields.{Counted, slot_at}
+use Rattle.replayed.specs.Fields.{slot_at}
 use Rattle.replayed.specs.Needs as needs
 use Rattle.replayed.specs.Needs.{cell_element, cell_value, is_shut, value_in, elements_in}
 use Rattle.task_code.specs.Compute.{pairs}
@@ -16,7 +16,6 @@ use Rattle.values.proofs.Keys.{same_key-refl, same_key-eq, same_key-other}
 use Rattle.values.specs.Maps as maps
 use Rattle.values.specs.declared.key.Key.{Key}
 use Rattle.values.specs.declared.map.Element.{Element}
-use Rattle.values.specs.declared.value.Scalar.{Scalar}
 use Rattle.board_data.specs.Data.{is_closed_at}
 use Rattle.board_data.specs.View.{cell_view, cells_view, content_view}
 

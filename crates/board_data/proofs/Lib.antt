@@ -1,2 +1,10 @@
 pub mod Cells
+pub mod Changes
+pub mod Closed
+pub mod Given
+pub mod Held
 pub mod Literals
+pub mod Made
+pub mod Missed
+pub mod Rows
+pub mod Steps

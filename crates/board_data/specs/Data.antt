@@ -1,12 +1,12 @@
 -- What the calls of a store come to that ask nothing of their caller.
-use Rattle.std.specs.Prelude.{ℕ, ◌+◌, ◌<◌, ◌^◌, Bool, true, false, ◌&&◌, ◌==◌, Option, Some, None, nat_lt, if◌then◌else◌, is_some}
-use Rattle.data_store.specs.Data.{with_holds, with_value, without_read, without_write}
-use Rattle.data_store.specs.Stores.{Store, at, changed, datum, given_up, shape_at, value_at}
+use Rattle.std.specs.Prelude.{ℕ, List, ◌+◌, ◌^◌, Bool, true, false, ◌&&◌, ◌==◌, Option, Some, None, nat_lt, if◌then◌else◌}
+use Rattle.data_store.specs.Data.{with_array, with_holds, with_value, without_read, without_write}
+use Rattle.data_store.specs.Arrays.{with_room}
+use Rattle.data_store.specs.Stores.{Store, array_at, at, changed, datum, given_up}
 use Rattle.data_store.specs.declared.datum.Content.{Content}
 use Rattle.data_store.specs.declared.datum.Content.TheVariants.{OfArray, OfScalar}
 use Rattle.data_store.specs.declared.datum.Datum.{Datum}
-use Rattle.data_store.specs.declared.datum.Shape.{Shape}
-use Rattle.data_store.specs.declared.datum.Shape.TheVariants.{Single, Keyed}
+use Rattle.values.specs.declared.map.Element.{Element}
 use Rattle.values.specs.declared.value.Scalar.{Scalar}
 
 -- nobody may write it any more
@@ -38,3 +38,35 @@ writer_closed d s = if (datum s d).writes == 0 then s else given_up d without_wr
 abbrev pub given_if : ℕ → Option Scalar → Store → Store
 given_if d None s = s
 given_if d (Some v) s = given d v s
+
+-- it is an array
+abbrev pub is_keyed : Option Datum → Bool
+is_keyed None = false
+is_keyed (Some x) = by x.content
+  where
+    by : Content → Bool
+    by (OfScalar v) = false
+    by (OfArray a) = true
+
+-- both counts with so much more fit 64 bits
+abbrev pub fits : Option Datum → (reads writes : ℕ) → Bool
+fits None r w = false
+fits (Some x) r w = nat_lt (x.reads + r) (2 ^ 64) && nat_lt (x.writes + w) (2 ^ 64)
+
+-- so many more holds, where there is a datum and they fit
+abbrev pub held : ℕ → (reads writes : ℕ) → Store → Store
+held d r w s = if fits (at s d) r w then changed d (with_holds r w) s else s
+
+-- one hold for writing less closes an array
+abbrev pub closes : Option Datum → Bool
+closes None = false
+closes (Some x) = is_keyed (Some x) && (x.writes == 1)
+
+-- an array has room for so many elements
+abbrev pub roomy : Option ℕ → ℕ → Store → Store
+roomy None n s = s
+roomy (Some d) n s = if is_keyed (at s d) then changed d (with_array (with_room n)) s else s
+
+-- the elements of an array, where there is one
+abbrev pub listed_at : Store → ℕ → Option (List Element)
+listed_at s d = if is_keyed (at s d) then Some (array_at s d).elements else None

@@ -1,2 +1,5 @@
 pub mod Data
+pub mod Holds
+pub mod Made
 pub mod View
+pub mod Wanted

@@ -1,11 +1,11 @@
 //! Calls of a store that ask nothing of their caller: what is not there has no value and takes none.
 
-ghost use Rattle.std.specs.Prelude.{◌≡◌, ◌<◌, ◌+◌, ◌^◌, option_copied, IfOk, length};
+ghost use Rattle.std.specs.Prelude.{◌≡◌, ◌<◌, ◌⊎◌, None, option_copied, IfOk, OnErr, OnOk, length};
 ghost use Rattle.data_store.specs.Arrays.{with_element};
-ghost use Rattle.data_store.specs.Data.{with_holds};
-ghost use Rattle.data_store.specs.Stores.{array_at, changed, datum, value_at, IsLive};
+ghost use Rattle.data_store.specs.Data.{with_array};
+ghost use Rattle.data_store.specs.Stores.{array_at, at, changed, datum, value_at, IsArrayAt};
 ghost use Rattle.values.specs.Maps.{found};
-ghost use Rattle.board_data.specs.Data.{given, is_closed_at, released, writer_closed};
+ghost use Rattle.board_data.specs.Data.{closes, given, held, is_closed_at, listed_at, released, roomy, writer_closed};
 
 use data_store::store::{Shape, Store};
 use std::alloc::AllocError;
@@ -34,7 +34,9 @@ pub fn element<'a>(store: &'a Store, d: usize, key: &Key) -> Option<&'a Scalar>
 }
 
 /// All elements of an array.
-pub fn listed(store: &Store, d: usize) -> Result<Option<Map>, AllocError> {
+pub fn listed(store: &Store, d: usize) -> Result<Option<Map>, AllocError>
+    ensures { IfOk result (λ map. map ≡ listed_at store.now d) }
+{
     match store.shape(d) {
         Some(Shape::Keyed) => Ok(Some(store.listed(d)?)),
         _ => Ok(None),
@@ -67,15 +69,20 @@ pub fn put(store: &mut Store, d: usize, value: Scalar)
     }
 }
 
-/// Gives an array an element.
-pub fn insert(store: &mut Store, d: usize, key: Key, value: Scalar) {
+/// Gives an array an element. One that nobody may write, or that has this key, takes none; there is room for it.
+pub fn insert(store: &mut Store, d: usize, key: Key, value: Scalar)
+    ensures took { IsArrayAt store.old d → 0 < (datum store.old d).writes → found key (array_at store.old d).elements ≡ None → 0 < (array_at store.old d).room → store.new ≡ changed d (with_array (with_element key value)) store.old }
+    ensures exact { (store.new ≡ store.old) ⊎ (IsArrayAt store.old d × (0 < (datum store.old d).writes) × (found key (array_at store.old d).elements ≡ None) × (store.new ≡ changed d (with_array (with_element key value)) store.old)) }
+{
     if let Some(Shape::Keyed) = store.shape(d) {
         let _inserted = store.insert(d, key, value);
     }
 }
 
-/// Adds to both counts.
-pub fn hold(store: &mut Store, d: usize, reads: u64, writes: u64) {
+/// Adds to both counts, where both sums fit.
+pub fn hold(store: &mut Store, d: usize, reads: u64, writes: u64)
+    ensures { store.new ≡ held d reads writes store.old }
+{
     if store.is_live(d)
         && store.reads(d).checked_add(reads).is_some()
         && store.writes(d).checked_add(writes).is_some()
@@ -94,7 +101,10 @@ pub fn release(store: &mut Store, d: usize)
 }
 
 /// Takes a hold for writing back, and answers whether it was the last one of an array.
-pub fn close_writer(store: &mut Store, d: usize) -> bool {
+pub fn close_writer(store: &mut Store, d: usize) -> bool
+    ensures taken { store.new ≡ writer_closed d store.old }
+    ensures last { result ≡ closes (at store.old d) }
+{
     if !store.is_live(d) || store.writes(d) == 0 {
         return false;
     }
@@ -104,7 +114,10 @@ pub fn close_writer(store: &mut Store, d: usize) -> bool {
 }
 
 /// Makes the next so many inserts into an array succeed.
-pub fn reserve(store: &mut Store, d: Option<usize>, n: usize) -> Result<(), AllocError> {
+pub fn reserve(store: &mut Store, d: Option<usize>, n: usize) -> Result<(), AllocError>
+    ensures ok { OnOk result (store.new ≡ roomy d n store.old) }
+    ensures err { OnErr result (store.new ≡ store.old) }
+{
     match d {
         Some(d) if matches!(store.shape(d), Some(Shape::Keyed)) => store.reserve(d, n),
         _ => Ok(()),
@@ -112,7 +125,9 @@ pub fn reserve(store: &mut Store, d: Option<usize>, n: usize) -> Result<(), Allo
 }
 
 /// Lays the elements of an array by rising key, once for all who ask for them.
-pub fn sort(store: &mut Store, d: Option<usize>) -> Result<(), AllocError> {
+pub fn sort(store: &mut Store, d: Option<usize>) -> Result<(), AllocError>
+    ensures { store.new ≡ store.old }
+{
     match d {
         Some(d) if matches!(store.shape(d), Some(Shape::Keyed)) => {
             let _sorted = store.whole(d)?;

@@ -3,4 +3,6 @@
 
 pub mod answers;
 pub mod data;
+pub mod holding;
+pub mod making;
 pub mod wanted;

@@ -1,12 +1,16 @@
 //! What items wait for, and what they find there.
-ghost use Rattle.std.specs.Prelude.{◌≡◌, option_copied};
+ghost use Rattle.std.specs.Prelude.{◌≡◌, ◌+◌, ◌++◌, ℕ, length, map, option_copied, IsOk, OnOk};
+ghost use Rattle.std.specs.List.{flat_map};
+ghost use Rattle.smallvec.specs.SmallVec.{HasRoomFor};
 ghost use Rattle.replayed.specs.Fields.{fixed_in, literal};
 ghost use Rattle.task_code.specs.Code.{arguments};
 ghost use Rattle.task_code.specs.Compute.{key_of};
 ghost use Rattle.task_code.specs.View.{act_view};
 ghost use Rattle.replayed.specs.Needs.{array_missed, element_missed, index_missed, scalar_missed};
-ghost use Rattle.board_frames.specs.View.{slot_view};
-ghost use Rattle.board_data.specs.View.{cells_view, wants_in};
+ghost use Rattle.board_frames.specs.Names.{datum_of, led_slot};
+ghost use Rattle.board_frames.specs.View.{frames_view, slot_view};
+ghost use Rattle.board_data.specs.View.{cells_view, want_view, wants_in};
+ghost use Rattle.board_data.specs.Wanted.{element_in, scalar_in, wanted_found, wanted_missed};
 
 use crate::data::{element, is_closed, value};
 use board_code::key::copy_key;
@@ -153,7 +157,9 @@ impl<'a> View<'a> {
     }
 
     /// What a name stands for.
-    fn slot(self, spot: Option<Spot>) -> Slot {
+    fn slot(self, spot: Option<Spot>) -> Slot
+        ensures { slot_view result ≡ led_slot (frames_view self.entry.instances.now.slots) self.entry.at spot }
+    {
         match spot {
             Some(spot) => slot_at(self.instances, self.at, spot),
             None => Slot::Absent,
@@ -161,12 +167,17 @@ impl<'a> View<'a> {
     }
 
     /// The datum that a name stands for.
-    pub fn datum(self, spot: Option<Spot>) -> Option<usize> {
+    pub fn datum(self, spot: Option<Spot>) -> Option<usize>
+        ensures { result ≡ datum_of (led_slot (frames_view self.entry.instances.now.slots) self.entry.at spot) }
+    {
         datum_at(self.instances, self.at, spot)
     }
 
     /// The scalar that a name stands for, once it is known.
-    pub fn scalar(self, spot: Option<Spot>) -> Option<&'a Scalar> {
+    #[tactic(auto, using(crate::proofs::Cells::value_there))]
+    pub fn scalar(self, spot: Option<Spot>) -> Option<&'a Scalar>
+        ensures { option_copied result ≡ scalar_in self.entry.program.now.code (cells_view self.entry.store.now.cells) (led_slot (frames_view self.entry.instances.now.slots) self.entry.at spot) }
+    {
         match self.slot(spot) {
             Slot::Datum(d) => value(self.store, d),
             Slot::Literal(call, place) => literal(&self.program.code, call, place),
@@ -175,7 +186,10 @@ impl<'a> View<'a> {
     }
 
     /// The element that is waited for, where there is one.
-    pub fn found(self, wanted: &Wanted) -> Option<&'a Scalar> {
+    #[tactic(auto, using(crate::proofs::Cells::element_there))]
+    pub fn found(self, wanted: &Wanted) -> Option<&'a Scalar>
+        ensures { option_copied result ≡ wanted_found self.entry.program.now.code (cells_view self.entry.store.now.cells) (led_slot (frames_view self.entry.instances.now.slots) self.entry.at) wanted.now }
+    {
         match wanted {
             Wanted::Stored(spot) => self.scalar(*spot),
             Wanted::Closed(_) => None,
@@ -188,7 +202,9 @@ impl<'a> View<'a> {
     }
 
     /// What is missing now: an element whose index is not known waits for the index first.
-    pub fn missing(self, wanted: &Wanted) -> Option<Input> {
+    pub fn missing(self, wanted: &Wanted) -> Option<Input>
+        ensures { wants_in result ≡ wanted_missed self.entry.program.now.code (cells_view self.entry.store.now.cells) (led_slot (frames_view self.entry.instances.now.slots) self.entry.at) wanted.now }
+    {
         match wanted {
             Wanted::Stored(spot) => missing_scalar(self.store, self.slot(*spot)),
             Wanted::Closed(spot) => missing_array(self.store, self.slot(*spot)),
@@ -200,12 +216,31 @@ impl<'a> View<'a> {
         }
     }
 
-    /// Puts all that is missing behind the inputs.
-    pub fn list_missing(self, needs: &[Wanted], inputs: &mut Inputs) -> Result<(), AllocError> {
+    /// Puts what is missing behind the inputs, if anything is.
+    fn push_missing(self, wanted: &Wanted, inputs: &mut Inputs) -> Result<(), AllocError>
+        ensures pushed { OnOk result (map want_view inputs.new.items ≡ map want_view inputs.old.items ++ wanted_missed self.entry.program.now.code (cells_view self.entry.store.now.cells) (led_slot (frames_view self.entry.instances.now.slots) self.entry.at) wanted.now) }
+        ensures succeeds { HasRoomFor inputs.old 1 → IsOk result }
+        ensures room { (n : ℕ) → HasRoomFor inputs.old (n + 1) → HasRoomFor inputs.new n }
+    {
+        if let Some(input) = self.missing(wanted) {
+            inputs.push(input)?;
+        }
+        Ok(())
+    }
+
+    /// Puts all that is missing behind the inputs, in the order of the needs.
+    ///
+    /// # Errors
+    ///
+    /// `AllocError` where memory that was asked for was refused; none is asked for where there is room for as many inputs as
+    /// there are needs.
+    #[tactic(auto, using(crate::proofs::Missed::missed_end))]
+    pub fn list_missing(self, needs: &[Wanted], inputs: &mut Inputs) -> Result<(), AllocError>
+        ensures listed { OnOk result (map want_view inputs.new.items ≡ map want_view inputs.old.items ++ flat_map (wanted_missed self.entry.program.now.code (cells_view self.entry.store.now.cells) (led_slot (frames_view self.entry.instances.now.slots) self.entry.at)) needs.now) }
+        ensures succeeds { HasRoomFor inputs.old (length needs.now) → IsOk result }
+    {
         for wanted in needs {
-            if let Some(input) = self.missing(wanted) {
-                inputs.push(input)?;
-            }
+            self.push_missing(wanted, inputs)?;
         }
         Ok(())
     }

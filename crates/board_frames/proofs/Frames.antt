@@ -1,8 +1,8 @@
 -- Instances by their keys, and those further out.
-use Rattle.std.proofs.Common.{◌≡◌, ◌∙◌, refl, sym, ap, ℕ, zero, suc, ◌+◌, ◌-◌, ◌<◌, ◌≤◌, List, [], ◌∷◌, length, map, option_map, Option, Some, None, arith}
+use Rattle.std.proofs.Common.{◌≡◌, ◌∙◌, refl, ap, ℕ, zero, suc, ◌+◌, ◌-◌, ◌<◌, ◌≤◌, List, [], ◌∷◌, length, map, option_map, Option, Some, None, arith}
 use Rattle.std.specs.Prelude.{slice_index_or}
 use Rattle.slab.specs.Slab.{Slab, get}
-use Rattle.replayed.specs.Fields.{Absent, Frame, frame_up, level_of, slot_at}
+use Rattle.replayed.specs.Fields.{Absent, Frame, frame_up, slot_at}
 use Rattle.task_code.specs.Code.{nth}
 use Rattle.board_frames.specs.View.{frame_view, frames_view, slot_view}
 use Rattle.board_frames.specs.declared.instance.Instance.{Instance}

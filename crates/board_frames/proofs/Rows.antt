@@ -1,9 +1,9 @@
 -- Rows by number, and items by place.
-use Rattle.std.proofs.Common.{◌≡◌, ◌∙◌, refl, sym, ap, ℕ, zero, suc, ◌+◌, ◌-◌, ◌<◌, ◌≤◌, List, [], ◌∷◌, length, map, option_map, Option, Some, None, arith, slice_set}
-use Rattle.std.specs.Prelude.{slice_get, slice_index_or}
+use Rattle.std.proofs.Common.{◌≡◌, ◌∙◌, refl, sym, ap, ℕ, zero, suc, ◌-◌, ◌<◌, ◌≤◌, List, [], ◌∷◌, length, Some, None, arith, slice_set}
+use Rattle.std.specs.Prelude.{slice_index_or}
 use Rattle.replayed.specs.Fields.{row_of}
 use Rattle.replayed.specs.Marking.{mark_at}
-use Rattle.board_frames.specs.View.{job_view, mark_view, row_view, rows_view}
+use Rattle.board_frames.specs.View.{mark_view, row_view, rows_view}
 use Rattle.board_frames.specs.declared.item.Item.{Item}
 use Rattle.board_frames.specs.declared.item.Mark.{Mark}
 

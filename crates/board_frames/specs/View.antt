@@ -1,5 +1,5 @@
 -- What items and instances stand for.
-use Rattle.std.specs.Prelude.{List, Option, map, option_map}
+use Rattle.std.specs.Prelude.{ℕ, List, Option, map, option_map}
 use Rattle.replayed.specs.Fields as Pure
 use Rattle.task_code.specs.Places as Places
 use Rattle.board_frames.specs.declared.item.Mark.{Mark}
@@ -10,6 +10,7 @@ use Rattle.board_frames.specs.declared.item.Item.{Item}
 use Rattle.board_frames.specs.declared.instance.Slot.{Slot}
 use Rattle.board_frames.specs.declared.instance.Slot.TheVariants as Slots
 use Rattle.board_frames.specs.declared.instance.Instance.{Instance}
+use Rattle.board_frames.specs.declared.opening.Opening.{Opening}
 use Rattle.board_frames.specs.declared.place.Step.{Step}
 
 -- items
@@ -28,6 +29,10 @@ row_view i = record { job = job_view i.job; mark = mark_view i.mark }
 
 abbrev pub rows_view : List Item → List Pure.Row
 rows_view items = map row_view items
+
+-- the new item of an entry in an instance
+abbrev pub new_item : (instance entry : ℕ) → Item
+new_item k e = record { job = Jobs.Does k e 0; mark = Marks.Waiting }
 
 -- instances
 abbrev pub step_view : Step → Places.Step
@@ -52,3 +57,6 @@ frame_view f =
 
 abbrev pub frames_view : List (Option Instance) → List (Option Pure.Frame)
 frames_view fs = map (λ f. option_map frame_view f) fs
+
+abbrev pub opening_frame : Opening → Pure.Frame
+opening_frame o = frame_view o.instance

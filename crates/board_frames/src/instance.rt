@@ -1,9 +1,11 @@
 //! Instances of blocks: what their names stand for, and their paths.
-ghost use Rattle.std.specs.Prelude.{◌≡◌, Some, option_copied, option_map};
-ghost use Rattle.slab.specs.Slab.{get};
-ghost use Rattle.replayed.specs.Fields.{frame_up, level_of, slot_at as slot_of};
-ghost use Rattle.board_frames.specs.Names.{slot_in};
-ghost use Rattle.board_frames.specs.View.{frame_view, frames_view, slot_view};
+ghost use Rattle.std.specs.Prelude.{◌≡◌, ◌<◌, ◌≤◌, ◌+◌, ◌++◌, ◌^◌, ℕ, suc, List, Option, Some, None, map, reverse, option_copied, option_map, IfOk, IfSome, IsSome, OnSome};
+ghost use Rattle.slab.specs.Slab.{get, slab_len};
+ghost use Rattle.replayed.specs.Ending.{Sets, TakenOff, with_live};
+ghost use Rattle.replayed.specs.Fields.{Frame, frame_up, level_of, path_from, path_of, slot_at as slot_of};
+ghost use Rattle.board_frames.specs.Names.{datum_of, led_slot, slot_in, spot_slot};
+ghost use Rattle.board_frames.specs.Nested.{IsNested};
+ghost use Rattle.board_frames.specs.View.{frame_view, frames_view, slot_view, step_view};
 
 use crate::place::Step;
 use board_code::key::copy_key;
@@ -81,7 +83,7 @@ fn slot_in(instance: &Instance, slot: usize) -> Slot
 
 /// What a name that leads there stands for.
 pub fn slot_at(instances: &Slab<Instance>, at: usize, spot: Spot) -> Slot
-    ensures { slot_view result ≡ slot_in (frame_up (frames_view instances.now.slots) spot.levels at) spot.slot }
+    ensures { slot_view result ≡ spot_slot (frames_view instances.now.slots) at spot }
 {
     match further_out(instances, at, spot.levels) {
         Some(instance) => slot_in(instance, spot.slot),
@@ -90,37 +92,13 @@ pub fn slot_at(instances: &Slab<Instance>, at: usize, spot: Spot) -> Slot
 }
 
 /// The datum that a name stands for, if it stands for one.
-pub fn datum_at(instances: &Slab<Instance>, at: usize, spot: Option<Spot>) -> Option<usize> {
+pub fn datum_at(instances: &Slab<Instance>, at: usize, spot: Option<Spot>) -> Option<usize>
+    ensures { result ≡ datum_of (led_slot (frames_view instances.now.slots) at spot) }
+{
     match slot_at(instances, at, spot?) {
         Slot::Datum(d) => Some(d),
-        _ => None,
+        Slot::Absent | Slot::Literal(_, _) => None,
     }
-}
-
-/// The steps of an instance's path, the last one first.
-fn steps_back(
-    alloc: Global,
-    instances: &Slab<Instance>,
-    at: usize,
-) -> Result<Vec<Step>, AllocError> {
-    let mut steps = Vec::new(alloc);
-    let mut next = instances.get(at);
-    for _ in 0..=level_of(instances, at) {
-        let Some(instance) = next else {
-            break;
-        };
-        if let Some(step) = &instance.way {
-            steps.push(Step {
-                offset: step.offset,
-                key: copy_key(&step.key),
-            })?;
-        }
-        next = match instance.parent {
-            Some(outer) => instances.get(outer),
-            None => None,
-        };
-    }
-    Ok(steps)
 }
 
 /// How many instances are around this one.
@@ -134,40 +112,94 @@ fn level_of(instances: &Slab<Instance>, at: usize) -> usize
     }
 }
 
+/// Adds the last step of an instance's path, if it has one of its own. Answers with the instance around it.
+fn push_step(
+    steps: &mut Vec<Step>,
+    instances: &Slab<Instance>,
+    at: usize,
+) -> Result<Option<usize>, AllocError>
+    ensures { IfOk result (λ outer. (n : ℕ) → map step_view steps.new.items ++ path_from (frames_view instances.now.slots) n outer ≡ map step_view steps.old.items ++ path_from (frames_view instances.now.slots) (suc n) (Some at)) }
+{
+    let Some(instance) = instances.get(at) else {
+        return Ok(None);
+    };
+    if let Some(step) = &instance.way {
+        steps.push(Step {
+            offset: step.offset,
+            key: copy_key(&step.key),
+        })?;
+    }
+    Ok(instance.parent)
+}
+
+/// The steps of an instance's path, the last one first.
+fn steps_back(alloc: Global, instances: &Slab<Instance>, at: usize) -> Result<Vec<Step>, AllocError>
+    ensures { IfOk result (λ steps. map step_view steps.items ≡ path_of (frames_view instances.now.slots) at) }
+{
+    let mut steps = Vec::new(alloc);
+    let mut next = push_step(&mut steps, instances, at)?;
+    for step in 0..level_of(instances, at) {
+        let Some(key) = next else {
+            return Ok(steps);
+        };
+        next = push_step(&mut steps, instances, key)?;
+    }
+    Ok(steps)
+}
+
 /// The path of an instance, from its outermost step on.
+///
+/// # Errors
+///
+/// `AllocError` where memory that was asked for was refused.
 pub fn path_of(
     alloc: Global,
     instances: &Slab<Instance>,
     at: usize,
-) -> Result<Vec<Step>, AllocError> {
+) -> Result<Vec<Step>, AllocError>
+    ensures { IfOk result (λ steps. map step_view steps.items ≡ reverse (path_of (frames_view instances.now.slots) at)) }
+{
     let mut steps = steps_back(alloc, instances, at)?;
     steps.reverse();
     Ok(steps)
 }
 
+/// One item or instance less is in the instance. Where it was the last, the instance goes, and the answer is the one around it.
+fn leave_one(instances: &mut Slab<Instance>, at: usize) -> Option<usize>
+    ensures goes { IfSome result (λ outer. (f : Frame) × (slot_of (frames_view instances.old.slots) at ≡ Some f) × (f.parent ≡ Some outer) × Sets (frames_view instances.old.slots) at None (frames_view instances.new.slots)) }
+    ensures fewer { OnSome result (slab_len instances.new + 1 ≡ slab_len instances.old) }
+    ensures len { slab_len instances.new ≤ slab_len instances.old }
+    ensures leaves { (f : Frame) → slot_of (frames_view instances.old.slots) at ≡ Some f → 0 < f.live →
+        (gs : List (Option Frame)) → TakenOff gs (frames_view instances.new.slots) result → TakenOff gs (frames_view instances.old.slots) (Some at) }
+{
+    let instance = instances.get_mut(at)?;
+    if instance.live > 1 {
+        instance.live -= 1;
+        return None;
+    }
+    let gone = instances.try_remove(at)?;
+    gone.parent
+}
+
 /// One item or instance less is in the instance; where it was the last, the instance goes, and so on outwards.
-pub fn leave(instances: &mut Slab<Instance>, at: usize) {
-    let mut at = at;
-    for _ in 0..=level_of(instances, at) {
-        let Some(instance) = instances.get_mut(at) else {
-            return;
-        };
-        instance.live = instance.live.saturating_sub(1);
-        if instance.live > 0 {
-            return;
-        }
-        let parent = instance.parent;
-        let _gone = instances.try_remove(at);
-        match parent {
-            Some(outer) => at = outer,
-            None => return,
-        }
+pub fn leave(instances: &mut Slab<Instance>, at: usize)
+    ensures { IsNested (frames_view instances.old.slots) → IsSome (slot_of (frames_view instances.old.slots) at) → TakenOff (frames_view instances.new.slots) (frames_view instances.old.slots) (Some at) }
+{
+    let mut next = Some(at);
+    while let Some(key) = next {
+        next = leave_one(instances, key);
     }
 }
 
-/// One item or instance more is in the instance.
-pub fn enter(instances: &mut Slab<Instance>, at: usize) {
+/// So many items or instances more are in the instance.
+#[tactic(auto, using(crate::proofs::Slots::view_there))]
+pub fn enter(instances: &mut Slab<Instance>, at: usize, count: usize)
+    ensures there { (f : Frame) → slot_of (frames_view instances.old.slots) at ≡ Some f → f.live + count < 2 ^ 64 → Sets (frames_view instances.old.slots) at (Some (with_live (f.live + count) f)) (frames_view instances.new.slots) }
+    ensures absent { slot_of (frames_view instances.old.slots) at ≡ None → instances.new ≡ instances.old }
+    ensures len { slab_len instances.new ≡ slab_len instances.old }
+    ensures capacity { instances.new.capacity ≡ instances.old.capacity }
+{
     if let Some(instance) = instances.get_mut(at) {
-        instance.live = instance.live.saturating_add(1);
+        instance.live = instance.live.saturating_add(count);
     }
 }

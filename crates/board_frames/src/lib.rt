@@ -3,5 +3,7 @@
 
 pub mod instance;
 pub mod item;
+pub mod laws;
 pub mod opening;
 pub mod place;
+pub mod placing;

@@ -1,8 +1,13 @@
 //! The instances that an End opens, as they are made before anything is changed.
+ghost use Rattle.std.specs.Prelude.{◌≡◌, ◌⊎◌, ◌≤◌, ◌+◌, ◌++◌, [], Option, None, length, map, replicate, option_map, IfNone, IfOk, IfSome, OnOk};
+ghost use Rattle.replayed.specs.Fields.{Absent as AbsentSlot, slot_at as slot_of};
+ghost use Rattle.task_code.specs.View.{body_view};
+ghost use Rattle.board_frames.specs.Openings.{IsInner, passed_from, passed_slot, steps_in, unfilled};
+ghost use Rattle.board_frames.specs.View.{frame_view, frames_view, slot_view, step_view};
 
 use crate::instance::{Instance, Slot, Slots, slot_at};
 use crate::place::Step;
-use board_code::program::{BodyTable, Passed, Program};
+use board_code::program::{Passed, Program};
 use rules::input::Input;
 use slab::Slab;
 use smallvec::SmallVec;
@@ -43,34 +48,51 @@ pub struct Openings {
     pub goes_on: bool,
 }
 
+/// What a call hands over in one place.
+fn handed(around: Around<'_>, call: u32, place: usize, passed: Passed) -> Slot
+    ensures { slot_view result ≡ passed_slot (frames_view around.entry.instances.now.slots) around.entry.at call place passed }
+{
+    match passed {
+        Passed::Fixed => Slot::Literal(call, place),
+        Passed::Named(None) => Slot::Absent,
+        Passed::Named(Some(spot)) => slot_at(around.instances, around.at, spot),
+    }
+}
+
 /// Puts what a call hands over behind the slots.
 fn push_parameters(
     slots: &mut Slots,
     around: Around<'_>,
     call: u32,
     arguments: &[Passed],
-) -> Result<(), AllocError> {
+) -> Result<(), AllocError>
+    ensures { OnOk result (map slot_view slots.new.items ≡ map slot_view slots.old.items ++ passed_from (frames_view around.entry.instances.now.slots) around.entry.at call 0 arguments.now) }
+{
     for place in 0..arguments.len() {
-        slots.push(match arguments[place] {
-            Passed::Fixed => Slot::Literal(call, place),
-            Passed::Named(None) => Slot::Absent,
-            Passed::Named(Some(spot)) => slot_at(around.instances, around.at, spot),
-        })?;
+        slots.push(handed(around, call, place, arguments[place]))?;
     }
     Ok(())
 }
 
 /// Slots for so many data that are still to be made.
-fn empty_slots(alloc: Global, own: usize, more: usize) -> Result<Slots, AllocError> {
+fn empty_slots(alloc: Global, own: usize, more: usize) -> Result<Slots, AllocError>
+    ensures { IfOk result (λ slots. map slot_view slots.items ≡ replicate own AbsentSlot) }
+{
     let mut slots = SmallVec::with_capacity(alloc, own.saturating_add(more))?;
-    for _ in 0..own {
+    for place in 0..own {
         slots.push(Slot::Absent)?;
     }
     Ok(slots)
 }
 
-/// The script's own instance.
-pub fn outermost(alloc: Global, table: &BodyTable, body: &Body) -> Result<Instance, AllocError> {
+/// The script's own instance. Its data are still to be made.
+///
+/// # Errors
+///
+/// `AllocError` where memory that was asked for was refused.
+pub fn outermost(alloc: Global, body: &Body) -> Result<Instance, AllocError>
+    ensures { IfOk result (λ instance. frame_view instance ≡ unfilled None 0 0 None 0 (body_view body.now) []) }
+{
     Ok(Instance {
         parent: None,
         level: 0,
@@ -78,36 +100,60 @@ pub fn outermost(alloc: Global, table: &BodyTable, body: &Body) -> Result<Instan
         way: None,
         body: 0,
         live: body.entries.len(),
-        slots: empty_slots(alloc, table.own.len(), 0)?,
+        slots: empty_slots(alloc, body.makes.len(), 0)?,
     })
 }
 
-/// An instance inside the one that is looked at, which a step leads to or, where there is none, a `wait`.
+/// One more. That many instances around one another are more than memory has room for.
+fn one_more(count: usize) -> Result<usize, AllocError>
+    ensures { IfOk result (λ more. more ≡ count + 1) }
+{
+    match count.checked_add(1) {
+        Some(more) => Ok(more),
+        None => Err(AllocError),
+    }
+}
+
+/// How many steps a path has with this one.
+fn depth_of(depth: usize, way: &Option<Step>) -> Result<usize, AllocError>
+    ensures { IfOk result (λ more. more ≡ depth + steps_in (option_map step_view way.now)) }
+{
+    match way {
+        Some(_) => one_more(depth),
+        None => Ok(depth),
+    }
+}
+
+/// An instance of the body inside the one that is looked at, which a step leads to or, where there is none, a `wait`. Its data are
+/// still to be made; what the call hands over is there. None where there is no such body, or nothing that is looked at.
+///
+/// # Errors
+///
+/// `AllocError` where memory that was asked for was refused.
 pub fn inner(
     alloc: Global,
     around: Around<'_>,
     number: u32,
     way: Option<Step>,
     arguments: (u32, &[Passed]),
-) -> Result<Option<Instance>, AllocError> {
-    let (Some(body), Some(table)) = (
-        around.program.code.body(number),
-        around.program.body(number),
-    ) else {
+) -> Result<Option<Instance>, AllocError>
+    ensures some { IfOk result (λ found. IfSome found (λ instance. IsInner around.entry.program.now.code (frames_view around.entry.instances.now.slots) around.entry.at number (option_map step_view way) (passed_from (frames_view around.entry.instances.now.slots) around.entry.at arguments.entry.0 0 arguments.entry.1.now) (frame_view instance))) }
+    ensures none { IfOk result (λ found. IfNone found ((length around.entry.program.now.code.bodies ≤ number) ⊎ (slot_of (frames_view around.entry.instances.now.slots) around.entry.at ≡ None))) }
+{
+    let Some(body) = around.program.code.body(number) else {
         return Ok(None);
     };
     let Some(outer) = around.instances.get(around.at) else {
         return Ok(None);
     };
     let (call, passed) = arguments;
-    let mut slots = empty_slots(alloc, table.own.len(), passed.len())?;
+    let mut slots = empty_slots(alloc, body.makes.len(), passed.len())?;
     push_parameters(&mut slots, around, call, passed)?;
+    let depth = depth_of(outer.depth, &way)?;
     Ok(Some(Instance {
         parent: Some(around.at),
-        level: outer.level.saturating_add(1),
-        depth: outer
-            .depth
-            .saturating_add(if way.is_some() { 1 } else { 0 }),
+        level: one_more(outer.level)?,
+        depth,
         way,
         body: number,
         live: body.entries.len(),

@@ -56,7 +56,7 @@ module _ (t : Table) where
   element_folds : (w : Word) (i : Expression) → FoldsExpression t i → Folds t (element w i) (element w (folded i))
   element_folds w (expression nd f) h =
       let same : SameFormed (form_in t (element w (expression nd f))) (form_in t (element w (expression nd (folded_form f)))) =
-      record { parts = same_as_cell nd.number h.same; form = same_read } in
+          record { parts = same_as_cell nd.number h.same; form = same_read } in
       record { same = same; constant = λ v is. absurd (none-some v is); argument = cell_argument t (element w (expression nd f)) (element w (expression nd (folded_form f))) (λ n x. refl) (λ n x. refl) same; right = assigned_same t (element w (expression nd f)) (element w (expression nd (folded_form f))) (λ n x. refl) (λ n x. refl) same }
 
   pub none_fold : FoldsAll t no_expressions no_expressions
@@ -73,7 +73,7 @@ module _ (t : Table) where
   also_folds (expression nd f) es ds h hs =
       let n = nd.number in
       let o : SameOperand (as_operand n (form_in t f)) (as_operand n (form_in t (folded_form f))) =
-      same_as_operand n (form_in t f).0 (form_in t (folded_form f)).0 h.same.parts h.same.form in
+          same_as_operand n (form_in t f).0 (form_in t (folded_form f)).0 h.same.parts h.same.form in
       let a = h.argument nd in
       record {
         parts = pairs_both o.parts hs.parts;
@@ -87,11 +87,10 @@ module _ (t : Table) where
           → ((operands_of t (and_expression (expression nd f) es)).0 ≡ []) × AllComeTo (operands_of t (and_expression (expression nd f) es)).1 vs
       constants vs b c r =
           let is : form_in t f ≡ ([], compute c.expr) = pair_is (compute c.expr) (form_in t f) c.bare c.is in
-          let whole : as_operand nd.number (form_in t f) ≡ ([], c.expr) = ap (as_operand nd.number) is in (
-            ap (λ x. x.0 ++ (operands_of t es).0) whole ∙ r.0,
-            subst (λ us. AllComeTo (operands_of t (and_expression (expression nd f) es)).1 us) b.are
-                (subst (λ x. AllComeTo (also x (operands_of t es).1) (b.value ∷ b.rest)) (sym (ap (λ x. x.1) whole)) (operand c.comes r.1)),
-          )
+          let whole : as_operand nd.number (form_in t f) ≡ ([], c.expr) = ap (as_operand nd.number) is in
+          (ap (λ x. x.0 ++ (operands_of t es).0) whole ∙ r.0,
+          subst (λ us. AllComeTo (operands_of t (and_expression (expression nd f) es)).1 us) b.are
+          (subst (λ x. AllComeTo (also x (operands_of t es).1) (b.value ∷ b.rest)) (sym (ap (λ x. x.1) whole)) (operand c.comes r.1)))
 
   prefixed_folds : (p : Prefix) (e : Expression) → FoldsExpression t e → Folds t (prefixed p e) (folded_form (prefixed p e))
   prefixed_folds p (expression nd f) h =

@@ -171,7 +171,7 @@ module _ (t : Table) where
   -- AN OPERATION AND ITS LITERAL
 
   module _ (o : Operation) (f g : T.Form) (es ds : Expressions) (is_f : form_in t f ≡ computes o (operands_of t es)) (is_g : form_in t g ≡ computes o (operands_of t ds)) (all : FoldsAll es ds) (cell_f : IsCellArgument f) (cell_g : IsCellArgument g) (set_f : IsAssigned f) (set_g : IsAssigned g)
-      (none_g : scalar_in g ≡ None) where
+    (none_g : scalar_in g ≡ None) where
     stays_same : SameFormed (form_in t f) (form_in t g)
     stays_same =
         subst (λ x. SameFormed x (form_in t g)) (sym is_f) (subst (λ x. SameFormed (computes o (operands_of t es)) x) (sym is_g)
@@ -189,11 +189,11 @@ module _ (t : Table) where
     turns vs v are gives =
         let c = constant_is vs v are gives in
         let same : SameFormed (form_in t f) (form_in t (literal_of v)) =
-        subst (λ x. SameFormed (form_in t f) x) (sym (formed_literal t v))
-        (record {
-          parts = subst (λ ps. Pairwise SamePart ps []) (sym c.bare) no_pair;
-          form = subst (λ x. SameForm x (compute (literal v))) (sym c.is) (same_compute (same_constant c.comes a_literal));
-        }) in
+            subst (λ x. SameFormed (form_in t f) x) (sym (formed_literal t v))
+            (record {
+              parts = subst (λ ps. Pairwise SamePart ps []) (sym c.bare) no_pair;
+              form = subst (λ x. SameForm x (compute (literal v))) (sym c.is) (same_compute (same_constant c.comes a_literal));
+            }) in
         record {
           same = same;
           constant = λ u is. subst (λ z. IsConstant f z) (same_Some v u (sym (scalar_literal v) ∙ is)) c;

@@ -3,3 +3,4 @@ pub mod Sights
 pub mod News
 pub mod Steady
 pub mod Told
+pub mod Nodes

@@ -8,7 +8,12 @@ ghost use Rattle.syntax_trees.specs.Facts.{Fact, Fault};
 ghost use Rattle.syntax_trees.specs.Meaning.{Closed, Finished, Gives, HasValue, IsFinished, Known, LiveStmt, New, Ready, ValueUnder};
 ghost use Rattle.syntax_trees.specs.Members.{◌∈◌};
 ghost use Rattle.syntax_trees.specs.Places.{Path, Place};
+ghost use Rattle.syntax_trees.specs.Reads.{Reads};
+ghost use Rattle.syntax_trees.specs.Resolved.{core};
 ghost use Rattle.syntax_trees.specs.Single.{SinglyAssigned};
+ghost use Rattle.syntax_trees.specs.Table.{Table};
+ghost use Rattle.syntax_trees.specs.Tree.{Tree};
+ghost use Rattle.syntax_trees.specs.Typing.{WellTyped};
 ghost use Rattle.syntax_trees.specs.WellFormed.{WellFormed};
 ghost use Rattle.whole_meaning.specs.Environment.{Sight, Sees, worked, outcome};
 ghost use Rattle.whole_meaning.specs.News.{Past, Recalls, IsSteady, NodesTell, ToldOf, news};
@@ -68,4 +73,16 @@ pub fn a_round_is_what_is_told()
     ensures finished { (s : Core) → WellFormed s → SinglyAssigned s → NodesTell s → (n : ℕ) (g : Path → Sight) (m : Path → Past)
         → ((path : Path) → Sees s (Known s n) path (g path)) → ((path : Path) → Recalls s (Known s n) path (m path))
         → IsFinished s n ↔ ((f : Fact) → ToldOf s (Known s n) g m f → Known s n f) }
+{}
+
+/// In the core of a text that reads as a tree statements of one node have one offset, and prints of one node one line. So of a
+/// script that is accepted each round adds just what is told of its live statements.
+pub fn accepted_rounds()
+    ensures nodes { (bytes : List ℕ) (t : Table) (tree : Tree) → Reads bytes tree → NodesTell (core t tree) }
+    ensures round { (bytes : List ℕ) (t : Table) (tree : Tree) → Reads bytes tree → WellTyped tree t → SinglyAssigned (core t tree) → (n : ℕ) (g : Path → Sight) (m : Path → Past)
+        → ((path : Path) → Sees (core t tree) (Known (core t tree) n) path (g path)) → ((path : Path) → Recalls (core t tree) (Known (core t tree) n) path (m path))
+        → (f : Fact) → Known (core t tree) (suc n) f ↔ (Known (core t tree) n f ⊎ ToldOf (core t tree) (Known (core t tree) n) g m f) }
+    ensures finished { (bytes : List ℕ) (t : Table) (tree : Tree) → Reads bytes tree → WellTyped tree t → SinglyAssigned (core t tree) → (n : ℕ) (g : Path → Sight) (m : Path → Past)
+        → ((path : Path) → Sees (core t tree) (Known (core t tree) n) path (g path)) → ((path : Path) → Recalls (core t tree) (Known (core t tree) n) path (m path))
+        → IsFinished (core t tree) n ↔ ((f : Fact) → ToldOf (core t tree) (Known (core t tree) n) g m f → Known (core t tree) n f) }
 {}

@@ -1,0 +1,4 @@
+mod Bounds
+mod Entries
+mod Layings
+mod Merged

@@ -1,0 +1,23 @@
+-- One datum has changed.
+use Rattle.std.proofs.Common.{◌≡◌, ◌≢◌, refl, ℕ, zero, suc, ◌<◌, List, [], ◌∷◌, length, Option, Some, None, arith}
+use Rattle.std.specs.Prelude.{slice_index_or, slice_set}
+use Rattle.std.proofs.lemmas.List.{get_or-set_same, get_or-set_other}
+use Rattle.data_store.specs.Stores.{Store, at}
+use Rattle.data_store.specs.declared.datum.Datum.{Datum}
+
+within : {X : Type 0} (cs : List (Option X)) (d : ℕ) (x : X) → slice_index_or cs d None ≡ Some x → d < length cs
+within [] d x e = absurd cc
+within (c ∷ cs) zero x e = omega arith
+within (c ∷ cs) (suc d) x e = omega (arith, within cs d x e)
+
+pub set_here : (s : Store) (d : ℕ) (x : Datum) (y : Option Datum) → at s d ≡ Some x → slice_index_or (slice_set s.cells d y) d None ≡ y
+set_here s d x y e = get_or-set_same s.cells d y None (within s.cells d x e)
+
+pub set_elsewhere : (s : Store) (d e : ℕ) (y : Option Datum) → e ≢ d → slice_index_or (slice_set s.cells d y) e None ≡ at s e
+set_elsewhere s d e y n = get_or-set_other s.cells d e y None n
+
+pub set_nowhere : {X : Type 0} (cs : List (Option X)) (d : ℕ) → slice_index_or cs d None ≡ None → slice_index_or (slice_set cs d None) d None ≡ None
+set_nowhere [] zero e = refl
+set_nowhere [] (suc d) e = refl
+set_nowhere (c ∷ cs) zero e = refl
+set_nowhere (c ∷ cs) (suc d) e = set_nowhere cs d e

@@ -1,0 +1,21 @@
+-- What is missed of several needs, one after the other.
+use Rattle.std.proofs.Common.{◌≡◌, ◌∙◌, refl, sym, ap, ℕ, zero, suc, ◌<◌, ◌≤◌, ◌+◌, List, [], ◌∷◌, ◌++◌, length, drop, drop-cons, get_or, add-one, arith, append_assoc, append-nil}
+use Rattle.std.specs.List.{flat_map}
+
+module _ {X Y : Type 0} (f : X → List Y) where
+  step : (xs : List X) (i : ℕ) (d : X) → i < length xs → flat_map f (drop i xs) ≡ f (get_or xs i d) ++ flat_map f (drop (i + 1) xs)
+  step xs i d h = ap (flat_map f) (drop-cons xs i d h) ∙ ap (λ n. f (get_or xs i d) ++ flat_map f (drop n xs)) (sym (add-one i))
+
+  -- with one need more done
+  pub missed_next : (all before now : List Y) (xs : List X) (i : ℕ) (d : X) → i < length xs → before ++ flat_map f (drop i xs) ≡ all → now ≡ before ++ f (get_or xs i d) → now ++ flat_map f (drop (i + 1) xs) ≡ all
+  missed_next all before now xs i d h b n = ap (λ ys. ys ++ flat_map f (drop (i + 1) xs)) n ∙ append_assoc before (f (get_or xs i d)) (flat_map f (drop (i + 1) xs)) ∙ ap (λ ys. before ++ ys) (sym (step xs i d h)) ∙ b
+
+  -- and all of them
+  pub missed_end : (all now : List Y) (xs : List X) (i : ℕ) → length xs ≤ i → now ++ flat_map f (drop i xs) ≡ all → now ≡ all
+  missed_end all now xs i h e = sym (append-nil now) ∙ ap (λ ys. now ++ flat_map f ys) (sym (past xs i h)) ∙ e
+    where
+      past : (xs : List X) (i : ℕ) → length xs ≤ i → drop i xs ≡ []
+      past [] zero h = refl
+      past [] (suc i) h = refl
+      past (x ∷ xs) zero h = absurd (omega (arith, h))
+      past (x ∷ xs) (suc i) h = past xs i (omega (arith, h))

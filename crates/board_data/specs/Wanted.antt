@@ -1,0 +1,44 @@
+-- What is found and missed where names lead.
+use Rattle.std.specs.Prelude.{ℕ, List, Option, Some, None}
+use Rattle.board_code.specs.declared.program.Wanted.{Wanted}
+use Rattle.board_code.specs.declared.program.Wanted.TheVariants as Waits
+use Rattle.board_code.specs.declared.spot.Spot.{Spot}
+use Rattle.replayed.specs.Fields.{Absent, Counted, DatumOf, LiteralOf, Slot, Want, literal, slot_at}
+use Rattle.replayed.specs.Needs.{array_missed, at_missed, cell_element, cell_value, element_missed, scalar_missed}
+use Rattle.task_code.specs.Code.{Code}
+use Rattle.task_code.specs.Compute.{key_of}
+use Rattle.values.specs.declared.key.Key.{Key}
+use Rattle.values.specs.declared.value.Scalar.{Scalar}
+
+module _ (C : Code) (cs : List (Option Counted)) where
+  -- the scalar that a slot stands for, once it is known
+  abbrev pub scalar_in : Slot → Option Scalar
+  scalar_in Absent = None
+  scalar_in (DatumOf d) = cell_value (slot_at cs d)
+  scalar_in (LiteralOf e k) = literal C e k
+
+  -- the element under a key, where the slot stands for an array that has it
+  abbrev pub element_in : Slot → Key → Option Scalar
+  element_in Absent k = None
+  element_in (DatumOf d) k = cell_element k (slot_at cs d)
+  element_in (LiteralOf e n) k = None
+
+  -- the same under the key that a scalar is
+  abbrev pub element_by : Slot → Option Scalar → Option Scalar
+  element_by a None = None
+  element_by a (Some v) = element_in a (key_of v)
+
+  module _ (f : Option Spot → Slot) where
+    -- the scalar or element that is waited for, where there is one
+    abbrev pub wanted_found : Wanted → Option Scalar
+    wanted_found (Waits.Stored r) = scalar_in (f r)
+    wanted_found (Waits.Closed r) = None
+    wanted_found (Waits.At a r) = element_by (f a) (scalar_in (f r))
+    wanted_found (Waits.AtKey a k) = element_in (f a) k
+
+    -- what is missed of what is waited for
+    abbrev pub wanted_missed : Wanted → List (Want ℕ)
+    wanted_missed (Waits.Stored r) = scalar_missed cs (f r)
+    wanted_missed (Waits.Closed r) = array_missed cs (f r)
+    wanted_missed (Waits.At a r) = at_missed C cs (f a) (f r)
+    wanted_missed (Waits.AtKey a k) = element_missed cs (f a) k

@@ -1,0 +1,123 @@
+//! Holds that new instances add to data outside of them, and holds that an item gives up.
+
+ghost use Rattle.std.specs.Prelude.{◌≡◌, ◌*◌, ◌+◌, ◌++◌, ◌≤◌, ◌<◌, ℕ, List, length, option_map, vec_capacity, vec_len};
+ghost use Rattle.board_frames.specs.Names.{datum_of, spot_slot};
+ghost use Rattle.board_frames.specs.View.{frames_view};
+ghost use Rattle.data_store.specs.Data.{with_holds};
+ghost use Rattle.data_store.specs.Stores.{at as cell};
+ghost use Rattle.board_data.specs.Data.{held};
+ghost use Rattle.board_data.specs.Holds.{Closes, Fit, GivesUp, closed_at, closing, held_at, hold_times, led_times, released_at};
+
+use crate::data;
+use board_code::program::Hold;
+use board_code::spot::Spot;
+use board_frames::instance::{Instance, datum_at};
+use data_store::store::Store;
+use slab::Slab;
+
+/// Adds so many times these holds, where the sums fit.
+fn hold_often(store: &mut Store, d: usize, reads: u64, writes: u64, times: u64)
+    ensures { store.new ≡ held d (times * reads) (times * writes) store.old }
+{
+    if let Some(reads) = times.checked_mul(reads) {
+        if let Some(writes) = times.checked_mul(writes) {
+            data::hold(store, d, reads, writes);
+        }
+    }
+}
+
+/// Adds a hold for each of so many instances, seen from one of them.
+fn hold_spot(store: &mut Store, instances: &Slab<Instance>, at: usize, hold: &Hold, times: u64)
+    ensures { store.new ≡ held_at (datum_of (spot_slot (frames_view instances.now.slots) at hold.now.spot)) (times * hold.now.reads) (times * hold.now.writes) store.old }
+{
+    if let Some(d) = datum_at(instances, at, Some(hold.spot)) {
+        hold_often(store, d, hold.reads, hold.writes, times);
+    }
+}
+
+/// Takes a hold for reading back.
+fn release_spot(store: &mut Store, instances: &Slab<Instance>, at: usize, spot: Spot)
+    ensures { store.new ≡ released_at (datum_of (spot_slot (frames_view instances.now.slots) at spot)) store.old }
+{
+    if let Some(d) = datum_at(instances, at, Some(spot)) {
+        data::release(store, d);
+    }
+}
+
+/// Takes a hold for writing back, and notes the array that is closed so.
+fn close_spot(
+    store: &mut Store,
+    closed: &mut Vec<usize>,
+    instances: &Slab<Instance>,
+    at: usize,
+    spot: Spot,
+)
+    ensures store { store.new ≡ closed_at (datum_of (spot_slot (frames_view instances.now.slots) at spot)) store.old }
+    ensures closed { vec_len closed.old < vec_capacity closed.old → closed.new.items ≡ closed.old.items ++ closing (datum_of (spot_slot (frames_view instances.now.slots) at spot)) store.old }
+    ensures room { (n : ℕ) → vec_len closed.old + (n + 1) ≤ vec_capacity closed.old → vec_len closed.new + n ≤ vec_capacity closed.new }
+{
+    if let Some(d) = datum_at(instances, at, Some(spot)) {
+        if data::close_writer(store, d) {
+            let _noted = closed.push(d);
+        }
+    }
+}
+
+/// Adds the holds of so many instances on data outside of them, which are seen from one of these. No count may pass 64 bits.
+pub fn hold_outer(
+    store: &mut Store,
+    instances: &Slab<Instance>,
+    outer: &[Hold],
+    at: usize,
+    times: u64,
+)
+    ensures { let f = spot_slot (frames_view instances.now.slots) at in (d : ℕ) →
+        Fit (times * hold_times f (λ h. h.reads) d outer.now) (times * hold_times f (λ h. h.writes) d outer.now) (cell store.old d) →
+        cell store.new d ≡ option_map (with_holds (times * hold_times f (λ h. h.reads) d outer.now) (times * hold_times f (λ h. h.writes) d outer.now)) (cell store.old d) }
+{
+    for hold in outer {
+        hold_spot(store, instances, at, hold, times);
+    }
+}
+
+/// Takes holds for reading back.
+fn release_all(store: &mut Store, instances: &Slab<Instance>, at: usize, reads: &[Spot])
+    ensures { GivesUp (λ d. led_times (spot_slot (frames_view instances.now.slots) at) d reads.now) (λ d. 0) store.old store.new }
+{
+    for spot in reads {
+        release_spot(store, instances, at, *spot);
+    }
+}
+
+/// Takes holds for writing back, and notes the arrays that are closed so, for which there is room.
+fn close_all(
+    store: &mut Store,
+    closed: &mut Vec<usize>,
+    instances: &Slab<Instance>,
+    at: usize,
+    writes: &[Spot],
+)
+    ensures store { GivesUp (λ d. 0) (λ d. led_times (spot_slot (frames_view instances.now.slots) at) d writes.now) store.old store.new }
+    ensures closed { vec_len closed.old + length writes.now ≤ vec_capacity closed.old → (added : List ℕ) × (closed.new.items ≡ closed.old.items ++ added) × Closes (λ d. led_times (spot_slot (frames_view instances.now.slots) at) d writes.now) store.old added }
+{
+    for spot in writes {
+        close_spot(store, closed, instances, at, *spot);
+    }
+}
+
+/// The holds of an item on these data are given up, seen from its instance. A datum without holds goes. Notes the arrays that it
+/// was the last to write, for which there is room.
+pub fn give_up(
+    store: &mut Store,
+    closed: &mut Vec<usize>,
+    instances: &Slab<Instance>,
+    at: usize,
+    reads: &[Spot],
+    writes: &[Spot],
+)
+    ensures store { GivesUp (λ d. led_times (spot_slot (frames_view instances.now.slots) at) d reads.now) (λ d. led_times (spot_slot (frames_view instances.now.slots) at) d writes.now) store.old store.new }
+    ensures closed { vec_len closed.old + length writes.now ≤ vec_capacity closed.old → (added : List ℕ) × (closed.new.items ≡ closed.old.items ++ added) × Closes (λ d. led_times (spot_slot (frames_view instances.now.slots) at) d writes.now) store.old added }
+{
+    close_all(store, closed, instances, at, writes);
+    release_all(store, instances, at, reads);
+}

@@ -1,0 +1,83 @@
+//! Data that are made for the variables of an instance.
+
+ghost use Rattle.std.specs.Prelude.{◌≡◌, ◌≢◌, ◌<◌, ◌≤◌, ◌+◌, ℕ, length, IfOk, IsOk, OnErr, OnOk};
+ghost use Rattle.board_data.specs.Made.{DataMade, Makes, new_datum, slot_in, start_at};
+
+use crate::data;
+use board_code::program::Own;
+use board_frames::instance::Slot;
+use data_store::store::Store;
+use std::alloc::AllocError;
+use values::value::Scalar;
+
+/// The values that variables of a loop's turn start with: each with the place of its variable.
+#[derive(Drop)]
+pub struct Starts {
+    pub value_at: Option<usize>,
+    pub value: Option<Scalar>,
+    pub turn_at: Option<usize>,
+    pub turn: Option<Scalar>,
+}
+
+impl Starts {
+    /// The value for a place, which is asked for once.
+    fn take(&mut self, place: usize) -> Option<Scalar>
+        ensures value { result ≡ start_at self.old place }
+        ensures others { (i : ℕ) → i ≢ place → start_at self.new i ≡ start_at self.old i }
+    {
+        if self.value_at == Some(place) {
+            self.value.take()
+        } else if self.turn_at == Some(place) {
+            self.turn.take()
+        } else {
+            None
+        }
+    }
+}
+
+/// A new datum, with a value if there is one, unless nobody may read or write it.
+#[tactic(auto, using(crate::proofs::Made::made_with, crate::proofs::Made::made_without))]
+fn make_datum(store: &mut Store, own: Own, value: Option<Scalar>) -> Result<Slot, AllocError>
+    ensures absent { own.reads + own.writes ≡ 0 → IfOk result (λ slot. slot ≡ Slot.Absent) }
+    ensures same { own.reads + own.writes ≡ 0 → store.new ≡ store.old }
+    ensures made { 0 < own.reads + own.writes → IfOk result (λ slot. Makes store.old (new_datum own value) slot store.new) }
+    ensures succeeds { 0 < store.old.room → IsOk result }
+    ensures err { OnErr result (store.new ≡ store.old) }
+{
+    if own.reads == 0 && own.writes == 0 {
+        return Ok(Slot::Absent);
+    }
+    let d = store.new_cell(own.shape, own.reads, own.writes)?;
+    if let Some(value) = value {
+        data::put(store, d, value);
+    }
+    Ok(Slot::Datum(d))
+}
+
+/// Makes the data of an instance's own variables, and puts them into its first slots. Makes no refusal where there is room for
+/// as many data as variables.
+///
+/// # Errors
+///
+/// `AllocError` where memory that was asked for was refused; some of the data may be made then.
+#[tactic(auto, using(crate::proofs::Rows::made_nothing, crate::proofs::Rows::made_one))]
+pub fn make_data(
+    store: &mut Store,
+    own: &[Own],
+    slots: &mut [Slot],
+    starts: Starts,
+) -> Result<(), AllocError>
+    ensures made { length own.now ≤ length slots.old → OnOk result (DataMade own.now (start_at starts) (length own.now) store.old slots.new store.new) }
+    ensures others { (i : ℕ) → length own.now ≤ i → slot_in slots.new i ≡ slot_in slots.old i }
+    ensures succeeds { length own.now ≤ store.old.room → IsOk result }
+{
+    let mut starts = starts;
+    for at in 0..own.len() {
+        let first = starts.take(at);
+        let slot = make_datum(store, own[at], first)?;
+        if at < slots.len() {
+            slots[at] = slot;
+        }
+    }
+    Ok(())
+}
