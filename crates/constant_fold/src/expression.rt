@@ -1,9 +1,9 @@
 //! Expressions.
-ghost use Rattle.std.specs.Prelude.{◌≡◌, OnOk, map};
+ghost use Rattle.std.specs.Prelude.{◌≡◌, IfOk, OnOk, map};
 ghost use Rattle.syntax_trees.specs.Tree.{Form};
 ghost use Rattle.syntax_trees.specs.View.{expression_view, form_view};
 ghost use Rattle.constant_fold.specs.Folded.{folded, folded_form};
-ghost use Rattle.constant_fold.specs.Made.{in_place};
+ghost use Rattle.constant_fold.specs.Made.{in_place, settled, with_folded_parts};
 
 use crate::evaluation::{call, chain, prefixed};
 use std::alloc::{AllocError, Allocator, Global};
@@ -57,26 +57,65 @@ fn form<A: Allocator + Clone>(
 ) -> Result<(), AllocError>
     ensures { OnOk result (form_view kind.new ≡ folded_form (form_view kind.old)) }
 {
-    let found = match kind {
-        ExprKind::Number(_) | ExprKind::Text(_) | ExprKind::Truth(_) | ExprKind::Variable(_) =>
-            None,
-        ExprKind::Element(_, index) => {
-            expression(machine, alloc, index)?;
-            None
-        }
-        ExprKind::Call(name, arguments) => {
-            each(machine, alloc, arguments)?;
-            call(machine, alloc, name.text.as_slice(), arguments.as_slice())?
-        }
-        ExprKind::Prefixed(prefix, operand) => {
-            expression(machine, alloc, operand)?;
-            prefixed(machine, alloc, *prefix, operand)?
-        }
-        ExprKind::Chain(operators, operands) => {
-            each(machine, alloc, operands)?;
-            chain(machine, alloc, operators.as_slice(), operands.as_slice())?
-        }
-    };
+    parts(machine, alloc, kind)?;
+    let found = settle(machine, alloc, kind)?;
     put(kind, found);
     Ok(())
+}
+
+/// Folds the expressions inside a form.
+#[cycle(folded)]
+fn parts<A: Allocator + Clone>(
+    machine: Global,
+    alloc: &A,
+    kind: &mut ExprKind<A>,
+) -> Result<(), AllocError>
+    ensures { OnOk result (form_view kind.new ≡ with_folded_parts (form_view kind.old)) }
+{
+    match kind {
+        ExprKind::Element(_, index) => {
+            expression(machine, alloc, index)?;
+            Ok(())
+        }
+        ExprKind::Call(_, arguments) => {
+            each(machine, alloc, arguments)?;
+            Ok(())
+        }
+        ExprKind::Prefixed(_, operand) => {
+            expression(machine, alloc, operand)?;
+            Ok(())
+        }
+        ExprKind::Chain(_, operands) => {
+            each(machine, alloc, operands)?;
+            Ok(())
+        }
+        ExprKind::Number(_) | ExprKind::Text(_) | ExprKind::Truth(_) | ExprKind::Variable(_) =>
+            Ok(()),
+    }
+}
+
+/// The literal of a form whose parts are folded, where it has one.
+fn settle<A: Allocator + Clone>(
+    machine: Global,
+    alloc: &A,
+    kind: &ExprKind<A>,
+) -> Result<Option<ExprKind<A>>, AllocError>
+    ensures { IfOk result (λ found. in_place (form_view kind.now) found ≡ settled (form_view kind.now)) }
+{
+    match kind {
+        ExprKind::Call(name, arguments) => {
+            let found = call(machine, alloc, name.text.as_slice(), arguments.as_slice())?;
+            Ok(found)
+        }
+        ExprKind::Prefixed(prefix, operand) => prefixed(machine, alloc, *prefix, operand),
+        ExprKind::Chain(operators, operands) => {
+            let found = chain(machine, alloc, operators.as_slice(), operands.as_slice())?;
+            Ok(found)
+        }
+        ExprKind::Number(_)
+        | ExprKind::Text(_)
+        | ExprKind::Truth(_)
+        | ExprKind::Variable(_)
+        | ExprKind::Element(_, _) => Ok(None),
+    }
 }
