@@ -57,40 +57,44 @@ fn form<A: Allocator + Clone>(
 ) -> Result<(), AllocError>
     ensures { OnOk result (form_view kind.new ≡ folded_form (form_view kind.old)) }
 {
-    parts(machine, alloc, kind)?;
+    let old = std::mem::replace(kind, ExprKind::Truth(false));
+    let new = parts(machine, alloc, old)?;
+    *kind = new;
     let found = settle(machine, alloc, kind)?;
     put(kind, found);
     Ok(())
 }
 
-/// Folds the expressions inside a form.
+/// The form with its expressions folded.
 #[cycle(folded)]
 fn parts<A: Allocator + Clone>(
     machine: Global,
     alloc: &A,
-    kind: &mut ExprKind<A>,
-) -> Result<(), AllocError>
-    ensures { OnOk result (form_view kind.new ≡ with_folded_parts (form_view kind.old)) }
+    kind: ExprKind<A>,
+) -> Result<ExprKind<A>, AllocError>
+    ensures { IfOk result (λ new. form_view new ≡ with_folded_parts (form_view kind)) }
 {
     match kind {
-        ExprKind::Element(_, index) => {
-            expression(machine, alloc, index)?;
-            Ok(())
+        ExprKind::Number(n) => Ok(ExprKind::Number(n)),
+        ExprKind::Text(bytes) => Ok(ExprKind::Text(bytes)),
+        ExprKind::Truth(b) => Ok(ExprKind::Truth(b)),
+        ExprKind::Variable(name) => Ok(ExprKind::Variable(name)),
+        ExprKind::Element(name, mut index) => {
+            expression(machine, alloc, &mut index)?;
+            Ok(ExprKind::Element(name, index))
         }
-        ExprKind::Call(_, arguments) => {
-            each(machine, alloc, arguments)?;
-            Ok(())
+        ExprKind::Call(name, mut arguments) => {
+            each(machine, alloc, &mut arguments)?;
+            Ok(ExprKind::Call(name, arguments))
         }
-        ExprKind::Prefixed(_, operand) => {
-            expression(machine, alloc, operand)?;
-            Ok(())
+        ExprKind::Prefixed(prefix, mut operand) => {
+            expression(machine, alloc, &mut operand)?;
+            Ok(ExprKind::Prefixed(prefix, operand))
         }
-        ExprKind::Chain(_, operands) => {
-            each(machine, alloc, operands)?;
-            Ok(())
+        ExprKind::Chain(operators, mut operands) => {
+            each(machine, alloc, &mut operands)?;
+            Ok(ExprKind::Chain(operators, operands))
         }
-        ExprKind::Number(_) | ExprKind::Text(_) | ExprKind::Truth(_) | ExprKind::Variable(_) =>
-            Ok(()),
     }
 }
 
