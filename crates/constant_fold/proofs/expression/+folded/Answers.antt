@@ -1,5 +1,6 @@
 use Rattle.std.proofs.Common.{rules, ap, ◌∙◌}
 use Rattle.syntax_trees.specs.declared.tree.ExprKind.{ExprKind}
+use Rattle.syntax_trees.specs.declared.tree.ExprKind.TheBlock as block
 use Rattle.syntax_trees.specs.View.{form_view}
 use Rattle.constant_fold.specs.Made.{settled, with_folded_parts}
 use Rattle.constant_fold.proofs.Views.{by_parts, call_parts, chain_parts}
@@ -13,7 +14,9 @@ form-returns g t c =
     ∙ by_parts (form_view c.args.kind.now)
 
 pub form-parts-requires : goal.form-parts-requires
-form-parts-requires g t c = search (rules, c.replace-old.ensures.value)
+form-parts-requires g t c =
+    let same = ap (block.the_depth g.row.A.Denot block.member-ExprKind) c.replace-old.ensures.value in
+    ?
 
 pub parts-returns-in_ok-each-in-Call : goal.parts-returns-in_ok-each-in-Call
 parts-returns-in_ok-each-in-Call g t c = call_parts c.args.kind c.in-Call.name c.in-Call.arguments c.each.new.exprs c.in-Call.is c.in_ok-each-in-Call.ensures
