@@ -1,5 +1,5 @@
 -- A folded expression of a well typed script is the same in the core.
-use Rattle.std.specs.Prelude.{◌≡◌, ℕ, ℤ, pos, Bool, true, false, List, [], ◌∷◌, ◌++◌, map, Option, Some, None, Ok, slice_get, refl}
+use Rattle.std.specs.Prelude.{◌≡◌, ℕ, ℤ, pos, List, [], ◌∷◌, ◌++◌, Option, Some, None, slice_get, refl}
 use Rattle.std.proofs.Common.{sym, ap, subst, ◌∙◌}
 use Rattle.std.proofs.lemmas.List.{append-nil}
 use Rattle.std.proofs.lemmas.Option.{none-some, same_Some}
@@ -13,17 +13,16 @@ use Rattle.syntax_trees.specs.declared.tree.Prefix.{Prefix}
 use Rattle.syntax_trees.specs.declared.tree.Shape.{Shape}
 use Rattle.syntax_trees.specs.Core as C
 use Rattle.syntax_trees.specs.Core.{Name, assign, here, Expr, Exprs, none, also, compute, read, name, Part, inner, calls}
-use Rattle.syntax_trees.specs.Resolved.{number_of, Formed, Operands, Arguments, as_cell, as_operand, one_operand, with_operand, as_argument, with_argument, computes, call_to, call_form, call_right, composite_call, outer, right_of, refers, form_of, form_in, operands_of, arguments_of, chain_operation, prefix_operation}
-use Rattle.syntax_trees.specs.Scopes.{Typ, Scope, Signature, Calls, CallsBuiltin, IsBuiltinName}
+use Rattle.syntax_trees.specs.Resolved.{Formed, Arguments, as_operand, one_operand, with_operand, as_argument, computes, call_to, call_form, call_right, composite_call, right_of, form_in, operands_of, arguments_of, chain_operation, prefix_operation}
+use Rattle.syntax_trees.specs.Scopes.{Typ, Scope, Signature, IsBuiltinName}
 use Rattle.syntax_trees.specs.Table as table
 use Rattle.syntax_trees.specs.Table.{Table, Builtin, builtin_text, Callee, composite, built_in}
-use Rattle.syntax_trees.specs.Tree as T
-use Rattle.syntax_trees.specs.Tree.{Word, Node, value, Expression, expression, number, text, truth, variable, element, call, prefixed, chain, Expressions, no_expressions, and_expression}
-use Rattle.syntax_trees.specs.Typing.{HasType, of_number, of_text, of_truth, of_variable, of_element, of_prefixed, of_chain, of_call, of_builtin, RestType, last_operand, next_operand, ArgumentTypes, no_argument, scalar_argument, array_argument, BuiltinType, of_strcat, of_fromint, of_toint, of_size, AllHaveType, none_left, one_more}
-use Rattle.same_meaning.specs.Same.{ComesTo, AllComeTo, no_operand, operand, SameExpr, SameExprs, same_none, same_also, Pairwise, no_pair, a_pair, SameForm, same_compute, same_read, same_name, SameCell, SamePart, same_inner, same_call, SameAction, same_assign, same_call_alone}
+use Rattle.syntax_trees.specs.Tree.{Word, Node, value, Expression, expression, variable, element, call, prefixed, chain, Expressions, no_expressions, and_expression}
+use Rattle.syntax_trees.specs.Typing.{HasType, of_number, of_text, of_truth, of_variable, of_element, of_prefixed, of_chain, of_call, of_builtin, RestType, last_operand, next_operand, ArgumentTypes, no_argument, scalar_argument, array_argument, of_strcat, of_fromint, of_toint, of_size, AllHaveType, none_left, one_more}
+use Rattle.same_meaning.specs.Same.{AllComeTo, no_operand, operand, same_none, same_also, Pairwise, no_pair, a_pair, same_compute, same_read, same_name, SamePart, same_call, SameAction, same_call_alone}
 use Rattle.same_meaning.proofs.Listed.{pairs_both}
-use Rattle.constant_fold.specs.Folded.{scalar_in, literal_of, also_scalar, scalars_of, collapsed, called_operation, called, folded, folded_form, folded_all}
-use Rattle.constant_fold.proofs.Forms.{parts_itself, SameFormed, formed_itself, same_as_cell, SameOperand, same_as_operand, IsCellArgument, SameArgument, Folds, FoldsExpression, FoldsAll, IsConstant, cell_argument, assigned_same, IsAssigned, itself, literal_itself, becomes, not_called}
+use Rattle.constant_fold.specs.Folded.{scalar_in, also_scalar, scalars_of, called_operation, called, folded, folded_form, folded_all}
+use Rattle.constant_fold.proofs.Forms.{parts_itself, SameFormed, formed_itself, same_as_cell, SameOperand, same_as_operand, Folds, FoldsExpression, FoldsAll, IsConstant, cell_argument, assigned_same, IsAssigned, itself, literal_itself, becomes, not_called}
 
 record Both (x : Option Scalar) (y : Option (List Scalar)) (vs : List Scalar) : Type 0 where
   pub value : Scalar
@@ -56,7 +55,7 @@ module _ (t : Table) where
   element_folds : (w : Word) (i : Expression) → FoldsExpression t i → Folds t (element w i) (element w (folded i))
   element_folds w (expression nd f) h =
       let same : SameFormed (form_in t (element w (expression nd f))) (form_in t (element w (expression nd (folded_form f)))) =
-          record { parts = same_as_cell nd.number h.same; form = same_read } in
+      record { parts = same_as_cell nd.number h.same; form = same_read } in
       record { same = same; constant = λ v is. absurd (none-some v is); argument = cell_argument t (element w (expression nd f)) (element w (expression nd (folded_form f))) (λ n x. refl) (λ n x. refl) same; right = assigned_same t (element w (expression nd f)) (element w (expression nd (folded_form f))) (λ n x. refl) (λ n x. refl) same }
 
   pub none_fold : FoldsAll t no_expressions no_expressions
@@ -73,7 +72,7 @@ module _ (t : Table) where
   also_folds (expression nd f) es ds h hs =
       let n = nd.number in
       let o : SameOperand (as_operand n (form_in t f)) (as_operand n (form_in t (folded_form f))) =
-          same_as_operand n (form_in t f).0 (form_in t (folded_form f)).0 h.same.parts h.same.form in
+      same_as_operand n (form_in t f).0 (form_in t (folded_form f)).0 h.same.parts h.same.form in
       let a = h.argument nd in
       record {
         parts = pairs_both o.parts hs.parts;
@@ -87,10 +86,11 @@ module _ (t : Table) where
           → ((operands_of t (and_expression (expression nd f) es)).0 ≡ []) × AllComeTo (operands_of t (and_expression (expression nd f) es)).1 vs
       constants vs b c r =
           let is : form_in t f ≡ ([], compute c.expr) = pair_is (compute c.expr) (form_in t f) c.bare c.is in
-          let whole : as_operand nd.number (form_in t f) ≡ ([], c.expr) = ap (as_operand nd.number) is in
-          (ap (λ x. x.0 ++ (operands_of t es).0) whole ∙ r.0,
-          subst (λ us. AllComeTo (operands_of t (and_expression (expression nd f) es)).1 us) b.are
-          (subst (λ x. AllComeTo (also x (operands_of t es).1) (b.value ∷ b.rest)) (sym (ap (λ x. x.1) whole)) (operand c.comes r.1)))
+          let whole : as_operand nd.number (form_in t f) ≡ ([], c.expr) = ap (as_operand nd.number) is in (
+            ap (λ x. x.0 ++ (operands_of t es).0) whole ∙ r.0,
+            subst (λ us. AllComeTo (operands_of t (and_expression (expression nd f) es)).1 us) b.are
+                (subst (λ x. AllComeTo (also x (operands_of t es).1) (b.value ∷ b.rest)) (sym (ap (λ x. x.1) whole)) (operand c.comes r.1)),
+          )
 
   prefixed_folds : (p : Prefix) (e : Expression) → FoldsExpression t e → Folds t (prefixed p e) (folded_form (prefixed p e))
   prefixed_folds p (expression nd f) h =

@@ -1,4 +1,4 @@
-use Rattle.std.proofs.Common.{◌≡◌, ◌++◌, drop, map, option_map}
+use Rattle.std.proofs.Common.{◌≡◌, drop, map, option_map}
 use Rattle.syntax_trees.specs.Tree.{expressions_of}
 use Rattle.syntax_trees.specs.View.{expression_view}
 use Rattle.constant_fold.specs.Folded.{scalars_of}

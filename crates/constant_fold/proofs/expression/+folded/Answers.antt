@@ -1,6 +1,6 @@
-use Rattle.std.proofs.Common.{rules, ap, ◌∙◌}
+use Rattle.std.proofs.Common.{ap, ◌∙◌, arith}
 use Rattle.syntax_trees.specs.declared.tree.ExprKind.{ExprKind}
-use Rattle.syntax_trees.specs.declared.tree.ExprKind.TheBlock as block
+use Rattle.syntax_trees.proofs.tree.ExprKind.TheLaws as measure
 use Rattle.syntax_trees.specs.View.{form_view}
 use Rattle.constant_fold.specs.Made.{settled, with_folded_parts}
 use Rattle.constant_fold.proofs.Views.{by_parts, call_parts, chain_parts}
@@ -15,8 +15,8 @@ form-returns g t c =
 
 pub form-parts-requires : goal.form-parts-requires
 form-parts-requires g t c =
-    let same = ap (block.the_depth g.row.A.Denot block.member-ExprKind) c.replace-old.ensures.value in
-    ?
+    let same = ap (measure.the_size g.row.A g.A.Allocator g.A.laws) c.replace-old.ensures.value in
+    λ ks within. (omega (arith, c.decreases, same), within)
 
 pub parts-returns-in_ok-each-in-Call : goal.parts-returns-in_ok-each-in-Call
 parts-returns-in_ok-each-in-Call g t c = call_parts c.args.kind c.in-Call.name c.in-Call.arguments c.each.new.exprs c.in-Call.is c.in_ok-each-in-Call.ensures

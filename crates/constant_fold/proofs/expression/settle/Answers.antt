@@ -1,4 +1,4 @@
-use Rattle.std.proofs.Common.{◌≡◌, map, List, ap, ◌∙◌, ℕ}
+use Rattle.std.proofs.Common.{map, List, ap, ◌∙◌, ℕ}
 use Rattle.syntax_trees.specs.declared.tree.Expr.{Expr}
 use Rattle.syntax_trees.specs.declared.tree.Operator.{Operator}
 use Rattle.syntax_trees.specs.Resolved.{chain_operation}

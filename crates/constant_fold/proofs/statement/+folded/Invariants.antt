@@ -1,4 +1,4 @@
-use Rattle.std.proofs.Common.{◌≡◌, ◌++◌, map, take, drop, length}
+use Rattle.std.proofs.Common.{◌≡◌, ◌++◌, map, take, drop}
 use Rattle.syntax_trees.specs.View.{statement_view}
 use Rattle.constant_fold.specs.Folded.{folded_statement}
 use Rattle.constant_fold.proofs.statement.+folded.Given as goal
