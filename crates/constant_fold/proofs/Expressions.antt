@@ -1,5 +1,5 @@
 -- A folded expression of a well typed script is the same in the core.
-use Rattle.std.specs.Prelude.{◌≡◌, ℕ, ℤ, pos, Bool, true, false, List, [], ◌∷◌, ◌++◌, map, Option, Some, None, Ok, slice_get, refl}
+use Rattle.std.specs.Prelude.{◌≡◌, ℕ, ℤ, pos, List, [], ◌∷◌, ◌++◌, Option, Some, None, slice_get, refl}
 use Rattle.std.proofs.Common.{sym, ap, subst, ◌∙◌}
 use Rattle.std.proofs.lemmas.List.{append-nil}
 use Rattle.std.proofs.lemmas.Option.{none-some, same_Some}
@@ -13,17 +13,16 @@ use Rattle.syntax_trees.specs.declared.tree.Prefix.{Prefix}
 use Rattle.syntax_trees.specs.declared.tree.Shape.{Shape}
 use Rattle.syntax_trees.specs.Core as C
 use Rattle.syntax_trees.specs.Core.{Name, assign, here, Expr, Exprs, none, also, compute, read, name, Part, inner, calls}
-use Rattle.syntax_trees.specs.Resolved.{number_of, Formed, Operands, Arguments, as_cell, as_operand, one_operand, with_operand, as_argument, with_argument, computes, call_to, call_form, call_right, composite_call, outer, right_of, refers, form_of, form_in, operands_of, arguments_of, chain_operation, prefix_operation}
-use Rattle.syntax_trees.specs.Scopes.{Typ, Scope, Signature, Calls, CallsBuiltin, IsBuiltinName}
+use Rattle.syntax_trees.specs.Resolved.{Formed, Arguments, as_operand, one_operand, with_operand, as_argument, computes, call_to, call_form, call_right, composite_call, right_of, form_in, operands_of, arguments_of, chain_operation, prefix_operation}
+use Rattle.syntax_trees.specs.Scopes.{Typ, Scope, Signature, IsBuiltinName}
 use Rattle.syntax_trees.specs.Table as table
 use Rattle.syntax_trees.specs.Table.{Table, Builtin, builtin_text, Callee, composite, built_in}
-use Rattle.syntax_trees.specs.Tree as T
-use Rattle.syntax_trees.specs.Tree.{Word, Node, value, Expression, expression, number, text, truth, variable, element, call, prefixed, chain, Expressions, no_expressions, and_expression}
-use Rattle.syntax_trees.specs.Typing.{HasType, of_number, of_text, of_truth, of_variable, of_element, of_prefixed, of_chain, of_call, of_builtin, RestType, last_operand, next_operand, ArgumentTypes, no_argument, scalar_argument, array_argument, BuiltinType, of_strcat, of_fromint, of_toint, of_size, AllHaveType, none_left, one_more}
-use Rattle.same_meaning.specs.Same.{ComesTo, AllComeTo, no_operand, operand, SameExpr, SameExprs, same_none, same_also, Pairwise, no_pair, a_pair, SameForm, same_compute, same_read, same_name, SameCell, SamePart, same_inner, same_call, SameAction, same_assign, same_call_alone}
+use Rattle.syntax_trees.specs.Tree.{Word, Node, value, Expression, expression, variable, element, call, prefixed, chain, Expressions, no_expressions, and_expression}
+use Rattle.syntax_trees.specs.Typing.{HasType, of_number, of_text, of_truth, of_variable, of_element, of_prefixed, of_chain, of_call, of_builtin, RestType, last_operand, next_operand, ArgumentTypes, no_argument, scalar_argument, array_argument, of_strcat, of_fromint, of_toint, of_size, AllHaveType, none_left, one_more}
+use Rattle.same_meaning.specs.Same.{AllComeTo, no_operand, operand, same_none, same_also, Pairwise, no_pair, a_pair, same_compute, same_read, same_name, SamePart, same_call, SameAction, same_call_alone}
 use Rattle.same_meaning.proofs.Listed.{pairs_both}
-use Rattle.constant_fold.specs.Folded.{scalar_in, literal_of, also_scalar, scalars_of, collapsed, called_operation, called, folded, folded_form, folded_all}
-use Rattle.constant_fold.proofs.Forms.{parts_itself, SameFormed, formed_itself, same_as_cell, SameOperand, same_as_operand, IsCellArgument, SameArgument, Folds, FoldsExpression, FoldsAll, IsConstant, cell_argument, assigned_same, IsAssigned, itself, literal_itself, becomes, not_called}
+use Rattle.constant_fold.specs.Folded.{scalar_in, also_scalar, scalars_of, called_operation, called, folded, folded_form, folded_all}
+use Rattle.constant_fold.proofs.Forms.{parts_itself, SameFormed, formed_itself, same_as_cell, SameOperand, same_as_operand, Folds, FoldsExpression, FoldsAll, IsConstant, cell_argument, assigned_same, IsAssigned, itself, literal_itself, becomes, not_called}
 
 record Both (x : Option Scalar) (y : Option (List Scalar)) (vs : List Scalar) : Type 0 where
   pub value : Scalar

@@ -1,5 +1,5 @@
 -- A folded expression is the same in the core.
-use Rattle.std.specs.Prelude.{◌≡◌, ℕ, Bool, true, false, List, [], ◌∷◌, ◌++◌, map, Option, Some, None, Result, Ok, Err, slice_get, bytes_eq, refl, if◌then◌else◌}
+use Rattle.std.specs.Prelude.{◌≡◌, ℕ, Bool, true, false, List, [], ◌∷◌, map, Option, Some, None, Result, Ok, Err, bytes_eq, refl, if◌then◌else◌}
 use Rattle.std.proofs.Common.{sym, ap, subst, ◌∙◌}
 use Rattle.std.proofs.lemmas.Option.{none-some, same_Some}
 use Rattle.std.proofs.lemmas.Slice.Eq.{bytes_eq-Decides}
@@ -10,20 +10,18 @@ use Rattle.values.specs.declared.value.Value.{Value}
 use Rattle.values.specs.declared.value.Value.TheVariants.{One, Many}
 use Rattle.values.specs.Operators as op
 use Rattle.values.specs.Operators.{Operation, evaluated}
-use Rattle.syntax_trees.specs.declared.tree.Base.{Base}
 use Rattle.syntax_trees.specs.declared.tree.Shape.{Shape}
 use Rattle.syntax_trees.specs.Core as C
 use Rattle.syntax_trees.specs.Core.{Name, assign, here, Expr, literal, name, operator, Exprs, none, also, Form, compute, read, Part, inner, calls}
-use Rattle.syntax_trees.specs.Resolved.{number_of, Formed, Operands, as_cell, as_operand, one_operand, with_operand, variable_or_cell, as_argument, with_argument, computes, sized, call_to, call_form, builtin_operation, form_of, form_in, operands_of, arguments_of, outer, right_of, chain_operation, prefix_operation}
-use Rattle.syntax_trees.specs.Scopes.{Scope, Signature, Calls, CallsBuiltin, IsBuiltinName}
+use Rattle.syntax_trees.specs.Resolved.{Formed, as_cell, as_operand, as_argument, computes, form_in, operands_of, arguments_of, outer, right_of}
+use Rattle.syntax_trees.specs.Scopes.{IsBuiltinName}
 use Rattle.syntax_trees.specs.Table as table
 use Rattle.syntax_trees.specs.Table.{Table, Builtin, builtin_text, Callee, composite, built_in}
 use Rattle.syntax_trees.specs.Tree as T
 use Rattle.syntax_trees.specs.Tree.{Word, Node, value, Expression, expression, number, text, truth, variable, element, call, prefixed, chain, Expressions, no_expressions, and_expression}
-use Rattle.syntax_trees.specs.Typing.{HasType, of_number, of_text, of_truth, of_variable, of_element, of_prefixed, of_chain, of_call, of_builtin, RestType, last_operand, next_operand, ArgumentTypes, no_argument, scalar_argument, array_argument, BuiltinType, of_strcat, of_fromint, of_toint, of_size, AllHaveType, none_left, one_more}
-use Rattle.same_meaning.specs.Same.{ComesTo, a_literal, an_operator, AllComeTo, no_operand, operand, SameExpr, same_literal, same_name, same_whole, same_operator, same_constant, SameExprs, same_none, same_also, Pairwise, no_pair, a_pair, SameForm, same_compute, same_read, SameCell, SamePart, same_inner, same_call, SameAction, same_assign}
+use Rattle.same_meaning.specs.Same.{ComesTo, a_literal, an_operator, AllComeTo, SameExpr, same_literal, same_name, same_whole, same_operator, same_constant, SameExprs, same_none, same_also, Pairwise, no_pair, a_pair, SameForm, same_compute, same_read, SamePart, same_inner, same_call, SameAction, same_assign}
 use Rattle.same_meaning.proofs.Listed.{pairs_both}
-use Rattle.constant_fold.specs.Folded.{scalar_in, literal_of, scalar_of, also_scalar, scalars_of, literal_or, collapsed, called_operation, called, folded, folded_form, folded_all}
+use Rattle.constant_fold.specs.Folded.{scalar_in, literal_of, scalars_of, literal_or, collapsed, called_operation, folded_form}
 
 -- WHAT IS THE SAME AS ITSELF
 

@@ -1,5 +1,5 @@
 -- A tree whose expressions of literals are folded: an expression of literals, operators, strcat, fromint and toint whose evaluation has no fault is its literal.
-use Rattle.std.specs.Prelude.{ℕ, Bool, true, false, List, [], ◌∷◌, map, Option, Some, None, option_map, Result, Ok, Err, bytes_eq, if◌then◌else◌}
+use Rattle.std.specs.Prelude.{ℕ, List, [], ◌∷◌, map, Option, Some, None, option_map, Result, Ok, Err, bytes_eq, if◌then◌else◌}
 use Rattle.values.specs.declared.fault.OpFault.{OpFault}
 use Rattle.values.specs.declared.value.Scalar.{Scalar}
 use Rattle.values.specs.declared.value.Scalar.TheVariants.{Number, Truth, Text}
@@ -8,8 +8,8 @@ use Rattle.values.specs.declared.value.Value.TheVariants.{One, Many}
 use Rattle.values.specs.Operators as op
 use Rattle.values.specs.Operators.{Operation, evaluated}
 use Rattle.syntax_trees.specs.Resolved.{chain_operation, prefix_operation}
-use Rattle.syntax_trees.specs.Table.{Builtin, builtin_text, strcat, fromint, toint}
-use Rattle.syntax_trees.specs.Tree.{Word, Expression, expression, Form, number, text, truth, variable, element, call, prefixed, chain, Expressions, no_expressions, and_expression, RightSide, value, list, Calling, Over, array, range, Statement, statement, Command, declare, assign, write, assign_all, calls, choice, choice_else, loop, waits, Body, body, Statements, no_statements, and_statement, Composite, Part, import, function, single, Tree}
+use Rattle.syntax_trees.specs.Table.{builtin_text, strcat, fromint, toint}
+use Rattle.syntax_trees.specs.Tree.{Expression, expression, Form, number, text, truth, variable, element, call, prefixed, chain, Expressions, no_expressions, and_expression, RightSide, value, list, Calling, Over, array, range, Statement, statement, Command, declare, assign, write, assign_all, calls, choice, choice_else, loop, waits, Body, body, Statements, no_statements, and_statement, Composite, Part, import, function, single, Tree}
 
 -- the scalar that a literal is, and the literal of a scalar
 abbrev pub scalar_in : Form → Option Scalar

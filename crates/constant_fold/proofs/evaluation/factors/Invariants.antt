@@ -1,0 +1,6 @@
+use Rattle.std.proofs.Common.{◌≡◌, ◌++◌, drop}
+use Rattle.syntax_trees.specs.Resolved as rules
+use Rattle.constant_fold.proofs.evaluation.factors.Given as goal
+
+abbrev pub invariant-loop-operator : goal.invariant-loop-operator
+invariant-loop-operator l = l.found.items ++ rules.factors (drop l.operator-index l.operators) ≡ rules.factors l.operators

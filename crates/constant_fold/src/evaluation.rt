@@ -1,0 +1,231 @@
+//! What operations on literals come to.
+ghost use Rattle.std.specs.Prelude.{◌≡◌, ◌∷◌, [], IfOk, map, option_map};
+ghost use Rattle.values.specs.Op.{operation_of};
+ghost use Rattle.syntax_trees.specs.Resolved as rules;
+ghost use Rattle.syntax_trees.specs.Tree.{Form, expressions_of};
+ghost use Rattle.syntax_trees.specs.View.{expression_view, form_view};
+ghost use Rattle.values.specs.Operators.{evaluated, product_of, sum_of};
+ghost use Rattle.constant_fold.specs.Folded.{collapsed, literal_of, literal_or, scalar_of, scalars_of, called, called_operation};
+ghost use Rattle.constant_fold.specs.Made.{in_place, operands};
+
+use std::alloc::{AllocError, Allocator, Global};
+use syntax_trees::tree::{Expr, ExprKind, Operator, Prefix};
+use values::fault::OpFault;
+use values::op::{Factor, Op, Order, Sign};
+use values::text::Text;
+use values::value::{Scalar, Value};
+
+/// The scalar that a literal is.
+fn scalar<A: Allocator>(machine: Global, expr: &Expr<A>) -> Result<Option<Scalar>, AllocError>
+    ensures { IfOk result (λ found. found ≡ scalar_of (expression_view expr.now)) }
+{
+    match &expr.kind {
+        ExprKind::Number(n) => Ok(Some(Scalar::Number(*n))),
+        ExprKind::Text(bytes) => Ok(Some(Scalar::Text(Text::from_slice(
+            machine,
+            bytes.as_slice(),
+        )?))),
+        ExprKind::Truth(b) => Ok(Some(Scalar::Truth(*b))),
+        _ => Ok(None),
+    }
+}
+
+/// The scalars of literals, as operands, where all are literals.
+fn scalars<A: Allocator>(
+    machine: Global,
+    exprs: &[Expr<A>],
+) -> Result<Option<Vec<Result<Value, OpFault>>>, AllocError>
+    ensures { IfOk result (λ found. option_map (λ v. v.items) found ≡ option_map operands (scalars_of (expressions_of (map expression_view exprs.now)))) }
+{
+    let mut found = Vec::with_capacity(machine, exprs.len())?;
+    for expr in exprs {
+        match scalar(machine, expr)? {
+            None => return Ok(None),
+            Some(value) => found.push(Ok(Value::One(value)))?,
+        }
+    }
+    Ok(Some(found))
+}
+
+/// The literal of a scalar.
+fn literal<A: Allocator + Clone>(alloc: &A, scalar: Scalar) -> Result<ExprKind<A>, AllocError>
+    ensures { IfOk result (λ kind. form_view kind ≡ literal_of scalar) }
+{
+    match scalar {
+        Scalar::Number(n) => Ok(ExprKind::Number(n)),
+        Scalar::Truth(b) => Ok(ExprKind::Truth(b)),
+        Scalar::Text(text) => Ok(ExprKind::Text(Vec::from_slice(alloc.clone()?, text.as_bytes())?)),
+    }
+}
+
+/// The literal that an operation on operands gives, where it has no fault.
+fn outcome<A: Allocator + Clone>(
+    machine: Global,
+    alloc: &A,
+    op: Op<'_>,
+    operands: Vec<Result<Value, OpFault>>,
+) -> Result<Option<ExprKind<A>>, AllocError>
+    ensures { IfOk result (λ found. (f : Form) → in_place f found ≡ literal_or f (evaluated (operation_of op.entry) operands.items)) }
+{
+    match op.evaluate(machine, operands) {
+        Ok(Value::One(scalar)) => Ok(Some(literal(alloc, scalar)?)),
+        Ok(Value::Many(_)) => Ok(None),
+        Err(OpFault::Memory) => Err(AllocError),
+        Err(_) => Ok(None),
+    }
+}
+
+/// The literal that an operation on literals gives, where it has no fault and all are literals.
+fn worked_out<A: Allocator + Clone>(
+    machine: Global,
+    alloc: &A,
+    op: Op<'_>,
+    exprs: &[Expr<A>],
+) -> Result<Option<ExprKind<A>>, AllocError>
+    ensures { IfOk result (λ found. (f : Form) → in_place f found ≡ collapsed (operation_of op.entry) (scalars_of (expressions_of (map expression_view exprs.now))) f) }
+{
+    match scalars(machine, exprs)? {
+        None => Ok(None),
+        Some(operands) => outcome(machine, alloc, op, operands),
+    }
+}
+
+/// The sign that an operator of a sum is.
+fn sign_of(operator: Operator) -> Sign
+    ensures { rules.signs (operator ∷ []) ≡ result ∷ [] }
+{
+    match operator {
+        Operator::Minus => Sign::Minus,
+        _ => Sign::Plus,
+    }
+}
+
+/// The factor that an operator of a product is.
+fn factor_of(operator: Operator) -> Factor
+    ensures { rules.factors (operator ∷ []) ≡ result ∷ [] }
+{
+    match operator {
+        Operator::Quotient => Factor::Divide,
+        Operator::Remainder => Factor::Remainder,
+        _ => Factor::Times,
+    }
+}
+
+/// The signs of the operators of a sum.
+fn signs(machine: Global, operators: &[Operator]) -> Result<Vec<Sign>, AllocError>
+    ensures { IfOk result (λ found. found.items ≡ rules.signs operators.now) }
+{
+    let mut found = Vec::with_capacity(machine, operators.len())?;
+    for operator in operators {
+        found.push(sign_of(*operator))?;
+    }
+    Ok(found)
+}
+
+/// The factors of the operators of a product.
+fn factors(machine: Global, operators: &[Operator]) -> Result<Vec<Factor>, AllocError>
+    ensures { IfOk result (λ found. found.items ≡ rules.factors operators.now) }
+{
+    let mut found = Vec::with_capacity(machine, operators.len())?;
+    for operator in operators {
+        found.push(factor_of(*operator))?;
+    }
+    Ok(found)
+}
+
+/// The literal that a sum of literals gives.
+fn sum<A: Allocator + Clone>(
+    machine: Global,
+    alloc: &A,
+    operators: &[Operator],
+    exprs: &[Expr<A>],
+) -> Result<Option<ExprKind<A>>, AllocError>
+    ensures { IfOk result (λ found. (f : Form) → in_place f found ≡ collapsed (sum_of (rules.signs operators.now)) (scalars_of (expressions_of (map expression_view exprs.now))) f) }
+{
+    let found = signs(machine, operators)?;
+    worked_out(machine, alloc, Op::Sum(found.as_slice()), exprs)
+}
+
+/// The literal that a product of literals gives.
+fn product<A: Allocator + Clone>(
+    machine: Global,
+    alloc: &A,
+    operators: &[Operator],
+    exprs: &[Expr<A>],
+) -> Result<Option<ExprKind<A>>, AllocError>
+    ensures { IfOk result (λ found. (f : Form) → in_place f found ≡ collapsed (product_of (rules.factors operators.now)) (scalars_of (expressions_of (map expression_view exprs.now))) f) }
+{
+    let found = factors(machine, operators)?;
+    worked_out(machine, alloc, Op::Product(found.as_slice()), exprs)
+}
+
+/// The literal that a chain of literals gives, where it has no fault.
+pub fn chain<A: Allocator + Clone>(
+    machine: Global,
+    alloc: &A,
+    operators: &[Operator],
+    exprs: &[Expr<A>],
+) -> Result<Option<ExprKind<A>>, AllocError>
+    ensures { IfOk result (λ found. (f : Form) → in_place f found ≡ collapsed (rules.chain_operation operators.now) (scalars_of (expressions_of (map expression_view exprs.now))) f) }
+{
+    if operators.is_empty() {
+        return sum(machine, alloc, operators, exprs);
+    }
+    match operators[0] {
+        Operator::Or => worked_out(machine, alloc, Op::Or, exprs),
+        Operator::And => worked_out(machine, alloc, Op::And, exprs),
+        Operator::Equal => worked_out(machine, alloc, Op::Equal, exprs),
+        Operator::NotEqual => worked_out(machine, alloc, Op::Unequal, exprs),
+        Operator::Less => worked_out(machine, alloc, Op::Compare(Order::Less), exprs),
+        Operator::AtMost => worked_out(machine, alloc, Op::Compare(Order::LessOrEqual), exprs),
+        Operator::Greater => worked_out(machine, alloc, Op::Compare(Order::Greater), exprs),
+        Operator::AtLeast => worked_out(machine, alloc, Op::Compare(Order::GreaterOrEqual), exprs),
+        Operator::Plus | Operator::Minus => sum(machine, alloc, operators, exprs),
+        Operator::Times | Operator::Quotient | Operator::Remainder => {
+            product(machine, alloc, operators, exprs)
+        }
+    }
+}
+
+/// The literal that a prefix before a literal gives, where it has no fault.
+pub fn prefixed<A: Allocator + Clone>(
+    machine: Global,
+    alloc: &A,
+    prefix: Prefix,
+    expr: &Expr<A>,
+) -> Result<Option<ExprKind<A>>, AllocError>
+    ensures { IfOk result (λ found. (f : Form) → in_place f found ≡ collapsed (rules.prefix_operation prefix) (scalars_of (expressions_of (expression_view expr.now ∷ []))) f) }
+{
+    let op = match prefix {
+        Prefix::Not => Op::Not,
+        Prefix::Negative => Op::Negate,
+    };
+    match scalar(machine, expr)? {
+        None => Ok(None),
+        Some(value) => {
+            let mut operands = Vec::with_capacity(machine, 1)?;
+            operands.push(Ok(Value::One(value)))?;
+            outcome(machine, alloc, op, operands)
+        }
+    }
+}
+
+/// The literal that a call of `strcat`, `fromint` or `toint` on literals gives, where it has no fault.
+pub fn call<A: Allocator + Clone>(
+    machine: Global,
+    alloc: &A,
+    name: &[u8],
+    exprs: &[Expr<A>],
+) -> Result<Option<ExprKind<A>>, AllocError>
+    ensures { IfOk result (λ found. (f : Form) → in_place f found ≡ called (called_operation name.now) (scalars_of (expressions_of (map expression_view exprs.now))) f) }
+{
+    if name == b"strcat".as_slice() {
+        worked_out(machine, alloc, Op::Join, exprs)
+    } else if name == b"fromint".as_slice() {
+        worked_out(machine, alloc, Op::FromInt, exprs)
+    } else if name == b"toint".as_slice() {
+        worked_out(machine, alloc, Op::ToInt, exprs)
+    } else {
+        Ok(None)
+    }
+}
