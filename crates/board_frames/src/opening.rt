@@ -160,20 +160,3 @@ pub fn inner(
         slots,
     }))
 }
-
-/// Adds lists for what the items of a body miss, for each that may wait for more than two inputs.
-pub fn push_spare(
-    alloc: Global,
-    spare: &mut Vec<Inputs>,
-    program: &Program,
-    body: &Body,
-) -> Result<(), AllocError> {
-    for number in &body.entries {
-        if let Some(entry) = program.entry(*number) {
-            if entry.needs.len() > 2 {
-                spare.push(SmallVec::with_capacity(alloc, entry.needs.len())?)?;
-            }
-        }
-    }
-    Ok(())
-}

@@ -11,7 +11,7 @@ ghost use Rattle.board_frames.specs.Turns.{AddsTurns, IsOpening};
 ghost use Rattle.board_frames.specs.View.{frames_view, step_view};
 ghost use Rattle.board_frames.specs.declared.opening.Opening.{Opening as AnOpening};
 
-use crate::opening::{Around, Inputs, Opening, inner, push_spare};
+use crate::opening::{Around, Opening, inner};
 use crate::place::Step;
 use board_code::key::copy_key;
 use board_code::program::Passed;
@@ -30,8 +30,7 @@ pub struct Site<'a> {
     pub offset: usize,
 }
 
-/// Adds an instance of the body, with the values of a turn's variables, unless the body has no entries. Lists for what its items
-/// miss go to the spare ones.
+/// Adds an instance of the body, with the values of a turn's variables, unless the body has no entries.
 ///
 /// # Errors
 ///
@@ -39,7 +38,6 @@ pub struct Site<'a> {
 pub fn push_block(
     site: Site<'_>,
     list: &mut Vec<Opening>,
-    spare: &mut Vec<Inputs>,
     way: Option<Step>,
     arguments: (u32, &[Passed]),
     values: (Option<Scalar>, Option<Scalar>),
@@ -56,7 +54,6 @@ pub fn push_block(
         return Ok(());
     }
     if let Some(instance) = inner(site.alloc, site.around, site.body, way, arguments)? {
-        push_spare(site.alloc, spare, site.around.program, body)?;
         let (value, turn) = values;
         list.push(Opening {
             instance,
@@ -80,7 +77,6 @@ fn scalar_of(key: &Key) -> Scalar
 fn push_turn(
     site: Site<'_>,
     list: &mut Vec<Opening>,
-    spare: &mut Vec<Inputs>,
     key: Key,
     value: Scalar,
 ) -> Result<(), AllocError>
@@ -93,14 +89,7 @@ fn push_turn(
         offset: site.offset,
         key,
     };
-    push_block(
-        site,
-        list,
-        spare,
-        Some(way),
-        (0, &[]),
-        (Some(value), Some(turn)),
-    )?;
+    push_block(site, list, Some(way), (0, &[]), (Some(value), Some(turn)))?;
     Ok(())
 }
 
@@ -112,7 +101,6 @@ fn push_turn(
 pub fn push_elements(
     site: Site<'_>,
     list: &mut Vec<Opening>,
-    spare: &mut Vec<Inputs>,
     elements: &[Element],
 ) -> Result<(), AllocError>
     ensures added { OnOk result (0 < length (body_of site.entry.around.program.now site.entry.body).entries → IsSome (slot_of (frames_view site.entry.around.instances.now.slots) site.entry.around.at) →
@@ -120,7 +108,7 @@ pub fn push_elements(
     ensures none { OnOk result (length (body_of site.entry.around.program.now site.entry.body).entries ≡ 0 → list.new.items ≡ list.old.items) }
 {
     for one in elements {
-        push_turn(site, list, spare, copy_key(&one.key), one.value.share()?)?;
+        push_turn(site, list, copy_key(&one.key), one.value.share()?)?;
     }
     Ok(())
 }
@@ -129,7 +117,6 @@ pub fn push_elements(
 fn push_number(
     site: Site<'_>,
     list: &mut Vec<Opening>,
-    spare: &mut Vec<Inputs>,
     range: &Range,
     n: u64,
 ) -> Result<(), AllocError>
@@ -142,13 +129,7 @@ fn push_number(
     let Ok(key) = i64::try_from(n) else {
         return Err(AllocError);
     };
-    push_turn(
-        site,
-        list,
-        spare,
-        Key::Number(key),
-        Scalar::Number(range.value(n)),
-    )?;
+    push_turn(site, list, Key::Number(key), Scalar::Number(range.value(n)))?;
     Ok(())
 }
 
@@ -160,7 +141,6 @@ fn push_number(
 pub fn push_range(
     site: Site<'_>,
     list: &mut Vec<Opening>,
-    spare: &mut Vec<Inputs>,
     range: &Range,
     first: u64,
     end: u64,
@@ -171,7 +151,7 @@ pub fn push_range(
 {
     let last = end.min(range.count);
     for n in first..last {
-        push_number(site, list, spare, range, n)?;
+        push_number(site, list, range, n)?;
     }
     Ok(())
 }
