@@ -21,7 +21,7 @@ ghost use Rattle.syntax_trees.specs.Facts.{OneWriter};
 ghost use Rattle.syntax_trees.specs.Meaning.{Known, Meaning};
 ghost use Rattle.syntax_trees.specs.Outcomes.{Clean};
 ghost use Rattle.syntax_trees.specs.Places as ScriptPlaces;
-ghost use Rattle.syntax_trees.specs.Reads.{Reads};
+ghost use Rattle.well_formed.specs.Placed.{IsPlaced};
 ghost use Rattle.syntax_trees.specs.Resolved.{core};
 ghost use Rattle.syntax_trees.specs.Single.{SinglyAssigned};
 ghost use Rattle.syntax_trees.specs.Table.{Table};
@@ -108,9 +108,9 @@ pub fn asserted_cores()
     ensures { (t : Table) (tree : Tree) → Asserted (core t tree) }
 {}
 
-/// For every accepted script, one that reads as a tree which is well typed and singly assigned: what any code that stands for it, whole and with exact
-/// rights, owes to it, it keeps over every list of events. Nothing else is asked of the script.
+/// For every placed tree that is well typed and singly assigned, as that of every accepted script is: what any code that stands for it, whole and with exact
+/// rights, owes to it, it keeps over every list of events. Nothing else is asked of it.
 pub fn accepted_scripts()
-    ensures { (bytes : List ℕ) (t : Table) (tree : Tree) (C : Code) → Reads bytes tree → WellTyped tree t → SinglyAssigned (core t tree)
+    ensures { (t : Table) (tree : Tree) (C : Code) → IsPlaced tree → WellTyped tree t → SinglyAssigned (core t tree)
         → IsCodeOf (core t tree) C → IsCode C → IsExact C → NodesOnce C → Headline (core t tree) C }
 {}

@@ -1,6 +1,6 @@
 -- Emitted code of an accepted script is whole, and keeps the headline.
 use Rattle.std.specs.Prelude.{ℕ, Bool, List}
-use Rattle.syntax_trees.specs.Reads.{Reads}
+use Rattle.well_formed.specs.Placed.{IsPlaced}
 use Rattle.syntax_trees.specs.Resolved.{core}
 use Rattle.syntax_trees.specs.Single.{SinglyAssigned}
 use Rattle.syntax_trees.specs.Table.{Table}
@@ -9,7 +9,8 @@ use Rattle.syntax_trees.specs.Typing.{WellTyped}
 use Rattle.task_code.specs.Code.{Code}
 use Rattle.task_code.specs.Exact.{IsExact}
 use Rattle.task_code.specs.Whole.{IsCode}
-use Rattle.well_formed.proofs.Accepted.{accepted_formed, accepted_scoped, values_meant}
+use Rattle.well_formed.proofs.Accepted.{placed_formed, values_meant}
+use Rattle.well_formed.proofs.Formed.{scoped}
 use Rattle.agreement.specs.Emitted.{IsEmitted, HasRights}
 use Rattle.agreement.specs.Headline.{Headline}
 use Rattle.agreement.specs.IsCodeOf.{IsCodeOf}
@@ -26,15 +27,15 @@ use Rattle.whole_code.specs.Described.{DeclaredIn, KindsOf}
 pub exact_rights : (C : Code) → HasRights C → IsExact C
 exact_rights C r = record { reads = r.reads; writes = r.writes }
 
-pub whole_emitted : (bytes : List ℕ) (t : Table) (tree : Tree) (fs : List Kinds) (ds : List (ℕ × Bool)) (C : Code) → Reads bytes tree → WellTyped tree t → SinglyAssigned (core t tree)
+pub whole_emitted : (t : Table) (tree : Tree) (fs : List Kinds) (ds : List (ℕ × Bool)) (C : Code) → IsPlaced tree → WellTyped tree t → SinglyAssigned (core t tree)
     → KindsOf fs tree → DeclaredIn ds tree → IsEmitted (core t tree) fs ds C → IsCode C
-whole_emitted bytes t tree fs ds C reads typed single kinds declared emitted =
-    let found = laid_marks (core t tree) fs ds C emitted.laid (accepted_cells bytes t tree reads) (reads_stand t tree) (accepted_calls bytes t tree reads) in
-    let nodes = accepted_nodes bytes t tree fs ds C reads typed emitted.laid in
-    accepted_whole bytes t tree fs ds C _ reads typed single kinds declared (accepted_laid bytes t tree fs ds C reads emitted.laid) emitted.rights found nodes
+whole_emitted t tree fs ds C place typed single kinds declared emitted =
+    let found = laid_marks (core t tree) fs ds C emitted.laid (accepted_cells t tree place) (reads_stand t tree) (accepted_calls t tree place) in
+    let nodes = accepted_nodes t tree fs ds C place emitted.laid in
+    accepted_whole t tree fs ds C _ place typed single kinds declared (accepted_laid t tree fs ds C place emitted.laid) emitted.rights found nodes
 
-pub headline_emitted : (bytes : List ℕ) (t : Table) (tree : Tree) (fs : List Kinds) (ds : List (ℕ × Bool)) (C : Code) → Reads bytes tree → WellTyped tree t → SinglyAssigned (core t tree)
+pub headline_emitted : (t : Table) (tree : Tree) (fs : List Kinds) (ds : List (ℕ × Bool)) (C : Code) → IsPlaced tree → WellTyped tree t → SinglyAssigned (core t tree)
     → KindsOf fs tree → DeclaredIn ds tree → IsEmitted (core t tree) fs ds C → Headline (core t tree) C
-headline_emitted bytes t tree fs ds C reads typed single kinds declared emitted =
-    headline_of (core t tree) C (accepted_code bytes t tree fs ds C reads emitted.laid) (whole_emitted bytes t tree fs ds C reads typed single kinds declared emitted) (exact_rights C emitted.rights)
-    (accepted_nodes bytes t tree fs ds C reads typed emitted.laid) (accepted_formed bytes t tree reads typed single) single (accepted_scoped t tree reads.parsed reads.is_numbered typed) (values_meant bytes t tree reads typed) (asserted_core t tree)
+headline_emitted t tree fs ds C place typed single kinds declared emitted =
+    headline_of (core t tree) C (accepted_code t tree fs ds C place emitted.laid) (whole_emitted t tree fs ds C place typed single kinds declared emitted) (exact_rights C emitted.rights)
+    (accepted_nodes t tree fs ds C place emitted.laid) (placed_formed t tree place typed single) single (scoped t tree place.in_order typed) (values_meant t tree place typed) (asserted_core t tree)

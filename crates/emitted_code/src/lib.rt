@@ -1,4 +1,4 @@
-//! What is emitted for an accepted script is the script's code, and keeps the headline. Nothing here runs: the function has an empty body, and its contract is a law.
+//! What is emitted for a placed tree, as that of an accepted script is, is its code, and keeps the headline. Nothing here runs: the function has an empty body, and its contract is a law.
 #![tactic(auto)]
 
 ghost use Rattle.agreement.specs.Emitted.{IsEmitted};
@@ -6,7 +6,7 @@ ghost use Rattle.agreement.specs.Headline.{Headline};
 ghost use Rattle.agreement.specs.IsCodeOf.{IsCodeOf};
 ghost use Rattle.agreement.specs.Laying.{Kinds};
 ghost use Rattle.std.specs.Prelude.{ℕ, Bool, List};
-ghost use Rattle.syntax_trees.specs.Reads.{Reads};
+ghost use Rattle.well_formed.specs.Placed.{IsPlaced};
 ghost use Rattle.syntax_trees.specs.Resolved.{core};
 ghost use Rattle.syntax_trees.specs.Single.{SinglyAssigned};
 ghost use Rattle.syntax_trees.specs.Table.{Table};
@@ -17,15 +17,15 @@ ghost use Rattle.task_code.specs.Exact.{IsExact};
 ghost use Rattle.task_code.specs.Whole.{IsCode};
 ghost use Rattle.whole_code.specs.Described.{DeclaredIn, KindsOf};
 
-/// For every accepted script, one that reads as a tree which is well typed and singly assigned, and code that is laid for its core with the rights that its
+/// For every placed tree that is well typed and singly assigned, and code that is laid for its core with the rights that its
 /// entries lead to, where arrays are told from scalars as the tree declares them: the code stands for the script, is whole, its rights are exact, and every run
 /// of it owes to the script what the headline says.
 pub fn emitted_code()
-    ensures stands { (bytes : List ℕ) (t : Table) (tree : Tree) (fs : List Kinds) (ds : List (ℕ × Bool)) (C : Code) → Reads bytes tree → WellTyped tree t → SinglyAssigned (core t tree)
+    ensures stands { (t : Table) (tree : Tree) (fs : List Kinds) (ds : List (ℕ × Bool)) (C : Code) → IsPlaced tree → WellTyped tree t → SinglyAssigned (core t tree)
         → KindsOf fs tree → DeclaredIn ds tree → IsEmitted (core t tree) fs ds C → IsCodeOf (core t tree) C }
-    ensures whole { (bytes : List ℕ) (t : Table) (tree : Tree) (fs : List Kinds) (ds : List (ℕ × Bool)) (C : Code) → Reads bytes tree → WellTyped tree t → SinglyAssigned (core t tree)
+    ensures whole { (t : Table) (tree : Tree) (fs : List Kinds) (ds : List (ℕ × Bool)) (C : Code) → IsPlaced tree → WellTyped tree t → SinglyAssigned (core t tree)
         → KindsOf fs tree → DeclaredIn ds tree → IsEmitted (core t tree) fs ds C → IsCode C }
-    ensures exact { (bytes : List ℕ) (t : Table) (tree : Tree) (fs : List Kinds) (ds : List (ℕ × Bool)) (C : Code) → IsEmitted (core t tree) fs ds C → IsExact C }
-    ensures headline { (bytes : List ℕ) (t : Table) (tree : Tree) (fs : List Kinds) (ds : List (ℕ × Bool)) (C : Code) → Reads bytes tree → WellTyped tree t → SinglyAssigned (core t tree)
+    ensures exact { (t : Table) (tree : Tree) (fs : List Kinds) (ds : List (ℕ × Bool)) (C : Code) → IsEmitted (core t tree) fs ds C → IsExact C }
+    ensures headline { (t : Table) (tree : Tree) (fs : List Kinds) (ds : List (ℕ × Bool)) (C : Code) → IsPlaced tree → WellTyped tree t → SinglyAssigned (core t tree)
         → KindsOf fs tree → DeclaredIn ds tree → IsEmitted (core t tree) fs ds C → Headline (core t tree) C }
 {}

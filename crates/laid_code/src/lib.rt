@@ -12,7 +12,7 @@ ghost use Rattle.agreement.specs.Laying.{Kinds, LaysScript};
 ghost use Rattle.agreement.specs.NodesOnce.{NodesOnce};
 ghost use Rattle.laid_code.specs.Worked.{fibonacci, fibonacci_kinds, fibonacci_code, misplaced_code, filled, filled_kinds, filled_declared, filled_code};
 ghost use Rattle.syntax_trees.specs.Typing.{WellTyped};
-ghost use Rattle.syntax_trees.specs.Reads.{Reads};
+ghost use Rattle.well_formed.specs.Placed.{IsPlaced};
 ghost use Rattle.syntax_trees.specs.Resolved.{core};
 ghost use Rattle.syntax_trees.specs.Table.{Table};
 ghost use Rattle.syntax_trees.specs.Tree.{Tree};
@@ -29,16 +29,16 @@ pub fn laid_code_is_small()
     ensures entries { (c : Core) (fs : List Kinds) (ds : List (ℕ × Bool)) (C : Code) → LaysScript c fs ds C → CellsOnce c → ReadsStand c → length C.entries ≤ size_of c }
 {}
 
-/// What the emission of code asks of a core the core of each text that reads as a well typed tree has: each of its cells has a node of its own, and the index of each read stands before it.
+/// What the emission of code asks of a core the core of each placed tree has: each of its cells has a node of its own, and the index of each read stands before it.
 pub fn accepted_cores_can_be_laid()
-    ensures cells { (bytes : List ℕ) (t : Table) (tree : Tree) → Reads bytes tree → CellsOnce (core t tree) }
+    ensures cells { (t : Table) (tree : Tree) → IsPlaced tree → CellsOnce (core t tree) }
     ensures reads { (t : Table) (tree : Tree) → ReadsStand (core t tree) }
 {}
 
-/// Code that is laid for the core of a text that reads as a tree is a table of it, whatever its functions' kinds and however its variables are declared: each body stands for a block, with the
+/// Code that is laid for the core of a placed tree is a table of it, whatever its functions' kinds and however its variables are declared: each body stands for a block, with the
 /// entries of its statements and their variables, and each entry and each variable stands once.
 pub fn laid_code_is_a_table()
-    ensures { (bytes : List ℕ) (t : Table) (tree : Tree) (fs : List Kinds) (ds : List (ℕ × Bool)) (C : Code) → Reads bytes tree → LaysScript (core t tree) fs ds C → (l : Layout) × IsLaid (core t tree) fs ds C l }
+    ensures { (t : Table) (tree : Tree) (fs : List Kinds) (ds : List (ℕ × Bool)) (C : Code) → IsPlaced tree → LaysScript (core t tree) fs ds C → (l : Layout) × IsLaid (core t tree) fs ds C l }
 {}
 
 /// Code that is a table of a core, by any layout, is the core's code.
@@ -48,8 +48,8 @@ pub fn a_table_is_the_cores_code()
 
 /// So code that is laid for the core of a text that reads as a well typed tree is this core's code, and an entry of it that works out, writes or prints something has its node to itself.
 pub fn laid_code_is_the_cores_code()
-    ensures code { (bytes : List ℕ) (t : Table) (tree : Tree) (fs : List Kinds) (ds : List (ℕ × Bool)) (C : Code) → Reads bytes tree → LaysScript (core t tree) fs ds C → IsCodeOf (core t tree) C }
-    ensures nodes { (bytes : List ℕ) (t : Table) (tree : Tree) (fs : List Kinds) (ds : List (ℕ × Bool)) (C : Code) → Reads bytes tree → WellTyped tree t → LaysScript (core t tree) fs ds C → NodesOnce C }
+    ensures code { (t : Table) (tree : Tree) (fs : List Kinds) (ds : List (ℕ × Bool)) (C : Code) → IsPlaced tree → LaysScript (core t tree) fs ds C → IsCodeOf (core t tree) C }
+    ensures nodes { (t : Table) (tree : Tree) (fs : List Kinds) (ds : List (ℕ × Bool)) (C : Code) → IsPlaced tree → LaysScript (core t tree) fs ds C → NodesOnce C }
 {}
 
 /// The code of `(int r) fib(int n) { if (n < 2) { r = n; } else { r = fib(n-1) + fib(n-2); } } printf("%i", fib(10));` is laid for its core, and so is that of

@@ -8,14 +8,14 @@ use Rattle.syntax_trees.specs.Core.{Owned, local, input, output, Name, Expr, Exp
 use Rattle.syntax_trees.specs.Members.{◌∈◌, first, later}
 use Rattle.syntax_trees.specs.Numbered.{tree_size, part_size, declaration_size}
 use Rattle.syntax_trees.specs.Parts.{block_list, blocks_below, blocks_inside, blocks_of, function_blocks, outer_parts, outers, parts, script_stmts, stmts_among}
-use Rattle.syntax_trees.specs.Reads.{Reads}
+use Rattle.well_formed.specs.Placed.{IsPlaced}
 use Rattle.syntax_trees.specs.Resolved.{core, functions_of, script_block}
 use Rattle.syntax_trees.specs.Scopes.{Signature, Typ, signatures}
 use Rattle.syntax_trees.specs.Table.{Table}
 use Rattle.syntax_trees.specs.Tree.{Declaration, Tree, import, function, single}
 use Rattle.syntax_trees.specs.Typing.{WellTyped}
 use Rattle.well_formed.specs.Types.{no_signature, OwnedHas, NameHas, NamesHave, no_name, one_name, ExprHas, literal_has, name_has, operator_has, OperatorHas, sum_has, texts_have, product_has, compare_has, equal_has, unequal_has, all_has, any_has, not_has, negate_has, join_has, from_int_has, to_int_has, size_has, printf_has, assert_has, AllHave, none_left, one_more, EachHas, no_other, another, FormHas, computes, copies, lists, reads, CallHas, PartHas, PartsHave, OuterHas, OutersHave, AwaitedHas, awaits_one, awaits_many, BlockHas, no_statement, a_statement, ActionHas, of_declare, of_call, of_assign, of_fill, of_insert, of_print, of_assert, of_when, of_choose, of_range, of_each, of_wait, FunctionHas, HasTypes}
-use Rattle.well_formed.proofs.Accepted.{typed_script}
+use Rattle.well_formed.proofs.Accepted.{placed_types}
 use Rattle.agreement.specs.CodeNames.{wanted, wanted_all}
 use Rattle.agreement.specs.Room.{Each, OwnedRoom, NameRoom, ExprRoom, ExprsRoom, FormRoom, PartRoom, OuterRoom, StepRoom, AwaitedRoom, StmtRoom, ActionRoom, BlockRoom, FunctionRoom, CoreRoom}
 use Rattle.script_sizes.proofs.Sizes.{names, all_names, form_names, part_weight, weight, append, stmts_weight, inside, within, front, among_append, weight_within}
@@ -205,9 +205,9 @@ functions (import sp ∷ ps) = let r = functions ps in let s = sum_by-cons part_
 functions (single x ∷ ps) = let r = functions ps in let s = sum_by-cons part_size (single x) ps in omega arith
 functions (function c ∷ ps) = let r = functions ps in let s = sum_by-cons part_size (function c) ps in omega arith
 
-pub room_in : (bytes : List ℕ) (t : Table) (tree : Tree) → Reads bytes tree → WellTyped tree t → 2 * tree_size tree < 2 ^ 30 → CoreRoom (core t tree)
-room_in bytes t tree r w light =
-    let q = typed_script bytes t tree r w in
+pub room_in : (t : Table) (tree : Tree) → IsPlaced tree → WellTyped tree t → 2 * tree_size tree < 2 ^ 30 → CoreRoom (core t tree)
+room_in t tree p w light =
+    let q = placed_types t tree p w in
     let W = 2 * tree_size tree in
     let several = functions tree in
     let all = weight_within t tree in

@@ -5,15 +5,15 @@ ghost use Rattle.agreement.specs.Emitted.{size_of};
 ghost use Rattle.agreement.specs.Room.{CoreRoom};
 ghost use Rattle.std.specs.Prelude.{◌<◌, ◌≤◌, ◌*◌, ◌^◌, ℕ, List};
 ghost use Rattle.syntax_trees.specs.Numbered.{tree_size};
-ghost use Rattle.syntax_trees.specs.Reads.{Reads};
+ghost use Rattle.well_formed.specs.Placed.{IsPlaced};
 ghost use Rattle.syntax_trees.specs.Resolved.{core};
 ghost use Rattle.syntax_trees.specs.Table.{Table};
 ghost use Rattle.syntax_trees.specs.Tree.{Tree};
 ghost use Rattle.syntax_trees.specs.Typing.{WellTyped};
 
 /// The core of a tree, by any table of its names, has at most twice as many functions, statements, cells and calls as the tree has numbers.
-/// If a text that reads as the tree is well typed, its names and expressions have room in code.
+/// If it is placed and well typed, its names and expressions have room in code.
 pub fn script_sizes()
     ensures within { (t : Table) (tree : Tree) → size_of (core t tree) ≤ 2 * tree_size tree }
-    ensures room { (bytes : List ℕ) (t : Table) (tree : Tree) → Reads bytes tree → WellTyped tree t → 2 * tree_size tree < 2 ^ 30 → CoreRoom (core t tree) }
+    ensures room { (t : Table) (tree : Tree) → IsPlaced tree → WellTyped tree t → 2 * tree_size tree < 2 ^ 30 → CoreRoom (core t tree) }
 {}

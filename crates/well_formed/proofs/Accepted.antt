@@ -1,72 +1,52 @@
--- The core of an accepted script is well formed, and that of a typed one scoped.
-use Rattle.std.specs.Prelude.{◌≡◌, ℕ, true, List, ◌∷◌}
-use Rattle.std.proofs.Common.{sym, subst}
+-- The core of a placed tree that is well typed is well formed where it is singly assigned, and has types.
+use Rattle.std.specs.Prelude.{ℕ, List}
 use Rattle.syntax_trees.specs.Facts.{Fact, Knowledge}
 use Rattle.syntax_trees.specs.Meaning.{Known, Meaning}
-use Rattle.syntax_trees.specs.Numbered.{numbered}
 use Rattle.syntax_trees.specs.Reads.{Reads}
 use Rattle.syntax_trees.specs.Resolved.{core}
-use Rattle.syntax_trees.specs.Scopes.{Typ, signatures}
+use Rattle.syntax_trees.specs.Scopes.{signatures}
 use Rattle.syntax_trees.specs.Single.{SinglyAssigned}
 use Rattle.syntax_trees.specs.Table.{Table}
 use Rattle.syntax_trees.specs.Tree.{Tree}
 use Rattle.syntax_trees.specs.Typing.{WellTyped}
 use Rattle.syntax_trees.specs.WellFormed.{WellFormed}
-use Rattle.syntax_trees.proofs.Tested.{distinct}
-use Rattle.meaning_laws.proofs.TreeOffsets.{tree_offsets}
-use Rattle.meaning_laws.specs.Scoped.{Scoped}
 use Rattle.meaning_laws.specs.TypedValues.{TypedValues}
-use Rattle.well_formed.proofs.Apart.{apart}
 use Rattle.well_formed.specs.Always.{FormedAlways}
-use Rattle.well_formed.proofs.Always.{always}
-use Rattle.well_formed.proofs.Formed.{scoped, formed}
-use Rattle.well_formed.specs.Types.{HasTypes, DeclaredAs, tree_declarations, Types}
+use Rattle.well_formed.specs.Placed.{IsPlaced}
 use Rattle.well_formed.specs.Statements.{StmtsApart}
+use Rattle.well_formed.specs.Types.{Types}
+use Rattle.well_formed.proofs.Always.{always}
+use Rattle.well_formed.proofs.Apart.{read_placed}
+use Rattle.well_formed.proofs.Formed.{formed}
+use Rattle.well_formed.proofs.Once.{rising_once}
 use Rattle.well_formed.proofs.StmtsApart.{stmts_apart}
-use Rattle.well_formed.proofs.Once.{numbers_once}
-use Rattle.meaning_laws.proofs.TreeNodes.{tree_numbers}
 use Rattle.well_formed.proofs.Typed.{live_stands}
 use Rattle.well_formed.proofs.TypedTree.{has_types}
 use Rattle.well_formed.proofs.Values.{meaning_has}
 use Rattle.well_formed.proofs.ValueTypes.{typed_values}
 
--- of a tree with numbers in reading order, in which no called name stands at the offset of another
-pub numbered_formed : (t : Table) (tree u : Tree) → tree ≡ numbered 1 u → WellTyped tree t → SinglyAssigned (core t tree) → distinct (tree_offsets tree) ≡ true → WellFormed (core t tree)
-numbered_formed t tree u e w s d =
-    subst (λ (p : Tree). WellFormed (core t p)) (sym e)
-    (formed t u (subst (λ (p : Tree). WellTyped p t) e w) (subst (λ (p : Tree). SinglyAssigned (core t p)) e s) (subst (λ (p : Tree). distinct (tree_offsets p) ≡ true) e d))
+pub placed_formed : (t : Table) (tree : Tree) → IsPlaced tree → WellTyped tree t → SinglyAssigned (core t tree) → WellFormed (core t tree)
+placed_formed t tree p w s = formed t tree p.in_order w s p.apart
 
+pub placed_always : (t : Table) (tree : Tree) → IsPlaced tree → WellTyped tree t → FormedAlways (core t tree)
+placed_always t tree p w = always t tree p.in_order w p.apart
+
+pub placed_stmts : (t : Table) (tree : Tree) → IsPlaced tree → StmtsApart (core t tree)
+placed_stmts t tree p = stmts_apart t tree (rising_once tree p.in_order)
+
+-- of a tree that a text reads as
 pub accepted_formed : (bytes : List ℕ) (t : Table) (tree : Tree) → Reads bytes tree → WellTyped tree t → SinglyAssigned (core t tree) → WellFormed (core t tree)
-accepted_formed bytes t tree r w s = numbered_formed t tree r.parsed r.is_numbered w s (apart bytes tree r)
+accepted_formed bytes t tree r w s = placed_formed t tree (read_placed bytes tree r) w s
 
-pub accepted_scoped : (t : Table) (tree u : Tree) → tree ≡ numbered 1 u → WellTyped tree t → Scoped (core t tree)
-accepted_scoped t tree u e w = subst (λ (p : Tree). Scoped (core t p)) (sym e) (scoped t u (subst (λ (p : Tree). WellTyped p t) e w))
-
--- of a tree with numbers in reading order, in which no called name stands at the offset of another
-pub numbered_always : (t : Table) (tree u : Tree) → tree ≡ numbered 1 u → WellTyped tree t → distinct (tree_offsets tree) ≡ true → FormedAlways (core t tree)
-numbered_always t tree u e w d =
-    subst (λ (p : Tree). FormedAlways (core t p)) (sym e)
-    (always t u (subst (λ (p : Tree). WellTyped p t) e w) (subst (λ (p : Tree). distinct (tree_offsets p) ≡ true) e d))
-
-pub typed_always : (bytes : List ℕ) (t : Table) (tree : Tree) → Reads bytes tree → WellTyped tree t → FormedAlways (core t tree)
-typed_always bytes t tree r w = numbered_always t tree r.parsed r.is_numbered w (apart bytes tree r)
-
-pub accepted_stmts : (bytes : List ℕ) (t : Table) (tree : Tree) → Reads bytes tree → WellTyped tree t → StmtsApart (core t tree)
-accepted_stmts bytes t tree r w = stmts_apart t tree (subst (λ (p : Tree). distinct (0 ∷ tree_numbers p) ≡ true) (sym r.is_numbered) (numbers_once r.parsed))
+pub accepted_stmts : (bytes : List ℕ) (t : Table) (tree : Tree) → Reads bytes tree → StmtsApart (core t tree)
+accepted_stmts bytes t tree r = placed_stmts t tree (read_placed bytes tree r)
 
 -- TYPES
 
--- types of a core, and of what its tree declares
-abbrev Typing : Table → Tree → Type 0
-Typing t tree = (type_of : ℕ → Typ) × HasTypes (signatures tree) type_of (core t tree) × DeclaredAs type_of (tree_declarations tree)
-
-typed_core : (t : Table) (tree u : Tree) → tree ≡ numbered 1 u → WellTyped tree t → Typing t tree
-typed_core t tree u e w = subst (Typing t) (sym e) (has_types t u (subst (λ (p : Tree). WellTyped p t) e w))
-
-pub typed_script : (bytes : List ℕ) (t : Table) (tree : Tree) → Reads bytes tree → WellTyped tree t → Types t tree
-typed_script bytes t tree r w =
-    let q = typed_core t tree r.parsed r.is_numbered w in
-    let found = (typed_always bytes t tree r w).call_found in
+pub placed_types : (t : Table) (tree : Tree) → IsPlaced tree → WellTyped tree t → Types t tree
+placed_types t tree p w =
+    let q = has_types t tree p.in_order w in
+    let found = (placed_always t tree p w).call_found in
     record {
       type_of = q.0;
       has = q.1;
@@ -76,13 +56,13 @@ typed_script bytes t tree r w =
     }
 
 -- no value of a wrong type is among what is ever known, nor among any part of it
-pub values_within : (bytes : List ℕ) (t : Table) (tree : Tree) → Reads bytes tree → WellTyped tree t → (K : Knowledge) → ((f : Fact) → K f → Meaning (core t tree) f) → TypedValues (core t tree) K
-values_within bytes t tree r w K part =
-    let q = typed_script bytes t tree r w in
+values_within : (t : Table) (tree : Tree) → IsPlaced tree → WellTyped tree t → (K : Knowledge) → ((f : Fact) → K f → Meaning (core t tree) f) → TypedValues (core t tree) K
+values_within t tree p w K part =
+    let q = placed_types t tree p w in
     typed_values (signatures tree) q.type_of (core t tree) q.has K (λ f k. q.facts f (part f k))
 
-pub values_meant : (bytes : List ℕ) (t : Table) (tree : Tree) → Reads bytes tree → WellTyped tree t → TypedValues (core t tree) (Meaning (core t tree))
-values_meant bytes t tree r w = values_within bytes t tree r w (Meaning (core t tree)) (λ f k. k)
+pub values_meant : (t : Table) (tree : Tree) → IsPlaced tree → WellTyped tree t → TypedValues (core t tree) (Meaning (core t tree))
+values_meant t tree p w = values_within t tree p w (Meaning (core t tree)) (λ f k. k)
 
-pub values_known : (bytes : List ℕ) (t : Table) (tree : Tree) → Reads bytes tree → WellTyped tree t → (n : ℕ) → TypedValues (core t tree) (Known (core t tree) n)
-values_known bytes t tree r w n = values_within bytes t tree r w (Known (core t tree) n) (λ f k. (n, k))
+pub values_known : (t : Table) (tree : Tree) → IsPlaced tree → WellTyped tree t → (n : ℕ) → TypedValues (core t tree) (Known (core t tree) n)
+values_known t tree p w n = values_within t tree p w (Known (core t tree) n) (λ f k. (n, k))

@@ -1,44 +1,44 @@
 -- What holds of the core of a well typed script without single assignment.
-use Rattle.std.specs.Prelude.{◌≡◌, ◌⊎◌, ℕ, ◌<◌, true, List, ◌∷◌, length, Option, Some, slice_get}
-use Rattle.std.proofs.Common.{inl, inr, sym, ap, ◌∙◌, subst, arith}
-use Rattle.syntax_trees.specs.Core.{Owned, input, output, Name, Call, Outer, Stmt, stmt, Action, declare, fill, insert, Block, Function, Core}
+use Rattle.std.specs.Prelude.{◌≡◌, ℕ, ◌<◌, true, List, ◌∷◌, length, Option, Some, slice_get}
+use Rattle.std.proofs.Common.{inl, inr, sym, ap, ◌∙◌, arith}
+use Rattle.syntax_trees.specs.Core.{Owned, input, output, Name, Call, Stmt, Block, Function, Core}
 use Rattle.syntax_trees.specs.Members.{◌∈◌, first}
-use Rattle.syntax_trees.specs.Numbered.{numbered}
+use Rattle.syntax_trees.specs.Numbers.{numbers}
 use Rattle.syntax_trees.specs.Parts.{block_list, script_blocks, script_stmts, stmt_calls, calls_among}
 use Rattle.syntax_trees.specs.Resolved.{core}
 use Rattle.syntax_trees.specs.Scopes.{Signature, signatures}
 use Rattle.syntax_trees.specs.Table.{Table}
 use Rattle.syntax_trees.specs.Tree.{Tree}
 use Rattle.syntax_trees.specs.Typing.{WellTyped}
-use Rattle.syntax_trees.specs.WellFormed.{Declares, Uses, IsHidden, IsAlone}
+use Rattle.syntax_trees.specs.WellFormed.{Declares, Uses}
 use Rattle.syntax_trees.proofs.Blocks.{among_script}
-use Rattle.meaning_laws.proofs.Declared.{local_same}
 use Rattle.meaning_laws.proofs.OneAssign.{function_in}
-use Rattle.syntax_trees.proofs.Tested.{distinct, flat, flat_in, flat_once, every_in, name_nodes, hidden_calls, nodes, writer_of, block_nodes, declared_node, hidden_node, stmt_once, one_block, cell_once, role_once, role_cells, call_among}
-use Rattle.meaning_laws.proofs.TestedNames.{uses_used, declares_it, declared_it, declares, one_hidden, hidden_fine, fill_fine, find_once, get_below, is_many_form, fill_parts, insert_parts, fill_no_insert, kinds_of}
+use Rattle.syntax_trees.proofs.Tested.{distinct, flat, flat_once, every_in, writer_of, block_nodes, one_block, cell_once, role_once, role_cells, call_among}
+use Rattle.meaning_laws.proofs.TestedNames.{uses_used, declares_it, declared_it, declares, fill_fine, find_once, get_below, is_many_form, fill_parts, insert_parts, fill_no_insert, kinds_of}
 use Rattle.meaning_laws.proofs.TreeCalls.{hidden, fills}
 use Rattle.meaning_laws.proofs.TreeNodes.{nodes_once}
 use Rattle.meaning_laws.proofs.TreeOffsets.{tree_offsets, offsets_once}
 use Rattle.meaning_laws.proofs.TreeStmts.{writers_once}
 use Rattle.well_formed.specs.Always.{FormedAlways}
+use Rattle.well_formed.specs.Placed.{Rise}
 use Rattle.well_formed.proofs.Standing.{used_stands, declared_here}
 use Rattle.well_formed.proofs.Everywhere.{IsParameter, AllPlaced, block_ok}
 use Rattle.well_formed.proofs.Bodies.{all_placed, scoped_block}
-use Rattle.well_formed.proofs.Once.{numbers_once}
+use Rattle.well_formed.proofs.Once.{rising_once}
 use Rattle.well_formed.proofs.Formed.{called, call_of}
 
-module _ (t : Table) (u : Tree) (typed : WellTyped (numbered 1 u) t) where
+module _ (t : Table) (tree : Tree) (rise : Rise 0 (numbers tree)) (typed : WellTyped tree t) where
   abbrev s : Core
-  s = core t (numbered 1 u)
+  s = core t tree
 
   abbrev fs : List Signature
-  fs = signatures (numbered 1 u)
+  fs = signatures tree
 
   all : AllPlaced fs s
-  all = all_placed t u typed
+  all = all_placed t tree rise typed
 
   once : distinct (0 ∷ flat block_nodes (script_blocks s)) ≡ true
-  once = nodes_once t (numbered 1 u) (numbers_once u)
+  once = nodes_once t tree (rising_once tree rise)
 
   script_names : (up : ℕ) (what : Owned) → Uses s.body up what → (up ≡ 0) × Declares s.body what
   script_names up what m = elim (used_stands fs 0 all.script (uses_used m)) [
@@ -57,8 +57,8 @@ module _ (t : Table) (u : Tree) (typed : WellTyped (numbered 1 u) t) where
 
   call_count : (b : Block) (st : Stmt) (c : Call) (f : Function) → b ∈ script_blocks s → st ∈ block_list b → c ∈ stmt_calls st → slice_get s.functions c.function ≡ Some f → length c.outputs ≡ f.outputs
   call_count b st c f k i m e =
-      let q = call_of t u typed st c (among_script s k i) m in
-      let r = called t u typed q.0 c q.1 in
+      let q = call_of t tree rise typed st c (among_script s k i) m in
+      let r = called t tree rise typed q.0 c q.1 in
       r.3 ∙ ap (λ (z : Function). z.outputs) (some_same (sym r.1 ∙ e))
 
   output_there : (f : Function) (j : ℕ) → f ∈ s.functions → Uses f.body 0 (output j) → j < f.outputs
@@ -92,20 +92,20 @@ module _ (t : Table) (u : Tree) (typed : WellTyped (numbered 1 u) t) where
       get_below c.outputs j (omega arith)
 
   writer_once : {st st' : Stmt} {n : ℕ} → st ∈ script_stmts s → st' ∈ script_stmts s → n ∈ writer_of st → n ∈ writer_of st' → st ≡ st'
-  writer_once i j m k = flat_once writer_of (script_stmts s) (writers_once t (numbered 1 u) (numbers_once u)) i j m k
+  writer_once i j m k = flat_once writer_of (script_stmts s) (writers_once t tree (rising_once tree rise)) i j m k
 
   -- what holds without single assignment
-  pub always : distinct (tree_offsets (numbered 1 u)) ≡ true → FormedAlways s
+  pub always : distinct (tree_offsets tree) ≡ true → FormedAlways s
   always offsets = record {
     one_block = one_block s once;
     script_names = script_names;
     wait_names = wait_names;
-    call_found = λ b st c k i m. find_once (calls_among (script_stmts s)) c (offsets_once t (numbered 1 u) offsets) (call_among (script_stmts s) (among_script s k i) m);
+    call_found = λ b st c k i m. find_once (calls_among (script_stmts s)) c (offsets_once t tree offsets) (call_among (script_stmts s) (among_script s k i) m);
     call_outputs = call_outputs;
     call_count = call_count;
-    call_kinds = kinds_of s once (hidden t (numbered 1 u));
+    call_kinds = kinds_of s once (hidden t tree);
     cell_once = cell_once s once;
-    fill_many = λ at n x c i. is_many_form c.cell.form (every_in fill_fine (script_stmts s) (fills t (numbered 1 u)) i);
+    fill_many = λ at n x c i. is_many_form c.cell.form (every_in fill_fine (script_stmts s) (fills t tree) i);
     role_once = role_once s once;
     role_cells = role_cells s once;
     writers = record {

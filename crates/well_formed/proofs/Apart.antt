@@ -1,18 +1,21 @@
 -- In a tree that a text reads as no called name stands at the offset of another.
-use Rattle.std.specs.Prelude.{◌≡◌, ℕ, ◌+◌, ◌<◌, ◌≤◌, Bool, true, false, not, ◌&&◌, ◌||◌, List, [], ◌∷◌, ◌++◌, map, Some, None, nat_eq, length, sum_by, Ok, refl}
+use Rattle.std.specs.Prelude.{◌≡◌, ℕ, ◌+◌, ◌<◌, ◌≤◌, true, List, [], ◌∷◌, ◌++◌, map, Some, None, length, sum_by, Ok, refl}
 use Rattle.std.proofs.Common.{sym, ap, ap₂, ◌∙◌, subst, arith}
-use Rattle.std.proofs.lemmas.Bool.{eqb-true}
 use Rattle.lexer.specs.Reading.{items_from}
 use Rattle.lexer.proofs.Items.{only_tokens, spans_rise}
 use Rattle.lexer.specs.Items.{Lexeme, SpansRise}
+use Rattle.syntax_trees.specs.Numbers.{numbers}
 use Rattle.syntax_trees.specs.Numbered.{expression_size, word_size, option_size, over_size, statement_size, body_size, composite_size, numbered_each, numbered_expression, numbered_form, numbered_expressions, numbered_right, numbered_calling, numbered_over, numbered_statement, numbered_command, numbered_body, numbered_statements, numbered}
 use Rattle.syntax_trees.specs.Reads.{Reads}
 use Rattle.syntax_trees.specs.Tree as T
 use Rattle.syntax_trees.specs.Tree.{Word, Expression, expression, number, text, truth, variable, element, call, prefixed, chain, Expressions, no_expressions, and_expression, expressions_of, RightSide, value, list, Calling, Over, Statement, statement, Command, choice, choice_else, loop, waits, Body, body, Statements, no_statements, and_statement, Tree, import, function, single}
 use Rattle.syntax_trees.proofs.Tested.{distinct}
-use Rattle.syntax_trees.proofs.TreeNumbers.{hit, hit_self, times, few_distinct, distinct_few}
+use Rattle.syntax_trees.proofs.TreeNumbers.{times, few_distinct}
 use Rattle.meaning_laws.proofs.TreeOffsets.{expression_offsets, form_offsets, expressions_offsets, right_offsets, calling_offsets, over_offsets, statement_offsets, command_offsets, body_offsets, statements_offsets, tree_offsets}
+use Rattle.well_formed.specs.Placed.{Rise, IsPlaced}
 use Rattle.well_formed.proofs.Called.{starts_of, c_script}
+use Rattle.well_formed.proofs.Once.{numbered_rise}
+use Rattle.well_formed.proofs.Rising.{hit_most, here_or_none, hit_other}
 
 -- NUMBERS CHANGE NO OFFSET
 
@@ -87,26 +90,6 @@ of_tree n (single s ∷ ps) = ap₂ (λ (x y : List ℕ). x ++ y) (of_statement 
 
 -- TOKENS BEGIN APART
 
-hit_false : (n m : ℕ) → nat_eq n m ≡ false → hit n m ≡ 0
-hit_false n m e =
-    let d = distinct_few (n ∷ m ∷ []) (ap (λ (b : Bool). not (b || false) && (not false && true)) e) n in
-    let h = hit_self n in
-    omega arith
-
-hit_most : (n m : ℕ) → hit n m ≤ 1
-hit_most n m = let d = distinct_few (m ∷ []) refl n in omega arith
-
--- one that begins here, or none does
-here_or_none : (n m : ℕ) (A : Type 0) → (n ≡ m → A) → (hit n m ≡ 0 → A) → A
-here_or_none n m A f g = by (nat_eq n m) refl
-  where
-    by : (b : Bool) → nat_eq n m ≡ b → A
-    by true e = f (eqb-true n m e)
-    by false e = g (hit_false n m e)
-
-hit_other : (n m : ℕ) → n < m → hit n m ≡ 0
-hit_other n m l = here_or_none n m (hit n m ≡ 0) (λ e. absurd (omega arith)) (λ e. e)
-
 none_before : (least most n : ℕ) (ts : List Lexeme) → SpansRise least most (map Ok ts) → n < least → times n (starts_of ts) ≡ 0
 none_before least most n [] h l = refl
 none_before least most n (t ∷ ts) h l =
@@ -127,7 +110,7 @@ starts_once least most n (t ∷ ts) h =
     (λ e. omega arith)
 
 -- no called name of a text stands at the offset of another
-pub apart : (bytes : List ℕ) (tree : Tree) → Reads bytes tree → distinct (tree_offsets tree) ≡ true
+apart : (bytes : List ℕ) (tree : Tree) → Reads bytes tree → distinct (tree_offsets tree) ≡ true
 apart bytes tree r = few_distinct (tree_offsets tree) (λ n. few n)
   where
     few : (n : ℕ) → times n (tree_offsets tree) ≤ 1
@@ -139,3 +122,10 @@ apart bytes tree r = few_distinct (tree_offsets tree) (λ n. few n)
         let b = c_script 64 n (record { before = 0; rest = r.tokens }) r.parsed (r.is_script).0 (r.is_script).1 in
         let c = starts_once 0 (length bytes) n r.tokens rise in
         omega arith
+
+-- a tree that a text reads as is placed
+pub read_placed : (bytes : List ℕ) (tree : Tree) → Reads bytes tree → IsPlaced tree
+read_placed bytes tree r = record {
+  in_order = subst (λ (p : Tree). Rise 0 (numbers p)) (sym r.is_numbered) (numbered_rise r.parsed);
+  apart = apart bytes tree r;
+}

@@ -1,10 +1,11 @@
 -- The bodies of a typed script with numbers in reading order are placed, and each block lies in one of them.
-use Rattle.std.specs.Prelude.{◌≡◌, ◌⊎◌, ℕ, zero, suc, ◌+◌, ◌<◌, List, [], ◌∷◌, map, Option, Some, length, slice_get, refl}
+use Rattle.std.specs.List.{flat_map}
+use Rattle.std.specs.Prelude.{◌≡◌, ◌⊎◌, ℕ, zero, suc, ◌+◌, ◌<◌, List, [], ◌∷◌, ◌++◌, map, Option, Some, length, slice_get, refl}
 use Rattle.std.proofs.Common.{inl, inr, sym, ap, ◌∙◌, subst, arith}
 use Rattle.syntax_trees.specs.Tree.{Declaration, Composite, Tree, import, function, single}
 use Rattle.syntax_trees.specs.Core.{Owned, input, output, Name, Stmt, stmt, Action, declare, call_alone, assign, fill, insert, print, assert, when, choose, range, each, wait, Block, no_stmts, stmts, Function, Core}
 use Rattle.syntax_trees.specs.Members.{◌∈◌, first, later}
-use Rattle.syntax_trees.specs.Numbered.{statement_size, composite_size, numbered_composite, numbered}
+use Rattle.syntax_trees.specs.Numbers.{declaration_numbers, statement_numbers, body_numbers, composite_numbers, numbers}
 use Rattle.syntax_trees.specs.Parts.{block_list, blocks_of, blocks_below, blocks_in, blocks_inside, function_blocks, script_blocks}
 use Rattle.syntax_trees.specs.Resolved.{block_of, script_block, functions_of, core}
 use Rattle.syntax_trees.specs.Table.{Table}
@@ -13,6 +14,8 @@ use Rattle.syntax_trees.specs.Typing as rules
 use Rattle.syntax_trees.specs.Typing.{Parameters, FunctionTyped, PartsTyped, WellTyped}
 use Rattle.syntax_trees.proofs.Members.{split_in, either}
 use Rattle.meaning_laws.specs.Scoped.{InScope, of_script, of_function, inside, in_wait}
+use Rattle.well_formed.specs.Placed.{Rise}
+use Rattle.well_formed.proofs.Rising.{last, rise_least, rise_front, rise_rest, last_append}
 use Rattle.well_formed.proofs.Placed.{Placed, placed_end}
 use Rattle.well_formed.proofs.Placing.{AreIn, body_placed, statement_placed, placed_from}
 use Rattle.well_formed.proofs.Everywhere.{IsParameter, BodyPlaced, AllPlaced}
@@ -52,50 +55,47 @@ parameters_in f h p x s i e = by (ap (λ (z : Name). z.what) (sym s.is) ∙ e) (
 
 -- PARTS
 
--- the number behind those of a tree
-abbrev ends : ℕ → Tree → ℕ
-ends n [] = n
-ends n (import sp ∷ ps) = ends (n + 0) ps
-ends n (function f ∷ ps) = ends (n + composite_size f) ps
-ends n (single s ∷ ps) = ends (n + statement_size s) ps
-
 module _ (fs : List Signature) (t : Table) where
-  script_placed : (n : ℕ) (ps : Tree) (names : List (List ℕ)) (g : Scope) → AreIn 0 g → PartsTyped fs t names g (numbered n ps) → Placed fs 0 g n (script_block t (numbered n ps)) (ends n ps)
-  script_placed n [] names g a h = placed_end (omega arith)
-  script_placed n (import sp ∷ ps) names g a (rules.an_import h) =
-      placed_from fs t 0 g n (n + 0) (script_block t (numbered (n + 0) ps)) (ends (n + 0) ps) (omega arith) (script_placed (n + 0) ps names g a h)
-  script_placed n (function f ∷ ps) names g a (rules.a_function one h) =
-      placed_from fs t 0 g n (n + composite_size f) (script_block t (numbered (n + composite_size f) ps)) (ends (n + composite_size f) ps) (omega arith)
-      (script_placed (n + composite_size f) ps ((numbered_composite n f).name.text ∷ names) g a h)
-  script_placed n (single s ∷ ps) names g a (rules.a_statement {h = h} one rest) =
-      statement_placed fs t 0 n s g h (script_block t (numbered (n + statement_size s) ps)) (ends (n + statement_size s) ps) a one
-      (λ c. script_placed (n + statement_size s) ps names h c rest)
+  script_placed : (n : ℕ) (ps : Tree) (names : List (List ℕ)) (g : Scope) → Rise n (numbers ps) → AreIn 0 g → PartsTyped fs t names g ps → Placed fs 0 g (suc n) (script_block t ps) (suc (last n (numbers ps)))
+  script_placed n [] names g r a h = placed_end (omega arith)
+  script_placed n (import sp ∷ ps) names g r a (rules.an_import h) = script_placed n ps names g r a h
+  script_placed n (function f ∷ ps) names g r a (rules.a_function one h) =
+      let ms = composite_numbers f in
+      let ks = numbers ps in
+      let l = rise_least n ms (rise_front n ms ks r) in
+      subst (λ (m : ℕ). Placed fs 0 g (suc n) (script_block t ps) (suc m)) (sym (last_append n ms ks))
+      (placed_from fs t 0 g (suc n) (suc (last n ms)) (script_block t ps) (suc (last (last n ms) ks)) (omega arith) (script_placed (last n ms) ps (f.name.text ∷ names) g (rise_rest n ms ks r) a h))
+  script_placed n (single s ∷ ps) names g r a (rules.a_statement {h = h} one rest) =
+      let ms = statement_numbers s in
+      let ks = numbers ps in
+      statement_placed fs t 0 n s g h (script_block t ps) (suc (last n (ms ++ ks))) (rise_front n ms ks r) a one
+      (λ c. subst (λ (m : ℕ). Placed fs 0 h (suc (last n ms)) (script_block t ps) (suc m)) (sym (last_append n ms ks)) (script_placed (last n ms) ps names h (rise_rest n ms ks r) c rest))
 
   abbrev as_function : Composite → Function
   as_function f = record { inputs = length f.inputs; outputs = length f.outputs; body = block_of t f.body }
 
-  function_placed : (n : ℕ) (f : Composite) (names : List (List ℕ)) → FunctionTyped fs t names (numbered_composite n f) → BodyPlaced fs (as_function (numbered_composite n f))
-  function_placed n f names (rules.function_typed {g = g} {h = h} free other outs ins typed) =
-      let c = numbered_composite n f in
-      let p = a_parameter c.inputs c.outputs (as_function c) refl refl outs ins in
-      record { scope = h; from = _; to = _; placed = body_placed fs t (length c.inputs) _ f.body h (parameters_in (as_function c) h p) typed; parameters = p }
+  function_placed : (n : ℕ) (f : Composite) (names : List (List ℕ)) → Rise n (composite_numbers f) → FunctionTyped fs t names f → BodyPlaced fs (as_function f)
+  function_placed n f names r (rules.function_typed {g = g} {h = h} free other outs ins typed) =
+      let p = a_parameter f.inputs f.outputs (as_function f) refl refl outs ins in
+      let ms = flat_map declaration_numbers f.outputs ++ f.name.number ∷ flat_map declaration_numbers f.inputs in
+      record { scope = h; from = _; to = _; placed = body_placed fs t (length f.inputs) _ f.body h (rise_rest f.node.number ms (body_numbers f.body) r.1) (parameters_in (as_function f) h p) typed; parameters = p }
 
-  functions_placed : (n : ℕ) (ps : Tree) (names : List (List ℕ)) (g : Scope) → PartsTyped fs t names g (numbered n ps) → (f : Function) → f ∈ functions_of t (numbered n ps) → BodyPlaced fs f
-  functions_placed n [] names g h f m = elim m [ ]
-  functions_placed n (import sp ∷ ps) names g (rules.an_import h) f m = functions_placed (n + 0) ps names g h f m
-  functions_placed n (function c ∷ ps) names g (rules.a_function one h) f m = elim (split_in m) [
-    | inl e ↦ subst (BodyPlaced fs) (sym e) (function_placed n c names one)
-    | inr i ↦ functions_placed (n + composite_size c) ps ((numbered_composite n c).name.text ∷ names) g h f i
+  functions_placed : (n : ℕ) (ps : Tree) (names : List (List ℕ)) (g : Scope) → Rise n (numbers ps) → PartsTyped fs t names g ps → (f : Function) → f ∈ functions_of t ps → BodyPlaced fs f
+  functions_placed n [] names g r h f m = elim m [ ]
+  functions_placed n (import sp ∷ ps) names g r (rules.an_import h) f m = functions_placed n ps names g r h f m
+  functions_placed n (function c ∷ ps) names g r (rules.a_function one h) f m = elim (split_in m) [
+    | inl e ↦ subst (BodyPlaced fs) (sym e) (function_placed n c names (rise_front n (composite_numbers c) (numbers ps) r) one)
+    | inr i ↦ functions_placed (last n (composite_numbers c)) ps (c.name.text ∷ names) g (rise_rest n (composite_numbers c) (numbers ps) r) h f i
   ]
-  functions_placed n (single s ∷ ps) names g (rules.a_statement {h = h} one rest) f m = functions_placed (n + statement_size s) ps names h rest f m
+  functions_placed n (single s ∷ ps) names g r (rules.a_statement {h = h} one rest) f m = functions_placed (last n (statement_numbers s)) ps names h (rise_rest n (statement_numbers s) (numbers ps) r) rest f m
 
--- the bodies of a typed script are placed
-pub all_placed : (t : Table) (u : Tree) → WellTyped (numbered 1 u) t → AllPlaced (signatures (numbered 1 u)) (core t (numbered 1 u))
-all_placed t u h = record {
+-- the bodies of a typed script whose numbers rise are placed
+pub all_placed : (t : Table) (tree : Tree) → Rise 0 (numbers tree) → WellTyped tree t → AllPlaced (signatures tree) (core t tree)
+all_placed t tree r h = record {
   from = 1;
-  to = ends 1 u;
-  script = script_placed (signatures (numbered 1 u)) t 1 u [] [] (λ x s. (let i = s.visible in elim i [ ])) h;
-  functions = functions_placed (signatures (numbered 1 u)) t 1 u [] [] h;
+  to = suc (last 0 (numbers tree));
+  script = script_placed (signatures tree) t 0 tree [] [] r (λ x s. (let i = s.visible in elim i [ ])) h;
+  functions = functions_placed (signatures tree) t 0 tree [] [] r h;
 }
 
 -- SIGNATURES

@@ -1,9 +1,9 @@
 -- The core of a typed script with numbers in reading order is scoped, and where it is singly assigned and no called name stands at the offset of another it is well formed.
 use Rattle.std.specs.Prelude.{◌≡◌, ◌⊎◌, ℕ, zero, suc, ◌<◌, Bool, true, false, ◌&&◌, ◌||◌, List, [], ◌∷◌, Option, Some, length, nat_eq, nat_lt, slice_get, refl}
 use Rattle.std.proofs.Common.{inl, inr, sym, ap, ap₂, ◌∙◌, subst, arith}
-use Rattle.syntax_trees.specs.Core.{Owned, local, input, output, Name, Cell, Call, Part, inner, calls, Stmt, stmt, Action, declare, call_alone, assign, fill, insert, print, assert, when, choose, range, each, wait, Block, Function, Core}
+use Rattle.syntax_trees.specs.Core.{Owned, local, input, output, Name, Cell, Call, Part, inner, calls, Stmt, stmt, Action, each, wait, Block, Function, Core}
 use Rattle.syntax_trees.specs.Members.{◌∈◌, first, later}
-use Rattle.syntax_trees.specs.Numbered.{numbered}
+use Rattle.syntax_trees.specs.Numbers.{numbers}
 use Rattle.syntax_trees.specs.Parts.{block_list, script_blocks, script_stmts, part_cells, part_calls, parts, stmt_calls, stmt_action, by_name}
 use Rattle.syntax_trees.specs.Resolved.{core}
 use Rattle.syntax_trees.specs.Scopes.{Signature, signatures}
@@ -12,20 +12,21 @@ use Rattle.syntax_trees.specs.Table.{Table}
 use Rattle.syntax_trees.specs.Tree.{Tree}
 use Rattle.syntax_trees.specs.Typing.{WellTyped}
 use Rattle.syntax_trees.specs.WellFormed.{WellFormed, header_blocks}
-use Rattle.syntax_trees.proofs.Members.{split_in, to_left, to_right, either}
+use Rattle.syntax_trees.proofs.Members.{split_in, to_left, to_right}
 use Rattle.syntax_trees.proofs.Tested.{distinct, has_in, self_eq, flat_in, every, every_in, among_split, declared_of, hidden_calls, hidden_of, name_nodes, local_node, may_be, may_be_target, target_nodes, stmt_targets, targets_fine, split_flat}
 use Rattle.meaning_laws.proofs.TestedNames.{declared_by, all_declared, is_declared, named_fine, declares, used, is_here, here_and_declared, here_then_declared, declared_then_here, implies, block_names, headers_fine, waits_fine, output_below, is_output, function_name, function_fine, counts_of, call_fine, calls_fine, one_hidden, is_local, hidden_fine, Passes, kinds, well_formed}
-use Rattle.meaning_laws.proofs.TreeCalls.{calls-append, hidden, fills}
+use Rattle.meaning_laws.proofs.TreeCalls.{hidden, fills}
 use Rattle.meaning_laws.proofs.TreeNodes.{nodes_once}
 use Rattle.meaning_laws.proofs.TreeOffsets.{tree_offsets, offsets_once}
 use Rattle.meaning_laws.proofs.TreeStmts.{writers_once}
 use Rattle.meaning_laws.specs.Scoped.{InScope, IsScoped, Scoped}
+use Rattle.well_formed.specs.Placed.{Rise}
 use Rattle.well_formed.proofs.Placed.{Sees, CallFits}
 use Rattle.well_formed.proofs.Given.{HasTarget, used_target, no_target}
 use Rattle.well_formed.proofs.Standing.{used_stands, declared_here}
 use Rattle.well_formed.proofs.Everywhere.{Stands, an_output, a_declared, a_given, IsParameter, AllPlaced, HeaderOk, StmtOk, block_ok, each_stmt_ok}
 use Rattle.well_formed.proofs.Bodies.{all_placed, function_of, scoped_block}
-use Rattle.well_formed.proofs.Once.{numbers_once}
+use Rattle.well_formed.proofs.Once.{rising_once}
 
 -- TESTS
 
@@ -74,18 +75,15 @@ hidden_local (y ∷ []) x h m = elim (split_in m) [ inl e ↦ (let r = by y.up y
     by (suc up) what h = absurd (cc (h))
 hidden_local (y ∷ z ∷ xs) x h m = absurd (cc (h))
 
-module _ (t : Table) (u : Tree) (typed : WellTyped (numbered 1 u) t) where
-  abbrev tree : Tree
-  tree = numbered 1 u
-
+module _ (t : Table) (tree : Tree) (rise : Rise 0 (numbers tree)) (typed : WellTyped tree t) where
   abbrev s : Core
-  s = core t (numbered 1 u)
+  s = core t tree
 
   abbrev fs : List Signature
-  fs = signatures (numbered 1 u)
+  fs = signatures tree
 
   all : AllPlaced fs s
-  all = all_placed t u typed
+  all = all_placed t tree rise typed
 
   -- a statement of the script, in its block
   record Stood (st : Stmt) : Type 0 where
@@ -103,7 +101,7 @@ module _ (t : Table) (u : Tree) (typed : WellTyped (numbered 1 u) t) where
 
   -- a called function is there, with what the call has for it
   pub called : (k : ℕ) (c : Call) → CallFits fs k c → (f : Function) × (slice_get s.functions c.function ≡ Some f) × (length c.inputs ≡ f.inputs) × (length c.outputs ≡ f.outputs)
-  called k c h = let r = function_of t (numbered 1 u) c.function h.signature h.there in (r.0, r.1, h.inputs ∙ sym r.2, h.outputs ∙ sym r.3)
+  called k c h = let r = function_of t tree c.function h.signature h.there in (r.0, r.1, h.inputs ∙ sym r.2, h.outputs ∙ sym r.3)
 
   pub call_of : (st : Stmt) (c : Call) → st ∈ script_stmts s → c ∈ stmt_calls st → (k : ℕ) × CallFits fs k c
   call_of (stmt at n a) c m i = let r = stood (stmt at n a) m in (r.inputs, r.ok.fits.inside (calls c) (call_part (parts a) c i))
@@ -163,7 +161,7 @@ module _ (t : Table) (u : Tree) (typed : WellTyped (numbered 1 u) t) where
     -- the output of a call in an expression
     hidden_true : (at n : ℕ) (a : Action) (c : Call) → stmt at n a ∈ script_stmts s → c ∈ hidden_calls a → every (may_be_target s) c.outputs ≡ true
     hidden_true at n a c m i = every_of (may_be_target s) c.outputs (λ x j. (
-        let r = hidden_local c.outputs x (every_in (λ (d : Call). one_hidden d.outputs) (hidden_calls a) (every_in hidden_fine (script_stmts s) (hidden t (numbered 1 u)) m) i) j in
+        let r = hidden_local c.outputs x (every_in (λ (d : Call). one_hidden d.outputs) (hidden_calls a) (every_in hidden_fine (script_stmts s) (hidden t tree) m) i) j in
         let o : r.0 ∈ name_nodes c.outputs = flat_in (λ (y : Name). local_node y.what) c.outputs j (subst (λ (z : Owned). r.0 ∈ local_node z) (sym r.1) first) in
         let l : r.0 ∈ hidden_of a = flat_in (λ (d : Call). name_nodes d.outputs) (hidden_calls a) i o in
         let h : r.0 ∈ target_nodes s = later (flat_in stmt_targets (script_stmts s) m (to_right (declared_of a) (hidden_of a) l)) in
@@ -234,12 +232,12 @@ module _ (t : Table) (u : Tree) (typed : WellTyped (numbered 1 u) t) where
         let r = called q.0 c q.1 in
         subst (λ (o : Option Function). counts_of o c ≡ true) (sym r.1) (same_true (length c.outputs) r.0.outputs r.3)))
 
-    module _ (offsets : distinct (tree_offsets (numbered 1 u)) ≡ true) where
+    module _ (offsets : distinct (tree_offsets tree) ≡ true) where
       passes : Passes s
       passes = record {
-        nodes_once = nodes_once t (numbered 1 u) (numbers_once u);
-        writers_once = writers_once t (numbered 1 u) (numbers_once u);
-        offsets_once = offsets_once t (numbered 1 u) offsets;
+        nodes_once = nodes_once t tree (rising_once tree rise);
+        writers_once = writers_once t tree (rising_once tree rise);
+        offsets_once = offsets_once t tree offsets;
         targets = every_of (targets_fine s) (script_stmts s) targets_true;
         named = every_of (named_fine s) (script_stmts s) named_true;
         script_body = script_true;
@@ -247,8 +245,8 @@ module _ (t : Table) (u : Tree) (typed : WellTyped (numbered 1 u) t) where
         waits = every_of waits_fine (script_blocks s) waits_true;
         functions = every_of function_fine s.functions function_true;
         calls = every_of (calls_fine s) (script_stmts s) calls_true;
-        hidden = hidden t (numbered 1 u);
-        fills = fills t (numbered 1 u);
+        hidden = hidden t tree;
+        fills = fills t tree;
       }
 
       -- THE CORE IS WELL FORMED

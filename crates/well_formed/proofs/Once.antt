@@ -1,17 +1,17 @@
--- No number stands twice in a tree that is numbered in reading order.
-use Rattle.std.specs.Prelude.{◌≡◌, ℕ, zero, suc, ◌+◌, ◌<◌, ◌≤◌, Bool, true, false, not, ◌&&◌, ◌||◌, List, [], ◌∷◌, ◌++◌, Some, None, nat_eq, refl}
-use Rattle.std.proofs.Common.{sym, ap₂, subst, arith}
+-- Where the numbers of a tree stand in reading order, none stands twice.
+use Rattle.std.specs.Prelude.{◌≡◌, ℕ, true, List, [], ◌∷◌, ◌++◌, Some, None, refl}
+use Rattle.std.proofs.Common.{sym, subst, arith}
 use Rattle.std.specs.List.{flat_map}
-use Rattle.std.proofs.lemmas.Bool.{eqb-true}
 use Rattle.syntax_trees.specs.Tree as T
 use Rattle.syntax_trees.specs.Tree.{Word, Expression, expression, number, text, truth, variable, element, call, prefixed, chain, Expressions, no_expressions, and_expression, expressions_of, Declaration, RightSide, value, list, Calling, Over, Statement, statement, Command, choice, choice_else, loop, waits, Body, body, Statements, no_statements, and_statement, Tree, import, function, single}
 use Rattle.syntax_trees.specs.Numbered.{numbered, tree_size}
 use Rattle.syntax_trees.specs.Numbers as N
-use Rattle.syntax_trees.specs.Numbers.{numbers, numbers_from}
+use Rattle.syntax_trees.specs.Numbers.{numbers}
 use Rattle.syntax_trees.proofs.Numbers.{numbers-numbered}
-use Rattle.syntax_trees.proofs.Rows.{row_distinct}
-use Rattle.syntax_trees.proofs.Tested.{has, distinct}
+use Rattle.syntax_trees.proofs.Tested.{distinct}
 use Rattle.syntax_trees.proofs.TreeNumbers.{times, times-append, few_distinct, distinct_few, expression_numbers, form_numbers, expressions_numbers}
+use Rattle.well_formed.specs.Placed.{Rise}
+use Rattle.well_formed.proofs.Rising.{rise_distinct, rise_from}
 use Rattle.meaning_laws.proofs.TreeNodes.{words_numbers, right_numbers, calling_numbers, over_numbers, statement_numbers, command_numbers, body_numbers, statements_numbers, declarations_numbers, tree_numbers}
 
 module _ (n : ℕ) where
@@ -171,12 +171,13 @@ module _ (n : ℕ) where
       let g = times-append n (flat_map N.declaration_numbers f.outputs) (f.name.number ∷ flat_map N.declaration_numbers f.inputs) in
       omega arith
 
--- no number stands twice in a numbered tree, and none is 0
-pub numbers_once : (u : Tree) → distinct (0 ∷ tree_numbers (numbered 1 u)) ≡ true
-numbers_once u = few_distinct (0 ∷ tree_numbers (numbered 1 u)) (λ n. few n)
-  where
-    all : distinct (0 ∷ numbers (numbered 1 u)) ≡ true
-    all = subst (λ (ns : List ℕ). distinct (0 ∷ ns) ≡ true) (sym (numbers-numbered 1 u)) (row_distinct 0 (suc (tree_size u)))
+-- no number stands twice in a tree whose numbers rise, and none is 0
+pub rising_once : (tree : Tree) → Rise 0 (numbers tree) → distinct (0 ∷ tree_numbers tree) ≡ true
+rising_once tree h = few_distinct (0 ∷ tree_numbers tree) (λ n. (let a = distinct_few (0 ∷ numbers tree) (rise_distinct 0 (numbers tree) h) n in let b = of_tree n tree in omega arith))
 
-    few : (n : ℕ) → times n (0 ∷ tree_numbers (numbered 1 u)) ≤ 1
-    few n = let a = distinct_few (0 ∷ numbers (numbered 1 u)) all n in let b = of_tree n (numbered 1 u) in omega arith
+-- the numbers of a numbered tree rise
+pub numbered_rise : (u : Tree) → Rise 0 (numbers (numbered 1 u))
+numbered_rise u = subst (Rise 0) (sym (numbers-numbered 1 u)) (rise_from 0 1 (tree_size u) (omega arith))
+
+pub numbers_once : (u : Tree) → distinct (0 ∷ tree_numbers (numbered 1 u)) ≡ true
+numbers_once u = rising_once (numbered 1 u) (numbered_rise u)

@@ -1,5 +1,6 @@
 -- The blocks of a typed script with numbers in reading order are placed.
-use Rattle.std.specs.Prelude.{◌≡◌, ℕ, suc, ◌+◌, ◌≤◌, ℤ, List, [], ◌∷◌, map, Option, Some, None, option_map, sum_by, refl}
+use Rattle.std.specs.List.{flat_map}
+use Rattle.std.specs.Prelude.{◌≡◌, ℕ, suc, ◌<◌, ◌≤◌, ℤ, List, [], ◌∷◌, ◌++◌, map, Option, Some, None, refl}
 use Rattle.std.proofs.Common.{inl, inr, sym, ap, ◌∙◌, subst, arith}
 use Rattle.syntax_trees.specs.declared.tree.Base.{Base}
 use Rattle.syntax_trees.specs.declared.tree.Base.TheVariants.{Int}
@@ -8,7 +9,7 @@ use Rattle.syntax_trees.specs.Tree as T
 use Rattle.syntax_trees.specs.Tree.{Word, Node, Declaration, Expression, expression, number, text, truth, variable, element, call, prefixed, chain, Expressions, expressions_of, value, list, RightSide, Over, Statement, statement, choice, choice_else, loop, waits, Body, body, Statements, no_statements, and_statement, Composite, Tree, import, function, single}
 use Rattle.syntax_trees.specs.Core.{local, input, Name, here, Block}
 use Rattle.syntax_trees.specs.Members.{◌∈◌, first, later}
-use Rattle.syntax_trees.specs.Numbered.{expression_size, word_size, option_size, over_size, statement_size, body_size, statements_size, numbered_word, numbered_node, numbered_each, numbered_right, numbered_calling, numbered_over, numbered_statement, numbered_body, numbered_statements}
+use Rattle.syntax_trees.specs.Numbers.{expression_numbers, word_numbers, option_numbers, right_numbers, over_numbers, statement_numbers, body_numbers, statements_numbers}
 use Rattle.syntax_trees.specs.Resolved.{refers, call_right, right_of, call_action, several, loop_action, block_of, block_in, with_statement}
 use Rattle.syntax_trees.specs.Table as table
 use Rattle.syntax_trees.specs.Table.{Table, Callee, composite, built_in}
@@ -18,6 +19,8 @@ use Rattle.syntax_trees.specs.Typing.{RightType, LoopScope, StatementTyped, Stat
 use Rattle.syntax_trees.proofs.Members.{split_in}
 use Rattle.syntax_trees.proofs.Tested.{roles_of}
 use Rattle.meaning_laws.specs.Scoped.{IsIn}
+use Rattle.well_formed.specs.Placed.{Rise}
+use Rattle.well_formed.proofs.Rising.{last, rise_least, rise_front, rise_rest, last_append}
 use Rattle.well_formed.proofs.Placed.{Sees, Fits, IsPlain, Loops, over_range, over_each, LoopSees, Placed, placed_end, placed_declaration, placed_plain, placed_when, placed_choose, placed_loop, placed_wait}
 use Rattle.well_formed.proofs.Fitting.{seen, declare_fits, right_fits, write_fits, several_fits, called_fits, when_fits, choose_fits, loop_fits, wait_fits}
 
@@ -70,20 +73,29 @@ loop_in k v None g h b (rules.value_only (rules.fresh free)) a = own_in k (deepe
 loop_in k v (Some u) g h b (rules.with_key (rules.fresh free) (rules.fresh other)) a =
     own_in k (own v (one_of b) ∷ deeper g) (own u (one_of Int)) u.number refl (own_in k (deeper g) (own v (one_of b)) v.number refl (deeper_in k g a))
 
-loop_sees : (t : Table) (n m : ℕ) (v : Word) (u : Option Word) (o : Over) (d : Block) (g h : Scope) (b : Base) → n + 1 + option_size word_size u ≤ m
-    → LoopScope g (numbered_word n v) b (option_map (numbered_word (n + 1)) u) h
-    → LoopSees g (loop_action t (numbered_word n v) (option_map (numbered_word (n + 1)) u) o d) m h
-loop_sees t n m v None o d g h b less (rules.value_only (rules.fresh free)) x i = elim (split_in i) [
-  | inl e ↦ inr (record { node = n; is = ap (λ (z : Visible). z.refers_to) e; role = first_role t (numbered_word n v) None o d; less = omega arith })
+-- a key's number, where there is a key
+abbrev KeyBelow : Option Word → ℕ → Type 0
+KeyBelow None m = Unit {0}
+KeyBelow (Some w) m = w.number < m
+
+loop_sees : (t : Table) (m : ℕ) (v : Word) (u : Option Word) (o : Over) (d : Block) (g h : Scope) (b : Base) → v.number < m → KeyBelow u m
+    → LoopScope g v b u h → LoopSees g (loop_action t v u o d) m h
+loop_sees t m v None o d g h b less low (rules.value_only (rules.fresh free)) x i = elim (split_in i) [
+  | inl e ↦ inr (record { node = v.number; is = ap (λ (z : Visible). z.refers_to) e; role = first_role t v None o d; less = less })
   | inr j ↦ inl j
 ]
-loop_sees t n m v (Some u) o d g h b less (rules.with_key (rules.fresh free) (rules.fresh other)) x i = elim (split_in i) [
-  | inl e ↦ inr (record { node = n + 1; is = ap (λ (z : Visible). z.refers_to) e; role = second_role t (numbered_word n v) (numbered_word (n + 1) u) o d; less = omega arith })
+loop_sees t m v (Some u) o d g h b less low (rules.with_key (rules.fresh free) (rules.fresh other)) x i = elim (split_in i) [
+  | inl e ↦ inr (record { node = u.number; is = ap (λ (z : Visible). z.refers_to) e; role = second_role t v u o d; less = low })
   | inr j ↦ elim (split_in j) [
-    | inl e ↦ inr (record { node = n; is = ap (λ (z : Visible). z.refers_to) e; role = first_role t (numbered_word n v) (Some (numbered_word (n + 1) u)) o d; less = omega arith })
+    | inl e ↦ inr (record { node = v.number; is = ap (λ (z : Visible). z.refers_to) e; role = first_role t v (Some u) o d; less = less })
     | inr l ↦ inl l
   ]
 ]
+
+-- the variables of a loop have numbers below those of its body
+key_below : (n : ℕ) (u : Option Word) (ns : List ℕ) → Rise n (option_numbers word_numbers u ++ ns) → KeyBelow u (suc (last n (option_numbers word_numbers u ++ ns)))
+key_below n None ns h = tt
+key_below n (Some w) ns h = let l = rise_least w.number ns h.1 in omega arith
 
 -- STATEMENTS
 
@@ -138,58 +150,91 @@ module _ (fs : List Signature) (t : Table) (k : ℕ) where
   placed_from g from m b to less (placed_wait f l p e q) = placed_wait f (omega arith) p e q
 
   mutual
-    pub body_placed : (n : ℕ) (b : Body) (g : Scope) → AreIn k g → BodyTyped fs t g (numbered_body n b) → Placed fs k g n (block_of t (numbered_body n b)) (n + body_size b)
-    body_placed n (body from ss) g a (rules.in_braces h) = statements_placed n ss g a h
+    -- the numbers of a thing are above the one before it
+    pub body_placed : (n : ℕ) (b : Body) (g : Scope) → Rise n (body_numbers b) → AreIn k g → BodyTyped fs t g b → Placed fs k g (suc n) (block_of t b) (suc (last n (body_numbers b)))
+    body_placed n (body from ss) g r a (rules.in_braces h) = statements_placed n ss g r a h
 
-    statements_placed : (n : ℕ) (ss : Statements) (g : Scope) → AreIn k g → StatementsTyped fs t g (numbered_statements n ss) → Placed fs k g n (block_in t (numbered_statements n ss)) (n + statements_size ss)
-    statements_placed n no_statements g a rules.no_more_statements = placed_end (omega arith)
-    statements_placed n (and_statement s ss) g a (rules.next_statement {h = h} one rest) =
-        subst (λ (m : ℕ). Placed fs k g n (with_statement t (numbered_statement n s) (block_in t (numbered_statements (n + statement_size s) ss))) m) (omega arith)
-        (statement_placed n s g h (block_in t (numbered_statements (n + statement_size s) ss)) (n + statement_size s + statements_size ss) a one
-        (λ c. statements_placed (n + statement_size s) ss h c rest))
+    statements_placed : (n : ℕ) (ss : Statements) (g : Scope) → Rise n (statements_numbers ss) → AreIn k g → StatementsTyped fs t g ss → Placed fs k g (suc n) (block_in t ss) (suc (last n (statements_numbers ss)))
+    statements_placed n no_statements g r a rules.no_more_statements = placed_end (omega arith)
+    statements_placed n (and_statement s ss) g r a (rules.next_statement {h = h} one rest) =
+        let ms = statement_numbers s in
+        let ks = statements_numbers ss in
+        statement_placed n s g h (block_in t ss) (suc (last n (ms ++ ks))) (rise_front n ms ks r) a one
+        (λ c. subst (λ (m : ℕ). Placed fs k h (suc (last n ms)) (block_in t ss) (suc m)) (sym (last_append n ms ks)) (statements_placed (last n ms) ss h (rise_rest n ms ks r) c rest))
 
-    pub statement_placed : (n : ℕ) (s : Statement) (g h : Scope) (b : Block) (to : ℕ) → AreIn k g → StatementTyped fs t g (numbered_statement n s) h
-        → (AreIn k h → Placed fs k h (n + statement_size s) b to) → Placed fs k g n (with_statement t (numbered_statement n s) b) to
-    statement_placed n (statement nd (T.declare d None)) g h b to a (rules.declaration (rules.fresh free)) behind =
-        let w = own (numbered_word (n + 1) d.name) (declared_type d) in
-        placed_declaration {w = w} (declare_fits fs t k g a (n + 1)) refl (omega arith) (placed_from (w ∷ g) (suc (n + 1)) (n + statement_size (statement nd (T.declare d None))) b to (omega arith) (behind (own_in k g w (n + 1) refl a)))
-    statement_placed n (statement nd (T.declare d (Some r))) g h b to a (rules.definition (rules.fresh free) typed) behind =
-        let w = own (numbered_word (n + 1) d.name) (declared_type d) in
-        let more = own_in k g w (n + 1) refl a in
-        placed_declaration {w = w} (declare_fits fs t k g a (n + 1)) refl (omega arith)
-        (placed_plain (right_plain t (here (n + 1)) d.shape (numbered_right (n + 1 + 1) r))
-        (right_fits fs t k (w ∷ g) more (here (n + 1)) (own_seen g (numbered_word (n + 1) d.name) (declared_type d)) typed) (omega arith) (behind more))
-    statement_placed n (statement nd (T.assign w r)) g h b to a (rules.assignment {τ = τ} refers typed) behind =
-        placed_plain (right_plain t (t.name_of (n + 1)) (t.shape_of (n + 1)) (numbered_right (n + 1 + 1) r))
-        (subst (λ (sh : Shape). Fits fs k g (right_of t (t.name_of (n + 1)) sh (numbered_right (n + 1 + 1) r))) (sym refers.shaped)
-        (right_fits fs t k g a (t.name_of (n + 1)) (seen fs t k g a refers) typed)) (omega arith) (behind a)
-    statement_placed n (statement nd (T.write w i e)) g h b to a (rules.element_write {b = c} refers index right) behind =
-        placed_plain tt (write_fits fs t k g a (t.name_of (n + 1)) (seen fs t k g a refers) index right) (omega arith) (behind a)
-    statement_placed n (statement nd (T.assign_all ws c)) g h b to a typed behind =
-        let us = numbered_each numbered_word word_size (n + 1) ws in
-        let d = numbered_calling (n + 1 + sum_by word_size ws) c in
-        let q = several_fits fs t k g a (numbered_node n nd) us d h typed in
-        placed_plain (several_plain t d.node.number d.name (expressions_of d.arguments) (map (refers t) us) (t.callee_of d.name.number)) q.0 (omega arith)
-        (subst (λ (z : Scope). Placed fs k z (n + statement_size (statement nd (T.assign_all ws c))) b to) (sym q.1) (behind (subst (AreIn k) q.1 a)))
-    statement_placed n (statement nd (T.calls p c)) g h b to a (rules.call_statement typed) behind =
-        let d = numbered_calling (n + 1) c in
-        placed_plain (call_plain t p d.node.number d.name (expressions_of d.arguments) (t.callee_of d.name.number)) (called_fits fs t k g a p d.node.number typed) (omega arith) (behind a)
-    statement_placed n (statement nd (choice e d)) g h b to a (rules.if_statement condition typed) behind =
-        let m = n + 1 + expression_size e in
-        placed_when {m = m} {l = m + body_size d} (when_fits fs t k g a (block_of t (numbered_body m d)) condition) (omega arith) (body_placed m d (deeper g) (deeper_in k g a) typed) (omega arith) (behind a)
-    statement_placed n (statement nd (choice_else e d f)) g h b to a (rules.if_else_statement condition typed other) behind =
-        let m = n + 1 + expression_size e in
-        let l = m + body_size d in
-        placed_choose {m = m} {l = l} {i = l + body_size f} (choose_fits fs t k g a (block_of t (numbered_body m d)) (block_of t (numbered_body l f)) condition) (omega arith)
-        (body_placed m d (deeper g) (deeper_in k g a) typed) (body_placed l f (deeper g) (deeper_in k g a) other) (omega arith) (behind a)
-    statement_placed n (statement nd (loop v u o d)) g h b to a (rules.loop_statement {h = inner} {β = β} source scope typed) behind =
-        let m = n + 1 + 1 + option_size word_size u + over_size o in
-        let vs = numbered_word (n + 1) v in
-        let us = option_map (numbered_word (n + 1 + 1)) u in
-        let os = numbered_over (n + 1 + 1 + option_size word_size u) o in
-        let ds = block_of t (numbered_body m d) in
-        placed_loop {h = inner} {m = m} {l = m + body_size d} (loops_body t vs us os ds) (loop_fits fs t k g a vs us os ds source)
-        (loop_sees t (n + 1) m v u os ds g inner β (omega arith) scope) (omega arith) (body_placed m d inner (loop_in k vs us g inner β scope a) typed) (omega arith) (behind a)
-    statement_placed n (statement nd (waits ws d)) g h b to a (rules.wait_statement {τs = τs} names typed) behind =
-        let m = n + 1 + sum_by word_size ws in
-        placed_wait {m = m} {l = m + body_size d} (wait_fits fs t k g a (block_of t (numbered_body m d)) names) (omega arith) (body_placed m d g a typed) (omega arith) (behind a)
+    pub statement_placed : (n : ℕ) (s : Statement) (g h : Scope) (b : Block) (to : ℕ) → Rise n (statement_numbers s) → AreIn k g → StatementTyped fs t g s h
+        → (AreIn k h → Placed fs k h (suc (last n (statement_numbers s))) b to) → Placed fs k g (suc n) (with_statement t s b) to
+    statement_placed n (statement nd (T.declare d None)) g h b to r a (rules.declaration (rules.fresh free)) behind =
+        let w = own d.name (declared_type d) in
+        let p = r.0 in
+        let q = r.1.0 in
+        placed_declaration {w = w} (declare_fits fs t k g a d.name.number) refl (omega arith) (behind (own_in k g w d.name.number refl a))
+    statement_placed n (statement nd (T.declare d (Some e))) g h b to r a (rules.definition (rules.fresh free) typed) behind =
+        let w = own d.name (declared_type d) in
+        let more = own_in k g w d.name.number refl a in
+        let p = r.0 in
+        let q = r.1.0 in
+        let l = rise_least d.name.number (right_numbers e) r.1.1 in
+        placed_declaration {w = w} (declare_fits fs t k g a d.name.number) refl (omega arith)
+        (placed_plain (right_plain t (here d.name.number) d.shape e)
+        (right_fits fs t k (w ∷ g) more (here d.name.number) (own_seen g d.name (declared_type d)) typed) (omega arith) (behind more))
+    statement_placed n (statement nd (T.assign w e)) g h b to r a (rules.assignment {τ = τ} refers typed) behind =
+        let l = rise_least n (statement_numbers (statement nd (T.assign w e))) r in
+        placed_plain (right_plain t (t.name_of w.number) (t.shape_of w.number) e)
+        (subst (λ (sh : Shape). Fits fs k g (right_of t (t.name_of w.number) sh e)) (sym refers.shaped)
+        (right_fits fs t k g a (t.name_of w.number) (seen fs t k g a refers) typed)) (omega arith) (behind a)
+    statement_placed n (statement nd (T.write w i e)) g h b to r a (rules.element_write {b = c} refers index right) behind =
+        let l = rise_least n (statement_numbers (statement nd (T.write w i e))) r in
+        placed_plain tt (write_fits fs t k g a (t.name_of w.number) (seen fs t k g a refers) index right) (omega arith) (behind a)
+    statement_placed n (statement nd (T.assign_all ws c)) g h b to r a typed behind =
+        let q = several_fits fs t k g a nd ws c h typed in
+        let l = rise_least n (statement_numbers (statement nd (T.assign_all ws c))) r in
+        placed_plain (several_plain t c.node.number c.name (expressions_of c.arguments) (map (refers t) ws) (t.callee_of c.name.number)) q.0 (omega arith)
+        (subst (λ (z : Scope). Placed fs k z (suc (last n (statement_numbers (statement nd (T.assign_all ws c))))) b to) (sym q.1) (behind (subst (AreIn k) q.1 a)))
+    statement_placed n (statement nd (T.calls p c)) g h b to r a (rules.call_statement typed) behind =
+        let l = rise_least n (statement_numbers (statement nd (T.calls p c))) r in
+        placed_plain (call_plain t p c.node.number c.name (expressions_of c.arguments) (t.callee_of c.name.number)) (called_fits fs t k g a p c.node.number typed) (omega arith) (behind a)
+    statement_placed n (statement nd (choice e d)) g h b to r a (rules.if_statement condition typed) behind =
+        let es = expression_numbers e in
+        let ds = body_numbers d in
+        let m = last nd.number es in
+        let p = r.0 in
+        let q = rise_least nd.number es (rise_front nd.number es ds r.1) in
+        let l = last_append nd.number es ds in
+        placed_when {m = suc m} {l = suc (last m ds)} (when_fits fs t k g a (block_of t d) condition) (omega arith) (body_placed m d (deeper g) (rise_rest nd.number es ds r.1) (deeper_in k g a) typed) (omega arith) (behind a)
+    statement_placed n (statement nd (choice_else e d f)) g h b to r a (rules.if_else_statement condition typed other) behind =
+        let es = expression_numbers e in
+        let ds = body_numbers d in
+        let os = body_numbers f in
+        let m = last nd.number es in
+        let i = last m ds in
+        let p = r.0 in
+        let front = rise_front nd.number (es ++ ds) os r.1 in
+        let q = rise_least nd.number es (rise_front nd.number es ds front) in
+        let same = last_append nd.number es ds in
+        let more = last_append nd.number (es ++ ds) os in
+        let behind_d = subst (λ (z : ℕ). Rise z os) same (rise_rest nd.number (es ++ ds) os r.1) in
+        let is : last (last nd.number (es ++ ds)) os ≡ last i os = ap (λ (z : ℕ). last z os) same in
+        placed_choose {m = suc m} {l = suc i} {i = suc (last i os)} (choose_fits fs t k g a (block_of t d) (block_of t f) condition) (omega arith)
+        (body_placed m d (deeper g) (rise_rest nd.number es ds front) (deeper_in k g a) typed) (body_placed i f (deeper g) behind_d (deeper_in k g a) other) (omega arith) (behind a)
+    statement_placed n (statement nd (loop v u o d)) g h b to r a (rules.loop_statement {h = inner} {β = β} source scope typed) behind =
+        let us = option_numbers word_numbers u in
+        let os = over_numbers o in
+        let ds = body_numbers d in
+        let m = last v.number (us ++ os) in
+        let p = r.0 in
+        let q = r.1.0 in
+        let front = rise_front v.number (us ++ os) ds r.1.1 in
+        let l = rise_least v.number (us ++ os) front in
+        let same = last_append v.number (us ++ os) ds in
+        let c = block_of t d in
+        placed_loop {h = inner} {m = suc m} {l = suc (last m ds)} (loops_body t v u o c) (loop_fits fs t k g a v u o c source)
+        (loop_sees t (suc m) v u o c g inner β (omega arith) (key_below v.number u os front) scope) (omega arith) (body_placed m d inner (rise_rest v.number (us ++ os) ds r.1.1) (loop_in k v u g inner β scope a) typed) (omega arith) (behind a)
+    statement_placed n (statement nd (waits ws d)) g h b to r a (rules.wait_statement {τs = τs} names typed) behind =
+        let vs = flat_map word_numbers ws in
+        let ds = body_numbers d in
+        let m = last nd.number vs in
+        let p = r.0 in
+        let q = rise_least nd.number vs (rise_front nd.number vs ds r.1) in
+        let l = last_append nd.number vs ds in
+        placed_wait {m = suc m} {l = suc (last m ds)} (wait_fits fs t k g a (block_of t d) names) (omega arith) (body_placed m d g (rise_rest nd.number vs ds r.1) a typed) (omega arith) (behind a)

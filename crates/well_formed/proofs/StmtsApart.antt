@@ -8,7 +8,7 @@ use Rattle.syntax_trees.specs.Members.{◌∈◌, first}
 use Rattle.syntax_trees.specs.Parts.{script_stmts, script_blocks, block_list, cells, part_cells, parts, stmt_node, stmt_action}
 use Rattle.syntax_trees.specs.Resolved.{call_right, right_of, core}
 use Rattle.syntax_trees.specs.Table.{Table, Callee, composite, built_in}
-use Rattle.syntax_trees.proofs.Members.{split_in, to_left, to_right}
+use Rattle.syntax_trees.proofs.Members.{to_left, to_right}
 use Rattle.syntax_trees.proofs.Tested.{distinct, flat, flat_in, flat_once, nodes, block_nodes, among_split, action_nodes, declared_of, cell_nodes, roles_of, hidden_of}
 use Rattle.syntax_trees.proofs.TreeNumbers.{hit, times, in_times, few_distinct, distinct_few}
 use Rattle.meaning_laws.proofs.TreeNodes.{tree_numbers, core_both}

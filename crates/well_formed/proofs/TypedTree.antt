@@ -4,7 +4,7 @@ use Rattle.std.proofs.Common.{inl, inr, sym, ap, ◌∙◌, subst, arith}
 use Rattle.syntax_trees.specs.Tree.{Declaration, Composite, Tree}
 use Rattle.syntax_trees.specs.Core.{Owned, input, output, Name, Function}
 use Rattle.syntax_trees.specs.Members.{◌∈◌}
-use Rattle.syntax_trees.specs.Numbered.{numbered}
+use Rattle.syntax_trees.specs.Numbers.{numbers}
 use Rattle.syntax_trees.specs.Resolved.{block_of, script_block, functions_of, core}
 use Rattle.syntax_trees.specs.Scopes.{Typ, declared_type, Visible, Scope, Signature, signature_of, signatures}
 use Rattle.syntax_trees.specs.Table.{Table}
@@ -13,10 +13,11 @@ use Rattle.syntax_trees.specs.Typing.{Parameters, FunctionTyped, PartsTyped, Wel
 use Rattle.syntax_trees.proofs.Members.{split_in}
 use Rattle.syntax_trees.proofs.TreeNumbers.{times, distinct_few}
 use Rattle.meaning_laws.proofs.TreeNodes.{declarations_numbers, body_numbers, tree_numbers}
+use Rattle.well_formed.specs.Placed.{Rise}
 use Rattle.well_formed.specs.Types.{no_signature, NameHas, BlockHas, no_statement, HasTypes, DeclaredAs, tree_declarations, statement_declarations, body_declarations}
 use Rattle.well_formed.proofs.Bodies.{length-map}
 use Rattle.well_formed.proofs.NodeTypes.{NodesTyped, always, joined, passed, all_passed, and_so, there_are}
-use Rattle.well_formed.proofs.Once.{numbers_once}
+use Rattle.well_formed.proofs.Once.{rising_once}
 use Rattle.well_formed.proofs.TypedParts.{ScopeHas}
 use Rattle.well_formed.proofs.TypedStatements.{both_declared, body_typed, statement_typed}
 
@@ -89,10 +90,10 @@ module _ (fs : List Signature) (t : Table) where
   parts_typed (rules.a_statement {s = st} {ps = ps} one rest) =
       and_so (joined (statement_typed fs t no_signature 0 one) (parts_typed rest)) (λ type_of q. (both_declared fs t no_signature type_of (statement_declarations st) (tree_declarations ps) q.0.0 q.1.0, λ s. (let r = q.0.1 s in r.1 (script_block t ps) (q.1.1 r.0)), q.1.2))
 
--- the core of a well typed script that is numbered in reading order has types
-pub has_types : (t : Table) (u : Tree) → WellTyped (numbered 1 u) t → (type_of : ℕ → Typ) × HasTypes (signatures (numbered 1 u)) type_of (core t (numbered 1 u)) × DeclaredAs type_of (tree_declarations (numbered 1 u))
-has_types t u typed =
-    let fs = signatures (numbered 1 u) in
+-- the core of a well typed script whose numbers rise has types
+pub has_types : (t : Table) (tree : Tree) → Rise 0 (numbers tree) → WellTyped tree t → (type_of : ℕ → Typ) × HasTypes (signatures tree) type_of (core t tree) × DeclaredAs type_of (tree_declarations tree)
+has_types t tree rise typed =
+    let fs = signatures tree in
     let r = there_are (parts_typed fs t typed) few in (
       r.0,
       record {
@@ -102,5 +103,5 @@ has_types t u typed =
       r.1.0,
     )
   where
-    few : (n : ℕ) → times n (tree_numbers (numbered 1 u)) ≤ 1
-    few n = let a = distinct_few (0 ∷ tree_numbers (numbered 1 u)) (numbers_once u) n in omega arith
+    few : (n : ℕ) → times n (tree_numbers tree) ≤ 1
+    few n = let a = distinct_few (0 ∷ tree_numbers tree) (rising_once tree rise) n in omega arith

@@ -3,7 +3,7 @@ use Rattle.std.proofs.Common.{◌≡◌, ◌⊎◌, inl, inr, ℕ, Bool, List, m
 use Rattle.dataflow.specs.System.{In}
 use Rattle.syntax_trees.specs.Core.{Core}
 use Rattle.syntax_trees.specs.Members.{◌∈◌}
-use Rattle.syntax_trees.specs.Reads.{Reads}
+use Rattle.well_formed.specs.Placed.{IsPlaced}
 use Rattle.syntax_trees.specs.Resolved.{core}
 use Rattle.syntax_trees.specs.Scopes.{Typ, Signature, signatures}
 use Rattle.syntax_trees.specs.Single.{SinglyAssigned, an_input}
@@ -20,13 +20,12 @@ use Rattle.agreement.specs.Emitted.{HasRights}
 use Rattle.agreement.specs.IsCodeOf.{Layout}
 use Rattle.agreement.specs.NodesOnce.{NodesOnce}
 use Rattle.task_code.specs.Whole.{IsCode}
-use Rattle.meaning_laws.proofs.TreeNodes.{tree_numbers, nodes_once}
-use Rattle.well_formed.proofs.Once.{numbers_once}
-use Rattle.syntax_trees.proofs.Tested.{distinct}
-use Rattle.std.specs.Prelude.{◌∷◌, true}
+use Rattle.meaning_laws.proofs.TreeNodes.{nodes_once}
+use Rattle.well_formed.proofs.Once.{rising_once}
 use Rattle.agreement.specs.Laying.{Kinds}
 use Rattle.agreement.specs.Laid.{IsLaid}
-use Rattle.well_formed.proofs.Accepted.{accepted_scoped, typed_script}
+use Rattle.well_formed.proofs.Accepted.{placed_types}
+use Rattle.well_formed.proofs.Formed.{scoped}
 use Rattle.well_formed.proofs.Given.{no_target}
 use Rattle.well_formed.specs.Types.{Types}
 use Rattle.whole_code.specs.Described.{is_array_shape, kinds_of_signature, KindsOf, DeclaredIn}
@@ -68,18 +67,18 @@ declared_kinds type_of ds tree h k n b m =
     let r = h n b m in
     ap (λ (τ : Typ). is_array_shape τ.shape) (subst (λ (x : ℕ). type_of x ≡ Rattle.syntax_trees.specs.Scopes.declared_type r.0) r.2 (k r.0 r.1)) ∙ r.3
 
-pub accepted_within : (bytes : List ℕ) (t : Table) (tree : Tree) (fs : List Kinds) (ds : List (ℕ × Bool)) (C : Code) (l : Layout) → Reads bytes tree → WellTyped tree t → SinglyAssigned (core t tree) → KindsOf fs tree → DeclaredIn ds tree
+pub accepted_within : (t : Table) (tree : Tree) (fs : List Kinds) (ds : List (ℕ × Bool)) (C : Code) (l : Layout) → IsPlaced tree → WellTyped tree t → SinglyAssigned (core t tree) → KindsOf fs tree → DeclaredIn ds tree
     → IsLaid (core t tree) fs ds C l → HasRights C → CallsAreFound C → IsWithin C
-accepted_within bytes t tree fs ds C l reads typed single kinds declared laid rights found =
-    let types : Types t tree = typed_script bytes t tree reads typed in
-    within C l laid rights found (accepted_scoped t tree reads.parsed reads.is_numbered typed) (signatures tree) types.type_of (scopes_of types.type_of t tree types.declared typed) (declared_kinds types.type_of ds tree declared types.declared) kinds single
+accepted_within t tree fs ds C l place typed single kinds declared laid rights found =
+    let types : Types t tree = placed_types t tree place typed in
+    within C l laid rights found (scoped t tree place.in_order typed) (signatures tree) types.type_of (scopes_of types.type_of t tree types.declared typed) (declared_kinds types.type_of ds tree declared types.declared) kinds single
 
 -- LAID CODE OF AN ACCEPTED SCRIPT IS WHOLE
-pub accepted_whole : (bytes : List ℕ) (t : Table) (tree : Tree) (fs : List Kinds) (ds : List (ℕ × Bool)) (C : Code) (l : Layout) → Reads bytes tree → WellTyped tree t → SinglyAssigned (core t tree) → KindsOf fs tree → DeclaredIn ds tree
+pub accepted_whole : (t : Table) (tree : Tree) (fs : List Kinds) (ds : List (ℕ × Bool)) (C : Code) (l : Layout) → IsPlaced tree → WellTyped tree t → SinglyAssigned (core t tree) → KindsOf fs tree → DeclaredIn ds tree
     → IsLaid (core t tree) fs ds C l → HasRights C → CallsAreFound C → NodesOnce C → IsCode C
-accepted_whole bytes t tree fs ds C l reads typed single kinds declared laid rights found nodes =
-    let types : Types t tree = typed_script bytes t tree reads typed in
-    let scoped = accepted_scoped t tree reads.parsed reads.is_numbered typed in
-    whole C l laid rights found scoped (signatures tree) types.type_of (scopes_of types.type_of t tree types.declared typed) (declared_kinds types.type_of ds tree declared types.declared) kinds single nodes
-    (nodes_once t tree (subst (λ (p : Tree). distinct (0 ∷ tree_numbers p) ≡ true) (sym reads.is_numbered) (numbers_once reads.parsed)))
-    (standing C l laid rights found scoped) (accepted_within bytes t tree fs ds C l reads typed single kinds declared laid rights found)
+accepted_whole t tree fs ds C l place typed single kinds declared laid rights found nodes =
+    let types : Types t tree = placed_types t tree place typed in
+    let held = scoped t tree place.in_order typed in
+    whole C l laid rights found held (signatures tree) types.type_of (scopes_of types.type_of t tree types.declared typed) (declared_kinds types.type_of ds tree declared types.declared) kinds single nodes
+    (nodes_once t tree (rising_once tree place.in_order))
+    (standing C l laid rights found held) (accepted_within t tree fs ds C l place typed single kinds declared laid rights found)

@@ -5,14 +5,13 @@ use Rattle.dataflow.specs.System.{In, Distinct}
 use Rattle.syntax_trees.specs.Core.{Call}
 use Rattle.syntax_trees.specs.Members.{◌∈◌, first, later}
 use Rattle.syntax_trees.specs.Parts.{calls_among, script_stmts}
-use Rattle.syntax_trees.specs.Reads.{Reads}
+use Rattle.well_formed.specs.Placed.{IsPlaced}
 use Rattle.syntax_trees.specs.Resolved.{core}
 use Rattle.syntax_trees.specs.Table.{Table}
 use Rattle.syntax_trees.specs.Tree.{Tree}
 use Rattle.syntax_trees.proofs.Tested.{distinct, flat, both, has, has_in}
 use Rattle.meaning_laws.proofs.TestedNames.{offset}
 use Rattle.meaning_laws.proofs.TreeOffsets.{offsets_once}
-use Rattle.well_formed.proofs.Apart.{apart}
 use Rattle.agreement.specs.Emitted.{CallsOnce}
 
 lacks : (b : Bool) → not b ≡ true → b ≡ true → ⊥
@@ -30,5 +29,5 @@ apart_offsets (c ∷ cs) h =
     let p = both (not (has c.at (flat offset cs))) (distinct (flat offset cs)) h in
     (λ i. lacks (has c.at (flat offset cs)) p.0 (has_in (in_flat c.at cs i)), apart_offsets cs p.1)
 
-pub accepted_calls : (bytes : List ℕ) (t : Table) (tree : Tree) → Reads bytes tree → CallsOnce (core t tree)
-accepted_calls bytes t tree r = apart_offsets (calls_among (script_stmts (core t tree))) (offsets_once t tree (apart bytes tree r))
+pub accepted_calls : (t : Table) (tree : Tree) → IsPlaced tree → CallsOnce (core t tree)
+accepted_calls t tree p = apart_offsets (calls_among (script_stmts (core t tree))) (offsets_once t tree p.apart)

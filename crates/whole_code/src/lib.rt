@@ -1,4 +1,4 @@
-//! Laid code of an accepted script is whole. Nothing here runs: each function has an empty body, and its contract is a law.
+//! Laid code of a tree that is placed, well typed and singly assigned is whole. Nothing here runs: each function has an empty body, and its contract is a law.
 #![tactic(auto)]
 
 ghost use Rattle.agreement.specs.Emitted.{CallsOnce, HasRights};
@@ -8,7 +8,7 @@ ghost use Rattle.agreement.specs.Laying.{Kinds};
 ghost use Rattle.meaning_laws.specs.Scoped.{Scoped};
 ghost use Rattle.std.specs.Prelude.{◌≡◌, ℕ, Bool, true, List};
 ghost use Rattle.syntax_trees.specs.Core.{Core};
-ghost use Rattle.syntax_trees.specs.Reads.{Reads};
+ghost use Rattle.well_formed.specs.Placed.{IsPlaced};
 ghost use Rattle.syntax_trees.specs.Resolved.{core};
 ghost use Rattle.syntax_trees.specs.Single.{SinglyAssigned};
 ghost use Rattle.syntax_trees.specs.Table.{Table};
@@ -33,21 +33,20 @@ pub fn laid_code_stands()
     ensures { (s : Core) (fs : List Kinds) (ds : List (ℕ × Bool)) (C : Code) (l : Layout) → IsLaid s fs ds C l → HasRights C → CallsAreFound C → Scoped s → IsStanding C }
 {}
 
-/// In laid code of an accepted script, with exact rights, what the entries of a body may read and write is declared in the body, or belongs to the entry that opens it: the
+/// In laid code of a tree that is placed, well typed and singly assigned, with exact rights, what the entries of a body may read and write is declared in the body, or belongs to the entry that opens it: the
 /// script's entries name the script's own variables, an inner block's what is seen from it, and a called function's what the call hands over. A name is an array's where it is declared as one.
 pub fn accepted_code_is_within()
-    ensures { (bytes : List ℕ) (t : Table) (tree : Tree) (fs : List Kinds) (ds : List (ℕ × Bool)) (C : Code) (l : Layout) → Reads bytes tree → WellTyped tree t → SinglyAssigned (core t tree)
+    ensures { (t : Table) (tree : Tree) (fs : List Kinds) (ds : List (ℕ × Bool)) (C : Code) (l : Layout) → IsPlaced tree → WellTyped tree t → SinglyAssigned (core t tree)
         → KindsOf fs tree → DeclaredIn ds tree → IsLaid (core t tree) fs ds C l → HasRights C → CallsAreFound C → IsWithin C }
 {}
 
-/// Laid code of an accepted script, with exact rights, is whole. A text that reads as a tree, is well typed and singly assigned, and of which the emission is told which inputs, outputs and variables
-/// are arrays: where its code is laid, each call has its own mark, each node is one entry's, and each entry has the rights that it leads to and no others, all bodies fit together.
+/// Laid code of such a tree, with exact rights, is whole. The emission is told which inputs, outputs and variables are arrays, as the tree declares them: where its code is laid, each call has its own mark, each node is one entry's, and each entry has the rights that it leads to and no others, all bodies fit together.
 pub fn accepted_code_is_whole()
-    ensures { (bytes : List ℕ) (t : Table) (tree : Tree) (fs : List Kinds) (ds : List (ℕ × Bool)) (C : Code) (l : Layout) → Reads bytes tree → WellTyped tree t → SinglyAssigned (core t tree)
+    ensures { (t : Table) (tree : Tree) (fs : List Kinds) (ds : List (ℕ × Bool)) (C : Code) (l : Layout) → IsPlaced tree → WellTyped tree t → SinglyAssigned (core t tree)
         → KindsOf fs tree → DeclaredIn ds tree → IsLaid (core t tree) fs ds C l → HasRights C → CallsAreFound C → NodesOnce C → IsCode C }
 {}
 
-/// Each call of an accepted script has an offset of its own, as the emission of code asks.
+/// Each call of a placed tree has an offset of its own, as the emission of code asks.
 pub fn accepted_calls_stand_once()
-    ensures { (bytes : List ℕ) (t : Table) (tree : Tree) → Reads bytes tree → CallsOnce (core t tree) }
+    ensures { (t : Table) (tree : Tree) → IsPlaced tree → CallsOnce (core t tree) }
 {}

@@ -6,4 +6,4 @@ pub returns-clause-within : goal.returns-clause-within
 returns-clause-within g = λ t tree. size_within t tree
 
 pub returns-clause-room : goal.returns-clause-room
-returns-clause-room g = λ bytes t tree r w light. room_in bytes t tree r w light
+returns-clause-room g = λ t tree p w light. room_in t tree p w light

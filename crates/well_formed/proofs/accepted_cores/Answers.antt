@@ -1,14 +1,15 @@
-use Rattle.well_formed.proofs.Accepted.{accepted_formed, accepted_scoped, accepted_stmts, typed_always}
+use Rattle.well_formed.proofs.Accepted.{placed_always, placed_formed, placed_stmts}
+use Rattle.well_formed.proofs.Formed.{scoped}
 use Rattle.well_formed.proofs.accepted_cores.Goals as goal
 
 pub returns-clause-formed : goal.returns-clause-formed
-returns-clause-formed g = λ bytes t tree r w s. accepted_formed bytes t tree r w s
+returns-clause-formed g = λ t tree p w s. placed_formed t tree p w s
 
 pub returns-clause-always : goal.returns-clause-always
-returns-clause-always g = λ bytes t tree r w. typed_always bytes t tree r w
+returns-clause-always g = λ t tree p w. placed_always t tree p w
 
 pub returns-clause-scoped : goal.returns-clause-scoped
-returns-clause-scoped g = λ t tree u e w. accepted_scoped t tree u e w
+returns-clause-scoped g = λ t tree r w. scoped t tree r w
 
 pub returns-clause-stmts : goal.returns-clause-stmts
-returns-clause-stmts g = λ bytes t tree r w. accepted_stmts bytes t tree r w
+returns-clause-stmts g = λ t tree p. placed_stmts t tree p

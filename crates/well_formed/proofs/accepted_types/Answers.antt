@@ -1,5 +1,5 @@
-use Rattle.well_formed.proofs.Accepted.{typed_script}
+use Rattle.well_formed.proofs.Accepted.{placed_types}
 use Rattle.well_formed.proofs.accepted_types.Goals as goal
 
 pub returns : goal.returns
-returns g = λ bytes t tree r w. typed_script bytes t tree r w
+returns g = λ t tree p w. placed_types t tree p w

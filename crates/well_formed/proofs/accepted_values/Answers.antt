@@ -2,7 +2,7 @@ use Rattle.well_formed.proofs.Accepted.{values_known, values_meant}
 use Rattle.well_formed.proofs.accepted_values.Goals as goal
 
 pub returns-clause-rounds : goal.returns-clause-rounds
-returns-clause-rounds g = λ bytes t tree r w n. values_known bytes t tree r w n
+returns-clause-rounds g = λ t tree p w n. values_known t tree p w n
 
 pub returns-clause-ever : goal.returns-clause-ever
-returns-clause-ever g = λ bytes t tree r w. values_meant bytes t tree r w
+returns-clause-ever g = λ t tree p w. values_meant t tree p w

@@ -2,4 +2,4 @@ use Rattle.whole_code.proofs.Accepted.{accepted_whole}
 use Rattle.whole_code.proofs.accepted_code_is_whole.Goals as goal
 
 pub returns : goal.returns
-returns g = λ bytes t tree fs ds C l reads typed single kinds declared laid rights found nodes. accepted_whole bytes t tree fs ds C l reads typed single kinds declared laid rights found nodes
+returns g = λ t tree fs ds C l place typed single kinds declared laid rights found nodes. accepted_whole t tree fs ds C l place typed single kinds declared laid rights found nodes

@@ -2,4 +2,4 @@ use Rattle.whole_code.proofs.Accepted.{accepted_within}
 use Rattle.whole_code.proofs.accepted_code_is_within.Goals as goal
 
 pub returns : goal.returns
-returns g = λ bytes t tree fs ds C l reads typed single kinds declared laid rights found. accepted_within bytes t tree fs ds C l reads typed single kinds declared laid rights found
+returns g = λ t tree fs ds C l place typed single kinds declared laid rights found. accepted_within t tree fs ds C l place typed single kinds declared laid rights found
