@@ -13,7 +13,6 @@ use Rattle.well_formed.proofs.Accepted.{placed_formed, values_meant}
 use Rattle.well_formed.proofs.Formed.{scoped}
 use Rattle.agreement.specs.Emitted.{IsEmitted, HasRights}
 use Rattle.agreement.specs.Headline.{Headline}
-use Rattle.agreement.specs.IsCodeOf.{IsCodeOf}
 use Rattle.agreement.specs.Laying.{Kinds}
 use Rattle.correspondence.proofs.AssertedCores.{asserted_core}
 use Rattle.correspondence.proofs.HeadlineOf.{headline_of}

@@ -1,23 +1,23 @@
 -- The names and expressions of a typed core have room: places of parameters fit 64 bits, and an expression has not too many names.
-use Rattle.std.specs.Prelude.{◌≡◌, ℕ, zero, suc, ◌+◌, ◌*◌, ◌<◌, ◌≤◌, ◌^◌, List, [], ◌∷◌, ◌++◌, map, length, Option, Some, None, slice_get, option_to_list, refl, sum_by}
-use Rattle.std.proofs.Common.{ap, sym, subst, ◌∙◌, arith}
+use Rattle.std.specs.Prelude.{◌≡◌, ℕ, zero, suc, ◌+◌, ◌*◌, ◌<◌, ◌≤◌, ◌^◌, List, [], ◌∷◌, ◌++◌, length, Some, None, slice_get, refl, sum_by}
+use Rattle.std.proofs.Common.{arith}
 use Rattle.std.proofs.lemmas.List.Sums.{sum_by-cons}
 use Rattle.values.specs.Operators as op
 use Rattle.syntax_trees.specs.declared.tree.Base.{Base}
-use Rattle.syntax_trees.specs.Core.{Owned, local, input, output, Name, Expr, Exprs, literal, name, whole, operator, none, also, Form, compute, read, Cell, Call, Part, inner, calls, Outer, Awaited, scalar, array, Stmt, stmt, Action, declare, call_alone, assign, fill, insert, print, assert, when, choose, range, each, wait, Block, no_stmts, stmts, Function, Core}
+use Rattle.syntax_trees.specs.Core.{Owned, local, input, output, Name, Expr, Exprs, literal, name, whole, operator, none, also, Form, Call, Part, inner, calls, Outer, Awaited, stmt, Action, declare, call_alone, assign, fill, insert, print, assert, when, choose, range, each, wait, Block, no_stmts, stmts, Function}
 use Rattle.syntax_trees.specs.Members.{◌∈◌, first, later}
 use Rattle.syntax_trees.specs.Numbered.{tree_size, part_size, declaration_size}
-use Rattle.syntax_trees.specs.Parts.{block_list, blocks_below, blocks_inside, blocks_of, function_blocks, outer_parts, outers, parts, script_stmts, stmts_among}
+use Rattle.syntax_trees.specs.Parts.{blocks_below, blocks_inside, blocks_of, function_blocks, parts, stmts_among}
 use Rattle.well_formed.specs.Placed.{IsPlaced}
 use Rattle.syntax_trees.specs.Resolved.{core, functions_of, script_block}
 use Rattle.syntax_trees.specs.Scopes.{Signature, Typ, signatures}
 use Rattle.syntax_trees.specs.Table.{Table}
 use Rattle.syntax_trees.specs.Tree.{Declaration, Tree, import, function, single}
 use Rattle.syntax_trees.specs.Typing.{WellTyped}
-use Rattle.well_formed.specs.Types.{no_signature, OwnedHas, NameHas, NamesHave, no_name, one_name, ExprHas, literal_has, name_has, operator_has, OperatorHas, sum_has, texts_have, product_has, compare_has, equal_has, unequal_has, all_has, any_has, not_has, negate_has, join_has, from_int_has, to_int_has, size_has, printf_has, assert_has, AllHave, none_left, one_more, EachHas, no_other, another, FormHas, computes, copies, lists, reads, CallHas, PartHas, PartsHave, OuterHas, OutersHave, AwaitedHas, awaits_one, awaits_many, BlockHas, no_statement, a_statement, ActionHas, of_declare, of_call, of_assign, of_fill, of_insert, of_print, of_assert, of_when, of_choose, of_range, of_each, of_wait, FunctionHas, HasTypes}
+use Rattle.well_formed.specs.Types.{no_signature, OwnedHas, NameHas, NamesHave, no_name, one_name, ExprHas, literal_has, name_has, operator_has, OperatorHas, sum_has, texts_have, product_has, compare_has, equal_has, unequal_has, all_has, any_has, not_has, negate_has, join_has, from_int_has, to_int_has, size_has, printf_has, assert_has, AllHave, none_left, one_more, EachHas, no_other, another, FormHas, computes, copies, lists, reads, CallHas, PartHas, PartsHave, OuterHas, OutersHave, AwaitedHas, awaits_one, awaits_many, BlockHas, a_statement, ActionHas, of_call, of_assign, of_fill, of_insert, of_when, of_choose, of_range, of_each, of_wait}
 use Rattle.well_formed.proofs.Accepted.{placed_types}
 use Rattle.agreement.specs.CodeNames.{wanted, wanted_all}
-use Rattle.agreement.specs.Room.{Each, OwnedRoom, NameRoom, ExprRoom, ExprsRoom, FormRoom, PartRoom, OuterRoom, StepRoom, AwaitedRoom, StmtRoom, ActionRoom, BlockRoom, FunctionRoom, CoreRoom}
+use Rattle.agreement.specs.Room.{Each, OwnedRoom, NameRoom, ExprRoom, ExprsRoom, FormRoom, PartRoom, OuterRoom, AwaitedRoom, ActionRoom, BlockRoom, FunctionRoom, CoreRoom}
 use Rattle.script_sizes.proofs.Sizes.{names, all_names, form_names, part_weight, weight, append, stmts_weight, inside, within, front, among_append, weight_within}
 
 -- an expression waits for so many needs as it has names

@@ -1,6 +1,6 @@
 -- The core of a tree has no more statements, cells, calls and names than twice the numbers of the tree.
-use Rattle.std.specs.Prelude.{◌≡◌, ℕ, suc, ◌+◌, ◌*◌, ◌≤◌, ℤ, pos, List, [], ◌∷◌, ◌++◌, map, Option, Some, None, length, refl, sum_by}
-use Rattle.std.proofs.Common.{ap, sym, ◌∙◌, arith}
+use Rattle.std.specs.Prelude.{◌≡◌, ℕ, suc, ◌+◌, ◌*◌, ◌≤◌, ℤ, pos, List, [], ◌∷◌, ◌++◌, map, Option, Some, None, length, refl}
+use Rattle.std.proofs.Common.{ap, arith}
 use Rattle.std.proofs.lemmas.List.Sums.{sum_by-cons}
 use Rattle.values.specs.Operators as op
 use Rattle.syntax_trees.specs.declared.tree.Shape.{Shape}
@@ -13,7 +13,7 @@ use Rattle.syntax_trees.specs.Resolved as resolved
 use Rattle.syntax_trees.specs.Resolved.{refers, Formed, Operands, Arguments, form_of, form_in, operands_of, arguments_of, computes, call_form, call_to, number_of, outer_of, outer, after_first, composite_call, call_right, right_of, call_action, several, awaited, loop_action, stmt_of, block_of, block_in, with_statement, with_command, script_block, functions_of, format_of, sized, builtin_operation, prefix_operation, chain_operation, one_operand, with_operand, with_argument, as_cell, as_operand, as_argument, variable_or_cell}
 use Rattle.syntax_trees.specs.Table as table
 use Rattle.syntax_trees.specs.Table.{Table, Callee, composite, built_in}
-use Rattle.syntax_trees.specs.Numbered.{expression_size, form_size, expressions_size, right_size, calling_size, over_size, statement_size, command_size, body_size, statements_size, part_size, composite_size, declaration_size, word_size, tree_size}
+use Rattle.syntax_trees.specs.Numbered.{expression_size, form_size, expressions_size, right_size, over_size, statement_size, command_size, body_size, statements_size, part_size, tree_size}
 use Rattle.syntax_trees.proofs.Numbering.{expressions_size-expressions_of}
 use Rattle.meaning_laws.proofs.TreeStmts.{right_no_block, several_no_block, call_no_block, loop_block}
 use Rattle.agreement.specs.Emitted.{stmts_size, size_of}
