@@ -38,6 +38,7 @@ use Rattle.task_code.proofs.Counted.{gather_in}
 use Rattle.task_code.proofs.Kept.{code_laws}
 use Rattle.task_code.proofs.Opens as Op
 use Rattle.task_code.proofs.Opens.{effect_is, found}
+use Rattle.same_meaning.specs.Same.{SameCore}
 use Rattle.agreement.specs.IsCodeOf.{IsCodeOf}
 use Rattle.agreement.specs.NodesOnce.{NodesOnce}
 use Rattle.correspondence.specs.Answered.{Reading}
@@ -112,7 +113,7 @@ module _ (C : Code) (bodies : List (ℕ × List Step)) (loops : List (ℕ × Lis
       let y = sum_same (λ l. length (rest_items l)) (λ l. rests_of l.2) (λ l. length_rests l.0 l.1 (rests_of l.2)) loops in
       one_more (length (flat_map block_items bodies ++ flat_map rest_items loops)) _ (length-append (flat_map block_items bodies) (flat_map rest_items loops) ∙ (λ i. (a ∙ x) i + (b ∙ y) i))
 
-module _ (s : Core) (C : Code) (w : IsCodeOf s C) (wf : WellFormed s) (kn : Knows s (Meaning s)) (I : IsCode C) (sc : Scoped s) (ty : TypedValues s (Meaning s)) where
+module _ (script s : Core) (same : SameCore script s) (C : Code) (w : IsCodeOf s C) (wf : WellFormed s) (kn : Knows s (Meaning s)) (I : IsCode C) (sc : Scoped s) (ty : TypedValues s (Meaning s)) where
   abbrev Alive : Task → Type 0
   Alive t = Live (code_system C) (Reading (code_system C) (Answers s (Meaning s))) t
 
@@ -168,20 +169,20 @@ module _ (s : Core) (C : Code) (w : IsCodeOf s C) (wf : WellFormed s) (kn : Know
           rest_before j d r e lv f o u' (in_split o (map (block C) (instances (entry C j).act (entry C j).mark r d (found C can))) (rest (loop_of (entry C j).act) j r d (found C can)) io') iu i c p q
 
   -- WHAT IS LIVE IS COUNTED
-  module _ (bodies : List (ℕ × List Step)) (loops : List (ℕ × List Step × ℕ)) (has_bodies : HasLiveBodies s C w.layout bodies) (has_loops : HasLiveLoops s C w.layout loops) where
+  module _ (bodies : List (ℕ × List Step)) (loops : List (ℕ × List Step × ℕ)) (has_bodies : HasLiveBodies script C w.layout bodies) (has_loops : HasLiveLoops script C w.layout loops) where
     item_counted : (u : Task) → Alive u → (x : ItemLive s C w (Meaning s) wf kn I sc ty u) → (n : ℕ) → x.chunk ≡ n → In u (all_items C bodies loops)
     item_counted u lv x zero q =
         let here : Item x.number x.path 0 ≡ u = ap (λ (n : ℕ). Item x.number x.path n) (sym q) ∙ x.is in
         let there = in_map (λ j. Item j x.path 0) x.number (body C x.body_number).entries x.there in
         inr (in_left u (flat_map (block_items C bodies loops) bodies) (flat_map (rest_items C bodies loops) loops)
-        (gather_in (block_items C bodies loops) bodies (x.body_number, x.path) u (has_bodies x.body_number x.path (live_body s C w wf kn I sc ty x.chain x.number x.there))
+        (gather_in (block_items C bodies loops) bodies (x.body_number, x.path) u (has_bodies x.body_number x.path (live_body script s same C w wf kn I sc ty x.chain x.number x.there))
         (subst (λ (z : Task). In z (block_items C bodies loops (x.body_number, x.path))) here there)))
     item_counted u lv x (suc c) q =
         let here : Item x.number x.path (suc c) ≡ u = ap (λ (n : ℕ). Item x.number x.path n) (sym q) ∙ x.is in
         let b = before u lv x.number c x.path (sym here) in
         let turns = turns_of (compute (entry C x.number).act (answered C x.path (entry C x.number).needs (b.fact).answers)) in
         let one = left_some (suc c) turns b.left in
-        let loop = live_loop s C w wf kn I sc ty x.chain x.number c x.there b.effect b.fact b.loop b.loops one.0 one.1 in
+        let loop = live_loop script s same C w wf kn I sc ty x.chain x.number c x.there b.effect b.fact b.loop b.loops one.0 one.1 in
         let there = in_rests x.number x.path c (rests_of (length turns)) (few_rests c (length turns) (left_long (suc c) turns b.left)) in
         inr (in_right u (flat_map (block_items C bodies loops) bodies) (flat_map (rest_items C bodies loops) loops)
         (gather_in (rest_items C bodies loops) loops (x.number, x.path, length turns) u (has_loops x.number x.path (length turns) loop)
@@ -197,15 +198,15 @@ module _ (s : Core) (C : Code) (w : IsCodeOf s C) (wf : WellFormed s) (kn : Know
         live_reading (code_system C) (code_laws C I) (Answers s (Meaning s))
         (live_grows (code_system C) (Fa.Known (code_system C) n) (Facts s C (Meaning s)) (within s C w wf kn I sc ty nodes ex single n) l)
 
-    live_item : {u : Task} → ItemLive s C w (Meaning s) wf kn I sc ty u → IsLiveItem s C w.layout u
-    live_item x = record { number = x.number; path = x.path; chunk = x.chunk; is = sym x.is; body_number = x.body_number; there = x.there; live = live_body s C w wf kn I sc ty x.chain x.number x.there }
+    live_item : {u : Task} → ItemLive s C w (Meaning s) wf kn I sc ty u → IsLiveItem script C w.layout u
+    live_item x = record { number = x.number; path = x.path; chunk = x.chunk; is = sym x.is; body_number = x.body_number; there = x.there; live = live_body script s same C w wf kn I sc ty x.chain x.number x.there }
 
-    pub run_live : (events : List Event) (st : CodeState) → Run C events st → (i : CodeItem) → In i st.items → (i.task ≡ Main) ⊎ IsLiveItem s C w.layout i.task
+    pub run_live : (events : List Event) (st : CodeState) → Run C events st → (i : CodeItem) → In i st.items → (i.task ≡ Main) ⊎ IsLiveItem script C w.layout i.task
     run_live events st run i m =
         let a = agrees_with (code_system C) (code_laws C I) st (log_of (code_system C) events st run) (run_follows (code_system C) (code_laws C I) events st run) (clean_code s C w (Meaning s) wf kn I sc ty nodes ex single) in
         elim (live_to s C w (Meaning s) wf kn I sc ty (alive a.round (a.items i m))) [ inl q ↦ inl q | inr x ↦ inr (live_item x) ]
 
-    pub run_bound : (bodies : List (ℕ × List Step)) (loops : List (ℕ × List Step × ℕ)) → HasLiveBodies s C w.layout bodies → HasLiveLoops s C w.layout loops
+    pub run_bound : (bodies : List (ℕ × List Step)) (loops : List (ℕ × List Step × ℕ)) → HasLiveBodies script C w.layout bodies → HasLiveLoops script C w.layout loops
         → (events : List Event) (st : CodeState) → Run C events st → length events ≤ 2 * (items_in C bodies loops + backs events)
     run_bound bodies loops hb hl events st run =
         subst (λ (n : ℕ). length events ≤ 2 * (n + backs events)) (items_counted C bodies loops)

@@ -12,7 +12,13 @@ use Rattle.values.specs.Ranges.{range_count}
 use Rattle.syntax_trees.specs.Core as Co
 use Rattle.syntax_trees.specs.Core.{Name, Expr, Outer, Stmt, stmt, Action, when, choose, range, each, wait, Block, Core}
 use Rattle.syntax_trees.specs.Facts.{no_cell, next_cell}
-use Rattle.syntax_trees.specs.Meaning.{in_block, Ready, cells_known, source_closed, Meaning}
+use Rattle.syntax_trees.specs.Places.{Path}
+use Rattle.same_meaning.specs.Same.{SameAction, same_range, same_each, SameCore}
+use Rattle.same_meaning.proofs.Kept.{LiveLike, same_live, same_ready, stmt_like}
+use Rattle.same_meaning.proofs.Listed.{same_list}
+use Rattle.same_meaning.proofs.Turned.{turned_block, turned_core}
+use Rattle.same_meaning.proofs.Views.{meant, meant_back}
+use Rattle.syntax_trees.specs.Meaning.{Live, in_block, Ready, cells_known, source_closed, Meaning}
 use Rattle.syntax_trees.specs.Members.{◌∈◌, first, later}
 use Rattle.syntax_trees.specs.Openings.{in_turns}
 use Rattle.syntax_trees.specs.Parts.{block_list}
@@ -93,16 +99,28 @@ simple_no_loop l k (range o d e f g h) z = absurd z
 simple_no_loop l k (each o d e f) z = absurd z
 simple_no_loop l k (wait o d) z = absurd z
 
-module _ (s : Core) (C : Code) (w : IsCodeOf s C) (wf : WellFormed s) (kn : Knows s (Meaning s)) (I : IsCode C) (sc : Scoped s) (ty : TypedValues s (Meaning s)) where
+same_turns : {a h : Action} {vs : List Value} {m : ℕ} → HasTurns a vs m → SameAction a h → HasTurns h vs m
+same_turns (of_range b c) (same_range h k n d) = of_range b c
+same_turns (of_array e) (same_each d) = of_array e
+
+module _ (script s : Core) (same : SameCore script s) (C : Code) (w : IsCodeOf s C) (wf : WellFormed s) (kn : Knows s (Meaning s)) (I : IsCode C) (sc : Scoped s) (ty : TypedValues s (Meaning s)) where
+  -- a block that is live in what the code stands for is so in the script
+  pub in_script : {path : Path} {b : Block} → Live s (Meaning s) path b → LiveLike s script (turned_core same) (Meaning s) (Meaning script) (meant s script (turned_core same)) (meant_back s script (turned_core same)) path b
+  in_script l = same_live s script (turned_core same) (Meaning s) (Meaning script) (meant s script (turned_core same)) (meant_back s script (turned_core same)) l
+
   -- a body with a chain and an entry is a live one
-  abbrev pub live_body : {p : List Step} {t k : ℕ} {b : Block} → Chain s C w.layout (Meaning s) p t k b → (i : ℕ) → In i (body C t).entries → IsLiveBody s C w.layout t p
-  live_body {p} {t} {k} {b} ch i there = record {
-    within = body_there C t i there;
-    inputs = k;
-    block = b;
-    stands = chain_body s C w.layout (Meaning s) wf.names I sc ch;
-    live = chain_live s C w.layout (Meaning s) wf.names I sc ch;
-  }
+  abbrev pub live_body : {p : List Step} {t k : ℕ} {b : Block} → Chain s C w.layout (Meaning s) p t k b → (i : ℕ) → In i (body C t).entries → IsLiveBody script C w.layout t p
+  live_body {p} {t} {k} {b} ch i there =
+      let x = in_script (chain_live s C w.layout (Meaning s) wf.names I sc ch) in
+      record {
+        within = body_there C t i there;
+        inputs = k;
+        block = b;
+        stands = chain_body s C w.layout (Meaning s) wf.names I sc ch;
+        written = x.block;
+        same = turned_block x.same_block;
+        live = x.live;
+      }
 
   module _ {p : List Step} {t k : ℕ} {b : Block} (ch : Chain s C w.layout (Meaning s) p t k b) (i c : ℕ) (there : In i (body C t).entries) (e : Effect Task CodePlaces.Place Key Scalar) (f : Fact s C w (Meaning s) wf kn I sc ty (Item i p c) e) where
     abbrev ys : List Got
@@ -112,22 +130,25 @@ module _ (s : Core) (C : Code) (w : IsCodeOf s C) (wf : WellFormed s) (kn : Know
     turns_here x = length (turns_of x)
 
     abbrev pub LoopHere : ℕ → Type 0
-    LoopHere m = IsLiveLoop s C w.layout i p m
+    LoopHere m = IsLiveLoop script C w.layout i p m
 
     loop_here : (at n : ℕ) (a : Action) (vs : List Value) (m : ℕ) → stmt at n a ∈ block_list b → (entry C i).at ≡ at → Ready s (Meaning s) (script_path p) a vs → HasTurns a vs m → LoopHere m
-    loop_here at n a vs m sm q r h = record {
-      body_number = t;
-      there = there;
-      live = live_body ch i there;
-      at = at;
-      node = n;
-      header = a;
-      values = vs;
-      in_block = sm;
-      at_is = q;
-      ready = r;
-      has_turns = h;
-    }
+    loop_here at n a vs m sm q r h =
+        let x = in_script (chain_live s C w.layout (Meaning s) wf.names I sc ch) in
+        let y = stmt_like (same_list x.same_block) sm in
+        record {
+          body_number = t;
+          there = there;
+          live = live_body ch i there;
+          at = at;
+          node = n;
+          header = y.action;
+          values = vs;
+          in_block = y.there;
+          at_is = q;
+          ready = same_ready s script (turned_core same) (Meaning s) (Meaning script) (meant s script (turned_core same)) (meant_back s script (turned_core same)) r y.same;
+          has_turns = same_turns h y.same;
+        }
 
     -- a loop over an array
     each_here : (at n x t' : ℕ) (a : Name) (y : Option ℕ) (d : Block) → stmt at n (each a x y d) ∈ block_list b

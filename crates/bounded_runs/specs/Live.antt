@@ -1,4 +1,5 @@
--- What a run of a script's code can come to, in the words of the script: bodies of its live blocks, and its loops that run, with their turns.
+-- What a run of a script's code can come to, in the words of the script: bodies of its live blocks, and its loops that run, with their turns. The code may be that of the script with expressions of literals
+-- folded: then a body stands for what its block has come to.
 use Rattle.std.specs.Prelude.{◌≡◌, ℕ, ◌<◌, List, [], ◌∷◌, length, Option, Some, Ok}
 use Rattle.dataflow.specs.System.{In}
 use Rattle.values.specs.declared.map.Element.{Element}
@@ -13,6 +14,7 @@ use Rattle.syntax_trees.specs.Parts.{block_list}
 use Rattle.task_code.specs.Code.{Code, body, entry}
 use Rattle.task_code.specs.Effects.{Task, Item}
 use Rattle.task_code.specs.Places.{Step}
+use Rattle.same_meaning.specs.Same.{SameBlock}
 use Rattle.agreement.specs.Headline.{script_path}
 use Rattle.agreement.specs.IsCodeOf.{Layout, BodyAs}
 
@@ -23,13 +25,15 @@ pub data HasTurns : Action → List Value → ℕ → Type 0 where
 
 -- a script with its code, in this layout
 module _ (s : Core) (C : Code) (l : Layout) where
-  -- the body stands for a block that is live at the path in what the script means
+  -- the body stands for a block that is live at the path in what the script means, as the script has it but for expressions of literals
   pub record IsLiveBody (number : ℕ) (path : List Step) : Type 0 where
     pub within : number < length C.bodies
     pub inputs : ℕ
     pub block : Block
     pub stands : BodyAs C l inputs block number
-    pub live : Live s (Meaning s) (script_path path) block
+    pub written : Block
+    pub same : SameBlock written block
+    pub live : Live s (Meaning s) (script_path path) written
 
   -- the item is of an entry of such a body, at the body's path
   pub record IsLiveItem (t : Task) : Type 0 where
@@ -50,7 +54,7 @@ module _ (s : Core) (C : Code) (l : Layout) where
     pub node : ℕ
     pub header : Action
     pub values : List Value
-    pub in_block : stmt at node header ∈ block_list live.block
+    pub in_block : stmt at node header ∈ block_list live.written
     pub at_is : (entry C number).at ≡ at
     pub ready : Ready s (Meaning s) (script_path path) header values
     pub has_turns : HasTurns header values turns

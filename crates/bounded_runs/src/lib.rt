@@ -8,6 +8,8 @@ ghost use Rattle.dataflow.specs.Events.{backs};
 ghost use Rattle.dataflow.specs.Machine.{Event};
 ghost use Rattle.dataflow.specs.System.{In};
 ghost use Rattle.std.specs.Prelude.{◌≡◌, ◌⊎◌, ◌≤◌, ◌+◌, ◌*◌, ℕ, List, length};
+ghost use Rattle.same_meaning.specs.Same.{SameCore};
+ghost use Rattle.syntax_trees.specs.Core.{Core};
 ghost use Rattle.syntax_trees.specs.Outcomes.{Clean};
 ghost use Rattle.well_formed.specs.Placed.{IsPlaced};
 ghost use Rattle.syntax_trees.specs.Resolved.{core};
@@ -23,13 +25,13 @@ ghost use Rattle.task_code.specs.Machine.{CodeItem, CodeState, Run};
 ghost use Rattle.task_code.specs.Places.{Step};
 ghost use Rattle.task_code.specs.Whole.{IsCode};
 
-/// For every placed tree that is well typed and singly assigned and writes no key twice, and any code that stands for it, whole and with exact rights: each item of each state of a run is of an entry of a block that is live in what the script means, at its path.
+/// For every script that writes no key twice and is the same, but for expressions of literals, as a placed tree that is well typed and singly assigned, and any code that stands for that tree, whole and with exact rights: each item of each state of a run is of an entry of a block that is live in what the script means, at its path.
 /// So where lists have all the bodies of live blocks and all the loops that run, a run in which b items were given back has at most 2(I + b) events, where I counts 1, each entry of each of these bodies, and for each of the loops
 /// the whole part of (m - 1)/64, of its m turns.
 pub fn bounded_runs()
-    ensures live { (t : Table) (tree : Tree) (C : Code) → IsPlaced tree → WellTyped tree t → SinglyAssigned (core t tree) → (w : IsCodeOf (core t tree) C) → IsCode C → IsExact C → NodesOnce C → Clean (core t tree)
-        → (events : List Event) (st : CodeState) → Run C events st → (i : CodeItem) → In i st.items → (i.task ≡ Main) ⊎ IsLiveItem (core t tree) C w.layout i.task }
-    ensures bound { (t : Table) (tree : Tree) (C : Code) → IsPlaced tree → WellTyped tree t → SinglyAssigned (core t tree) → (w : IsCodeOf (core t tree) C) → IsCode C → IsExact C → NodesOnce C → Clean (core t tree)
-        → (bodies : List (ℕ × List Step)) (loops : List (ℕ × List Step × ℕ)) → HasLiveBodies (core t tree) C w.layout bodies → HasLiveLoops (core t tree) C w.layout loops
+    ensures live { (s : Core) (t : Table) (tree : Tree) (C : Code) → SameCore s (core t tree) → IsPlaced tree → WellTyped tree t → SinglyAssigned (core t tree) → (w : IsCodeOf (core t tree) C) → IsCode C → IsExact C → NodesOnce C → Clean s
+        → (events : List Event) (st : CodeState) → Run C events st → (i : CodeItem) → In i st.items → (i.task ≡ Main) ⊎ IsLiveItem s C w.layout i.task }
+    ensures bound { (s : Core) (t : Table) (tree : Tree) (C : Code) → SameCore s (core t tree) → IsPlaced tree → WellTyped tree t → SinglyAssigned (core t tree) → (w : IsCodeOf (core t tree) C) → IsCode C → IsExact C → NodesOnce C → Clean s
+        → (bodies : List (ℕ × List Step)) (loops : List (ℕ × List Step × ℕ)) → HasLiveBodies s C w.layout bodies → HasLiveLoops s C w.layout loops
         → (events : List Event) (st : CodeState) → Run C events st → length events ≤ 2 * (items_in C bodies loops + backs events) }
 {}

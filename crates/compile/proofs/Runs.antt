@@ -13,7 +13,10 @@ use Rattle.syntax_trees.specs.Core.{Core}
 use Rattle.syntax_trees.specs.Resolved.{core}
 use Rattle.syntax_trees.specs.Table.{Table}
 use Rattle.syntax_trees.specs.Tree.{Tree}
-use Rattle.well_formed.proofs.Accepted.{accepted_formed, accepted_scoped, values_meant}
+use Rattle.well_formed.proofs.Accepted.{placed_formed, values_meant}
+use Rattle.well_formed.specs.Placed.{IsPlaced}
+use Rattle.well_formed.proofs.Apart.{read_placed}
+use Rattle.well_formed.proofs.Formed.{scoped}
 use Rattle.flow.specs.Shapes.{declared_of, kinds_of}
 use Rattle.flow.specs.View.{core_of}
 use Rattle.flow.specs.declared.script.Flow.{Flow}
@@ -30,6 +33,7 @@ use Rattle.laid_code.proofs.IndexParts.{reads_stand}
 use Rattle.laid_code.proofs.Small.{laid_small}
 use Rattle.whole_code.proofs.Offsets.{accepted_calls}
 use Rattle.emitted_code.proofs.Whole.{exact_rights, headline_emitted, whole_emitted}
+use Rattle.same_meaning.proofs.Itself.{core_itself}
 use Rattle.bounded_runs.proofs.Bounds.{run_bound, run_live}
 use Rattle.compile.specs.Compiled.{IsCompiled, IsFlowFor, IsFlowOf, RunsGoOn}
 use Rattle.compile.specs.Compiles.{IsAccepted}
@@ -50,31 +54,33 @@ runs_go_on C I = record {
 -- code that is emitted for the core of an accepted script
 pub of_tree : (src : List ℕ) (t : Table) (tree : Tree) (fs : List Kinds) (ds : List (ℕ × Bool)) (C : Code) → IsAccepted src t tree → Rattle.whole_code.specs.Described.KindsOf fs tree → Rattle.whole_code.specs.Described.DeclaredIn ds tree
     → IsEmitted (core t tree) fs ds C → IsCompiled src C
-of_tree src t tree fs ds C a kinds declared e = record {
-  table = t;
-  tree = tree;
-  accepted = a;
-  code_of = accepted_code src t tree fs ds C a.reads e.laid;
-  whole = whole_emitted src t tree fs ds C a.reads a.typed a.single kinds declared e;
-  exact = exact_rights C e.rights;
-  nodes = accepted_nodes src t tree fs ds C a.reads a.typed e.laid;
-  few = (let x = laid_small (core t tree) fs ds C e.laid (accepted_cells src t tree a.reads) (reads_stand t tree) in let y = small_core src t tree a.reads in omega arith);
-  headline = headline_emitted src t tree fs ds C a.reads a.typed a.single kinds declared e;
-  runs = runs_go_on C (whole_emitted src t tree fs ds C a.reads a.typed a.single kinds declared e);
-  live = λ clean. (
-      let wf = accepted_formed src t tree a.reads a.typed a.single in
-      let kn = meaning_knows (core t tree) wf a.single clean in
-      let sc = accepted_scoped t tree a.reads.parsed a.reads.is_numbered a.typed in
-      let ty = values_meant src t tree a.reads a.typed in
-      let I = whole_emitted src t tree fs ds C a.reads a.typed a.single kinds declared e in
-      let w = accepted_code src t tree fs ds C a.reads e.laid in
-      let nodes = accepted_nodes src t tree fs ds C a.reads a.typed e.laid in
-      let ex = exact_rights C e.rights in
-      record {
-        live = run_live (core t tree) C w wf kn I sc ty nodes ex a.single;
-        bound = run_bound (core t tree) C w wf kn I sc ty nodes ex a.single;
-      });
-}
+of_tree src t tree fs ds C a kinds declared e =
+    let place = read_placed src tree a.reads in
+    record {
+      table = t;
+      tree = tree;
+      accepted = a;
+      code_of = accepted_code t tree fs ds C place e.laid;
+      whole = whole_emitted t tree fs ds C place a.typed a.single kinds declared e;
+      exact = exact_rights C e.rights;
+      nodes = accepted_nodes t tree fs ds C place e.laid;
+      few = (let x = laid_small (core t tree) fs ds C e.laid (accepted_cells t tree place) (reads_stand t tree) in let y = small_core src t tree a.reads in omega arith);
+      headline = headline_emitted t tree fs ds C place a.typed a.single kinds declared e;
+      runs = runs_go_on C (whole_emitted t tree fs ds C place a.typed a.single kinds declared e);
+      live = λ clean. (
+          let wf = placed_formed t tree place a.typed a.single in
+          let kn = meaning_knows (core t tree) wf a.single clean in
+          let sc = scoped t tree place.in_order a.typed in
+          let ty = values_meant t tree place a.typed in
+          let I = whole_emitted t tree fs ds C place a.typed a.single kinds declared e in
+          let w = accepted_code t tree fs ds C place e.laid in
+          let nodes = accepted_nodes t tree fs ds C place e.laid in
+          let ex = exact_rights C e.rights in
+          record {
+            live = run_live (core t tree) (core t tree) (core_itself (core t tree)) C w wf kn I sc ty nodes ex a.single;
+            bound = run_bound (core t tree) (core t tree) (core_itself (core t tree)) C w wf kn I sc ty nodes ex a.single;
+          });
+    }
 
 -- WHAT THE EMISSION ASKS OF THE FLOW OF A SCRIPT
 
@@ -82,11 +88,14 @@ module _ {A : Type 0} (src : List ℕ) (flow : Flow A) (is : IsFlowOf src flow) 
   back : core is.0 is.1 ≡ core_of flow
   back = sym (is.3).core_is
 
+  place : IsPlaced is.1
+  place = read_placed src is.1 (is.2).reads
+
   pub flow_calls : CallsOnce (core_of flow)
-  flow_calls = subst CallsOnce back (accepted_calls src is.0 is.1 (is.2).reads)
+  flow_calls = subst CallsOnce back (accepted_calls is.0 is.1 place)
 
   pub flow_cells : CellsOnce (core_of flow)
-  flow_cells = subst CellsOnce back (accepted_cells src is.0 is.1 (is.2).reads)
+  flow_cells = subst CellsOnce back (accepted_cells is.0 is.1 place)
 
   pub flow_reads : ReadsStand (core_of flow)
   flow_reads = subst ReadsStand back (reads_stand is.0 is.1)

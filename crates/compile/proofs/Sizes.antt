@@ -11,6 +11,7 @@ use Rattle.syntax_trees.specs.Typing.{WellTyped}
 use Rattle.syntax.proofs.Sizes.{text_fits}
 use Rattle.agreement.specs.Emitted.{size_of}
 use Rattle.agreement.specs.Room.{CoreRoom}
+use Rattle.well_formed.proofs.Apart.{read_placed}
 use Rattle.script_sizes.proofs.Room.{room_in}
 use Rattle.script_sizes.proofs.Sizes.{size_within}
 
@@ -102,4 +103,4 @@ pub small_core : (src : List ℕ) (t : Table) (tree : Tree) → Reads src tree �
 small_core src t tree r = let a = size_within t tree in let b = read_fits src tree r in omega arith
 
 pub room_core : (src : List ℕ) (t : Table) (tree : Tree) → Reads src tree → WellTyped tree t → CoreRoom (core t tree)
-room_core src t tree r typed = (let b = read_fits src tree r in let light : 2 * tree_size tree < 2 ^ 30 = omega arith in room_in src t tree r typed light)
+room_core src t tree r typed = (let b = read_fits src tree r in let light : 2 * tree_size tree < 2 ^ 30 = omega arith in room_in t tree (read_placed src tree r) typed light)

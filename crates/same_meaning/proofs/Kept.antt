@@ -1,21 +1,20 @@
 -- Of cores that are the same: what is live, closed, finished, ready and has a value in one is so in the other, where both know the same.
-use Rattle.std.specs.Prelude.{◌≡◌, ◌⊎◌, ℕ, ◌<◌, List, [], ◌∷◌, Option, Some, Result, Ok, slice_get, refl}
-use Rattle.std.proofs.Common.{sym, ap, subst, ◌∙◌}
+use Rattle.std.specs.Prelude.{◌≡◌, ℕ, List, Result}
+use Rattle.std.proofs.Common.{sym, subst}
 use Rattle.values.specs.declared.fault.OpFault.{OpFault}
 use Rattle.values.specs.declared.key.Key.{Key}
 use Rattle.values.specs.declared.map.Element.{Element}
 use Rattle.values.specs.declared.value.Scalar.{Scalar}
 use Rattle.values.specs.declared.value.Value.{Value}
-use Rattle.syntax_trees.specs.Core.{Owned, Name, Expr, Exprs, Form, compute, read, Cell, Call, Stmt, stmt, Action, declare, call_alone, fill, insert, wait, Block, Function, Core, Awaited}
-use Rattle.syntax_trees.specs.Facts.{Fault, Fact, value, element, Knowledge, OneWrite, OneWriter, Elements, KnownAll, no_cell, next_cell, operation}
-use Rattle.syntax_trees.specs.Meaning.{IsTarget, Live, script, opened, waited, called, Closed, closed, Finished, no_target, value_known, write_known, body_finished, blocks_finished, content_finished, Ready, cells_known, source_closed, names_known, Come, scalar_known, array_closed, HasValue, stored, in_turn, ValueUnder, of_literal, of_name, of_array, of_operator, ValuesUnder, no_operand, operand, Gives, computed, faulty, found, missing, Comes, before, now, ComeAll, none_comes, next_comes, LiveStmt, in_block}
+use Rattle.syntax_trees.specs.Core.{Owned, Name, Expr, Exprs, Form, Cell, Stmt, stmt, Action, declare, wait, Block, Core, Awaited}
+use Rattle.syntax_trees.specs.Facts.{Fault, Fact, value, element, Knowledge, OneWrite, OneWriter, Elements, KnownAll, no_cell, next_cell}
+use Rattle.syntax_trees.specs.Meaning.{Live, script, opened, waited, called, Closed, closed, Finished, no_target, value_known, write_known, body_finished, blocks_finished, content_finished, Ready, cells_known, source_closed, names_known, Come, scalar_known, array_closed, HasValue, stored, in_turn, ValueUnder, of_literal, of_name, of_array, of_operator, ValuesUnder, no_operand, operand, Gives, computed, faulty, found, missing, Comes, before, now, ComeAll, none_comes, next_comes, LiveStmt, in_block}
 use Rattle.syntax_trees.specs.Members.{◌∈◌, first, later}
 use Rattle.syntax_trees.specs.Openings.{Decides, one_way, two_ways, in_turns, Opens, then_alone, then_first, else_second, turn, item, InTurn, range_value, range_turn, each_value, each_key, Branches}
-use Rattle.syntax_trees.specs.Parts.{outer_cells, block_list, stmt_calls, function_body, targets}
 use Rattle.syntax_trees.specs.Places.{Path, Place, place}
-use Rattle.same_meaning.specs.Same.{SameExpr, same_literal, same_name, same_whole, same_operator, same_constant, SameExprs, same_none, same_also, Pairwise, no_pair, a_pair, SameForm, same_compute, same_read, SameCell, SameStmt, same_stmt, SameAction, same_declare, same_call_alone, same_assign, same_fill, same_insert, same_print, same_assert, same_when, same_choose, same_range, same_each, same_wait, SameBlock, SameFunction, SameCore}
-use Rattle.same_meaning.proofs.Listed.{HasLike, like_of, same_outer_cells, same_stmt_calls, same_list, HasFunction, function_like, same_function_body, same_calls, same_targets, place_same}
-use Rattle.same_meaning.proofs.Turned.{turned_stmt, turned_action, turned_block, turned_core, turned_all}
+use Rattle.same_meaning.specs.Same.{SameExpr, same_literal, same_name, same_whole, same_operator, same_constant, SameExprs, same_none, same_also, Pairwise, no_pair, a_pair, SameForm, same_compute, same_read, SameCell, SameStmt, same_stmt, SameAction, same_declare, same_call_alone, same_assign, same_fill, same_insert, same_print, same_assert, same_when, same_choose, same_range, same_each, same_wait, SameBlock, SameCore}
+use Rattle.same_meaning.proofs.Listed.{like_of, same_outer_cells, same_stmt_calls, same_list, function_like, same_function_body, same_calls, same_targets, place_same}
+use Rattle.same_meaning.proofs.Turned.{turned_stmt, turned_action, turned_block, turned_all}
 use Rattle.same_meaning.proofs.Valued.{has_it, no_other}
 
 -- HEADERS

@@ -1,4 +1,5 @@
 pub mod Turned
+pub mod Itself
 pub mod Listed
 mod Valued
 pub mod Kept

@@ -1,12 +1,12 @@
 -- Cells, calls, blocks, statements and targets of what is the same.
-use Rattle.std.specs.Prelude.{◌≡◌, ℕ, zero, suc, List, [], ◌∷◌, ◌++◌, map, Option, Some, None, slice_get, option_to_list, find, nat_eq, refl}
-use Rattle.std.proofs.Common.{sym, ap, subst, ◌∙◌}
+use Rattle.std.specs.Prelude.{◌≡◌, ℕ, zero, suc, List, [], ◌∷◌, ◌++◌, map, Option, Some, slice_get, find, nat_eq, refl}
+use Rattle.std.proofs.Common.{ap, subst, ◌∙◌}
 use Rattle.std.proofs.lemmas.Option.{none-some, same_Some}
-use Rattle.syntax_trees.specs.Core.{Owned, local, input, output, Name, Cell, Call, Part, inner, calls, Outer, Stmt, stmt, Action, Block, Function, Core}
+use Rattle.syntax_trees.specs.Core.{Owned, local, input, output, Name, Call, Part, Outer, Stmt, Action, Block, Function, Core}
 use Rattle.syntax_trees.specs.Members.{◌∈◌, first, later}
-use Rattle.syntax_trees.specs.Parts.{outers, outer_cells, outer_parts, parts, part_cells, part_calls, cells, stmt_calls, stmt_action, block_list, blocks_below, blocks_in, blocks_inside, blocks_of, function_blocks, script_blocks, stmts_among, script_stmts, calls_among, call_at, input_name, output_name, stmts_of, function_body, targets, targets_of, targets_in}
-use Rattle.syntax_trees.specs.Places.{Path, Place, place_of, place}
-use Rattle.same_meaning.specs.Same.{Pairwise, no_pair, a_pair, SameCell, SamePart, same_inner, same_call, SameOuter, SameStep, no_step, a_step, SameStmt, same_stmt, SameAction, same_declare, same_call_alone, same_assign, same_fill, same_insert, same_print, same_assert, same_when, same_choose, same_range, same_each, same_wait, SameBlock, same_end, same_next, SameFunction, SameCore}
+use Rattle.syntax_trees.specs.Parts.{outers, outer_cells, outer_parts, parts, part_cells, part_calls, cells, stmt_calls, block_list, blocks_below, blocks_in, blocks_inside, blocks_of, function_blocks, stmts_among, script_stmts, calls_among, call_at, input_name, output_name, stmts_of, function_body, targets, targets_of, targets_in}
+use Rattle.syntax_trees.specs.Places.{Path, place_of, place}
+use Rattle.same_meaning.specs.Same.{Pairwise, no_pair, a_pair, SameCell, SamePart, same_inner, same_call, SameOuter, no_step, a_step, SameStmt, same_stmt, SameAction, same_declare, same_call_alone, same_assign, same_fill, same_insert, same_print, same_assert, same_when, same_choose, same_range, same_each, same_wait, SameBlock, same_end, same_next, SameFunction, SameCore}
 
 -- LISTS
 

@@ -1,5 +1,5 @@
 -- Cores that are the same know the same after each round.
-use Rattle.std.specs.Prelude.{◌≡◌, ◌⊎◌, ℕ, zero, suc, ℤ, List, Option, Some, Ok, Err, refl}
+use Rattle.std.specs.Prelude.{◌≡◌, ◌⊎◌, ℕ, zero, suc, ℤ, List, Option, Some, Err, refl}
 use Rattle.std.proofs.Common.{inl, inr, sym, ap, subst, ◌∙◌}
 use Rattle.values.specs.declared.key.Key.{Key}
 use Rattle.values.specs.declared.map.Element.{Element}
@@ -9,8 +9,8 @@ use Rattle.values.specs.declared.value.Value.{Value}
 use Rattle.values.specs.declared.value.Value.TheVariants.{One, Many}
 use Rattle.values.specs.Maps.{element as entry}
 use Rattle.values.specs.Ranges.{range_count}
-use Rattle.syntax_trees.specs.Core.{Core, Name, Cell, Call, Outer, Stmt, stmt, Action, Block, assign, fill, insert, print, range}
-use Rattle.syntax_trees.specs.Facts.{Fault, operation, element_twice, too_deep, Fact, value, element, line, fault, Knowledge, IsKey}
+use Rattle.syntax_trees.specs.Core.{Core, Name, Outer, Stmt, stmt, Action, Block, assign, fill, insert, print, range}
+use Rattle.syntax_trees.specs.Facts.{operation, element_twice, too_deep, Fact, value, element, line, fault, Knowledge, IsKey}
 use Rattle.syntax_trees.specs.Meaning.{Comes, ComeAll, LiveStmt, Ready, New, cell_value, cell_fault, assigned, filled, inserted, printed, bad_range, too_deep_header, too_deep_call, written_twice, Known}
 use Rattle.syntax_trees.specs.Members.{◌∈◌}
 use Rattle.syntax_trees.specs.Parts.{stmt_at, stmt_node, outer_cells}

@@ -1,12 +1,12 @@
 -- An expression of literals has its one value under all knowledge.
-use Rattle.std.specs.Prelude.{◌≡◌, List, [], ◌∷◌, map, Result, Ok, refl}
-use Rattle.std.proofs.Common.{sym, ap, subst, ◌∙◌}
+use Rattle.std.specs.Prelude.{◌≡◌, List, ◌∷◌, map, Result, Ok, refl}
+use Rattle.std.proofs.Common.{sym, ap, ◌∙◌}
 use Rattle.values.specs.declared.fault.OpFault.{OpFault}
 use Rattle.values.specs.declared.value.Scalar.{Scalar}
 use Rattle.values.specs.declared.value.Value.{Value}
 use Rattle.values.specs.declared.value.Value.TheVariants.{One}
 use Rattle.values.specs.Operators.{evaluated}
-use Rattle.syntax_trees.specs.Core.{Core, Expr, Exprs, operator}
+use Rattle.syntax_trees.specs.Core.{Core, Expr, Exprs}
 use Rattle.syntax_trees.specs.Facts.{Knowledge}
 use Rattle.syntax_trees.specs.Meaning.{ValueUnder, of_literal, of_operator, ValuesUnder, no_operand, operand}
 use Rattle.syntax_trees.specs.Places.{Path}

@@ -1,29 +1,28 @@
 -- What is read off the meaning of cores that are the same.
-use Rattle.std.specs.Prelude.{◌≡◌, ℕ, Bool, true, false, List, ◌∷◌, map, IsPermutation}
-use Rattle.std.proofs.Common.{sym, ap, subst}
-use Rattle.dataflow.specs.System.{In, Write}
-use Rattle.dataflow.specs.Machine.{Event, Fault as MachineFault}
+use Rattle.std.specs.Prelude.{ℕ, Bool, true, false, List}
+use Rattle.std.proofs.Common.{subst}
+use Rattle.dataflow.specs.Machine.{Fault as MachineFault}
 use Rattle.values.specs.declared.key.Key.{Key}
 use Rattle.values.specs.declared.value.Scalar.{Scalar}
-use Rattle.values.specs.declared.value.Scalar.TheVariants.{Truth, Text}
+use Rattle.values.specs.declared.value.Scalar.TheVariants.{Truth}
 use Rattle.values.specs.declared.value.Value.TheVariants.{One}
-use Rattle.syntax_trees.specs.Core.{Core, Action, stmt}
-use Rattle.syntax_trees.specs.Facts.{Fault, Fact, value, element, line, fault, Knowledge}
+use Rattle.syntax_trees.specs.Core.{Core, Action}
+use Rattle.syntax_trees.specs.Facts.{Fact, value, element, fault, Knowledge}
 use Rattle.syntax_trees.specs.Meaning.{Closed, HasValue, Known, Meaning}
-use Rattle.syntax_trees.specs.Outcomes.{OwnFact, Counts, Stuck, Blocked, Faults, Lines, Clean}
+use Rattle.syntax_trees.specs.Outcomes.{OwnFact, Counts, Blocked, Lines, Clean}
 use Rattle.syntax_trees.specs.Places.{Path, Place}
-use Rattle.task_code.specs.Code.{Code, entry}
+use Rattle.task_code.specs.Code.{Code}
 use Rattle.task_code.specs.Compute.{EntryFault}
 use Rattle.task_code.specs.Effects.{Task, Main, Item}
 use Rattle.task_code.specs.Machine.{CodeState}
 use Rattle.task_code.specs.Places as CodePlaces
 use Rattle.task_code.specs.Places.{Datum, Constant, Nowhere}
-use Rattle.agreement.specs.Headline.{script_path, IsMeantIn, IsMeant, IsMeantFault, PartOfLines, Agrees, IsAll, Headline}
+use Rattle.agreement.specs.Headline.{IsMeantIn, IsMeant, IsMeantFault, Agrees, IsAll, Headline}
 use Rattle.same_meaning.specs.Same.{SameAction, same_declare, same_call_alone, same_assign, same_fill, same_insert, same_print, same_assert, same_when, same_choose, same_range, same_each, same_wait, SameCore}
 use Rattle.same_meaning.proofs.Kept.{place_is, same_writer, same_closed, same_ready, same_has, same_live_action}
 use Rattle.same_meaning.proofs.Listed.{like_of, same_outer_cells}
 use Rattle.same_meaning.proofs.Rounds.{same_known}
-use Rattle.same_meaning.proofs.Turned.{turned_core, turned_action, turned_cell, turned_all}
+use Rattle.same_meaning.proofs.Turned.{turned_core, turned_action}
 
 same_counts : {a b : Action} → SameAction a b → Counts a → Counts b
 same_counts same_declare h = h
