@@ -78,6 +78,7 @@ fn place_each(
     list: Vec<Opening>,
 ) -> Result<Option<usize>, AllocError>
     ensures placed { IfOk result (λ last. ArePlaced (map opening_frame list.items) entries.now (frames_view instances.old.slots) (frames_view instances.new.slots) (rows_view items.old.items) (rows_view items.new.items) last) }
+    ensures capacity { vec_capacity items.old ≤ vec_capacity items.new }
     ensures succeeds { HasRoomFor instances.old (vec_len list) → vec_len items.old + vec_len list * length entries.now ≤ vec_capacity items.old → IsOk result }
 {
     let mut last = None;
@@ -101,6 +102,7 @@ pub fn place_all(
     list: Vec<Opening>,
 ) -> Result<Option<usize>, AllocError>
     ensures placed { IfOk result (λ last. (middle : List (Option Frame)) × WithMore (frames_view instances.old.slots) around (vec_len list) middle × ArePlaced (map opening_frame list.items) entries.now middle (frames_view instances.new.slots) (rows_view items.old.items) (rows_view items.new.items) last) }
+    ensures capacity { vec_capacity items.old ≤ vec_capacity items.new }
     ensures succeeds { HasRoomFor instances.old (vec_len list) → vec_len items.old + vec_len list * length entries.now ≤ vec_capacity items.old → IsOk result }
 {
     if let Some(outer) = around {

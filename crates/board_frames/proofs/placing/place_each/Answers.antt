@@ -1,9 +1,12 @@
-use Rattle.std.proofs.Common.{◌++◌, ◌∷◌, [], length, vec_capacity, vec_len}
+use Rattle.std.proofs.Common.{◌≤◌, ℕ, arith, ◌++◌, ◌∷◌, [], length, vec_capacity, vec_len}
 use Rattle.std.specs.Vec.Iter.{into_iter_items}
 use Rattle.slab.specs.Slab.{slab_len}
 use Rattle.board_frames.specs.View.{frames_view, opening_frame, rows_view}
 use Rattle.board_frames.proofs.Puts.{frames_more, items_more, placed_more, room_more}
 use Rattle.board_frames.proofs.placing.place_each.Goals as goal
+
+grows : (a b c : ℕ) → a ≤ b → b ≤ c → a ≤ c
+grows a b c x y = omega (arith, x, y)
 
 pub loop-opening-preserved : goal.loop-opening-preserved
 loop-opening-preserved c =
@@ -22,4 +25,5 @@ loop-opening-preserved c =
         room_more left rest c.in-Some.opening (slab_len c.loop-opening.instances) (slab_len c.place_opening.new.instances) c.loop-opening.instances.capacity c.place_opening.new.instances.capacity e r.0 d.len d.capacity.0,
         items_more left rest c.in-Some.opening (length c.args.entries.now) (vec_len c.loop-opening.items) (vec_len c.place_opening.new.items) (vec_capacity c.loop-opening.items) (vec_capacity c.place_opening.new.items) e r.1 d.lens d.capacity.1,
       ));
+      capacity = grows (vec_capacity c.args.items.now) (vec_capacity c.loop-opening.items) (vec_capacity c.place_opening.new.items) c.loop-opening.invariant.capacity d.capacity.1;
     }
