@@ -24,14 +24,14 @@ use Rattle.same_meaning.proofs.Listed.{pairs_both}
 use Rattle.constant_fold.specs.Folded.{scalar_in, also_scalar, scalars_of, called_operation, called, folded, folded_form, folded_all}
 use Rattle.constant_fold.proofs.Forms.{parts_itself, SameFormed, formed_itself, same_as_cell, SameOperand, same_as_operand, Folds, FoldsExpression, FoldsAll, IsConstant, cell_argument, assigned_same, IsAssigned, itself, literal_itself, becomes, not_called}
 
-record Both (x : Option Scalar) (y : Option (List Scalar)) (vs : List Scalar) : Type 0 where
+pub record Both (x : Option Scalar) (y : Option (List Scalar)) (vs : List Scalar) : Type 0 where
   pub value : Scalar
   pub rest : List Scalar
   pub value_is : x ≡ Some value
   pub rest_is : y ≡ Some rest
   pub are : value ∷ rest ≡ vs
 
-both : (x : Option Scalar) (y : Option (List Scalar)) (vs : List Scalar) → also_scalar x y ≡ Some vs → Both x y vs
+pub both : (x : Option Scalar) (y : Option (List Scalar)) (vs : List Scalar) → also_scalar x y ≡ Some vs → Both x y vs
 both None y vs e = absurd (none-some vs e)
 both (Some v) None vs e = absurd (none-some vs e)
 both (Some v) (Some us) vs e = record { value = v; rest = us; value_is = refl; rest_is = refl; are = same_Some (v ∷ us) vs e }

@@ -142,7 +142,7 @@ module _ (t : Table) (fs : List Signature) (unnamed : (n : ℕ) (f : Signature) 
   functions_same (a_function (function_typed a b c d k) h) = a_pair (record { inputs = refl; outputs = refl; body = body_same k }) (functions_same h)
   functions_same (a_statement s h) = functions_same h
 
-unnamed_in : {fs : List Signature} {t : Table} {names : List (List ℕ)} {g : Scope} {tree : Tree} → PartsTyped fs t names g tree → (n : ℕ) (f : Signature) → slice_get (signatures tree) n ≡ Some f → IsBuiltinName f.text → ⊥
+pub unnamed_in : {fs : List Signature} {t : Table} {names : List (List ℕ)} {g : Scope} {tree : Tree} → PartsTyped fs t names g tree → (n : ℕ) (f : Signature) → slice_get (signatures tree) n ≡ Some f → IsBuiltinName f.text → ⊥
 unnamed_in no_parts n f e b = none-some f e
 unnamed_in (an_import h) n f e b = unnamed_in h n f e b
 unnamed_in (a_function {f = k} (function_typed a apart c d l) h) zero f e b = apart (b.0, ap (λ (z : Signature). z.text) (same_Some (signature_of k) f e) ∙ b.1)

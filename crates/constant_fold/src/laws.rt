@@ -1,8 +1,9 @@
-//! Folding changes nothing that a script means. Nothing here runs: the function has an empty body, and its contract is a law.
+//! Folding changes nothing that a script means. Nothing here runs: each function has an empty body, and its contract is a law.
 ghost use Rattle.std.specs.Prelude.{◌≡◌};
 ghost use Rattle.constant_fold.specs.Folded.{folded_tree};
 ghost use Rattle.same_meaning.specs.Same.{SameCore};
 ghost use Rattle.syntax_trees.specs.Resolved.{core};
+ghost use Rattle.syntax_trees.specs.Single.{SinglyAssigned};
 ghost use Rattle.syntax_trees.specs.Table.{Table};
 ghost use Rattle.syntax_trees.specs.Tree.{Tree};
 ghost use Rattle.syntax_trees.specs.Typing.{WellTyped};
@@ -11,4 +12,14 @@ ghost use Rattle.syntax_trees.specs.Typing.{WellTyped};
 /// same (`same_meaning`): each node that stays has the same facts, round by round.
 pub fn folding_keeps_the_meaning()
     ensures { (t : Table) (tree : Tree) → WellTyped tree t → SameCore (core t tree) (core t (folded_tree tree)) }
+{}
+
+/// The fold of a well typed script is well typed, by the table of the script.
+pub fn folds_are_typed()
+    ensures { (t : Table) (tree : Tree) → WellTyped tree t → WellTyped (folded_tree tree) t }
+{}
+
+/// And singly assigned, where the script is.
+pub fn folds_are_singly_assigned()
+    ensures { (t : Table) (tree : Tree) → WellTyped tree t → SinglyAssigned (core t tree) → SinglyAssigned (core t (folded_tree tree)) }
 {}
