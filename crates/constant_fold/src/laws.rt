@@ -1,6 +1,11 @@
 //! Folding changes nothing that a script means. Nothing here runs: each function has an empty body, and its contract is a law.
-ghost use Rattle.std.specs.Prelude.{◌≡◌};
+ghost use Rattle.std.specs.Prelude.{◌≡◌, ◌≤◌, true};
 ghost use Rattle.constant_fold.specs.Folded.{folded_tree};
+ghost use Rattle.constant_fold.specs.Rising.{Rise};
+ghost use Rattle.syntax_trees.specs.Numbered.{tree_size};
+ghost use Rattle.syntax_trees.specs.Numbers.{numbers};
+ghost use Rattle.syntax_trees.proofs.Tested.{distinct};
+ghost use Rattle.meaning_laws.proofs.TreeOffsets.{tree_offsets};
 ghost use Rattle.same_meaning.specs.Same.{SameCore};
 ghost use Rattle.syntax_trees.specs.Resolved.{core};
 ghost use Rattle.syntax_trees.specs.Single.{SinglyAssigned};
@@ -22,4 +27,14 @@ pub fn folds_are_typed()
 /// And singly assigned, where the script is.
 pub fn folds_are_singly_assigned()
     ensures { (t : Table) (tree : Tree) → WellTyped tree t → SinglyAssigned (core t tree) → SinglyAssigned (core t (folded_tree tree)) }
+{}
+
+/// And no larger.
+pub fn folds_are_small()
+    ensures { (tree : Tree) → tree_size (folded_tree tree) ≤ tree_size tree }
+{}
+
+/// And placed.
+pub fn folds_are_placed()
+    ensures { (tree : Tree) → (Rise 0 (numbers tree) → Rise 0 (numbers (folded_tree tree))) × (distinct (tree_offsets tree) ≡ true → distinct (tree_offsets (folded_tree tree)) ≡ true) }
 {}
