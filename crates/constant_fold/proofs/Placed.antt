@@ -13,7 +13,8 @@ use Rattle.syntax_trees.specs.Tree.{Word, Expression, expression, Form, number, 
 use Rattle.meaning_laws.proofs.TreeOffsets.{expression_offsets, form_offsets, expressions_offsets, right_offsets, calling_offsets, over_offsets, statement_offsets, command_offsets, body_offsets, statements_offsets, tree_offsets}
 use Rattle.constant_fold.specs.Folded.{literal_of, scalars_of, literal_or, collapsed, called, called_operation, folded, folded_form, folded_all, folded_right, folded_calling, folded_over, folded_statement, folded_command, folded_body, folded_statements, folded_part, folded_tree}
 use Rattle.constant_fold.proofs.Scripts.{all_of}
-use Rattle.constant_fold.proofs.Sublists.{Sub, nothing, kept, left_out, sub_all, sub_none, sub_both, sub_each, sub_option, sub_maybe}
+use Rattle.well_formed.specs.Placed.{IsPlaced}
+use Rattle.constant_fold.proofs.Sublists.{Sub, nothing, kept, sub_all, sub_none, sub_both, sub_each, sub_option, sub_maybe, sub_rises, sub_distinct}
 
 -- A LITERAL HAS NONE
 
@@ -99,7 +100,7 @@ part_sub (import sp) = nothing
 part_sub (function f) = kept (sub_both (sub_all _) (body_sub f.body))
 part_sub (single s) = statement_sub s
 
-pub numbers_sub : (tree : Tree) → Sub (numbers (folded_tree tree)) (numbers tree)
+numbers_sub : (tree : Tree) → Sub (numbers (folded_tree tree)) (numbers tree)
 numbers_sub tree = sub_each part_numbers folded_part part_sub tree
 
 -- OFFSETS
@@ -158,8 +159,11 @@ mutual
   statements_lie no_statements = nothing
   statements_lie (and_statement s ss) = sub_both (statement_lies s) (statements_lie ss)
 
-pub offsets_sub : (tree : Tree) → Sub (tree_offsets (folded_tree tree)) (tree_offsets tree)
+offsets_sub : (tree : Tree) → Sub (tree_offsets (folded_tree tree)) (tree_offsets tree)
 offsets_sub [] = nothing
 offsets_sub (import sp ∷ ps) = offsets_sub ps
 offsets_sub (function f ∷ ps) = sub_both (body_lies f.body) (offsets_sub ps)
 offsets_sub (single s ∷ ps) = sub_both (statement_lies s) (offsets_sub ps)
+
+pub folded_placed : (tree : Tree) → IsPlaced tree → IsPlaced (folded_tree tree)
+folded_placed tree p = record { in_order = sub_rises (numbers_sub tree) 0 p.in_order; apart = sub_distinct (offsets_sub tree) p.apart }

@@ -6,7 +6,7 @@ use Rattle.syntax_trees.specs.Numbers.{option_numbers}
 use Rattle.syntax_trees.proofs.Tested.{distinct}
 use Rattle.syntax_trees.proofs.TreeNumbers.{times, few_distinct, distinct_few}
 use Rattle.meaning_laws.proofs.TreeNodes.{maybe_numbers}
-use Rattle.constant_fold.specs.Rising.{Rise}
+use Rattle.well_formed.specs.Placed.{Rise}
 
 -- the members of one list, in their order, with some taken out
 pub data Sub {X : Type 0} : List X → List X → Type 0 where

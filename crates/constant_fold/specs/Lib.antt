@@ -1,3 +1,2 @@
 pub mod Folded
 pub mod Made
-pub mod Rising

@@ -1,6 +1,9 @@
-use Rattle.constant_fold.proofs.Placed.{numbers_sub, offsets_sub}
-use Rattle.constant_fold.proofs.Sublists.{sub_rises, sub_distinct}
+use Rattle.constant_fold.proofs.Placed.{folded_placed}
+use Rattle.constant_fold.proofs.Smaller.{tree_small}
 use Rattle.constant_fold.proofs.laws.folds_are_placed.Goals as goal
 
-pub returns : goal.returns
-returns g = λ tree. (λ h. sub_rises (numbers_sub tree) 0 h, λ h. sub_distinct (offsets_sub tree) h)
+pub returns-clause-placed : goal.returns-clause-placed
+returns-clause-placed g = λ tree p. folded_placed tree p
+
+pub returns-clause-small : goal.returns-clause-small
+returns-clause-small g = λ tree. tree_small tree
