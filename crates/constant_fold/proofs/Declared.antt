@@ -1,7 +1,7 @@
 -- The fold of a tree declares the variables of the tree.
 use Rattle.std.specs.Prelude.{◌≡◌, List, [], ◌∷◌, ◌++◌, refl}
 use Rattle.std.proofs.Common.{ap, ◌∙◌}
-use Rattle.syntax_trees.specs.Tree.{Declaration, Statement, statement, Statements, no_statements, and_statement, Command, declare, assign, write, assign_all, calls, choice, choice_else, loop, waits, Body, body, Tree, import, function, single}
+use Rattle.syntax_trees.specs.Tree.{Statement, statement, Statements, no_statements, and_statement, Command, declare, assign, write, assign_all, calls, choice, choice_else, loop, waits, Body, body, Tree, import, function, single}
 use Rattle.well_formed.specs.Types.{statement_declarations, command_declarations, body_declarations, statements_declarations, tree_declarations}
 use Rattle.constant_fold.specs.Folded.{folded_statement, folded_command, folded_body, folded_statements, folded_tree}
 

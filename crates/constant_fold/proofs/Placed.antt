@@ -1,5 +1,5 @@
 -- The numbers and the offsets of a fold are those of the tree, with some taken out.
-use Rattle.std.specs.Prelude.{◌≡◌, ℕ, List, [], ◌∷◌, ◌++◌, map, Option, Some, None, Result, Ok, Err, refl}
+use Rattle.std.specs.Prelude.{◌≡◌, ℕ, List, [], ◌∷◌, map, Option, Some, None, Result, Ok, Err, refl}
 use Rattle.std.proofs.Common.{sym, subst}
 use Rattle.values.specs.declared.fault.OpFault.{OpFault}
 use Rattle.values.specs.declared.value.Scalar.{Scalar}
@@ -7,9 +7,9 @@ use Rattle.values.specs.declared.value.Scalar.TheVariants.{Number, Truth, Text}
 use Rattle.values.specs.declared.value.Value.{Value}
 use Rattle.values.specs.declared.value.Value.TheVariants.{One, Many}
 use Rattle.values.specs.Operators.{Operation, evaluated}
-use Rattle.syntax_trees.specs.Numbers.{expression_numbers, form_numbers, expressions_numbers, word_numbers, declaration_numbers, right_numbers, calling_numbers, over_numbers, statement_numbers, command_numbers, body_numbers, statements_numbers, composite_numbers, part_numbers, numbers}
+use Rattle.syntax_trees.specs.Numbers.{expression_numbers, form_numbers, expressions_numbers, right_numbers, calling_numbers, over_numbers, statement_numbers, command_numbers, body_numbers, statements_numbers, part_numbers, numbers}
 use Rattle.syntax_trees.specs.Resolved.{chain_operation, prefix_operation}
-use Rattle.syntax_trees.specs.Tree.{Word, Expression, expression, Form, number, text, truth, variable, element, call, prefixed, chain, Expressions, no_expressions, and_expression, expressions_of, Declaration, RightSide, value, list, Calling, Over, array, range, Statement, statement, Statements, no_statements, and_statement, Command, declare, assign, write, assign_all, calls, choice, choice_else, loop, waits, Body, body, Composite, Part, import, function, single, Tree}
+use Rattle.syntax_trees.specs.Tree.{Expression, expression, Form, number, text, truth, variable, element, call, prefixed, chain, Expressions, no_expressions, and_expression, expressions_of, RightSide, value, list, Calling, Over, array, range, Statement, statement, Statements, no_statements, and_statement, Command, declare, assign, write, assign_all, calls, choice, choice_else, loop, waits, Body, body, Part, import, function, single, Tree}
 use Rattle.meaning_laws.proofs.TreeOffsets.{expression_offsets, form_offsets, expressions_offsets, right_offsets, calling_offsets, over_offsets, statement_offsets, command_offsets, body_offsets, statements_offsets, tree_offsets}
 use Rattle.constant_fold.specs.Folded.{literal_of, scalars_of, literal_or, collapsed, called, called_operation, folded, folded_form, folded_all, folded_right, folded_calling, folded_over, folded_statement, folded_command, folded_body, folded_statements, folded_part, folded_tree}
 use Rattle.constant_fold.proofs.Scripts.{all_of}
