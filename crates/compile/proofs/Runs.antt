@@ -1,5 +1,5 @@
 -- What is emitted for the flow of a script is the script's code, and what every run of it keeps.
-use Rattle.std.proofs.Common.{◌≡◌, ℕ, Bool, ◌≤◌, List, length, sym, subst, arith}
+use Rattle.std.proofs.Common.{◌≡◌, ℕ, Bool, ◌≤◌, List, length, map, ap, sym, subst, ◌∙◌, arith}
 use Rattle.dataflow.specs.History.{log_of}
 use Rattle.dataflow.proofs.Bound.{events_bound}
 use Rattle.dataflow.proofs.Ends.{same_end}
@@ -10,9 +10,14 @@ use Rattle.dataflow.proofs.Possible.{has_steps}
 use Rattle.dataflow.proofs.Steps.{run_follows}
 use Rattle.dataflow.proofs.Swept.{step_tidy}
 use Rattle.syntax_trees.specs.Core.{Core}
+use Rattle.syntax_trees.specs.Members.{◌∈◌}
+use Rattle.syntax_trees.specs.Outcomes.{Clean}
 use Rattle.syntax_trees.specs.Resolved.{core}
+use Rattle.syntax_trees.specs.Scopes.{Signature}
+use Rattle.syntax_trees.specs.Single.{SinglyAssigned}
 use Rattle.syntax_trees.specs.Table.{Table}
-use Rattle.syntax_trees.specs.Tree.{Tree}
+use Rattle.syntax_trees.specs.Tree.{Declaration, Tree}
+use Rattle.syntax_trees.specs.Typing.{WellTyped}
 use Rattle.well_formed.proofs.Accepted.{placed_formed, values_meant}
 use Rattle.well_formed.specs.Placed.{IsPlaced}
 use Rattle.well_formed.proofs.Apart.{read_placed}
@@ -25,6 +30,8 @@ use Rattle.task_code.specs.System.{code_system}
 use Rattle.task_code.specs.Whole.{IsCode}
 use Rattle.task_code.proofs.Kept.{code_laws}
 use Rattle.agreement.specs.Emitted.{CallsOnce, CellsOnce, IsEmitted, ReadsStand, size_of}
+use Rattle.agreement.specs.Headline.{Headline}
+use Rattle.agreement.specs.IsCodeOf.{IsCodeOf}
 use Rattle.agreement.specs.Laying.{Kinds}
 use Rattle.agreement.specs.Room.{CoreRoom}
 use Rattle.correspondence.proofs.Meant.{meaning_knows}
@@ -33,11 +40,20 @@ use Rattle.laid_code.proofs.IndexParts.{reads_stand}
 use Rattle.laid_code.proofs.Small.{laid_small}
 use Rattle.whole_code.proofs.Offsets.{accepted_calls}
 use Rattle.emitted_code.proofs.Whole.{exact_rights, headline_emitted, whole_emitted}
-use Rattle.same_meaning.proofs.Itself.{core_itself}
+use Rattle.whole_code.specs.Described.{DeclaredIn, KindsOf, is_array_shape, kinds_of_signature}
+use Rattle.same_meaning.specs.Same.{SameCore}
+use Rattle.same_meaning.proofs.Turned.{turned_core}
+use Rattle.same_meaning.proofs.Views.{headline_too, same_clean}
 use Rattle.bounded_runs.proofs.Bounds.{run_bound, run_live}
-use Rattle.compile.specs.Compiled.{IsCompiled, IsFlowFor, IsFlowOf, RunsGoOn}
+use Rattle.constant_fold.specs.Folded.{folded_tree}
+use Rattle.constant_fold.proofs.Declared.{tree_declares}
+use Rattle.constant_fold.proofs.Placed.{folded_placed}
+use Rattle.constant_fold.proofs.Scripts.{core_same}
+use Rattle.constant_fold.proofs.Singly.{singly_assigned}
+use Rattle.constant_fold.proofs.Typed.{folded_typed, signatures_stay}
+use Rattle.compile.specs.Compiled.{IsCompiled, IsFoldedFlowOf, IsLaidFor, RunsAreLive, RunsGoOn}
 use Rattle.compile.specs.Compiles.{IsAccepted}
-use Rattle.compile.proofs.Sizes.{room_core, small_core}
+use Rattle.compile.proofs.Sizes.{room_fold, small_fold}
 
 runs_go_on : (C : Code) → IsCode C → RunsGoOn C
 runs_go_on C I = record {
@@ -51,61 +67,117 @@ runs_go_on C I = record {
   bound = λ es st x. events_bound (code_system C) es st x;
 }
 
--- code that is emitted for the core of an accepted script
-pub of_tree : (src : List ℕ) (t : Table) (tree : Tree) (fs : List Kinds) (ds : List (ℕ × Bool)) (C : Code) → IsAccepted src t tree → Rattle.whole_code.specs.Described.KindsOf fs tree → Rattle.whole_code.specs.Described.DeclaredIn ds tree
-    → IsEmitted (core t tree) fs ds C → IsCompiled src C
-of_tree src t tree fs ds C a kinds declared e =
-    let place = read_placed src tree a.reads in
-    record {
-      table = t;
-      tree = tree;
-      accepted = a;
-      code_of = accepted_code t tree fs ds C place e.laid;
-      whole = whole_emitted t tree fs ds C place a.typed a.single kinds declared e;
-      exact = exact_rights C e.rights;
-      nodes = accepted_nodes t tree fs ds C place e.laid;
-      few = (let x = laid_small (core t tree) fs ds C e.laid (accepted_cells t tree place) (reads_stand t tree) in let y = small_core src t tree a.reads in omega arith);
-      headline = headline_emitted t tree fs ds C place a.typed a.single kinds declared e;
-      runs = runs_go_on C (whole_emitted t tree fs ds C place a.typed a.single kinds declared e);
-      live = λ clean. (
-          let wf = placed_formed t tree place a.typed a.single in
-          let kn = meaning_knows (core t tree) wf a.single clean in
-          let sc = scoped t tree place.in_order a.typed in
-          let ty = values_meant t tree place a.typed in
-          let I = whole_emitted t tree fs ds C place a.typed a.single kinds declared e in
-          let w = accepted_code t tree fs ds C place e.laid in
-          let nodes = accepted_nodes t tree fs ds C place e.laid in
-          let ex = exact_rights C e.rights in
-          record {
-            live = run_live (core t tree) (core t tree) (core_itself (core t tree)) C w wf kn I sc ty nodes ex a.single;
-            bound = run_bound (core t tree) (core t tree) (core_itself (core t tree)) C w wf kn I sc ty nodes ex a.single;
-          });
-    }
+-- WHAT THE FOLD OF AN ACCEPTED SCRIPT IS
 
--- WHAT THE EMISSION ASKS OF THE FLOW OF A SCRIPT
+module _ (src : List ℕ) (t : Table) (tree : Tree) (a : IsAccepted src t tree) where
+  folds_placed : IsPlaced (folded_tree tree)
+  folds_placed = folded_placed tree (read_placed src tree a.reads)
 
-module _ {A : Type 0} (src : List ℕ) (flow : Flow A) (is : IsFlowOf src flow) where
-  back : core is.0 is.1 ≡ core_of flow
+  folds_typed : WellTyped (folded_tree tree) t
+  folds_typed = folded_typed t tree a.typed
+
+  folds_same : SameCore (core t tree) (core t (folded_tree tree))
+  folds_same = core_same t tree a.typed
+
+  folds_single : SinglyAssigned (core t (folded_tree tree))
+  folds_single = singly_assigned (core t tree) (core t (folded_tree tree)) folds_same a.single
+
+kinds_stay : (fs : List Kinds) (tree : Tree) → KindsOf fs tree → KindsOf fs (folded_tree tree)
+kinds_stay fs tree k = k ∙ ap (λ (xs : List Signature). map kinds_of_signature xs) (sym (signatures_stay tree))
+
+kinds_back : (fs : List Kinds) (tree : Tree) → KindsOf fs (folded_tree tree) → KindsOf fs tree
+kinds_back fs tree k = k ∙ ap (λ (xs : List Signature). map kinds_of_signature xs) (signatures_stay tree)
+
+-- declared among these
+abbrev DeclaredAmong : List (ℕ × Bool) → List Declaration → Type 0
+DeclaredAmong ds xs = (n : ℕ) (b : Bool) → ◌∈◌ {X = ℕ × Bool} (n, b) ds → (d : Declaration) × d ∈ xs × (d.name.number ≡ n) × (is_array_shape d.shape ≡ b)
+
+declared_stay : (ds : List (ℕ × Bool)) (tree : Tree) → DeclaredIn ds tree → DeclaredIn ds (folded_tree tree)
+declared_stay ds tree h = subst (DeclaredAmong ds) (sym (tree_declares tree)) h
+
+declared_back : (ds : List (ℕ × Bool)) (tree : Tree) → DeclaredIn ds (folded_tree tree) → DeclaredIn ds tree
+declared_back ds tree h = subst (DeclaredAmong ds) (tree_declares tree) h
+
+-- WHAT IS EMITTED FOR IT
+
+module _ (src : List ℕ) (t : Table) (tree : Tree) (fs : List Kinds) (ds : List (ℕ × Bool)) (C : Code) (a : IsAccepted src t tree) (kinds : KindsOf fs tree) (declared : DeclaredIn ds tree) (e : IsEmitted (core t (folded_tree tree)) fs ds C) where
+  code_is : IsCodeOf (core t (folded_tree tree)) C
+  code_is = accepted_code t (folded_tree tree) fs ds C (folds_placed src t tree a) e.laid
+
+  is_whole : IsCode C
+  is_whole = whole_emitted t (folded_tree tree) fs ds C (folds_placed src t tree a) (folds_typed src t tree a) (folds_single src t tree a) (kinds_stay fs tree kinds) (declared_stay ds tree declared) e
+
+  owes : Headline (core t tree) C
+  owes =
+      headline_too (core t (folded_tree tree)) (core t tree) (turned_core (folds_same src t tree a)) C
+      (headline_emitted t (folded_tree tree) fs ds C (folds_placed src t tree a) (folds_typed src t tree a) (folds_single src t tree a) (kinds_stay fs tree kinds) (declared_stay ds tree declared) e)
+
+  few : length C.entries ≤ 4194304
+  few =
+      let x = laid_small (core t (folded_tree tree)) fs ds C e.laid (accepted_cells t (folded_tree tree) (folds_placed src t tree a)) (reads_stand t (folded_tree tree)) in
+      let y = small_fold src t tree a.reads in
+      omega arith
+
+  are_live : Clean (core t tree) → RunsAreLive (core t tree) C code_is.layout
+  are_live clean =
+      let T = folded_tree tree in
+      let same = folds_same src t tree a in
+      let place = folds_placed src t tree a in
+      let typed = folds_typed src t tree a in
+      let single = folds_single src t tree a in
+      let wf = placed_formed t T place typed single in
+      let kn = meaning_knows (core t T) wf single (same_clean (core t tree) (core t T) same clean) in
+      let sc = scoped t T place.in_order typed in
+      let ty = values_meant t T place typed in
+      let nodes = accepted_nodes t T fs ds C place e.laid in
+      let ex = exact_rights C e.rights in
+      record {
+        live = run_live (core t tree) (core t T) same C code_is wf kn is_whole sc ty nodes ex single;
+        bound = run_bound (core t tree) (core t T) same C code_is wf kn is_whole sc ty nodes ex single;
+      }
+
+  pub of_tree : IsCompiled src C
+  of_tree = record {
+    table = t;
+    tree = tree;
+    accepted = a;
+    laid = record { kinds = fs; declared = ds; kinds_of = kinds; declared_in = declared; emitted = e };
+    code_of = code_is;
+    whole = is_whole;
+    exact = exact_rights C e.rights;
+    nodes = accepted_nodes t (folded_tree tree) fs ds C (folds_placed src t tree a) e.laid;
+    few = few;
+    headline = owes;
+    runs = runs_go_on C is_whole;
+    live = are_live;
+  }
+
+-- WHAT THE EMISSION ASKS OF THE FLOW OF A FOLD
+
+module _ {A : Type 0} (src : List ℕ) (flow : Flow A) (is : IsFoldedFlowOf src flow) where
+  back : core is.0 (folded_tree is.1) ≡ core_of flow
   back = sym (is.3).core_is
 
-  place : IsPlaced is.1
-  place = read_placed src is.1 (is.2).reads
+  place : IsPlaced (folded_tree is.1)
+  place = folds_placed src is.0 is.1 is.2
 
   pub flow_calls : CallsOnce (core_of flow)
-  flow_calls = subst CallsOnce back (accepted_calls is.0 is.1 place)
+  flow_calls = subst CallsOnce back (accepted_calls is.0 (folded_tree is.1) place)
 
   pub flow_cells : CellsOnce (core_of flow)
-  flow_cells = subst CellsOnce back (accepted_cells is.0 is.1 place)
+  flow_cells = subst CellsOnce back (accepted_cells is.0 (folded_tree is.1) place)
 
   pub flow_reads : ReadsStand (core_of flow)
-  flow_reads = subst ReadsStand back (reads_stand is.0 is.1)
+  flow_reads = subst ReadsStand back (reads_stand is.0 (folded_tree is.1))
 
   pub flow_room : CoreRoom (core_of flow)
-  flow_room = subst CoreRoom back (room_core src is.0 is.1 (is.2).reads (is.2).typed)
+  flow_room = subst CoreRoom back (room_fold src is.0 is.1 (is.2).reads (is.2).typed)
 
   pub flow_size : size_of (core_of flow) ≤ 4194304
-  flow_size = subst (λ (c : Core). size_of c ≤ 4194304) back (small_core src is.0 is.1 (is.2).reads)
+  flow_size = subst (λ (c : Core). size_of c ≤ 4194304) back (small_fold src is.0 is.1 (is.2).reads)
 
   -- what it gives is the script's code
   pub compiled : (code : Code) → IsEmitted (core_of flow) (kinds_of flow) (declared_of flow) code → IsCompiled src code
-  compiled code e = of_tree src is.0 is.1 (kinds_of flow) (declared_of flow) code is.2 (is.3).kinds (is.3).declared (subst (λ (c : Core). IsEmitted c (kinds_of flow) (declared_of flow) code) (is.3).core_is e)
+  compiled code e =
+      of_tree src is.0 is.1 (kinds_of flow) (declared_of flow) code is.2 (kinds_back (kinds_of flow) is.1 (is.3).kinds) (declared_back (declared_of flow) is.1 (is.3).declared)
+      (subst (λ (c : Core). IsEmitted c (kinds_of flow) (declared_of flow) code) (is.3).core_is e)

@@ -14,6 +14,10 @@ use Rattle.agreement.specs.Room.{CoreRoom}
 use Rattle.well_formed.proofs.Apart.{read_placed}
 use Rattle.script_sizes.proofs.Room.{room_in}
 use Rattle.script_sizes.proofs.Sizes.{size_within}
+use Rattle.constant_fold.specs.Folded.{folded_tree}
+use Rattle.constant_fold.proofs.Placed.{folded_placed}
+use Rattle.constant_fold.proofs.Smaller.{tree_small}
+use Rattle.constant_fold.proofs.Typed.{folded_typed}
 
 each_same : {X : Type 0} (f : ℕ → X → X) (size : X → ℕ) → ((n : ℕ) (x : X) → size (f n x) ≡ size x) → (n : ℕ) (xs : List X) → sum_by size (numbered_each f size n xs) ≡ sum_by size xs
 each_same f size h n [] = refl
@@ -98,9 +102,12 @@ read_fits src tree r =
     let short = r.short in
     omega arith
 
--- so its code has room
-pub small_core : (src : List ℕ) (t : Table) (tree : Tree) → Reads src tree → size_of (core t tree) ≤ 4194304
-small_core src t tree r = let a = size_within t tree in let b = read_fits src tree r in omega arith
+-- so the code of its fold has room
+fold_fits : (src : List ℕ) (tree : Tree) → Reads src tree → tree_size (folded_tree tree) ≤ 2097152
+fold_fits src tree r = let a = read_fits src tree r in let b = tree_small tree in omega arith
 
-pub room_core : (src : List ℕ) (t : Table) (tree : Tree) → Reads src tree → WellTyped tree t → CoreRoom (core t tree)
-room_core src t tree r typed = (let b = read_fits src tree r in let light : 2 * tree_size tree < 2 ^ 30 = omega arith in room_in t tree (read_placed src tree r) typed light)
+pub small_fold : (src : List ℕ) (t : Table) (tree : Tree) → Reads src tree → size_of (core t (folded_tree tree)) ≤ 4194304
+small_fold src t tree r = let a = size_within t (folded_tree tree) in let b = fold_fits src tree r in omega arith
+
+pub room_fold : (src : List ℕ) (t : Table) (tree : Tree) → Reads src tree → WellTyped tree t → CoreRoom (core t (folded_tree tree))
+room_fold src t tree r typed = (let b = fold_fits src tree r in let light : 2 * tree_size (folded_tree tree) < 2 ^ 30 = omega arith in room_in t (folded_tree tree) (folded_placed tree (read_placed src tree r)) (folded_typed t tree typed) light)

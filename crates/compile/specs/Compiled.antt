@@ -1,5 +1,5 @@
 -- What it means that a flow and code are those of a script that a text reads as, and what every run of the code keeps.
-use Rattle.std.specs.Prelude.{◌≡◌, ◌⊎◌, ℕ, ◌+◌, ◌*◌, ◌≤◌, List, length}
+use Rattle.std.specs.Prelude.{◌≡◌, ◌⊎◌, ℕ, Bool, ◌+◌, ◌*◌, ◌≤◌, List, length}
 use Rattle.dataflow.specs.Events.{backs}
 use Rattle.dataflow.specs.Machine.{Event}
 use Rattle.dataflow.specs.System.{In}
@@ -19,11 +19,14 @@ use Rattle.task_code.specs.Exact.{IsExact}
 use Rattle.task_code.specs.Machine.{CodeItem, CodeState, CodeStep, DataAreExact, DataAreKept, GoesOn, HasSteps, IsTidy, LeadsTo, Quiet, Run, SameEnd, run_log}
 use Rattle.task_code.specs.Places.{Step}
 use Rattle.task_code.specs.Whole.{IsCode}
+use Rattle.agreement.specs.Emitted.{IsEmitted}
 use Rattle.agreement.specs.Headline.{Headline}
 use Rattle.agreement.specs.IsCodeOf.{IsCodeOf, Layout}
+use Rattle.agreement.specs.Laying.{Kinds}
 use Rattle.agreement.specs.NodesOnce.{NodesOnce}
 use Rattle.whole_code.specs.Described.{DeclaredIn, KindsOf}
 use Rattle.bounded_runs.specs.Live.{HasLiveBodies, HasLiveLoops, IsLiveItem}
+use Rattle.constant_fold.specs.Folded.{folded_tree}
 use Rattle.compile.specs.Compiles.{IsAccepted}
 
 -- the flow is that of the tree, by this table of its names: its core, which variables, inputs and outputs are arrays, and no waits left to merge
@@ -36,6 +39,18 @@ pub record IsFlowFor {A : Type 0} (table : Table) (tree : Tree) (flow : Flow A) 
 -- the text reads as a tree that is well typed and singly assigned, and the flow is that tree's
 abbrev pub IsFlowOf : {A : Type 0} → List ℕ → Flow A → Type 0
 IsFlowOf src flow = (table : Table) × (tree : Tree) × IsAccepted src table tree × IsFlowFor table tree flow
+
+-- the same of its fold
+abbrev pub IsFoldedFlowOf : {A : Type 0} → List ℕ → Flow A → Type 0
+IsFoldedFlowOf src flow = (table : Table) × (tree : Tree) × IsAccepted src table tree × IsFlowFor table (folded_tree tree) flow
+
+-- the code is laid by the rules for the fold of the tree, with its waits merged: one body for each block of it, with an entry for each call, each cell that has a datum and each statement that does something, and no others; each entry has exactly the rights that it leads to
+pub record IsLaidFor (table : Table) (tree : Tree) (code : Code) : Type 0 where
+  pub kinds : List Kinds
+  pub declared : List (ℕ × Bool)
+  pub kinds_of : KindsOf kinds tree
+  pub declared_in : DeclaredIn declared tree
+  pub emitted : IsEmitted (core table (folded_tree tree)) kinds declared code
 
 -- what every run of the code keeps, over every list of events
 pub record RunsGoOn (code : Code) : Type 0 where
@@ -63,12 +78,13 @@ pub record RunsAreLive (s : Core) (code : Code) (l : Layout) : Type 0 where
   pub bound : (bodies : List (ℕ × List Step)) (loops : List (ℕ × List Step × ℕ)) → HasLiveBodies s code l bodies → HasLiveLoops s code l loops
       → (events : List Event) (st : CodeState) → Run code events st → length events ≤ 2 * (items_in code bodies loops + backs events)
 
--- the text is a script, and the code is the script's: it is whole and not too long, its rights are exact, and every run of it owes to the script what the headline says
+-- the text is a script, and the code is that of its fold, laid by the rules: it is whole and not too long, its rights are exact, and every run of it owes to the script, as it is written, what the headline says
 pub record IsCompiled (src : List ℕ) (code : Code) : Type 0 where
   pub table : Table
   pub tree : Tree
   pub accepted : IsAccepted src table tree
-  pub code_of : IsCodeOf (core table tree) code
+  pub laid : IsLaidFor table tree code
+  pub code_of : IsCodeOf (core table (folded_tree tree)) code
   pub whole : IsCode code
   pub exact : IsExact code
   pub nodes : NodesOnce code

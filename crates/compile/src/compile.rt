@@ -1,13 +1,15 @@
 //! From the bytes of a script to its statements and its code.
 ghost use Rattle.std.specs.Prelude.{IfOk, IfErr, IsOk};
+ghost use Rattle.constant_fold.specs.Folded.{folded_tree};
 ghost use Rattle.syntax_trees.specs.View.{tree_of};
 ghost use Rattle.types.specs.Typed.{table_of};
-ghost use Rattle.compile.specs.Compiled.{IsCompiled, IsFlowFor, IsFlowOf};
+ghost use Rattle.compile.specs.Compiled.{IsCompiled, IsFlowFor, IsFlowOf, IsFoldedFlowOf};
 ghost use Rattle.compile.specs.Compiles.{IsScript, IsUnfit};
 
 use crate::check::{Accepted, accept};
 use crate::fault::CompileFault;
 use code_listing::text::listing;
+use constant_fold::fold;
 use emit::emit;
 use flow::script::Flow;
 use lowering::lower;
@@ -15,8 +17,8 @@ use std::alloc::{AllocError, Allocator, Global};
 use task_code::code::Code;
 use wait_merge::merge;
 
-/// The statements of a script, with their names resolved and their waits merged. They lie in `alloc`, as its tree does until
-/// the answer.
+/// The statements of a script as it is written, with their names resolved and their waits merged. They lie in `alloc`, as its
+/// tree does until the answer.
 ///
 /// # Errors
 ///
@@ -46,14 +48,52 @@ fn flow_of<A: Allocator + Clone>(accepted: &Accepted<A>) -> Result<Flow<A>, Allo
     Ok(merged)
 }
 
-/// The statements of a script and its code.
+/// The statements of a script with its expressions of literals folded, with their names resolved and their waits merged. They
+/// lie in `alloc`, as its tree does until the answer.
+///
+/// # Errors
+///
+/// The refusal of the first step that refuses the script, or want of memory.
+pub fn read_folded<A: Allocator + Clone>(
+    machine: Global,
+    alloc: A,
+    src: &[u8],
+) -> Result<Flow<A>, CompileFault>
+    ensures flow { IfOk result (λ flow. IsFoldedFlowOf src.now flow) }
+    ensures unfit { IfErr result (λ fault. IsUnfit src.now fault) }
+{
+    let accepted = accept(machine, alloc, src)?;
+    match folded_flow_of(machine, accepted) {
+        Ok(flow) => Ok(flow),
+        Err(_) => Err(CompileFault::Memory),
+    }
+}
+
+/// The same for a script that is accepted.
+fn folded_flow_of<A: Allocator + Clone>(
+    machine: Global,
+    accepted: Accepted<A>,
+) -> Result<Flow<A>, AllocError>
+    ensures { IfOk result (λ flow. IsFlowFor (table_of accepted.typed) (folded_tree (tree_of accepted.script)) flow) }
+{
+    let Accepted { script, typed } = accepted;
+    let alloc = script.items.allocator().clone()?;
+    let other = script.items.allocator().clone()?;
+    let folded = fold(machine, other, script)?;
+    let flow = lower(alloc, &folded, &typed)?;
+    let merged = merge(flow)?;
+    Ok(merged)
+}
+
+/// The statements of a script, with its expressions of literals folded, and its code.
 #[derive(Drop)]
 pub struct Compiled<A: Allocator> {
     pub flow: Flow<A>,
     pub code: Code,
 }
 
-/// The statements of a script and its code. The tree and the flow lie in `alloc`, and the code in the machine's memory.
+/// The statements of a script, with its expressions of literals folded, and its code. The tree and the flow lie in `alloc`, and
+/// the code in the machine's memory.
 ///
 /// # Errors
 ///
@@ -63,11 +103,11 @@ pub fn with_flow<A: Allocator + Clone>(
     alloc: A,
     src: &[u8],
 ) -> Result<Compiled<A>, CompileFault>
-    ensures flow { IfOk result (λ compiled. IsFlowOf src.now compiled.flow) }
+    ensures flow { IfOk result (λ compiled. IsFoldedFlowOf src.now compiled.flow) }
     ensures code { IfOk result (λ compiled. IsCompiled src.now compiled.code) }
     ensures unfit { IfErr result (λ fault. IsUnfit src.now fault) }
 {
-    let flow = read(machine, alloc, src)?;
+    let flow = read_folded(machine, alloc, src)?;
     match emit(machine, &flow) {
         Ok(code) => Ok(Compiled { flow, code }),
         Err(_) => Err(CompileFault::Memory),

@@ -3,6 +3,7 @@ ghost use Rattle.agreement.specs.Emitted.{IsEmitted};
 ghost use Rattle.agreement.specs.Laying.{Kinds};
 ghost use Rattle.compile.specs.Compiled.{IsCompiled};
 ghost use Rattle.compile.specs.Compiles.{IsAccepted};
+ghost use Rattle.constant_fold.specs.Folded.{folded_tree};
 ghost use Rattle.std.specs.Prelude.{ℕ, Bool, List};
 ghost use Rattle.syntax_trees.specs.Resolved.{core};
 ghost use Rattle.syntax_trees.specs.Table.{Table};
@@ -10,8 +11,8 @@ ghost use Rattle.syntax_trees.specs.Tree.{Tree};
 ghost use Rattle.task_code.specs.Code.{Code};
 ghost use Rattle.whole_code.specs.Described.{DeclaredIn, KindsOf};
 
-/// Code that is laid by the rules for the core of a script that a text reads as, with the rights that its entries lead to and no
+/// Code that is laid by the rules for the core of the fold of a script that a text reads as, with the rights that its entries lead to and no
 /// others, is the text's code: every run of it owes to the script what the headline says, and keeps all that `IsCompiled` says.
 pub fn emitted_code_is_compiled()
-    ensures { (src : List ℕ) (t : Table) (tree : Tree) (fs : List Kinds) (ds : List (ℕ × Bool)) (code : Code) → IsAccepted src t tree → KindsOf fs tree → DeclaredIn ds tree → IsEmitted (core t tree) fs ds code → IsCompiled src code }
+    ensures { (src : List ℕ) (t : Table) (tree : Tree) (fs : List Kinds) (ds : List (ℕ × Bool)) (code : Code) → IsAccepted src t tree → KindsOf fs tree → DeclaredIn ds tree → IsEmitted (core t (folded_tree tree)) fs ds code → IsCompiled src code }
 {}
