@@ -69,3 +69,10 @@ flow_for t tree lowered flow c d k same_core same_declared same_kinds_of merged 
   declared = subst (λ (ds : Declared). DeclaredIn ds tree) (sym (same_declared ∙ d)) (all_declared tree);
   merged = merged;
 }
+
+-- the same of a tree that is another one
+pub flow_for_same : {A : Type 0} (t : Table) (tree other : Tree) (lowered flow : Flow A) → other ≡ tree → core_of lowered ≡ core t other → declared_of lowered ≡ flagged (own_declarations other) ++ flagged (function_declarations other)
+    → kinds_of lowered ≡ map found.kinds_of_signature (signatures other) → core_of flow ≡ core_of lowered → declared_of flow ≡ declared_of lowered → kinds_of flow ≡ kinds_of lowered → IsMerged flow
+    → IsFlowFor t tree flow
+flow_for_same t tree other lowered flow is c d k same_core same_declared same_kinds_of merged =
+    subst (λ (u : Tree). IsFlowFor t u flow) is (flow_for t other lowered flow c d k same_core same_declared same_kinds_of merged)
