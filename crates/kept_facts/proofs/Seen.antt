@@ -1,5 +1,5 @@
 -- What is seen and was told by what is kept is what is known.
-use Rattle.std.specs.Prelude.{◌≡◌, true, IsTrue, List, [], ◌∷◌, length, map, Option, Some, None, refl}
+use Rattle.std.specs.Prelude.{◌≡◌, true, List, [], ◌∷◌, length, map, Option, Some, None, refl}
 use Rattle.std.proofs.Common.{inl, inr, sym, ap, ◌∙◌, subst}
 use Rattle.std.proofs.lemmas.Bool.{eqb-true, eq-eqb}
 use Rattle.values.specs.declared.key.Key.{Key}
@@ -7,7 +7,7 @@ use Rattle.values.specs.declared.map.Element.{Element}
 use Rattle.values.specs.declared.value.Scalar.{Scalar}
 use Rattle.values.specs.declared.value.Value.{Value}
 use Rattle.values.specs.declared.value.Value.TheVariants.{One, Many}
-use Rattle.values.specs.Maps.{rising, inserted, element as entry}
+use Rattle.values.specs.Maps.{element as entry}
 use Rattle.syntax_trees.specs.Core.{Core}
 use Rattle.syntax_trees.specs.Facts.{value, element, Knowledge, OneWrite, OneWriter, Elements}
 use Rattle.syntax_trees.specs.Meaning.{Closed, closed, HasValue, stored, in_turn}
@@ -15,18 +15,14 @@ use Rattle.syntax_trees.specs.Members.{◌∈◌}
 use Rattle.syntax_trees.specs.Places.{Path, Place, place, most_steps}
 use Rattle.meaning_laws.proofs.PlacesEqual.{place_is}
 use Rattle.meaning_laws.proofs.Rising.{rising_same}
-use Rattle.meaning_laws.proofs.Sorted.{sorted, sorted_rising, sorted_from, sorted_all}
 use Rattle.whole_meaning.specs.Environment.{Sees}
 use Rattle.whole_meaning.specs.News.{Recalls}
 use Rattle.kept_facts.specs.Kept.{Write, Kept, Keeps, scalar_by, values_under, element_of, by_key, sight_by, is_there, several_in, past_by}
+use Rattle.kept_facts.proofs.Firsts.{by_key_rising, by_key_from, by_key_all}
 use Rattle.kept_facts.proofs.Lists.{in_map, of_map, none_so, none_all, one_so, one_all, two_so, two_all, same_value}
 
 some_same : {X : Type 0} {x y : X} → Some x ≡ Some y → x ≡ y
 some_same h = cc
-
-by_key_is : (es : List Element) → by_key es ≡ sorted es
-by_key_is [] = refl
-by_key_is (e ∷ es) = ap (inserted e.key e.value) (by_key_is es)
 
 module _ (s : Core) (K : Knowledge) (k : Kept) (h : Keeps s K k) (one : (p : Place) (v u : Scalar) → HasValue s K p v → HasValue s K p u → v ≡ u) where
   scalar_so : (p : Place) (o : Option Value) (v : Scalar) → k.value p ≡ o → scalar_by o (k.turn p) ≡ Some v → HasValue s K p v
@@ -61,20 +57,19 @@ module _ (s : Core) (K : Knowledge) (k : Kept) (h : Keeps s K k) (one : (p : Pla
 
   written : (a : Place) (key : Key) (v : Scalar) → entry key v ∈ by_key (map element_of (k.writes a)) → (w : Place) × K (element a key w v)
   written a key v m =
-      let r = of_map (k.writes a) (sorted_from (map element_of (k.writes a)) (entry key v) (subst (λ (z : List Element). entry key v ∈ z) (by_key_is (map element_of (k.writes a))) m)) in
+      let r = of_map (k.writes a) (by_key_from (map element_of (k.writes a)) (entry key v) m) in
       let same_k : key ≡ r.0.key = ap (λ (z : Element). z.key) r.2 in
       let same_v : v ≡ r.0.value = ap (λ (z : Element). z.value) r.2 in
       (r.0.writer, subst (λ (z : Key). K (element a z r.0.writer v)) (sym same_k) (subst (λ (z : Scalar). K (element a r.0.key r.0.writer z)) (sym same_v) (h.write_so a r.0 r.1)))
 
   all_there : (a : Place) → OneWriter K a → (key : Key) (w : Place) (v : Scalar) → K (element a key w v) → entry key v ∈ by_key (map element_of (k.writes a))
   all_there a o key w v q =
-      subst (λ (z : List Element). entry key v ∈ z) (sym (by_key_is (map element_of (k.writes a))))
-      (sorted_all (map element_of (k.writes a)) (one_value a o) (entry key v) (in_map (k.writes a) (h.write_all a key w v q)))
+      by_key_all (map element_of (k.writes a)) (one_value a o) (entry key v) (in_map (k.writes a) (h.write_all a key w v q))
 
   -- the elements by what is written, where no key has two writers
   elements : (a : Place) → OneWriter K a → Elements K a (by_key (map element_of (k.writes a)))
   elements a o = record {
-    in_order = subst (λ (z : List Element). IsTrue (rising z)) (sym (by_key_is (map element_of (k.writes a)))) (sorted_rising (map element_of (k.writes a)));
+    in_order = by_key_rising (map element_of (k.writes a));
     written = written a;
     all = all_there a o;
   }

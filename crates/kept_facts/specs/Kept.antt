@@ -6,7 +6,7 @@ use Rattle.values.specs.declared.value.Scalar.{Scalar}
 use Rattle.values.specs.declared.value.Value.{Value}
 use Rattle.values.specs.declared.value.Value.TheVariants.{One, Many}
 use Rattle.values.specs.Keys.{same_key}
-use Rattle.values.specs.Maps.{inserted}
+use Rattle.values.specs.Maps.{found, inserted}
 use Rattle.syntax_trees.specs.Core.{Action, Block, Core, stmt}
 use Rattle.syntax_trees.specs.Facts.{Fault, value, element, line, fault, Knowledge}
 use Rattle.syntax_trees.specs.Meaning.{Closed, HasValue, Live, Ready}
@@ -72,10 +72,21 @@ values_under (w ∷ ws) key = if same_key w.key key then w.value ∷ values_unde
 abbrev pub element_of : Write → Element
 element_of w = record { key = w.key; value = w.value }
 
--- elements by rising key
+-- an element beside others, unless its key is there
+abbrev pub put_unless : Option Scalar → Element → List Element → List Element
+put_unless (Some v) e es = es
+put_unless None e es = inserted e.key e.value es
+
+abbrev pub put_first : List Element → Element → List Element
+put_first es e = put_unless (found e.key es) e es
+
+-- elements by rising key beside others, the first of each key
+abbrev pub by_key_beside : List Element → List Element → List Element
+by_key_beside es [] = es
+by_key_beside es (d ∷ ds) = by_key_beside (put_first es d) ds
+
 abbrev pub by_key : List Element → List Element
-by_key [] = []
-by_key (e ∷ es) = inserted e.key e.value (by_key es)
+by_key ds = by_key_beside [] ds
 
 abbrev pub sight_by : Core → Kept → Path → Sight
 sight_by s k path = record {

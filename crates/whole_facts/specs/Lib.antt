@@ -3,3 +3,5 @@ pub mod Kinds
 pub mod Store
 pub mod Sighted
 pub mod Stands
+pub mod Paths
+pub mod Keeping
