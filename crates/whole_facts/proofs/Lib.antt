@@ -2,3 +2,5 @@ pub mod Stored
 pub mod Fronts
 pub mod Standing
 pub mod Aims
+pub mod Adding
+pub mod Clean

@@ -1,5 +1,5 @@
 -- What was learned, as what is kept of what is known: found by paths through the one instance at each.
-use Rattle.std.specs.Prelude.{◌≡◌, ℕ, ◌<◌, Bool, false, ◌&&◌, List, [], ◌++◌, ◌∷◌, length, map, nat_eq, nat_le, is_some, Option, Some, None}
+use Rattle.std.specs.Prelude.{◌≡◌, ℕ, ◌<◌, Bool, false, ◌&&◌, ◌||◌, List, [], ◌++◌, ◌∷◌, length, map, nat_eq, nat_le, is_some, Option, Some, None}
 use Rattle.std.specs.HashSet.{contains}
 use denote.Enum.Bare.{sameb}
 use Rattle.values.specs.declared.fault.OpFault.TheVariants as Op
@@ -49,6 +49,17 @@ has_kind k None at p = false
 
 abbrev pub fault_at : Facts → Fault → (at : ℕ) → Spot → Bool
 fault_at k f at p = has_kind k (kind_of f) at p
+
+abbrev pub all_kinds : List FaultKind
+all_kinds = Kind.Overflow ∷ Kind.DivideByZero ∷ Kind.NoElement ∷ Kind.ElementTwice ∷ Kind.BadStep ∷ Kind.TooDeep ∷ Kind.NotANumber ∷ Kind.AssertFailed ∷ []
+
+abbrev pub has_some : Facts → List FaultKind → (at : ℕ) → Spot → Bool
+has_some k [] at p = false
+has_some k (kind ∷ kinds) at p = has_kind k (Some kind) at p || has_some k kinds at p
+
+-- some fault of the statement at an offset is known
+abbrev pub some_fault_at : Facts → (at : ℕ) → Spot → Bool
+some_fault_at k at p = has_some k all_kinds at p
 
 -- WHAT IS KEPT
 

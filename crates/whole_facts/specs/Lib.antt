@@ -5,3 +5,4 @@ pub mod Sighted
 pub mod Stands
 pub mod Paths
 pub mod Keeping
+pub mod Added

@@ -1,6 +1,6 @@
 -- What the facts and the instances of a program say: values, lines and writes by their places, and where names lie.
 use Rattle.std.specs.Prelude.{◌≡◌, ℕ, zero, suc, Bool, true, false, not, ◌&&◌, ◌||◌, List, [], ◌∷◌, Option, Some, None, nat_eq, slice_get, if◌then◌else◌}
-use Rattle.std.specs.HashMap.{get}
+use Rattle.std.specs.HashMap.{get, values}
 use Rattle.values.specs.declared.key.Key.{Key}
 use Rattle.values.specs.declared.map.Element.{Element}
 use Rattle.values.specs.declared.value.Scalar.{Scalar}
@@ -29,6 +29,10 @@ value_at k p = get same_pair k.values (p.instance, p.node)
 
 abbrev pub line_at : Facts → Place → Option (List ℕ)
 line_at k p = get same_pair k.lines (p.instance, p.node)
+
+-- the lines, in no order
+abbrev pub all_lines : Facts → List (List ℕ)
+all_lines k = values k.lines
 
 abbrev pub listed_writes : {V : Type 0} → (V → List Write) → Option V → List Write
 listed_writes f (Some v) = f v

@@ -1,9 +1,13 @@
 //! What can be known of a script's run.
-ghost use Rattle.std.specs.Prelude.{◌≡◌, [], option_copied, IfOk, IfErr, OnOk, IsTrue};
+ghost use Rattle.std.specs.Prelude.{◌≡◌, ◌↔◌, [], not, option_copied, IfOk, IfErr, OnOk, IsSome, IsTrue};
+ghost use Rattle.std.specs.HashMap.{get};
+ghost use Rattle.kept_facts.specs.Kept.{several_in};
+ghost use Rattle.whole_facts.specs.Added.{HasSame, IsAdded, IsNothing, is_new, with_write};
 ghost use Rattle.values.specs.Maps.{rising};
 ghost use Rattle.syntax_trees.specs.Facts.{operation};
+ghost use Rattle.whole_facts.specs.Keeping.{has_some, some_fault_at};
 ghost use Rattle.whole_facts.specs.Kinds.{kind_view};
-ghost use Rattle.whole_facts.specs.Store.{value_at, line_at, writes_at, is_written_in, has_key_in, one_writer_in, same_place, WrittenAs, writes_under, put_write, elements_from};
+ghost use Rattle.whole_facts.specs.Store.{value_at, line_at, all_lines, writes_at, is_written_in, has_key_in, one_writer_in, same_pair, same_place, WrittenAs, writes_under, put_write, elements_from};
 
 use std::alloc::{AllocError, Global};
 use std::collections::{HashMap, HashSet};
@@ -140,7 +144,10 @@ impl FaultKind {
 }
 
 impl Facts {
-    pub fn new(alloc: Global) -> Facts {
+    /// Nothing.
+    pub fn new(alloc: Global) -> Facts
+        ensures { IsNothing result }
+    {
         Facts {
             values: HashMap::new(alloc),
             writes: HashMap::new(alloc),
@@ -164,7 +171,9 @@ impl Facts {
     }
 
     /// The lines, in no order.
-    pub fn all_lines(&self, alloc: Global) -> Result<Vec<Text>, AllocError> {
+    pub fn all_lines(&self, alloc: Global) -> Result<Vec<Text>, AllocError>
+        ensures { IfOk result (λ lines. lines.items ≡ all_lines self.now) }
+    {
         let mut lines = Vec::new(alloc);
         for line in self.lines.values() {
             lines.push(line.share()?)?;
@@ -197,7 +206,9 @@ impl Facts {
     }
 
     /// Whether a key of an array has two writers.
-    pub fn is_written_twice(&self, array: Place, key: &Key) -> bool {
+    pub fn is_written_twice(&self, array: Place, key: &Key) -> bool
+        ensures { result ≡ several_in (writes_under (writes_at self.now array) key.now) }
+    {
         match self.written(array, key) {
             Written::Twice => true,
             _ => false,
@@ -205,8 +216,18 @@ impl Facts {
     }
 
     /// Whether a fault of the statement at an offset is known at a place.
-    pub fn has_fault(&self, at: usize, place: Place) -> bool {
-        for kind in FaultKind::ALL {
+    pub fn has_fault(&self, at: usize, place: Place) -> bool
+        ensures { result ≡ some_fault_at self.now at place }
+    {
+        self.has_one_of(&FaultKind::ALL, at, place)
+    }
+
+    /// The same of one of these kinds.
+    fn has_one_of(&self, kinds: &[FaultKind], at: usize, place: Place) -> bool
+        ensures { result ≡ has_some self.now kinds.now at place }
+    {
+        for kind in kinds {
+            let kind = *kind;
             if self.faults.contains(&FaultFact { kind, at, place }) {
                 return true;
             }
@@ -229,39 +250,85 @@ impl Facts {
     }
 
     /// Adds a fact. Whether it was not known.
-    pub fn add(&mut self, alloc: Global, fact: Fact) -> Result<bool, AllocError> {
+    pub fn add(&mut self, alloc: Global, fact: Fact) -> Result<bool, AllocError>
+        ensures added { OnOk result (IsAdded self.old fact self.new) }
+        ensures new { IfOk result (λ new. new ≡ is_new self.old fact) }
+    {
         match fact {
-            Fact::Value(place, value) => {
-                if self.values.contains_key(&place.key()) {
-                    return Ok(false);
-                }
-                self.values.insert(place.key(), value)?;
-                Ok(true)
-            }
+            Fact::Value(place, value) => self.add_value(place, value),
             Fact::Element(array, write) => self.add_write(alloc, array, write),
-            Fact::Line(writer, text) => {
-                if self.lines.contains_key(&writer.key()) {
-                    return Ok(false);
-                }
-                self.lines.insert(writer.key(), text)?;
-                Ok(true)
-            }
-            Fact::Fault(fault) => Ok(self.faults.insert(fault)?),
+            Fact::Line(writer, text) => self.add_line(writer, text),
+            Fact::Fault(fault) => self.add_fault(fault),
         }
     }
 
-    fn add_write(&mut self, alloc: Global, array: Place, write: Write) -> Result<bool, AllocError> {
+    #[tactic(auto, using(crate::proofs::Adding::value_kept, crate::proofs::Adding::value_added))]
+    fn add_value(&mut self, place: Place, value: Value) -> Result<bool, AllocError>
+        ensures added { OnOk result (IsAdded self.old (Fact.Value place value) self.new) }
+        ensures new { IfOk result (λ new. new ≡ is_new self.old (Fact.Value place value)) }
+    {
+        if self.values.contains_key(&place.key()) {
+            return Ok(false);
+        }
+        self.values.insert(place.key(), value)?;
+        Ok(true)
+    }
+
+    #[tactic(auto, using(crate::proofs::Adding::line_kept, crate::proofs::Adding::line_added))]
+    fn add_line(&mut self, writer: Place, text: Text) -> Result<bool, AllocError>
+        ensures added { OnOk result (IsAdded self.old (Fact.Line writer text) self.new) }
+        ensures new { IfOk result (λ new. new ≡ is_new self.old (Fact.Line writer text)) }
+    {
+        if self.lines.contains_key(&writer.key()) {
+            return Ok(false);
+        }
+        self.lines.insert(writer.key(), text)?;
+        Ok(true)
+    }
+
+    #[tactic(auto, using(crate::proofs::Adding::fault_added))]
+    fn add_fault(&mut self, fault: FaultFact) -> Result<bool, AllocError>
+        ensures added { OnOk result (IsAdded self.old (Fact.Fault fault) self.new) }
+        ensures new { IfOk result (λ new. new ≡ is_new self.old (Fact.Fault fault)) }
+    {
+        Ok(self.faults.insert(fault)?)
+    }
+
+    fn add_write(&mut self, alloc: Global, array: Place, write: Write) -> Result<bool, AllocError>
+        ensures added { OnOk result (IsAdded self.old (Fact.Element array write) self.new) }
+        ensures new { IfOk result (λ new. new ≡ is_new self.old (Fact.Element array write)) }
+    {
+        self.make_list(alloc, array)?;
+        self.put_write(array, write)
+    }
+
+    /// Makes a list for the writes of an array where there is none.
+    fn make_list(&mut self, alloc: Global, array: Place) -> Result<(), AllocError>
+        ensures same { OnOk result (HasSame self.old self.new) }
+        ensures there { OnOk result (IsSome (get same_pair self.new.writes (array.instance, array.node))) }
+    {
         if !self.writes.contains_key(&array.key()) {
             self.writes.insert(array.key(), Vec::new(alloc))?;
         }
+        Ok(())
+    }
+
+    /// Puts a write behind the others of an array that has a list for them.
+    fn put_write(&mut self, array: Place, write: Write) -> Result<bool, AllocError>
+        requires { IsSome (get same_pair self.old.writes (array.instance, array.node)) }
+        ensures added { OnOk result (IsAdded self.old (Fact.Element array write) self.new) }
+        ensures new { IfOk result (λ new. new ≡ is_new self.old (Fact.Element array write)) }
+    {
         match self.writes.get_mut(&array.key()) {
-            Some(writes) => put_write(writes, write),
+            Some(writes) => put_behind(writes, write),
             None => Ok(false),
         }
     }
 
     /// Whether no key of any array has two writers.
-    pub fn is_clean(&self) -> bool {
+    pub fn is_clean(&self) -> bool
+        ensures { IsTrue result ↔ ((a : Place) → IsTrue (one_writer_in (writes_at self.now a))) }
+    {
         for writes in self.writes.values() {
             if !are_apart(writes.as_slice()) {
                 return false;
@@ -345,7 +412,10 @@ fn put_element(elements: &mut Vec<Element>, write: &Write) -> Result<(), AllocEr
 }
 
 /// Puts a write behind others, unless the writer has written the key.
-fn put_write(writes: &mut Vec<Write>, write: Write) -> Result<bool, AllocError> {
+fn put_behind(writes: &mut Vec<Write>, write: Write) -> Result<bool, AllocError>
+    ensures put { OnOk result (writes.new.items ≡ with_write writes.old.items write) }
+    ensures new { IfOk result (λ new. new ≡ not (is_written_in writes.old.items write.key write.writer)) }
+{
     if has_writer(writes.as_slice(), &write.key, write.writer) {
         return Ok(false);
     }
