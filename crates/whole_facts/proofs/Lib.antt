@@ -4,3 +4,4 @@ pub mod Standing
 pub mod Aims
 pub mod Adding
 pub mod Clean
+pub mod Tree

@@ -1,5 +1,5 @@
 -- The paths of a program's instances: each stands one step behind the one that opened it, and is found again by its steps.
-use Rattle.std.specs.Prelude.{◌≡◌, ℕ, ◌<◌, ◌≤◌, ℤ, Bool, ◌&&◌, List, [], ◌∷◌, length, map, nat_eq, Option, Some, None, slice_get}
+use Rattle.std.specs.Prelude.{◌≡◌, ℕ, ◌<◌, ◌≤◌, ℤ, Bool, ◌&&◌, List, [], ◌∷◌, ◌++◌, length, map, nat_eq, Option, Some, None, slice_get, if◌then◌else◌}
 use Rattle.std.specs.HashMap.{get}
 use Rattle.std.specs.Ordering.{int_eq}
 use Rattle.values.specs.declared.key.Key.{Key}
@@ -7,6 +7,7 @@ use Rattle.values.specs.declared.key.Key.TheVariants.{Number}
 use Rattle.syntax_trees.specs.Places.{Path, most_steps}
 use Rattle.syntax_trees.specs.Places.{Step as PathStep}
 use Rattle.whole_facts.specs.declared.instances.Step.{Step}
+use Rattle.whole_facts.specs.declared.instances.Given.{Given}
 use Rattle.whole_facts.specs.declared.instances.Instance.{Instance}
 use Rattle.whole_facts.specs.declared.instances.Instances.{Instances}
 use Rattle.whole_facts.specs.Store.{parent_of, inputs_of, outputs_of, variables_of}
@@ -26,7 +27,7 @@ abbrev pub key_number : Key → ℤ
 key_number (Number z) = z
 
 abbrev pub same_step : ℕ × ℕ × ℤ → ℕ × ℕ × ℤ → Bool
-same_step p q = nat_eq p.0 q.0 && (nat_eq p.1 q.1 && int_eq p.2 q.2)
+same_step p q = (nat_eq p.0 q.0 && nat_eq p.1 q.1) && int_eq p.2 q.2
 
 -- the instance that another one has opened under a step
 abbrev pub child_at : Instances → ℕ → (at : ℕ) → Key → Option ℕ
@@ -40,6 +41,12 @@ child_behind t None at k = None
 abbrev pub at_path : Instances → Path → Option ℕ
 at_path t [] = Some 0
 at_path t (s ∷ path) = child_behind t (at_path t path) s.0 s.1
+
+-- nothing is given
+pub record IsNone (g : Given) : Type 0 where
+  pub inputs : g.inputs.items ≡ []
+  pub outputs : g.outputs.items ≡ []
+  pub variables : g.variables.items ≡ []
 
 -- an instance stands one step behind another
 pub record IsChild (ns : List Instance) (i : ℕ) (at : ℕ) (k : Key) (j : ℕ) : Type 0 where
@@ -66,3 +73,12 @@ pub record IsTree (t : Instances) : Type 0 where
   pub opens : (i at : ℕ) (k : Key) (j : ℕ) → child_at t i at k ≡ Some j → IsChild t.all.items i at k j
   pub opened : (j : ℕ) → 0 < j → j < length t.all.items → IsOpened t j
   pub short : (j : ℕ) → length (path_of t.all.items j) ≤ most_steps
+
+-- an instance was opened under a step of another one: it stands behind all others, and is found under that step
+pub record IsOpen (t : Instances) (parent : ℕ) (s : Step) (g : Given) (u : Instances) : Type 0 where
+  pub made : Instance
+  pub all : u.all.items ≡ t.all.items ++ made ∷ []
+  pub parent_is : made.parent ≡ parent
+  pub path_is : map step_view made.path.items ≡ step_view s ∷ path_of t.all.items parent
+  pub given_is : made.given ≡ g
+  pub found : (i at : ℕ) (k : Key) → child_at u i at k ≡ (if same_step (parent, s.at, key_number s.key) (i, at, key_number k) then Some (length t.all.items) else child_at t i at k)

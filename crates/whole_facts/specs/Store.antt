@@ -1,5 +1,5 @@
 -- What the facts and the instances of a program say: values, lines and writes by their places, and where names lie.
-use Rattle.std.specs.Prelude.{◌≡◌, ℕ, zero, suc, Bool, true, false, not, ◌&&◌, ◌||◌, List, [], ◌∷◌, Option, Some, None, nat_eq, slice_get, if◌then◌else◌}
+use Rattle.std.specs.Prelude.{◌≡◌, ℕ, zero, suc, Bool, true, false, not, ◌&&◌, ◌||◌, List, [], ◌∷◌, Option, Some, None, nat_eq, slice_get, map, if◌then◌else◌}
 use Rattle.std.specs.HashMap.{get, values}
 use Rattle.values.specs.declared.key.Key.{Key}
 use Rattle.values.specs.declared.map.Element.{Element}
@@ -132,3 +132,7 @@ owner_spot ns i (output j) = given_at (outputs_of ns i) j (parent_of ns i)
 -- the place of a name in an instance
 abbrev pub spot : List Instance → ℕ → Name → Place
 spot ns i x = owner_spot ns (outward ns x.up i) x.what
+
+-- the places of names in an instance
+abbrev pub spots : List Instance → ℕ → List Name → List Place
+spots ns i xs = map (λ x. spot ns i x) xs

@@ -1,10 +1,11 @@
 //! Block instances: their paths, and where names lie.
-ghost use Rattle.std.specs.Prelude.{◌≡◌, option_copied};
-ghost use Rattle.flow.specs.View.{name_view, owned_view};
+ghost use Rattle.std.specs.Prelude.{◌≡◌, ◌<◌, ◌∷◌, None, length, map, nat_le, option_copied, IfOk, OnOk};
+ghost use Rattle.flow.specs.View.{name_view, names_view, owned_view};
 ghost use Rattle.syntax_trees.specs.Core.{Core};
-ghost use Rattle.syntax_trees.specs.Places.{Path, place};
+ghost use Rattle.syntax_trees.specs.Places.{Path, place, most_steps};
+ghost use Rattle.whole_facts.specs.Paths.{child_at, key_number, path_of, step_view, IsNone, IsOpen, IsTree};
 ghost use Rattle.whole_facts.specs.Stands.{Stands, IsPlace};
-ghost use Rattle.whole_facts.specs.Store.{spot, outward, parent_of, owner_spot, given_at, variable_in, variables_of, inputs_of, outputs_of};
+ghost use Rattle.whole_facts.specs.Store.{spot, spots, outward, parent_of, owner_spot, given_at, variable_in, variables_of, inputs_of, outputs_of};
 
 use crate::facts::Place;
 use flow::name::{Name, Owned};
@@ -55,7 +56,9 @@ pub const MOST_STEPS: usize = 512;
 
 impl Given {
     /// Nothing.
-    pub fn none(alloc: Global) -> Given {
+    pub fn none(alloc: Global) -> Given
+        ensures { IsNone result }
+    {
         Given {
             inputs: Vec::new(alloc),
             outputs: Vec::new(alloc),
@@ -66,7 +69,11 @@ impl Given {
 
 impl Instances {
     /// The script's own instance.
-    pub fn new(alloc: Global) -> Result<Instances, AllocError> {
+    #[tactic(auto, using(crate::proofs::Tree::one_is_tree))]
+    pub fn new(alloc: Global) -> Result<Instances, AllocError>
+        ensures tree { IfOk result IsTree }
+        ensures one { IfOk result (λ t. length t.all.items ≡ 1) }
+    {
         let mut all = Vec::new(alloc);
         all.push(Instance {
             parent: 0,
@@ -80,12 +87,16 @@ impl Instances {
     }
 
     /// Whether no further step fits behind the path.
-    pub fn is_deep(&self, instance: usize) -> bool {
+    pub fn is_deep(&self, instance: usize) -> bool
+        ensures { result ≡ nat_le most_steps (length (path_of self.now.all.items instance)) }
+    {
         self.path(instance).len() >= MOST_STEPS
     }
 
     /// The path of an instance, the innermost step first.
-    pub fn path(&self, instance: usize) -> &[Step] {
+    pub fn path(&self, instance: usize) -> &[Step]
+        ensures { map step_view result.now ≡ path_of self.now.all.items instance }
+    {
         match self.all.get(instance) {
             Some(found) => found.path.as_slice(),
             None => &[],
@@ -93,9 +104,10 @@ impl Instances {
     }
 
     /// The instance that another one has opened under a step.
-    pub fn child(&self, parent: usize, at: usize, key: &Key) -> Option<usize> {
-        let Key::Number(number) = key;
-        self.opened.get(&(parent, at, *number)).copied()
+    pub fn child(&self, parent: usize, at: usize, key: &Key) -> Option<usize>
+        ensures { result ≡ child_at self.now parent at key.now }
+    {
+        self.opened.get(&(parent, at, number_of(key))).copied()
     }
 
     /// Opens an instance. Its number.
@@ -105,10 +117,15 @@ impl Instances {
         parent: usize,
         step: Step,
         given: Given,
-    ) -> Result<usize, AllocError> {
+    ) -> Result<usize, AllocError>
+        ensures number { IfOk result (λ number. number ≡ length self.old.all.items) }
+        ensures opened { OnOk result (IsOpen self.old parent step given self.new) }
+        ensures tree { OnOk result (IsTree self.old → parent < length self.old.all.items → child_at self.old parent step.at step.key ≡ None
+            → length (path_of self.old.all.items parent) < most_steps → IsTree self.new) }
+    {
         let number = self.all.len();
-        let Key::Number(key) = &step.key;
-        self.opened.insert((parent, step.at, *key), number)?;
+        let key = number_of(&step.key);
+        self.opened.insert((parent, step.at, key), number)?;
         let path = path_behind(alloc, self.path(parent), step)?;
         self.all.push(Instance {
             parent,
@@ -206,13 +223,23 @@ impl Instances {
         alloc: Global,
         instance: usize,
         names: &[Name],
-    ) -> Result<Vec<Place>, AllocError> {
+    ) -> Result<Vec<Place>, AllocError>
+        ensures { IfOk result (λ places. places.items ≡ spots self.now.all.items instance (names_view names.now)) }
+    {
         let mut places = Vec::new(alloc);
         for name in names {
             places.push(self.place(instance, *name))?;
         }
         Ok(places)
     }
+}
+
+/// The number that a key is.
+fn number_of(key: &Key) -> i64
+    ensures { result ≡ key_number key.now }
+{
+    let Key::Number(number) = key;
+    *number
 }
 
 /// What the variable of a node is among these.
@@ -228,7 +255,9 @@ fn scalar_of(variables: &[Variable], node: u32) -> Option<&Scalar>
 }
 
 /// A path with a further step.
-fn path_behind(alloc: Global, path: &[Step], step: Step) -> Result<Vec<Step>, AllocError> {
+fn path_behind(alloc: Global, path: &[Step], step: Step) -> Result<Vec<Step>, AllocError>
+    ensures { IfOk result (λ longer. map step_view longer.items ≡ step_view step ∷ map step_view path.now) }
+{
     let mut longer = Vec::new(alloc);
     longer.push(step)?;
     for other in path {
