@@ -5,3 +5,4 @@ pub mod Aims
 pub mod Adding
 pub mod Clean
 pub mod Tree
+pub mod Keeping

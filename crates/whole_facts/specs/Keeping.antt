@@ -109,8 +109,12 @@ past_of l i = record {
 
 -- WHERE INSTANCES STAND
 
--- the instances are a tree, each writer is one of them, and each given name lies where its call has it
-pub record IsPlaced (s : Core) (l : Learned) : Type 0 where
-  pub tree : IsTree l.instances
-  pub stands : (i : ℕ) → i < length l.instances.all.items → Stands s l.instances.all.items i (path_of l.instances.all.items i)
-  pub writers : (a : Spot) (before : List Write) (w : Write) (rest : List Write) → writes_at l.facts a ≡ before ++ w ∷ rest → w.writer.instance < length l.instances.all.items
+-- a place of a program is one of its instances, at the path of a place of the script
+pub record IsLocated (ns : List Instance) (p : Spot) (q : Place) : Type 0 where
+  pub within : p.instance < length ns
+  pub view_is : place_view ns p ≡ q
+
+-- the instances are a tree, and each stands at its path
+pub record IsPlaced (s : Core) (t : Instances) : Type 0 where
+  pub tree : IsTree t
+  pub stands : (i : ℕ) → i < length t.all.items → Stands s t.all.items i (path_of t.all.items i)

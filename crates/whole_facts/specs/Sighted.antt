@@ -4,18 +4,13 @@ use Rattle.std.specs.HashSet.{contains}
 use Rattle.values.specs.declared.fault.OpFault.{OpFault}
 use Rattle.values.specs.declared.value.Scalar.{Scalar}
 use Rattle.values.specs.declared.value.Value.{Value}
-use Rattle.values.specs.declared.value.Value.TheVariants.{One, Many}
+use Rattle.kept_facts.specs.Kept.{scalar_by}
 use Rattle.whole_facts.specs.declared.facts.FaultKind.{FaultKind}
 use Rattle.whole_facts.specs.declared.facts.Place.{Place}
 use Rattle.whole_facts.specs.declared.learned.Learned.{Learned}
 use Rattle.whole_meaning.specs.Environment.{Sight, Outcome}
 use Rattle.whole_facts.specs.Kinds.{kind_view}
 use Rattle.whole_facts.specs.Store.{value_at, writes_at, writes_under, elements_from, variable_in, variables_of, spot, same_pair}
-
-abbrev pub scalar_by : Option Value → Option Scalar → Option Scalar
-scalar_by (Some (One v)) o = Some v
-scalar_by (Some (Many es)) o = o
-scalar_by None o = o
 
 abbrev pub scalar_at : Learned → Place → Option Scalar
 scalar_at l p = scalar_by (value_at l.facts p) (variable_in (variables_of l.instances.all.items p.instance) p.node)

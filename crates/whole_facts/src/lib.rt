@@ -6,6 +6,7 @@ pub mod evaluation;
 pub mod facts;
 pub mod finished;
 pub mod instances;
+pub mod laws;
 pub mod learned;
 pub mod parts;
 pub mod targets;

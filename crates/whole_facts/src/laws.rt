@@ -1,0 +1,29 @@
+//! Laws of what was learned. Each function does nothing; its contract is the law.
+ghost use Rattle.std.specs.Prelude.{◌≡◌, ◌<◌, ℕ, Some, length};
+ghost use Rattle.syntax_trees.specs.Core.{Core, Name};
+ghost use Rattle.syntax_trees.specs.Places.{Path, place};
+ghost use Rattle.kept_facts.specs.Kept.{sight_by, past_by};
+ghost use Rattle.whole_facts.specs.Keeping.{kept_of, past_of, IsLocated, IsPlaced};
+ghost use Rattle.whole_facts.specs.Paths.{path_of, at_path, IsTree};
+ghost use Rattle.whole_facts.specs.Sighted.{sight_of};
+ghost use Rattle.whole_facts.specs.Store.{spot};
+
+use crate::instances::Instances;
+use crate::learned::Learned;
+
+/// Of a tree of instances each is found at its path, and what is found at a path has that path; so two instances of one path
+/// are one.
+pub fn instances_by_paths()
+    ensures found { (t : Instances) → IsTree t → (i : ℕ) → i < length t.all.items → at_path t (path_of t.all.items i) ≡ Some i }
+    ensures there { (t : Instances) → IsTree t → (p : Path) (i : ℕ) → at_path t p ≡ Some i → (i < length t.all.items) × (path_of t.all.items i ≡ p) }
+    ensures one { (t : Instances) → IsTree t → (i j : ℕ) → i < length t.all.items → j < length t.all.items → path_of t.all.items i ≡ path_of t.all.items j → i ≡ j }
+{}
+
+/// Where the instances are a tree and each stands at its path, what an instance sees, and what was told before of it, is what is
+/// kept at its path; and a name lies in an instance where it denotes at the path.
+pub fn what_is_kept()
+    ensures sees { (s : Core) (l : Learned) → IsPlaced s l.instances → (i : ℕ) → i < length l.instances.all.items → sight_of l i ≡ sight_by s (kept_of l) (path_of l.instances.all.items i) }
+    ensures recalls { (s : Core) (l : Learned) → IsPlaced s l.instances → (i : ℕ) → i < length l.instances.all.items → past_of l i ≡ past_by s (kept_of l) (path_of l.instances.all.items i) }
+    ensures lies { (s : Core) (l : Learned) → IsPlaced s l.instances → (i : ℕ) → i < length l.instances.all.items → (x : Name)
+        → IsLocated l.instances.all.items (spot l.instances.all.items i x) (place s (path_of l.instances.all.items i) x) }
+{}
