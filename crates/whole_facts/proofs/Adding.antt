@@ -1,5 +1,5 @@
 -- What is known with one fact more.
-use Rattle.std.specs.Prelude.{◌≡◌, ◌↔◌, ℕ, Bool, true, false, not, ◌&&◌, IsTrue, Vec, List, [], ◌∷◌, ◌++◌, nat_eq, Option, Some, None, is_some, IsSome, if◌then◌else◌, cond, refl}
+use Rattle.std.specs.Prelude.{◌≡◌, ℕ, Bool, true, false, ◌&&◌, Vec, List, [], nat_eq, Option, Some, None, is_some, if◌then◌else◌, cond, refl}
 use Rattle.std.specs.HashMap.{get}
 use Rattle.std.specs.HashSet.{contains}
 use Rattle.std.proofs.Common.{Global, inl, inr, sym, ap, ◌∙◌, subst}
@@ -8,12 +8,11 @@ use Rattle.values.specs.declared.value.Value.{Value}
 use Rattle.whole_facts.specs.declared.facts.Place.{Place}
 use Rattle.whole_facts.specs.declared.facts.Write.{Write}
 use Rattle.whole_facts.specs.declared.facts.FaultFact.{FaultFact}
-use Rattle.whole_facts.specs.declared.facts.Fact.{Fact}
 use Rattle.whole_facts.specs.declared.facts.Fact.TheVariants as Is
 use Rattle.whole_facts.specs.declared.facts.Facts.{Facts}
-use Rattle.whole_facts.specs.Added.{first_of, with_write, IsAdded, HasSame, value_after, line_after, writes_after, fault_after}
+use Rattle.whole_facts.specs.Added.{first_of, with_write, IsAdded, HasSame}
 use Rattle.whole_facts.specs.Keeping.{same_fault}
-use Rattle.whole_facts.specs.Store.{same_place, same_pair, value_at, line_at, writes_at, listed_writes, is_written_in}
+use Rattle.whole_facts.specs.Store.{same_place, same_pair, value_at, line_at, listed_writes}
 
 both_true : (a b : Bool) → a && b ≡ true → (a ≡ true) × (b ≡ true)
 both_true true b h = (refl, h)

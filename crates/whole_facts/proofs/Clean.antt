@@ -1,9 +1,8 @@
 -- Whether no key of any array has two writers, by the lists of the map.
-use Rattle.std.specs.Prelude.{◌≡◌, ◌↔◌, ℕ, Bool, true, false, ◌&&◌, List, [], ◌∷◌, nat_eq, Option, Some, None, Vec, IsTrue, cond, refl}
-use Rattle.std.specs.HashMap.{get}
+use Rattle.std.specs.Prelude.{◌≡◌, ◌↔◌, ℕ, Bool, true, false, ◌&&◌, List, [], ◌∷◌, nat_eq, Option, None, Vec, IsTrue, refl}
 use Rattle.std.specs.List.{list_all, AllByRecursion, IsDistinct}
 use Rattle.std.specs.Map.{lookup, keys_of, values_of}
-use Rattle.std.proofs.Common.{Global, inl, inr, sym, ap, ◌∙◌, subst}
+use Rattle.std.proofs.Common.{Global, inl, inr, sym, ◌∙◌, subst}
 use Rattle.std.proofs.lemmas.Bool.{cases_Bool, eqb-true, eq-eqb}
 use Rattle.whole_facts.specs.declared.facts.Place.{Place}
 use Rattle.whole_facts.specs.declared.facts.Write.{Write}

@@ -1,7 +1,6 @@
 -- What an instance sees and was told is what is kept at its path.
-use Rattle.std.specs.Prelude.{◌≡◌, ℕ, zero, suc, ◌+◌, ◌<◌, ◌≤◌, Bool, true, false, ◌&&◌, List, [], ◌∷◌, ◌++◌, length, map, nat_eq, nat_le, is_some, Option, Some, None, slice_get, if◌then◌else◌, refl}
-use Rattle.std.proofs.Common.{inl, inr, sym, ap, ◌∙◌, subst, arith}
-use Rattle.std.proofs.lemmas.Bool.{cases_Bool, cases_lt, cases_order}
+use Rattle.std.specs.Prelude.{◌≡◌, ℕ, zero, suc, ◌<◌, ◌≤◌, false, List, [], ◌∷◌, length, map, nat_eq, nat_le, is_some, Option, Some, None, if◌then◌else◌, refl}
+use Rattle.std.proofs.Common.{sym, ap, ◌∙◌, subst, arith}
 use Rattle.std.proofs.lemmas.Bool.Decides.{nat_tests}
 use mathlib.Core.Path.{fun_ext}
 use Rattle.values.specs.declared.key.Key.{Key}
@@ -11,7 +10,6 @@ use Rattle.values.specs.declared.value.Value.{Value}
 use Rattle.values.specs.Keys.{same_key}
 use Rattle.values.specs.Maps.{found}
 use Rattle.syntax_trees.specs.Core.{Owned, local, input, output, Name, Core}
-use Rattle.syntax_trees.specs.Facts.{Fault}
 use Rattle.syntax_trees.specs.Parts.{call_at, input_name, output_name}
 use Rattle.syntax_trees.specs.Places.{Path, Place, place, place_of, most_steps}
 use Rattle.syntax_trees.specs.Places.{Step as PathStep}
@@ -24,9 +22,9 @@ use Rattle.whole_facts.specs.declared.facts.Write.{Write}
 use Rattle.whole_facts.specs.declared.instances.Instance.{Instance}
 use Rattle.whole_facts.specs.declared.instances.Instances.{Instances}
 use Rattle.whole_facts.specs.declared.learned.Learned.{Learned}
-use Rattle.whole_facts.specs.Keeping.{by_place, fault_at, in_instance, kept_of, past_of, place_view, turn_at, write_view, IsLocated, IsPlaced}
-use Rattle.whole_facts.specs.Paths.{path_of, child_at, child_behind, at_path, IsChild, IsTree}
-use Rattle.whole_facts.specs.Sighted.{closed_at, scalar_at, sight_of}
+use Rattle.whole_facts.specs.Keeping.{by_place, fault_at, in_instance, kept_of, past_of, turn_at, write_view, IsLocated, IsPlaced}
+use Rattle.whole_facts.specs.Paths.{path_of, child_behind, at_path, IsTree}
+use Rattle.whole_facts.specs.Sighted.{closed_at, sight_of}
 use Rattle.whole_facts.specs.Stands.{Stands, at_root, behind}
 use Rattle.whole_facts.specs.Store.{value_at, line_at, writes_at, writes_under, is_written_in, put_unless, put_write, elements_from, parent_of, inputs_of, outputs_of, outward, given_at, owner_spot, spot}
 

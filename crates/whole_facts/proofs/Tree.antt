@@ -1,22 +1,20 @@
 -- Instances stay a tree where one is opened, and each is found at its path.
-use Rattle.std.specs.Prelude.{◌≡◌, ◌⊎◌, ℕ, zero, suc, ◌+◌, ◌<◌, ◌≤◌, ℤ, Bool, true, false, ◌&&◌, List, [], ◌∷◌, ◌++◌, length, map, nat_eq, Option, Some, None, slice_get, if◌then◌else◌, refl}
+use Rattle.std.specs.Prelude.{◌≡◌, ◌⊎◌, ℕ, zero, suc, ◌+◌, ◌<◌, ◌≤◌, Bool, true, false, ◌&&◌, List, [], ◌∷◌, ◌++◌, length, map, nat_eq, Option, Some, None, slice_get, if◌then◌else◌, refl}
 use Rattle.std.specs.Ordering.{int_eq}
 use Rattle.std.proofs.Common.{inl, inr, sym, ap, ◌∙◌, subst, arith, length-append}
 use Rattle.std.proofs.lemmas.Bool.{cases_Bool, cases_lt, cases_order, eqb-true, eq-eqb}
 use Rattle.std.proofs.lemmas.List.{get_or_append_left}
 use Rattle.std.proofs.lemmas.Option.{slice_get-get_or, slice_get_past}
-use Rattle.std.proofs.Math.ListN.{get_or}
 use Rattle.std.proofs.Math.Seq.{get_or-append_seam}
 use Rattle.values.specs.declared.key.Key.{Key}
 use Rattle.values.specs.declared.key.Key.TheVariants.{Number}
-use Rattle.values.specs.Keys.{same_key}
 use Rattle.values.proofs.Keys.{same_key-eq, same_key-refl}
 use Rattle.syntax_trees.specs.Places.{Path, most_steps}
 use Rattle.whole_facts.specs.declared.instances.Given.{Given}
 use Rattle.whole_facts.specs.declared.instances.Step.{Step}
 use Rattle.whole_facts.specs.declared.instances.Instance.{Instance}
 use Rattle.whole_facts.specs.declared.instances.Instances.{Instances}
-use Rattle.whole_facts.specs.Paths.{step_view, path_in, path_of, key_number, same_step, child_at, child_behind, at_path, IsChild, IsOpened, IsOpen, IsTree}
+use Rattle.whole_facts.specs.Paths.{step_view, path_in, path_of, key_number, same_step, child_at, IsChild, IsOpened, IsOpen, IsTree}
 use Rattle.whole_facts.specs.Store.{parent_in, parent_of, inputs_in, inputs_of, outputs_in, outputs_of, variables_in, variables_of}
 
 -- THE FIRST INSTANCE

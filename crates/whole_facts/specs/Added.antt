@@ -1,5 +1,5 @@
 -- What a fact changes in what is known: at its own place what was not there, and nothing elsewhere.
-use Rattle.std.specs.Prelude.{◌≡◌, ℕ, Bool, true, false, not, ◌&&◌, ◌||◌, List, [], ◌∷◌, ◌++◌, Option, Some, None, is_some, if◌then◌else◌}
+use Rattle.std.specs.Prelude.{◌≡◌, ℕ, Bool, true, false, not, List, [], ◌∷◌, ◌++◌, Option, Some, None, is_some, if◌then◌else◌}
 use Rattle.std.specs.HashSet.{contains}
 use Rattle.values.specs.declared.value.Value.{Value}
 use Rattle.whole_facts.specs.declared.facts.Place.{Place}

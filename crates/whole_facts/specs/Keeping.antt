@@ -1,13 +1,12 @@
 -- What was learned, as what is kept of what is known: found by paths through the one instance at each.
-use Rattle.std.specs.Prelude.{◌≡◌, ℕ, ◌<◌, Bool, false, ◌&&◌, ◌||◌, List, [], ◌++◌, ◌∷◌, length, map, nat_eq, nat_le, is_some, Option, Some, None}
+use Rattle.std.specs.Prelude.{◌≡◌, ℕ, ◌<◌, Bool, false, ◌&&◌, ◌||◌, List, [], ◌∷◌, length, map, nat_eq, nat_le, is_some, Option, Some, None}
 use Rattle.std.specs.HashSet.{contains}
 use denote.Enum.Bare.{sameb}
 use Rattle.values.specs.declared.fault.OpFault.TheVariants as Op
-use Rattle.values.specs.declared.key.Key.{Key}
 use Rattle.values.specs.declared.value.Scalar.{Scalar}
 use Rattle.syntax_trees.specs.Core.{Core}
 use Rattle.syntax_trees.specs.Facts.{Fault, operation, no_element, element_twice, too_deep}
-use Rattle.syntax_trees.specs.Places.{Path, Place, most_steps}
+use Rattle.syntax_trees.specs.Places.{Place, most_steps}
 use Rattle.whole_meaning.specs.News.{Past}
 use Rattle.kept_facts.specs.Kept.{Kept, is_there, several_in}
 use Rattle.kept_facts.specs.Kept.{Write as KeptWrite}

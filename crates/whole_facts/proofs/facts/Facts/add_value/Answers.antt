@@ -1,5 +1,4 @@
-use Rattle.std.proofs.Common.{rules, arith, ◌≡◌, ℕ, Bool, false, refl}
-use Rattle.std.proofs.lemmas.Grind.{common_steps}
+use Rattle.std.proofs.Common.{rules, ◌≡◌, ℕ, false, refl}
 use Rattle.std.specs.Prelude.{Some, cond, is_some}
 use Rattle.std.specs.HashMap.{get}
 use Rattle.whole_facts.specs.Store.{same_pair, value_at}

@@ -1,9 +1,6 @@
-use Rattle.std.proofs.Common.{rules, arith, ◌≡◌, ◌∷◌, ◌∙◌, ◌&&◌, Bool, List, Global, false, true, [], ap}
-use Rattle.std.specs.Prelude.{Vec}
-use Rattle.std.specs.HashMap.{values}
+use Rattle.std.proofs.Common.{rules, ◌≡◌, ◌∷◌, ◌∙◌, ◌&&◌, Bool, false, [], ap}
 use Rattle.std.specs.List.{list_all, IsDistinct}
-use Rattle.std.specs.Map.{keys_of, values_of}
-use Rattle.whole_facts.specs.declared.facts.Write.{Write}
+use Rattle.std.specs.Map.{keys_of}
 use Rattle.whole_facts.specs.Store.{same_pair, one_writer_in}
 use Rattle.whole_facts.proofs.Clean.{is_apart, clean_all, not_clean}
 use Rattle.whole_facts.proofs.facts.Facts.is_clean.Goals as goal

@@ -1,7 +1,6 @@
-use Rattle.std.proofs.Common.{Global, rules, arith, ◌≡◌, ℕ, not, OnOk, refl, ap, sym, ◌∙◌}
-use Rattle.std.proofs.lemmas.Grind.{common_steps}
+use Rattle.std.proofs.Common.{Global, rules, ◌≡◌, ℕ, not, refl, ap, sym, ◌∙◌}
 use Rattle.std.proofs.lemmas.Result.{IfOk-weaker}
-use Rattle.std.specs.Prelude.{Bool, List, Some, Option, Vec, cond, is_some}
+use Rattle.std.specs.Prelude.{Bool, Some, Option, Vec, cond}
 use Rattle.std.specs.HashMap.{get}
 use Rattle.whole_facts.specs.declared.facts.Fact.TheVariants as Is
 use Rattle.whole_facts.specs.declared.facts.Write.{Write}

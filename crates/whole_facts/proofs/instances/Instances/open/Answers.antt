@@ -1,9 +1,8 @@
-use Rattle.std.proofs.Common.{rules, ◌≡◌, ◌∷◌, ◌++◌, [], ℕ, ℤ, w64, to_z, of_z, length, map, refl, ap, sym, ◌∙◌}
+use Rattle.std.proofs.Common.{rules, ◌≡◌, ◌∷◌, ◌++◌, [], ℕ, ℤ, w64, to_z, of_z, length, map, refl, ap, ◌∙◌}
 use Rattle.std.specs.Prelude.{Some, if◌then◌else◌}
 use Rattle.values.specs.declared.key.Key.{Key}
 use Rattle.whole_facts.specs.declared.instances.Instance.{Instance}
-use Rattle.whole_facts.specs.declared.instances.Instances.{Instances}
-use Rattle.whole_facts.specs.Paths.{child_at, key_number, path_of, same_step, step_view, IsOpen}
+use Rattle.whole_facts.specs.Paths.{child_at, key_number, path_of, same_step, step_view}
 use Rattle.whole_facts.proofs.Tree.{grows}
 use Rattle.whole_facts.proofs.instances.Instances.open.Goals as goal
 
