@@ -6,3 +6,4 @@ pub mod Stands
 pub mod Paths
 pub mod Keeping
 pub mod Added
+pub mod Chosen

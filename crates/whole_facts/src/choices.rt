@@ -1,5 +1,9 @@
 //! What headers choose by what is known: which blocks they open, and whether what a `wait` waits for is there (Swift/T Guide,
 //! on conditionals and loops).
+ghost use Rattle.std.specs.Prelude.{◌≡◌};
+ghost use Rattle.syntax_trees.specs.Openings.{bounds};
+ghost use Rattle.whole_meaning.specs.News.{count_of};
+ghost use Rattle.whole_facts.specs.Chosen.{range_counted};
 
 use crate::facts::Place;
 use crate::learned::Learned;
@@ -78,7 +82,9 @@ pub fn block_of<'a, A: Allocator>(action: &'a Action<A>, choice: &Choice) -> Opt
 }
 
 /// The range that a header has by the values of its bounds; a missing step is 1. `None` where these are no numbers.
-pub fn range_of(values: &[Value]) -> Option<Result<Range, OpFault>> {
+pub fn range_of(values: &[Value]) -> Option<Result<Range, OpFault>>
+    ensures { range_counted result ≡ count_of (bounds values.now) }
+{
     match values {
         [
             Value::One(Scalar::Number(low)),
