@@ -1,0 +1,9 @@
+pub mod Acts
+pub mod Blocks
+pub mod Chunks
+pub mod Ends
+pub mod Found
+pub mod Loops
+pub mod Spares
+pub mod Stores
+pub mod Values

@@ -1,0 +1,113 @@
+-- What an item does when it ends, told by what it computed.
+use Rattle.std.specs.Prelude.{◌≡◌, ℕ, true, List, [], ◌∷◌, length, map, reverse, Option, Some, None, if◌then◌else◌}
+use Rattle.std.specs.List.{filter}
+use Rattle.dataflow.specs.Machine.{ElementTwice, Fault, OfTask}
+use Rattle.dataflow.specs.System.{Bad, Effect as PureEffect, Good, In, Outcome}
+use Rattle.replayed.specs.Ending.{has_entries, job_stores, printed}
+use Rattle.replayed.specs.Fields.{Counted, Does, Frame, Job, Script, path_of, slot_at, task_of}
+use Rattle.replayed.specs.Needs.{cell_element}
+use Rattle.replayed.specs.Static.{opened, rests}
+use Rattle.task_code.specs.Code.{Code, Entry, entry}
+use Rattle.task_code.specs.Compute.{Computed, Elements, EntryFault, Inserts as InsertsAll, in_key_order, pairs}
+use Rattle.task_code.specs.Effects.{Item, Main, Task, block, effect_at, instances, is_too_deep, only, outcome_of}
+use Rattle.task_code.specs.Places.{Place}
+use Rattle.values.specs.declared.key.Key.{Key}
+use Rattle.values.specs.declared.value.Scalar.{Scalar}
+use Rattle.board_code.specs.Spots.{layout_of}
+use Rattle.board_code.specs.Tables.{IsEntryTable, is_place}
+use Rattle.board_code.specs.declared.program.EntryTable.{EntryTable}
+use Rattle.board_work.specs.View.{fault_view}
+use Rattle.board_data.specs.Wanted.{FewSlots}
+use Rattle.board_frames.specs.View.{step_view}
+use Rattle.board_frames.specs.declared.place.FaultKind.{FaultKind}
+use Rattle.board_frames.specs.declared.place.FaultKind.TheVariants as Kind
+use Rattle.board_frames.specs.declared.place.Statement.{Statement}
+use Rattle.board_effects.specs.Openings.{AreOpenings}
+use Rattle.board_effects.specs.declared.effect.Effect.{Effect}
+use Rattle.board_effects.specs.declared.effect.Effect.TheVariants.{Fails, Inserts, Opens, Prints, Puts, Stores}
+
+-- what went wrong, as the machine has it
+abbrev pub kind_view : FaultKind → Fault EntryFault
+kind_view (Kind.OfEntry f) = OfTask (fault_view f)
+kind_view Kind.ElementTwice = ElementTwice
+
+-- the datum that it stores into, what it stores there, and what it prints
+abbrev pub target_in : Effect → Option ℕ
+target_in (Stores d v) = d
+target_in (Puts d k v) = d
+target_in (Inserts d es) = d
+target_in _ = None
+
+abbrev pub values_in : Effect → Elements
+values_in (Stores d v) = (only, v) ∷ []
+values_in (Puts d k v) = (k, v) ∷ []
+values_in (Inserts d es) = pairs es.items
+values_in _ = []
+
+abbrev pub lines_in : Effect → List Scalar
+lines_in (Prints v) = v ∷ []
+lines_in _ = []
+
+-- there is an effect, and no fault in place of it
+abbrev pub IsGood : Outcome Task Place Key Scalar EntryFault → Type 0
+IsGood o = (e : PureEffect Task Place Key Scalar) × (o ≡ Good e)
+
+module _ (C : Code) where
+  -- what comes of a task that computed this
+  abbrev pub outcome_for : Task → Computed → Outcome Task Place Key Scalar EntryFault
+  outcome_for Main x = Good (record { writes = []; lines = []; opens = block C (0, []) ∷ [] })
+  outcome_for (Item i p c) x = outcome_of x (is_too_deep (entry C i).act p (instances (entry C i).act (entry C i).mark p c x)) (effect_at C i p c x)
+
+  module _ (fs : List (Option Frame)) where
+    -- the instance of an item is there, with what is worked out of its entry
+    pub record IsAtWork (instance number : ℕ) (e : Entry) (table : EntryTable) : Type 0 where
+      pub frame : Frame
+      pub there : slot_at fs instance ≡ Some frame
+      pub depth : frame.depth ≡ length (path_of fs instance)
+      pub few : FewSlots fs
+      pub entry_is : e ≡ entry C number
+      pub table_is : IsEntryTable C frame.body number table
+
+    -- the statement of a job
+    abbrev pub IsStatementOf : Job → Statement → Type 0
+    IsStatementOf Script s = ⊥
+    IsStatementOf (Does k i c) s = (s.at ≡ (entry C i).at) × (map step_view s.path.items ≡ reverse (path_of fs k))
+
+    -- no block is opened, and no item goes on with a loop
+    pub record OpensNothing (j : Job) (x : Computed) : Type 0 where
+      pub none : filter (has_entries C) (opened C (task_of fs j) x) ≡ []
+      pub ends : rests C (task_of fs j) x ≡ []
+
+    abbrev pub OpensBy : Job → Computed → Effect → Type 0
+    OpensBy j x (Opens openings) = AreOpenings C fs j x openings
+    OpensBy j x _ = OpensNothing j x
+
+    module _ (cs : List (Option Counted)) where
+      -- an element that it would store is there
+      pub record Clashes (j : Job) (x : Computed) : Type 0 where
+        pub key : ℕ
+        pub element : Key × Scalar
+        pub older : Scalar
+        pub elements : Elements
+        pub inserts : x ≡ InsertsAll elements
+        pub stores : In element (job_stores C (layout_of C) fs j x key)
+        pub has : cell_element element.0 (slot_at cs key) ≡ Some older
+
+      -- what goes wrong: a fault of its own, or an element that is there already
+      abbrev pub GoesWrong : Job → Computed → Fault EntryFault → Type 0
+      GoesWrong j x (OfTask f) = outcome_for (task_of fs j) x ≡ Bad f
+      GoesWrong j x ElementTwice = IsGood (outcome_for (task_of fs j) x) × Clashes j x
+
+      -- nothing goes wrong: this is stored, printed and opened
+      pub record GoesWell (j : Job) (x : Computed) (e : Effect) : Type 0 where
+        pub good : IsGood (outcome_for (task_of fs j) x)
+        pub apart : Clashes j x → ⊥
+        pub stored : (d : ℕ) → (if is_place d (target_in e) then values_in e else []) ≡ job_stores C (layout_of C) fs j x d
+        pub rises : in_key_order (values_in e) ≡ true
+        pub lines : printed C j x ≡ lines_in e
+        pub opens : OpensBy j x e
+
+      -- what the item of a job does that computed this
+      abbrev pub IsEffect : Job → Computed → Effect → Type 0
+      IsEffect j x (Fails f) = GoesWrong j x (kind_view f.kind) × IsStatementOf j f.statement
+      IsEffect j x e = GoesWell j x e

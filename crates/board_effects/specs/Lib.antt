@@ -1,0 +1,4 @@
+pub mod Effects
+pub mod Ended
+pub mod Fits
+pub mod Openings

@@ -1,0 +1,7 @@
+//! What an item does when it ends, worked out before anything is changed.
+#![tactic(auto)]
+
+pub mod effect;
+mod opens;
+mod present;
+mod spare;

@@ -1,0 +1,240 @@
+//! The blocks that an item opens when it ends.
+ghost use Rattle.std.specs.Prelude.{◌≡◌, ◌+◌, ◌*◌, ◌^◌, ◌<◌, ◌≤◌, [], ℕ, List, Option, Some, None, true, nat_le, length, min, option_map, IfOk};
+ghost use Rattle.replayed.specs.Fields.{path_of, slot_at, Script, Counted, Frame};
+ghost use Rattle.task_code.specs.Code.{Loop as PureLoop, loop_of};
+ghost use Rattle.task_code.specs.Compute.{Computed, Opens as OpensOne, TooDeep, Takes, Turns, pairs, range_turns};
+ghost use Rattle.task_code.specs.Places.{Step as PureStep};
+ghost use Rattle.board_frames.specs.View.{step_view};
+ghost use Rattle.board_effects.specs.Effects.{IsEffect};
+ghost use Rattle.board_effects.specs.Ended.{act_of, code_of, frames_of, Ends, IsEnded, FailsWith, IsLoop, IsScriptList, OpensBlock, OpensList};
+ghost use Rattle.dataflow.specs.Machine.{OfTask};
+ghost use Rattle.board_effects.specs.Fits.{enters_block, takes_branch};
+
+use crate::effect::{Effect, Ended};
+use crate::spare::spare_lists;
+use board_code::program::Program;
+use board_frames::opening::{Around, Opening, Openings, outermost};
+use board_frames::place::{FaultKind, Step};
+use board_frames::turns::{Site, push_block, push_elements, push_range};
+use board_work::outcome::EntryFault;
+use std::alloc::{AllocError, Global};
+use task_code::entry::Act;
+use values::key::Key;
+use values::map::Map;
+use values::range::Range;
+
+/// How many turns of a loop are opened at once.
+const CHUNK: u64 = 64;
+
+/// How many steps a path has at most.
+const MOST_STEPS: usize = 512;
+
+/// The first turn of a chunk, and the one behind its last, where there are so many in all.
+fn chunk_of(chunk: usize, count: u64) -> (u64, u64)
+    ensures first { result.0 ≡ min (chunk * 64) count }
+    ensures end { result.1 ≡ min (chunk * 64 + 64) count }
+{
+    let first = (chunk as u64).saturating_mul(CHUNK).min(count);
+    let end = first.saturating_add(CHUNK).min(count);
+    (first, end)
+}
+
+impl<'a> Ended<'a> {
+    /// Whether it may open no block by one more step.
+    fn is_too_deep(self) -> bool
+        ensures { IsEnded self.entry → result ≡ nat_le 512 (length (path_of (frames_of self.entry) self.entry.view.at)) }
+    {
+        match self.view.instances.get(self.view.at) {
+            Some(around) => around.depth >= MOST_STEPS,
+            None => true,
+        }
+    }
+
+    /// Its path would be too long.
+    fn fails_too_deep(self) -> Result<Effect, AllocError>
+        ensures { IsEnded self.entry → IfOk result (FailsWith self.entry (OfTask TooDeep)) }
+    {
+        self.fails(FaultKind::OfEntry(EntryFault::TooDeep))
+    }
+
+    /// The step to a block that it opens.
+    fn step(self, key: Key) -> Option<Step>
+        ensures { option_map step_view result ≡ Some (record { offset = self.entry.entry.now.mark; key = key }) }
+    {
+        Some(Step {
+            offset: self.entry.mark,
+            key,
+        })
+    }
+
+    /// It opens these instances of a body.
+    fn opens_list(self, body: u32, list: Vec<Opening>, goes_on: bool) -> Result<Effect, AllocError>
+        ensures { IfOk result (OpensList self.entry body list.items goes_on) }
+    {
+        let spare = spare_lists(self.alloc, self.view.program, list.as_slice())?;
+        Ok(Effect::Opens(Openings {
+            body,
+            list,
+            value: self.table.value,
+            turn: self.table.turn,
+            spare,
+            goes_on,
+        }))
+    }
+
+    /// It opens one block, where it is not one that goes on.
+    fn opens(self, body: u32, way: Option<Step>) -> Result<Effect, AllocError>
+        ensures { IsEnded self.entry → (x : Computed) → OpensBlock self.entry x body (option_map step_view way) → IfOk result (Ends self.entry x) }
+    {
+        if self.chunk > 0 {
+            return Ok(Effect::Passes);
+        }
+        if way.is_some() && self.is_too_deep() {
+            return self.fails_too_deep();
+        }
+        let site = Site {
+            alloc: self.alloc,
+            around: Around {
+                program: self.view.program,
+                instances: self.view.instances,
+                at: self.view.at,
+            },
+            body,
+            offset: self.entry.mark,
+        };
+        let mut list = Vec::new(self.alloc);
+        push_block(
+            site,
+            &mut list,
+            way,
+            (self.number, self.table.arguments.as_slice()),
+            (None, None),
+        )?;
+        self.opens_list(body, list, false)
+    }
+
+    /// It opens a branch.
+    pub(crate) fn branches(self, truth: bool) -> Result<Effect, AllocError>
+        ensures { IsEnded self.entry → takes_branch (act_of self.entry) ≡ true → IfOk result (Ends self.entry (Takes truth)) }
+    {
+        let Act::If(_, then, other) = &self.entry.act else {
+            return Ok(Effect::Passes);
+        };
+        if truth {
+            return self.opens(*then, self.step(Key::Number(0)));
+        }
+        match other {
+            Some(other) => self.opens(*other, self.step(Key::Number(1))),
+            None => Ok(Effect::Passes),
+        }
+    }
+
+    /// It opens the content of a `wait`, or a function's body.
+    pub(crate) fn enters(self) -> Result<Effect, AllocError>
+        ensures { IsEnded self.entry → enters_block (act_of self.entry) ≡ true → IfOk result (Ends self.entry OpensOne) }
+    {
+        match &self.entry.act {
+            Act::Wait(_, body) => self.opens(*body, None),
+            Act::Call {
+                body,
+                inputs: _,
+                outputs: _,
+            } => self.opens(*body, self.step(Key::Number(0))),
+            _ => Ok(Effect::Passes),
+        }
+    }
+
+    /// The body of its turns, if it is a loop.
+    pub(crate) fn body(self) -> Option<u32>
+        ensures { result ≡ option_map (λ (w : PureLoop). w.body) (loop_of (act_of self.entry)) }
+    {
+        match &self.entry.act {
+            Act::Range(_, _, _, found) | Act::Each(found) => Some(found.body),
+            _ => None,
+        }
+    }
+
+    /// It opens the next turns of a range.
+    pub(crate) fn counts(self, body: u32, range: &Range) -> Result<Effect, AllocError>
+        ensures { IsEnded self.entry → IsLoop self.entry body → IfOk result (Ends self.entry (Turns (range_turns range.now.low range.now.step 0 range.now.count))) }
+    {
+        let (first, end) = chunk_of(self.chunk, range.count);
+        if first < end && self.is_too_deep() {
+            return self.fails_too_deep();
+        }
+        let site = Site {
+            alloc: self.alloc,
+            around: Around {
+                program: self.view.program,
+                instances: self.view.instances,
+                at: self.view.at,
+            },
+            body,
+            offset: self.entry.mark,
+        };
+        let mut list = Vec::new(self.alloc);
+        push_range(site, &mut list, range, first, end)?;
+        self.opens_list(body, list, end < range.count)
+    }
+
+    /// It opens turns for the next elements.
+    pub(crate) fn goes_over(self, body: u32, map: &Map) -> Result<Effect, AllocError>
+        ensures { IsEnded self.entry → IsLoop self.entry body → IfOk result (Ends self.entry (Turns (pairs map.now))) }
+    {
+        let elements = map.elements();
+        let (first, end) = chunk_of(self.chunk, elements.len() as u64);
+        if first < end && self.is_too_deep() {
+            return self.fails_too_deep();
+        }
+        let site = Site {
+            alloc: self.alloc,
+            around: Around {
+                program: self.view.program,
+                instances: self.view.instances,
+                at: self.view.at,
+            },
+            body,
+            offset: self.entry.mark,
+        };
+        let mut list = Vec::new(self.alloc);
+        push_elements(site, &mut list, &elements[first as usize..end as usize])?;
+        self.opens_list(body, list, end < elements.len() as u64)
+    }
+}
+
+/// The script's instance, if it has entries.
+fn script_list(alloc: Global, program: &Program) -> Result<Vec<Opening>, AllocError>
+    ensures { IfOk result (λ list. IsScriptList program.now list.items) }
+{
+    let mut list = Vec::new(alloc);
+    if let Some(body) = program.code().body(0) {
+        if !body.entries.is_empty() {
+            list.push(Opening {
+                instance: outermost(alloc, body)?,
+                value: None,
+                turn: None,
+            })?;
+        }
+    }
+    Ok(list)
+}
+
+/// What the opening of the script does.
+///
+/// # Errors
+///
+/// `AllocError` where memory that was asked for was refused.
+pub fn script_effect(alloc: Global, program: &Program) -> Result<Effect, AllocError>
+    ensures { (fs : List (Option Frame)) (cs : List (Option Counted)) (x : Computed) → IfOk result (IsEffect program.now fs cs Script x) }
+{
+    let list = script_list(alloc, program)?;
+    let spare = spare_lists(alloc, program, list.as_slice())?;
+    Ok(Effect::Opens(Openings {
+        body: 0,
+        list,
+        value: None,
+        turn: None,
+        spare,
+        goes_on: false,
+    }))
+}

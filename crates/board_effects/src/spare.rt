@@ -1,0 +1,60 @@
+//! Lists for what new items miss.
+ghost use Rattle.std.specs.Prelude.{◌≡◌, ◌++◌, map, IfOk, OnOk};
+ghost use Rattle.std.specs.List.{AllZip};
+ghost use Rattle.board_effects.specs.Ended.{long_need, needs_of, spare_list};
+ghost use Rattle.board_effects.specs.Openings.{IsSpare, long_needs};
+
+use board_code::program::Program;
+use board_frames::opening::{Inputs, Opening};
+use smallvec::SmallVec;
+use std::alloc::{AllocError, Global};
+
+/// Adds a list for the item of an entry, if it may wait for more than two inputs.
+fn push_for(
+    alloc: Global,
+    spare: &mut Vec<Inputs>,
+    program: &Program,
+    number: u32,
+) -> Result<(), AllocError>
+    ensures { OnOk result (spare.new.items ≡ spare.old.items ++ map spare_list (long_need program.now number)) }
+{
+    if let Some(entry) = program.code().entry(number) {
+        if entry.needs.len() > 2 {
+            spare.push(SmallVec::with_capacity(alloc, entry.needs.len())?)?;
+        }
+    }
+    Ok(())
+}
+
+/// Adds a list for each item of a body that may wait for more than two inputs.
+fn push_spare(
+    alloc: Global,
+    spare: &mut Vec<Inputs>,
+    program: &Program,
+    number: u32,
+) -> Result<(), AllocError>
+    ensures { OnOk result (spare.new.items ≡ spare.old.items ++ map spare_list (long_needs program.now number)) }
+{
+    let Some(body) = program.code().body(number) else {
+        return Ok(());
+    };
+    for number in &body.entries {
+        push_for(alloc, spare, program, *number)?;
+    }
+    Ok(())
+}
+
+/// Lists for all items of these instances that may wait for more than two inputs, in order.
+pub(crate) fn spare_lists(
+    alloc: Global,
+    program: &Program,
+    list: &[Opening],
+) -> Result<Vec<Inputs>, AllocError>
+    ensures { IfOk result (λ spare. AllZip IsSpare (needs_of program.now list.now) spare.items) }
+{
+    let mut spare = Vec::new(alloc);
+    for opening in list {
+        push_spare(alloc, &mut spare, program, opening.instance.body)?;
+    }
+    Ok(spare)
+}
