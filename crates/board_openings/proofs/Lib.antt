@@ -1,0 +1,9 @@
+pub mod Cells
+pub mod Chain
+pub mod Changed
+pub mod Filled
+pub mod Frames
+pub mod GivenUp
+pub mod MadeData
+pub mod Opened
+pub mod Starts

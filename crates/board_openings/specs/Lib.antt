@@ -1,0 +1,5 @@
+pub mod Blocks
+pub mod Data
+pub mod Filled
+pub mod Opened
+pub mod World
