@@ -1,7 +1,8 @@
-//! The listing of a script's code: its bodies and their entries, as text.
+//! The listing of a script's code: its bodies and their entries, as text; and the same drawn, as text for `dot`.
 #![tactic(auto)]
 
 pub mod bodies;
 pub mod found;
+pub mod graph;
 pub mod needs;
 pub mod text;

@@ -120,7 +120,7 @@ fn add_local<A: Allocator>(
 }
 
 /// The number in its body, from 1 on, of the last of these entries that gives a node its value, and 0 where none does.
-fn giver(code: &Code, before: &[u32], node: u32) -> usize {
+pub fn giver(code: &Code, before: &[u32], node: u32) -> usize {
     for passed in 0..before.len() {
         let left = before.len() - passed;
         if gives(code, before[left - 1], node) {

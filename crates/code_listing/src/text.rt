@@ -53,7 +53,8 @@ fn add_body<A: Allocator>(
     let Some(body) = code.body(body) else {
         return Ok(());
     };
-    add_head(text, &flow.functions, stand, place)?;
+    add_title(text, &flow.functions, stand, place)?;
+    text.extend_from_slice(b"\n")?;
     add_entries(
         text,
         flow,
@@ -65,8 +66,8 @@ fn add_body<A: Allocator>(
     )
 }
 
-/// Adds the first line of a body.
-fn add_head<A: Allocator>(
+/// Adds the title of a body.
+pub fn add_title<A: Allocator>(
     text: &mut Vec<u8>,
     functions: &Vec<Function<A>, A>,
     stand: Stand,
@@ -81,7 +82,7 @@ fn add_head<A: Allocator>(
             None => {}
         }
     }
-    text.extend_from_slice(b"\n")
+    Ok(())
 }
 
 /// The word for what a body is, behind a space.
@@ -144,13 +145,13 @@ fn add_entry<A: Allocator>(
 }
 
 /// Adds a priority.
-fn add_priority(text: &mut Vec<u8>, priority: i32) -> Result<(), AllocError> {
+pub fn add_priority(text: &mut Vec<u8>, priority: i32) -> Result<(), AllocError> {
     let mut buffer = Buffer::new();
     text.extend_from_slice(buffer.format(priority).as_bytes())
 }
 
 /// The word for who runs an entry, behind a space.
-fn kind_text(kind: Kind) -> &'static str {
+pub fn kind_text(kind: Kind) -> &'static str {
     match kind {
         Kind::Control => " control",
         Kind::Leaf => " leaf",
@@ -158,7 +159,7 @@ fn kind_text(kind: Kind) -> &'static str {
 }
 
 /// The word for what an entry does, between spaces.
-fn act_text(act: &Act) -> &'static str {
+pub fn act_text(act: &Act) -> &'static str {
     match act {
         Act::Cell(_) => " cell ",
         Act::Read => " read ",

@@ -200,10 +200,10 @@ and_then_none : {T U : Type 0} (o : Option T) → option_and_then {T = T} {U = U
 and_then_none None = refl
 and_then_none (Some x) = refl
 
-twice_line : (c : Command) (ws : List Text) (o : Text) → has_option c o ≡ true → 2 ≤ length (values_of o false ws) → command_line c ws ≡ None
-twice_line c ws o is = each_option c (λ p. 2 ≤ length (values_of p false ws) → command_line c ws ≡ None) (all c) o is
+twice_line : (c : Command) (ws : List Text) (n : ℕ) (o : Text) → has_option c o ≡ true → 2 ≤ length (values_of o false ws) → command_line c ws n ≡ None
+twice_line c ws n o is = each_option c (λ p. 2 ≤ length (values_of p false ws) → command_line c ws n ≡ None) (all c) o is
   where
-    all : (d : Command) → EachOf (λ p. 2 ≤ length (values_of p false ws) → command_line d ws ≡ None) (options_of d)
+    all : (d : Command) → EachOf (λ p. 2 ≤ length (values_of p false ws) → command_line d ws n ≡ None) (options_of d)
     all Check = tt
     all Code = tt
     all Replay = tt
@@ -219,16 +219,16 @@ twice_line c ws o is = each_option c (λ p. 2 ≤ length (values_of p false ws) 
       ),
     )
 
-no_line : (c : Command) (ws : List Text) → IsRead c ws (Err Usage) → formed_line c ws ≡ None
-no_line c ws (inl form) = rw form refl
-no_line c ws (inr twice) = rw (twice_line c ws twice.0 twice.1 twice.2) (one_way (well_formed c false ws) None)
+no_line : (c : Command) (ws : List Text) (n : ℕ) → IsRead c ws (Err Usage) → formed_line c ws n ≡ None
+no_line c ws n (inl form) = rw form refl
+no_line c ws n (inr twice) = rw (twice_line c ws n twice.0 twice.1 twice.2) (one_way (well_formed c false ws) None)
 
-answer_at : (c : Command) (ws : List Text) (fault : LineFault) → IsRead c ws (Err fault) → Answers {A = Line} (formed_line c ws) (Err fault)
-answer_at c ws Usage is = no_line c ws is
-answer_at c ws Memory is = tt
+answer_at : (c : Command) (ws : List Text) (n : ℕ) (fault : LineFault) → IsRead c ws (Err fault) → Answers {A = Line} (formed_line c ws n) (Err fault)
+answer_at c ws n Usage is = no_line c ws n is
+answer_at c ws n Memory is = tt
 
 -- what was not read is no line
-pub failed_line : (c : Command) (ws : List Text) (fault : LineFault) (r : Result Line LineFault) → IsRead c ws (Err fault) → IsErrAnd r (λ y. y ≡ fault)
-    → Answers (formed_line c ws) r
-failed_line c ws fault (Ok line) is h = absurd h
-failed_line c ws fault (Err y) is h = rw h (answer_at c ws fault is)
+pub failed_line : (c : Command) (ws : List Text) (n : ℕ) (fault : LineFault) (r : Result Line LineFault) → IsRead c ws (Err fault) → IsErrAnd r (λ y. y ≡ fault)
+    → Answers (formed_line c ws n) r
+failed_line c ws n fault (Ok line) is h = absurd h
+failed_line c ws n fault (Err y) is h = rw h (answer_at c ws n fault is)

@@ -1,5 +1,5 @@
 -- The names of the commands, and their options.
-use Rattle.std.specs.Prelude.{ℕ, Bool, List, [], ◌∷◌, Option, Some, None, if◌then◌else◌, codes}
+use Rattle.std.specs.Prelude.{ℕ, Bool, false, List, [], ◌∷◌, Option, Some, None, if◌then◌else◌, codes}
 use Rattle.std.specs.List.{list_any}
 use Rattle.std.specs.Str.{bytes_eq}
 use Rattle.swt_line.specs.declared.command.Command.{Command}
@@ -15,13 +15,21 @@ command_of w =
     else (if bytes_eq w (codes "replay") then Some Replay
     else None))))
 
--- the options of a command
+-- the options of a command that have a value
 abbrev pub options_of : Command → List (List ℕ)
 options_of Mean = codes "--rounds" ∷ []
 options_of Run = codes "--engines" ∷ codes "--workers" ∷ codes "--steps" ∷ codes "--trace" ∷ []
 options_of Check = []
 options_of Code = []
 options_of Replay = []
+
+-- whether a word is an option of the command that has no value
+abbrev pub is_flag : Command → List ℕ → Bool
+is_flag Code w = bytes_eq w (codes "--dot")
+is_flag Check w = false
+is_flag Mean w = false
+is_flag Run w = false
+is_flag Replay w = false
 
 -- whether the command has this option
 abbrev pub has_option : Command → List ℕ → Bool

@@ -5,7 +5,7 @@ use Rattle.swt_line.specs.declared.command.Command.TheVariants as command
 use Rattle.swt_line.specs.declared.line.Line.{Line}
 use Rattle.swt_line.specs.declared.line.Line.TheVariants.{Check, Mean, Code, Run, Replay}
 use Rattle.swt_line.specs.Commands.{command_of}
-use Rattle.swt_line.specs.Words.{well_formed, files_in, values_of, number_given, only, optional}
+use Rattle.swt_line.specs.Words.{well_formed, files_in, flag_given, flags_in, unflagged, values_of, number_given, only, optional}
 
 -- `check`, with one or more files
 abbrev pub check_line : List (List ℕ) → Option Line
@@ -20,9 +20,9 @@ mean_line files rounds =
     (number_given 1 4294967295 1000000 rounds))
     (only files)
 
--- `code`, with its file
-abbrev pub code_line : List (List ℕ) → Option Line
-code_line files = option_and_then (λ file. Some (Code file)) (only files)
+-- `code`, with its file, and as a graph where `--dot` is given
+abbrev pub code_line : List (List ℕ) → ℕ → Option Line
+code_line files dots = option_and_then (λ file. option_and_then (λ dot. Some (Code file dot)) (flag_given dots)) (only files)
 
 -- `run`, with its file, and what was given for the engines, the workers, the steps and the trace
 abbrev pub run_line : List (List ℕ) → List (List ℕ) → List (List ℕ) → List (List ℕ) → List (List ℕ) → Option Line
@@ -45,29 +45,33 @@ replay_line (f ∷ []) = None
 replay_line (f ∷ t ∷ []) = Some (Replay f t)
 replay_line (f ∷ t ∷ u ∷ ws) = None
 
--- a command with the words behind it
-abbrev pub command_line : Command → List (List ℕ) → Option Line
-command_line command.Check ws = check_line (files_in false ws)
-command_line command.Mean ws = mean_line (files_in false ws) (values_of (codes "--rounds") false ws)
-command_line command.Code ws = code_line (files_in false ws)
-command_line command.Run ws = run_line (files_in false ws) (values_of (codes "--engines") false ws) (values_of (codes "--workers") false ws)
+-- a command with the words behind it, and so many options that have no value
+abbrev pub command_line : Command → List (List ℕ) → ℕ → Option Line
+command_line command.Check ws flags = check_line (files_in false ws)
+command_line command.Mean ws flags = mean_line (files_in false ws) (values_of (codes "--rounds") false ws)
+command_line command.Code ws flags = code_line (files_in false ws) flags
+command_line command.Run ws flags = run_line (files_in false ws) (values_of (codes "--engines") false ws) (values_of (codes "--workers") false ws)
     (values_of (codes "--steps") false ws) (values_of (codes "--trace") false ws)
-command_line command.Replay ws = replay_line (files_in false ws)
+command_line command.Replay ws flags = replay_line (files_in false ws)
 
 -- the same, where the words are well formed
-abbrev pub formed_line : Command → List (List ℕ) → Option Line
-formed_line c ws = if well_formed c false ws then command_line c ws else None
+abbrev pub formed_line : Command → List (List ℕ) → ℕ → Option Line
+formed_line c ws flags = if well_formed c false ws then command_line c ws flags else None
+
+-- the same of all words behind it
+abbrev pub behind_command : Command → List (List ℕ) → Option Line
+behind_command c ws = formed_line c (unflagged c ws) (flags_in c ws)
 
 -- the line of the words behind the program's name
 abbrev pub line_of : List (List ℕ) → Option Line
 line_of [] = None
-line_of (w ∷ ws) = option_and_then (λ c. formed_line c ws) (command_of w)
+line_of (w ∷ ws) = option_and_then (λ c. behind_command c ws) (command_of w)
 
 -- the files that a line names to be read, in order
 abbrev pub files_of : Line → List (List ℕ)
 files_of (Check files) = files
 files_of (Mean file rounds) = file ∷ []
-files_of (Code file) = file ∷ []
+files_of (Code file dot) = file ∷ []
 files_of (Run file engines workers steps trace) = file ∷ []
 files_of (Replay file trace) = file ∷ trace ∷ []
 
@@ -75,6 +79,6 @@ files_of (Replay file trace) = file ∷ trace ∷ []
 abbrev pub IsInRange : Line → Type 0
 IsInRange (Check files) = Unit {0}
 IsInRange (Mean file rounds) = (1 ≤ rounds) × (rounds ≤ 4294967295)
-IsInRange (Code file) = Unit {0}
+IsInRange (Code file dot) = Unit {0}
 IsInRange (Run file engines workers steps trace) = (1 ≤ engines) × (engines ≤ 63) × (1 ≤ workers) × (workers ≤ 63) × (steps ≤ 4294967295)
 IsInRange (Replay file trace) = Unit {0}

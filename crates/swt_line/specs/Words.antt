@@ -1,12 +1,21 @@
 -- The words behind a command: its options, each with its value behind it, and its files.
-use Rattle.std.specs.Prelude.{◌≡◌, ℕ, Bool, true, false, not, ◌&&◌, nat_eq, nat_le, List, [], ◌∷◌, Option, Some, None, Result, Ok, Err, ℤ, pos, negsuc, if◌then◌else◌}
+use Rattle.std.specs.Prelude.{◌≡◌, ℕ, zero, suc, Bool, true, false, not, ◌&&◌, nat_eq, nat_le, List, [], ◌∷◌, Option, Some, None, Result, Ok, Err, ℤ, pos, negsuc, if◌then◌else◌}
 use Rattle.std.specs.Str.{bytes_eq}
 use Rattle.values.specs.declared.fault.OpFault.{OpFault}
 use Rattle.values.specs.Numbers.{number_in}
 use Rattle.swt_line.specs.declared.command.Command.{Command}
 use Rattle.swt_line.specs.declared.fault.LineFault.{LineFault}
 use Rattle.swt_line.specs.declared.fault.LineFault.TheVariants.{Usage, Memory}
-use Rattle.swt_line.specs.Commands.{has_option}
+use Rattle.swt_line.specs.Commands.{has_option, is_flag}
+
+-- the words but for the options that have no value, and how many of those there are
+abbrev pub unflagged : Command → List (List ℕ) → List (List ℕ)
+unflagged command [] = []
+unflagged command (w ∷ ws) = if is_flag command w then unflagged command ws else w ∷ unflagged command ws
+
+abbrev pub flags_in : Command → List (List ℕ) → ℕ
+flags_in command [] = 0
+flags_in command (w ∷ ws) = if is_flag command w then suc (flags_in command ws) else flags_in command ws
 
 -- a word that begins with a dash, as an option does
 abbrev pub marked : List ℕ → Bool
@@ -42,6 +51,12 @@ abbrev pub number_given : ℕ → ℕ → ℕ → List (List ℕ) → Option ℕ
 number_given least most default [] = Some default
 number_given least most default (w ∷ []) = number_within least most (number_in w)
 number_given least most default (w ∷ v ∷ ws) = None
+
+-- whether an option without a value is given, where it stands so often, and none where it stands twice
+abbrev pub flag_given : ℕ → Option Bool
+flag_given zero = Some false
+flag_given (suc zero) = Some true
+flag_given (suc (suc n)) = None
 
 -- the one text of a list
 abbrev pub only : List (List ℕ) → Option (List ℕ)

@@ -1,6 +1,6 @@
 //! The commands.
 ghost use Rattle.std.specs.Prelude.{◌≡◌};
-ghost use Rattle.swt_line.specs.Commands.{command_of};
+ghost use Rattle.swt_line.specs.Commands.{command_of, is_flag};
 
 /// What the program is told to do.
 #[derive(Clone, Copy, PartialEq, Eq, Debug, Drop)]
@@ -34,6 +34,16 @@ impl Command {
             Some(Command::Replay)
         } else {
             None
+        }
+    }
+
+    /// Whether a word is an option of the command that has no value.
+    pub fn is_flag(self, word: &str) -> bool
+        ensures { result ≡ is_flag self word.now }
+    {
+        match self {
+            Command::Code => word == "--dot",
+            Command::Check | Command::Mean | Command::Run | Command::Replay => false,
         }
     }
 }

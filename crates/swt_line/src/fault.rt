@@ -9,7 +9,7 @@ use thiserror::Error;
 #[derive(Clone, Copy, PartialEq, Eq, Debug, Drop, Error)]
 pub enum LineFault {
     /// The words are no command, or they call for help. The text tells how each command is written.
-    #[error("usage: swt check FILE..\n       swt mean FILE [--rounds N]\n       swt code FILE\n       swt run FILE [--engines N] [--workers N] [--steps N] [--trace FILE]\n       swt replay FILE TRACE\n\n--rounds is 1 to 4294967295, or 1000000 where it is not given; --engines and --workers are 1 to 63, or 1 and 3;\n--steps is 0 to 4294967295, or 10000000.")]
+    #[error("usage: swt check FILE..\n       swt mean FILE [--rounds N]\n       swt code FILE [--dot]\n       swt run FILE [--engines N] [--workers N] [--steps N] [--trace FILE]\n       swt replay FILE TRACE\n\n--rounds is 1 to 4294967295, or 1000000 where it is not given; --engines and --workers are 1 to 63, or 1 and 3;\n--steps is 0 to 4294967295, or 10000000.")]
     Usage,
     /// Memory that was asked for was refused.
     #[error("no memory")]

@@ -1,9 +1,9 @@
 //! The command line, read.
 ghost use Rattle.std.specs.Prelude.{◌≡◌, ◌≤◌, codes, map, IfOk};
 ghost use Rattle.std.specs.String.{string_bytes};
-ghost use Rattle.swt_line.specs.Words.{number_given, Answers};
+ghost use Rattle.swt_line.specs.Words.{flags_in, number_given, unflagged, Answers};
 ghost use Rattle.swt_line.specs.Reader.{values_given};
-ghost use Rattle.swt_line.specs.Lines.{line_of, formed_line, check_line, mean_line, code_line, run_line, replay_line, files_of, IsInRange};
+ghost use Rattle.swt_line.specs.Lines.{line_of, behind_command, formed_line, check_line, mean_line, code_line, run_line, replay_line, files_of, IsInRange};
 
 use crate::command::Command;
 use crate::fault::LineFault;
@@ -47,9 +47,10 @@ pub enum Line {
         file: Word,
         rounds: u32,
     },
-    /// Lists a script's code.
+    /// Lists a script's code, or draws it, as text for `dot`.
     Code {
         file: Word,
+        dot: bool,
     },
     /// Runs a script for so many events at most, and writes its trace where a file is named for it.
     Run {
@@ -88,7 +89,7 @@ impl Line {
     {
         match self {
             Line::Check { files } => copies(alloc, files.as_slice()),
-            Line::Mean { file, .. } | Line::Code { file } | Line::Run { file, .. } => {
+            Line::Mean { file, .. } | Line::Code { file, .. } | Line::Run { file, .. } => {
                 Ok(Vec::from_array(alloc, [file.copy(alloc)?])?)
             }
             Line::Replay { file, trace } => {
@@ -119,7 +120,48 @@ fn copies(alloc: Global, words: &[Word]) -> Result<Vec<Word>, AllocError>
 }
 
 fn read_command(alloc: Global, command: Command, words: &[Word]) -> Result<Line, LineFault>
-    ensures line { Answers (formed_line command words.now) result }
+    ensures line { Answers (behind_command command words.now) result }
+    ensures in_range { IfOk result IsInRange }
+{
+    let flags = flags(command, words);
+    let others = unflagged(alloc, command, words)?;
+    read_others(alloc, command, others.as_slice(), flags)
+}
+
+/// How many of the words are options that have no value.
+fn flags(command: Command, words: &[Word]) -> usize
+    ensures { result ≡ flags_in command words.now }
+{
+    let mut flags = 0;
+    for word in words {
+        if command.is_flag(word.as_str()) {
+            flags += 1;
+        }
+    }
+    flags
+}
+
+/// The words but for the options that have no value.
+fn unflagged(alloc: Global, command: Command, words: &[Word]) -> Result<Vec<Word>, AllocError>
+    ensures { IfOk result (λ others. others.items ≡ unflagged command words.now) }
+{
+    let mut others = Vec::new(alloc);
+    for word in words {
+        if !command.is_flag(word.as_str()) {
+            others.push(word.copy(alloc)?)?;
+        }
+    }
+    Ok(others)
+}
+
+/// The line of a command with these words behind it, and so many options that have no value.
+fn read_others(
+    alloc: Global,
+    command: Command,
+    words: &[Word],
+    flags: usize,
+) -> Result<Line, LineFault>
+    ensures line { Answers (formed_line command words.now flags) result }
     ensures in_range { IfOk result IsInRange }
 {
     let matches = reading::read(alloc, command, words)?;
@@ -127,7 +169,7 @@ fn read_command(alloc: Global, command: Command, words: &[Word]) -> Result<Line,
     match command {
         Command::Check => read_check(files),
         Command::Mean => read_mean(alloc, &files, &matches),
-        Command::Code => read_code(alloc, &files),
+        Command::Code => read_code(alloc, &files, flags),
         Command::Run => read_run(alloc, &files, &matches),
         Command::Replay => read_replay(alloc, &files),
     }
@@ -154,12 +196,13 @@ fn read_mean(alloc: Global, files: &[Word], matches: &ArgMatches) -> Result<Line
     Ok(Line::Mean { file, rounds })
 }
 
-fn read_code(alloc: Global, files: &[Word]) -> Result<Line, LineFault>
-    ensures line { Answers (code_line files.now) result }
+fn read_code(alloc: Global, files: &[Word], dots: usize) -> Result<Line, LineFault>
+    ensures line { Answers (code_line files.now dots) result }
     ensures in_range { IfOk result IsInRange }
 {
     let file = words::only(alloc, files)?;
-    Ok(Line::Code { file })
+    let dot = words::flag(dots)?;
+    Ok(Line::Code { file, dot })
 }
 
 fn read_run(alloc: Global, files: &[Word], matches: &ArgMatches) -> Result<Line, LineFault>

@@ -1,7 +1,7 @@
 //! What the value of an option gives, and the only file.
 ghost use Rattle.std.specs.Prelude.{◌≡◌, ◌≤◌, IfSome, option_map, option_to_list};
 ghost use Rattle.values.specs.Numbers.{number_in};
-ghost use Rattle.swt_line.specs.Words.{number_given, number_within, only, optional, Answers};
+ghost use Rattle.swt_line.specs.Words.{flag_given, number_given, number_within, only, optional, Answers};
 
 use crate::fault::LineFault;
 use crate::word::Word;
@@ -30,6 +30,17 @@ fn number_within(text: &str, least: u32, most: u32) -> Option<u32>
     match number::parse(text.as_bytes()) {
         Ok(n) if n >= least as i64 && n <= most as i64 => Some(n as u32),
         _ => None,
+    }
+}
+
+/// Whether an option without a value is given, where it stands so often. `Usage` where it stands twice.
+pub fn flag(often: usize) -> Result<bool, LineFault>
+    ensures { Answers (flag_given often) result }
+{
+    match often {
+        0 => Ok(false),
+        1 => Ok(true),
+        _ => Err(LineFault::Usage),
     }
 }
 
