@@ -8,6 +8,7 @@ ghost use Rattle.compile.specs.Compiles.{IsScript, IsUnfit};
 
 use crate::check::{Accepted, accept};
 use crate::fault::CompileFault;
+use code_listing::graph::graph;
 use code_listing::text::listing;
 use constant_fold::fold;
 use emit::emit;
@@ -78,8 +79,8 @@ fn folded_flow_of<A: Allocator + Clone>(
 {
     let Accepted { script, typed } = accepted;
     let alloc = script.items.allocator().clone()?;
-    let other = script.items.allocator().clone()?;
-    let folded = fold(machine, other, script)?;
+    let literals = script.items.allocator().clone()?;
+    let folded = fold(machine, literals, script)?;
     let flow = lower(alloc, &folded, &typed)?;
     let merged = merge(flow)?;
     Ok(merged)
@@ -146,6 +147,26 @@ pub fn listed<A: Allocator + Clone>(
 {
     let compiled = with_flow(machine, alloc, src)?;
     match listing(machine, &compiled.flow, &compiled.code) {
+        Ok(text) => Ok(text),
+        Err(_) => Err(CompileFault::Memory),
+    }
+}
+
+/// A script's code drawn, as text for `dot`.
+///
+/// # Errors
+///
+/// The refusal of the first step that refuses the script, or want of memory.
+pub fn drawn<A: Allocator + Clone>(
+    machine: Global,
+    alloc: A,
+    src: &[u8],
+) -> Result<Vec<u8>, CompileFault>
+    ensures script { IsOk result → IsScript src.now }
+    ensures unfit { IfErr result (λ fault. IsUnfit src.now fault) }
+{
+    let compiled = with_flow(machine, alloc, src)?;
+    match graph(machine, &compiled.flow, &compiled.code) {
         Ok(text) => Ok(text),
         Err(_) => Err(CompileFault::Memory),
     }

@@ -35,7 +35,10 @@ fn shown(alloc: Global, words: &[&str]) -> Result<String, Fail> {
             text
         }
         Line::Mean { file, rounds } => format!(in alloc; "mean {} {}", file.as_str(), rounds)?,
-        Line::Code { file } => format!(in alloc; "code {}", file.as_str())?,
+        Line::Code { file, dot } => {
+            let form = if *dot { " dot" } else { "" };
+            format!(in alloc; "code {}{}", file.as_str(), form)?
+        }
         Line::Run {
             file,
             engines,
@@ -76,6 +79,8 @@ fn commands(rt: HostRuntime) -> Result<(), Fail> {
             "mean a 4294967295",
         ),
         (&["code", "a"], "code a"),
+        (&["code", "a", "--dot"], "code a dot"),
+        (&["code", "--dot", "a"], "code a dot"),
         (&["run", "a"], "run a 1 3 10000000 none"),
         (
             &[
@@ -103,7 +108,7 @@ fn commands(rt: HostRuntime) -> Result<(), Fail> {
 #[test]
 fn no_commands(rt: HostRuntime) -> Result<(), Fail> {
     let alloc = rt.alloc();
-    let rows: [&[&str]; 30] = [
+    let rows: [&[&str]; 33] = [
         &[],
         &[""],
         &["--help"],
@@ -120,6 +125,9 @@ fn no_commands(rt: HostRuntime) -> Result<(), Fail> {
         &["mean", "a", "--rounds", "4294967296"],
         &["mean", "a", "--steps", "1"],
         &["code"],
+        &["code", "--dot"],
+        &["code", "--dot", "a", "--dot"],
+        &["mean", "a", "--dot"],
         &["code", "a", "b"],
         &["run"],
         &["run", "a", "b"],

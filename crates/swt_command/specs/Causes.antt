@@ -14,6 +14,6 @@ SomeRefused files = (place : ℕ) × (r : Refusal) × (src : List ℕ) × (sourc
 abbrev pub AsksTooMuch : Line → Type 0
 AsksTooMuch (Check names) = ⊥
 AsksTooMuch (Mean file rounds) = ⊥
-AsksTooMuch (Code file) = ⊥
+AsksTooMuch (Code file dot) = ⊥
 AsksTooMuch (Run file engines workers steps wanted) = most_threads < engines + workers
 AsksTooMuch (Replay file events) = ⊥

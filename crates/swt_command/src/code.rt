@@ -1,31 +1,52 @@
-//! The listing of a script's code.
-ghost use Rattle.std.specs.Prelude.{◌<◌};
-ghost use Rattle.swt_command.specs.Files.{contents};
-ghost use Rattle.swt_command.specs.Listings.{Lists};
+//! The listing of a script's code, and its drawing.
+ghost use Rattle.std.specs.Prelude.{◌<◌, ◌≡◌, MatchResult};
+ghost use Rattle.swt_command.specs.Files.{StopsAt, contents};
+ghost use Rattle.swt_command.specs.Listings.{IsAcceptedAt, Lists};
 ghost use Rattle.swt_command.specs.Sinks.{held};
 
 use crate::status::Status;
-use crate::stop::{Stop, listing_of};
+use crate::stop::{Stop, drawing_of, listing_of};
 use crate::trouble::Trouble;
 use std::alloc::Global;
 use values::sink::{Sink, SinkFault, write_all};
 
-/// Prints the listing of the code of the first file's script.
+/// Prints the listing of the code of the first file's script, or, where `dot` holds, the same drawn, as text for `dot`.
 ///
 /// # Errors
 ///
 /// The script could not be read or was refused, memory was refused, or the text could not be written.
-pub fn code<O: Sink>(alloc: Global, files: &[Option<Vec<u8>>], out: &mut O) -> Result<Status, Stop>
+pub fn code<O: Sink>(
+    alloc: Global,
+    files: &[Option<Vec<u8>>],
+    dot: bool,
+    out: &mut O,
+) -> Result<Status, Stop>
     requires { O.failures out.old < u64.MAX }
     ensures { Lists (contents files.now) result (held (O.taken out.old) (O.failures out.old))
         (held (O.taken out.new) (O.failures out.new)) }
 {
-    let text = listing_of(alloc, files)?;
+    let text = text_of(alloc, files, dot)?;
     match write_all(out, text.as_slice()) {
         Ok(()) => Ok(Status::Done),
         Err(SinkFault) => Err(Stop {
             place: 0,
             trouble: Trouble::Unprinted,
         }),
+    }
+}
+
+/// The listing of the code of the first file's script, or its drawing.
+///
+/// # Errors
+///
+/// `Unread`, `Refused` or `Memory`.
+fn text_of(alloc: Global, files: &[Option<Vec<u8>>], dot: bool) -> Result<Vec<u8>, Stop>
+    ensures { MatchResult result (λ text. IsAcceptedAt (contents files.now) 0)
+        (λ stop. (stop.place ≡ 0) × StopsAt (contents files.now) 0 stop.trouble) }
+{
+    if dot {
+        drawing_of(alloc, files)
+    } else {
+        listing_of(alloc, files)
     }
 }

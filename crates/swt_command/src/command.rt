@@ -74,7 +74,7 @@ fn perform<O: Sink, S: Sink>(
             let threads = *engines as u16 + *workers as u16;
             run(alloc, files, threads, *steps, wanted.is_some(), out, trace)
         }
-        Line::Code { .. } => code(alloc, files, out),
+        Line::Code { dot, .. } => code(alloc, files, *dot, out),
         Line::Replay { .. } => replay(alloc, files, out),
     }
 }
@@ -89,7 +89,7 @@ fn name_of(line: &Line, place: usize) -> &str
             None => "",
         },
         Line::Mean { file, .. } => first_of(file, place),
-        Line::Code { file } => first_of(file, place),
+        Line::Code { file, .. } => first_of(file, place),
         Line::Run { file, .. } => first_of(file, place),
         Line::Replay { file, trace } => {
             if place == 0 {

@@ -8,7 +8,7 @@ ghost use Rattle.compile.specs.Compiles.{IsRefused};
 
 use crate::refusal::Refusal;
 use crate::trouble::Trouble;
-use compile::compile::listed;
+use compile::compile::{drawn, listed};
 use compile::fault::CompileFault;
 use compile::scalars::{compile, read};
 use scalar_flow::statement::Flow;
@@ -84,6 +84,22 @@ pub fn listing_of(alloc: Global, files: &[Option<Vec<u8>>]) -> Result<Vec<u8>, S
 {
     let source = source(files, 0)?;
     match listed(alloc, alloc, source) {
+        Ok(text) => Ok(text),
+        Err(fault) => Err(at_script(fault)),
+    }
+}
+
+/// The code of the first file's script, drawn.
+///
+/// # Errors
+///
+/// `Unread`, `Refused` or `Memory`.
+pub fn drawing_of(alloc: Global, files: &[Option<Vec<u8>>]) -> Result<Vec<u8>, Stop>
+    ensures { MatchResult result (λ text. IsAcceptedAt (contents files.now) 0)
+        (λ stop. (stop.place ≡ 0) × StopsAt (contents files.now) 0 stop.trouble) }
+{
+    let source = source(files, 0)?;
+    match drawn(alloc, alloc, source) {
         Ok(text) => Ok(text),
         Err(fault) => Err(at_script(fault)),
     }
