@@ -69,7 +69,13 @@ fn add_body<A: Allocator>(
     add_variables(text, drawing, body.makes.as_slice())?;
     add_boxes(text, drawing, body.entries.as_slice(), place)?;
     text.extend_from_slice(b"  }\n")?;
-    add_edges(text, drawing, stand.function, body.entries.as_slice(), place)
+    add_edges(
+        text,
+        drawing,
+        stand.function,
+        body.entries.as_slice(),
+        place,
+    )
 }
 
 /// Adds the first lines of a body: its title, and the point of its opening.
@@ -101,7 +107,12 @@ fn add_parameters<A: Allocator>(
         None => Ok(()),
         Some(function) => {
             add_each(text, stand.function, 0, &function.inputs)?;
-            add_each(text, stand.function, function.inputs.len(), &function.outputs)
+            add_each(
+                text,
+                stand.function,
+                function.inputs.len(),
+                &function.outputs,
+            )
         }
     }
 }
