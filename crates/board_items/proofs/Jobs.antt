@@ -1,0 +1,90 @@
+-- What jobs miss, and by whom they are run.
+use Rattle.std.proofs.Common.{◌≡◌, ◌∙◌, ℕ, zero, suc, ◌≤◌, Bool, true, false, List, [], ◌∷◌, ◌++◌, map, length, refl, sym, ap, subst, arith, append-nil, Option, Some, None}
+use Rattle.std.specs.List.{flat_map}
+use Rattle.board_code.specs.Spots.{layout_of}
+use Rattle.board_code.specs.Tables.{body_of, queue_kind, wanted_in}
+use Rattle.board_code.specs.declared.program.Wanted.{Wanted}
+use Rattle.board_data.specs.Wanted.{FewSlots, wanted_missed}
+use Rattle.board_data.proofs.Named.{all_missed}
+use Rattle.board_frames.specs.Names.{led_slot}
+use Rattle.replayed.specs.Ending.{job_kind, job_priority}
+use Rattle.replayed.specs.Fields.{Counted, Does, Frame, Job, Script, Want, slot_at, slot_for}
+use Rattle.replayed.specs.Needs.{missed}
+use Rattle.task_code.specs.Code.{Code, Entry, blank_entry, entry, kind_of, nth}
+use Rattle.work_queue.specs.declared.entry.Kind.TheVariants.{Leaf}
+use Rattle.std.specs.Prelude.{pos}
+use Rattle.std.specs.Bool.{OnFalse, OnTrue}
+use Rattle.board_items.specs.Learnt.{is_nil}
+use Rattle.rules.specs.declared.input.Input.{Input}
+use Rattle.smallvec.specs.SmallVec.{HasRoomFor, SmallVec}
+use Rattle.board_items.specs.Ended.{IsSeen, first_needs, goes_on_with, misses, needs_of}
+
+nth_past : (xs : List Entry) (i : ℕ) → length xs ≤ i → nth blank_entry xs i ≡ blank_entry
+nth_past [] i h = refl
+nth_past (x ∷ xs) zero h = absurd (omega arith)
+nth_past (x ∷ xs) (suc i) h = nth_past xs i (omega arith)
+
+-- there is no such entry
+pub kind_past : (C : Code) (k e c : ℕ) (j : Job) → j ≡ Does k e c → length C.entries ≤ e → Leaf ≡ queue_kind (job_kind C j)
+kind_past C k e c j q h = sym (ap (λ (x : Job). queue_kind (job_kind C x)) q ∙ ap (λ (x : Entry). queue_kind (kind_of x.act)) (nth_past C.entries e h))
+
+pub priority_past : (C : Code) (k e c : ℕ) (j : Job) → j ≡ Does k e c → length C.entries ≤ e → pos 0 ≡ job_priority C j
+priority_past C k e c j q h = sym (ap (job_priority C) q ∙ ap (λ (x : Entry). x.priority) (nth_past C.entries e h))
+
+module _ (C : Code) (fs : List (Option Frame)) (cs : List (Option Counted)) where
+  misses_at : (k e c : ℕ) (f : Frame) → slot_at fs k ≡ Some f → misses C fs cs (Does k e c) ≡ flat_map (missed C cs (slot_for (layout_of C) fs k f.body)) (entry C e).needs
+  misses_at k e c f h = ap (λ (x : Option Frame). elim x [ None ↦ [] | Some f ↦ flat_map (missed C cs (slot_for (layout_of C) fs k f.body)) (entry C e).needs ]) h
+
+  pub misses_listed : (k e c : ℕ) (ws : List Wanted) → FewSlots fs → IsSeen C fs (Does k e c) → ws ≡ map (wanted_in C (body_of C e)) (entry C e).needs → flat_map (wanted_missed C cs (led_slot fs k)) ws ≡ misses C fs cs (Does k e c)
+  misses_listed k e c ws few x q =
+      ap (flat_map (wanted_missed C cs (led_slot fs k))) q
+      ∙ ap (λ (b : ℕ). flat_map (wanted_missed C cs (led_slot fs k)) (map (wanted_in C b) (entry C e).needs)) x.2
+      ∙ all_missed C fs k x.0.body few cs (entry C e).needs
+      ∙ sym (misses_at k e c x.0 x.1)
+
+  pub misses_past : (k e c : ℕ) → IsSeen C fs (Does k e c) → length C.entries ≤ e → misses C fs cs (Does k e c) ≡ []
+  misses_past k e c x h = misses_at k e c x.0 x.1 ∙ ap (λ (y : Entry). flat_map (missed C cs (slot_for (layout_of C) fs k x.0.body)) y.needs) (nth_past C.entries e h)
+
+  pub listed_past : (xs : List (Want ℕ)) (k e c : ℕ) (j : Job) → j ≡ Does k e c → IsSeen C fs j → length C.entries ≤ e → xs ≡ xs ++ misses C fs cs j
+  listed_past xs k e c j q x h = sym (ap (λ ys. xs ++ ys) (ap (misses C fs cs) q ∙ misses_past k e c (subst (IsSeen C fs) q x) h) ∙ append-nil xs)
+
+  pub listed_there : (ws : List Wanted) (k e c : ℕ) (j : Job) → j ≡ Does k e c → FewSlots fs → IsSeen C fs j → ws ≡ map (wanted_in C (body_of C e)) (entry C e).needs → flat_map (wanted_missed C cs (led_slot fs k)) ws ≡ misses C fs cs j
+  listed_there ws k e c j q few x t = misses_listed k e c ws few (subst (IsSeen C fs) q x) t ∙ sym (ap (misses C fs cs) q)
+
+pub needs_past : (C : Code) (k e c : ℕ) (j : Job) → j ≡ Does k e c → length C.entries ≤ e → needs_of C j ≤ 2
+needs_past C k e c j q h =
+    let a : needs_of C j ≡ length (entry C e).needs = ap (needs_of C) q in
+    let b : length (entry C e).needs ≡ 0 = ap (λ (x : Entry). length x.needs) (nth_past C.entries e h) in
+    omega arith
+
+-- a test whether nothing is missed
+nil_of : (xs : List (Want ℕ)) → is_nil xs ≡ true → xs ≡ []
+nil_of [] h = refl
+nil_of (x ∷ xs) h = absurd (cc (h))
+
+pub true_none : (b : Bool) (xs ys : List (Want ℕ)) → b ≡ is_nil xs → xs ≡ ys → OnTrue b (ys ≡ [])
+true_none true xs ys e q = sym q ∙ nil_of xs (sym e)
+true_none false xs ys e q = tt
+
+pub false_some : (P : Type 0) (b : Bool) (xs ys : List (Want ℕ)) → b ≡ is_nil xs → xs ≡ ys → ys ≡ [] → OnFalse b P
+false_some P true xs ys e q z = tt
+false_some P false xs ys e q z = let t : false ≡ true = e ∙ ap is_nil (q ∙ z) in absurd (cc (t))
+
+-- new items
+pub first_past : (C : Code) (k e c : ℕ) (j : Job) → j ≡ Does k e c → length C.entries ≤ e → 0 ≡ first_needs C j
+first_past C k e c j q h = by c ∙ sym (ap (first_needs C) q)
+  where
+    by : (c : ℕ) → 0 ≡ first_needs C (Does k e c)
+    by zero = sym (ap (λ (x : Entry). length x.needs) (nth_past C.entries e h))
+    by (suc c) = refl
+
+pub room_first : (C : Code) (j : Job) (v : SmallVec Input) → v.items ≡ [] → first_needs C j ≤ v.capacity → goes_on_with j ≡ false → HasRoomFor v (needs_of C j)
+room_first C j v e h g = by j h g
+  where
+    none : length v.items ≡ 0
+    none = ap length e
+
+    by : (j : Job) → first_needs C j ≤ v.capacity → goes_on_with j ≡ false → HasRoomFor v (needs_of C j)
+    by Script h g = let z = none in omega arith
+    by (Does k e zero) h g = let z = none in omega arith
+    by (Does k e (suc c)) h g = absurd (cc (g))

@@ -1,0 +1,13 @@
+pub mod Apart
+pub mod Finish
+pub mod Fits
+pub mod Jobs
+pub mod Learnt
+pub mod Lists
+pub mod Numbers
+pub mod Progress
+pub mod Queue
+pub mod Rows
+pub mod Placed
+pub mod Steps
+pub mod Tells

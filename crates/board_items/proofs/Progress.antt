@@ -1,0 +1,417 @@
+-- One item more is settled, where there is room.
+use Rattle.std.proofs.Common.{◌≡◌, ◌⊎◌, inl, inr, ◌∙◌, ℕ, zero, suc, ◌+◌, ◌-◌, ◌<◌, ◌≤◌, Bool, true, false, List, [], ◌∷◌, ◌++◌, length, map, append_assoc, get_or, take, refl, sym, ap, subst, arith, length-append, Option, Some}
+use Rattle.std.specs.Prelude.{ℤ, if◌then◌else◌, vec_capacity, vec_len, IsPermutation}
+use Rattle.std.specs.List.{filter}
+use Rattle.std.proofs.lemmas.List.Sorted.{IsPermutation-map}
+use Rattle.std.proofs.lemmas.Bool.Decides.{nat_tests}
+use Rattle.std.proofs.lemmas.List.{take_more}
+use Rattle.dataflow.specs.System.{Distinct, In}
+use Rattle.replayed.specs.Ending.{is_one, job_kind, job_priority, mark_after, marked_by}
+use Rattle.replayed.specs.Fields.{Counted, Frame, Job, Mark, Over, Ready, Row, Waiter, Waiting, Want, row_of}
+use Rattle.replayed.specs.Marking.{kind_eq, mark_at}
+use Rattle.replayed.proofs.EndedItems.{one_in}
+use Rattle.replayed.proofs.EndedRows.{row_to}
+use Rattle.replayed.proofs.Next.{nat_sound}
+use Rattle.replayed.proofs.Rows.{no_row}
+use Rattle.replayed.proofs.Tests.{choose, in_kept, none_some, some_same}
+use Rattle.std.specs.Prelude.{nat_eq, nat_lt}
+use Rattle.task_code.specs.Code.{Code, Control, Kind, Leaf}
+use Rattle.board_code.specs.Tables.{queue_kind}
+use Rattle.board_frames.specs.View.{rows_view}
+use Rattle.work_queue.specs.Both.{Both, of, with_changed}
+use Rattle.work_queue.specs.Waiting.{with_put}
+use Rattle.board_data.specs.Wanted.{FewSlots}
+use Rattle.board_items.specs.Ended.{AreSettled, AreShort, AreToSettle, IsSeen, can_begin, missed_at, misses, misses_first, needs_of, numbers_behind, row_misses, runs_so}
+use Rattle.board_items.specs.Progress.{AreOld, CanFinish, Progress, jobs_behind}
+use Rattle.board_items.specs.Room.{AreSpare, IsRoomy, apart_in, is_apart}
+use Rattle.board_items.specs.Settled.{IsReady, IsWaiting, Settles, one_less}
+use Rattle.board_items.specs.View.{queue_view, waiter_view, waiters_view}
+use Rattle.board_items.specs.declared.items.Counts.{Counts}
+use Rattle.board_items.specs.declared.items.Items.{Items}
+use Rattle.board_items.proofs.Apart.{counts_apart, counts_not, counts_other, marked_at}
+use Rattle.dataflow.proofs.Lists.{in_left, in_right, in_split}
+use Rattle.rules.specs.declared.input.Input.{Input}
+use Rattle.smallvec.specs.SmallVec.{SmallVec}
+use Rattle.board_items.proofs.Lists.{in_back}
+use Rattle.board_items.proofs.Numbers.{behind_first, behind_once, first_behind}
+use Rattle.board_items.proofs.Queue.{queue_put}
+use Rattle.board_items.proofs.Steps.{settled_none, settled_ready, settled_waits}
+
+below : (a b : ℕ) → a < b → nat_lt a b ≡ true
+below a b h = grind (arith, nat_tests)
+
+not_below : (a b : ℕ) → b ≤ a → nat_lt a b ≡ false
+not_below a b h = grind (arith, nat_tests)
+
+get_in : (xs : List ℕ) (i d : ℕ) → i < length xs → In (get_or xs i d) xs
+get_in [] i d h = absurd (omega arith)
+get_in (x ∷ xs) zero d h = inl refl
+get_in (x ∷ xs) (suc i) d h = inr (get_in xs i d (omega arith))
+
+not_before : (xs : List ℕ) (i d : ℕ) → i < length xs → Distinct xs → In (get_or xs i d) (take i xs) → ⊥
+not_before [] i d h u g = absurd (omega arith)
+not_before (x ∷ xs) zero d h u g = g
+not_before (x ∷ xs) (suc i) d h u g =
+    elim g [
+      | inl e ↦ u.0 (subst (λ (k : ℕ). In k xs) e (get_in xs i d (omega arith)))
+      | inr f ↦ not_before xs i d (omega arith) u.1 f
+    ]
+
+jobs_cut : (rows : List Row) (k : ℕ) (r : Row) → row_of rows (suc k) ≡ Some r → jobs_behind k rows ≡ r.job ∷ jobs_behind (suc k) rows
+jobs_cut [] k r h = none_some h
+jobs_cut (q ∷ rows) zero r h = ap (λ (x : Row). x.job ∷ map (λ (y : Row). y.job) rows) (some_same h)
+jobs_cut (q ∷ rows) (suc k) r h = jobs_cut rows k r h
+
+first_once : (xs ys : List ℕ) → Distinct (xs ++ ys) → Distinct xs
+first_once [] ys d = tt
+first_once (x ∷ xs) ys d = ((λ h. d.0 (in_left x xs ys h)), first_once xs ys d.1)
+
+nil_or : {X : Type 0} (xs : List X) → (xs ≡ []) ⊎ (xs ≡ [] → ⊥)
+nil_or [] = inl refl
+nil_or (x ∷ xs) = inr (λ h. absurd (cc (h)))
+
+-- the row of an item that has not been settled is as it was
+waits_still : (n : ℕ) (newly : List ℕ) (rows : List Row) (m : ℕ) (r : Row) → row_of rows m ≡ Some r → r.mark ≡ Waiting → (m ≡ n → ⊥) → (In m newly → ⊥) → row_of (marked_by (mark_after n newly) 1 rows) m ≡ Some (record { job = r.job; mark = Waiting })
+waits_still n newly rows zero r h w d e = no_row rows r h
+waits_still n newly rows (suc j) r h w d e =
+    row_to (mark_after n newly) 1 rows j (suc j) r h (omega arith)
+    ∙ ap (λ (x : Mark). Some (record { job = r.job; mark = x }))
+    (choose (λ (x : Mark). x ≡ Waiting) (nat_eq (suc j) n) Over (if is_one (suc j) newly then Ready else r.mark)
+    (λ t. absurd (d (nat_sound (suc j) n t)))
+    (λ f. choose (λ (x : Mark). x ≡ Waiting) (is_one (suc j) newly) Ready r.mark (λ t. absurd (e (one_in (suc j) newly t))) (λ g. w)))
+
+-- room in the queue, and the count, where one item more is ready
+module _ (C : Code) (old new : Items) (m : ℕ) (p : ℤ) (r : Row) (there : row_of (rows_view old.rows.items) m ≡ Some r) (apart : is_apart r.mark ≡ true) (s : IsReady m (queue_kind (job_kind C r.job)) p old new) (room : IsRoomy C old) where
+  after : (k : Kind) → (b : Bool) → kind_eq k (job_kind C r.job) ≡ b → apart_in C k (rows_view new.rows.items) + (if b then 1 else 0) ≡ apart_in C k (rows_view old.rows.items)
+  after k true e =
+      let a = marked_at C k (rows_view old.rows.items) m r Ready there in
+      let b = counts_apart C k r.mark r apart e in
+      let c = counts_not C k Ready r refl in
+      let d = ap (apart_in C k) s.rows in
+      omega arith
+  after k false e =
+      let a = marked_at C k (rows_view old.rows.items) m r Ready there in
+      let b = counts_other C k r.mark r e in
+      let c = counts_not C k Ready r refl in
+      let d = ap (apart_in C k) s.rows in
+      omega arith
+
+  pub one_there : 0 < (of (queue_kind (job_kind C r.job)) old.queue).room
+  one_there = by (job_kind C r.job) refl
+    where
+      by : (k : Kind) → job_kind C r.job ≡ k → 0 < (of (queue_kind k) old.queue).room
+      by Control e = let a = after Control true (ap (kind_eq Control) e) in let f = room.controls_fit in omega arith
+      by Leaf e = let a = after Leaf true (ap (kind_eq Leaf) e) in let f = room.leaves_fit in omega arith
+
+  pub still_roomy : vec_capacity old.newly ≤ vec_capacity new.newly → IsRoomy C new
+  still_roomy grows = by (job_kind C r.job) refl (s.queue one_there) s.apart
+    where
+      by : (k : Kind) → job_kind C r.job ≡ k → new.queue ≡ with_changed (queue_kind (job_kind C r.job)) (with_put (record { priority = p; no = m })) old.queue → new.apart ≡ one_less (queue_kind (job_kind C r.job)) old.apart → IsRoomy C new
+      by Control e q z =
+          let a = after Control true (ap (kind_eq Control) e) in
+          let b = after Leaf false (ap (kind_eq Leaf) e) in
+          let q1 = q ∙ ap (λ (k : Kind). with_changed (queue_kind k) (with_put (record { priority = p; no = m })) old.queue) e in
+          let z1 = z ∙ ap (λ (k : Kind). one_less (queue_kind k) old.apart) e in
+          let qc = ap (λ (x : Both). x.control.room) q1 in
+          let ql = ap (λ (x : Both). x.leaf.room) q1 in
+          let zc = ap (λ (x : Counts). x.controls) z1 in
+          let zl = ap (λ (x : Counts). x.leaves) z1 in
+          let o1 = room.controls_counted in
+          let o2 = room.leaves_counted in
+          let o3 = room.controls_fit in
+          let o4 = room.leaves_fit in
+          let o5 = room.noted in
+          record { controls_counted = omega arith; leaves_counted = omega arith; controls_fit = omega arith; leaves_fit = omega arith; noted = omega arith }
+      by Leaf e q z =
+          let a = after Control false (ap (kind_eq Control) e) in
+          let b = after Leaf true (ap (kind_eq Leaf) e) in
+          let q1 = q ∙ ap (λ (k : Kind). with_changed (queue_kind k) (with_put (record { priority = p; no = m })) old.queue) e in
+          let z1 = z ∙ ap (λ (k : Kind). one_less (queue_kind k) old.apart) e in
+          let qc = ap (λ (x : Both). x.control.room) q1 in
+          let ql = ap (λ (x : Both). x.leaf.room) q1 in
+          let zc = ap (λ (x : Counts). x.controls) z1 in
+          let zl = ap (λ (x : Counts). x.leaves) z1 in
+          let o1 = room.controls_counted in
+          let o2 = room.leaves_counted in
+          let o3 = room.controls_fit in
+          let o4 = room.leaves_fit in
+          let o5 = room.noted in
+          record { controls_counted = omega arith; leaves_counted = omega arith; controls_fit = omega arith; leaves_fit = omega arith; noted = omega arith }
+
+module _ (C : Code) (fs : List (Option Frame)) (cs : List (Option Counted)) (rows : List Row) (first number : ℕ) (before : List Waiter) (queued : Kind → ℤ → List ℕ) where
+  abbrev Far : List ℕ → ℕ → Items → Type 0
+  Far = Progress C fs cs rows first number before queued
+
+  pub progress_more : (done : List ℕ) (left : ℕ) (old new : Items) (m : ℕ) (r : Row) → Far done (suc left) old → row_of rows m ≡ Some r → r.mark ≡ Waiting → (m ≡ number → ⊥) → (In m done → ⊥) → Settles m (missed_at C fs cs rows first m) (queue_kind (job_kind C r.job)) (job_priority C r.job) old new → Far (done ++ m ∷ []) left new
+  progress_more done left old new m r far h w d e s = by (nil_or (missed_at C fs cs rows first m))
+    where
+      a : AreSettled C fs cs rows first number before queued done (rows_view old.rows.items) (waiters_view old.rules.waiting) (queue_view old.queue) old.newly.items
+      a = far.settled
+
+      fresh : In m old.newly.items → ⊥
+      fresh i = e (in_kept (can_begin C fs cs rows first) m done (in_back (filter (can_begin C fs cs rows first) done) old.newly.items m a.newly_are i)).0
+
+      there : row_of (rows_view old.rows.items) m ≡ Some (record { job = r.job; mark = Waiting })
+      there = ap (λ (l : List Row). row_of l m) a.rows_are ∙ waits_still number old.newly.items rows m r h w d fresh
+
+      waits : (missed_at C fs cs rows first m ≡ [] → ⊥) → Far (done ++ m ∷ []) left new
+      waits ne =
+          let x = s.waits ne in
+          let z = settled_waits C fs cs rows first number before queued done (rows_view old.rows.items) (waiters_view old.rules.waiting) (queue_view old.queue) old.newly.items a m (waiters_view new.rules.waiting) ne
+          (subst (λ (us : List (Want ℕ)). IsPermutation (record { item = m; missing = us } ∷ waiters_view old.rules.waiting) (waiters_view new.rules.waiting)) x.inputs_are (IsPermutation-map waiter_view _ _ x.rules.waiting)) in
+          let f = far.room.rules_fit in
+          let g = x.rules.had_room (omega arith) in
+          let o = far.room.newly_fit in
+          let c = s.capacity in
+          let l = ap (λ v. vec_len v) x.newly in
+          record {
+            settled =
+                subst (λ rs. AreSettled C fs cs rows first number before queued (done ++ m ∷ []) (rows_view rs) (waiters_view new.rules.waiting) (queue_view new.queue) new.newly.items) (sym (ap (λ v. v.items) x.rows))
+                (subst (λ (q : Both). AreSettled C fs cs rows first number before queued (done ++ m ∷ []) (rows_view old.rows.items) (waiters_view new.rules.waiting) (queue_view q) new.newly.items) (sym x.queue)
+                (subst (λ ns. AreSettled C fs cs rows first number before queued (done ++ m ∷ []) (rows_view old.rows.items) (waiters_view new.rules.waiting) (queue_view old.queue) ns) (sym (ap (λ v. v.items) x.newly)) z));
+            room = record { roomy = roomy x; rules_fit = omega arith; newly_fit = omega arith };
+          }
+        where
+          roomy : IsWaiting m (missed_at C fs cs rows first m) old new → IsRoomy C new
+          roomy x =
+              let y = far.room.roomy in
+              let q1 = ap (λ (q : Both). q.control.room) x.queue in
+              let q2 = ap (λ (q : Both). q.leaf.room) x.queue in
+              let a1 = ap (λ (q : Counts). q.controls) x.apart in
+              let a2 = ap (λ (q : Counts). q.leaves) x.apart in
+              let r1 = ap (λ v. apart_in C Control (rows_view v.items)) x.rows in
+              let r2 = ap (λ v. apart_in C Leaf (rows_view v.items)) x.rows in
+              let o1 = y.controls_counted in
+              let o2 = y.leaves_counted in
+              let o3 = y.controls_fit in
+              let o4 = y.leaves_fit in
+              let o5 = y.noted in
+              let c = s.capacity in
+              record { controls_counted = omega arith; leaves_counted = omega arith; controls_fit = omega arith; leaves_fit = omega arith; noted = omega arith }
+
+      ready : missed_at C fs cs rows first m ≡ [] → Far (done ++ m ∷ []) left new
+      ready z =
+          let x = s.ready z in
+          let o = far.room.newly_fit in
+          let f = far.room.rules_fit in
+          let c = s.capacity in
+          let n = x.newly (omega arith) in
+          let q = x.queue (one_there C old new m (job_priority C r.job) (record { job = r.job; mark = Waiting }) there refl x far.room.roomy) in
+          let ru = ap (λ l. l.room) x.rules in
+          let l0 = old.newly.ok.0 in
+          let l1 = new.newly.ok.0 in
+          let l2 = ap length n ∙ length-append old.newly.items (m ∷ []) in
+          record {
+            settled =
+                subst (λ ns. AreSettled C fs cs rows first number before queued (done ++ m ∷ []) (rows_view new.rows.items) (waiters_view new.rules.waiting) (queue_view new.queue) ns) (sym n)
+                (subst (λ ru. AreSettled C fs cs rows first number before queued (done ++ m ∷ []) (rows_view new.rows.items) (waiters_view ru) (queue_view new.queue) (old.newly.items ++ m ∷ [])) (sym (ap (λ l. l.waiting) x.rules))
+                (settled_ready C fs cs rows first number before queued done (rows_view old.rows.items) (waiters_view old.rules.waiting) (queue_view old.queue) old.newly.items a m (rows_view new.rows.items) (queue_view new.queue) r h d z x.rows
+                (λ k y. subst (λ (b : Bool). IsPermutation (queue_view old.queue k y ++ (if b then m ∷ [] else [])) (queue_view new.queue k y)) (sym (ap (runs_so C k y) h))
+                (subst (λ (u : Both). IsPermutation (queue_view old.queue k y ++ (if runs_so C k y (Some r) then m ∷ [] else [])) (queue_view u k y)) (sym q) (queue_put (job_kind C r.job) (job_priority C r.job) m old.queue k y)))));
+            room = record { roomy = still_roomy C old new m (job_priority C r.job) (record { job = r.job; mark = Waiting }) there refl x far.room.roomy c; rules_fit = omega arith; newly_fit = omega arith };
+          }
+
+      by : (missed_at C fs cs rows first m ≡ []) ⊎ (missed_at C fs cs rows first m ≡ [] → ⊥) → Far (done ++ m ∷ []) left new
+      by (inl z) = ready z
+      by (inr ne) = waits ne
+
+  -- the row of an item that is to be settled, by the rows as they are now
+  abbrev pub remarked : Items → ℕ → Row → Row
+  remarked old m r = record { job = r.job; mark = mark_after number old.newly.items m r.mark }
+
+  pub row_now : (done : List ℕ) (left : ℕ) (old : Items) (m : ℕ) (r : Row) → Far done left old → row_of rows m ≡ Some r → row_of (rows_view old.rows.items) m ≡ Some (remarked old m r)
+  row_now done left old zero r far h = no_row rows r h
+  row_now done left old (suc j) r far h = ap (λ (l : List Row). row_of l (suc j)) far.settled.rows_are ∙ row_to (mark_after number old.newly.items) 1 rows j (suc j) r h (omega arith)
+
+  missed_old : (m : ℕ) (r : Row) → row_of rows m ≡ Some r → m ≤ first → missed_at C fs cs rows first m ≡ misses C fs cs r.job
+  missed_old m r h l =
+      ap (row_misses C fs cs rows first m) h
+      ∙ ap (λ (b : Bool). if b then misses_first C fs cs r.job else misses C fs cs r.job) (not_below first m l)
+
+  missed_new : (m : ℕ) (r : Row) → row_of rows m ≡ Some r → first < m → missed_at C fs cs rows first m ≡ misses_first C fs cs r.job
+  missed_new m r h l =
+      ap (row_misses C fs cs rows first m) h
+      ∙ ap (λ (b : Bool). if b then misses_first C fs cs r.job else misses C fs cs r.job) (below first m l)
+
+  -- the next one that was woken
+  module _ (few : FewSlots fs) (woken : List ℕ) (can : AreToSettle C fs cs rows first number woken) (aged : AreOld first woken) (left i : ℕ) (old : Items) (m : ℕ) (within : i < length woken) (is : m ≡ get_or woken i m) (far : Far (take i woken) ((length woken - i) + left) old) where
+    there : In m woken
+    there = subst (λ (k : ℕ). In k woken) (sym is) (get_in woken i m within)
+
+    w : (r : Row) × (row_of rows m ≡ Some r) × (r.mark ≡ Waiting)
+    w = can.waits m there
+
+    fresh : In m (take i woken) → ⊥
+    fresh h = not_before woken i m within can.once (subst (λ (k : ℕ). In k (take i woken)) is h)
+
+    pub woken_ok : (B : Type 0) → AreShort C fs cs rows first woken → ((r : Row) → row_of (rows_view old.rows.items) m ≡ Some r → FewSlots fs → IsSeen C fs r.job → (needs_of C r.job ≤ 2) ⊎ (misses C fs cs r.job ≡ []) → 0 < old.rules.room → B) → B
+    woken_ok B short f =
+        let g = far.room.rules_fit in
+        f (remarked old m w.0) (row_now (take i woken) ((length woken - i) + left) old m w.0 far w.1) few (can.seen_job m w.0 there w.1) (short m w.0 there w.1) (omega arith)
+
+    pub woken_step : (new : Items) → ((r : Row) → row_of (rows_view old.rows.items) m ≡ Some r → FewSlots fs → IsSeen C fs r.job → Settles m (misses C fs cs r.job) (queue_kind (job_kind C r.job)) (job_priority C r.job) old new) → Far (take (i + 1) woken) ((length woken - (i + 1)) + left) new
+    woken_step new s =
+        let e : (length woken - i) + left ≡ suc ((length woken - (i + 1)) + left) = omega arith in
+        subst (λ (l : List ℕ). Far l ((length woken - (i + 1)) + left) new) (sym (take_more woken i m within ∙ ap (λ (k : ℕ). take i woken ++ k ∷ []) (sym is)))
+        (progress_more (take i woken) ((length woken - (i + 1)) + left) old new m w.0 (subst (λ (n : ℕ). Far (take i woken) n old) e far) w.1 w.2 (can.others m there) fresh
+        (subst (λ (us : List (Want ℕ)). Settles m us (queue_kind (job_kind C w.0.job)) (job_priority C w.0.job) old new) (sym (missed_old m w.0 w.1 (aged m there)))
+        (s (remarked old m w.0) (row_now (take i woken) ((length woken - i) + left) old m w.0 far w.1) few (can.seen_job m w.0 there w.1))))
+
+  -- the next one that is new
+  module _ (few : FewSlots fs) (start : List ℕ) (count : ℕ) (can : AreToSettle C fs cs rows first number (numbers_behind first count)) (early : AreOld first start) (left k : ℕ) (old : Items) (m : ℕ) (within : k < count) (is : m ≡ first + suc k) (far : Far (start ++ numbers_behind first k) ((count - k) + left) old) where
+    new_in : In m (numbers_behind first count)
+    new_in = first_behind first count m (omega arith) (omega arith)
+
+    v : (r : Row) × (row_of rows m ≡ Some r) × (r.mark ≡ Waiting)
+    v = can.waits m new_in
+
+    new_fresh : In m (start ++ numbers_behind first k) → ⊥
+    new_fresh h =
+        elim (in_split m start (numbers_behind first k) h) [
+          | inl g ↦ (let l = early m g in absurd (omega arith))
+          | inr g ↦ (let l = (behind_first first k m g).1 in absurd (omega arith))
+        ]
+
+    row_there : row_of (rows_view old.rows.items) m ≡ Some (remarked old m v.0)
+    row_there = row_now (start ++ numbers_behind first k) ((count - k) + left) old m v.0 far v.1
+
+    jobs_are : (at : ℕ) → m ≡ at + 1 → jobs_behind at rows ≡ v.0.job ∷ jobs_behind (at + 1) rows
+    jobs_are at e =
+        let f : m ≡ suc at = omega arith in
+        let g : suc at ≡ at + 1 = omega arith in
+        jobs_cut rows at v.0 (ap (row_of rows) (sym f) ∙ v.1) ∙ ap (λ (n : ℕ). v.0.job ∷ jobs_behind n rows) g
+
+    pub new_ok : (B : Type 0) (at : ℕ) (ls : List (SmallVec Input)) → m ≡ at + 1 → AreSpare C (jobs_behind at rows) ls → ((r : Row) (jobs : List Job) → row_of (rows_view old.rows.items) m ≡ Some r → AreSpare C (r.job ∷ jobs) ls → 0 < old.rules.room → B) → B
+    new_ok B at ls e s f =
+        let g = far.room.rules_fit in
+        f (remarked old m v.0) (jobs_behind (at + 1) rows) row_there (subst (λ (js : List Job). AreSpare C js ls) (jobs_are at e) s) (omega arith)
+
+    pub new_spare : (at : ℕ) (ls ls' : List (SmallVec Input)) → m ≡ at + 1 → AreSpare C (jobs_behind at rows) ls → ((r : Row) (jobs : List Job) → row_of (rows_view old.rows.items) m ≡ Some r → AreSpare C (r.job ∷ jobs) ls → AreSpare C jobs ls') → AreSpare C (jobs_behind (at + 1) rows) ls'
+    new_spare at ls ls' e s f = f (remarked old m v.0) (jobs_behind (at + 1) rows) row_there (subst (λ (js : List Job). AreSpare C js ls) (jobs_are at e) s)
+
+    pub new_step : (new : Items) → ((r : Row) → row_of (rows_view old.rows.items) m ≡ Some r → FewSlots fs → IsSeen C fs r.job → Settles m (misses_first C fs cs r.job) (queue_kind (job_kind C r.job)) (job_priority C r.job) old new) → Far (start ++ numbers_behind first (suc k)) ((count - suc k) + left) new
+    new_step new s =
+        let e : (count - k) + left ≡ suc ((count - suc k) + left) = omega arith in
+        subst (λ (l : List ℕ). Far l ((count - suc k) + left) new) (append_assoc start (numbers_behind first k) (m ∷ []) ∙ ap (λ (n : ℕ). start ++ (numbers_behind first k ++ n ∷ [])) is)
+        (progress_more (start ++ numbers_behind first k) ((count - suc k) + left) old new m v.0 (subst (λ (n : ℕ). Far (start ++ numbers_behind first k) n old) e far) v.1 v.2 (can.others m new_in) new_fresh
+        (subst (λ (us : List (Want ℕ)). Settles m us (queue_kind (job_kind C v.0.job)) (job_priority C v.0.job) old new) (sym (missed_new m v.0 v.1 (omega arith)))
+        (s (remarked old m v.0) row_there few (can.seen_job m v.0 new_in v.1))))
+
+  -- what else there is does not matter
+  pub progress_same : (done : List ℕ) (left : ℕ) (old new : Items) → new.rows ≡ old.rows → new.rules ≡ old.rules → new.queue ≡ old.queue → new.newly ≡ old.newly → new.apart ≡ old.apart → Far done left old → Far done left new
+  progress_same done left old new er eu eq en ea far =
+      record {
+        settled =
+            subst (λ rs. AreSettled C fs cs rows first number before queued done (rows_view rs) (waiters_view new.rules.waiting) (queue_view new.queue) new.newly.items) (sym (ap (λ v. v.items) er))
+            (subst (λ ru. AreSettled C fs cs rows first number before queued done (rows_view old.rows.items) (waiters_view ru) (queue_view new.queue) new.newly.items) (sym (ap (λ l. l.waiting) eu))
+            (subst (λ (q : Both). AreSettled C fs cs rows first number before queued done (rows_view old.rows.items) (waiters_view old.rules.waiting) (queue_view q) new.newly.items) (sym eq)
+            (subst (λ ns. AreSettled C fs cs rows first number before queued done (rows_view old.rows.items) (waiters_view old.rules.waiting) (queue_view old.queue) ns) (sym (ap (λ v. v.items) en)) far.settled)));
+        room = record { roomy = roomy; rules_fit = (let a = far.room.rules_fit in let b = ap (λ l. l.room) eu in omega arith); newly_fit = (let a = far.room.newly_fit in let b = ap (λ v. vec_len v) en in let c = ap (λ v. vec_capacity v) en in omega arith) };
+      }
+    where
+      roomy : IsRoomy C new
+      roomy =
+          let y = far.room.roomy in
+          let q1 = ap (λ (q : Both). q.control.room) eq in
+          let q2 = ap (λ (q : Both). q.leaf.room) eq in
+          let a1 = ap (λ (q : Counts). q.controls) ea in
+          let a2 = ap (λ (q : Counts). q.leaves) ea in
+          let r1 = ap (λ v. apart_in C Control (rows_view v.items)) er in
+          let r2 = ap (λ v. apart_in C Leaf (rows_view v.items)) er in
+          let o1 = y.controls_counted in
+          let o2 = y.leaves_counted in
+          let o3 = y.controls_fit in
+          let o4 = y.leaves_fit in
+          let o5 = y.noted in
+          let c = ap (λ v. vec_capacity v) en in
+          record { controls_counted = omega arith; leaves_counted = omega arith; controls_fit = omega arith; leaves_fit = omega arith; noted = omega arith }
+
+-- the item that ran is over
+module _ (C : Code) (old new : Items) (n : ℕ) (r : Row) (there : row_of (rows_view old.rows.items) n ≡ Some r) (apart : is_apart r.mark ≡ true) (rows_are : rows_view new.rows.items ≡ mark_at (rows_view old.rows.items) n Over) (room : IsRoomy C old) where
+  fewer : (k : Kind) → (b : Bool) → kind_eq k (job_kind C r.job) ≡ b → apart_in C k (rows_view new.rows.items) + (if b then 1 else 0) ≡ apart_in C k (rows_view old.rows.items)
+  fewer k true e =
+      let a = marked_at C k (rows_view old.rows.items) n r Over there in
+      let b = counts_apart C k r.mark r apart e in
+      let c = counts_not C k Over r refl in
+      let d = ap (apart_in C k) rows_are in
+      omega arith
+  fewer k false e =
+      let a = marked_at C k (rows_view old.rows.items) n r Over there in
+      let b = counts_other C k r.mark r e in
+      let c = counts_not C k Over r refl in
+      let d = ap (apart_in C k) rows_are in
+      omega arith
+
+  pub closed_roomy : new.queue ≡ old.queue → new.apart ≡ one_less (queue_kind (job_kind C r.job)) old.apart → vec_capacity new.newly ≡ vec_capacity old.newly → IsRoomy C new
+  closed_roomy q z grows = by (job_kind C r.job) refl z
+    where
+      by : (k : Kind) → job_kind C r.job ≡ k → new.apart ≡ one_less (queue_kind (job_kind C r.job)) old.apart → IsRoomy C new
+      by Control e z =
+          let a = fewer Control true (ap (kind_eq Control) e) in
+          let b = fewer Leaf false (ap (kind_eq Leaf) e) in
+          let z1 = z ∙ ap (λ (k : Kind). one_less (queue_kind k) old.apart) e in
+          let qc = ap (λ (x : Both). x.control.room) q in
+          let ql = ap (λ (x : Both). x.leaf.room) q in
+          let zc = ap (λ (x : Counts). x.controls) z1 in
+          let zl = ap (λ (x : Counts). x.leaves) z1 in
+          let o1 = room.controls_counted in
+          let o2 = room.leaves_counted in
+          let o3 = room.controls_fit in
+          let o4 = room.leaves_fit in
+          let o5 = room.noted in
+          record { controls_counted = omega arith; leaves_counted = omega arith; controls_fit = omega arith; leaves_fit = omega arith; noted = omega arith }
+      by Leaf e z =
+          let a = fewer Control false (ap (kind_eq Control) e) in
+          let b = fewer Leaf true (ap (kind_eq Leaf) e) in
+          let z1 = z ∙ ap (λ (k : Kind). one_less (queue_kind k) old.apart) e in
+          let qc = ap (λ (x : Both). x.control.room) q in
+          let ql = ap (λ (x : Both). x.leaf.room) q in
+          let zc = ap (λ (x : Counts). x.controls) z1 in
+          let zl = ap (λ (x : Counts). x.leaves) z1 in
+          let o1 = room.controls_counted in
+          let o2 = room.leaves_counted in
+          let o3 = room.controls_fit in
+          let o4 = room.leaves_fit in
+          let o5 = room.noted in
+          record { controls_counted = omega arith; leaves_counted = omega arith; controls_fit = omega arith; leaves_fit = omega arith; noted = omega arith }
+
+-- an item that ran has ended, and the others are to be settled
+module _ (C : Code) (fs : List (Option Frame)) (cs : List (Option Counted)) (number : ℕ) (job : Job) (first : ℕ) (old : Items) (can : CanFinish C fs cs number job first old) where
+  abbrev pub was : List Row
+  was = rows_view old.rows.items
+
+  abbrev pub count : ℕ
+  count = length old.rows.items - first
+
+  pub closed : (new : Items) → rows_view new.rows.items ≡ mark_at was number Over → new.rules ≡ old.rules → new.queue ≡ old.queue → new.newly.items ≡ [] → vec_capacity new.newly ≡ vec_capacity old.newly → new.apart ≡ one_less (queue_kind (job_kind C job)) old.apart → Progress C fs cs was first number (waiters_view old.rules.waiting) (queue_view old.queue) [] (length old.woken.items + (count + 0)) new
+  closed new er eu eq en ec ea =
+      let f = can.rules_fit in
+      let g = can.newly_fit in
+      let u = ap (λ l. l.room) eu in
+      let l0 = new.newly.ok.0 in
+      let l1 = ap length en in
+      record {
+        settled =
+            subst (λ ns. AreSettled C fs cs was first number (waiters_view old.rules.waiting) (queue_view old.queue) [] (rows_view new.rows.items) (waiters_view new.rules.waiting) (queue_view new.queue) ns) (sym en)
+            (subst (λ ru. AreSettled C fs cs was first number (waiters_view old.rules.waiting) (queue_view old.queue) [] (rows_view new.rows.items) (waiters_view ru) (queue_view new.queue) []) (sym (ap (λ l. l.waiting) eu))
+            (subst (λ (q : Both). AreSettled C fs cs was first number (waiters_view old.rules.waiting) (queue_view old.queue) [] (rows_view new.rows.items) (waiters_view old.rules.waiting) (queue_view q) []) (sym eq)
+            (settled_none C fs cs was first number (waiters_view old.rules.waiting) (queue_view old.queue) (rows_view new.rows.items) can.row can.there er)));
+        room = record { roomy = closed_roomy C old new number can.row can.there can.runs er can.roomy eq (ea ∙ ap (λ (j : Job). one_less (queue_kind (job_kind C j)) old.apart) (sym can.job_is)) ec; rules_fit = omega arith; newly_fit = omega arith };
+      }
+
+  -- those that were woken, and the new ones
+  pub woken_can : AreToSettle C fs cs was first number old.woken.items
+  woken_can = record {
+    waits = λ m h. can.to_settle.waits m (in_left m old.woken.items (numbers_behind first count) h);
+    seen_job = λ m r h. can.to_settle.seen_job m r (in_left m old.woken.items (numbers_behind first count) h);
+    others = λ m h. can.to_settle.others m (in_left m old.woken.items (numbers_behind first count) h);
+    once = first_once old.woken.items (numbers_behind first count) can.to_settle.once;
+  }
+
+  pub new_can : AreToSettle C fs cs was first number (numbers_behind first count)
+  new_can = record {
+    waits = λ m h. can.to_settle.waits m (in_right m old.woken.items (numbers_behind first count) h);
+    seen_job = λ m r h. can.to_settle.seen_job m r (in_right m old.woken.items (numbers_behind first count) h);
+    others = λ m h. can.to_settle.others m (in_right m old.woken.items (numbers_behind first count) h);
+    once = behind_once first count;
+  }

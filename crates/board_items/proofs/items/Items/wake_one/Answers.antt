@@ -1,0 +1,13 @@
+use Rattle.std.proofs.Common.{refl, map}
+use Rattle.std.proofs.lemmas.Result.{on_ok_weaker}
+use Rattle.board_data.specs.View.{cells_view, want_view}
+use Rattle.board_frames.specs.View.{frames_view, job_view}
+use Rattle.board_items.specs.Ended.{misses}
+use Rattle.board_items.proofs.Placed.{job_found, settles_by}
+use Rattle.board_items.proofs.items.Items.wake_one.Goals as goal
+
+pub returns-clause-settles : goal.returns-clause-settles
+returns-clause-settles c = on_ok_weaker c.settle_with.result
+    (λ s. λ r h few seen. settles_by c.args.outlook.program.now (frames_view c.args.outlook.instances.now.slots) (misses c.args.outlook.program.now (frames_view c.args.outlook.instances.now.slots) (cells_view c.args.outlook.store.now.cells)) c.args.number c.args.self.now c.settle_with.new.self (job_view c.in-Some.item.job) r.job _ _ (map want_view c.in_ok-inputs.inputs.items)
+    (job_found c.args.self.now.rows.items c.as_slice.result.now c.args.number c.in-Some.item r c.in-Some.ensures c.as_slice.ensures.value h) seen (λ x. c.in_ok-inputs.ensures.listed few x) c.order_of.ensures.kind c.order_of.ensures.priority s)
+    (c.settle_with.ensures.settles (map want_view c.in_ok-inputs.inputs.items) refl)

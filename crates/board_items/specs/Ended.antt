@@ -1,0 +1,110 @@
+-- What the end of an item makes of the other items.
+use Rattle.std.specs.Ordering.{int_eq}
+use Rattle.std.specs.Prelude.{◌≡◌, ◌⊎◌, ℕ, zero, suc, ℤ, ◌+◌, ◌≤◌, Bool, true, false, not, ◌&&◌, List, [], ◌∷◌, ◌++◌, map, length, filter, Option, Some, None, nat_lt, if◌then◌else◌, IsPermutation}
+use Rattle.dataflow.specs.System.{Distinct, In}
+use Rattle.replayed.specs.Ending.{job_kind, job_priority, mark_after, marked_by, missed_first}
+use Rattle.replayed.specs.Fields.{Counted, Does, Fields, Frame, Job, Ready, Row, Script, Waiter, Waiting, Want, row_of, slot_at}
+use Rattle.replayed.specs.Marking.{kind_eq}
+use Rattle.replayed.specs.Needs.{job_missed}
+use Rattle.task_code.specs.Code.{Code, Kind, entry}
+use Rattle.board_code.specs.Spots.{layout_of}
+use Rattle.board_code.specs.Tables.{body_of}
+use Rattle.board_items.specs.Learnt.{is_nil}
+
+-- fields with these instances and data, and nothing else
+abbrev pub seen : List (Option Frame) → List (Option Counted) → Fields
+seen fs cs =
+    record {
+      frames = fs;
+      rows = [];
+      cells = cs;
+      waiting = [];
+      turns = λ n. None;
+      queue = λ k z. [];
+      lines = [];
+      fault = None;
+      running = 0;
+      newly = [];
+    }
+
+-- the numbers of so many items behind the first ones
+abbrev pub numbers_behind : (first count : ℕ) → List ℕ
+numbers_behind first zero = []
+numbers_behind first (suc n) = numbers_behind first n ++ (first + suc n) ∷ []
+
+-- it goes on with a loop
+abbrev pub goes_on_with : Job → Bool
+goes_on_with Script = false
+goes_on_with (Does k e zero) = false
+goes_on_with (Does k e (suc c)) = true
+
+module _ (C : Code) where
+  -- the instance of the job's entry is there, and of the body that has the entry
+  abbrev pub IsSeen : List (Option Frame) → Job → Type 0
+  IsSeen fs Script = Unit {0}
+  IsSeen fs (Does k e c) = (f : Frame) × (slot_at fs k ≡ Some f) × (body_of C e ≡ f.body)
+
+  -- how many inputs the item of a job may wait for
+  abbrev pub needs_of : Job → ℕ
+  needs_of Script = 0
+  needs_of (Does k e c) = length (entry C e).needs
+
+  -- a new one: one that goes on with a loop waits for nothing
+  abbrev pub first_needs : Job → ℕ
+  first_needs Script = 0
+  first_needs (Does k e zero) = length (entry C e).needs
+  first_needs (Does k e (suc c)) = 0
+
+  -- the job of a row is run so, and has this priority
+  abbrev pub runs_so : Kind → ℤ → Option Row → Bool
+  runs_so k z None = false
+  runs_so k z (Some r) = kind_eq (job_kind C r.job) k && int_eq (job_priority C r.job) z
+
+  module _ (fs : List (Option Frame)) (cs : List (Option Counted)) where
+    -- what the item of a job misses, and one that is new
+    abbrev pub misses : Job → List (Want ℕ)
+    misses j = job_missed C (layout_of C) (seen fs cs) j
+
+    abbrev pub misses_first : Job → List (Want ℕ)
+    misses_first j = missed_first C (layout_of C) (seen fs cs) j
+
+    module _ (rows : List Row) (first : ℕ) where
+      -- what the item of a row misses: one of the first was there before, the others are new
+      abbrev pub row_misses : ℕ → Option Row → List (Want ℕ)
+      row_misses m None = []
+      row_misses m (Some r) = if nat_lt first m then misses_first r.job else misses r.job
+
+      abbrev pub missed_at : ℕ → List (Want ℕ)
+      missed_at m = row_misses m (row_of rows m)
+
+      abbrev pub can_begin : ℕ → Bool
+      can_begin m = is_nil (missed_at m)
+
+      abbrev pub waiter_at : ℕ → Waiter
+      waiter_at m = record { item = m; missing = missed_at m }
+
+      -- the items of these numbers were settled: those that miss nothing can begin and are in the queue, the others wait; the item that ended is over
+      pub record AreSettled (number : ℕ) (before : List Waiter) (queued : Kind → ℤ → List ℕ) (done : List ℕ) (new : List Row) (waiting : List Waiter) (queue : Kind → ℤ → List ℕ) (newly : List ℕ) : Type 0 where
+        pub rows_are : new ≡ marked_by (mark_after number newly) 1 rows
+        pub newly_are : IsPermutation (filter can_begin done) newly
+        pub waits : IsPermutation (before ++ map waiter_at (filter (λ m. not (can_begin m)) done)) waiting
+        pub queue_is : (k : Kind) (z : ℤ) → IsPermutation (queued k z ++ filter (λ m. runs_so k z (row_of rows m)) (filter can_begin done)) (queue k z)
+
+      -- the items of these numbers wait, and each is settled once; none of them is the one that ended
+      pub record AreToSettle (number : ℕ) (ms : List ℕ) : Type 0 where
+        pub waits : (m : ℕ) → In m ms → (r : Row) × (row_of rows m ≡ Some r) × (r.mark ≡ Waiting)
+        pub seen_job : (m : ℕ) (r : Row) → In m ms → row_of rows m ≡ Some r → IsSeen fs r.job
+        pub others : (m : ℕ) → In m ms → m ≡ number → ⊥
+        pub once : Distinct ms
+
+      -- an item that was woken misses nothing, or waits for two inputs at most
+      abbrev pub AreShort : List ℕ → Type 0
+      AreShort ms = (m : ℕ) (r : Row) → In m ms → row_of rows m ≡ Some r → (needs_of r.job ≤ 2) ⊎ (misses r.job ≡ [])
+
+-- rows, waiters and a queue that fit: just the items wait that are marked so, once, and just those can begin that are in the queue
+pub record ItemsFit (F : Fields) : Type 0 where
+  pub waits : (m : ℕ) (r : Row) → row_of F.rows m ≡ Some r → r.mark ≡ Waiting → (w : Waiter) × In w F.waiting × (w.item ≡ m)
+  pub waiting : (w : Waiter) → In w F.waiting → (w.missing ≡ [] → ⊥) × ((r : Row) × (row_of F.rows w.item ≡ Some r) × (r.mark ≡ Waiting))
+  pub once : Distinct (map (λ (w : Waiter). w.item) F.waiting)
+  pub queued : (k : Kind) (z : ℤ) (m : ℕ) → In m (F.queue k z) → (r : Row) × (row_of F.rows m ≡ Some r) × (r.mark ≡ Ready)
+  pub queued_once : (k : Kind) (z : ℤ) → Distinct (F.queue k z)

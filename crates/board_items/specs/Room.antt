@@ -1,0 +1,43 @@
+-- Room that is kept for items that wait or run.
+use Rattle.std.specs.Prelude.{ℕ, ◌+◌, ◌<◌, ◌≤◌, Bool, true, false, ◌&&◌, List, [], ◌∷◌, filter, map, nat_lt, if◌then◌else◌, vec_capacity, vec_len}
+use Rattle.std.specs.List.{AllZip}
+use Rattle.smallvec.specs.SmallVec.{SmallVec}
+use Rattle.rules.specs.declared.input.Input.{Input}
+use Rattle.replayed.specs.Ending.{job_kind}
+use Rattle.replayed.specs.Fields.{Job, Mark, Over, Ready, Row, Running, Waiting}
+use Rattle.replayed.specs.Marking.{kind_eq}
+use Rattle.task_code.specs.Code.{Code, Control, Kind, Leaf}
+use Rattle.board_frames.specs.View.{rows_view}
+use Rattle.board_items.specs.Ended.{first_needs}
+use Rattle.board_items.specs.declared.items.Items.{Items}
+
+-- it waits or runs
+abbrev pub is_apart : Mark → Bool
+is_apart Waiting = true
+is_apart (Running w) = true
+is_apart Ready = false
+is_apart Over = false
+
+module _ (C : Code) where
+  -- how many items of a kind wait or run
+  abbrev pub apart_in : Kind → List Row → ℕ
+  apart_in k [] = 0
+  apart_in k (r ∷ rs) = (if is_apart r.mark && kind_eq k (job_kind C r.job) then 1 else 0) + apart_in k rs
+
+  -- lists with room for what new items may wait for: one for each that may wait for more than two inputs, in order
+  abbrev pub AreSpare : List Job → List (SmallVec Input) → Type 0
+  AreSpare js ls = AllZip (λ n (l : SmallVec Input). n ≤ l.capacity) (filter (nat_lt 2) (map (first_needs C) js)) ls
+
+  -- the queue has room for all items that wait or run, and they are counted; one number can be noted
+  pub record IsRoomy (items : Items) : Type 0 where
+    pub controls_counted : apart_in Control (rows_view items.rows.items) ≤ items.apart.controls
+    pub leaves_counted : apart_in Leaf (rows_view items.rows.items) ≤ items.apart.leaves
+    pub controls_fit : apart_in Control (rows_view items.rows.items) ≤ items.queue.control.room
+    pub leaves_fit : apart_in Leaf (rows_view items.rows.items) ≤ items.queue.leaf.room
+    pub noted : 0 < vec_capacity items.newly
+
+  -- so many more items can wait, and can be noted as newly enabled
+  pub record HasRoom (left : ℕ) (items : Items) : Type 0 where
+    pub roomy : IsRoomy items
+    pub rules_fit : left ≤ items.rules.room
+    pub newly_fit : vec_len items.newly + left ≤ vec_capacity items.newly

@@ -1,0 +1,70 @@
+-- What it leaves that an item waits, or can begin.
+use Rattle.std.specs.Prelude.{◌≡◌, ◌+◌, ◌^◌, min, ◌-◌, ◌<◌, ◌≤◌, ◌++◌, ◌∷◌, [], ℕ, ℤ, List, map, vec_capacity, vec_len}
+use Rattle.replayed.specs.Fields as Pure
+use Rattle.replayed.specs.Marking.{mark_at}
+use Rattle.rules.specs.Waiting.{GivesRoomBack, IsAdded, IsListed, still_waiting, woken}
+use Rattle.rules.specs.declared.input.Input.{Input}
+use Rattle.replayed.specs.Fields.{Want, row_of}
+use Rattle.board_data.specs.View.{want_view}
+use Rattle.board_frames.specs.View.{rows_view}
+use Rattle.work_queue.specs.Both.{of, with_changed}
+use Rattle.work_queue.specs.Waiting.{with_put}
+use Rattle.work_queue.specs.declared.entry.Kind.{Kind}
+use Rattle.work_queue.specs.declared.entry.Kind.TheVariants.{Control, Leaf}
+use Rattle.board_items.specs.declared.items.Counts.{Counts}
+use Rattle.board_items.specs.declared.items.Items.{Items}
+
+-- nothing has changed but how far items are, and in what order they come
+pub record StaysButOrder (old new : Items) : Type 0 where
+  pub rules : new.rules ≡ old.rules
+  pub woken : new.woken ≡ old.woken
+
+-- nothing has changed but what items wait for, and which of them have learnt of their last input
+pub record StaysButWaits (old new : Items) : Type 0 where
+  pub rows : new.rows ≡ old.rows
+  pub queue : new.queue ≡ old.queue
+  pub newly : new.newly ≡ old.newly
+  pub apart : new.apart ≡ old.apart
+  pub running : new.running ≡ old.running
+
+-- the input is known now: who waits waits for it no more, and those whose last it was are noted
+pub record IsTold (i : Input) (old new : Items) : Type 0 where
+  pub waiting : new.rules.waiting ≡ still_waiting i old.rules.waiting
+  pub noted : IsListed (woken i old.rules.waiting) old.woken.items new.woken.items
+  pub room : GivesRoomBack old.rules new.rules
+
+-- one less of the kind
+abbrev pub one_less : Kind → Counts → Counts
+one_less Control a = record a { controls = a.controls - 1 }
+one_less Leaf a = record a { leaves = a.leaves - 1 }
+
+-- one more of the kind, as far as 64 bits count
+abbrev pub HasOneMore : Kind → Counts → Counts → Type 0
+HasOneMore Control a b = (b.leaves ≡ a.leaves) × (b.controls ≡ min (a.controls + 1) (2 ^ 64 - 1))
+HasOneMore Leaf a b = (b.controls ≡ a.controls) × (b.leaves ≡ min (a.leaves + 1) (2 ^ 64 - 1))
+
+-- the item waits for these inputs from now on, and nothing can begin that could not
+pub record IsWaiting (number : ℕ) (missing : List (Want ℕ)) (old new : Items) : Type 0 where
+  pub inputs : List Input
+  pub inputs_are : map want_view inputs ≡ missing
+  pub rules : IsAdded old.rules new.rules (record { item = number; missing = inputs })
+  pub rows : new.rows ≡ old.rows
+  pub queue : new.queue ≡ old.queue
+  pub newly : new.newly ≡ old.newly
+  pub apart : new.apart ≡ old.apart
+
+-- the item can begin from now on, and waits for nothing
+pub record IsReady (number : ℕ) (kind : Kind) (priority : ℤ) (old new : Items) : Type 0 where
+  pub rules : new.rules ≡ old.rules
+  pub rows : rows_view new.rows.items ≡ mark_at (rows_view old.rows.items) number Pure.Ready
+  pub queue : 0 < (of kind old.queue).room → new.queue ≡ with_changed kind (with_put (record { priority = priority; no = number })) old.queue
+  pub newly : vec_len old.newly < vec_capacity old.newly → new.newly.items ≡ old.newly.items ++ number ∷ []
+  pub apart : new.apart ≡ one_less kind old.apart
+
+-- the item waits for what it misses, or can begin where it misses nothing
+pub record Settles (number : ℕ) (missing : List (Want ℕ)) (kind : Kind) (priority : ℤ) (old new : Items) : Type 0 where
+  pub waits : (missing ≡ [] → ⊥) → IsWaiting number missing old new
+  pub ready : missing ≡ [] → IsReady number kind priority old new
+  pub woken : new.woken ≡ old.woken
+  pub running : new.running ≡ old.running
+  pub capacity : vec_capacity old.newly ≤ vec_capacity new.newly

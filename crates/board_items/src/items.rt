@@ -1,0 +1,148 @@
+//! Items that wait, can begin, or run.
+ghost use Rattle.std.specs.Prelude.{◌≡◌, ◌<◌, ◌≤◌, ◌+◌, ◌-◌, ◌++◌, ◌∷◌, ◌^◌, [], ℕ, List, Contains, IsOk, IfOk, OnOk, length, vec_len, vec_capacity};
+ghost use Rattle.replayed.specs.Ending.{job_kind, job_priority};
+ghost use Rattle.replayed.specs.Fields.{Ready as ready_mark, Running as running_mark};
+ghost use Rattle.replayed.specs.Fields.{Waiter, Want};
+ghost use Rattle.replayed.specs.Marking.{mark_at};
+ghost use Rattle.rules.specs.Waiting.{GivesRoomBack};
+ghost use Rattle.work_queue.specs.Both.{of, with_changed};
+ghost use Rattle.work_queue.specs.Waiting.{with_put, without};
+ghost use Rattle.board_code.specs.Tables.{queue_kind};
+ghost use Rattle.board_data.specs.View.{want_view};
+ghost use Rattle.board_frames.specs.View.{job_view, rows_view};
+ghost use Rattle.board_items.specs.Learnt.{HaveLearnt};
+ghost use Rattle.board_items.specs.Settled.{HasOneMore, IsTold, one_less, StaysButOrder, StaysButWaits};
+
+use board_code::program::Program;
+use board_frames::item::{Item, Job, Mark, mark_item};
+use rules::input::Input;
+use rules::listing::Rules;
+use std::alloc::{AllocError, Global};
+use work_queue::entry::Kind;
+use work_queue::queue::Queue;
+
+/// A number of items of each kind.
+#[derive(Clone, Copy, PartialEq, Eq, Debug, Drop)]
+pub struct Counts {
+    pub controls: usize,
+    pub leaves: usize,
+}
+
+/// The items of a board, so kept that no call looks at all of them.
+#[derive(Drop)]
+pub struct Items {
+    pub rows: Vec<Item>,
+    pub rules: Rules,
+    pub queue: Queue,
+    /// The items that can begin, and could not before the last event, by rising number.
+    pub newly: Vec<u64>,
+    /// The items that have just learnt of their last input.
+    pub woken: Vec<u64>,
+    /// The items that wait or run: so much room the queue has.
+    pub apart: Counts,
+    pub running: usize,
+}
+
+impl Counts {
+    /// One more of the kind.
+    pub fn add(&mut self, kind: Kind)
+        ensures { HasOneMore kind self.old self.new }
+    {
+        match kind {
+            Kind::Control => self.controls = self.controls.saturating_add(1),
+            Kind::Leaf => self.leaves = self.leaves.saturating_add(1),
+        }
+    }
+
+    /// One less of the kind.
+    pub fn take(&mut self, kind: Kind)
+        ensures { self.new ≡ one_less kind self.old }
+    {
+        match kind {
+            Kind::Control => self.controls = self.controls.saturating_sub(1),
+            Kind::Leaf => self.leaves = self.leaves.saturating_sub(1),
+        }
+    }
+}
+
+/// Who runs a job, and its priority.
+pub fn order_of(program: &Program, job: Job) -> (Kind, i32)
+    ensures kind { result.0 ≡ queue_kind (job_kind program.now (job_view job)) }
+    ensures priority { result.1 ≡ job_priority program.now (job_view job) }
+{
+    match job {
+        Job::Script => (Kind::Control, 0),
+        Job::Does {
+            instance: _,
+            entry,
+            chunk: _,
+        } => match program.entry(entry) {
+            Some(table) => (table.kind, table.priority),
+            None => (Kind::Leaf, 0),
+        },
+    }
+}
+
+impl Items {
+    /// The item, which can begin, runs on the worker. Takes no memory.
+    pub fn begin(&mut self, worker: u8, number: u64, order: (Kind, i32))
+        ensures stays { StaysButOrder self.old self.new }
+        ensures rows { rows_view self.new.rows.items ≡ mark_at (rows_view self.old.rows.items) number (running_mark worker) }
+        ensures queue { Contains (of order.0 self.old.queue).entries (record { priority = order.1; no = number }) → self.new.queue ≡ with_changed order.0 (without (record { priority = order.1; no = number })) self.old.queue }
+        ensures running { self.old.running + 1 < 2 ^ 64 → self.new.running ≡ self.old.running + 1 }
+        ensures newly { self.new.newly.items ≡ [] }
+        ensures capacity { vec_capacity self.new.newly ≡ vec_capacity self.old.newly }
+    {
+        let (kind, priority) = order;
+        self.newly.clear();
+        let _there = self.queue.remove(kind, priority, number);
+        self.apart.add(kind);
+        mark_item(self.rows.as_mut_slice(), number, Mark::Running(worker));
+        self.running = self.running.saturating_add(1);
+    }
+
+    /// The item, which runs, runs no more. Takes no memory.
+    pub fn back(&mut self, number: u64, order: (Kind, i32))
+        ensures stays { StaysButOrder self.old self.new }
+        ensures rows { rows_view self.new.rows.items ≡ mark_at (rows_view self.old.rows.items) number ready_mark }
+        ensures queue { 0 < (of order.0 self.old.queue).room → self.new.queue ≡ with_changed order.0 (with_put (record { priority = order.1; no = number })) self.old.queue }
+        ensures running { self.new.running ≡ self.old.running - 1 }
+        ensures newly { 0 < vec_capacity self.old.newly → self.new.newly.items ≡ number ∷ [] }
+        ensures capacity { vec_capacity self.old.newly ≤ vec_capacity self.new.newly }
+    {
+        self.newly.clear();
+        self.running = self.running.saturating_sub(1);
+        self.make_ready(number, order);
+    }
+
+    /// The item can begin from now on. There is room for it.
+    pub(crate) fn make_ready(&mut self, number: u64, order: (Kind, i32))
+        ensures apart { self.new.apart ≡ one_less order.0 self.old.apart }
+        ensures len { vec_len self.new.rows ≡ vec_len self.old.rows }
+        ensures stays { StaysButOrder self.old self.new }
+        ensures rows { rows_view self.new.rows.items ≡ mark_at (rows_view self.old.rows.items) number ready_mark }
+        ensures queue { 0 < (of order.0 self.old.queue).room → self.new.queue ≡ with_changed order.0 (with_put (record { priority = order.1; no = number })) self.old.queue }
+        ensures running { self.new.running ≡ self.old.running }
+        ensures newly { vec_len self.old.newly < vec_capacity self.old.newly → self.new.newly.items ≡ self.old.newly.items ++ number ∷ [] }
+        ensures capacity { vec_capacity self.old.newly ≤ vec_capacity self.new.newly }
+    {
+        let (kind, priority) = order;
+        self.apart.take(kind);
+        mark_item(self.rows.as_mut_slice(), number, Mark::Ready);
+        let _put = self.queue.put(kind, priority, number);
+        let _noted = self.newly.push(number);
+    }
+
+    /// An input is known from now on. There is room for all that wait.
+    pub fn tell(&mut self, input: &Input)
+        ensures stays { StaysButWaits self.old self.new }
+        ensures told { length self.old.rules.waiting + vec_len self.old.woken ≤ vec_capacity self.old.woken → IsTold input.now self.old self.new }
+        ensures learnt { length self.old.rules.waiting + vec_len self.old.woken ≤ vec_capacity self.old.woken → (known : List (Want ℕ)) (start : List Waiter) → HaveLearnt known start self.old.rules.waiting self.old.woken.items → HaveLearnt (known ++ want_view input.now ∷ []) start self.new.rules.waiting self.new.woken.items }
+        ensures count { length self.new.rules.waiting + vec_len self.new.woken ≡ length self.old.rules.waiting + vec_len self.old.woken }
+    {
+        let all = self.rules.waiting().saturating_add(self.woken.len());
+        if all <= self.woken.capacity() {
+            self.rules.known(input, &mut self.woken);
+        }
+    }
+}
