@@ -6,4 +6,5 @@ pub mod Found
 pub mod Loops
 pub mod Spares
 pub mod Stores
+pub mod Tells
 pub mod Values

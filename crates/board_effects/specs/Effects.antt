@@ -48,6 +48,11 @@ abbrev pub lines_in : Effect → List Scalar
 lines_in (Prints v) = v ∷ []
 lines_in _ = []
 
+-- the fault that it leaves, with the task that met it
+abbrev pub fault_of : Task → Effect → Option (Task × Fault EntryFault)
+fault_of t (Fails f) = Some (t, kind_view f.kind)
+fault_of t _ = None
+
 -- there is an effect, and no fault in place of it
 abbrev pub IsGood : Outcome Task Place Key Scalar EntryFault → Type 0
 IsGood o = (e : PureEffect Task Place Key Scalar) × (o ≡ Good e)

@@ -2,6 +2,7 @@
 #![tactic(auto)]
 
 pub mod effect;
+pub mod laws;
 mod opens;
 mod present;
 mod spare;

@@ -1,0 +1,27 @@
+//! What the effect of an item tells of the state of a history.
+ghost use Rattle.std.specs.Prelude.{◌≡◌, ◌++◌, ◌∷◌, [], ℕ, List, Some};
+ghost use Rattle.dataflow.specs.Machine.{End, Event, SeesAll};
+ghost use Rattle.dataflow.specs.System.{Answer};
+ghost use Rattle.replayed.specs.CodeReplay.{replayed};
+ghost use Rattle.replayed.specs.Fields.{Fields, Row, row_of, task_of};
+ghost use Rattle.replayed.specs.Stands.{Stands};
+ghost use Rattle.replayed.specs.Static.{computed_by};
+ghost use Rattle.task_code.specs.Code.{Code};
+ghost use Rattle.task_code.specs.Machine.{CodeState};
+ghost use Rattle.task_code.specs.System.{code_system, task_inputs};
+ghost use Rattle.task_code.specs.Whole.{IsCode};
+ghost use Rattle.values.specs.declared.key.Key.{Key};
+ghost use Rattle.values.specs.declared.value.Scalar.{Scalar};
+ghost use Rattle.board_code.specs.Spots.{layout_of};
+ghost use Rattle.board_effects.specs.Effects.{IsEffect, fault_of};
+ghost use Rattle.board_effects.specs.declared.effect.Effect.{Effect as AnEffect};
+
+/// Where the fields stand for the state of a history and the item of a number ends, which saw these answers: the next state has
+/// the fault of the item's effect, at its task, and none where the effect is no fault.
+pub fn effects_tell()
+    ensures { (C : Code) → IsCode C → (events : List Event) (F : Fields) (x : Stands C (layout_of C) events F) →
+        (w n : ℕ) (t : CodeState) → replayed C (events ++ End w n ∷ []) ≡ Some t → (row : Row) → row_of F.rows n ≡ Some row →
+        (answers : List (Answer Key Scalar)) → SeesAll (code_system C) x.state (task_inputs C (task_of F.frames row.job)) answers →
+        (e : AnEffect) → IsEffect C F.frames F.cells row.job (computed_by C (task_of F.frames row.job) answers) e →
+        t.fault ≡ fault_of (task_of F.frames row.job) e }
+{}
