@@ -1,0 +1,5 @@
+pub mod Behind
+pub mod Calls
+pub mod Ranges
+pub mod Steps
+pub mod Views

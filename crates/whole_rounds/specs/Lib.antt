@@ -1,0 +1,3 @@
+pub mod Viewed
+pub mod Told
+pub mod Tasks

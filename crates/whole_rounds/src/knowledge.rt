@@ -55,8 +55,8 @@ impl<'a, A: Allocator> State<'a, A> {
         for task in &self.tasks {
             if self.is_stuck(alloc, task)? {
                 stuck.push(Stuck {
-                    instance: task.instance,
-                    at: task.at,
+                    instance: task.site.instance,
+                    at: task.site.at,
                 })?;
             }
         }
@@ -67,11 +67,11 @@ impl<'a, A: Allocator> State<'a, A> {
     fn is_stuck(&self, alloc: Global, task: &Task<'a, A>) -> Result<bool, AllocError> {
         match &task.deed {
             Deed::Waits(names, _) => Ok(
-                !have_come(&self.learned, task.instance, *names)
-                    && !self.has_fault(task, task.node),
+                !have_come(&self.learned, task.site.instance, *names)
+                    && !self.has_fault(task, task.site.node),
             ),
             Deed::Does(action) => {
-                if self.has_own_fact(alloc, task, *action)? || self.has_fault(task, task.node) {
+                if self.has_own_fact(alloc, task, *action)? || self.has_fault(task, task.site.node) {
                     return Ok(false);
                 }
                 self.has_no_cell_fault(alloc, task, *action)
@@ -97,10 +97,10 @@ impl<'a, A: Allocator> State<'a, A> {
     /// Whether a fault of a statement is known at a node.
     fn has_fault(&self, task: &Task<'a, A>, node: u32) -> bool {
         let place = Place {
-            instance: task.instance,
+            instance: task.site.instance,
             node,
         };
-        self.learned.facts.has_fault(task.at, place)
+        self.learned.facts.has_fault(task.site.at, place)
     }
 
     /// Whether a statement has its own fact, or is none that can be blocked.
@@ -110,7 +110,7 @@ impl<'a, A: Allocator> State<'a, A> {
         task: &Task<'a, A>,
         action: &'a Action<A>,
     ) -> Result<bool, AllocError> {
-        let instance = task.instance;
+        let instance = task.site.instance;
         match action {
             Action::Declare(_) | Action::Call { .. } => Ok(true),
             Action::Assign { right, .. } => Ok(is_known(&self.learned, instance, right.cell.node)),
@@ -118,14 +118,14 @@ impl<'a, A: Allocator> State<'a, A> {
             Action::Insert { array, index, .. } => {
                 let writer = Place {
                     instance,
-                    node: task.node,
+                    node: task.site.node,
                 };
                 Ok(is_inserted(&self.learned, *array, index.cell.node, writer))
             }
             Action::Print { .. } => {
                 let writer = Place {
                     instance,
-                    node: task.node,
+                    node: task.site.node,
                 };
                 Ok(self.learned.facts.line(writer).is_some())
             }

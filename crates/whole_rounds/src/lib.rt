@@ -10,4 +10,7 @@ pub mod knowledge;
 mod opening;
 pub mod reading;
 pub mod rounds;
+mod site;
 mod state;
+mod telling;
+mod told;

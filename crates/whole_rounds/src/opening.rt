@@ -32,7 +32,7 @@ impl<'a, A: Allocator> State<'a, A> {
             return Ok(());
         }
         task.called = true;
-        let instance = task.instance;
+        let instance = task.site.instance;
         let Deed::Does(action) = &task.deed else {
             return Ok(());
         };
@@ -82,8 +82,8 @@ impl<'a, A: Allocator> State<'a, A> {
         if task.opened {
             return Ok(());
         }
-        let instance = task.instance;
-        let at = task.at;
+        let instance = task.site.instance;
+        let at = task.site.at;
         let opened = match &task.deed {
             Deed::Waits(names, content) => {
                 let waits = content.waits;

@@ -1,5 +1,6 @@
 //! What follows from what is known: the block instances, their live statements, and the arrays that are closed.
 
+use crate::site::Site;
 use flow::name::{Name, Owned};
 use flow::script::Flow;
 use flow::statement::{Action, Block, Header, Statement};
@@ -23,13 +24,11 @@ pub enum Deed<'a, A: Allocator> {
     Waits(&'a [Name], Content<'a, A>),
 }
 
-/// A live statement: its block instance, its offset and its node, what it does, whether its blocks are live, those of its calls
-/// and those that it opens as a header, and whether it has nothing more to tell.
+/// A live statement: where it stands, what it does, whether its blocks are live, those of its calls and those that it opens as a
+/// header, and whether it has nothing more to tell.
 #[derive(Drop)]
 pub struct Task<'a, A: Allocator> {
-    pub instance: usize,
-    pub at: usize,
-    pub node: u32,
+    pub site: Site,
     pub deed: Deed<'a, A>,
     pub called: bool,
     pub opened: bool,
@@ -75,9 +74,11 @@ impl<'a, A: Allocator> State<'a, A> {
         match waits {
             [] => self.add_statements(instance, block),
             [wait, inner @ ..] => self.add_task(
-                instance,
-                wait.at,
-                wait.node,
+                Site {
+                    instance,
+                    at: wait.at,
+                    node: wait.node,
+                },
                 Deed::Waits(
                     wait.names.as_slice(),
                     Content {
@@ -119,7 +120,12 @@ impl<'a, A: Allocator> State<'a, A> {
         if let Action::Declare(variable) = &statement.action {
             self.add_array(instance, block, variable.node)?;
         }
-        self.add_task(instance, statement.at, statement.node, deed)
+        let site = Site {
+            instance,
+            at: statement.at,
+            node: statement.node,
+        };
+        self.add_task(site, deed)
     }
 
     /// Adds a variable that a block declares, where it may come to be closed: what is assigned as a scalar never is.
@@ -138,17 +144,9 @@ impl<'a, A: Allocator> State<'a, A> {
         Ok(())
     }
 
-    fn add_task(
-        &mut self,
-        instance: usize,
-        at: usize,
-        node: u32,
-        deed: Deed<'a, A>,
-    ) -> Result<(), AllocError> {
+    fn add_task(&mut self, site: Site, deed: Deed<'a, A>) -> Result<(), AllocError> {
         self.tasks.push(Task {
-            instance,
-            at,
-            node,
+            site,
             deed,
             called: false,
             opened: false,

@@ -1,0 +1,20 @@
+use Rattle.std.proofs.Common.{◌≡◌, ◌++◌}
+use Rattle.std.proofs.lemmas.Result.{on_ok_weaker}
+use Rattle.flow.specs.View.{cell_view, parts_view}
+use Rattle.whole_rounds.specs.Viewed.{facts_view}
+use Rattle.whole_rounds.specs.Told.{sight_at, past_at, path_at, cell_news}
+use Rattle.whole_rounds.proofs.Behind.{outer_told}
+use Rattle.whole_rounds.proofs.adding.comes.Goals as goal
+
+pub returns-clause-told : goal.returns-clause-told
+returns-clause-told g c =
+    let A = g.row.A.Denot in
+    let l = c.args.learned.now in
+    let t = c.args.site in
+    let ns = c.args.learned.now.instances.all.items in
+    on_ok_weaker c.cell_comes.result
+        (λ (e : facts_view ns c.cell_comes.new.news.items ≡ facts_view ns c.add_parts.new.news.items ++ cell_news l t (cell_view {A = A} c.args.outer.now.cell)).
+            outer_told (sight_at l t) (past_at l t) (path_at l t) t.at (parts_view {A = A} c.args.outer.now.parts.items) (cell_view {A = A} c.args.outer.now.cell)
+            (facts_view ns c.args.news.now.items) (facts_view ns c.add_parts.new.news.items) (facts_view ns c.cell_comes.new.news.items)
+            c.in_ok-add_parts.ensures e)
+        c.cell_comes.ensures.told

@@ -1,0 +1,20 @@
+use Rattle.std.proofs.Common.{◌≡◌, ◌<◌, ◌++◌, length, get_or, ap, ◌∙◌, rules, arith}
+use Rattle.values.specs.declared.map.Element.{Element}
+use Rattle.flow.specs.View.{name_view}
+use Rattle.whole_rounds.specs.Viewed.{facts_view}
+use Rattle.whole_rounds.specs.Told.{element_news}
+use Rattle.whole_rounds.proofs.Steps.{elements_step}
+use Rattle.whole_rounds.proofs.telling.add_elements.Goals as goal
+
+pub loop-element-preserved : goal.loop-element-preserved
+loop-element-preserved c =
+    let l = c.args.learned.now in
+    let t = c.args.site in
+    let a = name_view c.args.array in
+    let ns = c.args.learned.now.instances.all.items in
+    let within : c.loop-element.element-index < length c.args.elements.now = grind arith in
+    let item : c.element-item.result ≡ get_or c.args.elements.now c.loop-element.element-index c.element-item.result = search rules in
+    elements_step l t a c.args.elements.now c.loop-element.element-index c.element-item.result
+        (facts_view ns c.args.news.now.items) (facts_view ns c.loop-element.news.items) (facts_view ns c.add_element.new.news.items)
+        within c.loop-element.invariant
+        (c.in_ok-add_element.ensures ∙ ap (λ (z : Element). facts_view ns c.loop-element.news.items ++ element_news l t a z.key z.value) item)

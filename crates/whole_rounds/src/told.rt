@@ -1,0 +1,89 @@
+//! What a round adds, and which statements have nothing more to tell.
+ghost use Rattle.std.specs.Prelude.{◌≡◌, ◌++◌, IfOk, OnOk};
+ghost use Rattle.whole_rounds.specs.Viewed.{facts_view};
+ghost use Rattle.whole_rounds.specs.Tasks.{task_news, tasks_news};
+
+use crate::state::{Deed, State, Task};
+use crate::telling::{add_deep_calls, add_news};
+use flow::statement::Action;
+use std::alloc::{AllocError, Allocator, Global};
+use whole_facts::facts::Fact;
+use whole_facts::finished::is_known;
+
+impl<'a, A: Allocator> State<'a, A> {
+    /// The facts that follow from what is known, without those that are known already.
+    pub fn news(&self, alloc: Global) -> Result<Vec<Fact>, AllocError>
+        ensures { IfOk result (λ news. facts_view self.now.learned.instances.all.items news.items ≡ tasks_news self.now.learned self.now.tasks.items) }
+    {
+        let mut news = Vec::new(alloc);
+        for task in &self.tasks {
+            self.add_task_news(alloc, task, &mut news)?;
+        }
+        Ok(news)
+    }
+
+    fn add_task_news(
+        &self,
+        alloc: Global,
+        task: &Task<'a, A>,
+        news: &mut Vec<Fact>,
+    ) -> Result<(), AllocError>
+        ensures { OnOk result (facts_view self.now.learned.instances.all.items news.new.items
+            ≡ facts_view self.now.learned.instances.all.items news.old.items ++ task_news self.now.learned task.now) }
+    {
+        if task.told {
+            return Ok(());
+        }
+        if let Deed::Does(action) = &task.deed {
+            add_news(&self.learned, alloc, task.site, *action, news)?;
+            add_deep_calls(&self.learned, task.site, *action, news)?;
+        }
+        Ok(())
+    }
+
+    /// Marks the statements that have nothing more to tell.
+    pub fn mark_told(&mut self) {
+        for i in 0..self.tasks.len() {
+            let is_told = match self.tasks.get(i) {
+                Some(task) => task.told || self.is_told(task),
+                None => false,
+            };
+            if let Some(task) = self.tasks.get_mut(i) {
+                task.told = is_told;
+            }
+        }
+    }
+
+    /// Whether a statement has nothing more to tell: its variable has its value, its line is there, or its assertion holds, and
+    /// with that all its cells have theirs.
+    fn is_told(&self, task: &Task<'a, A>) -> bool {
+        let site = task.site;
+        if self.learned.instances.is_deep(site.instance) {
+            return false;
+        }
+        let Deed::Does(action) = &task.deed else {
+            return true;
+        };
+        match *action {
+            Action::Declare(_) | Action::Wait { .. } | Action::Each { .. } => true,
+            Action::Assign { target, right } => {
+                let place = self.learned.instances.place(site.instance, *target);
+                is_known(&self.learned, site.instance, right.cell.node)
+                    && self.learned.facts.value(place).is_some()
+            }
+            Action::Print { .. } => self.learned.facts.line(site.own_place()).is_some(),
+            Action::Assert { check, .. } => is_known(&self.learned, site.instance, check.cell.node),
+            Action::When { condition, .. } => is_known(
+                &self.learned,
+                site.instance,
+                condition.cell.node,
+            ),
+            Action::Choose { condition, .. } => is_known(
+                &self.learned,
+                site.instance,
+                condition.cell.node,
+            ),
+            _ => false,
+        }
+    }
+}
