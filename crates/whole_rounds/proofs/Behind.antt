@@ -64,9 +64,9 @@ pub outer_told : (g : Sight) (m : Past) (path : Path) (at : ℕ) (ps : List Part
 outer_told g m path at ps c xs ys zs e f =
     told_both xs ys zs (cells_told g m path at (part_cells ps)) (cell_told g m path at c) e f
     ∙ ap (λ (z : List Fact). xs ++ z)
-        (ap (λ (z : List Fact). cells_told g m path at (part_cells ps) ++ z) (sym (append-nil (cell_told g m path at c)))
-        ∙ sym (cells_append g m path at (part_cells ps) (c ∷ []))
-        ∙ ap (λ (z : List Cell). cells_told g m path at z) (sym (parts_append ps (inner c ∷ []))))
+    (ap (λ (z : List Fact). cells_told g m path at (part_cells ps) ++ z) (sym (append-nil (cell_told g m path at c)))
+    ∙ sym (cells_append g m path at (part_cells ps) (c ∷ []))
+    ∙ ap (λ (z : List Cell). cells_told g m path at z) (sym (parts_append ps (inner c ∷ []))))
 
 -- one outermost cell and then others
 pub outers_more : (l : Learned) (t : Site) (o : Outer) (os : List Outer) → outers_news l t (o ∷ os) ≡ outers_news l t (o ∷ []) ++ outers_news l t os
@@ -80,15 +80,15 @@ pub two_told : (l : Learned) (t : Site) (o p : Outer) (ks vs xs ys zs : List Fac
     → zs ≡ vs ++ (outers_news l t (o ∷ p ∷ []) ++ ks)
 two_told l t o p ks vs xs ys zs e f h =
     told_both vs ys zs (outers_news l t (o ∷ p ∷ [])) ks
-        (told_both vs xs ys (outers_news l t (o ∷ [])) (outers_news l t (p ∷ [])) e f ∙ ap (λ (z : List Fact). vs ++ z) (sym (outers_more l t o (p ∷ [])))) h
+    (told_both vs xs ys (outers_news l t (o ∷ [])) (outers_news l t (p ∷ [])) e f ∙ ap (λ (z : List Fact). vs ++ z) (sym (outers_more l t o (p ∷ [])))) h
 
 pub three_told : (l : Learned) (t : Site) (o p q : Outer) (ks us vs xs ys zs : List Fact) → vs ≡ us ++ outers_news l t (o ∷ []) → xs ≡ vs ++ outers_news l t (p ∷ [])
     → ys ≡ xs ++ outers_news l t (q ∷ []) → zs ≡ ys ++ ks → zs ≡ us ++ (outers_news l t (o ∷ p ∷ q ∷ []) ++ ks)
 three_told l t o p q ks us vs xs ys zs d e f h =
     told_both us ys zs (outers_news l t (o ∷ p ∷ q ∷ [])) ks
-        (told_both us vs ys (outers_news l t (o ∷ [])) (outers_news l t (p ∷ q ∷ [])) d
-            (told_both vs xs ys (outers_news l t (p ∷ [])) (outers_news l t (q ∷ [])) e f ∙ ap (λ (z : List Fact). vs ++ z) (sym (outers_more l t p (q ∷ []))))
-        ∙ ap (λ (z : List Fact). us ++ z) (sym (outers_more l t o (p ∷ q ∷ [])))) h
+    (told_both us vs ys (outers_news l t (o ∷ [])) (outers_news l t (p ∷ q ∷ [])) d
+    (told_both vs xs ys (outers_news l t (p ∷ [])) (outers_news l t (q ∷ [])) e f ∙ ap (λ (z : List Fact). vs ++ z) (sym (outers_more l t p (q ∷ []))))
+    ∙ ap (λ (z : List Fact). us ++ z) (sym (outers_more l t o (p ∷ q ∷ [])))) h
 
 -- RANGES
 
@@ -133,5 +133,5 @@ pub call_told : (l : Learned) (t : Site) (a : Action) (p : ℤ) (ps : List Part)
     → ys ≡ xs ++ (cells_news l t (part_cells (parts a)) ++ own_news l t a)
 call_told l t a p ps c xs ys e f =
     f ∙ ap (λ (z : List Fact). xs ++ z)
-        (last_call l t ps c ∙ sym (append-nil (cells_news l t (part_cells (ps ++ calls c ∷ []))))
-        ∙ ap (λ (z : Action). cells_news l t (part_cells (parts z)) ++ own_news l t z) (sym e))
+    (last_call l t ps c ∙ sym (append-nil (cells_news l t (part_cells (ps ++ calls c ∷ []))))
+    ∙ ap (λ (z : Action). cells_news l t (part_cells (parts z)) ++ own_news l t z) (sym e))

@@ -1,5 +1,7 @@
 pub mod Behind
 pub mod Calls
+pub mod Meant
+pub mod Quiet
 pub mod Ranges
 pub mod Steps
 pub mod Views

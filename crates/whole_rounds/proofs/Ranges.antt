@@ -36,8 +36,8 @@ pub range_stepped : (A : Type 0) (l : Learned) (t : Site) (r : Range A) (s : Out
 range_stepped A l t r s a b d us vs xs ys zs is e f g h i j k =
     three_told l t (outer_view r.low) (outer_view r.high) (outer_view s) (range_news l t (with_value a (with_value b (with_value d (Some []))))) us vs xs ys zs h i j k
     ∙ ap (λ (z : List Fact). us ++ (outers_news l t (with_step r (Some s)) ++ z))
-        (bounds_come l t (outer_view r.low) (outer_view r.high) a b e f (with_value d (Some []))
-        ∙ ap (λ (z : Option Value). range_news l t (with_value (comes_at l t (outer_view r.low).cell) (with_value (comes_at l t (outer_view r.high).cell) (with_value z (Some []))))) g)
+    (bounds_come l t (outer_view r.low) (outer_view r.high) a b e f (with_value d (Some []))
+    ∙ ap (λ (z : Option Value). range_news l t (with_value (comes_at l t (outer_view r.low).cell) (with_value (comes_at l t (outer_view r.high).cell) (with_value z (Some []))))) g)
     ∙ ap (λ (o : Option (Outer A)). us ++ told_by l t (with_step r o)) (sym is)
 
 pub range_between : (A : Type 0) (l : Learned) (t : Site) (r : Range A) (a b : Option Value) (us vs xs ys : List Fact) → r.step ≡ None
@@ -61,4 +61,4 @@ pub range_holds : (A : Type 0) (r : Range A) (b : Bool) → b ≡ some_call (par
 range_holds A r b e =
     some_outers (outer_view r.low) (outer_view r.high ∷ option_to_list (option_map outer_view r.step))
     ∙ ap (λ (z : Bool). holds (outer_view r.low) || z)
-        (some_outers (outer_view r.high) (option_to_list (option_map outer_view r.step)) ∙ ap (λ (z : Bool). holds (outer_view r.high) || z) (sym e))
+    (some_outers (outer_view r.high) (option_to_list (option_map outer_view r.step)) ∙ ap (λ (z : Bool). holds (outer_view r.high) || z) (sym e))

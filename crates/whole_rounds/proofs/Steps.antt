@@ -23,10 +23,10 @@ parts_step {A} l t ps i d xs ys zs h e f =
     f ∙ ap (λ (z : List Fact). z ++ cells_news l t (part_cells (part_view (get_or ps i d) ∷ []))) e
     ∙ append_assoc xs (cells_news l t (part_cells (parts_view (take i ps)))) (cells_news l t (part_cells (part_view (get_or ps i d) ∷ [])))
     ∙ ap (λ (z : List Fact). xs ++ z)
-        (sym (cells_append (sight_at l t) (past_at l t) (path_at l t) t.at (part_cells (parts_view (take i ps))) (part_cells (part_view (get_or ps i d) ∷ [])))
-        ∙ ap (λ (z : List Cell). cells_news l t z)
-            (sym (parts_append (parts_view (take i ps)) (part_view (get_or ps i d) ∷ []))
-            ∙ ap part_cells (sym (map-append part_view (take i ps) (get_or ps i d ∷ [])) ∙ ap parts_view (sym (take_more ps i d h)))))
+    (sym (cells_append (sight_at l t) (past_at l t) (path_at l t) t.at (part_cells (parts_view (take i ps))) (part_cells (part_view (get_or ps i d) ∷ [])))
+    ∙ ap (λ (z : List Cell). cells_news l t z)
+    (sym (parts_append (parts_view (take i ps)) (part_view (get_or ps i d) ∷ []))
+    ∙ ap part_cells (sym (map-append part_view (take i ps) (get_or ps i d ∷ [])) ∙ ap parts_view (sym (take_more ps i d h)))))
 
 elements_append : (l : Learned) (t : Site) (a : Name) (es ds : List Element) → elements_news l t a (es ++ ds) ≡ elements_news l t a es ++ elements_news l t a ds
 elements_append l t a [] ds = refl
@@ -41,9 +41,9 @@ elements_step l t a es i d xs ys zs h e f =
     f ∙ ap (λ (z : List Fact). z ++ element_news l t a (get_or es i d).key (get_or es i d).value) e
     ∙ append_assoc xs (elements_news l t a (take i es)) (element_news l t a (get_or es i d).key (get_or es i d).value)
     ∙ ap (λ (z : List Fact). xs ++ z)
-        (ap (λ (z : List Fact). elements_news l t a (take i es) ++ z) (sym (append-nil (element_news l t a (get_or es i d).key (get_or es i d).value)))
-        ∙ sym (elements_append l t a (take i es) (get_or es i d ∷ []))
-        ∙ ap (λ (z : List Element). elements_news l t a z) (sym (take_more es i d h)))
+    (ap (λ (z : List Fact). elements_news l t a (take i es) ++ z) (sym (append-nil (element_news l t a (get_or es i d).key (get_or es i d).value)))
+    ∙ sym (elements_append l t a (take i es) (get_or es i d ∷ []))
+    ∙ ap (λ (z : List Element). elements_news l t a z) (sym (take_more es i d h)))
 
 tasks_append : {A : Type 0} (l : Learned) (ts us : List (Task A)) → tasks_news l (ts ++ us) ≡ tasks_news l ts ++ tasks_news l us
 tasks_append l [] us = refl

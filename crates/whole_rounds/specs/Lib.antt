@@ -1,3 +1,4 @@
 pub mod Viewed
 pub mod Told
+pub mod Silence
 pub mod Tasks

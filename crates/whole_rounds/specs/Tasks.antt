@@ -7,11 +7,17 @@ use Rattle.whole_rounds.specs.declared.site.Site.{Site}
 use Rattle.whole_rounds.specs.declared.state.Deed.{Deed}
 use Rattle.whole_rounds.specs.declared.state.Deed.TheVariants as Deed
 use Rattle.whole_rounds.specs.declared.state.Task.{Task}
+use Rattle.whole_rounds.specs.Silence.{has_told}
 use Rattle.whole_rounds.specs.Told.{site_news}
 
 abbrev pub deed_news : {A : Type 0} → Learned → Site → Deed A → List Fact
 deed_news l t (Deed.Does a) = site_news l t (action_view a.now)
 deed_news l t (Deed.Waits ns c) = []
+
+-- it has nothing more to tell
+abbrev pub deed_told : {A : Type 0} → Learned → Site → Deed A → Bool
+deed_told l t (Deed.Does a) = has_told l t (action_view a.now)
+deed_told l t (Deed.Waits ns c) = true
 
 -- a statement that is marked tells nothing
 abbrev pub task_by : {A : Type 0} → Learned → Site → Deed A → Bool → List Fact

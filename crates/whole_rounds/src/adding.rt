@@ -24,7 +24,7 @@ pub(crate) fn comes<A: Allocator>(
     ensures value { IfOk result (λ v. v ≡ comes_at learned.now site (outer_view outer.now).cell) }
     ensures told { OnOk result (facts_view learned.now.instances.all.items news.new.items
         ≡ facts_view learned.now.instances.all.items news.old.items
-            ++ outers_news learned.now site (outer_view outer.now ∷ [])) }
+        ++ outers_news learned.now site (outer_view outer.now ∷ [])) }
 {
     add_parts(learned, alloc, site, &outer.parts, news)?;
     cell_comes(learned, alloc, site, &outer.cell, news)

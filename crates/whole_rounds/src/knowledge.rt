@@ -71,7 +71,9 @@ impl<'a, A: Allocator> State<'a, A> {
                     && !self.has_fault(task, task.site.node),
             ),
             Deed::Does(action) => {
-                if self.has_own_fact(alloc, task, *action)? || self.has_fault(task, task.site.node) {
+                if self.has_own_fact(alloc, task, *action)?
+                    || self.has_fault(task, task.site.node)
+                {
                     return Ok(false);
                 }
                 self.has_no_cell_fault(alloc, task, *action)

@@ -7,9 +7,11 @@
 mod adding;
 mod closing;
 pub mod knowledge;
+pub mod laws;
 mod opening;
 pub mod reading;
 pub mod rounds;
+mod silence;
 mod site;
 mod state;
 mod telling;

@@ -30,7 +30,7 @@ pub(crate) fn add_news<A: Allocator>(
 ) -> Result<(), AllocError>
     ensures { OnOk result (facts_view learned.now.instances.all.items news.new.items
         ≡ facts_view learned.now.instances.all.items news.old.items
-            ++ (cells_news learned.now site (cells (core.stmt site.at site.node (action_view action.now))) ++ own_news learned.now site (action_view action.now))) }
+        ++ (cells_news learned.now site (cells (core.stmt site.at site.node (action_view action.now))) ++ own_news learned.now site (action_view action.now))) }
 {
     match action {
         Action::Declare(_) | Action::Wait { .. } => Ok(()),
@@ -66,7 +66,7 @@ fn add_assigned<A: Allocator>(
 ) -> Result<(), AllocError>
     ensures { OnOk result (facts_view learned.now.instances.all.items news.new.items
         ≡ facts_view learned.now.instances.all.items news.old.items
-            ++ (outers_news learned.now site (outer_view right.now ∷ []) ++ own_news learned.now site (core.assign (name_view target) (outer_view right.now)))) }
+        ++ (outers_news learned.now site (outer_view right.now ∷ []) ++ own_news learned.now site (core.assign (name_view target) (outer_view right.now)))) }
 {
     let Some(value) = comes(learned, alloc, site, right, news)? else {
         return Ok(());
@@ -88,7 +88,7 @@ fn add_filled<A: Allocator>(
 ) -> Result<(), AllocError>
     ensures { OnOk result (facts_view learned.now.instances.all.items news.new.items
         ≡ facts_view learned.now.instances.all.items news.old.items
-            ++ (outers_news learned.now site (outer_view right.now ∷ []) ++ own_news learned.now site (core.fill (name_view array) (outer_view right.now)))) }
+        ++ (outers_news learned.now site (outer_view right.now ∷ []) ++ own_news learned.now site (core.fill (name_view array) (outer_view right.now)))) }
 {
     match comes(learned, alloc, site, right, news)? {
         Some(Value::Many(map)) => add_elements(learned, site, array, map.elements(), news),
@@ -123,7 +123,7 @@ fn add_inserted<A: Allocator>(
 ) -> Result<(), AllocError>
     ensures { OnOk result (facts_view learned.now.instances.all.items news.new.items
         ≡ facts_view learned.now.instances.all.items news.old.items
-            ++ (outers_news learned.now site (outer_view index.now ∷ outer_view right.now ∷ []) ++ own_news learned.now site (core.insert (name_view array) (outer_view index.now) (outer_view right.now)))) }
+        ++ (outers_news learned.now site (outer_view index.now ∷ outer_view right.now ∷ []) ++ own_news learned.now site (core.insert (name_view array) (outer_view index.now) (outer_view right.now)))) }
 {
     let index = comes(learned, alloc, site, index, news)?;
     let right = comes(learned, alloc, site, right, news)?;
@@ -148,14 +148,7 @@ fn add_pair(
     let Some(Value::One(value)) = right else {
         return Ok(());
     };
-    add_element(
-        learned,
-        site,
-        array,
-        &Key::Number(number),
-        &value,
-        news,
-    )
+    add_element(learned, site, array, &Key::Number(number), &value, news)
 }
 
 /// Adds a write of a key, or where it is known and another statement has written the key, the fault.
@@ -195,7 +188,7 @@ fn add_printed<A: Allocator>(
 ) -> Result<(), AllocError>
     ensures { OnOk result (facts_view learned.now.instances.all.items news.new.items
         ≡ facts_view learned.now.instances.all.items news.old.items
-            ++ (outers_news learned.now site (outer_view line.now ∷ []) ++ own_news learned.now site (core.print (pos 0) (outer_view line.now)))) }
+        ++ (outers_news learned.now site (outer_view line.now ∷ []) ++ own_news learned.now site (core.print (pos 0) (outer_view line.now)))) }
 {
     let Some(Value::One(Scalar::Text(text))) = comes(learned, alloc, site, line, news)? else {
         return Ok(());
@@ -217,7 +210,7 @@ fn add_branch<A: Allocator>(
 ) -> Result<(), AllocError>
     ensures { OnOk result (facts_view learned.now.instances.all.items news.new.items
         ≡ facts_view learned.now.instances.all.items news.old.items
-            ++ (outers_news learned.now site (outer_view condition.now ∷ []) ++ branch_news learned.now site (comes_at learned.now site (outer_view condition.now).cell) other)) }
+        ++ (outers_news learned.now site (outer_view condition.now ∷ []) ++ branch_news learned.now site (comes_at learned.now site (outer_view condition.now).cell) other)) }
 {
     match comes(learned, alloc, site, condition, news)? {
         Some(Value::One(Scalar::Truth(truth))) if truth || other => add_deep(learned, site, news),
@@ -235,7 +228,7 @@ fn add_range<A: Allocator>(
 ) -> Result<(), AllocError>
     ensures { OnOk result (facts_view learned.now.instances.all.items news.new.items
         ≡ facts_view learned.now.instances.all.items news.old.items
-            ++ (outers_news learned.now site (range_outers range.now) ++ range_news learned.now site (comes_all (sight_at learned.now site) (map (λ o. o.cell) (range_outers range.now))))) }
+        ++ (outers_news learned.now site (range_outers range.now) ++ range_news learned.now site (comes_all (sight_at learned.now site) (map (λ o. o.cell) (range_outers range.now))))) }
 {
     let low = comes(learned, alloc, site, &range.low, news)?;
     let high = comes(learned, alloc, site, &range.high, news)?;
@@ -278,12 +271,7 @@ fn add_stepped(
         ≡ facts_view learned.now.instances.all.items news.old.items ++ range_news learned.now site (with_value low (with_value high (with_value step (Some []))))) }
 {
     match (low, high, step) {
-        (Some(low), Some(high), Some(step)) => add_bounds(
-            learned,
-            site,
-            &[low, high, step],
-            news,
-        ),
+        (Some(low), Some(high), Some(step)) => add_bounds(learned, site, &[low, high, step], news),
         _ => Ok(()),
     }
 }
@@ -332,7 +320,7 @@ fn add_deep_items(
 ) -> Result<(), AllocError>
     ensures { OnOk result (facts_view learned.now.instances.all.items news.new.items
         ≡ facts_view learned.now.instances.all.items news.old.items
-            ++ each_news learned.now site ((sight_at learned.now site).closed (name_view array)) ((sight_at learned.now site).elements (name_view array))) }
+        ++ each_news learned.now site ((sight_at learned.now site).closed (name_view array)) ((sight_at learned.now site).elements (name_view array))) }
 {
     let place = learned.instances.place(site.instance, array);
     if !learned.is_closed(place) || !learned.instances.is_deep(site.instance) {

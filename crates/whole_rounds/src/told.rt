@@ -1,14 +1,13 @@
 //! What a round adds, and which statements have nothing more to tell.
 ghost use Rattle.std.specs.Prelude.{◌≡◌, ◌++◌, IfOk, OnOk};
 ghost use Rattle.whole_rounds.specs.Viewed.{facts_view};
-ghost use Rattle.whole_rounds.specs.Tasks.{task_news, tasks_news};
+ghost use Rattle.whole_rounds.specs.Tasks.{deed_told, task_news, tasks_news};
 
+use crate::silence::has_told;
 use crate::state::{Deed, State, Task};
 use crate::telling::{add_deep_calls, add_news};
-use flow::statement::Action;
 use std::alloc::{AllocError, Allocator, Global};
 use whole_facts::facts::Fact;
-use whole_facts::finished::is_known;
 
 impl<'a, A: Allocator> State<'a, A> {
     /// The facts that follow from what is known, without those that are known already.
@@ -54,36 +53,13 @@ impl<'a, A: Allocator> State<'a, A> {
         }
     }
 
-    /// Whether a statement has nothing more to tell: its variable has its value, its line is there, or its assertion holds, and
-    /// with that all its cells have theirs.
-    fn is_told(&self, task: &Task<'a, A>) -> bool {
-        let site = task.site;
-        if self.learned.instances.is_deep(site.instance) {
-            return false;
-        }
-        let Deed::Does(action) = &task.deed else {
-            return true;
-        };
-        match *action {
-            Action::Declare(_) | Action::Wait { .. } | Action::Each { .. } => true,
-            Action::Assign { target, right } => {
-                let place = self.learned.instances.place(site.instance, *target);
-                is_known(&self.learned, site.instance, right.cell.node)
-                    && self.learned.facts.value(place).is_some()
-            }
-            Action::Print { .. } => self.learned.facts.line(site.own_place()).is_some(),
-            Action::Assert { check, .. } => is_known(&self.learned, site.instance, check.cell.node),
-            Action::When { condition, .. } => is_known(
-                &self.learned,
-                site.instance,
-                condition.cell.node,
-            ),
-            Action::Choose { condition, .. } => is_known(
-                &self.learned,
-                site.instance,
-                condition.cell.node,
-            ),
-            _ => false,
+    /// Whether a statement has nothing more to tell.
+    fn is_told(&self, task: &Task<'a, A>) -> bool
+        ensures { result ≡ deed_told self.now.learned task.now.site task.now.deed }
+    {
+        match &task.deed {
+            Deed::Does(action) => has_told(&self.learned, task.site, *action),
+            Deed::Waits(..) => true,
         }
     }
 }

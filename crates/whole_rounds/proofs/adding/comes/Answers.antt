@@ -13,8 +13,8 @@ returns-clause-told g c =
     let t = c.args.site in
     let ns = c.args.learned.now.instances.all.items in
     on_ok_weaker c.cell_comes.result
-        (λ (e : facts_view ns c.cell_comes.new.news.items ≡ facts_view ns c.add_parts.new.news.items ++ cell_news l t (cell_view {A = A} c.args.outer.now.cell)).
-            outer_told (sight_at l t) (past_at l t) (path_at l t) t.at (parts_view {A = A} c.args.outer.now.parts.items) (cell_view {A = A} c.args.outer.now.cell)
-            (facts_view ns c.args.news.now.items) (facts_view ns c.add_parts.new.news.items) (facts_view ns c.cell_comes.new.news.items)
-            c.in_ok-add_parts.ensures e)
-        c.cell_comes.ensures.told
+    (λ (e : facts_view ns c.cell_comes.new.news.items ≡ facts_view ns c.add_parts.new.news.items ++ cell_news l t (cell_view {A = A} c.args.outer.now.cell)).
+    outer_told (sight_at l t) (past_at l t) (path_at l t) t.at (parts_view {A = A} c.args.outer.now.parts.items) (cell_view {A = A} c.args.outer.now.cell)
+    (facts_view ns c.args.news.now.items) (facts_view ns c.add_parts.new.news.items) (facts_view ns c.cell_comes.new.news.items)
+    c.in_ok-add_parts.ensures e)
+    c.cell_comes.ensures.told

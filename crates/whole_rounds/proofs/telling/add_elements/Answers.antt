@@ -15,6 +15,6 @@ loop-element-preserved c =
     let within : c.loop-element.element-index < length c.args.elements.now = grind arith in
     let item : c.element-item.result ≡ get_or c.args.elements.now c.loop-element.element-index c.element-item.result = search rules in
     elements_step l t a c.args.elements.now c.loop-element.element-index c.element-item.result
-        (facts_view ns c.args.news.now.items) (facts_view ns c.loop-element.news.items) (facts_view ns c.add_element.new.news.items)
-        within c.loop-element.invariant
-        (c.in_ok-add_element.ensures ∙ ap (λ (z : Element). facts_view ns c.loop-element.news.items ++ element_news l t a z.key z.value) item)
+    (facts_view ns c.args.news.now.items) (facts_view ns c.loop-element.news.items) (facts_view ns c.add_element.new.news.items)
+    within c.loop-element.invariant
+    (c.in_ok-add_element.ensures ∙ ap (λ (z : Element). facts_view ns c.loop-element.news.items ++ element_news l t a z.key z.value) item)

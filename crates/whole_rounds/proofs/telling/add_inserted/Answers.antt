@@ -20,10 +20,10 @@ returns g c =
     let r = outer_view {A = A} c.args.right.now in
     let ns = c.args.learned.now.instances.all.items in
     on_ok_weaker c.add_pair.result
-        (λ (e : facts_view ns c.add_pair.new.news.items ≡ facts_view ns c.comes-2.new.news.items ++ inserted_news l t a (key_in c.in_ok-index.index) (one_in c.in_ok-right.right)).
-            two_told l t i r (inserted_news l t a (key_in (comes_at l t i.cell)) (one_in (comes_at l t r.cell)))
-            (facts_view ns c.args.news.now.items) (facts_view ns c.comes.new.news.items) (facts_view ns c.comes-2.new.news.items) (facts_view ns c.add_pair.new.news.items)
-            c.in_ok-index.ensures.told c.in_ok-right.ensures.told
-            (e ∙ ap (λ (z : Option Value). facts_view ns c.comes-2.new.news.items ++ inserted_news l t a (key_in z) (one_in c.in_ok-right.right)) c.in_ok-index.ensures.value
-            ∙ ap (λ (z : Option Value). facts_view ns c.comes-2.new.news.items ++ inserted_news l t a (key_in (comes_at l t i.cell)) (one_in z)) c.in_ok-right.ensures.value))
-        c.add_pair.ensures
+    (λ (e : facts_view ns c.add_pair.new.news.items ≡ facts_view ns c.comes-2.new.news.items ++ inserted_news l t a (key_in c.in_ok-index.index) (one_in c.in_ok-right.right)).
+    two_told l t i r (inserted_news l t a (key_in (comes_at l t i.cell)) (one_in (comes_at l t r.cell)))
+    (facts_view ns c.args.news.now.items) (facts_view ns c.comes.new.news.items) (facts_view ns c.comes-2.new.news.items) (facts_view ns c.add_pair.new.news.items)
+    c.in_ok-index.ensures.told c.in_ok-right.ensures.told
+    (e ∙ ap (λ (z : Option Value). facts_view ns c.comes-2.new.news.items ++ inserted_news l t a (key_in z) (one_in c.in_ok-right.right)) c.in_ok-index.ensures.value
+    ∙ ap (λ (z : Option Value). facts_view ns c.comes-2.new.news.items ++ inserted_news l t a (key_in (comes_at l t i.cell)) (one_in z)) c.in_ok-right.ensures.value))
+    c.add_pair.ensures

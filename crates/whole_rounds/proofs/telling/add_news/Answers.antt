@@ -18,7 +18,7 @@ returns-in-Call g c =
     let ns = c.args.learned.now.instances.all.items in
     let seen = ap (action_view {A = A}) c.in-Call.is ∙ view_call A c.in-Call.priority c.in-Call.parts c.in-Call.call in
     on_ok_weaker c.add_parts.result
-        (λ (e : facts_view ns c.add_parts.new.news.items ≡ facts_view ns c.args.news.now.items ++ cells_news l t (part_cells (parts_view {A = A} c.in-Call.parts.items))).
-            call_told l t (action_view {A = A} c.args.action.now) c.in-Call.priority (parts_view {A = A} c.in-Call.parts.items) (call_view {A = A} c.in-Call.call.value)
-            (facts_view ns c.args.news.now.items) (facts_view ns c.add_parts.new.news.items) seen e)
-        c.add_parts.ensures
+    (λ (e : facts_view ns c.add_parts.new.news.items ≡ facts_view ns c.args.news.now.items ++ cells_news l t (part_cells (parts_view {A = A} c.in-Call.parts.items))).
+    call_told l t (action_view {A = A} c.args.action.now) c.in-Call.priority (parts_view {A = A} c.in-Call.parts.items) (call_view {A = A} c.in-Call.call.value)
+    (facts_view ns c.args.news.now.items) (facts_view ns c.add_parts.new.news.items) seen e)
+    c.add_parts.ensures

@@ -1,0 +1,29 @@
+use Rattle.std.proofs.Common.{◌≡◌, ◌<◌, true, false, [], ◌∷◌, length, get_or, ap, sym, ◌∙◌, rules, arith}
+use Rattle.flow.specs.declared.cell.Part.{Part}
+use Rattle.flow.specs.View.{part_view, parts_view}
+use Rattle.syntax_trees.specs.Parts.{part_cells}
+use Rattle.whole_rounds.specs.Silence.{all_known}
+use Rattle.whole_rounds.proofs.Quiet.{part_known, part_unknown}
+use Rattle.whole_rounds.proofs.silence.are_known.Goals as goal
+
+pub loop-part-preserved : goal.loop-part-preserved
+loop-part-preserved g c =
+    let A = g.row.A.Denot in
+    let l = c.args.learned.now in
+    let t = c.args.site in
+    let within : c.loop-part.part-index < length c.args.parts.now.items = grind arith in
+    let item : c.part-item.result ≡ get_or c.args.parts.now.items c.loop-part.part-index c.part-item.result = search rules in
+    let is : all_known c.args.learned.now c.args.site (part_cells (part_view {A = g.row.A.Denot} c.part-item.result ∷ [])) ≡ true = search rules in
+    part_known {A = A} l t c.args.parts.now.items c.loop-part.part-index c.part-item.result (all_known l t (part_cells (parts_view {A = A} c.args.parts.now.items)))
+    within c.loop-part.invariant (ap (λ (z : Part A). all_known l t (part_cells (part_view {A = A} z ∷ []))) (sym item) ∙ is)
+
+pub returns-then-not-is_part_known : goal.returns-then-not-is_part_known
+returns-then-not-is_part_known g c =
+    let A = g.row.A.Denot in
+    let l = c.args.learned.now in
+    let t = c.args.site in
+    let within : c.loop-part.part-index < length c.args.parts.now.items = grind arith in
+    let item : c.part-item.result ≡ get_or c.args.parts.now.items c.loop-part.part-index c.part-item.result = search rules in
+    let is : all_known c.args.learned.now c.args.site (part_cells (part_view {A = g.row.A.Denot} c.part-item.result ∷ [])) ≡ false = search rules in
+    sym (part_unknown {A = A} l t c.args.parts.now.items c.loop-part.part-index c.part-item.result (all_known l t (part_cells (parts_view {A = A} c.args.parts.now.items)))
+    within c.loop-part.invariant (ap (λ (z : Part A). all_known l t (part_cells (part_view {A = A} z ∷ []))) (sym item) ∙ is))

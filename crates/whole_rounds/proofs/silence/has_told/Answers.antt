@@ -1,0 +1,22 @@
+use Rattle.std.proofs.Common.{◌≡◌, Bool, true, false, ◌&&◌, sym, ap, ◌∙◌, rules, refl}
+use Rattle.flow.specs.View.{action_view, call_view, parts_view}
+use Rattle.syntax_trees.specs.Core as core
+use Rattle.syntax_trees.specs.Core.{Part, Call, Action, call_alone}
+use Rattle.syntax_trees.specs.Parts.{part_cells}
+use Rattle.whole_facts.specs.declared.learned.Learned.{Learned}
+use Rattle.whole_rounds.specs.declared.site.Site.{Site}
+use Rattle.whole_rounds.specs.Silence.{all_known, told_unless, has_told}
+use Rattle.whole_rounds.specs.Told.{past_at}
+use Rattle.whole_rounds.proofs.Quiet.{call_has_told}
+use Rattle.whole_rounds.proofs.Views.{view_call}
+use Rattle.whole_rounds.proofs.silence.has_told.Goals as goal
+
+pub returns-in-Call : goal.returns-in-Call
+returns-in-Call g c =
+    let A = g.row.A.Denot in
+    let l = c.args.learned.now in
+    let t = c.args.site in
+    let seen = ap (action_view {A = A}) c.in-Call.is ∙ view_call A c.in-Call.priority c.in-Call.parts c.in-Call.call in
+    let shallow : (past_at c.args.learned.now c.args.site).deep ≡ false = search rules in
+    let known : c.are_known.result ≡ all_known c.args.learned.now c.args.site (part_cells (parts_view {A = g.row.A.Denot} c.in-Call.parts.items)) = search rules in
+    known ∙ call_has_told l t (action_view {A = A} c.args.action.now) c.in-Call.priority (parts_view {A = A} c.in-Call.parts.items) (call_view {A = A} c.in-Call.call.value) seen shallow

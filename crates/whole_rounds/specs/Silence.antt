@@ -1,0 +1,28 @@
+-- Which live statements have nothing more to tell: all their cells have their values, and what is done with these is known.
+use Rattle.std.specs.Prelude.{Bool, true, false, ◌&&◌, List, [], ◌∷◌}
+use Rattle.kept_facts.specs.Kept.{is_there}
+use Rattle.syntax_trees.specs.Core.{Cell, Action, declare, call_alone, assign, fill, insert, print, assert, when, choose, range, each, wait}
+use Rattle.syntax_trees.specs.Parts.{parts, part_cells}
+use Rattle.whole_facts.specs.declared.learned.Learned.{Learned}
+use Rattle.whole_rounds.specs.declared.site.Site.{Site}
+use Rattle.whole_rounds.specs.Told.{sight_at, past_at}
+
+abbrev pub all_known : Learned → Site → List Cell → Bool
+all_known l t [] = true
+all_known l t (c ∷ cs) = is_there ((sight_at l t).cell c.node) && all_known l t cs
+
+-- what is done with the values of the cells is known; what writes elements may meet another writer yet
+abbrev pub is_done : Learned → Site → Action → Bool
+is_done l t (assign x e) = (past_at l t).valued x
+is_done l t (print p e) = (past_at l t).lined t.node
+is_done l t (fill a e) = false
+is_done l t (insert a i e) = false
+is_done l t (range lo hi st x k b) = false
+is_done l t _ = true
+
+abbrev pub told_unless : (deep : Bool) → Bool → Bool
+told_unless true b = false
+told_unless false b = b
+
+abbrev pub has_told : Learned → Site → Action → Bool
+has_told l t a = told_unless ((past_at l t).deep) (all_known l t (part_cells (parts a)) && is_done l t a)
