@@ -1,17 +1,16 @@
 -- What is added behind facts, and what a cell tells.
-use Rattle.std.specs.Prelude.{◌≡◌, ℕ, ℤ, zero, suc, ◌<◌, ◌&&◌, Bool, true, false, List, [], ◌∷◌, ◌++◌, map, Option, Some, None, Result, Ok, Err, refl}
+use Rattle.std.specs.Prelude.{◌≡◌, ℕ, ℤ, zero, suc, ◌<◌, ◌&&◌, Bool, true, false, List, [], ◌∷◌, ◌++◌, Option, Some, None, Result, Ok, Err, refl}
 use Rattle.std.proofs.Common.{sym, ap, ◌∙◌, arith}
 use Rattle.std.proofs.lemmas.List.{map_push, append_assoc, append-nil}
 use Rattle.values.specs.declared.fault.OpFault.{OpFault}
 use Rattle.values.specs.declared.value.Value.{Value}
 use Rattle.syntax_trees.specs.Core.{Cell, Call, Part, inner, calls, Outer, Action, call_alone}
-use Rattle.syntax_trees.specs.Facts as script
 use Rattle.syntax_trees.specs.Facts.{Fault, Fact, value, fault, operation}
 use Rattle.syntax_trees.specs.Openings.{bounds}
 use Rattle.syntax_trees.specs.Parts.{part_cells, outer_parts, parts}
 use Rattle.syntax_trees.specs.Places.{Path}
 use Rattle.whole_meaning.specs.Environment.{Sight, Outcome}
-use Rattle.whole_meaning.specs.News.{Past, unless, come_by, cell_by, cell_told, cells_told, deep_by, bad_by, count_of, some_turn, positive}
+use Rattle.whole_meaning.specs.News.{Past, unless, cell_by, cell_told, cells_told, deep_by, bad_by, count_of, some_turn, positive}
 use Rattle.whole_facts.specs.declared.facts.Fact.{Fact as Known}
 use Rattle.whole_facts.specs.declared.instances.Instance.{Instance}
 use Rattle.whole_facts.specs.declared.learned.Learned.{Learned}

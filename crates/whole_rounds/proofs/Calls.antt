@@ -1,7 +1,7 @@
 -- Whether a call stands among the parts of outermost cells.
 use Rattle.std.specs.Prelude.{◌≡◌, Bool, true, false, ◌||◌, List, [], ◌∷◌, ◌++◌, refl}
 use Rattle.std.proofs.Common.{sym, ap, ◌∙◌}
-use Rattle.std.proofs.lemmas.List.{append_assoc, append-nil}
+use Rattle.std.proofs.lemmas.List.{append_assoc}
 use Rattle.syntax_trees.specs.Core.{Cell, Call, Part, inner, calls, Outer}
 use Rattle.syntax_trees.specs.Parts.{part_calls, outer_parts}
 use Rattle.whole_meaning.specs.News.{some_call}

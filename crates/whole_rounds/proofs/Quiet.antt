@@ -1,7 +1,7 @@
 -- A statement whose cells have their values, and with these what it does is known, tells nothing.
-use Rattle.std.specs.Prelude.{◌≡◌, ℕ, ℤ, ◌+◌, ◌<◌, Bool, true, false, ◌&&◌, List, [], ◌∷◌, ◌++◌, map, length, drop, Option, Some, None, refl}
+use Rattle.std.specs.Prelude.{◌≡◌, ℕ, ℤ, ◌+◌, ◌<◌, Bool, true, false, ◌&&◌, List, [], ◌∷◌, ◌++◌, length, drop, Option, Some, None, refl}
 use Rattle.std.proofs.Common.{sym, ap, ◌∙◌, get_or}
-use Rattle.std.proofs.lemmas.List.{append-nil, drop_more}
+use Rattle.std.proofs.lemmas.List.{drop_more}
 use Rattle.values.specs.declared.map.Element.{Element}
 use Rattle.values.specs.declared.value.Value.{Value}
 use Rattle.flow.specs.declared.cell.Part.{Part}
@@ -16,7 +16,7 @@ use Rattle.whole_meaning.specs.News.{Past, unless, text_in, printed_told, cell_b
 use Rattle.whole_facts.specs.declared.learned.Learned.{Learned}
 use Rattle.whole_rounds.specs.declared.site.Site.{Site}
 use Rattle.whole_rounds.specs.Silence.{all_known, is_done, told_unless, has_told}
-use Rattle.whole_rounds.specs.Told.{sight_at, past_at, path_at, lies_at, cell_news, cells_news, comes_at, assigned_news, branch_news, each_news, own_news, calls_news, site_news}
+use Rattle.whole_rounds.specs.Told.{sight_at, past_at, path_at, lies_at, cells_news, comes_at, assigned_news, branch_news, each_news, own_news, calls_news, site_news}
 use Rattle.whole_rounds.proofs.Behind.{parts_append, deep_shallow}
 
 -- TESTS

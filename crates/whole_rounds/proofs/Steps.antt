@@ -1,11 +1,10 @@
 -- Steps of loops that add what is told, one part, element or statement after another.
-use Rattle.std.specs.Prelude.{◌≡◌, ℕ, ◌+◌, ◌<◌, List, [], ◌∷◌, ◌++◌, map, length, take, refl}
+use Rattle.std.specs.Prelude.{◌≡◌, ℕ, ◌+◌, ◌<◌, List, [], ◌∷◌, ◌++◌, length, take, refl}
 use Rattle.std.proofs.Common.{sym, ap, ◌∙◌, get_or}
 use Rattle.std.proofs.lemmas.List.{map-append, append_assoc, append-nil, take_more}
 use Rattle.values.specs.declared.map.Element.{Element}
 use Rattle.flow.specs.declared.cell.Part.{Part}
 use Rattle.flow.specs.View.{part_view, parts_view}
-use Rattle.syntax_trees.specs.Core as core
 use Rattle.syntax_trees.specs.Core.{Name, Cell}
 use Rattle.syntax_trees.specs.Facts.{Fact}
 use Rattle.syntax_trees.specs.Parts.{part_cells}

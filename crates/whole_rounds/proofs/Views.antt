@@ -6,7 +6,7 @@ use Rattle.flow.specs.declared.name.Name.{Name}
 use Rattle.flow.specs.declared.cell.Outer.{Outer}
 use Rattle.flow.specs.declared.cell.Part.{Part}
 use Rattle.flow.specs.declared.cell.Call.{Call as Called}
-use Rattle.flow.specs.declared.statement.Action.{Action, Call, Insert, the_lemmas}
+use Rattle.flow.specs.declared.statement.Action.{Call, Insert, the_lemmas}
 use Rattle.flow.specs.View.{action_view, call_view, name_view, outer_view, parts_view}
 
 pub view_call : (A : Type 0) (p : ℤ) (ps : Vec (Part A) A) (c : Box (Called A) A) → action_view (Call p ps c) ≡ core.call_alone p (parts_view ps.items) (call_view c.value)

@@ -1,7 +1,7 @@
 -- Which live statements have nothing more to tell: all their cells have their values, and what is done with these is known.
 use Rattle.std.specs.Prelude.{Bool, true, false, ◌&&◌, List, [], ◌∷◌}
 use Rattle.kept_facts.specs.Kept.{is_there}
-use Rattle.syntax_trees.specs.Core.{Cell, Action, declare, call_alone, assign, fill, insert, print, assert, when, choose, range, each, wait}
+use Rattle.syntax_trees.specs.Core.{Cell, Action, assign, fill, insert, print, range}
 use Rattle.syntax_trees.specs.Parts.{parts, part_cells}
 use Rattle.whole_facts.specs.declared.learned.Learned.{Learned}
 use Rattle.whole_rounds.specs.declared.site.Site.{Site}

@@ -5,7 +5,6 @@ use Rattle.syntax_trees.specs.Facts.{Fact}
 use Rattle.whole_facts.specs.declared.learned.Learned.{Learned}
 use Rattle.whole_rounds.specs.declared.site.Site.{Site}
 use Rattle.whole_rounds.specs.declared.state.Deed.{Deed}
-use Rattle.whole_rounds.specs.declared.state.Deed.TheVariants as Deed
 use Rattle.whole_rounds.specs.declared.state.Task.{Task}
 use Rattle.whole_rounds.specs.Silence.{has_told}
 use Rattle.whole_rounds.specs.Told.{site_news}

@@ -1,7 +1,6 @@
-use Rattle.std.proofs.Common.{◌≡◌, ◌<◌, ◌++◌, ◌∷◌, [], length, get_or, ap, sym, ◌∙◌, rules, arith}
+use Rattle.std.proofs.Common.{◌≡◌, ◌<◌, ◌++◌, ◌∷◌, [], length, get_or, ap, ◌∙◌, rules, arith}
 use Rattle.flow.specs.declared.cell.Part.{Part}
 use Rattle.flow.specs.View.{part_view}
-use Rattle.syntax_trees.specs.Facts.{Fact}
 use Rattle.syntax_trees.specs.Parts.{part_cells}
 use Rattle.whole_rounds.specs.Viewed.{facts_view}
 use Rattle.whole_rounds.specs.Told.{cells_news}

@@ -1,11 +1,7 @@
-use Rattle.std.proofs.Common.{◌≡◌, Bool, true, false, ◌&&◌, sym, ap, ◌∙◌, rules, refl}
+use Rattle.std.proofs.Common.{◌≡◌, false, ap, ◌∙◌, rules}
 use Rattle.flow.specs.View.{action_view, call_view, parts_view}
-use Rattle.syntax_trees.specs.Core as core
-use Rattle.syntax_trees.specs.Core.{Part, Call, Action, call_alone}
 use Rattle.syntax_trees.specs.Parts.{part_cells}
-use Rattle.whole_facts.specs.declared.learned.Learned.{Learned}
-use Rattle.whole_rounds.specs.declared.site.Site.{Site}
-use Rattle.whole_rounds.specs.Silence.{all_known, told_unless, has_told}
+use Rattle.whole_rounds.specs.Silence.{all_known}
 use Rattle.whole_rounds.specs.Told.{past_at}
 use Rattle.whole_rounds.proofs.Quiet.{call_has_told}
 use Rattle.whole_rounds.proofs.Views.{view_call}

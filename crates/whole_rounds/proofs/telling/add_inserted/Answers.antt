@@ -1,10 +1,9 @@
 use Rattle.std.proofs.Common.{◌≡◌, ◌++◌, ap, ◌∙◌}
 use Rattle.std.proofs.lemmas.Result.{on_ok_weaker}
 use Rattle.flow.specs.View.{name_view, outer_view}
-use Rattle.syntax_trees.specs.Facts.{Fact}
 use Rattle.whole_meaning.specs.News.{key_in, one_in}
 use Rattle.values.specs.declared.value.Value.{Value}
-use Rattle.std.specs.Prelude.{Option, List}
+use Rattle.std.specs.Prelude.{Option}
 use Rattle.whole_rounds.specs.Viewed.{facts_view}
 use Rattle.whole_rounds.specs.Told.{comes_at, inserted_news}
 use Rattle.whole_rounds.proofs.Behind.{two_told}

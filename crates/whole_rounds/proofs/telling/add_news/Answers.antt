@@ -1,11 +1,9 @@
-use Rattle.std.proofs.Common.{◌≡◌, ◌++◌, List, sym, ap, ◌∙◌}
+use Rattle.std.proofs.Common.{◌≡◌, ◌++◌, ap, ◌∙◌}
 use Rattle.std.proofs.lemmas.Result.{on_ok_weaker}
 use Rattle.flow.specs.View.{action_view, call_view, parts_view}
-use Rattle.syntax_trees.specs.Core as core
-use Rattle.syntax_trees.specs.Facts.{Fact}
-use Rattle.syntax_trees.specs.Parts.{part_cells, parts}
+use Rattle.syntax_trees.specs.Parts.{part_cells}
 use Rattle.whole_rounds.specs.Viewed.{facts_view}
-use Rattle.whole_rounds.specs.Told.{cells_news, own_news}
+use Rattle.whole_rounds.specs.Told.{cells_news}
 use Rattle.whole_rounds.proofs.Behind.{call_told}
 use Rattle.whole_rounds.proofs.Views.{view_call}
 use Rattle.whole_rounds.proofs.telling.add_news.Goals as goal
