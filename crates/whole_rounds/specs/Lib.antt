@@ -2,3 +2,4 @@ pub mod Viewed
 pub mod Told
 pub mod Silence
 pub mod Tasks
+pub mod Standing

@@ -1,5 +1,15 @@
 //! What a round adds, and which statements have nothing more to tell.
-ghost use Rattle.std.specs.Prelude.{◌≡◌, ◌++◌, IfOk, OnOk};
+ghost use Rattle.std.specs.Prelude.{◌≡◌, ◌↔◌, ◌⊎◌, ◌++◌, ℕ, suc, List, IfOk, OnOk};
+ghost use Rattle.syntax_trees.specs.Facts.{Fact as Told};
+ghost use Rattle.syntax_trees.specs.Meaning.{Known};
+ghost use Rattle.syntax_trees.specs.Members.{◌∈◌};
+ghost use Rattle.syntax_trees.specs.Reads.{Reads};
+ghost use Rattle.syntax_trees.specs.Resolved.{core};
+ghost use Rattle.syntax_trees.specs.Single.{SinglyAssigned};
+ghost use Rattle.syntax_trees.specs.Table.{Table};
+ghost use Rattle.syntax_trees.specs.Tree.{Tree};
+ghost use Rattle.syntax_trees.specs.Typing.{WellTyped};
+ghost use Rattle.whole_rounds.specs.Standing.{IsAfter};
 ghost use Rattle.whole_rounds.specs.Viewed.{facts_view};
 ghost use Rattle.whole_rounds.specs.Tasks.{deed_told, task_news, tasks_news};
 
@@ -10,9 +20,13 @@ use std::alloc::{AllocError, Allocator, Global};
 use whole_facts::facts::Fact;
 
 impl<'a, A: Allocator> State<'a, A> {
-    /// The facts that follow from what is known, without those that are known already.
+    /// The facts that follow from what is known, without those that are known already. Of an accepted script of which the state
+    /// is that after so many rounds, these are what the next round adds.
     pub fn news(&self, alloc: Global) -> Result<Vec<Fact>, AllocError>
-        ensures { IfOk result (λ news. facts_view self.now.learned.instances.all.items news.items ≡ tasks_news self.now.learned self.now.tasks.items) }
+        ensures told { IfOk result (λ news. facts_view self.now.learned.instances.all.items news.items ≡ tasks_news self.now.learned self.now.tasks.items) }
+        ensures round { IfOk result (λ news. (bytes : List ℕ) (t : Table) (tree : Tree) → Reads bytes tree → WellTyped tree t → SinglyAssigned (core t tree)
+            → (n : ℕ) → IsAfter (core t tree) n self.now.learned self.now.tasks.items
+            → (f : Told) → Known (core t tree) (suc n) f ↔ (Known (core t tree) n f ⊎ (f ∈ facts_view self.now.learned.instances.all.items news.items))) }
     {
         let mut news = Vec::new(alloc);
         for task in &self.tasks {
