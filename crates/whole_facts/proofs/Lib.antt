@@ -6,3 +6,4 @@ pub mod Adding
 pub mod Clean
 pub mod Tree
 pub mod Keeping
+pub mod Parting

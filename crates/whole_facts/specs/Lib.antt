@@ -7,3 +7,4 @@ pub mod Paths
 pub mod Keeping
 pub mod Added
 pub mod Chosen
+pub mod Listed
