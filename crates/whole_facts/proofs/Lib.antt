@@ -7,3 +7,4 @@ pub mod Clean
 pub mod Tree
 pub mod Keeping
 pub mod Parting
+pub mod Seeing
