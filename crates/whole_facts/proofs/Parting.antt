@@ -1,5 +1,5 @@
 -- Calls among parts, listed one after another.
-use Rattle.std.specs.Prelude.{◌≡◌, ℕ, ◌+◌, ◌<◌, ℤ, List, [], ◌∷◌, ◌++◌, length, drop, map, Vec, Box, refl}
+use Rattle.std.specs.Prelude.{◌≡◌, ℕ, ◌+◌, ◌<◌, ℤ, List, [], ◌∷◌, ◌++◌, length, drop, Vec, Box, refl}
 use Rattle.std.specs.Borrow.{Bor}
 use Rattle.std.proofs.Common.{rules, sym, ap, ◌∙◌, get_or}
 use Rattle.std.proofs.lemmas.List.{append_assoc, drop_more}

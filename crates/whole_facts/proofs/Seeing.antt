@@ -6,7 +6,6 @@ use Rattle.std.proofs.lemmas.List.{append_assoc, append-nil, drop_more}
 use Rattle.values.specs.declared.value.Value.{Value}
 use Rattle.syntax_trees.specs.Core as core
 use Rattle.flow.specs.declared.cell.Outer.{Outer}
-use Rattle.flow.specs.View.{cell_view}
 use Rattle.whole_meaning.specs.Environment.{Sight}
 use Rattle.whole_meaning.specs.News.{with_value}
 use Rattle.whole_facts.specs.Chosen.{all_seen}

@@ -1,5 +1,5 @@
 -- What a header has chosen by what an instance sees: which blocks it opens, under which keys, and what its variables are there.
-use Rattle.std.specs.Prelude.{◌≡◌, ℕ, ◌<◌, ℤ, pos, Bool, true, false, ◌&&◌, List, [], ◌∷◌, length, is_some, Option, Some, None, Result, Ok, Err, slice_get, if◌then◌else◌}
+use Rattle.std.specs.Prelude.{ℕ, ℤ, pos, Bool, true, false, ◌&&◌, List, [], ◌∷◌, length, is_some, Option, Some, None, Result, Ok, Err, slice_get, if◌then◌else◌}
 use Rattle.std.specs.Ordering.{int_eq}
 use Rattle.values.specs.declared.fault.OpFault.{OpFault}
 use Rattle.values.specs.declared.key.Key.{Key}
@@ -8,7 +8,7 @@ use Rattle.values.specs.declared.range.Range.{Range}
 use Rattle.values.specs.declared.value.Scalar.{Scalar}
 use Rattle.values.specs.declared.value.Scalar.TheVariants.{Number, Truth}
 use Rattle.values.specs.declared.value.Value.{Value}
-use Rattle.values.specs.declared.value.Value.TheVariants.{One, Many}
+use Rattle.values.specs.declared.value.Value.TheVariants.{One}
 use Rattle.values.specs.Ranges.{range_count, value_in}
 use Rattle.syntax_trees.specs.Core.{Awaited, scalar, array, Cell, Action, when, choose, range, each, Block}
 use Rattle.syntax_trees.specs.Openings.{Bounds, bounds}

@@ -1,7 +1,7 @@
-use Rattle.std.proofs.Common.{rules, arith, ◌≡◌, ◌<◌, ◌++◌, ◌∷◌, [], length, get_or}
+use Rattle.std.proofs.Common.{rules, arith, ◌≡◌, ◌<◌, ◌++◌, length, get_or}
 use Rattle.std.proofs.lemmas.Grind.{common_steps}
 use Rattle.syntax_trees.specs.Parts.{part_calls, outer_parts}
-use Rattle.flow.specs.View.{part_view, parts_view}
+use Rattle.flow.specs.View.{parts_view}
 use Rattle.whole_facts.specs.Listed.{calls_listed, outers_listed}
 use Rattle.whole_facts.proofs.Parting.{outers_more}
 use Rattle.whole_facts.proofs.parts.add_outer_calls.Goals as goal
