@@ -69,7 +69,7 @@ fn shown(alloc: Global, words: &[&str]) -> Result<String, Fail> {
 #[test]
 fn commands(rt: HostRuntime) -> Result<(), Fail> {
     let alloc = rt.alloc();
-    let rows: [(&[&str], &str); 9] = [
+    let rows: [(&[&str], &str); 11] = [
         (&["check", "a.swift"], "check a.swift"),
         (&["check", "a", "b", "a"], "check a b a"),
         (&["mean", "a"], "mean a 1000000"),
