@@ -5,6 +5,7 @@ use Rattle.std.specs.List.{AllZip, filter}
 use Rattle.dataflow.specs.Machine.{OfTask}
 use Rattle.dataflow.specs.System.{In}
 use Rattle.replayed.specs.Ending.{has_entries, job_stores}
+use Rattle.replayed.proofs.Tests.{none_some}
 use Rattle.replayed.specs.Fields.{Frame, path_of, slot_at, step_before}
 use Rattle.task_code.specs.View.{entry_view}
 use Rattle.task_code.specs.Code.{Act, Entry, Expr, If, arguments, body, entry, loop_of, stored_of}
@@ -61,6 +62,8 @@ module _ (p : Ended) (w : IsEnded p) where
   idle_ends x none computes single stores silent no_elements = record {
     good = (effect_at (code_of p) p.number path p.chunk x, good x _ _ computes (deep_none now.act path _ (ap is_some_list none)));
     apart = λ q. no_elements q.elements q.inserts;
+    computed = tt;
+    leads = λ d h. none_some h;
     stored = stores_nothing x stores;
     rises = refl;
     lines = own (λ e. prints e.act x ≡ []) silent;
@@ -120,6 +123,8 @@ module _ (p : Ended) (w : IsEnded p) where
       block_well z h e q = record {
         good = (effect_at (code_of p) p.number path p.chunk x, good x _ _ r.computes (deep_steps now.act path _ (is_some way) (own (λ e. steps_on e.act ≡ is_some way) r.steps) h));
         apart = λ q. r.no_elements q.elements q.inserts;
+        computed = tt;
+        leads = λ d h. none_some h;
         stored = stores_nothing x r.stores;
         rises = refl;
         lines = own (λ e. prints e.act x ≡ []) r.silent;

@@ -9,6 +9,7 @@ use Rattle.dataflow.specs.System.{In}
 use Rattle.replayed.proofs.Next.{nat_same, nat_sound}
 use Rattle.replayed.specs.Ending.{has_entries, job_stores, stored_by, stored_values}
 use Rattle.replayed.specs.Ending.{slot_is}
+use Rattle.replayed.proofs.Tests.{none_some, some_same}
 use Rattle.replayed.specs.Fields.{Absent, Counted, DatumOf, Does, Frame, LiteralOf, Slot, path_of, slot_at, slot_for}
 use Rattle.replayed.specs.Needs.{cell_element, has}
 use Rattle.task_code.specs.Code.{Assert, Code, Entry, Name, Print, entry, stored_of}
@@ -22,7 +23,7 @@ use Rattle.board_code.specs.declared.program.EntryTable.{EntryTable}
 use Rattle.board_data.proofs.Named.{slot_by}
 use Rattle.board_data.specs.Wanted.{FewSlots}
 use Rattle.board_frames.specs.Names.{datum_of, led_slot}
-use Rattle.board_effects.specs.Effects.{GoesWell, GoesWrong, IsAtWork, OpensBy, OpensNothing, lines_in, target_in, values_in}
+use Rattle.board_effects.specs.Effects.{GoesWell, GoesWrong, IsAtWork, IsStored, IsTarget, OpensBy, OpensNothing, lines_in, target_in, values_in}
 use Rattle.board_effects.specs.Fits.{gives_elements, gives_scalar}
 use Rattle.board_effects.specs.declared.effect.Effect.{Effect}
 use Rattle.board_effects.specs.declared.effect.Effect.TheVariants as Does_
@@ -57,6 +58,21 @@ module _ (C : Code) (fs : List (Option Frame)) (k i c : ℕ) where
         ∙ one_target w.few w.frame.body (stored_of (entry C i).node (entry C i).act) (one_stored (entry C i).node (entry C i).act) x d
         ∙ sym (at_home w.frame w.there x d)
 
+    -- the datum that the target stands for is that of a name
+    at_slot : (d : ℕ) (y : Slot) → datum_of y ≡ Some d → y ≡ DatumOf d
+    at_slot d Absent h = none_some h
+    at_slot d (DatumOf e) h = ap DatumOf (some_same h)
+    at_slot d (LiteralOf e m) h = none_some h
+
+    target_name : (rs : List Name) (d : ℕ) → datum_of (led_slot fs k (first_spot C w.frame.body rs)) ≡ Some d → (r : Name) × In r rs × (slot_for (layout_of C) fs k w.frame.body r ≡ DatumOf d)
+    target_name [] d h = none_some h
+    target_name (r ∷ rs) d h = (r, inl refl, slot_by C fs k w.frame.body w.few r ∙ at_slot d (led_slot fs k (spot_in C w.frame.body r)) h)
+
+    pub target_leads : (d : ℕ) → target ≡ Some d → IsTarget C fs (Does k i c) d
+    target_leads d h =
+        let n = target_name (stored_of (entry C i).node (entry C i).act) d (ap (λ s. datum_of (led_slot fs k s)) (sym w.table_is.target) ∙ h) in
+        (n.0, n.1, ap (λ (o : Option Frame). elim o [ None ↦ Absent | Some g ↦ slot_for (layout_of C) fs k g.body n.0 ]) w.there ∙ n.2)
+
     -- an entry that stores into no name
     pub unstored : (x : Computed) → stored_of (entry C i).node (entry C i).act ≡ [] → (d : ℕ) → job_stores C (layout_of C) fs (Does k i c) x d ≡ []
     unstored x e d = at_home w.frame w.there x d ∙ ap (stored_by (slot_for (layout_of C) fs k w.frame.body) x d) e
@@ -76,6 +92,8 @@ module _ (C : Code) (fs : List (Option Frame)) (k i c : ℕ) where
           record {
             good = (effect_at C i (path_of fs k) c (Gives v), good (Gives v) _ _ refl (deep_plain (entry C i).act (path_of fs k) _ (plain_steps (entry C i).act p)));
             apart = λ q. absurd (cc (q.inserts));
+            computed = refl;
+            leads = target_leads;
             stored = λ d. job_target (Gives v) d;
             rises = refl;
             lines = scalar_silent (entry C i).act (Gives v) h;
@@ -90,6 +108,8 @@ module _ (C : Code) (fs : List (Option Frame)) (k i c : ℕ) where
           by a = record {
             good = (effect_at C i (path_of fs k) c (Gives v), good (Gives v) _ _ refl (deep_plain (entry C i).act (path_of fs k) _ (ap steps_on a)));
             apart = λ q. absurd (cc (q.inserts));
+            computed = tt;
+            leads = λ d h. none_some h;
             stored = λ d. nowhere (is_place d None) ∙ sym (unstored (Gives v) (ap (stored_of (entry C i).node) a) d);
             rises = refl;
             lines = ap (λ b. prints b (Gives v)) a;
@@ -103,6 +123,8 @@ module _ (C : Code) (fs : List (Option Frame)) (k i c : ℕ) where
           by a = record {
             good = (effect_at C i (path_of fs k) c (Gives v), good (Gives v) _ _ refl (deep_plain (entry C i).act (path_of fs k) _ (ap steps_on a)));
             apart = λ q. absurd (cc (q.inserts));
+            computed = tt;
+            leads = λ d h. none_some h;
             stored = λ d. nowhere (is_place d None) ∙ sym (unstored (Gives v) (ap (stored_of (entry C i).node) a) d);
             rises = refl;
             lines = ap (λ b. prints b (Gives v)) a;
@@ -118,13 +140,15 @@ module _ (C : Code) (fs : List (Option Frame)) (k i c : ℕ) where
         | inr s ↦ subst (λ b. In p (if b then xs else [])) s m
       ]
 
-      pub elements_end : (xs : Elements) (e : Effect) → gives_elements E.act ≡ true → target_in e ≡ target → values_in e ≡ xs → lines_in e ≡ [] → in_key_order xs ≡ true → ((d : ℕ) → target ≡ Some d → (q : Key × Scalar) → In q xs → has (cell_element q.0 (slot_at cs d)) ≡ false) → (OpensNothing C fs (Does k i c) (Inserts xs) → OpensBy C fs (Does k i c) (Inserts xs) e) → GoesWell C fs cs (Does k i c) (Inserts xs) e
-      elements_end xs e g at vs ls order absent opens =
+      pub elements_end : (xs : Elements) (e : Effect) → IsStored e (Inserts xs) → gives_elements E.act ≡ true → target_in e ≡ target → values_in e ≡ xs → lines_in e ≡ [] → in_key_order xs ≡ true → ((d : ℕ) → target ≡ Some d → (q : Key × Scalar) → In q xs → has (cell_element q.0 (slot_at cs d)) ≡ false) → (OpensNothing C fs (Does k i c) (Inserts xs) → OpensBy C fs (Does k i c) (Inserts xs) e) → GoesWell C fs cs (Does k i c) (Inserts xs) e
+      elements_end xs e said g at vs ls order absent opens =
           let h : gives_elements (entry C i).act ≡ true = subst (λ (e : Entry). gives_elements e.act ≡ true) w.entry_is g in
           let p = elements_plain (entry C i).act h in
           record {
             good = (effect_at C i (path_of fs k) c (Inserts xs), good (Inserts xs) _ _ refl (deep_plain (entry C i).act (path_of fs k) _ (plain_steps (entry C i).act p)));
             apart = λ q. (let same : xs ≡ q.elements = cc (q.inserts) in apart_by target xs q.key q.element q.older absent (subst (λ l. In q.element l) (sym (job_target (Inserts xs) q.key)) q.stores) q.has);
+            computed = said;
+            leads = λ d h. target_leads d (sym at ∙ h);
             stored = λ d. ap (λ (o : Option ℕ). if is_place d o then values_in e else []) at ∙ ap (λ l. if is_place d target then l else []) vs ∙ job_target (Inserts xs) d;
             rises = ap in_key_order vs ∙ order;
             lines = elements_silent (entry C i).act (Inserts xs) h ∙ sym ls;

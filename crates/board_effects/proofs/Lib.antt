@@ -6,5 +6,6 @@ pub mod Found
 pub mod Loops
 pub mod Spares
 pub mod Stores
+pub mod Takes
 pub mod Tells
 pub mod Values

@@ -6,6 +6,7 @@ use Rattle.std.proofs.lemmas.Bool.{and_left, and_right, cases_Bool}
 use Rattle.dataflow.specs.Machine.{OfTask}
 use Rattle.dataflow.specs.System.{In}
 use Rattle.replayed.specs.Ending.{has_entries}
+use Rattle.replayed.proofs.Tests.{none_some}
 use Rattle.replayed.specs.Fields.{Frame, path_of, slot_at}
 use Rattle.task_code.specs.View.{entry_view}
 use Rattle.task_code.specs.Code.{Code, Entry, Loop, body, entry, loop_of}
@@ -102,6 +103,8 @@ module _ (p : Ended) (w : IsEnded p) (u : Loop) (ts : Elements) (is : loop_of (a
     loop_well h e q = record {
       good = (effect_at (code_of p) p.number path p.chunk (Turns ts), good (Turns ts) _ _ refl (deep_turns now.act path _ (is_some_list turns) some_blocks h));
       apart = λ y. absurd (cc y.inserts);
+      computed = tt;
+      leads = λ d h. none_some h;
       stored = stores_nothing p w (Turns ts) (loop_stores (act_of p) (entry_view p.entry.now).node u is);
       rises = refl;
       lines = own p w (λ e. prints e.act (Turns ts) ≡ []) (loop_silent (act_of p) (Turns ts) u is);

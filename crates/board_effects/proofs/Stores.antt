@@ -21,7 +21,7 @@ use Rattle.values.specs.declared.value.Scalar.{Scalar}
 use Rattle.values.specs.declared.value.Value.{Value}
 use Rattle.board_frames.specs.Names.{datum_of, led_slot}
 use Rattle.board_work.specs.Outcome.{of_leaf}
-use Rattle.board_effects.specs.Effects.{GoesWell, OpensBy, OpensNothing, lines_in, target_in, values_in}
+use Rattle.board_effects.specs.Effects.{GoesWell, IsStored, OpensBy, OpensNothing, lines_in, target_in, values_in}
 use Rattle.board_effects.specs.Ended.{Ends, FailsWith, IsEnded, act_of, cells_of, code_of, frames_of, job_of}
 use Rattle.board_effects.specs.Fits.{gives_elements, gives_scalar}
 use Rattle.board_effects.specs.declared.effect.Effect.{Effect}
@@ -53,8 +53,8 @@ module _ (p : Ended) (w : IsEnded p) where
   pub stores_ends : (t : Option ℕ) (v : Scalar) → t ≡ at → gives_scalar (act_of p) ≡ true → Ends p (Gives v) (To.Stores t v)
   stores_ends t v e g = subst (λ (o : Option ℕ). Ends p (Gives v) (To.Stores o v)) (sym e) (scalar_ends (code_of p) (frames_of p) p.view.at p.number p.chunk _ _ w (cells_of p) v g)
 
-  pub inserts_ends : (t : Option ℕ) (es : List Element) (e : Effect) → t ≡ at → target_in e ≡ t → values_in e ≡ pairs es → lines_in e ≡ [] → gives_elements (act_of p) ≡ true → IsTrue (rising es) → ((d : ℕ) → t ≡ Some d → list_any (there (cells_of p) d) es ≡ false) → (OpensNothing (code_of p) (frames_of p) (job_of p) (Inserts (pairs es)) → OpensBy (code_of p) (frames_of p) (job_of p) (Inserts (pairs es)) e) → GoesWell (code_of p) (frames_of p) (cells_of p) (job_of p) (Inserts (pairs es)) e
-  inserts_ends t es e q ts vs ls g r h opens = elements_end (code_of p) (frames_of p) p.view.at p.number p.chunk _ _ w (cells_of p) (pairs es) e g (ts ∙ q) vs ls (in_order es r) (λ d s. none_there (cells_of p) d es (h d (q ∙ s))) opens
+  pub inserts_ends : (t : Option ℕ) (es : List Element) (e : Effect) → IsStored e (Inserts (pairs es)) → t ≡ at → target_in e ≡ t → values_in e ≡ pairs es → lines_in e ≡ [] → gives_elements (act_of p) ≡ true → IsTrue (rising es) → ((d : ℕ) → t ≡ Some d → list_any (there (cells_of p) d) es ≡ false) → (OpensNothing (code_of p) (frames_of p) (job_of p) (Inserts (pairs es)) → OpensBy (code_of p) (frames_of p) (job_of p) (Inserts (pairs es)) e) → GoesWell (code_of p) (frames_of p) (cells_of p) (job_of p) (Inserts (pairs es)) e
+  inserts_ends t es e said q ts vs ls g r h opens = elements_end (code_of p) (frames_of p) p.view.at p.number p.chunk _ _ w (cells_of p) (pairs es) e said g (ts ∙ q) vs ls (in_order es r) (λ d s. none_there (cells_of p) d es (h d (q ∙ s))) opens
 
   pub inserts_clash : (d : ℕ) (es : List Element) → at ≡ Some d → gives_elements (act_of p) ≡ true → list_any (there (cells_of p) d) es ≡ true → (e : Effect) → FailsWith p ElementTwice e → Ends p (Inserts (pairs es)) e
   inserts_clash d es s g h e f =
@@ -62,7 +62,7 @@ module _ (p : Ended) (w : IsEnded p) where
       fails_ends p (Inserts (pairs es)) ElementTwice e (elements_clash (code_of p) (frames_of p) p.view.at p.number p.chunk _ _ w (cells_of p) (pairs es) g d s q.0 q.1 q.2 q.3) f
 
   pub puts_ends : (t : Option ℕ) (k l : Key) (v u : Scalar) → t ≡ at → l ≡ k → u ≡ v → gives_elements (act_of p) ≡ true → ((d : ℕ) → t ≡ Some d → has (cell_element k (slot_at (cells_of p) d)) ≡ false) → Ends p (Inserts ((k, v) ∷ [])) (To.Puts t l u)
-  puts_ends t k l v u e ek ev g h = elements_end (code_of p) (frames_of p) p.view.at p.number p.chunk _ _ w (cells_of p) ((k, v) ∷ []) (To.Puts t l u) g e (ap (λ (x : Key). (x, u) ∷ []) ek ∙ ap (λ (x : Scalar). (k, x) ∷ []) ev) refl refl (λ d s. key_none (cells_of p) d k v (h d (e ∙ s))) (λ o. o)
+  puts_ends t k l v u e ek ev g h = elements_end (code_of p) (frames_of p) p.view.at p.number p.chunk _ _ w (cells_of p) ((k, v) ∷ []) (To.Puts t l u) (λ i. Inserts ((sym ek i, sym ev i) ∷ [])) g e (ap (λ (x : Key). (x, u) ∷ []) ek ∙ ap (λ (x : Scalar). (k, x) ∷ []) ev) refl refl (λ d s. key_none (cells_of p) d k v (h d (e ∙ s))) (λ o. o)
 
   pub puts_clash : (d : ℕ) (k : Key) (v : Scalar) → at ≡ Some d → gives_elements (act_of p) ≡ true → has (cell_element k (slot_at (cells_of p) d)) ≡ true → (e : Effect) → FailsWith p ElementTwice e → Ends p (Inserts ((k, v) ∷ [])) e
   puts_clash d k v s g h e f =

@@ -5,7 +5,7 @@ use Rattle.std.proofs.lemmas.Bool.{cases_Bool}
 use Rattle.dataflow.specs.System.{Answer, Bad, Effect, Good, In, Opening, Outcome}
 use Rattle.dataflow.specs.History.{log_of}
 use Rattle.dataflow.specs.Log.{Logged}
-use Rattle.dataflow.specs.Machine.{After, Clashes, ElementTwice, End, Ends, Event, Fault, Holds, OfTask, Run, SeesAll}
+use Rattle.dataflow.specs.Machine.{After, Clashes, ClosedByRights, ElementTwice, End, Ends, Event, Fault, Holds, OfTask, Run, SeesAll}
 use Rattle.dataflow.specs.Facts.{Made}
 use Rattle.dataflow.proofs.Follows.{Follows}
 use Rattle.dataflow.proofs.Known.{answers_are_one}
@@ -72,14 +72,14 @@ datum_made C I u xs e h p a i m =
       | inr g ↦ absurd (subst (λ (l : List Place). In a l) (rests_none C u y.0 p g) m)
     ]
 
-not_nowhere : {B : Type 0} {q : List Step} {v : Variable} → Nowhere ≡ Datum q v → B
+pub not_nowhere : {B : Type 0} {q : List Step} {v : Variable} → Nowhere ≡ Datum q v → B
 not_nowhere h = absurd (cc)
 
-not_constant : {B : Type 0} {c : Scalar} {q : List Step} {v : Variable} → Constant c ≡ Datum q v → B
+pub not_constant : {B : Type 0} {c : Scalar} {q : List Step} {v : Variable} → Constant c ≡ Datum q v → B
 not_constant h = absurd (cc)
 
 -- a scalar's name is of a scalar
-scalar_place : (C : Code) (p : List Step) (up : ℕ) (o : Owned) (q : List Step) (v : Variable) → is_array_owned o ≡ false → resolve C p up o ≡ Datum q v → v.array ≡ false
+pub scalar_place : (C : Code) (p : List Step) (up : ℕ) (o : Owned) (q : List Step) (v : Variable) → is_array_owned o ≡ false → resolve C p up o ≡ Datum q v → v.array ≡ false
 scalar_place C [] zero (Local u) q v h e = ap (λ (y : Variable). y.array) (sym (spot_variable e)) ∙ h
 scalar_place C [] zero (Parameter k b) q v h e = not_nowhere e
 scalar_place C [] (suc up) o q v h e = not_nowhere e
@@ -111,7 +111,7 @@ in_found k (y ∷ ys) v i = elim (cases_Bool (same_key k y.0)) [
 ]
 
 -- what is stored as a scalar has a scalar's name
-no_fill : {B : Type 0} (r : Result Value OpFault) (v : Scalar) → filled r ≡ Gives v → B
+pub no_fill : {B : Type 0} (r : Result Value OpFault) (v : Scalar) → filled r ≡ Gives v → B
 no_fill (Ok u) v h = absurd (cc h)
 no_fill (Err f) v h = absurd (cc h)
 
@@ -120,11 +120,11 @@ no_put (Err f) q v h = absurd (cc h)
 no_put (Ok i) (Err f) v h = absurd (cc h)
 no_put (Ok i) (Ok u) v h = absurd (cc h)
 
-not_true : (b : Bool) → not b ≡ true → b ≡ false
+pub not_true : (b : Bool) → not b ≡ true → b ≡ false
 not_true true h = absurd (cc h)
 not_true false h = refl
 
-scalar_target : (a : Act) (ns : List Need) (node : ℕ) (xs : List (Answer Key Scalar)) (r : Name) (v : Scalar) → has_shape a ns ≡ true → In r (stored_of node a) → compute a xs ≡ Gives v → is_array_name r ≡ false
+pub scalar_target : (a : Act) (ns : List Need) (node : ℕ) (xs : List (Answer Key Scalar)) (r : Name) (v : Scalar) → has_shape a ns ≡ true → In r (stored_of node a) → compute a xs ≡ Gives v → is_array_name r ≡ false
 scalar_target (Cell e) ns node xs r v sh i g = elim i [ inl p ↦ ap is_array_name p | inr z ↦ absurd z ]
 scalar_target Read ns node xs r v sh i g = elim i [ inl p ↦ ap is_array_name p | inr z ↦ absurd z ]
 scalar_target (Call b rs os) ns node xs r v sh i g = absurd i
@@ -247,8 +247,15 @@ module _ (C : Code) (I : IsCode C) (es : List Event) (F : Fields) (x : Stands C 
     own_frame : (f : Frame) × (slot_at F.frames k ≡ Some f) × In e (body C f.body).entries
     own_frame = x.frames.there n k e c row row_is is live
 
+    own_right : (r : Name) → In r (entry C e).writes → In (place_at C (path_of F.frames k) r) (task_writes C task)
+    own_right r m = subst (λ (j : Job). In (place_at C (path_of F.frames k) r) (task_writes C (task_of F.frames j))) (sym is) (in_map (place_at C (path_of F.frames k)) r (entry C e).writes m)
+
+    -- so an array is not closed
+    pub not_closed : (r : Name) → In r (entry C e).writes → (q : List Step) (v : Variable) → place_at C (path_of F.frames k) r ≡ Datum q v → ClosedByRights (code_system C) s (Datum q v) → ⊥
+    not_closed r m q v at shut = shut.nobody ends.item here (subst (λ (u : Task). In (Datum q v) (task_writes C u)) (sym own_task) (subst (λ (a : Place). In a (task_writes C task)) at (own_right r m)))
+
     written : (r : Name) → In r (entry C e).writes → In (place_at C (path_of F.frames k) r) s.places
-    written r m = write_there (place_at C (path_of F.frames k) r) (subst (λ (j : Job). In (place_at C (path_of F.frames k) r) (task_writes C (task_of F.frames j))) (sym is) (in_map (place_at C (path_of F.frames k)) r (entry C e).writes m))
+    written r m = write_there (place_at C (path_of F.frames k) r) (own_right r m)
 
     own_slot : (r : Name) → slot_for (layout_of C) F.frames k own_frame.0.body r ≡ job_slot C (layout_of C) F.frames (Does k e c) r
     own_slot r = sym (ap (λ (z : Option Frame). elim z [ None ↦ Absent | Some g ↦ slot_for (layout_of C) F.frames k g.body r ]) own_frame.1)
@@ -266,7 +273,7 @@ module _ (C : Code) (I : IsCode C) (es : List Event) (F : Fields) (x : Stands C 
     abbrev what : Computed
     what = compute (entry C e).act (answered C path (entry C e).needs xs)
 
-    right : (r : Name) → In r (stored_of (entry C e).node (entry C e).act) → In r (entry C e).writes
+    pub right : (r : Name) → In r (stored_of (entry C e).node (entry C e).act) → In r (entry C e).writes
     right r m = I.stores e r (stored_target C (entry C e).act (entry C e).node r m)
 
     pub clash_there : mine.Clashes C F.frames F.cells (Does k e c) what → Clashes (code_system C) s (effect_at C e path c what)

@@ -49,7 +49,7 @@ module _ (cs : List (Option Counted)) (d : ℕ) where
   key_some k h = is_has (cell_element k (slot_at cs d)) h
 
 -- elements of a map are in their order
-elements_back : (es : List Element) → elements (pairs es) ≡ es
+pub elements_back : (es : List Element) → elements (pairs es) ≡ es
 elements_back [] = refl
 elements_back (e ∷ es) = ap (λ l. e ∷ l) (elements_back es)
 

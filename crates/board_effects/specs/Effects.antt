@@ -1,14 +1,14 @@
 -- What an item does when it ends, told by what it computed.
-use Rattle.std.specs.Prelude.{◌≡◌, ℕ, true, List, [], ◌∷◌, length, map, reverse, Option, Some, None, if◌then◌else◌}
+use Rattle.std.specs.Prelude.{◌≡◌, ◌≤◌, ℕ, true, List, [], ◌∷◌, length, map, reverse, Option, Some, None, if◌then◌else◌}
 use Rattle.std.specs.List.{filter}
 use Rattle.dataflow.specs.Machine.{ElementTwice, Fault, OfTask}
 use Rattle.dataflow.specs.System.{Bad, Effect as PureEffect, Good, In, Outcome}
-use Rattle.replayed.specs.Ending.{has_entries, job_stores, printed}
-use Rattle.replayed.specs.Fields.{Counted, Does, Frame, Job, Script, path_of, slot_at, task_of}
+use Rattle.replayed.specs.Ending.{has_entries, job_slot, job_stores, printed}
+use Rattle.replayed.specs.Fields.{Counted, DatumOf, Does, Frame, Job, Script, path_of, slot_at, task_of}
 use Rattle.replayed.specs.Needs.{cell_element}
 use Rattle.replayed.specs.Static.{opened, rests}
-use Rattle.task_code.specs.Code.{Code, Entry, entry}
-use Rattle.task_code.specs.Compute.{Computed, Elements, EntryFault, Inserts as InsertsAll, in_key_order, pairs}
+use Rattle.task_code.specs.Code.{Code, Entry, Name, entry, stored_of}
+use Rattle.task_code.specs.Compute.{Computed, Elements, EntryFault, Gives, Inserts as InsertsAll, in_key_order, pairs}
 use Rattle.task_code.specs.Effects.{Item, Main, Task, block, effect_at, instances, is_too_deep, only, outcome_of}
 use Rattle.task_code.specs.Places.{Place}
 use Rattle.values.specs.declared.key.Key.{Key}
@@ -17,6 +17,9 @@ use Rattle.board_code.specs.Spots.{layout_of}
 use Rattle.board_code.specs.Tables.{IsEntryTable, is_place}
 use Rattle.board_code.specs.declared.program.EntryTable.{EntryTable}
 use Rattle.board_work.specs.View.{fault_view}
+use Rattle.data_store.specs.Stores.{Store, array_at}
+use Rattle.values.specs.Maps.{element}
+use Rattle.board_data.specs.Stored.{IsScalarTarget, Takes}
 use Rattle.board_data.specs.Wanted.{FewSlots}
 use Rattle.board_frames.specs.View.{step_view}
 use Rattle.board_frames.specs.declared.place.FaultKind.{FaultKind}
@@ -48,6 +51,20 @@ abbrev pub lines_in : Effect → List Scalar
 lines_in (Prints v) = v ∷ []
 lines_in _ = []
 
+-- the data take what is stored: a scalar is one, and an array may be written, has none of the keys, and, where it has room, takes the elements
+abbrev pub CanStore : Effect → Store → Type 0
+CanStore (Stores d v) s = IsScalarTarget d s
+CanStore (Puts d k v) s = (n : ℕ) → d ≡ Some n → 1 ≤ (array_at s n).room → Takes n (element k v ∷ []) s
+CanStore (Inserts d es) s = (n : ℕ) → d ≡ Some n → length es.items ≤ (array_at s n).room → Takes n es.items s
+CanStore _ s = Unit {0}
+
+-- what is stored is what was computed
+abbrev pub IsStored : Effect → Computed → Type 0
+IsStored (Stores d v) x = x ≡ Gives v
+IsStored (Puts d k v) x = x ≡ InsertsAll ((k, v) ∷ [])
+IsStored (Inserts d es) x = x ≡ InsertsAll (pairs es.items)
+IsStored _ x = Unit {0}
+
 -- the fault that it leaves, with the task that met it
 abbrev pub fault_of : Task → Effect → Option (Task × Fault EntryFault)
 fault_of t (Fails f) = Some (t, kind_view f.kind)
@@ -78,6 +95,11 @@ module _ (C : Code) where
     IsStatementOf Script s = ⊥
     IsStatementOf (Does k i c) s = (s.at ≡ (entry C i).at) × (map step_view s.path.items ≡ reverse (path_of fs k))
 
+    -- a name that the entry of a job stores into stands for the datum
+    abbrev pub IsTarget : Job → ℕ → Type 0
+    IsTarget Script d = ⊥
+    IsTarget (Does k i c) d = (r : Name) × In r (stored_of (entry C i).node (entry C i).act) × (job_slot C (layout_of C) fs (Does k i c) r ≡ DatumOf d)
+
     -- no block is opened, and no item goes on with a loop
     pub record OpensNothing (j : Job) (x : Computed) : Type 0 where
       pub none : filter (has_entries C) (opened C (task_of fs j) x) ≡ []
@@ -107,6 +129,8 @@ module _ (C : Code) where
       pub record GoesWell (j : Job) (x : Computed) (e : Effect) : Type 0 where
         pub good : IsGood (outcome_for (task_of fs j) x)
         pub apart : Clashes j x → ⊥
+        pub computed : IsStored e x
+        pub leads : (d : ℕ) → target_in e ≡ Some d → IsTarget j d
         pub stored : (d : ℕ) → (if is_place d (target_in e) then values_in e else []) ≡ job_stores C (layout_of C) fs j x d
         pub rises : in_key_order (values_in e) ≡ true
         pub lines : printed C j x ≡ lines_in e

@@ -13,7 +13,9 @@ ghost use Rattle.task_code.specs.Whole.{IsCode};
 ghost use Rattle.values.specs.declared.key.Key.{Key};
 ghost use Rattle.values.specs.declared.value.Scalar.{Scalar};
 ghost use Rattle.board_code.specs.Spots.{layout_of};
-ghost use Rattle.board_effects.specs.Effects.{IsEffect, fault_of};
+ghost use Rattle.board_data.specs.View.{cells_view};
+ghost use Rattle.data_store.specs.Stores.{Store as AStore};
+ghost use Rattle.board_effects.specs.Effects.{CanStore, IsEffect, fault_of};
 ghost use Rattle.board_effects.specs.declared.effect.Effect.{Effect as AnEffect};
 
 /// Where the fields stand for the state of a history and the item of a number ends, which saw these answers: the next state has
@@ -24,4 +26,13 @@ pub fn effects_tell()
         (answers : List (Answer Key Scalar)) → SeesAll (code_system C) x.state (task_inputs C (task_of F.frames row.job)) answers →
         (e : AnEffect) → IsEffect C F.frames F.cells row.job (computed_by C (task_of F.frames row.job) answers) e →
         t.fault ≡ fault_of (task_of F.frames row.job) e }
+{}
+
+/// In the same case: the datum that the effect stores into takes what is stored, where there is room.
+pub fn effects_fit()
+    ensures { (C : Code) → IsCode C → (events : List Event) (F : Fields) (x : Stands C (layout_of C) events F) →
+        (w n : ℕ) (t : CodeState) → replayed C (events ++ End w n ∷ []) ≡ Some t → (row : Row) → row_of F.rows n ≡ Some row →
+        (answers : List (Answer Key Scalar)) → SeesAll (code_system C) x.state (task_inputs C (task_of F.frames row.job)) answers →
+        (store : AStore) → F.cells ≡ cells_view store.cells →
+        (e : AnEffect) → IsEffect C F.frames F.cells row.job (computed_by C (task_of F.frames row.job) answers) e → CanStore e store }
 {}

@@ -1,6 +1,6 @@
 use Rattle.std.proofs.Common.{◌≡◌, ◌∙◌, refl, sym, ap, subst, false}
 use Rattle.std.specs.List.{list_any}
-use Rattle.task_code.specs.Compute.{pairs}
+use Rattle.task_code.specs.Compute.{pairs, Inserts as Elements_}
 use Rattle.board_effects.specs.Ended.{cells_of}
 use Rattle.board_effects.specs.declared.effect.Effect.TheVariants.{Inserts}
 use Rattle.board_effects.proofs.Stores.{inserts_clash, inserts_ends}
@@ -14,6 +14,7 @@ returns-then-has_any c = λ w g r. ok_map _ _ c.fails.result (inserts_clash c.ar
 pub returns : goal.returns
 returns c = λ w g r.
     inserts_ends c.args.self w c.match-target.target c.args.elements.now (Inserts c.match-target.target c.in_ok-copied.field-0)
+    (ap (λ es. Elements_ (pairs es)) (sym c.in_ok-copied.ensures))
     (elim c.match-target.branch [ in-Some+else-has_any x ↦ x.target-is ∙ sym x.in-Some.is ∙ c.target-target.ensures | in_default x ↦ x.target-is ∙ c.target-target.ensures ])
     refl (ap pairs c.in_ok-copied.ensures) refl g r
     (λ d s. elim c.match-target.branch [
