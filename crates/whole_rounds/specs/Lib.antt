@@ -3,3 +3,4 @@ pub mod Told
 pub mod Silence
 pub mod Tasks
 pub mod Standing
+pub mod Made

@@ -1,5 +1,13 @@
 //! What follows from what is known: the block instances, their live statements, and the arrays that are closed.
 
+ghost use Rattle.std.specs.Prelude.{◌≡◌, ◌++◌, ◌∷◌, [], IfOk, OnOk};
+ghost use Rattle.flow.specs.View.{action_view, block_view, core_of, statement_view, waits_around};
+ghost use Rattle.syntax_trees.specs.Core.{local, stmt};
+ghost use Rattle.syntax_trees.specs.Parts.{block_list};
+ghost use Rattle.whole_facts.specs.Targeted.{assigns_in};
+ghost use Rattle.whole_rounds.specs.Made.{arrays_of, declares, declares_by, fresh, fresh_all, tasks_of, unless_assigned};
+ghost use Rattle.whole_rounds.specs.Standing.{deed_view};
+
 use crate::site::Site;
 use flow::name::{Name, Owned};
 use flow::script::Flow;
@@ -53,7 +61,11 @@ pub struct State<'a, A: Allocator> {
 
 impl<'a, A: Allocator> State<'a, A> {
     /// Nothing is known, and the script's own block is live.
-    pub fn new(alloc: Global, flow: &'a Flow<A>) -> Result<State<'a, A>, AllocError> {
+    pub fn new(alloc: Global, flow: &'a Flow<A>) -> Result<State<'a, A>, AllocError>
+        ensures tasks { IfOk result (λ state. tasks_of state ≡ fresh_all 0 (block_list (core_of flow.entry.now).body)) }
+        ensures arrays { IfOk result (λ state. arrays_of state ≡ declares 0 (core_of flow.entry.now).body (block_list (core_of flow.entry.now).body)) }
+        ensures flow { IfOk result (λ state. state.flow.now ≡ flow.entry.now) }
+    {
         let mut state = State {
             flow,
             learned: Learned::new(alloc)?,
@@ -70,7 +82,12 @@ impl<'a, A: Allocator> State<'a, A> {
         instance: usize,
         waits: &'a [Header<A>],
         block: &'a Block<A>,
-    ) -> Result<(), AllocError> {
+    ) -> Result<(), AllocError>
+        ensures tasks { OnOk result (tasks_of self.new ≡ tasks_of self.old ++ fresh_all instance (block_list (waits_around waits.entry.now (block_view block.entry.now)))) }
+        ensures arrays { OnOk result (let inside = waits_around waits.entry.now (block_view block.entry.now) in arrays_of self.new ≡ arrays_of self.old ++ declares instance inside (block_list inside)) }
+        ensures learned { self.new.learned ≡ self.old.learned }
+        ensures flow { self.new.flow.now ≡ self.old.flow.now }
+    {
         match waits {
             [] => self.add_statements(instance, block),
             [wait, inner @ ..] => self.add_task(
@@ -90,7 +107,12 @@ impl<'a, A: Allocator> State<'a, A> {
         }
     }
 
-    fn add_statements(&mut self, instance: usize, block: &'a Block<A>) -> Result<(), AllocError> {
+    fn add_statements(&mut self, instance: usize, block: &'a Block<A>) -> Result<(), AllocError>
+        ensures tasks { OnOk result (tasks_of self.new ≡ tasks_of self.old ++ fresh_all instance (block_list (block_view block.entry.now))) }
+        ensures arrays { OnOk result (arrays_of self.new ≡ arrays_of self.old ++ declares instance (block_view block.entry.now) (block_list (block_view block.entry.now))) }
+        ensures learned { self.new.learned ≡ self.old.learned }
+        ensures flow { self.new.flow.now ≡ self.old.flow.now }
+    {
         for statement in &block.statements {
             self.add_statement(instance, block, statement)?;
         }
@@ -102,39 +124,61 @@ impl<'a, A: Allocator> State<'a, A> {
         instance: usize,
         block: &'a Block<A>,
         statement: &'a Statement<A>,
-    ) -> Result<(), AllocError> {
-        let deed = match &statement.action {
-            Action::Wait {
-                names,
-                inner,
-                content,
-            } => Deed::Waits(
-                names.as_slice(),
-                Content {
-                    waits: inner.as_slice(),
-                    block: content,
-                },
-            ),
-            action => Deed::Does(action),
-        };
-        if let Action::Declare(variable) = &statement.action {
-            self.add_array(instance, block, variable.node)?;
-        }
+    ) -> Result<(), AllocError>
+        ensures tasks { OnOk result (tasks_of self.new ≡ tasks_of self.old ++ fresh instance (statement_view statement.entry.now) ∷ []) }
+        ensures arrays { OnOk result (arrays_of self.new ≡ arrays_of self.old ++ declares instance (block_view block.entry.now) (statement_view statement.entry.now ∷ [])) }
+        ensures learned { self.new.learned ≡ self.old.learned }
+        ensures flow { self.new.flow.now ≡ self.old.flow.now }
+    {
+        self.add_declared(instance, block, &statement.action)?;
         let site = Site {
             instance,
             at: statement.at,
             node: statement.node,
         };
-        self.add_task(site, deed)
+        self.add_task(site, deed_of(&statement.action))
     }
 
     /// Adds a variable that a block declares, where it may come to be closed: what is assigned as a scalar never is.
+    fn add_declared(
+        &mut self,
+        instance: usize,
+        block: &'a Block<A>,
+        action: &'a Action<A>,
+    ) -> Result<(), AllocError>
+        ensures arrays { OnOk result (arrays_of self.new ≡ arrays_of self.old ++ declares_by instance (block_view block.entry.now) (action_view action.entry.now)) }
+        ensures tasks { tasks_of self.new ≡ tasks_of self.old }
+        ensures learned { self.new.learned ≡ self.old.learned }
+        ensures flow { self.new.flow.now ≡ self.old.flow.now }
+    {
+        match action {
+            Action::Declare(variable) => self.add_array(instance, block, variable.node),
+            Action::Call { .. }
+            | Action::Assign { .. }
+            | Action::Fill { .. }
+            | Action::Insert { .. }
+            | Action::Print { .. }
+            | Action::Assert { .. }
+            | Action::When { .. }
+            | Action::Choose { .. }
+            | Action::Range { .. }
+            | Action::Each { .. }
+            | Action::Wait { .. } => Ok(()),
+        }
+    }
+
     fn add_array(
         &mut self,
         instance: usize,
         block: &'a Block<A>,
         node: u32,
-    ) -> Result<(), AllocError> {
+    ) -> Result<(), AllocError>
+        ensures arrays { OnOk result (arrays_of self.new
+            ≡ arrays_of self.old ++ unless_assigned instance (block_view block.entry.now) node (assigns_in (local node) (block_view block.entry.now))) }
+        ensures tasks { tasks_of self.new ≡ tasks_of self.old }
+        ensures learned { self.new.learned ≡ self.old.learned }
+        ensures flow { self.new.flow.now ≡ self.old.flow.now }
+    {
         if !is_assigned_in(Owned::Local(node), block) {
             self.arrays.push(Array {
                 place: Place { instance, node },
@@ -144,7 +188,12 @@ impl<'a, A: Allocator> State<'a, A> {
         Ok(())
     }
 
-    fn add_task(&mut self, site: Site, deed: Deed<'a, A>) -> Result<(), AllocError> {
+    fn add_task(&mut self, site: Site, deed: Deed<'a, A>) -> Result<(), AllocError>
+        ensures tasks { OnOk result (tasks_of self.new ≡ tasks_of self.old ++ fresh site.instance (stmt site.at site.node (deed_view deed.entry)) ∷ []) }
+        ensures arrays { arrays_of self.new ≡ arrays_of self.old }
+        ensures learned { self.new.learned ≡ self.old.learned }
+        ensures flow { self.new.flow.now ≡ self.old.flow.now }
+    {
         self.tasks.push(Task {
             site,
             deed,
@@ -153,5 +202,25 @@ impl<'a, A: Allocator> State<'a, A> {
             told: false,
         })?;
         Ok(())
+    }
+}
+
+/// What a statement does, with a `wait` taken apart.
+fn deed_of<A: Allocator>(action: &Action<A>) -> Deed<'_, A>
+    ensures { deed_view result ≡ action_view action.entry.now }
+{
+    match action {
+        Action::Wait {
+            names,
+            inner,
+            content,
+        } => Deed::Waits(
+            names.as_slice(),
+            Content {
+                waits: inner.as_slice(),
+                block: content,
+            },
+        ),
+        other => Deed::Does(other),
     }
 }
