@@ -1,13 +1,18 @@
 -- Counts of items that wait or run, where a mark is changed.
-use Rattle.std.proofs.Common.{◌≡◌, ◌∙◌, ℕ, zero, suc, ◌+◌, Bool, true, false, ◌&&◌, List, [], ◌∷◌, refl, ap, subst, arith, Some}
+use Rattle.std.proofs.Common.{◌≡◌, ◌∙◌, ℕ, zero, suc, ◌+◌, ◌≤◌, Bool, true, false, ◌&&◌, List, [], ◌∷◌, ◌++◌, refl, ap, subst, arith, Some}
 use Rattle.std.specs.Prelude.{if◌then◌else◌}
 use Rattle.replayed.specs.Ending.{job_kind}
 use Rattle.replayed.specs.Fields.{Mark, Row, row_of}
 use Rattle.replayed.specs.Marking.{kind_eq, mark_at}
 use Rattle.replayed.proofs.Rows.{no_row}
 use Rattle.replayed.proofs.Tests.{none_some, some_same}
-use Rattle.task_code.specs.Code.{Code, Kind}
-use Rattle.board_items.specs.Room.{apart_in, is_apart}
+use Rattle.task_code.specs.Code.{Code, Control, Kind, Leaf}
+use Rattle.std.specs.Prelude.{vec_capacity}
+use Rattle.board_frames.specs.View.{rows_view}
+use Rattle.work_queue.specs.Both.{Both}
+use Rattle.board_items.specs.Room.{IsRoomy, IsRoomyFor, apart_in, is_apart}
+use Rattle.board_items.specs.declared.items.Counts.{Counts}
+use Rattle.board_items.specs.declared.items.Items.{Items}
 
 module _ (C : Code) (k : Kind) where
   abbrev counts : Mark → Row → ℕ
@@ -38,3 +43,27 @@ module _ (C : Code) (k : Kind) where
 
   pub counts_not : (m : Mark) (r : Row) → is_apart m ≡ false → counts m r ≡ 0
   counts_not m r a = λ i. if a i && kind_eq k (job_kind C r.job) then 1 else 0
+
+apart_append : (C : Code) (k : Kind) (xs ys : List Row) → apart_in C k (xs ++ ys) ≡ apart_in C k xs + apart_in C k ys
+apart_append C k [] ys = zero_more (apart_in C k ys)
+  where
+    zero_more : (n : ℕ) → n ≡ 0 + n
+    zero_more n = omega arith
+apart_append C k (x ∷ xs) ys = let h = apart_append C k xs ys in omega arith
+
+-- new rows for which there is room
+pub placed_roomy : (C : Code) (controls leaves : ℕ) (old new : Items) (more : List Row) → IsRoomyFor C controls leaves old → rows_view new.rows.items ≡ rows_view old.rows.items ++ more → apart_in C Control more ≤ controls → apart_in C Leaf more ≤ leaves → new.queue ≡ old.queue → new.apart ≡ old.apart → new.newly ≡ old.newly → IsRoomy C new
+placed_roomy C controls leaves old new more room e a b q z n =
+    let c = ap (apart_in C Control) e ∙ apart_append C Control (rows_view old.rows.items) more in
+    let d = ap (apart_in C Leaf) e ∙ apart_append C Leaf (rows_view old.rows.items) more in
+    let q1 = ap (λ (x : Both). x.control.room) q in
+    let q2 = ap (λ (x : Both). x.leaf.room) q in
+    let z1 = ap (λ (x : Counts). x.controls) z in
+    let z2 = ap (λ (x : Counts). x.leaves) z in
+    let m = ap (λ v. vec_capacity v) n in
+    let o1 = room.controls_counted in
+    let o2 = room.leaves_counted in
+    let o3 = room.controls_fit in
+    let o4 = room.leaves_fit in
+    let o5 = room.noted in
+    record { controls_counted = omega arith; leaves_counted = omega arith; controls_fit = omega arith; leaves_fit = omega arith; noted = omega arith }

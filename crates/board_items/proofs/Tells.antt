@@ -9,7 +9,7 @@ use Rattle.std.proofs.lemmas.List.Sorted.{IsPermutation-map}
 use Rattle.dataflow.specs.System.{Distinct, In}
 use Rattle.dataflow.proofs.Lists.{distinct_append, in_left, in_map, in_right, in_split, in_unmap, map_append}
 use Rattle.replayed.specs.Ending.{NewlyAfter, QueueAfter, WaitsAfter, ended_rows, job_kind, job_priority, mark_after, missed_again, missed_first, new_row, or_else}
-use Rattle.replayed.specs.Fields.{Does, Fields, Job, Layout, Ready, Row, Script, Waiter, Waiting, Want, row_of}
+use Rattle.replayed.specs.Fields.{Does, Counted, Fields, Frame, Job, Layout, Ready, Row, Script, Waiter, Waiting, Want, row_of}
 use Rattle.replayed.specs.Marking.{kind_eq}
 use Rattle.replayed.specs.Needs.{job_missed}
 use Rattle.replayed.proofs.EndedItems.{row_below}
@@ -19,7 +19,8 @@ use Rattle.replayed.proofs.Tests.{and_true, both_true, in_kept, kept_in, none_so
 use Rattle.rules.specs.Waiting as Rules
 use Rattle.task_code.specs.Code.{Code, Control, Kind, Leaf}
 use Rattle.board_code.specs.Spots.{layout_of}
-use Rattle.board_items.specs.Ended.{AreSettled, ItemsFit, can_begin, missed_at, misses, misses_first, numbers_behind, row_misses, runs_so, waiter_at}
+use Rattle.board_items.specs.Progress.{AreOld}
+use Rattle.board_items.specs.Ended.{AreSettled, AreToSettle, IsSeen, ItemsFit, can_begin, missed_at, misses, misses_first, numbers_behind, row_misses, runs_so, waiter_at}
 use Rattle.board_items.specs.Learnt.{HaveLearnt, is_nil, left_to, served, waiting_on}
 use Rattle.board_items.specs.View.{waiters_view}
 use Rattle.board_items.proofs.Lists.{distinct_kept, distinct_moved, in_back, in_moved}
@@ -68,6 +69,45 @@ new_there (b ∷ jobs) (suc j) h = new_there jobs j (omega arith)
 number_from : (rows : List Row) (m : ℕ) (r : Row) → row_of rows m ≡ Some r → (j : ℕ) × (m ≡ suc j) × (j < length rows)
 number_from rows zero r h = no_row rows r h
 number_from rows (suc j) r h = (j, refl, row_below rows j r h)
+
+-- all that were woken, and all new ones, wait to be settled
+module _ (F : Fields) (jobs : List Job) (known : List (Want ℕ)) (ws : List Rules.Waiting) (woken : List ℕ) (fit : ItemsFit F) (learnt : HaveLearnt known F.waiting ws woken) where
+  woken_row : (m : ℕ) → In m woken → (r : Row) × (row_of F.rows m ≡ Some r) × (r.mark ≡ Waiting)
+  woken_row m h =
+      let s = served_was known F.waiting m (in_back (served known F.waiting) woken m learnt.noted h) in
+      let r = (fit.waiting s.was s.there).1 in
+      (r.0, ap (row_of F.rows) (sym s.same) ∙ r.1, r.2)
+
+  new_row_there : (m : ℕ) → length F.rows < m → m ≤ length F.rows + length jobs → (r : Row) × (row_of (F.rows ++ map new_row jobs) m ≡ Some r) × (r.mark ≡ Waiting)
+  new_row_there zero l u = absurd (omega arith)
+  new_row_there (suc k) l u =
+      let e : (j : ℕ) × (suc k ≡ length F.rows + suc j) × (j < length jobs) = (k - length F.rows, omega arith, omega arith) in
+      let b = new_there jobs e.0 e.2 in
+      (new_row b.0, ap (row_of (F.rows ++ map new_row jobs)) e.1 ∙ row_of_new F.rows jobs e.0 ∙ b.1, refl)
+
+  pub woken_old : AreOld (length F.rows) woken
+  woken_old m h = let r = woken_row m h in let q = number_from F.rows m r.0 r.1 in let e = q.1 in let l = q.2 in omega arith
+
+  all_wait : (m : ℕ) → In m (woken ++ numbers_behind (length F.rows) (length jobs)) → (r : Row) × (row_of (F.rows ++ map new_row jobs) m ≡ Some r) × (r.mark ≡ Waiting)
+  all_wait m h =
+      elim (in_split m woken (numbers_behind (length F.rows) (length jobs)) h) [
+        | inl g ↦ (let r = woken_row m g in (r.0, row_kept F.rows (map new_row jobs) m r.0 r.1, r.2))
+        | inr g ↦ (let b = behind_first (length F.rows) (length jobs) m g in new_row_there m b.0 b.1)
+      ]
+
+  pub all_settle : (C : Code) (fs : List (Option Frame)) (cs : List (Option Counted)) (n : ℕ) (own : Row) → row_of F.rows n ≡ Some own → (own.mark ≡ Waiting → ⊥) → ((m : ℕ) (r : Row) → row_of (F.rows ++ map new_row jobs) m ≡ Some r → r.mark ≡ Waiting → IsSeen C fs r.job) → AreToSettle C fs cs (F.rows ++ map new_row jobs) (length F.rows) n (woken ++ numbers_behind (length F.rows) (length jobs))
+  all_settle C fs cs n own at runs seen =
+      record {
+        waits = all_wait;
+        seen_job = λ m r h q. let w = all_wait m h in seen m r q (ap (λ (x : Row). x.mark) (some_same (sym q ∙ w.1)) ∙ w.2);
+        others = λ m h e.
+            let w = all_wait m h in
+            let same : own ≡ w.0 = some_same (sym (row_kept F.rows (map new_row jobs) n own at) ∙ ap (row_of (F.rows ++ map new_row jobs)) (sym e) ∙ w.1) in
+            runs (ap (λ (x : Row). x.mark) same ∙ w.2);
+        once =
+            distinct_append woken (numbers_behind (length F.rows) (length jobs)) (distinct_moved (served known F.waiting) woken learnt.noted (served_once known F.waiting fit.once)) (behind_once (length F.rows) (length jobs))
+            (λ m h g. let l = woken_old m h in let u = (behind_first (length F.rows) (length jobs) m g).0 in absurd (omega arith));
+      }
 
 module _ (C : Code) (F G : Fields) (n : ℕ) (jobs : List Job) (known : List (Want ℕ)) (ws : List Rules.Waiting) (woken : List ℕ) (fit : ItemsFit F) (learnt : HaveLearnt known F.waiting ws woken) (a : AreSettled C G.frames G.cells (F.rows ++ map new_row jobs) (length F.rows) n (waiters_view ws) F.queue (woken ++ numbers_behind (length F.rows) (length jobs)) G.rows G.waiting G.queue G.newly) where
   abbrev L : Layout

@@ -36,6 +36,14 @@ module _ (C : Code) where
     pub leaves_fit : apart_in Leaf (rows_view items.rows.items) ≤ items.queue.leaf.room
     pub noted : 0 < vec_capacity items.newly
 
+  -- the same with so many more of each kind
+  pub record IsRoomyFor (controls leaves : ℕ) (items : Items) : Type 0 where
+    pub controls_counted : apart_in Control (rows_view items.rows.items) + controls ≤ items.apart.controls
+    pub leaves_counted : apart_in Leaf (rows_view items.rows.items) + leaves ≤ items.apart.leaves
+    pub controls_fit : apart_in Control (rows_view items.rows.items) + controls ≤ items.queue.control.room
+    pub leaves_fit : apart_in Leaf (rows_view items.rows.items) + leaves ≤ items.queue.leaf.room
+    pub noted : 0 < vec_capacity items.newly
+
   -- so many more items can wait, and can be noted as newly enabled
   pub record HasRoom (left : ℕ) (items : Items) : Type 0 where
     pub roomy : IsRoomy items

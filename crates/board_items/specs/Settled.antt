@@ -1,5 +1,5 @@
 -- What it leaves that an item waits, or can begin.
-use Rattle.std.specs.Prelude.{◌≡◌, ◌+◌, ◌^◌, min, ◌-◌, ◌<◌, ◌≤◌, ◌++◌, ◌∷◌, [], ℕ, ℤ, List, map, vec_capacity, vec_len}
+use Rattle.std.specs.Prelude.{◌≡◌, ◌+◌, ◌^◌, min, ◌-◌, ◌<◌, ◌≤◌, ◌++◌, ◌∷◌, [], ℕ, ℤ, List, map, pos, vec_capacity, vec_len}
 use Rattle.replayed.specs.Fields as Pure
 use Rattle.replayed.specs.Marking.{mark_at}
 use Rattle.rules.specs.Waiting.{GivesRoomBack, IsAdded, IsListed, still_waiting, woken}
@@ -27,6 +27,16 @@ pub record StaysButWaits (old new : Items) : Type 0 where
   pub apart : new.apart ≡ old.apart
   pub running : new.running ≡ old.running
 
+-- nothing has changed but room
+pub record StaysButRoom (old new : Items) : Type 0 where
+  pub rows : new.rows.items ≡ old.rows.items
+  pub waiting : new.rules.waiting ≡ old.rules.waiting
+  pub control : new.queue.control.entries ≡ old.queue.control.entries
+  pub leaf : new.queue.leaf.entries ≡ old.queue.leaf.entries
+  pub newly : new.newly.items ≡ old.newly.items
+  pub woken : new.woken.items ≡ old.woken.items
+  pub running : new.running ≡ old.running
+
 -- the input is known now: who waits waits for it no more, and those whose last it was are noted
 pub record IsTold (i : Input) (old new : Items) : Type 0 where
   pub waiting : new.rules.waiting ≡ still_waiting i old.rules.waiting
@@ -39,9 +49,19 @@ one_less Control a = record a { controls = a.controls - 1 }
 one_less Leaf a = record a { leaves = a.leaves - 1 }
 
 -- one more of the kind, as far as 64 bits count
-abbrev pub HasOneMore : Kind → Counts → Counts → Type 0
-HasOneMore Control a b = (b.leaves ≡ a.leaves) × (b.controls ≡ min (a.controls + 1) (2 ^ 64 - 1))
-HasOneMore Leaf a b = (b.controls ≡ a.controls) × (b.leaves ≡ min (a.leaves + 1) (2 ^ 64 - 1))
+abbrev pub one_more : Kind → Counts → Counts
+one_more Control a = record a { controls = min (a.controls + 1) (2 ^ 64 - 1) }
+one_more Leaf a = record a { leaves = min (a.leaves + 1) (2 ^ 64 - 1) }
+
+-- the item of number 1 alone, which opens the script and can begin
+pub record AreFirst (items : Items) : Type 0 where
+  pub rows : rows_view items.rows.items ≡ record { job = Pure.Script; mark = Pure.Ready } ∷ []
+  pub waiting : items.rules.waiting ≡ []
+  pub controls : items.queue.control.entries ≡ record { priority = pos 0; no = 1 } ∷ []
+  pub leaves : items.queue.leaf.entries ≡ []
+  pub newly : items.newly.items ≡ []
+  pub running : items.running ≡ 0
+  pub noted : 0 < vec_capacity items.newly
 
 -- the item waits for these inputs from now on, and nothing can begin that could not
 pub record IsWaiting (number : ℕ) (missing : List (Want ℕ)) (old new : Items) : Type 0 where

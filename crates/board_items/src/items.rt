@@ -1,5 +1,6 @@
 //! Items that wait, can begin, or run.
-ghost use Rattle.std.specs.Prelude.{◌≡◌, ◌<◌, ◌≤◌, ◌+◌, ◌-◌, ◌++◌, ◌∷◌, ◌^◌, [], ℕ, List, Contains, IsOk, IfOk, OnOk, length, vec_len, vec_capacity};
+ghost use Rattle.std.specs.Prelude.{◌≡◌, ◌<◌, ◌≤◌, ◌+◌, ◌-◌, ◌++◌, ◌∷◌, ◌^◌, [], ℕ, List, Contains, IsOk, IfOk, IsTrue, None, ◌↔◌, OnOk, length, vec_len, vec_capacity};
+ghost use Rattle.work_queue.specs.Entries.{first_number};
 ghost use Rattle.replayed.specs.Ending.{job_kind, job_priority};
 ghost use Rattle.replayed.specs.Fields.{Ready as ready_mark, Running as running_mark};
 ghost use Rattle.replayed.specs.Fields.{Waiter, Want};
@@ -11,7 +12,9 @@ ghost use Rattle.board_code.specs.Tables.{queue_kind};
 ghost use Rattle.board_data.specs.View.{want_view};
 ghost use Rattle.board_frames.specs.View.{job_view, rows_view};
 ghost use Rattle.board_items.specs.Learnt.{HaveLearnt};
-ghost use Rattle.board_items.specs.Settled.{HasOneMore, IsTold, one_less, StaysButOrder, StaysButWaits};
+ghost use Rattle.board_items.specs.Room.{IsRoomy, IsRoomyFor};
+ghost use Rattle.task_code.specs.Code.{Code};
+ghost use Rattle.board_items.specs.Settled.{AreFirst, one_more, IsTold, StaysButRoom, one_less, StaysButOrder, StaysButWaits};
 
 use board_code::program::Program;
 use board_frames::item::{Item, Job, Mark, mark_item};
@@ -46,7 +49,7 @@ pub struct Items {
 impl Counts {
     /// One more of the kind.
     pub fn add(&mut self, kind: Kind)
-        ensures { HasOneMore kind self.old self.new }
+        ensures { self.new ≡ one_more kind self.old }
     {
         match kind {
             Kind::Control => self.controls = self.controls.saturating_add(1),
@@ -84,6 +87,44 @@ pub fn order_of(program: &Program, job: Job) -> (Kind, i32)
 }
 
 impl Items {
+    /// The item of number 1 alone, which can begin.
+    ///
+    /// # Errors
+    ///
+    /// `AllocError` where memory is refused.
+    pub fn new(alloc: Global) -> Result<Items, AllocError>
+        ensures { IfOk result AreFirst }
+    {
+        let mut items = Items {
+            rows: Vec::new(alloc),
+            rules: Rules::new(alloc),
+            queue: Queue::new(alloc),
+            newly: Vec::new(alloc),
+            woken: Vec::new(alloc),
+            apart: Counts {
+                controls: 0,
+                leaves: 0,
+            },
+            running: 0,
+        };
+        items.rows.push(Item {
+            job: Job::Script,
+            mark: Mark::Ready,
+        })?;
+        items.queue.put(Kind::Control, 0, 1)?;
+        items.newly.reserve(1)?;
+        Ok(items)
+    }
+
+    /// Whether no item runs or can begin.
+    pub fn is_still(&self) -> bool
+        ensures { IsTrue result ↔ ((self.now.running ≡ 0) × (first_number self.now.queue.control.entries ≡ None) × (first_number self.now.queue.leaf.entries ≡ None)) }
+    {
+        self.running == 0
+            && self.queue.first(Kind::Control).is_none()
+            && self.queue.first(Kind::Leaf).is_none()
+    }
+
     /// The item, which can begin, runs on the worker. Takes no memory.
     pub fn begin(&mut self, worker: u8, number: u64, order: (Kind, i32))
         ensures stays { StaysButOrder self.old self.new }
@@ -92,6 +133,7 @@ impl Items {
         ensures running { self.old.running + 1 < 2 ^ 64 → self.new.running ≡ self.old.running + 1 }
         ensures newly { self.new.newly.items ≡ [] }
         ensures capacity { vec_capacity self.new.newly ≡ vec_capacity self.old.newly }
+        ensures apart { self.new.apart ≡ one_more order.0 self.old.apart }
     {
         let (kind, priority) = order;
         self.newly.clear();
@@ -108,6 +150,7 @@ impl Items {
         ensures queue { 0 < (of order.0 self.old.queue).room → self.new.queue ≡ with_changed order.0 (with_put (record { priority = order.1; no = number })) self.old.queue }
         ensures running { self.new.running ≡ self.old.running - 1 }
         ensures newly { 0 < vec_capacity self.old.newly → self.new.newly.items ≡ number ∷ [] }
+        ensures apart { self.new.apart ≡ one_less order.0 self.old.apart }
         ensures capacity { vec_capacity self.old.newly ≤ vec_capacity self.new.newly }
     {
         self.newly.clear();
@@ -144,5 +187,58 @@ impl Items {
         if all <= self.woken.capacity() {
             self.rules.known(input, &mut self.woken);
         }
+    }
+
+    /// Room for the items that an End may enable: those that wait, and so many more. Nothing else changes.
+    ///
+    /// # Errors
+    ///
+    /// `AllocError` where memory is refused.
+    pub fn reserve_to_wake(&mut self, more: usize) -> Result<(), AllocError>
+        ensures stays { StaysButRoom self.old self.new }
+        ensures room { self.new.rules ≡ self.old.rules }
+        ensures woken { OnOk result (vec_len self.new.woken + length self.new.rules.waiting ≤ vec_capacity self.new.woken) }
+        ensures newly { OnOk result (vec_len self.new.newly + (length self.new.rules.waiting + more) ≤ vec_capacity self.new.newly) }
+        ensures queue { self.new.queue ≡ self.old.queue }
+        ensures apart { self.new.apart ≡ self.old.apart }
+        ensures capacity { vec_capacity self.old.newly ≤ vec_capacity self.new.newly }
+    {
+        let waiting = self.rules.waiting();
+        // So many items are more than memory has room for.
+        let Some(all) = waiting.checked_add(more) else {
+            return Err(AllocError);
+        };
+        self.woken.reserve(waiting)?;
+        self.newly.reserve(all)
+    }
+
+    /// Room for so many new items of each kind, which are counted from now on. Nothing else changes.
+    ///
+    /// # Errors
+    ///
+    /// `AllocError` where memory is refused. Some of the room may be there then.
+    pub fn reserve_new(&mut self, added: Counts) -> Result<(), AllocError>
+        ensures stays { StaysButRoom self.old self.new }
+        ensures roomy { OnOk result ((code : Code) → IsRoomy code self.old → IsRoomyFor code added.controls added.leaves self.new) }
+        ensures kept { (code : Code) → IsRoomy code self.old → IsRoomy code self.new }
+        ensures rows { OnOk result (vec_len self.new.rows + (added.controls + added.leaves) ≤ vec_capacity self.new.rows) }
+        ensures rules { OnOk result (added.controls + added.leaves ≤ self.new.rules.room) }
+    {
+        // So many items are more than memory has room for.
+        let Some(controls) = self.apart.controls.checked_add(added.controls) else {
+            return Err(AllocError);
+        };
+        let Some(leaves) = self.apart.leaves.checked_add(added.leaves) else {
+            return Err(AllocError);
+        };
+        let Some(all) = added.controls.checked_add(added.leaves) else {
+            return Err(AllocError);
+        };
+        self.rows.reserve(all)?;
+        self.rules.reserve(all)?;
+        self.queue.reserve(Kind::Control, controls)?;
+        self.queue.reserve(Kind::Leaf, leaves)?;
+        self.apart = Counts { controls, leaves };
+        Ok(())
     }
 }

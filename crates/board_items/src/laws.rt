@@ -1,15 +1,19 @@
 //! What items come to where fields stand for the state of a history.
-ghost use Rattle.std.specs.Prelude.{◌≡◌, ◌++◌, ℕ, List, [], length, map};
+ghost use Rattle.std.specs.Prelude.{◌≡◌, ◌≤◌, ◌++◌, ℕ, List, [], Option, Some, length, map};
 ghost use Rattle.dataflow.specs.Machine.{Event};
 ghost use Rattle.replayed.specs.Ending.{NewlyAfter, QueueAfter, WaitsAfter, ended_rows, new_row};
-ghost use Rattle.replayed.specs.Fields.{Fields, Job, Layout, Want};
+ghost use Rattle.replayed.specs.Fields.{Counted, Fields, Frame, Job, Layout, Row, Waiting as waiting_mark, Want, row_of};
 ghost use Rattle.replayed.specs.Stands.{Stands};
 ghost use Rattle.rules.specs.Waiting.{Waiting};
-ghost use Rattle.task_code.specs.Code.{Code};
+ghost use Rattle.task_code.specs.Code.{Code, Control, Leaf};
 ghost use Rattle.task_code.specs.Whole.{IsCode};
 ghost use Rattle.board_code.specs.Spots.{layout_of};
-ghost use Rattle.board_items.specs.Ended.{AreSettled, ItemsFit, numbers_behind};
+ghost use Rattle.board_items.specs.Ended.{AreSettled, AreToSettle, IsSeen, ItemsFit, numbers_behind};
 ghost use Rattle.board_items.specs.Learnt.{HaveLearnt};
+ghost use Rattle.board_frames.specs.View.{rows_view};
+ghost use Rattle.board_items.specs.Progress.{AreOld};
+ghost use Rattle.board_items.specs.Room.{IsRoomy, IsRoomyFor, apart_in};
+ghost use Rattle.board_items.specs.declared.items.Items.{Items as AllItems};
 ghost use Rattle.board_items.specs.View.{waiters_view};
 
 /// Where the fields stand for the state of a history, the items fit: those wait that are marked so, each once, for something, and
@@ -17,6 +21,22 @@ ghost use Rattle.board_items.specs.View.{waiters_view};
 pub fn fitting_items()
     ensures stands { (C : Code) → IsCode C → (L : Layout) (events : List Event) (F : Fields) → Stands C L events F → ItemsFit F }
     ensures nothing { (F : Fields) (start : List Waiting) → ItemsFit F → F.waiting ≡ waiters_view start → HaveLearnt [] F.waiting start [] }
+{}
+
+/// New rows for which room was made, and which were counted, leave room for all items that wait or run.
+pub fn roomy_items()
+    ensures placed { (C : Code) (controls leaves : ℕ) (old new : AllItems) (more : List Row) → IsRoomyFor C controls leaves old → rows_view new.rows.items ≡ rows_view old.rows.items ++ more → apart_in C Control more ≤ controls → apart_in C Leaf more ≤ leaves →
+        new.queue ≡ old.queue → new.apart ≡ old.apart → new.newly ≡ old.newly → IsRoomy C new }
+{}
+
+/// The items that have learnt of their last input, and the new ones behind the rows that there were, wait, each once, and the item
+/// that ended is none of them.
+pub fn items_to_settle()
+    ensures old { (F : Fields) (jobs : List Job) (known : List (Want ℕ)) (left : List Waiting) (woken : List ℕ) → ItemsFit F → HaveLearnt known F.waiting left woken → AreOld (length F.rows) woken }
+    ensures all { (F : Fields) (jobs : List Job) (known : List (Want ℕ)) (left : List Waiting) (woken : List ℕ) → ItemsFit F → HaveLearnt known F.waiting left woken →
+        (C : Code) (fs : List (Option Frame)) (cs : List (Option Counted)) (n : ℕ) (own : Row) → row_of F.rows n ≡ Some own → (own.mark ≡ waiting_mark → ⊥) →
+        ((m : ℕ) (r : Row) → row_of (F.rows ++ map new_row jobs) m ≡ Some r → r.mark ≡ waiting_mark → IsSeen C fs r.job) →
+        AreToSettle C fs cs (F.rows ++ map new_row jobs) (length F.rows) n (woken ++ numbers_behind (length F.rows) (length jobs)) }
 {}
 
 /// What becomes of rows, waiters, those newly enabled and the queue at the end of an item, where the items that learnt of their
