@@ -8,3 +8,4 @@ pub mod Tree
 pub mod Keeping
 pub mod Parting
 pub mod Seeing
+pub mod Growing

@@ -8,3 +8,4 @@ pub mod Keeping
 pub mod Added
 pub mod Chosen
 pub mod Listed
+pub mod Growing

@@ -1,13 +1,18 @@
 //! Laws of what was learned. Each function does nothing; its contract is the law.
-ghost use Rattle.std.specs.Prelude.{◌≡◌, ◌<◌, ℕ, Some, length};
+ghost use Rattle.std.specs.Prelude.{◌≡◌, ◌<◌, ℕ, List, Some, length};
 ghost use Rattle.syntax_trees.specs.Core.{Core, Name};
 ghost use Rattle.syntax_trees.specs.Places.{Path, place};
 ghost use Rattle.kept_facts.specs.Kept.{sight_by, past_by};
+ghost use Rattle.syntax_trees.specs.Facts as script;
+ghost use Rattle.whole_meaning.specs.Taken.{Knows};
+ghost use Rattle.whole_facts.specs.Added.{IsAdded};
+ghost use Rattle.whole_facts.specs.Growing.{fact_view, IsAgreed, IsWithin, KeepsFacts, With, with_facts};
 ghost use Rattle.whole_facts.specs.Keeping.{kept_of, past_of, IsLocated, IsPlaced};
 ghost use Rattle.whole_facts.specs.Paths.{path_of, at_path, IsTree};
 ghost use Rattle.whole_facts.specs.Sighted.{sight_of};
 ghost use Rattle.whole_facts.specs.Store.{spot};
 
+use crate::facts::{Fact, Facts};
 use crate::instances::Instances;
 use crate::learned::Learned;
 
@@ -26,4 +31,11 @@ pub fn what_is_kept()
     ensures recalls { (s : Core) (l : Learned) → IsPlaced s l.instances → (i : ℕ) → i < length l.instances.all.items → past_of l i ≡ past_by s (kept_of l) (path_of l.instances.all.items i) }
     ensures lies { (s : Core) (l : Learned) → IsPlaced s l.instances → (i : ℕ) → i < length l.instances.all.items → (x : Name)
         → IsLocated l.instances.all.items (spot l.instances.all.items i x) (place s (path_of l.instances.all.items i) x) }
+{}
+
+/// Where the facts that were learned are those that are known, they are so with one fact more, of which the places are those of
+/// instances, and with which a place has one value and a writer writes one scalar under a key.
+pub fn one_fact_more()
+    ensures { (fs : List script.Fact) (l : Learned) (k : Facts) (f : Fact) → IsTree l.instances → KeepsFacts (Knows fs) l → IsAdded l.facts f k → IsWithin l.instances.all.items f
+        → IsAgreed (With (Knows fs) (fact_view l.instances.all.items f)) → KeepsFacts (With (Knows fs) (fact_view l.instances.all.items f)) (with_facts l k) }
 {}
