@@ -13,7 +13,7 @@ use Rattle.values.proofs.Keys.{same_key-eq, same_key-refl}
 use Rattle.syntax_trees.specs.Facts as script
 use Rattle.syntax_trees.specs.Facts.{Fault, operation, no_element, element_twice, too_deep, Knowledge}
 use Rattle.syntax_trees.specs.Members.{◌∈◌, first, later}
-use Rattle.syntax_trees.specs.Places.{Path, Place}
+use Rattle.syntax_trees.specs.Places.{Place}
 use Rattle.syntax_trees.proofs.Members.{split_in, to_left, to_right, either}
 use Rattle.kept_facts.specs.Kept.{AreApart}
 use Rattle.kept_facts.specs.Kept.{Write as KeptWrite}
@@ -33,7 +33,7 @@ use Rattle.whole_facts.specs.Added.{first_of, with_write, IsAdded}
 use Rattle.whole_facts.specs.Growing.{fact_view, IsWithin, With, IsAgreed, KeepsFacts, with_facts}
 use Rattle.whole_facts.specs.Keeping.{by_place, in_instance, fault_at, has_kind, kept_of, kind_of, place_view, write_view, same_fault}
 use Rattle.whole_facts.specs.Kinds.{kind_view}
-use Rattle.whole_facts.specs.Paths.{path_of, at_path, IsTree}
+use Rattle.whole_facts.specs.Paths.{at_path, IsTree}
 use Rattle.whole_facts.specs.Store.{same_place, value_at, line_at, writes_at, is_written_in}
 use Rattle.whole_facts.proofs.Adding.{same_place-eq}
 use Rattle.whole_facts.proofs.Keeping.{at_path_of, found_there, one_instance}
@@ -67,7 +67,7 @@ at_view t h p l = at_path_of t h p.instance l
 -- ONE VALUE MORE
 
 put_value : {X : Type 0} (p q : Spot) (o : Option X) (v w : X) → (if same_place p q then first_of o v else o) ≡ Some w → (o ≡ Some w) ⊎ ((p ≡ q) × (v ≡ w))
-put_value p q (Some u) v w h = elim (cases_Bool (same_place p q)) [ | inl same ↦ inl (rw same at h) | inr other ↦ inl (rw other at h) ]
+put_value p q (Some u) v w h = elim (cases_Bool (same_place p q)) [ inl same ↦ inl (rw same at h) | inr other ↦ inl (rw other at h) ]
 put_value p q None v w h = elim (cases_Bool (same_place p q)) [
   | inl same ↦ let e : Some v ≡ Some w = rw same at h in inr (same_place-eq p q same, cc (e))
   | inr other ↦ inl (rw other at h)
@@ -89,7 +89,7 @@ value_there p None v f = rw (place_same p) refl
 -- a test of what is there
 put_some : {X : Type 0} (p q : Spot) (o : Option X) (v : X) → is_some (if same_place p q then first_of o v else o) ≡ true → (is_some o ≡ true) ⊎ (p ≡ q)
 put_some p q (Some u) v h = inl refl
-put_some p q None v h = elim (cases_Bool (same_place p q)) [ | inl same ↦ inr (same_place-eq p q same) | inr other ↦ inl (rw other at h) ]
+put_some p q None v h = elim (cases_Bool (same_place p q)) [ inl same ↦ inr (same_place-eq p q same) | inr other ↦ inl (rw other at h) ]
 
 -- ONE WRITE MORE
 
@@ -323,8 +323,8 @@ module _ (K : Knowledge) (l : Learned) (k : Facts) (h : IsTree l.instances) (c :
         instance = p.instance;
         found = at_view l.instances h p b;
         holds = a.values p ∙ value_there p (value_at l.facts p) v (λ u e. g.values (place_view l.instances.all.items p) u v
-        (inl (c.value_so (place_view l.instances.all.items p) u (look l.instances (λ (o : Option Value). o ≡ Some u) None (value_at l.facts) (place_view l.instances.all.items p) (record { instance = p.instance; found = at_view l.instances h p b; holds = e }))))
-        (inr refl));
+            (inl (c.value_so (place_view l.instances.all.items p) u (look l.instances (λ (o : Option Value). o ≡ Some u) None (value_at l.facts) (place_view l.instances.all.items p) (record { instance = p.instance; found = at_view l.instances h p b; holds = e }))))
+            (inr refl));
       })
 
       all : (q : Place) (u : Value) → With K (script.value (place_view l.instances.all.items p) v) (script.value q u) → (kept_of (with_facts l k)).value q ≡ Some u
@@ -460,9 +460,9 @@ module _ (K : Knowledge) (l : Learned) (k : Facts) (h : IsTree l.instances) (c :
           instance = s.instance;
           found = s.found;
           holds = subst (λ (z : List Write). record { key = key; writer = u; value = v } ∈ views z) (sym (added.writes (record { instance = s.instance; node = q.1 })))
-          (subst (λ (z : KeptWrite). z ∈ views (grown a (record { instance = s.instance; node = q.1 }) (writes_at l.facts (record { instance = s.instance; node = q.1 })) w)) (sym r.is)
-          (in_views l.instances.all.items (grown a (record { instance = s.instance; node = q.1 }) (writes_at l.facts (record { instance = s.instance; node = q.1 })) w) r.write
-          (to_grown a (record { instance = s.instance; node = q.1 }) (writes_at l.facts (record { instance = s.instance; node = q.1 })) w r.write r.there)));
+              (subst (λ (z : KeptWrite). z ∈ views (grown a (record { instance = s.instance; node = q.1 }) (writes_at l.facts (record { instance = s.instance; node = q.1 })) w)) (sym r.is)
+              (in_views l.instances.all.items (grown a (record { instance = s.instance; node = q.1 }) (writes_at l.facts (record { instance = s.instance; node = q.1 })) w) r.write
+              (to_grown a (record { instance = s.instance; node = q.1 }) (writes_at l.facts (record { instance = s.instance; node = q.1 })) w r.write r.there)));
         })
     element_all q key u v (inr e) =
         let place_is : q ≡ place_view l.instances.all.items a = cc (e) in
@@ -517,7 +517,7 @@ module _ (K : Knowledge) (l : Learned) (k : Facts) (h : IsTree l.instances) (c :
           instance = s.instance;
           found = s.found;
           holds = subst (λ (z : Key). by_place l.instances false (is_written_in (writes_at k (record { instance = s.instance; node = q.1 })) z) u ≡ true) (sym key_is)
-          (subst (λ (z : Place). by_place l.instances false (is_written_in (writes_at k (record { instance = s.instance; node = q.1 })) r.write.key) z ≡ true) (sym writer_is) inside);
+              (subst (λ (z : Place). by_place l.instances false (is_written_in (writes_at k (record { instance = s.instance; node = q.1 })) r.write.key) z ≡ true) (sym writer_is) inside);
         })
 
     pub write_more : KeepsFacts (With K (script.element (place_view l.instances.all.items a) w.key (place_view l.instances.all.items w.writer) w.value)) (with_facts l k)
