@@ -26,6 +26,10 @@ seen [] i = refl
 seen (x ∷ xs) zero = refl
 seen (x ∷ xs) (suc i) = seen xs i
 
+pub views : (xs : List Slot) → length (map slot_view xs) ≡ length xs
+views [] = refl
+views (x ∷ xs) = ap suc (views xs)
+
 seen_datum : (x : Slot) (d : ℕ) → slot_view x ≡ DatumOf d → x ≡ Slots.Datum d
 seen_datum Slots.Absent d e = absurd (cc)
 seen_datum (Slots.Datum k) d e = let q : k ≡ d = cc in ap (λ n. Slots.Datum n) q
@@ -108,6 +112,8 @@ module _ (own : List Own) where
       pub is_in : In was os
       pub frame : q.frame ≡ record { parent = (opening_frame was).parent; level = (opening_frame was).level; depth = (opening_frame was).depth; way = (opening_frame was).way; body = (opening_frame was).body; live = (opening_frame was).live; slots = q.frame.slots }
       pub stored : Stored (start_at (starts_of slots was)) q.frame s t
+      pub tail : (i : ℕ) → length own ≤ i → nth Absent q.frame.slots i ≡ nth Absent (opening_frame was).slots i
+      pub count : length q.frame.slots ≡ length (opening_frame was).slots
 
     head_stored : (o p : Opening) (q : Put) (s m : Store) → HasSlots (length own) o → Fills own slots o s p m → q.frame ≡ opening_frame p → Stored (start_at (starts_of slots o)) q.frame s m
     head_stored o p q s m h f e = stored_one (start_at (starts_of slots o)) q.frame p.instance.slots.items s m (ap (λ (z : Frame). z.slots) e) (f.makes h)
@@ -121,12 +127,16 @@ module _ (own : List Own) where
             is_in = inl refl;
             frame = e.0 ∙ f.1.frame ∙ ap (λ (zs : List Pure.Slot). record { parent = (opening_frame o).parent; level = (opening_frame o).level; depth = (opening_frame o).depth; way = (opening_frame o).way; body = (opening_frame o).body; live = (opening_frame o).live; slots = zs }) (sym (ap (λ (z : Frame). z.slots) e.0));
             stored = stored_within (start_at (starts_of slots o)) r.frame s s f.0 t (λ d y h. h) (kept_all os ps f.0 t (λ z j. all z (inr j)) f.2) (head_stored o p r s f.0 (all o (inl refl)) f.1 e.0);
+            tail = λ k h. ap (λ (z : Frame). nth Absent z.slots k) e.0 ∙ seen p.instance.slots.items k ∙ ap slot_view (f.1.others k h) ∙ sym (seen o.instance.slots.items k);
+            count = ap (λ (z : Frame). length z.slots) e.0 ∙ views p.instance.slots.items ∙ f.1.count ∙ sym (views o.instance.slots.items);
           })
           | inr j ↦ (let one = each_stored os ps qs f.0 t (λ z k. all z (inr k)) f.2 e.1 q j in record {
             was = one.was;
             is_in = inr one.is_in;
             frame = one.frame;
             stored = stored_within (start_at (starts_of slots one.was)) q.frame s f.0 t t (f.1.makes (all o (inl refl))).older (λ d y h. h) one.stored;
+            tail = one.tail;
+            count = one.count;
           })
         ]
     each_stored [] [] (r ∷ qs) s t all f p q i = absurd p

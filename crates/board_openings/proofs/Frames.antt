@@ -65,7 +65,7 @@ module _ (C : Code) (j : Job) (x : Computed) (o : Openings) (fs gs : List (Optio
   all_opened : (f : Frame) → In f (map opening_frame W.filled) → IsOpened C fs (home j) f
   all_opened = each_filled (own_of C o.body) (turn_slots o) (IsOpened C fs (home j)) (λ f xs h. record { parent = h.parent; level = h.level; depth = h.depth; live = h.live; some = h.some }) o.list.items W.filled s W.made W.fills B.each
 
-  count : length (map opening_frame W.filled) ≡ length o.list.items
+  pub count : length (map opening_frame W.filled) ≡ length o.list.items
   count = count_filled (own_of C o.body) (turn_slots o) o.list.items W.filled s W.made W.fills
 
   module _ (fits : FitsAround fs (home j) (length o.list.items)) where

@@ -1,9 +1,15 @@
+pub mod After
 pub mod Cells
 pub mod Chain
 pub mod Changed
+pub mod EntryOpens
 pub mod Filled
 pub mod Frames
 pub mod GivenUp
+pub mod Leads
 pub mod MadeData
 pub mod Opened
+pub mod Outer
+pub mod Rights
 pub mod Starts
+pub mod Steps

@@ -1,5 +1,5 @@
 -- The data of the instances that an End makes.
-use Rattle.std.proofs.Common.{◌≡◌, ◌⊎◌, ◌∙◌, refl, sym, ap, subst, inl, inr, ℕ, zero, suc, ◌+◌, ◌<◌, List, [], ◌∷◌, length, map, Option, Some, None, option_map, arith}
+use Rattle.std.proofs.Common.{◌≤◌, ◌++◌, replicate, ◌≡◌, ◌⊎◌, ◌∙◌, refl, sym, ap, subst, inl, inr, ℕ, zero, suc, ◌+◌, ◌<◌, List, [], ◌∷◌, length, map, Option, Some, None, option_map, arith}
 use Rattle.std.specs.List.{slice_get}
 use Rattle.dataflow.specs.System.{In}
 use Rattle.dataflow.proofs.Lists.{in_map, in_unmap}
@@ -8,6 +8,7 @@ use Rattle.data_store.specs.declared.datum.Datum.{Datum}
 use Rattle.data_store.specs.declared.datum.Shape.{Shape}
 use Rattle.replayed.specs.Ending.{Instance, IsOwn, NewCell, StartsAs, StartsBy, home, path_around}
 use Rattle.replayed.specs.Fields.{Absent, Content, DatumOf, Does, Frame, Job, Row, Script, frame_up, path_of, slot_at, slot_for, step_before}
+use Rattle.replayed.specs.Fields.{Slot as PureSlot}
 use Rattle.replayed.specs.Static.{own_count}
 use Rattle.task_code.specs.Code.{Code, Loop, Variable, body, entry, here, loop_of, nth, scalar}
 use Rattle.task_code.specs.Compute.{Computed}
@@ -27,13 +28,21 @@ use Rattle.board_frames.specs.View.{opening_frame}
 use Rattle.board_frames.specs.declared.opening.Opening.{Opening}
 use Rattle.board_frames.specs.declared.opening.Openings.{Openings}
 use Rattle.board_openings.proofs.Cells.{OwnAt, OwnOf, own_back, own_count_of, own_found, place_is, same_at}
-use Rattle.board_openings.proofs.Chain.{OneStored, Placed, Stored, all_apart, each_stored, kept_all, named, only_stored, placed}
+use Rattle.board_openings.proofs.Chain.{OneStored, views, Placed, Stored, all_apart, each_stored, kept_all, named, only_stored, placed}
 use Rattle.board_openings.proofs.Starts.{place_test, starts_none, starts_turn}
-use Rattle.board_openings.specs.Blocks.{AreBlocks, Starts, TurnStarts, job_loop}
+use Rattle.board_openings.specs.Blocks.{AreBlocks, Starts, TurnStarts, handed, job_loop}
 use Rattle.board_openings.specs.Data.{MakesData}
 use Rattle.board_openings.specs.Filled.{HasSlots, starts_of}
 use Rattle.board_openings.specs.Opened.{AreOpened, own_of, turn_slots}
 use Rattle.board_openings.specs.declared.filling.TurnSlots.{TurnSlots}
+
+-- an opening with slots for its own data has so many
+long_slots : (n : ℕ) (zs : List PureSlot) (one : Opening) → (opening_frame one).slots ≡ replicate n Absent ++ zs → HasSlots n one
+long_slots n zs one e = omega (arith, views one.instance.slots.items, ap (λ (ys : List PureSlot). length ys) e, long n)
+  where
+    long : (n : ℕ) → n ≤ length (replicate n Absent ++ zs)
+    long zero = omega arith
+    long (suc n) = omega (arith, long n)
 
 -- what a variable starts with, told by the opening
 starts_as : (C : Code) (fs : List (Option Frame)) (j : Job) (x : Computed) (one : Opening) (slots : TurnSlots) (m : Instance) (v : Variable) (k : ℕ) → Starts C fs j x one → slots.value ≡ value_slot C (job_loop C j) → slots.turn ≡ turn_slot C (job_loop C j) →
@@ -63,15 +72,15 @@ starts_as C fs (Does i e c) x one slots m v k st value turn loop path place = by
 
 module _ (C : Code) (I : IsCode C) (j : Job) (x : Computed) (o : Openings) (fs gs : List (Option Frame)) (old new : List Row) (s t : Store) (B : AreBlocks C fs j x o) (W : AreOpened C j o fs gs old new s t) where
   all_slots : (one : Opening) → In one o.list.items → HasSlots (length (own_of C o.body)) one
-  all_slots one i = subst (λ n. HasSlots n one) (sym (own_count_of C o.body)) (B.slots one i)
+  all_slots one i = subst (λ n. HasSlots n one) (sym (own_count_of C o.body)) (long_slots (length (body C o.body).makes) (handed C fs j) one (B.slots one i))
 
   in_order : Placed (own_of C o.body) (turn_slots o) W.placed.puts W.filled
   in_order = placed (own_of C o.body) (turn_slots o) W.placed.puts W.filled W.placed.frames_are
 
-  one_of : (q : Put) → In q W.placed.puts → OneStored (own_of C o.body) (turn_slots o) o.list.items q s W.made
+  pub one_of : (q : Put) → In q W.placed.puts → OneStored (own_of C o.body) (turn_slots o) o.list.items q s W.made
   one_of q i = each_stored (own_of C o.body) (turn_slots o) o.list.items W.filled W.placed.puts s W.made all_slots W.fills in_order q i
 
-  body_is : (q : Put) → In q W.placed.puts → q.frame.body ≡ o.body
+  pub body_is : (q : Put) → In q W.placed.puts → q.frame.body ≡ o.body
   body_is q i = let u = one_of q i in ap (λ (f : Frame). f.body) u.frame ∙ B.one_body u.was u.is_in
 
   -- a variable of a new instance leads to the slot of its first place

@@ -1,22 +1,22 @@
 -- The openings of an End, by what is asked of them: of which blocks they are, and what their variables start with.
-use Rattle.std.specs.Prelude.{◌≡◌, ℕ, List, length, map, Option, Some, None}
+use Rattle.std.specs.Prelude.{◌≡◌, ◌++◌, ℕ, List, [], length, map, replicate, Option, Some, None}
 use Rattle.std.specs.List.{filter}
 use Rattle.dataflow.specs.System.{In}
 use Rattle.replayed.specs.Ending.{has_entries, home}
-use Rattle.replayed.specs.Fields.{Does, Frame, Job, Script, path_of, step_before, task_of}
+use Rattle.replayed.specs.Fields.{Absent, Does, Frame, Job, Script, Slot, path_of, slot_at, step_before, task_of}
 use Rattle.replayed.specs.Static.{opened}
-use Rattle.task_code.specs.Code.{Code, Loop, body, entry, loop_of}
+use Rattle.task_code.specs.Code.{Code, Loop, arguments, body, entry, loop_of}
 use Rattle.task_code.specs.Compute.{Computed, key_scalar}
 use Rattle.task_code.specs.Effects.{chunk, step_at, turns_of}
 use Rattle.task_code.specs.Places.{Step}
 use Rattle.values.specs.declared.key.Key.{Key}
 use Rattle.values.specs.declared.value.Scalar.{Scalar}
-use Rattle.board_code.specs.Tables.{turn_slot, value_slot}
+use Rattle.board_code.specs.Tables.{passed_in, turn_slot, value_slot}
 use Rattle.board_frames.specs.Made.{IsOpened, block_of}
+use Rattle.board_frames.specs.Openings.{passed_from}
 use Rattle.board_frames.specs.View.{opening_frame}
 use Rattle.board_frames.specs.declared.opening.Opening.{Opening}
 use Rattle.board_frames.specs.declared.opening.Openings.{Openings}
-use Rattle.board_openings.specs.Filled.{HasSlots}
 
 -- the loop that the entry of a job is
 abbrev pub job_loop : Code → Job → Option Loop
@@ -33,12 +33,17 @@ module _ (C : Code) (fs : List (Option Frame)) where
   Starts Script x o = (o.value ≡ None) × (o.turn ≡ None)
   Starts (Does k e c) x o = TurnStarts (path_of fs k) (entry C e).mark c x (loop_of (entry C e).act) o
 
+  -- what the item of a job hands over, if it is a call
+  abbrev pub handed : Job → List Slot
+  handed Script = []
+  handed (Does k e c) = elim (slot_at fs k) [ None ↦ [] | Some f ↦ passed_from fs k e 0 (map (passed_in C f.body) (arguments (entry C e).act)) ]
+
   -- these are opened by the item of a job which computed this: one instance for each block with entries, in order, all of one body
   pub record AreBlocks (j : Job) (x : Computed) (o : Openings) : Type 0 where
     pub blocks : map (block_of fs (home j)) (map opening_frame o.list.items) ≡ filter (has_entries C) (opened C (task_of fs j) x)
     pub each : (one : Opening) → In one o.list.items → IsOpened C fs (home j) (opening_frame one)
     pub one_body : (one : Opening) → In one o.list.items → (opening_frame one).body ≡ o.body
-    pub slots : (one : Opening) → In one o.list.items → HasSlots (length (body C o.body).makes) one
+    pub slots : (one : Opening) → In one o.list.items → (opening_frame one).slots ≡ replicate (length (body C o.body).makes) Absent ++ handed j
     pub starts : (one : Opening) → In one o.list.items → Starts j x one
     pub value_is : o.value ≡ value_slot C (job_loop C j)
     pub turn_is : o.turn ≡ turn_slot C (job_loop C j)

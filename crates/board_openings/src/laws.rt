@@ -1,13 +1,25 @@
 //! What the steps of an End come to.
-ghost use Rattle.std.specs.Prelude.{◌≡◌, ◌++◌, List, Option, length, map};
-ghost use Rattle.data_store.specs.Stores.{Store};
-ghost use Rattle.replayed.specs.Ending.{AreMade, FramesOpen, home, made_jobs, new_row};
-ghost use Rattle.replayed.specs.Fields.{Frame, Job, Row, task_of};
+ghost use Rattle.std.specs.Prelude.{◌≡◌, ◌++◌, ◌<◌, ◌^◌, ℕ, Bool, List, [], Option, Some, None, length, map};
+ghost use Rattle.dataflow.specs.Machine.{Event};
+ghost use Rattle.dataflow.specs.System.{In, Opening};
+ghost use Rattle.data_store.specs.Stores.{Store, at};
+ghost use Rattle.replayed.specs.Ending.{AreMade, CellsAfter, FramesOpen, Instance, NamesLead, TakenOff, added_times, given_times, home, job_stores, leaving, made_jobs, new_row};
+ghost use Rattle.replayed.specs.Fields.{Does, Fields, Frame, Job, Layout, Over, Row, row_of, task_of};
+ghost use Rattle.replayed.specs.Stands.{Stands};
+ghost use Rattle.replayed.specs.Static.{rests};
 ghost use Rattle.task_code.specs.Code.{Code};
 ghost use Rattle.task_code.specs.Compute.{Computed};
+ghost use Rattle.task_code.specs.Effects.{Task, is_some_list};
+ghost use Rattle.task_code.specs.Places.{Place};
 ghost use Rattle.task_code.specs.Whole.{IsCode};
 ghost use Rattle.board_code.specs.Spots.{layout_of};
 ghost use Rattle.board_frames.specs.Made.{FitsAround, made_as};
+ghost use Rattle.board_data.specs.Ended.{Covers};
+ghost use Rattle.board_data.specs.Holds.{Fit};
+ghost use Rattle.board_data.specs.Stored.{StoresIn};
+ghost use Rattle.board_data.specs.View.{cells_view};
+ghost use Rattle.board_frames.specs.Openings.{Put};
+ghost use Rattle.board_openings.specs.World.{Goes};
 ghost use Rattle.board_frames.specs.Nested.{IsNested};
 ghost use Rattle.board_frames.specs.declared.opening.Openings.{Openings as TheOpenings};
 ghost use Rattle.board_openings.specs.Blocks.{AreBlocks};
@@ -27,4 +39,31 @@ pub fn opened_blocks()
         FitsAround fs (home j) (length o.list.items) → IsNested fs → IsNested gs }
     ensures makes { (C : Code) → IsCode C → (j : Job) (x : Computed) (o : TheOpenings) (fs gs : List (Option Frame)) (old new : List Row) (s t : Store) → AreBlocks C fs j x o → (w : AreOpened C j o fs gs old new s t) →
         MakesData C (layout_of C) fs gs j x (map (made_as fs (home j)) w.placed.puts) s w.made }
+{}
+
+/// What the fields become where the item of an entry ends that opens instances, and the fields stand for the state of a history: the
+/// names of the new instances lead where they should; each datum that was there has gained the holds of the new instances and has
+/// lost those that the item gives up, each new one is as it was made, and there is no other; and the item has left its instance,
+/// unless another goes on with its loop. All this where the counts fit 64 bits.
+pub fn entry_opens()
+    ensures leads { (C : Code) → IsCode C → (es : List Event) (F : Fields) → Stands C (layout_of C) es F →
+        (n k e c : ℕ) (row : Row) → row_of F.rows n ≡ Some row → row.job ≡ Does k e c → (row.mark ≡ Over → ⊥) →
+        (x : Computed) (o : TheOpenings) (hs : List (Option Frame)) (rows : List Row) (stored more : Store) → AreBlocks C F.frames (Does k e c) x o →
+        (w : AreOpened C (Does k e c) o F.frames hs F.rows rows stored more) → FitsAround F.frames (Some k) (length o.list.items) → ((q : Put) → In q w.placed.puts → length q.frame.slots < 2 ^ 64) →
+        (m : Instance) → In m (map (made_as F.frames (Some k)) w.placed.puts) → NamesLead C (layout_of C) F.frames hs k e c m }
+    ensures cells { (C : Code) → IsCode C → (es : List Event) (F : Fields) → Stands C (layout_of C) es F →
+        (n k e c : ℕ) (row : Row) → row_of F.rows n ≡ Some row → row.job ≡ Does k e c → (row.mark ≡ Over → ⊥) →
+        (x : Computed) (o : TheOpenings) (hs : List (Option Frame)) (rows : List Row) (s stored more : Store) → AreBlocks C F.frames (Does k e c) x o →
+        (w : AreOpened C (Does k e c) o F.frames hs F.rows rows stored more) → FitsAround F.frames (Some k) (length o.list.items) → ((q : Put) → In q w.placed.puts → length q.frame.slots < 2 ^ 64) →
+        ((d : ℕ) → Fit (added_times C (layout_of C) (λ y. y.reads) hs d (map (made_as F.frames (Some k)) w.placed.puts)) (added_times C (layout_of C) (λ y. y.writes) hs d (map (made_as F.frames (Some k)) w.placed.puts)) (at w.made d)) →
+        (gs : List (Option Frame)) (t : Store) (closed : List ℕ) (goes_on : Bool) → Goes C goes_on (Does k e c) hs gs more t closed → goes_on ≡ is_some_list (rests C (task_of F.frames (Does k e c)) x) →
+        F.cells ≡ cells_view s.cells → StoresIn None [] s stored → ((d : ℕ) → [] ≡ job_stores C (layout_of C) F.frames (Does k e c) x d) →
+        CellsAfter C (layout_of C) F.frames hs (Does k e c) x (map (made_as F.frames (Some k)) w.placed.puts) (rests C (task_of F.frames (Does k e c)) x) F.cells (cells_view t.cells)
+        × TakenOff gs hs (leaving (Does k e c) (rests C (task_of F.frames (Does k e c)) x)) }
+{}
+
+/// An item that is not over gives up no more holds than there are, where the fields stand for the state of a history.
+pub fn given_up()
+    ensures { (C : Code) → IsCode C → (L : Layout) (es : List Event) (F : Fields) → Stands C L es F → (n : ℕ) (row : Row) → row_of F.rows n ≡ Some row → (row.mark ≡ Over → ⊥) →
+        (os : List (Opening Task Place)) (s : Store) → F.cells ≡ cells_view s.cells → Covers (λ d. given_times C L (λ e. e.reads) F.frames d row.job os) (λ d. given_times C L (λ e. e.writes) F.frames d row.job os) s }
 {}
