@@ -1,4 +1,5 @@
 pub mod Acts
+pub mod AtWork
 pub mod Blocks
 pub mod Chunks
 pub mod Ends
