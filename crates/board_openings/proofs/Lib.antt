@@ -3,6 +3,7 @@ pub mod Cells
 pub mod Chain
 pub mod Changed
 pub mod EntryOpens
+pub mod EntryStores
 pub mod Filled
 pub mod Frames
 pub mod GivenUp

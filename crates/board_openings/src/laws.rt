@@ -1,5 +1,5 @@
 //! What the steps of an End come to.
-ghost use Rattle.std.specs.Prelude.{◌≡◌, ◌++◌, ◌<◌, ◌^◌, ℕ, Bool, List, [], Option, Some, None, length, map};
+ghost use Rattle.std.specs.Prelude.{◌≡◌, ◌++◌, ◌<◌, ◌^◌, ℕ, Bool, List, [], Option, Some, None, length, map, if◌then◌else◌};
 ghost use Rattle.dataflow.specs.Machine.{Event};
 ghost use Rattle.dataflow.specs.System.{In, Opening};
 ghost use Rattle.data_store.specs.Stores.{Store, at};
@@ -8,18 +8,19 @@ ghost use Rattle.replayed.specs.Fields.{Does, Fields, Frame, Job, Layout, Over, 
 ghost use Rattle.replayed.specs.Stands.{Stands};
 ghost use Rattle.replayed.specs.Static.{rests};
 ghost use Rattle.task_code.specs.Code.{Code};
-ghost use Rattle.task_code.specs.Compute.{Computed};
+ghost use Rattle.task_code.specs.Compute.{Computed, Elements};
 ghost use Rattle.task_code.specs.Effects.{Task, is_some_list};
 ghost use Rattle.task_code.specs.Places.{Place};
 ghost use Rattle.task_code.specs.Whole.{IsCode};
 ghost use Rattle.board_code.specs.Spots.{layout_of};
+ghost use Rattle.board_code.specs.Tables.{is_place};
 ghost use Rattle.board_frames.specs.Made.{FitsAround, made_as};
 ghost use Rattle.board_data.specs.Ended.{Covers};
 ghost use Rattle.board_data.specs.Holds.{Fit};
 ghost use Rattle.board_data.specs.Stored.{StoresIn};
 ghost use Rattle.board_data.specs.View.{cells_view};
 ghost use Rattle.board_frames.specs.Openings.{Put};
-ghost use Rattle.board_openings.specs.World.{Goes};
+ghost use Rattle.board_openings.specs.World.{Goes, LetsGo};
 ghost use Rattle.board_frames.specs.Nested.{IsNested};
 ghost use Rattle.board_frames.specs.declared.opening.Openings.{Openings as TheOpenings};
 ghost use Rattle.board_openings.specs.Blocks.{AreBlocks};
@@ -66,4 +67,14 @@ pub fn entry_opens()
 pub fn given_up()
     ensures { (C : Code) → IsCode C → (L : Layout) (es : List Event) (F : Fields) → Stands C L es F → (n : ℕ) (row : Row) → row_of F.rows n ≡ Some row → (row.mark ≡ Over → ⊥) →
         (os : List (Opening Task Place)) (s : Store) → F.cells ≡ cells_view s.cells → Covers (λ d. given_times C L (λ e. e.reads) F.frames d row.job os) (λ d. given_times C L (λ e. e.writes) F.frames d row.job os) s }
+{}
+
+/// The same where the item of an entry ends that opens nothing: it may have stored something.
+pub fn entry_stores()
+    ensures opens { (C : Code) (fs : List (Option Frame)) (around : Option ℕ) → FramesOpen C fs around [] fs }
+    ensures cells { (C : Code) → IsCode C → (es : List Event) (F : Fields) → Stands C (layout_of C) es F →
+        (n k e c : ℕ) (row : Row) → row_of F.rows n ≡ Some row → row.job ≡ Does k e c → (row.mark ≡ Over → ⊥) →
+        (x : Computed) (os : List (Opening Task Place)) (target : Option ℕ) (values : Elements) (gs : List (Option Frame)) (s stored t : Store) (closed : List ℕ) → os ≡ [] → F.cells ≡ cells_view s.cells →
+        StoresIn target values s stored → LetsGo C (Does k e c) F.frames gs stored t closed → ((d : ℕ) → (if is_place d target then values else []) ≡ job_stores C (layout_of C) F.frames (Does k e c) x d) →
+        CellsAfter C (layout_of C) F.frames F.frames (Does k e c) x [] os F.cells (cells_view t.cells) × TakenOff gs F.frames (leaving (Does k e c) os) }
 {}
