@@ -9,3 +9,4 @@ pub mod Keeping
 pub mod Parting
 pub mod Seeing
 pub mod Growing
+pub mod Placing

@@ -1,19 +1,20 @@
 //! Laws of what was learned. Each function does nothing; its contract is the law.
-ghost use Rattle.std.specs.Prelude.{◌≡◌, ◌<◌, ℕ, List, Some, length};
+ghost use Rattle.std.specs.Prelude.{◌≡◌, ◌<◌, ℕ, List, None, Some, length};
 ghost use Rattle.syntax_trees.specs.Core.{Core, Name};
-ghost use Rattle.syntax_trees.specs.Places.{Path, place};
+ghost use Rattle.syntax_trees.specs.Parts.{call_at, input_name, output_name};
+ghost use Rattle.syntax_trees.specs.Places.{Path, place, most_steps};
 ghost use Rattle.kept_facts.specs.Kept.{sight_by, past_by};
 ghost use Rattle.syntax_trees.specs.Facts as script;
 ghost use Rattle.whole_meaning.specs.Taken.{Knows};
 ghost use Rattle.whole_facts.specs.Added.{IsAdded};
 ghost use Rattle.whole_facts.specs.Growing.{fact_view, IsAgreed, IsWithin, KeepsFacts, With, with_facts};
 ghost use Rattle.whole_facts.specs.Keeping.{kept_of, past_of, IsLocated, IsPlaced};
-ghost use Rattle.whole_facts.specs.Paths.{path_of, at_path, IsTree};
+ghost use Rattle.whole_facts.specs.Paths.{path_of, at_path, child_at, IsOpen, IsTree};
 ghost use Rattle.whole_facts.specs.Sighted.{sight_of};
-ghost use Rattle.whole_facts.specs.Store.{spot};
+ghost use Rattle.whole_facts.specs.Store.{given_at, spot};
 
 use crate::facts::{Fact, Facts};
-use crate::instances::Instances;
+use crate::instances::{Given, Instances, Step};
 use crate::learned::Learned;
 
 /// Of a tree of instances each is found at its path, and what is found at a path has that path; so two instances of one path
@@ -38,4 +39,13 @@ pub fn what_is_kept()
 pub fn one_fact_more()
     ensures { (fs : List script.Fact) (l : Learned) (k : Facts) (f : Fact) → IsTree l.instances → KeepsFacts (Knows fs) l → IsAdded l.facts f k → IsWithin l.instances.all.items f
         → IsAgreed (With (Knows fs) (fact_view l.instances.all.items f)) → KeepsFacts (With (Knows fs) (fact_view l.instances.all.items f)) (with_facts l k) }
+{}
+
+/// Where instances are a tree and each stands at its path, this is so with one more that is opened under a new step, if what it
+/// is given lies where the names of the call at the step do.
+pub fn one_instance_more()
+    ensures { (s : Core) (t u : Instances) (p : ℕ) (x : Step) (g : Given) → IsOpen t p x g u → IsPlaced s t → p < length t.all.items
+        → ((j : ℕ) → given_at g.inputs.items j p ≡ spot t.all.items p (input_name (call_at s x.at) j))
+        → ((j : ℕ) → given_at g.outputs.items j p ≡ spot t.all.items p (output_name (call_at s x.at) j))
+        → child_at t p x.at x.key ≡ None → length (path_of t.all.items p) < most_steps → IsPlaced s u }
 {}
