@@ -1,5 +1,5 @@
 -- Instances that stand at their paths do so where one more is opened.
-use Rattle.std.specs.Prelude.{◌≡◌, ◌⊎◌, ℕ, zero, suc, ◌+◌, ◌<◌, List, [], ◌∷◌, length, Option, Some, None, slice_get, refl}
+use Rattle.std.specs.Prelude.{◌≡◌, ℕ, zero, suc, ◌<◌, List, [], ◌∷◌, length, None, refl}
 use Rattle.std.proofs.Common.{inl, inr, sym, ap, ◌∙◌, subst, arith, length-append}
 use Rattle.std.proofs.lemmas.Bool.{cases_lt}
 use Rattle.syntax_trees.specs.Core.{Owned, local, input, output, Name, Core}
@@ -8,7 +8,6 @@ use Rattle.syntax_trees.specs.Places.{Path, most_steps}
 use Rattle.whole_facts.specs.declared.facts.Place.{Place as Spot}
 use Rattle.whole_facts.specs.declared.instances.Given.{Given}
 use Rattle.whole_facts.specs.declared.instances.Step.{Step}
-use Rattle.whole_facts.specs.declared.instances.Instance.{Instance}
 use Rattle.whole_facts.specs.declared.instances.Instances.{Instances}
 use Rattle.whole_facts.specs.Keeping.{IsPlaced}
 use Rattle.whole_facts.specs.Paths.{path_of, child_at, IsOpen, IsTree}
