@@ -1,4 +1,9 @@
 //! What is read off the knowledge of a script: its lines, its faults, and the statements that are blocked.
+ghost use Rattle.std.specs.Prelude.{◌≡◌, ◌↔◌, IfOk, IsPermutation, IsSorted, IsTrue};
+ghost use Rattle.std.specs.Cmp.Lexicographic.{slice_cmp};
+ghost use Rattle.std.specs.Ordering.{nat_cmp};
+ghost use Rattle.whole_facts.specs.Store.{all_lines, one_writer_in, writes_at};
+ghost use Rattle.whole_facts.specs.declared.facts.Place.{Place};
 
 use crate::knowledge::Knowledge;
 use std::alloc::AllocError;
@@ -25,12 +30,16 @@ pub struct Statement<'k> {
 
 impl Knowledge {
     /// Whether one more round adds nothing.
-    pub fn finished(&self) -> bool {
+    pub fn finished(&self) -> bool
+        ensures { result ≡ self.now.finished }
+    {
         self.finished
     }
 
     /// Whether no key of an array has two writers.
-    pub fn is_clean(&self) -> bool {
+    pub fn is_clean(&self) -> bool
+        ensures { IsTrue result ↔ ((a : Place) → IsTrue (one_writer_in (writes_at self.now.learned.facts a))) }
+    {
         self.learned.facts.is_clean()
     }
 
@@ -39,9 +48,16 @@ impl Knowledge {
     /// # Errors
     ///
     /// `AllocError` where memory that was asked for was refused.
-    pub fn lines_sorted(&self) -> Result<Vec<Text>, AllocError> {
+    pub fn lines_sorted(&self) -> Result<Vec<Text>, AllocError>
+        ensures lines { IfOk result (λ lines. IsPermutation (all_lines self.now.learned.facts) lines.items) }
+        ensures sorted { IfOk result (λ lines. IsSorted (slice_cmp nat_cmp) lines.items) }
+    {
         let mut lines = self.learned.facts.all_lines(*self.stuck.allocator())?;
-        lines.sort_by(|a, b| a.as_bytes().cmp(b.as_bytes()))?;
+        lines.sort_by(
+            |a, b|
+                ensures { result ≡ slice_cmp nat_cmp a.now b.now }
+            { a.as_bytes().cmp(b.as_bytes()) },
+        )?;
         Ok(lines)
     }
 
