@@ -9,5 +9,6 @@ pub mod Progress
 pub mod Queue
 pub mod Rows
 pub mod Placed
+pub mod Spare
 pub mod Steps
 pub mod Tells

@@ -1,18 +1,25 @@
 //! What items come to where fields stand for the state of a history.
 ghost use Rattle.std.specs.Prelude.{◌≡◌, ◌≤◌, ◌++◌, ℕ, List, [], Option, Some, length, map};
 ghost use Rattle.dataflow.specs.Machine.{Event};
-ghost use Rattle.replayed.specs.Ending.{NewlyAfter, QueueAfter, WaitsAfter, ended_rows, new_row};
+ghost use Rattle.std.specs.List.{AllZip, filter, flat_map};
+ghost use Rattle.std.specs.Prelude.{nat_lt};
+ghost use Rattle.dataflow.specs.System.{Opening};
+ghost use Rattle.rules.specs.declared.input.Input.{Input};
+ghost use Rattle.smallvec.specs.SmallVec.{SmallVec};
+ghost use Rattle.task_code.specs.Effects.{Task};
+ghost use Rattle.task_code.specs.Places.{Place};
+ghost use Rattle.replayed.specs.Ending.{Instance, NewlyAfter, jobs_after, QueueAfter, WaitsAfter, ended_rows, new_row};
 ghost use Rattle.replayed.specs.Fields.{Counted, Fields, Frame, Job, Layout, Row, Waiting as waiting_mark, Want, row_of};
 ghost use Rattle.replayed.specs.Stands.{Stands};
 ghost use Rattle.rules.specs.Waiting.{Waiting};
-ghost use Rattle.task_code.specs.Code.{Code, Control, Leaf};
+ghost use Rattle.task_code.specs.Code.{Code, Control, Leaf, body, entry};
 ghost use Rattle.task_code.specs.Whole.{IsCode};
 ghost use Rattle.board_code.specs.Spots.{layout_of};
 ghost use Rattle.board_items.specs.Ended.{AreSettled, AreToSettle, IsSeen, ItemsFit, numbers_behind};
 ghost use Rattle.board_items.specs.Learnt.{HaveLearnt};
 ghost use Rattle.board_frames.specs.View.{rows_view};
-ghost use Rattle.board_items.specs.Progress.{AreOld};
-ghost use Rattle.board_items.specs.Room.{IsRoomy, IsRoomyFor, apart_in};
+ghost use Rattle.board_items.specs.Progress.{AreOld, jobs_behind};
+ghost use Rattle.board_items.specs.Room.{AreSpare, IsRoomy, IsRoomyFor, apart_in};
 ghost use Rattle.board_items.specs.declared.items.Items.{Items as AllItems};
 ghost use Rattle.board_items.specs.View.{waiters_view};
 
@@ -27,6 +34,13 @@ pub fn fitting_items()
 pub fn roomy_items()
     ensures placed { (C : Code) (controls leaves : ℕ) (old new : AllItems) (more : List Row) → IsRoomyFor C controls leaves old → rows_view new.rows.items ≡ rows_view old.rows.items ++ more → apart_in C Control more ≤ controls → apart_in C Leaf more ≤ leaves →
         new.queue ≡ old.queue → new.apart ≡ old.apart → new.newly ≡ old.newly → IsRoomy C new }
+{}
+
+/// Lists with room for what the items of the instances that are made may wait for, in order, are those for all new items.
+pub fn spare_lists()
+    ensures made { (C : Code) (made : List Instance) (j : Job) (os : List (Opening Task Place)) (rows : List Row) (lists : List (SmallVec Input)) →
+        AllZip (λ n (l : SmallVec Input). n ≤ l.capacity) (flat_map (λ (m : Instance). filter (nat_lt 2) (map (λ e. length (entry C e).needs) (body C m.body).entries)) made) lists →
+        AreSpare C (jobs_behind (length rows) (rows ++ map new_row (jobs_after C made j os))) lists }
 {}
 
 /// The items that have learnt of their last input, and the new ones behind the rows that there were, wait, each once, and the item
