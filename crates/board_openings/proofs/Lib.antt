@@ -1,4 +1,5 @@
 pub mod After
+pub mod Bridge
 pub mod Cells
 pub mod Chain
 pub mod Changed

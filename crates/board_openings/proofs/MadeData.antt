@@ -22,6 +22,7 @@ use Rattle.board_code.specs.declared.spot.Spot.{Spot}
 use Rattle.board_data.proofs.Cells.{cell_there}
 use Rattle.board_data.specs.Made.{new_datum, start_at, started}
 use Rattle.board_data.specs.View.{cell_view, cells_view, content_view}
+use Rattle.board_effects.specs.Openings.{job_loop}
 use Rattle.board_frames.specs.Made.{made_as}
 use Rattle.board_frames.specs.Openings.{Put}
 use Rattle.board_frames.specs.View.{opening_frame}
@@ -30,7 +31,7 @@ use Rattle.board_frames.specs.declared.opening.Openings.{Openings}
 use Rattle.board_openings.proofs.Cells.{OwnAt, OwnOf, own_back, own_count_of, own_found, place_is, same_at}
 use Rattle.board_openings.proofs.Chain.{OneStored, views, Placed, Stored, all_apart, each_stored, kept_all, named, only_stored, placed}
 use Rattle.board_openings.proofs.Starts.{place_test, starts_none, starts_turn}
-use Rattle.board_openings.specs.Blocks.{AreBlocks, Starts, TurnStarts, handed, job_loop}
+use Rattle.board_openings.specs.Blocks.{AreBlocks, Starts, TurnStarts, handed}
 use Rattle.board_openings.specs.Data.{MakesData}
 use Rattle.board_openings.specs.Filled.{HasSlots, starts_of}
 use Rattle.board_openings.specs.Opened.{AreOpened, own_of, turn_slots}

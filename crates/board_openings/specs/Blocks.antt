@@ -3,25 +3,20 @@ use Rattle.std.specs.Prelude.{◌≡◌, ◌++◌, ℕ, List, [], length, map, r
 use Rattle.std.specs.List.{filter}
 use Rattle.dataflow.specs.System.{In}
 use Rattle.replayed.specs.Ending.{has_entries, home}
-use Rattle.replayed.specs.Fields.{Absent, Does, Frame, Job, Script, Slot, path_of, slot_at, step_before, task_of}
+use Rattle.replayed.specs.Fields.{Absent, Does, Frame, Job, Script, Slot, path_of, step_before, task_of}
 use Rattle.replayed.specs.Static.{opened}
-use Rattle.task_code.specs.Code.{Code, Loop, arguments, body, entry, loop_of}
+use Rattle.task_code.specs.Code.{Code, Loop, body, entry, loop_of}
 use Rattle.task_code.specs.Compute.{Computed, key_scalar}
 use Rattle.task_code.specs.Effects.{chunk, step_at, turns_of}
 use Rattle.task_code.specs.Places.{Step}
 use Rattle.values.specs.declared.key.Key.{Key}
 use Rattle.values.specs.declared.value.Scalar.{Scalar}
-use Rattle.board_code.specs.Tables.{passed_in, turn_slot, value_slot}
+use Rattle.board_code.specs.Tables.{turn_slot, value_slot}
+use Rattle.board_effects.specs.Openings.{handed_over, job_loop}
 use Rattle.board_frames.specs.Made.{IsOpened, block_of}
-use Rattle.board_frames.specs.Openings.{passed_from}
 use Rattle.board_frames.specs.View.{opening_frame}
 use Rattle.board_frames.specs.declared.opening.Opening.{Opening}
 use Rattle.board_frames.specs.declared.opening.Openings.{Openings}
-
--- the loop that the entry of a job is
-abbrev pub job_loop : Code → Job → Option Loop
-job_loop C Script = None
-job_loop C (Does k e c) = loop_of (entry C e).act
 
 module _ (C : Code) (fs : List (Option Frame)) where
   -- an opening brings values for a turn's variables, if a loop opens it: those of a turn of its chunk
@@ -36,7 +31,7 @@ module _ (C : Code) (fs : List (Option Frame)) where
   -- what the item of a job hands over, if it is a call
   abbrev pub handed : Job → List Slot
   handed Script = []
-  handed (Does k e c) = elim (slot_at fs k) [ None ↦ [] | Some f ↦ passed_from fs k e 0 (map (passed_in C f.body) (arguments (entry C e).act)) ]
+  handed (Does k e c) = handed_over C fs k e
 
   -- these are opened by the item of a job which computed this: one instance for each block with entries, in order, all of one body
   pub record AreBlocks (j : Job) (x : Computed) (o : Openings) : Type 0 where

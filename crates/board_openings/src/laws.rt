@@ -4,7 +4,7 @@ ghost use Rattle.dataflow.specs.Machine.{Event};
 ghost use Rattle.dataflow.specs.System.{In, Opening};
 ghost use Rattle.data_store.specs.Stores.{Store, at};
 ghost use Rattle.replayed.specs.Ending.{AreMade, CellsAfter, FramesOpen, Instance, NamesLead, TakenOff, added_times, given_times, home, job_stores, leaving, made_jobs, new_row};
-ghost use Rattle.replayed.specs.Fields.{Does, Fields, Frame, Job, Layout, Over, Row, row_of, task_of};
+ghost use Rattle.replayed.specs.Fields.{Does, Fields, Frame, Job, Layout, Over, Row, path_of, row_of, slot_at, task_of};
 ghost use Rattle.replayed.specs.Stands.{Stands};
 ghost use Rattle.replayed.specs.Static.{rests};
 ghost use Rattle.task_code.specs.Code.{Code};
@@ -14,6 +14,7 @@ ghost use Rattle.task_code.specs.Places.{Place};
 ghost use Rattle.task_code.specs.Whole.{IsCode};
 ghost use Rattle.board_code.specs.Spots.{layout_of};
 ghost use Rattle.board_code.specs.Tables.{is_place};
+ghost use Rattle.board_effects.specs.Openings.{AreOpenings};
 ghost use Rattle.board_frames.specs.Made.{FitsAround, made_as};
 ghost use Rattle.board_data.specs.Ended.{Covers};
 ghost use Rattle.board_data.specs.Holds.{Fit};
@@ -77,4 +78,9 @@ pub fn entry_stores()
         (x : Computed) (os : List (Opening Task Place)) (target : Option ℕ) (values : Elements) (gs : List (Option Frame)) (s stored t : Store) (closed : List ℕ) → os ≡ [] → F.cells ≡ cells_view s.cells →
         StoresIn target values s stored → LetsGo C (Does k e c) F.frames gs stored t closed → ((d : ℕ) → (if is_place d target then values else []) ≡ job_stores C (layout_of C) F.frames (Does k e c) x d) →
         CellsAfter C (layout_of C) F.frames F.frames (Does k e c) x [] os F.cells (cells_view t.cells) × TakenOff gs F.frames (leaving (Does k e c) os) }
+{}
+
+/// The openings of an item are of its blocks, where the instances' paths have as many steps as they tell.
+pub fn openings_of_item()
+    ensures { (C : Code) (fs : List (Option Frame)) → ((k : ℕ) (g : Frame) → slot_at fs k ≡ Some g → g.depth ≡ length (path_of fs k)) → (x : Computed) (o : TheOpenings) (j : Job) → AreOpenings C fs j x o → AreBlocks C fs j x o }
 {}
