@@ -10,3 +10,4 @@ pub mod Parting
 pub mod Seeing
 pub mod Growing
 pub mod Placing
+pub mod Choosing

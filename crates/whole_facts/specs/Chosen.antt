@@ -1,5 +1,5 @@
 -- What a header has chosen by what an instance sees: which blocks it opens, under which keys, and what its variables are there.
-use Rattle.std.specs.Prelude.{ℕ, ℤ, pos, Bool, true, false, ◌&&◌, List, [], ◌∷◌, length, is_some, Option, Some, None, Result, Ok, Err, slice_get, if◌then◌else◌}
+use Rattle.std.specs.Prelude.{◌≡◌, ◌<◌, ℕ, ℤ, pos, Bool, true, false, ◌&&◌, List, [], ◌∷◌, length, is_some, Option, Some, None, Result, Ok, Err, slice_get, if◌then◌else◌}
 use Rattle.std.specs.Ordering.{int_eq}
 use Rattle.values.specs.declared.fault.OpFault.{OpFault}
 use Rattle.values.specs.declared.key.Key.{Key}
@@ -153,3 +153,10 @@ chosen_in g (choose c b d) = chosen_from (choose c b d) (all_seen g (outer_cells
 chosen_in g (range lo hi st x t b) = chosen_from (range lo hi st x t b) (all_seen g (outer_cells (range lo hi st x t b)))
 chosen_in g (each a x t b) = items_seen (g.closed a) (g.elements a)
 chosen_in g _ = None
+
+-- a block is one of those that a header has chosen, under its key
+pub record OpensAt (a : Action) (c : Chosen) (k : Key) (b : Block) : Type 0 where
+  pub index : ℕ
+  pub below : index < count_in c
+  pub key_is : key_in c index ≡ k
+  pub block_is : block_in a c ≡ Some b

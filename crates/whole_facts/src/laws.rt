@@ -1,6 +1,10 @@
 //! Laws of what was learned. Each function does nothing; its contract is the law.
 ghost use Rattle.std.specs.Prelude.{◌≡◌, ◌<◌, ℕ, List, None, Some, length};
-ghost use Rattle.syntax_trees.specs.Core.{Core, Name};
+ghost use Rattle.values.specs.declared.key.Key.{Key};
+ghost use Rattle.values.specs.declared.value.Value.{Value};
+ghost use Rattle.syntax_trees.specs.Core.{Action, Block, Core, Name};
+ghost use Rattle.syntax_trees.specs.Openings.{Decides, Opens};
+ghost use Rattle.whole_facts.specs.Chosen.{Chosen, OpensAt, block_in, chosen_by, count_in, key_in};
 ghost use Rattle.syntax_trees.specs.Parts.{call_at, input_name, output_name};
 ghost use Rattle.syntax_trees.specs.Places.{Path, place, most_steps};
 ghost use Rattle.kept_facts.specs.Kept.{sight_by, past_by};
@@ -48,4 +52,13 @@ pub fn one_instance_more()
         → ((j : ℕ) → given_at g.inputs.items j p ≡ spot t.all.items p (input_name (call_at s x.at) j))
         → ((j : ℕ) → given_at g.outputs.items j p ≡ spot t.all.items p (output_name (call_at s x.at) j))
         → child_at t p x.at x.key ≡ None → length (path_of t.all.items p) < most_steps → IsPlaced s u }
+{}
+
+/// Of a condition or a range the values of its cells decide a choice just where something is chosen by them, and the blocks that
+/// it opens are those that it has chosen, under their keys.
+pub fn what_is_chosen()
+    ensures decided { (a : Action) (vs : List Value) → Decides a vs → (c : Chosen) × (chosen_by a vs ≡ Some c) }
+    ensures decides { (a : Action) (vs : List Value) (c : Chosen) → chosen_by a vs ≡ Some c → Decides a vs }
+    ensures opens { (a : Action) (vs : List Value) (c : Chosen) → chosen_by a vs ≡ Some c → (k : Key) (b : Block) → Opens a vs k b → OpensAt a c k b }
+    ensures opened { (a : Action) (vs : List Value) (c : Chosen) → chosen_by a vs ≡ Some c → (i : ℕ) → i < count_in c → (b : Block) → block_in a c ≡ Some b → Opens a vs (key_in c i) b }
 {}
