@@ -1,18 +1,15 @@
 -- What a header chooses is what it opens.
-use Rattle.std.specs.Prelude.{◌≡◌, ◌⊎◌, ℕ, zero, suc, ◌<◌, ℤ, pos, Bool, true, false, List, [], ◌∷◌, length, Option, Some, None, Result, Ok, Err, slice_get, refl}
-use Rattle.std.proofs.Common.{inl, inr, sym, ap, ◌∙◌, subst, arith}
-use Rattle.std.proofs.lemmas.Option.{slice_get_cases}
+use Rattle.std.specs.Prelude.{◌≡◌, ℕ, ◌<◌, pos, Bool, true, false, List, [], ◌∷◌, Option, Some, None, Result, Ok, Err, refl}
+use Rattle.std.proofs.Common.{sym, ap, ◌∙◌, subst, arith}
 use Rattle.values.specs.declared.fault.OpFault.{OpFault}
 use Rattle.values.specs.declared.key.Key.{Key}
-use Rattle.values.specs.declared.map.Element.{Element}
-use Rattle.values.specs.declared.value.Scalar.{Scalar}
 use Rattle.values.specs.declared.value.Scalar.TheVariants.{Number, Truth, Text}
 use Rattle.values.specs.declared.value.Value.{Value}
 use Rattle.values.specs.declared.value.Value.TheVariants.{One, Many}
 use Rattle.values.specs.Ranges.{range_count}
 use Rattle.syntax_trees.specs.Core.{Outer, Action, when, choose, range, Block}
 use Rattle.syntax_trees.specs.Openings.{Bounds, bounds, Decides, one_way, two_ways, in_turns, Opens, then_alone, then_first, else_second, turn, item}
-use Rattle.whole_facts.specs.Chosen.{Chosen, nothing, branch, turns, items, count_in, key_in, block_in, truth_in, when_by, choose_by, turns_by, turns_of, chosen_by, OpensAt}
+use Rattle.whole_facts.specs.Chosen.{Chosen, nothing, branch, turns, count_in, key_in, block_in, truth_in, when_by, choose_by, turns_by, turns_of, chosen_by, OpensAt}
 
 truth_is : (vs : List Value) (t : Bool) → truth_in vs ≡ Some t → vs ≡ One (Truth t) ∷ []
 truth_is [] t e = absurd (cc (e))
