@@ -16,7 +16,8 @@ use Rattle.whole_facts.specs.declared.instances.Instance.{Instance}
 use Rattle.whole_facts.specs.declared.learned.Learned.{Learned}
 use Rattle.whole_rounds.specs.declared.site.Site.{Site}
 use Rattle.whole_rounds.specs.Told.{sight_at, past_at, path_at, cells_news, outers_news, own_news, fault_news, deep_news, bounds_news}
-use Rattle.whole_rounds.specs.Viewed.{fact_view, facts_view}
+use Rattle.whole_facts.specs.Growing.{fact_view}
+use Rattle.whole_rounds.specs.Viewed.{facts_view}
 
 -- LISTS
 

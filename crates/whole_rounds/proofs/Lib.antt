@@ -1,5 +1,6 @@
 pub mod Behind
 pub mod Calls
+pub mod Lasting
 pub mod Made
 pub mod Meant
 pub mod Quiet

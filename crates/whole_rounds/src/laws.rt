@@ -8,7 +8,7 @@ ghost use Rattle.whole_facts.specs.Sighted.{sight_of};
 ghost use Rattle.whole_facts.specs.declared.learned.Learned.{Learned};
 ghost use Rattle.whole_meaning.specs.News.{news};
 ghost use Rattle.whole_rounds.specs.declared.site.Site.{Site};
-ghost use Rattle.whole_rounds.specs.Silence.{has_told};
+ghost use Rattle.whole_rounds.specs.Silence.{has_told, KnowsMore};
 ghost use Rattle.whole_rounds.specs.Told.{lies_at, site_news};
 
 /// What a live statement tells is `news` of the meaning, where names lie at the places that they denote.
@@ -20,4 +20,9 @@ pub fn told_is_news()
 /// A statement that has nothing more to tell, as `has_told` has it, tells nothing.
 pub fn told_is_silent()
     ensures { (l : Learned) (t : Site) (a : Action) → has_told l t a ≡ true → site_news l t a ≡ [] }
+{}
+
+/// And it has nothing more to tell where more is known.
+pub fn told_stays()
+    ensures { (l m : Learned) → KnowsMore l m → (t : Site) (a : Action) → has_told l t a ≡ true → has_told m t a ≡ true }
 {}
