@@ -2,7 +2,10 @@
 use Rattle.std.proofs.Common.{◌≡◌, ◌∙◌, ℕ, zero, suc, ◌≤◌, Bool, true, false, List, [], ◌∷◌, ◌++◌, map, length, refl, sym, ap, subst, arith, append-nil, Option, Some, None}
 use Rattle.std.specs.List.{flat_map}
 use Rattle.board_code.specs.Spots.{layout_of}
-use Rattle.board_code.specs.Tables.{body_of, queue_kind, wanted_in}
+use Rattle.board_code.proofs.Found.{home_found}
+use Rattle.dataflow.specs.System.{In}
+use Rattle.task_code.specs.Whole.{IsCode}
+use Rattle.board_code.specs.Tables.{body_of, body_or_script, queue_kind, wanted_in}
 use Rattle.board_code.specs.declared.program.Wanted.{Wanted}
 use Rattle.board_data.specs.Wanted.{FewSlots, wanted_missed}
 use Rattle.board_data.proofs.Named.{all_missed}
@@ -10,7 +13,7 @@ use Rattle.board_frames.specs.Names.{led_slot}
 use Rattle.replayed.specs.Ending.{job_kind, job_priority}
 use Rattle.replayed.specs.Fields.{Counted, Does, Frame, Job, Script, Want, slot_at, slot_for}
 use Rattle.replayed.specs.Needs.{missed}
-use Rattle.task_code.specs.Code.{Code, Entry, blank_entry, entry, kind_of, nth}
+use Rattle.task_code.specs.Code.{Code, Entry, blank_entry, body, entry, kind_of, nth}
 use Rattle.work_queue.specs.declared.entry.Kind.TheVariants.{Leaf}
 use Rattle.std.specs.Prelude.{pos}
 use Rattle.std.specs.Bool.{OnFalse, OnTrue}
@@ -88,3 +91,7 @@ room_first C j v e h g = by j h g
     by Script h g = let z = none in omega arith
     by (Does k e zero) h g = let z = none in omega arith
     by (Does k e (suc c)) h g = absurd (cc (g))
+
+-- an entry in an instance of the body that has it
+pub seen_there : (C : Code) → IsCode C → (fs : List (Option Frame)) (k e c : ℕ) (f : Frame) → slot_at fs k ≡ Some f → In e (body C f.body).entries → IsSeen C fs (Does k e c)
+seen_there C I fs k e c f h i = (f, h, ap body_or_script (home_found C I f.body e i))

@@ -3,13 +3,13 @@ ghost use Rattle.std.specs.Prelude.{◌≡◌, ◌≤◌, ◌++◌, ℕ, List, [
 ghost use Rattle.dataflow.specs.Machine.{Event};
 ghost use Rattle.std.specs.List.{AllZip, filter, flat_map};
 ghost use Rattle.std.specs.Prelude.{nat_lt};
-ghost use Rattle.dataflow.specs.System.{Opening};
+ghost use Rattle.dataflow.specs.System.{In, Opening};
 ghost use Rattle.rules.specs.declared.input.Input.{Input};
 ghost use Rattle.smallvec.specs.SmallVec.{SmallVec};
 ghost use Rattle.task_code.specs.Effects.{Task};
 ghost use Rattle.task_code.specs.Places.{Place};
 ghost use Rattle.replayed.specs.Ending.{Instance, NewlyAfter, jobs_after, QueueAfter, WaitsAfter, ended_rows, new_row};
-ghost use Rattle.replayed.specs.Fields.{Counted, Fields, Frame, Job, Layout, Row, Waiting as waiting_mark, Want, row_of};
+ghost use Rattle.replayed.specs.Fields.{Counted, Does, Fields, Frame, Job, Layout, Row, Waiting as waiting_mark, Want, row_of, slot_at};
 ghost use Rattle.replayed.specs.Stands.{Stands};
 ghost use Rattle.rules.specs.Waiting.{Waiting};
 ghost use Rattle.task_code.specs.Code.{Code, Control, Leaf, body, entry};
@@ -24,10 +24,12 @@ ghost use Rattle.board_items.specs.declared.items.Items.{Items as AllItems};
 ghost use Rattle.board_items.specs.View.{waiters_view};
 
 /// Where the fields stand for the state of a history, the items fit: those wait that are marked so, each once, for something, and
-/// those are in the queue that are marked as ready, each once. Then the items have learnt nothing yet.
+/// those are in the queue that are marked as ready, each once. Then the items have learnt nothing yet. In an instance of the body that
+/// has an entry, the entry's item is seen.
 pub fn fitting_items()
     ensures stands { (C : Code) → IsCode C → (L : Layout) (events : List Event) (F : Fields) → Stands C L events F → ItemsFit F }
     ensures nothing { (F : Fields) (start : List Waiting) → ItemsFit F → F.waiting ≡ waiters_view start → HaveLearnt [] F.waiting start [] }
+    ensures seen { (C : Code) → IsCode C → (fs : List (Option Frame)) (k e c : ℕ) (f : Frame) → slot_at fs k ≡ Some f → In e (body C f.body).entries → IsSeen C fs (Does k e c) }
 {}
 
 /// New rows for which room was made, and which were counted, leave room for all items that wait or run.
