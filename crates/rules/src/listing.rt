@@ -27,6 +27,7 @@ fn wake(waiters: &mut Slab<Waiter>, places: &Places, input: &Input, out: &mut Ve
     ensures shrinks { Shrinks (after_slot input.now) waiters.old.slots waiters.new.slots }
     ensures balance { slab_len waiters.new + vec_len out.new ≡ slab_len waiters.old + vec_len out.old }
     ensures capacity { waiters.new.capacity ≡ waiters.old.capacity }
+    ensures out_capacity { vec_capacity out.new ≡ vec_capacity out.old }
 {
     if places.len() == 0 {
         visit_all(waiters, input, out);
@@ -224,6 +225,7 @@ impl Rules {
         ensures waiting { self.new.waiting ≡ still_waiting input.now self.old.waiting }
         ensures listed { IsListed (woken input.now self.old.waiting) out.old.items out.new.items }
         ensures room { GivesRoomBack self.old self.new }
+        ensures out_capacity { vec_capacity out.new ≡ vec_capacity out.old }
     {
         wake(&mut self.waiters, &self.places, input, out);
     }

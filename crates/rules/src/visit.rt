@@ -37,6 +37,7 @@ pub fn visit_listed(waiters: &mut Slab<Waiter>, slots: &[usize], input: &Input, 
     ensures shrinks { Shrinks (after_slot input.now) waiters.old.slots waiters.new.slots }
     ensures balance { slab_len waiters.new + vec_len out.new ≡ slab_len waiters.old + vec_len out.old }
     ensures capacity { waiters.new.capacity ≡ waiters.old.capacity }
+    ensures out_capacity { vec_capacity out.new ≡ vec_capacity out.old }
 {
     for slot in slots {
         visit(waiters, *slot, input, out);
@@ -51,6 +52,7 @@ pub fn visit_all(waiters: &mut Slab<Waiter>, input: &Input, out: &mut Vec<u64>)
     ensures shrinks { Shrinks (after_slot input.now) waiters.old.slots waiters.new.slots }
     ensures balance { slab_len waiters.new + vec_len out.new ≡ slab_len waiters.old + vec_len out.old }
     ensures capacity { waiters.new.capacity ≡ waiters.old.capacity }
+    ensures out_capacity { vec_capacity out.new ≡ vec_capacity out.old }
 {
     for slot in 0..waiters.capacity() {
         visit(waiters, slot, input, out);

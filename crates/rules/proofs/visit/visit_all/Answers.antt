@@ -45,3 +45,6 @@ returns-clause-capacity c = c.loop-slot.invariant.4
 
 pub returns-clause-balance : goal.returns-clause-balance
 returns-clause-balance c = c.loop-slot.invariant.6
+
+pub returns-clause-out_capacity : goal.returns-clause-out_capacity
+returns-clause-out_capacity c = c.loop-slot.invariant.7
