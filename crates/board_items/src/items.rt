@@ -181,6 +181,7 @@ impl Items {
         ensures stays { StaysButWaits self.old self.new }
         ensures told { length self.old.rules.waiting + vec_len self.old.woken ≤ vec_capacity self.old.woken → IsTold input.now self.old self.new }
         ensures learnt { length self.old.rules.waiting + vec_len self.old.woken ≤ vec_capacity self.old.woken → (known : List (Want ℕ)) (start : List Waiter) → HaveLearnt known start self.old.rules.waiting self.old.woken.items → HaveLearnt (known ++ want_view input.now ∷ []) start self.new.rules.waiting self.new.woken.items }
+        ensures woken_capacity { vec_capacity self.new.woken ≡ vec_capacity self.old.woken }
         ensures count { length self.new.rules.waiting + vec_len self.new.woken ≡ length self.old.rules.waiting + vec_len self.old.woken }
     {
         let all = self.rules.waiting().saturating_add(self.woken.len());
