@@ -1,12 +1,12 @@
 -- All data after an End.
-use Rattle.std.proofs.Common.{◌≡◌, ◌⊎◌, ◌∙◌, refl, sym, ap, subst, inl, inr, ℕ, ◌+◌, ◌<◌, Bool, true, false, List, [], Option, Some, None, option_map, arith}
+use Rattle.std.proofs.Common.{◌≡◌, ◌∙◌, refl, sym, ap, inl, inr, ℕ, ◌+◌, ◌<◌, false, List, [], Option, Some, None, option_map, arith}
 use Rattle.std.specs.Prelude.{if◌then◌else◌}
 use Rattle.std.proofs.lemmas.Bool.{cases_Bool}
 use Rattle.dataflow.specs.System.{In, Opening}
 use Rattle.data_store.specs.Data.{is_spent, with_holds}
 use Rattle.data_store.specs.Stores.{Store, at}
 use Rattle.data_store.specs.declared.datum.Datum.{Datum}
-use Rattle.replayed.specs.Ending.{CellsAfter, Instance, IsOwn, NewCell, added_times, given_times, job_stores}
+use Rattle.replayed.specs.Ending.{CellsAfter, Instance, NewCell, added_times, given_times, job_stores}
 use Rattle.replayed.specs.Fields.{Counted, Frame, Job, Layout, slot_at}
 use Rattle.replayed.specs.Static.{own_count}
 use Rattle.task_code.specs.Code.{Code, Variable, body}
@@ -23,18 +23,18 @@ use Rattle.board_data.specs.Stored.{StoresIn}
 use Rattle.board_data.specs.View.{cell_view, cells_view}
 use Rattle.board_openings.specs.Data.{MakesData}
 
-some_none : {X : Type 0} (r : Option X) (x : X) → r ≡ Some x → r ≡ None → ⊥
+pub some_none : {X : Type 0} (r : Option X) (x : X) → r ≡ Some x → r ≡ None → ⊥
 some_none r x s n = let e : Some x ≡ None = sym s ∙ n in absurd cc
 
 -- a datum that is seen is there
-seen_there : (s : Store) (d : ℕ) (c : Counted) → slot_at (cells_view s.cells) d ≡ Some c → (y : Datum) × (at s d ≡ Some y) × (cell_view y ≡ c)
+pub seen_there : (s : Store) (d : ℕ) (c : Counted) → slot_at (cells_view s.cells) d ≡ Some c → (y : Datum) × (at s d ≡ Some y) × (cell_view y ≡ c)
 seen_there s d c e = by (at s d) refl
   where
     by : (r : Option Datum) → at s d ≡ r → (y : Datum) × (at s d ≡ Some y) × (cell_view y ≡ c)
     by None q = (let z : None ≡ Some c = sym (cell_there s.cells d ∙ ap (option_map cell_view) q) ∙ e in absurd cc)
     by (Some y) q = (let z : Some (cell_view y) ≡ Some c = sym (cell_there s.cells d ∙ ap (option_map cell_view) q) ∙ e in (y, q, cc))
 
-seen_none : (s : Store) (d : ℕ) → slot_at (cells_view s.cells) d ≡ None → at s d ≡ None
+pub seen_none : (s : Store) (d : ℕ) → slot_at (cells_view s.cells) d ≡ None → at s d ≡ None
 seen_none s d e = by (at s d) refl
   where
     by : (r : Option Datum) → at s d ≡ r → at s d ≡ None

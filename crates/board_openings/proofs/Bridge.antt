@@ -1,5 +1,5 @@
 -- The openings of an item are of its blocks.
-use Rattle.std.proofs.Common.{◌≡◌, ◌⊎◌, ◌∙◌, refl, sym, ap, subst, inl, inr, ℕ, zero, suc, ◌<◌, true, List, [], ◌∷◌, ◌++◌, length, map, replicate, Option, Some, None, arith}
+use Rattle.std.proofs.Common.{◌≡◌, ◌∙◌, refl, sym, ap, subst, ℕ, ◌<◌, true, List, [], ◌∷◌, ◌++◌, length, map, replicate, Option, Some, None, arith}
 use Rattle.std.specs.List.{filter}
 use Rattle.dataflow.specs.System.{In}
 use Rattle.dataflow.proofs.Lists.{in_map, in_unmap}
@@ -14,14 +14,14 @@ use Rattle.task_code.specs.Places.{Step}
 use Rattle.values.specs.declared.key.Key.{Key}
 use Rattle.values.specs.declared.value.Scalar.{Scalar}
 use Rattle.board_code.specs.Tables.{passed_in}
-use Rattle.board_effects.specs.Openings.{AreOpenings, IsOpenedBy, IsOpened as IsOneOpened, handed_over, job_loop}
+use Rattle.board_effects.specs.Openings.{AreOpenings, IsOpenedBy, handed_over}
 use Rattle.board_frames.proofs.Opened.{inner_opened, outermost_opened}
-use Rattle.board_frames.specs.Made.{IsOpened, block_of, with_slots}
+use Rattle.board_frames.specs.Made.{IsOpened, block_of}
 use Rattle.board_frames.specs.Openings.{IsInner, passed_from, unfilled}
 use Rattle.board_frames.specs.View.{opening_frame}
 use Rattle.board_frames.specs.declared.opening.Opening.{Opening}
 use Rattle.board_frames.specs.declared.opening.Openings.{Openings}
-use Rattle.board_openings.specs.Blocks.{AreBlocks, Starts, TurnStarts, handed}
+use Rattle.board_openings.specs.Blocks.{AreBlocks, TurnStarts, handed}
 
 -- a loop hands nothing over
 loop_arguments : (a : Act) (w : Loop) → loop_of a ≡ Some w → arguments a ≡ []

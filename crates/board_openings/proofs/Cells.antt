@@ -1,13 +1,13 @@
 -- New data, in the words of an End.
-use Rattle.std.proofs.Common.{◌≡◌, ◌⊎◌, ◌∙◌, refl, sym, ap, subst, inl, inr, ℕ, zero, suc, ◌+◌, ◌<◌, ◌≤◌, Bool, true, false, List, [], ◌∷◌, ◌++◌, length, map, Option, Some, None, option_map, arith}
-use Rattle.std.specs.Prelude.{if◌then◌else◌, nat_eq}
+use Rattle.std.proofs.Common.{◌≡◌, ◌∙◌, refl, sym, ap, subst, inl, inr, ℕ, zero, suc, ◌+◌, ◌<◌, Bool, true, false, List, [], ◌∷◌, length, Option, Some, None, arith}
+use Rattle.std.specs.Prelude.{if◌then◌else◌}
 use Rattle.std.specs.List.{slice_get}
-use Rattle.std.proofs.lemmas.Bool.{cases_Bool, cases_eq}
+use Rattle.std.proofs.lemmas.Bool.{cases_Bool}
 use Rattle.std.proofs.lemmas.Option.{slice_get_within}
 use Rattle.dataflow.specs.System.{In}
 use Rattle.replayed.specs.Static.{name_times, names_in, own_count}
 use Rattle.replayed.proofs.Next.{nat_same, nat_sound}
-use Rattle.task_code.proofs.Equal.{variable_same, variable_sound}
+use Rattle.task_code.proofs.Equal.{variable_sound}
 use Rattle.task_code.specs.Code.{Code, Name, Variable, body, here}
 use Rattle.task_code.specs.Places.{variable_eq}
 use Rattle.board_code.specs.Spots.{place_from}

@@ -1,5 +1,5 @@
 -- Data of several instances: each under a number of its own, which had none before.
-use Rattle.std.proofs.Common.{◌≡◌, ◌≢◌, ◌⊎◌, ◌∙◌, refl, sym, ap, subst, inl, inr, ℕ, zero, suc, ◌+◌, ◌<◌, ◌≤◌, List, [], ◌∷◌, length, map, Option, Some, None, arith}
+use Rattle.std.proofs.Common.{◌≡◌, ◌⊎◌, ◌∙◌, refl, sym, ap, subst, inl, inr, ℕ, zero, suc, ◌+◌, ◌<◌, ◌≤◌, List, [], ◌∷◌, length, map, Option, Some, None, arith}
 use Rattle.std.specs.List.{slice_get}
 use Rattle.std.proofs.lemmas.Bool.{cases_eq}
 use Rattle.std.proofs.lemmas.Option.{slice_get-get_or}
@@ -10,7 +10,7 @@ use Rattle.replayed.specs.Fields.{Absent, DatumOf, Frame}
 use Rattle.replayed.specs.Fields as Pure
 use Rattle.task_code.specs.Code.{nth}
 use Rattle.board_code.specs.declared.program.Own.{Own}
-use Rattle.board_data.specs.Made.{DataMade, NewAt, new_datum, slot_in, start_at}
+use Rattle.board_data.specs.Made.{DataMade, new_datum, slot_in, start_at}
 use Rattle.board_frames.specs.Openings.{Put}
 use Rattle.board_frames.specs.View.{opening_frame, slot_view}
 use Rattle.board_frames.specs.declared.instance.Slot.{Slot}

@@ -1,5 +1,5 @@
 -- Each change, and an End of one.
-use Rattle.std.proofs.Common.{◌≡◌, ◌∙◌, refl, sym, ap, subst, ℕ, List, [], ◌∷◌, ◌++◌, append-nil, append_assoc, map, Option, Some, None, true, false, Bool, Vec, Global}
+use Rattle.std.proofs.Common.{◌≡◌, ◌∙◌, refl, sym, ap, subst, ℕ, List, [], ◌∷◌, ◌++◌, append-nil, append_assoc, map, Option, Some, true, false, Bool, Vec, Global}
 use Rattle.data_store.specs.Stores.{Store}
 use Rattle.replayed.specs.Fields.{Frame, Job, Row, Want, Whole}
 use Rattle.task_code.specs.Code.{Code}
@@ -12,7 +12,7 @@ use Rattle.values.specs.declared.value.Scalar.{Scalar}
 use Rattle.board_data.specs.Stored.{IsScalarTarget, StoresIn, Takes}
 use Rattle.board_data.proofs.Stored.{stored_nothing}
 use Rattle.board_frames.specs.declared.opening.Openings.{Openings}
-use Rattle.board_openings.specs.World.{CanStore, Changed, Goes, LetsGo, Opens, WorldEnds, goes_on, target_of, told_of, values_of}
+use Rattle.board_openings.specs.World.{Changed, Goes, LetsGo, Opens, WorldEnds, goes_on, told_of}
 use Rattle.board_openings.specs.declared.world.Change.{Change}
 use Rattle.board_openings.specs.declared.world.Change.TheVariants as Changes
 

@@ -1,5 +1,5 @@
 -- An entry's item ends that opens instances.
-use Rattle.std.proofs.Common.{◌≡◌, ◌⊎◌, ◌∙◌, refl, sym, ap, subst, inl, inr, ℕ, zero, suc, ◌+◌, ◌*◌, ◌<◌, ◌^◌, Bool, true, false, List, [], ◌∷◌, length, map, Option, Some, None, option_map, arith}
+use Rattle.std.proofs.Common.{◌≡◌, ◌⊎◌, ◌∙◌, refl, sym, ap, subst, inl, inr, ℕ, suc, ◌+◌, ◌*◌, ◌<◌, ◌^◌, Bool, true, false, List, [], ◌∷◌, length, map, Option, Some, None, option_map}
 use Rattle.std.specs.Prelude.{IsSome, is_some, if◌then◌else◌}
 use Rattle.std.specs.List.{filter}
 use Rattle.dataflow.specs.System.{In, Opening}
@@ -10,12 +10,12 @@ use Rattle.data_store.specs.Stores.{Store, at}
 use Rattle.replayed.proofs.Frames.{Within, alike_live}
 use Rattle.replayed.proofs.Reached.{frame_reached}
 use Rattle.replayed.proofs.Tests.{in_kept}
-use Rattle.replayed.specs.Ending.{CellsAfter, FramesOpen, Instance, NamesLead, TakenOff, added_times, given_times, has_entries, held_times, home, is_home, job_stores, leaving, outside, with_live}
-use Rattle.replayed.specs.Fields.{Counted, Job, Does, Fields, Frame, Over, Row, path_of, row_of, slot_at, slot_for, task_of}
+use Rattle.replayed.specs.Ending.{BecomesKnown, CellsAfter, FramesOpen, Instance, NamesLead, TakenOff, added_times, given_times, has_entries, held_times, is_home, job_stores, leaving, outside, with_live}
+use Rattle.replayed.specs.Fields.{Counted, Job, Whole, Does, Fields, Frame, Over, Row, path_of, row_of, slot_at, slot_for, task_of}
 use Rattle.replayed.specs.Layouts.{Reached, reached_inside}
 use Rattle.replayed.specs.Stands.{Stands}
 use Rattle.replayed.specs.Static.{opened, outer_holds, rests}
-use Rattle.task_code.specs.Code.{Code, Entry, Name, Way, body, entry, ways}
+use Rattle.task_code.specs.Code.{Code, Way, body, entry, ways}
 use Rattle.task_code.specs.Compute.{Computed}
 use Rattle.task_code.specs.Effects.{Task, is_some_list}
 use Rattle.task_code.specs.Places.{Place, Step}
@@ -23,14 +23,12 @@ use Rattle.task_code.specs.Whole.{IsCode}
 use Rattle.board_code.specs.Spots.{layout_of}
 use Rattle.board_data.proofs.Cells.{cell_there}
 use Rattle.board_data.specs.Ended.{Covers}
-use Rattle.board_data.specs.Holds.{Fit, GivesUp}
+use Rattle.board_data.specs.Holds.{Closes, Fit, GivesUp}
 use Rattle.board_data.specs.Stored.{StoresIn}
 use Rattle.board_data.specs.View.{cell_view, cells_view}
 use Rattle.board_frames.proofs.Opened.{stands_nested}
 use Rattle.board_frames.specs.Made.{FitsAround, made_as}
-use Rattle.board_frames.specs.Nested.{IsNested}
 use Rattle.board_frames.specs.Openings.{Put}
-use Rattle.board_frames.specs.View.{opening_frame}
 use Rattle.board_frames.specs.declared.opening.Openings.{Openings}
 use Rattle.board_openings.proofs.After.{cells_after}
 use Rattle.board_openings.proofs.Frames.{are_made, count, frames_open, nested}
@@ -38,10 +36,12 @@ use Rattle.board_openings.proofs.Leads.{all_lead}
 use Rattle.board_openings.proofs.MadeData.{body_is, makes_data}
 use Rattle.board_openings.proofs.Outer.{all_added, none_added, read_outside, ways_of, write_outside}
 use Rattle.board_openings.proofs.Rights.{covers}
-use Rattle.board_openings.proofs.Steps.{adds_all, gives_none, gives_same, last_none, last_some, outer_is, reads_are, writes_are}
+use Rattle.board_openings.proofs.Steps.{adds_all, closes_none, closes_same, gives_none, gives_same, last_none, last_some, outer_is, reads_are, writes_are}
 use Rattle.board_openings.specs.Blocks.{AreBlocks}
 use Rattle.board_openings.specs.Opened.{AreOpened, outer_of}
+use Rattle.board_openings.proofs.Becomes.{becomes}
 use Rattle.board_openings.specs.World.{Goes}
+use Rattle.board_openings.specs.declared.world.Change.TheVariants as Changes
 
 lengths : {X Y : Type 0} (f : X → Y) (xs : List X) → length (map f xs) ≡ length xs
 lengths f [] = refl
@@ -150,3 +150,19 @@ module _ (C : Code) (I : IsCode C) (es : List Event) (F : Fields) (x : Stands C 
                 (cells_after C (layout_of C) F.frames hs (Does k e c) computed ms (rests C (task_of F.frames (Does k e c)) computed) None [] s stored W.made more t stores (makes_data C I (Does k e c) computed o F.frames hs F.rows rows stored more B W) adds g.0 cov told (none cells)),
             g.1,
           )
+
+      -- the arrays that are closed
+      shut : (b : Bool) (os : List (Opening Task Place)) → b ≡ is_some_list os → Goes C b (Does k e c) hs gs more t closed → Closes (λ d. given_times C (layout_of C) (λ y. y.writes) F.frames d (Does k e c) os) more closed
+      shut true [] q h = absurd (cc)
+      shut false (p ∷ os) q h = absurd (cc)
+      shut true (p ∷ os) q h = subst (λ (ds : List ℕ). Closes (λ d. 0) more ds) (sym h.2) (closes_none more)
+      shut false [] q h = closes_same _ _ more closed (writes_are C I F.frames hs within k e c around.0 around.1 around.2 reached) h.closes
+
+      pub opens_become : goes_on ≡ is_some_list (rests C (task_of F.frames (Does k e c)) computed) → F.cells ≡ cells_view s.cells → StoresIn None [] s stored → ((d : ℕ) → [] ≡ job_stores C (layout_of C) F.frames (Does k e c) computed d) →
+          BecomesKnown C (layout_of C) (job_stores C (layout_of C) F.frames (Does k e c) computed) F.cells (cells_view t.cells) (map Whole closed)
+      opens_become q cells stores told =
+          let os = rests C (task_of F.frames (Does k e c)) computed in
+          let g = gone goes_on os q goes in
+          let cov = subst (λ (j : Job). Covers (λ d. given_times C (layout_of C) (λ y. y.reads) F.frames d j os) (λ d. given_times C (layout_of C) (λ y. y.writes) F.frames d j os) s) job (covers C I (layout_of C) es F x n row there live os s cells) in
+          subst (λ (cs : List (Option Counted)). BecomesKnown C (layout_of C) (job_stores C (layout_of C) F.frames (Does k e c) computed) cs (cells_view t.cells) (map Whole closed)) (sym cells)
+          (becomes C (layout_of C) F.frames hs (Does k e c) computed ms os (Changes.Opens o) s stored W.made more t tt stores (makes_data C I (Does k e c) computed o F.frames hs F.rows rows stored more B W) adds g.0 cov told closed (shut goes_on os q goes) (λ w i. absurd i))

@@ -1,13 +1,13 @@
 -- An entry's item ends that opens nothing.
-use Rattle.std.proofs.Common.{◌≡◌, ◌⊎◌, ◌∙◌, refl, sym, ap, subst, inl, inr, ℕ, ◌+◌, Bool, true, false, List, [], ◌∷◌, Option, Some, None, arith}
+use Rattle.std.proofs.Common.{◌≡◌, ◌∙◌, refl, sym, ap, subst, inl, ℕ, ◌+◌, Bool, true, false, List, [], ◌++◌, map, Option, Some, arith}
 use Rattle.std.specs.Prelude.{IsSome, is_some, if◌then◌else◌}
 use Rattle.dataflow.specs.System.{In, Opening}
 use Rattle.dataflow.specs.Machine.{Event}
 use Rattle.data_store.specs.Stores.{Store, at}
 use Rattle.replayed.proofs.Frames.{Within, alike_same}
 use Rattle.replayed.proofs.Reached.{frame_reached}
-use Rattle.replayed.specs.Ending.{CellsAfter, FramesOpen, TakenOff, given_times, is_home, job_stores, leaving, with_live}
-use Rattle.replayed.specs.Fields.{Counted, Does, Fields, Frame, Job, Layout, Over, Row, row_of, slot_at}
+use Rattle.replayed.specs.Ending.{BecomesKnown, CellsAfter, FramesOpen, TakenOff, given_times, is_home, job_stores, leaving, with_live}
+use Rattle.replayed.specs.Fields.{Counted, Does, Fields, Frame, Job, Layout, Over, Row, Whole, row_of, slot_at}
 use Rattle.replayed.specs.Layouts.{Reached}
 use Rattle.replayed.specs.Stands.{Stands}
 use Rattle.task_code.specs.Code.{Code, body}
@@ -23,9 +23,13 @@ use Rattle.board_data.specs.View.{cells_view}
 use Rattle.board_frames.proofs.Opened.{stands_nested}
 use Rattle.board_openings.proofs.After.{cells_after}
 use Rattle.board_openings.proofs.Rights.{covers}
-use Rattle.board_openings.proofs.Steps.{gives_same, reads_are, with_none, writes_are}
+use Rattle.board_openings.proofs.Steps.{closes_same, gives_same, reads_are, with_none, writes_are}
 use Rattle.board_openings.specs.Data.{MakesData}
-use Rattle.board_openings.specs.World.{LetsGo}
+use Rattle.board_openings.proofs.Becomes.{becomes}
+use Rattle.board_openings.proofs.Known.{given}
+use Rattle.board_openings.proofs.Told.{told_sound}
+use Rattle.board_openings.specs.World.{CanStore, LetsGo, target_of, told_of, values_of}
+use Rattle.board_openings.specs.declared.world.Change.{Change}
 
 -- nothing is made
 pub makes_none : (C : Code) (L : Layout) (fs : List (Option Frame)) (j : Job) (x : Computed) (s : Store) → MakesData C L fs fs j x [] s s
@@ -67,3 +71,16 @@ module _ (C : Code) (I : IsCode C) (es : List Event) (F : Fields) (x : Stands C 
             told (λ d h. (refl, refl))),
         goes.leaves (stands_nested C (layout_of C) es F x) (λ i z. let w : k ≡ i = cc in subst (λ (l : ℕ). IsSome (slot_at F.frames l)) w (ap is_some around.1)),
       )
+
+  pub stores_become : (computed : Computed) (os : List (Opening Task Place)) (change : Change) (gs : List (Option Frame)) (s stored t : Store) (closed : List ℕ) → os ≡ [] → F.cells ≡ cells_view s.cells → CanStore change s →
+      StoresIn (target_of change) (values_of change) s stored → LetsGo C (Does k e c) F.frames gs stored t closed → ((d : ℕ) → (if is_place d (target_of change) then values_of change else []) ≡ job_stores C (layout_of C) F.frames (Does k e c) computed d) →
+      BecomesKnown C (layout_of C) (job_stores C (layout_of C) F.frames (Does k e c) computed) F.cells (cells_view t.cells) (told_of change ++ map Whole closed)
+  stores_become computed os change gs s stored t closed none cells can stores goes told =
+      let gives = gives_same _ _ _ _ stored t (reads_are C I F.frames F.frames within k e c around.0 around.1 around.2 reached) (writes_are C I F.frames F.frames within k e c around.0 around.1 around.2 reached) goes.gives in
+      let cov = subst (λ (j : Job). Covers (λ d. given_times C (layout_of C) (λ y. y.reads) F.frames d j []) (λ d. given_times C (layout_of C) (λ y. y.writes) F.frames d j []) s) job (covers C I (layout_of C) es F x n row there live [] s cells) in
+      let makes = makes_none C (layout_of C) F.frames (Does k e c) computed stored in
+      let closes = closes_same _ _ stored closed (writes_are C I F.frames F.frames within k e c around.0 around.1 around.2 reached) goes.closes in
+      subst (λ (cs : List (Option Counted)). BecomesKnown C (layout_of C) (job_stores C (layout_of C) F.frames (Does k e c) computed) cs (cells_view t.cells) (told_of change ++ map Whole closed)) (sym cells)
+      (becomes C (layout_of C) F.frames F.frames (Does k e c) computed [] [] change s stored stored stored t can stores makes (λ d. sym (with_none (at stored d))) gives cov told closed closes
+      (told_sound change (λ d. given_times C (layout_of C) (λ y. y.reads) F.frames d (Does k e c) []) (λ d. given_times C (layout_of C) (λ y. y.writes) F.frames d (Does k e c) []) s stored t can stores
+      (given C (layout_of C) F.frames F.frames (Does k e c) computed [] [] (target_of change) (values_of change) s stored stored stored t stores makes (λ d. sym (with_none (at stored d))) gives cov) gives.nothing))

@@ -1,5 +1,5 @@
 -- Data of instances that are made one after the other.
-use Rattle.std.proofs.Common.{◌≡◌, ◌∙◌, refl, sym, ap, subst, ℕ, zero, suc, ◌+◌, ◌*◌, ◌<◌, ◌≤◌, List, [], ◌∷◌, length, take, drop, get_or, add-one, inl, inr, arith}
+use Rattle.std.proofs.Common.{◌≡◌, refl, sym, ap, subst, ℕ, zero, suc, ◌+◌, ◌*◌, ◌<◌, ◌≤◌, List, [], ◌∷◌, length, take, drop, get_or, add-one, inl, inr, arith}
 use Rattle.std.specs.Prelude.{slice_set}
 use Rattle.dataflow.specs.System.{In}
 use Rattle.data_store.specs.Stores.{Store}

@@ -1,12 +1,10 @@
 -- The instances that an End makes, where its openings are of its blocks.
-use Rattle.std.proofs.Common.{◌≡◌, ◌∙◌, refl, sym, ap, subst, inl, inr, ℕ, zero, suc, ◌+◌, ◌<◌, List, [], ◌∷◌, ◌++◌, length, map, Option, Some, None, arith}
-use Rattle.std.specs.List.{filter}
+use Rattle.std.proofs.Common.{◌≡◌, ◌∙◌, refl, sym, ap, subst, inl, inr, ℕ, suc, List, [], ◌∷◌, ◌++◌, length, map, Option}
 use Rattle.dataflow.specs.System.{In}
 use Rattle.data_store.specs.Stores.{Store}
-use Rattle.replayed.specs.Ending.{AreMade, FramesOpen, Instance, has_entries, home, made_jobs, new_row}
+use Rattle.replayed.specs.Ending.{AreMade, FramesOpen, Instance, home, made_jobs, new_row}
 use Rattle.replayed.specs.Fields.{Frame, Job, Row, task_of}
 use Rattle.replayed.specs.Fields as Pure
-use Rattle.replayed.specs.Static.{opened}
 use Rattle.task_code.specs.Code.{Code, body}
 use Rattle.task_code.specs.Compute.{Computed}
 use Rattle.board_code.specs.declared.program.Own.{Own}
@@ -18,7 +16,7 @@ use Rattle.board_frames.specs.View.{opening_frame, slot_view}
 use Rattle.board_frames.specs.declared.opening.Opening.{Opening}
 use Rattle.board_frames.specs.declared.opening.Openings.{Openings}
 use Rattle.board_openings.specs.Blocks.{AreBlocks}
-use Rattle.board_openings.specs.Filled.{AreFilled, Fills, HasSlots}
+use Rattle.board_openings.specs.Filled.{AreFilled}
 use Rattle.board_openings.specs.Opened.{AreOpened, own_of, turn_slots}
 use Rattle.board_openings.specs.declared.filling.TurnSlots.{TurnSlots}
 

@@ -1,5 +1,5 @@
 -- The names of new instances lead where they should.
-use Rattle.std.proofs.Common.{◌≡◌, ◌⊎◌, ◌∙◌, refl, sym, ap, subst, inl, inr, ℕ, zero, suc, ◌+◌, ◌<◌, ◌≤◌, ◌^◌, List, [], ◌∷◌, ◌++◌, length, map, replicate, take, Option, Some, None, arith}
+use Rattle.std.proofs.Common.{◌≡◌, ◌∙◌, refl, sym, ap, subst, inl, inr, ℕ, zero, suc, ◌<◌, ◌≤◌, ◌^◌, List, [], ◌∷◌, ◌++◌, length, map, replicate, take, Option, Some, None, arith}
 use Rattle.std.proofs.lemmas.Bool.{cases_eq}
 use Rattle.dataflow.specs.System.{In}
 use Rattle.dataflow.specs.Machine.{Event}
@@ -9,9 +9,9 @@ use Rattle.replayed.proofs.EndedNames.{flat_in}
 use Rattle.replayed.proofs.Layouts.{names_lead}
 use Rattle.replayed.proofs.Reached.{frame_reached}
 use Rattle.replayed.proofs.Tests.{none_some, some_same}
-use Rattle.replayed.specs.Ending.{FramesOpen, Instance, NamesLead, home}
+use Rattle.replayed.specs.Ending.{Instance, NamesLead}
 use Rattle.replayed.specs.Fields.{Absent, Does, Fields, Frame, Over, Row, Slot, row_of, slot_at}
-use Rattle.replayed.specs.Layouts.{Passes, Reached, all_names}
+use Rattle.replayed.specs.Layouts.{Passes, Reached}
 use Rattle.replayed.specs.Stands.{Stands}
 use Rattle.task_code.specs.Code.{Calling, Code, Name, arguments, body, entry, nth, ways}
 use Rattle.task_code.specs.Compute.{Computed}
@@ -19,7 +19,6 @@ use Rattle.task_code.specs.Whole.{IsCode}
 use Rattle.board_code.proofs.Laid.{is_layout, leads_somewhere}
 use Rattle.board_code.specs.Spots.{layout_of, spot_in}
 use Rattle.board_code.specs.Tables.{passed_in}
-use Rattle.board_code.specs.declared.spot.Spot.{Spot}
 use Rattle.board_frames.proofs.Passed.{passes_over}
 use Rattle.board_frames.proofs.Turned.{not_blank}
 use Rattle.board_frames.specs.Made.{FitsAround, made_as}
@@ -31,7 +30,7 @@ use Rattle.board_openings.proofs.Cells.{own_count_of}
 use Rattle.board_openings.proofs.Frames.{frames_open}
 use Rattle.board_openings.proofs.MadeData.{body_is, one_of}
 use Rattle.board_openings.specs.Blocks.{AreBlocks, handed}
-use Rattle.board_openings.specs.Opened.{AreOpened, own_of}
+use Rattle.board_openings.specs.Opened.{AreOpened}
 
 -- lists of one length that agree at each place are the same
 all_same : (xs ys : List Slot) → length xs ≡ length ys → ((i : ℕ) → nth Absent xs i ≡ nth Absent ys i) → xs ≡ ys

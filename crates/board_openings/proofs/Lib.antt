@@ -1,4 +1,5 @@
 pub mod After
+pub mod Becomes
 pub mod Bridge
 pub mod Cells
 pub mod Chain
@@ -8,6 +9,7 @@ pub mod EntryStores
 pub mod Filled
 pub mod Frames
 pub mod GivenUp
+pub mod Known
 pub mod Leads
 pub mod MadeData
 pub mod Opened
@@ -15,3 +17,4 @@ pub mod Outer
 pub mod Rights
 pub mod Starts
 pub mod Steps
+pub mod Told

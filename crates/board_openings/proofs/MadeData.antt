@@ -1,5 +1,5 @@
 -- The data of the instances that an End makes.
-use Rattle.std.proofs.Common.{◌≤◌, ◌++◌, replicate, ◌≡◌, ◌⊎◌, ◌∙◌, refl, sym, ap, subst, inl, inr, ℕ, zero, suc, ◌+◌, ◌<◌, List, [], ◌∷◌, length, map, Option, Some, None, option_map, arith}
+use Rattle.std.proofs.Common.{◌≤◌, ◌++◌, replicate, ◌≡◌, ◌⊎◌, ◌∙◌, refl, sym, ap, subst, inl, inr, ℕ, zero, suc, ◌+◌, ◌<◌, List, length, map, Option, Some, None, option_map, arith}
 use Rattle.std.specs.List.{slice_get}
 use Rattle.dataflow.specs.System.{In}
 use Rattle.dataflow.proofs.Lists.{in_map, in_unmap}
@@ -7,12 +7,12 @@ use Rattle.data_store.specs.Stores.{Store, at}
 use Rattle.data_store.specs.declared.datum.Datum.{Datum}
 use Rattle.data_store.specs.declared.datum.Shape.{Shape}
 use Rattle.replayed.specs.Ending.{Instance, IsOwn, NewCell, StartsAs, StartsBy, home, path_around}
-use Rattle.replayed.specs.Fields.{Absent, Content, DatumOf, Does, Frame, Job, Row, Script, frame_up, path_of, slot_at, slot_for, step_before}
+use Rattle.replayed.specs.Fields.{Absent, Content, DatumOf, Does, Frame, Job, Row, Script, frame_up, path_of, slot_for, step_before}
 use Rattle.replayed.specs.Fields.{Slot as PureSlot}
 use Rattle.replayed.specs.Static.{own_count}
 use Rattle.task_code.specs.Code.{Code, Loop, Variable, body, entry, here, loop_of, nth, scalar}
 use Rattle.task_code.specs.Compute.{Computed}
-use Rattle.task_code.specs.Places.{Step, variable_eq}
+use Rattle.task_code.specs.Places.{variable_eq}
 use Rattle.task_code.specs.Whole.{IsCode}
 use Rattle.board_code.proofs.Laid.{own_leads}
 use Rattle.board_code.specs.Spots.{layout_of, levels_of, place_from, slot_of, spot_in}
@@ -20,7 +20,7 @@ use Rattle.board_code.specs.Tables.{is_place, node_slot, shape_of, turn_slot, va
 use Rattle.board_code.specs.declared.program.Own.{Own}
 use Rattle.board_code.specs.declared.spot.Spot.{Spot}
 use Rattle.board_data.proofs.Cells.{cell_there}
-use Rattle.board_data.specs.Made.{new_datum, start_at, started}
+use Rattle.board_data.specs.Made.{start_at, started}
 use Rattle.board_data.specs.View.{cell_view, cells_view, content_view}
 use Rattle.board_effects.specs.Openings.{job_loop}
 use Rattle.board_frames.specs.Made.{made_as}
@@ -28,8 +28,8 @@ use Rattle.board_frames.specs.Openings.{Put}
 use Rattle.board_frames.specs.View.{opening_frame}
 use Rattle.board_frames.specs.declared.opening.Opening.{Opening}
 use Rattle.board_frames.specs.declared.opening.Openings.{Openings}
-use Rattle.board_openings.proofs.Cells.{OwnAt, OwnOf, own_back, own_count_of, own_found, place_is, same_at}
-use Rattle.board_openings.proofs.Chain.{OneStored, views, Placed, Stored, all_apart, each_stored, kept_all, named, only_stored, placed}
+use Rattle.board_openings.proofs.Cells.{own_back, own_count_of, own_found, same_at}
+use Rattle.board_openings.proofs.Chain.{OneStored, views, Placed, all_apart, each_stored, kept_all, named, only_stored, placed}
 use Rattle.board_openings.proofs.Starts.{place_test, starts_none, starts_turn}
 use Rattle.board_openings.specs.Blocks.{AreBlocks, Starts, TurnStarts, handed}
 use Rattle.board_openings.specs.Data.{MakesData}

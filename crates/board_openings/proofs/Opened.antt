@@ -8,7 +8,6 @@ use Rattle.replayed.specs.Static.{counted_names, names_in, outer_holds}
 use Rattle.replayed.specs.Fields.{Slot}
 use Rattle.task_code.specs.Code.{Body, Code, Entry, Name, blank_body, blank_entry, body, entry, nth}
 use Rattle.board_code.specs.Tables.{at_name, own_from, spots_in}
-use Rattle.board_code.specs.declared.program.Own.{Own}
 use Rattle.board_code.specs.declared.spot.Spot.{Spot}
 use Rattle.board_openings.specs.Opened.{own_of}
 

@@ -1,24 +1,24 @@
 -- What new instances hold outside of them: on no new datum, and each as much as any other.
-use Rattle.std.proofs.Common.{◌≡◌, ◌⊎◌, ◌∙◌, refl, sym, ap, subst, inl, inr, ℕ, zero, suc, ◌+◌, ◌*◌, Bool, true, false, List, [], ◌∷◌, ◌++◌, length, map, not, Option, Some, None, arith}
+use Rattle.std.proofs.Common.{◌≡◌, ◌∙◌, refl, sym, ap, subst, inl, inr, ℕ, zero, suc, ◌+◌, ◌*◌, true, false, List, [], ◌∷◌, ◌++◌, length, not, Option, Some, None, arith}
 use Rattle.std.specs.Prelude.{if◌then◌else◌}
 use Rattle.std.specs.List.{filter}
 use Rattle.dataflow.specs.System.{In}
 use Rattle.dataflow.specs.Machine.{Event}
 use Rattle.dataflow.proofs.Lists.{in_left, in_right, in_unmap}
-use Rattle.replayed.proofs.EndedNames.{Resolved, flat_in, hold_named, in_flat}
+use Rattle.replayed.proofs.EndedNames.{flat_in, hold_named, in_flat}
 use Rattle.replayed.proofs.Layouts.{added_once}
 use Rattle.replayed.proofs.Tests.{in_kept, not_true, yes_no}
 use Rattle.replayed.specs.Ending.{Instance, NamesLead, added_times, held_times, job_slot, slot_is}
 use Rattle.replayed.specs.Fields.{Does, Fields, Frame, LiteralOf, Over, Row, Slot, row_of, slot_at, slot_for}
 use Rattle.replayed.specs.Stands.{Stands}
-use Rattle.replayed.specs.Static.{Hold, names_in, outer_holds, counted_names}
+use Rattle.replayed.specs.Static.{Hold, names_in, outer_holds}
 use Rattle.task_code.proofs.Decided.{declared_is}
 use Rattle.task_code.specs.Check.{is_declared}
 use Rattle.task_code.specs.Code.{Act, Assert, Call, Calling, Cell, Code, Copy, Each, Entry, Fill, If, InPlace, Name, Parameter, Print, Put, Range, Read, Set, Through, Wait, Way, body, entry, ways}
 use Rattle.task_code.specs.Compute.{Computed, Fails, Gives, Inserts, Opens, Takes, Turns}
 use Rattle.task_code.specs.Effects.{chunk, instances, step_at, turns_of}
 use Rattle.task_code.specs.Places.{Step}
-use Rattle.task_code.specs.Whole.{Declared, Fixes, IsCode, Seen, SeenFrom}
+use Rattle.task_code.specs.Whole.{Declared, Fixes, IsCode, Seen}
 use Rattle.values.specs.declared.key.Key.{Key}
 use Rattle.values.specs.declared.value.Scalar.{Scalar}
 use Rattle.board_code.specs.Spots.{layout_of}

@@ -1,13 +1,12 @@
 -- What an item's rights stand for, and that it gives up no more than there is.
-use Rattle.std.proofs.Common.{◌≡◌, ◌⊎◌, ◌∙◌, refl, sym, ap, subst, inl, inr, ℕ, zero, suc, ◌+◌, ◌≤◌, Bool, true, false, List, [], ◌∷◌, map, Option, None, Some, option_map, ◌==◌, ◌&&◌, arith}
+use Rattle.std.proofs.Common.{◌≡◌, ◌∙◌, refl, sym, ap, subst, inl, inr, ℕ, zero, suc, ◌+◌, ◌≤◌, false, List, [], ◌∷◌, map, Option, None, Some, option_map, arith}
 use Rattle.std.specs.Prelude.{if◌then◌else◌, nat_eq}
 use Rattle.std.proofs.lemmas.Bool.{cases_Bool}
-use Rattle.dataflow.specs.System.{Answer, Effect, Good, In, Opening, System}
+use Rattle.dataflow.specs.System.{Answer, Effect, Good, In, Opening}
 use Rattle.dataflow.specs.Facts.{Made}
 use Rattle.dataflow.specs.History.{log_of}
-use Rattle.dataflow.specs.Laws.{Can}
 use Rattle.dataflow.specs.Log.{Logged}
-use Rattle.dataflow.specs.Machine.{Event, Item as MachineItem, Run}
+use Rattle.dataflow.specs.Machine.{Event, Run}
 use Rattle.dataflow.specs.Promises.{tasks_in_items}
 use Rattle.dataflow.proofs.Follows.{Follows}
 use Rattle.dataflow.proofs.Lists.{in_map, in_split, in_unmap}
@@ -19,8 +18,8 @@ use Rattle.data_store.specs.Stores.{Store, at}
 use Rattle.data_store.specs.declared.datum.Datum.{Datum as StoredDatum}
 use Rattle.replayed.specs.Counts.{holds, readers, times, writers}
 use Rattle.replayed.specs.Elements.{code_tests}
-use Rattle.replayed.specs.Ending.{given_times, job_names, job_slot, named_times, slot_is}
-use Rattle.replayed.specs.Fields.{Absent, Counted, DatumOf, Does, Fields, Frame, Job, Layout, LiteralOf, Over, Row, Script, Slot, path_of, row_of, slot_at, slot_for, task_of}
+use Rattle.replayed.specs.Ending.{given_times, job_slot, named_times, slot_is}
+use Rattle.replayed.specs.Fields.{Absent, Counted, Does, Fields, Frame, Job, Layout, Over, Row, Script, Slot, path_of, row_of, slot_at, slot_for, task_of}
 use Rattle.replayed.specs.Stands.{SlotStands, Stands}
 use Rattle.replayed.specs.Static.{opened, rests}
 use Rattle.replayed.proofs.Counts.{made_to_read, made_to_write}
@@ -36,9 +35,9 @@ use Rattle.replayed.proofs.Standing.{never_free}
 use Rattle.replayed.proofs.Static.{among_times}
 use Rattle.replayed.proofs.Tests.{none_some, some_same}
 use Rattle.task_code.proofs.Kept.{code_laws}
-use Rattle.task_code.specs.Code.{Code, Entry, Name, Variable, body, entry}
-use Rattle.task_code.specs.Effects.{Item, Main, Task, block}
-use Rattle.task_code.specs.Machine.{CodeItem, CodeState}
+use Rattle.task_code.specs.Code.{Code, Name, Variable, body, entry}
+use Rattle.task_code.specs.Effects.{Item, Task, block}
+use Rattle.task_code.specs.Machine.{CodeItem}
 use Rattle.task_code.specs.Places.{Constant, Datum, Nowhere, Place, Step, place_at}
 use Rattle.task_code.specs.System.{code_system, data_among, task_reads, task_writes}
 use Rattle.task_code.specs.Whole.{IsCode}

@@ -1,24 +1,20 @@
 -- Each step of an End, in the words of what the fields come to.
-use Rattle.std.proofs.Common.{◌≡◌, ◌⊎◌, ◌∙◌, refl, sym, ap, subst, inl, inr, ℕ, zero, suc, ◌+◌, ◌*◌, ◌-◌, ◌≤◌, Bool, true, false, List, [], ◌∷◌, ◌++◌, length, map, not, Option, Some, None, option_map, arith}
+use Rattle.std.proofs.Common.{◌≡◌, ◌∙◌, refl, sym, ap, subst, inl, inr, ℕ, ◌+◌, ◌*◌, ◌-◌, ◌≤◌, List, [], ◌∷◌, ◌++◌, not, Option, Some, None, option_map, arith}
 use Rattle.std.specs.Prelude.{if◌then◌else◌}
 use Rattle.std.specs.List.{filter}
-use Rattle.dataflow.specs.System.{In, Opening}
-use Rattle.dataflow.specs.Machine.{Event}
-use Rattle.dataflow.proofs.Lists.{in_left, in_right}
-use Rattle.data_store.specs.Data.{is_spent, kept, with_holds}
+use Rattle.dataflow.specs.System.{In}
+use Rattle.data_store.specs.Data.{kept, with_holds}
 use Rattle.data_store.specs.Stores.{Store, at}
 use Rattle.data_store.specs.declared.datum.Datum.{Datum}
 use Rattle.replayed.proofs.EndedNames.{flat_in, hold_named, in_flat}
 use Rattle.replayed.proofs.Frames.{Within, slot_same}
 use Rattle.replayed.proofs.Tests.{in_kept}
 use Rattle.replayed.specs.Ending.{Instance, added_times, given_times, held_times, job_slot, named_times, slot_is}
-use Rattle.replayed.specs.Fields.{Absent, Does, Fields, Frame, Job, Layout, Over, Row, Script, Slot, frame_up, row_of, slot_at, slot_for}
+use Rattle.replayed.specs.Fields.{Absent, Does, Frame, Slot, frame_up, slot_at, slot_for}
 use Rattle.replayed.specs.Layouts.{Reached, all_names}
 use Rattle.replayed.specs.Static.{Hold, names_in, outer_holds}
 use Rattle.task_code.specs.Check.{is_declared}
 use Rattle.task_code.specs.Code.{Code, Entry, Name, body, entry, nth}
-use Rattle.task_code.specs.Effects.{Task, is_some_list}
-use Rattle.task_code.specs.Places.{Place}
 use Rattle.task_code.specs.Whole.{IsCode}
 use Rattle.board_code.proofs.Found.{home_found}
 use Rattle.board_code.proofs.Laid.{leads_somewhere}
@@ -26,7 +22,7 @@ use Rattle.board_code.proofs.Slots.{reads_led, writes_led}
 use Rattle.board_code.specs.Spots.{frame_slot, layout_of, levels_of, slot_of, spot_in}
 use Rattle.board_code.specs.Tables.{at_spot, body_of, body_or_script, led_times, spots_in}
 use Rattle.board_code.specs.declared.spot.Spot.{Spot}
-use Rattle.board_data.specs.Holds.{Fit, GivesUp, fewer}
+use Rattle.board_data.specs.Holds.{Closes, Fit, GivesUp, fewer}
 use Rattle.board_frames.specs.Names.{slot_in, spot_slot}
 use Rattle.board_frames.specs.Openings.{Put, last_key}
 use Rattle.board_openings.specs.Opened.{AddsOuter, outer_of}
@@ -115,6 +111,17 @@ gives_same r u w v s t e f g = record {
   there = λ d x h n a b. g.there d x h n (subst (λ k. k ≤ x.reads) (sym (e d)) a) (subst (λ k. k ≤ x.writes) (sym (f d)) b) ∙ ap (λ k. kept (fewer k (w d) x)) (e d) ∙ ap (λ k. kept (fewer (u d) k x)) (f d);
   nothing = g.nothing;
 }
+
+-- arrays closed, by numbers that are the same
+pub closes_same : (w v : ℕ → ℕ) (s : Store) (closed : List ℕ) → ((d : ℕ) → w d ≡ v d) → Closes w s closed → Closes v s closed
+closes_same w v s closed e h = record {
+  all = λ d x q k p z. h.all d x q k p (e d ∙ z);
+  only = λ d i. let y = h.only d i in (y.0, y.1, y.2, subst (λ k. y.0.writes ≤ k) (e d) y.3);
+}
+
+-- none is closed
+pub closes_none : (s : Store) → Closes (λ d. 0) s []
+closes_none s = record { all = λ d x q k p z. absurd (omega (arith, p, z)); only = λ d i. absurd i }
 
 -- nothing is given up
 pub gives_none : (s : Store) → GivesUp (λ d. 0) (λ d. 0) s s

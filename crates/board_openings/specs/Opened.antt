@@ -1,8 +1,8 @@
 -- Instances that are opened: their data are made, they come among the others with their items, and their holds outside are added.
-use Rattle.std.specs.Prelude.{◌≡◌, ◌+◌, ◌*◌, ◌<◌, ◌^◌, ℕ, Bool, true, false, List, [], ◌∷◌, ◌++◌, length, map, Option, Some, None, option_map, suc, zero}
+use Rattle.std.specs.Prelude.{◌≡◌, ◌+◌, ◌*◌, ◌<◌, ◌^◌, ℕ, Bool, true, false, List, [], ◌∷◌, length, map, Option, Some, None, option_map, suc}
 use Rattle.data_store.specs.Data.{with_holds}
 use Rattle.data_store.specs.Stores.{Store, at}
-use Rattle.replayed.specs.Ending.{held_times, home, new_row}
+use Rattle.replayed.specs.Ending.{held_times, home}
 use Rattle.replayed.specs.Fields.{Does, Frame, Job, Row, Script}
 use Rattle.replayed.specs.Static.{names_in, outer_holds}
 use Rattle.task_code.specs.Code.{Code, Entry, Name, body}

@@ -1,5 +1,5 @@
 -- What an End does to instances and data, step by step.
-use Rattle.std.specs.Prelude.{◌≡◌, ◌≤◌, ◌<◌, ◌+◌, ◌*◌, ◌^◌, vec_len, vec_capacity, ℕ, Bool, true, false, List, [], ◌∷◌, ◌++◌, length, map, Option, Some, None, IsSome, if◌then◌else◌}
+use Rattle.std.specs.Prelude.{◌≡◌, ◌≤◌, ◌+◌, ◌*◌, vec_len, vec_capacity, ℕ, Bool, true, false, List, [], ◌∷◌, ◌++◌, length, map, Option, Some, None, IsSome}
 use Rattle.std.proofs.Common.{Vec, Global}
 use Rattle.dataflow.specs.System.{In}
 use Rattle.data_store.specs.Stores.{Store}

@@ -3,8 +3,8 @@ ghost use Rattle.std.specs.Prelude.{◌≡◌, ◌++◌, ◌<◌, ◌^◌, ℕ, 
 ghost use Rattle.dataflow.specs.Machine.{Event};
 ghost use Rattle.dataflow.specs.System.{In, Opening};
 ghost use Rattle.data_store.specs.Stores.{Store, at};
-ghost use Rattle.replayed.specs.Ending.{AreMade, CellsAfter, FramesOpen, Instance, NamesLead, TakenOff, added_times, given_times, home, job_stores, leaving, made_jobs, new_row};
-ghost use Rattle.replayed.specs.Fields.{Does, Fields, Frame, Job, Layout, Over, Row, path_of, row_of, slot_at, task_of};
+ghost use Rattle.replayed.specs.Ending.{AreMade, BecomesKnown, CellsAfter, FramesOpen, Instance, NamesLead, TakenOff, added_times, given_times, home, job_stores, leaving, made_jobs, new_row};
+ghost use Rattle.replayed.specs.Fields.{Does, Fields, Frame, Job, Layout, Over, Row, Whole, path_of, row_of, slot_at, task_of};
 ghost use Rattle.replayed.specs.Stands.{Stands};
 ghost use Rattle.replayed.specs.Static.{rests};
 ghost use Rattle.task_code.specs.Code.{Code};
@@ -21,7 +21,8 @@ ghost use Rattle.board_data.specs.Holds.{Fit};
 ghost use Rattle.board_data.specs.Stored.{StoresIn};
 ghost use Rattle.board_data.specs.View.{cells_view};
 ghost use Rattle.board_frames.specs.Openings.{Put};
-ghost use Rattle.board_openings.specs.World.{Goes, LetsGo};
+ghost use Rattle.board_openings.specs.World.{CanStore, Goes, LetsGo, target_of, told_of, values_of};
+ghost use Rattle.board_openings.specs.declared.world.Change.{Change as TheChange};
 ghost use Rattle.board_frames.specs.Nested.{IsNested};
 ghost use Rattle.board_frames.specs.declared.opening.Openings.{Openings as TheOpenings};
 ghost use Rattle.board_openings.specs.Blocks.{AreBlocks};
@@ -83,4 +84,22 @@ pub fn entry_stores()
 /// The openings of an item are of its blocks, where the instances' paths have as many steps as they tell.
 pub fn openings_of_item()
     ensures { (C : Code) (fs : List (Option Frame)) → ((k : ℕ) (g : Frame) → slot_at fs k ≡ Some g → g.depth ≡ length (path_of fs k)) → (x : Computed) (o : TheOpenings) (j : Job) → AreOpenings C fs j x o → AreBlocks C fs j x o }
+{}
+
+/// The list of what becomes known at the End of an entry's item is just that: where it stores, or nothing is opened, what was stored
+/// and the arrays that were closed; where it opens instances, the arrays that were closed.
+pub fn becomes_known()
+    ensures stores { (C : Code) → IsCode C → (es : List Event) (F : Fields) → Stands C (layout_of C) es F →
+        (n k e c : ℕ) (row : Row) → row_of F.rows n ≡ Some row → row.job ≡ Does k e c → (row.mark ≡ Over → ⊥) →
+        (x : Computed) (os : List (Opening Task Place)) (change : TheChange) (gs : List (Option Frame)) (s stored t : Store) (closed : List ℕ) → os ≡ [] → F.cells ≡ cells_view s.cells → CanStore change s →
+        StoresIn (target_of change) (values_of change) s stored → LetsGo C (Does k e c) F.frames gs stored t closed → ((d : ℕ) → (if is_place d (target_of change) then values_of change else []) ≡ job_stores C (layout_of C) F.frames (Does k e c) x d) →
+        BecomesKnown C (layout_of C) (job_stores C (layout_of C) F.frames (Does k e c) x) F.cells (cells_view t.cells) (told_of change ++ map Whole closed) }
+    ensures opens { (C : Code) → IsCode C → (es : List Event) (F : Fields) → Stands C (layout_of C) es F →
+        (n k e c : ℕ) (row : Row) → row_of F.rows n ≡ Some row → row.job ≡ Does k e c → (row.mark ≡ Over → ⊥) →
+        (x : Computed) (o : TheOpenings) (hs : List (Option Frame)) (rows : List Row) (s stored more : Store) → AreBlocks C F.frames (Does k e c) x o →
+        (w : AreOpened C (Does k e c) o F.frames hs F.rows rows stored more) → FitsAround F.frames (Some k) (length o.list.items) → ((q : Put) → In q w.placed.puts → length q.frame.slots < 2 ^ 64) →
+        ((d : ℕ) → Fit (added_times C (layout_of C) (λ y. y.reads) hs d (map (made_as F.frames (Some k)) w.placed.puts)) (added_times C (layout_of C) (λ y. y.writes) hs d (map (made_as F.frames (Some k)) w.placed.puts)) (at w.made d)) →
+        (gs : List (Option Frame)) (t : Store) (closed : List ℕ) (goes_on : Bool) → Goes C goes_on (Does k e c) hs gs more t closed → goes_on ≡ is_some_list (rests C (task_of F.frames (Does k e c)) x) →
+        F.cells ≡ cells_view s.cells → StoresIn None [] s stored → ((d : ℕ) → [] ≡ job_stores C (layout_of C) F.frames (Does k e c) x d) →
+        BecomesKnown C (layout_of C) (job_stores C (layout_of C) F.frames (Does k e c) x) F.cells (cells_view t.cells) (map Whole closed) }
 {}

@@ -1,8 +1,8 @@
-use Rattle.std.proofs.Common.{◌≡◌, ◌∙◌, ◌<◌, ◌≤◌, ◌+◌, ap, sym, subst, vec_len, length, true, false, Vec, Global, arith}
+use Rattle.std.proofs.Common.{◌≡◌, ◌∙◌, ◌≤◌, ◌+◌, ap, sym, subst, vec_len, length, true, false, Vec, Global, arith}
 use Rattle.data_store.specs.Stores.{Store}
 use Rattle.board_openings.specs.Filled.{Fills}
 use Rattle.board_frames.specs.declared.opening.Opening.{Opening}
-use Rattle.board_openings.proofs.Filled.{fill_last, fill_next, in_rest, long_enough, more_room, still_room}
+use Rattle.board_openings.proofs.Filled.{fill_last, fill_next, long_enough, more_room, still_room}
 use Rattle.board_openings.proofs.filling.fill_all.Goals as goal
 use Rattle.board_openings.proofs.filling.fill_all.Goals.{in-Some+in_ok-fill, in_default}
 

@@ -1,4 +1,4 @@
-use Rattle.std.proofs.Common.{◌≡◌, ◌+◌, ◌-◌, ◌≤◌, ◌++◌, length, map, take, vec_len, vec_capacity, Some}
+use Rattle.std.proofs.Common.{◌≡◌, ◌+◌, ◌≤◌, ◌++◌, map, take, vec_len, vec_capacity, Some}
 use Rattle.board_data.specs.View.{want_view}
 use Rattle.board_openings.specs.World.{elements_of}
 use Rattle.board_openings.proofs.world.tell_elements.Given as goal

@@ -1,4 +1,4 @@
-use Rattle.std.proofs.Common.{◌≡◌, ◌∙◌, refl, sym, ap, map, Vec, Global}
+use Rattle.std.proofs.Common.{◌∙◌, sym, ap, map, Vec, Global}
 use Rattle.rules.specs.declared.input.Input.{Input}
 use Rattle.board_data.specs.View.{want_view}
 use Rattle.board_frames.specs.View.{frames_view, job_view, rows_view}

@@ -1,8 +1,7 @@
-use Rattle.std.proofs.Common.{◌≡◌, ◌∙◌, ◌+◌, ◌≤◌, sym, ap, map, subst, List, length, vec_len, vec_capacity}
+use Rattle.std.proofs.Common.{◌∙◌, map}
 use Rattle.std.proofs.lemmas.Result.{on_ok_weaker}
 use Rattle.task_code.specs.Code.{entry}
 use Rattle.board_code.specs.Tables.{body_of, spots_in}
-use Rattle.board_code.specs.declared.spot.Spot.{Spot}
 use Rattle.board_data.specs.View.{want_view}
 use Rattle.board_frames.specs.Names.{spot_slot}
 use Rattle.board_frames.specs.View.{frames_view}

@@ -1,4 +1,4 @@
-use Rattle.std.proofs.Common.{◌≡◌, ◌∙◌, refl, sym, ap, map, [], append-nil, ◌++◌}
+use Rattle.std.proofs.Common.{sym, ap, map, [], append-nil}
 use Rattle.board_data.specs.View.{want_view}
 use Rattle.slab.specs.Slab.{Slab}
 use Rattle.board_frames.specs.declared.instance.Instance.{Instance}
