@@ -15,6 +15,7 @@ pub mod MadeData
 pub mod Opened
 pub mod Outer
 pub mod Rights
+pub mod ScriptOpens
 pub mod Starts
 pub mod Steps
 pub mod Told

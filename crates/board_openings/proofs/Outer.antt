@@ -56,7 +56,7 @@ ways_of (Wait hs b) mark p zero x s h = elim h [ inl e ↦ (InPlace, subst (λ (
 ways_of (Wait hs b) mark p (suc c) x s h = absurd h
 
 -- what holds come to where no name of theirs is the datum
-held_none : (f : Name → Slot) (d : ℕ) (hs : List Hold) → ((h : Hold) → In h hs → slot_is d (f h.name) ≡ false) → held_times f d hs ≡ 0
+pub held_none : (f : Name → Slot) (d : ℕ) (hs : List Hold) → ((h : Hold) → In h hs → slot_is d (f h.name) ≡ false) → held_times f d hs ≡ 0
 held_none f d [] all = refl
 held_none f d (h ∷ hs) all =
     ap (λ b. (if b then h.count else 0) + held_times f d hs) (all h (inl refl)) ∙ zero_plus (held_times f d hs) ∙ held_none f d hs (λ g i. all g (inr i))
@@ -65,7 +65,7 @@ held_none f d (h ∷ hs) all =
     zero_plus n = omega arith
 
 -- a hold outside is of a name that the body does not declare
-outer_named : (C : Code) (rights : Entry → List Name) (b : ℕ) (h : Hold) → In h (outer_holds C rights b) → In h.name (names_in C rights b) × (Declared C b h.name → ⊥)
+pub outer_named : (C : Code) (rights : Entry → List Name) (b : ℕ) (h : Hold) → In h (outer_holds C rights b) → In h.name (names_in C rights b) × (Declared C b h.name → ⊥)
 outer_named C rights b h i =
     let p = in_kept (λ r. not (is_declared C b r)) h.name (names_in C rights b) (hold_named (filter (λ r. not (is_declared C b r)) (names_in C rights b)) h i) in
     (p.0, λ y. yes_no (declared_is C b h.name y) (not_true (is_declared C b h.name) p.1))

@@ -4,7 +4,7 @@ ghost use Rattle.dataflow.specs.Machine.{Event};
 ghost use Rattle.dataflow.specs.System.{In, Opening};
 ghost use Rattle.data_store.specs.Stores.{Store, at};
 ghost use Rattle.replayed.specs.Ending.{AreMade, BecomesKnown, CellsAfter, FramesOpen, Instance, NamesLead, TakenOff, added_times, given_times, home, job_stores, leaving, made_jobs, new_row};
-ghost use Rattle.replayed.specs.Fields.{Does, Fields, Frame, Job, Layout, Over, Row, Whole, path_of, row_of, slot_at, task_of};
+ghost use Rattle.replayed.specs.Fields.{Does, Fields, Frame, Job, Layout, Over, Row, Script, Whole, path_of, row_of, slot_at, task_of};
 ghost use Rattle.replayed.specs.Stands.{Stands};
 ghost use Rattle.replayed.specs.Static.{rests};
 ghost use Rattle.task_code.specs.Code.{Code};
@@ -102,4 +102,15 @@ pub fn becomes_known()
         (gs : List (Option Frame)) (t : Store) (closed : List ℕ) (goes_on : Bool) → Goes C goes_on (Does k e c) hs gs more t closed → goes_on ≡ is_some_list (rests C (task_of F.frames (Does k e c)) x) →
         F.cells ≡ cells_view s.cells → StoresIn None [] s stored → ((d : ℕ) → [] ≡ job_stores C (layout_of C) F.frames (Does k e c) x d) →
         BecomesKnown C (layout_of C) (job_stores C (layout_of C) F.frames (Does k e c) x) F.cells (cells_view t.cells) (map Whole closed) }
+{}
+
+/// The same where the opening of the script ends: its data, that it is in no instance, and what becomes known.
+pub fn script_opens()
+    ensures { (C : Code) → IsCode C → (es : List Event) (F : Fields) → Stands C (layout_of C) es F →
+        (n : ℕ) (row : Row) → row_of F.rows n ≡ Some row → row.job ≡ Script → (row.mark ≡ Over → ⊥) →
+        (x : Computed) (o : TheOpenings) (hs : List (Option Frame)) (rows : List Row) (s stored more : Store) → AreBlocks C F.frames Script x o → (w : AreOpened C Script o F.frames hs F.rows rows stored more) →
+        ((d : ℕ) → Fit (added_times C (layout_of C) (λ y. y.reads) hs d (map (made_as F.frames None) w.placed.puts)) (added_times C (layout_of C) (λ y. y.writes) hs d (map (made_as F.frames None) w.placed.puts)) (at w.made d)) →
+        (gs : List (Option Frame)) (t : Store) (closed : List ℕ) → LetsGo C Script hs gs more t closed → F.cells ≡ cells_view s.cells → StoresIn None [] s stored →
+        CellsAfter C (layout_of C) F.frames hs Script x (map (made_as F.frames None) w.placed.puts) [] F.cells (cells_view t.cells) × TakenOff gs hs None
+        × BecomesKnown C (layout_of C) (job_stores C (layout_of C) F.frames Script x) F.cells (cells_view t.cells) (map Whole closed) }
 {}
