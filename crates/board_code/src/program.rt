@@ -340,8 +340,7 @@ fn entry_tables(
     code: &Code,
     homes: &[Option<u32>],
 ) -> Result<Vec<EntryTable>, AllocError>
-    requires homes { homes.now ≡ homes_of code.now }
-    requires few { length code.now.entries < 2 ^ 32 }
+    requires { homes.now ≡ homes_of code.now }
     ensures each { IfOk result (λ tables. AllFrom (λ i t. IsEntryTable code.now (body_of code.now i) i t) 0 tables.items) }
     ensures all { IfOk result (λ tables. length tables.items ≡ length code.now.entries) }
 {
@@ -395,12 +394,12 @@ impl Model for Program {
 }
 
 impl Program {
-    /// The code with all that is worked out of it. Code of 2^32 entries or bodies or more, or of more names than 64 bits
-    /// count, is refused as want of memory.
+    /// The code with all that is worked out of it. Code of 2^32 bodies or more, or of more names than 64 bits count, is
+    /// refused as want of memory.
     pub fn new(alloc: Global, code: Code) -> Result<Program, AllocError>
         ensures { IfOk result (λ program. program ≡ code) }
     {
-        if code.body_count() > u32::MAX as usize || code.entry_count() > u32::MAX as usize {
+        if code.body_count() > u32::MAX as usize {
             return Err(AllocError);
         }
         let homes = homes(alloc, &code)?;

@@ -110,7 +110,10 @@ pub fn with_flow<A: Allocator + Clone>(
 {
     let flow = read_folded(machine, alloc, src)?;
     match emit(machine, &flow) {
-        Ok(code) => Ok(Compiled { flow, code }),
+        Ok(draft) => Ok(Compiled {
+            flow,
+            code: Code::of(draft),
+        }),
         Err(_) => Err(CompileFault::Memory),
     }
 }

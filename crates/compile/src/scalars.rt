@@ -37,7 +37,7 @@ pub fn read<A: Allocator + Clone>(
 /// # Errors
 ///
 /// The refusal of the first step that refuses the script, or `Memory`.
-#[tactic(auto, using(crate::proofs::Written::compiles))]
+#[tactic(auto, using(crate::proofs::Written::compiles, crate::proofs::Written::is_few))]
 pub fn compile<A: Allocator + Clone>(
     machine: Global,
     alloc: A,
@@ -48,7 +48,7 @@ pub fn compile<A: Allocator + Clone>(
 {
     let flow = read(machine, alloc, src)?;
     match emit(machine, flow) {
-        Ok(code) => Ok(code),
+        Ok(draft) => Ok(Code::of(draft)),
         Err(_) => Err(CompileFault::Memory),
     }
 }

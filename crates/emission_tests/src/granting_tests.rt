@@ -8,7 +8,8 @@ ghost use Rattle.granting.specs.Granted.{laid_code};
 
 use granting::granted::granted;
 use std::alloc::{AllocError, Global};
-use task_code::code::{Body, Code, Opener};
+use task_code::code::{Body, Opener};
+use task_code::draft::Draft;
 use task_code::entry::{Act, Entry, Name, Need, Owned, Variable};
 use task_code::expr::Expr;
 use values::value::Scalar;
@@ -110,7 +111,7 @@ fn bodies(alloc: Global) -> Result<Vec<Body>, AllocError>
 }
 
 /// The code with its rights.
-fn code(alloc: Global) -> Result<Code, AllocError> {
+fn code(alloc: Global) -> Result<Draft, AllocError> {
     let entries = entries(alloc)?;
     let bodies = bodies(alloc)?;
     granted(alloc, bodies, entries)

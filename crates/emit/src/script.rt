@@ -16,7 +16,8 @@ use flow::script::{Flow, Function};
 use flow::statement::Block;
 use granting::granted::granted;
 use std::alloc::{AllocError, Allocator, Global};
-use task_code::code::{Body, Code, Opener};
+use task_code::code::{Body, Opener};
+use task_code::draft::Draft;
 use task_code::entry::Entry;
 
 /// Lays a block of a function's own, or the script's.
@@ -150,7 +151,7 @@ fn lay_script<A: Allocator>(alloc: Global, flow: &Flow<A>) -> Result<Laid, Alloc
 /// # Errors
 ///
 /// `AllocError` where memory that was asked for was refused.
-pub fn emit<A: Allocator>(alloc: Global, flow: &Flow<A>) -> Result<Code, AllocError>
+pub fn emit<A: Allocator>(alloc: Global, flow: &Flow<A>) -> Result<Draft, AllocError>
     requires calls { CallsOnce (core_of flow.now) }
     requires cells { CellsOnce (core_of flow.now) }
     requires reads { ReadsStand (core_of flow.now) }

@@ -12,11 +12,12 @@ use ref_counting::rights::rights;
 use ref_counting::rows::Rows;
 use ref_counting::uses::Right;
 use std::alloc::{AllocError, Global};
-use task_code::code::{Body, Code};
+use task_code::code::Body;
+use task_code::draft::Draft;
 use task_code::entry::{Entry, Name};
 
 /// Puts bodies behind the others.
-fn add_bodies(code: &mut Code, bodies: Vec<Body>) -> Result<(), AllocError>
+fn add_bodies(code: &mut Draft, bodies: Vec<Body>) -> Result<(), AllocError>
     ensures { OnOk result (code.new ≡ record code.old { bodies = code.old.bodies ++ map body_view bodies.items }) }
 {
     for body in bodies {
@@ -49,7 +50,7 @@ fn with_rights(
 /// Puts an entry with the rights of its number behind the others.
 fn add_entry(
     alloc: Global,
-    code: &mut Code,
+    code: &mut Draft,
     entry: Entry,
     reads: &Rows<Name>,
     writes: &Rows<Name>,
@@ -65,7 +66,7 @@ fn add_entry(
 /// Puts entries with the rights of their numbers into a code without entries.
 fn add_entries(
     alloc: Global,
-    code: &mut Code,
+    code: &mut Draft,
     entries: Vec<Entry>,
     reads: &Rows<Name>,
     writes: &Rows<Name>,
@@ -81,16 +82,16 @@ fn add_entries(
 }
 
 /// The code of these bodies, without entries.
-fn of_bodies(alloc: Global, bodies: Vec<Body>) -> Result<Code, AllocError>
+fn of_bodies(alloc: Global, bodies: Vec<Body>) -> Result<Draft, AllocError>
     ensures { IfOk result (λ code. code ≡ record { entries = []; bodies = map body_view bodies.items }) }
 {
-    let mut code = Code::new(alloc);
+    let mut code = Draft::new(alloc);
     add_bodies(&mut code, bodies)?;
     Ok(code)
 }
 
 /// The code of these bodies, with the outlines of these entries.
-fn with_outlines(alloc: Global, bodies: &Code, entries: &Vec<Entry>) -> Result<Code, AllocError>
+fn with_outlines(alloc: Global, bodies: &Draft, entries: &Vec<Entry>) -> Result<Draft, AllocError>
     requires { bodies.now.entries ≡ [] }
     ensures { IfOk result (λ code. code ≡ record { entries = map outlined (map entry_view entries.now.items); bodies = bodies.now.bodies }) }
 {
@@ -105,7 +106,7 @@ fn with_outlines(alloc: Global, bodies: &Code, entries: &Vec<Entry>) -> Result<C
 /// # Errors
 ///
 /// `AllocError` where memory that was asked for was refused.
-pub fn granted(alloc: Global, bodies: Vec<Body>, entries: Vec<Entry>) -> Result<Code, AllocError>
+pub fn granted(alloc: Global, bodies: Vec<Body>, entries: Vec<Entry>) -> Result<Draft, AllocError>
     requires few_entries { length entries.items < 2 ^ 32 }
     requires few_bodies { length bodies.items < 2 ^ 32 }
     requires marks { HasMarks (laid_code bodies.items entries.items) }

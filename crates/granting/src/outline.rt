@@ -4,7 +4,7 @@ ghost use Rattle.task_code.specs.View.{act_view, argument_view, entry_view, expr
 ghost use Rattle.granting.specs.Outline.{act_outlined, blank, outlined};
 
 use std::alloc::{AllocError, Global};
-use task_code::code::Code;
+use task_code::draft::Draft;
 use task_code::entry::{Act, Argument, Entry, Need};
 use task_code::expr::Expr;
 use values::value::Scalar;
@@ -106,7 +106,7 @@ fn outline(alloc: Global, entry: &Entry) -> Result<Entry, AllocError>
 }
 
 /// Puts the outlines of entries behind the entries of a code.
-pub fn add_outlines(alloc: Global, code: &mut Code, entries: &Vec<Entry>) -> Result<(), AllocError>
+pub fn add_outlines(alloc: Global, code: &mut Draft, entries: &Vec<Entry>) -> Result<(), AllocError>
     ensures { OnOk result (code.new ≡ record code.old { entries = code.old.entries ++ map outlined (map entry_view entries.now.items) }) }
 {
     for entry in entries {

@@ -1,5 +1,5 @@
 //! Codes that several tests run.
-ghost use Rattle.std.specs.Prelude.{◌≡◌, IfOk};
+ghost use Rattle.std.specs.Prelude.{◌≡◌, ◌≤◌, IfOk, length};
 ghost use Rattle.values.specs.Operators.{printf};
 ghost use Rattle.task_code.specs.Code.{Assert, Print, need, no_operand, operation};
 ghost use Rattle.task_code.specs.View.{act_view, entry_view};
@@ -8,6 +8,7 @@ ghost use Rattle.machine_tests.specs.Codes.{assert_entry, set_entry};
 
 use std::alloc::{AllocError, Global};
 use task_code::code::{Body, Code, Opener};
+use task_code::draft::Draft;
 use task_code::entry::{Act, Entry, Name, Need, Owned, Variable};
 use task_code::expr::{Expr, Operator};
 use values::format::{Format, FormatFault};
@@ -20,12 +21,18 @@ fn printing(alloc: Global, format: Format) -> Act
     Act::Print(Expr::Operation(Operator::Printf(format), Vec::new(alloc)))
 }
 
+/// Code that does nothing.
+pub fn empty(alloc: Global) -> Code {
+    Code::of(Draft::new(alloc))
+}
+
 /// `printf(TEXT);`
-pub fn printed(alloc: Global, text: &[u8]) -> Result<Code, FormatFault>
-    ensures { IfOk result (λ code. IsFlat code) }
+fn printed_draft(alloc: Global, text: &[u8]) -> Result<Draft, FormatFault>
+    ensures flat { IfOk result (λ code. IsFlat code) }
+    ensures few { IfOk result (λ code. length code.entries ≤ 4194304) }
 {
     let format = Format::read(alloc, text)?;
-    let mut code = Code::new(alloc);
+    let mut code = Draft::new(alloc);
     code.push_entry(Entry {
         node: 1,
         at: 0,
@@ -42,6 +49,14 @@ pub fn printed(alloc: Global, text: &[u8]) -> Result<Code, FormatFault>
         entries: Vec::from_array(alloc, [0])?,
     })?;
     Ok(code)
+}
+
+/// `printf(TEXT);`
+pub fn printed(alloc: Global, text: &[u8]) -> Result<Code, FormatFault>
+    ensures { IfOk result (λ code. IsFlat code) }
+{
+    let draft = printed_draft(alloc, text)?;
+    Ok(Code::of(draft))
 }
 
 /// `printf("hello");`
@@ -103,10 +118,11 @@ fn assert_truth(alloc: Global) -> Result<Entry, AllocError>
 }
 
 /// `boolean x = TRUTH; assert(x, "");`
-pub fn asserted(alloc: Global, truth: bool) -> Result<Code, AllocError>
-    ensures { IfOk result (λ code. IsFlat code) }
+fn asserted_draft(alloc: Global, truth: bool) -> Result<Draft, AllocError>
+    ensures flat { IfOk result (λ code. IsFlat code) }
+    ensures few { IfOk result (λ code. length code.entries ≤ 4194304) }
 {
-    let mut code = Code::new(alloc);
+    let mut code = Draft::new(alloc);
     code.push_entry(set_truth(alloc, truth)?)?;
     code.push_entry(assert_truth(alloc)?)?;
     code.push_body(Body {
@@ -115,4 +131,12 @@ pub fn asserted(alloc: Global, truth: bool) -> Result<Code, AllocError>
         entries: Vec::from_array(alloc, [0, 1])?,
     })?;
     Ok(code)
+}
+
+/// `boolean x = TRUTH; assert(x, "");`
+pub fn asserted(alloc: Global, truth: bool) -> Result<Code, AllocError>
+    ensures { IfOk result (λ code. IsFlat code) }
+{
+    let draft = asserted_draft(alloc, truth)?;
+    Ok(Code::of(draft))
 }

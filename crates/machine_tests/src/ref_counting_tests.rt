@@ -8,7 +8,8 @@ use ref_counting::rights::rights;
 use ref_counting::uses::Right;
 use std::alloc::{AllocError, Global};
 use std::test::Fail;
-use task_code::code::{Body, Code, Opener};
+use task_code::code::{Body, Opener};
+use task_code::draft::Draft;
 use task_code::entry::{Act, Argument, Entry, Name, Owned, Variable};
 use values::value::Scalar;
 
@@ -53,12 +54,12 @@ fn parameter(place: usize, array: bool) -> Name {
 }
 
 /// The code of that script.
-fn calls_itself(alloc: Global) -> Result<Code, AllocError>
+fn calls_itself(alloc: Global) -> Result<Draft, AllocError>
     ensures marks { IfOk result (λ code. HasMarks code) }
     ensures entries { IfOk result (λ code. length code.entries < 2 ^ 32) }
     ensures bodies { IfOk result (λ code. length code.bodies < 2 ^ 32) }
 {
-    let mut code = Code::new(alloc);
+    let mut code = Draft::new(alloc);
     let zero = Argument::Fixed(Scalar::Number(0));
     code.push_entry(call(alloc, 10, zero, array(1))?)?;
     let same = Argument::Named(parameter(0, false));

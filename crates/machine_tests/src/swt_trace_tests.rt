@@ -2,7 +2,7 @@
 //! end, and sinks that fail.
 ghost use Rattle.std.specs.Prelude.{◌≡◌};
 
-use crate::codes::hello;
+use crate::codes::{empty, hello};
 use board::place::{Fault, FaultKind, Statement, Step};
 use board_work::outcome::EntryFault;
 use runs::report::{End, Report};
@@ -13,7 +13,6 @@ use swt_trace::read::read_trace;
 use swt_trace::replay::replay;
 use swt_trace::report::write_report;
 use swt_trace::write::write_trace;
-use task_code::code::Code;
 use task_code::event::Event;
 use values::key::Key;
 use values::sink::{Sink, SinkFault};
@@ -154,7 +153,7 @@ fn report_with(
         lines.push(text).expect(rt, "memory");
     }
     Report {
-        code: Code::new(alloc),
+        code: empty(alloc),
         history: Vec::from_slice(alloc, events).expect(rt, "memory"),
         lines,
         end,

@@ -4,6 +4,7 @@ use crate::codes::hello;
 use std::alloc::Global;
 use std::process::Abort;
 use task_code::code::{Body, Code, Opener};
+use task_code::draft::Draft;
 use task_code::entry::{Act, Argument, Entry, Kind, Name, Need, Owned, Variable};
 use task_code::event::Event;
 use task_code::expr::{Expr, Operator};
@@ -52,7 +53,7 @@ fn call(rt: &impl Abort, alloc: Global, input: Argument, output: Name) -> Act {
 /// Adds an entry that reads what it waits for.
 fn push(
     rt: &impl Abort,
-    code: &mut Code,
+    code: &mut Draft,
     alloc: Global,
     place: (u32, usize),
     act: Act,
@@ -77,7 +78,7 @@ fn push(
 }
 
 /// The entries of `printf("%i", fib(10));`.
-fn push_print(rt: &impl Abort, code: &mut Code, alloc: Global) {
+fn push_print(rt: &impl Abort, code: &mut Draft, alloc: Global) {
     let result = own(1);
     let first = call(rt, alloc, Argument::Fixed(Scalar::Number(10)), result);
     push(rt, code, alloc, (1, 92), first, &[], result);
@@ -88,7 +89,7 @@ fn push_print(rt: &impl Abort, code: &mut Code, alloc: Global) {
 }
 
 /// The entries of `if (n < 2) { r = n; } else { .. }`.
-fn push_choice(rt: &impl Abort, code: &mut Code, alloc: Global) {
+fn push_choice(rt: &impl Abort, code: &mut Draft, alloc: Global) {
     let small = two(rt, alloc, Operator::Compare(Order::Less), number(2));
     push(
         rt,
@@ -116,7 +117,7 @@ fn push_choice(rt: &impl Abort, code: &mut Code, alloc: Global) {
 /// The entries of `fib(n-1)` or `fib(n-2)`: the argument and the call, each with its node and offset.
 fn push_call(
     rt: &impl Abort,
-    code: &mut Code,
+    code: &mut Draft,
     alloc: Global,
     below: i64,
     argument: (u32, usize),
@@ -139,7 +140,7 @@ fn push_call(
 /// Adds a body that makes scalars of these nodes.
 fn push_body(
     rt: &impl Abort,
-    code: &mut Code,
+    code: &mut Draft,
     alloc: Global,
     opener: Opener,
     makes: &[u32],
@@ -164,8 +165,8 @@ fn push_body(
 }
 
 /// `(int r) fib(int n) { if (n < 2) { r = n; } else { r = fib(n-1) + fib(n-2); } } printf("%i", fib(10));`
-fn fibonacci(rt: &impl Abort, alloc: Global) -> Code {
-    let mut code = Code::new(alloc);
+fn fibonacci(rt: &impl Abort, alloc: Global) -> Draft {
+    let mut code = Draft::new(alloc);
     push_print(rt, &mut code, alloc);
     push_choice(rt, &mut code, alloc);
     push_call(rt, &mut code, alloc, 1, (6, 58), (7, 54));

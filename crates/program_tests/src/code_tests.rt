@@ -3,7 +3,8 @@ use compile::scalars::{compile, read};
 use scalar_emit::emit;
 use std::alloc::Global;
 use std::test::Fail;
-use task_code::code::{Code, Opener};
+use task_code::code::Opener;
+use task_code::draft::Draft;
 use task_code::entry::{Act, Name, Need, Owned, Variable};
 use task_code::expr::Expr as Placed;
 use values::value::Scalar;
@@ -59,7 +60,7 @@ fn refuses(rt: HostRuntime) -> Result<(), Fail> {
 }
 
 /// The scalar that the script's body makes at a place, as its entries name it.
-fn made(code: &Code, place: usize) -> Option<Name> {
+fn made(code: &Draft, place: usize) -> Option<Name> {
     let variable = code.body(0)?.makes.get(place)?;
     Some(Name {
         up: 0,
@@ -71,7 +72,7 @@ fn made(code: &Code, place: usize) -> Option<Name> {
 }
 
 /// Whether the entry of this number stands at this offset, and waits for the scalars of these places alone.
-fn waits_for(code: &Code, number: u32, at: usize, places: &[usize]) -> bool {
+fn waits_for(code: &Draft, number: u32, at: usize, places: &[usize]) -> bool {
     let Some(entry) = code.entry(number) else {
         return false;
     };
@@ -91,7 +92,7 @@ fn waits_for(code: &Code, number: u32, at: usize, places: &[usize]) -> bool {
 }
 
 /// Whether the script's body makes so many scalars, and has the first so many entries.
-fn is_body(code: &Code, makes: usize, count: u32) -> bool {
+fn is_body(code: &Draft, makes: usize, count: u32) -> bool {
     let Some(body) = code.body(0) else {
         return false;
     };

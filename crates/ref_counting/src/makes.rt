@@ -7,7 +7,7 @@ ghost use Rattle.ref_counting.specs.Makes.{AreMade, MadeUpTo, NotesMade};
 
 use indexmap::IndexSet;
 use std::alloc::{AllocError, Global};
-use task_code::code::Code;
+use task_code::draft::Draft;
 use task_code::entry::Variable;
 
 /// A variable with the body that declares it.
@@ -33,7 +33,7 @@ fn note_makes(made: &mut IndexSet<Made>, body: u32, makes: &Vec<Variable>) -> Re
 }
 
 /// Notes what the body of a number declares.
-fn note_body(made: &mut IndexSet<Made>, code: &Code, number: u32) -> Result<(), AllocError>
+fn note_body(made: &mut IndexSet<Made>, code: &Draft, number: u32) -> Result<(), AllocError>
     requires { number < length code.now.bodies }
     ensures { OnOk result (NotesMade number (body code.now number).makes made.old.keys made.new.keys) }
 {
@@ -44,7 +44,7 @@ fn note_body(made: &mut IndexSet<Made>, code: &Code, number: u32) -> Result<(), 
 }
 
 /// What the bodies declare.
-pub fn declarations(alloc: Global, code: &Code) -> Result<IndexSet<Made>, AllocError>
+pub fn declarations(alloc: Global, code: &Draft) -> Result<IndexSet<Made>, AllocError>
     requires { length code.now.bodies < 2 ^ 32 }
     ensures { IfOk result (λ made. AreMade code.now made.keys) }
 {

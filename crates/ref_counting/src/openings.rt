@@ -6,7 +6,7 @@ ghost use Rattle.ref_counting.specs.Openings.{AreHomes, AreOpenings, HomesUpTo, 
 
 use crate::rows::Rows;
 use std::alloc::{AllocError, Global};
-use task_code::code::Code;
+use task_code::draft::Draft;
 use task_code::entry::Act;
 
 /// How an entry opens a body.
@@ -65,7 +65,7 @@ fn note_act(openings: &mut Rows<Opening>, entry: u32, act: &Act) -> Result<(), A
 }
 
 /// Notes what the entry of a number opens.
-fn note_entry(openings: &mut Rows<Opening>, code: &Code, number: u32) -> Result<(), AllocError>
+fn note_entry(openings: &mut Rows<Opening>, code: &Draft, number: u32) -> Result<(), AllocError>
     requires { number < length code.now.entries }
     ensures { OnOk result (NotesAll number (ways (entry code.now number).act) openings.old openings.new) }
 {
@@ -76,7 +76,7 @@ fn note_entry(openings: &mut Rows<Opening>, code: &Code, number: u32) -> Result<
 }
 
 /// The entries that open each body.
-pub fn openings(alloc: Global, code: &Code) -> Result<Rows<Opening>, AllocError>
+pub fn openings(alloc: Global, code: &Draft) -> Result<Rows<Opening>, AllocError>
     requires { length code.now.entries < 2 ^ 32 }
     ensures { IfOk result (λ openings. AreOpenings code.now openings) }
 {
@@ -98,7 +98,7 @@ fn note_body(homes: &mut Rows<u32>, body: u32, entries: &Vec<u32>) -> Result<(),
 }
 
 /// Notes where the entries of the body of a number stand.
-fn note_entries(homes: &mut Rows<u32>, code: &Code, number: u32) -> Result<(), AllocError>
+fn note_entries(homes: &mut Rows<u32>, code: &Draft, number: u32) -> Result<(), AllocError>
     requires { number < length code.now.bodies }
     ensures { OnOk result (NotesHomes number (body code.now number).entries homes.old homes.new) }
 {
@@ -109,7 +109,7 @@ fn note_entries(homes: &mut Rows<u32>, code: &Code, number: u32) -> Result<(), A
 }
 
 /// The bodies in which each entry stands.
-pub fn homes(alloc: Global, code: &Code) -> Result<Rows<u32>, AllocError>
+pub fn homes(alloc: Global, code: &Draft) -> Result<Rows<u32>, AllocError>
     requires { length code.now.bodies < 2 ^ 32 }
     ensures { IfOk result (λ homes. AreHomes code.now homes) }
 {

@@ -11,7 +11,7 @@ ghost use Rattle.ref_counting.specs.Passing.{Answers, Hands, Outlives, Sees};
 use crate::makes::{Made, declares};
 use crate::openings::{Opening, Way};
 use indexmap::IndexSet;
-use task_code::code::Code;
+use task_code::draft::Draft;
 use task_code::entry::{Act, Argument, Name, Owned};
 
 /// The name that an input stands for, if it is of the kind that is wanted.
@@ -75,7 +75,7 @@ fn argument(act: &Act, place: usize, array: bool) -> Option<Name>
 }
 
 /// What a call calls a name of its function's body.
-fn calling(code: &Code, call: u32, name: Name) -> Option<Name>
+fn calling(code: &Draft, call: u32, name: Name) -> Option<Name>
     requires { call_at code.now (entry code.now call).mark ≡ call }
     ensures { Answers result (Seen code.now (entry code.now call).mark Calling (name_view name)) }
 {
@@ -128,7 +128,7 @@ fn in_place(made: &IndexSet<Made>, body: u32, name: Name) -> Option<Name>
 
 /// What an entry that opens a body calls a name of it that the body does not declare.
 pub fn outward(
-    code: &Code,
+    code: &Draft,
     made: &IndexSet<Made>,
     opening: Opening,
     body: u32,

@@ -20,12 +20,12 @@ use crate::rows::Rows;
 use crate::uses::{Right, uses};
 use indexmap::IndexSet;
 use std::alloc::{AllocError, Global};
-use task_code::code::Code;
+use task_code::draft::Draft;
 use task_code::entry::Name;
 
 /// Passes a name of a body on to an entry that opens it.
 fn pass_to(
-    code: &Code,
+    code: &Draft,
     made: &IndexSet<Made>,
     opening: Opening,
     body: u32,
@@ -46,7 +46,7 @@ fn pass_to(
 
 /// Passes a name of a body on to each entry that opens it.
 fn pass_body(
-    code: &Code,
+    code: &Draft,
     made: &IndexSet<Made>,
     found: &[Opening],
     body: u32,
@@ -74,7 +74,7 @@ struct Index {
 }
 
 impl Index {
-    fn new(alloc: Global, code: &Code) -> Result<Index, AllocError>
+    fn new(alloc: Global, code: &Draft) -> Result<Index, AllocError>
         requires entries { length code.now.entries < 2 ^ 32 }
         requires bodies { length code.now.bodies < 2 ^ 32 }
         ensures homes { IfOk result (λ index. AreHomes code.now index.homes) }
@@ -91,7 +91,7 @@ impl Index {
 
 /// Passes a lead on to each entry that opens a body in which its entry stands.
 fn pass_on(
-    code: &Code,
+    code: &Draft,
     index: &Index,
     lead: Lead,
     leads: &mut IndexSet<Lead>,
@@ -111,7 +111,7 @@ fn pass_on(
 
 /// Passes the lead of a number on.
 fn pass_next(
-    code: &Code,
+    code: &Draft,
     index: &Index,
     next: usize,
     leads: &mut IndexSet<Lead>,
@@ -134,7 +134,7 @@ fn pass_next(
 }
 
 /// Passes all leads on, until nothing new is found.
-fn pass_all(code: &Code, index: &Index, leads: &mut IndexSet<Lead>) -> Result<(), AllocError>
+fn pass_all(code: &Draft, index: &Index, leads: &mut IndexSet<Lead>) -> Result<(), AllocError>
     requires homes { AreHomes code.now index.now.homes }
     requires openings { AreOpenings code.now index.now.openings }
     requires made { AreMade code.now index.now.made.keys }
@@ -184,7 +184,7 @@ fn lay_out(alloc: Global, count: usize, leads: &IndexSet<Lead>) -> Result<Rows<N
 /// # Errors
 ///
 /// `AllocError` where memory that was asked for was refused.
-pub fn rights(alloc: Global, code: &Code, right: Right) -> Result<Rows<Name>, AllocError>
+pub fn rights(alloc: Global, code: &Draft, right: Right) -> Result<Rows<Name>, AllocError>
     requires entries { length code.now.entries < 2 ^ 32 }
     requires bodies { length code.now.bodies < 2 ^ 32 }
     requires marks { HasMarks code.now }

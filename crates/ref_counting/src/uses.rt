@@ -12,7 +12,7 @@ ghost use Rattle.ref_counting.specs.Uses.{OfThis, UsesBelow, own_of};
 use crate::lead::{Lead, put};
 use indexmap::IndexSet;
 use std::alloc::{AllocError, Global};
-use task_code::code::Code;
+use task_code::draft::Draft;
 use task_code::entry::{Act, Entry, Name, Need, Owned, Variable};
 
 /// What rights are of.
@@ -104,7 +104,7 @@ fn own_name(node: u32) -> Name
 
 /// Notes what the entry of a number uses itself.
 fn note_entry(
-    code: &Code,
+    code: &Draft,
     right: Right,
     number: u32,
     leads: &mut IndexSet<Lead>,
@@ -122,7 +122,7 @@ fn note_entry(
 }
 
 /// What entries use themselves.
-pub fn uses(alloc: Global, code: &Code, right: Right) -> Result<IndexSet<Lead>, AllocError>
+pub fn uses(alloc: Global, code: &Draft, right: Right) -> Result<IndexSet<Lead>, AllocError>
     requires { length code.now.entries < 2 ^ 32 }
     ensures { IfOk result (λ leads. Adds (UsesBelow code.now (own_of right) (length code.now.entries)) [] leads.keys) }
 {

@@ -13,18 +13,19 @@ mod over;
 use crate::added::{Added, added_by};
 use scalar_flow::statement::Flow;
 use std::alloc::{AllocError, Global};
-use task_code::code::{Body, Code, Opener};
+use task_code::code::{Body, Opener};
+use task_code::draft::Draft;
 
 /// The code of a flow. Its entries wait for each scalar that their expressions name, once, in reading order.
 ///
 /// # Errors
 ///
 /// `AllocError` where memory that was asked for was refused.
-pub fn emit(alloc: Global, flow: Flow) -> Result<Code, AllocError>
+pub fn emit(alloc: Global, flow: Flow) -> Result<Draft, AllocError>
     requires { IsScalars (core_of flow) }
     ensures { IfOk result (λ code. code ≡ compiled (core_of flow)) }
 {
-    let mut code = Code::new(alloc);
+    let mut code = Draft::new(alloc);
     let mut makes = Vec::new(alloc);
     let mut entries = Vec::new(alloc);
     for statement in flow.statements {

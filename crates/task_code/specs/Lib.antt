@@ -5,6 +5,7 @@ pub mod Effects
 pub mod System
 pub mod Shape
 pub mod Whole
+pub mod Sound
 pub mod Check
 pub mod Machine
 pub mod Exact

@@ -23,6 +23,7 @@ ghost use Rattle.task_code.specs.Worked.{assigned_twice, loop_without_right, one
 ghost use Rattle.task_code.specs.Worked.{right_without_use, HelloRuns, WaitsForAssignment, SecondWriteFaults, StoresThree, Overflows, PrintsHello, LacksElement, OpensTurns, MeansTen, MeansResult, MeansInner, MeansCallersArray, ComparesTen, Chunks};
 
 pub mod code;
+pub mod draft;
 pub mod entry;
 pub mod event;
 pub mod expr;

@@ -1,7 +1,7 @@
 use Rattle.std.proofs.Common.{ap, sym}
 use Rattle.task_code.specs.Code.{Entry, blank_entry, kind_of}
 use Rattle.task_code.proofs.Numbers.{nth_past}
-use Rattle.task_code.proofs.code.Code.kind.Goals as goal
+use Rattle.task_code.proofs.draft.Draft.kind.Goals as goal
 
 pub returns-in-None : goal.returns-in-None
 returns-in-None c =

@@ -5,7 +5,7 @@ use Rattle.std.specs.List.{slice_get}
 use Rattle.task_code.specs.Code.{blank_body}
 use Rattle.task_code.specs.View.{body_view}
 use Rattle.task_code.proofs.Numbers.{shared_found}
-use Rattle.task_code.proofs.code.Code.body.Goals as goal
+use Rattle.task_code.proofs.draft.Draft.body.Goals as goal
 
 pub returns-in-Some : goal.returns-in-Some
 returns-in-Some c =

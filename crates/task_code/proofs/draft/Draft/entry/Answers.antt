@@ -5,7 +5,7 @@ use Rattle.std.specs.List.{slice_get}
 use Rattle.task_code.specs.Code.{blank_entry}
 use Rattle.task_code.specs.View.{entry_view}
 use Rattle.task_code.proofs.Numbers.{shared_found}
-use Rattle.task_code.proofs.code.Code.entry.Goals as goal
+use Rattle.task_code.proofs.draft.Draft.entry.Goals as goal
 
 pub returns-in-Some : goal.returns-in-Some
 returns-in-Some c =

@@ -5,7 +5,7 @@ use Rattle.std.specs.List.{slice_get}
 use Rattle.task_code.specs.Code.{blank_entry}
 use Rattle.task_code.specs.View.{entry_view}
 use Rattle.task_code.proofs.Numbers.{shared_found}
-use Rattle.task_code.proofs.code.Code.share_entry.Goals as goal
+use Rattle.task_code.proofs.draft.Draft.share_entry.Goals as goal
 
 pub returns-in_ok-clone-in-Some : goal.returns-in_ok-clone-in-Some
 returns-in_ok-clone-in-Some c =

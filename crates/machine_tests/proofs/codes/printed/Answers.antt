@@ -1,6 +1,0 @@
-use Rattle.board.proofs.Scripts.{one_print_flat}
-use Rattle.machine_tests.proofs.codes.printed.Goals as goal
-
-pub returns : goal.returns
-returns c =
-    rw (c.in_ok-push_body.ensures.ok, c.in_ok-push_entry.ensures.ok, c.new-code.ensures, c.new.ensures.items, c.printing.ensures, c.new-2.ensures.items, c.new-3.ensures.items, c.new-4.ensures.items, c.in_ok-from_array.ensures.items) (one_print_flat c.in_ok-format.format)
