@@ -17,7 +17,7 @@ use Rattle.board_data.specs.Data.{is_keyed, listed_at}
 use Rattle.board_data.specs.View.{cell_view, cells_view}
 use Rattle.board_data.proofs.Cells.{cell_there}
 
-abbrev list_answer : Option (List Element) → flow.Answer Key Scalar
+abbrev pub list_answer : Option (List Element) → flow.Answer Key Scalar
 list_answer None = flow.Missing
 list_answer (Some es) = flow.Content (pairs es)
 
@@ -33,7 +33,7 @@ by_cell : (c : Option Datum) → cell_answer (option_map cell_view c) ≡ list_a
 by_cell None = refl
 by_cell (Some x) = seen x.content x.reads x.writes
 
-whole : (s : Store) (d : ℕ) → cell_answer (slot_at (cells_view s.cells) d) ≡ list_answer (listed_at s d)
+pub whole : (s : Store) (d : ℕ) → cell_answer (slot_at (cells_view s.cells) d) ≡ list_answer (listed_at s d)
 whole s d = ap cell_answer (cell_there s.cells d) ∙ by_cell (at s d)
 
 pub listed_answer : (s : Store) (d : ℕ) (es : List Element) → Some es ≡ listed_at s d → flow.Content (pairs es) ≡ cell_answer (slot_at (cells_view s.cells) d)

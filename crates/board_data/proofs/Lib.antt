@@ -2,9 +2,11 @@ pub mod Answered
 pub mod Cells
 pub mod Changes
 pub mod Closed
+pub mod Compared
 pub mod Ended
 pub mod Given
 pub mod Held
+pub mod Listed
 pub mod Literals
 pub mod Made
 pub mod Missed

@@ -1,18 +1,24 @@
 //! The answers to what items waited for.
 
-ghost use Rattle.std.specs.Prelude.{◌≡◌, map, option_copied, IfOk};
+ghost use Rattle.std.specs.Prelude.{◌≡◌, ◌↔◌, ℕ, map, option_copied, IfOk, IsTrue, Some};
+ghost use Rattle.std.specs.List.{list_all};
+ghost use Rattle.data_store.specs.Stores.{array_at, at};
+ghost use Rattle.values.specs.Maps.{found, rising};
+ghost use Rattle.values.specs.declared.map.Element.{Element as AnElement};
 ghost use Rattle.replayed.specs.Fields.{slot_at};
+ghost use Rattle.board_work.specs.Same.{option_eq, scalar_eq};
 ghost use Rattle.board_work.specs.View.{answer_view, answers_view};
 ghost use Rattle.board_frames.specs.Names.{led_slot};
 ghost use Rattle.board_frames.specs.View.{frames_view};
 ghost use Rattle.board_data.specs.Answered.{cell_answer, scalar_answer, wanted_answer};
+ghost use Rattle.board_data.specs.Data.{is_keyed};
 ghost use Rattle.board_data.specs.View.{cells_view};
 
 use crate::data::{element, listed, size};
 use crate::wanted::View;
 use board_code::program::Wanted;
 use board_work::answer::Answer;
-use data_store::store::Store;
+use data_store::store::{Shape, Store};
 use std::alloc::{AllocError, Global};
 use values::map::{Element, Map};
 use values::value::Scalar;
@@ -68,7 +74,9 @@ pub fn answers(alloc: Global, view: View<'_>, needs: &[Wanted]) -> Result<Vec<An
 }
 
 /// Whether both are the same scalar.
-fn is_same(one: &Scalar, other: &Scalar) -> bool {
+fn is_same(one: &Scalar, other: &Scalar) -> bool
+    ensures { result ≡ scalar_eq one.now other.now }
+{
     match (one, other) {
         (Scalar::Number(a), Scalar::Number(b)) => a == b,
         (Scalar::Truth(a), Scalar::Truth(b)) => a == b,
@@ -77,34 +85,65 @@ fn is_same(one: &Scalar, other: &Scalar) -> bool {
     }
 }
 
+/// Whether the datum is an array.
+fn is_array(store: &Store, d: usize) -> bool
+    ensures { result ≡ is_keyed (at store.now d) }
+{
+    matches!(store.shape(d), Some(Shape::Keyed))
+}
+
+/// Whether this is an element of the array.
+#[tactic(auto, using(crate::proofs::Compared::found_one))]
+fn has(store: &Store, d: usize, one: &Element) -> bool
+    ensures { result ≡ option_eq scalar_eq (found one.now.key (array_at store.now d).elements) (Some one.now.value) }
+{
+    match element(store, d, &one.key) {
+        Some(scalar) => is_same(scalar, &one.value),
+        None => false,
+    }
+}
+
 /// Whether all these are elements of the array.
-fn has_all(store: &Store, d: usize, elements: &[Element]) -> bool {
+fn has_all(store: &Store, d: usize, elements: &[Element]) -> bool
+    ensures { result ≡ list_all (λ (e : AnElement). option_eq scalar_eq (found e.key (array_at store.now d).elements) (Some e.value)) elements.now }
+{
     for one in elements {
-        match element(store, d, &one.key) {
-            Some(scalar) => {
-                if !is_same(scalar, &one.value) {
-                    return false;
-                }
-            }
-            None => return false,
+        if !has(store, d, one) {
+            return false;
         }
     }
     true
 }
 
 /// Whether these are the elements of the array.
-fn is_content(store: &Store, d: usize, map: &Map) -> bool {
+fn is_content(store: &Store, d: usize, map: &Map) -> bool
+    ensures { IsTrue (rising (array_at store.now d).elements) → IsTrue result ↔ (map.now ≡ (array_at store.now d).elements) }
+{
     map.len() == size(store, d) && has_all(store, d, map.elements())
 }
 
+/// Whether this is the answer that is the whole array.
+#[tactic(auto, using(crate::proofs::Compared::content_listed, crate::proofs::Compared::content_unlisted, crate::proofs::Compared::missing_listed, crate::proofs::Compared::found_unlisted))]
+fn is_listed(store: &Store, d: usize, answer: &Answer) -> bool
+    ensures { IsTrue (rising (array_at store.now d).elements) → IsTrue result ↔ (answer_view answer.now ≡ cell_answer (slot_at (cells_view store.now.cells) d)) }
+{
+    match answer {
+        Answer::Content(map) => is_array(store, d) && is_content(store, d, map),
+        Answer::Missing => !is_array(store, d),
+        Answer::Found(_) => false,
+    }
+}
+
 /// Whether this is the answer to what is waited for.
-fn is_answer(view: View<'_>, wanted: &Wanted, answer: &Answer) -> bool {
-    match (wanted, answer) {
-        (Wanted::Closed(spot), Answer::Content(map)) => match view.datum(*spot) {
-            Some(d) => is_content(view.store, d, map),
-            None => false,
+#[tactic(auto, using(crate::proofs::Compared::answer_is))]
+fn is_answer(view: View<'_>, wanted: &Wanted, answer: &Answer) -> bool
+    ensures { ((d : ℕ) → IsTrue (rising (array_at view.entry.store.now d).elements)) → IsTrue result ↔ (answer_view answer.now ≡ wanted_answer view.entry.program.now (cells_view view.entry.store.now.cells) (led_slot (frames_view view.entry.instances.now.slots) view.entry.at) wanted.now) }
+{
+    match wanted {
+        Wanted::Closed(spot) => match view.datum(*spot) {
+            Some(d) => is_listed(view.store, d, answer),
+            None => answer.is_missing(),
         },
-        (Wanted::Closed(spot), _) => answer.is_missing() && view.datum(*spot).is_none(),
         _ => match view.found(wanted) {
             Some(scalar) => answer.is_found(scalar),
             None => answer.is_missing(),
@@ -112,8 +151,10 @@ fn is_answer(view: View<'_>, wanted: &Wanted, answer: &Answer) -> bool {
     }
 }
 
-/// Whether these are the answers to all that is waited for, in order.
-pub fn are_answers(view: View<'_>, needs: &[Wanted], answers: &[Answer]) -> bool {
+/// Whether these are the answers to all that is waited for, in order, where each array lists its elements by rising key.
+pub fn are_answers(view: View<'_>, needs: &[Wanted], answers: &[Answer]) -> bool
+    ensures { ((d : ℕ) → IsTrue (rising (array_at view.entry.store.now d).elements)) → IsTrue result ↔ (answers_view answers.now ≡ map (wanted_answer view.entry.program.now (cells_view view.entry.store.now.cells) (led_slot (frames_view view.entry.instances.now.slots) view.entry.at)) needs.now) }
+{
     let mut rest = answers;
     for wanted in needs {
         match rest {
