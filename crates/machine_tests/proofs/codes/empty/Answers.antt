@@ -1,4 +1,4 @@
-use Rattle.std.proofs.Common.{refl, arith}
+use Rattle.std.proofs.Common.{[], refl, arith}
 use Rattle.task_code.proofs.Checked.{code_checked}
 use Rattle.machine_tests.proofs.codes.empty.Goals as goal
 
