@@ -11,6 +11,7 @@ pub mod Literals
 pub mod Made
 pub mod Missed
 pub mod Named
+pub mod Rising
 pub mod Rows
 pub mod Steps
 pub mod Stored

@@ -1,11 +1,12 @@
 -- What the calls of a store come to that ask nothing of their caller.
-use Rattle.std.specs.Prelude.{ℕ, List, ◌+◌, ◌^◌, Bool, true, false, ◌&&◌, ◌==◌, Option, Some, None, nat_lt, if◌then◌else◌}
+use Rattle.std.specs.Prelude.{◌≡◌, ℕ, List, ◌+◌, ◌^◌, Bool, true, false, ◌&&◌, ◌==◌, Option, Some, None, nat_lt, if◌then◌else◌}
 use Rattle.data_store.specs.Data.{with_array, with_holds, with_value, without_read, without_write}
 use Rattle.data_store.specs.Arrays.{with_room}
 use Rattle.data_store.specs.Stores.{Store, array_at, at, changed, datum, given_up}
 use Rattle.data_store.specs.declared.datum.Content.{Content}
 use Rattle.data_store.specs.declared.datum.Content.TheVariants.{OfArray, OfScalar}
 use Rattle.data_store.specs.declared.datum.Datum.{Datum}
+use Rattle.values.specs.Maps.{rising}
 use Rattle.values.specs.declared.map.Element.{Element}
 use Rattle.values.specs.declared.value.Scalar.{Scalar}
 
@@ -70,3 +71,7 @@ roomy (Some d) n s = if is_keyed (at s d) then changed d (with_array (with_room 
 -- the elements of an array, where there is one
 abbrev pub listed_at : Store → ℕ → Option (List Element)
 listed_at s d = if is_keyed (at s d) then Some (array_at s d).elements else None
+
+-- the elements of each array are listed by rising key
+abbrev pub AreRising : Store → Type 0
+AreRising s = (d : ℕ) → rising (array_at s d).elements ≡ true

@@ -5,7 +5,7 @@ ghost use Rattle.board_frames.specs.Names.{datum_of, spot_slot};
 ghost use Rattle.board_frames.specs.View.{frames_view};
 ghost use Rattle.data_store.specs.Data.{with_holds};
 ghost use Rattle.data_store.specs.Stores.{at as cell};
-ghost use Rattle.board_data.specs.Data.{held};
+ghost use Rattle.board_data.specs.Data.{AreRising, held};
 ghost use Rattle.board_data.specs.Holds.{Closes, Fit, GivesUp, closed_at, closing, held_at, released_at};
 ghost use Rattle.board_code.specs.Tables.{hold_times, led_times};
 
@@ -72,9 +72,10 @@ pub fn hold_outer(
     at: usize,
     times: u64,
 )
-    ensures { let f = spot_slot (frames_view instances.now.slots) at in (d : ℕ) →
+    ensures added { let f = spot_slot (frames_view instances.now.slots) at in (d : ℕ) →
         Fit (times * hold_times f (λ h. h.reads) d outer.now) (times * hold_times f (λ h. h.writes) d outer.now) (cell store.old d) →
         cell store.new d ≡ option_map (with_holds (times * hold_times f (λ h. h.reads) d outer.now) (times * hold_times f (λ h. h.writes) d outer.now)) (cell store.old d) }
+    ensures rising { AreRising store.old → AreRising store.new }
 {
     for hold in outer {
         hold_spot(store, instances, at, hold, times);
@@ -83,7 +84,8 @@ pub fn hold_outer(
 
 /// Takes holds for reading back.
 fn release_all(store: &mut Store, instances: &Slab<Instance>, at: usize, reads: &[Spot])
-    ensures { GivesUp (λ d. led_times (spot_slot (frames_view instances.now.slots) at) d reads.now) (λ d. 0) store.old store.new }
+    ensures given { GivesUp (λ d. led_times (spot_slot (frames_view instances.now.slots) at) d reads.now) (λ d. 0) store.old store.new }
+    ensures rising { AreRising store.old → AreRising store.new }
 {
     for spot in reads {
         release_spot(store, instances, at, *spot);
@@ -99,7 +101,8 @@ fn close_all(
     writes: &[Spot],
 )
     ensures store { GivesUp (λ d. 0) (λ d. led_times (spot_slot (frames_view instances.now.slots) at) d writes.now) store.old store.new }
-    ensures closed { vec_len closed.old + length writes.now ≤ vec_capacity closed.old → (added : List ℕ) × (closed.new.items ≡ closed.old.items ++ added) × Closes (λ d. led_times (spot_slot (frames_view instances.now.slots) at) d writes.now) store.old added }
+    ensures closed { vec_len closed.old + length writes.now ≤ vec_capacity closed.old → (added : List ℕ) × (closed.new.items ≡ closed.old.items ++ added) × (length added ≤ length writes.now) × Closes (λ d. led_times (spot_slot (frames_view instances.now.slots) at) d writes.now) store.old added }
+    ensures rising { AreRising store.old → AreRising store.new }
 {
     for spot in writes {
         close_spot(store, closed, instances, at, *spot);
@@ -117,7 +120,8 @@ pub fn give_up(
     writes: &[Spot],
 )
     ensures store { GivesUp (λ d. led_times (spot_slot (frames_view instances.now.slots) at) d reads.now) (λ d. led_times (spot_slot (frames_view instances.now.slots) at) d writes.now) store.old store.new }
-    ensures closed { vec_len closed.old + length writes.now ≤ vec_capacity closed.old → (added : List ℕ) × (closed.new.items ≡ closed.old.items ++ added) × Closes (λ d. led_times (spot_slot (frames_view instances.now.slots) at) d writes.now) store.old added }
+    ensures closed { vec_len closed.old + length writes.now ≤ vec_capacity closed.old → (added : List ℕ) × (closed.new.items ≡ closed.old.items ++ added) × (length added ≤ length writes.now) × Closes (λ d. led_times (spot_slot (frames_view instances.now.slots) at) d writes.now) store.old added }
+    ensures rising { AreRising store.old → AreRising store.new }
 {
     close_all(store, closed, instances, at, writes);
     release_all(store, instances, at, reads);

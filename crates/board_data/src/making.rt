@@ -1,6 +1,7 @@
 //! Data that are made for the variables of an instance.
 
 ghost use Rattle.std.specs.Prelude.{◌≡◌, ◌≢◌, ◌<◌, ◌≤◌, ◌+◌, ℕ, length, IfOk, IsOk, OnErr, OnOk};
+ghost use Rattle.board_data.specs.Data.{AreRising};
 ghost use Rattle.board_data.specs.Made.{DataMade, Makes, new_datum, slot_in, start_at};
 
 use crate::data;
@@ -70,6 +71,7 @@ pub fn make_data(
     ensures made { length own.now ≤ length slots.old → OnOk result (DataMade own.now (start_at starts) (length own.now) store.old slots.new store.new) }
     ensures others { (i : ℕ) → length own.now ≤ i → slot_in slots.new i ≡ slot_in slots.old i }
     ensures succeeds { length own.now ≤ store.old.room → IsOk result }
+    ensures rising { OnOk result (AreRising store.old → AreRising store.new) }
 {
     let mut starts = starts;
     for at in 0..own.len() {

@@ -5,7 +5,7 @@ ghost use Rattle.task_code.specs.Compute.{pairs};
 ghost use Rattle.task_code.specs.Effects.{only};
 ghost use Rattle.values.specs.Maps.{element};
 ghost use Rattle.data_store.specs.Stores.{changed};
-ghost use Rattle.board_data.specs.Data.{given};
+ghost use Rattle.board_data.specs.Data.{AreRising, given};
 ghost use Rattle.board_data.specs.Stored.{IsScalarTarget, StoresIn, Takes};
 
 use crate::data;
@@ -17,7 +17,8 @@ use values::value::Scalar;
 /// Stores a scalar.
 #[tactic(auto, using(crate::proofs::Stored::stored_scalar, crate::proofs::Stored::stored_nothing))]
 pub fn store_value(store: &mut Store, target: Option<usize>, value: Scalar)
-    ensures { IsScalarTarget target store.old → StoresIn target ((only, value) ∷ []) store.old store.new }
+    ensures stores { IsScalarTarget target store.old → StoresIn target ((only, value) ∷ []) store.old store.new }
+    ensures rising { AreRising store.old → AreRising store.new }
 {
     if let Some(d) = target {
         data::put(store, d, value);
@@ -26,7 +27,8 @@ pub fn store_value(store: &mut Store, target: Option<usize>, value: Scalar)
 
 /// Inserts elements into an array, which takes them.
 fn insert_all(store: &mut Store, d: usize, elements: Vec<Element>)
-    ensures { Takes d elements.items store.old → StoresIn (Some d) (pairs elements.items) store.old store.new }
+    ensures stores { Takes d elements.items store.old → StoresIn (Some d) (pairs elements.items) store.old store.new }
+    ensures rising { AreRising store.old → AreRising store.new }
 {
     for one in elements {
         let Element { key, value } = one;
@@ -37,7 +39,8 @@ fn insert_all(store: &mut Store, d: usize, elements: Vec<Element>)
 /// Stores elements.
 #[tactic(auto, using(crate::proofs::Stored::stored_nothing))]
 pub fn store_all(store: &mut Store, target: Option<usize>, elements: Vec<Element>)
-    ensures { ((d : ℕ) → target ≡ Some d → Takes d elements.items store.old) → StoresIn target (pairs elements.items) store.old store.new }
+    ensures stores { ((d : ℕ) → target ≡ Some d → Takes d elements.items store.old) → StoresIn target (pairs elements.items) store.old store.new }
+    ensures rising { AreRising store.old → AreRising store.new }
 {
     if let Some(d) = target {
         insert_all(store, d, elements);
@@ -47,7 +50,8 @@ pub fn store_all(store: &mut Store, target: Option<usize>, elements: Vec<Element
 /// Stores an element.
 #[tactic(auto, using(crate::proofs::Stored::stored_nothing))]
 pub fn store_element(store: &mut Store, target: Option<usize>, key: Key, value: Scalar)
-    ensures { ((d : ℕ) → target ≡ Some d → Takes d (element key value ∷ []) store.old) → StoresIn target ((key, value) ∷ []) store.old store.new }
+    ensures stores { ((d : ℕ) → target ≡ Some d → Takes d (element key value ∷ []) store.old) → StoresIn target ((key, value) ∷ []) store.old store.new }
+    ensures rising { AreRising store.old → AreRising store.new }
 {
     if let Some(d) = target {
         data::insert(store, d, key, value);

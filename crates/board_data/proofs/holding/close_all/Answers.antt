@@ -3,6 +3,7 @@ use Rattle.board_frames.specs.Names.{spot_slot}
 use Rattle.board_frames.specs.View.{frames_view}
 use Rattle.board_data.proofs.Closed.{all_closing, closes_all, last_closing, next_closing, step}
 use Rattle.board_data.proofs.Given.{gives_writes}
+use Rattle.board_data.proofs.Rising.{few_closing, writes_rise}
 use Rattle.board_data.proofs.Steps.{last_step, next_step}
 use Rattle.board_data.proofs.holding.close_all.Goals as goal
 
@@ -25,7 +26,9 @@ loop-spot-preserved c =
 pub returns : goal.returns
 returns c =
     let f = spot_slot (frames_view c.args.instances.now.slots) c.args.at in
+    let e = last_step (step f) c.args.writes.now c.loop-spot.spot-index c.loop-spot.store _ c.loop-spot-test.false c.loop-spot.invariant.0 in
     record {
-      store = gives_writes f c.args.writes.now c.args.store.now c.loop-spot.store (last_step (step f) c.args.writes.now c.loop-spot.spot-index c.loop-spot.store _ c.loop-spot-test.false c.loop-spot.invariant.0);
-      closed = λ h. (all_closing f c.args.writes.now c.args.store.now, last_closing f c.args.writes.now c.loop-spot.spot-index c.loop-spot.store c.loop-spot.closed.items _ c.loop-spot-test.false (c.loop-spot.invariant.1 h).1, closes_all f c.args.writes.now c.args.store.now);
+      store = gives_writes f c.args.writes.now c.args.store.now c.loop-spot.store e;
+      rising = writes_rise f c.args.writes.now c.args.store.now c.loop-spot.store e;
+      closed = λ h. (all_closing f c.args.writes.now c.args.store.now, last_closing f c.args.writes.now c.loop-spot.spot-index c.loop-spot.store c.loop-spot.closed.items _ c.loop-spot-test.false (c.loop-spot.invariant.1 h).1, few_closing f c.args.writes.now c.args.store.now, closes_all f c.args.writes.now c.args.store.now);
     }

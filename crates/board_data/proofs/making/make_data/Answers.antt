@@ -1,6 +1,7 @@
 use Rattle.std.proofs.Common.{◌∙◌, ap, arith}
 use Rattle.std.proofs.lemmas.List.{get_or-set_other}
 use Rattle.board_data.specs.Made.{slot_in, start_at}
+use Rattle.board_data.proofs.Rising.{made_rises}
 use Rattle.board_data.proofs.Rows.{made_next, room_next}
 use Rattle.board_data.proofs.making.make_data.Goals as goal
 use Rattle.board_data.proofs.making.make_data.Goals.{then-at-slots, else-at-slots}
@@ -17,4 +18,5 @@ loop-at-preserved c = (
   ]),
   (λ i h. c.take-first.ensures.others i (λ e. omega (arith, e, h)) ∙ c.loop-at.invariant.2 i (omega (arith, h))),
   (λ h. room_next _ c.loop-at.store c.make_datum.new.store c.loop-at.at _ c.take-first.result c.in_ok-slot.slot (c.loop-at.invariant.3 h) c.in_ok-slot.ensures.same c.in_ok-slot.ensures.made),
+  (λ r. made_rises c.loop-at.store c.make_datum.new.store _ c.take-first.result c.in_ok-slot.slot c.in_ok-slot.ensures.same c.in_ok-slot.ensures.made (c.loop-at.invariant.4 r)),
 )

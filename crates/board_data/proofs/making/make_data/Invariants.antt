@@ -1,4 +1,5 @@
 use Rattle.std.proofs.Common.{◌≡◌, ◌≤◌, ◌+◌, ℕ, length}
+use Rattle.board_data.specs.Data.{AreRising}
 use Rattle.board_data.specs.Made.{DataMade, slot_in, start_at}
 use Rattle.board_data.proofs.making.make_data.Given as goal
 
@@ -8,3 +9,4 @@ invariant-loop-at l =
     × ((i : ℕ) → length l.own ≤ i → slot_in l.slots i ≡ slot_in l.initial.slots i)
     × ((i : ℕ) → l.at ≤ i → start_at l.starts i ≡ start_at l.initial.starts i)
     × (length l.own ≤ l.initial.store.room → length l.own ≤ l.store.room + l.at)
+    × (AreRising l.initial.store → AreRising l.store)
