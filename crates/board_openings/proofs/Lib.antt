@@ -14,6 +14,7 @@ pub mod Leads
 pub mod MadeData
 pub mod Opened
 pub mod Outer
+pub mod Placed
 pub mod Rights
 pub mod ScriptOpens
 pub mod Starts

@@ -25,6 +25,7 @@ use Rattle.board_frames.specs.Nested.{IsNested}
 use Rattle.board_frames.specs.declared.opening.Openings.{Openings}
 use Rattle.board_openings.specs.Opened.{AreOpened, CanGoOn, going, more_of, own_of}
 use Rattle.board_openings.specs.declared.world.Change.{Change}
+use Rattle.board_openings.specs.declared.world.World.{World}
 use Rattle.board_openings.specs.declared.world.Change.TheVariants as Changes
 
 -- where a change stores, and what
@@ -66,6 +67,14 @@ told_of (Changes.Element d k v) = elements_of d (element k v ∷ [])
 told_of (Changes.Elements d es) = elements_of d es.items
 told_of (Changes.Opens o) = []
 
+-- so much of what is stored becomes known
+abbrev pub told_by : Change → ℕ
+told_by Changes.Nothing = 0
+told_by (Changes.Value d v) = 1
+told_by (Changes.Element d k v) = 1
+told_by (Changes.Elements d es) = vec_len es
+told_by (Changes.Opens o) = 0
+
 -- another item goes on with the loop
 abbrev pub goes_on : Change → Bool
 goes_on Changes.Nothing = false
@@ -90,6 +99,33 @@ module _ (C : Code) where
     pub instances_room : HasRoomFor instances (vec_len o.list)
     pub rows_room : vec_len rows + (vec_len o.list * length (body C o.body).entries + more_of o.goes_on) ≤ vec_capacity rows
     pub goes : CanGoOn j o.goes_on
+
+  -- the same of a change, which may open nothing
+  abbrev pub CanOpen : Job → Change → Slab Instance → Store → Vec Item Global → Type 0
+  CanOpen j Changes.Nothing instances s rows = Unit {0}
+  CanOpen j (Changes.Value d v) instances s rows = Unit {0}
+  CanOpen j (Changes.Element d k v) instances s rows = Unit {0}
+  CanOpen j (Changes.Elements d es) instances s rows = Unit {0}
+  CanOpen j (Changes.Opens o) instances s rows = HasRoom j o instances s rows
+
+  -- so many data an entry may write, and the item of a job with it
+  abbrev pub spots_number : ℕ → ℕ
+  spots_number e = length (spots_in C (body_of C e) (entry C e).writes)
+
+  abbrev pub holds_of : Job → ℕ
+  holds_of Script = 0
+  holds_of (Does k e c) = spots_number e
+
+  -- so many arrays may be closed at most, where the item goes
+  abbrev pub closes_of : Job → Bool → ℕ
+  closes_of j true = 0
+  closes_of j false = holds_of j
+
+  -- there is room for all that an End does: for what it opens, for arrays that are closed, and for what becomes known
+  pub record HasRoomToEnd (j : Job) (x : Change) (w : World) (rows : Vec Item Global) (known : Vec Input Global) : Type 0 where
+    pub opens : CanOpen j x w.instances w.store rows
+    pub closed : closes_of j (goes_on x) ≤ vec_capacity w.closed
+    pub told : vec_len known + told_by x + closes_of j (goes_on x) ≤ vec_capacity known
 
   -- instances were opened, or nothing was changed
   pub record Opens (j : Job) (o : Openings) (fs gs : List (Option Frame)) (old new : List Row) (s t : Store) : Type 0 where

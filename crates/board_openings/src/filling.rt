@@ -1,6 +1,7 @@
 //! The data of instances that are still to be placed.
 ghost use Rattle.std.specs.Prelude.{◌≡◌, ◌+◌, ◌*◌, ◌≤◌, ℕ, length, vec_len, IsOk, OnOk};
 ghost use Rattle.dataflow.specs.System.{In};
+ghost use Rattle.board_data.specs.Data.{AreRising};
 ghost use Rattle.board_frames.specs.declared.opening.Opening.{Opening as AnOpening};
 ghost use Rattle.board_openings.specs.Filled.{AreFilled, Fills, HasSlots};
 
@@ -26,6 +27,7 @@ fn fill(
 ) -> Result<(), AllocError>
     ensures filled { OnOk result (Fills own.now slots opening.old store.old opening.new store.new) }
     ensures room { OnOk result (HasSlots (length own.now) opening.old → store.old.room ≤ store.new.room + length own.now) }
+    ensures rising { OnOk result (AreRising store.old → AreRising store.new) }
     ensures succeeds { length own.now ≤ store.old.room → IsOk result }
 {
     let starts = Starts {
@@ -50,6 +52,7 @@ pub fn fill_all(
 ) -> Result<(), AllocError>
     ensures filled { OnOk result (AreFilled own.now slots list.old.items store.old list.new.items store.new) }
     ensures len { vec_len list.new ≡ vec_len list.old }
+    ensures rising { OnOk result (AreRising store.old → AreRising store.new) }
     ensures succeeds { ((o : AnOpening) → In o list.old.items → HasSlots (length own.now) o) → vec_len list.old * length own.now ≤ store.old.room → IsOk result }
 {
     for at in 0..list.len() {

@@ -9,6 +9,7 @@ ghost use Rattle.board_code.specs.Tables.{at_name, hold_times};
 ghost use Rattle.replayed.specs.Ending.{held_times};
 ghost use Rattle.board_code.specs.declared.spot.Spot.{Spot as ASpot};
 ghost use Rattle.replayed.specs.Fields.{Slot as ASlot};
+ghost use Rattle.board_data.specs.Data.{AreRising};
 ghost use Rattle.board_frames.specs.View.{frames_view, job_view, rows_view};
 ghost use Rattle.board_frames.specs.declared.opening.Opening.{Opening as AnOpening};
 ghost use Rattle.board_openings.specs.Filled.{HasSlots};
@@ -79,7 +80,8 @@ fn hold_all(
     last: Option<usize>,
     count: usize,
 )
-    ensures { AddsOuter program.now (frames_view instances.now.slots) number count last store.old store.new }
+    ensures added { AddsOuter program.now (frames_view instances.now.slots) number count last store.old store.new }
+    ensures rising { AreRising store.old → AreRising store.new }
 {
     if let Some(at) = last {
         hold_outer(
@@ -106,6 +108,9 @@ pub fn open_all(
     openings: Openings,
 ) -> Result<(), AllocError>
     ensures opened { OnOk result (AreOpened program.now (job_view job) openings (frames_view instances.old.slots) (frames_view instances.new.slots) (rows_view rows.old.items) (rows_view rows.new.items) store.old store.new) }
+    ensures rising { OnOk result (AreRising store.old → AreRising store.new) }
+    ensures len { OnOk result (vec_len rows.new ≡ vec_len rows.old + vec_len openings.list * length (body_at program.now openings.body).entries) }
+    ensures capacity { vec_capacity rows.old ≤ vec_capacity rows.new }
     ensures succeeds { ((o : AnOpening) → In o openings.list.items → HasSlots (length (own_of program.now openings.body)) o) →
         vec_len openings.list * length (own_of program.now openings.body) ≤ store.old.room →
         HasRoomFor instances.old (vec_len openings.list) →

@@ -9,6 +9,7 @@ ghost use Rattle.task_code.specs.Code.{body as body_at};
 ghost use Rattle.task_code.specs.Compute.{pairs};
 ghost use Rattle.task_code.specs.Effects.{only};
 ghost use Rattle.values.specs.Maps.{element};
+ghost use Rattle.board_data.specs.Data.{AreRising};
 ghost use Rattle.board_data.specs.Holds.{Closes, GivesUp};
 ghost use Rattle.board_data.specs.Stored.{IsScalarTarget, StoresIn, Takes};
 ghost use Rattle.board_data.specs.View.{want_view};
@@ -16,7 +17,7 @@ ghost use Rattle.board_code.specs.Tables.{body_of, led_times, spots_in};
 ghost use Rattle.board_frames.specs.Names.{spot_slot};
 ghost use Rattle.board_frames.specs.Nested.{IsNested};
 ghost use Rattle.task_code.specs.Code.{entry};
-ghost use Rattle.board_openings.specs.World.{HasRoom, spare_of};
+ghost use Rattle.board_openings.specs.World.{CanOpen, HasRoom, HasRoomToEnd, holds_of, spare_of, spots_number, told_by};
 ghost use Rattle.board_frames.specs.View.{frames_view, job_view, rows_view};
 ghost use Rattle.board_frames.specs.declared.opening.Opening.{Opening as AnOpening};
 ghost use Rattle.board_openings.specs.Filled.{HasSlots};
@@ -160,6 +161,7 @@ impl World {
         ensures len { OnOk result (vec_len known.new ≤ vec_len known.old + 1) }
         ensures capacity { vec_capacity known.old ≤ vec_capacity known.new }
         ensures closed { self.new.closed ≡ self.old.closed }
+        ensures rising { OnOk result (AreRising self.old.store → AreRising self.new.store) }
         ensures succeeds { vec_len known.old + 1 ≤ vec_capacity known.old → IsOk result }
     {
         tell_whole(known, target)?;
@@ -181,6 +183,7 @@ impl World {
         ensures len { OnOk result (vec_len known.new ≤ vec_len known.old + 1) }
         ensures capacity { vec_capacity known.old ≤ vec_capacity known.new }
         ensures closed { self.new.closed ≡ self.old.closed }
+        ensures rising { OnOk result (AreRising self.old.store → AreRising self.new.store) }
         ensures succeeds { vec_len known.old + 1 ≤ vec_capacity known.old → IsOk result }
     {
         if let Some(d) = target {
@@ -203,6 +206,7 @@ impl World {
         ensures len { OnOk result (vec_len known.new ≤ vec_len known.old + vec_len elements) }
         ensures capacity { vec_capacity known.old ≤ vec_capacity known.new }
         ensures closed { self.new.closed ≡ self.old.closed }
+        ensures rising { OnOk result (AreRising self.old.store → AreRising self.new.store) }
         ensures succeeds { vec_len known.old + vec_len elements ≤ vec_capacity known.old → IsOk result }
     {
         tell_elements(known, target, elements.as_slice())?;
@@ -222,7 +226,8 @@ impl World {
         ensures opens { OnOk result (Opens program.now (job_view job) openings (frames_view self.old.instances.slots) (frames_view self.new.instances.slots) (rows_view rows.old.items) (rows_view rows.new.items) self.old.store self.new.store) }
         ensures spare { IfOk result (λ spare. spare.items ≡ openings.spare.items) }
         ensures closed { self.new.closed ≡ self.old.closed }
-        ensures succeeds { openings.goes_on ≡ false → HasRoom program.now (job_view job) openings self.old.instances self.old.store rows.old → IsOk result }
+        ensures rising { OnOk result (AreRising self.old.store → AreRising self.new.store) }
+        ensures succeeds { HasRoom program.now (job_view job) openings self.old.instances self.old.store rows.old → IsOk result }
     {
         let mut openings = openings;
         let goes_on = openings.goes_on;
@@ -252,6 +257,8 @@ impl World {
             × Closes (λ d. led_times (spot_slot (frames_view self.old.instances.slots) at) d (spots_in program.now (body_of program.now number) (entry program.now number).writes)) self.old.store closed
             × (map want_view known.new.items ≡ map want_view known.old.items ++ map Whole closed)) }
         ensures instances { self.new.instances ≡ self.old.instances }
+        ensures rising { OnOk result (AreRising self.old.store → AreRising self.new.store) }
+        ensures succeeds { spots_number program.now number ≤ vec_capacity self.old.closed → vec_len known.old + spots_number program.now number ≤ vec_capacity known.old → IsOk result }
     {
         let writes = writes_of(program, number);
         self.closed.clear();
@@ -275,6 +282,8 @@ impl World {
         job: Job,
     ) -> Result<(), AllocError>
         ensures goes { OnOk result ((closed : List ℕ) × LetsGo program.now (job_view job) (frames_view self.old.instances.slots) (frames_view self.new.instances.slots) self.old.store self.new.store closed × (map want_view known.new.items ≡ map want_view known.old.items ++ map Whole closed)) }
+        ensures rising { OnOk result (AreRising self.old.store → AreRising self.new.store) }
+        ensures succeeds { holds_of program.now (job_view job) ≤ vec_capacity self.old.closed → vec_len known.old + holds_of program.now (job_view job) ≤ vec_capacity known.old → IsOk result }
     {
         match job {
             Job::Script => {}
@@ -303,6 +312,11 @@ impl World {
         ensures changed { OnOk result (Changed program.now (job_view job) change (frames_view self.old.instances.slots) (frames_view self.new.instances.slots) (rows_view rows.old.items) (rows_view rows.new.items) self.old.store self.new.store) }
         ensures told { OnOk result (map want_view known.new.items ≡ map want_view known.old.items ++ told_of change) }
         ensures spare { IfOk result (λ spare. spare.items ≡ spare_of change) }
+        ensures rising { OnOk result (AreRising self.old.store → AreRising self.new.store) }
+        ensures len { OnOk result (vec_len known.new ≤ vec_len known.old + told_by change) }
+        ensures capacity { vec_capacity known.old ≤ vec_capacity known.new }
+        ensures closed { self.new.closed ≡ self.old.closed }
+        ensures succeeds { CanOpen program.now (job_view job) change self.old.instances self.old.store rows.old → vec_len known.old + told_by change ≤ vec_capacity known.old → IsOk result }
     {
         match change {
             Change::Nothing => {}
@@ -333,6 +347,8 @@ impl World {
         ensures ends { OnOk result ((news : List (Want ℕ)) × (map want_view known.new.items ≡ map want_view known.old.items ++ news)
             × WorldEnds program.now (job_view job) change (frames_view self.old.instances.slots) (frames_view self.new.instances.slots) (rows_view rows.old.items) (rows_view rows.new.items) self.old.store self.new.store news) }
         ensures spare { IfOk result (λ spare. spare.items ≡ spare_of change) }
+        ensures rising { OnOk result (AreRising self.old.store → AreRising self.new.store) }
+        ensures succeeds { HasRoomToEnd program.now (job_view job) change self.old rows.old known.old → IsOk result }
     {
         let goes_on = change.goes_on();
         let spare = self.make(alloc, rows, known, program, job, change)?;

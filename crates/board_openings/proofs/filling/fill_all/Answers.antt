@@ -1,6 +1,7 @@
 use Rattle.std.proofs.Common.{◌≡◌, ◌∙◌, ◌≤◌, ◌+◌, ap, sym, subst, vec_len, length, true, false, Vec, Global, arith}
 use Rattle.data_store.specs.Stores.{Store}
 use Rattle.board_openings.specs.Filled.{Fills}
+use Rattle.board_data.specs.Data.{AreRising}
 use Rattle.board_frames.specs.declared.opening.Opening.{Opening}
 use Rattle.board_openings.proofs.Filled.{fill_last, fill_next, long_enough, more_room, still_room}
 use Rattle.board_openings.proofs.filling.fill_all.Goals as goal
@@ -15,6 +16,7 @@ loop-at-preserved c = elim c.match-get_mut.branch [
     λ all. more_room c.args.store.now.room c.loop-at.store.room c.match-get_mut.store.room c.loop-at.at (length c.args.own.now) (c.loop-at.invariant.2 all)
         (subst (λ (s : Store). c.loop-at.store.room ≤ s.room + length c.args.own.now) (sym w.store-is) (w.in_ok-fill.ensures.room
         (long_enough (length c.args.own.now) c.loop-at.at c.args.list.now.items c.loop-at.list.items w.in-Some.opening.now all (omega (arith, c.loop-at-test.true, c.len-at-end.ensures, c.loop-at.invariant.1, c.loop-at.list.ok.0)) w.in-Some.ensures.value c.loop-at.invariant.0.rest))),
+    λ r. subst AreRising (sym w.store-is) (w.in_ok-fill.ensures.rising (c.loop-at.invariant.3 r)),
   )
   | in_default w ↦ (let bad : false ≡ true = w.in_default.ensures.variant.1 (omega (arith, c.loop-at-test.true, c.len-at-end.ensures, c.loop-at.invariant.1)) in absurd (cc))
 ]

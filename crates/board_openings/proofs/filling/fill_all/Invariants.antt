@@ -1,5 +1,6 @@
 use Rattle.std.proofs.Common.{◌≡◌, ◌≤◌, ◌+◌, ◌*◌, length, vec_len}
 use Rattle.dataflow.specs.System.{In}
+use Rattle.board_data.specs.Data.{AreRising}
 use Rattle.board_frames.specs.declared.opening.Opening.{Opening}
 use Rattle.board_openings.specs.Filled.{HasSlots}
 use Rattle.board_openings.proofs.Filled.{Filling}
@@ -10,3 +11,4 @@ invariant-loop-at l =
     Filling l.own l.slots l.at l.initial.list.items l.initial.store l.list.items l.store
     × (vec_len l.list ≡ vec_len l.initial.list)
     × (((o : Opening) → In o l.initial.list.items → HasSlots (length l.own) o) → l.initial.store.room ≤ l.store.room + l.at * length l.own)
+    × (AreRising l.initial.store → AreRising l.store)
