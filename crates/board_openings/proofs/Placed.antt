@@ -1,8 +1,8 @@
 -- How many rows are placed, and that there is room for one more.
-use Rattle.std.proofs.Common.{◌≡◌, ◌∙◌, sym, ap, refl, ℕ, suc, ◌+◌, ◌*◌, ◌≤◌, ◌++◌, List, [], ◌∷◌, length, length-append, map, Option, arith}
+use Rattle.std.proofs.Common.{◌≡◌, ◌∙◌, sym, ap, refl, ℕ, suc, ◌+◌, ◌*◌, ◌++◌, List, [], ◌∷◌, length, length-append, map, Option, arith}
 use Rattle.std.proofs.lemmas.List.{length-map}
 use Rattle.replayed.specs.Ending.{new_row}
-use Rattle.replayed.specs.Fields.{Does, Frame, Job, Row}
+use Rattle.replayed.specs.Fields.{Does, Frame}
 use Rattle.board_frames.specs.Openings.{ArePlaced, Put, put_jobs}
 use Rattle.board_frames.specs.View.{rows_view}
 use Rattle.board_frames.specs.declared.item.Item.{Item}

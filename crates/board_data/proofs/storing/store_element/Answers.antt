@@ -8,9 +8,9 @@ use Rattle.board_data.proofs.storing.store_element.Goals as goal
 pub returns-in-Some : goal.returns-in-Some
 returns-in-Some c = record {
   stores = λ h.
-    let e = element c.args.key c.args.value in
-    let k = h c.in-Some.d c.in-Some.is in
-    let r = step_stored c.in-Some.d e [] c.args.store.now c.insert.new.store _ k refl c.insert.ensures.took in
-    subst (λ t. StoresIn t ((c.args.key, c.args.value) ∷ []) c.args.store.now c.insert.new.store) (sym c.in-Some.is) (end_stored c.in-Some.d (e ∷ []) c.args.store.now c.insert.new.store k r.1);
+      let e = element c.args.key c.args.value in
+      let k = h c.in-Some.d c.in-Some.is in
+      let r = step_stored c.in-Some.d e [] c.args.store.now c.insert.new.store _ k refl c.insert.ensures.took in
+      subst (λ t. StoresIn t ((c.args.key, c.args.value) ∷ []) c.args.store.now c.insert.new.store) (sym c.in-Some.is) (end_stored c.in-Some.d (e ∷ []) c.args.store.now c.insert.new.store k r.1);
   rising = insert_rises c.in-Some.d c.args.key c.args.value c.args.store.now c.insert.new.store c.insert.ensures.exact;
 }
