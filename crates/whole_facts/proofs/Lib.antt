@@ -11,3 +11,4 @@ pub mod Seeing
 pub mod Growing
 pub mod Placing
 pub mod Choosing
+pub mod Ending

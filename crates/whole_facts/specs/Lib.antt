@@ -7,5 +7,6 @@ pub mod Paths
 pub mod Keeping
 pub mod Added
 pub mod Chosen
+pub mod Ending
 pub mod Listed
 pub mod Growing

@@ -83,7 +83,8 @@ fn is_among(what: Owned, names: &[Name]) -> bool
     false
 }
 
-fn is_same(one: Owned, other: Owned) -> bool
+/// Whether two variables of a block are one.
+pub fn is_same(one: Owned, other: Owned) -> bool
     ensures { result ≡ same_owned (owned_view one) (owned_view other) }
 {
     match (one, other) {
