@@ -16,6 +16,7 @@ pub mod Opened
 pub mod Outer
 pub mod Placed
 pub mod Rights
+pub mod Roomy
 pub mod ScriptOpens
 pub mod Starts
 pub mod Steps

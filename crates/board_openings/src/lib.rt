@@ -5,4 +5,5 @@
 pub mod filling;
 pub mod laws;
 pub mod opening;
+pub mod room;
 pub mod world;

@@ -27,7 +27,7 @@ use slab::Slab;
 use std::alloc::AllocError;
 
 /// The entries of a body.
-fn entries_of(program: &Program, number: u32) -> &[u32]
+pub(crate) fn entries_of(program: &Program, number: u32) -> &[u32]
     ensures { result.now ≡ (body_at program.now number).entries }
 {
     match program.code().body(number) {
@@ -37,7 +37,7 @@ fn entries_of(program: &Program, number: u32) -> &[u32]
 }
 
 /// A body's own data.
-fn own_of(program: &Program, number: u32) -> &[Own]
+pub(crate) fn own_of(program: &Program, number: u32) -> &[Own]
     ensures { result.now ≡ own_of program.now number }
 {
     match program.body(number) {

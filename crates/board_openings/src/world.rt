@@ -62,7 +62,7 @@ pub enum Change {
 
 impl Change {
     /// Whether another item goes on with its loop.
-    fn goes_on(&self) -> bool
+    pub(crate) fn goes_on(&self) -> bool
         ensures { result ≡ goes_on self.now }
     {
         match self {
@@ -126,7 +126,7 @@ fn reads_of(program: &Program, number: u32) -> &[Spot]
 }
 
 /// The data that an entry may write.
-fn writes_of(program: &Program, number: u32) -> &[Spot]
+pub(crate) fn writes_of(program: &Program, number: u32) -> &[Spot]
     ensures { result.now ≡ spots_in program.now (body_of program.now number) (entry program.now number).writes }
 {
     match program.entry(number) {
