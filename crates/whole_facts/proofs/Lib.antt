@@ -12,3 +12,4 @@ pub mod Growing
 pub mod Placing
 pub mod Choosing
 pub mod Ending
+pub mod Looping

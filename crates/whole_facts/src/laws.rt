@@ -1,10 +1,12 @@
 //! Laws of what was learned. Each function does nothing; its contract is the law.
-ghost use Rattle.std.specs.Prelude.{◌≡◌, ◌<◌, ℕ, List, None, Some, length};
+ghost use Rattle.std.specs.Prelude.{◌≡◌, ◌<◌, ◌∷◌, [], ℕ, List, Option, None, Some, length};
 ghost use Rattle.values.specs.declared.key.Key.{Key};
+ghost use Rattle.values.specs.declared.map.Element.{Element};
 ghost use Rattle.values.specs.declared.value.Value.{Value};
-ghost use Rattle.syntax_trees.specs.Core.{Action, Block, Core, Name};
-ghost use Rattle.syntax_trees.specs.Openings.{Decides, Opens};
-ghost use Rattle.whole_facts.specs.Chosen.{Chosen, OpensAt, block_in, chosen_by, count_in, key_in};
+ghost use Rattle.values.specs.declared.value.Value.TheVariants.{Many};
+ghost use Rattle.syntax_trees.specs.Core.{Action, Block, Core, Name, Outer, each, range};
+ghost use Rattle.syntax_trees.specs.Openings.{Decides, InTurn, Opens};
+ghost use Rattle.whole_facts.specs.Chosen.{Chosen, OpensAt, block_in, chosen_by, count_in, items, key_in, value_at_turn};
 ghost use Rattle.syntax_trees.specs.Parts.{call_at, input_name, output_name};
 ghost use Rattle.syntax_trees.specs.Places.{Path, place, most_steps};
 ghost use Rattle.kept_facts.specs.Kept.{sight_by, past_by};
@@ -61,4 +63,14 @@ pub fn what_is_chosen()
     ensures decides { (a : Action) (vs : List Value) (c : Chosen) → chosen_by a vs ≡ Some c → Decides a vs }
     ensures opens { (a : Action) (vs : List Value) (c : Chosen) → chosen_by a vs ≡ Some c → (k : Key) (b : Block) → Opens a vs k b → OpensAt a c k b }
     ensures opened { (a : Action) (vs : List Value) (c : Chosen) → chosen_by a vs ≡ Some c → (i : ℕ) → i < count_in c → (b : Block) → block_in a c ≡ Some b → Opens a vs (key_in c i) b }
+{}
+
+/// Of a loop over an array the blocks that it opens are those of its elements, under their keys; and in each turn of a loop its
+/// variable is what the choice has there.
+pub fn what_a_loop_opens()
+    ensures opens { (a : Name) (x : ℕ) (t : Option ℕ) (b : Block) (es : List Element) (k : Key) (d : Block) → Opens (each a x t b) (Many es ∷ []) k d → OpensAt (each a x t b) (items es) k d }
+    ensures opened { (a : Name) (x : ℕ) (t : Option ℕ) (b : Block) (es : List Element) (i : ℕ) → i < length es → Opens (each a x t b) (Many es ∷ []) (key_in (items es) i) b }
+    ensures element { (a : Name) (x : ℕ) (t : Option ℕ) (b : Block) (es : List Element) (i : ℕ) → i < length es → InTurn (each a x t b) (Many es ∷ []) (key_in (items es) i) x (value_at_turn (items es) i) }
+    ensures turn { (lo hi : Outer) (st : Option Outer) (x : ℕ) (t : Option ℕ) (b : Block) (vs : List Value) (c : Chosen) → chosen_by (range lo hi st x t b) vs ≡ Some c → (i : ℕ)
+        → InTurn (range lo hi st x t b) vs (key_in c i) x (value_at_turn c i) }
 {}
