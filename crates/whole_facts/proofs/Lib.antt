@@ -13,3 +13,4 @@ pub mod Placing
 pub mod Choosing
 pub mod Ending
 pub mod Looping
+pub mod Readying

@@ -7,6 +7,7 @@ pub mod Paths
 pub mod Keeping
 pub mod Added
 pub mod Chosen
+pub mod Taking
 pub mod Ending
 pub mod Listed
 pub mod Growing

@@ -2,16 +2,19 @@
 ghost use Rattle.std.specs.Prelude.{◌≡◌, ◌<◌, ◌∷◌, [], ℕ, List, Option, None, Some, length};
 ghost use Rattle.values.specs.declared.key.Key.{Key};
 ghost use Rattle.values.specs.declared.map.Element.{Element};
+ghost use Rattle.values.specs.declared.value.Scalar.{Scalar};
 ghost use Rattle.values.specs.declared.value.Value.{Value};
 ghost use Rattle.values.specs.declared.value.Value.TheVariants.{Many};
-ghost use Rattle.syntax_trees.specs.Core.{Action, Block, Core, Name, Outer, each, range};
+ghost use Rattle.syntax_trees.specs.Core.{Action, Block, Core, Name, Outer, Stmt, each, range};
 ghost use Rattle.syntax_trees.specs.Openings.{Decides, InTurn, Opens};
-ghost use Rattle.whole_facts.specs.Chosen.{Chosen, OpensAt, block_in, chosen_by, count_in, items, key_in, value_at_turn};
+ghost use Rattle.whole_facts.specs.Chosen.{Chosen, OpensAt, block_in, chosen_by, chosen_in, count_in, items, key_in, value_at_turn};
 ghost use Rattle.syntax_trees.specs.Parts.{call_at, input_name, output_name};
-ghost use Rattle.syntax_trees.specs.Places.{Path, place, most_steps};
+ghost use Rattle.syntax_trees.specs.Places.{Path, Place, place, most_steps};
 ghost use Rattle.kept_facts.specs.Kept.{sight_by, past_by};
 ghost use Rattle.syntax_trees.specs.Facts as script;
-ghost use Rattle.whole_meaning.specs.Taken.{Knows};
+ghost use Rattle.whole_meaning.specs.Environment.{Sight};
+ghost use Rattle.whole_meaning.specs.Taken.{Knows, ReadyBy, taken};
+ghost use Rattle.whole_facts.specs.Taking.{OpensBy, SeesBy};
 ghost use Rattle.whole_facts.specs.Added.{IsAdded};
 ghost use Rattle.whole_facts.specs.Growing.{fact_view, IsAgreed, IsWithin, KeepsFacts, With, with_facts};
 ghost use Rattle.whole_facts.specs.Keeping.{kept_of, past_of, IsLocated, IsPlaced};
@@ -73,4 +76,11 @@ pub fn what_a_loop_opens()
     ensures element { (a : Name) (x : ℕ) (t : Option ℕ) (b : Block) (es : List Element) (i : ℕ) → i < length es → InTurn (each a x t b) (Many es ∷ []) (key_in (items es) i) x (value_at_turn (items es) i) }
     ensures turn { (lo hi : Outer) (st : Option Outer) (x : ℕ) (t : Option ℕ) (b : Block) (vs : List Value) (c : Chosen) → chosen_by (range lo hi st x t b) vs ≡ Some c → (i : ℕ)
         → InTurn (range lo hi st x t b) vs (key_in c i) x (value_at_turn c i) }
+{}
+
+/// Where an instance sees what is known and taken at a path, a header whose choice is seen is ready there, and opens just the
+/// blocks that it has chosen.
+pub fn what_is_ready()
+    ensures { (s : Core) (fs : List script.Fact) (ls : List (Path × Stmt)) (cs : List Place) (us : List (Place × Scalar)) (path : Path) (g : Sight) → SeesBy s (Knows fs) (taken ls cs us) path g
+        → (a : Action) (c : Chosen) → chosen_in g a ≡ Some c → (vs : List Value) × ReadyBy s (Knows fs) (taken ls cs us) path a vs × OpensBy a vs c }
 {}
