@@ -1,17 +1,16 @@
 -- What a loop opens, and what its variable is there.
-use Rattle.std.specs.Prelude.{◌≡◌, ℕ, zero, suc, ◌<◌, pos, List, [], ◌∷◌, length, Option, Some, None, Result, Ok, Err, slice_get, refl}
-use Rattle.std.proofs.Common.{sym, ap, ◌∙◌, subst, arith}
+use Rattle.std.specs.Prelude.{◌≡◌, ℕ, zero, suc, ◌<◌, List, [], ◌∷◌, length, Option, Some, None, Result, Ok, Err, slice_get, refl}
+use Rattle.std.proofs.Common.{sym, ap, subst, arith}
 use Rattle.values.specs.declared.fault.OpFault.{OpFault}
 use Rattle.values.specs.declared.key.Key.{Key}
 use Rattle.values.specs.declared.map.Element.{Element}
-use Rattle.values.specs.declared.value.Scalar.TheVariants.{Number}
 use Rattle.values.specs.declared.value.Value.{Value}
 use Rattle.values.specs.declared.value.Value.TheVariants.{Many}
-use Rattle.values.specs.Ranges.{range_count, value_in}
+use Rattle.values.specs.Ranges.{range_count}
 use Rattle.syntax_trees.specs.Core.{Name, Outer, range, each, Block}
 use Rattle.syntax_trees.specs.Members.{◌∈◌, first, later}
 use Rattle.syntax_trees.specs.Openings.{Bounds, bounds, Opens, item, InTurn, range_value, each_value}
-use Rattle.whole_facts.specs.Chosen.{Chosen, turns, items, count_in, key_in, value_at_turn, item_key, item_value, turns_by, turns_of, chosen_by, OpensAt}
+use Rattle.whole_facts.specs.Chosen.{Chosen, turns, items, key_in, value_at_turn, item_key, item_value, turns_by, turns_of, chosen_by, OpensAt}
 
 -- an element stands at a number
 record IsAt (e : Element) (es : List Element) : Type 0 where

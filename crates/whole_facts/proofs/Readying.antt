@@ -6,15 +6,15 @@ use Rattle.values.specs.declared.value.Value.{Value}
 use Rattle.values.specs.declared.value.Value.TheVariants.{Many}
 use Rattle.syntax_trees.specs.Core.{Action, Block, Cell, Core, choose, each, range, when}
 use Rattle.syntax_trees.specs.Facts.{Knowledge, KnownAll, no_cell, next_cell}
-use Rattle.syntax_trees.specs.Openings.{Opens}
+use Rattle.syntax_trees.specs.Openings.{Branches, Opens}
 use Rattle.syntax_trees.specs.Parts.{outer_cells}
 use Rattle.syntax_trees.specs.Places.{Path}
 use Rattle.whole_meaning.specs.Environment.{Sight}
 use Rattle.whole_meaning.specs.News.{with_value}
-use Rattle.whole_meaning.specs.Taken.{ReadyBy, by_cells, by_source, Taken}
+use Rattle.whole_meaning.specs.Taken.{ReadyBy, by_cells, by_source, by_names, Taken}
 use Rattle.whole_facts.specs.Chosen.{Chosen, items, key_in, all_seen, chosen_by, chosen_from, chosen_in, items_seen}
 use Rattle.whole_facts.specs.Taking.{OpensBy, SeesBy}
-use Rattle.whole_facts.proofs.Choosing.{decides, opens_all, opens_so}
+use Rattle.whole_facts.proofs.Choosing.{decided, decides, opens_all, opens_so}
 use Rattle.whole_facts.proofs.Looping.{each_all, each_so}
 
 -- cells of which the values are seen are known
@@ -68,3 +68,32 @@ chosen_ready s K T path g sees (each a x t b) c e = by (g.closed a) refl e
         })
     by false p f = absurd (cc (f))
 chosen_ready s K T path g sees _ c e = absurd (cc (e))
+
+pub record HasChosen (g : Sight) (a : Action) (vs : List Value) : Type 0 where
+  pub choice : Chosen
+  pub chosen_is : chosen_in g a ≡ Some choice
+  pub opens : OpensBy a vs choice
+
+from_cells : (g : Sight) (a : Action) (vs : List Value) (c : Chosen) → Branches a → all_seen g (outer_cells a) ≡ Some vs → chosen_by a vs ≡ Some c → chosen_in g a ≡ Some c
+from_cells g (when o b) vs c _ p e = ap (chosen_from (when o b)) p ∙ e
+from_cells g (choose o b d) vs c _ p e = ap (chosen_from (choose o b d)) p ∙ e
+from_cells g (range lo hi st x t b) vs c _ p e = ap (chosen_from (range lo hi st x t b)) p ∙ e
+from_cells g (each a x t b) vs c _ p e = absurd (cc (e))
+from_cells g _ vs c never p e = elim never [ ]
+
+-- and what is ready was chosen
+pub ready_chosen : (s : Core) (K : Knowledge) (T : Taken) (path : Path) (g : Sight) → SeesBy s K T path g → (a : Action) (vs : List Value) → Branches a → ReadyBy s K T path a vs → HasChosen g a vs
+ready_chosen s K T path g sees a vs branches (by_cells k d) =
+    let r = decided a vs d in
+    record {
+      choice = r.0;
+      chosen_is = from_cells g a vs r.0 branches (cells_all s K T path g sees (outer_cells a) vs k) r.1;
+      opens = record { all = λ k b o. opens_all a vs r.0 k b r.1 o; so = λ i b l m. opens_so a vs r.0 r.1 i l b m };
+    }
+ready_chosen s K T path g sees header vs branches (by_source {a = a} {x = x} {t = t} {b = b} {es = es} closed elements) =
+    record {
+      choice = items es;
+      chosen_is = ap (λ (z : Bool). items_seen z (g.elements a)) (sees.closed_all a closed) ∙ ap (λ (z : List Element). Some (items z)) (sym (sees.elements_all a es closed elements));
+      opens = record { all = λ k d o. each_all a x t b es k d o; so = λ i d l m. let block : b ≡ d = cc (m) in subst (λ (z : Block). Opens (each a x t b) (Many es ∷ []) (key_in (items es) i) z) block (each_so a x t b es i l) };
+    }
+ready_chosen s K T path g sees a vs branches (by_names f) = elim branches [ ]

@@ -8,7 +8,7 @@ use Rattle.syntax_trees.specs.Facts.{Elements, Knowledge, value}
 use Rattle.syntax_trees.specs.Openings.{Opens}
 use Rattle.syntax_trees.specs.Places.{Path, place}
 use Rattle.whole_meaning.specs.Environment.{Sight}
-use Rattle.whole_meaning.specs.Taken.{ReadyBy, Taken}
+use Rattle.whole_meaning.specs.Taken.{Taken}
 use Rattle.whole_facts.specs.Chosen.{Chosen, OpensAt, block_in, count_in, key_in}
 
 -- what is seen of cells and arrays at a path is what is known there and taken to be closed

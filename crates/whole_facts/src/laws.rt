@@ -6,7 +6,7 @@ ghost use Rattle.values.specs.declared.value.Scalar.{Scalar};
 ghost use Rattle.values.specs.declared.value.Value.{Value};
 ghost use Rattle.values.specs.declared.value.Value.TheVariants.{Many};
 ghost use Rattle.syntax_trees.specs.Core.{Action, Block, Core, Name, Outer, Stmt, each, range};
-ghost use Rattle.syntax_trees.specs.Openings.{Decides, InTurn, Opens};
+ghost use Rattle.syntax_trees.specs.Openings.{Branches, Decides, InTurn, Opens};
 ghost use Rattle.whole_facts.specs.Chosen.{Chosen, OpensAt, block_in, chosen_by, chosen_in, count_in, items, key_in, value_at_turn};
 ghost use Rattle.syntax_trees.specs.Parts.{call_at, input_name, output_name};
 ghost use Rattle.syntax_trees.specs.Places.{Path, Place, place, most_steps};
@@ -79,8 +79,10 @@ pub fn what_a_loop_opens()
 {}
 
 /// Where an instance sees what is known and taken at a path, a header whose choice is seen is ready there, and opens just the
-/// blocks that it has chosen.
+/// blocks that it has chosen; and of one that is ready and opens blocks under keys the choice is seen.
 pub fn what_is_ready()
-    ensures { (s : Core) (fs : List script.Fact) (ls : List (Path × Stmt)) (cs : List Place) (us : List (Place × Scalar)) (path : Path) (g : Sight) → SeesBy s (Knows fs) (taken ls cs us) path g
+    ensures ready { (s : Core) (fs : List script.Fact) (ls : List (Path × Stmt)) (cs : List Place) (us : List (Place × Scalar)) (path : Path) (g : Sight) → SeesBy s (Knows fs) (taken ls cs us) path g
         → (a : Action) (c : Chosen) → chosen_in g a ≡ Some c → (vs : List Value) × ReadyBy s (Knows fs) (taken ls cs us) path a vs × OpensBy a vs c }
+    ensures chosen { (s : Core) (fs : List script.Fact) (ls : List (Path × Stmt)) (cs : List Place) (us : List (Place × Scalar)) (path : Path) (g : Sight) → SeesBy s (Knows fs) (taken ls cs us) path g
+        → (a : Action) (vs : List Value) → Branches a → ReadyBy s (Knows fs) (taken ls cs us) path a vs → (c : Chosen) × (chosen_in g a ≡ Some c) × OpensBy a vs c }
 {}
