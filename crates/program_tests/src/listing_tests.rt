@@ -1,5 +1,5 @@
 //! Listings of small scripts: each word of an entry, `else if`, merged waits, priorities, functions that are called before they stand, literals as arguments.
-use compile::compile::listed;
+use compile::compile::{drawn, listed};
 use std::test::Fail;
 
 const NOTHING: (&[u8], &str) = (b"", "body 0 script\n");
@@ -17,6 +17,11 @@ const FIBONACCI: (&[u8], &str) = (
 const MERGED_WAITS: (&[u8], &str) = (
     b"int x = 1; int y; int z; y = z; z = y; wait (x) { wait (y) { printf(\"q\"); } }",
     "body 0 script\n  1 leaf set 0 0\n  2 leaf set 25 0 z\n  3 leaf set 32 0 y\n  4 control wait 39 0 x y > 1\nbody 1 wait\n  1 leaf print 61 0\n",
+);
+
+const FOLDED: (&[u8], &str) = (
+    b"int A[]; A[1 + 1] = 3 * 3; A[1 %/ 0] = 1;",
+    "body 0 script\n  1 control put 9 0\n  2 leaf cell 29 0\n  3 control put 27 0 #2\n",
 );
 
 const ASSERTS: (&[u8], &str) = (
@@ -62,6 +67,7 @@ fn lists_code(rt: HostRuntime) -> Result<(), Fail> {
         SCALARS,
         FIBONACCI,
         MERGED_WAITS,
+        FOLDED,
         ASSERTS,
         RANGES,
         FILLS,
@@ -74,5 +80,33 @@ fn lists_code(rt: HostRuntime) -> Result<(), Fail> {
         let text = listed(alloc, alloc, script)?;
         assert_eq!(rt; text.as_slice(), wanted.as_bytes());
     }
+    Ok(())
+}
+
+const DRAWING: &str = "digraph code {
+  node [shape=box];
+  subgraph cluster_0 {
+    label=\"body 0 script\";
+    b0 [shape=point];
+    v2 [shape=ellipse, label=\"x\"];
+    e0_1 [label=\"1 leaf set 0 0\"];
+    e0_2 [label=\"2 control if 15 0\"];
+  }
+  e0_1 -> v2 [arrowhead=empty];
+  v2 -> e0_2;
+  e0_2 -> b1 [style=dashed];
+  subgraph cluster_1 {
+    label=\"body 1 then\";
+    b1 [shape=point];
+    e1_1 [label=\"1 leaf print 24 0\"];
+  }
+}
+";
+
+#[test]
+fn draws_code(rt: HostRuntime) -> Result<(), Fail> {
+    let alloc = rt.alloc();
+    let text = drawn(alloc, alloc, b"boolean x=true;if (x) { printf(\"x\"); }")?;
+    assert_eq!(rt; text.as_slice(), DRAWING.as_bytes());
     Ok(())
 }
