@@ -6,3 +6,5 @@ pub mod laws;
 mod opens;
 mod present;
 mod spare;
+
+pub use opens::script_effect;

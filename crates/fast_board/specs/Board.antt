@@ -1,0 +1,114 @@
+-- What the clauses of a board say.
+use Rattle.std.specs.Prelude.{◌≡◌, ℕ, ◌<◌, List, [], ◌∷◌, ◌++◌, Some, None, length}
+use Rattle.dataflow.specs.System.{Answer, In}
+use Rattle.dataflow.specs.Events.{NewlyAt, worker_of}
+use Rattle.dataflow.specs.Machine as Machine
+use Rattle.dataflow.specs.Machine.{SeesAll}
+use Rattle.values.specs.declared.key.Key.{Key}
+use Rattle.values.specs.declared.value.Scalar.{Scalar}
+use Rattle.task_code.specs.Code.{Code, entry}
+use Rattle.task_code.specs.Effects.{Item, Main, Task}
+use Rattle.task_code.specs.Machine.{CanBegin, CodeItem, CodeState, CodeStep, RunsOn}
+use Rattle.task_code.specs.System.{answered, code_system, task_inputs}
+use Rattle.board_work.specs.Assigned as Work
+use Rattle.board_work.specs.Assigned.{Assigned}
+use Rattle.fast_board.specs.declared.refusal.Refusal.{Refusal}
+use Rattle.fast_board.specs.declared.refusal.Refusal.TheVariants.{Ended, Memory, NotReady, NotYours, Stranger}
+
+-- a board: the code and the limit, the state, the events so far, and the items that can begin and could not before the last of them
+pub record Seen : Type 0 where
+  pub code : Code
+  pub limit : ℕ
+  pub state : CodeState
+  pub history : List Machine.Event
+  pub newly : List ℕ
+
+-- the workers are 0 to 63
+abbrev pub IsWorker : ℕ → Type 0
+IsWorker w = w < 64
+
+-- each event is by one of them
+abbrev pub AreByWorkers : List Machine.Event → Type 0
+AreByWorkers es = (e : Machine.Event) → In e es → IsWorker (worker_of e)
+
+-- no fault stands, and the limit is not reached
+abbrev pub IsGoing : Seen → Type 0
+IsGoing b = (b.state.fault ≡ None) × (length b.history < b.limit)
+
+-- each number is smaller than those behind it
+abbrev pub Rises : List ℕ → Type 0
+Rises [] = Unit {0}
+Rises (n ∷ ns) = ((m : ℕ) → In m ns → n < m) × Rises ns
+
+-- the event is accepted: the machine has that step, the items that it enables are named by rising numbers, and nothing else changes
+pub record Accepts (old : Seen) (e : Machine.Event) (new : Seen) : Type 0 where
+  pub going : IsGoing old
+  pub step : CodeStep old.code old.state e new.state
+  pub history : new.history ≡ old.history ++ e ∷ []
+  pub code : new.code ≡ old.code
+  pub limit : new.limit ≡ old.limit
+  pub newly : NewlyAt (code_system old.code) old.state new.state new.newly
+  pub rising : Rises new.newly
+
+-- what a task is for, and the answers to its entry's needs where its inputs have these
+abbrev pub job_of : Code → Task → Work.Task
+job_of C Main = Work.opens_script
+job_of C (Item i p c) = Work.runs (entry C i)
+
+abbrev pub answers_to : Code → Task → List (Answer Key Scalar) → List (Answer Key Scalar)
+answers_to C Main xs = xs
+answers_to C (Item i p c) xs = answered C p (entry C i).needs xs
+
+-- the work is the task's: its job, with answers that its needs have in this state
+pub record IsWorkOf (C : Code) (s : CodeState) (t : Task) (work : Assigned) : Type 0 where
+  pub job : work.job ≡ job_of C t
+  pub inputs : List (Answer Key Scalar)
+  pub known : SeesAll (code_system C) s (task_inputs C t) inputs
+  pub answers : work.answers ≡ answers_to C t inputs
+
+-- some item of the work's number runs on that worker, and the work is its own
+pub record IsOwn (b : Seen) (worker : ℕ) (work : Assigned) : Type 0 where
+  pub item : CodeItem
+  pub there : In item b.state.items
+  pub number_is : item.number ≡ work.item
+  pub runs : item.runs ≡ Some worker
+  pub own : IsWorkOf b.code b.state item.task work
+
+-- some item of that number may begin, or runs on that worker
+abbrev pub MayBegin : Seen → ℕ → Type 0
+MayBegin b n = CanBegin b.code b.state n
+
+abbrev pub IsTheirs : Seen → ℕ → ℕ → Type 0
+IsTheirs b w n = RunsOn b.code b.state w n
+
+-- why begin refuses: the first cause that holds
+abbrev pub RefusesBegin : Seen → ℕ → Refusal → Type 0
+RefusesBegin b n Ended = ¬ IsGoing b
+RefusesBegin b n NotReady = IsGoing b × ¬ MayBegin b n
+RefusesBegin b n Memory = IsGoing b × MayBegin b n
+RefusesBegin b n NotYours = ⊥
+RefusesBegin b n Stranger = ⊥
+
+-- why end refuses: the first cause that holds; memory is wanted only for what is the item's own
+abbrev pub RefusesEnd : Seen → ℕ → Assigned → Refusal → Type 0
+RefusesEnd b w done Ended = ¬ IsGoing b
+RefusesEnd b w done NotYours = IsGoing b × ¬ IsTheirs b w done.item
+RefusesEnd b w done Stranger = IsGoing b × IsTheirs b w done.item × ¬ IsOwn b w done
+RefusesEnd b w done Memory = IsGoing b × IsOwn b w done
+RefusesEnd b w done NotReady = ⊥
+
+-- why back refuses: the first cause that holds; never for memory
+abbrev pub RefusesBack : Seen → ℕ → ℕ → Refusal → Type 0
+RefusesBack b w n Ended = ¬ IsGoing b
+RefusesBack b w n NotYours = IsGoing b × ¬ IsTheirs b w n
+RefusesBack b w n Memory = ⊥
+RefusesBack b w n NotReady = ⊥
+RefusesBack b w n Stranger = ⊥
+
+-- why the work of an item that runs is not given out: the first cause that holds
+abbrev pub RefusesWork : Seen → ℕ → ℕ → Refusal → Type 0
+RefusesWork b w n Ended = ¬ IsGoing b
+RefusesWork b w n NotYours = IsGoing b × ¬ IsTheirs b w n
+RefusesWork b w n Memory = IsGoing b × IsTheirs b w n
+RefusesWork b w n NotReady = ⊥
+RefusesWork b w n Stranger = ⊥

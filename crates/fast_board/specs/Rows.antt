@@ -1,0 +1,11 @@
+-- Which items can begin, and which run, by their rows.
+use Rattle.std.specs.Prelude.{◌≡◌, ℕ, List, Some}
+use Rattle.replayed.specs.Fields as Pure
+use Rattle.replayed.specs.Fields.{row_of}
+
+-- the item of the number can begin, or runs on the worker, and has this job
+abbrev pub IsReady : List Pure.Row → ℕ → Pure.Job → Type 0
+IsReady rows n j = row_of rows n ≡ Some (record { job = j; mark = Pure.Ready })
+
+abbrev pub RunsOn : List Pure.Row → (worker number : ℕ) → Pure.Job → Type 0
+RunsOn rows w n j = row_of rows n ≡ Some (record { job = j; mark = Pure.Running w })

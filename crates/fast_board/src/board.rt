@@ -1,0 +1,379 @@
+//! The board: begin, end and give back items.
+ghost use Rattle.std.specs.Prelude.{ℕ, ℤ, ◌≡◌, ◌<◌, ◌≤◌, ◌^◌, ◌∷◌, [], map, length, vec_len, IfOk, IfErr, IfSome, IfNone, OnOk, OnErr, IsTrue, ◌↔◌, None, Some, slice_get};
+ghost use Rattle.dataflow.specs.Machine.{start};
+ghost use Rattle.dataflow.specs.Machine as Machine;
+ghost use Rattle.task_code.specs.Machine.{CodeItem, Quiet, Run};
+ghost use Rattle.task_code.specs.System.{code_system, task_kind, task_priority};
+ghost use Rattle.task_code.specs.View.{event_view, kind_view};
+ghost use Rattle.task_code.specs.Whole.{IsCode};
+ghost use Rattle.work_queue.specs.declared.entry.Kind.{Kind as QueueKind};
+ghost use Rattle.board_code.specs.Tables.{queue_kind};
+ghost use Rattle.fast_board.specs.Board.{AreByWorkers, IsWorker, IsGoing, Accepts, IsOwn, RefusesBegin, RefusesEnd, RefusesBack, RefusesWork};
+ghost use Rattle.fast_board.specs.Numbers.{AreNumbered};
+ghost use Rattle.fast_board.specs.Ready.{AreReady, IsNext, IsReady};
+ghost use Rattle.fast_board.specs.Blocked.{AreBlocked, IsFaultOf};
+ghost use Rattle.dataflow.specs.System.{In};
+
+use crate::refusal::Refusal;
+use crate::state::Core;
+use board_code::program::Program;
+use board_data::answers::{answers, are_answers};
+use board_frames::item::{Job, Mark, item_of};
+use board_frames::place::{Fault, Statement};
+use board_items::items::order_of;
+use board_work::work::{Done, Job as Task, Work};
+use std::alloc::{AllocError, Global};
+use std::marker::Model;
+use task_code::code::Code;
+use task_code::entry::Kind;
+use task_code::event::Event;
+use values::value::Scalar;
+
+/// The machine's state over some code, with the events that led to it. At most `limit` events are accepted, each by one of the
+/// workers 0 to 63.
+#[derive(Drop)]
+pub struct Board {
+    program: Program,
+    limit: u32,
+    core: Core,
+    history: Vec<Event>,
+}
+
+impl Model for Board {
+    ghost use Rattle.std.specs.Coded.{codes};
+    ghost use Rattle.task_code.specs.Tokens.{expr_code, exprs_code};
+    ghost use Rattle.fast_board.specs.Board.{Seen};
+
+    ghost Value = { Seen };
+
+    ghost coded = { Prim.hlevel (codes, expr_code (Prim.hlevel codes), exprs_code (Prim.hlevel codes)) };
+
+    ghost use Rattle.fast_board.specs.Inside.{seen_of, IsSound};
+
+    ghost view = { seen_of };
+
+    ghost invariant = { IsSound };
+}
+
+/// The kind as the queue has it.
+fn queue_kind(kind: Kind) -> work_queue::entry::Kind
+    ensures { result ≡ queue_kind (kind_view kind) }
+{
+    match kind {
+        Kind::Control => work_queue::entry::Kind::Control,
+        Kind::Leaf => work_queue::entry::Kind::Leaf,
+    }
+}
+
+/// The same, as code has it.
+fn code_kind(kind: work_queue::entry::Kind) -> Kind
+    ensures { queue_kind (kind_view result) ≡ kind }
+{
+    match kind {
+        work_queue::entry::Kind::Control => Kind::Control,
+        work_queue::entry::Kind::Leaf => Kind::Leaf,
+    }
+}
+
+impl Board {
+    /// A board over the code, before any event. Code that needs more than 64 bits for a number or a count is refused as want
+    /// of memory.
+    ///
+    /// # Errors
+    ///
+    /// `AllocError` where memory that was asked for was refused.
+    pub fn new(alloc: Global, code: Code, limit: u32) -> Result<Board, AllocError>
+        requires { IsCode code }
+        ensures { IfOk result (λ b. b ≡ record { code = code; limit = limit; state = start (code_system code); history = []; newly = [] }) }
+    {
+        Ok(Board {
+            program: Program::new(alloc, code)?,
+            limit,
+            core: Core::new(alloc)?,
+            history: Vec::new(alloc),
+        })
+    }
+
+    /// Whether an event may be accepted: no fault was met, and the limit is not reached.
+    pub fn is_going(&self) -> bool
+        ensures { IsTrue result ↔ IsGoing self.now }
+    {
+        self.core.fault.is_none() && self.history.len() < self.limit as usize
+    }
+
+    /// Begins the item on the worker. The work is the item's, with the answers to its needs.
+    ///
+    /// # Errors
+    ///
+    /// `Ended` after a fault or at the limit; `NotReady` where the item is not enabled, runs, or does not exist; `Memory`.
+    pub fn begin(&mut self, worker: u8, item: u64) -> Result<Work, Refusal>
+        requires { IsWorker worker }
+        ensures accepted { OnOk result (Accepts self.old (Machine.Begin worker item) self.new) }
+        ensures still { OnOk result (self.new.newly ≡ []) }
+        ensures work { IfOk result (λ work. IsOwn self.new worker work) }
+        ensures number { IfOk result (λ work. work.item ≡ item) }
+        ensures refused { IfErr result (λ e. RefusesBegin self.old item e) }
+        ensures unchanged { OnErr result (self.new ≡ self.old) }
+    {
+        if !self.is_going() {
+            return Err(Refusal::Ended);
+        }
+        let Some(job) = self.core.ready_job(item) else {
+            return Err(Refusal::NotReady);
+        };
+        let Ok(()) = self.core.sort_arrays(&self.program, job) else {
+            return Err(Refusal::Memory);
+        };
+        let Ok(work) = self.core.work(&self.program, item, job) else {
+            return Err(Refusal::Memory);
+        };
+        // Room for this event, and for the next one of each item that runs.
+        let Ok(()) = self
+            .history
+            .reserve(self.core.items.running.saturating_add(2))
+        else {
+            return Err(Refusal::Memory);
+        };
+        self.core.begin(&self.program, worker, item, job);
+        self.history.push_reserved(Event::Begin { worker, item });
+        Ok(work)
+    }
+
+    /// Ends the item of the work on the worker.
+    ///
+    /// # Errors
+    ///
+    /// With the work that was done: `Ended` after a fault or at the limit; `NotYours` where the item does not run on the
+    /// worker; `Stranger` where the work was not done for the item's entry and answers, which takes no memory to see;
+    /// `Memory` only where it was.
+    pub fn end(&mut self, worker: u8, done: Done) -> Result<(), (Done, Refusal)>
+        requires { IsWorker worker }
+        ensures accepted { OnOk result (Accepts self.old (Machine.End worker done.item) self.new) }
+        ensures own { OnOk result (IsOwn self.old worker done) }
+        ensures refused { IfErr result (λ e. RefusesEnd self.old worker done e.1) }
+        ensures handed_back { IfErr result (λ e. e.0 ≡ done) }
+        ensures unchanged { OnErr result (self.new ≡ self.old) }
+    {
+        if !self.is_going() {
+            return Err((done, Refusal::Ended));
+        }
+        let item = done.item();
+        let Some(job) = self.core.running_job(worker, item) else {
+            return Err((done, Refusal::NotYours));
+        };
+        if !self.core.is_done_for(&self.program, job, &done) {
+            return Err((done, Refusal::Stranger));
+        }
+        let Ok(()) = self.core.end(&self.program, item, job, &done) else {
+            return Err((done, Refusal::Memory));
+        };
+        self.history.push_reserved(Event::End { worker, item });
+        Ok(())
+    }
+
+    /// Gives the item back: it runs no more. Takes no memory.
+    ///
+    /// # Errors
+    ///
+    /// `Ended` after a fault or at the limit; `NotYours` where the item does not run on the worker.
+    pub fn back(&mut self, worker: u8, item: u64) -> Result<(), Refusal>
+        requires { IsWorker worker }
+        ensures accepted { OnOk result (Accepts self.old (Machine.Back worker item) self.new) }
+        ensures again { OnOk result (self.new.newly ≡ item ∷ []) }
+        ensures refused { IfErr result (λ e. RefusesBack self.old worker item e) }
+        ensures unchanged { OnErr result (self.new ≡ self.old) }
+    {
+        if !self.is_going() {
+            return Err(Refusal::Ended);
+        }
+        let Some(job) = self.core.running_job(worker, item) else {
+            return Err(Refusal::NotYours);
+        };
+        self.core.back(&self.program, item, job);
+        self.history.push_reserved(Event::Back { worker, item });
+        Ok(())
+    }
+
+    /// The work of an item that runs on the worker, as `begin` gave it.
+    ///
+    /// # Errors
+    ///
+    /// `Ended` after a fault or at the limit; `NotYours` where the item does not run on the worker; `Memory`.
+    pub fn work(&self, worker: u8, item: u64) -> Result<Work, Refusal>
+        requires { IsWorker worker }
+        ensures own { IfOk result (λ work. IsOwn self.now worker work) }
+        ensures number { IfOk result (λ work. work.item ≡ item) }
+        ensures refused { IfErr result (λ e. RefusesWork self.now worker item e) }
+    {
+        if !self.is_going() {
+            return Err(Refusal::Ended);
+        }
+        let Some(job) = self.core.running_job(worker, item) else {
+            return Err(Refusal::NotYours);
+        };
+        let Ok(work) = self.core.work(&self.program, item, job) else {
+            return Err(Refusal::Memory);
+        };
+        Ok(work)
+    }
+
+    /// The events so far. They lead to the state, name the workers 0 to 63 alone, and items by numbers above 0.
+    pub fn history(&self) -> &Vec<Event>
+        ensures events { map event_view result.now.items ≡ self.now.history }
+        ensures replays { Run self.now.code self.now.history self.now.state }
+        ensures within { length self.now.history ≤ self.now.limit }
+        ensures few { self.now.limit ≤ u32.MAX }
+        ensures whole { IsCode self.now.code }
+        ensures workers { AreByWorkers self.now.history }
+        ensures numbers { AreNumbered self.now.history }
+    {
+        let _few = self.limit;
+        &self.history
+    }
+
+    /// The lines that were printed so far, in their order: a text each, where the code prints texts alone.
+    pub fn lines(&self) -> &Vec<Scalar>
+        ensures { self.now.state.lines ≡ result.now.items }
+    {
+        &self.core.lines
+    }
+
+    /// The code.
+    pub fn code(&self) -> &Code
+        ensures { result.now ≡ self.now.code }
+    {
+        self.program.code()
+    }
+
+    /// How many events are accepted at most.
+    pub fn limit(&self) -> u32
+        ensures { result ≡ self.now.limit }
+    {
+        self.limit
+    }
+
+    /// How many data there are: all that may still be read or written.
+    pub fn stored(&self) -> usize {
+        self.core.world.store.len()
+    }
+
+    /// Whether nothing is left to be done: no fault was met, and no item runs or is enabled.
+    pub fn is_quiet(&self) -> bool
+        ensures { IsTrue result ↔ Quiet self.now.code self.now.state }
+    {
+        self.core.fault.is_none() && self.core.items.is_still()
+    }
+
+    /// The fault that was met, and its statement.
+    pub fn fault(&self) -> Option<&Fault>
+        ensures none { IfNone result (self.now.state.fault ≡ None) }
+        ensures some { IfSome result (λ fault. IsFaultOf self.now.code self.now.state fault.now) }
+    {
+        match &self.core.fault {
+            None => None,
+            Some(met) => Some(met),
+        }
+    }
+
+    /// Who runs the item of this number, where there is one that has not ended.
+    pub fn kind(&self, item: u64) -> Option<Kind>
+        ensures none { IfNone result ((i : CodeItem) → In i self.now.state.items → i.number ≡ item → ⊥) }
+        ensures some { IfSome result (λ kind. (i : CodeItem) × In i self.now.state.items × (i.number ≡ item) × (kind_view kind ≡ task_kind self.now.code i.task)) }
+    {
+        let Some(found) = item_of(self.core.items.rows.as_slice(), item) else {
+            return None;
+        };
+        match found.mark {
+            Mark::Over => None,
+            _ => {
+                let (kind, _) = order_of(&self.program, found.job);
+                Some(code_kind(kind))
+            }
+        }
+    }
+
+    /// The first item of the kind that can begin: of the greatest priority, and then of the smallest number. None after a
+    /// fault or at the limit. Takes no memory.
+    pub fn next(&self, kind: Kind) -> Option<u64>
+        ensures none { IfNone result (IsGoing self.now → (i : CodeItem) → IsReady self.now i → task_kind self.now.code i.task ≡ kind_view kind → ⊥) }
+        ensures some { IfSome result (λ number. IsNext self.now (kind_view kind) number) }
+    {
+        if !self.is_going() {
+            return None;
+        }
+        self.core.items.queue.first(queue_kind(kind))
+    }
+
+    /// How many items can begin and could not before the last event.
+    pub fn newly_len(&self) -> usize
+        ensures len { result ≡ length self.now.newly }
+        ensures few { result < 2 ^ 63 }
+    {
+        self.core.items.newly.len()
+    }
+
+    /// The item at this place among those that can begin and could not before the last event, by rising number: who runs it,
+    /// its priority and its number.
+    pub fn newly(&self, place: usize) -> Option<(Kind, i32, u64)>
+        ensures none { IfNone result (length self.now.newly ≤ place) }
+        ensures above { IfSome result (λ found. 0 < found.2) }
+        ensures some { IfSome result (λ found. (slice_get self.now.newly place ≡ Some found.2) × ((i : CodeItem) × In i self.now.state.items × (i.number ≡ found.2) × (kind_view found.0 ≡ task_kind self.now.code i.task) × (found.1 ≡ task_priority self.now.code i.task))) }
+    {
+        let Some(number) = number_at(&self.core.items.newly, place) else {
+            return None;
+        };
+        let Some(item) = item_of(self.core.items.rows.as_slice(), number) else {
+            return None;
+        };
+        let (kind, priority) = order_of(&self.program, item.job);
+        Some((code_kind(kind), priority, number))
+    }
+
+    /// The numbers of all items that can begin, by greatest priority and then by smallest number.
+    ///
+    /// # Errors
+    ///
+    /// `AllocError` where memory that was asked for was refused.
+    pub fn ready_items(&self) -> Result<Vec<u64>, AllocError>
+        ensures { IfOk result (λ numbers. AreReady self.now numbers.items) }
+    {
+        let listed = self.core.items.queue.list()?;
+        numbers_of(self.core.alloc, listed.as_slice())
+    }
+
+    /// The statements whose items have not ended, by their paths and then by their offsets, each once.
+    ///
+    /// # Errors
+    ///
+    /// `AllocError` where memory that was asked for was refused.
+    pub fn blocked(&self) -> Result<Vec<Statement>, AllocError>
+        ensures { IfOk result (λ statements. AreBlocked self.now.code self.now.state statements.items) }
+    {
+        self.core.blocked(&self.program)
+    }
+}
+
+/// The number at a place.
+fn number_at(numbers: &Vec<u64>, place: usize) -> Option<u64>
+    ensures { result ≡ slice_get numbers.now.items place }
+{
+    match numbers.as_slice().get(place) {
+        Some(number) => Some(*number),
+        None => None,
+    }
+}
+
+/// The numbers of listed items.
+fn numbers_of(
+    alloc: Global,
+    listed: &[(work_queue::entry::Kind, i32, u64)],
+) -> Result<Vec<u64>, AllocError>
+    ensures { IfOk result (λ numbers. numbers.items ≡ map (λ (l : QueueKind × ℤ × ℕ). l.2) listed.now) }
+{
+    let mut numbers = Vec::new(alloc);
+    for one in listed {
+        let (_, _, number) = *one;
+        numbers.push(number)?;
+    }
+    Ok(numbers)
+}
