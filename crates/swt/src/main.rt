@@ -3,6 +3,7 @@
 
 use std::alloc::AllocError;
 use std::io::{self, Write};
+use std::path::PathBuf;
 use std::process::ExitCode;
 use std::{env, fs};
 use swt_command::buffer::Buffer;
@@ -46,6 +47,9 @@ fn line(rt: &HostRuntime) -> Result<Line, LineFault> {
 /// Does the line's command, and writes what it printed. The answer is the status of the process.
 fn perform(rt: &HostRuntime, line: &Line) -> Result<u8, AllocError> {
     let alloc = rt.alloc();
+    if writes_what_it_reads(rt, line)? {
+        return Ok(say(rt, Status::Failed));
+    }
     let mut out = Buffer::new(alloc);
     let mut err = Buffer::new(alloc);
     let mut trace = Buffer::new(alloc);
@@ -64,6 +68,31 @@ fn perform(rt: &HostRuntime, line: &Line) -> Result<u8, AllocError> {
         Ok(status)
     } else {
         Ok(say(rt, Status::Failed))
+    }
+}
+
+/// Whether the trace would be written into the script, by whatever path the line names it.
+fn writes_what_it_reads(rt: &HostRuntime, line: &Line) -> Result<bool, AllocError> {
+    let Line::Run {
+        file,
+        trace: Some(trace),
+        ..
+    } = line
+    else {
+        return Ok(false);
+    };
+    match (path_of(rt, file)?, path_of(rt, trace)?) {
+        (Some(read), Some(written)) => Ok(read == written),
+        _ => Ok(false),
+    }
+}
+
+/// The path of a file without links on the way, where there is such a file.
+fn path_of(rt: &HostRuntime, name: &Word) -> Result<Option<PathBuf>, AllocError> {
+    match fs::canonicalize(rt, name.as_str()) {
+        Ok(path) => Ok(Some(path)),
+        Err(error) if error.kind() == io::ErrorKind::OutOfMemory => Err(AllocError),
+        Err(_) => Ok(None),
     }
 }
 
