@@ -56,9 +56,10 @@ all_low n (y ∷ ys) h m (inr i) = all_low n ys (λ k d b. h (suc k) d (omega (a
 
 pub rises_of : (ns : List ℕ) → IsNonDecreasing ns → Distinct ns → Rises ns
 rises_of [] s d = tt
-rises_of (n ∷ ns) s d =
-    ((λ m i. below n m (all_low n ns (λ k x b. s 0 (suc k) x (omega arith) (omega (arith, b))) m i) (λ q. d.0 (subst (λ (k : ℕ). In k ns) (sym q) i))),
-      rises_of ns (λ a b x f g. s (suc a) (suc b) x (omega (arith, f)) (omega (arith, g))) d.1)
+rises_of (n ∷ ns) s d = (
+  (λ m i. below n m (all_low n ns (λ k x b. s 0 (suc k) x (omega arith) (omega (arith, b))) m i) (λ q. d.0 (subst (λ (k : ℕ). In k ns) (sym q) i))),
+  rises_of ns (λ a b x f g. s (suc a) (suc b) x (omega (arith, f)) (omega (arith, g))) d.1,
+)
   where
     below : (a b : ℕ) → a ≤ b → (a ≡ b → ⊥) → a < b
     below zero zero h f = absurd (f refl)
