@@ -1,17 +1,17 @@
 -- The answers that the fields give are those that an item's inputs have in the state.
-use Rattle.std.proofs.Common.{◌≡◌, ◌⊎◌, inl, inr, ℕ, zero, suc, ◌+◌, Bool, true, false, not, List, [], ◌∷◌, ◌++◌, map, refl, sym, ap, ◌∙◌, subst, Option, None, Some, arith}
+use Rattle.std.proofs.Common.{◌≡◌, inl, inr, ℕ, zero, suc, Bool, true, false, not, List, [], ◌∷◌, ◌++◌, map, refl, sym, ap, ◌∙◌, subst, Option, None, Some}
 use Rattle.std.specs.List.{flat_map, list_all}
-use Rattle.dataflow.specs.System.{Answer, ClosedArray, Content, ElementAt, ElementOf, Found, In, Input, Missing, StoredScalar}
+use Rattle.dataflow.specs.System.{Answer, ClosedArray, ElementAt, ElementOf, Found, In, Input, StoredScalar}
 use Rattle.dataflow.specs.Machine.{Event, Holds, IsElementKnown, IsKnown, Sees, SeesAll, SeesElement}
 use Rattle.dataflow.proofs.Known.{one_value}
 use Rattle.dataflow.proofs.Lists.{in_left, in_right}
 use Rattle.replayed.specs.Fields as Fields
 use Rattle.replayed.specs.Fields.{Counted, DatumOf, Layout, LiteralOf, Mapping, Slot, literal, slot_at}
-use Rattle.replayed.specs.Needs.{cell_element, cell_value}
+use Rattle.replayed.specs.Needs.{cell_element}
 use Rattle.replayed.specs.Stands.{Stands}
 use Rattle.replayed.proofs.EndedNames.{Resolved, to_datum, to_literal}
 use Rattle.replayed.proofs.EndedWants.{not_false, scalar_place}
-use Rattle.replayed.proofs.Tests.{none_some, some_same, yes_no}
+use Rattle.replayed.proofs.Tests.{none_some, yes_no}
 use Rattle.task_code.proofs.Equal.{every_in, true_and}
 use Rattle.task_code.proofs.Kept.{code_laws}
 use Rattle.task_code.proofs.Places.{argued, argument_kind}
@@ -26,7 +26,7 @@ use Rattle.task_code.specs.Whole.{IsCode}
 use Rattle.values.specs.Values.{same_truth}
 use Rattle.values.specs.declared.key.Key.{Key}
 use Rattle.values.specs.declared.value.Scalar.{Scalar}
-use Rattle.board_data.specs.Answered.{array_answer, cell_answer, scalar_answer}
+use Rattle.board_data.specs.Answered.{array_answer, scalar_answer}
 use Rattle.board_data.specs.Wanted.{element_by, element_in, scalar_in}
 use Rattle.fast_board.proofs.Reading.{array_seen, element_seen, follows, log, scalar_seen}
 

@@ -1,12 +1,8 @@
 -- What an item that ends without fault comes to, from what each step tells.
-use Rattle.std.proofs.Common.{◌≡◌, ◌∙◌, ℕ, zero, suc, ◌+◌, ◌-◌, ◌<◌, ◌≤◌, Bool, true, false, List, [], ◌∷◌, ◌++◌, length, refl, sym, ap, subst, inl, inr, arith, Option, Some, None, slice_index_or}
-use Rattle.std.specs.Prelude.{IsOk, OnErr, OnOk, vec_capacity, vec_len}
-use Rattle.std.specs.List.{AllZip, flat_map}
-use Rattle.std.specs.List.Sorted.{IsNonDecreasing, IsSorted}
-use Rattle.std.specs.Ordering.{nat_cmp}
-use Rattle.std.proofs.lemmas.List.Sorted.{IsNonDecreasingBy-from_sort}
+use Rattle.std.proofs.Common.{◌≡◌, ◌∙◌, ℕ, zero, suc, ◌<◌, ◌≤◌, true, false, List, [], ◌∷◌, length, refl, sym, ap, subst, inl, inr, arith, Option, None, slice_index_or}
+use Rattle.std.specs.List.Sorted.{IsNonDecreasing}
 use Rattle.dataflow.specs.System.{Answer, Distinct, In}
-use Rattle.dataflow.specs.Machine.{End, Event, SeesAll}
+use Rattle.dataflow.specs.Machine.{Event, SeesAll}
 use Rattle.replayed.specs.Ending.{job_kind}
 use Rattle.replayed.specs.Fields.{Counted, Frame, Job, task_of}
 use Rattle.replayed.specs.Static.{computed_by}
@@ -21,13 +17,12 @@ use Rattle.board_data.specs.View.{cells_view}
 use Rattle.board_effects.specs.Effects.{GoesWell, IsEffect}
 use Rattle.board_effects.specs.declared.effect.Effect.{Effect}
 use Rattle.board_effects.specs.declared.effect.Effect.TheVariants as To
-use Rattle.board_frames.specs.View.{frames_view, opening_frame, rows_view}
+use Rattle.board_frames.specs.View.{frames_view, rows_view}
 use Rattle.board_frames.specs.declared.opening.Openings.{Openings}
 use Rattle.board_frames.specs.declared.item.Item.{Item}
-use Rattle.board_items.proofs.Lists.{distinct_kept, distinct_moved}
 use Rattle.board_openings.proofs.Bridge.{are_blocks}
 use Rattle.board_openings.specs.Blocks.{AreBlocks}
-use Rattle.board_openings.specs.Room.{OpensWell, TakesMore}
+use Rattle.board_openings.specs.Room.{OpensWell}
 use Rattle.board_openings.specs.World.{goes_on}
 use Rattle.board_openings.specs.declared.world.Change.{Change}
 use Rattle.board_openings.specs.declared.world.Change.TheVariants as Changes

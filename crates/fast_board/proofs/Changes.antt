@@ -1,24 +1,21 @@
 -- A board's fields after an item has begun, and after it was given back.
-use Rattle.std.proofs.Common.{◌≡◌, ◌⊎◌, inl, inr, ℕ, zero, suc, ◌+◌, ◌-◌, ◌<◌, ◌≤◌, List, [], ◌∷◌, ◌++◌, map, refl, sym, ap, ◌∙◌, subst, Option, None, Some, length, Contains, arith}
+use Rattle.std.proofs.Common.{◌≡◌, ℕ, suc, ◌+◌, ◌-◌, ◌<◌, ◌≤◌, List, [], ◌∷◌, ◌++◌, refl, sym, ap, ◌∙◌, subst, Option, None, Some, length, Contains, arith}
 use Rattle.std.specs.Prelude.{ℤ, ◌^◌, vec_capacity}
-use Rattle.dataflow.specs.System.{Distinct, In}
+use Rattle.dataflow.specs.System.{In}
 use Rattle.dataflow.specs.Machine.{Back, Begin, Event, Fault}
 use Rattle.replayed.specs.Ending.{job_kind, job_priority}
-use Rattle.replayed.specs.Fields.{Fields, Frame, Job, Layout, Ready, Row, Running, row_of, task_of}
+use Rattle.replayed.specs.Fields.{Fields, Job, Layout, Ready, Row, Running, row_of, task_of}
 use Rattle.replayed.specs.Marking.{begun_fields, mark_at, returned_fields}
-use Rattle.replayed.specs.Stands.{Queued, Stands}
-use Rattle.replayed.proofs.Marking.{RowIs, item}
+use Rattle.replayed.specs.Stands.{Stands}
+use Rattle.replayed.proofs.Marking.{item}
 use Rattle.replayed.proofs.Tests.{none_some, some_same}
 use Rattle.task_code.specs.Code.{Code, Control, Kind, Leaf}
 use Rattle.task_code.specs.Compute.{EntryFault}
 use Rattle.task_code.specs.Effects.{Task}
-use Rattle.task_code.specs.Machine.{CodeItem}
 use Rattle.task_code.specs.System.{task_kind, task_priority}
 use Rattle.task_code.specs.Whole.{IsCode}
 use Rattle.work_queue.specs.Both.{Both, of, with_changed}
-use Rattle.work_queue.specs.Entries.{holds}
 use Rattle.work_queue.specs.Waiting as Waits
-use Rattle.work_queue.specs.declared.entry.Entry.{Entry}
 use Rattle.work_queue.proofs.InOrder.{holds_exactly}
 use Rattle.board_code.specs.Spots.{layout_of}
 use Rattle.board_code.specs.Tables.{queue_kind}
@@ -26,17 +23,16 @@ use Rattle.board_frames.specs.View.{frames_view, rows_view}
 use Rattle.board_frames.specs.declared.place.Fault.{Fault as Noted}
 use Rattle.board_data.specs.Wanted.{FewSlots}
 use Rattle.fast_board.specs.Board.{Rises}
-use Rattle.fast_board.specs.Inside.{AreRising, IsKept, IsNoted, Stand}
+use Rattle.fast_board.specs.Inside.{AreRising, IsNoted, Stand}
 use Rattle.board_items.specs.Settled.{StaysButOrder, one_more, one_less}
 use Rattle.board_items.specs.View.{queue_view}
 use Rattle.fast_board.specs.Queues.{SameNumbers, with_queue}
 use Rattle.fast_board.specs.Rows.{IsReady, RunsOn}
-use Rattle.fast_board.specs.View.{Told, fields_view}
-use Rattle.board_items.specs.declared.items.Items.{Items}
+use Rattle.fast_board.specs.View.{fields_view}
 use Rattle.fast_board.specs.declared.state.Core.{Core}
 use Rattle.board_openings.specs.declared.world.World.{World}
 use Rattle.fast_board.proofs.Entries.{number_held}
-use Rattle.fast_board.proofs.Moves.{begun, idle_ready, item_there, kind_of_job, priority_of_job, ready_item, returned, row_there, runs_as, running_item}
+use Rattle.fast_board.proofs.Moves.{begun, idle_ready, item_there, kind_of_job, priority_of_job, ready_item, returned, row_there}
 use Rattle.fast_board.proofs.Orders.{IsAlone, begun_order, returned_order}
 use Rattle.fast_board.proofs.Queues.{queue_kept}
 use Rattle.fast_board.proofs.Rooms.{back_fits, roomy_back, roomy_begun}

@@ -1,7 +1,6 @@
 -- Comparisons of answers tell whether they are the same.
-use Rattle.std.proofs.Common.{◌≡◌, ℕ, Bool, true, false, ◌&&◌, List, [], ◌∷◌, map, length, refl, sym, ap, ◌∙◌, subst, Option, None, Some, nat_eq, arith}
+use Rattle.std.proofs.Common.{◌≡◌, ℕ, Bool, true, false, List, [], ◌∷◌, length, refl, sym, ap, ◌∙◌, subst, Option, None, Some, nat_eq}
 use Rattle.std.specs.List.{list_all}
-use lib.Pointwise.{pointwise}
 use Rattle.dataflow.specs.System.{Answer, Content, Found, Missing}
 use Rattle.std.specs.Prelude.{option_map, slice_index_or}
 use Rattle.data_store.specs.Data.{array_in}
@@ -24,10 +23,9 @@ use Rattle.values.specs.Maps.{found, rising}
 use Rattle.values.specs.declared.key.Key.{Key}
 use Rattle.values.specs.declared.map.Element.{Element}
 use Rattle.values.specs.declared.value.Scalar.{Scalar}
-use Rattle.board_work.specs.Same.{answer_eq, element_eq, scalar_eq}
+use Rattle.board_work.specs.Same.{answer_eq, scalar_eq}
 use Rattle.board_work.proofs.Comparisons.{same_answers}
 use Rattle.fast_board.specs.Comparing.{found_is, has_element}
-use Rattle.fast_board.specs.Inside.{AreRising}
 use Rattle.fast_board.proofs.Listed.{AllFound, own_found, same_listed}
 use Rattle.fast_board.proofs.OwnWork.{elements_pairs}
 

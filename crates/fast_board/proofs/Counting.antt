@@ -1,5 +1,5 @@
 -- An instance that is found has a count that fits.
-use Rattle.std.proofs.Common.{◌≡◌, ◌∙◌, ℕ, ◌+◌, ◌<◌, sym, ap, subst, Option, Some}
+use Rattle.std.proofs.Common.{◌≡◌, ◌∙◌, ℕ, ◌+◌, ◌<◌, sym, ap, Some}
 use Rattle.std.specs.Prelude.{◌^◌, option_map}
 use Rattle.slab.specs.Slab.{Slab, get}
 use Rattle.replayed.specs.Fields.{Frame, slot_at}

@@ -1,5 +1,5 @@
 -- The last steps of the end of an item without fault.
-use Rattle.std.proofs.Common.{◌≡◌, ◌∙◌, ℕ, ◌+◌, ◌-◌, ◌<◌, ◌≤◌, Bool, true, false, List, [], ◌∷◌, ◌++◌, length, refl, sym, ap, subst, arith, Option, None}
+use Rattle.std.proofs.Common.{◌≡◌, ◌∙◌, ℕ, ◌+◌, ◌-◌, ◌<◌, ◌≤◌, true, false, List, [], ◌∷◌, ◌++◌, length, refl, sym, ap, subst, arith, Option, None}
 use Rattle.std.specs.Prelude.{IsOk, OnErr, OnOk, vec_capacity, vec_len}
 use Rattle.std.specs.List.Sorted.{IsSorted}
 use Rattle.std.specs.Ordering.{nat_cmp}
@@ -20,18 +20,17 @@ use Rattle.board_effects.specs.Effects.{IsEffect}
 use Rattle.board_effects.specs.declared.effect.Effect.{Effect}
 use Rattle.board_frames.specs.View.{frames_view, rows_view}
 use Rattle.board_items.proofs.Lists.{distinct_kept, distinct_moved}
-use Rattle.board_items.specs.Ended.{AreSettled, AreShort, can_begin}
+use Rattle.board_items.specs.Ended.{AreSettled, AreShort}
 use Rattle.board_items.specs.Progress.{CanFinish, all_to_settle, jobs_behind}
 use Rattle.board_items.specs.Room.{AreSpare, IsRoomy}
 use Rattle.board_items.specs.View.{queue_view, waiters_view}
-use Rattle.board_openings.specs.Room.{OpensWell, TakesMore}
+use Rattle.board_openings.specs.Room.{TakesMore}
 use Rattle.board_openings.specs.World.{spare_of}
 use Rattle.board_openings.specs.declared.world.Change.{Change}
 use Rattle.fast_board.proofs.Assembled as A
 use Rattle.fast_board.proofs.Finishing.{are_short_from, can_finish, finished}
 use Rattle.fast_board.proofs.RoomAfter.{new_count, roomy_then}
 use Rattle.fast_board.proofs.SpareAfter.{spare_after}
-use Rattle.fast_board.specs.Board.{Rises}
 use Rattle.fast_board.specs.Changing.{change_of, line_of}
 use Rattle.fast_board.specs.Counted.{CanChange}
 use Rattle.fast_board.specs.Ending.{StaysSo, is_fault}

@@ -1,6 +1,6 @@
 -- A fault that an item meets is noted, and the fields stand for the state with it.
-use Rattle.std.proofs.Common.{◌≡◌, ℕ, zero, suc, ◌+◌, List, [], ◌∷◌, ◌++◌, map, refl, sym, ap, ◌∙◌, subst, Option, None, Some, reverse, arith}
-use Rattle.std.specs.Prelude.{vec_capacity, false}
+use Rattle.std.proofs.Common.{◌≡◌, ℕ, List, [], ◌∷◌, ◌++◌, refl, sym, ap, ◌∙◌, subst, Option, None, Some, reverse}
+use Rattle.std.specs.Prelude.{false}
 use Rattle.std.proofs.lemmas.List.{reverse-reverse}
 use Rattle.dataflow.specs.System.{Answer, In}
 use Rattle.dataflow.specs.Machine.{End, Event, Fault, SeesAll}
@@ -36,7 +36,6 @@ use Rattle.task_code.specs.Compute.{compute}
 use Rattle.fast_board.proofs.OwnWork.{running_live}
 use Rattle.board_effects.proofs.Tells.{tells}
 use Rattle.board_frames.specs.View.{frames_view, rows_view}
-use Rattle.board_frames.specs.declared.item.Item.{Item}
 use Rattle.board_frames.specs.declared.place.Fault.{Fault as Noted}
 use Rattle.board_frames.specs.declared.place.FaultKind.{FaultKind}
 use Rattle.board_frames.specs.declared.place.FaultKind.TheVariants as Kinds
@@ -48,7 +47,7 @@ use Rattle.fast_board.specs.Ending.{HasEnded, HasFailed, HasPassed, IsEffectOf, 
 use Rattle.fast_board.specs.History.{state_of}
 use Rattle.fast_board.specs.Inside.{AreRising, IsNoted, IsStatementOf, Stand}
 use Rattle.fast_board.specs.Rows.{RunsOn}
-use Rattle.fast_board.specs.View.{Told, fields_view, kind_of_fault, with_fault}
+use Rattle.fast_board.specs.View.{fields_view, kind_of_fault, with_fault}
 use Rattle.fast_board.specs.declared.state.Core.{Core}
 use Rattle.fast_board.proofs.Changes.{untold}
 use Rattle.fast_board.proofs.Moves.{ends, state_is}

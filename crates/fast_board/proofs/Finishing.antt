@@ -1,9 +1,9 @@
 -- What a board comes to when an item ends without fault, step by step.
-use Rattle.std.proofs.Common.{◌≡◌, ◌∙◌, ℕ, zero, suc, ◌+◌, ◌-◌, ◌<◌, ◌≤◌, Bool, true, false, List, [], ◌∷◌, ◌++◌, map, length, refl, sym, ap, subst, arith, Option, Some, None}
+use Rattle.std.proofs.Common.{◌≡◌, ◌∙◌, ℕ, suc, ◌+◌, ◌-◌, ◌<◌, ◌≤◌, false, List, [], ◌∷◌, ◌++◌, map, length, refl, sym, ap, subst, Option, Some, None}
 use Rattle.std.specs.Prelude.{◌*◌, ◌^◌, vec_capacity}
-use Rattle.dataflow.specs.System.{Answer, In}
+use Rattle.dataflow.specs.System.{Answer}
 use Rattle.dataflow.specs.Machine.{End, Event, SeesAll}
-use Rattle.replayed.specs.Fields.{Counted, Fields, Frame, Job, Over, Row, Running, Waiter, Want, row_of, task_of}
+use Rattle.replayed.specs.Fields.{Counted, Fields, Frame, Job, Over, Row, Running, row_of, task_of}
 use Rattle.replayed.specs.Static.{computed_by}
 use Rattle.replayed.proofs.EndedRows.{row_kept}
 use Rattle.task_code.specs.Code.{Code, body}
@@ -41,7 +41,7 @@ use Rattle.fast_board.proofs.Targets.{change_takes}
 use Rattle.fast_board.proofs.WorldEnded.{ChangeFits, WorldPasses, passes}
 use Rattle.fast_board.specs.Board.{Rises}
 use Rattle.fast_board.specs.Changing.{change_of, line_of}
-use Rattle.fast_board.specs.Counted.{CanChange, CanOpen}
+use Rattle.fast_board.specs.Counted.{CanChange}
 use Rattle.fast_board.specs.Ending.{is_fault}
 use Rattle.fast_board.specs.Inside.{AreRising, Stand}
 use Rattle.fast_board.specs.Made.{CanNote, HasMade}

@@ -1,17 +1,16 @@
 -- A new board's fields stand for the empty history.
-use Rattle.std.proofs.Common.{◌≡◌, ℕ, ◌+◌, ◌<◌, ◌≤◌, true, List, [], ◌∷◌, refl, sym, ap, ◌∙◌, subst, Option, None, Some, arith}
-use Rattle.std.specs.Prelude.{ℤ, pos, vec_capacity}
+use Rattle.std.proofs.Common.{◌≡◌, ℕ, ◌≤◌, true, List, [], ◌∷◌, refl, sym, ap, subst, Option, None, arith}
+use Rattle.std.specs.Prelude.{ℤ, pos}
 use Rattle.std.specs.Ordering.{int_eq}
 use Rattle.dataflow.specs.System.{Distinct, In}
 use Rattle.data_store.specs.Stores.{Store, array_at}
 use Rattle.data_store.specs.declared.datum.Datum.{Datum}
-use Rattle.replayed.specs.Fields.{Fields, Frame, Ready, Row, Script, slot_at}
+use Rattle.replayed.specs.Fields.{Fields, Ready, Row, Script}
 use Rattle.replayed.specs.Stands.{Stands, first_fields, first_queue}
 use Rattle.replayed.proofs.Standing.{first_stands}
 use Rattle.replayed.proofs.Tests.{choose, none_some}
 use Rattle.task_code.specs.Code.{Code, Control, Kind, Leaf}
 use Rattle.values.specs.Maps.{rising}
-use Rattle.work_queue.specs.declared.entry.Entry.{Entry}
 use Rattle.board_code.specs.Spots.{layout_of}
 use Rattle.board_data.specs.Wanted.{FewSlots}
 use Rattle.board_frames.specs.View.{frames_view, rows_view}

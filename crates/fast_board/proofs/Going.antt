@@ -1,6 +1,5 @@
 -- Whether an event may be accepted.
-use Rattle.std.proofs.Common.{◌≡◌, ℕ, ◌<◌, Bool, true, false, List, map, refl, sym, ap, ◌∙◌, subst, Option, None, IsTrue, length, nat_lt, arith}
-use Rattle.std.specs.Prelude.{vec_len}
+use Rattle.std.proofs.Common.{◌≡◌, ℕ, Bool, true, false, map, sym, ◌∙◌, None, IsTrue, length, nat_lt, arith}
 use Rattle.std.proofs.lemmas.List.{length-map}
 use Rattle.task_code.specs.View.{event_view}
 use Rattle.fast_board.specs.Board.{IsGoing}

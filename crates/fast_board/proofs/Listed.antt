@@ -1,5 +1,5 @@
 -- Two lists by rising keys with the same elements.
-use Rattle.std.proofs.Common.{◌≡◌, ◌∙◌, refl, sym, ap, subst, inl, inr, ℕ, zero, suc, ◌≤◌, Bool, true, false, List, [], ◌∷◌, length, Option, Some, None, arith}
+use Rattle.std.proofs.Common.{◌≡◌, ◌∙◌, refl, sym, ap, subst, inl, inr, ◌≤◌, true, false, List, [], ◌∷◌, length, Some, None, arith}
 use Rattle.std.specs.Prelude.{if◌then◌else◌}
 use Rattle.std.proofs.lemmas.Bool.{cases_Bool}
 use Rattle.replayed.proofs.Tests.{none_some, some_same}
@@ -9,7 +9,6 @@ use Rattle.values.specs.Keys.{key_below, same_key}
 use Rattle.values.specs.Maps.{found, rising}
 use Rattle.values.specs.declared.key.Key.{Key}
 use Rattle.values.specs.declared.map.Element.{Element}
-use Rattle.values.specs.declared.value.Scalar.{Scalar}
 
 -- all keys are above this one
 abbrev pub Above : Key → List Element → Type 0

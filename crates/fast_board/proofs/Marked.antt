@@ -1,6 +1,6 @@
 -- What begins and what is given back, by what has become of the items.
-use Rattle.std.proofs.Common.{◌≡◌, ℕ, zero, suc, List, Option, None, Some, ◌+◌, ◌-◌, ◌<◌, ◌≤◌, [], ◌∷◌, map, refl, sym, ap, ◌∙◌, subst, length, Contains, arith}
-use Rattle.std.specs.Prelude.{ℤ, ◌^◌, vec_capacity, vec_len}
+use Rattle.std.proofs.Common.{◌≡◌, ℕ, zero, suc, List, Some, ◌+◌, ◌-◌, ◌<◌, ◌≤◌, [], ◌∷◌, sym, ap, ◌∙◌, subst, length, Contains, arith}
+use Rattle.std.specs.Prelude.{ℤ, ◌^◌, vec_capacity}
 use Rattle.std.proofs.lemmas.List.{length-map}
 use Rattle.replayed.specs.Ending.{job_kind, job_priority}
 use Rattle.replayed.specs.Fields.{Job, Mark, Ready, Row, Running, row_of}

@@ -1,8 +1,8 @@
 -- How many names entries have at most.
-use Rattle.std.proofs.Common.{◌≡◌, ◌∙◌, ℕ, zero, suc, ◌+◌, ◌<◌, ◌≤◌, max, true, false, Bool, List, [], ◌∷◌, map, length, refl, sym, ap, subst, arith}
+use Rattle.std.proofs.Common.{◌≡◌, ℕ, suc, ◌+◌, ◌<◌, ◌≤◌, true, false, Bool, List, [], ◌∷◌, map, length, refl, sym, ap, subst, arith}
 use Rattle.std.specs.Prelude.{nat_lt}
 use Rattle.std.proofs.lemmas.Bool.Decides.{nat_tests}
-use Rattle.task_code.specs.Code.{Code, Entry, Name, entry}
+use Rattle.task_code.specs.Code.{Code, Entry, entry}
 use Rattle.task_code.specs.View.{entry_view, name_view}
 use Rattle.task_code.specs.declared.entry.Entry.{Entry as Kept}
 use Rattle.fast_board.proofs.Rooms.{entry_past}

@@ -1,5 +1,5 @@
 -- Which events a board's fields allow, and what they lead to.
-use Rattle.std.proofs.Common.{◌≡◌, ◌⊎◌, inl, inr, ℕ, zero, suc, ◌+◌, List, [], ◌∷◌, ◌++◌, refl, sym, ap, ◌∙◌, subst, Option, None, Some, arith}
+use Rattle.std.proofs.Common.{◌≡◌, ℕ, zero, suc, List, [], ◌∷◌, ◌++◌, refl, sym, ap, ◌∙◌, subst, Option, None, Some, arith}
 use Rattle.std.specs.Prelude.{ℤ}
 use Rattle.dataflow.specs.System.{In}
 use Rattle.dataflow.specs.Machine.{Back, Begin, End, Event, Run}

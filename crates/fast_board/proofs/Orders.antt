@@ -1,10 +1,10 @@
 -- The queue after an item has begun, and after it was given back.
-use Rattle.std.proofs.Common.{◌≡◌, ◌⊎◌, inl, inr, ℕ, Bool, true, false, ◌&&◌, List, [], ◌∷◌, refl, sym, ap, ◌∙◌, subst, if◌then◌else◌, arith}
+use Rattle.std.proofs.Common.{◌≡◌, ◌⊎◌, inl, inr, ℕ, ◌&&◌, List, ◌∷◌, sym, subst, if◌then◌else◌}
 use Rattle.std.specs.Prelude.{ℤ}
 use Rattle.std.specs.Ordering.{int_eq}
 use Rattle.dataflow.specs.System.{Distinct, In}
 use Rattle.replayed.specs.Marking.{kind_eq, without}
-use Rattle.replayed.proofs.Marking.{distinct_without, in_without, without_in}
+use Rattle.replayed.proofs.Marking.{in_without, without_in}
 use Rattle.replayed.proofs.Tests.{choose, yes_no}
 use Rattle.task_code.specs.Code.{Control, Kind, Leaf}
 use Rattle.work_queue.specs.Both.{Both, with_changed}

@@ -16,14 +16,14 @@ use Rattle.task_code.specs.View.{event_view}
 use Rattle.task_code.specs.Whole.{IsCode}
 use Rattle.task_code.specs.declared.event.Event.{Event as BoardEvent}
 use Rattle.board_code.specs.Spots.{layout_of}
-use Rattle.board_frames.specs.View.{frames_view, rows_view}
+use Rattle.board_frames.specs.View.{rows_view}
 use Rattle.board_frames.specs.declared.place.Fault.{Fault}
 use Rattle.dataflow.specs.Machine as Machine
 use Rattle.task_code.specs.Compute.{EntryFault}
 use Rattle.task_code.specs.Effects.{Item, Main, Task}
 use Rattle.task_code.specs.Places.{Step}
 use Rattle.fast_board.specs.Blocked.{IsFaultOf}
-use Rattle.fast_board.specs.Board.{Accepts, AreByWorkers, IsGoing, IsTheirs, IsWorker, MayBegin, Seen}
+use Rattle.fast_board.specs.Board.{Accepts, AreByWorkers, IsGoing, IsWorker, Seen}
 use Rattle.fast_board.specs.Ending.{IsUnchanged}
 use Rattle.fast_board.specs.History.{state_of}
 use Rattle.fast_board.specs.Inside.{IsNoted, IsSound, Stand, seen_of}

@@ -1,13 +1,13 @@
 -- The work that the fields tell is the item's own.
-use Rattle.std.proofs.Common.{◌≡◌, ◌⊎◌, inl, inr, ℕ, zero, suc, ◌+◌, ◌<◌, Bool, true, false, List, [], ◌∷◌, ◌++◌, map, refl, sym, ap, ◌∙◌, subst, Option, None, Some, length, ◌↔◌, arith}
+use Rattle.std.proofs.Common.{◌≡◌, ℕ, suc, true, List, [], ◌∷◌, map, refl, sym, ap, ◌∙◌, subst, Option, None, Some, arith}
 use Rattle.std.specs.List.{flat_map}
 use Rattle.std.specs.Prelude.{option_map, slice_index_or}
-use Rattle.dataflow.specs.System.{Answer, In, Input}
-use Rattle.dataflow.specs.Machine.{End, Event, IsKnown, SeesAll}
+use Rattle.dataflow.specs.System.{Answer, In}
+use Rattle.dataflow.specs.Machine.{Event, SeesAll}
 use Rattle.dataflow.proofs.Known.{answers_are_one}
 use Rattle.dataflow.proofs.Lists.{seam_here}
 use Rattle.data_store.specs.Data.{array_in}
-use Rattle.data_store.specs.Stores.{Store, array_at, or_none}
+use Rattle.data_store.specs.Stores.{Store, or_none}
 use Rattle.data_store.specs.declared.datum.Content.{Content as Stored}
 use Rattle.data_store.specs.declared.datum.Content.TheVariants.{OfArray, OfScalar}
 use Rattle.data_store.specs.declared.datum.Datum.{Datum as Kept}
@@ -16,24 +16,23 @@ use Rattle.replayed.specs.Fields.{Counted, Does, Frame, Job, Mapping, Over, Row,
 use Rattle.replayed.specs.Elements.{code_tests}
 use Rattle.replayed.specs.Stands.{Stands}
 use Rattle.replayed.proofs.Elements.{code_told}
-use Rattle.replayed.proofs.Marking.{RowIs, item}
+use Rattle.replayed.proofs.Marking.{item}
 use Rattle.replayed.proofs.Seen.{all_known}
 use Rattle.replayed.proofs.Tests.{none_some, some_same}
 use Rattle.task_code.proofs.Kept.{code_laws}
 use Rattle.task_code.specs.Code.{At, AtKey, Closed, Code, Name, Need, body, entry}
 use Rattle.task_code.specs.Code as Needs
 use Rattle.task_code.specs.Compute.{Elements, elements, in_key_order, pairs}
-use Rattle.task_code.specs.Effects.{Item, Main, Task}
+use Rattle.task_code.specs.Effects.{Task}
 use Rattle.task_code.specs.Machine.{CodeItem, CodeState}
-use Rattle.task_code.specs.Places.{place_at}
-use Rattle.task_code.specs.System.{answered, code_system, inputs_at, task_inputs}
+use Rattle.task_code.specs.System.{code_system, inputs_at, task_inputs}
 use Rattle.task_code.specs.Whole.{IsCode}
 use Rattle.values.specs.Maps.{rising}
 use Rattle.values.specs.declared.key.Key.{Key}
 use Rattle.values.specs.declared.map.Element.{Element}
 use Rattle.values.specs.declared.value.Scalar.{Scalar}
 use Rattle.board_code.specs.Spots.{layout_of, spot_in}
-use Rattle.board_code.specs.Tables.{body_of, body_or_script, wanted_in}
+use Rattle.board_code.specs.Tables.{body_or_script, wanted_in}
 use Rattle.board_code.proofs.Found.{home_found}
 use Rattle.board_data.specs.Answered.{array_answer, scalar_answer, wanted_answer}
 use Rattle.board_data.specs.View.{cell_view, cells_view, content_view}
@@ -52,7 +51,7 @@ use Rattle.fast_board.specs.Rows.{RunsOn}
 use Rattle.fast_board.specs.View.{fields_view}
 use Rattle.fast_board.specs.Working.{IsThere, IsWorkAt, answers_at, work_of}
 use Rattle.fast_board.specs.declared.state.Core.{Core}
-use Rattle.fast_board.proofs.Answering.{NeedSeen, all_seen, need_answer, need_seen}
+use Rattle.fast_board.proofs.Answering.{all_seen, need_answer, need_seen}
 use Rattle.fast_board.proofs.Changes.{untold}
 use Rattle.fast_board.proofs.Moves.{item_there, row_there, running_item, state_is, steps}
 use Rattle.fast_board.proofs.Reading.{follows, log, resolved}

@@ -1,5 +1,5 @@
 -- Fields that have become those of an End without fault stand for the state with it.
-use Rattle.std.proofs.Common.{◌≡◌, ℕ, false, List, [], ◌∷◌, ◌++◌, refl, sym, ap, ◌∙◌, subst, Option, None, Some}
+use Rattle.std.proofs.Common.{◌≡◌, ℕ, false, List, [], ◌∷◌, ◌++◌, refl, sym, ◌∙◌, Option, None, Some}
 use Rattle.dataflow.specs.System.{Answer}
 use Rattle.dataflow.specs.Machine.{End, Event, Fault, SeesAll}
 use Rattle.replayed.specs.CodeReplay.{replayed}

@@ -1,10 +1,9 @@
 -- The queue is a set: fields stand for a state whatever its order.
-use Rattle.std.proofs.Common.{◌≡◌, ℕ, List, refl}
+use Rattle.std.proofs.Common.{ℕ, List}
 use Rattle.std.specs.Prelude.{ℤ}
-use Rattle.dataflow.specs.System.{In}
 use Rattle.dataflow.specs.Machine.{Event}
 use Rattle.replayed.specs.Fields.{Fields, Layout}
-use Rattle.replayed.specs.Stands.{DataStand, FramesStand, ItemsStand, QueueStands, Stands, TurnsStand, WaitsStand}
+use Rattle.replayed.specs.Stands.{Stands}
 use Rattle.task_code.specs.Code.{Code, Kind}
 use Rattle.fast_board.specs.Queues.{SameNumbers, with_queue}
 

@@ -1,12 +1,11 @@
 -- What the names of an item stand for, and what its inputs see there.
-use Rattle.std.proofs.Common.{◌≡◌, ◌⊎◌, inl, inr, ℕ, zero, suc, ◌+◌, Bool, true, false, not, List, [], ◌∷◌, ◌++◌, map, refl, sym, ap, ◌∙◌, subst, Option, None, Some, if◌then◌else◌, arith}
-use Rattle.dataflow.specs.System.{Answer, Content, Effect, Found, Good, In, Input, Missing, ClosedArray, ElementAt, ElementOf, StoredScalar, Opening}
+use Rattle.std.proofs.Common.{◌≡◌, inl, inr, ℕ, Bool, true, false, List, [], ◌∷◌, map, refl, sym, ap, subst, Option, None, Some}
+use Rattle.dataflow.specs.System.{Answer, Effect, Good, In, ClosedArray, StoredScalar, Opening}
 use Rattle.dataflow.specs.Facts.{Made}
 use Rattle.dataflow.specs.History.{log_of}
 use Rattle.dataflow.specs.Log.{Logged}
-use Rattle.dataflow.specs.Machine.{Event, Holds, HasContent, IsElementKnown, IsKnown, LacksKey, Run, Sees, SeesElement}
+use Rattle.dataflow.specs.Machine.{Event, Holds, IsElementKnown, IsKnown, Run, Sees, SeesElement}
 use Rattle.dataflow.proofs.Follows.{Follows}
-use Rattle.dataflow.proofs.Known.{one_value}
 use Rattle.dataflow.proofs.Lists.{in_map, in_split, in_unmap}
 use Rattle.dataflow.proofs.Runs.{run_settled}
 use Rattle.dataflow.proofs.Settled.{Settled, can_of_comes}
@@ -26,10 +25,10 @@ use Rattle.replayed.proofs.Replays.{run_replayed}
 use Rattle.replayed.proofs.Tests.{choose, none_some, some_same, yes_no}
 use Rattle.task_code.proofs.Kept.{code_laws}
 use Rattle.task_code.specs.Code.{Code, Name, body, entry}
-use Rattle.task_code.specs.Compute.{Computed, Elements, EntryFault, in_key_order}
+use Rattle.task_code.specs.Compute.{Elements, in_key_order}
 use Rattle.task_code.specs.Effects.{Item, Task, block, only}
-use Rattle.task_code.specs.Machine.{CodeItem, CodeState}
-use Rattle.task_code.specs.Places.{Constant, Datum, Nowhere, Place, Step, place_array, place_at}
+use Rattle.task_code.specs.Machine.{CodeItem}
+use Rattle.task_code.specs.Places.{Constant, Datum, Nowhere, Place, Step, place_at}
 use Rattle.task_code.specs.System.{code_system, data_among, task_reads}
 use Rattle.task_code.specs.Whole.{IsCode}
 use Rattle.values.proofs.Keys.{same_key-eq, same_key-refl}

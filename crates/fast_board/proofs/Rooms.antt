@@ -1,12 +1,12 @@
 -- Room is kept for items that wait or run.
-use Rattle.std.proofs.Common.{◌≡◌, ◌⊎◌, inl, inr, ℕ, zero, suc, ◌+◌, ◌-◌, ◌<◌, ◌≤◌, Bool, true, false, ◌&&◌, List, [], ◌∷◌, refl, sym, ap, ◌∙◌, subst, Option, None, Some, length, if◌then◌else◌, arith}
-use Rattle.std.specs.Prelude.{ℤ, min, ◌^◌, vec_capacity}
+use Rattle.std.proofs.Common.{◌≡◌, ℕ, zero, suc, ◌+◌, ◌-◌, ◌<◌, ◌≤◌, Bool, true, false, ◌&&◌, List, [], ◌∷◌, refl, sym, ap, ◌∙◌, subst, Option, Some, length, if◌then◌else◌, arith}
+use Rattle.std.specs.Prelude.{◌^◌, vec_capacity}
 use Rattle.replayed.specs.Ending.{job_kind}
 use Rattle.replayed.specs.Fields.{Job, Mark, Ready, Row, Running, row_of}
 use Rattle.replayed.specs.Marking.{kind_eq, mark_at}
 use Rattle.replayed.proofs.Rows.{no_row}
 use Rattle.replayed.proofs.Tests.{none_some}
-use Rattle.task_code.specs.Code.{Code, Control, Entry, Kind, Leaf, blank_entry, entry, nth}
+use Rattle.task_code.specs.Code.{Code, Control, Kind, Leaf, blank_entry, entry, nth}
 use Rattle.work_queue.specs.Both.{Both, of, with_changed}
 use Rattle.work_queue.specs.Waiting.{with_put, without}
 use Rattle.work_queue.specs.declared.entry.Entry.{Entry as Queued}

@@ -1,15 +1,14 @@
 -- What a board shows of its items.
-use Rattle.std.proofs.Common.{◌≡◌, ◌⊎◌, inl, inr, ℕ, zero, suc, ◌+◌, ◌<◌, List, [], ◌∷◌, refl, sym, ap, ◌∙◌, subst, Option, None, Some, arith}
+use Rattle.std.proofs.Common.{◌≡◌, inl, inr, ℕ, zero, suc, List, [], ◌∷◌, refl, sym, ap, ◌∙◌, subst, None, Some, arith}
 use Rattle.std.specs.Prelude.{ℤ, map, slice_get}
 use Rattle.dataflow.specs.System.{In}
-use Rattle.dataflow.specs.Events.{NewlyAt}
 use Rattle.dataflow.specs.Machine.{Event}
 use Rattle.replayed.specs.Ending.{job_kind, job_priority}
-use Rattle.replayed.specs.Fields.{Frame, Job, Over, Ready, Row, Running, row_of, running_in, is_running, task_of}
+use Rattle.replayed.specs.Fields.{Over, Ready, Row, row_of, task_of}
 use Rattle.replayed.proofs.Marking.{RowIs, item, mark_is}
 use Rattle.replayed.proofs.Tests.{none_some, some_same}
 use Rattle.task_code.specs.Code.{Code, Control, Kind, Leaf}
-use Rattle.task_code.specs.Machine.{CanBegin, CodeItem, CodeState, Quiet}
+use Rattle.task_code.specs.Machine.{CanBegin, CodeItem, CodeState}
 use Rattle.task_code.specs.View.{event_view}
 use Rattle.task_code.specs.System.{task_kind, task_priority}
 use Rattle.task_code.specs.Whole.{IsCode}

@@ -2,12 +2,9 @@
 use lib.Pointwise.{pointwise}
 use Rattle.board_work.specs.Same.{answer_eq}
 use Rattle.board_work.proofs.Comparisons.{same_answers}
-use Rattle.std.proofs.Common.{◌≡◌, ℕ, Bool, IsTrue, List, map, refl, sym, ap, ◌∙◌, subst, Option}
-use Rattle.dataflow.specs.System.{Answer}
+use Rattle.std.proofs.Common.{◌≡◌, ℕ, Bool, IsTrue, List, map, sym, ap, ◌∙◌, subst, Option}
 use Rattle.replayed.specs.Fields.{Counted, Does, Frame, Job}
 use Rattle.task_code.specs.Code.{Code, Entry, entry}
-use Rattle.values.specs.declared.key.Key.{Key}
-use Rattle.values.specs.declared.value.Scalar.{Scalar}
 use Rattle.board_code.specs.Tables.{IsEntryTable, body_of}
 use Rattle.board_code.specs.declared.program.EntryTable.{EntryTable}
 use Rattle.board_data.specs.Answered.{wanted_answer}

@@ -1,5 +1,5 @@
 -- What the end of an item leaves.
-use Rattle.std.specs.Prelude.{◌≡◌, ◌+◌, ◌≤◌, ℕ, Bool, true, false, List, [], ◌∷◌, ◌++◌, None, Some, vec_capacity}
+use Rattle.std.specs.Prelude.{◌≡◌, ◌+◌, ℕ, Bool, true, false, List, [], ◌∷◌, ◌++◌, None, Some, vec_capacity}
 use Rattle.replayed.specs.Static.{computed_by}
 use Rattle.board_data.specs.View.{cells_view}
 use Rattle.board_effects.specs.Effects.{IsEffect}
@@ -17,7 +17,7 @@ use Rattle.values.specs.declared.key.Key.{Key}
 use Rattle.values.specs.declared.value.Scalar.{Scalar}
 use Rattle.board_frames.specs.View.{frames_view, rows_view}
 use Rattle.board_work.specs.Assigned.{Assigned}
-use Rattle.fast_board.specs.Board.{IsWorkOf, answers_to, job_of}
+use Rattle.fast_board.specs.Board.{IsWorkOf}
 use Rattle.fast_board.specs.History.{state_of}
 use Rattle.fast_board.specs.Inside.{Stand}
 use Rattle.fast_board.specs.Rows.{RunsOn}

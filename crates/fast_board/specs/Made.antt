@@ -6,7 +6,6 @@ use Rattle.values.specs.declared.value.Scalar.{Scalar}
 use Rattle.board_data.specs.Data.{AreRising}
 use Rattle.board_frames.specs.View.{frames_view, rows_view}
 use Rattle.board_items.specs.Learnt.{HaveLearnt}
-use Rattle.board_items.specs.View.{waiters_view}
 use Rattle.board_openings.specs.World.{WorldEnds}
 use Rattle.board_openings.specs.declared.world.Change.{Change}
 use Rattle.rules.specs.Waiting.{GivesRoomBack}

@@ -1,5 +1,5 @@
 -- The work of an item, told by the fields.
-use Rattle.std.specs.Prelude.{◌≡◌, ◌<◌, ℕ, List, [], Option, length, map}
+use Rattle.std.specs.Prelude.{◌≡◌, ◌<◌, List, [], Option, length, map}
 use Rattle.dataflow.specs.System.{Answer}
 use Rattle.replayed.specs.Fields as Pure
 use Rattle.replayed.specs.Fields.{Counted, Does, Frame, Script}

@@ -1,4 +1,4 @@
-use Rattle.std.proofs.Common.{arith, rules}
+use Rattle.std.proofs.Common.{arith}
 use Rattle.fast_board.proofs.Counting.{fits_there}
 use Rattle.fast_board.proofs.fitting.fits_in.Goals as goal
 

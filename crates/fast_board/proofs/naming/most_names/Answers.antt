@@ -1,4 +1,4 @@
-use Rattle.std.proofs.Common.{◌≡◌, ◌∙◌, ◌+◌, ◌<◌, ◌≤◌, ℕ, length, arith, subst, sym, rules}
+use Rattle.std.proofs.Common.{◌≤◌, length, arith, subst}
 use Rattle.task_code.specs.Code.{Code, entry as entry_at}
 use Rattle.fast_board.proofs.Most.{all_looked, one_wider, reads_past, writes_past}
 use Rattle.fast_board.proofs.naming.most_names.Goals as goal

@@ -1,4 +1,4 @@
-use Rattle.std.proofs.Common.{rules, arith, ◌≡◌, ◌+◌, ◌<◌, ◌≤◌, None, refl, sym, ap, ◌∙◌, subst, map, length}
+use Rattle.std.proofs.Common.{rules, arith, ◌≡◌, ◌+◌, ◌<◌, ◌≤◌, None, refl, sym, ◌∙◌, subst, map}
 use Rattle.std.specs.Prelude.{◌^◌, vec_capacity, vec_len}
 use Rattle.std.proofs.lemmas.Grind.{common_steps}
 use Rattle.replayed.specs.Fields.{Ready}
@@ -11,7 +11,6 @@ use Rattle.fast_board.specs.Inside.{IsSound, Stand, seen_of}
 use Rattle.fast_board.specs.Rows.{IsReady}
 use Rattle.fast_board.specs.declared.state.Core.{Core}
 use Rattle.fast_board.specs.Working.{IsWorkAt}
-use Rattle.fast_board.specs.declared.board.Board.TheInside.{Inside}
 use Rattle.board_openings.specs.declared.world.World.{World}
 use Rattle.fast_board.proofs.Own.{accepts_on, free_core, may_begin, may_not_begin, numbered, sorted_sound, sound_on}
 use Rattle.fast_board.proofs.OwnWork.{job_there, own_seen, ready_live}

@@ -1,4 +1,4 @@
-use Rattle.std.proofs.Common.{rules, arith, ◌≡◌, None, refl, sym, ap, ◌∙◌, subst, map, length}
+use Rattle.std.proofs.Common.{rules, arith, refl, sym, ◌∙◌, subst, map}
 use Rattle.std.proofs.lemmas.Grind.{common_steps}
 use Rattle.replayed.specs.Fields.{Running}
 use Rattle.task_code.specs.View.{event_view}

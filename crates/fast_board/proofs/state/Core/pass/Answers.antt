@@ -1,17 +1,15 @@
-use Rattle.std.proofs.Common.{rules, ◌≡◌, ◌∙◌, ℕ, List, length, refl, sym, subst, vec_capacity, vec_len}
+use Rattle.std.proofs.Common.{rules, ◌∙◌, List, length, refl, sym, subst}
 use Rattle.smallvec.specs.SmallVec.{SmallVec}
 use Rattle.rules.specs.declared.input.Input.{Input}
 use Rattle.board_frames.specs.View.{frames_view, job_view, rows_view}
 use Rattle.board_items.specs.Progress.{jobs_behind}
 use Rattle.board_items.specs.Room.{AreSpare}
 use Rattle.board_openings.specs.Room.{OpensWell}
-use Rattle.board_openings.specs.World.{spare_of}
 use Rattle.board_openings.specs.declared.world.Change.{Change}
 use Rattle.fast_board.proofs.Assembled as A
 use Rattle.fast_board.proofs.Ends.{can, ended, err_from, no_ok, ok_from, ok_take, one_less, pack, same_spare, short, spare}
 use Rattle.fast_board.proofs.Own.{some_run}
 use Rattle.fast_board.specs.Counted.{CanChange}
-use Rattle.fast_board.specs.declared.state.Core.{Core}
 use Rattle.fast_board.proofs.state.Core.pass.Goals as goal
 
 pub returns-in_err-spare-clause-same : goal.returns-in_err-spare-clause-same
