@@ -6,6 +6,7 @@ pub mod Opens
 pub mod Rights
 pub mod Kept
 pub mod Counted
+pub mod Crosses
 pub mod Checked
 pub mod Decided
 pub mod Exactly
