@@ -47,125 +47,125 @@ pub record At (t : Instances) (q : Place) (P : Spot → Type 0) : Type 0 where
   pub holds : P (record { instance = instance; node = q.1 })
 
 module _ (t : Instances) {X : Type 0} (P : X → Type 0) (x : X) (f : Spot → X) (q : Place) where
-  looked : (P x → ⊥) → P (by_place t x f q) → At t q (λ p. P (f p))
+  pub looked : (P x → ⊥) → P (by_place t x f q) → At t q (λ p. P (f p))
   looked n h = by (at_path t q.0) refl h
     where
       by : (o : Option ℕ) → at_path t q.0 ≡ o → P (in_instance x f o q.1) → At t q (λ p. P (f p))
       by (Some i) e k = record { instance = i; found = e; holds = k }
       by None e k = absurd (n k)
 
-  look : At t q (λ p. P (f p)) → P (by_place t x f q)
+  pub look : At t q (λ p. P (f p)) → P (by_place t x f q)
   look a = subst (λ (o : Option ℕ). P (in_instance x f o q.1)) (sym a.found) a.holds
 
 -- the place that is found there
-spot_view : (t : Instances) → IsTree t → (q : Place) (i : ℕ) → at_path t q.0 ≡ Some i → place_view t.all.items (record { instance = i; node = q.1 }) ≡ q
+pub spot_view : (t : Instances) → IsTree t → (q : Place) (i : ℕ) → at_path t q.0 ≡ Some i → place_view t.all.items (record { instance = i; node = q.1 }) ≡ q
 spot_view t h q i e = λ j. ((found_there t h q.0 i e).1 j, q.1)
 
-at_view : (t : Instances) → IsTree t → (p : Spot) → p.instance < length t.all.items → at_path t (place_view t.all.items p).0 ≡ Some p.instance
+pub at_view : (t : Instances) → IsTree t → (p : Spot) → p.instance < length t.all.items → at_path t (place_view t.all.items p).0 ≡ Some p.instance
 at_view t h p l = at_path_of t h p.instance l
 
 -- ONE VALUE MORE
 
-put_value : {X : Type 0} (p q : Spot) (o : Option X) (v w : X) → (if same_place p q then first_of o v else o) ≡ Some w → (o ≡ Some w) ⊎ ((p ≡ q) × (v ≡ w))
+pub put_value : {X : Type 0} (p q : Spot) (o : Option X) (v w : X) → (if same_place p q then first_of o v else o) ≡ Some w → (o ≡ Some w) ⊎ ((p ≡ q) × (v ≡ w))
 put_value p q (Some u) v w h = elim (cases_Bool (same_place p q)) [ inl same ↦ inl (rw same at h) | inr other ↦ inl (rw other at h) ]
 put_value p q None v w h = elim (cases_Bool (same_place p q)) [
   | inl same ↦ let e : Some v ≡ Some w = rw same at h in inr (same_place-eq p q same, cc (e))
   | inr other ↦ inl (rw other at h)
 ]
 
-value_stays : {X : Type 0} (p q : Spot) (o : Option X) (v w : X) → o ≡ Some w → (if same_place p q then first_of o v else o) ≡ Some w
+pub value_stays : {X : Type 0} (p q : Spot) (o : Option X) (v w : X) → o ≡ Some w → (if same_place p q then first_of o v else o) ≡ Some w
 value_stays p q o v w e = elim (cases_Bool (same_place p q)) [
   | inl same ↦ rw same (ap (λ z. first_of z v) e)
   | inr other ↦ rw other e
 ]
 
-place_same : (p : Spot) → same_place p p ≡ true
+pub place_same : (p : Spot) → same_place p p ≡ true
 place_same p = rw (eq-eqb p.instance p.instance refl) (rw (eq-eqb p.node p.node refl) refl)
 
-value_there : {X : Type 0} (p : Spot) (o : Option X) (v : X) → ((u : X) → o ≡ Some u → u ≡ v) → (if same_place p p then first_of o v else o) ≡ Some v
+pub value_there : {X : Type 0} (p : Spot) (o : Option X) (v : X) → ((u : X) → o ≡ Some u → u ≡ v) → (if same_place p p then first_of o v else o) ≡ Some v
 value_there p (Some u) v f = rw (place_same p) (ap Some (f u refl))
 value_there p None v f = rw (place_same p) refl
 
 -- a test of what is there
-put_some : {X : Type 0} (p q : Spot) (o : Option X) (v : X) → is_some (if same_place p q then first_of o v else o) ≡ true → (is_some o ≡ true) ⊎ (p ≡ q)
+pub put_some : {X : Type 0} (p q : Spot) (o : Option X) (v : X) → is_some (if same_place p q then first_of o v else o) ≡ true → (is_some o ≡ true) ⊎ (p ≡ q)
 put_some p q (Some u) v h = inl refl
 put_some p q None v h = elim (cases_Bool (same_place p q)) [ inl same ↦ inr (same_place-eq p q same) | inr other ↦ inl (rw other at h) ]
 
 -- ONE WRITE MORE
 
-both : (a b : Bool) → a && b ≡ true → (a ≡ true) × (b ≡ true)
+pub both : (a b : Bool) → a && b ≡ true → (a ≡ true) × (b ≡ true)
 both true b h = (refl, h)
 both false b h = absurd (cc (h))
 
-or_cases : (a b : Bool) → a || b ≡ true → (a ≡ true) ⊎ (b ≡ true)
+pub or_cases : (a b : Bool) → a || b ≡ true → (a ≡ true) ⊎ (b ≡ true)
 or_cases true b h = inl refl
 or_cases false b h = inr h
 
-or_right : (a : Bool) {b : Bool} → b ≡ true → a || b ≡ true
+pub or_right : (a : Bool) {b : Bool} → b ≡ true → a || b ≡ true
 or_right true h = refl
 or_right false h = h
 
 -- the write of a key by a writer
-record Found (ws : List Write) (k : Key) (p : Spot) : Type 0 where
-  write : Write
-  there : write ∈ ws
-  key_is : write.key ≡ k
-  writer_is : write.writer ≡ p
+pub record Found (ws : List Write) (k : Key) (p : Spot) : Type 0 where
+  pub write : Write
+  pub there : write ∈ ws
+  pub key_is : write.key ≡ k
+  pub writer_is : write.writer ≡ p
 
-found_write : (ws : List Write) (k : Key) (p : Spot) → is_written_in ws k p ≡ true → Found ws k p
+pub found_write : (ws : List Write) (k : Key) (p : Spot) → is_written_in ws k p ≡ true → Found ws k p
 found_write [] k p h = absurd (cc (h))
 found_write (w ∷ ws) k p h = elim (or_cases (same_key w.key k && same_place w.writer p) (is_written_in ws k p) h) [
   | inl e ↦ let b = both (same_key w.key k) (same_place w.writer p) e in record { write = w; there = first; key_is = same_key-eq w.key k b.0; writer_is = same_place-eq w.writer p b.1 }
   | inr e ↦ let r = found_write ws k p e in record { write = r.write; there = later r.there; key_is = r.key_is; writer_is = r.writer_is }
 ]
 
-written_there : (ws : List Write) (w : Write) → w ∈ ws → is_written_in ws w.key w.writer ≡ true
+pub written_there : (ws : List Write) (w : Write) → w ∈ ws → is_written_in ws w.key w.writer ≡ true
 written_there ws w (first {xs = xs}) = rw (same_key-refl w.key) (rw (place_same w.writer) refl)
 written_there ws w (later {y = y} {xs = xs} m) = or_right (same_key y.key w.key && same_place y.writer w.writer) (written_there xs w m)
 
-from_with : (ws : List Write) (w x : Write) → x ∈ with_write ws w → (x ∈ ws) ⊎ (x ≡ w)
+pub from_with : (ws : List Write) (w x : Write) → x ∈ with_write ws w → (x ∈ ws) ⊎ (x ≡ w)
 from_with ws w x m = elim (cases_Bool (is_written_in ws w.key w.writer)) [
   | inl old ↦ inl (rw old at m)
   | inr new ↦ elim (either ws (w ∷ []) (rw new at m)) [ inl i ↦ inl i | inr i ↦ elim (split_in i) [ inl q ↦ inr q | inr j ↦ elim j [ ] ] ]
 ]
 
-to_with : (ws : List Write) (w x : Write) → x ∈ ws → x ∈ with_write ws w
+pub to_with : (ws : List Write) (w x : Write) → x ∈ ws → x ∈ with_write ws w
 to_with ws w x m = elim (cases_Bool (is_written_in ws w.key w.writer)) [
   | inl old ↦ rw old m
   | inr new ↦ rw new (to_left ws (w ∷ []) m)
 ]
 
 -- the write itself, or one of its key and writer
-itself : (ws : List Write) (w : Write) → Found (with_write ws w) w.key w.writer
+pub itself : (ws : List Write) (w : Write) → Found (with_write ws w) w.key w.writer
 itself ws w = elim (cases_Bool (is_written_in ws w.key w.writer)) [
   | inl old ↦ let r = found_write ws w.key w.writer old in record { write = r.write; there = to_with ws w r.write r.there; key_is = r.key_is; writer_is = r.writer_is }
   | inr new ↦ record { write = w; there = rw new (to_right ws (w ∷ []) first); key_is = refl; writer_is = refl }
 ]
 
-in_views : (ns : List Instance) (ws : List Write) (w : Write) → w ∈ ws → write_view ns w ∈ map (write_view ns) ws
+pub in_views : (ns : List Instance) (ws : List Write) (w : Write) → w ∈ ws → write_view ns w ∈ map (write_view ns) ws
 in_views ns ws w (first {xs = xs}) = first
 in_views ns ws w (later {xs = xs} m) = later (in_views ns xs w m)
 
 -- a write that is seen
-record Seen (ns : List Instance) (ws : List Write) (x : KeptWrite) : Type 0 where
-  write : Write
-  there : write ∈ ws
-  is : x ≡ write_view ns write
+pub record Seen (ns : List Instance) (ws : List Write) (x : KeptWrite) : Type 0 where
+  pub write : Write
+  pub there : write ∈ ws
+  pub is : x ≡ write_view ns write
 
-of_views : (ns : List Instance) (ws : List Write) (x : KeptWrite) → x ∈ map (write_view ns) ws → Seen ns ws x
+pub of_views : (ns : List Instance) (ws : List Write) (x : KeptWrite) → x ∈ map (write_view ns) ws → Seen ns ws x
 of_views ns [] x m = elim m [ ]
 of_views ns (w ∷ ws) x m = elim (split_in m) [
   | inl q ↦ record { write = w; there = first; is = q }
   | inr i ↦ let r = of_views ns ws x i in record { write = r.write; there = later r.there; is = r.is }
 ]
 
-spot_same : (t : Instances) → IsTree t → (p q : Spot) → p.instance < length t.all.items → q.instance < length t.all.items → place_view t.all.items p ≡ place_view t.all.items q → p ≡ q
+pub spot_same : (t : Instances) → IsTree t → (p q : Spot) → p.instance < length t.all.items → q.instance < length t.all.items → place_view t.all.items p ≡ place_view t.all.items q → p ≡ q
 spot_same t h p q a b e =
     let i : p.instance ≡ q.instance = one_instance t h p.instance q.instance a b (ap (λ (z : Place). z.0) e) in
     let n : p.node ≡ q.node = ap (λ (z : Place). z.1) e in
     λ j. record { instance = i j; node = n j }
 
-apart_behind : (t : Instances) → IsTree t → (w : Write) → w.writer.instance < length t.all.items → (us : List Write) → is_written_in us w.key w.writer ≡ false
+pub apart_behind : (t : Instances) → IsTree t → (w : Write) → w.writer.instance < length t.all.items → (us : List Write) → is_written_in us w.key w.writer ≡ false
     → ((x : Write) → x ∈ us → x.writer.instance < length t.all.items) → AreApart (map (write_view t.all.items) us) → AreApart (map (write_view t.all.items) (us ++ w ∷ []))
 apart_behind t h w l [] e f b = (λ u i q r. elim i [ ], tt)
 apart_behind t h w l (x ∷ us) e f b = (head, apart_behind t h w l us (or_none (same_key x.key w.key && same_place x.writer w.writer) (is_written_in us w.key w.writer) e).1 (λ y i. f y (later i)) b.1)
@@ -194,7 +194,7 @@ apart_behind t h w l (x ∷ us) e f b = (head, apart_behind t h w l us (or_none 
           ]
         ]
 
-apart_with : (t : Instances) → IsTree t → (ws : List Write) (w : Write) → ((x : Write) → x ∈ ws → x.writer.instance < length t.all.items) → w.writer.instance < length t.all.items
+pub apart_with : (t : Instances) → IsTree t → (ws : List Write) (w : Write) → ((x : Write) → x ∈ ws → x.writer.instance < length t.all.items) → w.writer.instance < length t.all.items
     → AreApart (map (write_view t.all.items) ws) → AreApart (map (write_view t.all.items) (with_write ws w))
 apart_with t h ws w f l a = elim (cases_Bool (is_written_in ws w.key w.writer)) [
   | inl old ↦ rw old a
@@ -205,44 +205,44 @@ apart_with t h ws w f l a = elim (cases_Bool (is_written_in ws w.key w.writer)) 
 abbrev pub grown : Spot → Spot → List Write → Write → List Write
 grown a q ws w = if same_place a q then with_write ws w else ws
 
-from_grown : (a q : Spot) (ws : List Write) (w x : Write) → x ∈ grown a q ws w → (x ∈ ws) ⊎ ((a ≡ q) × (x ≡ w))
+pub from_grown : (a q : Spot) (ws : List Write) (w x : Write) → x ∈ grown a q ws w → (x ∈ ws) ⊎ ((a ≡ q) × (x ≡ w))
 from_grown a q ws w x m = elim (cases_Bool (same_place a q)) [
   | inl same ↦ elim (from_with ws w x (rw same at m)) [ inl i ↦ inl i | inr e ↦ inr (same_place-eq a q same, e) ]
   | inr other ↦ inl (rw other at m)
 ]
 
-to_grown : (a q : Spot) (ws : List Write) (w x : Write) → x ∈ ws → x ∈ grown a q ws w
+pub to_grown : (a q : Spot) (ws : List Write) (w x : Write) → x ∈ ws → x ∈ grown a q ws w
 to_grown a q ws w x m = elim (cases_Bool (same_place a q)) [
   | inl same ↦ rw same (to_with ws w x m)
   | inr other ↦ rw other m
 ]
 
-grown_itself : (a : Spot) (ws : List Write) (w : Write) → Found (grown a a ws w) w.key w.writer
+pub grown_itself : (a : Spot) (ws : List Write) (w : Write) → Found (grown a a ws w) w.key w.writer
 grown_itself a ws w = rw (place_same a) (itself ws w)
 
 -- FAULTS
 
 -- the kind of a fault that is known
-record KnownKind (k : Facts) (f : Fault) (at : ℕ) (p : Spot) : Type 0 where
-  kind : FaultKind
-  is : kind_of f ≡ Some kind
-  known : contains same_fault k.faults (record { kind = kind; at = at; place = p }) ≡ true
+pub record KnownKind (k : Facts) (f : Fault) (at : ℕ) (p : Spot) : Type 0 where
+  pub kind : FaultKind
+  pub is : kind_of f ≡ Some kind
+  pub known : contains same_fault k.faults (record { kind = kind; at = at; place = p }) ≡ true
 
-has_known : (k : Facts) (f : Fault) (at : ℕ) (p : Spot) → fault_at k f at p ≡ true → KnownKind k f at p
+pub has_known : (k : Facts) (f : Fault) (at : ℕ) (p : Spot) → fault_at k f at p ≡ true → KnownKind k f at p
 has_known k f at p h = by (kind_of f) refl h
   where
     by : (o : Option FaultKind) → kind_of f ≡ o → has_kind k o at p ≡ true → KnownKind k f at p
     by (Some kind) e q = record { kind = kind; is = e; known = q }
     by None e q = absurd (cc (q))
 
-fault_eq : (f g : FaultFact) → same_fault f g ≡ true → f ≡ g
+pub fault_eq : (f g : FaultFact) → same_fault f g ≡ true → f ≡ g
 fault_eq f g e =
     let b = both (sameb kinds.the_type f.kind g.kind) (nat_eq f.at g.at && same_place f.place g.place) e in
     let d = both (nat_eq f.at g.at) (same_place f.place g.place) b.1 in
     let kind : f.kind ≡ g.kind = same_true kinds.the_type (search rules) f.kind g.kind b.0 in
     λ i. record { kind = kind i; at = eqb-true f.at g.at d.0 i; place = same_place-eq f.place g.place d.1 i }
 
-kind_back : (f : Fault) (kind : FaultKind) → kind_of f ≡ Some kind → kind_view kind ≡ f
+pub kind_back : (f : Fault) (kind : FaultKind) → kind_of f ≡ Some kind → kind_view kind ≡ f
 kind_back (operation Op.Overflow) kind e = let q : Kind.Overflow ≡ kind = cc (e) in ap kind_view (sym q)
 kind_back (operation Op.DivideByZero) kind e = let q : Kind.DivideByZero ≡ kind = cc (e) in ap kind_view (sym q)
 kind_back (operation Op.BadStep) kind e = let q : Kind.BadStep ≡ kind = cc (e) in ap kind_view (sym q)
@@ -255,35 +255,35 @@ kind_back too_deep kind e = let q : Kind.TooDeep ≡ kind = cc (e) in ap kind_vi
 
 -- WHAT IS UNCHANGED
 
-in_same : {X : Type 0} (x : X) (f g : Spot → X) → ((p : Spot) → f p ≡ g p) → (o : Option ℕ) (n : ℕ) → in_instance x f o n ≡ in_instance x g o n
+pub in_same : {X : Type 0} (x : X) (f g : Spot → X) → ((p : Spot) → f p ≡ g p) → (o : Option ℕ) (n : ℕ) → in_instance x f o n ≡ in_instance x g o n
 in_same x f g e (Some i) n = e (record { instance = i; node = n })
 in_same x f g e None n = refl
 
-same_by : (t : Instances) {X : Type 0} (x : X) (f g : Spot → X) → ((p : Spot) → f p ≡ g p) → (q : Place) → by_place t x f q ≡ by_place t x g q
+pub same_by : (t : Instances) {X : Type 0} (x : X) (f g : Spot → X) → ((p : Spot) → f p ≡ g p) → (q : Place) → by_place t x f q ≡ by_place t x g q
 same_by t x f g e q = in_same x f g e (at_path t q.0) q.1
 
-some_none : {X : Type 0} (v : X) → None ≡ Some v → ⊥
+pub some_none : {X : Type 0} (v : X) → None ≡ Some v → ⊥
 some_none v e = absurd (cc (e))
 
-false_true : false ≡ true → ⊥
+pub false_true : false ≡ true → ⊥
 false_true e = absurd (cc (e))
 
 module _ (l : Learned) (k : Facts) where
-  same_value : ((p : Spot) → value_at k p ≡ value_at l.facts p) → (q : Place) → (kept_of (with_facts l k)).value q ≡ (kept_of l).value q
+  pub same_value : ((p : Spot) → value_at k p ≡ value_at l.facts p) → (q : Place) → (kept_of (with_facts l k)).value q ≡ (kept_of l).value q
   same_value e q = same_by l.instances None (value_at k) (value_at l.facts) e q
 
-  same_writes : ((p : Spot) → writes_at k p ≡ writes_at l.facts p) → (q : Place) → (kept_of (with_facts l k)).writes q ≡ (kept_of l).writes q
+  pub same_writes : ((p : Spot) → writes_at k p ≡ writes_at l.facts p) → (q : Place) → (kept_of (with_facts l k)).writes q ≡ (kept_of l).writes q
   same_writes e q = same_by l.instances [] (λ p. map (write_view l.instances.all.items) (writes_at k p)) (λ p. map (write_view l.instances.all.items) (writes_at l.facts p)) (λ p. ap (map (write_view l.instances.all.items)) (e p)) q
 
-  same_written : ((p : Spot) → writes_at k p ≡ writes_at l.facts p) → (a : Place) (key : Key) (w : Place) → (kept_of (with_facts l k)).written a key w ≡ (kept_of l).written a key w
+  pub same_written : ((p : Spot) → writes_at k p ≡ writes_at l.facts p) → (a : Place) (key : Key) (w : Place) → (kept_of (with_facts l k)).written a key w ≡ (kept_of l).written a key w
   same_written e a key w =
       same_by l.instances false (λ p. by_place l.instances false (is_written_in (writes_at k p) key) w) (λ p. by_place l.instances false (is_written_in (writes_at l.facts p) key) w)
       (λ p. ap (λ (z : List Write). by_place l.instances false (is_written_in z key) w) (e p)) a
 
-  same_lined : ((p : Spot) → line_at k p ≡ line_at l.facts p) → (q : Place) → (kept_of (with_facts l k)).lined q ≡ (kept_of l).lined q
+  pub same_lined : ((p : Spot) → line_at k p ≡ line_at l.facts p) → (q : Place) → (kept_of (with_facts l k)).lined q ≡ (kept_of l).lined q
   same_lined e q = same_by l.instances false (λ p. is_some (line_at k p)) (λ p. is_some (line_at l.facts p)) (λ p. ap is_some (e p)) q
 
-  same_faulted : ((g : FaultFact) → contains same_fault k.faults g ≡ contains same_fault l.facts.faults g) → (f : Fault) (at : ℕ) (q : Place) → (kept_of (with_facts l k)).faulted f at q ≡ (kept_of l).faulted f at q
+  pub same_faulted : ((g : FaultFact) → contains same_fault k.faults g ≡ contains same_fault l.facts.faults g) → (f : Fault) (at : ℕ) (q : Place) → (kept_of (with_facts l k)).faulted f at q ≡ (kept_of l).faulted f at q
   same_faulted e f at q = same_by l.instances false (fault_at k f at) (fault_at l.facts f at) (λ p. by (kind_of f) p) q
     where
       by : (o : Option FaultKind) (p : Spot) → has_kind k o at p ≡ has_kind l.facts o at p
@@ -406,13 +406,13 @@ module _ (K : Knowledge) (l : Learned) (k : Facts) (h : IsTree l.instances) (c :
 
   module _ (a : Spot) (w : Write) (b : a.instance < length l.instances.all.items) (d : w.writer.instance < length l.instances.all.items) (added : IsAdded l.facts (Is.Element a w) k)
       (g : IsAgreed (With K (script.element (place_view l.instances.all.items a) w.key (place_view l.instances.all.items w.writer) w.value))) where
-    abbrev Now : script.Fact → Type 0
+    abbrev pub Now : script.Fact → Type 0
     Now f = With K (script.element (place_view l.instances.all.items a) w.key (place_view l.instances.all.items w.writer) w.value) f
 
-    abbrev views : List Write → List KeptWrite
+    abbrev pub views : List Write → List KeptWrite
     views ws = map (write_view l.instances.all.items) ws
 
-    element_so : (q : Place) (x : KeptWrite) → x ∈ (kept_of (with_facts l k)).writes q → Now (script.element q x.key x.writer x.value)
+    pub element_so : (q : Place) (x : KeptWrite) → x ∈ (kept_of (with_facts l k)).writes q → Now (script.element q x.key x.writer x.value)
     element_so q x i =
         let s = looked l.instances (λ (ws : List KeptWrite). x ∈ ws) [] (λ p. views (writes_at k p)) q (λ j. elim j [ ]) i in
         let r = of_views l.instances.all.items (grown a (record { instance = s.instance; node = q.1 }) (writes_at l.facts (record { instance = s.instance; node = q.1 })) w) x
@@ -430,10 +430,10 @@ module _ (K : Knowledge) (l : Learned) (k : Facts) (h : IsTree l.instances) (c :
               inr (λ i. script.element (sym place_is i) (write_is i).key (write_is i).writer (write_is i).value)
         ]
 
-    found_now : Found (grown a a (writes_at l.facts a) w) w.key w.writer
+    pub found_now : Found (grown a a (writes_at l.facts a) w) w.key w.writer
     found_now = grown_itself a (writes_at l.facts a) w
 
-    view_now : write_view l.instances.all.items found_now.write ∈ (kept_of (with_facts l k)).writes (place_view l.instances.all.items a)
+    pub view_now : write_view l.instances.all.items found_now.write ∈ (kept_of (with_facts l k)).writes (place_view l.instances.all.items a)
     view_now =
         look l.instances (λ (ws : List KeptWrite). write_view l.instances.all.items found_now.write ∈ ws) [] (λ p. views (writes_at k p)) (place_view l.instances.all.items a) (record {
           instance = a.instance;
@@ -441,7 +441,7 @@ module _ (K : Knowledge) (l : Learned) (k : Facts) (h : IsTree l.instances) (c :
           holds = subst (λ (z : List Write). write_view l.instances.all.items found_now.write ∈ views z) (sym (added.writes a)) (in_views l.instances.all.items (grown a a (writes_at l.facts a) w) found_now.write found_now.there);
         })
 
-    value_now : found_now.write.value ≡ w.value
+    pub value_now : found_now.write.value ≡ w.value
     value_now =
         g.writes (place_view l.instances.all.items a) w.key (place_view l.instances.all.items w.writer) found_now.write.value w.value
         (subst (λ (z : Key). Now (script.element (place_view l.instances.all.items a) z (place_view l.instances.all.items w.writer) found_now.write.value)) found_now.key_is
@@ -449,10 +449,10 @@ module _ (K : Knowledge) (l : Learned) (k : Facts) (h : IsTree l.instances) (c :
         (element_so (place_view l.instances.all.items a) (write_view l.instances.all.items found_now.write) view_now)))
         (inr refl)
 
-    same_now : write_view l.instances.all.items found_now.write ≡ write_view l.instances.all.items w
+    pub same_now : write_view l.instances.all.items found_now.write ≡ write_view l.instances.all.items w
     same_now = λ i. record { key = found_now.key_is i; writer = place_view l.instances.all.items (found_now.writer_is i); value = value_now i }
 
-    element_all : (q : Place) (key : Key) (u : Place) (v : Scalar) → Now (script.element q key u v) → record { key = key; writer = u; value = v } ∈ (kept_of (with_facts l k)).writes q
+    pub element_all : (q : Place) (key : Key) (u : Place) (v : Scalar) → Now (script.element q key u v) → record { key = key; writer = u; value = v } ∈ (kept_of (with_facts l k)).writes q
     element_all q key u v (inl y) =
         let s = looked l.instances (λ (ws : List KeptWrite). record { key = key; writer = u; value = v } ∈ ws) [] (λ p. views (writes_at l.facts p)) q (λ j. elim j [ ]) (c.write_all q key u v y) in
         let r = of_views l.instances.all.items (writes_at l.facts (record { instance = s.instance; node = q.1 })) (record { key = key; writer = u; value = v }) s.holds in
@@ -472,7 +472,7 @@ module _ (K : Knowledge) (l : Learned) (k : Facts) (h : IsTree l.instances) (c :
         subst (λ (z : Place). record { key = key; writer = u; value = v } ∈ (kept_of (with_facts l k)).writes z) (sym place_is)
         (subst (λ (z : KeptWrite). z ∈ (kept_of (with_facts l k)).writes (place_view l.instances.all.items a)) (same_now ∙ sym (λ i. record { key = key_is i; writer = writer_is i; value = value_is i })) view_now)
 
-    element_once : (q : Place) → AreApart ((kept_of (with_facts l k)).writes q)
+    pub element_once : (q : Place) → AreApart ((kept_of (with_facts l k)).writes q)
     element_once q = by (at_path l.instances q.0) (c.write_once q)
       where
         by : (o : Option ℕ) → AreApart (in_instance [] (λ p. map (write_view l.instances.all.items) (writes_at l.facts p)) o q.1) → AreApart (in_instance [] (λ p. map (write_view l.instances.all.items) (writes_at k p)) o q.1)
@@ -484,13 +484,13 @@ module _ (K : Knowledge) (l : Learned) (k : Facts) (h : IsTree l.instances) (c :
               | inr other ↦ rw other f
             ])
 
-    writer_within : (q : Spot) (x : Write) → x ∈ writes_at k q → x.writer.instance < length l.instances.all.items
+    pub writer_within : (q : Spot) (x : Write) → x ∈ writes_at k q → x.writer.instance < length l.instances.all.items
     writer_within q x i = elim (from_grown a q (writes_at l.facts q) w x (subst (λ (z : List Write). x ∈ z) (added.writes q) i)) [
       | inl old ↦ c.writers q x old
       | inr new ↦ subst (λ (z : Write). z.writer.instance < length l.instances.all.items) (sym new.1) d
     ]
 
-    writer_so : (q : Place) (key : Key) (u : Place) → (kept_of (with_facts l k)).written q key u ≡ true → (v : Scalar) × Now (script.element q key u v)
+    pub writer_so : (q : Place) (key : Key) (u : Place) → (kept_of (with_facts l k)).written q key u ≡ true → (v : Scalar) × Now (script.element q key u v)
     writer_so q key u e =
         let s = looked l.instances (λ (o : Bool). o ≡ true) false (λ p. by_place l.instances false (is_written_in (writes_at k p) key) u) q false_true e in
         let r = looked l.instances (λ (o : Bool). o ≡ true) false (is_written_in (writes_at k (record { instance = s.instance; node = q.1 })) key) u false_true s.holds in
@@ -502,7 +502,7 @@ module _ (K : Knowledge) (l : Learned) (k : Facts) (h : IsTree l.instances) (c :
           subst (λ (z : Key). Now (script.element q z u f.write.value)) f.key_is (subst (λ (z : Place). Now (script.element q f.write.key z f.write.value)) writer_is (element_so q (write_view l.instances.all.items f.write) there)),
         )
 
-    writer_all : (q : Place) (key : Key) (u : Place) (v : Scalar) → Now (script.element q key u v) → (kept_of (with_facts l k)).written q key u ≡ true
+    pub writer_all : (q : Place) (key : Key) (u : Place) (v : Scalar) → Now (script.element q key u v) → (kept_of (with_facts l k)).written q key u ≡ true
     writer_all q key u v x =
         let s = looked l.instances (λ (ws : List KeptWrite). record { key = key; writer = u; value = v } ∈ ws) [] (λ p. views (writes_at k p)) q (λ j. elim j [ ]) (element_all q key u v x) in
         let r = of_views l.instances.all.items (writes_at k (record { instance = s.instance; node = q.1 })) (record { key = key; writer = u; value = v }) s.holds in

@@ -30,7 +30,7 @@ use Rattle.whole_facts.specs.Store.{value_at, line_at, writes_at, writes_under, 
 
 module _ (t : Instances) (h : IsTree t) where
   -- an instance is found at its path
-  at_path_below : (n j : ℕ) → j < n → j < length t.all.items → at_path t (path_of t.all.items j) ≡ Some j
+  pub at_path_below : (n j : ℕ) → j < n → j < length t.all.items → at_path t (path_of t.all.items j) ≡ Some j
   at_path_below zero j b l = absurd (omega arith)
   at_path_below (suc n) zero b l = ap (at_path t) h.root_path
   at_path_below (suc n) (suc j) b l =
@@ -61,14 +61,14 @@ module _ (t : Instances) (h : IsTree t) where
 
   -- WHERE NAMES LIE
   module _ (s : Core) where
-    outward_root : (up : ℕ) → outward t.all.items up 0 ≡ 0
+    pub outward_root : (up : ℕ) → outward t.all.items up 0 ≡ 0
     outward_root zero = refl
     outward_root (suc up) = ap (outward t.all.items up) h.root_parent ∙ outward_root up
 
-    root_located : (n : ℕ) → IsLocated t.all.items (record { instance = 0; node = n }) ([], n)
+    pub root_located : (n : ℕ) → IsLocated t.all.items (record { instance = 0; node = n }) ([], n)
     root_located n = record { within = h.rooted; view_is = λ i. (h.root_path i, n) }
 
-    parent_path : (i : ℕ) (x : PathStep) (rest : Path) → i < length t.all.items → path_of t.all.items i ≡ x ∷ rest → (parent_of t.all.items i < length t.all.items) × (path_of t.all.items (parent_of t.all.items i) ≡ rest)
+    pub parent_path : (i : ℕ) (x : PathStep) (rest : Path) → i < length t.all.items → path_of t.all.items i ≡ x ∷ rest → (parent_of t.all.items i < length t.all.items) × (path_of t.all.items (parent_of t.all.items i) ≡ rest)
     parent_path zero x rest l e = let q : [] ≡ x ∷ rest = sym h.root_path ∙ e in absurd (cc (q))
     parent_path (suc i) x rest l e =
         let o = h.opened (suc i) (omega arith) l in
@@ -80,7 +80,7 @@ module _ (t : Instances) (h : IsTree t) where
         tail_of [] = []
         tail_of (y ∷ ys) = ys
 
-    located_root : (up : ℕ) (what : Owned) → inputs_of t.all.items 0 ≡ [] → outputs_of t.all.items 0 ≡ [] → IsLocated t.all.items (owner_spot t.all.items 0 what) (place_of s [] up what)
+    pub located_root : (up : ℕ) (what : Owned) → inputs_of t.all.items 0 ≡ [] → outputs_of t.all.items 0 ≡ [] → IsLocated t.all.items (owner_spot t.all.items 0 what) (place_of s [] up what)
     located_root up (local n) f g = root_located n
     located_root up (input j) f g =
         let q : owner_spot t.all.items 0 (input j) ≡ record { instance = 0; node = 0 } = ap (λ (z : List Spot). given_at z j (parent_of t.all.items 0)) f ∙ ap (λ (z : ℕ). record { instance = z; node = 0 }) h.root_parent in
@@ -115,7 +115,7 @@ module _ (t : Instances) (h : IsTree t) where
 -- LISTS OF WRITES
 
 module _ (ns : List Instance) where
-  put_same : (w : Write) (es : List Element) → put_write es w ≡ put_first es (element_of (write_view ns w))
+  pub put_same : (w : Write) (es : List Element) → put_write es w ≡ put_first es (element_of (write_view ns w))
   put_same w es = by (found w.key es)
     where
       by : (o : Option Scalar) → put_unless o w es ≡ kept.put_unless o (element_of (write_view ns w)) es
@@ -130,13 +130,13 @@ module _ (ns : List Instance) where
   under_same [] k = refl
   under_same (w ∷ ws) k = ap (λ (z : List Scalar). if same_key w.key k then w.value ∷ z else z) (under_same ws k)
 
-sight_is : (a b : Sight) → a.scalar ≡ b.scalar → a.closed ≡ b.closed → a.elements ≡ b.elements → a.writes ≡ b.writes → a.cell ≡ b.cell → a ≡ b
+pub sight_is : (a b : Sight) → a.scalar ≡ b.scalar → a.closed ≡ b.closed → a.elements ≡ b.elements → a.writes ≡ b.writes → a.cell ≡ b.cell → a ≡ b
 sight_is a b p q r u v = λ i. record { scalar = p i; closed = q i; elements = r i; writes = u i; cell = v i }
 
-past_is : (a b : Past) → a.valued ≡ b.valued → a.written ≡ b.written → a.twice ≡ b.twice → a.lined ≡ b.lined → a.faulted ≡ b.faulted → a.deep ≡ b.deep → a ≡ b
+pub past_is : (a b : Past) → a.valued ≡ b.valued → a.written ≡ b.written → a.twice ≡ b.twice → a.lined ≡ b.lined → a.faulted ≡ b.faulted → a.deep ≡ b.deep → a ≡ b
 past_is a b p q r u v w = λ i. record { valued = p i; written = q i; twice = r i; lined = u i; faulted = v i; deep = w i }
 
-deep_same : (n : ℕ) → n ≤ most_steps → nat_le most_steps n ≡ nat_eq n most_steps
+pub deep_same : (n : ℕ) → n ≤ most_steps → nat_le most_steps n ≡ nat_eq n most_steps
 deep_same n l = grind (arith, nat_tests)
 
 module _ (s : Core) (l : Learned) (h : IsPlaced s l.instances) (i : ℕ) (within : i < length l.instances.all.items) where
@@ -144,16 +144,16 @@ module _ (s : Core) (l : Learned) (h : IsPlaced s l.instances) (i : ℕ) (within
   pub name_located : (x : Name) → IsLocated l.instances.all.items (spot l.instances.all.items i x) (place s (path_of l.instances.all.items i) x)
   name_located x = located l.instances h.tree s i (path_of l.instances.all.items i) (h.stands i within) within refl x.up x.what
 
-  node_located : (n : ℕ) → IsLocated l.instances.all.items (record { instance = i; node = n }) (path_of l.instances.all.items i, n)
+  pub node_located : (n : ℕ) → IsLocated l.instances.all.items (record { instance = i; node = n }) (path_of l.instances.all.items i, n)
   node_located n = record { within = within; view_is = refl }
 
-  at_name : {X : Type 0} (x : X) (f : Spot → X) (a : Name) → f (spot l.instances.all.items i a) ≡ by_place l.instances x f (place s (path_of l.instances.all.items i) a)
+  pub at_name : {X : Type 0} (x : X) (f : Spot → X) (a : Name) → f (spot l.instances.all.items i a) ≡ by_place l.instances x f (place s (path_of l.instances.all.items i) a)
   at_name x f a = sym (by_located l.instances h.tree x f (spot l.instances.all.items i a) (place s (path_of l.instances.all.items i) a) (name_located a))
 
-  at_node : {X : Type 0} (x : X) (f : Spot → X) (n : ℕ) → f (record { instance = i; node = n }) ≡ by_place l.instances x f (path_of l.instances.all.items i, n)
+  pub at_node : {X : Type 0} (x : X) (f : Spot → X) (n : ℕ) → f (record { instance = i; node = n }) ≡ by_place l.instances x f (path_of l.instances.all.items i, n)
   at_node x f n = sym (by_located l.instances h.tree x f (record { instance = i; node = n }) (path_of l.instances.all.items i, n) (node_located n))
 
-  abbrev views : Spot → List kept.Write
+  abbrev pub views : Spot → List kept.Write
   views p = map (write_view l.instances.all.items) (writes_at l.facts p)
 
   -- WHAT AN INSTANCE SEES

@@ -50,39 +50,39 @@ one_is_tree t n e p q i o v m = record {
 -- ONE MORE
 
 module _ (ns : List Instance) (n : Instance) where
-  old_at : (j : ℕ) → j < length ns → slice_get (ns ++ n ∷ []) j ≡ slice_get ns j
+  pub old_at : (j : ℕ) → j < length ns → slice_get (ns ++ n ∷ []) j ≡ slice_get ns j
   old_at j l =
       let more : j < length (ns ++ n ∷ []) = omega (arith, length-append ns (n ∷ [])) in
       slice_get-get_or (ns ++ n ∷ []) j n more ∙ ap Some (get_or_append_left ns (n ∷ []) n j l) ∙ sym (slice_get-get_or ns j n l)
 
-  new_at : slice_get (ns ++ n ∷ []) (length ns) ≡ Some n
+  pub new_at : slice_get (ns ++ n ∷ []) (length ns) ≡ Some n
   new_at =
       let more : length ns < length (ns ++ n ∷ []) = omega (arith, length-append ns (n ∷ [])) in
       slice_get-get_or (ns ++ n ∷ []) (length ns) n more ∙ ap Some (get_or-append_seam ns n [] n)
 
-  past_at : (j : ℕ) → length ns < j → slice_get (ns ++ n ∷ []) j ≡ None
+  pub past_at : (j : ℕ) → length ns < j → slice_get (ns ++ n ∷ []) j ≡ None
   past_at j l = slice_get_past (ns ++ n ∷ []) j (omega (arith, length-append ns (n ∷ [])))
 
-both : (a b : Bool) → a && b ≡ true → (a ≡ true) × (b ≡ true)
+pub both : (a b : Bool) → a && b ≡ true → (a ≡ true) × (b ≡ true)
 both true b h = (refl, h)
 both false b h = absurd (cc (h))
 
-record IsSameStep (p i at a : ℕ) (k l : Key) : Type 0 where
-  parent_same : p ≡ i
-  at_same : at ≡ a
-  key_same : k ≡ l
+pub record IsSameStep (p i at a : ℕ) (k l : Key) : Type 0 where
+  pub parent_same : p ≡ i
+  pub at_same : at ≡ a
+  pub key_same : k ≡ l
 
-same_step_is : (p i at a : ℕ) (k l : Key) → same_step (p, at, key_number k) (i, a, key_number l) ≡ true → IsSameStep p i at a k l
+pub same_step_is : (p i at a : ℕ) (k l : Key) → same_step (p, at, key_number k) (i, a, key_number l) ≡ true → IsSameStep p i at a k l
 same_step_is p i at a (Number x) (Number y) h =
     let b = both (nat_eq p i && nat_eq at a) (int_eq x y) h in
     let c = both (nat_eq p i) (nat_eq at a) b.0 in
     record { parent_same = eqb-true p i c.0; at_same = eqb-true at a c.1; key_same = same_key-eq (Number x) (Number y) b.1 }
 
-step_itself : (p at : ℕ) (k : Key) → same_step (p, at, key_number k) (p, at, key_number k) ≡ true
+pub step_itself : (p at : ℕ) (k : Key) → same_step (p, at, key_number k) (p, at, key_number k) ≡ true
 step_itself p at (Number x) = rw (eq-eqb p p refl) (rw (eq-eqb at at refl) (same_key-refl (Number x)))
 
 module _ (t u : Instances) (p : ℕ) (s : Step) (g : Given) (o : IsOpen t p s g u) where
-  count : length u.all.items ≡ length t.all.items + 1
+  pub count : length u.all.items ≡ length t.all.items + 1
   count = ap length o.all ∙ length-append t.all.items (o.made ∷ [])
 
   pub stays : (j : ℕ) → j < length t.all.items → slice_get u.all.items j ≡ slice_get t.all.items j
@@ -121,7 +121,7 @@ module _ (t u : Instances) (p : ℕ) (s : Step) (g : Given) (o : IsOpen t p s g 
       | inr other ↦ found_other i at k other ∙ e
     ]
 
-    child_new : IsChild u.all.items p s.at s.key (length t.all.items)
+    pub child_new : IsChild u.all.items p s.at s.key (length t.all.items)
     child_new = record {
       within = omega (arith, count);
       behind = within;
@@ -129,7 +129,7 @@ module _ (t u : Instances) (p : ℕ) (s : Step) (g : Given) (o : IsOpen t p s g 
       path_is = path_comes ∙ ap (λ (z : Path). (s.at, s.key) ∷ z) (sym (path_stays p within));
     }
 
-    child_old : (i at : ℕ) (k : Key) (j : ℕ) → IsChild t.all.items i at k j → IsChild u.all.items i at k j
+    pub child_old : (i at : ℕ) (k : Key) (j : ℕ) → IsChild t.all.items i at k j → IsChild u.all.items i at k j
     child_old i at k j c = record {
       within = omega (arith, count, c.within);
       behind = c.behind;
@@ -137,7 +137,7 @@ module _ (t u : Instances) (p : ℕ) (s : Step) (g : Given) (o : IsOpen t p s g 
       path_is = path_stays j c.within ∙ c.path_is ∙ ap (λ (z : Path). (at, k) ∷ z) (sym (path_stays i (omega (arith, c.within, c.behind))));
     }
 
-    opens : (i at : ℕ) (k : Key) (j : ℕ) → child_at u i at k ≡ Some j → IsChild u.all.items i at k j
+    pub opens : (i at : ℕ) (k : Key) (j : ℕ) → child_at u i at k ≡ Some j → IsChild u.all.items i at k j
     opens i at k j e = elim (cases_Bool (same_step (p, s.at, key_number s.key) (i, at, key_number k))) [
       | inl same ↦
           let x = same_step_is p i s.at at s.key k same in
@@ -148,10 +148,10 @@ module _ (t u : Instances) (p : ℕ) (s : Step) (g : Given) (o : IsOpen t p s g 
       | inr other ↦ child_old i at k j (h.opens i at k j (sym (found_other i at k other) ∙ e))
     ]
 
-    last_or : (j : ℕ) → j < length u.all.items → (j < length t.all.items) ⊎ (j ≡ length t.all.items)
+    pub last_or : (j : ℕ) → j < length u.all.items → (j < length t.all.items) ⊎ (j ≡ length t.all.items)
     last_or j l = elim (cases_lt j (length t.all.items)) [ inl q ↦ inl q | inr q ↦ inr (omega (arith, count)) ]
 
-    opened : (j : ℕ) → 0 < j → j < length u.all.items → IsOpened u j
+    pub opened : (j : ℕ) → 0 < j → j < length u.all.items → IsOpened u j
     opened j l b = elim (last_or j b) [
       | inl q ↦
           let x = h.opened j l q in
@@ -160,7 +160,7 @@ module _ (t u : Instances) (p : ℕ) (s : Step) (g : Given) (o : IsOpen t p s g 
           record { at = s.at; key = s.key; opened = ap (λ (z : ℕ). child_at u (parent_of u.all.items z) s.at s.key) q ∙ ap (λ (z : ℕ). child_at u z s.at s.key) parent_comes ∙ found_itself ∙ ap Some (sym q) }
     ]
 
-    short : (j : ℕ) → length (path_of u.all.items j) ≤ most_steps
+    pub short : (j : ℕ) → length (path_of u.all.items j) ≤ most_steps
     short j = elim (cases_order j (length t.all.items)) [
       | inr (inl q) ↦ subst (λ (z : Path). length z ≤ most_steps) (sym (path_stays j q)) (h.short j)
       | inl q ↦

@@ -39,7 +39,7 @@ module _ (s : Core) (K : Knowledge) (T : Taken) (all : IsSettled s K T) where
     live_taken (called l m c e d) st i = all.called _ _ st _ _ (live_taken l _ m) c e d i
 
     pub closed_taken : {a : Place} → Closed s K a → T.closed a
-    closed_taken (closed l m fs o) = all.closed _ _ _ _ _ l m (λ st i. finished_taken (fs st i)) o
+    closed_taken (closed l m fs o) = all.closed _ _ _ _ _ l (λ st i. live_taken l st i) m (λ st i. finished_taken (fs st i)) o
 
     pub finished_taken : {a : Owned} {path : Path} {st : Stmt} → Finished s K a path st → FinishedBy s K T a path st
     finished_taken (no_target h) = no_target_by h

@@ -72,7 +72,7 @@ pub record IsSettled (s : Core) (K : Knowledge) (T : Taken) : Type 0 where
   pub called : (path : Path) (caller st : Stmt) (c : Call) (f : Function)
       → T.live path caller → c ∈ stmt_calls caller → slice_get s.functions c.function ≡ Some f → length path < most_steps
       → st ∈ block_list f.body → T.live ((c.at, Key.Number (pos 0)) ∷ path) st
-  pub closed : (path : Path) (b : Block) (at n m : ℕ) → Live s K path b → stmt at m (declare n) ∈ block_list b
+  pub closed : (path : Path) (b : Block) (at n m : ℕ) → Live s K path b → ((st : Stmt) → st ∈ block_list b → T.live path st) → stmt at m (declare n) ∈ block_list b
       → ((st : Stmt) → st ∈ block_list b → FinishedBy s K T (local n) path st) → OneWriter K (path, n) → T.closed (path, n)
   pub stored : (p : Place) (v : Scalar) → K (value p (One v)) → T.has p v
   pub in_turn : (path : Path) (at n x : ℕ) (header : Action) (vs : List Value) (k : Key) (b : Block) (v : Scalar)
