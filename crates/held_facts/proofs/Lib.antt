@@ -1,0 +1,5 @@
+pub mod Opening
+pub mod Adding
+pub mod Lines
+pub mod Rounds
+pub mod Fresh
