@@ -1,3 +1,4 @@
 pub mod Lists
 pub mod Firsts
 pub mod Seen
+pub mod Written

@@ -1,0 +1,3 @@
+pub mod Active
+pub mod Never
+pub mod Turns
