@@ -1,5 +1,5 @@
 -- The tests for targets find just the targets.
-use Rattle.std.specs.Prelude.{◌≡◌, ◌⊎◌, Bool, true, false, ◌||◌, List, [], ◌∷◌, refl}
+use Rattle.std.specs.Prelude.{◌≡◌, Bool, true, ◌||◌, List, [], ◌∷◌, refl}
 use Rattle.std.proofs.Common.{inl, inr, ap, subst}
 use Rattle.std.proofs.lemmas.Bool.{eqb-true, eq-eqb}
 use Rattle.syntax_trees.specs.Core.{Owned, local, input, output, Name, Stmt, stmt, Action, declare, call_alone, assign, fill, insert, print, assert, when, choose, range, each, wait, Block, no_stmts, stmts}
@@ -7,6 +7,7 @@ use Rattle.syntax_trees.specs.Members.{◌∈◌, first, later}
 use Rattle.syntax_trees.specs.Parts.{owners, targets, targets_of, targets_in}
 use Rattle.syntax_trees.proofs.Members.{to_left, to_right, either}
 use Rattle.whole_facts.specs.Targeted.{same_owned, names_owned, aims, aims_of, aims_in}
+use Rattle.whole_facts.proofs.Growing.{or_cases, or_right}
 
 pub same_so : (x y : Owned) → same_owned x y ≡ true → x ≡ y
 same_so (local m) (local n) h = ap local (eqb-true m n h)
@@ -27,16 +28,8 @@ same_itself (output n) = eq-eqb n n refl
 pub same_all : (x y : Owned) → x ≡ y → same_owned x y ≡ true
 same_all x y e = subst (λ (z : Owned). same_owned x z ≡ true) e (same_itself x)
 
-or_parts : (a b : Bool) → a || b ≡ true → (a ≡ true) ⊎ (b ≡ true)
-or_parts true b h = inl refl
-or_parts false b h = inr h
-
-or_left : (a b : Bool) → a ≡ true → a || b ≡ true
-or_left a b h = ap (λ (z : Bool). z || b) h
-
-or_right : (a b : Bool) → b ≡ true → a || b ≡ true
-or_right true b h = refl
-or_right false b h = h
+pub or_left : {a : Bool} (b : Bool) → a ≡ true → a || b ≡ true
+or_left b h = ap (λ (z : Bool). z || b) h
 
 one_so : (x y : Owned) → same_owned y x ≡ true → x ∈ (y ∷ [])
 one_so x y h = subst (λ (z : Owned). z ∈ (y ∷ [])) (same_so y x h) first
@@ -47,7 +40,7 @@ one_all x y (later m) = elim m [ ]
 
 named_so : (x : Owned) (ys : List Name) → names_owned x ys ≡ true → x ∈ owners ys
 named_so x [] h = absurd (cc (h))
-named_so x (y ∷ ys) h = elim (or_parts (same_owned y.what x) (names_owned x ys) h) [
+named_so x (y ∷ ys) h = elim (or_cases (same_owned y.what x) (names_owned x ys) h) [
   | inl q ↦ subst (λ (z : Owned). z ∈ (y.what ∷ owners ys)) (same_so y.what x q) first
   | inr q ↦ later (named_so x ys q)
 ]
@@ -55,8 +48,8 @@ named_so x (y ∷ ys) h = elim (or_parts (same_owned y.what x) (names_owned x ys
 named_all : (x : Owned) (ys : List Name) → x ∈ owners ys → names_owned x ys ≡ true
 named_all x [] m = elim m [ ]
 named_all x (y ∷ ys) m = elim (either (y.what ∷ []) (owners ys) m) [
-  | inl q ↦ or_left (same_owned y.what x) (names_owned x ys) (one_all x y.what q)
-  | inr q ↦ or_right (same_owned y.what x) (names_owned x ys) (named_all x ys q)
+  | inl q ↦ or_left (names_owned x ys) (one_all x y.what q)
+  | inr q ↦ or_right (same_owned y.what x) (named_all x ys q)
 ]
 
 mutual
@@ -72,7 +65,7 @@ mutual
   aimed_so x (print p e) h = absurd (cc (h))
   aimed_so x (assert p e) h = absurd (cc (h))
   aimed_so x (when c b) h = block_so x b h
-  aimed_so x (choose c b d) h = elim (or_parts (aims_in x b) (aims_in x d) h) [
+  aimed_so x (choose c b d) h = elim (or_cases (aims_in x b) (aims_in x d) h) [
     | inl q ↦ to_left (targets_in b) (targets_in d) (block_so x b q)
     | inr q ↦ to_right (targets_in b) (targets_in d) (block_so x d q)
   ]
@@ -82,7 +75,7 @@ mutual
 
   block_so : (x : Owned) (b : Block) → aims_in x b ≡ true → x ∈ targets_in b
   block_so x no_stmts h = absurd (cc (h))
-  block_so x (stmts s b) h = elim (or_parts (aims x s) (aims_in x b) h) [
+  block_so x (stmts s b) h = elim (or_cases (aims x s) (aims_in x b) h) [
     | inl q ↦ to_left (targets s) (targets_in b) (aims_so x s q)
     | inr q ↦ to_right (targets s) (targets_in b) (block_so x b q)
   ]
@@ -101,8 +94,8 @@ mutual
   aimed_all x (assert p e) m = elim m [ ]
   aimed_all x (when c b) m = block_all x b m
   aimed_all x (choose c b d) m = elim (either (targets_in b) (targets_in d) m) [
-    | inl q ↦ or_left (aims_in x b) (aims_in x d) (block_all x b q)
-    | inr q ↦ or_right (aims_in x b) (aims_in x d) (block_all x d q)
+    | inl q ↦ or_left (aims_in x d) (block_all x b q)
+    | inr q ↦ or_right (aims_in x b) (block_all x d q)
   ]
   aimed_all x (range lo hi st v k b) m = block_all x b m
   aimed_all x (each a v k b) m = block_all x b m
@@ -111,6 +104,6 @@ mutual
   block_all : (x : Owned) (b : Block) → x ∈ targets_in b → aims_in x b ≡ true
   block_all x no_stmts m = elim m [ ]
   block_all x (stmts s b) m = elim (either (targets s) (targets_in b) m) [
-    | inl q ↦ or_left (aims x s) (aims_in x b) (aims_all x s q)
-    | inr q ↦ or_right (aims x s) (aims_in x b) (block_all x b q)
+    | inl q ↦ or_left (aims_in x b) (aims_all x s q)
+    | inr q ↦ or_right (aims x s) (block_all x b q)
   ]

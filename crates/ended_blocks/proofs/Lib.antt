@@ -5,3 +5,7 @@ pub mod Parts
 pub mod Finishing
 pub mod Right
 pub mod Ending
+pub mod Indexes
+pub mod Nevers
+pub mod Apart
+pub mod Turning

@@ -1,5 +1,5 @@
 -- What an instance sees is what is known and taken at its path.
-use Rattle.std.specs.Prelude.{◌≡◌, ℕ, ◌<◌, Bool, true, false, ◌&&◌, List, [], ◌∷◌, length, map, is_some, Option, Some, None, refl}
+use Rattle.std.specs.Prelude.{◌≡◌, ℕ, ◌<◌, Bool, true, ◌&&◌, List, [], ◌∷◌, length, map, is_some, Option, Some, None, refl}
 use Rattle.std.proofs.Common.{sym, ap, ◌∙◌, subst}
 use Rattle.syntax_trees.specs.Core.{Awaited, scalar, array, Block, wait, Core}
 use Rattle.syntax_trees.specs.Facts.{Knowledge, OneWriter}
@@ -16,6 +16,7 @@ use Rattle.whole_facts.specs.Keeping.{kept_of, IsPlaced}
 use Rattle.whole_facts.specs.Paths.{path_of}
 use Rattle.whole_facts.specs.Sighted.{sight_of}
 use Rattle.whole_facts.specs.Taking.{SeesBy}
+use Rattle.whole_facts.proofs.Growing.{both}
 use Rattle.whole_facts.proofs.Keeping.{sees_kept}
 use Rattle.ended_blocks.specs.Active.{Active, taken_by}
 
@@ -41,10 +42,6 @@ module _ (s : Core) (K : Knowledge) (l : Learned) (ls : List Active) (placed : I
 pub some_is : {X : Type 0} (o : Option X) → is_some o ≡ true → (x : X) × (o ≡ Some x)
 some_is (Some x) e = (x, refl)
 some_is None e = absurd (cc (e))
-
-both : (a b : Bool) → a && b ≡ true → (a ≡ true) × (b ≡ true)
-both true b h = (refl, h)
-both false b h = absurd (cc (h))
 
 both_true : {a b : Bool} → a ≡ true → b ≡ true → a && b ≡ true
 both_true {a} {b} p q = ap (λ (z : Bool). z && b) p ∙ q

@@ -1,21 +1,30 @@
 //! Laws of ended blocks. Each function does nothing; its contract is the law.
-ghost use Rattle.std.specs.Prelude.{◌≡◌, ◌<◌, ℕ, List, length, true};
-ghost use Rattle.syntax_trees.specs.Core.{Awaited, Core, Owned, Stmt};
+ghost use Rattle.std.specs.Prelude.{◌≡◌, ◌<◌, ℕ, List, Some, length, true};
+ghost use Rattle.values.specs.declared.value.Scalar.{Scalar};
+ghost use Rattle.values.specs.declared.value.Value.{Value};
+ghost use Rattle.syntax_trees.specs.Core.{Action, Awaited, Block, Core, Owned, Stmt, stmt};
 ghost use Rattle.syntax_trees.specs.Facts.{OneWriter};
 ghost use Rattle.syntax_trees.specs.Meaning.{IsTarget, Known};
 ghost use Rattle.syntax_trees.specs.Members.{◌∈◌};
-ghost use Rattle.syntax_trees.specs.Parts.{block_list};
-ghost use Rattle.syntax_trees.specs.Places.{Place};
-ghost use Rattle.whole_meaning.specs.Taken.{ComeBy, FinishedBy};
-ghost use Rattle.whole_facts.specs.Chosen.{have_come_in};
+ghost use Rattle.syntax_trees.specs.Openings.{InTurn};
+ghost use Rattle.syntax_trees.specs.Parts.{block_list, script_stmts};
+ghost use Rattle.syntax_trees.specs.Places.{Path, Place};
+ghost use Rattle.syntax_trees.specs.Single.{SinglyAssigned};
+ghost use Rattle.syntax_trees.specs.WellFormed.{LoopsApart, WellFormed};
+ghost use Rattle.whole_meaning.specs.Environment.{Sight};
+ghost use Rattle.whole_meaning.specs.Taken.{ComeBy, FinishedBy, ReadyBy};
+ghost use Rattle.whole_facts.specs.Chosen.{Chosen, chosen_in, count_in, have_come_in, key_in};
 ghost use Rattle.whole_facts.specs.Ending.{Goal, IsDone};
 ghost use Rattle.whole_facts.specs.Growing.{KeepsFacts};
 ghost use Rattle.whole_facts.specs.Keeping.{kept_of, IsPlaced};
-ghost use Rattle.whole_facts.specs.Paths.{path_of};
+ghost use Rattle.whole_facts.specs.Paths.{path_of, IsTree};
 ghost use Rattle.whole_facts.specs.Sighted.{sight_of};
+ghost use Rattle.whole_facts.specs.Store.{one_writer_in, variable_in, writes_at};
 ghost use Rattle.whole_facts.specs.Taking.{SeesBy};
 ghost use Rattle.whole_facts.specs.Targeted.{aims};
 ghost use Rattle.ended_blocks.specs.Active.{Active, active, taken_by, HasIndexes, IsAllOpen, IsRight};
+ghost use Rattle.ended_blocks.specs.Never.{never_ends};
+ghost use Rattle.ended_blocks.specs.Turns.{turn_variables};
 
 use whole_facts::learned::Learned;
 
@@ -45,4 +54,32 @@ pub fn what_is_done()
     ensures ended { (s : Core) (n : ℕ) (l : Learned) (ls : List Active) → IsPlaced s l.instances → KeepsFacts (Known s n) l → IsRight s (Known s n) l ls → IsAllOpen s (Known s n) l ls → HasIndexes s (Known s n)
         → (g : Goal) → g.instance < length l.instances.all.items → ((st : Stmt) → st ∈ block_list g.block → active g.instance st ∈ ls)
         → ((st : Stmt) → st ∈ block_list g.block → FinishedBy s (Known s n) (taken_by l ls) g.what (path_of l.instances.all.items g.instance) st) → IsDone s l g }
+{}
+
+/// Of an accepted script the index of each element that is known is known.
+pub fn what_was_indexed()
+    ensures { (s : Core) → WellFormed s → SinglyAssigned s → (n : ℕ) → HasIndexes s (Known s n) }
+{}
+
+/// A block in which a variable never ends is not finished for it.
+pub fn what_never_ends()
+    ensures { (s : Core) (n : ℕ) (l : Learned) (ls : List Active) (levels : ℕ) (x : Owned) (path : Path) (b : Block) → never_ends s levels x b ≡ true
+        → ((st : Stmt) → st ∈ block_list b → FinishedBy s (Known s n) (taken_by l ls) x path st) → ⊥ }
+{}
+
+/// Where the facts that were learned are those that are known, no two writes of an array have one key just where no key has two
+/// writers.
+pub fn one_writer_a_key()
+    ensures so { (s : Core) (n : ℕ) (l : Learned) → IsTree l.instances → KeepsFacts (Known s n) l → (i : ℕ) → i < length l.instances.all.items → (node : ℕ)
+        → one_writer_in (writes_at l.facts (record { instance = i; node = node })) ≡ true → OneWriter (Known s n) (path_of l.instances.all.items i, node) }
+    ensures all { (s : Core) (n : ℕ) (l : Learned) → IsTree l.instances → KeepsFacts (Known s n) l → (i : ℕ) → i < length l.instances.all.items → (node : ℕ)
+        → OneWriter (Known s n) (path_of l.instances.all.items i, node) → one_writer_in (writes_at l.facts (record { instance = i; node = node })) ≡ true }
+{}
+
+/// Where an instance sees what is known and taken at a path, the variables of a loop that is ready there are in each turn what
+/// they are given.
+pub fn what_a_variable_is()
+    ensures { (s : Core) (n : ℕ) (l : Learned) (ls : List Active) (path : Path) (g : Sight) → LoopsApart s → SeesBy s (Known s n) (taken_by l ls) path g
+        → (at node : ℕ) (header : Action) (vs : List Value) → stmt at node header ∈ script_stmts s → (c : Chosen) → chosen_in g header ≡ Some c → ReadyBy s (Known s n) (taken_by l ls) path header vs
+        → (i : ℕ) → i < count_in c → (x : ℕ) (v : Scalar) → InTurn header vs (key_in c i) x v → variable_in (turn_variables header c i) x ≡ Some v }
 {}

@@ -13,12 +13,12 @@ use Rattle.syntax_trees.specs.Openings.{Bounds, bounds, Opens, item, InTurn, ran
 use Rattle.whole_facts.specs.Chosen.{Chosen, turns, items, key_in, value_at_turn, item_key, item_value, turns_by, turns_of, chosen_by, OpensAt}
 
 -- an element stands at a number
-record IsAt (e : Element) (es : List Element) : Type 0 where
-  index : ℕ
-  below : index < length es
-  there : slice_get es index ≡ Some e
+pub record IsAt (e : Element) (es : List Element) : Type 0 where
+  pub index : ℕ
+  pub below : index < length es
+  pub there : slice_get es index ≡ Some e
 
-at_number : (e : Element) (es : List Element) → e ∈ es → IsAt e es
+pub at_number : (e : Element) (es : List Element) → e ∈ es → IsAt e es
 at_number e es first = record { index = 0; below = omega arith; there = refl }
 at_number e es (later {xs = rest} m) =
     let r = at_number e rest m in
@@ -26,12 +26,12 @@ at_number e es (later {xs = rest} m) =
     record { index = suc r.index; below = below; there = r.there }
 
 -- and what stands at a number is an element
-record HasAt (es : List Element) (i : ℕ) : Type 0 where
-  found : Element
-  there : slice_get es i ≡ Some found
-  among : found ∈ es
+pub record HasAt (es : List Element) (i : ℕ) : Type 0 where
+  pub found : Element
+  pub there : slice_get es i ≡ Some found
+  pub among : found ∈ es
 
-has_at : (es : List Element) (i : ℕ) → i < length es → HasAt es i
+pub has_at : (es : List Element) (i : ℕ) → i < length es → HasAt es i
 has_at [] i l = absurd (omega (arith, l))
 has_at (e ∷ es) zero l = record { found = e; there = refl; among = first }
 has_at (e ∷ es) (suc i) l =

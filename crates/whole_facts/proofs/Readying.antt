@@ -18,7 +18,7 @@ use Rattle.whole_facts.proofs.Choosing.{decided, decides, opens_all, opens_so}
 use Rattle.whole_facts.proofs.Looping.{each_all, each_so}
 
 -- cells of which the values are seen are known
-cells_so : (s : Core) (K : Knowledge) (T : Taken) (path : Path) (g : Sight) → SeesBy s K T path g → (cs : List Cell) (vs : List Value) → all_seen g cs ≡ Some vs → KnownAll K path cs vs
+pub cells_so : (s : Core) (K : Knowledge) (T : Taken) (path : Path) (g : Sight) → SeesBy s K T path g → (cs : List Cell) (vs : List Value) → all_seen g cs ≡ Some vs → KnownAll K path cs vs
 cells_so s K T path g sees [] vs e = let same : [] ≡ vs = cc (e) in subst (λ (z : List Value). KnownAll K path [] z) same no_cell
 cells_so s K T path g sees (c ∷ cs) vs e = by (λ us q. cells_so s K T path g sees cs us q) (g.cell c.node) refl (all_seen g cs) refl e
   where
@@ -30,7 +30,7 @@ cells_so s K T path g sees (c ∷ cs) vs e = by (λ us q. cells_so s K T path g 
     by rest None p r q f = absurd (cc (f))
 
 -- and cells that are known are seen
-cells_all : (s : Core) (K : Knowledge) (T : Taken) (path : Path) (g : Sight) → SeesBy s K T path g → (cs : List Cell) (vs : List Value) → KnownAll K path cs vs → all_seen g cs ≡ Some vs
+pub cells_all : (s : Core) (K : Knowledge) (T : Taken) (path : Path) (g : Sight) → SeesBy s K T path g → (cs : List Cell) (vs : List Value) → KnownAll K path cs vs → all_seen g cs ≡ Some vs
 cells_all s K T path g sees cs vs no_cell = refl
 cells_all s K T path g sees cs vs (next_cell {c = c} {cs = ds} {v = v} {vs = us} k m) =
     ap (λ (z : Option Value). with_value z (all_seen g ds)) (sees.cell_all c.node v k) ∙ ap (λ (z : Option (List Value)). with_value (Some v) z) (cells_all s K T path g sees ds us m)
@@ -40,7 +40,7 @@ pub record IsReady (s : Core) (K : Knowledge) (T : Taken) (path : Path) (a : Act
   pub ready : ReadyBy s K T path a values
   pub opens : OpensBy a values c
 
-by_values : (s : Core) (K : Knowledge) (T : Taken) (path : Path) (g : Sight) → SeesBy s K T path g → (a : Action) (c : Chosen) → chosen_from a (all_seen g (outer_cells a)) ≡ Some c → IsReady s K T path a c
+pub by_values : (s : Core) (K : Knowledge) (T : Taken) (path : Path) (g : Sight) → SeesBy s K T path g → (a : Action) (c : Chosen) → chosen_from a (all_seen g (outer_cells a)) ≡ Some c → IsReady s K T path a c
 by_values s K T path g sees a c e = by (all_seen g (outer_cells a)) refl e
   where
     by : (o : Option (List Value)) → all_seen g (outer_cells a) ≡ o → chosen_from a o ≡ Some c → IsReady s K T path a c
@@ -74,7 +74,7 @@ pub record HasChosen (g : Sight) (a : Action) (vs : List Value) : Type 0 where
   pub chosen_is : chosen_in g a ≡ Some choice
   pub opens : OpensBy a vs choice
 
-from_cells : (g : Sight) (a : Action) (vs : List Value) (c : Chosen) → Branches a → all_seen g (outer_cells a) ≡ Some vs → chosen_by a vs ≡ Some c → chosen_in g a ≡ Some c
+pub from_cells : (g : Sight) (a : Action) (vs : List Value) (c : Chosen) → Branches a → all_seen g (outer_cells a) ≡ Some vs → chosen_by a vs ≡ Some c → chosen_in g a ≡ Some c
 from_cells g (when o b) vs c _ p e = ap (chosen_from (when o b)) p ∙ e
 from_cells g (choose o b d) vs c _ p e = ap (chosen_from (choose o b d)) p ∙ e
 from_cells g (range lo hi st x t b) vs c _ p e = ap (chosen_from (range lo hi st x t b)) p ∙ e
