@@ -9,3 +9,4 @@ pub mod Indexes
 pub mod Nevers
 pub mod Apart
 pub mod Turning
+pub mod Settling

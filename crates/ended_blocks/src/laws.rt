@@ -4,13 +4,14 @@ ghost use Rattle.values.specs.declared.value.Scalar.{Scalar};
 ghost use Rattle.values.specs.declared.value.Value.{Value};
 ghost use Rattle.syntax_trees.specs.Core.{Action, Awaited, Block, Core, Owned, Stmt, stmt};
 ghost use Rattle.syntax_trees.specs.Facts.{OneWriter};
-ghost use Rattle.syntax_trees.specs.Meaning.{IsTarget, Known};
+ghost use Rattle.syntax_trees.specs.Meaning.{IsTarget, Known, LiveStmt};
 ghost use Rattle.syntax_trees.specs.Members.{◌∈◌};
 ghost use Rattle.syntax_trees.specs.Openings.{InTurn};
 ghost use Rattle.syntax_trees.specs.Parts.{block_list, script_stmts};
 ghost use Rattle.syntax_trees.specs.Places.{Path, Place};
 ghost use Rattle.syntax_trees.specs.Single.{SinglyAssigned};
 ghost use Rattle.syntax_trees.specs.WellFormed.{LoopsApart, WellFormed};
+ghost use Rattle.kept_facts.specs.Kept.{Keeps};
 ghost use Rattle.whole_meaning.specs.Environment.{Sight};
 ghost use Rattle.whole_meaning.specs.Taken.{ComeBy, FinishedBy, ReadyBy};
 ghost use Rattle.whole_facts.specs.Chosen.{Chosen, chosen_in, count_in, have_come_in, key_in};
@@ -22,7 +23,7 @@ ghost use Rattle.whole_facts.specs.Sighted.{sight_of};
 ghost use Rattle.whole_facts.specs.Store.{one_writer_in, variable_in, writes_at};
 ghost use Rattle.whole_facts.specs.Taking.{SeesBy};
 ghost use Rattle.whole_facts.specs.Targeted.{aims};
-ghost use Rattle.ended_blocks.specs.Active.{Active, active, taken_by, HasIndexes, IsAllOpen, IsRight};
+ghost use Rattle.ended_blocks.specs.Active.{Active, active, Candidate, taken_by, HasIndexes, IsAllClosed, IsAllOpen, IsListed, IsRight};
 ghost use Rattle.ended_blocks.specs.Never.{never_ends};
 ghost use Rattle.ended_blocks.specs.Turns.{turn_variables};
 
@@ -82,4 +83,14 @@ pub fn what_a_variable_is()
     ensures { (s : Core) (n : ℕ) (l : Learned) (ls : List Active) (path : Path) (g : Sight) → LoopsApart s → SeesBy s (Known s n) (taken_by l ls) path g
         → (at node : ℕ) (header : Action) (vs : List Value) → stmt at node header ∈ script_stmts s → (c : Chosen) → chosen_in g header ≡ Some c → ReadyBy s (Known s n) (taken_by l ls) path header vs
         → (i : ℕ) → i < count_in c → (x : ℕ) (v : Scalar) → InTurn header vs (key_in c i) x v → variable_in (turn_variables header c i) x ≡ Some v }
+{}
+
+/// Of an accepted script, where the facts that were learned are those that are known after so many rounds, what is listed and marked
+/// is right, all that is ready is open and all that is finished is closed, what is kept is what is known, and what is live is
+/// listed.
+pub fn what_is_settled()
+    ensures keeps { (s : Core) → WellFormed s → SinglyAssigned s → (n levels : ℕ) (l : Learned) (ls : List Active) (arrays : List Candidate) → IsPlaced s l.instances → KeepsFacts (Known s n) l
+        → IsRight s (Known s n) l ls → IsAllOpen s (Known s n) l ls → IsAllClosed s levels l ls arrays → Keeps s (Known s n) (kept_of l) }
+    ensures live { (s : Core) → WellFormed s → SinglyAssigned s → (n levels : ℕ) (l : Learned) (ls : List Active) (arrays : List Candidate) → IsPlaced s l.instances → KeepsFacts (Known s n) l
+        → IsRight s (Known s n) l ls → IsAllOpen s (Known s n) l ls → IsAllClosed s levels l ls arrays → (path : Path) (st : Stmt) → LiveStmt s (Known s n) path st → IsListed l ls path st }
 {}
