@@ -1,5 +1,5 @@
 -- What the variables of a loop are in a turn is what they are given.
-use Rattle.std.specs.Prelude.{◌≡◌, ℕ, ◌<◌, pos, Bool, true, false, IsTrue, List, [], ◌∷◌, length, nat_eq, Option, Some, None, Result, Ok, Err, slice_get, if◌then◌else◌, refl}
+use Rattle.std.specs.Prelude.{◌≡◌, ◌⊎◌, ℕ, ◌<◌, pos, Bool, true, false, IsTrue, List, [], ◌∷◌, length, nat_eq, Option, Some, None, Result, Ok, Err, slice_get, if◌then◌else◌, refl}
 use Rattle.std.proofs.Common.{inl, inr, sym, ap, ◌∙◌, subst}
 use Rattle.std.proofs.lemmas.Bool.{cases_Bool, eqb-true, eq-eqb}
 use Rattle.values.specs.declared.fault.OpFault.{OpFault}
@@ -25,7 +25,7 @@ use Rattle.whole_facts.specs.declared.instances.Variable.{Variable}
 use Rattle.whole_facts.specs.Chosen.{Chosen, chosen_from, chosen_in, count_in, item_key, item_value, items, items_seen, key_in, turns, turns_by, turns_of}
 use Rattle.whole_facts.specs.Store.{variable_in}
 use Rattle.whole_facts.specs.Taking.{SeesBy}
-use Rattle.whole_facts.proofs.Looping.{has_at}
+use Rattle.whole_facts.proofs.Looping.{each_turn, has_at}
 use Rattle.whole_facts.proofs.Readying.{cells_all}
 use Rattle.ended_blocks.specs.Turns.{key_variable, turn_variables}
 
@@ -120,3 +120,71 @@ module _ (s : Core) (loops : LoopsApart s) (at n : ℕ) where
         subst (λ (z : Chosen). variable_in (turn_variables (each a x t b) z i) y ≡ Some v) is (in_each a x t b es m elements.in_order i below k key y v turn)
     by_ready (each a x t b) vs m c e (by_cells known decides) i l k q y v turn = elim decides [ ]
     by_ready _ vs m c e ready i l k q y v turn = elim turn [ ]
+
+-- AND WHAT THEY ARE GIVEN THEY ARE
+
+-- a variable that is found is the one for the value, or the one for the key
+record GivenAt (x y : ℕ) (u v : Scalar) : Type 0 where
+  node_is : x ≡ y
+  value_is : u ≡ v
+
+record KeyAt (t : Option ℕ) (k : Key) (y : ℕ) (v : Scalar) : Type 0 where
+  key_node : ℕ
+  key_is : t ≡ Some key_node
+  node_is : key_node ≡ y
+  value_is : key_value k ≡ v
+
+found_one : (x y : ℕ) (u v : Scalar) (vs : List Variable) → variable_in (record { node = x; value = u } ∷ vs) y ≡ Some v → GivenAt x y u v ⊎ (variable_in vs y ≡ Some v)
+found_one x y u v vs h = by (nat_eq x y) refl h
+  where
+    by : (b : Bool) → nat_eq x y ≡ b → (if b then Some u else variable_in vs y) ≡ Some v → GivenAt x y u v ⊎ (variable_in vs y ≡ Some v)
+    by true e q = inl (record { node_is = eqb-true x y e; value_is = cc (q) })
+    by false e q = inr q
+
+key_found : (t : Option ℕ) (k : Key) (y : ℕ) (v : Scalar) → variable_in (key_variable t k) y ≡ Some v → KeyAt t k y v
+key_found (Some t) k y v h = elim (found_one t y (key_value k) v [] h) [
+  | inl g ↦ record { key_node = t; key_is = refl; node_is = g.node_is; value_is = g.value_is }
+  | inr q ↦ absurd (cc (q))
+]
+key_found None k y v h = absurd (cc (h))
+
+given_range : (lo hi : Outer) (st : Option Outer) (x : ℕ) (t : Option ℕ) (b : Block) (vs : List Value) (r : Bounds) (count : ℕ) → bounds vs ≡ Some r → (i : ℕ) (y : ℕ) (v : Scalar)
+    → variable_in (turn_variables (range lo hi st x t b) (turns r.low r.step count) i) y ≡ Some v → InTurn (range lo hi st x t b) vs (Key.Number (pos i)) y v
+given_range lo hi st x t b vs r count p i y v h = elim (found_one x y (Number (value_in r.low r.step i)) v (key_variable t (Key.Number (pos i))) h) [
+  | inl g ↦ subst (λ (z : ℕ). InTurn (range lo hi st x t b) vs (Key.Number (pos i)) z v) g.node_is (range_value p (sym g.value_is))
+  | inr q ↦
+      let k = key_found t (Key.Number (pos i)) y v q in
+      subst (λ (z : Option ℕ). InTurn (range lo hi st x z b) vs (Key.Number (pos i)) y v) (sym k.key_is)
+      (subst (λ (z : ℕ). InTurn (range lo hi st x (Some k.key_node) b) vs (Key.Number (pos i)) z v) k.node_is (range_turn (sym k.value_is)))
+]
+
+given_each : (a : Name) (x : ℕ) (t : Option ℕ) (b : Block) (es : List Element) (i : ℕ) → i < length es → (y : ℕ) (v : Scalar)
+    → variable_in (turn_variables (each a x t b) (items es) i) y ≡ Some v → InTurn (each a x t b) (Many es ∷ []) (key_in (items es) i) y v
+given_each a x t b es i l y v h = elim (found_one x y (item_value (slice_get es i)) v (key_variable t (item_key (slice_get es i))) h) [
+  | inl g ↦
+      subst (λ (z : ℕ). InTurn (each a x t b) (Many es ∷ []) (key_in (items es) i) z v) g.node_is
+      (subst (λ (z : Scalar). InTurn (each a x t b) (Many es ∷ []) (key_in (items es) i) x z) g.value_is (each_turn a x t b es i l))
+  | inr q ↦
+      let k = key_found t (item_key (slice_get es i)) y v q in
+      subst (λ (z : Option ℕ). InTurn (each a x z b) (Many es ∷ []) (key_in (items es) i) y v) (sym k.key_is)
+      (subst (λ (z : ℕ). InTurn (each a x (Some k.key_node) b) (Many es ∷ []) (key_in (items es) i) z v) k.node_is (each_key (sym k.value_is)))
+]
+
+module _ (s : Core) (K : Knowledge) (T : Taken) (path : Path) (g : Sight) (sees : SeesBy s K T path g) where
+  pub by_given : (header : Action) (vs : List Value) → (c : Chosen) → chosen_in g header ≡ Some c → ReadyBy s K T path header vs → (i : ℕ) → i < count_in c → (y : ℕ) (v : Scalar)
+      → variable_in (turn_variables header c i) y ≡ Some v → InTurn header vs (key_in c i) y v
+  by_given (range lo hi st x t b) vs c e (by_cells known decides) i l y v h =
+      let seen = cells_all s K T path g sees (outer_cells (range lo hi st x t b)) vs known in
+      let chosen : turns_of (bounds vs) ≡ Some c = sym (ap (chosen_from (range lo hi st x t b)) seen) ∙ e in
+      let r = turned vs c chosen in
+      let found = subst (λ (z : Chosen). variable_in (turn_variables (range lo hi st x t b) z i) y ≡ Some v) (sym r.chosen_is) h in
+      subst (λ (z : Chosen). InTurn (range lo hi st x t b) vs (key_in z i) y v) r.chosen_is (given_range lo hi st x t b vs r.range_is r.number r.bounds_are i y v found)
+  by_given (each a x t b) vs c e (by_source {es = es} closed elements) i l y v h =
+      let same : es ≡ g.elements a = sees.elements_all a es closed elements in
+      let chosen : Some (items es) ≡ Some c = ap (λ (z : List Element). Some (items z)) same ∙ sym (ap (λ (z : Bool). items_seen z (g.elements a)) (sees.closed_all a closed)) ∙ e in
+      let is : items es ≡ c = cc (chosen) in
+      let below : i < length es = subst (λ (z : Chosen). i < count_in z) (sym is) l in
+      let found = subst (λ (z : Chosen). variable_in (turn_variables (each a x t b) z i) y ≡ Some v) (sym is) h in
+      subst (λ (z : Chosen). InTurn (each a x t b) (Many es ∷ []) (key_in z i) y v) is (given_each a x t b es i below y v found)
+  by_given (each a x t b) vs c e (by_cells known decides) i l y v h = elim decides [ ]
+  by_given _ vs c e ready i l y v h = absurd (cc (h))

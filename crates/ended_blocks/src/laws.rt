@@ -77,12 +77,15 @@ pub fn one_writer_a_key()
         → OneWriter (Known s n) (path_of l.instances.all.items i, node) → one_writer_in (writes_at l.facts (record { instance = i; node = node })) ≡ true }
 {}
 
-/// Where an instance sees what is known and taken at a path, the variables of a loop that is ready there are in each turn what
+/// Where an instance sees what is known and taken at a path, the variables of a loop that is ready there are in each turn just what
 /// they are given.
 pub fn what_a_variable_is()
-    ensures { (s : Core) (n : ℕ) (l : Learned) (ls : List Active) (path : Path) (g : Sight) → LoopsApart s → SeesBy s (Known s n) (taken_by l ls) path g
+    ensures given { (s : Core) (n : ℕ) (l : Learned) (ls : List Active) (path : Path) (g : Sight) → LoopsApart s → SeesBy s (Known s n) (taken_by l ls) path g
         → (at node : ℕ) (header : Action) (vs : List Value) → stmt at node header ∈ script_stmts s → (c : Chosen) → chosen_in g header ≡ Some c → ReadyBy s (Known s n) (taken_by l ls) path header vs
         → (i : ℕ) → i < count_in c → (x : ℕ) (v : Scalar) → InTurn header vs (key_in c i) x v → variable_in (turn_variables header c i) x ≡ Some v }
+    ensures so { (s : Core) (n : ℕ) (l : Learned) (ls : List Active) (path : Path) (g : Sight) → SeesBy s (Known s n) (taken_by l ls) path g
+        → (header : Action) (vs : List Value) (c : Chosen) → chosen_in g header ≡ Some c → ReadyBy s (Known s n) (taken_by l ls) path header vs
+        → (i : ℕ) → i < count_in c → (x : ℕ) (v : Scalar) → variable_in (turn_variables header c i) x ≡ Some v → InTurn header vs (key_in c i) x v }
 {}
 
 /// Of an accepted script, where the facts that were learned are those that are known after so many rounds, what is listed and marked
