@@ -1,0 +1,9 @@
+pub mod Going
+pub mod Opening
+pub mod Blocks
+pub mod Entering
+pub mod Right
+pub mod Final
+pub mod Learning
+pub mod Calling
+pub mod Turning
