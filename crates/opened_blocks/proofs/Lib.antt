@@ -7,3 +7,4 @@ pub mod Final
 pub mod Learning
 pub mod Calling
 pub mod Turning
+pub mod Closing

@@ -1,6 +1,9 @@
 //! Laws of what is opened. Each function does nothing; its contract is the law.
-ghost use Rattle.std.specs.Prelude.{◌≡◌, ◌<◌, ◌++◌, [], ℕ, suc, pos, List, length, None, Some, slice_get};
+ghost use Rattle.std.specs.Prelude.{◌≡◌, ◌<◌, ◌++◌, [], ℕ, suc, pos, List, length, None, Some, slice_get, cond, true};
 ghost use Rattle.values.specs.declared.key.Key.{Key};
+ghost use Rattle.whole_facts.specs.declared.facts.Place.{Place as Spot};
+ghost use Rattle.whole_facts.specs.Ending.{IsDone};
+ghost use Rattle.whole_facts.specs.Sighted.{closed_at};
 ghost use Rattle.syntax_trees.specs.Core.{Action, Block, Call, Core, Function, Stmt, stmt};
 ghost use Rattle.syntax_trees.specs.Facts.{Knowledge};
 ghost use Rattle.syntax_trees.specs.Meaning.{Known};
@@ -10,7 +13,7 @@ ghost use Rattle.whole_facts.specs.Chosen.{Chosen, block_in, chosen_in, count_in
 ghost use Rattle.whole_facts.specs.Sighted.{sight_of};
 ghost use Rattle.ended_blocks.specs.Turns.{turn_variables};
 ghost use Rattle.whole_facts.specs.Paths.{child_at, path_of, IsOpen};
-ghost use Rattle.whole_facts.specs.Store.{given_at, spot, spots, variable_in};
+ghost use Rattle.whole_facts.specs.Store.{given_at, one_writer_in, same_place, spot, spots, variable_in, writes_at};
 ghost use Rattle.held_facts.specs.Held.{with_instances};
 ghost use Rattle.opened_blocks.specs.Opened.{ArePassed, GoesOn, IsChildOf, IsOpening, IsSoFar, IsUnready, OffsetsApart, Origin};
 ghost use Rattle.opened_blocks.specs.Listed.{all_active, declares};
@@ -21,7 +24,7 @@ ghost use Rattle.syntax_trees.specs.WellFormed.{WellFormed};
 ghost use Rattle.whole_facts.specs.Growing.{with_facts};
 ghost use Rattle.held_facts.specs.Held.{Holds};
 ghost use Rattle.syntax_trees.specs.Parts.{block_list, stmt_calls};
-ghost use Rattle.ended_blocks.specs.Active.{Active, active, Candidate};
+ghost use Rattle.ended_blocks.specs.Active.{Active, active, Candidate, goal_of};
 
 use whole_facts::facts::Facts;
 use whole_facts::instances::{Given, Instances, Step};
@@ -79,4 +82,13 @@ pub fn what_may_be_opened()
         → (i : ℕ) (x : Step) (g : Given) (at node : ℕ) (header : Action) (c : Chosen) (j : ℕ) (b : Block) → active i (stmt at node header) ∈ ls → chosen_in (sight_of l i) header ≡ Some c
         → j < count_in c → block_in header c ≡ Some b → length (path_of l.instances.all.items i) < most_steps → x.at ≡ at → x.key ≡ key_in c j
         → g.inputs.items ≡ [] → g.outputs.items ≡ [] → g.variables.items ≡ turn_variables header c j → IsOpening s (Known s n) l i x g b }
+{}
+
+/// What was opened and closed so far is so where an array is closed whose block is done and of which no key has two writers; and
+/// what was passed stays so.
+pub fn one_close_more_is_so()
+    ensures so { (s : Core) (n levels : ℕ) (l : Learned) (ls : List Active) (arrays : List Candidate) → IsSoFar s (Known s n) levels l ls arrays
+        → (p : Spot) (b : Block) → ◌∈◌ {X = Candidate} (p, b) arrays → IsDone s l (goal_of p b) → one_writer_in (writes_at l.facts p) ≡ true
+        → (m : Learned) → m.facts ≡ l.facts → m.instances ≡ l.instances → ((q : Spot) → closed_at m q ≡ cond (same_place p q) true (closed_at l q)) → IsSoFar s (Known s n) levels m ls arrays }
+    ensures passed { (s : Core) (n : ℕ) (l m : Learned) (ls ps ws : List Active) → m.facts ≡ l.facts → m.instances ≡ l.instances → ArePassed s (Known s n) l ls ps ws → ArePassed s (Known s n) m ls ps ws }
 {}
