@@ -1,0 +1,4 @@
+pub mod Times
+pub mod Outwards
+pub mod Fits
+pub mod Decided

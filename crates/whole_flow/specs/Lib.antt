@@ -1,0 +1,4 @@
+pub mod Names
+pub mod Whole
+pub mod Tests
+pub mod Viewed
