@@ -1,15 +1,31 @@
 -- A statement that has nothing more to tell has nothing more to tell where more is known.
-use Rattle.std.specs.Prelude.{◌≡◌, Bool, true, false, ◌&&◌, List, [], ◌∷◌, length, nat_le, refl}
+use Rattle.std.specs.Prelude.{◌≡◌, ℕ, ◌<◌, Bool, true, false, ◌&&◌, List, [], ◌∷◌, length, nat_le, is_some, Option, Some, None, if◌then◌else◌, refl}
 use Rattle.std.proofs.Common.{sym, ap, ◌∙◌}
 use Rattle.kept_facts.specs.Kept.{is_there}
 use Rattle.syntax_trees.specs.Core.{Cell, Action, declare, call_alone, assign, fill, insert, print, assert, when, choose, range, each, wait}
 use Rattle.syntax_trees.specs.Parts.{parts, part_cells}
-use Rattle.syntax_trees.specs.Places.{most_steps}
+use Rattle.syntax_trees.specs.Places.{Path, most_steps}
 use Rattle.whole_facts.specs.declared.facts.Place.{Place}
 use Rattle.whole_facts.specs.declared.learned.Learned.{Learned}
-use Rattle.whole_facts.specs.declared.instances.Instances.{Instances}
 use Rattle.whole_facts.specs.Paths.{path_of}
 use Rattle.whole_facts.specs.Store.{value_at, spot}
+use Rattle.std.proofs.Common.{arith}
+use Rattle.syntax_trees.specs.Core.{Core}
+use Rattle.values.specs.declared.value.Value.{Value}
+use Rattle.whole_facts.specs.declared.facts.Fact.{Fact}
+use Rattle.whole_facts.specs.declared.facts.Fact.TheVariants as Is
+use Rattle.whole_facts.specs.declared.facts.Facts.{Facts}
+use Rattle.whole_facts.specs.declared.instances.Given.{Given}
+use Rattle.whole_facts.specs.declared.instances.Instances.{Instances}
+use Rattle.whole_facts.specs.declared.instances.Step.{Step}
+use Rattle.whole_facts.specs.Added.{first_of, IsAdded}
+use Rattle.whole_facts.specs.Growing.{with_facts}
+use Rattle.whole_facts.specs.Paths.{IsOpen, IsTree}
+use Rattle.whole_facts.specs.Store.{line_at, same_place}
+use Rattle.whole_facts.proofs.Growing.{value_stays}
+use Rattle.whole_facts.proofs.Placing.{spot_stays}
+use Rattle.held_facts.specs.Held.{AreAdded, no_more, one_more, with_instances}
+use Rattle.held_facts.proofs.Opening.{grows_by_one}
 use Rattle.whole_rounds.specs.declared.site.Site.{Site}
 use Rattle.whole_rounds.specs.Silence.{all_known, is_done, told_unless, has_told, KnowsMore}
 use Rattle.whole_rounds.specs.Told.{past_at}
@@ -27,7 +43,7 @@ right_of : (a b : Bool) → a && b ≡ true → b ≡ true
 right_of true b e = e
 right_of false b e = absurd (cc (e))
 
-module _ (l m : Learned) (more : KnowsMore l m) (t : Site) where
+module _ (l m : Learned) (more : KnowsMore l m) (t : Site) (within : t.instance < length l.instances.all.items) where
   cells_stay : (cs : List Cell) → all_known l t cs ≡ true → all_known m t cs ≡ true
   cells_stay [] e = refl
   cells_stay (c ∷ cs) e =
@@ -39,7 +55,7 @@ module _ (l m : Learned) (more : KnowsMore l m) (t : Site) where
   done_stays (declare v) e = refl
   done_stays (call_alone p ps c) e = refl
   done_stays (assign x o) e =
-      ap (λ (z : Instances). is_there (value_at m.facts (spot z.all.items t.instance x))) (sym more.instances) ∙ more.values (spot l.instances.all.items t.instance x) e
+      ap (λ (z : Place). is_there (value_at m.facts z)) (more.spots t.instance x within) ∙ more.values (spot l.instances.all.items t.instance x) e
   done_stays (fill x o) e = e
   done_stays (insert x i o) e = e
   done_stays (print p o) e = more.lines (record { instance = t.instance; node = t.node }) e
@@ -57,6 +73,66 @@ module _ (l m : Learned) (more : KnowsMore l m) (t : Site) where
   pub told_stays : (a : Action) → has_told l t a ≡ true → has_told m t a ≡ true
   told_stays a e =
       let cs = part_cells (parts a) in
-      ap (λ (z : Instances). told_unless (nat_le most_steps (length (path_of z.all.items t.instance))) (all_known m t cs && is_done m t a)) (sym more.instances)
+      ap (λ (z : Path). told_unless (nat_le most_steps (length z)) (all_known m t cs && is_done m t a)) (more.grows.path_same t.instance within)
       ∙ unless_stays ((past_at l t).deep) (all_known l t cs && is_done l t a) (all_known m t cs && is_done m t a)
       (λ h. both (all_known m t cs) (is_done m t a) (cells_stay cs (left_of (all_known l t cs) (is_done l t a) h)) (done_stays a (right_of (all_known l t cs) (is_done l t a) h))) e
+
+-- WHERE MORE IS KNOWN
+
+-- where instances are opened
+pub more_opened : (l : Learned) (u : Instances) (p : ℕ) (x : Step) (g : Given) (s : Core) → IsTree l.instances → IsOpen l.instances p x g u → KnowsMore l (with_instances l u)
+more_opened l u p x g s h o = record {
+  grows = grows_by_one l.instances u p x g o;
+  spots = λ i y b. spot_stays s l.instances u p x g o h i b y;
+  values = λ q e. e;
+  lines = λ q e. e;
+}
+
+-- where facts are added
+some_stays : {X : Type 0} (p q : Place) (o : Option X) (v : X) → is_some o ≡ true → is_some (if same_place p q then first_of o v else o) ≡ true
+some_stays p q (Some u) v e = ap is_some (value_stays p q (Some u) v u refl)
+some_stays p q None v e = absurd (cc (e))
+
+there_stays : (p q : Place) (o : Option Value) (v : Value) → is_there o ≡ true → is_there (if same_place p q then first_of o v else o) ≡ true
+there_stays p q (Some u) v e = ap is_there (value_stays p q (Some u) v u refl)
+there_stays p q None v e = absurd (cc (e))
+
+value_stays_there : (k j : Facts) (f : Fact) → IsAdded k f j → (q : Place) → is_there (value_at k q) ≡ true → is_there (value_at j q) ≡ true
+value_stays_there k j (Is.Value p v) a q e = ap is_there (a.values q) ∙ there_stays p q (value_at k q) v e
+value_stays_there k j (Is.Element p w) a q e = ap is_there (a.values q) ∙ e
+value_stays_there k j (Is.Line p v) a q e = ap is_there (a.values q) ∙ e
+value_stays_there k j (Is.Fault f) a q e = ap is_there (a.values q) ∙ e
+
+line_stays_there : (k j : Facts) (f : Fact) → IsAdded k f j → (q : Place) → is_some (line_at k q) ≡ true → is_some (line_at j q) ≡ true
+line_stays_there k j (Is.Value p v) a q e = ap is_some (a.lines q) ∙ e
+line_stays_there k j (Is.Element p w) a q e = ap is_some (a.lines q) ∙ e
+line_stays_there k j (Is.Line p v) a q e = ap is_some (a.lines q) ∙ some_stays p q (line_at k q) v e
+line_stays_there k j (Is.Fault f) a q e = ap is_some (a.lines q) ∙ e
+
+values_stay : (k : Facts) (fs : List Fact) (j : Facts) → AreAdded k fs j → (q : Place) → is_there (value_at k q) ≡ true → is_there (value_at j q) ≡ true
+values_stay k fs j no_more q e = e
+values_stay k fs j (one_more {j = i} {f = f} {fs = gs} a rest) q e = values_stay i gs j rest q (value_stays_there k i f a q e)
+
+lines_stay : (k : Facts) (fs : List Fact) (j : Facts) → AreAdded k fs j → (q : Place) → is_some (line_at k q) ≡ true → is_some (line_at j q) ≡ true
+lines_stay k fs j no_more q e = e
+lines_stay k fs j (one_more {j = i} {f = f} {fs = gs} a rest) q e = lines_stay i gs j rest q (line_stays_there k i f a q e)
+
+pub more_added : (l : Learned) (fs : List Fact) (k : Facts) → AreAdded l.facts fs k → KnowsMore l (with_facts l k)
+more_added l fs k a = record {
+  grows = record { longer = omega arith; path_same = λ i b. refl };
+  spots = λ i x b. refl;
+  values = λ q e. values_stay l.facts fs k a q e;
+  lines = λ q e. lines_stay l.facts fs k a q e;
+}
+
+-- one after the other
+pub more_and_more : (l m n : Learned) → KnowsMore l m → KnowsMore m n → KnowsMore l n
+more_and_more l m n a b = record {
+  grows = record {
+    longer = omega (arith, a.grows.longer, b.grows.longer);
+    path_same = λ i h. b.grows.path_same i (omega (arith, h, a.grows.longer)) ∙ a.grows.path_same i h;
+  };
+  spots = λ i x h. b.spots i x (omega (arith, h, a.grows.longer)) ∙ a.spots i x h;
+  values = λ q e. b.values q (a.values q e);
+  lines = λ q e. b.lines q (a.lines q e);
+}

@@ -1,6 +1,8 @@
 pub mod Behind
 pub mod Calls
+pub mod Inside
 pub mod Lasting
+pub mod Listed
 pub mod Made
 pub mod Meant
 pub mod Quiet

@@ -9,7 +9,7 @@ use Rattle.flow.specs.View.{block_of, block_view, statement_view, statements_vie
 use Rattle.syntax_trees.specs.Core as core
 use Rattle.syntax_trees.specs.Core.{Stmt, stmt}
 use Rattle.syntax_trees.specs.Parts.{block_list}
-use Rattle.whole_rounds.specs.Made.{Seen, Declared, declares, declares_by, fresh, fresh_all}
+use Rattle.whole_rounds.specs.Made.{Declared, declares, declares_by, fresh, fresh_all}
 
 block_seen : (A : Type 0) (b : Block A) → block_view b ≡ block_of (statements_view (out-Block A b).statements.items)
 block_seen A b = search (rules, the_lemmas)

@@ -1,5 +1,5 @@
 -- Steps of loops that add what is told, one part, element or statement after another.
-use Rattle.std.specs.Prelude.{◌≡◌, ℕ, ◌+◌, ◌<◌, List, [], ◌∷◌, ◌++◌, length, take, refl}
+use Rattle.std.specs.Prelude.{◌≡◌, ℕ, ◌+◌, ◌<◌, List, [], ◌∷◌, ◌++◌, length, map, take, refl}
 use Rattle.std.proofs.Common.{sym, ap, ◌∙◌, get_or}
 use Rattle.std.proofs.lemmas.List.{map-append, append_assoc, append-nil, take_more}
 use Rattle.values.specs.declared.map.Element.{Element}
@@ -12,7 +12,7 @@ use Rattle.whole_facts.specs.declared.learned.Learned.{Learned}
 use Rattle.whole_rounds.specs.declared.site.Site.{Site}
 use Rattle.whole_rounds.specs.declared.state.Task.{Task}
 use Rattle.whole_rounds.specs.Told.{sight_at, past_at, path_at, cells_news, element_news, elements_news}
-use Rattle.whole_rounds.specs.Tasks.{task_news, tasks_news}
+use Rattle.whole_rounds.specs.Standing.{Active, active_of, active_news, actives_news}
 use Rattle.whole_rounds.proofs.Behind.{cells_append, parts_append}
 
 pub parts_step : {A : Type 0} (l : Learned) (t : Site) (ps : List (Part A)) (i : ℕ) (d : Part A) (xs ys zs : List Fact) → i < length ps
@@ -44,14 +44,14 @@ elements_step l t a es i d xs ys zs h e f =
     ∙ sym (elements_append l t a (take i es) (get_or es i d ∷ []))
     ∙ ap (λ (z : List Element). elements_news l t a z) (sym (take_more es i d h)))
 
-tasks_append : {A : Type 0} (l : Learned) (ts us : List (Task A)) → tasks_news l (ts ++ us) ≡ tasks_news l ts ++ tasks_news l us
-tasks_append l [] us = refl
-tasks_append l (t ∷ ts) us = ap (λ (z : List Fact). task_news l t ++ z) (tasks_append l ts us) ∙ sym (append_assoc (task_news l t) (tasks_news l ts) (tasks_news l us))
+actives_append : (l : Learned) (xs bs : List Active) → actives_news l (xs ++ bs) ≡ actives_news l xs ++ actives_news l bs
+actives_append l [] bs = refl
+actives_append l (a ∷ xs) bs = ap (λ (z : List Fact). active_news l a ++ z) (actives_append l xs bs) ∙ sym (append_assoc (active_news l a) (actives_news l xs) (actives_news l bs))
 
 pub tasks_step : {A : Type 0} (l : Learned) (ts : List (Task A)) (i : ℕ) (d : Task A) (ys zs : List Fact) → i < length ts
-    → ys ≡ tasks_news l (take i ts) → zs ≡ ys ++ task_news l (get_or ts i d) → zs ≡ tasks_news l (take (i + 1) ts)
+    → ys ≡ actives_news l (map active_of (take i ts)) → zs ≡ ys ++ active_news l (active_of (get_or ts i d)) → zs ≡ actives_news l (map active_of (take (i + 1) ts))
 tasks_step {A} l ts i d ys zs h e f =
-    f ∙ ap (λ (z : List Fact). z ++ task_news l (get_or ts i d)) e
-    ∙ ap (λ (z : List Fact). tasks_news l (take i ts) ++ z) (sym (append-nil (task_news l (get_or ts i d))))
-    ∙ sym (tasks_append l (take i ts) (get_or ts i d ∷ []))
-    ∙ ap (λ (z : List (Task A)). tasks_news l z) (sym (take_more ts i d h))
+    f ∙ ap (λ (z : List Fact). z ++ active_news l (active_of (get_or ts i d))) e
+    ∙ ap (λ (z : List Fact). actives_news l (map active_of (take i ts)) ++ z) (sym (append-nil (active_news l (active_of (get_or ts i d)))))
+    ∙ sym (actives_append l (map active_of (take i ts)) (active_of (get_or ts i d) ∷ []))
+    ∙ ap (λ (z : List Active). actives_news l z) (sym (map-append active_of (take i ts) (get_or ts i d ∷ [])) ∙ ap (λ (z : List (Task A)). map active_of z) (sym (take_more ts i d h)))

@@ -1,6 +1,5 @@
 pub mod Viewed
 pub mod Told
 pub mod Silence
-pub mod Tasks
 pub mod Standing
 pub mod Made

@@ -6,28 +6,23 @@ use Rattle.whole_facts.specs.declared.facts.Place.{Place}
 use Rattle.whole_facts.specs.Targeted.{assigns_in}
 use Rattle.whole_rounds.specs.declared.state.Array.{Array}
 use Rattle.whole_rounds.specs.declared.state.State.{State}
-use Rattle.whole_rounds.specs.declared.state.Task.{Task}
-use Rattle.whole_rounds.specs.Standing.{content_view, task_view}
+use Rattle.whole_rounds.specs.Standing.{Active, active_of, content_view}
 
--- a live statement by its instance, with what was done with it
-pub record Seen : Type 0 where
-  pub instance : ℕ
-  pub statement : Stmt
-  pub called : Bool
-  pub opened : Bool
-  pub told : Bool
+abbrev pub tasks_of : {A : Type 0} → State A → List Active
+tasks_of s = map active_of s.tasks.items
 
-abbrev pub seen_of : {A : Type 0} → Task A → Seen
-seen_of t = record { instance = t.site.instance; statement = task_view t; called = t.called; opened = t.opened; told = t.told }
+-- those that may have something left to tell
+abbrev pub telling_of : {A : Type 0} → State A → List Active
+telling_of s = map active_of s.telling.items
 
-abbrev pub tasks_of : {A : Type 0} → State A → List Seen
-tasks_of s = map seen_of s.tasks.items
+-- those that wait for their choice
+abbrev pub waiting_of : {A : Type 0} → State A → List Active
+waiting_of s = map active_of s.waiting.items
 
--- nothing was done with it yet
-abbrev pub fresh : ℕ → Stmt → Seen
-fresh i st = record { instance = i; statement = st; called = false; opened = false; told = false }
+abbrev pub fresh : ℕ → Stmt → Active
+fresh i st = record { instance = i; statement = st }
 
-abbrev pub fresh_all : ℕ → List Stmt → List Seen
+abbrev pub fresh_all : ℕ → List Stmt → List Active
 fresh_all i ss = map (fresh i) ss
 
 -- an array's place, with the block that declares it

@@ -1,11 +1,12 @@
 -- Which live statements have nothing more to tell: all their cells have their values, and what is done with these is known.
-use Rattle.std.specs.Prelude.{◌≡◌, Bool, is_some, true, false, ◌&&◌, List, [], ◌∷◌}
+use Rattle.std.specs.Prelude.{◌≡◌, ℕ, ◌<◌, length, Bool, is_some, true, false, ◌&&◌, List, [], ◌∷◌}
 use Rattle.kept_facts.specs.Kept.{is_there}
-use Rattle.syntax_trees.specs.Core.{Cell, Action, assign, fill, insert, print, range}
+use Rattle.syntax_trees.specs.Core.{Cell, Name, Action, assign, fill, insert, print, range}
 use Rattle.syntax_trees.specs.Parts.{parts, part_cells}
 use Rattle.whole_facts.specs.declared.facts.Place.{Place}
 use Rattle.whole_facts.specs.declared.learned.Learned.{Learned}
-use Rattle.whole_facts.specs.Store.{value_at, line_at}
+use Rattle.whole_facts.specs.Store.{value_at, line_at, spot}
+use Rattle.held_facts.specs.Held.{Grows}
 use Rattle.whole_rounds.specs.declared.site.Site.{Site}
 use Rattle.whole_rounds.specs.Told.{sight_at, past_at}
 
@@ -29,8 +30,9 @@ told_unless false b = b
 abbrev pub has_told : Learned → Site → Action → Bool
 has_told l t a = told_unless ((past_at l t).deep) (all_known l t (part_cells (parts a)) && is_done l t a)
 
--- more is known, of the same instances: values and lines that were there are there
+-- more is known, of the same instances and others: names that were there lie where they did, values and lines that were there are there
 pub record KnowsMore (l m : Learned) : Type 0 where
-  pub instances : l.instances ≡ m.instances
+  pub grows : Grows l.instances.all.items m.instances.all.items
+  pub spots : (i : ℕ) (x : Name) → i < length l.instances.all.items → spot m.instances.all.items i x ≡ spot l.instances.all.items i x
   pub values : (p : Place) → is_there (value_at l.facts p) ≡ true → is_there (value_at m.facts p) ≡ true
   pub lines : (p : Place) → is_some (line_at l.facts p) ≡ true → is_some (line_at m.facts p) ≡ true

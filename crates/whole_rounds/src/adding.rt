@@ -3,6 +3,7 @@ ghost use Rattle.std.specs.Prelude.{◌≡◌, ◌++◌, ◌∷◌, [], IfOk, On
 ghost use Rattle.flow.specs.View.{cell_view, outer_view, part_view, parts_view};
 ghost use Rattle.syntax_trees.specs.Parts.{part_cells};
 ghost use Rattle.whole_facts.specs.Kinds.{kind_view};
+ghost use Rattle.held_facts.specs.Held.{StayInside};
 ghost use Rattle.whole_rounds.specs.Viewed.{facts_view};
 ghost use Rattle.whole_rounds.specs.Told.{cell_news, cells_news, outers_news, comes_at, fault_news};
 
@@ -25,6 +26,7 @@ pub(crate) fn comes<A: Allocator>(
     ensures told { OnOk result (facts_view learned.now.instances.all.items news.new.items
         ≡ facts_view learned.now.instances.all.items news.old.items
         ++ outers_news learned.now site (outer_view outer.now ∷ [])) }
+    ensures inside { OnOk result (StayInside learned.now.instances.all.items site.instance news.old.items news.new.items) }
 {
     add_parts(learned, alloc, site, &outer.parts, news)?;
     cell_comes(learned, alloc, site, &outer.cell, news)
@@ -38,8 +40,9 @@ pub(crate) fn add_parts<A: Allocator>(
     parts: &Vec<Part<A>, A>,
     news: &mut Vec<Fact>,
 ) -> Result<(), AllocError>
-    ensures { OnOk result (facts_view learned.now.instances.all.items news.new.items
+    ensures told { OnOk result (facts_view learned.now.instances.all.items news.new.items
         ≡ facts_view learned.now.instances.all.items news.old.items ++ cells_news learned.now site (part_cells (parts_view parts.now.items))) }
+    ensures inside { OnOk result (StayInside learned.now.instances.all.items site.instance news.old.items news.new.items) }
 {
     for part in parts {
         add_part(learned, alloc, site, part, news)?;
@@ -55,8 +58,9 @@ fn add_part<A: Allocator>(
     part: &Part<A>,
     news: &mut Vec<Fact>,
 ) -> Result<(), AllocError>
-    ensures { OnOk result (facts_view learned.now.instances.all.items news.new.items
+    ensures told { OnOk result (facts_view learned.now.instances.all.items news.new.items
         ≡ facts_view learned.now.instances.all.items news.old.items ++ cells_news learned.now site (part_cells (part_view part.now ∷ []))) }
+    ensures inside { OnOk result (StayInside learned.now.instances.all.items site.instance news.old.items news.new.items) }
 {
     if let Part::Inner(cell) = part {
         cell_comes(learned, alloc, site, cell, news)?;
@@ -75,6 +79,7 @@ fn cell_comes<A: Allocator>(
     ensures value { IfOk result (λ v. v ≡ comes_at learned.now site (cell_view cell.now)) }
     ensures told { OnOk result (facts_view learned.now.instances.all.items news.new.items
         ≡ facts_view learned.now.instances.all.items news.old.items ++ cell_news learned.now site (cell_view cell.now)) }
+    ensures inside { OnOk result (StayInside learned.now.instances.all.items site.instance news.old.items news.new.items) }
 {
     let place = site.place(cell.node);
     if let Some(value) = learned.facts.value(place) {
@@ -101,8 +106,9 @@ pub(crate) fn add_fault(
     node: u32,
     news: &mut Vec<Fact>,
 ) -> Result<(), AllocError>
-    ensures { OnOk result (facts_view learned.now.instances.all.items news.new.items
+    ensures told { OnOk result (facts_view learned.now.instances.all.items news.new.items
         ≡ facts_view learned.now.instances.all.items news.old.items ++ fault_news learned.now site (kind_view kind) node) }
+    ensures inside { OnOk result (StayInside learned.now.instances.all.items site.instance news.old.items news.new.items) }
 {
     let fault = FaultFact {
         kind,

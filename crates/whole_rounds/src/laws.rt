@@ -1,5 +1,5 @@
 //! Laws of what is told. Each function does nothing; its contract is the law.
-ghost use Rattle.std.specs.Prelude.{◌≡◌, [], true};
+ghost use Rattle.std.specs.Prelude.{◌≡◌, ◌<◌, [], length, true};
 ghost use Rattle.syntax_trees.specs.Core.{Action, Core, Name, stmt};
 ghost use Rattle.syntax_trees.specs.Places.{place};
 ghost use Rattle.whole_facts.specs.Keeping.{past_of};
@@ -22,7 +22,7 @@ pub fn told_is_silent()
     ensures { (l : Learned) (t : Site) (a : Action) → has_told l t a ≡ true → site_news l t a ≡ [] }
 {}
 
-/// And it has nothing more to tell where more is known.
+/// And it has nothing more to tell where more is known, of the instances that are there and others.
 pub fn told_stays()
-    ensures { (l m : Learned) → KnowsMore l m → (t : Site) (a : Action) → has_told l t a ≡ true → has_told m t a ≡ true }
+    ensures { (l m : Learned) → KnowsMore l m → (t : Site) (a : Action) → t.instance < length l.instances.all.items → has_told l t a ≡ true → has_told m t a ≡ true }
 {}

@@ -5,7 +5,6 @@ use crate::knowledge::Knowledge;
 use crate::state::State;
 use flow::script::Flow;
 use std::alloc::{AllocError, Allocator, Global};
-use whole_facts::facts::Fact;
 
 /// What is known of a script after so many rounds as add something, or after `limit` rounds.
 ///
@@ -42,15 +41,6 @@ impl<'a, A: Allocator> State<'a, A> {
                 return Ok(());
             }
         }
-        Ok(())
-    }
-
-    /// Adds facts.
-    fn learn(&mut self, alloc: Global, news: Vec<Fact>) -> Result<(), AllocError> {
-        for fact in news {
-            self.learned.facts.add(alloc, fact)?;
-        }
-        self.mark_told();
         Ok(())
     }
 }

@@ -5,8 +5,8 @@ ghost use Rattle.flow.specs.View.{action_view, block_view, core_of, statement_vi
 ghost use Rattle.syntax_trees.specs.Core.{local, stmt};
 ghost use Rattle.syntax_trees.specs.Parts.{block_list};
 ghost use Rattle.whole_facts.specs.Targeted.{assigns_in};
-ghost use Rattle.whole_rounds.specs.Made.{arrays_of, declares, declares_by, fresh, fresh_all, tasks_of, unless_assigned};
-ghost use Rattle.whole_rounds.specs.Standing.{deed_view};
+ghost use Rattle.whole_rounds.specs.Made.{arrays_of, declares, declares_by, fresh, fresh_all, tasks_of, telling_of, unless_assigned, waiting_of};
+ghost use Rattle.whole_rounds.specs.Standing.{active_of, deed_view};
 
 use crate::site::Site;
 use flow::name::{Name, Owned};
@@ -32,15 +32,11 @@ pub enum Deed<'a, A: Allocator> {
     Waits(&'a [Name], Content<'a, A>),
 }
 
-/// A live statement: where it stands, what it does, whether its blocks are live, those of its calls and those that it opens as a
-/// header, and whether it has nothing more to tell.
+/// A live statement: where it stands, and what it does.
 #[derive(Drop)]
 pub struct Task<'a, A: Allocator> {
     pub site: Site,
     pub deed: Deed<'a, A>,
-    pub called: bool,
-    pub opened: bool,
-    pub told: bool,
 }
 
 /// An array that a live block declares, with the block.
@@ -50,19 +46,48 @@ pub struct Array<'a, A: Allocator> {
     pub content: Content<'a, A>,
 }
 
-/// What is known of a script, with what is live and closed by it.
+/// What is known of a script, with what is live and closed by it: the live statements, and those among them that may have
+/// something left to tell. Of the first so many, which were passed, the blocks of their calls are live, and those that they open
+/// as headers, but where they wait for their choice.
 #[derive(Drop)]
 pub struct State<'a, A: Allocator> {
     pub flow: &'a Flow<A>,
     pub learned: Learned,
     pub tasks: Vec<Task<'a, A>>,
+    pub telling: Vec<Task<'a, A>>,
+    pub passed: usize,
+    pub waiting: Vec<Task<'a, A>>,
     pub arrays: Vec<Array<'a, A>>,
+}
+
+impl<'a, A: Allocator> Task<'a, A> {
+    /// The same task.
+    pub fn again(&self) -> Task<'a, A>
+        ensures { active_of result ≡ active_of self.now }
+    {
+        let deed = match &self.deed {
+            Deed::Does(action) => Deed::Does(*action),
+            Deed::Waits(names, content) => Deed::Waits(
+                *names,
+                Content {
+                    waits: content.waits,
+                    block: content.block,
+                },
+            ),
+        };
+        Task {
+            site: self.site,
+            deed,
+        }
+    }
 }
 
 impl<'a, A: Allocator> State<'a, A> {
     /// Nothing is known, and the script's own block is live.
     pub fn new(alloc: Global, flow: &'a Flow<A>) -> Result<State<'a, A>, AllocError>
         ensures tasks { IfOk result (λ state. tasks_of state ≡ fresh_all 0 (block_list (core_of flow.entry.now).body)) }
+        ensures telling { IfOk result (λ state. telling_of state ≡ fresh_all 0 (block_list (core_of flow.entry.now).body)) }
+        ensures passed { IfOk result (λ state. (state.passed ≡ 0) × (waiting_of state ≡ [])) }
         ensures arrays { IfOk result (λ state. arrays_of state ≡ declares 0 (core_of flow.entry.now).body (block_list (core_of flow.entry.now).body)) }
         ensures flow { IfOk result (λ state. state.flow.now ≡ flow.entry.now) }
     {
@@ -70,6 +95,9 @@ impl<'a, A: Allocator> State<'a, A> {
             flow,
             learned: Learned::new(alloc)?,
             tasks: Vec::new(alloc),
+            telling: Vec::new(alloc),
+            passed: 0,
+            waiting: Vec::new(alloc),
             arrays: Vec::new(alloc),
         };
         state.add_block(0, &[], &flow.body)?;
@@ -84,9 +112,12 @@ impl<'a, A: Allocator> State<'a, A> {
         block: &'a Block<A>,
     ) -> Result<(), AllocError>
         ensures tasks { OnOk result (tasks_of self.new ≡ tasks_of self.old ++ fresh_all instance (block_list (waits_around waits.entry.now (block_view block.entry.now)))) }
+        ensures telling { OnOk result (telling_of self.new ≡ telling_of self.old ++ fresh_all instance (block_list (waits_around waits.entry.now (block_view block.entry.now)))) }
         ensures arrays { OnOk result (let inside = waits_around waits.entry.now (block_view block.entry.now) in arrays_of self.new ≡ arrays_of self.old ++ declares instance inside (block_list inside)) }
         ensures learned { self.new.learned ≡ self.old.learned }
         ensures flow { self.new.flow.now ≡ self.old.flow.now }
+        ensures passed { self.new.passed ≡ self.old.passed }
+        ensures waiting { waiting_of self.new ≡ waiting_of self.old }
     {
         match waits {
             [] => self.add_statements(instance, block),
@@ -109,9 +140,12 @@ impl<'a, A: Allocator> State<'a, A> {
 
     fn add_statements(&mut self, instance: usize, block: &'a Block<A>) -> Result<(), AllocError>
         ensures tasks { OnOk result (tasks_of self.new ≡ tasks_of self.old ++ fresh_all instance (block_list (block_view block.entry.now))) }
+        ensures telling { OnOk result (telling_of self.new ≡ telling_of self.old ++ fresh_all instance (block_list (block_view block.entry.now))) }
         ensures arrays { OnOk result (arrays_of self.new ≡ arrays_of self.old ++ declares instance (block_view block.entry.now) (block_list (block_view block.entry.now))) }
         ensures learned { self.new.learned ≡ self.old.learned }
         ensures flow { self.new.flow.now ≡ self.old.flow.now }
+        ensures passed { self.new.passed ≡ self.old.passed }
+        ensures waiting { waiting_of self.new ≡ waiting_of self.old }
     {
         for statement in &block.statements {
             self.add_statement(instance, block, statement)?;
@@ -126,9 +160,12 @@ impl<'a, A: Allocator> State<'a, A> {
         statement: &'a Statement<A>,
     ) -> Result<(), AllocError>
         ensures tasks { OnOk result (tasks_of self.new ≡ tasks_of self.old ++ fresh instance (statement_view statement.entry.now) ∷ []) }
+        ensures telling { OnOk result (telling_of self.new ≡ telling_of self.old ++ fresh instance (statement_view statement.entry.now) ∷ []) }
         ensures arrays { OnOk result (arrays_of self.new ≡ arrays_of self.old ++ declares instance (block_view block.entry.now) (statement_view statement.entry.now ∷ [])) }
         ensures learned { self.new.learned ≡ self.old.learned }
         ensures flow { self.new.flow.now ≡ self.old.flow.now }
+        ensures passed { self.new.passed ≡ self.old.passed }
+        ensures waiting { waiting_of self.new ≡ waiting_of self.old }
     {
         self.add_declared(instance, block, &statement.action)?;
         let site = Site {
@@ -148,8 +185,11 @@ impl<'a, A: Allocator> State<'a, A> {
     ) -> Result<(), AllocError>
         ensures arrays { OnOk result (arrays_of self.new ≡ arrays_of self.old ++ declares_by instance (block_view block.entry.now) (action_view action.entry.now)) }
         ensures tasks { tasks_of self.new ≡ tasks_of self.old }
+        ensures telling { telling_of self.new ≡ telling_of self.old }
         ensures learned { self.new.learned ≡ self.old.learned }
         ensures flow { self.new.flow.now ≡ self.old.flow.now }
+        ensures passed { self.new.passed ≡ self.old.passed }
+        ensures waiting { waiting_of self.new ≡ waiting_of self.old }
     {
         match action {
             Action::Declare(variable) => self.add_array(instance, block, variable.node),
@@ -176,8 +216,11 @@ impl<'a, A: Allocator> State<'a, A> {
         ensures arrays { OnOk result (arrays_of self.new
             ≡ arrays_of self.old ++ unless_assigned instance (block_view block.entry.now) node (assigns_in (local node) (block_view block.entry.now))) }
         ensures tasks { tasks_of self.new ≡ tasks_of self.old }
+        ensures telling { telling_of self.new ≡ telling_of self.old }
         ensures learned { self.new.learned ≡ self.old.learned }
         ensures flow { self.new.flow.now ≡ self.old.flow.now }
+        ensures passed { self.new.passed ≡ self.old.passed }
+        ensures waiting { waiting_of self.new ≡ waiting_of self.old }
     {
         if !is_assigned_in(Owned::Local(node), block) {
             self.arrays.push(Array {
@@ -190,17 +233,16 @@ impl<'a, A: Allocator> State<'a, A> {
 
     fn add_task(&mut self, site: Site, deed: Deed<'a, A>) -> Result<(), AllocError>
         ensures tasks { OnOk result (tasks_of self.new ≡ tasks_of self.old ++ fresh site.instance (stmt site.at site.node (deed_view deed.entry)) ∷ []) }
+        ensures telling { OnOk result (telling_of self.new ≡ telling_of self.old ++ fresh site.instance (stmt site.at site.node (deed_view deed.entry)) ∷ []) }
         ensures arrays { arrays_of self.new ≡ arrays_of self.old }
         ensures learned { self.new.learned ≡ self.old.learned }
         ensures flow { self.new.flow.now ≡ self.old.flow.now }
+        ensures passed { self.new.passed ≡ self.old.passed }
+        ensures waiting { waiting_of self.new ≡ waiting_of self.old }
     {
-        self.tasks.push(Task {
-            site,
-            deed,
-            called: false,
-            opened: false,
-            told: false,
-        })?;
+        let task = Task { site, deed };
+        self.telling.push(task.again())?;
+        self.tasks.push(task)?;
         Ok(())
     }
 }

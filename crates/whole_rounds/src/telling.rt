@@ -4,6 +4,7 @@ ghost use Rattle.flow.specs.View.{action_view, name_view, outer_view};
 ghost use Rattle.syntax_trees.specs.Core as core;
 ghost use Rattle.syntax_trees.specs.Parts.{cells, outer_parts, part_calls, parts};
 ghost use Rattle.whole_meaning.specs.News.{comes_all, key_in, one_in, some_call, with_value};
+ghost use Rattle.held_facts.specs.Held.{StayInside};
 ghost use Rattle.whole_rounds.specs.Viewed.{facts_view};
 ghost use Rattle.whole_rounds.specs.Told.{sight_at, outers_news, cells_news, own_news, calls_news, element_news, elements_news, inserted_news, deep_news, branch_news, bounds_news, range_news, each_news, comes_at, range_outers};
 
@@ -28,9 +29,10 @@ pub(crate) fn add_news<A: Allocator>(
     action: &Action<A>,
     news: &mut Vec<Fact>,
 ) -> Result<(), AllocError>
-    ensures { OnOk result (facts_view learned.now.instances.all.items news.new.items
+    ensures told { OnOk result (facts_view learned.now.instances.all.items news.new.items
         ≡ facts_view learned.now.instances.all.items news.old.items
         ++ (cells_news learned.now site (cells (core.stmt site.at site.node (action_view action.now))) ++ own_news learned.now site (action_view action.now))) }
+    ensures inside { OnOk result (StayInside learned.now.instances.all.items site.instance news.old.items news.new.items) }
 {
     match action {
         Action::Declare(_) | Action::Wait { .. } => Ok(()),
@@ -64,9 +66,10 @@ fn add_assigned<A: Allocator>(
     right: &Outer<A>,
     news: &mut Vec<Fact>,
 ) -> Result<(), AllocError>
-    ensures { OnOk result (facts_view learned.now.instances.all.items news.new.items
+    ensures told { OnOk result (facts_view learned.now.instances.all.items news.new.items
         ≡ facts_view learned.now.instances.all.items news.old.items
         ++ (outers_news learned.now site (outer_view right.now ∷ []) ++ own_news learned.now site (core.assign (name_view target) (outer_view right.now)))) }
+    ensures inside { OnOk result (StayInside learned.now.instances.all.items site.instance news.old.items news.new.items) }
 {
     let Some(value) = comes(learned, alloc, site, right, news)? else {
         return Ok(());
@@ -86,9 +89,10 @@ fn add_filled<A: Allocator>(
     right: &Outer<A>,
     news: &mut Vec<Fact>,
 ) -> Result<(), AllocError>
-    ensures { OnOk result (facts_view learned.now.instances.all.items news.new.items
+    ensures told { OnOk result (facts_view learned.now.instances.all.items news.new.items
         ≡ facts_view learned.now.instances.all.items news.old.items
         ++ (outers_news learned.now site (outer_view right.now ∷ []) ++ own_news learned.now site (core.fill (name_view array) (outer_view right.now)))) }
+    ensures inside { OnOk result (StayInside learned.now.instances.all.items site.instance news.old.items news.new.items) }
 {
     match comes(learned, alloc, site, right, news)? {
         Some(Value::Many(map)) => add_elements(learned, site, array, map.elements(), news),
@@ -103,8 +107,9 @@ fn add_elements(
     elements: &[Element],
     news: &mut Vec<Fact>,
 ) -> Result<(), AllocError>
-    ensures { OnOk result (facts_view learned.now.instances.all.items news.new.items
+    ensures told { OnOk result (facts_view learned.now.instances.all.items news.new.items
         ≡ facts_view learned.now.instances.all.items news.old.items ++ elements_news learned.now site (name_view array) elements.now) }
+    ensures inside { OnOk result (StayInside learned.now.instances.all.items site.instance news.old.items news.new.items) }
 {
     for element in elements {
         add_element(learned, site, array, &element.key, &element.value, news)?;
@@ -121,9 +126,10 @@ fn add_inserted<A: Allocator>(
     right: &Outer<A>,
     news: &mut Vec<Fact>,
 ) -> Result<(), AllocError>
-    ensures { OnOk result (facts_view learned.now.instances.all.items news.new.items
+    ensures told { OnOk result (facts_view learned.now.instances.all.items news.new.items
         ≡ facts_view learned.now.instances.all.items news.old.items
         ++ (outers_news learned.now site (outer_view index.now ∷ outer_view right.now ∷ []) ++ own_news learned.now site (core.insert (name_view array) (outer_view index.now) (outer_view right.now)))) }
+    ensures inside { OnOk result (StayInside learned.now.instances.all.items site.instance news.old.items news.new.items) }
 {
     let index = comes(learned, alloc, site, index, news)?;
     let right = comes(learned, alloc, site, right, news)?;
@@ -139,8 +145,9 @@ fn add_pair(
     right: Option<Value>,
     news: &mut Vec<Fact>,
 ) -> Result<(), AllocError>
-    ensures { OnOk result (facts_view learned.now.instances.all.items news.new.items
+    ensures told { OnOk result (facts_view learned.now.instances.all.items news.new.items
         ≡ facts_view learned.now.instances.all.items news.old.items ++ inserted_news learned.now site (name_view array) (key_in index) (one_in right)) }
+    ensures inside { OnOk result (StayInside learned.now.instances.all.items site.instance news.old.items news.new.items) }
 {
     let Some(Value::One(Scalar::Number(number))) = index else {
         return Ok(());
@@ -160,8 +167,9 @@ fn add_element(
     value: &Scalar,
     news: &mut Vec<Fact>,
 ) -> Result<(), AllocError>
-    ensures { OnOk result (facts_view learned.now.instances.all.items news.new.items
+    ensures told { OnOk result (facts_view learned.now.instances.all.items news.new.items
         ≡ facts_view learned.now.instances.all.items news.old.items ++ element_news learned.now site (name_view array) key.now value.now) }
+    ensures inside { OnOk result (StayInside learned.now.instances.all.items site.instance news.old.items news.new.items) }
 {
     let place = learned.instances.place(site.instance, array);
     if !learned.facts.is_written_by(place, key, site.own_place()) {
@@ -186,9 +194,10 @@ fn add_printed<A: Allocator>(
     line: &Outer<A>,
     news: &mut Vec<Fact>,
 ) -> Result<(), AllocError>
-    ensures { OnOk result (facts_view learned.now.instances.all.items news.new.items
+    ensures told { OnOk result (facts_view learned.now.instances.all.items news.new.items
         ≡ facts_view learned.now.instances.all.items news.old.items
         ++ (outers_news learned.now site (outer_view line.now ∷ []) ++ own_news learned.now site (core.print (pos 0) (outer_view line.now)))) }
+    ensures inside { OnOk result (StayInside learned.now.instances.all.items site.instance news.old.items news.new.items) }
 {
     let Some(Value::One(Scalar::Text(text))) = comes(learned, alloc, site, line, news)? else {
         return Ok(());
@@ -208,9 +217,10 @@ fn add_branch<A: Allocator>(
     other: bool,
     news: &mut Vec<Fact>,
 ) -> Result<(), AllocError>
-    ensures { OnOk result (facts_view learned.now.instances.all.items news.new.items
+    ensures told { OnOk result (facts_view learned.now.instances.all.items news.new.items
         ≡ facts_view learned.now.instances.all.items news.old.items
         ++ (outers_news learned.now site (outer_view condition.now ∷ []) ++ branch_news learned.now site (comes_at learned.now site (outer_view condition.now).cell) other)) }
+    ensures inside { OnOk result (StayInside learned.now.instances.all.items site.instance news.old.items news.new.items) }
 {
     match comes(learned, alloc, site, condition, news)? {
         Some(Value::One(Scalar::Truth(truth))) if truth || other => add_deep(learned, site, news),
@@ -226,9 +236,10 @@ fn add_range<A: Allocator>(
     range: &Range<A>,
     news: &mut Vec<Fact>,
 ) -> Result<(), AllocError>
-    ensures { OnOk result (facts_view learned.now.instances.all.items news.new.items
+    ensures told { OnOk result (facts_view learned.now.instances.all.items news.new.items
         ≡ facts_view learned.now.instances.all.items news.old.items
         ++ (outers_news learned.now site (range_outers range.now) ++ range_news learned.now site (comes_all (sight_at learned.now site) (map (λ o. o.cell) (range_outers range.now))))) }
+    ensures inside { OnOk result (StayInside learned.now.instances.all.items site.instance news.old.items news.new.items) }
 {
     let low = comes(learned, alloc, site, &range.low, news)?;
     let high = comes(learned, alloc, site, &range.high, news)?;
@@ -249,8 +260,9 @@ fn add_between(
     high: Option<Value>,
     news: &mut Vec<Fact>,
 ) -> Result<(), AllocError>
-    ensures { OnOk result (facts_view learned.now.instances.all.items news.new.items
+    ensures told { OnOk result (facts_view learned.now.instances.all.items news.new.items
         ≡ facts_view learned.now.instances.all.items news.old.items ++ range_news learned.now site (with_value low (with_value high (Some [])))) }
+    ensures inside { OnOk result (StayInside learned.now.instances.all.items site.instance news.old.items news.new.items) }
 {
     match (low, high) {
         (Some(low), Some(high)) => add_bounds(learned, site, &[low, high], news),
@@ -267,8 +279,9 @@ fn add_stepped(
     step: Option<Value>,
     news: &mut Vec<Fact>,
 ) -> Result<(), AllocError>
-    ensures { OnOk result (facts_view learned.now.instances.all.items news.new.items
+    ensures told { OnOk result (facts_view learned.now.instances.all.items news.new.items
         ≡ facts_view learned.now.instances.all.items news.old.items ++ range_news learned.now site (with_value low (with_value high (with_value step (Some []))))) }
+    ensures inside { OnOk result (StayInside learned.now.instances.all.items site.instance news.old.items news.new.items) }
 {
     match (low, high, step) {
         (Some(low), Some(high), Some(step)) => add_bounds(learned, site, &[low, high, step], news),
@@ -283,8 +296,9 @@ fn add_bounds(
     values: &[Value],
     news: &mut Vec<Fact>,
 ) -> Result<(), AllocError>
-    ensures { OnOk result (facts_view learned.now.instances.all.items news.new.items
+    ensures told { OnOk result (facts_view learned.now.instances.all.items news.new.items
         ≡ facts_view learned.now.instances.all.items news.old.items ++ bounds_news learned.now site values.now) }
+    ensures inside { OnOk result (StayInside learned.now.instances.all.items site.instance news.old.items news.new.items) }
 {
     match range_of(values) {
         Some(Ok(range)) if range.count > 0 => add_deep(learned, site, news),
@@ -301,8 +315,9 @@ fn add_bounds(
 
 /// Adds that the path would be too long where it is as long as can be.
 fn add_deep(learned: &Learned, site: Site, news: &mut Vec<Fact>) -> Result<(), AllocError>
-    ensures { OnOk result (facts_view learned.now.instances.all.items news.new.items
+    ensures told { OnOk result (facts_view learned.now.instances.all.items news.new.items
         ≡ facts_view learned.now.instances.all.items news.old.items ++ deep_news learned.now site true) }
+    ensures inside { OnOk result (StayInside learned.now.instances.all.items site.instance news.old.items news.new.items) }
 {
     if learned.instances.is_deep(site.instance) {
         add_fault(learned, site, FaultKind::TooDeep, site.node, news)?;
@@ -318,9 +333,10 @@ fn add_deep_items(
     array: Name,
     news: &mut Vec<Fact>,
 ) -> Result<(), AllocError>
-    ensures { OnOk result (facts_view learned.now.instances.all.items news.new.items
+    ensures told { OnOk result (facts_view learned.now.instances.all.items news.new.items
         ≡ facts_view learned.now.instances.all.items news.old.items
         ++ each_news learned.now site ((sight_at learned.now site).closed (name_view array)) ((sight_at learned.now site).elements (name_view array))) }
+    ensures inside { OnOk result (StayInside learned.now.instances.all.items site.instance news.old.items news.new.items) }
 {
     let place = learned.instances.place(site.instance, array);
     if !learned.is_closed(place) || !learned.instances.is_deep(site.instance) {
@@ -340,8 +356,9 @@ pub(crate) fn add_deep_calls<A: Allocator>(
     action: &Action<A>,
     news: &mut Vec<Fact>,
 ) -> Result<(), AllocError>
-    ensures { OnOk result (facts_view learned.now.instances.all.items news.new.items
+    ensures told { OnOk result (facts_view learned.now.instances.all.items news.new.items
         ≡ facts_view learned.now.instances.all.items news.old.items ++ calls_news learned.now site (core.stmt site.at site.node (action_view action.now))) }
+    ensures inside { OnOk result (StayInside learned.now.instances.all.items site.instance news.old.items news.new.items) }
 {
     if !learned.instances.is_deep(site.instance) || !has_call(action) {
         return Ok(());

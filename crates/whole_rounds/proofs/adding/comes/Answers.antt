@@ -1,6 +1,7 @@
 use Rattle.std.proofs.Common.{◌≡◌, ◌++◌}
 use Rattle.std.proofs.lemmas.Result.{on_ok_weaker}
 use Rattle.flow.specs.View.{cell_view, parts_view}
+use Rattle.held_facts.specs.Held.{StayInside}
 use Rattle.whole_rounds.specs.Viewed.{facts_view}
 use Rattle.whole_rounds.specs.Told.{sight_at, past_at, path_at, cell_news}
 use Rattle.whole_rounds.proofs.Behind.{outer_told}
@@ -16,5 +17,11 @@ returns-clause-told g c =
     (λ (e : facts_view ns c.cell_comes.new.news.items ≡ facts_view ns c.add_parts.new.news.items ++ cell_news l t (cell_view {A = A} c.args.outer.now.cell)).
     outer_told (sight_at l t) (past_at l t) (path_at l t) t.at (parts_view {A = A} c.args.outer.now.parts.items) (cell_view {A = A} c.args.outer.now.cell)
     (facts_view ns c.args.news.now.items) (facts_view ns c.add_parts.new.news.items) (facts_view ns c.cell_comes.new.news.items)
-    c.in_ok-add_parts.ensures e)
+    c.in_ok-add_parts.ensures.told e)
     c.cell_comes.ensures.told
+
+pub returns-clause-inside : goal.returns-clause-inside
+returns-clause-inside g c =
+    let ns = c.args.learned.now.instances.all.items in
+    let i = c.args.site.instance in
+    on_ok_weaker c.cell_comes.result (λ (e : StayInside ns i c.add_parts.new.news.items c.cell_comes.new.news.items) h a. e h (c.in_ok-add_parts.ensures.inside h a)) c.cell_comes.ensures.inside

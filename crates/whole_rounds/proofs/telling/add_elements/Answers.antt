@@ -14,7 +14,10 @@ loop-element-preserved c =
     let ns = c.args.learned.now.instances.all.items in
     let within : c.loop-element.element-index < length c.args.elements.now = grind arith in
     let item : c.element-item.result ≡ get_or c.args.elements.now c.loop-element.element-index c.element-item.result = search rules in
-    elements_step l t a c.args.elements.now c.loop-element.element-index c.element-item.result
-    (facts_view ns c.args.news.now.items) (facts_view ns c.loop-element.news.items) (facts_view ns c.add_element.new.news.items)
-    within c.loop-element.invariant
-    (c.in_ok-add_element.ensures ∙ ap (λ (z : Element). facts_view ns c.loop-element.news.items ++ element_news l t a z.key z.value) item)
+    record {
+      told = elements_step l t a c.args.elements.now c.loop-element.element-index c.element-item.result
+          (facts_view ns c.args.news.now.items) (facts_view ns c.loop-element.news.items) (facts_view ns c.add_element.new.news.items)
+          within c.loop-element.invariant.told
+          (c.in_ok-add_element.ensures.told ∙ ap (λ (z : Element). facts_view ns c.loop-element.news.items ++ element_news l t a z.key z.value) item);
+      inside = λ h a. c.in_ok-add_element.ensures.inside h (c.loop-element.invariant.inside h a);
+    }

@@ -9,8 +9,8 @@ use Rattle.whole_rounds.specs.Told.{comes_at, inserted_news}
 use Rattle.whole_rounds.proofs.Behind.{two_told}
 use Rattle.whole_rounds.proofs.telling.add_inserted.Goals as goal
 
-pub returns : goal.returns
-returns g c =
+pub returns-clause-told : goal.returns-clause-told
+returns-clause-told g c =
     let A = g.row.A.Denot in
     let l = c.args.learned.now in
     let t = c.args.site in
@@ -25,4 +25,4 @@ returns g c =
     c.in_ok-index.ensures.told c.in_ok-right.ensures.told
     (e ∙ ap (λ (z : Option Value). facts_view ns c.comes-2.new.news.items ++ inserted_news l t a (key_in z) (one_in c.in_ok-right.right)) c.in_ok-index.ensures.value
     ∙ ap (λ (z : Option Value). facts_view ns c.comes-2.new.news.items ++ inserted_news l t a (key_in (comes_at l t i.cell)) (one_in z)) c.in_ok-right.ensures.value))
-    c.add_pair.ensures
+    c.add_pair.ensures.told

@@ -8,8 +8,8 @@ use Rattle.whole_rounds.proofs.Behind.{call_told}
 use Rattle.whole_rounds.proofs.Views.{view_call}
 use Rattle.whole_rounds.proofs.telling.add_news.Goals as goal
 
-pub returns-in-Call : goal.returns-in-Call
-returns-in-Call g c =
+pub returns-in-Call-clause-told : goal.returns-in-Call-clause-told
+returns-in-Call-clause-told g c =
     let A = g.row.A.Denot in
     let l = c.args.learned.now in
     let t = c.args.site in
@@ -19,4 +19,4 @@ returns-in-Call g c =
     (λ (e : facts_view ns c.add_parts.new.news.items ≡ facts_view ns c.args.news.now.items ++ cells_news l t (part_cells (parts_view {A = A} c.in-Call.parts.items))).
     call_told l t (action_view {A = A} c.args.action.now) c.in-Call.priority (parts_view {A = A} c.in-Call.parts.items) (call_view {A = A} c.in-Call.call.value)
     (facts_view ns c.args.news.now.items) (facts_view ns c.add_parts.new.news.items) seen e)
-    c.add_parts.ensures
+    c.add_parts.ensures.told

@@ -1,13 +1,14 @@
 use Rattle.std.proofs.Common.{◌≡◌, ◌++◌, [], Some}
 use Rattle.std.proofs.lemmas.Result.{on_ok_weaker}
 use Rattle.whole_meaning.specs.News.{with_value}
+use Rattle.held_facts.specs.Held.{StayInside}
 use Rattle.whole_rounds.specs.Viewed.{facts_view}
 use Rattle.whole_rounds.specs.Told.{range_news}
 use Rattle.whole_rounds.proofs.Ranges.{range_stepped, range_between}
 use Rattle.whole_rounds.proofs.telling.add_range.Goals as goal
 
-pub returns-in_ok-step-in-Some : goal.returns-in_ok-step-in-Some
-returns-in_ok-step-in-Some g c =
+pub returns-in_ok-step-in-Some-clause-told : goal.returns-in_ok-step-in-Some-clause-told
+returns-in_ok-step-in-Some-clause-told g c =
     let l = c.args.learned.now in
     let t = c.args.site in
     let ns = c.args.learned.now.instances.all.items in
@@ -17,10 +18,10 @@ returns-in_ok-step-in-Some g c =
     (facts_view ns c.args.news.now.items) (facts_view ns c.comes.new.news.items) (facts_view ns c.comes-2.new.news.items) (facts_view ns c.comes-in-Some.new.news.items) (facts_view ns c.add_stepped.new.news.items)
     c.in-Some.is c.in_ok-low.ensures.value c.in_ok-high.ensures.value c.in_ok-step-in-Some.ensures.value
     c.in_ok-low.ensures.told c.in_ok-high.ensures.told c.in_ok-step-in-Some.ensures.told e)
-    c.add_stepped.ensures
+    c.add_stepped.ensures.told
 
-pub returns-in-None : goal.returns-in-None
-returns-in-None g c =
+pub returns-in-None-clause-told : goal.returns-in-None-clause-told
+returns-in-None-clause-told g c =
     let l = c.args.learned.now in
     let t = c.args.site in
     let ns = c.args.learned.now.instances.all.items in
@@ -30,4 +31,19 @@ returns-in-None g c =
     (facts_view ns c.args.news.now.items) (facts_view ns c.comes.new.news.items) (facts_view ns c.comes-2.new.news.items) (facts_view ns c.add_between.new.news.items)
     c.in-None.is c.in_ok-low.ensures.value c.in_ok-high.ensures.value
     c.in_ok-low.ensures.told c.in_ok-high.ensures.told e)
-    c.add_between.ensures
+    c.add_between.ensures.told
+
+pub returns-in_ok-step-in-Some-clause-inside : goal.returns-in_ok-step-in-Some-clause-inside
+returns-in_ok-step-in-Some-clause-inside g c =
+    let ns = c.args.learned.now.instances.all.items in
+    let i = c.args.site.instance in
+    on_ok_weaker c.add_stepped.result
+    (λ (e : StayInside ns i c.comes-in-Some.new.news.items c.add_stepped.new.news.items) h a. e h (c.in_ok-step-in-Some.ensures.inside h (c.in_ok-high.ensures.inside h (c.in_ok-low.ensures.inside h a))))
+    c.add_stepped.ensures.inside
+
+pub returns-in-None-clause-inside : goal.returns-in-None-clause-inside
+returns-in-None-clause-inside g c =
+    let ns = c.args.learned.now.instances.all.items in
+    let i = c.args.site.instance in
+    on_ok_weaker c.add_between.result
+    (λ (e : StayInside ns i c.comes-2.new.news.items c.add_between.new.news.items) h a. e h (c.in_ok-high.ensures.inside h (c.in_ok-low.ensures.inside h a))) c.add_between.ensures.inside

@@ -1,9 +1,12 @@
-use Rattle.std.proofs.Common.{◌≡◌, ◌<◌, ◌++◌, length, get_or, ap, ◌∙◌, rules, arith}
+use Rattle.std.proofs.Common.{◌≡◌, ◌<◌, ◌++◌, length, get_or, ap, ◌∙◌, sym, subst, rules, arith}
 use Rattle.whole_rounds.specs.declared.state.Task.{Task}
 use Rattle.whole_rounds.specs.Viewed.{facts_view}
-use Rattle.whole_rounds.specs.Tasks.{task_news, tasks_news}
+use Rattle.whole_rounds.specs.Made.{tasks_of, telling_of}
+use Rattle.whole_rounds.specs.Standing.{active_news, active_of, actives_news}
 use Rattle.std.proofs.lemmas.Grind.{common_steps}
 use Rattle.whole_rounds.proofs.Round.{round_told}
+use Rattle.syntax_trees.specs.Members.{◌∈◌}
+use Rattle.whole_rounds.proofs.Listed.{mapped_in, nth_in}
 use Rattle.whole_rounds.proofs.Steps.{tasks_step}
 use Rattle.whole_rounds.proofs.state.State.news.Goals as goal
 
@@ -12,17 +15,25 @@ loop-task-preserved g c =
     let A = g.row.A.Denot in
     let l = c.args.self.now.learned in
     let ns = c.args.self.now.learned.instances.all.items in
-    let within : c.loop-task.task-index < length c.args.self.now.tasks.items = grind arith in
-    let item : c.task-item.result ≡ get_or c.args.self.now.tasks.items c.loop-task.task-index c.task-item.result = search rules in
-    tasks_step {A = A} l c.args.self.now.tasks.items c.loop-task.task-index c.task-item.result
-    (facts_view ns c.loop-task.news.items) (facts_view ns c.add_task_news.new.news.items)
-    within c.loop-task.invariant
-    (c.in_ok-add_task_news.ensures ∙ ap (λ (z : Task A). facts_view ns c.loop-task.news.items ++ task_news {A = A} l z) item)
+    let within : c.loop-task.task-index < length c.args.self.now.telling.items = grind arith in
+    let item : c.task-item.result ≡ get_or c.args.self.now.telling.items c.loop-task.task-index c.task-item.result = search rules in
+    record {
+      told = tasks_step {A = A} l c.args.self.now.telling.items c.loop-task.task-index c.task-item.result
+          (facts_view ns c.loop-task.news.items) (facts_view ns c.add_task_news.new.news.items)
+          within c.loop-task.invariant.told
+          (c.in_ok-add_task_news.ensures.told ∙ ap (λ (z : Task A). facts_view ns c.loop-task.news.items ++ active_news l (active_of {A = A} z)) item);
+      inside = λ places. (
+          let there : active_of {A = A} c.task-item.result ∈ telling_of {A = A} c.args.self.now =
+          subst (λ (z : Task A). active_of {A = A} z ∈ telling_of {A = A} c.args.self.now) (sym item)
+          (mapped_in (active_of {A = A}) c.args.self.now.telling.items (nth_in c.args.self.now.telling.items c.loop-task.task-index c.task-item.result within)) in
+          c.in_ok-add_task_news.ensures.inside (places (active_of {A = A} c.task-item.result) there) (c.loop-task.invariant.inside places)
+          );
+    }
 
 pub returns-clause-round : goal.returns-clause-round
 returns-clause-round g c =
     let A = g.row.A.Denot in
-    let told : facts_view c.args.self.now.learned.instances.all.items c.loop-task.news.items ≡ tasks_news {A = g.row.A.Denot} c.args.self.now.learned c.args.self.now.tasks.items = grind (arith, common_steps) in
+    let told : facts_view c.args.self.now.learned.instances.all.items c.loop-task.news.items ≡ actives_news c.args.self.now.learned (telling_of {A = g.row.A.Denot} c.args.self.now) = grind (arith, common_steps) in
     λ bytes t tree r w single n h f.
-    round_told {A = A} bytes t tree r w single n c.args.self.now.learned c.args.self.now.tasks.items
+    round_told bytes t tree r w single n c.args.self.now.learned (tasks_of {A = A} c.args.self.now) (telling_of {A = A} c.args.self.now)
     (facts_view c.args.self.now.learned.instances.all.items c.loop-task.news.items) told h f

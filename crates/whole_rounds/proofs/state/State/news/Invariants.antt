@@ -1,7 +1,12 @@
-use Rattle.std.proofs.Common.{◌≡◌, take}
+use Rattle.std.proofs.Common.{◌≡◌, map, take}
+use Rattle.held_facts.specs.Held.{AreInside}
+use Rattle.whole_rounds.specs.Made.{telling_of}
 use Rattle.whole_rounds.specs.Viewed.{facts_view}
-use Rattle.whole_rounds.specs.Tasks.{tasks_news}
+use Rattle.whole_rounds.specs.Standing.{active_of, actives_news, HavePlaces}
 use Rattle.whole_rounds.proofs.state.State.news.Given as goal
 
 abbrev pub invariant-loop-task : goal.invariant-loop-task
-invariant-loop-task g l = facts_view l.self.learned.instances.all.items l.news.items ≡ tasks_news l.self.learned (take l.task-index l.self.tasks.items)
+invariant-loop-task g l = record {
+  told : facts_view l.self.learned.instances.all.items l.news.items ≡ actives_news l.self.learned (map (active_of {A = g.row.A.Denot}) (take l.task-index l.self.telling.items));
+  inside : HavePlaces l.self.learned.instances.all.items (telling_of {A = g.row.A.Denot} l.self) → AreInside l.self.learned.instances.all.items l.news.items;
+}
