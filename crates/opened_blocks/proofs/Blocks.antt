@@ -1,18 +1,16 @@
 -- What was opened so far is so with the statements of one live block more.
-use Rattle.std.specs.Prelude.{◌≡◌, ◌⊎◌, ℕ, ◌<◌, Bool, true, false, List, [], ◌∷◌, ◌++◌, length, map, Some, refl}
-use Rattle.std.proofs.Common.{inl, inr, sym, ap, ◌∙◌, subst}
-use Rattle.std.proofs.lemmas.Bool.{cases_Bool}
-use Rattle.values.specs.declared.key.Key.{Key}
+use Rattle.std.specs.Prelude.{◌≡◌, ◌⊎◌, ℕ, ◌<◌, Bool, true, false, List, [], ◌∷◌, ◌++◌, length, refl}
+use Rattle.std.proofs.Common.{inl, inr, sym, subst}
 use Rattle.syntax_trees.specs.Core.{local, Block, Core, Stmt, stmt, Action, declare, call_alone, assign, fill, insert, print, assert, when, choose, range, each, wait}
 use Rattle.syntax_trees.specs.Facts.{Knowledge}
 use Rattle.syntax_trees.specs.Members.{◌∈◌, first, later}
 use Rattle.syntax_trees.specs.Meaning.{Live, LiveStmt, in_block}
-use Rattle.syntax_trees.specs.Parts.{block_list, script_blocks, stmt_action}
+use Rattle.syntax_trees.specs.Parts.{block_list, stmt_action}
 use Rattle.meaning_laws.proofs.Declared.{live_block}
 use Rattle.whole_facts.specs.declared.facts.Place.{Place as Spot}
 use Rattle.whole_facts.specs.declared.learned.Learned.{Learned}
-use Rattle.whole_facts.specs.Paths.{child_at, path_of}
-use Rattle.ended_blocks.specs.Active.{Active, active, Candidate, HasBlock, IsDeclared}
+use Rattle.whole_facts.specs.Paths.{path_of}
+use Rattle.ended_blocks.specs.Active.{Active, active, Candidate, IsDeclared}
 use Rattle.ended_blocks.specs.Never.{never_ends}
 use Rattle.opened_blocks.specs.Listed.{all_active, declares, declares_by, unless_never}
 use Rattle.opened_blocks.specs.Opened.{GoesOn, IsActive, IsCandidate, IsSoFar}

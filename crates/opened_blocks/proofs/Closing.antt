@@ -1,19 +1,16 @@
 -- What was opened and closed so far is so where one array more is closed, whose block is done.
-use Rattle.std.specs.Prelude.{◌≡◌, ◌⊎◌, ℕ, ◌<◌, Bool, true, false, List, length, nat_eq, cond, refl}
+use Rattle.std.specs.Prelude.{◌≡◌, ◌⊎◌, ℕ, Bool, true, List, cond}
 use Rattle.std.proofs.Common.{inl, inr, sym, ap, ◌∙◌, subst}
 use Rattle.std.proofs.lemmas.Bool.{cases_Bool}
-use Rattle.syntax_trees.specs.Core.{Action, Block, Call, Core, Function, Stmt}
+use Rattle.syntax_trees.specs.Core.{Block, Core}
 use Rattle.syntax_trees.specs.Facts.{Knowledge}
-use Rattle.syntax_trees.specs.Meaning.{Closed, closed}
+use Rattle.syntax_trees.specs.Meaning.{closed}
 use Rattle.syntax_trees.specs.Members.{◌∈◌}
 use Rattle.whole_meaning.proofs.Settled.{finished_so}
 use Rattle.whole_facts.specs.declared.facts.Place.{Place as Spot}
-use Rattle.whole_facts.specs.declared.facts.Facts.{Facts}
-use Rattle.whole_facts.specs.declared.instances.Instances.{Instances}
 use Rattle.whole_facts.specs.declared.learned.Learned.{Learned}
 use Rattle.whole_facts.specs.Ending.{IsDone}
 use Rattle.whole_facts.specs.Growing.{KeepsFacts}
-use Rattle.whole_facts.specs.Keeping.{place_view}
 use Rattle.whole_facts.specs.Sighted.{closed_at}
 use Rattle.whole_facts.specs.Store.{one_writer_in, same_place, writes_at}
 use Rattle.whole_facts.proofs.Adding.{same_place-eq}
@@ -22,7 +19,7 @@ use Rattle.ended_blocks.specs.Active.{Active, Candidate, goal_of, HasBlock, take
 use Rattle.ended_blocks.proofs.Apart as apart
 use Rattle.ended_blocks.proofs.Finishing.{finished}
 use Rattle.ended_blocks.proofs.Right.{right_apart, right_so}
-use Rattle.opened_blocks.specs.Opened.{AreCalled, ArePassed, IsActive, IsCandidate, IsClosedSo, IsOpened, nothing, branches, content, IsSoFar}
+use Rattle.opened_blocks.specs.Opened.{AreCalled, ArePassed, IsClosedSo, IsOpened, nothing, branches, content, IsSoFar}
 use Rattle.opened_blocks.proofs.Right.{is_right}
 
 -- the same with the closed arrays of another

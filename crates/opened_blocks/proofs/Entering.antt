@@ -1,16 +1,15 @@
 -- What was opened so far is so where a block becomes live behind a step.
-use Rattle.std.specs.Prelude.{◌≡◌, ℕ, ◌<◌, List, [], ◌∷◌, ◌++◌, length, Some, None, refl}
-use Rattle.std.proofs.Common.{sym, ap, ◌∙◌, subst, arith, length-append}
+use Rattle.std.specs.Prelude.{◌≡◌, ℕ, ◌<◌, List, [], ◌∷◌, ◌++◌, length, Some, refl}
+use Rattle.std.proofs.Common.{sym, ap, subst, arith, length-append}
 use Rattle.syntax_trees.specs.Core.{Block, Core}
 use Rattle.syntax_trees.specs.Facts.{Knowledge}
 use Rattle.syntax_trees.specs.Meaning.{Live}
 use Rattle.syntax_trees.specs.Parts.{block_list}
 use Rattle.syntax_trees.specs.Places.{Path}
 use Rattle.whole_facts.specs.declared.instances.Given.{Given}
-use Rattle.whole_facts.specs.declared.instances.Instances.{Instances}
 use Rattle.whole_facts.specs.declared.instances.Step.{Step}
 use Rattle.whole_facts.specs.declared.learned.Learned.{Learned}
-use Rattle.whole_facts.specs.Paths.{child_at, path_of, IsOpen}
+use Rattle.whole_facts.specs.Paths.{child_at, path_of}
 use Rattle.whole_facts.proofs.Tree.{found_itself, path_comes}
 use Rattle.held_facts.specs.Held.{with_instances}
 use Rattle.ended_blocks.specs.Active.{Active, Candidate, HasBlock}

@@ -1,5 +1,5 @@
 -- Where all was passed and what waits is not ready, all that is ready is open.
-use Rattle.std.specs.Prelude.{◌≡◌, ◌⊎◌, ℕ, ◌<◌, pos, true, false, List, [], ◌∷◌, length, Option, Some, None, slice_get, refl}
+use Rattle.std.specs.Prelude.{◌≡◌, ℕ, ◌<◌, true, false, List, length, Option, Some, None, refl}
 use Rattle.std.proofs.Common.{inl, inr, sym, ap, ◌∙◌, subst}
 use Rattle.values.specs.declared.key.Key.{Key}
 use Rattle.values.specs.declared.value.Scalar.{Scalar}
@@ -15,10 +15,7 @@ use Rattle.syntax_trees.specs.WellFormed.{NamesFound}
 use Rattle.meaning_laws.proofs.Declared.{live_block, stmt_in}
 use Rattle.meaning_laws.proofs.Hinge.{choice_stays, Later}
 use Rattle.whole_facts.specs.declared.learned.Learned.{Learned}
-use Rattle.whole_facts.specs.Chosen.{Chosen, chosen_in, have_come_in}
-use Rattle.whole_facts.specs.Paths.{child_at, path_of}
-use Rattle.whole_facts.specs.Sighted.{sight_of}
-use Rattle.whole_facts.specs.Store.{variable_in, variables_of}
+use Rattle.whole_facts.specs.Paths.{path_of}
 use Rattle.ended_blocks.specs.Active.{Active, active, Candidate, HasBlock, IsAllOpen}
 use Rattle.opened_blocks.specs.Opened.{ArePassed, IsOpened, nothing, branches, content, IsSoFar, IsUnready, OffsetsApart, Origin, of_header, of_call}
 

@@ -1,18 +1,16 @@
 -- Instances and statements become more; what was found stays.
-use Rattle.std.specs.Prelude.{◌≡◌, ◌⊎◌, ℕ, ◌<◌, List, [], ◌∷◌, ◌++◌, length, map, Some, refl}
+use Rattle.std.specs.Prelude.{ℕ, ◌<◌, List, length, refl}
 use Rattle.std.proofs.Common.{inl, inr, sym, ap, ◌∙◌, subst}
 use Rattle.values.specs.declared.key.Key.{Key}
-use Rattle.syntax_trees.specs.Core.{Block, Core, Stmt}
+use Rattle.syntax_trees.specs.Core.{Block, Core}
 use Rattle.syntax_trees.specs.Facts.{Knowledge}
-use Rattle.syntax_trees.specs.Members.{◌∈◌, first, later}
+use Rattle.syntax_trees.specs.Members.{◌∈◌}
 use Rattle.syntax_trees.specs.Meaning.{Ready}
-use Rattle.syntax_trees.specs.Openings.{Opens}
 use Rattle.syntax_trees.specs.Parts.{stmt_action}
 use Rattle.syntax_trees.specs.Places.{Path, most_steps}
 use Rattle.whole_facts.specs.declared.learned.Learned.{Learned}
 use Rattle.whole_facts.specs.Paths.{path_of}
 use Rattle.whole_facts.specs.Chosen.{chosen_in, have_come_in}
-use Rattle.whole_facts.specs.Sighted.{sight_of}
 use Rattle.whole_meaning.specs.Environment.{Sight}
 use Rattle.ended_blocks.specs.Active.{Active, active, HasBlock}
 use Rattle.opened_blocks.specs.Opened.{AreCalled, ArePassed, IsOpened, nothing, branches, content, IsUnready, GoesOn}

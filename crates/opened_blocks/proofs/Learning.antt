@@ -1,20 +1,18 @@
 -- What was opened so far is so where more is known.
-use Rattle.std.specs.Prelude.{◌≡◌, ◌⊎◌, ℕ, ◌<◌, true, List, length, Option, Some, refl}
-use Rattle.std.proofs.Common.{inl, inr, sym, ap, ◌∙◌, subst}
+use Rattle.std.specs.Prelude.{ℕ, List, Option}
+use Rattle.std.proofs.Common.{inl, inr}
 use Rattle.values.specs.declared.key.Key.{Key}
 use Rattle.values.specs.declared.value.Scalar.{Scalar}
-use Rattle.syntax_trees.specs.Core.{Block, Core}
+use Rattle.syntax_trees.specs.Core.{Core}
 use Rattle.syntax_trees.specs.Facts.{Knowledge}
-use Rattle.syntax_trees.specs.Members.{◌∈◌}
 use Rattle.syntax_trees.specs.Places.{Path}
 use Rattle.meaning_laws.proofs.Growth.{Grows, keeps_closed, keeps_live, keeps_ready, keeps_stmt}
 use Rattle.whole_facts.specs.declared.facts.Facts.{Facts}
-use Rattle.whole_facts.specs.declared.facts.Place.{Place as Spot}
 use Rattle.whole_facts.specs.declared.learned.Learned.{Learned}
 use Rattle.whole_facts.specs.Growing.{with_facts}
 use Rattle.held_facts.specs.Held.{Holds}
 use Rattle.ended_blocks.specs.Active.{Active, Candidate}
-use Rattle.opened_blocks.specs.Opened.{ArePassed, IsActive, IsCandidate, IsClosedSo, IsOpened, nothing, branches, content, IsSoFar, Origin, of_header, of_call}
+use Rattle.opened_blocks.specs.Opened.{ArePassed, IsOpened, nothing, branches, content, IsSoFar, Origin, of_header, of_call}
 
 module _ (s : Core) (K K' : Knowledge) (g : Grows s K K') where
   origin_later : {path : Path} {at : ℕ} {k : Key} {variable : ℕ → Option Scalar} → Origin s K path at k variable → Origin s K' path at k variable

@@ -1,24 +1,21 @@
 -- What was opened so far is so with one instance more.
-use Rattle.std.specs.Prelude.{◌≡◌, ◌⊎◌, ℕ, ◌<◌, Bool, true, false, List, [], ◌∷◌, ◌++◌, length, map, Option, Some, None, if◌then◌else◌, refl}
+use Rattle.std.specs.Prelude.{◌≡◌, ℕ, ◌<◌, Bool, List, [], ◌∷◌, length, Some, None, if◌then◌else◌, refl}
 use Rattle.std.proofs.Common.{inl, inr, sym, ap, ◌∙◌, subst, arith, length-append}
 use Rattle.std.proofs.lemmas.Bool.{cases_Bool}
 use mathlib.Core.Path.{fun_ext}
 use Rattle.values.specs.declared.key.Key.{Key}
-use Rattle.values.specs.declared.map.Element.{Element}
-use Rattle.values.specs.declared.value.Scalar.{Scalar}
-use Rattle.syntax_trees.specs.Core.{Block, Core, Name, Stmt}
+use Rattle.syntax_trees.specs.Core.{Block, Core, Name}
 use Rattle.syntax_trees.specs.Facts.{Knowledge}
-use Rattle.syntax_trees.specs.Members.{◌∈◌}
 use Rattle.syntax_trees.specs.Meaning.{Closed, Live, LiveStmt}
 use Rattle.syntax_trees.specs.Parts.{call_at, input_name, output_name}
-use Rattle.syntax_trees.specs.Places.{Path, Place, most_steps}
+use Rattle.syntax_trees.specs.Places.{Path, most_steps}
 use Rattle.whole_facts.specs.declared.facts.Place.{Place as Spot}
 use Rattle.whole_facts.specs.declared.instances.Given.{Given}
 use Rattle.whole_facts.specs.declared.instances.Instances.{Instances}
 use Rattle.whole_facts.specs.declared.instances.Step.{Step}
 use Rattle.whole_facts.specs.declared.instances.Variable.{Variable}
 use Rattle.whole_facts.specs.declared.learned.Learned.{Learned}
-use Rattle.whole_facts.specs.Keeping.{place_view, IsPlaced}
+use Rattle.whole_facts.specs.Keeping.{IsPlaced}
 use Rattle.whole_facts.specs.Paths.{path_of, child_at, key_number, same_step, IsOpen, IsTree}
 use Rattle.whole_facts.specs.Sighted.{closed_at, scalar_at, sight_of}
 use Rattle.whole_facts.specs.Store.{elements_from, given_at, spot, value_at, variable_in, variables_in, variables_of, writes_at, writes_under}

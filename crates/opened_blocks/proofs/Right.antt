@@ -1,18 +1,18 @@
 -- What was opened so far is right, and what instances see of choices is so.
-use Rattle.std.specs.Prelude.{◌≡◌, ℕ, zero, suc, ◌<◌, ◌≤◌, true, false, List, [], ◌∷◌, length, Option, Some, None, refl}
+use Rattle.std.specs.Prelude.{◌≡◌, ℕ, zero, suc, ◌<◌, true, false, List, [], ◌∷◌, length, Option, Some, None, refl}
 use Rattle.std.proofs.Common.{sym, ap, ◌∙◌, subst, arith}
 use Rattle.values.specs.declared.key.Key.{Key}
 use Rattle.values.specs.declared.value.Scalar.{Scalar}
 use Rattle.syntax_trees.specs.Core.{Action, Awaited, Block, Core, wait}
 use Rattle.syntax_trees.specs.Facts.{Knowledge}
-use Rattle.syntax_trees.specs.Meaning.{Closed, HasValue, LiveStmt, in_block, in_turn, Ready}
+use Rattle.syntax_trees.specs.Meaning.{Closed, HasValue, in_block, in_turn, Ready}
 use Rattle.syntax_trees.specs.Places.{Path, Place, most_steps}
 use Rattle.whole_meaning.specs.Taken.{Taken, by_names}
 use Rattle.whole_meaning.proofs.Settled.{ready_so}
 use Rattle.whole_facts.specs.declared.instances.Variable.{Variable}
 use Rattle.whole_facts.specs.declared.learned.Learned.{Learned}
 use Rattle.whole_facts.specs.Chosen.{Chosen, chosen_in, have_come_in}
-use Rattle.whole_facts.specs.Keeping.{in_instance, kept_of, turn_at}
+use Rattle.whole_facts.specs.Keeping.{in_instance, turn_at}
 use Rattle.whole_facts.specs.Paths.{at_path, path_of}
 use Rattle.whole_facts.specs.Sighted.{closed_at, sight_of}
 use Rattle.whole_facts.specs.Store.{parent_of, variable_in, variables_of}

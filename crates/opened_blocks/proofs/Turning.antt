@@ -1,8 +1,7 @@
 -- What an instance sees of a header's choice may be opened in each turn.
-use Rattle.std.specs.Prelude.{◌≡◌, ℕ, ◌<◌, List, [], length, Option, Some, refl}
+use Rattle.std.specs.Prelude.{◌≡◌, ℕ, ◌<◌, List, [], length, Some, refl}
 use Rattle.std.proofs.Common.{sym, ap, ◌∙◌, subst}
 use Rattle.values.specs.declared.key.Key.{Key}
-use Rattle.values.specs.declared.value.Scalar.{Scalar}
 use Rattle.syntax_trees.specs.Core.{Action, Block, Core, stmt}
 use Rattle.syntax_trees.specs.Facts.{Knowledge}
 use Rattle.syntax_trees.specs.Members.{◌∈◌}

@@ -1,7 +1,7 @@
 -- What becomes listed where the statements of a block become live in an instance.
 use Rattle.std.specs.Prelude.{ℕ, Bool, true, false, List, [], ◌∷◌, ◌++◌, map}
 use Rattle.syntax_trees.specs.Core.{local, Stmt, Action, declare, Block, Core}
-use Rattle.syntax_trees.specs.Parts.{block_list, stmt_action}
+use Rattle.syntax_trees.specs.Parts.{stmt_action}
 use Rattle.ended_blocks.specs.Active.{Active, active, Candidate}
 use Rattle.ended_blocks.specs.Never.{never_ends}
 
