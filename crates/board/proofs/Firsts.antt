@@ -1,292 +1,275 @@
--- The first item that can begin, and all of them in order.
-use Rattle.std.proofs.Common.{◌≡◌, ◌⊎◌, inl, inr, ℕ, Bool, true, false, ◌&&◌, List, [], ◌∷◌, map, Some, None, Option, is_none, is_some, refl, sym, ap, ◌∙◌, subst}
-use Rattle.std.specs.Prelude.{if◌then◌else◌, nat_eq, ℤ}
-use Rattle.std.specs.List.{list_any}
+-- The items that can begin, as the queue has them: the first of a kind, and none.
+use Rattle.std.proofs.Common.{◌≡◌, ◌⊎◌, inl, inr, ℕ, zero, suc, ◌<◌, ◌≤◌, Bool, true, false, IsTrue, List, [], ◌∷◌, map, refl, sym, ap, ◌∙◌, subst, Option, None, Some, Contains, arith}
+use Rattle.std.specs.Prelude.{ℤ, ◌<ℤ◌, IfNone, IfSome, int_lt}
+use Rattle.std.specs.Ordering.{int_eq}
+use Rattle.std.proofs.lemmas.Int.{ints}
+use Rattle.std.proofs.lemmas.List.Elements.{All-contains}
 use Rattle.dataflow.specs.System.{Distinct, In}
-use Rattle.dataflow.specs.Machine.{Enabled, Event, Quiet}
-use Rattle.dataflow.proofs.Lists.{in_map, in_unmap}
-use Rattle.task_code.specs.Code.{Code, Control, Kind, Leaf}
-use Rattle.task_code.specs.Machine.{CodeItem, Run}
-use Rattle.task_code.specs.System.{code_system, task_kind, task_priority}
-use Rattle.task_code.proofs.Equal.{both_true, nat_same, true_and}
-use Rattle.board.specs.declared.item.Item.{Item}
-use Rattle.board.specs.declared.item.Stored.{Stored}
-use Rattle.board.specs.declared.state.Core.{Core}
-use Rattle.board.specs.Board.{IsGoing, Seen}
-use Rattle.board.specs.Flat.{IsFlat}
-use Rattle.board.specs.Order.{beats, best_of, can_be, has_number, inserted, precedes, same_kind, stirs, with_ready}
-use Rattle.board.specs.Ready.{AreReady, InOrder, IsNext, IsReady, Precedes}
-use Rattle.board.specs.State.{can_begin, core_of, is_task_known}
-use Rattle.board.specs.View.{item_view, met_view, task_view}
-use Rattle.board.proofs.Opened.{IsOpened, run_opened}
-use Rattle.board.proofs.Own.{none_passes, number_of, on, one, task_known, task_seen}
-use Rattle.board.proofs.Ranks.{all_fail, before_complete, before_sound, both_false, comes_not, comes_split, comes_total, comes_trans, either_left, either_right, false_unless, none_unless}
+use Rattle.replayed.specs.Fields.{Job, Mark, Over, Ready, Row, Running, Waiting, is_running, row_of, running_in, task_of}
+use Rattle.replayed.specs.Stands.{Stands}
+use Rattle.replayed.proofs.Marking.{RowIs}
+use Rattle.replayed.proofs.Tests.{choose, none_some, some_same, yes_no}
+use Rattle.task_code.specs.Code.{Control, Kind, Leaf}
+use Rattle.task_code.specs.Machine.{CodeItem, CodeState, Enabled, Quiet}
+use Rattle.task_code.specs.System.{task_kind, task_priority}
+use Rattle.task_code.specs.View.{event_view}
+use Rattle.work_queue.specs.Both.{of}
+use Rattle.work_queue.specs.Entries.{ComesNoLater, IsTakenFirst, first_number}
+use Rattle.work_queue.specs.declared.entry.Entry.{Entry}
+use Rattle.board_code.specs.Spots.{layout_of}
+use Rattle.board_code.specs.Tables.{queue_kind}
+use Rattle.board_frames.specs.View.{frames_view, rows_view}
+use Rattle.board_items.specs.View.{numbers_at, queue_view}
+use Rattle.board.specs.Board.{IsGoing}
+use Rattle.board.specs.History.{state_of}
+use Rattle.board.specs.Inside.{IsSound, seen_of}
+use Rattle.board.specs.Ready.{IsNext, IsReady}
+use Rattle.board.specs.View.{fields_view}
+use Rattle.board.specs.declared.board.Board.TheInside.{Inside}
+use Rattle.board.proofs.Entries.{int_same, int_sound}
+use Rattle.board.proofs.Moves.{ready_item, row_there, runs_as, waiting_item}
+use Rattle.board.proofs.Own.{free_core, free_state, some_run, state_here, theirs}
 
-same_some : {A : Type 0} {x y : A} → ◌≡◌ {A = Option A} (Some x) (Some y) → x ≡ y
-same_some h = cc
+abbrev entry : ℤ → ℕ → Entry
+entry z n = record { priority = z; no = n }
 
-module _ (C : Code) where
-  abbrev priority : Item → ℤ
-  priority i = task_priority C (task_view i.task)
+entry_same : (x y : Entry) → x.no ≡ y.no → x.priority ≡ y.priority → x ≡ y
+entry_same x y e f = λ i. record { priority = f i; no = e i }
 
-  precedes_trans : (x y z : Item) → precedes C x y ≡ true → precedes C y z ≡ true → precedes C x z ≡ true
-  precedes_trans x y z g h =
-      before_complete (priority x) x.number (priority z) z.number
-      (comes_trans (priority x) (priority y) (priority z) x.number y.number z.number
-      (before_sound (priority x) x.number (priority y) y.number g) (before_sound (priority y) y.number (priority z) z.number h))
+in_contains : {X : Type 0} (xs : List X) (x : X) → In x xs → Contains xs x
+in_contains [] x h = absurd h
+in_contains (y ∷ xs) x (inl e) = (0, omega arith, sym e)
+in_contains (y ∷ xs) x (inr h) = let c = in_contains xs x h in let l = c.1 in (suc c.0, omega arith, c.2)
 
-  precedes_not : (x : Item) → precedes C x x ≡ true → ⊥
-  precedes_not x h = comes_not (priority x) x.number (before_sound (priority x) x.number (priority x) x.number h)
+contains_in : {X : Type 0} (xs : List X) (x : X) → Contains xs x → In x xs
+contains_in [] x c = let l = c.1 in absurd (omega arith)
+contains_in (y ∷ xs) x (zero, l, e) = inl (sym e)
+contains_in (y ∷ xs) x (suc k, l, e) = inr (contains_in xs x (k, omega arith, e))
 
-  precedes_split : (x y z : Item) → precedes C x z ≡ true → (precedes C x y ≡ true) ⊎ (precedes C y z ≡ true)
-  precedes_split x y z h =
-      elim (comes_split (priority x) (priority y) (priority z) x.number y.number z.number (before_sound (priority x) x.number (priority z) z.number h)) [
-        | inl g ↦ inl (before_complete (priority x) x.number (priority y) y.number g)
-        | inr g ↦ inr (before_complete (priority y) y.number (priority z) z.number g)
-      ]
+pub if_none : {A P : Type 0} (o : Option A) → (o ≡ None → P) → IfNone o P
+if_none None f = f refl
+if_none (Some x) f = tt
 
-  precedes_total : (x y : Item) → (x.number ≡ y.number → ⊥) → precedes C x y ≡ false → precedes C y x ≡ true
-  precedes_total x y d h =
-      before_complete (priority y) y.number (priority x) x.number (comes_total (priority x) (priority y) x.number y.number d h)
+pub if_some : {A : Type 0} {P Q : A → Type 0} (o : Option A) → IfSome o P → ((x : A) → P x → Q x) → IfSome o Q
+if_some None p f = tt
+if_some (Some x) p f = f x p
 
-  module _ (ws : List Stored) where
-    module _ (k : Kind) where
-      -- what the best one is, of these and of the best before
-      record IsBest (its : List Item) (best : Option Item) (x : Item) : Type 0 where
-        from : (best ≡ Some x) ⊎ (In x its × (can_be C ws k x ≡ true))
-        first : (y : Item) → In y its → can_be C ws k y ≡ true → precedes C y x ≡ true → ⊥
-        again : (b : Item) → best ≡ Some b → precedes C b x ≡ true → ⊥
+-- a number of a priority is that of an entry
+pub held : (z : ℤ) (n : ℕ) (ys : List Entry) → In n (numbers_at z ys) → In (record { priority = z; no = n }) ys
+held z n [] h = absurd h
+held z n (y ∷ ys) h =
+    choose (λ (ns : List ℕ). In n ns → In (entry z n) (y ∷ ys)) (int_eq y.priority z) (y.no ∷ numbers_at z ys) (numbers_at z ys)
+    (λ b g. elim g [
+      | inl e ↦ inl (entry_same (entry z n) y e (sym (int_sound y.priority z b)))
+      | inr g ↦ inr (held z n ys g)
+    ])
+    (λ b g. inr (held z n ys g)) h
 
-      best_step : (i : Item) (is : List Item) (best : Option Item) (x : Item) → ((next : Option Item) → best_of C ws k is next ≡ Some x → IsBest is next x)
-          → (t : Bool) → (can_be C ws k i && beats C i best) ≡ t → best_of C ws k is (if t then Some i else best) ≡ Some x → IsBest (i ∷ is) best x
-      best_step i is best x rec true e h =
-          let r = rec (Some i) h in
-          let both = true_and (can_be C ws k i) (beats C i best) e in
-          record {
-            from = elim r.from [ inl p ↦ inr (inl (sym (same_some p)), subst (λ (y : Item). can_be C ws k y ≡ true) (same_some p) both.0) | inr p ↦ inr (inr p.0, p.1) ];
-            first = λ y m c g. elim m [ inl p ↦ r.again i refl (subst (λ (z : Item). precedes C z x ≡ true) p g) | inr j ↦ r.first y j c g ];
-            again = λ b p g. r.again i refl (precedes_trans i b x (subst (λ (o : Option Item). beats C i o ≡ true) p both.1) g);
-          }
-      best_step i is best x rec false e h =
-          let r = rec best h in
-          record {
-            from = elim r.from [ inl p ↦ inl p | inr p ↦ inr (inr p.0, p.1) ];
-            first = λ y m c g. elim m [ inl p ↦ beaten best e r.again (subst (λ (z : Item). can_be C ws k z ≡ true) p c) (subst (λ (z : Item). precedes C z x ≡ true) p g) | inr j ↦ r.first y j c g ];
-            again = r.again;
-          }
-        where
-          beaten : (o : Option Item) → (can_be C ws k i && beats C i o) ≡ false → ((b : Item) → o ≡ Some b → precedes C b x ≡ true → ⊥) → can_be C ws k i ≡ true → precedes C i x ≡ true → ⊥
-          beaten None f again c g = (let t = both_true (can_be C ws k i) true c refl in absurd (cc))
-          beaten (Some b) f again c g =
-              elim (precedes_split i b x g) [
-                | inl p ↦ (let t = both_true (can_be C ws k i) (precedes C i b) c p in absurd (cc))
-                | inr p ↦ again b refl p
-              ]
+pub listed_at : (e : Entry) (ys : List Entry) → In e ys → In e.no (numbers_at e.priority ys)
+listed_at e [] h = absurd h
+listed_at e (y ∷ ys) (inl p) =
+    choose (λ (ns : List ℕ). In e.no ns) (int_eq y.priority e.priority) (y.no ∷ numbers_at e.priority ys) (numbers_at e.priority ys)
+    (λ b. inl (ap (λ (x : Entry). x.no) p))
+    (λ b. yes_no (int_same y.priority e.priority (ap (λ (x : Entry). x.priority) (sym p))) b)
+listed_at e (y ∷ ys) (inr h) =
+    choose (λ (ns : List ℕ). In e.no ns) (int_eq y.priority e.priority) (y.no ∷ numbers_at e.priority ys) (numbers_at e.priority ys)
+    (λ b. inr (listed_at e ys h))
+    (λ b. listed_at e ys h)
 
-      best_law : (its : List Item) (best : Option Item) (x : Item) → best_of C ws k its best ≡ Some x → IsBest its best x
-      best_law [] best x h = record { from = inl h; first = λ y m c g. m; again = λ b p g. precedes_not x (subst (λ (z : Item). precedes C z x ≡ true) (same_some (sym p ∙ h)) g) }
-      best_law (i ∷ is) best x h = best_step i is best x (λ next g. best_law is next x g) (can_be C ws k i && beats C i best) refl h
+-- where each number stands once
+pub behind_once : (z : ℤ) (y : Entry) (ys : List Entry) → Distinct (numbers_at z (y ∷ ys)) → Distinct (numbers_at z ys)
+behind_once z y ys =
+    choose (λ (ns : List ℕ). Distinct ns → Distinct (numbers_at z ys)) (int_eq y.priority z) (y.no ∷ numbers_at z ys) (numbers_at z ys)
+    (λ b d. d.1)
+    (λ b d. d)
 
-      none_step : (i : Item) (is : List Item) (best : Option Item) → ((next : Option Item) → best_of C ws k is next ≡ None → (next ≡ None) × ((y : Item) → In y is → can_be C ws k y ≡ true → ⊥))
-          → (t : Bool) → (can_be C ws k i && beats C i best) ≡ t → best_of C ws k is (if t then Some i else best) ≡ None
-          → (best ≡ None) × ((y : Item) → In y (i ∷ is) → can_be C ws k y ≡ true → ⊥)
-      none_step i is best rec true e h = (let r = (rec (Some i) h).0 in absurd (cc))
-      none_step i is best rec false e h =
-          let r = rec best h in
-          (r.0, λ y m c. elim m [ inl p ↦ clash (subst (λ (o : Option Item). (can_be C ws k i && beats C i o) ≡ false) r.0 e) (subst (λ (z : Item). can_be C ws k z ≡ true) p c) | inr j ↦ r.1 y j c ])
-        where
-          clash : (can_be C ws k i && true) ≡ false → can_be C ws k i ≡ true → ⊥
-          clash f c = (let t = both_true (can_be C ws k i) true c refl in absurd (cc))
+pub not_again : (y : Entry) (ys : List Entry) → Distinct (numbers_at y.priority (y ∷ ys)) → (e : Entry) → In e ys → e.no ≡ y.no → e.priority ≡ y.priority → ⊥
+not_again y ys d e h n p =
+    choose (λ (ns : List ℕ). Distinct ns → ⊥) (int_eq y.priority y.priority) (y.no ∷ numbers_at y.priority ys) (numbers_at y.priority ys)
+    (λ b c. c.0 (subst (λ (k : ℕ). In k (numbers_at y.priority ys)) n (subst (λ (z : ℤ). In e.no (numbers_at z ys)) p (listed_at e ys h))))
+    (λ b c. yes_no (int_same y.priority y.priority refl) b) d
 
-      none_law : (its : List Item) (best : Option Item) → best_of C ws k its best ≡ None → (best ≡ None) × ((y : Item) → In y its → can_be C ws k y ≡ true → ⊥)
-      none_law [] best h = (h, λ y m c. m)
-      none_law (i ∷ is) best h = none_step i is best (λ next g. none_law is next g) (can_be C ws k i && beats C i best) refl h
+pub none_first : (ys : List Entry) → first_number ys ≡ None → ys ≡ []
+none_first [] h = refl
+none_first (y ∷ ys) h = none_some (sym h)
 
-    -- lists in order
-    abbrev Ordered : List Item → Type 0
-    Ordered [] = Unit {0}
-    Ordered (i ∷ is) = ((j : Item) → In j is → precedes C i j ≡ true) × Ordered is
+-- of two orders that say the same one rules the other out
+not_before : (z w : ℤ) (n m : ℕ) → (w <ℤ z) ⊎ ((z ≡ w) × (n ≤ m)) → (int_lt z w ≡ true) ⊎ ((w ≡ z) × (m < n)) → ⊥
+not_before z w n m (inl a) (inl b) = grind (arith, ints)
+not_before z w n m (inl a) (inr b) = let e = b.0 in grind (arith, ints)
+not_before z w n m (inr a) (inl b) = let e = a.0 in grind (arith, ints)
+not_before z w n m (inr a) (inr b) = let e = a.1 in let f = b.1 in omega arith
 
-    inserted_by : (i j : Item) (js : List Item) (y : Item) → (In y (inserted C i js) → (y ≡ i) ⊎ In y js) → (t : Bool) → In y (if t then i ∷ j ∷ js else j ∷ inserted C i js) → (y ≡ i) ⊎ In y (j ∷ js)
-    inserted_by i j js y rec true (inl p) = inl p
-    inserted_by i j js y rec true (inr m) = inr m
-    inserted_by i j js y rec false (inl p) = inr (inl p)
-    inserted_by i j js y rec false (inr m) = elim (rec m) [ inl p ↦ inl p | inr n ↦ inr (inr n) ]
+pub is_before : (z w : ℤ) (n m : ℕ) → (w <ℤ z) ⊎ ((z ≡ w) × (n ≤ m)) → (n ≡ m → ⊥) → (int_lt w z ≡ true) ⊎ ((z ≡ w) × (n < m))
+is_before z w n m (inl a) d = inl (grind (arith, ints))
+is_before z w n m (inr a) d = let e = a.1 in inr (a.0, omega arith)
 
-    inserted_in : (i : Item) (js : List Item) (y : Item) → In y (inserted C i js) → (y ≡ i) ⊎ In y js
-    inserted_in i [] y (inl p) = inl p
-    inserted_in i [] y (inr m) = absurd m
-    inserted_in i (j ∷ js) y m = inserted_by i j js y (inserted_in i js y) (precedes C i j) m
+-- some row runs
+record RunsSomewhere (rows : List Row) : Type 0 where
+  at : ℕ
+  worker : ℕ
+  job : Job
+  there : row_of rows (suc at) ≡ Some (record { job = job; mark = Running worker })
 
-    in_by : (i j : Item) (js : List Item) (y : Item) → ((y ≡ i) ⊎ In y js → In y (inserted C i js)) → (t : Bool) → (y ≡ i) ⊎ In y (j ∷ js) → In y (if t then i ∷ j ∷ js else j ∷ inserted C i js)
-    in_by i j js y rec true (inl p) = inl p
-    in_by i j js y rec true (inr m) = inr m
-    in_by i j js y rec false (inl p) = inr (rec (inl p))
-    in_by i j js y rec false (inr (inl p)) = inl p
-    in_by i j js y rec false (inr (inr m)) = inr (rec (inr m))
+some_running : (rows : List Row) → 0 < running_in rows → RunsSomewhere rows
+some_running [] h = absurd (omega arith)
+some_running (r ∷ rs) h = by r.mark refl (λ g. some_running rs g)
+  where
+    later : RunsSomewhere rs → RunsSomewhere (r ∷ rs)
+    later x = record { at = suc x.at; worker = x.worker; job = x.job; there = x.there }
 
-    in_inserted : (i : Item) (js : List Item) (y : Item) → (y ≡ i) ⊎ In y js → In y (inserted C i js)
-    in_inserted i [] y (inl p) = inl p
-    in_inserted i [] y (inr m) = absurd m
-    in_inserted i (j ∷ js) y m = in_by i j js y (in_inserted i js y) (precedes C i j) m
+    on : (m : Mark) → r.mark ≡ m → is_running m ≡ false → 0 < running_in rs
+    on m e f =
+        let g : is_running r.mark ≡ false = ap is_running e ∙ f in
+        grind (arith, h, g)
 
-    ordered_by : (i j : Item) (js : List Item) → Ordered (j ∷ js) → ((x : Item) → In x (j ∷ js) → i.number ≡ x.number → ⊥) → Ordered (inserted C i js)
-        → (t : Bool) → precedes C i j ≡ t → Ordered (if t then i ∷ j ∷ js else j ∷ inserted C i js)
-    ordered_by i j js o d rec true e =
-        ((λ x m. elim m [ inl p ↦ subst (λ (z : Item). precedes C i z ≡ true) (sym p) e | inr n ↦ precedes_trans i j x e (o.0 x n) ]), o)
-    ordered_by i j js o d rec false e =
-        ((λ x m. elim (inserted_in i js x m) [ inl p ↦ subst (λ (z : Item). precedes C j z ≡ true) (sym p) (precedes_total i j (d j (inl refl)) e) | inr n ↦ o.0 x n ]), rec)
+    by : (m : Mark) → r.mark ≡ m → (0 < running_in rs → RunsSomewhere rs) → RunsSomewhere (r ∷ rs)
+    by (Running w) e f = record { at = 0; worker = w; job = r.job; there = ap (λ (m : Mark). Some (record { job = r.job; mark = m })) e }
+    by Ready e f = later (f (on Ready e refl))
+    by Waiting e f = later (f (on Waiting e refl))
+    by Over e f = later (f (on Over e refl))
 
-    inserted_ordered : (i : Item) (js : List Item) → Ordered js → ((x : Item) → In x js → i.number ≡ x.number → ⊥) → Ordered (inserted C i js)
-    inserted_ordered i [] o d = ((λ x m. absurd m), tt)
-    inserted_ordered i (j ∷ js) o d = ordered_by i j js o d (inserted_ordered i js o.1 (λ x m. d x (inr m))) (precedes C i j) refl
+module _ (a : Inside) (s : IsSound a) where
+  abbrev x : Stands a.program (layout_of a.program) (map event_view a.history.items) (fields_view s.stand.told a.core)
+  x = s.stand.stands
 
-    -- what is found, of these and of those found before
-    record AreFound (its found all : List Item) : Type 0 where
-      order : Ordered all
-      old : (y : Item) → In y found → In y all
-      new : (y : Item) → In y its → can_begin C ws y ≡ true → In y all
-      only : (y : Item) → In y all → In y found ⊎ (In y its × (can_begin C ws y ≡ true))
+  here : state_of a.program (map event_view a.history.items) ≡ x.state
+  here = state_here a.program s.whole (map event_view a.history.items) a.core s.stand
 
-    abbrev Apart : List Item → List Item → Type 0
-    Apart found its = (x y : Item) → In x found → In y its → x.number ≡ y.number → ⊥
+  there : (i : CodeItem) → In i (state_of a.program (map event_view a.history.items)).items → RowIs (frames_view a.core.world.instances.slots) (rows_view a.core.items.rows.items) 1 i
+  there i h = row_there a.program s.whole (layout_of a.program) (map event_view a.history.items) (fields_view s.stand.told a.core) s.stand.stands i (subst (λ (t : CodeState). In i t.items) here h)
 
-    found_step : (i : Item) (is found : List Item) → Distinct (map (λ (x : Item). x.number) (i ∷ is)) → Ordered found → Apart found (i ∷ is)
-        → ((next : List Item) → Ordered next → Apart next is → AreFound is next (with_ready C ws is next))
-        → (t : Bool) → can_begin C ws i ≡ t → AreFound (i ∷ is) found (with_ready C ws is (if t then inserted C i found else found))
-    found_step i is found d o a rec true e =
-        let r = rec (inserted C i found) (inserted_ordered i found o (λ x m p. a x i m (inl refl) (sym p))) (λ x y m n p. elim (inserted_in i found x m) [
-          | inl q ↦ d.0 (subst (λ (k : ℕ). In k (map (λ (z : Item). z.number) is)) (sym p ∙ ap (λ (z : Item). z.number) q) (in_map (λ (z : Item). z.number) y is n))
-          | inr q ↦ a x y q (inr n) p
-        ]) in
-        record {
-          order = r.order;
-          old = λ y m. r.old y (in_inserted i found y (inr m));
-          new = λ y m c. elim m [ inl p ↦ r.old y (in_inserted i found y (inl p)) | inr n ↦ r.new y n c ];
-          only = λ y m. elim (r.only y m) [ inl n ↦ elim (inserted_in i found y n) [ inl p ↦ inr (inl p, subst (λ (z : Item). can_begin C ws z ≡ true) (sym p) e) | inr q ↦ inl q ] | inr n ↦ inr (inr n.0, n.1) ];
-        }
-    found_step i is found d o a rec false e =
-        let r = rec found o (λ x y m n p. a x y m (inr n) p) in
-        record {
-          order = r.order;
-          old = r.old;
-          new = λ y m c. elim m [ inl p ↦ (let c' : can_begin C ws i ≡ true = subst (λ (z : Item). can_begin C ws z ≡ true) p c in absurd (cc)) | inr n ↦ r.new y n c ];
-          only = λ y m. elim (r.only y m) [ inl n ↦ inl n | inr n ↦ inr (inr n.0, n.1) ];
-        }
+  queue_is : (k : Kind) (z : ℤ) → queue_view a.core.items.queue k z ≡ numbers_at z (of (queue_kind k) a.core.items.queue).entries
+  queue_is Control z = refl
+  queue_is Leaf z = refl
 
-    found_law : (its found : List Item) → Distinct (map (λ (x : Item). x.number) its) → Ordered found → Apart found its → AreFound its found (with_ready C ws its found)
-    found_law [] found d o a = record { order = o; old = λ y m. m; new = λ y m c. absurd m; only = λ y m. inl m }
-    found_law (i ∷ is) found d o a = found_step i is found d o a (λ next p q. found_law is next d.1 p q) (can_begin C ws i) refl
+  -- the item that an entry of the queue stands for
+  pub record Stood (k : Kind) (z : ℤ) (n : ℕ) : Type 0 where
+    pub item : CodeItem
+    pub ready : IsReady (seen_of a) item
+    pub kind_is : task_kind a.program item.task ≡ k
+    pub priority_is : task_priority a.program item.task ≡ z
+    pub number_is : item.number ≡ n
 
-kind_same : (a b : Kind) → same_kind a b ≡ true → a ≡ b
-kind_same Control Control h = refl
-kind_same Leaf Leaf h = refl
-kind_same Control Leaf h = absurd (cc)
-kind_same Leaf Control h = absurd (cc)
+  pub stood : (k : Kind) (e : Entry) → In e (of (queue_kind k) a.core.items.queue).entries → Stood k e.priority e.no
+  stood k e h =
+      let y = x.queue.only k e.priority e.no (subst (λ (ns : List ℕ). In e.no ns) (sym (queue_is k e.priority)) (listed_at e (of (queue_kind k) a.core.items.queue).entries h)) in
+      record {
+        item = y.item;
+        ready = record {
+          there = subst (λ (t : CodeState). In y.item t.items) (sym here) y.there;
+          idle = y.idle;
+          enabled = subst (λ (t : CodeState). Enabled a.program t y.item.task) (sym here) y.enabled;
+        };
+        kind_is = y.kind_is;
+        priority_is = y.priority_is;
+        number_is = y.number_is;
+      }
 
-same_as : (a b : Kind) → a ≡ b → same_kind a b ≡ true
-same_as Control Control h = refl
-same_as Leaf Leaf h = refl
-same_as Control Leaf h = absurd (cc)
-same_as Leaf Control h = absurd (cc)
+  pub in_queue : (k : Kind) (i : CodeItem) → IsReady (seen_of a) i → task_kind a.program i.task ≡ k → In (record { priority = task_priority a.program i.task; no = i.number }) (of (queue_kind k) a.core.items.queue).entries
+  in_queue k i r h =
+      held (task_priority a.program i.task) i.number (of (queue_kind k) a.core.items.queue).entries
+      (subst (λ (ns : List ℕ). In i.number ns) (queue_is k (task_priority a.program i.task))
+      (x.queue.all k (task_priority a.program i.task) i.number (record {
+        item = i;
+        there = subst (λ (t : CodeState). In i t.items) here r.there;
+        number_is = refl;
+        idle = r.idle;
+        enabled = subst (λ (t : CodeState). Enabled a.program t i.task) here r.enabled;
+        kind_is = h;
+        priority_is = refl;
+      })))
 
-is_none_sound : (o : Option ℕ) → is_none o ≡ true → o ≡ None
-is_none_sound None h = refl
-is_none_sound (Some x) h = absurd (cc)
+  pub once_each : (k : Kind) (z : ℤ) → Distinct (numbers_at z (of (queue_kind k) a.core.items.queue).entries)
+  once_each k z = subst (λ (ns : List ℕ). Distinct ns) (queue_is k z) (x.queue.once k z)
 
-item_numbers : (its : List Item) → map number_of (map item_view its) ≡ map (λ (x : Item). x.number) its
-item_numbers [] = refl
-item_numbers (i ∷ is) = ap (λ (l : List ℕ). i.number ∷ l) (item_numbers is)
+  -- numbers tell items apart
+  pub one_item : (i j : CodeItem) → IsReady (seen_of a) i → IsReady (seen_of a) j → i.number ≡ j.number → i ≡ j
+  one_item i j r q e =
+      let f = there i r.there in
+      let g = there j q.there in
+      let fn = f.number_is in
+      let gn = g.number_is in
+      let place : suc f.at ≡ suc g.at = omega arith in
+      let row : f.row ≡ g.row = some_same (sym f.there ∙ ap (λ (n : ℕ). row_of (rows_view a.core.items.rows.items) n) place ∙ g.there) in
+      same i j e (f.task_is ∙ ap (λ (y : Row). task_of (frames_view a.core.world.instances.slots) y.job) row ∙ sym g.task_is) (r.idle ∙ sym q.idle)
+    where
+      same : (i j : CodeItem) → i.number ≡ j.number → i.task ≡ j.task → i.runs ≡ j.runs → i ≡ j
+      same i j e t r = λ z. record { number = e z; task = t z; runs = r z }
 
-module _ (C : Code) (F : IsFlat C) (a : Core) (es : List Event) (run : Run C es (core_of a)) (limit : ℕ) where
-  seen : Seen
-  seen = record { code = C; limit = limit; state = core_of a; history = es }
+  -- none waits, or the first one
+  pub next_none : (k : Kind) → first_number (of (queue_kind k) a.core.items.queue).entries ≡ None → (i : CodeItem) → IsReady (seen_of a) i → task_kind a.program i.task ≡ k → ⊥
+  next_none k h i r e =
+      subst (λ (ys : List Entry). In (entry (task_priority a.program i.task) i.number) ys) (none_first (of (queue_kind k) a.core.items.queue).entries h) (in_queue k i r e)
 
-  opened_here : (it : Item) → In it a.items.items → IsOpened C (task_view it.task)
-  opened_here it m = run_opened C F es (core_of a) run (item_view it) (in_map item_view it a.items.items m)
-
-  enabled_of : (it : Item) → In it a.items.items → is_task_known C a.stored.items (task_view it.task) ≡ true → Enabled (code_system C) (core_of a) (task_view it.task)
-  enabled_of it m h = (one C F a es run).none (item_view it) (in_map item_view it a.items.items m) _ (task_seen C F (core_of a) a.stored.items refl it.task (opened_here it m) h)
-
-  known_of : (it : Item) → In it a.items.items → Enabled (code_system C) (core_of a) (task_view it.task) → is_task_known C a.stored.items (task_view it.task) ≡ true
-  known_of it m h = task_known C F (core_of a) a.stored.items refl it.task (opened_here it m) h
-
-  ready_of : (it : Item) → In it a.items.items → can_begin C a.stored.items it ≡ true → IsReady (record { code = C; limit = limit; state = core_of a; history = es }) (item_view it)
-  ready_of it m h =
-      let x = true_and (is_none it.worker) (is_task_known C a.stored.items (task_view it.task)) h in
-      record { there = in_map item_view it a.items.items m; idle = is_none_sound it.worker x.0; enabled = enabled_of it m x.1 }
-
-  can_of : (i : CodeItem) → IsReady (record { code = C; limit = limit; state = core_of a; history = es }) i → (it : Item) × In it a.items.items × (item_view it ≡ i) × (can_begin C a.stored.items it ≡ true)
-  can_of i r =
-      let x = in_unmap item_view i a.items.items r.there in
-      let it : Item = x.0 in
-      let idle : it.worker ≡ None = ap (λ (j : CodeItem). j.runs) x.2 ∙ r.idle in
-      let enabled : Enabled (code_system C) (core_of a) (task_view it.task) = subst (λ (j : CodeItem). Enabled (code_system C) (core_of a) j.task) (sym x.2) r.enabled in
-      (x.0, x.1, x.2, both_true (is_none it.worker) (is_task_known C a.stored.items (task_view it.task)) (ap is_none idle) (known_of it x.1 enabled))
-
-  -- the best item is the next one
-  pub next_is : (k : Kind) (x : Item) → best_of C a.stored.items k a.items.items None ≡ Some x → IsGoing (record { code = C; limit = limit; state = core_of a; history = es })
-      → IsNext (record { code = C; limit = limit; state = core_of a; history = es }) k x.number
-  next_is k x h going =
-      let r = best_law C a.stored.items k a.items.items None x h in
-      let mine : In x a.items.items × (can_be C a.stored.items k x ≡ true) = elim r.from [ inl p ↦ absurd (cc) | inr p ↦ p ] in
-      let both = true_and (can_begin C a.stored.items x) (same_kind (task_kind C (task_view x.task)) k) mine.1 in
+  pub next_some : (k : Kind) (n : ℕ) → IsTakenFirst n (of (queue_kind k) a.core.items.queue).entries → IsGoing (seen_of a) → IsNext (seen_of a) k n
+  next_some k n h going =
+      let e = h.0 in
+      let y = stood k e (contains_in (of (queue_kind k) a.core.items.queue).entries e h.2.0) in
       record {
         going = going;
-        item = item_view x;
-        ready = ready_of x mine.0 both.0;
-        kind_is = kind_same (task_kind C (task_view x.task)) k both.1;
-        number_is = refl;
-        first = λ other ready kind p.
-            let y = can_of other ready in
-            let c = both_true (can_begin C a.stored.items y.0) (same_kind (task_kind C (task_view y.0.task)) k) y.3 (same_as _ k (ap (λ (j : CodeItem). task_kind C j.task) y.2 ∙ kind)) in
-            r.first y.0 y.1 c (before_complete (priority C y.0) y.0.number (priority C x) x.number (subst (λ (j : CodeItem). Precedes (record { code = C; limit = limit; state = core_of a; history = es }) j (item_view x)) (sym y.2) p));
+        item = y.item;
+        ready = y.ready;
+        kind_is = y.kind_is;
+        number_is = y.number_is ∙ h.1;
+        first = λ other r same p.
+            not_before e.priority (task_priority a.program other.task) e.no other.number
+            (All-contains (ComesNoLater e) (of (queue_kind k) a.core.items.queue).entries (entry (task_priority a.program other.task) other.number) h.2.1
+            (in_contains (of (queue_kind k) a.core.items.queue).entries (entry (task_priority a.program other.task) other.number) (in_queue k other r same)))
+            (subst (λ (m : ℕ). (int_lt e.priority (task_priority a.program other.task) ≡ true) ⊎ ((task_priority a.program other.task ≡ e.priority) × (other.number < m))) y.number_is
+            (subst (λ (z : ℤ). (int_lt z (task_priority a.program other.task) ≡ true) ⊎ ((task_priority a.program other.task ≡ z) × (other.number < y.item.number))) y.priority_is p));
       }
 
-  pub next_none : (k : Kind) → best_of C a.stored.items k a.items.items None ≡ None → (i : CodeItem) → IsReady (record { code = C; limit = limit; state = core_of a; history = es }) i → task_kind C i.task ≡ k → ⊥
-  next_none k h i ready kind =
-      let y = can_of i ready in
-      let c = both_true (can_begin C a.stored.items y.0) (same_kind (task_kind C (task_view y.0.task)) k) y.3 (same_as _ k (ap (λ (j : CodeItem). task_kind C j.task) y.2 ∙ kind)) in
-      (none_law C a.stored.items k a.items.items None h).1 y.0 y.1 c
-
-  in_order : (its : List Item) → Ordered C a.stored.items its → InOrder (record { code = C; limit = limit; state = core_of a; history = es }) (map item_view its)
-  in_order [] o = tt
-  in_order (i ∷ is) o =
-      ((λ j m. (let y = in_unmap item_view j is m in subst (λ (x : CodeItem). Precedes (record { code = C; limit = limit; state = core_of a; history = es }) (item_view i) x) y.2 (before_sound (priority C i) i.number (priority C y.0) y.0.number (o.0 y.0 y.1)))), in_order is o.1)
-
-  pub all_ready_are : AreReady (record { code = C; limit = limit; state = core_of a; history = es }) (map (λ (i : Item). i.number) (with_ready C a.stored.items a.items.items []))
-  all_ready_are =
-      let r = found_law C a.stored.items a.items.items [] (subst (λ (l : List ℕ). Distinct l) (item_numbers a.items.items) (on C F a es run).one_number) tt (λ x y m n p. m) in
+  -- nothing runs or can begin
+  pub quiet_is : a.core.fault ≡ None → a.core.items.running ≡ 0 → first_number a.core.items.queue.control.entries ≡ None → first_number a.core.items.queue.leaf.entries ≡ None → Quiet a.program (state_of a.program (map event_view a.history.items))
+  quiet_is free still control leaf =
       record {
-        items = map item_view (with_ready C a.stored.items a.items.items []);
-        all = λ i ready. (let y = can_of i ready in subst (λ (j : CodeItem). In j (map item_view (with_ready C a.stored.items a.items.items []))) y.2 (in_map item_view y.0 _ (r.new y.0 y.1 y.3)));
-        ready = λ i m. (let y = in_unmap item_view i (with_ready C a.stored.items a.items.items []) m in subst (λ (j : CodeItem). IsReady (record { code = C; limit = limit; state = core_of a; history = es }) j) y.2 (elim (r.only y.0 y.1) [ inl n ↦ absurd n | inr n ↦ ready_of y.0 n.0 n.1 ]));
-        order = in_order (with_ready C a.stored.items a.items.items []) r.order;
-        numbers_are = sym (item_numbers (with_ready C a.stored.items a.items.items []));
+        no_fault = free_state a.program s.whole (map event_view a.history.items) a.core s.stand free;
+        idle = idle;
+        none_enabled = λ i h e. by i (record { there = h; idle = idle i h; enabled = e }) (task_kind a.program i.task) refl;
       }
+    where
+      by : (i : CodeItem) → IsReady (seen_of a) i → (k : Kind) → task_kind a.program i.task ≡ k → ⊥
+      by i r Control e = next_none Control control i r e
+      by i r Leaf e = next_none Leaf leaf i r e
 
-  -- nothing is left to be done
-  pub quiet_is : a.fault ≡ None → list_any (stirs C a.stored.items) a.items.items ≡ false → Quiet (code_system C) (core_of a)
-  quiet_is none h = record {
-    no_fault = ap met_view none;
-    idle = λ i m.
-        let y = in_unmap item_view i a.items.items m in
-        sym (ap (λ (j : CodeItem). j.runs) y.2) ∙ none_unless y.0.worker (λ t. none_passes (stirs C a.stored.items) a.items.items h y.0 y.1 (either_left _ _ t));
-    none_enabled = λ i m en.
-        let y = in_unmap item_view i a.items.items m in
-        none_passes (stirs C a.stored.items) a.items.items h y.0 y.1 (either_right _ _ (known_of y.0 y.1 (subst (λ (j : CodeItem). Enabled (code_system C) (core_of a) j.task) (sym y.2) en)));
-  }
+      mark : (i : CodeItem) (f : RowIs (frames_view a.core.world.instances.slots) (rows_view a.core.items.rows.items) 1 i) (m : Mark) → f.row.mark ≡ m → i.runs ≡ None
+      mark i f Ready q = runs_as (fields_view s.stand.told a.core) i f Ready ready_item q
+      mark i f Waiting q = runs_as (fields_view s.stand.told a.core) i f Waiting waiting_item q
+      mark i f Over q = absurd (f.not_over q)
+      mark i f (Running w) q =
+          let l = some_run a.program s.whole (map event_view a.history.items) a.core s.stand w (suc f.at) f.row.job (f.there ∙ ap (λ (m : Mark). Some (record { job = f.row.job; mark = m })) q) in
+          absurd (omega arith)
 
-  pub quiet_still : Quiet (code_system C) (core_of a) → list_any (stirs C a.stored.items) a.items.items ≡ false
-  quiet_still q =
-      all_fail (stirs C a.stored.items) a.items.items (λ it m.
-      both_false _ (is_task_known C a.stored.items (task_view it.task))
-      (ap (λ (o : Option ℕ). is_some o) (q.idle (item_view it) (in_map item_view it a.items.items m)))
-      (false_unless _ (λ t. q.none_enabled (item_view it) (in_map item_view it a.items.items m) (enabled_of it m t))))
+      idle : (i : CodeItem) → In i (state_of a.program (map event_view a.history.items)).items → i.runs ≡ None
+      idle i h = let f = there i h in mark i f f.row.mark refl
 
-  -- an item of a number
-  pub no_number : (n : ℕ) → list_any (has_number n) a.items.items ≡ false → (i : CodeItem) → In i (core_of a).items → i.number ≡ n → ⊥
-  no_number n h i m e =
-      let y = in_unmap item_view i a.items.items m in
-      none_passes (has_number n) a.items.items h y.0 y.1
-      (subst (λ (k : ℕ). nat_eq y.0.number k ≡ true) (ap (λ (j : CodeItem). j.number) y.2 ∙ e) (nat_same y.0.number))
+  pub quiet_still : Quiet a.program (state_of a.program (map event_view a.history.items)) → (a.core.items.running ≡ 0) × (first_number a.core.items.queue.control.entries ≡ None) × (first_number a.core.items.queue.leaf.entries ≡ None)
+  quiet_still q = (zero_is a.core.items.running refl, none_is Control, none_is Leaf)
+    where
+      no_running : RunsSomewhere (rows_view a.core.items.rows.items) → ⊥
+      no_running r =
+          let t = theirs a.program s.whole (map event_view a.history.items) a.core s.stand r.worker (suc r.at) r.job r.there in
+          none_some (sym (q.idle t.item t.there) ∙ t.runs)
+
+      zero_is : (n : ℕ) → a.core.items.running ≡ n → a.core.items.running ≡ 0
+      zero_is zero e = e
+      zero_is (suc n) e =
+          let f = x.items.running in
+          absurd (no_running (some_running (rows_view a.core.items.rows.items) (omega arith)))
+
+      no_entry : (k : Kind) (ys : List Entry) → (of (queue_kind k) a.core.items.queue).entries ≡ ys → first_number ys ≡ None
+      no_entry k [] e = refl
+      no_entry k (y ∷ ys) e =
+          let t = stood k y (subst (λ (l : List Entry). In y l) (sym e) (inl refl)) in
+          absurd (q.none_enabled t.item t.ready.there t.ready.enabled)
+
+      none_is : (k : Kind) → first_number (of (queue_kind k) a.core.items.queue).entries ≡ None
+      none_is k = no_entry k (of (queue_kind k) a.core.items.queue).entries refl
+
+pub not_quiet : (a : Inside) → IsSound a → (a.core.fault ≡ None → ⊥) → (b : Bool) → b ≡ false
+    → (IsTrue b → Quiet a.program (state_of a.program (map event_view a.history.items))) × (Quiet a.program (state_of a.program (map event_view a.history.items)) → IsTrue b)
+not_quiet a s met b off = (
+  (λ t. let clash : true ≡ false = sym t ∙ off in absurd (cc)),
+  (λ q. absurd (met (free_core a.program s.whole (map event_view a.history.items) a.core s.stand q.no_fault))),
+)

@@ -1,163 +1,180 @@
--- What the board does to its state is a step of the machine.
-use Rattle.std.proofs.Common.{◌≡◌, inl, inr, ℕ, suc, ◌+◌, true, List, [], ◌∷◌, ◌++◌, map, take, drop, length, Some, None, refl, sym, ap, ◌∙◌, subst, arith, add-one}
-use Rattle.std.proofs.lemmas.List.{append-nil}
-use Rattle.dataflow.specs.System.{Answer, In, Outcome, Write}
-use Rattle.dataflow.specs.Machine.{After, Back, Begin, Enabled, End, Leaves, OfTask, SeesAll, new_items}
-use Rattle.dataflow.proofs.Lists.{in_left, in_right, in_split, map_append}
-use Rattle.values.specs.declared.key.Key.{Key}
-use Rattle.values.specs.declared.value.Scalar.{Scalar}
-use Rattle.task_code.specs.Code.{Code, body}
-use Rattle.task_code.specs.Compute.{EntryFault}
-use Rattle.task_code.specs.Effects.{Item as item_task, Task, only}
-use Rattle.task_code.specs.Machine.{CodeItem, CodeState, CodeStep}
-use Rattle.task_code.specs.Places.{Datum, Place, place_array}
-use Rattle.task_code.specs.System.{code_system, task_effect, task_inputs}
-use Rattle.task_code.specs.View.{variable_view}
-use Rattle.board_work.specs.View.{fault_view}
-use Rattle.board.specs.declared.effect.Effect.{Effect}
-use Rattle.board.specs.declared.effect.Effect.TheVariants.{Fails, Opens, Passes, Prints, Stores}
-use Rattle.board.specs.declared.item.Item.{Item}
-use Rattle.board.specs.declared.state.Core.{Core}
-use Rattle.board.specs.Effects.{IsMetBy, IsScalar, effect_view, finished}
-use Rattle.board.specs.State.{Stands, core_of, items_from, with_item, without}
-use Rattle.board.specs.View.{item_view, met_view, task_view}
-use Rattle.board.proofs.Cuts.{cut_at}
+-- Which events a board's fields allow, and what they lead to.
+use Rattle.std.proofs.Common.{◌≡◌, ℕ, zero, suc, List, [], ◌∷◌, ◌++◌, refl, sym, ap, ◌∙◌, subst, Option, None, Some, arith}
+use Rattle.std.specs.Prelude.{ℤ}
+use Rattle.dataflow.specs.System.{In}
+use Rattle.dataflow.specs.Machine.{Back, Begin, End, Event, Run}
+use Rattle.dataflow.specs.Promises.{HasSteps}
+use Rattle.dataflow.specs.History.{log_of}
+use Rattle.dataflow.proofs.Headline.{goes_on}
+use Rattle.dataflow.proofs.Numbers.{run_numbered}
+use Rattle.dataflow.proofs.Possible.{has_steps}
+use Rattle.dataflow.proofs.Steps.{run_follows}
+use Rattle.replayed.specs.CodeReplay.{and_then, next_state, replayed}
+use Rattle.replayed.specs.Elements.{code_tests}
+use Rattle.replayed.specs.Fields.{Does, Fields, Frame, Job, Layout, Mark, Over, Ready, Row, Running, Script, Waiting, row_of, item_before, task_of}
+use Rattle.replayed.specs.Stands.{Stands}
+use Rattle.replayed.proofs.Elements.{code_told}
+use Rattle.replayed.specs.Marking.{begun_fields, returned_fields}
+use Rattle.replayed.specs.Ending.{job_kind, job_priority}
+use Rattle.replayed.proofs.Begun.{begun_stands, returned_stands}
+use Rattle.replayed.proofs.Marking.{IsItem, RowIs, first_of, item, row_found}
+use Rattle.replayed.proofs.Replays.{replayed_then, run_next, run_replayed, run_some}
+use Rattle.replayed.proofs.Rows.{no_row, row_item}
+use Rattle.replayed.proofs.Tests.{none_some, some_same}
+use Rattle.task_code.proofs.Kept.{code_laws}
+use Rattle.task_code.specs.Code.{Code, Kind}
+use Rattle.task_code.specs.Effects.{Main, Task}
+use Rattle.task_code.specs.Machine.{CanBegin, CodeItem, CodeState, CodeStep, Enabled, RunsOn}
+use Rattle.task_code.specs.System.{code_system, task_kind, task_priority}
+use Rattle.task_code.specs.Whole.{IsCode}
+use Rattle.board.specs.History.{or_start, state_of}
+use Rattle.board.specs.Rows as Rows
 
--- the items, cut at one of them
-pub items_cut : (its : List Item) (k : ℕ) (it : Item) → Stands its k it → map item_view its ≡ map item_view (take k its) ++ item_view it ∷ map item_view (drop (k + 1) its)
-items_cut its k it p = ap (map item_view) (sym (cut_at its k it p)) ∙ map_append item_view (take k its) (it ∷ drop (k + 1) its)
+-- the two marks of items that can begin or run
+abbrev pub ready_item : IsItem Ready
+ready_item = record { runs = None; is = λ n t is. refl }
 
-pub with_cut : (its : List Item) (k : ℕ) (it : Item) → map item_view (with_item its k it) ≡ map item_view (take k its) ++ item_view it ∷ map item_view (drop (k + 1) its)
-with_cut its k it = map_append item_view (take k its) (it ∷ drop (k + 1) its)
+abbrev pub running_item : (w : ℕ) → IsItem (Running w)
+running_item w = record { runs = Some w; is = λ n t is. refl }
 
-without_cut : (its : List Item) (k : ℕ) → map item_view (without its k) ≡ map item_view (take k its) ++ map item_view (drop (k + 1) its)
-without_cut its k = map_append item_view (take k its) (drop (k + 1) its)
+abbrev pub waiting_item : IsItem Waiting
+waiting_item = record { runs = None; is = λ n t is. refl }
 
--- new items
-fresh_items : (n : ℕ) (es : List ℕ) → map item_view (items_from n es) ≡ new_items n (map (λ j. item_task j [] 0) es ++ [])
-fresh_items n [] = refl
-fresh_items n (e ∷ es) =
-    ap (λ (l : List CodeItem). record { number = n; task = item_task e [] 0; runs = None } ∷ l)
-    (fresh_items (n + 1) es ∙ ap (λ (m : ℕ). new_items m (map (λ j. item_task j [] 0) es ++ [])) (add-one n))
+-- what a mark says of its item
+marked_runs : (m : Mark) (y : IsItem m) (k : Mark) (z : IsItem k) → m ≡ k → y.runs ≡ z.runs
+marked_runs m y k z q = ap (λ (i : CodeItem). i.runs) (first_of (sym (y.is 0 Main []) ∙ ap (λ (a : Mark). item_before 0 Main a []) q ∙ z.is 0 Main []))
 
-so_many : (es : List ℕ) → length (map (λ j. item_task j [] 0) es ++ []) ≡ length es
-so_many [] = refl
-so_many (e ∷ es) = ap suc (so_many es)
+pub runs_as : (F : Fields) (i : CodeItem) (f : RowIs F.frames F.rows 1 i) (k : Mark) (z : IsItem k) → f.row.mark ≡ k → i.runs ≡ z.runs
+runs_as F i f k z q =
+    let y : IsItem f.row.mark = subst (λ (m : Mark). IsItem m) (sym q) z in
+    f.runs_is y ∙ marked_runs f.row.mark y k z q
 
--- what stands behind stands among both, in either order
-turned : {X : Type 0} (x : X) (xs ys : List X) → In x (xs ++ ys) → In x (ys ++ xs)
-turned x xs ys h = elim (in_split x xs ys h) [ inl a ↦ in_right x ys xs a | inr b ↦ in_left x ys xs b ]
+-- who runs a job, and its priority
+pub kind_of_job : (C : Code) (fs : List (Option Frame)) (j : Job) → task_kind C (task_of fs j) ≡ job_kind C j
+kind_of_job C fs Script = refl
+kind_of_job C fs (Does k e c) = refl
 
-module _ (C : Code) where
-  -- the same but for the order of the data
-  same_data : (mid new : CodeState) → new.items ≡ mid.items → new.next ≡ mid.next → new.lines ≡ mid.lines → new.fault ≡ mid.fault
-      → ((a : Place) → In a new.places → In a mid.places) → ((a : Place) → In a mid.places → In a new.places)
-      → ((w : Write Place Key Scalar) → In w new.stored → In w mid.stored) → ((w : Write Place Key Scalar) → In w mid.stored → In w new.stored)
-      → Leaves (code_system C) mid new
-  same_data mid new i n l f p q r s = record {
-    items = i;
-    next = n;
-    lines = l;
-    fault = f;
-    no_new_place = p;
-    stays = λ a h. inl (q a h);
-    no_new_value = r;
-    value_stays = λ w h. inl (s w h);
-  }
+pub priority_of_job : (C : Code) (fs : List (Option Frame)) (j : Job) → task_priority C (task_of fs j) ≡ job_priority C j
+priority_of_job C fs Script = refl
+priority_of_job C fs (Does k e c) = refl
 
-  module _ (a : Core) (k : ℕ) (it : Item) (at : Stands a.items.items k it) (going : a.fault ≡ None) where
-    no_fault : met_view a.fault ≡ None
-    no_fault = ap met_view going
+-- a history leads to one state
+pub state_is : (C : Code) (es : List Event) (s : CodeState) → replayed C es ≡ Some s → state_of C es ≡ s
+unfolding state_of
+state_is C es s h = ap (λ (r : Option CodeState). or_start C r) h
 
-    before : List CodeItem
-    before = map item_view (take k a.items.items)
+module _ (C : Code) (I : IsCode C) (L : Layout) (es : List Event) (F : Fields) (x : Stands C L es F) where
+  run : Run (code_system C) es x.state
+  run = (run_replayed (code_system C) code_tests (code_told C) (code_laws C I) es x.state x.reached).0
 
-    after : List CodeItem
-    after = map item_view (drop (k + 1) a.items.items)
+  pub steps : HasSteps (code_system C) x.state
+  steps = has_steps (code_system C) (code_laws C I) x.state (goes_on (code_system C) (code_laws C I) x.state (log_of (code_system C) es x.state run) (run_follows (code_system C) (code_laws C I) es x.state run) (run_numbered (code_system C) es x.state run))
 
-    pub begins : (w : ℕ) → it.worker ≡ None → Enabled (code_system C) (core_of a) (task_view it.task)
-        → CodeStep C (core_of a) (Begin w it.number) (record (core_of a) { items = map item_view (with_item a.items.items k (record it { worker = Some w })) })
-    begins w idle enabled =
-        let marked = record it { worker = Some w } in (
-          no_fault,
-          record {
-            item = item_view it;
-            before = map item_view (take k a.items.items);
-            after = map item_view (drop (k + 1) a.items.items);
-            at = record { items = items_cut a.items.items k it at; number_is = refl };
-            idle = idle;
-            enabled = enabled;
-            result = same_data _ _ (with_cut a.items.items k (record it { worker = Some w })) refl refl refl (λ d h. h) (λ d h. h) (λ d h. h) (λ d h. h);
-          },
-        )
+  -- a step leads to the state of the history with its event
+  pub leads_on : (e : Event) (new : CodeState) → CodeStep C x.state e new → (t : CodeState) × (replayed C (es ++ e ∷ []) ≡ Some t)
+  leads_on e new step =
+      let p = run_some (code_system C) code_tests (code_told C) (code_laws C I) es x.state run e new step in
+      (p.0, replayed_then (code_system C) code_tests es e ∙ ap (λ (r : Option CodeState). and_then C r e) x.reached ∙ p.1)
 
-    pub backs : (w : ℕ) → it.worker ≡ Some w
-        → CodeStep C (core_of a) (Back w it.number) (record (core_of a) { items = map item_view (with_item a.items.items k (record it { worker = None })) })
-    backs w runs = (
-      no_fault,
+  -- and the state is a step's
+  pub stepped : (e : Event) (t : CodeState) → replayed C (es ++ e ∷ []) ≡ Some t → CodeStep C (state_of C es) e (state_of C (es ++ e ∷ []))
+  stepped e t reached =
+      let next : next_state C x.state e ≡ Some t = ap (λ (r : Option CodeState). and_then C r e) (sym x.reached) ∙ sym (replayed_then (code_system C) code_tests es e) ∙ reached in
+      subst (λ (s : CodeState). CodeStep C s e (state_of C (es ++ e ∷ []))) (sym (state_is C es x.state x.reached))
+      (subst (λ (u : CodeState). CodeStep C x.state e u) (sym (state_is C (es ++ e ∷ []) t reached))
+      (run_next (code_system C) code_tests (code_told C) (code_laws C I) es x.state run e t next).0)
+
+  -- the item of a row
+  pub item_there : (n : ℕ) (r : Row) → row_of F.rows n ≡ Some r → (y : IsItem r.mark) → In (item n (task_of F.frames r.job) y.runs) x.state.items
+  item_there zero r h y = no_row F.rows r h
+  item_there (suc j) r h y = subst (λ (is : List CodeItem). In (item (suc j) (task_of F.frames r.job) y.runs) is) x.items.items (row_item F.frames 1 F.rows j (suc j) r h y (omega arith))
+
+  -- the row of an item
+  pub row_there : (i : CodeItem) → In i x.state.items → RowIs F.frames F.rows 1 i
+  row_there i h = row_found F.frames 1 F.rows i (subst (λ (is : List CodeItem). In i is) (sym x.items.items) h)
+
+  -- one whose row is ready can begin, and no other
+  pub ready_begins : (n : ℕ) (j : Job) → Rows.IsReady F.rows n j → CanBegin C x.state n
+  ready_begins n j h =
       record {
-        item = item_view it;
-        before = map item_view (take k a.items.items);
-        after = map item_view (drop (k + 1) a.items.items);
-        at = record { items = items_cut a.items.items k it at; number_is = refl };
-        runs = runs;
-        result = same_data _ _ (with_cut a.items.items k (record it { worker = None })) refl refl refl (λ d h. h) (λ d h. h) (λ d h. h) (λ d h. h);
-      },
-    )
+        item = item n (task_of F.frames j) None;
+        there = item_there n (record { job = j; mark = Ready }) h ready_item;
+        number_is = refl;
+        idle = refl;
+        enabled = x.items.ready n (record { job = j; mark = Ready }) h refl;
+      }
 
-    -- the effect, as the machine has it, leads to the state that the board has
-    others : List CodeItem
-    others = map item_view (take k a.items.items) ++ map item_view (drop (k + 1) a.items.items)
+  pub idle_ready : (i : CodeItem) → In i x.state.items → i.runs ≡ None → Enabled C x.state i.task → (f : RowIs F.frames F.rows 1 i) (m : Mark) → f.row.mark ≡ m → f.row.mark ≡ Ready
+  idle_ready i h idle enabled f Ready q = q
+  idle_ready i h idle enabled f Over q = absurd (f.not_over q)
+  idle_ready i h idle enabled f (Running w) q = none_some (sym idle ∙ runs_as F i f (Running w) (running_item w) q)
+  idle_ready i h idle enabled f Waiting q = absurd (x.items.waiting (suc f.at) f.row f.there q (subst (λ (t : Task). Enabled C x.state t) f.task_is enabled))
 
-    no_items : (n : ℕ) → map item_view (without a.items.items k) ≡ (map item_view (take k a.items.items) ++ map item_view (drop (k + 1) a.items.items)) ++ []
-    no_items n = without_cut a.items.items k ∙ sym (append-nil _)
+  pub begins_ready : (n : ℕ) → CanBegin C x.state n → (j : Job) × Rows.IsReady F.rows n j
+  begins_ready n c =
+      let f = row_there c.item c.there in
+      let e = f.number_is in
+      let k = c.number_is in
+      let place : suc f.at ≡ n = omega arith in
+      (f.row.job, subst (λ (m : ℕ). row_of F.rows m ≡ Some (record { job = f.row.job; mark = Ready })) place (f.there ∙ ap (λ (m : Mark). Some (record { job = f.row.job; mark = m })) (idle_ready c.item c.there c.idle c.enabled f f.row.mark refl)))
 
-    leads : (e : Effect) → IsScalar e → IsMetBy (task_view it.task) e
-        → After (code_system C) (core_of a) (task_view it.task) (map item_view (take k a.items.items) ++ map item_view (drop (k + 1) a.items.items)) (effect_view C e) (finished C a k e)
-    leads Opens sc met =
-        inr (
-          (λ x. x.5),
-          same_data _ _
-              (map_append item_view (without a.items.items k) (items_from a.next (body C 0).entries)
-              ∙ ap (λ (l : List CodeItem). l ++ map item_view (items_from a.next (body C 0).entries)) (without_cut a.items.items k)
-              ∙ ap (λ (l : List CodeItem). (map item_view (take k a.items.items) ++ map item_view (drop (k + 1) a.items.items)) ++ l) (fresh_items a.next (body C 0).entries))
-              (ap (λ (m : ℕ). a.next + m) (sym (so_many (body C 0).entries)))
-              (sym (append-nil _))
-              no_fault
-              (λ d h. turned d (core_of a).places (map (Datum []) (body C 0).makes ++ []) (subst (λ (l : List Place). In d ((core_of a).places ++ l)) (sym (append-nil _)) h))
-              (λ d h. subst (λ (l : List Place). In d ((core_of a).places ++ l)) (append-nil _) (turned d (map (Datum []) (body C 0).makes ++ []) (core_of a).places h))
-              (λ d h. h) (λ d h. h),
-        )
-    leads (Stores v y) sc met =
-        inr (
-          (λ x. elim x.5 [ inl p ↦ clash x.0 x.4 (ap (λ (u : Write Place Key Scalar). u.place) p) | inr n ↦ n ]),
-          same_data _ _ (no_items 0) (omega arith) (sym (append-nil _)) no_fault (λ d h. h) (λ d h. h)
-              (λ d h. turned d (core_of a).stored (record { place = Datum [] (variable_view v); key = only; value = y } ∷ []) h)
-              (λ d h. turned d (record { place = Datum [] (variable_view v); key = only; value = y } ∷ []) (core_of a).stored h),
-        )
+  -- one whose row runs on a worker runs there, and no other
+  pub row_runs : (w n : ℕ) (j : Job) → Rows.RunsOn F.rows w n j → RunsOn C x.state w n
+  row_runs w n j h =
+      record {
+        item = item n (task_of F.frames j) (Some w);
+        there = item_there n (record { job = j; mark = Running w }) h (running_item w);
+        number_is = refl;
+        runs = refl;
+      }
+
+  pub runs_row : (w n : ℕ) → RunsOn C x.state w n → (j : Job) × Rows.RunsOn F.rows w n j
+  runs_row w n c =
+      let f = row_there c.item c.there in
+      let e = f.number_is in
+      let k = c.number_is in
+      let place : suc f.at ≡ n = omega arith in
+      (f.row.job, subst (λ (m : ℕ). row_of F.rows m ≡ Some (record { job = f.row.job; mark = Running w })) place (f.there ∙ ap (λ (m : Mark). Some (record { job = f.row.job; mark = m })) (runs_running f f.row.mark refl)))
+    where
+      runs_running : (f : RowIs F.frames F.rows 1 c.item) (m : Mark) → f.row.mark ≡ m → f.row.mark ≡ Running w
+      runs_running f Ready q = none_some (sym (runs_as F c.item f Ready ready_item q) ∙ c.runs)
+      runs_running f Waiting q = none_some (sym (runs_as F c.item f Waiting waiting_item q) ∙ c.runs)
+      runs_running f Over q = absurd (f.not_over q)
+      runs_running f (Running v) q = q ∙ ap Running (some_same (sym (runs_as F c.item f (Running v) (running_item v) q) ∙ c.runs))
+
+  module _ (free : F.fault ≡ None) where
+    none : x.state.fault ≡ None
+    none = sym x.fault ∙ free
+
+    -- beginning a ready item
+    pub begins : (w n : ℕ) (j : Job) → Rows.IsReady F.rows n j → (t : CodeState) × (replayed C (es ++ Begin w n ∷ []) ≡ Some t)
+    begins w n j h = let p = steps.begin w n none (ready_begins n j h) in leads_on (Begin w n) p.0 p.1
+
+    -- giving back one that runs
+    pub backs : (w n : ℕ) (j : Job) → Rows.RunsOn F.rows w n j → (t : CodeState) × (replayed C (es ++ Back w n ∷ []) ≡ Some t)
+    backs w n j h = let p = steps.back w n none (row_runs w n j h) in leads_on (Back w n) p.0 p.1
+
+    -- its end
+    pub ends : (w n : ℕ) (j : Job) → Rows.RunsOn F.rows w n j → (t : CodeState) × (replayed C (es ++ End w n ∷ []) ≡ Some t)
+    ends w n j h = let p = steps.end w n none (row_runs w n j h) in leads_on (End w n) p.0 p.1
+
+    -- the fields once it has begun, and once it was given back
+    pub begun : (w n : ℕ) (j : Job) → Rows.IsReady F.rows n j → Stands C L (es ++ Begin w n ∷ []) (begun_fields F w n)
+    begun w n j h = let p = begins w n j h in begun_stands C I L es F x w n p.0 p.1
+
+    pub returned : (w n : ℕ) (j : Job) → Rows.RunsOn F.rows w n j → Stands C L (es ++ Back w n ∷ []) (returned_fields F n (job_kind C j) (job_priority C j))
+    returned w n j h =
+        let p = backs w n j h in
+        by p.0 p.1 (returned_stands C I L es F x w n p.0 p.1)
       where
-        clash : (d : Place) → place_array d ≡ true → d ≡ Datum [] (variable_view v) → ⊥
-        clash d h p = (let e : v.array ≡ true = sym (ap place_array p) ∙ h in absurd (cc))
-    leads (Prints t) sc met =
-        inr ((λ x. x.5), same_data _ _ (no_items 0) (omega arith) refl no_fault (λ d h. h) (λ d h. h) (λ d h. h) (λ d h. h))
-    leads Passes sc met =
-        inr ((λ x. x.5), same_data _ _ (no_items 0) (omega arith) (sym (append-nil _)) no_fault (λ d h. h) (λ d h. h) (λ d h. h) (λ d h. h))
-    leads (Fails m) sc met =
-        same_data _ _ refl refl refl (ap (λ (t : Task). Some (t, OfTask (fault_view m.fault))) (sym met)) (λ d h. h) (λ d h. h) (λ d h. h) (λ d h. h)
-
-    pub ends : (w : ℕ) → it.worker ≡ Some w → (xs : List (Answer Key Scalar)) → SeesAll (code_system C) (core_of a) (task_inputs C (task_view it.task)) xs
-        → (e : Effect) → IsScalar e → IsMetBy (task_view it.task) e → effect_view C e ≡ task_effect C (task_view it.task) xs
-        → CodeStep C (core_of a) (End w it.number) (finished C a k e)
-    ends w runs xs seen e sc met is = (
-      no_fault,
-      record {
-        item = item_view it;
-        before = map item_view (take k a.items.items);
-        after = map item_view (drop (k + 1) a.items.items);
-        at = record { items = items_cut a.items.items k it at; number_is = refl };
-        runs = runs;
-        answers = xs;
-        known = seen;
-        result = subst (λ (r : Outcome Task Place Key Scalar EntryFault). After (code_system C) (core_of a) (task_view it.task) (map item_view (take k a.items.items) ++ map item_view (drop (k + 1) a.items.items)) r (finished C a k e)) is (leads e sc met);
-      },
-    )
+        by : (t : CodeState) → replayed C (es ++ Back w n ∷ []) ≡ Some t → ((i : CodeItem) × In i x.state.items × (i.number ≡ n) × Stands C L (es ++ Back w n ∷ []) (returned_fields F n (task_kind C i.task) (task_priority C i.task))) → Stands C L (es ++ Back w n ∷ []) (returned_fields F n (job_kind C j) (job_priority C j))
+        by t reached r =
+            let f = row_there r.0 r.1 in
+            let e = f.number_is in
+            let k = r.2 in
+            let place : suc f.at ≡ n = omega arith in
+            let same : f.row ≡ record { job = j; mark = Running w } = some_same (sym f.there ∙ ap (λ (m : ℕ). row_of F.rows m) place ∙ h) in
+            let task : r.0.task ≡ task_of F.frames j = f.task_is ∙ ap (λ (q : Row). task_of F.frames q.job) same in
+            subst (λ (z : ℤ). Stands C L (es ++ Back w n ∷ []) (returned_fields F n (job_kind C j) z)) (priority_of_job C F.frames j)
+            (subst (λ (k : Kind). Stands C L (es ++ Back w n ∷ []) (returned_fields F n k (task_priority C (task_of F.frames j)))) (kind_of_job C F.frames j)
+            (subst (λ (t : Task). Stands C L (es ++ Back w n ∷ []) (returned_fields F n (task_kind C t) (task_priority C t))) task r.3))

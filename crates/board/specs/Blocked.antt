@@ -6,10 +6,10 @@ use Rattle.task_code.specs.Code.{Code}
 use Rattle.task_code.specs.Machine.{CodeState}
 use Rattle.task_code.specs.Places as Places
 use Rattle.task_code.specs.Runs.{Blocked, FaultAt}
-use Rattle.board.specs.declared.place.Fault.{Fault}
-use Rattle.board.specs.declared.place.Statement.{Statement}
-use Rattle.board.specs.declared.place.Step.{Step}
-use Rattle.board.specs.View.{path_view, kind_of_fault}
+use Rattle.board_frames.specs.declared.place.Fault.{Fault}
+use Rattle.board_frames.specs.declared.place.Statement.{Statement}
+use Rattle.board_frames.specs.declared.place.Step.{Step}
+use Rattle.board.specs.View.{kind_of_fault, path_view}
 
 -- a path is written from its outermost step on, and a place has its last step first
 abbrev pub path_of : Statement → List Places.Step

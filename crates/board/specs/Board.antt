@@ -1,7 +1,7 @@
 -- What the clauses of a board say.
 use Rattle.std.specs.Prelude.{◌≡◌, ℕ, ◌<◌, List, [], ◌∷◌, ◌++◌, Some, None, length}
 use Rattle.dataflow.specs.System.{Answer, In}
-use Rattle.dataflow.specs.Events.{worker_of}
+use Rattle.dataflow.specs.Events.{NewlyAt, worker_of}
 use Rattle.dataflow.specs.Machine as Machine
 use Rattle.dataflow.specs.Machine.{SeesAll}
 use Rattle.values.specs.declared.key.Key.{Key}
@@ -15,12 +15,13 @@ use Rattle.board_work.specs.Assigned.{Assigned}
 use Rattle.board.specs.declared.refusal.Refusal.{Refusal}
 use Rattle.board.specs.declared.refusal.Refusal.TheVariants.{Ended, Memory, NotReady, NotYours, Stranger}
 
--- a board: the code and the limit, the state, and the events so far
+-- a board: the code and the limit, the state, the events so far, and the items that can begin and could not before the last of them
 pub record Seen : Type 0 where
   pub code : Code
   pub limit : ℕ
   pub state : CodeState
   pub history : List Machine.Event
+  pub newly : List ℕ
 
 -- the workers are 0 to 63
 abbrev pub IsWorker : ℕ → Type 0
@@ -34,13 +35,20 @@ AreByWorkers es = (e : Machine.Event) → In e es → IsWorker (worker_of e)
 abbrev pub IsGoing : Seen → Type 0
 IsGoing b = (b.state.fault ≡ None) × (length b.history < b.limit)
 
--- the event is accepted: the machine has that step, and nothing else changes
+-- each number is smaller than those behind it
+abbrev pub Rises : List ℕ → Type 0
+Rises [] = Unit {0}
+Rises (n ∷ ns) = ((m : ℕ) → In m ns → n < m) × Rises ns
+
+-- the event is accepted: the machine has that step, the items that it enables are named by rising numbers, and nothing else changes
 pub record Accepts (old : Seen) (e : Machine.Event) (new : Seen) : Type 0 where
   pub going : IsGoing old
   pub step : CodeStep old.code old.state e new.state
   pub history : new.history ≡ old.history ++ e ∷ []
   pub code : new.code ≡ old.code
   pub limit : new.limit ≡ old.limit
+  pub newly : NewlyAt (code_system old.code) old.state new.state new.newly
+  pub rising : Rises new.newly
 
 -- what a task is for, and the answers to its entry's needs where its inputs have these
 abbrev pub job_of : Code → Task → Work.Task

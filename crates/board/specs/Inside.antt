@@ -1,20 +1,75 @@
 -- The board's fields, as contracts see them, and what always holds of them.
-use Rattle.std.specs.Prelude.{◌≡◌, ◌+◌, ◌*◌, ◌≤◌, None, map, vec_capacity, vec_len}
-use Rattle.task_code.specs.Machine.{Run}
+use Rattle.std.specs.Prelude.{◌≡◌, ◌+◌, ◌≤◌, ℕ, List, Option, Some, None, map, true, vec_capacity, vec_len}
+use Rattle.dataflow.specs.Machine as Machine
+use Rattle.dataflow.specs.System.{In}
+use Rattle.replayed.specs.Stands.{Stands}
+use Rattle.task_code.specs.Code.{Code, entry}
+use Rattle.task_code.specs.Compute.{EntryFault}
+use Rattle.task_code.specs.Effects.{Item, Main, Task}
+use Rattle.task_code.specs.Machine.{CanBegin}
 use Rattle.task_code.specs.View.{event_view}
+use Rattle.task_code.specs.Whole.{IsCode}
+use Rattle.data_store.specs.Stores.{Store, array_at}
+use Rattle.values.specs.Maps.{rising}
+use Rattle.board_code.specs.Spots.{layout_of}
+use Rattle.board_data.specs.Wanted.{FewSlots}
+use Rattle.board_frames.specs.View.{frames_view}
+use Rattle.board_frames.specs.declared.place.Fault.{Fault}
+use Rattle.board_frames.specs.declared.place.Statement.{Statement}
 use Rattle.board.specs.declared.board.Board.TheInside.{Inside}
-use Rattle.board.specs.Board.{AreByWorkers, Seen}
-use Rattle.board.specs.Flat.{IsFlat}
-use Rattle.board.specs.State.{IsCounted, core_of}
+use Rattle.board.specs.Blocked.{path_of}
+use Rattle.board.specs.Board.{AreByWorkers, Rises, Seen}
+use Rattle.board.specs.History.{state_of}
+use Rattle.board.specs.Numbers.{AreNumbered}
+use Rattle.board_items.specs.Room.{IsRoomy}
+use Rattle.board.specs.View.{Told, fields_view, kind_of_fault}
+use Rattle.board.specs.declared.state.Core.{Core}
 
 abbrev pub seen_of : Inside → Seen
-seen_of a = record { code = a.code; limit = a.limit; state = core_of a.core; history = map event_view a.history.items }
+seen_of a =
+    record {
+      code = a.program;
+      limit = a.limit;
+      state = state_of a.program (map event_view a.history.items);
+      history = map event_view a.history.items;
+      newly = a.core.items.newly.items;
+    }
+
+-- the statement is the task's
+abbrev pub IsStatementOf : Code → Task → Statement → Type 0
+IsStatementOf C Main s = ⊥
+IsStatementOf C (Item i p c) s = (s.at ≡ (entry C i).at) × (path_of s ≡ p)
+
+-- the fault that was met is noted, with its statement
+abbrev pub IsNoted : Code → Option (Task × Machine.Fault EntryFault) → Option Fault → Type 0
+IsNoted C None None = Unit {0}
+IsNoted C (Some m) (Some f) = (m.1 ≡ kind_of_fault f.kind) × IsStatementOf C m.0 f.statement
+IsNoted C None (Some f) = ⊥
+IsNoted C (Some m) None = ⊥
+
+-- the elements of each array are listed by rising key
+abbrev pub AreRising : Store → Type 0
+AreRising s = (d : ℕ) → rising (array_at s d).elements ≡ true
+
+-- what holds of the fields beside
+pub record IsKept (C : Code) (core : Core) : Type 0 where
+  pub few : FewSlots (frames_view core.world.instances.slots)
+  pub rising : AreRising core.world.store
+  pub roomy : IsRoomy C core.items
+  pub rises : Rises core.items.newly.items
+
+-- the fields stand for the state that the history leads to
+pub record Stand (C : Code) (events : List Machine.Event) (core : Core) : Type 0 where
+  pub told : Told
+  pub stands : Stands C (layout_of C) events (fields_view told core)
+  pub fault : IsNoted C told.fault core.fault
+  pub kept : IsKept C core
 
 pub record IsSound (a : Inside) : Type 0 where
-  pub replays : Run a.code (map event_view a.history.items) (core_of a.core)
-  pub flat : IsFlat a.code
-  pub counted : IsCounted a.core
-  pub room : a.core.fault ≡ None → vec_len a.history + a.core.running ≤ vec_capacity a.history
-  pub numbers : a.core.next ≤ 2 + vec_len a.history * 4294967296
+  pub whole : IsCode a.program
+  pub stand : Stand a.program (map event_view a.history.items) a.core
+  pub room : a.core.fault ≡ None → vec_len a.history + a.core.items.running ≤ vec_capacity a.history
+  pub newly : (n : ℕ) → In n a.core.items.newly.items → CanBegin a.program (state_of a.program (map event_view a.history.items)) n
   pub within : vec_len a.history ≤ a.limit
   pub workers : AreByWorkers (map event_view a.history.items)
+  pub numbers : AreNumbered (map event_view a.history.items)

@@ -1,29 +1,20 @@
--- What items, values, statements and faults of the program stand for.
-use Rattle.std.specs.Prelude.{List, [], Option, Some, None, map}
-use Rattle.dataflow.specs.System.{Write}
+-- What the fields of a board stand for.
+use Rattle.std.specs.Prelude.{ℕ, List, Option, None, Some, map}
 use Rattle.dataflow.specs.Machine as Machine
-use Rattle.values.specs.declared.key.Key.{Key}
-use Rattle.values.specs.declared.value.Scalar.{Scalar}
-use Rattle.task_code.specs.Compute.{EntryFault}
-use Rattle.task_code.specs.Effects as Pure
-use Rattle.task_code.specs.Effects.{only}
-use Rattle.task_code.specs.Machine.{CodeItem}
+use Rattle.replayed.specs.Fields as Pure
+use Rattle.task_code.specs.Compute.{Elements, EntryFault}
+use Rattle.task_code.specs.Effects.{Task}
 use Rattle.task_code.specs.Places as Places
-use Rattle.task_code.specs.View.{variable_view}
 use Rattle.board_work.specs.View.{fault_view}
-use Rattle.board.specs.declared.place.FaultKind.{FaultKind}
-use Rattle.board.specs.declared.place.FaultKind.TheVariants as Kind
-use Rattle.board.specs.declared.place.Step.{Step}
-use Rattle.board.specs.declared.item.Task.{Task}
-use Rattle.board.specs.declared.item.Task.TheVariants as Does
-use Rattle.board.specs.declared.item.Item.{Item}
-use Rattle.board.specs.declared.item.Stored.{Stored}
-use Rattle.board.specs.declared.item.Met.{Met}
+use Rattle.board_data.specs.View.{cells_view}
+use Rattle.board_frames.specs.View.{frames_view, rows_view, step_view}
+use Rattle.board_frames.specs.declared.place.FaultKind.{FaultKind}
+use Rattle.board_frames.specs.declared.place.FaultKind.TheVariants as Kind
+use Rattle.board_frames.specs.declared.place.Step.{Step}
+use Rattle.board_items.specs.View.{queue_view, waiters_view}
+use Rattle.board.specs.declared.state.Core.{Core}
 
--- a step, a path, and a fault
-abbrev pub step_view : Step → Places.Step
-step_view s = record { offset = s.offset; key = s.key }
-
+-- a path, and what went wrong
 abbrev pub path_view : List Step → List Places.Step
 path_view p = map step_view p
 
@@ -31,18 +22,31 @@ abbrev pub kind_of_fault : FaultKind → Machine.Fault EntryFault
 kind_of_fault (Kind.OfEntry f) = Machine.OfTask (fault_view f)
 kind_of_fault Kind.ElementTwice = Machine.ElementTwice
 
--- a task, an item, and a value that is stored
-abbrev pub task_view : Task → Pure.Task
-task_view Does.Main = Pure.Main
-task_view (Does.Entry i) = Pure.Item i [] 0
+-- what is not kept as it stands in the fields: the turns that are left to items that go on with loops, and the task that met the fault
+pub record Told : Type 0 where
+  pub turns : ℕ → Option Elements
+  pub fault : Option (Task × Machine.Fault EntryFault)
 
-abbrev pub item_view : Item → CodeItem
-item_view i = record { number = i.number; task = task_view i.task; runs = i.worker }
+-- before any event
+abbrev pub nothing_told : Told
+nothing_told = record { turns = λ n. None; fault = None }
 
-abbrev pub stored_view : Stored → Write Places.Place Key Scalar
-stored_view w = record { place = Places.Datum [] (variable_view w.variable); key = only; value = w.value }
+-- the fields
+abbrev pub fields_view : Told → Core → Pure.Fields
+fields_view told c =
+    record {
+      frames = frames_view c.world.instances.slots;
+      rows = rows_view c.items.rows.items;
+      cells = cells_view c.world.store.cells;
+      waiting = waiters_view c.items.rules.waiting;
+      turns = told.turns;
+      queue = queue_view c.items.queue;
+      lines = c.lines.items;
+      fault = told.fault;
+      running = c.items.running;
+      newly = c.items.newly.items;
+    }
 
--- the fault that was met, with its task
-abbrev pub met_view : Option Met → Option (Pure.Task × Machine.Fault EntryFault)
-met_view None = None
-met_view (Some m) = Some (Pure.Item m.entry [] 0, Machine.OfTask (fault_view m.fault))
+-- with this fault
+abbrev pub with_fault : Task → Machine.Fault EntryFault → Told → Told
+with_fault t f told = record { turns = told.turns; fault = Some (t, f) }

@@ -1,39 +1,39 @@
 //! The board: begin, end and give back items.
-ghost use Rattle.std.specs.Prelude.{◌≡◌, ◌<◌, ◌≤◌, [], map, length, vec_len, IfOk, IfErr, IfSome, IfNone, OnOk, OnErr, IsTrue, ◌↔◌, None};
+ghost use Rattle.std.specs.Prelude.{ℕ, ℤ, ◌≡◌, ◌<◌, ◌≤◌, ◌^◌, ◌∷◌, [], map, length, vec_len, IfOk, IfErr, IfSome, IfNone, OnOk, OnErr, IsTrue, ◌↔◌, None, Some, slice_get};
 ghost use Rattle.dataflow.specs.Machine.{start};
 ghost use Rattle.dataflow.specs.Machine as Machine;
-ghost use Rattle.values.specs.declared.value.Scalar.TheVariants.{Text as text_scalar};
 ghost use Rattle.task_code.specs.Machine.{CodeItem, Quiet, Run};
-ghost use Rattle.task_code.specs.System.{code_system, task_kind};
+ghost use Rattle.task_code.specs.System.{code_system, task_kind, task_priority};
 ghost use Rattle.task_code.specs.View.{event_view, kind_view};
+ghost use Rattle.task_code.specs.Whole.{IsCode};
+ghost use Rattle.work_queue.specs.declared.entry.Kind.{Kind as QueueKind};
+ghost use Rattle.board_code.specs.Tables.{queue_kind};
 ghost use Rattle.board.specs.Board.{AreByWorkers, IsWorker, IsGoing, Accepts, IsOwn, RefusesBegin, RefusesEnd, RefusesBack, RefusesWork};
 ghost use Rattle.board.specs.Numbers.{AreNumbered};
-ghost use Rattle.board.specs.Flat.{IsFlat};
 ghost use Rattle.board.specs.Ready.{AreReady, IsNext, IsReady};
 ghost use Rattle.board.specs.Blocked.{AreBlocked, IsFaultOf};
 ghost use Rattle.dataflow.specs.System.{In};
 
-use crate::effect::effect_of;
-use crate::items::{is_done_for, job, kind_of, ready_at, running_at, task_answers};
-use crate::order::{
-    all_ready, first_of, is_stirring, item_at, numbers, offset_of, offsets, statements,
-};
-use crate::place::{Fault, FaultKind, Statement};
 use crate::refusal::Refusal;
-use crate::state::{Core, start};
-use board_work::work::{Done, Work};
+use crate::state::Core;
+use board_code::program::Program;
+use board_data::answers::{answers, are_answers};
+use board_frames::item::{Job, Mark, item_of};
+use board_frames::place::{Fault, Statement};
+use board_items::items::order_of;
+use board_work::work::{Done, Job as Task, Work};
 use std::alloc::{AllocError, Global};
 use std::marker::Model;
 use task_code::code::Code;
 use task_code::entry::Kind;
 use task_code::event::Event;
-use values::text::Text;
+use values::value::Scalar;
 
 /// The machine's state over some code, with the events that led to it. At most `limit` events are accepted, each by one of the
 /// workers 0 to 63.
 #[derive(Drop)]
 pub struct Board {
-    code: Code,
+    program: Program,
     limit: u32,
     core: Core,
     history: Vec<Event>,
@@ -55,20 +55,41 @@ impl Model for Board {
     ghost invariant = { IsSound };
 }
 
+/// The kind as the queue has it.
+fn queue_kind(kind: Kind) -> work_queue::entry::Kind
+    ensures { result ≡ queue_kind (kind_view kind) }
+{
+    match kind {
+        Kind::Control => work_queue::entry::Kind::Control,
+        Kind::Leaf => work_queue::entry::Kind::Leaf,
+    }
+}
+
+/// The same, as code has it.
+fn code_kind(kind: work_queue::entry::Kind) -> Kind
+    ensures { queue_kind (kind_view result) ≡ kind }
+{
+    match kind {
+        work_queue::entry::Kind::Control => Kind::Control,
+        work_queue::entry::Kind::Leaf => Kind::Leaf,
+    }
+}
+
 impl Board {
-    /// A board over the code, before any event.
+    /// A board over the code, before any event. Code that needs more than 64 bits for a number or a count is refused as want
+    /// of memory.
     ///
     /// # Errors
     ///
     /// `AllocError` where memory that was asked for was refused.
     pub fn new(alloc: Global, code: Code, limit: u32) -> Result<Board, AllocError>
-        requires { IsFlat code }
-        ensures { IfOk result (λ b. b ≡ record { code = code; limit = limit; state = start (code_system code); history = [] }) }
+        requires { IsCode code }
+        ensures { IfOk result (λ b. b ≡ record { code = code; limit = limit; state = start (code_system code); history = []; newly = [] }) }
     {
         Ok(Board {
-            code,
+            program: Program::new(alloc, code)?,
             limit,
-            core: start(alloc)?,
+            core: Core::new(alloc)?,
             history: Vec::new(alloc),
         })
     }
@@ -88,6 +109,7 @@ impl Board {
     pub fn begin(&mut self, worker: u8, item: u64) -> Result<Work, Refusal>
         requires { IsWorker worker }
         ensures accepted { OnOk result (Accepts self.old (Machine.Begin worker item) self.new) }
+        ensures still { OnOk result (self.new.newly ≡ []) }
         ensures work { IfOk result (λ work. IsOwn self.new worker work) }
         ensures number { IfOk result (λ work. work.item ≡ item) }
         ensures refused { IfErr result (λ e. RefusesBegin self.old item e) }
@@ -96,24 +118,25 @@ impl Board {
         if !self.is_going() {
             return Err(Refusal::Ended);
         }
-        let Some((at, found)) = ready_at(&self.code, &self.core.stored, &self.core.items, item)
-        else {
+        let Some(job) = self.core.ready_job(item) else {
             return Err(Refusal::NotReady);
         };
-        let alloc = *self.history.allocator();
-        let Ok(answers) = task_answers(alloc, &self.code, &self.core.stored, found.task) else {
+        let Ok(()) = self.core.sort_arrays(&self.program, job) else {
             return Err(Refusal::Memory);
         };
-        let Ok(job) = job(&self.code, found.task) else {
+        let Ok(work) = self.core.work(&self.program, item, job) else {
             return Err(Refusal::Memory);
         };
         // Room for this event, and for the next one of each item that runs.
-        let Ok(()) = self.history.reserve(self.core.running + 2) else {
+        let Ok(()) = self
+            .history
+            .reserve(self.core.items.running.saturating_add(2))
+        else {
             return Err(Refusal::Memory);
         };
-        self.core.begin(worker, at, found);
+        self.core.begin(&self.program, worker, item, job);
         self.history.push_reserved(Event::Begin { worker, item });
-        Ok(Work::new(item, job, answers))
+        Ok(work)
     }
 
     /// Ends the item of the work on the worker.
@@ -134,23 +157,17 @@ impl Board {
         if !self.is_going() {
             return Err((done, Refusal::Ended));
         }
-        let number = done.item();
-        let Some((at, found)) = running_at(&self.core.items, worker, number) else {
+        let item = done.item();
+        let Some(job) = self.core.running_job(worker, item) else {
             return Err((done, Refusal::NotYours));
         };
-        if !is_done_for(&self.code, &self.core.stored, found.task, &done) {
+        if !self.core.is_done_for(&self.program, job, &done) {
             return Err((done, Refusal::Stranger));
         }
-        let Ok(effect) = effect_of(&self.code, found.task, done.outcome()) else {
+        let Ok(()) = self.core.end(&self.program, item, job, &done) else {
             return Err((done, Refusal::Memory));
         };
-        let Ok(()) = self.core.finish(&self.code, worker, at, found, effect) else {
-            return Err((done, Refusal::Memory));
-        };
-        self.history.push_reserved(Event::End {
-            worker,
-            item: number,
-        });
+        self.history.push_reserved(Event::End { worker, item });
         Ok(())
     }
 
@@ -162,16 +179,17 @@ impl Board {
     pub fn back(&mut self, worker: u8, item: u64) -> Result<(), Refusal>
         requires { IsWorker worker }
         ensures accepted { OnOk result (Accepts self.old (Machine.Back worker item) self.new) }
+        ensures again { OnOk result (self.new.newly ≡ item ∷ []) }
         ensures refused { IfErr result (λ e. RefusesBack self.old worker item e) }
         ensures unchanged { OnErr result (self.new ≡ self.old) }
     {
         if !self.is_going() {
             return Err(Refusal::Ended);
         }
-        let Some((at, found)) = running_at(&self.core.items, worker, item) else {
+        let Some(job) = self.core.running_job(worker, item) else {
             return Err(Refusal::NotYours);
         };
-        self.core.stop(worker, at, found);
+        self.core.back(&self.program, item, job);
         self.history.push_reserved(Event::Back { worker, item });
         Ok(())
     }
@@ -190,17 +208,13 @@ impl Board {
         if !self.is_going() {
             return Err(Refusal::Ended);
         }
-        let Some((at, found)) = running_at(&self.core.items, worker, item) else {
+        let Some(job) = self.core.running_job(worker, item) else {
             return Err(Refusal::NotYours);
         };
-        let alloc = *self.history.allocator();
-        let Ok(answers) = task_answers(alloc, &self.code, &self.core.stored, found.task) else {
+        let Ok(work) = self.core.work(&self.program, item, job) else {
             return Err(Refusal::Memory);
         };
-        let Ok(job) = job(&self.code, found.task) else {
-            return Err(Refusal::Memory);
-        };
-        Ok(Work::new(item, job, answers))
+        Ok(work)
     }
 
     /// The events so far. They lead to the state, name the workers 0 to 63 alone, and items by numbers above 0.
@@ -209,7 +223,7 @@ impl Board {
         ensures replays { Run self.now.code self.now.history self.now.state }
         ensures within { length self.now.history ≤ self.now.limit }
         ensures few { self.now.limit ≤ u32.MAX }
-        ensures flat { IsFlat self.now.code }
+        ensures whole { IsCode self.now.code }
         ensures workers { AreByWorkers self.now.history }
         ensures numbers { AreNumbered self.now.history }
     {
@@ -217,9 +231,9 @@ impl Board {
         &self.history
     }
 
-    /// The lines that were printed so far, in their order.
-    pub fn lines(&self) -> &Vec<Text>
-        ensures { self.now.state.lines ≡ map (λ t. text_scalar t) result.now.items }
+    /// The lines that were printed so far, in their order: a text each, where the code prints texts alone.
+    pub fn lines(&self) -> &Vec<Scalar>
+        ensures { self.now.state.lines ≡ result.now.items }
     {
         &self.core.lines
     }
@@ -228,7 +242,7 @@ impl Board {
     pub fn code(&self) -> &Code
         ensures { result.now ≡ self.now.code }
     {
-        &self.code
+        self.program.code()
     }
 
     /// How many events are accepted at most.
@@ -238,27 +252,26 @@ impl Board {
         self.limit
     }
 
+    /// How many data there are: all that may still be read or written.
+    pub fn stored(&self) -> usize {
+        self.core.world.store.len()
+    }
+
     /// Whether nothing is left to be done: no fault was met, and no item runs or is enabled.
     pub fn is_quiet(&self) -> bool
         ensures { IsTrue result ↔ Quiet self.now.code self.now.state }
     {
-        self.core.fault.is_none() && !is_stirring(&self.code, &self.core.stored, &self.core.items)
+        self.core.fault.is_none() && self.core.items.is_still()
     }
 
     /// The fault that was met, and its statement.
-    pub fn fault(&self) -> Option<Fault>
+    pub fn fault(&self) -> Option<&Fault>
         ensures none { IfNone result (self.now.state.fault ≡ None) }
-        ensures some { IfSome result (λ fault. IsFaultOf self.now.code self.now.state fault) }
+        ensures some { IfSome result (λ fault. IsFaultOf self.now.code self.now.state fault.now) }
     {
-        match self.core.fault {
+        match &self.core.fault {
             None => None,
-            Some(met) => Some(Fault {
-                kind: FaultKind::OfEntry(met.fault),
-                statement: Statement {
-                    at: offset_of(&self.code, met.entry),
-                    path: Vec::new(*self.history.allocator()),
-                },
-            }),
+            Some(met) => Some(met),
         }
     }
 
@@ -267,9 +280,15 @@ impl Board {
         ensures none { IfNone result ((i : CodeItem) → In i self.now.state.items → i.number ≡ item → ⊥) }
         ensures some { IfSome result (λ kind. (i : CodeItem) × In i self.now.state.items × (i.number ≡ item) × (kind_view kind ≡ task_kind self.now.code i.task)) }
     {
-        match item_at(&self.core.items, item) {
-            None => None,
-            Some((_, found)) => Some(kind_of(&self.code, found.task)),
+        let Some(found) = item_of(self.core.items.rows.as_slice(), item) else {
+            return None;
+        };
+        match found.mark {
+            Mark::Over => None,
+            _ => {
+                let (kind, _) = order_of(&self.program, found.job);
+                Some(code_kind(kind))
+            }
         }
     }
 
@@ -282,10 +301,32 @@ impl Board {
         if !self.is_going() {
             return None;
         }
-        match first_of(&self.code, &self.core.stored, &self.core.items, kind) {
-            None => None,
-            Some(found) => Some(found.number),
-        }
+        self.core.items.queue.first(queue_kind(kind))
+    }
+
+    /// How many items can begin and could not before the last event.
+    pub fn newly_len(&self) -> usize
+        ensures len { result ≡ length self.now.newly }
+        ensures few { result < 2 ^ 63 }
+    {
+        self.core.items.newly.len()
+    }
+
+    /// The item at this place among those that can begin and could not before the last event, by rising number: who runs it,
+    /// its priority and its number.
+    pub fn newly(&self, place: usize) -> Option<(Kind, i32, u64)>
+        ensures none { IfNone result (length self.now.newly ≤ place) }
+        ensures above { IfSome result (λ found. 0 < found.2) }
+        ensures some { IfSome result (λ found. (slice_get self.now.newly place ≡ Some found.2) × ((i : CodeItem) × In i self.now.state.items × (i.number ≡ found.2) × (kind_view found.0 ≡ task_kind self.now.code i.task) × (found.1 ≡ task_priority self.now.code i.task))) }
+    {
+        let Some(number) = number_at(&self.core.items.newly, place) else {
+            return None;
+        };
+        let Some(item) = item_of(self.core.items.rows.as_slice(), number) else {
+            return None;
+        };
+        let (kind, priority) = order_of(&self.program, item.job);
+        Some((code_kind(kind), priority, number))
     }
 
     /// The numbers of all items that can begin, by greatest priority and then by smallest number.
@@ -296,10 +337,8 @@ impl Board {
     pub fn ready_items(&self) -> Result<Vec<u64>, AllocError>
         ensures { IfOk result (λ numbers. AreReady self.now numbers.items) }
     {
-        let alloc = *self.history.allocator();
-        let found = all_ready(alloc, &self.code, &self.core.stored, &self.core.items)?;
-        let ready = numbers(alloc, &found)?;
-        Ok(ready)
+        let listed = self.core.items.queue.list()?;
+        numbers_of(self.core.alloc, listed.as_slice())
     }
 
     /// The statements whose items have not ended, by their paths and then by their offsets, each once.
@@ -310,9 +349,31 @@ impl Board {
     pub fn blocked(&self) -> Result<Vec<Statement>, AllocError>
         ensures { IfOk result (λ statements. AreBlocked self.now.code self.now.state statements.items) }
     {
-        let alloc = *self.history.allocator();
-        let found = offsets(alloc, &self.code, &self.core.items)?;
-        let listed = statements(alloc, &found)?;
-        Ok(listed)
+        self.core.blocked(&self.program)
     }
+}
+
+/// The number at a place.
+fn number_at(numbers: &Vec<u64>, place: usize) -> Option<u64>
+    ensures { result ≡ slice_get numbers.now.items place }
+{
+    match numbers.as_slice().get(place) {
+        Some(number) => Some(*number),
+        None => None,
+    }
+}
+
+/// The numbers of listed items.
+fn numbers_of(
+    alloc: Global,
+    listed: &[(work_queue::entry::Kind, i32, u64)],
+) -> Result<Vec<u64>, AllocError>
+    ensures { IfOk result (λ numbers. numbers.items ≡ map (λ (l : QueueKind × ℤ × ℕ). l.2) listed.now) }
+{
+    let mut numbers = Vec::new(alloc);
+    for one in listed {
+        let (_, _, number) = *one;
+        numbers.push(number)?;
+    }
+    Ok(numbers)
 }

@@ -1,16 +1,25 @@
-//! The machine as a value: a state, the events that led to it, and the calls by which workers begin items, end them and give them back.
+//! The machine as a value, for code of the whole language.
 #![tactic(auto)]
 
+mod blocked;
 pub mod board;
-mod effect;
-pub mod item;
-mod items;
-mod order;
-pub mod place;
+mod changing;
+mod chunk;
+mod comparing;
+mod counted;
+mod ending;
+mod fitting;
+pub mod laws;
+mod making;
+mod naming;
+mod opened;
 pub mod refusal;
+mod room;
 mod state;
-mod values_known;
+mod telling;
+mod working;
 
+pub use board_frames::place::{Fault, FaultKind, Statement, Step};
 pub use board_work::answer::Answer;
 pub use board_work::outcome::EntryFault;
 pub use board_work::work::{Done, Work};

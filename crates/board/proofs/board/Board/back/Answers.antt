@@ -1,45 +1,42 @@
-use Rattle.std.proofs.Common.{rules, arith, ◌≡◌, None, refl, sym, subst}
+use Rattle.std.proofs.Common.{rules, arith, refl, sym, subst, map}
 use Rattle.std.proofs.lemmas.Grind.{common_steps}
-use Rattle.dataflow.specs.Machine as Machine
-use Rattle.task_code.specs.Machine.{CodeStep}
+use Rattle.task_code.specs.View.{event_view}
+use Rattle.task_code.specs.declared.event.Event.TheVariants as Events
+use Rattle.board_frames.specs.View.{job_view, rows_view}
 use Rattle.board.specs.Board.{IsGoing, Seen}
-use Rattle.board.specs.State.{core_of}
-use Rattle.board.proofs.Moves.{backs}
-use Rattle.board.proofs.Own.{history_goes, not_theirs, run_goes, running, unmet, workers_more}
+use Rattle.board.specs.Inside.{seen_of}
+use Rattle.board.proofs.Own.{accepts_on, free_core, not_theirs, numbered, some_run, sound_on}
 use Rattle.board.proofs.board.Board.back.Goals as goal
 
 pub returns-in_default-clause-refused : goal.returns-in_default-clause-refused
 returns-in_default-clause-refused c =
-    (search rules, rw (← c.self.view_is) (not_theirs c.self.inside.code c.self.invariant.flat c.self.inside.core _ c.self.invariant.replays c.args.worker c.args.item c.in_default.ensures.absent))
+    (search rules, rw (← c.self.view_is) (not_theirs c.self.inside.program c.self.invariant.whole (map event_view c.self.inside.history.items) c.self.inside.core c.self.invariant.stand c.args.worker c.args.item c.in_default.ensures.none))
+
+pub push_reserved-requires : goal.push_reserved-requires
+push_reserved-requires c =
+    let going : IsGoing c.args.self.now = search rules in
+    let here : IsGoing (seen_of c.self.inside) = subst (λ (b : Seen). IsGoing b) (sym c.self.view_is) going in
+    let none = free_core c.self.inside.program c.self.invariant.whole (map event_view c.self.inside.history.items) c.self.inside.core c.self.invariant.stand here.0 in
+    let some = some_run c.self.inside.program c.self.invariant.whole (map event_view c.self.inside.history.items) c.self.inside.core c.self.invariant.stand c.args.worker c.args.item (job_view c.in-Some.job) c.in-Some.ensures.some in
+    grind (arith, common_steps, c.self.invariant.room none, some)
 
 pub invariant_of-self : goal.invariant_of-self
 invariant_of-self c =
-    let f = running c.self.inside.code c.self.invariant.flat c.self.inside.core _ c.self.invariant.replays c.args.worker c.args.item c.in-Some.found c.in-Some.ensures.runs in
     let going : IsGoing c.args.self.now = search rules in
-    let none = unmet c.self.inside.core.fault (subst (λ (b : Seen). b.state.fault ≡ None) (sym c.self.view_is) going.0) in
-    let step : CodeStep c.self.inside.code (core_of c.self.inside.core) (Machine.Back c.args.worker c.args.item) (core_of c.stop.new.self) =
-    rw (← f.0, c.stop.ensures.state) (backs c.self.inside.code c.self.inside.core c.in-Some.at c.in-Some.found c.in-Some.ensures.place none c.args.worker f.1) in
-    record {
-      replays = rw (c.push_reserved.ensures.items) (run_goes c.self.inside.code _ _ _ _ c.self.invariant.replays step);
-      flat = c.self.invariant.flat;
-      counted = search rules;
-      room = grind (arith, common_steps);
-      numbers = grind (arith, common_steps);
-      within = grind (arith, common_steps);
-      workers = rw (c.push_reserved.ensures.items) (workers_more _ _ c.self.invariant.workers c.requires);
-    }
+    let here : IsGoing (seen_of c.self.inside) = subst (λ (b : Seen). IsGoing b) (sym c.self.view_is) going in
+    let none = free_core c.self.inside.program c.self.invariant.whole (map event_view c.self.inside.history.items) c.self.inside.core c.self.invariant.stand here.0 in
+    let some = some_run c.self.inside.program c.self.invariant.whole (map event_view c.self.inside.history.items) c.self.inside.core c.self.invariant.stand c.args.worker c.args.item (job_view c.in-Some.job) c.in-Some.ensures.some in
+    sound_on c.self.inside c.self.invariant (record { program = c.self.inside.program; limit = c.self.inside.limit; core = c.back.new.self; history = c.push_reserved.new.self }) (Events.Back c.args.worker c.args.item) refl refl (search rules)
+    (c.back.ensures.stand (map event_view c.self.inside.history.items) c.args.worker c.self.invariant.whole c.self.invariant.stand none c.in-Some.ensures.some)
+    (λ h. grind (arith, common_steps, c.self.invariant.room none, some, c.back.ensures.running))
+    (grind (arith, common_steps, here.1))
+    c.requires
+    (numbered (rows_view c.self.inside.core.items.rows.items) c.args.item _ c.in-Some.ensures.some, search rules)
 
 pub returns-clause-accepted : goal.returns-clause-accepted
 returns-clause-accepted c =
-    let f = running c.self.inside.code c.self.invariant.flat c.self.inside.core _ c.self.invariant.replays c.args.worker c.args.item c.in-Some.found c.in-Some.ensures.runs in
     let going : IsGoing c.args.self.now = search rules in
-    let none = unmet c.self.inside.core.fault (subst (λ (b : Seen). b.state.fault ≡ None) (sym c.self.view_is) going.0) in
-    let step : CodeStep c.self.inside.code (core_of c.self.inside.core) (Machine.Back c.args.worker c.args.item) (core_of c.stop.new.self) =
-    rw (← f.0, c.stop.ensures.state) (backs c.self.inside.code c.self.inside.core c.in-Some.at c.in-Some.found c.in-Some.ensures.place none c.args.worker f.1) in
-    record {
-      going = going;
-      step = rw (← c.self.view_is) step;
-      history = rw (← c.self.view_is, c.push_reserved.ensures.items) (history_goes _ _);
-      code = rw (← c.self.view_is) refl;
-      limit = rw (← c.self.view_is) refl;
-    }
+    let here : IsGoing (seen_of c.self.inside) = subst (λ (b : Seen). IsGoing b) (sym c.self.view_is) going in
+    let none = free_core c.self.inside.program c.self.invariant.whole (map event_view c.self.inside.history.items) c.self.inside.core c.self.invariant.stand here.0 in
+    rw (← c.self.view_is) (accepts_on c.self.inside c.self.invariant (record { program = c.self.inside.program; limit = c.self.inside.limit; core = c.back.new.self; history = c.push_reserved.new.self }) (Events.Back c.args.worker c.args.item) refl refl (search rules)
+    (c.back.ensures.stand (map event_view c.self.inside.history.items) c.args.worker c.self.invariant.whole c.self.invariant.stand none c.in-Some.ensures.some) here)

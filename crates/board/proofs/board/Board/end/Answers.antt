@@ -1,102 +1,106 @@
-use Rattle.std.proofs.Common.{rules, arith, ◌≡◌, None, refl, sym, ap, subst}
+use Rattle.std.proofs.Common.{rules, arith, refl, sym, ◌∙◌, subst, map}
 use Rattle.std.proofs.lemmas.Grind.{common_steps}
-use Rattle.dataflow.specs.Machine as Machine
-use Rattle.task_code.specs.Machine.{CodeStep}
+use Rattle.replayed.specs.Fields.{Running}
+use Rattle.task_code.specs.View.{event_view}
+use Rattle.task_code.specs.declared.event.Event.TheVariants as Events
+use Rattle.board_data.specs.View.{cells_view}
+use Rattle.board_frames.specs.View.{frames_view, job_view, rows_view}
 use Rattle.board.specs.Board.{IsGoing, Seen}
-use Rattle.board.specs.State.{core_of}
-use Rattle.board.specs.View.{met_view}
-use Rattle.board.proofs.Own.{end_step, ended_own, history_goes, not_own, not_theirs, opened, run_goes, running, task_flat, task_there, theirs, unmet, workers_more}
+use Rattle.board.specs.Inside.{seen_of}
+use Rattle.board.specs.Working.{IsWorkAt}
+use Rattle.board.proofs.Own.{accepts_on, free_core, not_theirs, not_true, numbered, same_on, same_seen, some_run, sound_on, theirs}
+use Rattle.board.proofs.OwnWork.{job_there, own_seen, running_live, seen_own, work_own}
 use Rattle.board.proofs.board.Board.end.Goals as goal
 
 pub returns-in_default-clause-refused : goal.returns-in_default-clause-refused
 returns-in_default-clause-refused c =
-    (search rules, rw (← c.self.view_is, ← c.item-number.ensures) (not_theirs c.self.inside.code c.self.invariant.flat c.self.inside.core _ c.self.invariant.replays c.args.worker c.item-number.result c.in_default.ensures.absent))
+    (search rules, rw (← c.self.view_is, ← c.item-item.ensures) (not_theirs c.self.inside.program c.self.invariant.whole (map event_view c.self.inside.history.items) c.self.inside.core c.self.invariant.stand c.args.worker c.item-item.result c.in_default.ensures.none))
 
-pub returns-in_default-effect_of-clause-refused : goal.returns-in_default-effect_of-clause-refused
-returns-in_default-effect_of-clause-refused c =
-    let going : IsGoing c.args.self.now = search rules in
-    let none = unmet c.self.inside.core.fault (subst (λ (b : Seen). b.state.fault ≡ None) (sym c.self.view_is) going.0) in
-    let own = c.is_done_for.ensures.yes (search rules) in (
-      going,
-      rw (← c.self.view_is) (ended_own c.self.inside.code c.self.invariant.flat c.self.inside.core _ c.self.invariant.replays c.args.worker c.item-number.result c.in-Some.at c.in-Some.found c.in-Some.ensures.place c.in-Some.ensures.runs (ap met_view none) _ _
-          c.args.done (sym c.item-number.ensures) own.0 own.1),
-    )
+pub is_done_for-requires-clause-rising : goal.is_done_for-requires-clause-rising
+is_done_for-requires-clause-rising c = c.self.invariant.stand.kept.rising
 
-pub returns-in_default-finish-clause-refused : goal.returns-in_default-finish-clause-refused
-returns-in_default-finish-clause-refused c =
-    let going : IsGoing c.args.self.now = search rules in
-    let none = unmet c.self.inside.core.fault (subst (λ (b : Seen). b.state.fault ≡ None) (sym c.self.view_is) going.0) in
-    let own = c.is_done_for.ensures.yes (search rules) in (
-      going,
-      rw (← c.self.view_is) (ended_own c.self.inside.code c.self.invariant.flat c.self.inside.core _ c.self.invariant.replays c.args.worker c.item-number.result c.in-Some.at c.in-Some.found c.in-Some.ensures.place c.in-Some.ensures.runs (ap met_view none) _ _
-          c.args.done (sym c.item-number.ensures) own.0 own.1),
-    )
-
-pub is_done_for-requires : goal.is_done_for-requires
-is_done_for-requires c =
-    task_there c.self.inside.code c.self.invariant.flat c.in-Some.found.task (opened c.self.inside.code c.self.invariant.flat c.self.inside.core _ c.self.invariant.replays c.in-Some.at c.in-Some.found c.in-Some.ensures.place)
-
-pub effect_of-requires-clause-flat : goal.effect_of-requires-clause-flat
-effect_of-requires-clause-flat c =
-    task_flat c.self.inside.code c.self.invariant.flat c.in-Some.found.task (opened c.self.inside.code c.self.invariant.flat c.self.inside.core _ c.self.invariant.replays c.in-Some.at c.in-Some.found c.in-Some.ensures.place)
-
-pub finish-requires-clause-runs : goal.finish-requires-clause-runs
-finish-requires-clause-runs c = (running c.self.inside.code c.self.invariant.flat c.self.inside.core _ c.self.invariant.replays c.args.worker c.item-number.result c.in-Some.found c.in-Some.ensures.runs).1
-
-pub returns-then-not-is_done_for-clause-refused : goal.returns-then-not-is_done_for-clause-refused
-returns-then-not-is_done_for-clause-refused c =
-    let going : IsGoing c.args.self.now = search rules in
-    let none = unmet c.self.inside.core.fault (subst (λ (b : Seen). b.state.fault ≡ None) (sym c.self.view_is) going.0) in (
-      going,
-      rw (← c.self.view_is, ← c.item-number.ensures) (theirs c.self.inside.code c.self.invariant.flat c.self.inside.core _ c.self.invariant.replays c.args.worker c.item-number.result c.in-Some.at c.in-Some.found c.in-Some.ensures.place c.in-Some.ensures.runs),
-      rw (← c.self.view_is) (not_own c.self.inside.code c.self.invariant.flat c.self.inside.core _ c.self.invariant.replays c.args.worker c.item-number.result c.in-Some.at c.in-Some.found c.in-Some.ensures.place c.in-Some.ensures.runs (ap met_view none) _ _
-          c.args.done (sym c.item-number.ensures) (c.is_done_for.ensures.no (search rules))),
-    )
+pub is_done_for-requires-clause-there : goal.is_done_for-requires-clause-there
+is_done_for-requires-clause-there c =
+    job_there c.self.inside.program c.self.invariant.whole (map event_view c.self.inside.history.items) c.self.inside.core c.self.invariant.stand c.item-item.result (job_view c.in-Some.job) (Running c.args.worker) c.in-Some.ensures.some (running_live c.args.worker)
 
 pub push_reserved-requires : goal.push_reserved-requires
 push_reserved-requires c =
     let going : IsGoing c.args.self.now = search rules in
-    let none = unmet c.self.inside.core.fault (subst (λ (b : Seen). b.state.fault ≡ None) (sym c.self.view_is) going.0) in
-    grind (arith, common_steps, c.self.invariant.room none, c.finish.ensures.some_ran)
+    let here : IsGoing (seen_of c.self.inside) = subst (λ (b : Seen). IsGoing b) (sym c.self.view_is) going in
+    let none = free_core c.self.inside.program c.self.invariant.whole (map event_view c.self.inside.history.items) c.self.inside.core c.self.invariant.stand here.0 in
+    let some = some_run c.self.inside.program c.self.invariant.whole (map event_view c.self.inside.history.items) c.self.inside.core c.self.invariant.stand c.args.worker c.item-item.result (job_view c.in-Some.job) c.in-Some.ensures.some in
+    grind (arith, common_steps, c.self.invariant.room none, some)
 
 pub invariant_of-self-2 : goal.invariant_of-self-2
 invariant_of-self-2 c =
     let going : IsGoing c.args.self.now = search rules in
-    let none = unmet c.self.inside.core.fault (subst (λ (b : Seen). b.state.fault ≡ None) (sym c.self.view_is) going.0) in
-    let own = c.is_done_for.ensures.yes (search rules) in
-    let step : CodeStep c.self.inside.code (core_of c.self.inside.core) (Machine.End c.args.worker c.item-number.result) (core_of c.finish.new.self) =
-    rw (c.in-Ok-finish.ensures.state) (end_step c.self.inside.code c.self.invariant.flat c.self.inside.core _ c.self.invariant.replays c.args.worker c.item-number.result c.in-Some.at c.in-Some.found c.in-Some.ensures.place c.in-Some.ensures.runs none
-    c.args.done own.0 own.1 c.outcome.result.now c.outcome.ensures.computed c.in-Ok.effect c.in-Ok.ensures) in
-    record {
-      replays = rw (c.push_reserved.ensures.items) (run_goes c.self.inside.code _ _ _ _ c.self.invariant.replays step);
-      flat = c.self.invariant.flat;
-      counted = search rules;
-      room = λ h. grind (arith, common_steps, c.in-Ok-finish.ensures.ended h, c.self.invariant.room none);
-      numbers = grind (arith, common_steps, c.self.invariant.flat.few, c.finish.ensures.next);
-      within = grind (arith, common_steps);
-      workers = rw (c.push_reserved.ensures.items) (workers_more _ _ c.self.invariant.workers c.requires);
-    }
+    let here : IsGoing (seen_of c.self.inside) = subst (λ (b : Seen). IsGoing b) (sym c.self.view_is) going in
+    let none = free_core c.self.inside.program c.self.invariant.whole (map event_view c.self.inside.history.items) c.self.inside.core c.self.invariant.stand here.0 in
+    let at : IsWorkAt c.self.inside.program (frames_view c.self.inside.core.world.instances.slots) (cells_view c.self.inside.core.world.store.cells) (job_view c.in-Some.job) c.args.done = c.is_done_for.ensures.0 (search rules) in
+    sound_on c.self.inside c.self.invariant (record { program = c.self.inside.program; limit = c.self.inside.limit; core = c.end.new.self; history = c.push_reserved.new.self }) (Events.End c.args.worker c.item-item.result) refl refl (search rules)
+    (c.in-Ok.ensures.ended.stand (map event_view c.self.inside.history.items) c.args.worker c.self.invariant.whole c.self.invariant.stand none c.in-Some.ensures.some
+    (work_own c.self.inside.program c.self.invariant.whole (map event_view c.self.inside.history.items) c.self.inside.core c.self.invariant.stand none c.args.worker c.item-item.result (job_view c.in-Some.job) c.in-Some.ensures.some c.args.done at))
+    (λ h. grind (arith, common_steps, c.self.invariant.room none, c.in-Ok.ensures.ended.running (map event_view c.self.inside.history.items) c.args.worker c.self.invariant.whole c.self.invariant.stand c.in-Some.ensures.some h))
+    (grind (arith, common_steps, here.1))
+    c.requires
+    (numbered (rows_view c.self.inside.core.items.rows.items) c.item-item.result _ c.in-Some.ensures.some, search rules)
 
 pub returns-clause-accepted : goal.returns-clause-accepted
 returns-clause-accepted c =
     let going : IsGoing c.args.self.now = search rules in
-    let none = unmet c.self.inside.core.fault (subst (λ (b : Seen). b.state.fault ≡ None) (sym c.self.view_is) going.0) in
-    let own = c.is_done_for.ensures.yes (search rules) in
-    let step : CodeStep c.self.inside.code (core_of c.self.inside.core) (Machine.End c.args.worker c.item-number.result) (core_of c.finish.new.self) =
-    rw (c.in-Ok-finish.ensures.state) (end_step c.self.inside.code c.self.invariant.flat c.self.inside.core _ c.self.invariant.replays c.args.worker c.item-number.result c.in-Some.at c.in-Some.found c.in-Some.ensures.place c.in-Some.ensures.runs none
-    c.args.done own.0 own.1 c.outcome.result.now c.outcome.ensures.computed c.in-Ok.effect c.in-Ok.ensures) in
-    record {
-      going = going;
-      step = rw (← c.self.view_is, ← c.item-number.ensures) step;
-      history = rw (← c.self.view_is, ← c.item-number.ensures, c.push_reserved.ensures.items) (history_goes _ _);
-      code = rw (← c.self.view_is) refl;
-      limit = rw (← c.self.view_is) refl;
-    }
+    let here : IsGoing (seen_of c.self.inside) = subst (λ (b : Seen). IsGoing b) (sym c.self.view_is) going in
+    let none = free_core c.self.inside.program c.self.invariant.whole (map event_view c.self.inside.history.items) c.self.inside.core c.self.invariant.stand here.0 in
+    let at : IsWorkAt c.self.inside.program (frames_view c.self.inside.core.world.instances.slots) (cells_view c.self.inside.core.world.store.cells) (job_view c.in-Some.job) c.args.done = c.is_done_for.ensures.0 (search rules) in
+    rw (← c.self.view_is, ← c.item-item.ensures) (accepts_on c.self.inside c.self.invariant (record { program = c.self.inside.program; limit = c.self.inside.limit; core = c.end.new.self; history = c.push_reserved.new.self }) (Events.End c.args.worker c.item-item.result) refl refl (search rules)
+    (c.in-Ok.ensures.ended.stand (map event_view c.self.inside.history.items) c.args.worker c.self.invariant.whole c.self.invariant.stand none c.in-Some.ensures.some
+    (work_own c.self.inside.program c.self.invariant.whole (map event_view c.self.inside.history.items) c.self.inside.core c.self.invariant.stand none c.args.worker c.item-item.result (job_view c.in-Some.job) c.in-Some.ensures.some c.args.done at)) here)
+
+pub returns-then-not-is_done_for-clause-refused : goal.returns-then-not-is_done_for-clause-refused
+returns-then-not-is_done_for-clause-refused c =
+    let going : IsGoing c.args.self.now = search rules in
+    let here : IsGoing (seen_of c.self.inside) = subst (λ (b : Seen). IsGoing b) (sym c.self.view_is) going in
+    let none = free_core c.self.inside.program c.self.invariant.whole (map event_view c.self.inside.history.items) c.self.inside.core c.self.invariant.stand here.0 in (
+      going,
+      rw (← c.self.view_is, ← c.item-item.ensures) (theirs c.self.inside.program c.self.invariant.whole (map event_view c.self.inside.history.items) c.self.inside.core c.self.invariant.stand c.args.worker c.item-item.result (job_view c.in-Some.job) c.in-Some.ensures.some),
+      rw (← c.self.view_is) (λ o. not_true c.is_done_for.result (search rules) (c.is_done_for.ensures.1 (seen_own c.self.inside c.self.invariant none c.args.worker c.item-item.result (job_view c.in-Some.job) c.in-Some.ensures.some c.args.done (sym c.item-item.ensures) o))),
+    )
+
+pub returns-in_default-end-clause-refused : goal.returns-in_default-end-clause-refused
+returns-in_default-end-clause-refused c =
+    let going : IsGoing c.args.self.now = search rules in
+    let here : IsGoing (seen_of c.self.inside) = subst (λ (b : Seen). IsGoing b) (sym c.self.view_is) going in
+    let none = free_core c.self.inside.program c.self.invariant.whole (map event_view c.self.inside.history.items) c.self.inside.core c.self.invariant.stand here.0 in
+    let at : IsWorkAt c.self.inside.program (frames_view c.self.inside.core.world.instances.slots) (cells_view c.self.inside.core.world.store.cells) (job_view c.in-Some.job) c.args.done = c.is_done_for.ensures.0 (search rules) in
+    (going, rw (← c.self.view_is) (own_seen c.self.inside c.self.invariant none c.args.worker c.item-item.result (job_view c.in-Some.job) c.in-Some.ensures.some c.args.done (sym c.item-item.ensures) at))
 
 pub returns-clause-own : goal.returns-clause-own
 returns-clause-own c =
     let going : IsGoing c.args.self.now = search rules in
-    let none = unmet c.self.inside.core.fault (subst (λ (b : Seen). b.state.fault ≡ None) (sym c.self.view_is) going.0) in
-    let own = c.is_done_for.ensures.yes (search rules) in
-    rw (← c.self.view_is) (ended_own c.self.inside.code c.self.invariant.flat c.self.inside.core _ c.self.invariant.replays c.args.worker c.item-number.result c.in-Some.at c.in-Some.found c.in-Some.ensures.place c.in-Some.ensures.runs (ap met_view none) _ _
-    c.args.done (sym c.item-number.ensures) own.0 own.1)
+    let here : IsGoing (seen_of c.self.inside) = subst (λ (b : Seen). IsGoing b) (sym c.self.view_is) going in
+    let none = free_core c.self.inside.program c.self.invariant.whole (map event_view c.self.inside.history.items) c.self.inside.core c.self.invariant.stand here.0 in
+    let at : IsWorkAt c.self.inside.program (frames_view c.self.inside.core.world.instances.slots) (cells_view c.self.inside.core.world.store.cells) (job_view c.in-Some.job) c.args.done = c.is_done_for.ensures.0 (search rules) in
+    rw (← c.self.view_is) (own_seen c.self.inside c.self.invariant none c.args.worker c.item-item.result (job_view c.in-Some.job) c.in-Some.ensures.some c.args.done (sym c.item-item.ensures) at)
+
+pub end-requires : goal.end-requires
+end-requires c =
+    job_there c.self.inside.program c.self.invariant.whole (map event_view c.self.inside.history.items) c.self.inside.core c.self.invariant.stand c.item-item.result (job_view c.in-Some.job) (Running c.args.worker) c.in-Some.ensures.some (running_live c.args.worker)
+
+pub invariant_of-self : goal.invariant_of-self
+invariant_of-self c =
+    let going : IsGoing c.args.self.now = search rules in
+    let here : IsGoing (seen_of c.self.inside) = subst (λ (b : Seen). IsGoing b) (sym c.self.view_is) going in
+    let none = free_core c.self.inside.program c.self.invariant.whole (map event_view c.self.inside.history.items) c.self.inside.core c.self.invariant.stand here.0 in
+    let at : IsWorkAt c.self.inside.program (frames_view c.self.inside.core.world.instances.slots) (cells_view c.self.inside.core.world.store.cells) (job_view c.in-Some.job) c.args.done = c.is_done_for.ensures.0 (search rules) in
+    let same = c.in_default-end.ensures.same (map event_view c.self.inside.history.items) c.args.worker c.self.invariant.whole c.self.invariant.stand none c.in-Some.ensures.some
+    (work_own c.self.inside.program c.self.invariant.whole (map event_view c.self.inside.history.items) c.self.inside.core c.self.invariant.stand none c.args.worker c.item-item.result (job_view c.in-Some.job) c.in-Some.ensures.some c.args.done at) in
+    same_on c.self.inside c.self.invariant c.end.new.self same
+
+pub returns-in_default-end-clause-unchanged : goal.returns-in_default-end-clause-unchanged
+returns-in_default-end-clause-unchanged c =
+    let going : IsGoing c.args.self.now = search rules in
+    let here : IsGoing (seen_of c.self.inside) = subst (λ (b : Seen). IsGoing b) (sym c.self.view_is) going in
+    let none = free_core c.self.inside.program c.self.invariant.whole (map event_view c.self.inside.history.items) c.self.inside.core c.self.invariant.stand here.0 in
+    let at : IsWorkAt c.self.inside.program (frames_view c.self.inside.core.world.instances.slots) (cells_view c.self.inside.core.world.store.cells) (job_view c.in-Some.job) c.args.done = c.is_done_for.ensures.0 (search rules) in
+    let same = c.in_default-end.ensures.same (map event_view c.self.inside.history.items) c.args.worker c.self.invariant.whole c.self.invariant.stand none c.in-Some.ensures.some
+    (work_own c.self.inside.program c.self.invariant.whole (map event_view c.self.inside.history.items) c.self.inside.core c.self.invariant.stand none c.args.worker c.item-item.result (job_view c.in-Some.job) c.in-Some.ensures.some c.args.done at) in
+    same_seen c.self.inside c.end.new.self same.newly ∙ c.self.view_is

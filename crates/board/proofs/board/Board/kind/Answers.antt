@@ -1,11 +1,20 @@
-use Rattle.board.specs.View.{item_view}
-use Rattle.board.proofs.Firsts.{no_number}
-use Rattle.board.proofs.Own.{stands_in}
+use Rattle.std.proofs.Common.{rules, ap, ◌∙◌, map}
+use Rattle.task_code.specs.View.{event_view, kind_view}
+use Rattle.board_frames.specs.View.{mark_view, row_view}
+use Rattle.board.proofs.Showing.{live_mark, no_item, over_item, some_item}
 use Rattle.board.proofs.board.Board.kind.Goals as goal
 
-pub returns-in-None-clause-none : goal.returns-in-None-clause-none
-returns-in-None-clause-none c = rw (← c.self.view_is) (λ i m e. no_number c.self.inside.code c.self.invariant.flat c.self.inside.core _ c.self.invariant.replays c.self.inside.limit c.args.item c.in-None.ensures.absent i m e)
+pub returns-in_default-clause-none : goal.returns-in_default-clause-none
+returns-in_default-clause-none c =
+    rw (← c.self.view_is) (no_item c.self.inside.program c.self.invariant.whole (map event_view c.self.inside.history.items) c.self.inside.core c.self.invariant.stand c.args.item (search rules))
 
-pub returns-in-Some-clause-some : goal.returns-in-Some-clause-some
-returns-in-Some-clause-some c =
-    rw (← c.self.view_is) (item_view c.in-Some.found, stands_in c.self.inside.core.items.items c.in-Some.field-0-0 c.in-Some.found c.in-Some.ensures.place, c.in-Some.ensures.number, c.kind_of.ensures)
+pub returns-in-Over-clause-none : goal.returns-in-Over-clause-none
+returns-in-Over-clause-none c =
+    rw (← c.self.view_is) (over_item c.self.inside.program c.self.invariant.whole (map event_view c.self.inside.history.items) c.self.inside.core c.self.invariant.stand c.args.item (row_view c.in-Some.found) (search rules) (ap mark_view c.in-Over.is))
+
+pub returns-in_default-mark : goal.returns-in_default-mark
+returns-in_default-mark c =
+    record {
+      none = tt;
+      some = rw (← c.self.view_is) (some_item c.self.inside.program c.self.invariant.whole (map event_view c.self.inside.history.items) c.self.inside.core c.self.invariant.stand c.args.item (row_view c.in-Some.found) (search rules) (live_mark c.in-Some.found.mark c.in_default-mark.not-Over) (kind_view c.code_kind.result) (c.code_kind.ensures ∙ c.order_of-kind.ensures.kind));
+    }

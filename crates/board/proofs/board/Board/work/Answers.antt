@@ -1,29 +1,28 @@
-use Rattle.std.proofs.Common.{rules, ◌≡◌, None, sym, ap, ◌∙◌, subst}
-use Rattle.board_work.specs.Assigned.{Assigned}
+use Rattle.std.proofs.Common.{rules, sym, subst, map}
+use Rattle.replayed.specs.Fields.{Running}
+use Rattle.task_code.specs.View.{event_view}
+use Rattle.board_frames.specs.View.{job_view}
 use Rattle.board.specs.Board.{IsGoing, Seen}
-use Rattle.board.specs.View.{met_view}
-use Rattle.board.proofs.Own.{ended_own, not_theirs, opened, task_there, theirs, unmet}
+use Rattle.board.specs.Inside.{seen_of}
+use Rattle.board.proofs.Own.{free_core, not_theirs, theirs}
+use Rattle.board.proofs.OwnWork.{job_there, own_seen, running_live}
 use Rattle.board.proofs.board.Board.work.Goals as goal
 
 pub returns-in_default-clause-refused : goal.returns-in_default-clause-refused
 returns-in_default-clause-refused c =
-    (search rules, rw (← c.self.view_is) (not_theirs c.self.inside.code c.self.invariant.flat c.self.inside.core _ c.self.invariant.replays c.args.worker c.args.item c.in_default.ensures.absent))
+    (search rules, rw (← c.self.view_is) (not_theirs c.self.inside.program c.self.invariant.whole (map event_view c.self.inside.history.items) c.self.inside.core c.self.invariant.stand c.args.worker c.args.item c.in_default.ensures.none))
 
-pub returns-in_default-task_answers-clause-refused : goal.returns-in_default-task_answers-clause-refused
-returns-in_default-task_answers-clause-refused c =
-    (search rules, rw (← c.self.view_is) (theirs c.self.inside.code c.self.invariant.flat c.self.inside.core _ c.self.invariant.replays c.args.worker c.args.item c.in-Some.at c.in-Some.found c.in-Some.ensures.place c.in-Some.ensures.runs))
+pub returns-in_default-work-clause-refused : goal.returns-in_default-work-clause-refused
+returns-in_default-work-clause-refused c =
+    (search rules, rw (← c.self.view_is) (theirs c.self.inside.program c.self.invariant.whole (map event_view c.self.inside.history.items) c.self.inside.core c.self.invariant.stand c.args.worker c.args.item (job_view c.in-Some.job) c.in-Some.ensures.some))
 
-pub returns-in_default-job-clause-refused : goal.returns-in_default-job-clause-refused
-returns-in_default-job-clause-refused c =
-    (search rules, rw (← c.self.view_is) (theirs c.self.inside.code c.self.invariant.flat c.self.inside.core _ c.self.invariant.replays c.args.worker c.args.item c.in-Some.at c.in-Some.found c.in-Some.ensures.place c.in-Some.ensures.runs))
-
-pub job-requires : goal.job-requires
-job-requires c =
-    task_there c.self.inside.code c.self.invariant.flat c.in-Some.found.task (opened c.self.inside.code c.self.invariant.flat c.self.inside.core _ c.self.invariant.replays c.in-Some.at c.in-Some.found c.in-Some.ensures.place)
+pub work-requires : goal.work-requires
+work-requires c =
+    job_there c.self.inside.program c.self.invariant.whole (map event_view c.self.inside.history.items) c.self.inside.core c.self.invariant.stand c.args.item (job_view c.in-Some.job) (Running c.args.worker) c.in-Some.ensures.some (running_live c.args.worker)
 
 pub returns-clause-own : goal.returns-clause-own
 returns-clause-own c =
     let going : IsGoing c.args.self.now = search rules in
-    let none = unmet c.self.inside.core.fault (subst (λ (b : Seen). b.state.fault ≡ None) (sym c.self.view_is) going.0) in
-    rw (← c.self.view_is) (ended_own c.self.inside.code c.self.invariant.flat c.self.inside.core _ c.self.invariant.replays c.args.worker c.args.item c.in-Some.at c.in-Some.found c.in-Some.ensures.place c.in-Some.ensures.runs (ap met_view none) _ _
-    c.new.result (ap (λ (w : Assigned). w.item) c.new.ensures) (ap (λ (w : Assigned). w.job) c.new.ensures ∙ c.in-Ok-job.ensures) (ap (λ (w : Assigned). w.answers) c.new.ensures ∙ c.in-Ok.ensures))
+    let here : IsGoing (seen_of c.self.inside) = subst (λ (b : Seen). IsGoing b) (sym c.self.view_is) going in
+    let none = free_core c.self.inside.program c.self.invariant.whole (map event_view c.self.inside.history.items) c.self.inside.core c.self.invariant.stand here.0 in
+    rw (← c.self.view_is) (own_seen c.self.inside c.self.invariant none c.args.worker c.args.item (job_view c.in-Some.job) c.in-Some.ensures.some c.in-Ok.work c.in-Ok.ensures.number c.in-Ok.ensures.own)

@@ -1,0 +1,34 @@
+-- The work of a job by the tables of its entry.
+use lib.Pointwise.{pointwise}
+use Rattle.board_work.specs.Same.{answer_eq}
+use Rattle.board_work.proofs.Comparisons.{same_answers}
+use Rattle.std.proofs.Common.{◌≡◌, ℕ, Bool, IsTrue, List, map, sym, ap, ◌∙◌, subst, Option}
+use Rattle.replayed.specs.Fields.{Counted, Does, Frame, Job}
+use Rattle.task_code.specs.Code.{Code, Entry, entry}
+use Rattle.board_code.specs.Tables.{IsEntryTable, body_of}
+use Rattle.board_code.specs.declared.program.EntryTable.{EntryTable}
+use Rattle.board_data.specs.Answered.{wanted_answer}
+use Rattle.board_frames.specs.Names.{led_slot}
+use Rattle.board_work.specs.Assigned.{Assigned, runs}
+use Rattle.board.specs.Working.{IsWorkAt}
+
+module _ (C : Code) (fs : List (Option Frame)) (cs : List (Option Counted)) (k e c : ℕ) (j : Job) (work : Assigned) (t : EntryTable) (is : j ≡ Does k e c) (table : IsEntryTable C (body_of C e) e t) where
+  pub work_at : (x : Entry) → work.job ≡ runs x → x ≡ entry C e → work.answers ≡ map (wanted_answer C cs (led_slot fs k)) t.needs.items → IsWorkAt C fs cs j work
+  work_at x job same answers =
+      subst (λ (i : Job). IsWorkAt C fs cs i work) (sym is) (record {
+        job = job ∙ ap runs same;
+        answers = answers ∙ ap (map (wanted_answer C cs (led_slot fs k))) table.needs;
+      })
+
+  pub at_work : IsWorkAt C fs cs j work → (work.job ≡ runs (entry C e)) × (work.answers ≡ map (wanted_answer C cs (led_slot fs k)) t.needs.items)
+  at_work a =
+      let b = subst (λ (i : Job). IsWorkAt C fs cs i work) is a in
+      (b.job, b.answers ∙ sym (ap (map (wanted_answer C cs (led_slot fs k))) table.needs))
+
+  -- and whether it is that, told by a comparison of the answers
+  pub work_told : (x : Entry) → work.job ≡ runs x → x ≡ entry C e → (b : Bool) → b ≡ pointwise answer_eq (map (wanted_answer C cs (led_slot fs k)) t.needs.items) work.answers → (IsTrue b → IsWorkAt C fs cs j work) × (IsWorkAt C fs cs j work → IsTrue b)
+  work_told x job same b told =
+      let d = same_answers (map (wanted_answer C cs (led_slot fs k)) t.needs.items) work.answers in (
+        (λ h. work_at x job same (sym (d.0 (sym told ∙ h)))),
+        (λ a. told ∙ d.1 (sym (at_work a).1)),
+      )

@@ -1,0 +1,33 @@
+-- What an item that ends has done to instances, data and those who wait, before items are settled.
+use Rattle.std.specs.Prelude.{◌≡◌, ◌+◌, ◌≤◌, ℕ, List, [], ◌++◌, Option, length, vec_capacity, vec_len}
+use Rattle.replayed.specs.Fields.{Job, Waiter, Want}
+use Rattle.task_code.specs.Code.{Code}
+use Rattle.values.specs.declared.value.Scalar.{Scalar}
+use Rattle.board_data.specs.Data.{AreRising}
+use Rattle.board_frames.specs.View.{frames_view, rows_view}
+use Rattle.board_items.specs.Learnt.{HaveLearnt}
+use Rattle.board_openings.specs.World.{WorldEnds}
+use Rattle.board_openings.specs.declared.world.Change.{Change}
+use Rattle.rules.specs.Waiting.{GivesRoomBack}
+use Rattle.board.specs.Changing.{line_list}
+use Rattle.board.specs.declared.state.Core.{Core}
+
+-- there is room to note all that wait
+abbrev pub CanNote : Core → Type 0
+CanNote c = length c.items.rules.waiting ≤ vec_capacity c.items.woken
+
+-- the change of the job was made, the line was printed, and those who wait have learnt of what became known
+pub record HasMade (C : Code) (j : Job) (x : Change) (line : Option Scalar) (old new : Core) : Type 0 where
+  pub news : List (Want ℕ)
+  pub world : WorldEnds C j x (frames_view old.world.instances.slots) (frames_view new.world.instances.slots) (rows_view old.items.rows.items) (rows_view new.items.rows.items) old.world.store new.world.store news
+  pub rising : AreRising old.world.store → AreRising new.world.store
+  pub learnt : CanNote old → (start : List Waiter) → HaveLearnt [] start old.items.rules.waiting [] → HaveLearnt news start new.items.rules.waiting new.items.woken.items
+  pub rules : CanNote old → GivesRoomBack old.items.rules new.items.rules
+  pub count : length new.items.rules.waiting + vec_len new.items.woken ≡ length old.items.rules.waiting
+  pub lines : new.lines.items ≡ old.lines.items ++ line_list line
+  pub queue : new.items.queue ≡ old.items.queue
+  pub apart : new.items.apart ≡ old.items.apart
+  pub running : new.items.running ≡ old.items.running
+  pub newly : new.items.newly.items ≡ []
+  pub capacity : vec_capacity new.items.newly ≡ vec_capacity old.items.newly
+  pub fault : new.fault ≡ old.fault

@@ -1,0 +1,73 @@
+-- Where the statement of an item is blocked, told by the fields of a board.
+use Rattle.std.specs.Prelude.{ℕ, length, nat_eq, nat_lt, Bool, true, false, ◌&&◌, ◌||◌, List, [], ◌∷◌, Option, Some, None, option_map, if◌then◌else◌}
+use Rattle.std.specs.List.{list_all}
+use Rattle.board_code.specs.Tables.{wanted_in}
+use Rattle.board_data.specs.Wanted.{wanted_missed}
+use Rattle.board_frames.specs.Names.{led_slot}
+use Rattle.replayed.specs.Fields.{Counted, Does, Frame, Job, Row, Script, Want, is_over, path_of as path_in, slot_at}
+use Rattle.task_code.specs.Code.{Act, Code, Header, Need, Wait, entry}
+use Rattle.task_code.specs.Places as Places
+use Rattle.task_code.specs.Runs.{counts}
+use Rattle.board_frames.specs.declared.place.Statement.{Statement}
+use Rattle.board_frames.specs.declared.place.Step.{Step}
+use Rattle.board.specs.Blocked.{path_below, path_of, same_step}
+
+-- a statement: its offset, and the path of its instance
+pub record Place : Type 0 where
+  pub at : ℕ
+  pub path : List Places.Step
+
+abbrev pub at_place : ℕ → List Places.Step → Place
+at_place n p = record { at = n; path = p }
+
+abbrev pub place_of : Statement → Place
+place_of s = at_place s.at (path_of s)
+
+-- the same path, and the order of statements
+abbrev pub same_path : List Step → List Step → Bool
+same_path [] [] = true
+same_path [] (t ∷ q) = false
+same_path (s ∷ p) [] = false
+same_path (s ∷ p) (t ∷ q) = same_step s t && same_path p q
+
+abbrev pub is_before : Statement → Statement → Bool
+is_before s t = path_below s.path.items t.path.items || (same_path s.path.items t.path.items && nat_lt s.at t.at)
+
+abbrev pub is_same_statement : Statement → Statement → Bool
+is_same_statement s t = nat_eq s.at t.at && same_path s.path.items t.path.items
+
+-- a statement at its place, unless it is there, and several one after the other
+abbrev pub with_statement : Statement → List Statement → List Statement
+with_statement s [] = s ∷ []
+with_statement s (t ∷ ts) = if is_before s t then s ∷ t ∷ ts else (if is_same_statement s t then t ∷ ts else t ∷ with_statement s ts)
+
+abbrev pub with_statements : List Statement → List Statement → List Statement
+with_statements [] found = found
+with_statements (s ∷ ss) found = with_statements ss (with_statement s found)
+
+abbrev pub misses_none : List (Want ℕ) → Bool
+misses_none [] = true
+misses_none (w ∷ ws) = false
+
+module _ (C : Code) (fs : List (Option Frame)) (cs : List (Option Counted)) where
+  -- all that a header waits for is known
+  abbrev pub is_header_known : (k b : ℕ) → List Need → Bool
+  is_header_known k b ns = list_all (λ n. misses_none (wanted_missed C cs (led_slot fs k) (wanted_in C b n))) ns
+
+  -- the offset of the first header that waits for something unknown
+  abbrev pub first_unknown : (k b : ℕ) → List Header → Option ℕ
+  first_unknown k b [] = None
+  first_unknown k b (h ∷ hs) = if is_header_known k b h.needs then first_unknown k b hs else Some h.at
+
+  -- where a statement of this act is blocked
+  abbrev pub blocked_offset : (k own : ℕ) → Act → Option ℕ
+  blocked_offset k own (Wait hs b) = elim (slot_at fs k) [ None ↦ None | Some f ↦ first_unknown k f.body hs ]
+  blocked_offset k own a = if counts a then Some own else None
+
+  -- the statement of a job, and of an item that is not over
+  abbrev pub blocked_job : Job → Option Place
+  blocked_job Script = None
+  blocked_job (Does k e c) = if nat_lt e (length C.entries) then option_map (λ n. at_place n (path_in fs k)) (blocked_offset k (entry C e).at (entry C e).act) else None
+
+  abbrev pub blocked_row : Row → Option Place
+  blocked_row r = if is_over r.mark then None else blocked_job r.job

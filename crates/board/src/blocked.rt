@@ -1,0 +1,257 @@
+//! The statements whose items have not ended.
+ghost use Rattle.std.specs.Prelude.{◌≡◌, ◌++◌, ◌∷◌, ◌↔◌, ◌≤◌, [], ℕ, None, Some, drop, map, option_map, take, vec_len, IfNone, IfOk, IfSome, OnOk};
+ghost use Rattle.std.specs.List.{filter_map, list_all};
+ghost use Rattle.board_code.specs.Tables.{wanted_in};
+ghost use Rattle.board_data.specs.View.{cells_view};
+ghost use Rattle.board_data.specs.Wanted.{wanted_missed};
+ghost use Rattle.board_frames.specs.Names.{led_slot};
+ghost use Rattle.board_frames.specs.View.{frames_view, row_view, rows_view};
+ghost use Rattle.replayed.specs.Fields.{Frame, path_of as path_in, slot_at};
+ghost use Rattle.task_code.specs.Runs.{counts};
+ghost use Rattle.task_code.specs.View.{act_view, header_view, need_view};
+ghost use Rattle.dataflow.specs.System.{In};
+ghost use Rattle.board.specs.Blocked.{InTextOrder, path_below, same_step, step_below};
+ghost use Rattle.board.specs.Stuck.{Place, is_before, is_same_statement, same_path, with_statement, with_statements, at_place, blocked_offset, blocked_row, first_unknown, is_header_known, misses_none, place_of};
+
+use crate::state::Core;
+use board_code::program::Program;
+use board_frames::instance::{Instance, path_of};
+use board_frames::item::{Item, Job, Mark};
+use board_frames::place::{Statement, Step};
+use slab::Slab;
+use std::alloc::{AllocError, Global};
+use task_code::entry::{Act, Header, Need};
+
+/// Whether a statement of this act can be blocked.
+fn counts(act: &Act) -> bool
+    ensures { result ≡ counts (act_view act.now) }
+{
+    match act {
+        Act::Cell(_)
+        | Act::Read
+        | Act::Call {
+            body: _,
+            inputs: _,
+            outputs: _,
+        } => false,
+        _ => true,
+    }
+}
+
+/// The body of an instance.
+#[tactic(auto, using(board_frames::proofs::Frames::frame_there))]
+fn body_at(instances: &Slab<Instance>, at: usize) -> Option<u32>
+    ensures { result ≡ option_map (λ (f : Frame). f.body) (slot_at (frames_view instances.now.slots) at) }
+{
+    match instances.get(at) {
+        Some(instance) => Some(instance.body),
+        None => None,
+    }
+}
+
+/// Whether a step comes before another: by offset, and then by key.
+fn is_step_below(one: &Step, other: &Step) -> bool
+    ensures { result ≡ step_below one.now other.now }
+{
+    one.offset < other.offset || (one.offset == other.offset && one.key.is_below(&other.key))
+}
+
+/// Whether both are the same step.
+fn is_same_step(one: &Step, other: &Step) -> bool
+    ensures { result ≡ same_step one.now other.now }
+{
+    one.offset == other.offset && one.key.is_same(&other.key)
+}
+
+/// Whether a path comes before another: step by step, and a beginning comes first.
+fn is_path_below(one: &[Step], other: &[Step]) -> bool
+    ensures { result ≡ path_below one.now other.now }
+{
+    let mut rest = other;
+    for step in one {
+        match rest {
+            [] => return false,
+            [first, left @ ..] => {
+                if is_step_below(step, first) {
+                    return true;
+                }
+                if !is_same_step(step, first) {
+                    return false;
+                }
+                rest = left;
+            }
+        }
+    }
+    !rest.is_empty()
+}
+
+/// Whether both are the same path.
+fn is_same_path(one: &[Step], other: &[Step]) -> bool
+    ensures { result ≡ same_path one.now other.now }
+{
+    let mut rest = other;
+    for step in one {
+        match rest {
+            [first, left @ ..] if is_same_step(step, first) => rest = left,
+            _ => return false,
+        }
+    }
+    rest.is_empty()
+}
+
+/// Whether a statement comes before another: by their paths, and then by their offsets.
+fn is_before(one: &Statement, other: &Statement) -> bool
+    ensures { result ≡ is_before one.now other.now }
+{
+    is_path_below(one.path.as_slice(), other.path.as_slice())
+        || (is_same_path(one.path.as_slice(), other.path.as_slice()) && one.at < other.at)
+}
+
+/// Whether both are the same statement.
+fn is_same(one: &Statement, other: &Statement) -> bool
+    ensures { result ≡ is_same_statement one.now other.now }
+{
+    one.at == other.at && is_same_path(one.path.as_slice(), other.path.as_slice())
+}
+
+/// Where the statement's place is, unless it is there.
+fn place_for(found: &Vec<Statement>, statement: &Statement) -> Option<usize>
+    ensures there { IfNone result (with_statement statement.now found.now.items ≡ found.now.items) }
+    ensures place { IfSome result (λ p. with_statement statement.now found.now.items ≡ take p found.now.items ++ statement.now ∷ drop p found.now.items) }
+    ensures within { IfSome result (λ p. p ≤ vec_len found.now) }
+{
+    for place in 0..found.len() {
+        if is_before(statement, &found[place]) {
+            return Some(place);
+        }
+        if is_same(statement, &found[place]) {
+            return None;
+        }
+    }
+    Some(found.len())
+}
+
+/// Puts the statement at its place, unless it is there.
+fn add(found: &mut Vec<Statement>, statement: Statement) -> Result<(), AllocError>
+    ensures { OnOk result (found.new.items ≡ with_statement statement found.old.items) }
+{
+    if let Some(place) = place_for(found, &statement) {
+        found.insert(place, statement)?;
+    }
+    Ok(())
+}
+
+/// The statements in their order, each once.
+fn in_order(alloc: Global, statements: Vec<Statement>) -> Result<Vec<Statement>, AllocError>
+    ensures { IfOk result (λ found. found.items ≡ with_statements statements.items []) }
+{
+    let mut found = Vec::new(alloc);
+    for statement in statements {
+        add(&mut found, statement)?;
+    }
+    Ok(found)
+}
+
+impl Core {
+    /// Whether what is waited for is known.
+    fn is_need_known(&self, program: &Program, at: usize, body: u32, need: &Need) -> bool
+        ensures { result ≡ misses_none (wanted_missed program.now (cells_view self.now.world.store.cells) (led_slot (frames_view self.now.world.instances.slots) at) (wanted_in program.now body (need_view need.now))) }
+    {
+        match self.view(program, at).missing(&program.wanted(body, need)) {
+            Some(_) => false,
+            None => true,
+        }
+    }
+
+    /// Whether all that a header waits for is known.
+    fn is_header_known(&self, program: &Program, at: usize, body: u32, header: &Header) -> bool
+        ensures { result ≡ is_header_known program.now (frames_view self.now.world.instances.slots) (cells_view self.now.world.store.cells) at body (header_view header.now).needs }
+    {
+        for need in &header.needs {
+            if !self.is_need_known(program, at, body, need) {
+                return false;
+            }
+        }
+        true
+    }
+
+    /// The offset of the first header that waits for something unknown.
+    fn first_unknown(
+        &self,
+        program: &Program,
+        at: usize,
+        body: u32,
+        headers: &[Header],
+    ) -> Option<usize>
+        ensures { result ≡ first_unknown program.now (frames_view self.now.world.instances.slots) (cells_view self.now.world.store.cells) at body (map header_view headers.now) }
+    {
+        for header in headers {
+            if !self.is_header_known(program, at, body, header) {
+                return Some(header.at);
+            }
+        }
+        None
+    }
+
+    /// The offset where the statement of an act is blocked, whose own offset this is.
+    fn offset_of(&self, program: &Program, instance: usize, own: usize, act: &Act) -> Option<usize>
+        ensures { result ≡ blocked_offset program.now (frames_view self.now.world.instances.slots) (cells_view self.now.world.store.cells) instance own (act_view act.now) }
+    {
+        match act {
+            Act::Wait(headers, _) => match body_at(&self.world.instances, instance) {
+                Some(body) => self.first_unknown(program, instance, body, headers.as_slice()),
+                None => None,
+            },
+            act if counts(act) => Some(own),
+            _ => None,
+        }
+    }
+
+    /// The instance and the offset where the item's statement is blocked.
+    fn blocked_at(&self, program: &Program, item: Item) -> Option<(usize, usize)>
+        ensures { option_map (λ (p : ℕ × ℕ). at_place p.1 (path_in (frames_view self.now.world.instances.slots) p.0)) result ≡ blocked_row program.now (frames_view self.now.world.instances.slots) (cells_view self.now.world.store.cells) (row_view item) }
+    {
+        if item.mark == Mark::Over {
+            return None;
+        }
+        match item.job {
+            Job::Script => None,
+            Job::Does {
+                instance,
+                entry,
+                chunk: _,
+            } => match program.code().entry(entry) {
+                Some(found) => {
+                    let at = self.offset_of(program, instance, found.at, &found.act)?;
+                    Some((instance, at))
+                }
+                None => None,
+            },
+        }
+    }
+
+    /// The blocked statements of all items, in no order.
+    fn list_blocked(&self, program: &Program) -> Result<Vec<Statement>, AllocError>
+        ensures { IfOk result (λ statements. map place_of statements.items ≡ filter_map (blocked_row program.now (frames_view self.now.world.instances.slots) (cells_view self.now.world.store.cells)) (rows_view self.now.items.rows.items)) }
+    {
+        let mut statements = Vec::new(self.alloc);
+        for item in &self.items.rows {
+            if let Some((instance, at)) = self.blocked_at(program, *item) {
+                statements.push(Statement {
+                    at,
+                    path: path_of(self.alloc, &self.world.instances, instance)?,
+                })?;
+            }
+        }
+        Ok(statements)
+    }
+
+    /// The blocked statements in their order, each once.
+    #[tactic(auto, using(crate::proofs::Ranked::listed_in_order, crate::proofs::Ranked::listed_places))]
+    pub fn blocked(&self, program: &Program) -> Result<Vec<Statement>, AllocError>
+        ensures places { IfOk result (λ statements. (p : Place) → In p (map place_of statements.items) ↔ In p (filter_map (blocked_row program.now (frames_view self.now.world.instances.slots) (cells_view self.now.world.store.cells)) (rows_view self.now.items.rows.items))) }
+        ensures order { IfOk result (λ statements. InTextOrder statements.items) }
+    {
+        in_order(self.alloc, self.list_blocked(program)?)
+    }
+}

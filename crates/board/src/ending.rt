@@ -1,0 +1,117 @@
+//! An item ends.
+
+ghost use Rattle.std.specs.Prelude.{◌≡◌, IfOk, OnErr, OnOk};
+ghost use Rattle.board_frames.specs.View.{job_view};
+ghost use Rattle.board.specs.Ending.{HasEnded, HasFailed, HasPassed, IsEffectOf, StaysBy, StaysIf};
+ghost use Rattle.board.specs.Working.{IsThere};
+
+use crate::changing::change_of;
+use crate::state::Core;
+use board_code::program::Program;
+use board_data::wanted::View;
+use board_effects::effect::{Effect, Ended};
+use board_effects::script_effect;
+use board_frames::item::Job;
+use board_frames::place::Fault;
+use board_items::settling::Outlook;
+use board_work::work::Done;
+use std::alloc::AllocError;
+
+impl Core {
+    /// What the item of a job does, which ends with this work.
+    fn effect_of(&self, program: &Program, job: Job, done: &Done) -> Result<Effect, AllocError>
+        requires { IsThere program.now (job_view job) }
+        ensures { IfOk result (IsEffectOf program.now self.now (job_view job) done.now) }
+    {
+        match job {
+            Job::Script => {
+                let opens = script_effect(self.alloc, program)?;
+                Ok(opens)
+            }
+            Job::Does {
+                instance,
+                entry,
+                chunk,
+            } => match (program.code().entry(entry), program.entry(entry)) {
+                (Some(found), Some(table)) => {
+                    let ended = Ended {
+                        alloc: self.alloc,
+                        view: View {
+                            program,
+                            instances: &self.world.instances,
+                            store: &self.world.store,
+                            at: instance,
+                        },
+                        number: entry,
+                        entry: found,
+                        table,
+                        chunk,
+                    };
+                    let effect = ended.effect(done.outcome())?;
+                    Ok(effect)
+                }
+                _ => Ok(Effect::Passes),
+            },
+        }
+    }
+
+    /// A fault was met. Nothing else changes: the item that met it runs for ever. Takes no memory.
+    fn fail(&mut self, fault: Fault)
+        ensures { HasFailed fault self.old self.new }
+    {
+        self.items.newly.clear();
+        self.fault = Some(fault);
+    }
+
+    /// The item, which runs, ends with this effect, which is no fault.
+    fn pass(
+        &mut self,
+        program: &Program,
+        number: u64,
+        job: Job,
+        effect: Effect,
+    ) -> Result<(), AllocError>
+        ensures passed { OnOk result (HasPassed program.now number (job_view job) effect self.old self.new) }
+        ensures same { OnErr result (StaysBy program.now number (job_view job) effect self.old self.new) }
+    {
+        let (change, line) = change_of(effect);
+        if !self.can_change(program, job, &change) {
+            return Err(AllocError);
+        }
+        let mut known = Vec::new(self.alloc);
+        self.make_room(program, job, &change, &mut known)?;
+        let first = self.items.rows.len();
+        let spare = self.make(program, job, change, line, &mut known)?;
+        let outlook = Outlook {
+            alloc: self.alloc,
+            program,
+            instances: &self.world.instances,
+            store: &self.world.store,
+        };
+        self.items.finish(outlook, number, job, first, spare)
+    }
+
+    /// The item, which runs, ends with what was done for it.
+    pub fn end(
+        &mut self,
+        program: &Program,
+        number: u64,
+        job: Job,
+        done: &Done,
+    ) -> Result<(), AllocError>
+        requires { IsThere program.now (job_view job) }
+        ensures ended { OnOk result (HasEnded program.now number (job_view job) done.now self.old self.new) }
+        ensures same { OnErr result (StaysIf program.now number (job_view job) done.now self.old self.new) }
+    {
+        match self.effect_of(program, job, done)? {
+            Effect::Fails(fault) => {
+                self.fail(fault);
+                Ok(())
+            }
+            passed => match self.pass(program, number, job, passed) {
+                Ok(()) => Ok(()),
+                Err(refused) => Err(refused),
+            },
+        }
+    }
+}

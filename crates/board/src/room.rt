@@ -1,0 +1,84 @@
+//! Room for all that the end of an item makes, before anything is changed.
+
+ghost use Rattle.std.specs.Prelude.{◌≡◌, ◌+◌, ◌≤◌, IfSome, OnOk, length, vec_capacity, vec_len};
+ghost use Rattle.board.specs.Ending.{StaysSo};
+ghost use Rattle.board_data.specs.View.{cells_view};
+ghost use Rattle.board_frames.specs.View.{job_view};
+ghost use Rattle.board_openings.specs.Room.{OpensWell, TakesMore};
+ghost use Rattle.board_openings.specs.World.{HasRoomToEnd};
+ghost use Rattle.board.specs.Room.{HasRoomForItems, new_controls, new_leaves};
+
+use crate::state::Core;
+use board_code::program::Program;
+use board_frames::item::Job;
+use board_items::items::Counts;
+use board_openings::world::Change;
+use rules::input::Input;
+use std::alloc::AllocError;
+
+/// The items that a change makes. One that goes on with a loop is a control item. None where they are too many to count.
+fn new_items(program: &Program, change: &Change) -> Option<Counts>
+    ensures controls { IfSome result (λ c. c.controls ≡ new_controls program.now change.now) }
+    ensures leaves { IfSome result (λ c. c.leaves ≡ new_leaves program.now change.now) }
+{
+    let Change::Opens(openings) = change else {
+        return Some(Counts {
+            controls: 0,
+            leaves: 0,
+        });
+    };
+    let table = program.body(openings.body)?;
+    let count = openings.list.len();
+    let going = if openings.goes_on { 1 } else { 0 };
+    let controls = table.controls.checked_mul(count)?.checked_add(going)?;
+    let leaves = table.leaves.checked_mul(count)?;
+    Some(Counts { controls, leaves })
+}
+
+impl Core {
+    /// Room for the items that wait, for so many new ones, and for a line.
+    fn make_room_for_items(&mut self, program: &Program, added: Counts) -> Result<(), AllocError>
+        ensures same { StaysSo program.now self.old self.new }
+        ensures world { self.new.world ≡ self.old.world }
+        ensures rows { self.new.items.rows.items ≡ self.old.items.rows.items }
+        ensures room { OnOk result (HasRoomForItems program.now added.controls added.leaves self.old self.new) }
+    {
+        let waiting = self.items.rules.waiting();
+        // So many are more than memory has room for.
+        let Some(new) = added.controls.checked_add(added.leaves) else {
+            return Err(AllocError);
+        };
+        let Some(ready) = waiting.checked_add(new) else {
+            return Err(AllocError);
+        };
+        self.lines.reserve(1)?;
+        self.items.reserve_new(added)?;
+        self.items.woken.reserve(waiting)?;
+        self.items.newly.reserve(ready)
+    }
+
+    /// Room for all that the end of an item makes which makes this change. Nothing else changes.
+    pub fn make_room(
+        &mut self,
+        program: &Program,
+        job: Job,
+        change: &Change,
+        known: &mut Vec<Input>,
+    ) -> Result<(), AllocError>
+        ensures same { StaysSo program.now self.old self.new }
+        ensures items { OnOk result (HasRoomForItems program.now (new_controls program.now change.now) (new_leaves program.now change.now) self.old self.new) }
+        ensures world { OnOk result (OpensWell program.now (job_view job) change.now → HasRoomToEnd program.now (job_view job) change.now self.new.world self.new.items.rows known.new) }
+        ensures takes { OnOk result (TakesMore change.now self.new.world.store) }
+        ensures known { known.new.items ≡ known.old.items }
+        ensures rows { self.new.items.rows.items ≡ self.old.items.rows.items }
+        ensures frames { self.new.world.instances.slots ≡ self.old.world.instances.slots }
+        ensures cells { cells_view self.new.world.store.cells ≡ cells_view self.old.world.store.cells }
+    {
+        let Some(added) = new_items(program, change) else {
+            return Err(AllocError);
+        };
+        self.make_room_for_items(program, added)?;
+        self.world
+            .make_room(&mut self.items.rows, known, program, job, change)
+    }
+}

@@ -1,0 +1,90 @@
+//! The work of an item, and whether work was done for it.
+ghost use Rattle.std.specs.Prelude.{◌≡◌, ◌<◌, ◌↔◌, IfOk, IsTrue, length};
+ghost use Rattle.replayed.specs.Fields.{Job as PureJob};
+ghost use Rattle.task_code.specs.Code.{Code};
+ghost use Rattle.board_data.specs.View.{cells_view};
+ghost use Rattle.board_frames.specs.View.{frames_view, job_view};
+ghost use Rattle.board.specs.Inside.{AreRising};
+ghost use Rattle.board.specs.Working.{IsThere, IsWorkAt};
+
+use crate::comparing::are_answers;
+use crate::state::Core;
+use board_code::program::{Program, Wanted};
+use board_data::answers::answers;
+use board_data::data;
+use board_frames::instance::datum_at;
+use board_frames::item::Job;
+use board_work::work::{Done, Job as Task, Work};
+use std::alloc::AllocError;
+
+impl Core {
+    /// Lays the elements of the arrays that the item waited for by rising key, once for all who ask for them.
+    pub fn sort_arrays(&mut self, program: &Program, job: Job) -> Result<(), AllocError>
+        ensures { self.new ≡ self.old }
+    {
+        if let Job::Does {
+            instance,
+            entry,
+            chunk: _,
+        } = job
+        {
+            if let Some(table) = program.entry(entry) {
+                for wanted in &table.needs {
+                    if let Wanted::Closed(spot) = wanted {
+                        let d = datum_at(&self.world.instances, instance, *spot);
+                        data::sort(&mut self.world.store, d)?;
+                    }
+                }
+            }
+        }
+        Ok(())
+    }
+
+    /// The work of the item of a number, which has this job.
+    pub fn work(&self, program: &Program, number: u64, job: Job) -> Result<Work, AllocError>
+        requires { IsThere program.now (job_view job) }
+        ensures number { IfOk result (λ work. work.item ≡ number) }
+        ensures own { IfOk result (λ work. IsWorkAt program.now (frames_view self.now.world.instances.slots) (cells_view self.now.world.store.cells) (job_view job) work) }
+    {
+        if let Job::Does {
+            instance,
+            entry,
+            chunk: _,
+        } = job
+        {
+            if let (Some(shared), Some(table)) = (
+                program.code().share_entry(entry)?,
+                program.entry(entry),
+            ) {
+                let view = self.view(program, instance);
+                let found = answers(self.alloc, view, table.needs.as_slice())?;
+                return Ok(Work::new(number, Task::Entry(shared), found));
+            }
+        }
+        Ok(Work::new(number, Task::Script, Vec::new(self.alloc)))
+    }
+
+    /// Whether the work was done for the job's entry, from the answers that its needs have. Takes no memory.
+    pub fn is_done_for(&self, program: &Program, job: Job, done: &Done) -> bool
+        requires there { IsThere program.now (job_view job) }
+        requires rising { AreRising self.now.world.store }
+        ensures { IsTrue result ↔ IsWorkAt program.now (frames_view self.now.world.instances.slots) (cells_view self.now.world.store.cells) (job_view job) done.now }
+    {
+        let Job::Does {
+            instance,
+            entry,
+            chunk: _,
+        } = job
+        else {
+            return done.is_script() && done.answers().is_empty();
+        };
+        match (program.code().entry(entry), program.entry(entry)) {
+            (Some(found), Some(table)) => {
+                let view = self.view(program, instance);
+                done.is_of(found)
+                    && are_answers(view, table.needs.as_slice(), done.answers().as_slice())
+            }
+            _ => false,
+        }
+    }
+}

@@ -1,6 +1,0 @@
-use Rattle.std.proofs.Common.{take}
-use Rattle.fast_board.specs.Telling.{HaveHeard}
-use Rattle.fast_board.proofs.telling.tell_all.Given as goal
-
-abbrev pub invariant-loop-input : goal.invariant-loop-input
-invariant-loop-input l = HaveHeard (take l.input-index l.known) l.initial.items l.items
