@@ -11,6 +11,7 @@ pub mod Entries
 pub mod Failed
 pub mod Finishing
 pub mod First
+pub mod FirstOfAll
 pub mod Firsts
 pub mod Going
 pub mod GoingKind

@@ -41,7 +41,7 @@ module _ (C : Code) (I : IsCode C) (es : List Event) (core : Core) (s : Stand C 
   abbrev rows : List Row
   rows = rows_view core.items.rows.items
 
-  there : (i : CodeItem) → In i (state_of C es).items → RowIs (frames_view core.world.instances.slots) (rows_view core.items.rows.items) 1 i
+  pub there : (i : CodeItem) → In i (state_of C es).items → RowIs (frames_view core.world.instances.slots) (rows_view core.items.rows.items) 1 i
   there i h = row_there C I (layout_of C) es (fields_view s.told core) s.stands i (subst (λ (t : CodeState). In i t.items) (state_here C I es core s) h)
 
   -- no item has a number without a row, or of a row that is over

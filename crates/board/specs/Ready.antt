@@ -27,6 +27,14 @@ pub record IsNext (b : Seen) (kind : Kind) (number : ℕ) : Type 0 where
   pub number_is : item.number ≡ number
   pub first : (other : CodeItem) → IsReady b other → task_kind b.code other.task ≡ kind → ¬ Precedes b other item
 
+-- the item of this number is the first of all that can begin
+pub record IsFirst (b : Seen) (number : ℕ) : Type 0 where
+  pub going : IsGoing b
+  pub item : CodeItem
+  pub ready : IsReady b item
+  pub number_is : item.number ≡ number
+  pub first : (other : CodeItem) → IsReady b other → ¬ Precedes b other item
+
 -- each item comes before those behind it
 abbrev pub InOrder : Seen → List CodeItem → Type 0
 InOrder b [] = Unit {0}
