@@ -5,3 +5,4 @@ pub mod Turned
 pub mod Alike
 pub mod Ordered
 pub mod Told
+pub mod Printed

@@ -7,10 +7,11 @@ use Rattle.values.specs.Keys.{key_below, same_key}
 use Rattle.values.proofs.Keys.{above_differs, below_differs, key_below-asymmetric}
 use Rattle.task_code.specs.Places as Places
 use Rattle.task_code.proofs.Equal.{nat_sound, true_and}
-use Rattle.board.specs.declared.place.Statement.{Statement}
-use Rattle.board.specs.declared.place.Step.{Step}
+use Rattle.board_frames.specs.declared.place.Statement.{Statement}
+use Rattle.board_frames.specs.declared.place.Step.{Step}
+use Rattle.board_frames.specs.View.{step_view}
 use Rattle.board.specs.Blocked.{InTextOrder, comes_before, path_below, same_step, step_below}
-use Rattle.board.specs.View.{path_view, step_view}
+use Rattle.board.specs.View.{path_view}
 use Rattle.runs.specs.Same.{place_view}
 
 or_split : (a b : Bool) → (a || b) ≡ true → (a ≡ true) ⊎ (b ≡ true)

@@ -1,11 +1,9 @@
 -- A report is told by its code and its events.
-use Rattle.std.proofs.Common.{◌≡◌, ◌∙◌, sym, ap, subst, refl, ℕ, ◌<◌, List, [], ◌∷◌, map, Option, Some, None, arith}
+use Rattle.std.proofs.Common.{◌≡◌, ◌∙◌, sym, ap, subst, refl, ℕ, ◌<◌, List, map, Option, Some, None, arith}
 use Rattle.std.proofs.lemmas.List.{ext_get_or}
 use Rattle.dataflow.specs.Machine.{Event}
 use Rattle.dataflow.specs.Machine as Machine
 use Rattle.dataflow.proofs.Determined.{run_determined}
-use Rattle.values.specs.declared.value.Scalar.{Scalar}
-use Rattle.values.specs.declared.value.Scalar.TheVariants.{Text}
 use Rattle.task_code.specs.Code.{Code, entry}
 use Rattle.task_code.specs.Compute as Pure
 use Rattle.task_code.specs.Effects.{Item, Task}
@@ -18,32 +16,20 @@ use Rattle.task_code.proofs.Kept.{code_laws}
 use Rattle.board_work.specs.declared.outcome.EntryFault.{EntryFault}
 use Rattle.board_work.specs.declared.outcome.EntryFault.TheVariants as Of
 use Rattle.board_work.specs.View.{fault_view}
-use Rattle.board.specs.declared.place.Fault.{Fault}
-use Rattle.board.specs.declared.place.FaultKind.{FaultKind}
-use Rattle.board.specs.declared.place.FaultKind.TheVariants.{ElementTwice, OfEntry}
-use Rattle.board.specs.declared.place.Statement.{Statement}
+use Rattle.board_frames.specs.declared.place.Fault.{Fault}
+use Rattle.board_frames.specs.declared.place.FaultKind.{FaultKind}
+use Rattle.board_frames.specs.declared.place.FaultKind.TheVariants.{ElementTwice, OfEntry}
+use Rattle.board_frames.specs.declared.place.Statement.{Statement}
 use Rattle.board.specs.Blocked.{AreBlocked, IsFaultOf, path_of}
 use Rattle.board.specs.Board.{Seen}
 use Rattle.board.specs.View.{kind_of_fault, path_view}
 use Rattle.runs.specs.declared.report.End.{End}
 use Rattle.runs.specs.declared.report.End.TheVariants as Ends
 use Rattle.runs.specs.declared.report.Report.{Report}
-use Rattle.runs.specs.Report.{AreBlockedAt, AreTallies, EndsAs, Reports}
+use Rattle.runs.specs.Report.{AreBlockedAt, AreTallies, EndsAs, Reports, line_bytes}
 use Rattle.runs.specs.Same.{SameEnd, SameReport, place_view}
 use Rattle.runs.proofs.Alike.{blocked_too, quiet_too}
 use Rattle.runs.proofs.Ordered.{AreAmong, one_listing, unreversed}
-
--- texts, as scalars
-pub same_texts : (xs ys : List (List ℕ)) → map (λ t. Text t) xs ≡ map (λ t. Text t) ys → xs ≡ ys
-same_texts [] [] e = refl
-same_texts [] (y ∷ ys) e = absurd (cc (e))
-same_texts (x ∷ xs) [] e = absurd (cc (e))
-same_texts (x ∷ xs) (y ∷ ys) e =
-    let first : ◌≡◌ {A = Scalar} (Text x) (Text y) = cc in
-    let rest : map (λ t. Text t) xs ≡ map (λ t. Text t) ys = cc in
-    let one : x ≡ y = cc (first) in
-    let more = same_texts xs ys rest in
-    (λ k. one k ∷ more k)
 
 -- tallies of the same events
 same_tallies : (es : List Event) (xs ys : List ℕ) → AreTallies es xs → AreTallies es ys → xs ≡ ys
@@ -83,18 +69,18 @@ one_fault C s t same f g a b =
     (same_kind f.kind g.kind e.1, λ k. (at k, path k))
 
 -- a board of this code, in this state, after these events
-abbrev here : Code → CodeState → List Event → ℕ → Seen
-here C s es limit = record { code = C; limit = limit; state = s; history = es }
+abbrev here : Code → CodeState → List Event → ℕ → List ℕ → Seen
+here C s es limit newly = record { code = C; limit = limit; state = s; history = es; newly = newly }
 
 -- a state with a fault has one
 met : (C : Code) (s : CodeState) (f : Fault) → IsFaultOf C s f → s.fault ≡ None → ⊥
 met C s f a none = (let e = sym a.is ∙ none in absurd (cc (e)))
 
-module _ (C : Code) (whole : IsCode C) (es : List Event) (s t : CodeState) (x : Run C es s) (y : Run C es t) (l m : ℕ) where
+module _ (C : Code) (whole : IsCode C) (es : List Event) (s t : CodeState) (x : Run C es s) (y : Run C es t) (l m : ℕ) (v w : List ℕ) where
   same_fault : s.fault ≡ t.fault
   same_fault = (run_determined (code_system C) (code_laws C whole) es s t x y).same.fault
 
-  same_ends : (e f : End) → EndsAs (here C s es l) e → EndsAs (here C t es m) f → SameEnd e f
+  same_ends : (e f : End) → EndsAs (here C s es l v) e → EndsAs (here C t es m w) f → SameEnd e f
   same_ends (Ends.Fault f) (Ends.Fault g) a b = one_fault C s t same_fault f g a b
   same_ends (Ends.Fault f) Ends.Quiet a b = met C s f a (same_fault ∙ b.no_fault)
   same_ends (Ends.Fault f) Ends.Limit a b = met C s f a (same_fault ∙ b.0)
@@ -112,17 +98,17 @@ among C whole es s t x y q xs ys a b v i =
     let path = unreversed (path_view u.0.path.items) (path_view v.path.items) u.3 in
     (u.0, u.1, λ k. (u.2 k, path k))
 
-same_blocked : (C : Code) (whole : IsCode C) (es : List Event) (s t : CodeState) → Run C es s → Run C es t → (l m : ℕ) (e f : End) (xs ys : List Statement)
-    → SameEnd e f → EndsAs (here C s es l) e → EndsAs (here C t es m) f → AreBlockedAt (here C s es l) e xs → AreBlockedAt (here C t es m) f ys → map place_view xs ≡ map place_view ys
-same_blocked C whole es s t x y l m (Ends.Fault f) (Ends.Fault g) xs ys same p q a b = ap (λ zs. map place_view zs) (a ∙ sym b)
-same_blocked C whole es s t x y l m (Ends.Fault f) Ends.Quiet xs ys same p q a b = absurd same
-same_blocked C whole es s t x y l m (Ends.Fault f) Ends.Limit xs ys same p q a b = absurd same
-same_blocked C whole es s t x y l m Ends.Quiet (Ends.Fault g) xs ys same p q a b = absurd same
-same_blocked C whole es s t x y l m Ends.Quiet Ends.Quiet xs ys same p q a b = one_listing xs ys a.order b.order (among C whole es s t x y p xs ys a b) (among C whole es t s y x q ys xs b a)
-same_blocked C whole es s t x y l m Ends.Quiet Ends.Limit xs ys same p q a b = absurd same
-same_blocked C whole es s t x y l m Ends.Limit (Ends.Fault g) xs ys same p q a b = absurd same
-same_blocked C whole es s t x y l m Ends.Limit Ends.Quiet xs ys same p q a b = absurd same
-same_blocked C whole es s t x y l m Ends.Limit Ends.Limit xs ys same p q a b = ap (λ zs. map place_view zs) (a ∙ sym b)
+same_blocked : (C : Code) (whole : IsCode C) (es : List Event) (s t : CodeState) → Run C es s → Run C es t → (l m : ℕ) (v w : List ℕ) (e f : End) (xs ys : List Statement)
+    → SameEnd e f → EndsAs (here C s es l v) e → EndsAs (here C t es m w) f → AreBlockedAt (here C s es l v) e xs → AreBlockedAt (here C t es m w) f ys → map place_view xs ≡ map place_view ys
+same_blocked C whole es s t x y l m v w (Ends.Fault f) (Ends.Fault g) xs ys same p q a b = ap (λ zs. map place_view zs) (a ∙ sym b)
+same_blocked C whole es s t x y l m v w (Ends.Fault f) Ends.Quiet xs ys same p q a b = absurd same
+same_blocked C whole es s t x y l m v w (Ends.Fault f) Ends.Limit xs ys same p q a b = absurd same
+same_blocked C whole es s t x y l m v w Ends.Quiet (Ends.Fault g) xs ys same p q a b = absurd same
+same_blocked C whole es s t x y l m v w Ends.Quiet Ends.Quiet xs ys same p q a b = one_listing xs ys a.order b.order (among C whole es s t x y p xs ys a b) (among C whole es t s y x q ys xs b a)
+same_blocked C whole es s t x y l m v w Ends.Quiet Ends.Limit xs ys same p q a b = absurd same
+same_blocked C whole es s t x y l m v w Ends.Limit (Ends.Fault g) xs ys same p q a b = absurd same
+same_blocked C whole es s t x y l m v w Ends.Limit Ends.Quiet xs ys same p q a b = absurd same
+same_blocked C whole es s t x y l m v w Ends.Limit Ends.Limit xs ys same p q a b = ap (λ zs. map place_view zs) (a ∙ sym b)
 
 -- two reports of one list of events
 pub told : (C : Code) → IsCode C → (limit other : ℕ) (r s : Report) → Reports C limit r → Reports C other s → r.history.items ≡ s.history.items → SameReport r s
@@ -130,20 +116,20 @@ told C whole limit other r s p q same =
     let es = p.board.history in
     let events : q.board.history ≡ es = sym q.tells.history ∙ ap (λ hs. map event_view hs) (sym same) ∙ p.tells.history in
     let y : Run C es q.board.state = subst (λ (hs : List Event). Run C hs q.board.state) events q.run in
-    let first : EndsAs (here C p.board.state es p.board.limit) r.end = subst (λ (D : Code). EndsAs (here D p.board.state es p.board.limit) r.end) p.code p.tells.end in
-    let second : EndsAs (here C q.board.state es q.board.limit) s.end =
-    subst (λ (hs : List Event). EndsAs (here C q.board.state hs q.board.limit) s.end) events
-    (subst (λ (D : Code). EndsAs (here D q.board.state q.board.history q.board.limit) s.end) q.code q.tells.end) in
-    let ends = same_ends C whole es p.board.state q.board.state p.run y p.board.limit q.board.limit r.end s.end first second in
-    let left : AreBlockedAt (here C p.board.state es p.board.limit) r.end r.blocked.items = subst (λ (D : Code). AreBlockedAt (here D p.board.state es p.board.limit) r.end r.blocked.items) p.code p.tells.blocked in
-    let right : AreBlockedAt (here C q.board.state es q.board.limit) s.end s.blocked.items =
-    subst (λ (hs : List Event). AreBlockedAt (here C q.board.state hs q.board.limit) s.end s.blocked.items) events
-    (subst (λ (D : Code). AreBlockedAt (here D q.board.state q.board.history q.board.limit) s.end s.blocked.items) q.code q.tells.blocked) in
+    let first : EndsAs (here C p.board.state es p.board.limit p.board.newly) r.end = subst (λ (D : Code). EndsAs (here D p.board.state es p.board.limit p.board.newly) r.end) p.code p.tells.end in
+    let second : EndsAs (here C q.board.state es q.board.limit q.board.newly) s.end =
+    subst (λ (hs : List Event). EndsAs (here C q.board.state hs q.board.limit q.board.newly) s.end) events
+    (subst (λ (D : Code). EndsAs (here D q.board.state q.board.history q.board.limit q.board.newly) s.end) q.code q.tells.end) in
+    let ends = same_ends C whole es p.board.state q.board.state p.run y p.board.limit q.board.limit p.board.newly q.board.newly r.end s.end first second in
+    let left : AreBlockedAt (here C p.board.state es p.board.limit p.board.newly) r.end r.blocked.items = subst (λ (D : Code). AreBlockedAt (here D p.board.state es p.board.limit p.board.newly) r.end r.blocked.items) p.code p.tells.blocked in
+    let right : AreBlockedAt (here C q.board.state es q.board.limit q.board.newly) s.end s.blocked.items =
+    subst (λ (hs : List Event). AreBlockedAt (here C q.board.state hs q.board.limit q.board.newly) s.end s.blocked.items) events
+    (subst (λ (D : Code). AreBlockedAt (here D q.board.state q.board.history q.board.limit q.board.newly) s.end s.blocked.items) q.code q.tells.blocked) in
     record {
       code = p.tells.code ∙ p.code ∙ sym q.code ∙ sym q.tells.code;
       history = same;
-      lines = same_texts r.lines.items s.lines.items (sym p.tells.lines ∙ (run_determined (code_system C) (code_laws C whole) es p.board.state q.board.state p.run y).same.lines ∙ q.tells.lines);
+      lines = p.tells.lines ∙ ap (λ ls. map line_bytes ls) (run_determined (code_system C) (code_laws C whole) es p.board.state q.board.state p.run y).same.lines ∙ sym q.tells.lines;
       end = ends;
-      blocked = same_blocked C whole es p.board.state q.board.state p.run y p.board.limit q.board.limit r.end s.end r.blocked.items s.blocked.items ends first second left right;
+      blocked = same_blocked C whole es p.board.state q.board.state p.run y p.board.limit q.board.limit p.board.newly q.board.newly r.end s.end r.blocked.items s.blocked.items ends first second left right;
       tallies = same_tallies es r.tallies s.tallies p.tells.tallies (subst (λ (hs : List Event). AreTallies hs s.tallies) events q.tells.tallies);
     }

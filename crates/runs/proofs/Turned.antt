@@ -1,26 +1,24 @@
 -- Runs by choices: what stays, and that nothing is left to be done at their end.
-use Rattle.std.proofs.Common.{◌≡◌, ◌∙◌, sym, ap, subst, refl, inl, inr, ◌⊎◌, ℕ, zero, suc, List, [], ◌∷◌, drop, map, Option, Some, None, arith}
+use Rattle.std.proofs.Common.{◌≡◌, ◌∙◌, sym, ap, subst, refl, inl, inr, ◌⊎◌, ℕ, zero, suc, List, [], ◌∷◌, drop, Option, Some, None, arith}
 use Rattle.std.proofs.lemmas.Grind.{common_steps}
-use Rattle.std.specs.Prelude.{slice_index}
+use Rattle.std.specs.Prelude.{slice_get}
 use Rattle.dataflow.specs.Machine.{Begin, End}
-use Rattle.dataflow.specs.System.{In}
 use Rattle.task_code.specs.Code.{Code}
 use Rattle.task_code.specs.Machine.{CodeItem, CodeStep}
 use Rattle.board.specs.Board.{Accepts, Seen}
-use Rattle.board.specs.Ready.{AreReady}
 use Rattle.runs.specs.declared.turn.Turn.TheVariants.{Whole}
 use Rattle.runs.specs.Report.{IsOver}
-use Rattle.runs.specs.Turns.{RanTo, Turns, TurnsTo, starts}
+use Rattle.runs.specs.Turns.{NoneReady, RanTo, Turns, TurnsTo, starts}
 use Rattle.runs.proofs.Idle.{AllIdle, IdleOrFault, turn_idle}
 
-later : (cs : List ℕ) (n : ℕ) → slice_index cs (suc n) ≡ slice_index (drop 1 cs) n
+later : (cs : List ℕ) (n : ℕ) → slice_get cs (suc n) ≡ slice_get (drop 1 cs) n
 later [] n = grind (arith, common_steps)
 later (c ∷ cs) n = grind (arith, common_steps)
 
 -- one more turn
-pub turns_more : (n : ℕ) (cs : List ℕ) (old mid new : Seen) → Turns n cs old mid → TurnsTo Whole (slice_index cs n) mid new → Turns (suc n) cs old new
-turns_more zero cs old mid new r t = (new, subst (λ (m : Seen). TurnsTo Whole (slice_index cs 0) m new) r t, refl)
-turns_more (suc n) cs old mid new r t = (r.0, r.1, turns_more n (drop 1 cs) r.0 mid new r.2 (subst (λ (c : ℕ). TurnsTo Whole c mid new) (later cs n) t))
+pub turns_more : (n : ℕ) (cs : List ℕ) (old mid new : Seen) → Turns n cs old mid → TurnsTo Whole (slice_get cs n) mid new → Turns (suc n) cs old new
+turns_more zero cs old mid new r t = (new, subst (λ (m : Seen). TurnsTo Whole (slice_get cs 0) m new) r t, refl)
+turns_more (suc n) cs old mid new r t = (r.0, r.1, turns_more n (drop 1 cs) r.0 mid new r.2 (subst (λ (c : Option ℕ). TurnsTo Whole c mid new) (later cs n) t))
 
 -- the code and the limit stay
 pub turns_keep : (n : ℕ) (cs : List ℕ) (old new : Seen) → Turns n cs old new → (new.code ≡ old.code) × (new.limit ≡ old.limit)
@@ -50,18 +48,14 @@ is_none_or_not : {X : Type 0} (o : Option X) → (o ≡ None) ⊎ (o ≡ None �
 is_none_or_not None = inl refl
 is_none_or_not (Some x) = inr (λ e. absurd (cc (e)))
 
-nothing_in : (items : List CodeItem) (i : CodeItem) → [] ≡ map (λ (j : CodeItem). j.number) items → In i items → ⊥
-nothing_in [] i e there = there
-nothing_in (j ∷ items) i e there = absurd (cc (e))
-
 -- nothing is left to be done where no item can begin and none runs
-none_left : (b : Seen) → IdleOrFault b.state → AreReady b [] → IsOver b
-none_left b (inr fault) ready = inr (λ going. fault going.0)
-none_left b (inl idle) ready = elim (is_none_or_not b.state.fault) [
-  | inl none ↦ inl (record {
-    no_fault = none;
+none_left : (b : Seen) → IdleOrFault b.state → NoneReady b → IsOver b
+none_left b (inr fault) none = inr (λ going. fault going.0)
+none_left b (inl idle) none = elim (is_none_or_not b.state.fault) [
+  | inl well ↦ inl (record {
+    no_fault = well;
     idle = idle;
-    none_enabled = λ i there enabled. nothing_in ready.items i ready.numbers_are (ready.all i (record { there = there; idle = idle i there; enabled = enabled }));
+    none_enabled = λ i there enabled. none i (record { there = there; idle = idle i there; enabled = enabled });
   })
   | inr some ↦ inr (λ going. some going.0)
 ]

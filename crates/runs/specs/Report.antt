@@ -1,12 +1,14 @@
 -- What a report tells.
-use Rattle.std.specs.Prelude.{◌≡◌, ◌⊎◌, ℕ, ◌<◌, ◌≤◌, List, [], map, length, slice_index, None}
+use Rattle.std.specs.Prelude.{◌≡◌, ◌⊎◌, ℕ, true, false, ◌<◌, ◌≤◌, List, [], map, length, slice_index, None, codes}
+use Rattle.std.specs.Fmt.{signed_decimal}
 use Rattle.dataflow.specs.Events.{tally}
 use Rattle.dataflow.specs.Machine.{Event}
-use Rattle.values.specs.declared.value.Scalar.TheVariants.{Text}
+use Rattle.values.specs.declared.value.Scalar.{Scalar}
+use Rattle.values.specs.declared.value.Scalar.TheVariants.{Number, Truth, Text}
 use Rattle.task_code.specs.Code.{Code}
 use Rattle.task_code.specs.Machine.{Quiet, Run}
 use Rattle.task_code.specs.View.{event_view}
-use Rattle.board.specs.declared.place.Statement.{Statement}
+use Rattle.board_frames.specs.declared.place.Statement.{Statement}
 use Rattle.board.specs.Blocked.{AreBlocked, IsFaultOf}
 use Rattle.board.specs.Board.{AreByWorkers, IsGoing, Seen}
 use Rattle.board.specs.Numbers.{AreNumbered}
@@ -35,13 +37,20 @@ pub record AreTallies (events : List Event) (tallies : List ℕ) : Type 0 where
   pub workers : length tallies ≡ 64
   pub each : (w : ℕ) → w < 64 → slice_index tallies w ≡ tally events w
 
+-- the bytes of a line: of a text its own, of a number its decimal digits, of a truth value its name. Code of a script prints texts alone
+abbrev pub line_bytes : Scalar → List ℕ
+line_bytes (Text bytes) = bytes
+line_bytes (Number n) = signed_decimal n
+line_bytes (Truth true) = codes "true"
+line_bytes (Truth false) = codes "false"
+
 -- the report tells what a board shows
 pub record Tells (b : Seen) (r : Report) : Type 0 where
   pub code : r.code ≡ b.code
   pub history : map event_view r.history.items ≡ b.history
   pub workers : AreByWorkers b.history
   pub numbers : AreNumbered b.history
-  pub lines : b.state.lines ≡ map (λ t. Text t) r.lines.items
+  pub lines : r.lines.items ≡ map line_bytes b.state.lines
   pub end : EndsAs b r.end
   pub blocked : AreBlockedAt b r.end r.blocked.items
   pub tallies : AreTallies b.history r.tallies

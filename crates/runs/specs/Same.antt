@@ -1,7 +1,7 @@
 -- Reports that tell the same.
 use Rattle.std.specs.Prelude.{◌≡◌, ℕ, List, map}
 use Rattle.task_code.specs.Places as Places
-use Rattle.board.specs.declared.place.Statement.{Statement}
+use Rattle.board_frames.specs.declared.place.Statement.{Statement}
 use Rattle.board.specs.View.{path_view}
 use Rattle.runs.specs.declared.report.End.{End}
 use Rattle.runs.specs.declared.report.End.TheVariants as Ends

@@ -1,7 +1,6 @@
 //! Runs of one thread.
-ghost use Rattle.std.specs.Prelude.{◌≡◌, ℕ, slice_index, IfOk, OnOk};
+ghost use Rattle.std.specs.Prelude.{◌≡◌, ℕ, slice_get, IfOk, OnOk};
 ghost use Rattle.board.specs.Board.{Seen};
-ghost use Rattle.board.specs.Flat.{IsFlat};
 ghost use Rattle.runs.specs.Report.{Tells, Reports};
 ghost use Rattle.runs.specs.Turns.{RanTo, starts};
 
@@ -27,7 +26,6 @@ pub fn run_one(
     choices: &[u32],
     limit: u32,
 ) -> Result<Report, AllocError>
-    requires { IsFlat code.now }
     ensures turns { IfOk result (λ report. (board : Seen) × RanTo choices.now (starts code.now limit) board × Tells board report) }
     ensures reports { IfOk result (Reports code.now limit) }
 {
@@ -49,12 +47,12 @@ fn run_by(board: &mut Board, choices: &[u32]) -> Result<(), AllocError>
     Ok(())
 }
 
-/// The choice at that place, 0 past the last.
-fn choice_at(choices: &[u32], k: usize) -> u32
-    ensures { result ≡ slice_index choices.now k }
+/// The choice at that place, none past the last.
+fn choice_at(choices: &[u32], k: usize) -> Option<u32>
+    ensures { result ≡ slice_get choices.now k }
 {
     match choices.get(k) {
-        None => 0,
-        Some(choice) => *choice,
+        None => None,
+        Some(choice) => Some(*choice),
     }
 }

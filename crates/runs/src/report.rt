@@ -1,14 +1,16 @@
 //! What is said of a run when it is over.
-ghost use Rattle.std.specs.Prelude.{◌≡◌, IfOk};
-ghost use Rattle.runs.specs.Report.{AreBlockedAt, EndsAs, IsOver, Reports, Tells};
+ghost use Rattle.std.specs.Prelude.{◌≡◌, IfOk, map};
+ghost use Rattle.runs.specs.Report.{AreBlockedAt, EndsAs, IsOver, Reports, Tells, line_bytes};
 
 use crate::tally::tallies;
 use board::board::Board;
-use board::place::{Fault, Statement};
+use board::{Fault, Statement, Step};
 use std::alloc::{AllocError, Global};
 use task_code::code::Code;
 use task_code::event::Event;
+use values::key::Key;
 use values::text::Text;
+use values::value::Scalar;
 
 /// How a run ended.
 #[derive(Debug, Drop)]
@@ -51,7 +53,7 @@ pub fn report_of(alloc: Global, board: &Board) -> Result<Report, AllocError>
     Ok(Report {
         code: board.code().copy()?,
         history: Vec::from_slice(alloc, board.history().as_slice())?,
-        lines: shared(alloc, board.lines())?,
+        lines: texts(alloc, board.lines())?,
         end,
         blocked,
         tallies: tallies(board.history()),
@@ -66,7 +68,7 @@ fn end_of(alloc: Global, board: &Board) -> Result<(End, Vec<Statement>), AllocEr
 {
     let _replays = board.history();
     if let Some(fault) = board.fault() {
-        return Ok((End::Fault(fault), Vec::new(alloc)));
+        return Ok((End::Fault(copied(alloc, fault)?), Vec::new(alloc)));
     }
     if board.is_quiet() {
         return Ok((End::Quiet, board.blocked()?));
@@ -74,13 +76,63 @@ fn end_of(alloc: Global, board: &Board) -> Result<(End, Vec<Statement>), AllocEr
     Ok((End::Limit, Vec::new(alloc)))
 }
 
-/// The same texts.
-fn shared(alloc: Global, texts: &Vec<Text>) -> Result<Vec<Text>, AllocError>
-    ensures { IfOk result (λ copies. copies.items ≡ texts.now.items) }
+/// The same fault, at the same statement.
+fn copied(alloc: Global, fault: &Fault) -> Result<Fault, AllocError>
+    ensures kind { IfOk result (λ copy. copy.kind ≡ fault.now.kind) }
+    ensures at { IfOk result (λ copy. copy.statement.at ≡ fault.now.statement.at) }
+    ensures path { IfOk result (λ copy. copy.statement.path.items ≡ fault.now.statement.path.items) }
+{
+    Ok(Fault {
+        kind: fault.kind,
+        statement: Statement {
+            at: fault.statement.at,
+            path: steps(alloc, &fault.statement.path)?,
+        },
+    })
+}
+
+/// The same steps.
+fn steps(alloc: Global, path: &Vec<Step>) -> Result<Vec<Step>, AllocError>
+    ensures { IfOk result (λ copies. copies.items ≡ path.now.items) }
 {
     let mut copies = Vec::new(alloc);
-    for text in texts {
-        copies.push(text.share()?)?;
+    for step in path {
+        copies.push(Step {
+            offset: step.offset,
+            key: same_key(&step.key),
+        })?;
     }
     Ok(copies)
+}
+
+/// The same key.
+fn same_key(key: &Key) -> Key
+    ensures { result ≡ key.now }
+{
+    match key {
+        Key::Number(number) => Key::Number(*number),
+    }
+}
+
+/// The texts of lines.
+fn texts(alloc: Global, lines: &Vec<Scalar>) -> Result<Vec<Text>, AllocError>
+    ensures { IfOk result (λ texts. texts.items ≡ map line_bytes lines.now.items) }
+{
+    let mut texts = Vec::new(alloc);
+    for line in lines {
+        texts.push(text_of(alloc, line)?)?;
+    }
+    Ok(texts)
+}
+
+/// The text of a line. Code of a script prints texts alone, which are shared.
+fn text_of(alloc: Global, line: &Scalar) -> Result<Text, AllocError>
+    ensures { IfOk result (λ text. text ≡ line_bytes line.now) }
+{
+    match line {
+        Scalar::Text(text) => text.share(),
+        Scalar::Number(number) => Text::decimal(alloc, *number),
+        Scalar::Truth(true) => Text::from_slice(alloc, b"true"),
+        Scalar::Truth(false) => Text::from_slice(alloc, b"false"),
+    }
 }

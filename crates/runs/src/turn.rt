@@ -1,9 +1,9 @@
 //! A turn: an item begins, is computed and ends.
-ghost use Rattle.std.specs.Prelude.{◌≡◌, ◌<◌, ◌%◌, length, slice_index, IfOk, OnErr, OnOk, MatchBool};
+ghost use Rattle.std.specs.Prelude.{◌≡◌, ◌<◌, ◌%◌, length, slice_index, IfNone, IfOk, IfSome, OnErr, OnOk, MatchBool};
 ghost use Rattle.dataflow.specs.Machine.{Begin, End};
 ghost use Rattle.task_code.specs.View.{kind_view};
 ghost use Rattle.board.specs.Board.{Accepts, IsGoing, IsOwn, IsWorker, MayBegin};
-ghost use Rattle.runs.specs.Turns.{TurnsTo, worker_for};
+ghost use Rattle.runs.specs.Turns.{IsChosen, IsNamed, NoneReady, TurnsTo, worker_for};
 
 use board::board::Board;
 use board::refusal::Refusal;
@@ -22,15 +22,16 @@ pub enum Turn {
     Nothing,
 }
 
-/// One turn by this choice, which is counted round the items that can begin.
-pub(crate) fn make_turn(board: &mut Board, choice: u32) -> Result<Turn, AllocError>
+/// One turn by this choice, which is counted round the items that can begin; where there is none, by the first of them.
+pub(crate) fn make_turn(board: &mut Board, choice: Option<u32>) -> Result<Turn, AllocError>
     ensures { IfOk result (λ turn. TurnsTo turn choice board.old board.new) }
 {
-    let ready = board.ready_items()?;
-    if ready.is_empty() || !board.is_going() {
+    if !board.is_going() {
         return Ok(Turn::Nothing);
     }
-    let item = pick(&ready, choice);
+    let Some(item) = named(board, choice)? else {
+        return Ok(Turn::Nothing);
+    };
     let Some(kind) = board.kind(item) else {
         unreachable!();
     };
@@ -41,6 +42,30 @@ pub(crate) fn make_turn(board: &mut Board, choice: u32) -> Result<Turn, AllocErr
     } else {
         Ok(Turn::Half)
     }
+}
+
+/// The item that the choice names, of a board that has not ended.
+fn named(board: &Board, choice: Option<u32>) -> Result<Option<u64>, AllocError>
+    requires going { IsGoing board.now }
+    ensures some { IfOk result (λ found. IfSome found (IsNamed board.now choice)) }
+    ensures none { IfOk result (λ found. IfNone found (NoneReady board.now)) }
+{
+    match choice {
+        None => Ok(board.first()),
+        Some(choice) => chosen(board, choice),
+    }
+}
+
+/// The item at the place that the choice names, counted round those that can begin.
+fn chosen(board: &Board, choice: u32) -> Result<Option<u64>, AllocError>
+    ensures some { IfOk result (λ found. IfSome found (IsChosen board.now choice)) }
+    ensures none { IfOk result (λ found. IfNone found (NoneReady board.now)) }
+{
+    let ready = board.ready_items()?;
+    if ready.is_empty() {
+        return Ok(None);
+    }
+    Ok(Some(pick(&ready, choice)))
 }
 
 /// The number at that place, counted round.

@@ -2,11 +2,11 @@
 use Rattle.std.specs.Prelude.{ℕ, List, [], ◌∷◌, ◌++◌, length, codes}
 use Rattle.std.specs.List.{flat_map}
 use Rattle.std.specs.Fmt.{decimal, signed_decimal}
-use Rattle.board.specs.declared.place.Fault.{Fault}
-use Rattle.board.specs.declared.place.FaultKind.{FaultKind}
-use Rattle.board.specs.declared.place.FaultKind.TheVariants.{OfEntry, ElementTwice}
-use Rattle.board.specs.declared.place.Statement.{Statement}
-use Rattle.board.specs.declared.place.Step.{Step}
+use Rattle.board_frames.specs.declared.place.Fault.{Fault}
+use Rattle.board_frames.specs.declared.place.FaultKind.{FaultKind}
+use Rattle.board_frames.specs.declared.place.FaultKind.TheVariants.{OfEntry, ElementTwice}
+use Rattle.board_frames.specs.declared.place.Statement.{Statement}
+use Rattle.board_frames.specs.declared.place.Step.{Step}
 use Rattle.board_work.specs.declared.outcome.EntryFault.{EntryFault}
 use Rattle.board_work.specs.declared.outcome.EntryFault.TheVariants.{InOperation, NoElement, TooDeep}
 use Rattle.runs.specs.declared.report.End.{End}

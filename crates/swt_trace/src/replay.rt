@@ -3,7 +3,6 @@ ghost use Rattle.std.specs.Prelude.{◌≡◌, ◌<◌, ℕ, length, IfOk, IfErr
 ghost use Rattle.dataflow.specs.Machine.{Back, Begin, End};
 ghost use Rattle.task_code.specs.View.{event_view};
 ghost use Rattle.board.specs.Board.{IsWorker};
-ghost use Rattle.board.specs.Flat.{IsFlat};
 ghost use Rattle.swt_trace.specs.Trace.{IsFirstBad, worker_of};
 ghost use Rattle.runs.specs.declared.report.Report.{Report};
 ghost use Rattle.runs.specs.Same.{SameReport};
@@ -30,13 +29,13 @@ use task_code::event::Event;
 /// the number of the first line whose event is no step: an item was begun that could not begin, or was ended or given back by
 /// a worker that did not run it, or a fault was met before. `Memory` where memory that was asked for was refused.
 pub fn replay(alloc: Global, code: &Code, trace: &[u8]) -> Result<Report, ReplayFault>
-    requires { IsFlat code.now }
     ensures report { IfOk result (ReplaysTo code.now trace.now) }
     ensures bad { IfErr result (λ fault. (n : ℕ) → fault ≡ ReplayFault.BadLine n → IsFirstBad trace.now n) }
     ensures no_step { IfErr result (λ fault. (n : ℕ) → fault ≡ ReplayFault.NotARun n → IsFirstNoStep code.now trace.now n) }
     ensures again { (report : Report) → IsTraceOf code.now trace.now report → IfOk result (SameReport report) }
     ensures only_memory { (report : Report) → IsTraceOf code.now trace.now report → IfErr result (λ fault. fault ≡ ReplayFault.Memory) }
 {
+    let _whole = code.entry_count();
     let events = read_trace(alloc, trace)?;
     let mut board = Board::new(alloc, code.copy()?, events.len() as u32)?;
     for (place, event) in events.iter().enumerate() {

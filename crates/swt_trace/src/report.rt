@@ -10,7 +10,7 @@ ghost use Rattle.swt_trace.specs.Report.{ReportText, text_line, key_text, step_t
 
 use crate::fault::WriteFault;
 use arrayvec::ArrayString;
-use board::place::{Fault, FaultKind, Statement, Step};
+use board::{Fault, FaultKind, Statement, Step};
 use board_work::outcome::EntryFault;
 use itoa::Buffer;
 use runs::report::{End, Report};
@@ -46,7 +46,11 @@ pub fn write_report<W: Sink>(report: &Report, sink: &mut W) -> Result<(), WriteF
 }
 
 /// Writes the lines that were printed.
-fn write_lines<W: Sink>(lines: &Vec<Text>, sink: &mut W) -> Result<(), SinkFault>
+///
+/// # Errors
+///
+/// `SinkFault` where a write failed. The sink then has what it had before and a beginning of the text.
+pub fn write_lines<W: Sink>(lines: &Vec<Text>, sink: &mut W) -> Result<(), SinkFault>
     requires { W.failures sink.old < u64.MAX }
     ensures ok { OnOk result (W.taken sink.new ≡ W.taken sink.old ++ flat_map text_line lines.now.items) }
     ensures err { OnErr result (Beginning (W.taken sink.old) (flat_map text_line lines.now.items) (W.taken sink.new)) }
@@ -87,7 +91,11 @@ fn write_end<W: Sink>(report: &Report, sink: &mut W) -> Result<(), SinkFault>
 }
 
 /// Writes a line for each blocked statement.
-fn write_blocked<W: Sink>(blocked: &Vec<Statement>, sink: &mut W) -> Result<(), SinkFault>
+///
+/// # Errors
+///
+/// `SinkFault` where a write failed. The sink then has what it had before and a beginning of the text.
+pub fn write_blocked<W: Sink>(blocked: &Vec<Statement>, sink: &mut W) -> Result<(), SinkFault>
     requires { W.failures sink.old < u64.MAX }
     ensures ok { OnOk result (W.taken sink.new ≡ W.taken sink.old ++ flat_map blocked_line blocked.now.items) }
     ensures err { OnErr result (Beginning (W.taken sink.old) (flat_map blocked_line blocked.now.items) (W.taken sink.new)) }
@@ -101,7 +109,11 @@ fn write_blocked<W: Sink>(blocked: &Vec<Statement>, sink: &mut W) -> Result<(), 
 }
 
 /// Writes the line of a fault.
-fn write_fault<W: Sink>(fault: &Fault, sink: &mut W) -> Result<(), SinkFault>
+///
+/// # Errors
+///
+/// `SinkFault` where a write failed. The sink then has what it had before and a beginning of the text.
+pub fn write_fault<W: Sink>(fault: &Fault, sink: &mut W) -> Result<(), SinkFault>
     requires { W.failures sink.old < u64.MAX }
     ensures ok { OnOk result (W.taken sink.new ≡ W.taken sink.old ++ fault_line fault.now) }
     ensures err { OnErr result (Beginning (W.taken sink.old) (fault_line fault.now) (W.taken sink.new)) }
@@ -150,7 +162,11 @@ fn operation_fault_start(fault: OpFault) -> &'static str
 }
 
 /// Writes the line of a limit.
-fn write_limit<W: Sink>(events: usize, sink: &mut W) -> Result<(), SinkFault>
+///
+/// # Errors
+///
+/// `SinkFault` where a write failed. The sink then has what it had before and a beginning of the text.
+pub fn write_limit<W: Sink>(events: usize, sink: &mut W) -> Result<(), SinkFault>
     requires { W.failures sink.old < u64.MAX }
     ensures ok { OnOk result (W.taken sink.new ≡ W.taken sink.old ++ limit_line events) }
     ensures err { OnErr result (Beginning (W.taken sink.old) (limit_line events) (W.taken sink.new)) }

@@ -1,6 +1,6 @@
 use Rattle.std.proofs.Common.{rules, arith, add-one, ◌∙◌}
 use Rattle.std.proofs.lemmas.Grind.{common_steps}
-use Rattle.std.specs.Prelude.{slice_index}
+use Rattle.std.specs.Prelude.{slice_get}
 use Rattle.runs.specs.declared.turn.Turn.TheVariants.{Whole}
 use Rattle.runs.specs.Turns.{TurnsTo}
 use Rattle.runs.proofs.Turned.{turns_more}
@@ -8,7 +8,7 @@ use Rattle.runs.proofs.one.run_by.Goals as goal
 
 pub loop-k-preserved : goal.loop-k-preserved
 loop-k-preserved c =
-    let t : TurnsTo Whole (slice_index c.args.choices.now c.loop-k.k) c.loop-k.board c.make_turn.new.board = search rules in
+    let t : TurnsTo Whole (slice_get c.args.choices.now c.loop-k.k) c.loop-k.board c.make_turn.new.board = search rules in
     record {
       turns = rw (add-one c.loop-k.k) (turns_more _ _ _ _ _ c.loop-k.invariant.turns t);
       many = grind (arith, common_steps, t.3.1.history, t.3.2.history);

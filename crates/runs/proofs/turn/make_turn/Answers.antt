@@ -1,16 +1,16 @@
-use Rattle.std.proofs.Common.{◌<◌, length, arith}
-use Rattle.std.proofs.lemmas.Grind.{common_steps}
+use Rattle.std.proofs.Common.{rules}
 use Rattle.board.specs.Board.{MayBegin}
-use Rattle.runs.proofs.Picked.{can_begin}
+use Rattle.runs.specs.Turns.{IsNamed}
+use Rattle.runs.proofs.Picked.{named_can_begin}
 use Rattle.runs.proofs.turn.make_turn.Goals as goal
 
 pub unreachable-requires : goal.unreachable-requires
 unreachable-requires c =
-    let some : 0 < length c.in_ok-ready.ready.items = grind (arith, common_steps) in
-    let can : MayBegin c.args.board.now c.pick-item.result = can_begin c.args.board.now c.in_ok-ready.ready.items c.args.choice c.pick-item.result c.in_ok-ready.ensures some c.pick-item.ensures in
-    c.in_default.ensures.none can.item can.there can.number_is
+    let named : IsNamed c.args.board.now c.args.choice c.in-Some.item = search rules in
+    let can : MayBegin c.args.board.now c.in-Some.item = named_can_begin c.args.board.now c.args.choice c.in-Some.item named in
+    c.in_default-kind.ensures.none can.item can.there can.number_is
 
 pub begin-requires-clause-can : goal.begin-requires-clause-can
 begin-requires-clause-can c =
-    let some : 0 < length c.in_ok-ready.ready.items = grind (arith, common_steps) in
-    can_begin c.args.board.now c.in_ok-ready.ready.items c.args.choice c.pick-item.result c.in_ok-ready.ensures some c.pick-item.ensures
+    let named : IsNamed c.args.board.now c.args.choice c.in-Some.item = search rules in
+    named_can_begin c.args.board.now c.args.choice c.in-Some.item named

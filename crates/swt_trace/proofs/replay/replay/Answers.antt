@@ -40,8 +40,8 @@ returns-in_err-events-clause-only_memory c = λ r t.
 
 pub returns-then-not-branch-clause-only_memory : goal.returns-then-not-branch-clause-only_memory
 returns-then-not-branch-clause-only_memory c = λ r t.
-    absurd (not_refused c.args.code.now c.args.trace.now r c.requires.whole t (c.loop-place.place + 2) (returns-then-not-branch-clause-no_step c (c.loop-place.place + 2) refl))
+    absurd (not_refused c.args.code.now c.args.trace.now r c.entry_count-whole.ensures.whole t (c.loop-place.place + 2) (returns-then-not-branch-clause-no_step c (c.loop-place.place + 2) refl))
 
 pub returns-clause-again : goal.returns-clause-again
 returns-clause-again c = λ r t.
-    same_again c.args.code.now c.args.trace.now r t c.requires.whole c.in_ok-report_of.field-0 (returns-clause-report c)
+    same_again c.args.code.now c.args.trace.now r t c.entry_count-whole.ensures.whole c.in_ok-report_of.field-0 (returns-clause-report c)
