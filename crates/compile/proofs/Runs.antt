@@ -52,7 +52,7 @@ use Rattle.constant_fold.proofs.Scripts.{core_same}
 use Rattle.constant_fold.proofs.Singly.{singly_assigned}
 use Rattle.constant_fold.proofs.Typed.{folded_typed, signatures_stay}
 use Rattle.compile.specs.Compiled.{IsCompiled, IsFoldedFlowOf, RunsAreLive, RunsGoOn}
-use Rattle.compile.specs.Compiles.{IsAccepted}
+use Rattle.compile.specs.Accepted.{IsAccepted}
 use Rattle.compile.proofs.Sizes.{room_fold, small_fold}
 
 runs_go_on : (C : Code) → IsCode C → RunsGoOn C

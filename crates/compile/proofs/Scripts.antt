@@ -6,7 +6,6 @@ use Rattle.syntax_trees.specs.Core.{Core}
 use Rattle.syntax_trees.specs.Numbered.{numbered}
 use Rattle.syntax_trees.specs.Reads.{Reads}
 use Rattle.syntax_trees.specs.Resolved.{core}
-use Rattle.syntax_trees.specs.Single.{SinglyAssigned}
 use Rattle.syntax_trees.specs.Table.{Table}
 use Rattle.syntax_trees.specs.Tree.{Tree}
 use Rattle.syntax_trees.specs.Typing.{WellTyped}
@@ -24,7 +23,7 @@ use Rattle.assign_check.proofs.Named.{breaks}
 use Rattle.agreement.specs.OfScalars.{first_other}
 use Rattle.agreement.specs.Scalars.{IsScalars}
 use Rattle.agreement.proofs.ScalarCores.{is_scalars}
-use Rattle.compile.specs.Compiles.{IsAccepted, IsScriptOf, IsIllTyped, IsNotSingle, IsNotYet, IsRefusedByTypes, IsRefusedByAssignments}
+use Rattle.compile.specs.Accepted.{IsAccepted, IsIllTyped, IsNotSingle, IsNotYet, IsRefusedByTypes, IsRefusedByAssignments}
 
 -- a numbered tree for which this holds
 abbrev IfNumbered : Tree → Type 0 → Type 0
@@ -38,17 +37,8 @@ accepted src tree t reads typed none =
     let well = typed_as_read src tree t reads typed in
     record { reads = reads; typed = well; single = singly_assigned 1 reads.parsed tree t reads.is_numbered well none }
 
-pub script_of : (src : List ℕ) (tree : Tree) (t : Table) (s : Core) → IsAccepted src t tree → first_other t tree ≡ None → s ≡ core t tree → IsScriptOf src s
-script_of src tree t s told all is =
-    record {
-      tree = tree;
-      table = t;
-      reads = told.reads;
-      typed = told.typed;
-      is = sym is;
-      single = subst SinglyAssigned (sym is) told.single;
-      scalars = subst IsScalars (sym is) (is_scalars t tree told.reads.parsed told.reads.is_numbered told.typed told.single all);
-    }
+pub scalars_of : (src : List ℕ) (tree : Tree) (t : Table) (s : Core) → IsAccepted src t tree → first_other t tree ≡ None → s ≡ core t tree → IsScalars s
+scalars_of src tree t s told all is = subst IsScalars (sym is) (is_scalars t tree told.reads.parsed told.reads.is_numbered told.typed told.single all)
 
 ill_typed : (src : List ℕ) (tree : Tree) (f : TypeFault) → Reads src tree → f ≢ Typing.Memory → (f ≢ Typing.Memory → checked tree ≡ refused f) → (f ≢ Typing.Memory → typing.Breaks tree f) → (f ≢ Typing.Memory → (t : Table) → ¬ WellTyped tree t)
     → IsIllTyped src f

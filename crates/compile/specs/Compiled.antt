@@ -27,7 +27,7 @@ use Rattle.agreement.specs.NodesOnce.{NodesOnce}
 use Rattle.whole_code.specs.Described.{DeclaredIn, KindsOf}
 use Rattle.bounded_runs.specs.Live.{HasLiveBodies, HasLiveLoops, IsLiveItem}
 use Rattle.constant_fold.specs.Folded.{folded_tree}
-use Rattle.compile.specs.Compiles.{IsAccepted}
+use Rattle.compile.specs.Accepted.{IsAccepted}
 
 -- the flow is that of the tree, by this table of its names: its core, which variables, inputs and outputs are arrays, and no waits left to merge
 pub record IsFlowFor {A : Type 0} (table : Table) (tree : Tree) (flow : Flow A) : Type 0 where

@@ -1,3 +1,3 @@
+pub mod Accepted
 pub mod Compiled
-pub mod Compiles
 pub mod Places

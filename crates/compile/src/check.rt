@@ -2,7 +2,7 @@
 ghost use Rattle.std.specs.Prelude.{IfOk, IsOk, IfErr};
 ghost use Rattle.syntax_trees.specs.View.{tree_of};
 ghost use Rattle.types.specs.Typed.{table_of};
-ghost use Rattle.compile.specs.Compiles.{IsAccepted, IsScript, IsUnfit};
+ghost use Rattle.compile.specs.Accepted.{IsAccepted, IsScript, IsUnfit};
 
 use crate::fault::CompileFault;
 use std::alloc::{Allocator, Global};

@@ -4,7 +4,7 @@ ghost use Rattle.constant_fold.specs.Folded.{folded_tree};
 ghost use Rattle.syntax_trees.specs.View.{tree_of};
 ghost use Rattle.types.specs.Typed.{table_of};
 ghost use Rattle.compile.specs.Compiled.{IsCompiled, IsFlowFor, IsFlowOf, IsFoldedFlowOf};
-ghost use Rattle.compile.specs.Compiles.{IsScript, IsUnfit};
+ghost use Rattle.compile.specs.Accepted.{IsScript, IsUnfit};
 
 use crate::check::{Accepted, accept};
 use crate::fault::CompileFault;

@@ -2,7 +2,7 @@
 ghost use Rattle.agreement.specs.Emitted.{IsEmitted};
 ghost use Rattle.agreement.specs.Laying.{Kinds};
 ghost use Rattle.compile.specs.Compiled.{IsCompiled};
-ghost use Rattle.compile.specs.Compiles.{IsAccepted};
+ghost use Rattle.compile.specs.Accepted.{IsAccepted};
 ghost use Rattle.constant_fold.specs.Folded.{folded_tree};
 ghost use Rattle.std.specs.Prelude.{ℕ, Bool, List};
 ghost use Rattle.syntax_trees.specs.Resolved.{core};

@@ -1,10 +1,8 @@
 //! Scripts that are accepted, with their code, and the first refusal of those that are not.
-use compile::scalars::{compile, read};
-use scalar_emit::emit;
+use compile::compile::compile;
 use std::alloc::Global;
 use std::test::Fail;
-use task_code::code::Opener;
-use task_code::draft::Draft;
+use task_code::code::{Code, Opener};
 use task_code::entry::{Act, Name, Need, Owned, Variable};
 use task_code::expr::Expr as Placed;
 use values::value::Scalar;
@@ -22,20 +20,23 @@ fn refusal(alloc: Global, src: &[u8]) -> Result<String, Fail> {
 #[test]
 fn counts_entries_and_bodies(rt: HostRuntime) -> Result<(), Fail> {
     let alloc = rt.alloc();
-    let rows: [(&[u8], usize); 3] = [
-        (b"int x = 5; printf(\"%i %d%%\", x, 7);", 2),
-        (b"", 0),
+    let rows: [(&[u8], (usize, usize)); 5] = [
+        (b"int x = 5; printf(\"%i %d%%\", x, 7);", (2, 1)),
+        (b"", (0, 1)),
         (
             b"string s = fromint(3); boolean b; string t; (t) = strcat(s, \"a\"); b = s == t; @prio=-2 assert(!b, s);",
-            4,
+            (4, 1),
+        ),
+        (b"if (true) { } else { printf(\"e\"); }", (2, 3)),
+        (
+            b"int A[]; foreach i in [0:1] { A[i] = i; } printf(\"%i\", size(A));",
+            (3, 2),
         ),
     ];
-    for (src, entries) in rows {
+    for (src, counts) in rows {
         let code = compile(alloc, alloc, src)?;
-        assert_eq!(rt; (code.entry_count(), code.body_count()), (entries, 1));
+        assert_eq!(rt; (code.entry_count(), code.body_count()), counts);
     }
-    let flow = read(alloc, alloc, b"int x; x = 2 * (1 - x);")?;
-    assert_eq!(rt; flow.statements.len(), 2);
     Ok(())
 }
 
@@ -48,7 +49,7 @@ fn refuses(rt: HostRuntime) -> Result<(), Fail> {
         (b"printf(\"%i\", y);", "Y1 Unknown 13 14"),
         (b"int x = 1; int x = 2;", "Y2 Declared 15 16"),
         (b"printf(\"%q\");", "Y5 BadFormat 7 11"),
-        (b"if (true) { }", "N1 NotYet 0 2"),
+        (b"if (true) { } else", "P2 Unexpected 18 18"),
         (b"int x = 1; x = 2;", "S1 AssignedTwice 11 12"),
         (b"int x; printf(\"%i\", x);", "S3 NeverAssigned 4 5"),
         (b"(int r) f() { }", "S6 OutputUnassigned 5 6"),
@@ -60,7 +61,7 @@ fn refuses(rt: HostRuntime) -> Result<(), Fail> {
 }
 
 /// The scalar that the script's body makes at a place, as its entries name it.
-fn made(code: &Draft, place: usize) -> Option<Name> {
+fn made(code: &Code, place: usize) -> Option<Name> {
     let variable = code.body(0)?.makes.get(place)?;
     Some(Name {
         up: 0,
@@ -72,7 +73,7 @@ fn made(code: &Draft, place: usize) -> Option<Name> {
 }
 
 /// Whether the entry of this number stands at this offset, and waits for the scalars of these places alone.
-fn waits_for(code: &Draft, number: u32, at: usize, places: &[usize]) -> bool {
+fn waits_for(code: &Code, number: u32, at: usize, places: &[usize]) -> bool {
     let Some(entry) = code.entry(number) else {
         return false;
     };
@@ -92,7 +93,7 @@ fn waits_for(code: &Draft, number: u32, at: usize, places: &[usize]) -> bool {
 }
 
 /// Whether the script's body makes so many scalars, and has the first so many entries.
-fn is_body(code: &Draft, makes: usize, count: u32) -> bool {
+fn is_body(code: &Code, makes: usize, count: u32) -> bool {
     let Some(body) = code.body(0) else {
         return false;
     };
@@ -109,12 +110,11 @@ fn is_body(code: &Draft, makes: usize, count: u32) -> bool {
 #[test]
 fn operands_are_placed(rt: HostRuntime) -> Result<(), Fail> {
     let alloc = rt.alloc();
-    let flow = read(
+    let code = compile(
         alloc,
         alloc,
         b"int x = 5; @prio=3 printf(\"%i %d%%\", x, 7);",
     )?;
-    let code = emit(alloc, flow)?;
     assert!(rt; is_body(&code, 1, 2));
     assert!(rt; waits_for(&code, 0, 0, &[]));
     assert!(rt; waits_for(&code, 1, 11, &[0]));
@@ -136,12 +136,11 @@ fn operands_are_placed(rt: HostRuntime) -> Result<(), Fail> {
 #[test]
 fn a_scalar_is_waited_for_before_its_assignment(rt: HostRuntime) -> Result<(), Fail> {
     let alloc = rt.alloc();
-    let flow = read(
+    let code = compile(
         alloc,
         alloc,
         b"int x; int y; x = y + 1; y = 2; printf(\"%i\", x);",
     )?;
-    let code = emit(alloc, flow)?;
     assert!(rt; is_body(&code, 2, 3));
     assert!(rt; waits_for(&code, 0, 14, &[1]));
     assert!(rt; waits_for(&code, 1, 25, &[]));

@@ -1,10 +1,8 @@
 //! Commands on small scripts: what they print, what they say, the trace, and the status.
+use crate::doing::{Small, WIDE, perform};
 use std::alloc::Global;
 use std::test::Fail;
-use swt_command::command::command;
 use swt_command::trouble::{Trouble, tell};
-use swt_line::line::Line;
-use values::sink::{Sink, SinkFault};
 
 const HELLO: &[u8] = b"printf(\"hello\");";
 
@@ -12,92 +10,19 @@ const TWICE: &[u8] = b"int x = 1; x = 2;";
 
 const TRACE: &[u8] = b"swt-trace 1\nB 0 1\nE 0 1\n";
 
-/// A sink that takes one byte a write, and none once it has no room.
-#[derive(Drop)]
-struct Small {
-    bytes: Vec<u8>,
-    room: usize,
-    failures: u64,
-}
-
-impl Small {
-    ghost use Rattle.std.specs.Prelude.{◌≡◌};
-
-    fn new(alloc: Global, room: usize) -> Small
-        ensures { result.failures ≡ 0 }
-    {
-        Small {
-            bytes: Vec::new(alloc),
-            room,
-            failures: 0,
-        }
-    }
-}
-
-impl Sink for Small {
-    ghost taken = { λ sink. sink.bytes.items };
-
-    ghost failures = { λ sink. sink.failures };
-
-    fn write(&mut self, piece: &[u8]) -> Result<usize, SinkFault> {
-        let Some(first) = piece.first() else {
-            return Ok(0);
-        };
-        if self.bytes.len() < self.room && self.bytes.push(*first).is_ok() {
-            return Ok(1);
-        }
-        self.failures += 1;
-        Err(SinkFault)
-    }
-}
-
-/// What a command printed, said and traced, and its status, in one text. `None` is a file that cannot be read; the first
-/// room is for what is printed, the second for the trace.
+/// What a command printed, said and traced, and its status, in one text.
 fn done_in(
     alloc: Global,
     words: &[&str],
     sources: &[Option<&[u8]>],
     rooms: (usize, usize),
 ) -> Result<String, Fail> {
-    let mut list = Vec::new(alloc);
-    for word in words {
-        list.push(String::from_str(alloc, word)?)?;
-    }
-    let line = Line::read(alloc, list)?;
-    let mut files = Vec::new(alloc);
-    for source in sources {
-        match source {
-            Some(bytes) => files.push(Some(Vec::from_slice(alloc, bytes)?))?,
-            None => files.push(None)?,
-        }
-    }
-    let mut out = Small::new(alloc, rooms.0);
-    let mut err = Small::new(alloc, 1000);
-    let mut trace = Small::new(alloc, rooms.1);
-    let status = command(
-        alloc,
-        &line,
-        files.as_slice(),
-        &mut out,
-        &mut err,
-        &mut trace,
-    );
-    let mut text = String::new(alloc);
-    for part in [
-        out.bytes.as_slice(),
-        err.bytes.as_slice(),
-        trace.bytes.as_slice(),
-    ] {
-        text.push_str(std::str::from_utf8(part)?)?;
-        text.push_str("|")?;
-    }
-    text.push_str(format!(in alloc; "{status}")?.as_str())?;
-    Ok(text)
+    perform(alloc, words, sources, rooms)?.text(alloc)
 }
 
 /// The same for one file, with room for all.
 fn done(alloc: Global, words: &[&str], source: &[u8]) -> Result<String, Fail> {
-    done_in(alloc, words, &[Some(source)], (1000, 1000))
+    done_in(alloc, words, &[Some(source)], WIDE)
 }
 
 #[test]
@@ -124,7 +49,7 @@ fn runs_scripts(rt: HostRuntime) -> Result<(), Fail> {
             b"int a; int b; b = a * a - 1; a = 3 - 5; printf(\"%i\", b);",
             "3\n|||0",
         ),
-        (b"if (true) { }", "|swt: refused N1 NotYet 0 2\n||1"),
+        (b"if (true) { }", "|||0"),
         (b"printf(\"a\"); @prio=5 printf(\"b\");", "b\na\n|||0"),
         (
             b"printf(\"%i %i %i\", -7 %/ 2, -7 %% 2, 7 %% -2);",
@@ -207,8 +132,9 @@ fn says_what_scripts_mean(rt: HostRuntime) -> Result<(), Fail> {
     let swapped = b"int x; int y; x = y + 1; y = 2; printf(\"%i\", x);";
     let cut = done(alloc, &["mean", "f", "--rounds", "2"], swapped)?;
     assert_eq!(rt; cut.as_str(), "swt: blocked 32 /\nswt: limit 2\n|||5");
-    let rows: [(&[u8], &str); 4] = [
+    let rows: [(&[u8], &str); 5] = [
         (swapped, "3\n|||0"),
+        (b"if (true) { }", "|swt: refused N1 NotYet 0 2\n||1"),
         (
             b"printf(\"b\"); int x = 9223372036854775807 + 1; printf(\"a\");",
             "a\nb\nswt: fault F1 Overflow 13 /\n|||3",
@@ -309,7 +235,7 @@ fn replays_traces(rt: HostRuntime) -> Result<(), Fail> {
         let sources = [Some(HELLO), Some(trace)];
         let words = ["replay", "f", "t"];
         assert_eq!(rt;
-            done_in(alloc, &words, &sources, (1000, 1000))?.as_str(),
+            done_in(alloc, &words, &sources, WIDE)?.as_str(),
             wanted
         );
     }
@@ -327,8 +253,6 @@ fn does(
     let text = done_in(alloc, words, sources, rooms)?;
     Ok(text.as_str() == wanted)
 }
-
-const WIDE: (usize, usize) = (1000, 1000);
 
 #[test]
 fn stops_at_a_file(rt: HostRuntime) -> Result<(), Fail> {

@@ -7,6 +7,8 @@ mod code_tests;
 #[cfg(test)]
 mod command_tests;
 #[cfg(test)]
+mod doing;
+#[cfg(test)]
 mod line_tests;
 #[cfg(test)]
 mod listing_tests;
@@ -14,3 +16,5 @@ mod listing_tests;
 mod meaning_tests;
 #[cfg(test)]
 mod order_tests;
+#[cfg(test)]
+mod whole_tests;

@@ -1,6 +1,7 @@
 pub mod Causes
 pub mod Checking
 pub mod Meant
+pub mod Plain
 pub mod Printed
 pub mod Refused
 pub mod Reported

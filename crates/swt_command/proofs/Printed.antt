@@ -1,13 +1,13 @@
 -- What a run prints that ends quiet, against the script.
 use Rattle.std.proofs.Common.{◌≡◌, ◌∙◌, sym, ap, refl, inl, inr, ◌⊎◌, ℕ, List, [], ◌∷◌, arith, Option, Result, Ok, Err}
 use Rattle.std.specs.Prelude.{◌+◌, is_some, Bool}
+use Rattle.syntax_trees.specs.Resolved.{core}
 use Rattle.task_code.specs.Code.{Code}
-use Rattle.board.specs.declared.place.Statement.{Statement}
+use Rattle.board_frames.specs.declared.place.Statement.{Statement}
 use Rattle.runs.specs.declared.report.End.{End}
 use Rattle.runs.specs.declared.report.End.TheVariants as Was
 use Rattle.runs.specs.declared.report.Report.{Report}
 use Rattle.runs.specs.Report.{Reports}
-use Rattle.compile.specs.Compiles.{Compiles}
 use Rattle.swt_trace.specs.Report.{ReportText}
 use Rattle.swt_line.specs.declared.line.Line.TheVariants.{Run, Replay}
 use Rattle.swt_command.specs.declared.status.Status.{Status}
@@ -49,7 +49,7 @@ not_stopped Is.Untraced n is h = is_none_of n 7 is (λ x. omega (arith, x)) (λ 
 
 whole_printed : (files : Files) (code : Code) (limit : ℕ) (r : Report) (out new : Held) → HasCode files 0 code → Reports code limit r → Took out (ReportText r) new → r.end ≡ Was.Quiet → PrintsWhole files out new
 whole_printed files code limit r out new (src, read, w) reports took quiet =
-    (w.script, (src, read, w.script_of), (r, reported src code limit r w reports quiet, took))
+    (core w.table w.tree, (src, read, record { table = w.table; tree = w.tree; accepted = w.accepted; is = refl }), (r, reported src code limit r w reports quiet, took))
 
 run_done : (files : Files) (threads steps : ℕ) (wanted : Bool) (done : Result Status Stop) (out out_new trace trace_new : Held) (n : ℕ) → Runs files threads steps wanted done out out_new trace trace_new
     → n ≡ number_of (status_of done) → IsQuiet n → PrintsWhole files out out_new

@@ -1,14 +1,16 @@
 -- The refusal that a fault is.
-use Rattle.std.proofs.Common.{◌≡◌, ◌∙◌, sym, ap, subst, ℕ, List, Option, Some, None}
+use Rattle.std.proofs.Common.{◌≡◌, ◌∙◌, refl, sym, ap, subst, ℕ, List, Option, Some, None}
 use Rattle.std.specs.Prelude.{option_map}
 use Rattle.lexer.specs.declared.token.Span.{Span}
 use Rattle.compile.specs.declared.fault.CompileFault.{CompileFault}
-use Rattle.compile.specs.declared.fault.CompileFault.TheVariants as Fault
-use Rattle.compile.specs.Compiles.{IsRefused, IsUnfit}
+use Rattle.compile.specs.Accepted.{IsRefused, IsUnfit}
 use Rattle.compile.specs.Places.{span_of}
 use Rattle.swt_command.specs.declared.refusal.Refusal.{Refusal}
-use Rattle.swt_command.specs.Files.{IsRefusal}
+use Rattle.swt_command.specs.declared.trouble.Trouble.{Trouble}
+use Rattle.swt_command.specs.Files.{Files, IsRefusal, StopsAt, source_of}
+use Rattle.swt_command.specs.Means.{StopsReading}
 use Rattle.swt_command.specs.Names.{refusal_of}
+use Rattle.swt_command.specs.Troubles.{trouble_of}
 
 same_fault : (fault : CompileFault) (r : Refusal) (at : Option Span) → Some r ≡ option_map (λ (at : Span). record { fault = fault; at = at }) at → r.fault ≡ fault
 same_fault fault r None e = absurd (cc (e))
@@ -22,18 +24,22 @@ is_of P fault r e h =
     let p : r.fault ≡ fault = same_fault fault r (span_of fault) e in
     (subst P (sym p) h, ap (λ (f : CompileFault). refusal_of f) p ∙ sym e)
 
--- a refused text has the refusal that its fault is
-pub is_refusal : (src : List ℕ) (fault : CompileFault) (r : Refusal) → Some r ≡ refusal_of fault → IsRefused src fault → IsRefusal src r
-is_refusal src fault r e h = is_of (IsRefused src) fault r e h
-
--- and so has one that is no script
-pub is_unfit : (src : List ℕ) (fault : CompileFault) (r : Refusal) → Some r ≡ refusal_of fault → IsUnfit src fault → IsUnfit src r.fault × (refusal_of r.fault ≡ Some r)
+-- a text that is no script has the refusal that its fault is
+pub is_unfit : (src : List ℕ) (fault : CompileFault) (r : Refusal) → Some r ≡ refusal_of fault → IsUnfit src fault → IsRefusal src r
 is_unfit src fault r e h = is_of (IsUnfit src) fault r e h
 
--- a text that is no script has no code
-pub unfit_refused : (src : List ℕ) (fault : CompileFault) → IsUnfit src fault → IsRefused src fault
-unfit_refused src (Fault.Parse f) h = h
-unfit_refused src (Fault.Types f) h = h
-unfit_refused src (Fault.Assignments f) h = h
-unfit_refused src (Fault.Lower f) h = absurd h
-unfit_refused src Fault.Memory h = h
+-- so a command stops at it
+pub unfit_stops : (files : Files) (src : List ℕ) (fault : CompileFault) (t : Trouble) → source_of files 0 ≡ Some src → t ≡ trouble_of (refusal_of fault) → IsUnfit src fault → StopsAt files 0 t
+unfit_stops files src fault t read e h = subst (λ (x : Trouble). StopsAt files 0 x) (sym e) (by (refusal_of fault) refl)
+  where
+    by : (o : Option Refusal) → o ≡ refusal_of fault → StopsAt files 0 (trouble_of o)
+    by None is = (src, read, tt)
+    by (Some r) is = (src, read, is_unfit src fault r is h)
+
+-- and `mean` at one whose meaning is not worked out
+pub refused_stops : (files : Files) (src : List ℕ) (fault : CompileFault) (t : Trouble) → source_of files 0 ≡ Some src → t ≡ trouble_of (refusal_of fault) → IsRefused src fault → StopsReading files t
+refused_stops files src fault t read e h = subst (λ (x : Trouble). StopsReading files x) (sym e) (by (refusal_of fault) refl)
+  where
+    by : (o : Option Refusal) → o ≡ refusal_of fault → StopsReading files (trouble_of o)
+    by None is = (src, read, tt)
+    by (Some r) is = (src, read, is_of (IsRefused src) fault r is h)

@@ -9,25 +9,14 @@ use Rattle.swt_command.specs.declared.stop.Stop.{Stop}
 use Rattle.task_code.specs.Code.{Code}
 use Rattle.swt_command.specs.declared.trouble.Trouble.{Trouble}
 use Rattle.swt_command.specs.declared.trouble.Trouble.TheVariants as Is
-use Rattle.swt_command.specs.Files.{Files, StopsAt, StopsOn, source_of}
+use Rattle.swt_command.specs.Files.{Files, StopsAt, source_of}
 use Rattle.swt_command.specs.Listings.{StopsListing}
-use Rattle.swt_command.specs.Means.{StopsMean}
+use Rattle.swt_command.specs.Means.{StopsMean, StopsReading}
 use Rattle.swt_command.specs.Runs.{Ran, Runs, StopsAtTrace, StopsBeforeReplay, StopsBeforeRun, StopsReplay, StopsRun, Traces, report_status}
 use Rattle.swt_command.specs.Sinks.{Held, Lost, Took}
 
--- a stop at the script of the first file
-pub stops_on : (files : Files) (src : List ℕ) (t : Trouble) → source_of files 0 ≡ Some src → StopsOn src t → StopsAt files 0 t
-stops_on files src Is.Unread e h = absurd h
-stops_on files src (Is.Refused r) e h = (src, e, h)
-stops_on files src (Is.BadLine n) e h = absurd h
-stops_on files src (Is.NotARun n) e h = absurd h
-stops_on files src Is.BadCount e h = absurd h
-stops_on files src Is.Memory e h = (src, e, h)
-stops_on files src Is.Unprinted e h = absurd h
-stops_on files src Is.Untraced e h = absurd h
-
 -- a command that stops before anything is written
-pub mean_stopped : (files : Files) (limit : ℕ) (t : Trouble) (out : Held) → StopsAt files 0 t → StopsMean files limit t out out
+pub mean_stopped : (files : Files) (limit : ℕ) (t : Trouble) (out : Held) → StopsReading files t → StopsMean files limit t out out
 mean_stopped files limit Is.Unread out h = (h, refl)
 mean_stopped files limit (Is.Refused r) out h = (h, refl)
 mean_stopped files limit (Is.BadLine n) out h = (h, refl)

@@ -3,7 +3,8 @@ use Rattle.std.specs.Prelude.{◌≡◌, ℕ, List, [], map, Option, Some, None,
 use Rattle.std.specs.Option.{option_flatten}
 use Rattle.task_code.specs.Code.{Code}
 use Rattle.syntax_trees.specs.Core.{Core}
-use Rattle.compile.specs.Compiles.{Compiles, IsRefused, IsScriptOf}
+use Rattle.compile.specs.Accepted.{IsScriptOf, IsUnfit}
+use Rattle.compile.specs.Compiled.{IsCompiled}
 use Rattle.swt_command.specs.declared.refusal.Refusal.{Refusal}
 use Rattle.swt_command.specs.declared.trouble.Trouble.{Trouble}
 use Rattle.swt_command.specs.declared.trouble.Trouble.TheVariants.{Unread, Refused, Memory}
@@ -24,9 +25,9 @@ source_of files place = option_flatten (slice_get files place)
 abbrev pub name_at : List (List ℕ) → ℕ → List ℕ
 name_at names place = unwrap_or (slice_get names place) []
 
--- the text is refused for this reason, at this place
+-- the text is no script for this reason, at this place
 abbrev pub IsRefusal : List ℕ → Refusal → Type 0
-IsRefusal src r = IsRefused src r.fault × (refusal_of r.fault ≡ Some r)
+IsRefusal src r = IsUnfit src r.fault × (refusal_of r.fault ≡ Some r)
 
 -- the file of that place has this script
 abbrev pub HasScript : Files → ℕ → Core → Type 0
@@ -34,15 +35,15 @@ HasScript files place s = (src : List ℕ) × (source_of files place ≡ Some sr
 
 -- the file of that place has this code
 abbrev pub HasCode : Files → ℕ → Code → Type 0
-HasCode files place code = (src : List ℕ) × (source_of files place ≡ Some src) × Compiles src code
+HasCode files place code = (src : List ℕ) × (source_of files place ≡ Some src) × IsCompiled src code
 
--- the script of that text is refused, or memory was
+-- that text is no script, or memory was refused
 abbrev pub StopsOn : List ℕ → Trouble → Type 0
 StopsOn src (Refused r) = IsRefusal src r
 StopsOn src Memory = Unit {0}
 StopsOn src _ = ⊥
 
--- the file of that place cannot be read, or its script is refused, or memory was
+-- the file of that place cannot be read, or is no script, or memory was refused
 abbrev pub StopsAt : Files → ℕ → Trouble → Type 0
 StopsAt files place Unread = source_of files place ≡ None
 StopsAt files place trouble = (src : List ℕ) × (source_of files place ≡ Some src) × StopsOn src trouble

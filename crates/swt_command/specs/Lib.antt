@@ -6,6 +6,7 @@ pub mod Means
 pub mod Names
 pub mod OneThread
 pub mod Owes
+pub mod Plain
 pub mod Runs
 pub mod Sinks
 pub mod Statuses

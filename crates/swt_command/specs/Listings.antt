@@ -1,6 +1,6 @@
 -- What `code` prints.
 use Rattle.std.specs.Prelude.{◌≡◌, ℕ, List, Result, Ok, Err, Some}
-use Rattle.compile.specs.Compiles.{IsScript}
+use Rattle.compile.specs.Accepted.{IsScript}
 use Rattle.swt_command.specs.declared.status.Status.{Status}
 use Rattle.swt_command.specs.declared.status.Status.TheVariants.{Done}
 use Rattle.swt_command.specs.declared.stop.Stop.{Stop}

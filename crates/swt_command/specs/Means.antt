@@ -1,96 +1,142 @@
 -- What `mean` owes: the text of what a script means.
-use Rattle.std.specs.Prelude.{◌≡◌, ℕ, ◌≤◌, Bool, true, false, List, [], ◌∷◌, ◌++◌, Result, Ok, Err, IsSorted, codes}
+use Rattle.std.specs.Prelude.{◌≡◌, ◌⊎◌, ℕ, ◌≤◌, Bool, true, false, ◌&&◌, ◌||◌, nat_eq, nat_lt, List, [], ◌∷◌, ◌++◌, Result, Ok, Err, Some, IsSorted}
 use Rattle.std.specs.Cmp.Lexicographic.{slice_cmp}
-use Rattle.std.specs.Fmt.{decimal}
 use Rattle.std.specs.List.{flat_map}
 use Rattle.std.specs.Ordering.{nat_cmp}
 use Rattle.dataflow.specs.System.{In}
 use Rattle.values.specs.declared.fault.OpFault.{OpFault}
+use Rattle.values.specs.declared.fault.OpFault.TheVariants as Of
 use Rattle.syntax_trees.specs.Core.{Core}
 use Rattle.syntax_trees.specs.Facts as Facts
 use Rattle.syntax_trees.specs.Meaning.{Known, IsFinished}
 use Rattle.syntax_trees.specs.Outcomes.{Blocked, Faults, Lines}
 use Rattle.syntax_trees.specs.Places.{Path}
-use Rattle.meaning.specs.declared.reading.Fault.{Fault}
-use Rattle.meaning.specs.declared.reading.Statement.{Statement}
-use Rattle.meaning.specs.Listed.{InOrder, fault_before, statement_before}
-use Rattle.swt_trace.specs.Report.{limit_line, operation_fault_name, path_text, text_line}
+use Rattle.agreement.specs.Headline.{script_fault, script_path}
+use Rattle.board.specs.Blocked.{InTextOrder, path_below, path_of}
+use Rattle.board.specs.View.{kind_of_fault}
+use Rattle.board_frames.specs.declared.place.Fault.{Fault}
+use Rattle.board_frames.specs.declared.place.FaultKind.{FaultKind}
+use Rattle.board_frames.specs.declared.place.FaultKind.TheVariants.{OfEntry, ElementTwice}
+use Rattle.board_frames.specs.declared.place.Statement.{Statement}
+use Rattle.board_work.specs.declared.outcome.EntryFault.TheVariants.{InOperation, NoElement, TooDeep}
+use Rattle.compile.specs.Accepted.{IsRefused}
+use Rattle.swt_trace.specs.Report.{blocked_line, fault_line, limit_line, text_line}
+use Rattle.swt_command.specs.declared.refusal.Refusal.{Refusal}
 use Rattle.swt_command.specs.declared.status.Status.{Status}
 use Rattle.swt_command.specs.declared.status.Status.TheVariants as Ends
 use Rattle.swt_command.specs.declared.stop.Stop.{Stop}
+use Rattle.swt_command.specs.declared.told.Told.{Told}
 use Rattle.swt_command.specs.declared.trouble.Trouble.{Trouble}
-use Rattle.swt_command.specs.declared.trouble.Trouble.TheVariants.{Unprinted}
-use Rattle.swt_command.specs.Files.{Files, HasScript, StopsAt}
+use Rattle.swt_command.specs.declared.trouble.Trouble.TheVariants.{Refused, Unprinted}
+use Rattle.swt_command.specs.Files.{Files, HasScript, StopsAt, source_of}
+use Rattle.swt_command.specs.Names.{refusal_of}
 use Rattle.swt_command.specs.Sinks.{Held, Kept, Took, Lost}
 
--- `AT /`, a statement of the script's own block
-abbrev pub place_text : ℕ → List ℕ
-place_text at = decimal at ++ 32 ∷ path_text []
+-- THE TEXT
 
--- `swt: blocked AT /`
-abbrev pub blocked_line : Statement → List ℕ
-blocked_line b = text_line (codes "swt: blocked " ++ place_text b.at)
-
--- `swt: fault F1 Overflow `
-abbrev pub fault_start : OpFault → List ℕ
-fault_start kind = codes "swt: fault " ++ (operation_fault_name kind ++ 32 ∷ [])
-
--- `swt: fault F1 Overflow AT /`
-abbrev pub fault_line : Fault → List ℕ
-fault_line f = text_line (fault_start f.kind ++ place_text f.at)
+-- the lines, and then the blocked statements
+abbrev pub known_text : Told → List ℕ
+known_text t = flat_map text_line t.lines.items ++ flat_map blocked_line t.blocked.items
 
 -- `swt: limit N` where the rounds were not enough
 abbrev pub cut_line : Bool → ℕ → List ℕ
 cut_line true limit = []
 cut_line false limit = limit_line limit
 
-abbrev pub mean_text : List (List ℕ) → List Statement → List Fault → Bool → ℕ → List ℕ
-mean_text lines blocked faults enough limit =
-    ((flat_map text_line lines ++ flat_map blocked_line blocked) ++ flat_map fault_line faults) ++ cut_line enough limit
+abbrev pub mean_text : Told → ℕ → List ℕ
+mean_text t limit = (known_text t ++ flat_map fault_line t.faults.items) ++ cut_line t.enough limit
 
-abbrev pub mean_status : List Statement → List Fault → Bool → Status
-mean_status bs fs false = Ends.Limit
-mean_status bs (f ∷ fs) true = Ends.Fault
-mean_status (b ∷ bs) [] true = Ends.Blocked
-mean_status [] [] true = Ends.Done
+abbrev pub status_by : List Statement → List Fault → Bool → Status
+status_by bs fs false = Ends.Limit
+status_by bs (f ∷ fs) true = Ends.Fault
+status_by (b ∷ bs) [] true = Ends.Blocked
+status_by [] [] true = Ends.Done
 
--- these are what is known of a script after so many rounds: the lines by their bytes, the blocked statements by their offsets, the faults by
--- offset and then by number, each fault and each offset once. They all are of the script's own block
+abbrev pub mean_status : Told → Status
+mean_status t = status_by t.blocked.items t.faults.items t.enough
+
+-- WHAT IS TOLD
+
+abbrev pub operation_number : OpFault → ℕ
+operation_number Of.Overflow = 1
+operation_number Of.DivideByZero = 2
+operation_number Of.BadStep = 5
+operation_number Of.NotANumber = 7
+operation_number Of.AssertFailed = 8
+operation_number Of.Memory = 9
+
+-- the number of a kind of fault
+abbrev pub kind_number : FaultKind → ℕ
+kind_number (OfEntry (InOperation f)) = operation_number f
+kind_number (OfEntry NoElement) = 3
+kind_number ElementTwice = 4
+kind_number (OfEntry TooDeep) = 6
+
+-- of one path: by the offset of the statement, and then by number
+abbrev pub behind_it : Fault → Fault → Bool
+behind_it f g = nat_lt f.statement.at g.statement.at || (nat_eq f.statement.at g.statement.at && nat_lt (kind_number f.kind) (kind_number g.kind))
+
+-- a fault comes before another: by its path, and then so
+abbrev pub fault_before : Fault → Fault → Type 0
+fault_before f g = (path_below f.statement.path.items g.statement.path.items ≡ true) ⊎ ((path_of f.statement ≡ path_of g.statement) × (behind_it f g ≡ true))
+
+-- each fault comes before those behind it
+abbrev pub InFaultOrder : List Fault → Type 0
+InFaultOrder [] = Unit {0}
+InFaultOrder (f ∷ fs) = ((g : Fault) → In g fs → fault_before f g) × InFaultOrder fs
+
+-- these are what is known of a script after so many rounds: the lines by their bytes, the blocked statements by path and offset, the faults by path, offset and number, each once
 pub record AreKnown (s : Core) (rounds : ℕ) (lines : List (List ℕ)) (blocked : List Statement) (faults : List Fault) : Type 0 where
   pub lines_are : Lines (Known s rounds) lines
   pub lines_in_order : IsSorted (slice_cmp nat_cmp) lines
-  pub blocked_in_order : InOrder statement_before blocked
-  pub each_blocked : (b : Statement) → In b blocked → Blocked s (Known s rounds) b.at []
-  pub all_blocked : (at : ℕ) (path : Path) → Blocked s (Known s rounds) at path → (path ≡ []) × ((b : Statement) × In b blocked × (b.at ≡ at))
-  pub faults_in_order : InOrder fault_before faults
-  pub each_fault : (f : Fault) → In f faults → Faults (Known s rounds) (Facts.operation f.kind) f.at []
-  pub all_faults : (kind : Facts.Fault) (at : ℕ) (path : Path) → Faults (Known s rounds) kind at path → (path ≡ []) × ((f : Fault) × In f faults × (kind ≡ Facts.operation f.kind) × (at ≡ f.at))
+  pub blocked_in_order : InTextOrder blocked
+  pub each_blocked : (b : Statement) → In b blocked → Blocked s (Known s rounds) b.at (script_path (path_of b))
+  pub all_blocked : (at : ℕ) (path : Path) → Blocked s (Known s rounds) at path → (b : Statement) × In b blocked × (b.at ≡ at) × (script_path (path_of b) ≡ path)
+  pub faults_in_order : InFaultOrder faults
+  pub each_fault : (f : Fault) → In f faults → Faults (Known s rounds) (script_fault (kind_of_fault f.kind)) f.statement.at (script_path (path_of f.statement))
+  pub all_faults : (kind : Facts.Fault) (at : ℕ) (path : Path) → Faults (Known s rounds) kind at path → (f : Fault) × In f faults × (script_fault (kind_of_fault f.kind) ≡ kind) × (f.statement.at ≡ at) × (script_path (path_of f.statement) ≡ path)
 
 -- so many rounds were enough, or there were as many as the limit allows
 abbrev pub AreEnough : Core → (rounds limit : ℕ) → Bool → Type 0
 AreEnough s rounds limit true = IsFinished s rounds × (rounds ≤ limit)
 AreEnough s rounds limit false = (¬ IsFinished s rounds) × (rounds ≡ limit)
 
--- the text of what is known of the script after as many rounds as are enough, or as the limit allows, and the status that it comes with
-pub record IsMeanText (s : Core) (limit : ℕ) (status : Status) (text : List ℕ) : Type 0 where
+-- this is told of the script after as many rounds as are enough, or as the limit allows
+pub record IsTold (s : Core) (limit : ℕ) (t : Told) : Type 0 where
   pub rounds : ℕ
-  pub enough : Bool
-  pub are_enough : AreEnough s rounds limit enough
-  pub lines : List (List ℕ)
-  pub blocked : List Statement
-  pub faults : List Fault
-  pub are_known : AreKnown s rounds lines blocked faults
-  pub text_is : text ≡ mean_text lines blocked faults enough limit
-  pub status_is : status ≡ mean_status blocked faults enough
+  pub are_enough : AreEnough s rounds limit t.enough
+  pub are_known : AreKnown s rounds t.lines.items t.blocked.items t.faults.items
+
+-- the text that tells it, and the status that it comes with
+pub record IsMeanText (s : Core) (limit : ℕ) (status : Status) (text : List ℕ) : Type 0 where
+  pub told : Told
+  pub is_told : IsTold s limit told
+  pub text_is : text ≡ mean_text told limit
+  pub status_is : status ≡ mean_status told
+
+-- WHAT THE COMMAND DOES
+
+-- this is told of the first file's script
+abbrev pub ToldOf : Files → (limit : ℕ) → Told → Type 0
+ToldOf files limit t = (s : Core) × HasScript files 0 s × IsTold s limit t
 
 -- the script of the first file has this text
 abbrev pub Tells : Files → (limit : ℕ) → Status → (text : List ℕ) → Type 0
 Tells files limit status text = (s : Core) × HasScript files 0 s × IsMeanText s limit status text
 
+-- the text is no script for this reason, or a part of it that begins at this place is not worked out yet
+abbrev pub IsNotMeant : List ℕ → Refusal → Type 0
+IsNotMeant src r = IsRefused src r.fault × (refusal_of r.fault ≡ Some r)
+
+-- the first file cannot be read, its meaning is not worked out for some reason, or memory was refused
+abbrev pub StopsReading : Files → Trouble → Type 0
+StopsReading files (Refused r) = (src : List ℕ) × (source_of files 0 ≡ Some src) × IsNotMeant src r
+StopsReading files trouble = StopsAt files 0 trouble
+
 -- a write of the text failed; or the command stopped at the file, with nothing written
 abbrev pub StopsMean : Files → ℕ → Trouble → Held → Held → Type 0
 StopsMean files limit Unprinted out new = (status : Status) × (text : List ℕ) × Tells files limit status text × Lost out text new
-StopsMean files limit trouble out new = StopsAt files 0 trouble × Kept out new
+StopsMean files limit trouble out new = StopsReading files trouble × Kept out new
 
 -- the text was printed; or the command stops
 abbrev pub Means : Files → ℕ → Result Status Stop → Held → Held → Type 0

@@ -8,8 +8,8 @@ use Rattle.syntax_trees.specs.Outcomes.{Lines, Faults, Blocked}
 use Rattle.syntax_trees.specs.Places.{Path}
 use Rattle.task_code.specs.Places.{Step}
 use Rattle.agreement.specs.Headline.{script_path, script_fault}
-use Rattle.board.specs.declared.place.Fault.{Fault}
-use Rattle.board.specs.declared.place.Statement.{Statement}
+use Rattle.board_frames.specs.declared.place.Fault.{Fault}
+use Rattle.board_frames.specs.declared.place.Statement.{Statement}
 use Rattle.board.specs.Blocked.{InTextOrder, path_of}
 use Rattle.board.specs.View.{kind_of_fault}
 use Rattle.runs.specs.declared.report.Report.{Report}

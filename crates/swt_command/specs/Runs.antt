@@ -1,7 +1,7 @@
 -- What `run` and `replay` owe: the report of a run of the script.
 use Rattle.std.specs.Prelude.{◌≡◌, ℕ, zero, suc, ◌<◌, ◌≤◌, Bool, true, false, List, [], ◌∷◌, Result, Ok, Err, Option, Some, None}
 use Rattle.task_code.specs.Code.{Code}
-use Rattle.board.specs.declared.place.Statement.{Statement}
+use Rattle.board_frames.specs.declared.place.Statement.{Statement}
 use Rattle.runs.specs.declared.report.End.{End}
 use Rattle.runs.specs.declared.report.End.TheVariants as Was
 use Rattle.runs.specs.declared.report.Report.{Report}

@@ -1,7 +1,8 @@
 -- What is said of trouble on standard error, and the status that it ends a command with.
-use Rattle.std.specs.Prelude.{ℕ, List, ◌++◌, codes}
+use Rattle.std.specs.Prelude.{ℕ, List, ◌++◌, Option, Some, None, codes}
 use Rattle.std.specs.Fmt.{decimal}
 use Rattle.swt_trace.specs.Report.{text_line}
+use Rattle.swt_command.specs.declared.refusal.Refusal.{Refusal}
 use Rattle.swt_command.specs.declared.status.Status.{Status}
 use Rattle.swt_command.specs.declared.status.Status.TheVariants as Ends
 use Rattle.swt_command.specs.declared.trouble.Trouble.{Trouble}
@@ -28,3 +29,8 @@ trouble_status Is.BadCount = Ends.Usage
 trouble_status Is.Memory = Ends.Memory
 trouble_status Is.Unprinted = Ends.Failed
 trouble_status Is.Untraced = Ends.Failed
+
+-- the trouble with a script that is refused so; without a refusal memory was wanting
+abbrev pub trouble_of : Option Refusal → Trouble
+trouble_of None = Is.Memory
+trouble_of (Some r) = Is.Refused r

@@ -2,13 +2,14 @@
 ghost use Rattle.std.specs.Prelude.{◌≡◌, ◌⊎◌, ℕ, List, Option};
 ghost use Rattle.syntax_trees.specs.Meaning.{Meaning};
 ghost use Rattle.syntax_trees.specs.Outcomes.{Clean};
+ghost use Rattle.syntax_trees.specs.Resolved.{core};
 ghost use Rattle.agreement.specs.Headline.{PartOfLines};
 ghost use Rattle.task_code.specs.Code.{Code};
-ghost use Rattle.board.specs.declared.place.Fault.{Fault};
+ghost use Rattle.board_frames.specs.declared.place.Fault.{Fault};
 ghost use Rattle.runs.specs.declared.report.End.TheVariants as Ends;
 ghost use Rattle.runs.specs.declared.report.Report.{Report};
 ghost use Rattle.runs.specs.Report.{Reports};
-ghost use Rattle.compile.specs.Compiles.{Compiles};
+ghost use Rattle.compile.specs.Compiled.{IsCompiled};
 ghost use Rattle.swt_line.specs.declared.line.Line.{Line};
 ghost use Rattle.swt_line.specs.declared.line.Line.TheVariants.{Run, Replay};
 ghost use Rattle.swt_command.specs.Causes.{AsksTooMuch, SomeRefused};
@@ -22,11 +23,11 @@ ghost use Rattle.swt_command.specs.Sinks.{Held};
 /// that writes no key twice the lines of every report are a part of the script's, and the fault of one that ends in a fault is
 /// among the script's.
 pub fn reports_are_meant()
-    ensures quiet { (src : List ℕ) (code : Code) (limit : ℕ) (r : Report) (w : Compiles src code) → Reports code limit r → r.end ≡ Ends.Quiet → IsWhole w.script r }
-    ensures part { (src : List ℕ) (code : Code) (limit : ℕ) (r : Report) (w : Compiles src code) → Clean w.script → Reports code limit r
-        → PartOfLines (Meaning w.script) r.lines.items }
-    ensures fault { (src : List ℕ) (code : Code) (limit : ℕ) (r : Report) (f : Fault) (w : Compiles src code) → Clean w.script → Reports code limit r → r.end ≡ Ends.Fault f
-        → IsScriptFault w.script f }
+    ensures quiet { (src : List ℕ) (code : Code) (limit : ℕ) (r : Report) (w : IsCompiled src code) → Reports code limit r → r.end ≡ Ends.Quiet → IsWhole (core w.table w.tree) r }
+    ensures part { (src : List ℕ) (code : Code) (limit : ℕ) (r : Report) (w : IsCompiled src code) → Clean (core w.table w.tree) → Reports code limit r
+        → PartOfLines (Meaning (core w.table w.tree)) r.lines.items }
+    ensures fault { (src : List ℕ) (code : Code) (limit : ℕ) (r : Report) (f : Fault) (w : IsCompiled src code) → Clean (core w.table w.tree) → Reports code limit r → r.end ≡ Ends.Fault f
+        → IsScriptFault (core w.table w.tree) f }
 {}
 
 /// A command that ran or replayed a script and ended with status 0 or 4 has printed all that the script means, and nothing
@@ -38,11 +39,11 @@ pub fn runs_print_the_meaning()
         → Owes (Replay file events) files out out_new err err_new trace trace_new number → (number ≡ 0) ⊎ (number ≡ 4) → PrintsWhole files out out_new }
 {}
 
-/// A process ends with status 1 only where the script of a file is refused, and with status 2 only where its line asks for too
+/// A process ends with status 1 only where its command refuses the text of a file, and with status 2 only where its line asks for too
 /// many engines and workers.
 pub fn statuses_tell()
     ensures refused { (line : Line) (files : Files) (out out_new err err_new trace trace_new : Held) (number : ℕ)
-        → Owes line files out out_new err err_new trace trace_new number → number ≡ 1 → SomeRefused files }
+        → Owes line files out out_new err err_new trace trace_new number → number ≡ 1 → SomeRefused line files }
     ensures usage { (line : Line) (files : Files) (out out_new err err_new trace trace_new : Held) (number : ℕ)
         → Owes line files out out_new err err_new trace trace_new number → number ≡ 2 → AsksTooMuch line }
 {}

@@ -12,4 +12,5 @@ pub mod refusal;
 mod run;
 pub mod status;
 pub mod stop;
+pub mod told;
 pub mod trouble;

@@ -1,17 +1,14 @@
 //! Where a command stops, and the scripts that it reads.
-ghost use Rattle.std.specs.Prelude.{◌≡◌, ℕ, List, Some, None, MatchResult};
-ghost use Rattle.scalar_flow.specs.View.{core_of};
-ghost use Rattle.board.specs.Flat.{IsFlat};
+ghost use Rattle.std.specs.Prelude.{◌≡◌, Some, None, MatchResult};
 ghost use Rattle.swt_command.specs.Listings.{IsAcceptedAt};
-ghost use Rattle.swt_command.specs.Files.{HasCode, HasScript, StopsAt, StopsOn, contents, source_of};
-ghost use Rattle.compile.specs.Compiles.{IsRefused};
+ghost use Rattle.swt_command.specs.Files.{HasCode, StopsAt, contents, source_of};
+ghost use Rattle.swt_command.specs.Names.{refusal_of};
+ghost use Rattle.swt_command.specs.Troubles.{trouble_of};
 
 use crate::refusal::Refusal;
 use crate::trouble::Trouble;
-use compile::compile::{drawn, listed};
+use compile::compile::{compile, drawn, listed};
 use compile::fault::CompileFault;
-use compile::scalars::{compile, read};
-use scalar_flow::statement::Flow;
 use std::alloc::Global;
 use task_code::code::Code;
 
@@ -47,28 +44,12 @@ pub fn source(files: &[Option<Vec<u8>>], place: usize) -> Result<&[u8], Stop>
 ///
 /// `Unread`, `Refused` or `Memory`.
 pub fn code_of(alloc: Global, files: &[Option<Vec<u8>>]) -> Result<Code, Stop>
-    ensures { MatchResult result (λ code. HasCode (contents files.now) 0 code × IsFlat code)
+    ensures { MatchResult result (HasCode (contents files.now) 0)
         (λ stop. (stop.place ≡ 0) × StopsAt (contents files.now) 0 stop.trouble) }
 {
     let source = source(files, 0)?;
     match compile(alloc, alloc, source) {
         Ok(code) => Ok(code),
-        Err(fault) => Err(at_script(fault)),
-    }
-}
-
-/// The statements of the first file's script.
-///
-/// # Errors
-///
-/// `Unread`, `Refused` or `Memory`.
-pub fn flow_of(alloc: Global, files: &[Option<Vec<u8>>]) -> Result<Flow, Stop>
-    ensures { MatchResult result (λ flow. HasScript (contents files.now) 0 (core_of flow))
-        (λ stop. (stop.place ≡ 0) × StopsAt (contents files.now) 0 stop.trouble) }
-{
-    let source = source(files, 0)?;
-    match read(alloc, alloc, source) {
-        Ok(flow) => Ok(flow),
         Err(fault) => Err(at_script(fault)),
     }
 }
@@ -106,9 +87,9 @@ pub fn drawing_of(alloc: Global, files: &[Option<Vec<u8>>]) -> Result<Vec<u8>, S
 }
 
 /// A stop at the first file, for this reason.
-fn at_script(fault: CompileFault) -> Stop
+pub(crate) fn at_script(fault: CompileFault) -> Stop
     ensures place { result.place ≡ 0 }
-    ensures trouble { (src : List ℕ) → IsRefused src fault → StopsOn src result.trouble }
+    ensures trouble { result.trouble ≡ trouble_of (refusal_of fault) }
 {
     let trouble = match Refusal::of(fault) {
         Some(refusal) => Trouble::Refused(refusal),

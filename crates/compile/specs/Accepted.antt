@@ -1,0 +1,96 @@
+-- What it means that a text is a script, of this core, and that it is refused.
+use Rattle.std.specs.Prelude.{◌≡◌, ℕ, List, Some}
+use Rattle.lexer.specs.declared.token.Span.{Span}
+use Rattle.syntax_trees.specs.Core.{Core}
+use Rattle.syntax_trees.specs.Reads.{Reads}
+use Rattle.syntax_trees.specs.Resolved.{core}
+use Rattle.syntax_trees.specs.Single.{SinglyAssigned}
+use Rattle.syntax_trees.specs.Table.{Table}
+use Rattle.syntax_trees.specs.Tree.{Tree}
+use Rattle.syntax_trees.specs.Typing.{WellTyped}
+use Rattle.syntax.specs.Refusals.{Refuses}
+use Rattle.agreement.specs.OfScalars.{first_other}
+use Rattle.types.specs.declared.fault.TypeFault.{TypeFault}
+use Rattle.types.specs.declared.fault.TypeFault.TheVariants as Typing
+use Rattle.types.specs.Breaks as typing
+use Rattle.types.specs.Outcomes.{refused}
+use Rattle.types.specs.Scripts.{checked}
+use Rattle.assign_check.specs.declared.fault.AssignFault.{AssignFault}
+use Rattle.assign_check.specs.declared.fault.AssignFault.TheVariants as Assign
+use Rattle.assign_check.specs.Breaks.{Breaks}
+use Rattle.assign_check.specs.Faults.{faults, first_fault}
+use Rattle.scalar_lowering.specs.declared.fault.LowerFault.TheVariants as Lower
+use Rattle.compile.specs.declared.fault.CompileFault.{CompileFault}
+use Rattle.compile.specs.declared.fault.CompileFault.TheVariants as Fault
+
+-- the text reads as this tree, which is well typed by this table of its names, and singly assigned
+pub record IsAccepted (src : List ℕ) (table : Table) (tree : Tree) : Type 0 where
+  pub reads : Reads src tree
+  pub typed : WellTyped tree table
+  pub single : SinglyAssigned (core table tree)
+
+-- the text is a script
+abbrev pub IsScript : List ℕ → Type 0
+IsScript src = (table : Table) × (tree : Tree) × IsAccepted src table tree
+
+-- the text is a script of this core
+pub record IsScriptOf (src : List ℕ) (s : Core) : Type 0 where
+  pub table : Table
+  pub tree : Tree
+  pub accepted : IsAccepted src table tree
+  pub is : core table tree ≡ s
+
+-- the text reads as a tree
+abbrev pub IsRead : List ℕ → Type 0
+IsRead src = (tree : Tree) × Reads src tree
+
+-- the text reads as a tree that is well typed for no table of names, and this is the first fault that reading it meets: it names a rule that
+-- the tree breaks at its place
+pub record IsIllTyped (src : List ℕ) (fault : TypeFault) : Type 0 where
+  pub tree : Tree
+  pub reads : Reads src tree
+  pub is : checked tree ≡ refused fault
+  pub broken : typing.Breaks tree fault
+  pub ill_typed : (t : Table) → ¬ WellTyped tree t
+
+-- the text reads as a tree that is well typed and not singly assigned, and this is the fault that stands first: it names a rule that the
+-- tree breaks at its place
+pub record IsNotSingle (src : List ℕ) (fault : AssignFault) : Type 0 where
+  pub tree : Tree
+  pub table : Table
+  pub reads : Reads src tree
+  pub typed : WellTyped tree table
+  pub is : first_fault (faults table tree) ≡ Some fault
+  pub broken : Breaks table tree fault
+  pub not_single : ¬ SinglyAssigned (core table tree)
+
+-- the text reads as a tree that is well typed and singly assigned, and a part of it that begins here is not one of scalars
+pub record IsNotYet (src : List ℕ) (at : Span) : Type 0 where
+  pub tree : Tree
+  pub table : Table
+  pub reads : Reads src tree
+  pub typed : WellTyped tree table
+  pub single : SinglyAssigned (core table tree)
+  pub other : first_other table tree ≡ Some at
+
+abbrev pub IsRefusedByTypes : List ℕ → TypeFault → Type 0
+IsRefusedByTypes src Typing.Memory = IsRead src
+IsRefusedByTypes src f = IsIllTyped src f
+
+abbrev pub IsRefusedByAssignments : List ℕ → AssignFault → Type 0
+IsRefusedByAssignments src Assign.Memory = IsRead src
+IsRefusedByAssignments src f = IsNotSingle src f
+
+-- why a text is no script, by the first step that refuses it
+abbrev pub IsUnfit : List ℕ → CompileFault → Type 0
+IsUnfit src (Fault.Parse f) = Refuses src f
+IsUnfit src (Fault.Types f) = IsRefusedByTypes src f
+IsUnfit src (Fault.Assignments f) = IsRefusedByAssignments src f
+IsUnfit src (Fault.Lower f) = ⊥
+IsUnfit src Fault.Memory = IsRead src
+
+-- why the meaning of a text is not worked out, by the first step that refuses it
+abbrev pub IsRefused : List ℕ → CompileFault → Type 0
+IsRefused src (Fault.Lower (Lower.NotYet at)) = IsNotYet src at
+IsRefused src (Fault.Lower Lower.Memory) = IsRead src
+IsRefused src f = IsUnfit src f

@@ -1,0 +1,199 @@
+//! Scripts of the whole language: what a run prints, and its trace run again, which prints the same.
+use crate::doing::{WIDE, perform};
+use std::alloc::Global;
+use std::test::Fail;
+
+/// Whether a run of the script prints this, says nothing, and ends with this status, and so does its trace run again.
+fn runs_to(alloc: Global, script: &[u8], wanted: &[u8], status: u8) -> Result<bool, Fail> {
+    let run = perform(alloc, &["run", "f", "--trace", "t"], &[Some(script)], WIDE)?;
+    let trace = run.trace.as_slice();
+    let again = perform(alloc, &["replay", "f", "t"], &[Some(script), Some(trace)], WIDE)?;
+    let is_wanted = run.out.as_slice() == wanted && run.err.is_empty() && run.status == status;
+    let is_same = again.out.as_slice() == wanted && again.err.is_empty() && again.status == status;
+    Ok(is_wanted && is_same)
+}
+
+/// The first of these scripts that does not run to what stands beside it.
+fn first_other(alloc: Global, rows: &[(&[u8], &[u8], u8)]) -> Result<Option<usize>, Fail> {
+    for (place, (script, wanted, status)) in rows.iter().enumerate() {
+        if !runs_to(alloc, script, wanted, *status)? {
+            return Ok(Some(place));
+        }
+    }
+    Ok(None)
+}
+
+#[test]
+fn branches_waits_and_calls(rt: HostRuntime) -> Result<(), Fail> {
+    let rows: [(&[u8], &[u8], u8); 10] = [
+        (b"if (true) { }", b"", 0),
+        (
+            b"int x; boolean b; if (b) { x = 1; } else { x = 2; } b = 3 > 2; printf(\"%i\", x);",
+            b"1\n",
+            0,
+        ),
+        (
+            b"boolean b; boolean c; b = c; c = b; if (b) { printf(\"t\"); }",
+            b"swt: blocked 22 /\nswt: blocked 29 /\nswt: blocked 36 /\n",
+            4,
+        ),
+        (
+            b"int x = 1; int y; int z; y = z; z = y; wait (x) { wait (y) { printf(\"q\"); } }",
+            b"swt: blocked 25 /\nswt: blocked 32 /\nswt: blocked 50 /\n",
+            4,
+        ),
+        (
+            b"(int r) fib(int n) { if (n < 2) { r = n; } else { r = fib(n-1) + fib(n-2); } } printf(\"%i\", fib(10));",
+            b"55\n",
+            0,
+        ),
+        (
+            b"(int a, int b) two(int n) { a = n + 1; b = a * 2; } int p; int q; (p, q) = two(3); printf(\"%i %i\", p, q);",
+            b"4 8\n",
+            0,
+        ),
+        (
+            b"(int r) f(int n) { if (n == 0) { r = 0; } else { r = f(n - 1); } } printf(\"%i\", f(255));",
+            b"0\n",
+            0,
+        ),
+        (
+            b"(int r) f(int n) { r = 1 %/ n; } if (true) { printf(\"%i\", f(0)); }",
+            b"swt: fault F2 DivideByZero 19 /33.0/58.0\n",
+            3,
+        ),
+        (
+            b"int y; int z; y = z; z = y; printf(\"%i\", 1 %/ 0 + y);",
+            b"swt: blocked 14 /\nswt: blocked 21 /\nswt: blocked 28 /\n",
+            4,
+        ),
+        (
+            b"int y; int z; y = z; z = y; if (true) { if (false) { } else { printf(\"%i\", y); } }",
+            b"swt: blocked 14 /\nswt: blocked 21 /\nswt: blocked 62 /28.0/40.1\n",
+            4,
+        ),
+    ];
+    assert_eq!(rt; first_other(rt.alloc(), &rows)?, None);
+    Ok(())
+}
+
+#[test]
+fn arrays_and_loops(rt: HostRuntime) -> Result<(), Fail> {
+    let rows: [(&[u8], &[u8], u8); 11] = [
+        (
+            b"int A[]; A[0] = 1; foreach i in [1:5] { A[i] = A[i-1] * 2; } printf(\"%i\", A[5]);",
+            b"32\n",
+            0,
+        ),
+        (
+            b"int A[]; int n; foreach i in [0:2] { if (i == n) { A[i] = i; } } n = 1; printf(\"%i\", size(A));",
+            b"1\n",
+            0,
+        ),
+        (
+            b"int A[]; foreach i in [5:4] { A[i] = i; } printf(\"%i\", size(A));",
+            b"0\n",
+            0,
+        ),
+        (b"int A[]; A[0] = size(A);", b"swt: blocked 9 /\n", 4),
+        (
+            b"foreach i in [9223372036854775806:9223372036854775807] { printf(\"%i\", i); }",
+            b"9223372036854775806\n9223372036854775807\n",
+            0,
+        ),
+        (
+            b"(int B[]) g(int m) { foreach i in [0:m-1] { B[i] = i*i; } } int C[]; C = g(4); printf(\"%i %i\", size(C), C[3]);",
+            b"4 9\n",
+            0,
+        ),
+        (
+            b"int A[]; int y; int z; y = z; z = y; A[0] = 1; printf(\"%i\", A[1 %/ 0] + y);",
+            b"swt: fault F2 DivideByZero 47 /\n",
+            3,
+        ),
+        (
+            b"foreach v, k in [10:20:5] { printf(\"%i %i\", k, v); }",
+            b"0 10\n1 15\n2 20\n",
+            0,
+        ),
+        (
+            b"int A[] = [3, 1]; int B[]; B = A; foreach v, k in B { printf(\"%i %i\", k, v); }",
+            b"0 3\n1 1\n",
+            0,
+        ),
+        (b"int A[]; A[-2] = 5; printf(\"%i\", A[-2]);", b"5\n", 0),
+        (
+            b"int y; int z; y = z; z = y; foreach i in [-1:0] { printf(\"%i\", i + y); }",
+            b"swt: blocked 14 /\nswt: blocked 21 /\nswt: blocked 50 /28.0\nswt: blocked 50 /28.1\n",
+            4,
+        ),
+    ];
+    assert_eq!(rt; first_other(rt.alloc(), &rows)?, None);
+    Ok(())
+}
+
+#[test]
+fn faults(rt: HostRuntime) -> Result<(), Fail> {
+    let rows: [(&[u8], &[u8], u8); 6] = [
+        (
+            b"int A[]; A[0] = 1; A[0] = 2; printf(\"%i\", A[0]);",
+            b"swt: fault F4 ElementTwice 19 /\n",
+            3,
+        ),
+        (
+            b"int A[]; A[0] = 1; printf(\"%i\", A[3]);",
+            b"swt: fault F3 NoElement 19 /\n",
+            3,
+        ),
+        (
+            b"foreach i in [0:4294967296] { }",
+            b"swt: fault F1 Overflow 0 /\n",
+            3,
+        ),
+        (
+            b"foreach i in [1:0:0] { }",
+            b"swt: fault F5 BadStep 0 /\n",
+            3,
+        ),
+        (
+            b"int A[]; A[1 + 1] = 3 * 3; A[1 %/ 0] = 1;",
+            b"swt: fault F2 DivideByZero 27 /\n",
+            3,
+        ),
+        (
+            b"foreach i in [0:2] { assert(i != 1, \"m\"); }",
+            b"swt: fault F8 AssertFailed 21 /0.1\n",
+            3,
+        ),
+    ];
+    assert_eq!(rt; first_other(rt.alloc(), &rows)?, None);
+    Ok(())
+}
+
+/// A thousand turns of a loop are made in chunks of 64.
+#[test]
+fn long_loop(rt: HostRuntime) -> Result<(), Fail> {
+    let alloc = rt.alloc();
+    let mut wanted = Vec::new(alloc);
+    for i in 1..1001u32 {
+        wanted.extend_from_slice(format!(in alloc; "{i}\n")?.as_str().as_bytes())?;
+    }
+    let script = b"foreach i in [1:1000] { printf(\"%i\", i); }";
+    assert!(rt; runs_to(alloc, script, wanted.as_slice(), 0)?);
+    Ok(())
+}
+
+/// A function that calls itself without end has a fault at the 512th step of its path.
+#[test]
+fn too_deep(rt: HostRuntime) -> Result<(), Fail> {
+    let alloc = rt.alloc();
+    let mut wanted = Vec::new(alloc);
+    wanted.extend_from_slice(b"swt: fault F6 TooDeep 19 /48.0")?;
+    for _ in 1..512u32 {
+        wanted.extend_from_slice(b"/23.0")?;
+    }
+    wanted.push(b'\n')?;
+    let script = b"(int r) f(int n) { r = f(n + 1); } printf(\"%i\", f(0));";
+    assert!(rt; runs_to(alloc, script, wanted.as_slice(), 3)?);
+    Ok(())
+}

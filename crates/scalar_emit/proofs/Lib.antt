@@ -1,4 +1,0 @@
-pub mod Once
-pub mod Bound
-pub mod Owed
-pub mod Placed

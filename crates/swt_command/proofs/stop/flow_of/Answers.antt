@@ -1,7 +1,0 @@
-use Rattle.swt_command.specs.Files.{contents}
-use Rattle.swt_command.proofs.Stops.{stops_on}
-use Rattle.swt_command.proofs.stop.flow_of.Goals as goal
-
-pub returns-in-Err : goal.returns-in-Err
-returns-in-Err c =
-    (c.at_script.ensures.place, stops_on (contents c.args.files.now) c.in_ok-source.source.now c.at_script.result.trouble c.in_ok-source.ensures (c.at_script.ensures.trouble c.in_ok-source.source.now c.in-Err.ensures.refused))
