@@ -1,1 +1,1 @@
-mod Flat
+mod WholeCodes

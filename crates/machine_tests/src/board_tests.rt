@@ -8,6 +8,7 @@ use board::{Done, Work};
 use std::alloc::Global;
 use task_code::entry::Kind;
 use task_code::event::Event;
+use values::value::Scalar;
 
 /// Begins the item and computes it.
 fn done_on(board: &mut Board, worker: u8, item: u64) -> Result<Done, Refusal>
@@ -35,7 +36,7 @@ fn work_on(board: &mut Board, worker: u8, item: u64) -> Result<(), Refusal>
 /// Whether the board has printed the one line `hello`.
 fn prints_hello(board: &Board) -> bool {
     match board.lines().as_slice() {
-        [line] => line.as_bytes() == b"hello".as_slice(),
+        [Scalar::Text(line)] => line.as_bytes() == b"hello".as_slice(),
         _ => false,
     }
 }
@@ -117,6 +118,24 @@ fn asserting(alloc: Global, holds: bool) -> Result<(Board, Done), Refusal> {
     work_on(&mut board, 1, 2)?;
     let done = done_on(&mut board, 1, 3)?;
     Ok((board, done))
+}
+
+/// Each end tells which items can begin from then on, and a datum goes with its last reader.
+#[test]
+fn items_and_data_come_and_go(rt: HostRuntime) {
+    let code = asserted(rt.alloc(), true).expect(&rt, "a code");
+    let mut board = Board::new(rt.alloc(), code, 100).expect(&rt, "memory");
+    assert_eq!(rt; work_on(&mut board, 0, 1), Ok(()));
+    assert_eq!(rt; (board.newly_len(), board.stored()), (1, 1));
+    assert_eq!(rt; board.newly(0), Some((Kind::Leaf, 0, 2)));
+    assert_eq!(rt; work_on(&mut board, 1, 2), Ok(()));
+    assert_eq!(rt;
+        (board.newly(0), board.newly(1)),
+        (Some((Kind::Leaf, 0, 3)), None)
+    );
+    assert_eq!(rt; work_on(&mut board, 1, 3), Ok(()));
+    assert_eq!(rt; (board.newly_len(), board.stored()), (0, 0));
+    assert!(rt; board.is_quiet());
 }
 
 /// The result of the same entry with another input is refused, and that with the same input is not, from wherever it comes.

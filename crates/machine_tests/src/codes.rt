@@ -3,7 +3,7 @@ ghost use Rattle.std.specs.Prelude.{◌≡◌, ◌≤◌, IfOk, length};
 ghost use Rattle.values.specs.Operators.{printf};
 ghost use Rattle.task_code.specs.Code.{Assert, Print, need, no_operand, operation};
 ghost use Rattle.task_code.specs.View.{act_view, entry_view};
-ghost use Rattle.board.specs.Flat.{IsFlat};
+ghost use Rattle.task_code.specs.Whole.{IsCode};
 ghost use Rattle.machine_tests.specs.Codes.{assert_entry, set_entry};
 
 use std::alloc::{AllocError, Global};
@@ -28,7 +28,7 @@ pub fn empty(alloc: Global) -> Code {
 
 /// `printf(TEXT);`
 fn printed_draft(alloc: Global, text: &[u8]) -> Result<Draft, FormatFault>
-    ensures flat { IfOk result (λ code. IsFlat code) }
+    ensures whole { IfOk result (λ code. IsCode code) }
     ensures few { IfOk result (λ code. length code.entries ≤ 4194304) }
 {
     let format = Format::read(alloc, text)?;
@@ -52,28 +52,24 @@ fn printed_draft(alloc: Global, text: &[u8]) -> Result<Draft, FormatFault>
 }
 
 /// `printf(TEXT);`
-pub fn printed(alloc: Global, text: &[u8]) -> Result<Code, FormatFault>
-    ensures { IfOk result (λ code. IsFlat code) }
-{
+pub fn printed(alloc: Global, text: &[u8]) -> Result<Code, FormatFault> {
     let draft = printed_draft(alloc, text)?;
     Ok(Code::of(draft))
 }
 
 /// `printf("hello");`
-pub fn hello(alloc: Global) -> Result<Code, FormatFault>
-    ensures { IfOk result (λ code. IsFlat code) }
-{
+pub fn hello(alloc: Global) -> Result<Code, FormatFault> {
     printed(alloc, b"hello")
 }
 
 /// The scalar of node 1.
-const X: Variable = Variable {
+pub const X: Variable = Variable {
     node: 1,
     array: false,
 };
 
 /// Its name in its own block.
-const NAME: Name = Name {
+pub const NAME: Name = Name {
     up: 0,
     owned: Owned::Local(X),
 };
@@ -119,7 +115,7 @@ fn assert_truth(alloc: Global) -> Result<Entry, AllocError>
 
 /// `boolean x = TRUTH; assert(x, "");`
 fn asserted_draft(alloc: Global, truth: bool) -> Result<Draft, AllocError>
-    ensures flat { IfOk result (λ code. IsFlat code) }
+    ensures whole { IfOk result (λ code. IsCode code) }
     ensures few { IfOk result (λ code. length code.entries ≤ 4194304) }
 {
     let mut code = Draft::new(alloc);
@@ -134,9 +130,7 @@ fn asserted_draft(alloc: Global, truth: bool) -> Result<Draft, AllocError>
 }
 
 /// `boolean x = TRUTH; assert(x, "");`
-pub fn asserted(alloc: Global, truth: bool) -> Result<Code, AllocError>
-    ensures { IfOk result (λ code. IsFlat code) }
-{
+pub fn asserted(alloc: Global, truth: bool) -> Result<Code, AllocError> {
     let draft = asserted_draft(alloc, truth)?;
     Ok(Code::of(draft))
 }

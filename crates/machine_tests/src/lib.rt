@@ -2,6 +2,18 @@
 #![tactic(auto)]
 
 #[cfg(test)]
+mod board_code_tests;
+#[cfg(test)]
+mod board_data_tests;
+#[cfg(test)]
+mod board_effects_tests;
+#[cfg(test)]
+mod board_frames_tests;
+#[cfg(test)]
+mod board_items_tests;
+#[cfg(test)]
+mod board_openings_tests;
+#[cfg(test)]
 mod board_tests;
 #[cfg(test)]
 mod board_work_tests;
@@ -23,3 +35,5 @@ mod swt_trace_tests;
 mod task_code_tests;
 #[cfg(test)]
 mod work_queue_tests;
+#[cfg(test)]
+mod worlds;

@@ -3,7 +3,7 @@
 ghost use Rattle.std.specs.Prelude.{◌≡◌};
 
 use crate::codes::{empty, hello};
-use board::place::{Fault, FaultKind, Statement, Step};
+use board::{Fault, FaultKind, Statement, Step};
 use board_work::outcome::EntryFault;
 use runs::report::{End, Report};
 use std::alloc::Global;

@@ -1,0 +1,108 @@
+//! What is worked out of `boolean x = true; assert(x, "");`: where its names lead, and what its entries and its body hold.
+ghost use Rattle.std.specs.Prelude.{◌≡◌};
+
+use crate::codes::{NAME, X, asserted};
+use crate::worlds::FIRST;
+use board_code::key::copy_key;
+use board_code::program::{Own, Program, Wanted};
+use board_code::spot::{homes, own_slot, place_among, spot_in};
+use data_store::store::Shape;
+use std::alloc::Global;
+use std::process::Abort;
+use task_code::code::Code;
+use task_code::entry::{Name, Need, Owned, Variable};
+use values::key::Key;
+use work_queue::entry::Kind;
+
+/// A variable that the block lacks.
+const OTHER: Variable = Variable {
+    node: 9,
+    array: false,
+};
+
+fn code_of(rt: &impl Abort, alloc: Global) -> Code {
+    asserted(alloc, true).expect(rt, "a code")
+}
+
+fn program_of(rt: &impl Abort, alloc: Global) -> Program {
+    let program = Program::new(alloc, code_of(rt, alloc)).expect(rt, "memory");
+    assert_eq!(rt; program.code().entry_count(), 2);
+    program
+}
+
+#[test]
+fn entries_have_their_data(rt: HostRuntime) {
+    let program = program_of(&rt, rt.alloc());
+    let set = program.entry(0).expect(&rt, "an entry");
+    assert_eq!(rt; (set.kind, set.priority), (Kind::Leaf, 0));
+    assert_eq!(rt;
+        (set.target, set.value, set.turn),
+        (Some(FIRST), None, None)
+    );
+    assert!(rt; set.needs.is_empty() && set.reads.is_empty() && set.arguments.is_empty());
+    assert!(rt; set.writes.as_slice() == [FIRST].as_slice());
+    assert!(rt; program.entry(2).is_none());
+}
+
+#[test]
+fn an_entry_wants_its_needs(rt: HostRuntime) {
+    let program = program_of(&rt, rt.alloc());
+    let asserts = program.entry(1).expect(&rt, "an entry");
+    assert!(rt; matches!(asserts.needs.as_slice(), [Wanted::Stored(Some(FIRST))]));
+    assert!(rt; asserts.reads.as_slice() == [FIRST].as_slice());
+    let wanted = program.wanted(0, &Need::AtKey(NAME, Key::Number(7)));
+    assert!(rt; matches!(wanted, Wanted::AtKey(Some(FIRST), Key::Number(7))));
+}
+
+#[test]
+fn a_block_has_its_holds(rt: HostRuntime) {
+    let program = program_of(&rt, rt.alloc());
+    let body = program.body(0).expect(&rt, "a body");
+    let own = Own {
+        shape: Shape::Single,
+        reads: 1,
+        writes: 1,
+    };
+    assert!(rt; body.own.as_slice() == [own].as_slice());
+    assert!(rt; body.outer.is_empty());
+    assert_eq!(rt; (body.controls, body.leaves), (0, 2));
+    assert!(rt; program.body(1).is_none());
+}
+
+#[test]
+fn names_lead_to_their_slots(rt: HostRuntime) {
+    let code = code_of(&rt, rt.alloc());
+    assert_eq!(rt; code.body_count(), 1);
+    let homes = homes(rt.alloc(), &code).expect(&rt, "memory");
+    assert!(rt; homes.as_slice() == [Some(0u32), Some(0)].as_slice());
+    let lost = Name {
+        up: 0,
+        owned: Owned::Local(OTHER),
+    };
+    assert_eq!(rt;
+        (
+            spot_in(&code, homes.as_slice(), 0, NAME),
+            spot_in(&code, homes.as_slice(), 0, lost)
+        ),
+        (Some(FIRST), None)
+    );
+}
+
+#[test]
+fn a_block_has_its_slots(rt: HostRuntime) {
+    let code = code_of(&rt, rt.alloc());
+    let body = code.body(0).expect(&rt, "a body");
+    let makes = body.makes.as_slice();
+    assert_eq!(rt;
+        (place_among(makes, X), place_among(makes, OTHER)),
+        (Some(0), None)
+    );
+    assert_eq!(rt;
+        (
+            own_slot(body, Owned::Local(X)),
+            own_slot(body, Owned::Parameter(0, false))
+        ),
+        (Some(0), None)
+    );
+    assert!(rt; matches!(copy_key(&Key::Number(-3)), Key::Number(-3)));
+}

@@ -1,0 +1,142 @@
+//! Items and instances of a script that is opened: what its names stand for, paths, turns of loops, how instances come and go.
+
+use crate::worlds::{ASSERT, FIRST, Opened, SET, opened_script};
+use board_code::spot::Spot;
+use board_frames::instance::{Slot, datum_at, enter, leave, path_of, slot_at};
+use board_frames::item::{Item, Mark, item_of, mark_item};
+use board_frames::opening::{Around, Opening, inner, outermost};
+use board_frames::place::Step;
+use board_frames::placing::{go_on, place_all};
+use board_frames::turns::{Site, push_block, push_elements, push_range};
+use std::alloc::{AllocError, Global};
+use std::process::Abort;
+use values::key::Key;
+use values::map::Element;
+use values::range::Range;
+use values::value::Scalar;
+
+fn open(rt: &impl Abort, alloc: Global) -> Opened {
+    opened_script(alloc).expect(rt, "a world")
+}
+
+fn around(world: &Opened) -> Around<'_> {
+    world.view().around()
+}
+
+/// A step by the number 40.
+fn way(key: i64) -> Step {
+    Step {
+        offset: 40,
+        key: Key::Number(key),
+    }
+}
+
+#[test]
+fn names_stand_for_data(rt: HostRuntime) {
+    let world = open(&rt, rt.alloc());
+    let outside = Spot { levels: 1, slot: 0 };
+    let instances = &world.world.instances;
+    assert_eq!(rt;
+        (slot_at(instances, 0, FIRST), slot_at(instances, 0, outside)),
+        (Slot::Datum(0), Slot::Absent)
+    );
+    assert_eq!(rt; datum_at(instances, 0, Some(FIRST)), Some(0));
+    assert_eq!(rt; datum_at(instances, 0, None), None);
+    let path = path_of(rt.alloc(), instances, 0).expect(&rt, "memory");
+    assert!(rt; path.is_empty());
+}
+
+#[test]
+fn items_have_numbers(rt: HostRuntime) {
+    let mut world = open(&rt, rt.alloc());
+    let waiting = Some(Item {
+        job: SET,
+        mark: Mark::Waiting,
+    });
+    assert_eq!(rt; item_of(world.rows.as_slice(), 2), waiting);
+    assert_eq!(rt; item_of(world.rows.as_slice(), 0), None);
+    mark_item(world.rows.as_mut_slice(), 3, Mark::Ready);
+    let ready = Some(Item {
+        job: ASSERT,
+        mark: Mark::Ready,
+    });
+    assert_eq!(rt; item_of(world.rows.as_slice(), 3), ready);
+    assert_eq!(rt; item_of(world.rows.as_slice(), 4), None);
+}
+
+#[test]
+fn an_instance_goes_with_its_last_item(rt: HostRuntime) {
+    let mut world = open(&rt, rt.alloc());
+    let instances = &mut world.world.instances;
+    enter(instances, 0, 1);
+    leave(instances, 0);
+    leave(instances, 0);
+    assert_eq!(rt; instances.len(), 1);
+    leave(instances, 0);
+    assert_eq!(rt; instances.len(), 0);
+}
+
+#[test]
+fn instances_lie_in_one_another(rt: HostRuntime) {
+    let world = open(&rt, rt.alloc());
+    let body = world.program.code().body(0).expect(&rt, "a body");
+    let first = outermost(rt.alloc(), body).expect(&rt, "memory");
+    assert_eq!(rt; (first.level, first.depth, first.live), (0, 0, 2));
+    let found = inner(rt.alloc(), around(&world), 0, Some(way(7)), (0, &[]));
+    let inside = found.expect(&rt, "memory").expect(&rt, "an instance");
+    assert_eq!(rt; (inside.level, inside.depth, inside.live), (1, 1, 2));
+    assert_eq!(rt; inside.parent, Some(0));
+    let none = inner(rt.alloc(), around(&world), 1, None, (0, &[]));
+    assert!(rt; none.expect(&rt, "memory").is_none());
+}
+
+fn site(world: &Opened, alloc: Global) -> Site<'_> {
+    Site {
+        alloc,
+        around: around(world),
+        body: 0,
+        offset: 40,
+    }
+}
+
+/// A block, two elements and three numbers of a range.
+fn turns(alloc: Global, world: &Opened) -> Result<Vec<Opening>, AllocError> {
+    let mut list = Vec::new(alloc);
+    let values = (None, None);
+    push_block(site(world, alloc), &mut list, None, (0, &[]), values)?;
+    let one = Element {
+        key: Key::Number(3),
+        value: Scalar::Truth(true),
+    };
+    push_elements(site(world, alloc), &mut list, &[one])?;
+    if let Ok(range) = Range::new(5, 9, 2) {
+        push_range(site(world, alloc), &mut list, &range, 1, 7)?;
+    }
+    Ok(list)
+}
+
+#[test]
+fn loops_have_turns(rt: HostRuntime) {
+    let world = open(&rt, rt.alloc());
+    let list = turns(rt.alloc(), &world).expect(&rt, "memory");
+    assert_eq!(rt; list.len(), 4);
+    let last = list.last().expect(&rt, "a turn");
+    assert!(rt; matches!(&last.value, Some(Scalar::Number(9))));
+    assert!(rt; matches!(&last.turn, Some(Scalar::Number(2))));
+    let way = last.instance.way.as_ref().expect(&rt, "a step");
+    assert!(rt; way.offset == 40 && matches!(way.key, Key::Number(2)));
+}
+
+#[test]
+fn instances_are_placed_with_their_items(rt: HostRuntime) {
+    let mut world = open(&rt, rt.alloc());
+    let list = turns(rt.alloc(), &world).expect(&rt, "memory");
+    let instances = &mut world.world.instances;
+    let last = place_all(instances, &mut world.rows, Some(0), &[1], list);
+    let last = last.expect(&rt, "memory").expect(&rt, "a key");
+    assert_eq!(rt; (instances.len(), world.rows.len()), (5, 7));
+    let path = path_of(rt.alloc(), instances, last).expect(&rt, "memory");
+    assert_eq!(rt; path.len(), 1);
+    go_on(&mut world.rows, 0, 1, 0).expect(&rt, "memory");
+    assert_eq!(rt; world.rows.len(), 8);
+}

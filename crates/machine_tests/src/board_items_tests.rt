@@ -1,0 +1,91 @@
+//! The items of `boolean x = true; assert(x, "");`: which can begin, run or wait, and what wakes them.
+
+use crate::codes::asserted;
+use crate::worlds::{ASSERT, SET, open};
+use board_code::program::Program;
+use board_frames::item::Job;
+use board_items::items::{Counts, Items, order_of};
+use board_items::settling::Outlook;
+use board_openings::world::World;
+use rules::input::Input;
+use std::alloc::{AllocError, Global};
+use std::process::Abort;
+use work_queue::entry::Kind;
+
+fn program_of(rt: &impl Abort, alloc: Global) -> Program {
+    let code = asserted(alloc, true).expect(rt, "a code");
+    Program::new(alloc, code).expect(rt, "memory")
+}
+
+#[test]
+fn kinds_are_counted(rt: HostRuntime) {
+    let mut counts = Counts {
+        controls: 0,
+        leaves: 1,
+    };
+    counts.add(Kind::Control);
+    counts.take(Kind::Leaf);
+    counts.take(Kind::Leaf);
+    assert_eq!(rt; (counts.controls, counts.leaves), (1, 0));
+}
+
+#[test]
+fn entries_have_an_order(rt: HostRuntime) {
+    let program = program_of(&rt, rt.alloc());
+    assert_eq!(rt; order_of(&program, Job::Script), (Kind::Control, 0));
+    assert_eq!(rt; order_of(&program, ASSERT), (Kind::Leaf, 0));
+}
+
+#[test]
+fn the_first_item_begins_and_comes_back(rt: HostRuntime) {
+    let mut items = Items::new(rt.alloc()).expect(&rt, "memory");
+    assert_eq!(rt; items.queue.first(Kind::Control), Some(1));
+    items.begin(3, 1, (Kind::Control, 0));
+    assert!(rt; !items.is_still() && items.running == 1);
+    assert_eq!(rt; items.queue.first(Kind::Control), None);
+    items.back(1, (Kind::Control, 0));
+    assert!(rt; !items.is_still() && items.running == 0);
+    assert!(rt; items.newly.as_slice() == [1u64].as_slice());
+}
+
+/// The items after the script's own has ended.
+fn settled(alloc: Global, program: &Program) -> Result<Items, AllocError> {
+    let (mut items, mut world) = (Items::new(alloc)?, World::new(alloc));
+    let mut known = Vec::new(alloc);
+    items.begin(0, 1, order_of(program, Job::Script));
+    items.reserve_to_wake(2)?;
+    items.reserve_new(Counts {
+        controls: 0,
+        leaves: 2,
+    })?;
+    open(alloc, program, &mut world, &mut items.rows, &mut known)?;
+    let outlook = Outlook {
+        alloc,
+        program,
+        instances: &world.instances,
+        store: &world.store,
+    };
+    items.finish(outlook, 1, Job::Script, 1, Vec::new(alloc))?;
+    Ok(items)
+}
+
+#[test]
+fn new_items_can_begin_or_wait(rt: HostRuntime) {
+    let program = program_of(&rt, rt.alloc());
+    let items = settled(rt.alloc(), &program).expect(&rt, "memory");
+    assert!(rt; items.newly.as_slice() == [2u64].as_slice());
+    assert_eq!(rt; items.queue.first(Kind::Leaf), Some(2));
+    assert_eq!(rt; (items.rules.waiting(), items.rows.len()), (1, 3));
+    assert!(rt; items.rows.last().is_some_and(|row| row.job == ASSERT));
+}
+
+#[test]
+fn a_value_wakes_who_waits_for_it(rt: HostRuntime) {
+    let program = program_of(&rt, rt.alloc());
+    let mut items = settled(rt.alloc(), &program).expect(&rt, "memory");
+    items.begin(1, 2, order_of(&program, SET));
+    assert!(rt; items.reserve_to_wake(0).is_ok());
+    items.tell(&Input::Whole(0));
+    assert!(rt; items.woken.as_slice() == [3u64].as_slice());
+    assert_eq!(rt; items.rules.waiting(), 0);
+}

@@ -1,0 +1,104 @@
+//! The ends of the items of `boolean x = true; assert(x, "");`, and what they do to instances and data.
+
+use crate::worlds::{ASSERT, Opened, SET, end, opened_script};
+use board_code::program::Own;
+use board_data::data;
+use board_frames::item::{Item, Job, Mark};
+use board_frames::opening::{Opening, outermost};
+use board_openings::filling::{TurnSlots, fill_all};
+use board_openings::opening::{go_on_if, home};
+use board_openings::world::Change;
+use data_store::store::{Shape, Store};
+use rules::input::Input;
+use std::alloc::{AllocError, Global};
+use values::value::Scalar;
+
+#[test]
+fn the_script_is_opened(rt: HostRuntime) {
+    let opened = opened_script(rt.alloc()).expect(&rt, "a world");
+    assert_eq!(rt;
+        (opened.world.instances.len(), opened.world.store.len()),
+        (1, 1)
+    );
+    let new = Item {
+        job: ASSERT,
+        mark: Mark::Waiting,
+    };
+    assert_eq!(rt; opened.rows.last(), Some(&new));
+    assert!(rt; opened.known.is_empty());
+    assert_eq!(rt; (home(Job::Script), home(SET)), (None, Some(0)));
+}
+
+/// Ends the item of a job in the world.
+fn end_in(alloc: Global, opened: &mut Opened, job: Job, change: Change) -> Result<(), AllocError> {
+    let (rows, known) = (&mut opened.rows, &mut opened.known);
+    let world = &mut opened.world;
+    end(alloc, &opened.program, world, rows, known, (job, change))
+}
+
+#[test]
+fn what_is_stored_becomes_known(rt: HostRuntime) {
+    let mut opened = opened_script(rt.alloc()).expect(&rt, "a world");
+    let stores = Change::Value(Some(0), Scalar::Truth(true));
+    assert!(rt; end_in(rt.alloc(), &mut opened, SET, stores).is_ok());
+    assert!(rt; matches!(opened.known.as_slice(), [Input::Whole(0)]));
+    let stored = data::value(&opened.world.store, 0);
+    assert!(rt; matches!(stored, Some(Scalar::Truth(true))));
+    assert_eq!(rt; opened.world.instances.len(), 1);
+}
+
+#[test]
+fn the_last_item_takes_all_with_it(rt: HostRuntime) {
+    let mut opened = opened_script(rt.alloc()).expect(&rt, "a world");
+    let stores = Change::Value(Some(0), Scalar::Truth(true));
+    assert!(rt; end_in(rt.alloc(), &mut opened, SET, stores).is_ok());
+    assert!(rt; end_in(rt.alloc(), &mut opened, ASSERT, Change::Nothing).is_ok());
+    assert_eq!(rt;
+        (opened.world.instances.len(), opened.world.store.len()),
+        (0, 0)
+    );
+}
+
+#[test]
+fn a_loop_goes_on_with_one_item(rt: HostRuntime) {
+    let mut rows = Vec::new(rt.alloc());
+    assert!(rt; go_on_if(&mut rows, SET, false).is_ok() && rows.is_empty());
+    assert!(rt; go_on_if(&mut rows, SET, true).is_ok());
+    let rest = Job::Does {
+        instance: 0,
+        entry: 0,
+        chunk: 1,
+    };
+    assert!(rt; rows.last().is_some_and(|row| row.job == rest));
+}
+
+/// An instance whose first variable is a turn's.
+fn turn(alloc: Global, opened: &Opened) -> Result<Vec<Opening>, AllocError> {
+    let mut list = Vec::new(alloc);
+    if let Some(body) = opened.program.code().body(0) {
+        list.push(Opening {
+            instance: outermost(alloc, body)?,
+            value: Some(Scalar::Number(6)),
+            turn: None,
+        })?;
+    }
+    Ok(list)
+}
+
+#[test]
+fn data_of_a_turn_are_made(rt: HostRuntime) {
+    let opened = opened_script(rt.alloc()).expect(&rt, "a world");
+    let mut list = turn(rt.alloc(), &opened).expect(&rt, "memory");
+    let mut store = Store::new(rt.alloc());
+    let own = Own {
+        shape: Shape::Single,
+        reads: 1,
+        writes: 0,
+    };
+    let slots = TurnSlots {
+        value: Some(0),
+        turn: None,
+    };
+    assert!(rt; fill_all(&mut store, &[own], &mut list, slots).is_ok());
+    assert!(rt; matches!(data::value(&store, 0), Some(Scalar::Number(6))));
+}

@@ -1,0 +1,100 @@
+//! What the script of `boolean x = true; assert(x, "");` opens, made by the parts of a board alone.
+
+use crate::codes::asserted;
+use board_code::program::Program;
+use board_code::spot::Spot;
+use board_data::wanted::View;
+use board_effects::effect::Effect;
+use board_effects::script_effect;
+use board_frames::item::{Item, Job, Mark};
+use board_openings::world::{Change, World};
+use rules::input::Input;
+use std::alloc::{AllocError, Global};
+
+/// Its variable stands in the first slot of the block.
+pub const FIRST: Spot = Spot { levels: 0, slot: 0 };
+
+/// The item of the assignment.
+pub const SET: Job = Job::Does {
+    instance: 0,
+    entry: 0,
+    chunk: 0,
+};
+
+/// The item of what is asserted.
+pub const ASSERT: Job = Job::Does {
+    instance: 0,
+    entry: 1,
+    chunk: 0,
+};
+
+/// Instances and data with the items and what is known, over some code.
+#[derive(Drop)]
+pub struct Opened {
+    pub program: Program,
+    pub world: World,
+    pub rows: Vec<Item>,
+    pub known: Vec<Input>,
+}
+
+/// Opens the script in a world in which nothing is.
+pub fn open(
+    alloc: Global,
+    program: &Program,
+    world: &mut World,
+    rows: &mut Vec<Item>,
+    known: &mut Vec<Input>,
+) -> Result<(), AllocError> {
+    let change = match script_effect(alloc, program)? {
+        Effect::Opens(openings) => Change::Opens(openings),
+        _ => Change::Nothing,
+    };
+    end(alloc, program, world, rows, known, (Job::Script, change))
+}
+
+/// Makes room for the end of the item of a job, and ends it.
+pub fn end(
+    alloc: Global,
+    program: &Program,
+    world: &mut World,
+    rows: &mut Vec<Item>,
+    known: &mut Vec<Input>,
+    ended: (Job, Change),
+) -> Result<(), AllocError> {
+    let (job, change) = ended;
+    world.make_room(rows, known, program, job, &change)?;
+    let spare = world.end(alloc, rows, known, program, job, change)?;
+    drop(spare);
+    Ok(())
+}
+
+/// The script, opened.
+pub fn opened_script(alloc: Global) -> Result<Opened, AllocError> {
+    let program = Program::new(alloc, asserted(alloc, true)?)?;
+    let mut world = World::new(alloc);
+    let mut rows = Vec::new(alloc);
+    rows.push(Item {
+        job: Job::Script,
+        mark: Mark::Running(0),
+    })?;
+    let mut known = Vec::new(alloc);
+    open(alloc, &program, &mut world, &mut rows, &mut known)?;
+    Ok(Opened {
+        program,
+        world,
+        rows,
+        known,
+    })
+}
+
+impl Opened {
+    /// What the script's instance sees.
+    pub fn view(&self) -> View<'_> {
+        View {
+            program: &self.program,
+            instances: &self.world.instances,
+            store: &self.world.store,
+            at: 0,
+        }
+    }
+}
