@@ -1,8 +1,10 @@
-use Rattle.std.proofs.Common.{◌≡◌, ◌∙◌, sym, ap, subst, ℕ, IfOk}
+use Rattle.std.proofs.Common.{◌≡◌, ◌∙◌, sym, ap, subst, ℕ, IfOk, List}
+use Rattle.std.specs.Prelude.{Result, Ok, Err}
 use Rattle.task_code.specs.Code.{Code}
 use Rattle.board.specs.Board.{Seen}
-use Rattle.runs.specs.Report.{Reports}
-use Rattle.runs.specs.Turns.{starts}
+use Rattle.runs.specs.declared.report.Report.{Report}
+use Rattle.runs.specs.Report.{Reports, Tells}
+use Rattle.runs.specs.Turns.{RanTo, starts}
 use Rattle.runs.proofs.Idle.{AllIdle}
 use Rattle.runs.proofs.Turned.{run_is_over, run_keeps, starts_idle}
 use Rattle.runs.proofs.one.run_one.Goals as goal
@@ -19,3 +21,14 @@ returns-clause-reports c =
     let kept = run_keeps c.args.choices.now c.in_ok-board.board c.run_by.new.board c.in_ok-run_by.ensures in
     subst (λ (C : Code). IfOk c.report_of.result (λ r. Reports C c.args.limit r)) (kept.0 ∙ ap (λ (b : Seen). b.code) is)
     (subst (λ (n : ℕ). IfOk c.report_of.result (λ r. Reports c.run_by.new.board.code n r)) (kept.1 ∙ ap (λ (b : Seen). b.limit) is) c.report_of.ensures.reports)
+
+-- what a report tells of a board that was run to
+told : {E : Type 0} (r : Result Report E) (choices : List ℕ) (from to : Seen) → RanTo choices from to → IfOk r (Tells to) → IfOk r (λ report. (board : Seen) × RanTo choices from board × Tells board report)
+told (Ok report) choices from to ran tells = (to, ran, tells)
+told (Err e) choices from to ran tells = tt
+
+pub returns-clause-turns : goal.returns-clause-turns
+returns-clause-turns c =
+    let is : c.in_ok-board.board ≡ starts c.args.code.now c.args.limit = c.in_ok-board.ensures ∙ ap (λ (C : Code). starts C c.args.limit) c.in_ok-copy.ensures in
+    let ran : RanTo c.args.choices.now (starts c.args.code.now c.args.limit) c.run_by.new.board = subst (λ (b : Seen). RanTo c.args.choices.now b c.run_by.new.board) is c.in_ok-run_by.ensures in
+    told c.report_of.result c.args.choices.now (starts c.args.code.now c.args.limit) c.run_by.new.board ran c.report_of.ensures.tells
