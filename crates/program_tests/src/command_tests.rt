@@ -234,10 +234,7 @@ fn replays_traces(rt: HostRuntime) -> Result<(), Fail> {
     for (trace, wanted) in rows {
         let sources = [Some(HELLO), Some(trace)];
         let words = ["replay", "f", "t"];
-        assert_eq!(rt;
-            done_in(alloc, &words, &sources, WIDE)?.as_str(),
-            wanted
-        );
+        assert_eq!(rt; done_in(alloc, &words, &sources, WIDE)?.as_str(), wanted);
     }
     Ok(())
 }

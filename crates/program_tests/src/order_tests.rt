@@ -55,7 +55,8 @@ fn is_worked(alloc: Global, report: &Report, worked: &Worked) -> Result<bool, Fa
     let printed = sorted_lines(alloc, report)?;
     let has_lines = match &report.end {
         End::Quiet => !worked.has_faults && printed.as_slice() == worked.lines,
-        End::Fault(_) => worked.has_faults && printed.iter().all(|line| worked.lines.contains(line)),
+        End::Fault(_) => worked.has_faults
+            && printed.iter().all(|line| worked.lines.contains(line)),
         End::Limit => false,
     };
     let end = end_of(alloc, report)?;
@@ -203,7 +204,10 @@ fn every_order_of_scalars(rt: HostRuntime) -> Result<(), Fail> {
         let code = compile(alloc, alloc, script)?;
         let known = rounds(alloc, &read(alloc, alloc, script)?, 100)?;
         assert!(rt; known.finished());
-        assert_eq!(rt; orders(alloc, &code, 1000, &Meant::Known(&known))?, Some(wanted));
+        assert_eq!(rt;
+            orders(alloc, &code, 1000, &Meant::Known(&known))?,
+            Some(wanted)
+        );
     }
     Ok(())
 }
@@ -222,14 +226,16 @@ fn every_order_of_branches(rt: HostRuntime) -> Result<(), Fail> {
         ends: &[b""],
         has_faults: false,
     };
-    let script = b"boolean b; if (b) { printf(\"t\"); } else { printf(\"e\"); } b = 2 < 1; printf(\"s\");";
+    let script =
+        b"boolean b; if (b) { printf(\"t\"); } else { printf(\"e\"); } b = 2 < 1; printf(\"s\");";
     assert!(rt; always(rt.alloc(), script, &quiet)?);
     let blocked = Worked {
         lines: &[b"in"],
         ends: &[b"swt: blocked 14 /\nswt: blocked 21 /\nswt: blocked 40 /28.0\n"],
         has_faults: false,
     };
-    let script = b"int y; int z; y = z; z = y; if (true) { printf(\"%i\", y); printf(\"in\"); } int a = 1;";
+    let script =
+        b"int y; int z; y = z; z = y; if (true) { printf(\"%i\", y); printf(\"in\"); } int a = 1;";
     assert!(rt; always(rt.alloc(), script, &blocked)?);
     Ok(())
 }
@@ -248,7 +254,8 @@ fn every_order_of_waits_and_calls(rt: HostRuntime) -> Result<(), Fail> {
         ends: &[b""],
         has_faults: false,
     };
-    let script = b"(int r) f(int n) { printf(\"f\"); r = n + 1; } int y; int x = f(y); y = 2; printf(\"%i\", x);";
+    let script =
+        b"(int r) f(int n) { printf(\"f\"); r = n + 1; } int y; int x = f(y); y = 2; printf(\"%i\", x);";
     assert!(rt; always(rt.alloc(), script, &calls)?);
     Ok(())
 }
@@ -260,14 +267,16 @@ fn every_order_of_arrays(rt: HostRuntime) -> Result<(), Fail> {
         ends: &[b""],
         has_faults: false,
     };
-    let script = b"int A[]; foreach i in [0:1] { A[i] = i + 1; } printf(\"%i\", size(A)); foreach v, k in A { printf(\"%i %i\", k, v); }";
+    let script =
+        b"int A[]; foreach i in [0:1] { A[i] = i + 1; } printf(\"%i\", size(A)); foreach v, k in A { printf(\"%i %i\", k, v); }";
     assert!(rt; always(rt.alloc(), script, &sizes)?);
     let closes = Worked {
         lines: &[b"1", b"7"],
         ends: &[b""],
         has_faults: false,
     };
-    let script = b"int A[]; int n; if (n == 2) { A[n] = 7; } n = 2; printf(\"%i\", A[2]); printf(\"%i\", size(A));";
+    let script =
+        b"int A[]; int n; if (n == 2) { A[n] = 7; } n = 2; printf(\"%i\", A[2]); printf(\"%i\", size(A));";
     assert!(rt; always(rt.alloc(), script, &closes)?);
     Ok(())
 }

@@ -7,7 +7,12 @@ use std::test::Fail;
 fn runs_to(alloc: Global, script: &[u8], wanted: &[u8], status: u8) -> Result<bool, Fail> {
     let run = perform(alloc, &["run", "f", "--trace", "t"], &[Some(script)], WIDE)?;
     let trace = run.trace.as_slice();
-    let again = perform(alloc, &["replay", "f", "t"], &[Some(script), Some(trace)], WIDE)?;
+    let again = perform(
+        alloc,
+        &["replay", "f", "t"],
+        &[Some(script), Some(trace)],
+        WIDE,
+    )?;
     let is_wanted = run.out.as_slice() == wanted && run.err.is_empty() && run.status == status;
     let is_same = again.out.as_slice() == wanted && again.err.is_empty() && again.status == status;
     Ok(is_wanted && is_same)
