@@ -10,7 +10,7 @@ use Rattle.values.specs.Operators.{Operation, evaluated}
 use Rattle.syntax_trees.specs.Numbers.{expression_numbers, form_numbers, expressions_numbers, right_numbers, calling_numbers, over_numbers, statement_numbers, command_numbers, body_numbers, statements_numbers, part_numbers, numbers}
 use Rattle.syntax_trees.specs.Resolved.{chain_operation, prefix_operation}
 use Rattle.syntax_trees.specs.Tree.{Expression, expression, Form, number, text, truth, variable, element, call, prefixed, chain, Expressions, no_expressions, and_expression, expressions_of, RightSide, value, list, Calling, Over, array, range, Statement, statement, Statements, no_statements, and_statement, Command, declare, assign, write, assign_all, calls, choice, choice_else, loop, waits, Body, body, Part, import, function, single, Tree}
-use Rattle.meaning_laws.proofs.TreeOffsets.{expression_offsets, form_offsets, expressions_offsets, right_offsets, calling_offsets, over_offsets, statement_offsets, command_offsets, body_offsets, statements_offsets, tree_offsets}
+use Rattle.meaning_laws.proofs.TreeOffsets.{expression_offsets, form_offsets, expressions_offsets, right_offsets, calling_offsets, over_offsets, header_offsets, statement_offsets, command_offsets, body_offsets, statements_offsets, tree_offsets}
 use Rattle.constant_fold.specs.Folded.{literal_of, scalars_of, literal_or, collapsed, called, called_operation, folded, folded_form, folded_all, folded_right, folded_calling, folded_over, folded_statement, folded_command, folded_body, folded_statements, folded_part, folded_tree}
 use Rattle.constant_fold.proofs.Scripts.{all_of}
 use Rattle.well_formed.specs.Placed.{IsPlaced}
@@ -137,9 +137,20 @@ over_lies : (o : Over) → Sub (over_offsets (folded_over o)) (over_offsets o)
 over_lies (array w) = nothing
 over_lies (range low high step) = sub_both (expression_lies low) (sub_both (expression_lies high) (sub_maybe expression_offsets folded expression_lies step))
 
+header_lies : (at : ℕ) (c : Command) → Sub (header_offsets at (folded_command c)) (header_offsets at c)
+header_lies at (choice e b) = sub_all _
+header_lies at (choice_else e b d) = sub_all _
+header_lies at (loop v k o b) = sub_all _
+header_lies at (declare d r) = nothing
+header_lies at (assign w r) = nothing
+header_lies at (write w i e) = nothing
+header_lies at (assign_all ws c) = nothing
+header_lies at (calls p c) = nothing
+header_lies at (waits ws b) = nothing
+
 mutual
   statement_lies : (s : Statement) → Sub (statement_offsets (folded_statement s)) (statement_offsets s)
-  statement_lies (statement nd c) = command_lies c
+  statement_lies (statement nd c) = sub_both (header_lies nd.first.from c) (command_lies c)
 
   command_lies : (c : Command) → Sub (command_offsets (folded_command c)) (command_offsets c)
   command_lies (declare d r) = sub_maybe right_offsets folded_right right_lies r

@@ -1,21 +1,21 @@
 -- What a script prints, where its one printing statement stands in a known place: that line and nothing else.
-use Rattle.std.specs.Prelude.{◌≡◌, ◌⊎◌, ℕ, zero, suc, ℤ, Bool, true, false, ◌&&◌, List, [], ◌∷◌, ◌++◌, Option, Some, slice_get, refl}
+use Rattle.std.specs.Prelude.{◌≡◌, ◌⊎◌, ℕ, suc, ℤ, Bool, true, false, ◌&&◌, List, [], ◌∷◌, ◌++◌, refl}
 use Rattle.std.specs.List.{list_all}
 use Rattle.std.proofs.Common.{inl, inr, sym, ap, ◌∙◌, subst}
 use Rattle.std.proofs.lemmas.List.Sorted.{IsPermutation-refl}
 use Rattle.values.specs.declared.value.Scalar.TheVariants.{Text}
 use Rattle.values.specs.declared.value.Value.{Value}
 use Rattle.values.specs.declared.value.Value.TheVariants.{One}
-use Rattle.syntax_trees.specs.Core.{Outer, Stmt, stmt, Action, print, Block, Function, Core}
+use Rattle.syntax_trees.specs.Core.{Outer, Stmt, stmt, Action, print, Block, Core}
 use Rattle.syntax_trees.specs.Facts.{Fact, value, line, Knowledge}
 use Rattle.syntax_trees.specs.Meaning.{Live, script, opened, waited, called, Comes, before, now, LiveStmt, in_block, New, cell_value, cell_fault, assigned, filled, inserted, printed, bad_range, too_deep_header, too_deep_call, written_twice, Known, Meaning}
 use Rattle.syntax_trees.specs.Members.{◌∈◌, first, later}
 use Rattle.syntax_trees.specs.Outcomes.{Written, Lines}
-use Rattle.syntax_trees.specs.Parts.{block_list, blocks_below, blocks_of, function_blocks, stmts_among, script_stmts, stmt_action}
+use Rattle.syntax_trees.specs.Parts.{block_list, blocks_below, function_blocks, stmts_among, script_stmts, stmt_action}
 use Rattle.syntax_trees.specs.Places.{Path, Place}
 use Rattle.syntax_trees.specs.Single.{SinglyAssigned}
 use Rattle.syntax_trees.specs.WellFormed.{WellFormed}
-use Rattle.syntax_trees.proofs.Blocks.{inner_blocks, header_inner, inner_below, below_below, of_below, functions_below, body_block, among}
+use Rattle.syntax_trees.proofs.Blocks.{inner_blocks, header_inner, inner_below, below_below, functions_below, body_block, among}
 use Rattle.syntax_trees.proofs.Members.{to_left, to_right, either}
 use Rattle.meaning_laws.proofs.Declared.{header_of}
 use Rattle.meaning_laws.proofs.Ever.{one_value}

@@ -1,12 +1,12 @@
--- Where no called name of a tree stands at the offset of another, no two calls of its core have one offset.
+-- Where no called name and no header of a tree stands at the offset of another, no two calls and headers of its core have one offset.
 use Rattle.std.specs.Prelude.{◌≡◌, ℕ, ◌+◌, ◌≤◌, ℤ, pos, true, List, [], ◌∷◌, ◌++◌, map, Option, Some, None, length, refl}
 use Rattle.std.proofs.Common.{ap, ◌∙◌, arith}
 use Rattle.values.specs.Operators as op
 use Rattle.syntax_trees.specs.declared.tree.Shape.{Shape}
 use Rattle.syntax_trees.specs.Tree as T
 use Rattle.syntax_trees.specs.Tree.{Word, Node, Declaration, Expression, expression, number, text, truth, variable, element, call, prefixed, chain, Expressions, no_expressions, and_expression, expressions_of, RightSide, value, list, Calling, Over, Statement, statement, Command, choice, choice_else, loop, waits, Body, body, Statements, no_statements, and_statement, Composite, Tree, import, function, single}
-use Rattle.syntax_trees.specs.Core.{Name, here, compute, read, Call, Part, inner, calls, Outer, Action, declare, assign, insert, assert, when, choose, wait, Stmt, stmt, Block, stmts, Function}
-use Rattle.syntax_trees.specs.Parts.{stmts_among, script_stmts, part_calls, parts, outer_parts, block_list, blocks_below, blocks_inside, blocks_of, function_blocks, stmt_calls, calls_among}
+use Rattle.syntax_trees.specs.Core.{Name, here, compute, read, Call, Part, inner, calls, Outer, Action, declare, assign, insert, assert, when, choose, range, each, wait, Stmt, stmt, Block, stmts, Function}
+use Rattle.syntax_trees.specs.Parts.{stmts_among, script_stmts, part_calls, parts, outer_parts, block_list, blocks_below, blocks_inside, blocks_of, function_blocks, calls_among}
 use Rattle.syntax_trees.specs.Resolved.{refers, Formed, Operands, Arguments, form_of, operands_of, arguments_of, computes, call_form, call_to, number_of, outer_of, outer, after_first, composite_call, call_right, right_of, call_action, several, awaited, loop_action, stmt_of, block_of, block_in, with_statement, with_command, script_block, functions_of, core, format_of}
 use Rattle.syntax_trees.specs.Table as table
 use Rattle.syntax_trees.specs.Table.{Table, Callee, composite, built_in}
@@ -49,9 +49,16 @@ abbrev pub over_offsets : Over → List ℕ
 over_offsets (T.array w) = []
 over_offsets (T.range low high step) = expression_offsets low ++ (expression_offsets high ++ maybe_numbers expression_offsets step)
 
+-- where an `if` or a `foreach` begins
+abbrev pub header_offsets : ℕ → Command → List ℕ
+header_offsets at (choice e b) = at ∷ []
+header_offsets at (choice_else e b other) = at ∷ []
+header_offsets at (loop v k o b) = at ∷ []
+header_offsets at _ = []
+
 abbrev mutual
   pub statement_offsets : Statement → List ℕ
-  statement_offsets (statement nd c) = command_offsets c
+  statement_offsets (statement nd c) = header_offsets nd.first.from c ++ command_offsets c
 
   pub command_offsets : Command → List ℕ
   command_offsets (T.declare d r) = maybe_numbers right_offsets r
@@ -71,7 +78,7 @@ abbrev mutual
   statements_offsets no_statements = []
   statements_offsets (and_statement s ss) = statement_offsets s ++ statements_offsets ss
 
--- the offsets of the called names of a tree, in reading order
+-- the offsets of the called names and of the headers of a tree, in reading order
 abbrev pub tree_offsets : Tree → List ℕ
 tree_offsets [] = []
 tree_offsets (import sp ∷ ps) = tree_offsets ps
@@ -158,8 +165,17 @@ more_at n o ps = at-append n o.parts (inner o.cell ∷ ps)
 
 -- STATEMENTS
 
-abbrev stmt_offsets : Stmt → List ℕ
-stmt_offsets st = flat offset (stmt_calls st)
+-- the offset of a header that opens blocks under keys
+abbrev pub branch_offset : ℕ → Action → List ℕ
+branch_offset at (when c b) = at ∷ []
+branch_offset at (choose c b d) = at ∷ []
+branch_offset at (range lo hi st v k b) = at ∷ []
+branch_offset at (each a v k b) = at ∷ []
+branch_offset at _ = []
+
+-- the offset of a header, and those of the calls of a statement
+abbrev pub stmt_offsets : Stmt → List ℕ
+stmt_offsets (stmt at n a) = branch_offset at a ++ flat offset (part_calls (parts a))
 
 abbrev own_at : ℕ → Action → ℕ
 own_at n a = times n (flat offset (part_calls (parts a)))
@@ -244,15 +260,29 @@ block_at n b = times n (flat stmt_offsets (block_list b)) + times n (flat stmt_o
 inner_at : (n : ℕ) (b : Block) → times n (flat stmt_offsets (stmts_among (b ∷ blocks_below b))) ≡ block_at n b
 inner_at n b = times-flat stmt_offsets n (block_list b) (stmts_among (blocks_below b))
 
-front_at : (n at m : ℕ) (a : Action) (b : Block) → block_at n (stmts (stmt at m a) b) ≡ (own_at n a + times n (flat stmt_offsets (stmts_among (blocks_inside a)))) + block_at n b
+front_at : (n at m : ℕ) (a : Action) (b : Block)
+    → block_at n (stmts (stmt at m a) b) ≡ ((times n (branch_offset at a) + own_at n a) + times n (flat stmt_offsets (stmts_among (blocks_inside a)))) + block_at n b
 front_at n at m a b =
     let x = times-append n (stmt_offsets (stmt at m a)) (flat stmt_offsets (block_list b)) in
+    let z = times-append n (branch_offset at a) (flat offset (part_calls (parts a))) in
     let y = among-append (blocks_inside a) (blocks_below b) n stmt_offsets in
     omega arith
+
+no_branch : (n at : ℕ) (a : Action) → blocks_inside a ≡ [] → times n (branch_offset at a) ≡ 0
+no_branch n at (when c b) e = absurd (cc (e))
+no_branch n at (choose c b d) e = absurd (cc (e))
+no_branch n at (range lo hi st v k b) e = absurd (cc (e))
+no_branch n at (each a v k b) e = absurd (cc (e))
+no_branch n at _ e = refl
+
+loop_branch : (n at : ℕ) (t : Table) (v : Word) (k : Option Word) (o : Over) (b : Block) → times n (branch_offset at (loop_action t v k o b)) ≡ times n (at ∷ [])
+loop_branch n at t v k (T.array w) b = refl
+loop_branch n at t v k (T.range low high step) b = refl
 
 alone_at : (n at m : ℕ) (a : Action) (b : Block) → blocks_inside a ≡ [] → block_at n (stmts (stmt at m a) b) ≡ own_at n a + block_at n b
 alone_at n at m a b e =
     let f = front_at n at m a b in
+    let g = no_branch n at a e in
     let q : times n (flat stmt_offsets (stmts_among (blocks_inside a))) ≡ 0 = ap (λ (bs : List Block). times n (flat stmt_offsets (stmts_among bs))) e in
     omega arith
 
@@ -269,9 +299,13 @@ mutual
       omega arith
 
   statement_at : (n : ℕ) (t : Table) (s : Statement) (b : Block) → block_at n (with_statement t s b) ≤ times n (statement_offsets s) + block_at n b
-  statement_at n t (statement nd c) b = command_at n t nd c b
+  statement_at n t (statement nd c) b =
+      let h = command_at n t nd c b in
+      let a = times-append n (header_offsets nd.first.from c) (command_offsets c) in
+      omega arith
 
-  command_at : (n : ℕ) (t : Table) (nd : Node) (c : Command) (b : Block) → block_at n (with_command t nd c b) ≤ times n (command_offsets c) + block_at n b
+  command_at : (n : ℕ) (t : Table) (nd : Node) (c : Command) (b : Block)
+      → block_at n (with_command t nd c b) ≤ (times n (header_offsets nd.first.from c) + times n (command_offsets c)) + block_at n b
   command_at n t nd (T.declare d None) b = let f = alone_at n nd.first.from nd.number (declare d.name.number) b refl in omega arith
   command_at n t nd (T.declare d (Some r)) b =
       let x = right_of t (here d.name.number) d.shape r in
@@ -324,6 +358,7 @@ mutual
       let q : times n (flat stmt_offsets (stmts_among (blocks_inside (loop_action t v k o (block_of t d))))) ≡ times n (flat stmt_offsets (stmts_among (block_of t d ∷ blocks_below (block_of t d)))) =
       ap (λ (bs : List Block). times n (flat stmt_offsets (stmts_among bs))) (loop_block t v k o (block_of t d)) in
       let h = loop_at n t v k o (block_of t d) in
+      let u = loop_branch n nd.first.from t v k o (block_of t d) in
       let i = inner_at n (block_of t d) in
       let l = body_at n t d in
       let a = times-append n (over_offsets o) (body_offsets d) in
@@ -351,22 +386,26 @@ parts_at n t (function f ∷ ps) =
     let a = times-append n (body_offsets f.body) (tree_offsets ps) in
     omega arith
 
-among_at : (n : ℕ) (ss : List Stmt) → times n (flat offset (calls_among ss)) ≡ times n (flat stmt_offsets ss)
-among_at n [] = refl
-among_at n (s ∷ ss) =
+among_at : (n : ℕ) (ss : List Stmt) → times n (flat offset (calls_among ss)) ≤ times n (flat stmt_offsets ss)
+among_at n [] = omega arith
+among_at n (stmt at m x ∷ ss) =
     let e = among_at n ss in
-    let a = times-flat offset n (stmt_calls s) (calls_among ss) in
-    let b = times-append n (stmt_offsets s) (flat stmt_offsets ss) in
+    let a = times-flat offset n (part_calls (parts x)) (calls_among ss) in
+    let c = times-append n (branch_offset at x) (flat offset (part_calls (parts x))) in
+    let b = times-append n (stmt_offsets (stmt at m x)) (flat stmt_offsets ss) in
     omega arith
 
-core_at : (n : ℕ) (t : Table) (tree : Tree) → times n (flat offset (calls_among (script_stmts (core t tree)))) ≤ times n (tree_offsets tree)
+core_at : (n : ℕ) (t : Table) (tree : Tree) → times n (flat stmt_offsets (script_stmts (core t tree))) ≤ times n (tree_offsets tree)
 core_at n t tree =
     let h = parts_at n t tree in
     let a = among-append (blocks_of (script_block t tree)) (function_blocks (functions_of t tree)) n stmt_offsets in
     let i = inner_at n (script_block t tree) in
-    let b = among_at n (script_stmts (core t tree)) in
     omega arith
+
+-- where no called name and no header stands at the offset of another, no two calls and headers have one offset
+pub stmts_once : (t : Table) (tree : Tree) → distinct (tree_offsets tree) ≡ true → distinct (flat stmt_offsets (script_stmts (core t tree))) ≡ true
+stmts_once t tree h = few_distinct (flat stmt_offsets (script_stmts (core t tree))) (λ n. (let a = distinct_few (tree_offsets tree) h n in let b = core_at n t tree in omega arith))
 
 -- where no called name stands at the offset of another, each call is found by its offset
 pub offsets_once : (t : Table) (tree : Tree) → distinct (tree_offsets tree) ≡ true → distinct (flat offset (calls_among (script_stmts (core t tree)))) ≡ true
-offsets_once t tree h = few_distinct (flat offset (calls_among (script_stmts (core t tree)))) (λ n. (let a = distinct_few (tree_offsets tree) h n in let b = core_at n t tree in omega arith))
+offsets_once t tree h = few_distinct (flat offset (calls_among (script_stmts (core t tree)))) (λ n. (let a = distinct_few (tree_offsets tree) h n in let b = core_at n t tree in let c = among_at n (script_stmts (core t tree)) in omega arith))

@@ -1,4 +1,4 @@
--- In a tree that a text reads as no called name stands at the offset of another.
+-- In a tree that a text reads as no called name and no header stands at the offset of another.
 use Rattle.std.specs.Prelude.{◌≡◌, ℕ, ◌+◌, ◌<◌, ◌≤◌, true, List, [], ◌∷◌, ◌++◌, map, Some, None, length, sum_by, Ok, refl}
 use Rattle.std.proofs.Common.{sym, ap, ap₂, ◌∙◌, subst, arith}
 use Rattle.lexer.specs.Reading.{items_from}
@@ -11,7 +11,7 @@ use Rattle.syntax_trees.specs.Tree as T
 use Rattle.syntax_trees.specs.Tree.{Word, Expression, expression, number, text, truth, variable, element, call, prefixed, chain, Expressions, no_expressions, and_expression, expressions_of, RightSide, value, list, Calling, Over, Statement, statement, Command, choice, choice_else, loop, waits, Body, body, Statements, no_statements, and_statement, Tree, import, function, single}
 use Rattle.syntax_trees.proofs.Tested.{distinct}
 use Rattle.syntax_trees.proofs.TreeNumbers.{times, few_distinct}
-use Rattle.meaning_laws.proofs.TreeOffsets.{expression_offsets, form_offsets, expressions_offsets, right_offsets, calling_offsets, over_offsets, statement_offsets, command_offsets, body_offsets, statements_offsets, tree_offsets}
+use Rattle.meaning_laws.proofs.TreeOffsets.{expression_offsets, form_offsets, expressions_offsets, right_offsets, calling_offsets, over_offsets, header_offsets, statement_offsets, command_offsets, body_offsets, statements_offsets, tree_offsets}
 use Rattle.well_formed.specs.Placed.{Rise, IsPlaced}
 use Rattle.well_formed.proofs.Called.{starts_of, c_script}
 use Rattle.well_formed.proofs.Once.{numbered_rise}
@@ -56,9 +56,20 @@ of_over n (T.range low high (Some step)) =
     ap₂ (λ (x y : List ℕ). x ++ y) (of_expression n low)
     (ap₂ (λ (x y : List ℕ). x ++ y) (of_expression (n + expression_size low) high) (of_expression (n + expression_size low + expression_size high) step))
 
+of_header : (n at : ℕ) (c : Command) → header_offsets at (numbered_command n c) ≡ header_offsets at c
+of_header n at (choice e b) = refl
+of_header n at (choice_else e b d) = refl
+of_header n at (loop v k o b) = refl
+of_header n at (T.declare d r) = refl
+of_header n at (T.assign w r) = refl
+of_header n at (T.write w i e) = refl
+of_header n at (T.assign_all ws c) = refl
+of_header n at (T.calls p c) = refl
+of_header n at (waits ws b) = refl
+
 mutual
   of_statement : (n : ℕ) (s : Statement) → statement_offsets (numbered_statement n s) ≡ statement_offsets s
-  of_statement n (statement nd c) = of_command (n + 1) c
+  of_statement n (statement nd c) = ap₂ (λ (x y : List ℕ). x ++ y) (of_header (n + 1) nd.first.from c) (of_command (n + 1) c)
 
   of_command : (n : ℕ) (c : Command) → command_offsets (numbered_command n c) ≡ command_offsets c
   of_command n (T.declare d None) = refl
@@ -109,7 +120,7 @@ starts_once least most n (t ∷ ts) h =
     (λ e. (let q = none_before (t.span).to most n ts h.3 (omega arith) in omega arith))
     (λ e. omega arith)
 
--- no called name of a text stands at the offset of another
+-- no called name and no header of a text stands at the offset of another
 apart : (bytes : List ℕ) (tree : Tree) → Reads bytes tree → distinct (tree_offsets tree) ≡ true
 apart bytes tree r = few_distinct (tree_offsets tree) (λ n. few n)
   where

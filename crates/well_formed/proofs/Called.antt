@@ -1,4 +1,4 @@
--- The called names of a tree that a text reads as are tokens of the text, each another.
+-- The called names and the headers of a tree that a text reads as are tokens of the text, each another.
 use Rattle.std.specs.Prelude.{◌≡◌, ℕ, zero, suc, ◌+◌, ◌≤◌, Bool, true, false, List, [], ◌∷◌, ◌++◌, map, Option, Some, None, refl}
 use Rattle.std.proofs.Common.{ap, arith}
 use Rattle.lexer.specs.declared.token.TokenKind.{TokenKind}
@@ -8,13 +8,13 @@ use Rattle.syntax_trees.specs.declared.tree.Level.{Level}
 use Rattle.syntax_trees.specs.declared.tree.Operator.{Operator}
 use Rattle.syntax_trees.specs.Kinds.{repeats}
 use Rattle.syntax_trees.specs.Rules.{Place, Rule, The, ◌⋆◌, ◌▹◌, ◌◃◌, Nothing, Never, Many, Maybe, AtMostOne, Perhaps, Made, Commas, Round, Square, Curly, Deeper, cons}
-use Rattle.syntax_trees.specs.Grammar.{IsName, IsOperator, chained, Repeated, IsChain, IsExprOver, AreArguments, IsUnaryOver, a_not, a_negative, a_number, a_string, a_true, a_false, a_name, an_element, a_call, a_parenthesis, IsUnary, IsExpr, IsType, IsDecl, AreParameters, AreNames, IsCall, IsRight, a_value, a_list, IsPrio, IsSmall, IsPriority, IsRange, IsSource, an_array, a_range, IsElse, a_block, IsModule, io, assert, string, IsStmtOver, a_declaration, an_assignment, a_write, many_assigned, an_if, a_foreach, a_wait, IsBlockOver, IsStmt, IsBlock, IsPart, an_import, a_function, a_statement}
+use Rattle.syntax_trees.specs.Grammar.{IsName, IsOperator, chained, Repeated, IsChain, IsExprOver, AreArguments, IsUnaryOver, a_not, a_negative, a_number, a_string, a_true, a_false, a_name, an_element, a_call, a_parenthesis, IsUnary, IsExpr, IsType, IsDecl, AreParameters, AreNames, IsCall, IsRight, a_value, a_list, IsPrio, IsSmall, IsPriority, IsRange, IsSource, an_array, a_range, IsElse, a_block, IsModule, io, assert, string, IsStmtOver, a_declaration, an_assignment, a_write, many_assigned, an_if, a_foreach, a_wait, IsBlockOver, IsStmt, IsBlock, IsPart, an_import, a_function, a_statement, first_of}
 use Rattle.syntax_trees.specs.Tree.{Word, Expression, expressions_of, RightSide, Calling, Over, Statement, Body, statements_of, Part, Tree, import, function, single}
 use Rattle.syntax_trees.specs.View.{choice_of}
 use Rattle.syntax_trees.proofs.Tested.{flat}
 use Rattle.syntax_trees.proofs.TreeNumbers.{times, times-append}
 use Rattle.meaning_laws.proofs.TreeNodes.{maybe_numbers}
-use Rattle.meaning_laws.proofs.TreeOffsets.{expression_offsets, expressions_offsets, right_offsets, calling_offsets, over_offsets, statement_offsets, command_offsets, body_offsets, statements_offsets, tree_offsets}
+use Rattle.meaning_laws.proofs.TreeOffsets.{expression_offsets, expressions_offsets, right_offsets, calling_offsets, over_offsets, header_offsets, statement_offsets, command_offsets, body_offsets, statements_offsets, tree_offsets}
 
 -- where tokens begin
 abbrev pub starts_of : List Lexeme → List ℕ
@@ -55,6 +55,15 @@ c_both R Q f g c d n s x u h =
 
 c_then : {A B : Type 0} (R : Rule A) (Q : Rule B) (g : B → List ℕ) → Counts R none_of → Counts Q g → Counts (R ▹ Q) g
 c_then R Q g c d n s x u h = let p = c n s h.0 h.1 h.2 in let q = d n h.1 x u h.3 in omega arith
+
+-- with where the first token begins
+c_head : {B : Type 0} (k : TokenKind) (Q : Rule B) (g : B → List ℕ) → Counts Q g → (n : ℕ) (s : Place) (x : B) (u : Place) → (The k ▹ Q) s x u
+    → (times n ((first_of s.rest).from ∷ []) + times n (g x)) + left n u ≤ left n s
+c_head k Q g d n s x u h =
+    let p = c_token k n s h.0 h.1 h.2 in
+    let q = d n h.1 x u h.3 in
+    let e = ap (λ (r : List Lexeme). times n ((first_of r).from ∷ [])) (h.2).2 in
+    omega arith
 
 c_before : {A B : Type 0} (R : Rule A) (Q : Rule B) (f : A → List ℕ) → Counts R f → Counts Q none_of → Counts (R ◃ Q) f
 c_before R Q f c d n s x u h = let p = c n s x h.1 h.2 in let q = d n h.1 h.0 u h.3 in omega arith
@@ -291,13 +300,14 @@ c_else B S p q n s x u (an_if y t v g h e) =
     let c = times-append n (statement_offsets y) [] in
     omega arith
 
-choice_less : (n : ℕ) (e : Expression) (b : Body) (o : Option Body) → times n (command_offsets (choice_of e b o)) ≤ times n (expression_offsets e ++ (body_offsets b ++ maybe_numbers body_offsets o))
-choice_less n e b None =
+choice_less : (n at : ℕ) (e : Expression) (b : Body) (o : Option Body)
+    → times n (header_offsets at (choice_of e b o) ++ command_offsets (choice_of e b o)) ≤ times n (at ∷ []) + times n (expression_offsets e ++ (body_offsets b ++ maybe_numbers body_offsets o))
+choice_less n at e b None =
     let a = times-append n (expression_offsets e) (body_offsets b) in
     let c = times-append n (expression_offsets e) (body_offsets b ++ []) in
     let d = times-append n (body_offsets b) [] in
     omega arith
-choice_less n e b (Some o) = omega arith
+choice_less n at e b (Some o) = omega arith
 
 c_statement_over : (depth : ℕ) (B : Rule Body) (S : Rule Statement) → Counts B body_offsets → Counts S statement_offsets → Counts (IsStmtOver depth B S) statement_offsets
 c_statement_over depth B S p q n s c u (a_declaration x h e) =
@@ -334,16 +344,16 @@ c_statement_over depth B S p q n s c u (a_call x h e) =
     omega arith
 c_statement_over depth B S p q n s c u (an_if x h e) =
     let a = ap (λ (z : Statement). times n (statement_offsets z)) e in
-    let b = c_then (The Kind.If) (Round (Deeper IsExpr depth) ⋆ (B ⋆ Maybe (The Kind.Else ▹ IsElse B S))) (λ y. expression_offsets y.0 ++ (body_offsets y.1.0 ++ maybe_numbers body_offsets y.1.1)) (c_the Kind.If)
+    let b = c_head Kind.If (Round (Deeper IsExpr depth) ⋆ (B ⋆ Maybe (The Kind.Else ▹ IsElse B S))) (λ y. expression_offsets y.0 ++ (body_offsets y.1.0 ++ maybe_numbers body_offsets y.1.1))
     (c_both (Round (Deeper IsExpr depth)) (B ⋆ Maybe (The Kind.Else ▹ IsElse B S)) expression_offsets (λ y. body_offsets y.0 ++ maybe_numbers body_offsets y.1)
     (c_round (Deeper IsExpr depth) expression_offsets (c_deeper IsExpr expression_offsets c_expr depth))
     (c_both B (Maybe (The Kind.Else ▹ IsElse B S)) body_offsets (maybe_numbers body_offsets) p
     (c_maybe (The Kind.Else ▹ IsElse B S) body_offsets (c_then (The Kind.Else) (IsElse B S) body_offsets (c_the Kind.Else) (c_else B S p q))))) n s x u h in
-    let d = choice_less n x.0 x.1.0 x.1.1 in
+    let d = choice_less n (first_of s.rest).from x.0 x.1.0 x.1.1 in
     omega arith
 c_statement_over depth B S p q n s c u (a_foreach x h e) =
     let a = ap (λ (z : Statement). times n (statement_offsets z)) e in
-    let b = c_then (The Kind.Foreach) (IsName ⋆ (Maybe (The Kind.Comma ▹ IsName) ⋆ (The Kind.In ▹ (IsSource depth ⋆ B)))) (λ y. [] ++ ([] ++ (over_offsets y.1.1.0 ++ body_offsets y.1.1.1))) (c_the Kind.Foreach)
+    let b = c_head Kind.Foreach (IsName ⋆ (Maybe (The Kind.Comma ▹ IsName) ⋆ (The Kind.In ▹ (IsSource depth ⋆ B)))) (λ y. [] ++ ([] ++ (over_offsets y.1.1.0 ++ body_offsets y.1.1.1)))
     (c_both IsName (Maybe (The Kind.Comma ▹ IsName) ⋆ (The Kind.In ▹ (IsSource depth ⋆ B))) none_of (λ y. [] ++ (over_offsets y.1.0 ++ body_offsets y.1.1)) c_name
     (c_both (Maybe (The Kind.Comma ▹ IsName)) (The Kind.In ▹ (IsSource depth ⋆ B)) none_of (λ y. over_offsets y.0 ++ body_offsets y.1)
     (c_less (Maybe (The Kind.Comma ▹ IsName)) (maybe_numbers none_of) (c_maybe (The Kind.Comma ▹ IsName) none_of (c_then (The Kind.Comma) IsName none_of (c_the Kind.Comma) c_name)))

@@ -1,4 +1,4 @@
--- A tree with its numbers and its called names in their places, as in the tree of a text; there may be gaps, where nodes were taken out.
+-- A tree with its numbers, its called names and its headers in their places, as in the tree of a text; there may be gaps, where nodes were taken out.
 use Rattle.std.specs.Prelude.{◌≡◌, ◌<◌, ℕ, true, List, [], ◌∷◌}
 use Rattle.syntax_trees.specs.Numbers.{numbers}
 use Rattle.syntax_trees.specs.Tree.{Tree}
@@ -13,5 +13,5 @@ Rise n (m ∷ ms) = (n < m) × Rise m ms
 pub record IsPlaced (tree : Tree) : Type 0 where
   -- the numbers stand in reading order
   pub in_order : Rise 0 (numbers tree)
-  -- no called name stands at the offset of another
+  -- no called name and no header stands at the offset of another
   pub apart : distinct (tree_offsets tree) ≡ true
