@@ -8,3 +8,4 @@ pub mod Learning
 pub mod Calling
 pub mod Turning
 pub mod Closing
+pub mod Offsets

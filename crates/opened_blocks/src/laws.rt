@@ -19,6 +19,10 @@ ghost use Rattle.opened_blocks.specs.Opened.{ArePassed, GoesOn, IsChildOf, IsOpe
 ghost use Rattle.opened_blocks.specs.Listed.{all_active, declares};
 ghost use Rattle.ended_blocks.specs.Active.{IsAllOpen, IsRight};
 ghost use Rattle.syntax_trees.specs.Members.{◌∈◌};
+ghost use Rattle.syntax_trees.specs.Resolved.{core};
+ghost use Rattle.syntax_trees.specs.Table.{Table};
+ghost use Rattle.syntax_trees.specs.Tree.{Tree};
+ghost use Rattle.well_formed.specs.Placed.{IsPlaced};
 ghost use Rattle.syntax_trees.specs.Single.{SinglyAssigned};
 ghost use Rattle.syntax_trees.specs.WellFormed.{WellFormed};
 ghost use Rattle.whole_facts.specs.Growing.{with_facts};
@@ -91,4 +95,9 @@ pub fn one_close_more_is_so()
         → (p : Spot) (b : Block) → ◌∈◌ {X = Candidate} (p, b) arrays → IsDone s l (goal_of p b) → one_writer_in (writes_at l.facts p) ≡ true
         → (m : Learned) → m.facts ≡ l.facts → m.instances ≡ l.instances → ((q : Spot) → closed_at m q ≡ cond (same_place p q) true (closed_at l q)) → IsSoFar s (Known s n) levels m ls arrays }
     ensures passed { (s : Core) (n : ℕ) (l m : Learned) (ls ps ws : List Active) → m.facts ≡ l.facts → m.instances ≡ l.instances → ArePassed s (Known s n) l ls ps ws → ArePassed s (Known s n) m ls ps ws }
+{}
+
+/// In the core of a placed tree, as of each text that reads as one, headers have offsets of their own, which are no call's.
+pub fn offsets_are_apart()
+    ensures { (t : Table) (tree : Tree) → IsPlaced tree → OffsetsApart (core t tree) }
 {}
