@@ -23,7 +23,8 @@ use Rattle.board_frames.specs.View.{frames_view, rows_view}
 use Rattle.board_frames.specs.declared.place.Fault.{Fault as Noted}
 use Rattle.board_data.specs.Wanted.{FewSlots}
 use Rattle.board.specs.Board.{Rises}
-use Rattle.board.specs.Inside.{AreRising, IsNoted, Stand}
+use Rattle.board_data.specs.Data.{AreRising}
+use Rattle.board.specs.Inside.{IsNoted, Stand}
 use Rattle.board_items.specs.Settled.{StaysButOrder, one_more, one_less}
 use Rattle.board_items.specs.View.{queue_view}
 use Rattle.board.specs.Queues.{SameNumbers, with_queue}

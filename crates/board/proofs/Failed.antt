@@ -45,7 +45,8 @@ use Rattle.board_openings.specs.declared.world.World.{World}
 use Rattle.board.specs.Board.{IsWorkOf, Rises, answers_to}
 use Rattle.board.specs.Ending.{HasEnded, HasFailed, HasPassed, IsEffectOf, StaysBy, StaysIf, is_fault}
 use Rattle.board.specs.History.{state_of}
-use Rattle.board.specs.Inside.{AreRising, IsNoted, IsStatementOf, Stand}
+use Rattle.board_data.specs.Data.{AreRising}
+use Rattle.board.specs.Inside.{IsNoted, IsStatementOf, Stand}
 use Rattle.board.specs.Rows.{RunsOn}
 use Rattle.board.specs.View.{fields_view, kind_of_fault, with_fault}
 use Rattle.board.specs.declared.state.Core.{Core}

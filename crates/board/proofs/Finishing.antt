@@ -43,7 +43,8 @@ use Rattle.board.specs.Board.{Rises}
 use Rattle.board.specs.Changing.{change_of, line_of}
 use Rattle.board.specs.Counted.{CanChange}
 use Rattle.board.specs.Ending.{is_fault}
-use Rattle.board.specs.Inside.{AreRising, Stand}
+use Rattle.board_data.specs.Data.{AreRising}
+use Rattle.board.specs.Inside.{Stand}
 use Rattle.board.specs.Made.{CanNote, HasMade}
 use Rattle.board.specs.Rows.{RunsOn}
 use Rattle.board.specs.View.{fields_view}
@@ -95,7 +96,7 @@ module _ (C : Code) (I : IsCode C) (es : List Event) (old mid : Core) (s : Stand
   fits To.Passes g c = tt
   fits (To.Opens o) g c = (
     record { around = c.0.around; count = c.0.slots; first = c.0.first; few = c.0.few_slots },
-    holds_fit C I es F s.stands j x old.world.store refl o (are_blocks C F.frames s.stands.frames.depth x o j g.opens) c.0.most c.0.reads c.0.writes
+    holds_fit C I es F s.stands j x old.world.store refl o (are_blocks C F.frames s.stands.frames.depth x o j g.opens) c.0.most c.0.names.reads c.0.names.writes
         (subst (λ k. k * c.0.most + (length o.list.items * (length (body C o.body).entries * c.0.most) + length o.list.items * (length (body C o.body).entries * c.0.most)) < 2 ^ 64) (sym count) c.0.few),
   )
 

@@ -17,7 +17,8 @@ use Rattle.board_frames.specs.View.{frames_view, rows_view}
 use Rattle.board_frames.specs.declared.instance.Instance.{Instance}
 use Rattle.board_frames.specs.declared.place.Fault.{Fault}
 use Rattle.board.specs.Board.{Rises}
-use Rattle.board.specs.Inside.{AreRising, IsNoted, Stand}
+use Rattle.board_data.specs.Data.{AreRising}
+use Rattle.board.specs.Inside.{IsNoted, Stand}
 use Rattle.board_items.specs.Settled.{AreFirst}
 use Rattle.board_items.specs.View.{numbers_at, queue_view}
 use Rattle.board.specs.Queues.{SameNumbers, with_queue}

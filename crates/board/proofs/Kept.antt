@@ -23,7 +23,8 @@ use Rattle.work_queue.specs.Both.{Both}
 use Rattle.board_items.specs.View.{numbers_at, queue_view, waiters_view}
 use Rattle.board.specs.Board.{Rises}
 use Rattle.board.specs.Ending.{StaysSo}
-use Rattle.board.specs.Inside.{AreRising, IsNoted}
+use Rattle.board_data.specs.Data.{AreRising}
+use Rattle.board.specs.Inside.{IsNoted}
 use Rattle.board.specs.View.{Told, fields_view}
 use Rattle.board.specs.declared.state.Core.{Core}
 

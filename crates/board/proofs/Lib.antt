@@ -4,7 +4,6 @@ pub mod Apart
 pub mod Assembled
 pub mod BlockedBy
 pub mod Changes
-pub mod Compared
 pub mod Counting
 pub mod Ends
 pub mod Entries
@@ -17,7 +16,6 @@ pub mod Going
 pub mod GoingKind
 pub mod HoldsFit
 pub mod Kept
-pub mod Listed
 pub mod Marked
 pub mod Most
 pub mod Moves
@@ -37,6 +35,7 @@ pub mod Rooms
 pub mod Showing
 pub mod Slots
 pub mod SpareAfter
+pub mod Storing
 pub mod Stuck
 pub mod Tabled
 pub mod Targets

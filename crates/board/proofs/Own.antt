@@ -23,6 +23,7 @@ use Rattle.task_code.specs.Compute.{EntryFault}
 use Rattle.task_code.specs.Effects.{Item, Main, Task}
 use Rattle.task_code.specs.Places.{Step}
 use Rattle.board.specs.Blocked.{IsFaultOf}
+use Rattle.board.specs.Counted.{AreAtMost}
 use Rattle.board.specs.Board.{Accepts, AreByWorkers, IsGoing, IsWorker, Seen}
 use Rattle.board.specs.Ending.{IsUnchanged}
 use Rattle.board.specs.History.{state_of}
@@ -72,10 +73,11 @@ first_seen C D n events newly e h k =
     (λ i. record { code = e i; limit = n; state = state_of (e i) (map event_view (h i)); history = map event_view (h i); newly = k i })
     ∙ ap (λ (s : CodeState). record { code = C; limit = n; state = s; history = []; newly = [] }) (state_is C [] (start (code_system C)) refl)
 
-pub first_sound : (b : Inside) → IsCode b.program → Stand b.program [] b.core → b.history.items ≡ [] → vec_len b.history ≡ 0 → b.core.items.newly.items ≡ [] → b.core.items.running ≡ 0 → IsSound b
-first_sound b whole stand history len newly running =
+pub first_sound : (b : Inside) → IsCode b.program → AreAtMost b.program b.most_names → Stand b.program [] b.core → b.history.items ≡ [] → vec_len b.history ≡ 0 → b.core.items.newly.items ≡ [] → b.core.items.running ≡ 0 → IsSound b
+first_sound b whole names stand history len newly running =
     record {
       whole = whole;
+      names = names;
       stand = subst (λ (es : List BoardEvent). Stand b.program (map event_view es) b.core) (sym history) stand;
       room = λ h. omega arith;
       newly = λ n i. absurd (subst (λ (ns : List ℕ). In n ns) newly i);
@@ -179,12 +181,13 @@ accepts_on a s b e program limit history stand going =
     events = ap (map event_view) history ∙ history_goes a.history.items e
 
 -- the board after an event
-pub sound_on : (a : Inside) (s : IsSound a) (b : Inside) (e : BoardEvent) → b.program ≡ a.program → b.limit ≡ a.limit → b.history.items ≡ a.history.items ++ e ∷ []
+pub sound_on : (a : Inside) (s : IsSound a) (b : Inside) (e : BoardEvent) → b.program ≡ a.program → b.most_names ≡ a.most_names → b.limit ≡ a.limit → b.history.items ≡ a.history.items ++ e ∷ []
     → Stand a.program (map event_view a.history.items ++ event_view e ∷ []) b.core → (b.core.fault ≡ None → vec_len b.history + b.core.items.running ≤ vec_capacity b.history)
     → vec_len b.history ≤ b.limit → IsWorker (worker_of (event_view e)) → (0 < number_in (event_view e)) × (number_in (event_view e) < 2 ^ 64) → IsSound b
-sound_on a s b e program limit history stand room within worker number =
+sound_on a s b e program most limit history stand room within worker number =
     record {
       whole = subst (λ (C : Code). IsCode C) (sym program) s.whole;
+      names = subst (λ (C : Code). AreAtMost C b.most_names) (sym program) (subst (λ (n : ℕ). AreAtMost a.program n) (sym most) s.names);
       stand = subst (λ (C : Code). Stand C (map event_view b.history.items) b.core) (sym program) (subst (λ (es : List Event). Stand a.program es b.core) (sym events) stand);
       room = room;
       newly = λ n i.
@@ -200,10 +203,11 @@ sound_on a s b e program limit history stand room within worker number =
     events = ap (map event_view) history ∙ history_goes a.history.items e
 
 -- the board as it was, but for room
-pub same_on : (a : Inside) (s : IsSound a) (core : Core) → IsUnchanged a.program (map event_view a.history.items) a.core core → IsSound (record { program = a.program; limit = a.limit; core = core; history = a.history })
+pub same_on : (a : Inside) (s : IsSound a) (core : Core) → IsUnchanged a.program (map event_view a.history.items) a.core core → IsSound (record { program = a.program; most_names = a.most_names; limit = a.limit; core = core; history = a.history })
 same_on a s core k =
     record {
       whole = s.whole;
+      names = s.names;
       stand = k.stand;
       room = λ h. subst (λ (n : ℕ). vec_len a.history + n ≤ vec_capacity a.history) (sym k.running) (s.room (sym k.fault ∙ h));
       newly = λ n i. s.newly n (subst (λ (ns : List ℕ). In n ns) k.newly i);
@@ -212,14 +216,15 @@ same_on a s core k =
       numbers = s.numbers;
     }
 
-pub same_seen : (a : Inside) (core : Core) → core.items.newly.items ≡ a.core.items.newly.items → seen_of (record { program = a.program; limit = a.limit; core = core; history = a.history }) ≡ seen_of a
+pub same_seen : (a : Inside) (core : Core) → core.items.newly.items ≡ a.core.items.newly.items → seen_of (record { program = a.program; most_names = a.most_names; limit = a.limit; core = core; history = a.history }) ≡ seen_of a
 same_seen a core e = ap (λ (ns : List ℕ). record { code = a.program; limit = a.limit; state = state_of a.program (map event_view a.history.items); history = map event_view a.history.items; newly = ns }) e
 
 -- the same board
-pub sorted_sound : (a : Inside) (s : IsSound a) (core : Core) → core ≡ a.core → (history : Vec BoardEvent Global) → history.items ≡ a.history.items → vec_len history ≡ vec_len a.history → vec_capacity a.history ≤ vec_capacity history → IsSound (record { program = a.program; limit = a.limit; core = core; history = history })
+pub sorted_sound : (a : Inside) (s : IsSound a) (core : Core) → core ≡ a.core → (history : Vec BoardEvent Global) → history.items ≡ a.history.items → vec_len history ≡ vec_len a.history → vec_capacity a.history ≤ vec_capacity history → IsSound (record { program = a.program; most_names = a.most_names; limit = a.limit; core = core; history = history })
 sorted_sound a s core e history items len capacity =
     record {
       whole = s.whole;
+      names = s.names;
       stand = subst (λ (hs : List BoardEvent). Stand a.program (map event_view hs) core) (sym items) (subst (λ (k : Core). Stand a.program (map event_view a.history.items) k) (sym e) s.stand);
       room = λ h.
           let r = s.room (ap (λ (k : Core). k.fault) (sym e) ∙ h) in

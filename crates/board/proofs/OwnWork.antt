@@ -45,7 +45,8 @@ use Rattle.board_work.specs.Assigned.{Assigned}
 use Rattle.task_code.specs.View.{event_view}
 use Rattle.board.specs.Board.{IsOwn, IsWorkOf, answers_to, job_of}
 use Rattle.board.specs.History.{state_of}
-use Rattle.board.specs.Inside.{AreRising, IsSound, Stand, seen_of}
+use Rattle.board_data.specs.Data.{AreRising}
+use Rattle.board.specs.Inside.{IsSound, Stand, seen_of}
 use Rattle.board.specs.declared.board.Board.TheInside.{Inside}
 use Rattle.board.specs.Rows.{RunsOn}
 use Rattle.board.specs.View.{fields_view}

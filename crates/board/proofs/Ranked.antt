@@ -1,15 +1,20 @@
 -- The order of statements, and lists in it.
-use Rattle.std.proofs.Common.{◌≡◌, ◌↔◌, ◌⊎◌, inl, inr, ℕ, zero, suc, ◌<◌, Bool, true, false, ◌&&◌, ◌||◌, List, [], ◌∷◌, drop, length, map, refl, sym, ap, ◌∙◌, subst, arith}
-use Rattle.std.specs.Prelude.{if◌then◌else◌, nat_eq, nat_lt, reverse}
+use Rattle.std.proofs.Common.{◌≡◌, ◌↔◌, ◌⊎◌, inl, inr, ℕ, zero, suc, ◌+◌, ◌-◌, ◌<◌, Bool, true, false, ◌&&◌, ◌||◌, List, [], ◌∷◌, ◌++◌, drop, length, map, Option, None, Some, refl, sym, ap, ◌∙◌, subst, arith}
+use Rattle.std.specs.Prelude.{if◌then◌else◌, nat_eq, nat_lt, reverse, slice_get, slice_index_or}
+use Rattle.std.specs.Cmp.{IsStrictWeakOrder}
+use Rattle.std.specs.List.Sorted.{IsPermutation, IsSortedBy}
 use Rattle.dataflow.specs.System.{In}
-use Rattle.dataflow.proofs.Lists.{in_map, in_unmap}
+use Rattle.dataflow.proofs.Lists.{in_left, in_map, in_right, in_split, in_unmap}
 use Rattle.board_frames.specs.declared.place.Statement.{Statement}
 use Rattle.board_frames.specs.declared.place.Step.{Step}
 use Rattle.task_code.proofs.Equal.{both_true, nat_same, nat_sound, true_and}
-use Rattle.values.proofs.Keys.{key_below-other, key_below-trans, same_key-eq, same_key-refl}
+use Rattle.values.proofs.Keys.{key_below-irreflexive, key_below-other, key_below-trans, same_key-eq, same_key-refl}
 use Rattle.values.specs.Keys.{key_below, same_key}
+use Rattle.board_items.proofs.Lists.{in_back, in_moved}
+use Rattle.replayed.proofs.Tests.{none_some, some_same}
 use Rattle.board.specs.Blocked.{InTextOrder, comes_before, path_below, same_step, step_below}
-use Rattle.board.specs.Stuck.{Place, is_before, is_same_statement, place_of, same_path, with_statement, with_statements}
+use Rattle.board.specs.Stuck.{Place, is_before, is_same_statement, place_of, same_path}
+use Rattle.board.specs.Sorting.{each_once, is_last}
 use Rattle.board.specs.View.{path_view}
 
 -- paths that are at their end
@@ -161,80 +166,201 @@ same_place s t h =
     let b = ap (λ p. reverse (path_view p)) (path_is s.path.items t.path.items x.1) in
     λ i. record { at = a i; path = b i }
 
+false_true : false ≡ true → ⊥
+false_true e = absurd (cc (e))
+
+-- it is an order with the same statements as ties
+before_is : (s t : Statement) → Before s t → is_before s t ≡ true
+before_is s t (inl a) = left (path_below s.path.items t.path.items) _ a
+before_is s t (inr a) = right (path_below s.path.items t.path.items) _ (both_true (same_path s.path.items t.path.items) _ (subst (λ p. same_path s.path.items p ≡ true) a.0 (path_own s.path.items)) (lt_complete s.at t.at a.1))
+
+step_not_own : (s t : Step) → step_below s t ≡ true → step_below t s ≡ true → ⊥
+step_not_own s t h g = by (or_split (nat_lt s.offset s.offset) _ (step_trans s t s h g))
+  where
+    by : (nat_lt s.offset s.offset ≡ true) ⊎ ((nat_eq s.offset s.offset && key_below s.key s.key) ≡ true) → ⊥
+    by (inl a) = let x = lt_sound s.offset s.offset a in omega arith
+    by (inr a) = false_true (sym (key_below-irreflexive s.key) ∙ (true_and (nat_eq s.offset s.offset) _ a).1)
+
+path_not_own : (p : List Step) → path_below p p ≡ true → ⊥
+path_not_own [] h = absurd (cc (h))
+path_not_own (s ∷ p) h = elim (or_split (step_below s s) _ h) [ inl a ↦ step_not_own s s a a | inr a ↦ path_not_own p (true_and (same_step s s) _ a).1 ]
+
+before_not : (s t : Statement) → Before s t → Before t s → ⊥
+before_not s t a b = by (before_trans s t s a b)
+  where
+    by : Before s s → ⊥
+    by (inl h) = path_not_own s.path.items h
+    by (inr h) = let x = h.1 in omega arith
+
+false_if : (b : Bool) → (b ≡ true → ⊥) → b ≡ false
+false_if true f = absurd (f refl)
+false_if false f = refl
+
+same_before : (s t : Statement) → is_same_statement s t ≡ true → (s.path.items ≡ t.path.items) × (s.at ≡ t.at)
+same_before s t h = let x = true_and (nat_eq s.at t.at) _ h in (path_is s.path.items t.path.items x.1, nat_sound s.at t.at x.0)
+
+pub before_order : IsStrictWeakOrder is_before
+before_order =
+    record {
+      one_way = λ s t h. false_if (is_before t s) (λ g. before_not s t (before_sound s t h) (before_sound t s g));
+      chain = λ s t u h g. false_if (is_before s u) (λ k. chained s t u h g (before_sound s u k));
+    }
+  where
+    chained : (s t u : Statement) → is_before s t ≡ false → is_before t u ≡ false → Before s u → ⊥
+    chained s t u h g k = by (is_same_statement s t) refl
+      where
+        by : (x : Bool) → is_same_statement s t ≡ x → ⊥
+        by true e =
+            let q = same_before s t e in
+            false_true (sym g ∙ before_is t u (moved q.0 q.1 k))
+          where
+            moved : s.path.items ≡ t.path.items → s.at ≡ t.at → Before s u → Before t u
+            moved a b (inl c) = inl (subst (λ p. path_below p u.path.items ≡ true) a c)
+            moved a b (inr c) = inr (sym a ∙ c.0, subst (λ n. n < u.at) b c.1)
+        by false e = false_true (sym g ∙ before_is t u (before_trans t s u (before_total s t h e) k))
+
 -- lists in order
 abbrev Ordered : List Statement → Type 0
 Ordered [] = Unit {0}
 Ordered (s ∷ ss) = ((t : Statement) → In t ss → Before s t) × Ordered ss
 
-with_only : (s : Statement) (ts : List Statement) (x : Statement) → In x (with_statement s ts) → (x ≡ s) ⊎ In x ts
-with_only s [] x (inl p) = inl p
-with_only s [] x (inr i) = absurd i
-with_only s (t ∷ ts) x i = by (is_before s t) (is_same_statement s t) (with_only s ts x) i
-  where
-    by : (a b : Bool) → (In x (with_statement s ts) → (x ≡ s) ⊎ In x ts) → In x (if a then s ∷ t ∷ ts else (if b then t ∷ ts else t ∷ with_statement s ts)) → (x ≡ s) ⊎ In x (t ∷ ts)
-    by true b rec (inl p) = inl p
-    by true b rec (inr j) = inr j
-    by false true rec j = inr j
-    by false false rec (inl p) = inr (inl p)
-    by false false rec (inr j) = elim (rec j) [ inl p ↦ inl p | inr k ↦ inr (inr k) ]
+got : (ts : List Statement) (k : ℕ) (x : Statement) → slice_get ts k ≡ Some x → In x ts
+got [] k x h = none_some h
+got (t ∷ ts) zero x h = inl (sym (some_same h))
+got (t ∷ ts) (suc k) x h = inr (got ts k x h)
 
-with_ordered : (s : Statement) (ts : List Statement) → Ordered ts → Ordered (with_statement s ts)
-with_ordered s [] r = ((λ t i. absurd i), tt)
-with_ordered s (t ∷ ts) r = by (is_before s t) refl (is_same_statement s t) refl (with_ordered s ts r.1)
-  where
-    by : (a : Bool) → is_before s t ≡ a → (b : Bool) → is_same_statement s t ≡ b → Ordered (with_statement s ts) → Ordered (if a then s ∷ t ∷ ts else (if b then t ∷ ts else t ∷ with_statement s ts))
-    by true e b f rec = ((λ u i. elim i [ inl p ↦ subst (λ z. Before s z) (sym p) (before_sound s t e) | inr j ↦ before_trans s t u (before_sound s t e) (r.0 u j) ]), r)
-    by false e true f rec = r
-    by false e false f rec = ((λ u i. elim (with_only s ts u i) [ inl p ↦ subst (λ z. Before t z) (sym p) (before_total s t e f) | inr j ↦ r.0 u j ]), rec)
+-- each element of a list in order is before the last, or is it
+record IsLast (x : Statement) (ts : List Statement) : Type 0 where
+  there : In x ts
+  after : (t : Statement) → In t ts → (t ≡ x) ⊎ Before t x
 
-with_in : (s : Statement) (ts : List Statement) (p : Place) → (p ≡ place_of s) ⊎ In p (map place_of ts) → In p (map place_of (with_statement s ts))
-with_in s [] p (inl e) = inl e
-with_in s [] p (inr i) = absurd i
-with_in s (t ∷ ts) p i = by (is_before s t) (is_same_statement s t) refl (with_in s ts p) i
+last_of : (ts : List Statement) → Ordered ts → (x : Statement) → slice_get ts (length ts - 1) ≡ Some x → IsLast x ts
+last_of [] r x h = none_some h
+last_of (t ∷ []) r x h = record { there = inl (sym (some_same h)); after = λ u i. elim i [ inl p ↦ inl (p ∙ some_same h) | inr j ↦ absurd j ] }
+last_of (t ∷ u ∷ us) r x h =
+    let l = last_of (u ∷ us) r.1 x (moved h) in
+    record {
+      there = inr l.there;
+      after = λ v i. elim i [ inl p ↦ inr (subst (λ z. Before z x) (sym p) (r.0 x l.there)) | inr j ↦ l.after v j ];
+    }
   where
-    by : (a b : Bool) → is_same_statement s t ≡ b → ((p ≡ place_of s) ⊎ In p (map place_of ts) → In p (map place_of (with_statement s ts))) → (p ≡ place_of s) ⊎ In p (map place_of (t ∷ ts)) → In p (map place_of (if a then s ∷ t ∷ ts else (if b then t ∷ ts else t ∷ with_statement s ts)))
-    by true b f rec (inl e) = inl e
-    by true b f rec (inr j) = inr j
-    by false true f rec (inl e) = inl (e ∙ same_place s t f)
-    by false true f rec (inr j) = j
-    by false false f rec (inl e) = inr (rec (inl e))
-    by false false f rec (inr (inl e)) = inl e
-    by false false f rec (inr (inr j)) = inr (rec (inr j))
+    moved : slice_get (t ∷ u ∷ us) (length (t ∷ u ∷ us) - 1) ≡ Some x → slice_get (u ∷ us) (length (u ∷ us) - 1) ≡ Some x
+    moved g =
+        let e : length (t ∷ u ∷ us) - 1 ≡ suc (length (u ∷ us) - 1) = omega arith in
+        subst (λ k. slice_get (t ∷ u ∷ us) k ≡ Some x) e g
 
-in_with : (s : Statement) (ts : List Statement) (p : Place) → In p (map place_of (with_statement s ts)) → (p ≡ place_of s) ⊎ In p (map place_of ts)
-in_with s ts p i = (let u = in_unmap place_of p (with_statement s ts) i in elim (with_only s ts u.0 u.1) [
-  | inl e ↦ inl (sym u.2 ∙ ap place_of e)
-  | inr j ↦ inr (subst (λ z. In z (map place_of ts)) u.2 (in_map place_of u.0 ts j))
+-- lists in which none is before an earlier one
+abbrev NoneBefore : List Statement → Type 0
+NoneBefore [] = Unit {0}
+NoneBefore (s ∷ ss) = ((t : Statement) → In t ss → is_before t s ≡ false) × NoneBefore ss
+
+abbrev AreBehind : List Statement → List Statement → Type 0
+AreBehind found ss = (t s : Statement) → In t found → In s ss → is_before s t ≡ false
+
+put_ordered : (found : List Statement) (s : Statement) → Ordered found → ((t : Statement) → In t found → Before t s) → Ordered (found ++ s ∷ [])
+put_ordered [] s r f = ((λ t i. absurd i), tt)
+put_ordered (t ∷ ts) s r f = (
+  (λ u i. elim (in_split u ts (s ∷ []) i) [ inl j ↦ r.0 u j | inr j ↦ elim j [ inl p ↦ subst (λ z. Before t z) (sym p) (f t (inl refl)) | inr k ↦ absurd k ] ]),
+  put_ordered ts s r.1 (λ u j. f u (inr j)),
+)
+
+last_before : (found : List Statement) (s : Statement) → Ordered found → ((t : Statement) → In t found → is_before s t ≡ false) → is_last found s ≡ false → (t : Statement) → In t found → Before t s
+last_before found s r f h t i = by (slice_get found (length found - 1)) refl h
+  where
+    none_in : (ts : List Statement) → slice_get ts (length ts - 1) ≡ None → (u : Statement) → In u ts → ⊥
+    none_in [] e u j = j
+    none_in (v ∷ []) e u j = none_some (sym e)
+    none_in (v ∷ w ∷ ws) e u j =
+        let k : length (v ∷ w ∷ ws) - 1 ≡ suc (length (w ∷ ws) - 1) = omega arith in
+        none_in (w ∷ ws) (subst (λ n. slice_get (v ∷ w ∷ ws) n ≡ None) k e) w (inl refl)
+
+    by : (o : Option Statement) → slice_get found (length found - 1) ≡ o → elim o [ None ↦ false | Some x ↦ is_same_statement s x ] ≡ false → Before t s
+    by None e g = absurd (none_in found e t i)
+    by (Some x) e g =
+        let l = last_of found r x e in
+        let y = before_total s x (f x l.there) g in
+        elim (l.after t i) [ inl p ↦ subst (λ z. Before z s) (sym p) y | inr b ↦ before_trans t x s b y ]
+
+-- so each stands once, in order
+once_ordered : (found ss : List Statement) → Ordered found → NoneBefore ss → AreBehind found ss → Ordered (each_once found ss)
+once_ordered found [] r n b = r
+once_ordered found (s ∷ ss) r n b = by (is_last found s) refl (λ q c. once_ordered found ss q n.1 c) (λ q c. once_ordered (found ++ s ∷ []) ss q n.1 c)
+  where
+    by : (x : Bool) → is_last found s ≡ x → (Ordered found → AreBehind found ss → Ordered (each_once found ss)) → (Ordered (found ++ s ∷ []) → AreBehind (found ++ s ∷ []) ss → Ordered (each_once (found ++ s ∷ []) ss)) → Ordered (each_once (if x then found else found ++ s ∷ []) ss)
+    by true e here more = here r (λ t u i j. b t u i (inr j))
+    by false e here more =
+        more (put_ordered found s r (last_before found s r (λ t i. b t s i (inl refl)) e))
+        (λ t u i j. elim (in_split t found (s ∷ []) i) [
+          | inl k ↦ b t u k (inr j)
+          | inr k ↦ elim k [ inl p ↦ subst (λ z. is_before u z ≡ false) (sym p) (n.0 u j) | inr m ↦ absurd m ]
+        ])
+
+-- and all are there
+once_in : (found ss : List Statement) (p : Place) → In p (map place_of ss) ⊎ In p (map place_of found) → In p (map place_of (each_once found ss))
+once_in found [] p (inl i) = absurd i
+once_in found [] p (inr i) = i
+once_in found (s ∷ ss) p i = once_in (if is_last found s then found else found ++ s ∷ []) ss p (elim i [
+  | inl j ↦ elim j [ inl e ↦ inr (new (is_last found s) refl e) | inr k ↦ inl k ]
+  | inr j ↦ inr (old (is_last found s) j)
 ])
+  where
+    old : (x : Bool) → In p (map place_of found) → In p (map place_of (if x then found else found ++ s ∷ []))
+    old true j = j
+    old false j = let u = in_unmap place_of p found j in subst (λ z. In z (map place_of (found ++ s ∷ []))) u.2 (in_map place_of u.0 (found ++ s ∷ []) (in_left u.0 found (s ∷ []) u.1))
 
-all_ordered : (ss ts : List Statement) → Ordered ts → Ordered (with_statements ss ts)
-all_ordered [] ts r = r
-all_ordered (s ∷ ss) ts r = all_ordered ss (with_statement s ts) (with_ordered s ts r)
+    last_is : (o : Option Statement) → slice_get found (length found - 1) ≡ o → elim o [ None ↦ false | Some x ↦ is_same_statement s x ] ≡ true → p ≡ place_of s → In p (map place_of found)
+    last_is None h g e = absurd (cc (g))
+    last_is (Some x) h g e = subst (λ z. In z (map place_of found)) (sym (e ∙ same_place s x g)) (in_map place_of x found (got found (length found - 1) x h))
 
-all_in : (ss ts : List Statement) (p : Place) → In p (map place_of ss) ⊎ In p (map place_of ts) → In p (map place_of (with_statements ss ts))
-all_in [] ts p (inl i) = absurd i
-all_in [] ts p (inr i) = i
-all_in (s ∷ ss) ts p (inl (inl e)) = all_in ss (with_statement s ts) p (inr (with_in s ts p (inl e)))
-all_in (s ∷ ss) ts p (inl (inr i)) = all_in ss (with_statement s ts) p (inl i)
-all_in (s ∷ ss) ts p (inr i) = all_in ss (with_statement s ts) p (inr (with_in s ts p (inr i)))
+    new : (x : Bool) → is_last found s ≡ x → p ≡ place_of s → In p (map place_of (if x then found else found ++ s ∷ []))
+    new true h e = last_is (slice_get found (length found - 1)) refl h e
+    new false h e = subst (λ z. In z (map place_of (found ++ s ∷ []))) (sym e) (in_map place_of s (found ++ s ∷ []) (in_right s found (s ∷ []) (inl refl)))
 
-in_all : (ss ts : List Statement) (p : Place) → In p (map place_of (with_statements ss ts)) → In p (map place_of ss) ⊎ In p (map place_of ts)
-in_all [] ts p i = inr i
-in_all (s ∷ ss) ts p i = elim (in_all ss (with_statement s ts) p i) [
-  | inl j ↦ inl (inr j)
-  | inr j ↦ elim (in_with s ts p j) [ inl e ↦ inl (inl e) | inr k ↦ inr k ]
-]
+in_once : (found ss : List Statement) (p : Place) → In p (map place_of (each_once found ss)) → In p (map place_of ss) ⊎ In p (map place_of found)
+in_once found [] p i = inr i
+in_once found (s ∷ ss) p i = by (is_last found s) (in_once (if is_last found s then found else found ++ s ∷ []) ss p i)
+  where
+    by : (x : Bool) → In p (map place_of ss) ⊎ In p (map place_of (if x then found else found ++ s ∷ [])) → In p (map place_of (s ∷ ss)) ⊎ In p (map place_of found)
+    by x (inl j) = inl (inr j)
+    by true (inr j) = inr j
+    by false (inr j) =
+        let u = in_unmap place_of p (found ++ s ∷ []) j in
+        elim (in_split u.0 found (s ∷ []) u.1) [
+          | inl k ↦ inr (subst (λ z. In z (map place_of found)) u.2 (in_map place_of u.0 found k))
+          | inr k ↦ elim k [ inl e ↦ inl (inl (sym u.2 ∙ ap place_of e)) | inr m ↦ absurd m ]
+        ]
+
+-- a sorted list
+behind : (s : Statement) (ss : List Statement) → IsSortedBy is_before (s ∷ ss) → IsSortedBy is_before ss
+behind s ss f = λ k d l h.
+    let e : suc k + 1 ≡ suc (k + 1) = omega arith in
+    subst (λ n. is_before (slice_index_or (s ∷ ss) n d) (slice_index_or ss k d) ≡ false) e (f (suc k) d (omega arith) (omega arith))
+
+none_earlier : (s : Statement) (ss : List Statement) → IsSortedBy is_before (s ∷ ss) → (t : Statement) → In t ss → is_before t s ≡ false
+none_earlier s [] f t i = absurd i
+none_earlier s (u ∷ us) f t (inl e) = subst (λ z. is_before z s ≡ false) (sym e) (f 0 s (omega arith) (omega arith))
+none_earlier s (u ∷ us) f t (inr i) = before_order.chain t u s (none_earlier u us (behind s (u ∷ us) f) t i) (f 0 s (omega arith) (omega arith))
+
+sorted_none : (ss : List Statement) → IsSortedBy is_before ss → NoneBefore ss
+sorted_none [] f = tt
+sorted_none (s ∷ ss) f = (none_earlier s ss f, sorted_none ss (behind s ss f))
 
 text_order : (ss : List Statement) → Ordered ss → InTextOrder ss
 text_order [] r = tt
 text_order (s ∷ ss) r = ((λ t i. text_before s t (r.0 t i)), text_order ss r.1)
 
 -- all statements, in their order
-pub listed_in_order : (ss all : List Statement) → all ≡ with_statements ss [] → InTextOrder all
-listed_in_order ss all e = subst (λ z. InTextOrder z) (sym e) (text_order (with_statements ss []) (all_ordered ss [] tt))
+module _ (ss sorted : List Statement) (same : IsPermutation ss sorted) (order : IsSortedBy is_before sorted) (all : List Statement) (is : all ≡ each_once [] sorted) where
+  pub listed_in_order : InTextOrder all
+  listed_in_order = subst (λ z. InTextOrder z) (sym is) (text_order (each_once [] sorted) (once_ordered [] sorted tt (sorted_none sorted order) (λ t s i. absurd i)))
 
-pub listed_places : (ss all : List Statement) (ps : List Place) → all ≡ with_statements ss [] → map place_of ss ≡ ps → (p : Place) → In p (map place_of all) ↔ In p ps
-listed_places ss all ps e f p = (
-  λ i. subst (λ z. In p z) f (elim (in_all ss [] p (subst (λ z. In p (map place_of z)) e i)) [ inl j ↦ j | inr j ↦ absurd j ]),
-  λ i. subst (λ z. In p (map place_of z)) (sym e) (all_in ss [] p (inl (subst (λ z. In p z) (sym f) i))),
-)
+  pub listed_places : (p : Place) → In p (map place_of all) ↔ In p (map place_of ss)
+  listed_places p = (
+    λ i. elim (in_once [] sorted p (subst (λ z. In p (map place_of z)) is i)) [
+      | inl j ↦ (let u = in_unmap place_of p sorted j in subst (λ z. In z (map place_of ss)) u.2 (in_map place_of u.0 ss (in_back ss sorted u.0 same u.1)))
+      | inr j ↦ absurd j
+    ],
+    λ i.
+        let u = in_unmap place_of p ss i in
+        subst (λ z. In p (map place_of z)) (sym is) (once_in [] sorted p (inl (subst (λ z. In z (map place_of sorted)) u.2 (in_map place_of u.0 sorted (in_moved ss sorted u.0 same u.1))))),
+  )

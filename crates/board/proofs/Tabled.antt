@@ -1,8 +1,5 @@
 -- The work of a job by the tables of its entry.
-use lib.Pointwise.{pointwise}
-use Rattle.board_work.specs.Same.{answer_eq}
-use Rattle.board_work.proofs.Comparisons.{same_answers}
-use Rattle.std.proofs.Common.{◌≡◌, ℕ, Bool, IsTrue, List, map, sym, ap, ◌∙◌, subst, Option}
+use Rattle.std.proofs.Common.{◌≡◌, ◌↔◌, ℕ, Bool, IsTrue, List, map, sym, ap, ◌∙◌, subst, Option}
 use Rattle.replayed.specs.Fields.{Counted, Does, Frame, Job}
 use Rattle.task_code.specs.Code.{Code, Entry, entry}
 use Rattle.board_code.specs.Tables.{IsEntryTable, body_of}
@@ -26,9 +23,5 @@ module _ (C : Code) (fs : List (Option Frame)) (cs : List (Option Counted)) (k e
       (b.job, b.answers ∙ sym (ap (map (wanted_answer C cs (led_slot fs k))) table.needs))
 
   -- and whether it is that, told by a comparison of the answers
-  pub work_told : (x : Entry) → work.job ≡ runs x → x ≡ entry C e → (b : Bool) → b ≡ pointwise answer_eq (map (wanted_answer C cs (led_slot fs k)) t.needs.items) work.answers → (IsTrue b → IsWorkAt C fs cs j work) × (IsWorkAt C fs cs j work → IsTrue b)
-  work_told x job same b told =
-      let d = same_answers (map (wanted_answer C cs (led_slot fs k)) t.needs.items) work.answers in (
-        (λ h. work_at x job same (sym (d.0 (sym told ∙ h)))),
-        (λ a. told ∙ d.1 (sym (at_work a).1)),
-      )
+  pub work_told : (x : Entry) → work.job ≡ runs x → x ≡ entry C e → (b : Bool) → (IsTrue b ↔ (work.answers ≡ map (wanted_answer C cs (led_slot fs k)) t.needs.items)) → IsTrue b ↔ IsWorkAt C fs cs j work
+  work_told x job same b told = (λ h. work_at x job same (told.0 h), λ a. told.1 (at_work a).1)

@@ -11,6 +11,11 @@ use Rattle.board_openings.specs.World.{goes_on}
 use Rattle.board_openings.specs.declared.world.Change.{Change}
 use Rattle.board_openings.specs.declared.world.Change.TheVariants as Changes
 
+-- no entry reads or writes more names than so many
+pub record AreAtMost (C : Code) (most : ℕ) : Type 0 where
+  pub reads : (i : ℕ) → length (entry C i).reads ≤ most
+  pub writes : (i : ℕ) → length (entry C i).writes ≤ most
+
 module _ (C : Code) (fs : List (Option Frame)) (rows : ℕ) (j : Job) where
   -- the instances around the item, the slots of the first instance, and the names of all items, with so many rows before
   pub record CanOpen (o : Openings) : Type 0 where
@@ -19,8 +24,7 @@ module _ (C : Code) (fs : List (Option Frame)) (rows : ℕ) (j : Job) where
     pub first : (one : Opening) → slice_get o.list.items 0 ≡ Some one → slots ≡ length one.instance.slots.items
     pub few_slots : slots < 2 ^ 64
     pub most : ℕ
-    pub reads : (i : ℕ) → length (entry C i).reads ≤ most
-    pub writes : (i : ℕ) → length (entry C i).writes ≤ most
+    pub names : AreAtMost C most
     pub few : rows * most + (length o.list.items * (length (body C o.body).entries * most) + length o.list.items * (length (body C o.body).entries * most)) < 2 ^ 64
 
   -- the same of a change, and the chunk of a loop that goes on

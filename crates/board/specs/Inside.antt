@@ -1,5 +1,5 @@
 -- The board's fields, as contracts see them, and what always holds of them.
-use Rattle.std.specs.Prelude.{◌≡◌, ◌+◌, ◌≤◌, ℕ, List, Option, Some, None, map, true, vec_capacity, vec_len}
+use Rattle.std.specs.Prelude.{◌≡◌, ◌+◌, ◌≤◌, ℕ, List, Option, Some, None, map, vec_capacity, vec_len}
 use Rattle.dataflow.specs.Machine as Machine
 use Rattle.dataflow.specs.System.{In}
 use Rattle.replayed.specs.Stands.{Stands}
@@ -9,8 +9,7 @@ use Rattle.task_code.specs.Effects.{Item, Main, Task}
 use Rattle.task_code.specs.Machine.{CanBegin}
 use Rattle.task_code.specs.View.{event_view}
 use Rattle.task_code.specs.Whole.{IsCode}
-use Rattle.data_store.specs.Stores.{Store, array_at}
-use Rattle.values.specs.Maps.{rising}
+use Rattle.board_data.specs.Data.{AreRising}
 use Rattle.board_code.specs.Spots.{layout_of}
 use Rattle.board_data.specs.Wanted.{FewSlots}
 use Rattle.board_frames.specs.View.{frames_view}
@@ -18,6 +17,7 @@ use Rattle.board_frames.specs.declared.place.Fault.{Fault}
 use Rattle.board_frames.specs.declared.place.Statement.{Statement}
 use Rattle.board.specs.declared.board.Board.TheInside.{Inside}
 use Rattle.board.specs.Blocked.{path_of}
+use Rattle.board.specs.Counted.{AreAtMost}
 use Rattle.board.specs.Board.{AreByWorkers, Rises, Seen}
 use Rattle.board.specs.History.{state_of}
 use Rattle.board.specs.Numbers.{AreNumbered}
@@ -47,10 +47,6 @@ IsNoted C (Some m) (Some f) = (m.1 ≡ kind_of_fault f.kind) × IsStatementOf C 
 IsNoted C None (Some f) = ⊥
 IsNoted C (Some m) None = ⊥
 
--- the elements of each array are listed by rising key
-abbrev pub AreRising : Store → Type 0
-AreRising s = (d : ℕ) → rising (array_at s d).elements ≡ true
-
 -- what holds of the fields beside
 pub record IsKept (C : Code) (core : Core) : Type 0 where
   pub few : FewSlots (frames_view core.world.instances.slots)
@@ -67,6 +63,7 @@ pub record Stand (C : Code) (events : List Machine.Event) (core : Core) : Type 0
 
 pub record IsSound (a : Inside) : Type 0 where
   pub whole : IsCode a.program
+  pub names : AreAtMost a.program a.most_names
   pub stand : Stand a.program (map event_view a.history.items) a.core
   pub room : a.core.fault ≡ None → vec_len a.history + a.core.items.running ≤ vec_capacity a.history
   pub newly : (n : ℕ) → In n a.core.items.newly.items → CanBegin a.program (state_of a.program (map event_view a.history.items)) n

@@ -1,7 +1,6 @@
 pub mod Blocked
 pub mod Board
 pub mod Changing
-pub mod Comparing
 pub mod Counted
 pub mod Ending
 pub mod History
@@ -13,6 +12,8 @@ pub mod Queues
 pub mod Ready
 pub mod Room
 pub mod Rows
+pub mod Sorting
+pub mod Stored
 pub mod Stuck
 pub mod Telling
 pub mod View

@@ -36,15 +36,6 @@ is_before s t = path_below s.path.items t.path.items || (same_path s.path.items 
 abbrev pub is_same_statement : Statement → Statement → Bool
 is_same_statement s t = nat_eq s.at t.at && same_path s.path.items t.path.items
 
--- a statement at its place, unless it is there, and several one after the other
-abbrev pub with_statement : Statement → List Statement → List Statement
-with_statement s [] = s ∷ []
-with_statement s (t ∷ ts) = if is_before s t then s ∷ t ∷ ts else (if is_same_statement s t then t ∷ ts else t ∷ with_statement s ts)
-
-abbrev pub with_statements : List Statement → List Statement → List Statement
-with_statements [] found = found
-with_statements (s ∷ ss) found = with_statements ss (with_statement s found)
-
 abbrev pub misses_none : List (Want ℕ) → Bool
 misses_none [] = true
 misses_none (w ∷ ws) = false

@@ -1,6 +1,7 @@
 //! The statements whose items have not ended.
-ghost use Rattle.std.specs.Prelude.{◌≡◌, ◌++◌, ◌∷◌, ◌↔◌, ◌≤◌, [], ℕ, None, Some, drop, map, option_map, take, vec_len, IfNone, IfOk, IfSome, OnOk};
+ghost use Rattle.std.specs.Prelude.{◌≡◌, ◌↔◌, [], ℕ, None, Some, map, option_map, IfOk};
 ghost use Rattle.std.specs.List.{filter_map, list_all};
+ghost use Rattle.std.specs.Ordering.{is_lt};
 ghost use Rattle.board_code.specs.Tables.{wanted_in};
 ghost use Rattle.board_data.specs.View.{cells_view};
 ghost use Rattle.board_data.specs.Wanted.{wanted_missed};
@@ -11,7 +12,8 @@ ghost use Rattle.task_code.specs.Runs.{counts};
 ghost use Rattle.task_code.specs.View.{act_view, header_view, need_view};
 ghost use Rattle.dataflow.specs.System.{In};
 ghost use Rattle.board.specs.Blocked.{InTextOrder, path_below, same_step, step_below};
-ghost use Rattle.board.specs.Stuck.{Place, is_before, is_same_statement, same_path, with_statement, with_statements, at_place, blocked_offset, blocked_row, first_unknown, is_header_known, misses_none, place_of};
+ghost use Rattle.board.specs.Stuck.{Place, is_before, is_same_statement, same_path, at_place, blocked_offset, blocked_row, first_unknown, is_header_known, misses_none, place_of};
+ghost use Rattle.board.specs.Sorting.{each_once, is_last};
 
 use crate::state::Core;
 use board_code::program::Program;
@@ -20,6 +22,7 @@ use board_frames::item::{Item, Job, Mark};
 use board_frames::place::{Statement, Step};
 use slab::Slab;
 use std::alloc::{AllocError, Global};
+use std::cmp::Ordering;
 use task_code::entry::{Act, Header, Need};
 
 /// Whether a statement of this act can be blocked.
@@ -114,42 +117,54 @@ fn is_same(one: &Statement, other: &Statement) -> bool
     one.at == other.at && is_same_path(one.path.as_slice(), other.path.as_slice())
 }
 
-/// Where the statement's place is, unless it is there.
-fn place_for(found: &Vec<Statement>, statement: &Statement) -> Option<usize>
-    ensures there { IfNone result (with_statement statement.now found.now.items ≡ found.now.items) }
-    ensures place { IfSome result (λ p. with_statement statement.now found.now.items ≡ take p found.now.items ++ statement.now ∷ drop p found.now.items) }
-    ensures within { IfSome result (λ p. p ≤ vec_len found.now) }
+/// How a statement stands to another in the order.
+fn order(one: &Statement, other: &Statement) -> Ordering
+    ensures { is_lt result ≡ is_before one.now other.now }
 {
-    for place in 0..found.len() {
-        if is_before(statement, &found[place]) {
-            return Some(place);
-        }
-        if is_same(statement, &found[place]) {
-            return None;
-        }
+    if is_before(one, other) {
+        Ordering::Less
+    } else if is_before(other, one) {
+        Ordering::Greater
+    } else {
+        Ordering::Equal
     }
-    Some(found.len())
 }
 
-/// Puts the statement at its place, unless it is there.
-fn add(found: &mut Vec<Statement>, statement: Statement) -> Result<(), AllocError>
-    ensures { OnOk result (found.new.items ≡ with_statement statement found.old.items) }
+/// Whether the statement is the last of these.
+fn is_last(found: &[Statement], statement: &Statement) -> bool
+    ensures { result ≡ is_last found.now statement.now }
 {
-    if let Some(place) = place_for(found, &statement) {
-        found.insert(place, statement)?;
+    match found.last() {
+        Some(last) => is_same(statement, last),
+        None => false,
     }
-    Ok(())
+}
+
+/// The statements, each once where the same ones stand together.
+fn each_once(alloc: Global, statements: Vec<Statement>) -> Result<Vec<Statement>, AllocError>
+    ensures { IfOk result (λ found. found.items ≡ each_once [] statements.items) }
+{
+    let mut found = Vec::new(alloc);
+    for statement in statements {
+        if !is_last(found.as_slice(), &statement) {
+            found.push(statement)?;
+        }
+    }
+    Ok(found)
 }
 
 /// The statements in their order, each once.
 fn in_order(alloc: Global, statements: Vec<Statement>) -> Result<Vec<Statement>, AllocError>
-    ensures { IfOk result (λ found. found.items ≡ with_statements statements.items []) }
+    ensures places { IfOk result (λ found. (p : Place) → In p (map place_of found.items) ↔ In p (map place_of statements.items)) }
+    ensures order { IfOk result (λ found. InTextOrder found.items) }
 {
-    let mut found = Vec::new(alloc);
-    for statement in statements {
-        add(&mut found, statement)?;
-    }
-    Ok(found)
+    let mut statements = statements;
+    statements.sort_by(
+        |a, b|
+            ensures { is_lt result ≡ is_before a.now b.now }
+        { order(a, b) },
+    )?;
+    each_once(alloc, statements)
 }
 
 impl Core {
@@ -247,7 +262,6 @@ impl Core {
     }
 
     /// The blocked statements in their order, each once.
-    #[tactic(auto, using(crate::proofs::Ranked::listed_in_order, crate::proofs::Ranked::listed_places))]
     pub fn blocked(&self, program: &Program) -> Result<Vec<Statement>, AllocError>
         ensures places { IfOk result (λ statements. (p : Place) → In p (map place_of statements.items) ↔ In p (filter_map (blocked_row program.now (frames_view self.now.world.instances.slots) (cells_view self.now.world.store.cells)) (rows_view self.now.items.rows.items))) }
         ensures order { IfOk result (λ statements. InTextOrder statements.items) }

@@ -2,7 +2,7 @@
 ghost use Rattle.std.specs.Prelude.{ℕ, ℤ, ◌≡◌, ◌⊎◌, ◌<◌, ◌≤◌, ◌^◌, ◌∷◌, [], map, length, vec_len, IfOk, IfErr, IfSome, IfNone, OnOk, OnErr, IsTrue, ◌↔◌, None, Some, int_lt, slice_get, true};
 ghost use Rattle.dataflow.specs.Machine.{start};
 ghost use Rattle.dataflow.specs.Machine as Machine;
-ghost use Rattle.task_code.specs.Machine.{CodeItem, Quiet, Run};
+ghost use Rattle.task_code.specs.Machine.{CodeItem, DataAreExact, Quiet, Run, run_log};
 ghost use Rattle.task_code.specs.System.{code_system, task_kind, task_priority};
 ghost use Rattle.task_code.specs.View.{event_view, kind_view};
 ghost use Rattle.task_code.specs.Whole.{IsCode};
@@ -10,14 +10,15 @@ ghost use Rattle.work_queue.specs.declared.entry.Kind.{Kind as QueueKind};
 ghost use Rattle.board_code.specs.Tables.{queue_kind};
 ghost use Rattle.board.specs.Board.{AreByWorkers, IsWorker, IsGoing, Accepts, IsOwn, RefusesBegin, RefusesEnd, RefusesBack, RefusesWork};
 ghost use Rattle.board.specs.Numbers.{AreNumbered};
+ghost use Rattle.board.specs.Stored.{AreSoMany};
 ghost use Rattle.board.specs.Ready.{AreReady, IsFirst, IsNext, IsReady, Precedes};
 ghost use Rattle.board.specs.Blocked.{AreBlocked, IsFaultOf};
 ghost use Rattle.dataflow.specs.System.{In};
 
+use crate::naming::most_names;
 use crate::refusal::Refusal;
 use crate::state::Core;
 use board_code::program::Program;
-use board_data::answers::{answers, are_answers};
 use board_frames::item::{Job, Mark, item_of};
 use board_frames::place::{Fault, Statement};
 use board_items::items::order_of;
@@ -34,6 +35,7 @@ use values::value::Scalar;
 #[derive(Drop)]
 pub struct Board {
     program: Program,
+    most_names: usize,
     limit: u32,
     core: Core,
     history: Vec<Event>,
@@ -85,9 +87,10 @@ impl Board {
     pub fn new(alloc: Global, code: Code, limit: u32) -> Result<Board, AllocError>
         ensures { IfOk result (λ b. b ≡ record { code = code; limit = limit; state = start (code_system code); history = []; newly = [] }) }
     {
-        let _whole = code.entry_count();
+        let program = Program::new(alloc, code)?;
         Ok(Board {
-            program: Program::new(alloc, code)?,
+            most_names: most_names(&program),
+            program,
             limit,
             core: Core::new(alloc)?,
             history: Vec::new(alloc),
@@ -164,7 +167,9 @@ impl Board {
         if !self.core.is_done_for(&self.program, job, &done) {
             return Err((done, Refusal::Stranger));
         }
-        let Ok(()) = self.core.end(&self.program, item, job, &done) else {
+        let Ok(()) = self
+            .core
+            .end(&self.program, self.most_names, item, job, &done) else {
             return Err((done, Refusal::Memory));
         };
         self.history.push_reserved(Event::End { worker, item });
@@ -252,8 +257,12 @@ impl Board {
         self.limit
     }
 
-    /// How many data there are: all that may still be read or written.
-    pub fn stored(&self) -> usize {
+    /// How many data there are: exactly those that were made and are not free, which some item that has not ended may still
+    /// read or write. Takes no memory, and looks at none of them.
+    pub fn stored(&self) -> usize
+        ensures count { AreSoMany self.now.state.places result }
+        ensures exact { (run : Run self.now.code self.now.history self.now.state) → DataAreExact self.now.code self.now.state (run_log self.now.code self.now.history self.now.state run) }
+    {
         self.core.world.store.len()
     }
 

@@ -2,6 +2,7 @@
 
 ghost use Rattle.std.specs.Prelude.{◌≡◌, IfOk, OnErr, OnOk};
 ghost use Rattle.board_frames.specs.View.{job_view};
+ghost use Rattle.board.specs.Counted.{AreAtMost};
 ghost use Rattle.board.specs.Ending.{HasEnded, HasFailed, HasPassed, IsEffectOf, StaysBy, StaysIf};
 ghost use Rattle.board.specs.Working.{IsThere};
 
@@ -63,19 +64,21 @@ impl Core {
         self.fault = Some(fault);
     }
 
-    /// The item, which runs, ends with this effect, which is no fault.
+    /// The item, which runs, ends with this effect, which is no fault. No entry reads or writes more names than `most`.
     fn pass(
         &mut self,
         program: &Program,
+        most: usize,
         number: u64,
         job: Job,
         effect: Effect,
     ) -> Result<(), AllocError>
+        requires { AreAtMost program.now most }
         ensures passed { OnOk result (HasPassed program.now number (job_view job) effect self.old self.new) }
         ensures same { OnErr result (StaysBy program.now number (job_view job) effect self.old self.new) }
     {
         let (change, line) = change_of(effect);
-        if !self.can_change(program, job, &change) {
+        if !self.can_change(program, most, job, &change) {
             return Err(AllocError);
         }
         let mut known = Vec::new(self.alloc);
@@ -91,15 +94,17 @@ impl Core {
         self.items.finish(outlook, number, job, first, spare)
     }
 
-    /// The item, which runs, ends with what was done for it.
+    /// The item, which runs, ends with what was done for it. No entry reads or writes more names than `most`.
     pub fn end(
         &mut self,
         program: &Program,
+        most: usize,
         number: u64,
         job: Job,
         done: &Done,
     ) -> Result<(), AllocError>
-        requires { IsThere program.now (job_view job) }
+        requires there { IsThere program.now (job_view job) }
+        requires names { AreAtMost program.now most }
         ensures ended { OnOk result (HasEnded program.now number (job_view job) done.now self.old self.new) }
         ensures same { OnErr result (StaysIf program.now number (job_view job) done.now self.old self.new) }
     {
@@ -108,7 +113,7 @@ impl Core {
                 self.fail(fault);
                 Ok(())
             }
-            passed => match self.pass(program, number, job, passed) {
+            passed => match self.pass(program, most, number, job, passed) {
                 Ok(()) => Ok(()),
                 Err(refused) => Err(refused),
             },

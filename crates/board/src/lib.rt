@@ -5,7 +5,6 @@ mod blocked;
 pub mod board;
 mod changing;
 mod chunk;
-mod comparing;
 mod counted;
 mod ending;
 mod fitting;

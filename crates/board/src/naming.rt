@@ -1,7 +1,9 @@
 //! How many names an entry has at most.
 
-ghost use Rattle.std.specs.Prelude.{◌≡◌, ◌≤◌, ℕ, length, IfSome};
+ghost use Rattle.std.specs.Prelude.{◌≤◌, length};
 ghost use Rattle.task_code.specs.Code.{entry as entry_at};
+ghost use Rattle.task_code.specs.Whole.{IsCode};
+ghost use Rattle.board.specs.Counted.{AreAtMost};
 
 use board_code::program::Program;
 
@@ -24,18 +26,15 @@ fn wider(most: usize, more: usize) -> usize
     most.max(more)
 }
 
-/// How many names any entry reads or writes; none where there are more entries than numbers.
-pub fn most_names(program: &Program) -> Option<usize>
-    ensures reads { IfSome result (λ most. (i : ℕ) → length (entry_at program.now i).reads ≤ most) }
-    ensures writes { IfSome result (λ most. (i : ℕ) → length (entry_at program.now i).writes ≤ most) }
+/// How many names any entry reads or writes.
+pub fn most_names(program: &Program) -> usize
+    ensures names { AreAtMost program.now result }
+    ensures whole { IsCode program.now }
 {
-    let count = u32::try_from(program.code().entry_count()).ok()?;
+    let count = program.code().entry_count();
     let mut most = 0;
-    for number in 0..count {
+    for number in 0..count as u32 {
         most = wider(most, names_of(program, number));
     }
-    match program.code().entry(count) {
-        Some(_) => None,
-        None => Some(most),
-    }
+    most
 }

@@ -4,13 +4,12 @@ ghost use Rattle.replayed.specs.Fields.{Job as PureJob};
 ghost use Rattle.task_code.specs.Code.{Code};
 ghost use Rattle.board_data.specs.View.{cells_view};
 ghost use Rattle.board_frames.specs.View.{frames_view, job_view};
-ghost use Rattle.board.specs.Inside.{AreRising};
+ghost use Rattle.board_data.specs.Data.{AreRising};
 ghost use Rattle.board.specs.Working.{IsThere, IsWorkAt};
 
-use crate::comparing::are_answers;
 use crate::state::Core;
 use board_code::program::{Program, Wanted};
-use board_data::answers::answers;
+use board_data::answers::{answers, are_answers};
 use board_data::data;
 use board_frames::instance::datum_at;
 use board_frames::item::Job;

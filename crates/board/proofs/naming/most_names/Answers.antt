@@ -12,12 +12,10 @@ loop-number-preserved c = (
   one_wider (λ i. length (entry_at c.args.program.now i).writes) c.loop-number.number c.loop-number.most c.loop-number.invariant.1 c.wider-most.result c.wider-most.ensures.most (let a = c.names_of.ensures.writes in let b = c.wider-most.ensures.more in omega (arith, a, b)),
 )
 
-pub returns-in-None-clause-reads : goal.returns-in-None-clause-reads
-returns-in-None-clause-reads c =
-    all_looked (λ i. length (entry_at c.args.program.now i).reads) c.loop-number.number c.loop-number.most c.loop-number.invariant.0
-    (λ i l. reads_past c.args.program.now i c.loop-number.most (let h = subst (λ (C : Code). length C.entries ≤ c.in_ok-count.count) c.code-2.ensures c.in-None.ensures in let g = c.loop-number-test.false in omega (arith, h, g, l)))
-
-pub returns-in-None-clause-writes : goal.returns-in-None-clause-writes
-returns-in-None-clause-writes c =
-    all_looked (λ i. length (entry_at c.args.program.now i).writes) c.loop-number.number c.loop-number.most c.loop-number.invariant.1
-    (λ i l. writes_past c.args.program.now i c.loop-number.most (let h = subst (λ (C : Code). length C.entries ≤ c.in_ok-count.count) c.code-2.ensures c.in-None.ensures in let g = c.loop-number-test.false in omega (arith, h, g, l)))
+pub returns-clause-names : goal.returns-clause-names
+returns-clause-names c =
+    let few : length c.args.program.now.entries ≤ c.loop-number.number = subst (λ (C : Code). length C.entries ≤ c.loop-number.number) c.code.ensures (let n = c.entry_count-count.ensures.count in let f = c.loop-number-test.false in omega (arith, n, f)) in
+    record {
+      reads = all_looked (λ i. length (entry_at c.args.program.now i).reads) c.loop-number.number c.loop-number.most c.loop-number.invariant.0 (λ i l. reads_past c.args.program.now i c.loop-number.most (omega (arith, few, l)));
+      writes = all_looked (λ i. length (entry_at c.args.program.now i).writes) c.loop-number.number c.loop-number.most c.loop-number.invariant.1 (λ i l. writes_past c.args.program.now i c.loop-number.most (omega (arith, few, l)));
+    }

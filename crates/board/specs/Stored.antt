@@ -1,0 +1,11 @@
+-- How many different data there are.
+use Rattle.std.specs.Prelude.{◌≡◌, ◌↔◌, ℕ, List, length}
+use Rattle.dataflow.specs.System.{Distinct, In}
+use Rattle.task_code.specs.Places.{Place}
+
+-- the data are those listed, each once, and these are so many
+pub record AreSoMany (places : List Place) (count : ℕ) : Type 0 where
+  pub listed : List Place
+  pub same : (a : Place) → In a listed ↔ In a places
+  pub once : Distinct listed
+  pub count_is : count ≡ length listed
