@@ -7,6 +7,9 @@ use Rattle.board_code.specs.declared.program.EntryTable.{EntryTable}
 use Rattle.board_data.specs.Answered.{wanted_answer}
 use Rattle.board_frames.specs.Names.{led_slot}
 use Rattle.board_work.specs.Assigned.{Assigned, runs}
+use Rattle.dataflow.specs.System.{Answer}
+use Rattle.values.specs.declared.key.Key.{Key}
+use Rattle.values.specs.declared.value.Scalar.{Scalar}
 use Rattle.board.specs.Working.{IsWorkAt}
 
 module _ (C : Code) (fs : List (Option Frame)) (cs : List (Option Counted)) (k e c : ℕ) (j : Job) (work : Assigned) (t : EntryTable) (is : j ≡ Does k e c) (table : IsEntryTable C (body_of C e) e t) where
@@ -23,5 +26,5 @@ module _ (C : Code) (fs : List (Option Frame)) (cs : List (Option Counted)) (k e
       (b.job, b.answers ∙ sym (ap (map (wanted_answer C cs (led_slot fs k))) table.needs))
 
   -- and whether it is that, told by a comparison of the answers
-  pub work_told : (x : Entry) → work.job ≡ runs x → x ≡ entry C e → (b : Bool) → (IsTrue b ↔ (work.answers ≡ map (wanted_answer C cs (led_slot fs k)) t.needs.items)) → IsTrue b ↔ IsWorkAt C fs cs j work
-  work_told x job same b told = (λ h. work_at x job same (told.0 h), λ a. told.1 (at_work a).1)
+  pub work_told : (x : Entry) → work.job ≡ runs x → x ≡ entry C e → (b : Bool) (xs ys : List (Answer Key Scalar)) → (IsTrue b ↔ (xs ≡ ys)) → xs ≡ work.answers → ys ≡ map (wanted_answer C cs (led_slot fs k)) t.needs.items → IsTrue b ↔ IsWorkAt C fs cs j work
+  work_told x job same b xs ys told mine theirs = (λ h. work_at x job same (sym mine ∙ told.0 h ∙ theirs), λ a. told.1 (mine ∙ (at_work a).1 ∙ sym theirs))

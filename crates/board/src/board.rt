@@ -169,7 +169,8 @@ impl Board {
         }
         let Ok(()) = self
             .core
-            .end(&self.program, self.most_names, item, job, &done) else {
+            .end(&self.program, self.most_names, item, job, &done)
+        else {
             return Err((done, Refusal::Memory));
         };
         self.history.push_reserved(Event::End { worker, item });
