@@ -81,8 +81,11 @@ returns-clause-own c =
     let at : IsWorkAt c.self.inside.program (frames_view c.self.inside.core.world.instances.slots) (cells_view c.self.inside.core.world.store.cells) (job_view c.in-Some.job) c.args.done = c.is_done_for.ensures.0 (search rules) in
     rw (← c.self.view_is) (own_seen c.self.inside c.self.invariant none c.args.worker c.item-item.result (job_view c.in-Some.job) c.in-Some.ensures.some c.args.done (sym c.item-item.ensures) at)
 
-pub end-requires : goal.end-requires
-end-requires c =
+pub end-requires-clause-names : goal.end-requires-clause-names
+end-requires-clause-names c = c.self.invariant.names
+
+pub end-requires-clause-there : goal.end-requires-clause-there
+end-requires-clause-there c =
     job_there c.self.inside.program c.self.invariant.whole (map event_view c.self.inside.history.items) c.self.inside.core c.self.invariant.stand c.item-item.result (job_view c.in-Some.job) (Running c.args.worker) c.in-Some.ensures.some (running_live c.args.worker)
 
 pub invariant_of-self : goal.invariant_of-self
