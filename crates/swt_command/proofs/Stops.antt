@@ -1,18 +1,21 @@
 -- Where commands stop.
 use Rattle.std.proofs.Common.{◌≡◌, refl, sym, subst, ℕ, zero, suc, Bool, true, List, Option, Some, None, Result, Ok, Err}
-use Rattle.std.specs.Prelude.{MatchResult}
+use Rattle.std.specs.Prelude.{IsErrAnd, MatchResult}
 use Rattle.runs.specs.declared.report.Report.{Report}
 use Rattle.swt_trace.specs.Report.{ReportText}
-use Rattle.swt_trace.specs.Trace.{TraceText}
 use Rattle.swt_command.specs.declared.status.Status.{Status}
 use Rattle.swt_command.specs.declared.stop.Stop.{Stop}
 use Rattle.task_code.specs.Code.{Code}
 use Rattle.swt_command.specs.declared.trouble.Trouble.{Trouble}
 use Rattle.swt_command.specs.declared.trouble.Trouble.TheVariants as Is
-use Rattle.swt_command.specs.Files.{Files, StopsAt, source_of}
+use Rattle.swt_command.specs.Files.{Files, HasCode, StopsAt, source_of}
 use Rattle.swt_command.specs.Listings.{StopsListing}
 use Rattle.swt_command.specs.Means.{StopsMean, StopsReading}
-use Rattle.swt_command.specs.Runs.{Ran, Runs, StopsAtTrace, StopsBeforeReplay, StopsBeforeRun, StopsReplay, StopsRun, Traces, report_status}
+use Rattle.swt_trace.specs.declared.fault.ReplayFault.{ReplayFault}
+use Rattle.swt_trace.specs.declared.fault.ReplayFault.TheVariants as Faulty
+use Rattle.swt_trace.specs.Replay.{IsFirstNoStep}
+use Rattle.swt_trace.specs.Trace.{IsFirstBad, TraceText}
+use Rattle.swt_command.specs.Runs.{Ran, Runs, StopsAtTrace, StopsBeforeReplay, StopsBeforeRun, StopsReplay, StopsRun, Traces, report_status, stop_of}
 use Rattle.swt_command.specs.Sinks.{Held, Lost, Took}
 
 -- a command that stops before anything is written
@@ -68,6 +71,35 @@ before_run files threads Is.Untraced h = h
 not_at_trace : (source : Option (List ℕ)) (code : Code) → StopsAtTrace source code Is.Unprinted → ⊥
 not_at_trace None code h = h
 not_at_trace (Some bytes) code h = h
+
+-- what stops at the script stops a replay before it begins
+pub at_script : (files : Files) (stop : Stop) → stop.place ≡ 0 → StopsAt files 0 stop.trouble → StopsBeforeReplay files stop.place stop.trouble
+at_script files stop e h = subst (λ (n : ℕ). StopsBeforeReplay files n stop.trouble) (sym e) h
+
+-- and so does a trace that cannot be read
+pub no_trace : (files : Files) (code : Code) (stop : Stop) → HasCode files 0 code → stop.place ≡ 1 → stop.trouble ≡ Is.Unread → source_of files 1 ≡ None → StopsBeforeReplay files stop.place stop.trouble
+no_trace files code stop has e t none =
+    subst (λ (n : ℕ). StopsBeforeReplay files n stop.trouble) (sym e)
+    (subst (λ (x : Trouble). StopsBeforeReplay files 1 x) (sym t) (code, has, subst (λ (o : Option (List ℕ)). StopsAtTrace o code Is.Unread) (sym none) tt))
+
+-- and a trace that is none of the code's
+pub at_fault : (files : Files) (code : Code) (bytes : List ℕ) (fault : ReplayFault) (stop : Stop) → HasCode files 0 code → source_of files 1 ≡ Some bytes
+    → ((n : ℕ) → fault ≡ Faulty.BadLine n → IsFirstBad bytes n) → ((n : ℕ) → fault ≡ Faulty.NotARun n → IsFirstNoStep code bytes n) → stop ≡ stop_of fault → StopsBeforeReplay files stop.place stop.trouble
+at_fault files code bytes fault stop has read bad none e =
+    subst (λ (s : Stop). StopsBeforeReplay files s.place s.trouble) (sym e)
+    (by fault bad none)
+  where
+    there : (t : Trouble) → StopsAtTrace (Some bytes) code t → StopsAtTrace (source_of files 1) code t
+    there t h = subst (λ (o : Option (List ℕ)). StopsAtTrace o code t) (sym read) h
+    by : (f : ReplayFault) → ((n : ℕ) → f ≡ Faulty.BadLine n → IsFirstBad bytes n) → ((n : ℕ) → f ≡ Faulty.NotARun n → IsFirstNoStep code bytes n) → StopsBeforeReplay files (stop_of f).place (stop_of f).trouble
+    by (Faulty.BadLine n) b d = (code, has, there (Is.BadLine n) (b n refl))
+    by (Faulty.NotARun n) b d = (code, has, there (Is.NotARun n) (d n refl))
+    by Faulty.Memory b d = (code, has, there Is.Memory tt)
+
+-- what is so of the stop that is handed on is so of the result
+pub handed_on : {T : Type 0} (P : T → Type 0) (Q : Stop → Type 0) (r : Result T Stop) (stop : Stop) → IsErrAnd r (λ s. s ≡ stop) → Q stop → MatchResult r P Q
+handed_on P Q (Ok x) stop h q = absurd h
+handed_on P Q (Err s) stop h q = subst Q (sym h) q
 
 -- nothing of a report was written
 no_unprinted : (files : Files) (place : ℕ) → StopsBeforeReplay files place Is.Unprinted → ⊥
