@@ -10,3 +10,4 @@ pub mod Ranges
 pub mod Round
 pub mod Steps
 pub mod Views
+pub mod Never

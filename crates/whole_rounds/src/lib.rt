@@ -6,6 +6,7 @@
 
 mod adding;
 mod closing;
+mod ending;
 pub mod knowledge;
 pub mod laws;
 mod opening;
