@@ -11,3 +11,4 @@ pub mod Round
 pub mod Steps
 pub mod Views
 pub mod Never
+pub mod Entering

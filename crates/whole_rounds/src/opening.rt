@@ -1,5 +1,21 @@
 //! What headers and calls open (Swift/T Guide, on conditionals, loops and composite functions).
 
+ghost use Rattle.std.specs.Prelude.{◌≡◌, ◌<◌, ◌∷◌, ℕ, pos, length, option_map, Some, slice_get, IfOk, OnOk};
+ghost use Rattle.flow.specs.View.{action_view, block_view, call_view, core_of};
+ghost use Rattle.syntax_trees.specs.Core.{Core, Function, Stmt, stmt};
+ghost use Rattle.syntax_trees.specs.Members.{◌∈◌};
+ghost use Rattle.syntax_trees.specs.Parts.{stmt_calls};
+ghost use Rattle.syntax_trees.specs.Places.{most_steps};
+ghost use Rattle.syntax_trees.specs.WellFormed.{WellFormed};
+ghost use Rattle.whole_facts.specs.Chosen.{block_in, chosen_in, choice_view, count_in, key_in, value_at_turn};
+ghost use Rattle.whole_facts.specs.Paths.{path_of};
+ghost use Rattle.whole_facts.specs.Sighted.{sight_of};
+ghost use Rattle.ended_blocks.specs.Active.{active, HasBlock};
+ghost use Rattle.ended_blocks.specs.Turns.{key_variable, turn_variables};
+ghost use Rattle.opened_blocks.specs.Opened.{IsChildOf, OffsetsApart};
+ghost use Rattle.whole_rounds.specs.Made.{tasks_of, waiting_of};
+ghost use Rattle.whole_rounds.specs.Opening.{IsEnteredBy, IsGood, IsMore, IsStep};
+
 use crate::state::{Deed, State, Task};
 use flow::cell::Call;
 use flow::statement::{Action, Block};
@@ -9,6 +25,7 @@ use values::key::Key;
 use values::value::Scalar;
 use whole_facts::choices::{Choice, block_of, choice_of, have_come};
 use whole_facts::instances::{Given, Step, Variable};
+use whole_facts::learned::Learned;
 use whole_facts::parts::calls_of;
 
 impl<'a, A: Allocator> State<'a, A> {
@@ -52,7 +69,16 @@ impl<'a, A: Allocator> State<'a, A> {
         alloc: Global,
         instance: usize,
         call: &'a Call<A>,
-    ) -> Result<(), AllocError> {
+    ) -> Result<(), AllocError>
+        ensures so { OnOk result ((s : Core) (n : ℕ) → s ≡ core_of self.old.flow.now → WellFormed s → IsGood s n self.old
+            → (st : Stmt) → active instance st ∈ tasks_of self.old → call_view call.entry.now ∈ stmt_calls st
+            → IsStep s n self.old self.new × ((f : Function) → slice_get s.functions call.entry.now.function ≡ Some f → length (path_of self.old.learned.instances.all.items instance) < most_steps
+            → HasBlock self.new.learned (tasks_of self.new) instance call.entry.now.at (Key.Number (pos 0)) f.body)) }
+        ensures more { OnOk result (IsMore self.old self.new) }
+        ensures flow { self.new.flow.now ≡ self.old.flow.now }
+        ensures passed { self.new.passed ≡ self.old.passed }
+        ensures waiting { waiting_of self.new ≡ waiting_of self.old }
+    {
         let flow = self.flow;
         if self.learned.instances.is_deep(instance) {
             return Ok(());
@@ -75,7 +101,8 @@ impl<'a, A: Allocator> State<'a, A> {
                 .places(alloc, instance, &call.outputs)?,
             variables: Vec::new(alloc),
         };
-        self.enter(alloc, instance, step, given, &function.body)
+        self.enter(alloc, instance, step, given, &function.body)?;
+        Ok(())
     }
 
     /// Makes the blocks live that a header opens, or keeps it among those that wait for their choice.
@@ -140,17 +167,28 @@ impl<'a, A: Allocator> State<'a, A> {
         choice: &Choice,
         i: u64,
         block: &'a Block<A>,
-    ) -> Result<(), AllocError> {
+    ) -> Result<(), AllocError>
+        ensures so { OnOk result ((s : Core) (n : ℕ) → WellFormed s → OffsetsApart s → IsGood s n self.old → (node : ℕ) → active instance (stmt at node (action_view action.entry.now)) ∈ tasks_of self.old
+            → chosen_in (sight_of self.old.learned instance) (action_view action.entry.now) ≡ Some (choice_view choice.now) → i < count_in (choice_view choice.now)
+            → block_in (action_view action.entry.now) (choice_view choice.now) ≡ Some (block_view block.entry.now)
+            → length (path_of self.old.learned.instances.all.items instance) < most_steps
+            → IsStep s n self.old self.new × HasBlock self.new.learned (tasks_of self.new) instance at (key_in (choice_view choice.now) i) (block_view block.entry.now)) }
+        ensures more { OnOk result (IsMore self.old self.new) }
+        ensures flow { self.new.flow.now ≡ self.old.flow.now }
+        ensures passed { self.new.passed ≡ self.old.passed }
+        ensures waiting { waiting_of self.new ≡ waiting_of self.old }
+    {
         let step = Step {
             at,
-            key: choice.key(i)?,
+            key: key_at(choice, i)?,
         };
         let given = Given {
             inputs: Vec::new(alloc),
             outputs: Vec::new(alloc),
             variables: variables_of(alloc, action, choice, i)?,
         };
-        self.enter(alloc, instance, step, given, block)
+        self.enter(alloc, instance, step, given, block)?;
+        Ok(())
     }
 
     /// Makes a block live behind a step.
@@ -161,12 +199,37 @@ impl<'a, A: Allocator> State<'a, A> {
         step: Step,
         given: Given,
         block: &'a Block<A>,
-    ) -> Result<(), AllocError> {
-        let child = match self.learned.instances.child(parent, step.at, &step.key) {
-            Some(child) => child,
-            None => self.learned.instances.open(alloc, parent, step, given)?,
-        };
+    ) -> Result<(), AllocError>
+        ensures entered { OnOk result (IsEnteredBy self.old parent step given (block_view block.entry.now) self.new) }
+        ensures facts { self.new.learned.facts ≡ self.old.learned.facts }
+        ensures closed { self.new.learned.closed ≡ self.old.learned.closed }
+        ensures flow { self.new.flow.now ≡ self.old.flow.now }
+        ensures passed { self.new.passed ≡ self.old.passed }
+        ensures waiting { waiting_of self.new ≡ waiting_of self.old }
+    {
+        let child = child_of(alloc, &mut self.learned, parent, step, given)?;
         self.add_block(child, &[], block)
+    }
+}
+
+/// The instance that another one has opened under a step, which is opened where there is none.
+fn child_of(
+    alloc: Global,
+    learned: &mut Learned,
+    parent: usize,
+    step: Step,
+    given: Given,
+) -> Result<usize, AllocError>
+    ensures found { IfOk result (λ child. IsChildOf learned.old parent step given learned.new child) }
+    ensures facts { learned.new.facts ≡ learned.old.facts }
+    ensures closed { learned.new.closed ≡ learned.old.closed }
+{
+    match learned.instances.child(parent, step.at, &step.key) {
+        Some(child) => Ok(child),
+        None => {
+            let child = learned.instances.open(alloc, parent, step, given)?;
+            Ok(child)
+        }
     }
 }
 
@@ -176,25 +239,59 @@ fn variables_of<A: Allocator>(
     action: &Action<A>,
     choice: &Choice,
     i: u64,
-) -> Result<Vec<Variable>, AllocError> {
+) -> Result<Vec<Variable>, AllocError>
+    ensures { IfOk result (λ vs. i < count_in (choice_view choice.now) → vs.items ≡ turn_variables (action_view action.now) (choice_view choice.now) i) }
+{
+    match action {
+        Action::Range { value, turn, .. } => turn_of(alloc, value.node, turn, choice, i),
+        Action::Each { value, key, .. } => turn_of(alloc, value.node, key, choice, i),
+        Action::Declare(_) => Ok(Vec::new(alloc)),
+        Action::Call { .. } => Ok(Vec::new(alloc)),
+        Action::Assign { .. } => Ok(Vec::new(alloc)),
+        Action::Fill { .. } => Ok(Vec::new(alloc)),
+        Action::Insert { .. } => Ok(Vec::new(alloc)),
+        Action::Print { .. } => Ok(Vec::new(alloc)),
+        Action::Assert { .. } => Ok(Vec::new(alloc)),
+        Action::When { .. } => Ok(Vec::new(alloc)),
+        Action::Choose { .. } => Ok(Vec::new(alloc)),
+        Action::Wait { .. } => Ok(Vec::new(alloc)),
+    }
+}
+
+/// The variable for the value, then the one for the number or key of the turn.
+fn turn_of<A: Allocator>(
+    alloc: Global,
+    node: u32,
+    key: &Option<flow::statement::Variable<A>>,
+    choice: &Choice,
+    i: u64,
+) -> Result<Vec<Variable>, AllocError>
+    ensures { IfOk result (λ vs. i < count_in (choice_view choice.now) → vs.items
+        ≡ record { node = node; value = value_at_turn (choice_view choice.now) i } ∷ key_variable (option_map (λ x. x.node) key.now) (key_in (choice_view choice.now) i)) }
+{
     let mut variables = Vec::new(alloc);
-    let (value, key) = match action {
-        Action::Range { value, turn, .. } => (value, turn),
-        Action::Each { value, key, .. } => (value, key),
-        _ => return Ok(variables),
-    };
     variables.push(Variable {
-        node: value.node,
+        node,
         value: choice.value(i)?,
     })?;
     if let Some(key) = key {
-        let Key::Number(number) = choice.key(i)?;
+        let Key::Number(number) = key_at(choice, i)?;
         variables.push(Variable {
             node: key.node,
             value: Scalar::Number(number),
         })?;
     }
     Ok(variables)
+}
+
+/// The key of a turn. One that no number says counts as want of memory.
+fn key_at(choice: &Choice, i: u64) -> Result<Key, AllocError>
+    ensures { IfOk result (λ key. i < count_in (choice_view choice.now) → key ≡ key_in (choice_view choice.now) i) }
+{
+    match i64::try_from(i) {
+        Ok(_) => choice.key(i),
+        Err(_) => Err(AllocError),
+    }
 }
 
 /// Whether something opens blocks by a choice.
