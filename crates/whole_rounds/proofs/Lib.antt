@@ -1,5 +1,6 @@
 pub mod Behind
 pub mod Calls
+pub mod Going
 pub mod Inside
 pub mod Lasting
 pub mod Listed

@@ -4,3 +4,7 @@ pub mod Silence
 pub mod Standing
 pub mod Made
 pub mod Opening
+<<<<<<< ours
+=======
+pub mod Going
+>>>>>>> theirs
