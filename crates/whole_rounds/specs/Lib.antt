@@ -4,7 +4,5 @@ pub mod Silence
 pub mod Standing
 pub mod Made
 pub mod Opening
-<<<<<<< ours
-=======
 pub mod Going
->>>>>>> theirs
+pub mod Closing

@@ -3,12 +3,13 @@ use Rattle.std.specs.Prelude.{ℕ, Bool, false, List, [], ◌∷◌, ◌++◌, m
 use Rattle.syntax_trees.specs.Core as core
 use Rattle.syntax_trees.specs.Core.{Stmt, declare, local}
 use Rattle.syntax_trees.specs.Parts.{stmt_action}
+use Rattle.flow.specs.View.{block_view}
 use Rattle.ended_blocks.specs.Active.{Active, Candidate}
 use Rattle.ended_blocks.specs.Never.{never_in}
 use Rattle.opened_blocks.specs.Listed.{unless_never}
 use Rattle.whole_rounds.specs.declared.state.Array.{Array}
 use Rattle.whole_rounds.specs.declared.state.State.{State}
-use Rattle.whole_rounds.specs.Standing.{active_of, content_view}
+use Rattle.whole_rounds.specs.Standing.{active_of}
 
 abbrev pub tasks_of : {A : Type 0} → State A → List Active
 tasks_of s = map active_of s.tasks.items
@@ -22,7 +23,7 @@ abbrev pub waiting_of : {A : Type 0} → State A → List Active
 waiting_of s = map active_of s.waiting.items
 
 abbrev pub candidate_of : {A : Type 0} → Array A → Candidate
-candidate_of a = (a.place, content_view a.content)
+candidate_of a = (a.place, block_view a.block.now)
 
 -- the variables that may come to be closed
 abbrev pub arrays_of : {A : Type 0} → State A → List Candidate

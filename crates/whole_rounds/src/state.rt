@@ -45,7 +45,7 @@ pub struct Task<'a, A: Allocator> {
 #[derive(Drop)]
 pub struct Array<'a, A: Allocator> {
     pub place: Place,
-    pub content: Content<'a, A>,
+    pub block: &'a Block<A>,
 }
 
 /// What is known of a script, with what is live and closed by it: the live statements, and those among them that may have
@@ -227,7 +227,7 @@ impl<'a, A: Allocator> State<'a, A> {
         if !never_ends_in(Owned::Local(node), block) {
             self.arrays.push(Array {
                 place: Place { instance, node },
-                content: Content { waits: &[], block },
+                block,
             })?;
         }
         Ok(())
