@@ -12,4 +12,3 @@ pub mod Round
 pub mod Steps
 pub mod Views
 pub mod Never
-pub mod Entering

@@ -1,14 +1,11 @@
 -- What a state keeps from one round to the next.
-use Rattle.std.specs.Prelude.{◌≡◌, ◌⊎◌, ℕ, true, false, List, take}
+use Rattle.std.specs.Prelude.{◌≡◌, ◌⊎◌, ℕ, true, List, take}
 use Rattle.syntax_trees.specs.Core.{Core}
-use Rattle.syntax_trees.specs.Meaning.{Known, IsFinished}
+use Rattle.syntax_trees.specs.Meaning.{Known}
 use Rattle.syntax_trees.specs.Members.{◌∈◌}
 use Rattle.whole_facts.specs.declared.learned.Learned.{Learned}
-use Rattle.whole_facts.specs.Keeping.{IsPlaced}
-use Rattle.held_facts.specs.Held.{Holds}
 use Rattle.ended_blocks.specs.Active.{Active, Candidate}
 use Rattle.opened_blocks.specs.Opened.{ArePassed, IsSoFar}
-use Rattle.whole_rounds.specs.declared.knowledge.Knowledge.{Knowledge}
 use Rattle.whole_rounds.specs.declared.state.State.{State}
 use Rattle.whole_rounds.specs.Made.{arrays_of, tasks_of, telling_of, waiting_of}
 use Rattle.whole_rounds.specs.Standing.{active_told}
@@ -26,11 +23,3 @@ pub record StandsBetween (s : Core) (n : ℕ) (l : Learned) (ls : List Active) (
 
 abbrev pub IsBetween : {A : Type 0} → Core → ℕ → State A → Type 0
 IsBetween s n state = StandsBetween s n state.learned (tasks_of state) (arrays_of state) (take state.passed (tasks_of state)) (waiting_of state) (telling_of state)
-
--- what is known of a script after so many rounds: the facts, each in an instance that stands where a block does; whether one more
--- round adds nothing
-pub record IsKnowledgeOf (s : Core) (k : Knowledge) : Type 0 where
-  pub placed : IsPlaced s k.learned.instances
-  pub holds : Holds (Known s k.rounds) k.learned
-  pub finished : k.finished ≡ true → IsFinished s k.rounds
-  pub unfinished : k.finished ≡ false → ¬ IsFinished s k.rounds

@@ -3,8 +3,8 @@ use Rattle.flow.specs.View.{action_view, block_view}
 use Rattle.whole_facts.specs.declared.instances.Given.{Given}
 use Rattle.whole_facts.specs.declared.instances.Step.{Step}
 use Rattle.whole_facts.specs.Chosen.{choice_view}
-use Rattle.whole_rounds.proofs.Entering.{turn_step}
-use Rattle.whole_rounds.proofs.state.State.open_turn.Goals as goal
+use Rattle.block_openings.proofs.Entering.{turn_step}
+use Rattle.block_openings.proofs.opening.open_turn.Goals as goal
 
 pub returns-clause-so : goal.returns-clause-so
 returns-clause-so g c =
@@ -14,5 +14,5 @@ returns-clause-so g c =
     let ins : c.new.result.items ≡ [] = search rules in
     let outs : c.new-2.result.items ≡ [] = search rules in
     λ s n w offsets good node there chosen below block short.
-    turn_step {A = A} s n c.args.self.now c.enter.new.self c.args.instance c.args.at node (action_view {A = A} c.args.action.now) (choice_view c.args.choice.now) c.args.i (block_view {A = A} c.args.block.now) x given
+    turn_step {A = A} s n c.args.state.now c.enter.new.state c.args.instance c.args.at node (action_view {A = A} c.args.action.now) (choice_view c.args.choice.now) c.args.i (block_view {A = A} c.args.block.now) x given
     w offsets good there chosen below block short refl (c.in_ok-key_at.ensures below) ins outs (c.in_ok-variables_of.ensures below) c.in_ok-enter.ensures.entered

@@ -1,7 +1,7 @@
 use Rattle.std.proofs.Common.{◌≡◌, ◌<◌, ◌≤◌, Bool, true, false, sym, ◌∙◌, rules, arith}
 use Rattle.std.proofs.lemmas.Result.{IfOk-weaker}
 use Rattle.whole_rounds.proofs.Listed.{not_both}
-use Rattle.whole_rounds.proofs.rounds.rounds.Goals as goal
+use Rattle.script_meaning.proofs.rounds.rounds.Goals as goal
 
 pub returns-then-is_empty : goal.returns-then-is_empty
 returns-then-is_empty g c =

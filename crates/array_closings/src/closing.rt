@@ -4,10 +4,10 @@ ghost use Rattle.flow.specs.View.{core_of};
 ghost use Rattle.whole_facts.specs.declared.facts.Place.{Place as Spot};
 ghost use Rattle.whole_facts.specs.Sighted.{closed_at};
 ghost use Rattle.whole_facts.specs.Store.{same_place};
-ghost use Rattle.whole_rounds.specs.Closing.{AllStaySo, AreEnded, IsEnded, IsToClose, StaysSo};
+ghost use Rattle.array_closings.specs.Closing.{AllStaySo, AreEnded, IsEnded, IsToClose, StaysSo};
 ghost use Rattle.whole_rounds.specs.Made.{arrays_of, candidate_of, tasks_of, telling_of, waiting_of};
 
-use crate::state::{Array, State};
+use whole_rounds::state::{Array, State};
 use flow::name::Owned;
 use flow::script::Flow;
 use std::alloc::{AllocError, Allocator, Global};
@@ -15,22 +15,20 @@ use whole_facts::facts::Place;
 use whole_facts::finished::{Body, is_finished};
 use whole_facts::learned::Learned;
 
-impl<'a, A: Allocator> State<'a, A> {
-    /// Closes the arrays of live blocks of which this is so by what is live and closed already. Whether there was one.
-    pub fn close_some(&mut self, alloc: Global) -> Result<bool, AllocError>
-        ensures tasks { tasks_of self.new ≡ tasks_of self.old }
-        ensures telling { telling_of self.new ≡ telling_of self.old }
-        ensures waiting { waiting_of self.new ≡ waiting_of self.old }
-        ensures arrays { arrays_of self.new ≡ arrays_of self.old }
-        ensures passed { self.new.passed ≡ self.old.passed }
-        ensures flow { self.new.flow.now ≡ self.old.flow.now }
-        ensures facts { self.new.learned.facts ≡ self.old.learned.facts }
-        ensures instances { self.new.learned.instances ≡ self.old.learned.instances }
-        ensures so { OnOk result (AllStaySo (core_of self.old.flow.now) (arrays_of self.old) self.old.learned self.new.learned) }
-        ensures ended { IfOk result (λ is_new. is_new ≡ false → (self.new.learned ≡ self.old.learned) × AreEnded (core_of self.old.flow.now) self.old.learned (arrays_of self.old)) }
-    {
-        close_arrays(&mut self.learned, alloc, self.flow, self.arrays.as_slice())
-    }
+/// Closes the arrays of live blocks of which this is so by what is live and closed already. Whether there was one.
+pub fn close_some<'a, A: Allocator>(state: &mut State<'a, A>, alloc: Global) -> Result<bool, AllocError>
+    ensures tasks { tasks_of state.new ≡ tasks_of state.old }
+    ensures telling { telling_of state.new ≡ telling_of state.old }
+    ensures waiting { waiting_of state.new ≡ waiting_of state.old }
+    ensures arrays { arrays_of state.new ≡ arrays_of state.old }
+    ensures passed { state.new.passed ≡ state.old.passed }
+    ensures flow { state.new.flow.now ≡ state.old.flow.now }
+    ensures facts { state.new.learned.facts ≡ state.old.learned.facts }
+    ensures instances { state.new.learned.instances ≡ state.old.learned.instances }
+    ensures so { OnOk result (AllStaySo (core_of state.old.flow.now) (arrays_of state.old) state.old.learned state.new.learned) }
+    ensures ended { IfOk result (λ is_new. is_new ≡ false → (state.new.learned ≡ state.old.learned) × AreEnded (core_of state.old.flow.now) state.old.learned (arrays_of state.old)) }
+{
+    close_arrays(&mut state.learned, alloc, state.flow, state.arrays.as_slice())
 }
 
 /// Closes those of these arrays of which this is so. Whether there was one.

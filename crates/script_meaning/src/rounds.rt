@@ -2,7 +2,9 @@
 ghost use Rattle.std.specs.Prelude.{◌≡◌, ◌≤◌, false, IfOk};
 
 use crate::knowledge::Knowledge;
-use crate::state::State;
+use array_closings::closing::close_some;
+use block_openings::opening::open_all;
+use whole_rounds::state::State;
 use flow::script::Flow;
 use std::alloc::{AllocError, Allocator, Global};
 
@@ -20,27 +22,25 @@ pub fn rounds<A: Allocator>(
 {
     let mut state = State::new(alloc, flow)?;
     for round in 0..limit {
-        state.settle(alloc)?;
+        settle(&mut state, alloc)?;
         let news = state.news(alloc)?;
         if news.is_empty() {
             return Knowledge::of(alloc, state, round, true);
         }
         state.learn(alloc, news)?;
     }
-    state.settle(alloc)?;
+    settle(&mut state, alloc)?;
     let finished = state.news(alloc)?.is_empty();
     Knowledge::of(alloc, state, limit, finished)
 }
 
-impl<'a, A: Allocator> State<'a, A> {
-    /// Makes live and closed what is so by the facts that are known.
-    fn settle(&mut self, alloc: Global) -> Result<(), AllocError> {
-        for _ in 0..usize::MAX {
-            self.open_all(alloc)?;
-            if !self.close_some(alloc)? {
-                return Ok(());
-            }
+/// Makes live and closed what is so by the facts that are known.
+fn settle<'a, A: Allocator>(state: &mut State<'a, A>, alloc: Global) -> Result<(), AllocError> {
+    for _ in 0..usize::MAX {
+        open_all(state, alloc)?;
+        if !close_some(state, alloc)? {
+            return Ok(());
         }
-        Ok(())
     }
+    Err(AllocError)
 }

@@ -1,7 +1,7 @@
 //! What is known of a script after some rounds.
 ghost use Rattle.std.specs.Prelude.{◌≡◌, IfOk};
 
-use crate::state::{Deed, State, Task};
+use whole_rounds::state::{Deed, State, Task};
 use flow::statement::Action;
 use std::alloc::{AllocError, Allocator, Global};
 use values::value::{Scalar, Value};

@@ -30,7 +30,7 @@ use Rattle.opened_blocks.proofs.Turning.{seen_opening}
 use Rattle.opened_blocks.proofs.Entering.{entered}
 use Rattle.whole_rounds.specs.declared.state.State.{State}
 use Rattle.whole_rounds.specs.Made.{arrays_of, declares_here, declares_here_by, no_calls, tasks_of, telling_of}
-use Rattle.whole_rounds.specs.Opening.{IsEnteredBy, IsGood, IsMore, IsStep}
+use Rattle.block_openings.specs.Opening.{IsEnteredBy, IsGood, IsMore, IsStep}
 
 -- with no level of calls nothing is said of functions
 no_level : (s : Core) → never_called s 0 ≡ no_calls
