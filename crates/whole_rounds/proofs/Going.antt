@@ -171,6 +171,7 @@ module _ (s : Core) (w : WellFormed s) (single : SinglyAssigned s) (n : ℕ) whe
       record {
         good = so_far_later s (Known s n) (Known s (suc n)) grown 0 l k ls arrays h.good holds;
         passed_so = passed_later s (Known s n) (Known s (suc n)) grown 0 l k ls [] passed waiting h.passed_so;
+        waiting_live = h.waiting_live;
         telling_so = telling_learned l (with_facts l k) (more_added l news k added) ls (λ a i. (h.good.live a i).within) telling h.telling_so;
       }
 

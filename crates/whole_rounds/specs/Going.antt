@@ -19,6 +19,7 @@ pub record IsTelling (l : Learned) (ls telling : List Active) : Type 0 where
 pub record StandsBetween (s : Core) (n : ℕ) (l : Learned) (ls : List Active) (arrays : List Candidate) (passed waiting telling : List Active) : Type 0 where
   pub good : IsSoFar s (Known s n) 0 l ls arrays
   pub passed_so : ArePassed s (Known s n) l ls passed waiting
+  pub waiting_live : (a : Active) → a ∈ waiting → a ∈ ls
   pub telling_so : IsTelling l ls telling
 
 abbrev pub IsBetween : {A : Type 0} → Core → ℕ → State A → Type 0
