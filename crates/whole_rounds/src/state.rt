@@ -4,6 +4,7 @@ ghost use Rattle.std.specs.Prelude.{◌≡◌, ◌++◌, ◌∷◌, [], IfOk, On
 ghost use Rattle.flow.specs.View.{action_view, block_view, core_of, statement_view, waits_around};
 ghost use Rattle.syntax_trees.specs.Core.{local, stmt};
 ghost use Rattle.syntax_trees.specs.Parts.{block_list};
+ghost use Rattle.whole_facts.specs.Fresh.{IsFresh};
 ghost use Rattle.ended_blocks.specs.Active.{active};
 ghost use Rattle.ended_blocks.specs.Never.{never_in};
 ghost use Rattle.opened_blocks.specs.Listed.{all_active, unless_never};
@@ -87,6 +88,7 @@ impl<'a, A: Allocator> Task<'a, A> {
 impl<'a, A: Allocator> State<'a, A> {
     /// Nothing is known, and the script's own block is live.
     pub fn new(alloc: Global, flow: &'a Flow<A>) -> Result<State<'a, A>, AllocError>
+        ensures learned { IfOk result (λ state. IsFresh state.learned) }
         ensures tasks { IfOk result (λ state. tasks_of state ≡ all_active 0 (block_list (core_of flow.entry.now).body)) }
         ensures telling { IfOk result (λ state. telling_of state ≡ all_active 0 (block_list (core_of flow.entry.now).body)) }
         ensures passed { IfOk result (λ state. (state.passed ≡ 0) × (waiting_of state ≡ [])) }
