@@ -44,8 +44,8 @@ fn close_arrays<'a, A: Allocator>(
     ensures ended { IfOk result (λ is_new. is_new ≡ false → (learned.new ≡ learned.old) × AreEnded (core_of flow.now) learned.old (map candidate_of arrays.now)) }
 {
     let mut is_new = false;
-    for i in 0..arrays.len() {
-        if close_one(learned, alloc, flow, &arrays[i])? {
+    for array in arrays {
+        if close_one(learned, alloc, flow, array)? {
             is_new = true;
         }
     }
