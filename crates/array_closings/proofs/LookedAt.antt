@@ -67,9 +67,9 @@ module _ {A : Type 0} (s : Core) (all : List (Array A)) (k : ℕ) (d : Array A) 
     instances = f ∙ h.instances;
     so = λ n ls far. stays n ls (map candidate_of all) there (h.so n ls far);
     ended = λ x. (
-      let b = neither x in
-      let before = h.ended b.0 in
-      let this = ended b.1 in
-      (this.0 ∙ before.0, one_more_ends initial before.1 (subst (λ (z : Learned). IsEnded s z (candidate_of (get_or all k d))) before.0 this.1))
-    );
+        let b = neither x in
+        let before = h.ended b.0 in
+        let this = ended b.1 in
+        (this.0 ∙ before.0, one_more_ends initial before.1 (subst (λ (z : Learned). IsEnded s z (candidate_of (get_or all k d))) before.0 this.1))
+        );
   }

@@ -7,16 +7,19 @@ ghost use Rattle.whole_facts.specs.Store.{same_place};
 ghost use Rattle.array_closings.specs.Closing.{AllStaySo, AreEnded, IsEnded, IsToClose, StaysSo};
 ghost use Rattle.whole_rounds.specs.Made.{arrays_of, candidate_of, tasks_of, telling_of, waiting_of};
 
-use whole_rounds::state::{Array, State};
 use flow::name::Owned;
 use flow::script::Flow;
 use std::alloc::{AllocError, Allocator, Global};
 use whole_facts::facts::Place;
 use whole_facts::finished::{Body, is_finished};
 use whole_facts::learned::Learned;
+use whole_rounds::state::{Array, State};
 
 /// Closes the arrays of live blocks of which this is so by what is live and closed already. Whether there was one.
-pub fn close_some<'a, A: Allocator>(state: &mut State<'a, A>, alloc: Global) -> Result<bool, AllocError>
+pub fn close_some<'a, A: Allocator>(
+    state: &mut State<'a, A>,
+    alloc: Global,
+) -> Result<bool, AllocError>
     ensures tasks { tasks_of state.new ≡ tasks_of state.old }
     ensures telling { telling_of state.new ≡ telling_of state.old }
     ensures waiting { waiting_of state.new ≡ waiting_of state.old }
@@ -28,7 +31,12 @@ pub fn close_some<'a, A: Allocator>(state: &mut State<'a, A>, alloc: Global) -> 
     ensures so { OnOk result (AllStaySo (core_of state.old.flow.now) (arrays_of state.old) state.old.learned state.new.learned) }
     ensures ended { IfOk result (λ is_new. is_new ≡ false → (state.new.learned ≡ state.old.learned) × AreEnded (core_of state.old.flow.now) state.old.learned (arrays_of state.old)) }
 {
-    close_arrays(&mut state.learned, alloc, state.flow, state.arrays.as_slice())
+    close_arrays(
+        &mut state.learned,
+        alloc,
+        state.flow,
+        state.arrays.as_slice(),
+    )
 }
 
 /// Closes those of these arrays of which this is so. Whether there was one.
