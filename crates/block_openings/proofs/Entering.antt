@@ -1,5 +1,5 @@
 -- What was opened so far is so with a block that became live.
-use Rattle.std.specs.Prelude.{◌≡◌, ℕ, zero, ◌<◌, Bool, true, false, List, [], ◌∷◌, ◌++◌, length, map, nat_le, pos, Option, Some, None, slice_get, option_map, refl}
+use Rattle.std.specs.Prelude.{◌≡◌, ℕ, ◌<◌, Bool, true, false, List, [], ◌∷◌, ◌++◌, length, nat_le, pos, Some, slice_get, refl}
 use Rattle.std.proofs.Common.{sym, ap, ◌∙◌, subst, arith}
 use Rattle.std.proofs.lemmas.Bool.Decides.{nat_tests}
 use Rattle.std.proofs.lemmas.List.{append-nil, append_assoc}
@@ -14,14 +14,13 @@ use Rattle.syntax_trees.specs.WellFormed.{WellFormed}
 use Rattle.syntax_trees.specs.Places.{most_steps}
 use Rattle.whole_facts.specs.declared.instances.Given.{Given}
 use Rattle.whole_facts.specs.declared.instances.Step.{Step}
-use Rattle.whole_facts.specs.declared.learned.Learned.{Learned}
 use Rattle.whole_facts.specs.Chosen.{Chosen, block_in, chosen_in, count_in, key_in}
 use Rattle.whole_facts.specs.Paths.{path_of}
 use Rattle.whole_facts.specs.Sighted.{sight_of}
 use Rattle.whole_facts.specs.Store.{spots}
 use Rattle.ended_blocks.specs.Active.{Active, active, Candidate, HasBlock}
 use Rattle.ended_blocks.specs.Turns.{turn_variables}
-use Rattle.ended_blocks.specs.Never.{never_called, never_ends, never_in}
+use Rattle.ended_blocks.specs.Never.{never_called, never_in}
 use Rattle.opened_blocks.specs.Listed.{all_active, declares, declares_by, unless_never}
 use Rattle.opened_blocks.specs.Opened.{GoesOn, IsOpening, IsSoFar, OffsetsApart}
 use Rattle.opened_blocks.proofs.Going.{goes_further, goes_nowhere}
@@ -117,8 +116,7 @@ pub call_step : {A : Type 0} (s : Core) (n : ℕ) (old new : State A) (i : ℕ) 
     → IsEnteredBy old i x g b new → IsStep s n old new × HasBlock new.learned (tasks_of new) i c.at (Key.Number (pos 0)) f.body
 call_step {A} s n old new i c b f x g w good st m j found body short at key ins outs none e =
     let opening = call_opening s w.names (Known s n) 0 old.learned (tasks_of old) (arrays_of old) good i x g short st c f m j found at key ins outs none in
-    let h = enter_step s n old new i x g f.body good opening (subst (λ (d : core.Block). IsEnteredBy old i x g d new) (sym body) e) in
-    (
+    let h = enter_step s n old new i x g f.body good opening (subst (λ (d : core.Block). IsEnteredBy old i x g d new) (sym body) e) in (
       h.step,
       subst (λ (k : Key). HasBlock new.learned (tasks_of new) i c.at k f.body) key (subst (λ (a : ℕ). HasBlock new.learned (tasks_of new) i a x.key f.body) at h.block),
     )
@@ -136,8 +134,7 @@ pub turn_step : {A : Type 0} (s : Core) (n : ℕ) (old new : State A) (i at node
     → IsEnteredBy old i x g b new → IsStep s n old new × HasBlock new.learned (tasks_of new) i at (key_in c j) b
 turn_step {A} s n old new i at node header c j b x g w offsets good there chosen below block short at_is key ins outs variables e =
     let opening = seen_opening s w offsets (Known s n) 0 old.learned (tasks_of old) (arrays_of old) good i x g short at node header c j b there chosen below block at_is key ins outs variables in
-    let h = enter_step s n old new i x g b good opening e in
-    (
+    let h = enter_step s n old new i x g b good opening e in (
       h.step,
       subst (λ (k : Key). HasBlock new.learned (tasks_of new) i at k b) key (subst (λ (a : ℕ). HasBlock new.learned (tasks_of new) i a x.key b) at_is h.block),
     )

@@ -4,7 +4,7 @@ use Rattle.whole_facts.specs.declared.instances.Given.{Given}
 use Rattle.whole_facts.specs.declared.instances.Step.{Step}
 use Rattle.whole_facts.specs.Chosen.{choice_view}
 use Rattle.block_openings.proofs.Entering.{turn_step}
-use Rattle.block_openings.proofs.opening.open_turn.Goals as goal
+use Rattle.block_openings.proofs.turns.open_turn.Goals as goal
 
 pub returns-clause-so : goal.returns-clause-so
 returns-clause-so g c =

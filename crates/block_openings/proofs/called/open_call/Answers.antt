@@ -15,7 +15,7 @@ use Rattle.whole_facts.proofs.Ending.{slice_there}
 use Rattle.ended_blocks.specs.Active.{HasBlock}
 use Rattle.whole_rounds.specs.Made.{tasks_of}
 use Rattle.block_openings.proofs.Entering.{call_step, one_function, short_path}
-use Rattle.block_openings.proofs.opening.open_call.Goals as goal
+use Rattle.block_openings.proofs.called.open_call.Goals as goal
 
 pub returns-clause-so : goal.returns-clause-so
 returns-clause-so g c =
@@ -36,7 +36,7 @@ returns-clause-so g c =
     let outs : c.in_ok-places-2.field-0.items ≡ spots c.args.state.now.learned.instances.all.items c.args.instance (names_view c.args.call.now.outputs.items) = search rules in
     let none : c.new.result.items ≡ [] = search rules in
     λ s n e w good st m j. (
-        let there : slice_get s.functions k ≡ Some fv = ap (λ (z : Core). slice_get z.functions k) e ∙ slice_get-map (function_view {A = A}) old.flow.now.functions.items k ∙ ap (option_map (function_view {A = A})) found in
-        let step = call_step {A = A} s n old new i (call_view {A = A} c.args.call.now) (block_view {A = A} c.in-Some.function.now.body) fv x given w good st m j there refl short refl refl ins outs none c.in_ok-enter.ensures.entered in
-        (step.0, λ f q h. subst (λ (z : core.Function). HasBlock new.learned (tasks_of {A = A} new) i c.args.call.now.at (Key.Number (pos 0)) z.body) (one_function s k f fv q there) step.1)
+    let there : slice_get s.functions k ≡ Some fv = ap (λ (z : Core). slice_get z.functions k) e ∙ slice_get-map (function_view {A = A}) old.flow.now.functions.items k ∙ ap (option_map (function_view {A = A})) found in
+    let step = call_step {A = A} s n old new i (call_view {A = A} c.args.call.now) (block_view {A = A} c.in-Some.function.now.body) fv x given w good st m j there refl short refl refl ins outs none c.in_ok-enter.ensures.entered in
+    (step.0, λ f q h. subst (λ (z : core.Function). HasBlock new.learned (tasks_of {A = A} new) i c.args.call.now.at (Key.Number (pos 0)) z.body) (one_function s k f fv q there) step.1)
     )
