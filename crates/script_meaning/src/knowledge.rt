@@ -1,14 +1,14 @@
 //! What is known of a script after some rounds.
-ghost use Rattle.std.specs.Prelude.{◌≡◌, IfOk};
+ghost use Rattle.std.specs.Prelude.{◌≡◌, ◌++◌, map, IfOk, OnOk};
+ghost use Rattle.outcome_lists.specs.Stuck.{is_stuck_in};
+ghost use Rattle.whole_rounds.specs.Made.{tasks_of};
+ghost use Rattle.whole_rounds.specs.Standing.{active_of};
+ghost use Rattle.script_meaning.specs.Known.{stuck_among, stuck_if};
 
-use whole_rounds::state::{Deed, State, Task};
-use flow::statement::Action;
+use outcome_lists::stuck::{is_stuck, is_wait_stuck};
 use std::alloc::{AllocError, Allocator, Global};
-use values::value::{Scalar, Value};
-use whole_facts::choices::{choice_of, have_come};
-use whole_facts::facts::Place;
-use whole_facts::finished::{is_inserted, is_known};
 use whole_facts::learned::Learned;
+use whole_rounds::state::{Deed, State, Task};
 
 /// A blocked statement, by the number of its block instance and its offset.
 #[derive(Clone, Copy, PartialEq, Eq, Debug)]
@@ -35,9 +35,12 @@ impl Knowledge {
         rounds: u32,
         finished: bool,
     ) -> Result<Knowledge, AllocError>
-        ensures { IfOk result (λ k. (k.rounds ≡ rounds) × (k.finished ≡ finished)) }
+        ensures rounds { IfOk result (λ k. k.rounds ≡ rounds) }
+        ensures finished { IfOk result (λ k. k.finished ≡ finished) }
+        ensures learned { IfOk result (λ k. k.learned ≡ state.entry.learned) }
+        ensures stuck { IfOk result (λ k. k.stuck.items ≡ stuck_among state.entry.learned (tasks_of state.entry)) }
     {
-        let stuck = state.stuck(alloc)?;
+        let stuck = stuck_of(&state.learned, alloc, state.tasks.as_slice())?;
         let State { learned, .. } = state;
         Ok(Knowledge {
             learned,
@@ -48,98 +51,50 @@ impl Knowledge {
     }
 }
 
-impl<'a, A: Allocator> State<'a, A> {
-    /// The statements that are blocked.
-    fn stuck(&self, alloc: Global) -> Result<Vec<Stuck>, AllocError> {
-        let mut stuck = Vec::new(alloc);
-        for task in &self.tasks {
-            if self.is_stuck(alloc, task)? {
-                stuck.push(Stuck {
-                    instance: task.site.instance,
-                    at: task.site.at,
-                })?;
-            }
-        }
-        Ok(stuck)
+/// Those of these live statements that are blocked.
+fn stuck_of<'a, A: Allocator>(
+    learned: &Learned,
+    alloc: Global,
+    tasks: &[Task<'a, A>],
+) -> Result<Vec<Stuck>, AllocError>
+    ensures { IfOk result (λ stuck. stuck.items ≡ stuck_among learned.now (map active_of tasks.now)) }
+{
+    let mut stuck = Vec::new(alloc);
+    for task in tasks {
+        add_stuck(learned, alloc, task, &mut stuck)?;
     }
+    Ok(stuck)
+}
 
-    /// Whether a statement has neither its own fact nor a fault at itself or at an outermost cell.
-    fn is_stuck(&self, alloc: Global, task: &Task<'a, A>) -> Result<bool, AllocError> {
-        match &task.deed {
-            Deed::Waits(names, _) => Ok(
-                !have_come(&self.learned, task.site.instance, *names)
-                    && !self.has_fault(task, task.site.node),
-            ),
-            Deed::Does(action) => {
-                if self.has_own_fact(alloc, task, *action)?
-                    || self.has_fault(task, task.site.node)
-                {
-                    return Ok(false);
-                }
-                self.has_no_cell_fault(alloc, task, *action)
-            }
-        }
-    }
-
-    /// Whether no fault is known at an outermost cell.
-    fn has_no_cell_fault(
-        &self,
-        alloc: Global,
-        task: &Task<'a, A>,
-        action: &'a Action<A>,
-    ) -> Result<bool, AllocError> {
-        for outer in &whole_facts::parts::outers_of(alloc, action)? {
-            if self.has_fault(task, outer.cell.node) {
-                return Ok(false);
-            }
-        }
-        Ok(true)
-    }
-
-    /// Whether a fault of a statement is known at a node.
-    fn has_fault(&self, task: &Task<'a, A>, node: u32) -> bool {
-        let place = Place {
+/// Adds a live statement if it is blocked.
+fn add_stuck<'a, A: Allocator>(
+    learned: &Learned,
+    alloc: Global,
+    task: &Task<'a, A>,
+    stuck: &mut Vec<Stuck>,
+) -> Result<(), AllocError>
+    ensures { OnOk result (stuck.new.items ≡ stuck.old.items ++ stuck_if (is_stuck_in learned.now (active_of task.now).instance (active_of task.now).statement) (active_of task.now)) }
+{
+    if is_task_stuck(learned, alloc, task)? {
+        stuck.push(Stuck {
             instance: task.site.instance,
-            node,
-        };
-        self.learned.facts.has_fault(task.site.at, place)
+            at: task.site.at,
+        })?;
     }
+    Ok(())
+}
 
-    /// Whether a statement has its own fact, or is none that can be blocked.
-    fn has_own_fact(
-        &self,
-        alloc: Global,
-        task: &Task<'a, A>,
-        action: &'a Action<A>,
-    ) -> Result<bool, AllocError> {
-        let instance = task.site.instance;
-        match action {
-            Action::Declare(_) | Action::Call { .. } => Ok(true),
-            Action::Assign { right, .. } => Ok(is_known(&self.learned, instance, right.cell.node)),
-            Action::Fill { right, .. } => Ok(is_known(&self.learned, instance, right.cell.node)),
-            Action::Insert { array, index, .. } => {
-                let writer = Place {
-                    instance,
-                    node: task.site.node,
-                };
-                Ok(is_inserted(&self.learned, *array, index.cell.node, writer))
-            }
-            Action::Print { .. } => {
-                let writer = Place {
-                    instance,
-                    node: task.site.node,
-                };
-                Ok(self.learned.facts.line(writer).is_some())
-            }
-            Action::Assert { check, .. } => Ok(self.is_true(instance, check.cell.node)),
-            _ => Ok(choice_of(&self.learned, alloc, instance, action)?.is_some()),
-        }
-    }
-
-    fn is_true(&self, instance: usize, node: u32) -> bool {
-        match self.learned.facts.value(Place { instance, node }) {
-            Some(Value::One(Scalar::Truth(truth))) => *truth,
-            _ => false,
-        }
+/// Whether a live statement has neither its own fact nor a fault at itself or at an outermost cell.
+fn is_task_stuck<'a, A: Allocator>(
+    learned: &Learned,
+    alloc: Global,
+    task: &Task<'a, A>,
+) -> Result<bool, AllocError>
+    ensures { IfOk result (λ stuck. stuck ≡ is_stuck_in learned.now (active_of task.now).instance (active_of task.now).statement) }
+{
+    let place = task.site.own_place();
+    match &task.deed {
+        Deed::Waits(names, _) => Ok(is_wait_stuck(learned, task.site.at, place, *names)),
+        Deed::Does(action) => is_stuck(learned, alloc, task.site.at, place, *action),
     }
 }

@@ -6,5 +6,8 @@
 #![tactic(auto)]
 
 pub mod knowledge;
+mod lists;
+pub mod order;
 pub mod reading;
 pub mod rounds;
+mod settle;

@@ -1,32 +1,23 @@
 //! What is read off the knowledge of a script: its lines, its faults, and the statements that are blocked.
-ghost use Rattle.std.specs.Prelude.{◌≡◌, ◌↔◌, IfOk, IsPermutation, IsSorted, IsTrue};
+ghost use Rattle.std.specs.Prelude.{◌≡◌, ◌↔◌, map, reverse, IfOk, IsSorted, IsTrue};
 ghost use Rattle.std.specs.Cmp.Lexicographic.{slice_cmp};
+ghost use Rattle.std.specs.HashSet.{keys};
 ghost use Rattle.std.specs.Ordering.{nat_cmp};
-ghost use Rattle.whole_facts.specs.Store.{all_lines, one_writer_in, writes_at};
-ghost use Rattle.whole_facts.specs.declared.facts.Place.{Place};
+ghost use Rattle.syntax_trees.specs.Core.{Core};
+ghost use Rattle.syntax_trees.specs.Facts.{OneWriter};
+ghost use Rattle.syntax_trees.specs.Meaning.{Known};
+ghost use Rattle.syntax_trees.specs.Outcomes.{Lines};
+ghost use Rattle.syntax_trees.specs.Places.{Place};
+ghost use Rattle.whole_facts.specs.Paths.{path_of, step_view};
+ghost use Rattle.script_meaning.specs.Known.{IsKnowledgeOf};
+ghost use Rattle.script_meaning.specs.Read.{held_mark, mark_of, point_of, stuck_point, AreBlocked, AreFaults};
 
 use crate::knowledge::Knowledge;
-use std::alloc::AllocError;
-use std::cmp::Ordering;
-use values::key::Key;
+use crate::lists::{faults_in_order, in_order};
+use crate::order::{Fault, Statement};
+use std::alloc::{AllocError, Global};
 use values::text::Text;
-use whole_facts::facts::FaultKind;
 use whole_facts::instances::Step;
-
-/// A fault of a script: its kind, the offset of its statement, and its path, the innermost step first.
-#[derive(Drop)]
-pub struct Fault<'k> {
-    pub kind: FaultKind,
-    pub at: usize,
-    pub path: &'k [Step],
-}
-
-/// A statement of a script, told by its offset and its path, the innermost step first.
-#[derive(Drop)]
-pub struct Statement<'k> {
-    pub at: usize,
-    pub path: &'k [Step],
-}
 
 impl Knowledge {
     /// Whether one more round adds nothing.
@@ -38,7 +29,7 @@ impl Knowledge {
 
     /// Whether no key of an array has two writers.
     pub fn is_clean(&self) -> bool
-        ensures { IsTrue result ↔ ((a : Place) → IsTrue (one_writer_in (writes_at self.now.learned.facts a))) }
+        ensures { (s : Core) → IsKnowledgeOf s self.now → IsTrue result ↔ ((a : Place) → OneWriter (Known s self.now.rounds) a) }
     {
         self.learned.facts.is_clean()
     }
@@ -49,7 +40,7 @@ impl Knowledge {
     ///
     /// `AllocError` where memory that was asked for was refused.
     pub fn lines_sorted(&self) -> Result<Vec<Text>, AllocError>
-        ensures lines { IfOk result (λ lines. IsPermutation (all_lines self.now.learned.facts) lines.items) }
+        ensures lines { IfOk result (λ lines. (s : Core) → IsKnowledgeOf s self.now → Lines (Known s self.now.rounds) lines.items) }
         ensures sorted { IfOk result (λ lines. IsSorted (slice_cmp nat_cmp) lines.items) }
     {
         let mut lines = self.learned.facts.all_lines(*self.stuck.allocator())?;
@@ -61,77 +52,83 @@ impl Knowledge {
         Ok(lines)
     }
 
-    /// The faults, sorted by path, then offset, then number, each once.
+    /// The faults, by their paths, then by the offsets of their statements and then by number, each once.
     ///
     /// # Errors
     ///
     /// `AllocError` where memory that was asked for was refused.
-    pub fn faults(&self) -> Result<Vec<Fault<'_>>, AllocError> {
-        let mut faults = Vec::new(*self.stuck.allocator());
+    pub fn faults(&self) -> Result<Vec<Fault>, AllocError>
+        ensures { IfOk result (λ faults. (s : Core) → IsKnowledgeOf s self.now → AreFaults (Known s self.now.rounds) faults.items) }
+    {
+        let alloc = *self.stuck.allocator();
+        faults_in_order(alloc, self.all_faults(alloc)?)
+    }
+
+    /// The statements that are blocked, by their paths and then by their offsets, each once.
+    ///
+    /// # Errors
+    ///
+    /// `AllocError` where memory that was asked for was refused.
+    pub fn blocked(&self) -> Result<Vec<Statement>, AllocError>
+        ensures { IfOk result (λ blocked. (s : Core) → IsKnowledgeOf s self.now → AreBlocked s (Known s self.now.rounds) blocked.items) }
+    {
+        let alloc = *self.stuck.allocator();
+        in_order(alloc, self.all_blocked(alloc)?)
+    }
+
+    /// The faults with their paths, in no order.
+    fn all_faults(&self, alloc: Global) -> Result<Vec<Fault>, AllocError>
+        ensures { IfOk result (λ found. map mark_of found.items ≡ map (held_mark self.now.learned.instances.all.items) (keys self.now.learned.facts.faults)) }
+    {
+        let mut found = Vec::new(alloc);
         for fault in self.learned.facts.faults.iter() {
-            faults.push(Fault {
+            found.push(Fault {
                 kind: fault.kind,
-                at: fault.at,
-                path: self.path(fault.place.instance),
+                statement: self.statement(alloc, fault.place.instance, fault.at)?,
             })?;
         }
-        faults.sort_by(|a, b| a.order(b))?;
-        faults.dedup_by(|a, b| a.order(b) == Ordering::Equal);
-        Ok(faults)
+        Ok(found)
     }
 
-    /// The statements that are blocked, sorted by path and then by offset, each once.
-    ///
-    /// # Errors
-    ///
-    /// `AllocError` where memory that was asked for was refused.
-    pub fn blocked(&self) -> Result<Vec<Statement<'_>>, AllocError> {
-        let mut blocked = Vec::new(*self.stuck.allocator());
+    /// The blocked statements with their paths, in no order.
+    fn all_blocked(&self, alloc: Global) -> Result<Vec<Statement>, AllocError>
+        ensures { IfOk result (λ found. map point_of found.items ≡ map (stuck_point self.now.learned.instances.all.items) self.now.stuck.items) }
+    {
+        let mut found = Vec::new(alloc);
         for stuck in &self.stuck {
-            blocked.push(Statement {
-                at: stuck.at,
-                path: self.path(stuck.instance),
-            })?;
+            found.push(self.statement(alloc, stuck.instance, stuck.at)?)?;
         }
-        blocked.sort_by(|a, b| a.order(b))?;
-        blocked.dedup_by(|a, b| a.order(b) == Ordering::Equal);
-        Ok(blocked)
+        Ok(found)
     }
 
-    fn path(&self, instance: usize) -> &[Step] {
-        self.learned.instances.path(instance)
-    }
-}
-
-impl Fault<'_> {
-    fn order(&self, other: &Fault<'_>) -> Ordering {
-        path_order(self.path, other.path)
-            .then(self.at.cmp(&other.at))
-            .then(self.kind.number().cmp(&other.kind.number()))
+    /// The statement at an offset in an instance.
+    fn statement(&self, alloc: Global, instance: usize, at: usize) -> Result<Statement, AllocError>
+        ensures { IfOk result (λ statement. point_of statement ≡ record { at = at; path = path_of self.now.learned.instances.all.items instance }) }
+    {
+        let path = turned(alloc, self.learned.instances.path(instance))?;
+        Ok(Statement { at, path })
     }
 }
 
-impl Statement<'_> {
-    fn order(&self, other: &Statement<'_>) -> Ordering {
-        path_order(self.path, other.path).then(self.at.cmp(&other.at))
-    }
+/// A path from its outermost step on, of one with the innermost step first.
+fn turned(alloc: Global, path: &[Step]) -> Result<Vec<Step>, AllocError>
+    ensures { IfOk result (λ steps. reverse (map step_view steps.items) ≡ map step_view path.now) }
+{
+    let mut steps = copied(alloc, path)?;
+    steps.reverse();
+    Ok(steps)
 }
 
-/// Paths are compared step by step from the outermost, a beginning before its continuation.
-fn path_order(a: &[Step], b: &[Step]) -> Ordering {
-    match (a, b) {
-        ([], []) => Ordering::Equal,
-        ([], _) => Ordering::Less,
-        (_, []) => Ordering::Greater,
-        ([inner_a @ .., x], [inner_b @ .., y]) => match step_order(x, y) {
-            Ordering::Equal => path_order(inner_a, inner_b),
-            order => order,
-        },
+/// The same steps.
+fn copied(alloc: Global, path: &[Step]) -> Result<Vec<Step>, AllocError>
+    ensures { IfOk result (λ steps. map step_view steps.items ≡ map step_view path.now) }
+{
+    let mut steps = Vec::new(alloc);
+    for step in path {
+        steps.push(Step {
+            at: step.at,
+            key: step.key.share()?,
+        })?;
     }
-}
-
-/// Steps are compared by their offsets, then by their keys.
-fn step_order(a: &Step, b: &Step) -> Ordering {
-    let (Key::Number(x), Key::Number(y)) = (&a.key, &b.key);
-    a.at.cmp(&b.at).then(x.cmp(y))
+    Ok(steps)
 }

@@ -1,12 +1,19 @@
 //! The rounds: each adds what follows from what was known before.
-ghost use Rattle.std.specs.Prelude.{◌≡◌, ◌≤◌, false, IfOk};
+ghost use Rattle.std.specs.Prelude.{◌≡◌, ◌≤◌, ℕ, List, false, IfOk};
+ghost use Rattle.flow.specs.View.{core_of};
+ghost use Rattle.syntax_trees.specs.Reads.{Reads};
+ghost use Rattle.syntax_trees.specs.Resolved.{core};
+ghost use Rattle.syntax_trees.specs.Single.{SinglyAssigned};
+ghost use Rattle.syntax_trees.specs.Table.{Table};
+ghost use Rattle.syntax_trees.specs.Tree.{Tree};
+ghost use Rattle.syntax_trees.specs.Typing.{WellTyped};
+ghost use Rattle.script_meaning.specs.Known.{IsKnowledgeOf};
 
 use crate::knowledge::Knowledge;
-use array_closings::closing::close_some;
-use block_openings::opening::open_all;
-use whole_rounds::state::State;
+use crate::settle::settle;
 use flow::script::Flow;
 use std::alloc::{AllocError, Allocator, Global};
+use whole_rounds::state::State;
 
 /// What is known of a script after so many rounds as add something, or after `limit` rounds.
 ///
@@ -18,6 +25,8 @@ pub fn rounds<A: Allocator>(
     flow: &Flow<A>,
     limit: u32,
 ) -> Result<Knowledge, AllocError>
+    ensures known { IfOk result (λ k. (bytes : List ℕ) (t : Table) (tree : Tree) → Reads bytes tree → WellTyped tree t → SinglyAssigned (core t tree)
+        → core_of flow.now ≡ core t tree → IsKnowledgeOf (core t tree) k) }
     ensures within { IfOk result (λ k. (k.rounds ≤ limit) × (k.finished ≡ false → k.rounds ≡ limit)) }
 {
     let mut state = State::new(alloc, flow)?;
@@ -25,22 +34,14 @@ pub fn rounds<A: Allocator>(
         settle(&mut state, alloc)?;
         let news = state.news(alloc)?;
         if news.is_empty() {
-            return Knowledge::of(alloc, state, round, true);
+            let known = Knowledge::of(alloc, state, round, true)?;
+            return Ok(known);
         }
         state.learn(alloc, news)?;
     }
     settle(&mut state, alloc)?;
-    let finished = state.news(alloc)?.is_empty();
-    Knowledge::of(alloc, state, limit, finished)
-}
-
-/// Makes live and closed what is so by the facts that are known.
-fn settle<'a, A: Allocator>(state: &mut State<'a, A>, alloc: Global) -> Result<(), AllocError> {
-    for _ in 0..usize::MAX {
-        open_all(state, alloc)?;
-        if !close_some(state, alloc)? {
-            return Ok(());
-        }
-    }
-    Err(AllocError)
+    let last = state.news(alloc)?;
+    let finished = last.is_empty();
+    let knowledge = Knowledge::of(alloc, state, limit, finished)?;
+    Ok(knowledge)
 }
