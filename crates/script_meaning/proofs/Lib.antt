@@ -7,3 +7,4 @@ pub mod Sorted
 pub mod Starting
 pub mod Told
 pub mod Steps
+pub mod Settling
