@@ -52,7 +52,7 @@ module _ (s : Core) (levels : ℕ) (i : ℕ) (b : Block) where
   kept_or_never v true e = inr e
   kept_or_never v false e = inl first
 
-  listed_or_never : (ss : List Stmt) (at m v : ℕ) → stmt at m (declare v) ∈ ss
+  pub listed_or_never : (ss : List Stmt) (at m v : ℕ) → stmt at m (declare v) ∈ ss
       → (◌∈◌ {X = Candidate} (record { instance = i; node = v }, b) (declares s levels i b ss)) ⊎ (never_ends s levels (local v) b ≡ true)
   listed_or_never [] at m v x = elim x [ ]
   listed_or_never (st ∷ ss) at m v first = elim (kept_or_never v (never_ends s levels (local v) b) refl) [

@@ -11,3 +11,4 @@ pub mod Taking
 pub mod Ending
 pub mod Listed
 pub mod Growing
+pub mod Fresh

@@ -1,6 +1,6 @@
 //! What can be known of a script's run.
 ghost use Rattle.std.specs.Prelude.{◌≡◌, ◌↔◌, [], not, option_copied, IfOk, IfErr, OnOk, IsSome, IsTrue};
-ghost use Rattle.std.specs.HashMap.{get};
+ghost use Rattle.std.specs.HashMap.{get, IsUnique};
 ghost use Rattle.kept_facts.specs.Kept.{several_in};
 ghost use Rattle.whole_facts.specs.Added.{HasSame, IsAdded, IsNothing, is_new, with_write};
 ghost use Rattle.values.specs.Maps.{rising};
@@ -109,20 +109,6 @@ impl FaultKind {
         FaultKind::AssertFailed,
     ];
 
-    /// Its number, from 1 on.
-    pub fn number(self) -> u32 {
-        match self {
-            FaultKind::Overflow => 1,
-            FaultKind::DivideByZero => 2,
-            FaultKind::NoElement => 3,
-            FaultKind::ElementTwice => 4,
-            FaultKind::BadStep => 5,
-            FaultKind::TooDeep => 6,
-            FaultKind::NotANumber => 7,
-            FaultKind::AssertFailed => 8,
-        }
-    }
-
     /// The fault of an operator, a conversion or a range.
     ///
     /// # Errors
@@ -170,9 +156,10 @@ impl Facts {
         self.lines.get(&writer.key())
     }
 
-    /// The lines, in no order.
+    /// The lines, in no order, one of each writer.
     pub fn all_lines(&self, alloc: Global) -> Result<Vec<Text>, AllocError>
-        ensures { IfOk result (λ lines. lines.items ≡ all_lines self.now) }
+        ensures lines { IfOk result (λ lines. lines.items ≡ all_lines self.now) }
+        ensures once { IsUnique same_pair self.now.lines }
     {
         let mut lines = Vec::new(alloc);
         for line in self.lines.values() {

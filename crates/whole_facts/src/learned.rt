@@ -1,6 +1,7 @@
 //! What was learned of a script: facts, block instances, and which arrays are closed.
-ghost use Rattle.std.specs.Prelude.{◌≡◌, option_copied};
+ghost use Rattle.std.specs.Prelude.{◌≡◌, option_copied, IfOk};
 ghost use Rattle.flow.specs.View.{name_view};
+ghost use Rattle.whole_facts.specs.Fresh.{IsFresh};
 ghost use Rattle.whole_facts.specs.Sighted.{closed_at, scalar_at, sight_of};
 
 use crate::facts::{Facts, Place};
@@ -20,7 +21,9 @@ pub struct Learned {
 
 impl Learned {
     /// Nothing, beside the script's own instance.
-    pub fn new(alloc: Global) -> Result<Learned, AllocError> {
+    pub fn new(alloc: Global) -> Result<Learned, AllocError>
+        ensures { IfOk result IsFresh }
+    {
         Ok(Learned {
             facts: Facts::new(alloc),
             instances: Instances::new(alloc)?,

@@ -1,5 +1,6 @@
 pub mod Behind
 pub mod Calls
+pub mod Going
 pub mod Inside
 pub mod Lasting
 pub mod Listed
@@ -10,3 +11,4 @@ pub mod Ranges
 pub mod Round
 pub mod Steps
 pub mod Views
+pub mod Never

@@ -9,7 +9,9 @@ use Rattle.flow.specs.View.{block_of, block_view, statement_view, statements_vie
 use Rattle.syntax_trees.specs.Core as core
 use Rattle.syntax_trees.specs.Core.{Stmt, stmt}
 use Rattle.syntax_trees.specs.Parts.{block_list}
-use Rattle.whole_rounds.specs.Made.{Declared, declares, declares_by, fresh, fresh_all}
+use Rattle.ended_blocks.specs.Active.{Candidate, active}
+use Rattle.opened_blocks.specs.Listed.{all_active}
+use Rattle.whole_rounds.specs.Made.{declares_here, declares_here_by}
 
 block_seen : (A : Type 0) (b : Block A) → block_view b ≡ block_of (statements_view (out-Block A b).statements.items)
 block_seen A b = search (rules, the_lemmas)
@@ -21,13 +23,13 @@ list_of_block (s ∷ ss) = ap (λ (z : List Stmt). s ∷ z) (list_of_block ss)
 pub listed : (A : Type 0) (b : Block A) → block_list (block_view b) ≡ statements_view (out-Block A b).statements.items
 listed A b = ap block_list (block_seen A b) ∙ list_of_block (statements_view (out-Block A b).statements.items)
 
-pub fresh_joins : (i : ℕ) (ss us : List Stmt) → fresh_all i (ss ++ us) ≡ fresh_all i ss ++ fresh_all i us
-fresh_joins i ss us = map-append (fresh i) ss us
+pub active_joins : (i : ℕ) (ss us : List Stmt) → all_active i (ss ++ us) ≡ all_active i ss ++ all_active i us
+active_joins i ss us = map-append (active i) ss us
 
-pub declares_joins : (i : ℕ) (b : core.Block) (ss us : List Stmt) → declares i b (ss ++ us) ≡ declares i b ss ++ declares i b us
+pub declares_joins : (i : ℕ) (b : core.Block) (ss us : List Stmt) → declares_here i b (ss ++ us) ≡ declares_here i b ss ++ declares_here i b us
 declares_joins i b [] us = refl
 declares_joins i b (stmt at n a ∷ ss) us =
-    ap (λ (z : List Declared). declares_by i b a ++ z) (declares_joins i b ss us) ∙ sym (append_assoc (declares_by i b a) (declares i b ss) (declares i b us))
+    ap (λ (z : List Candidate). declares_here_by i b a ++ z) (declares_joins i b ss us) ∙ sym (append_assoc (declares_here_by i b a) (declares_here i b ss) (declares_here i b us))
 
 -- what statements make, with one more
 pub made_step : (A : Type 0) (X : Type 0) (make : List Stmt → List X) → ((ss us : List Stmt) → make (ss ++ us) ≡ make ss ++ make us)

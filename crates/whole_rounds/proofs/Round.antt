@@ -26,7 +26,8 @@ use Rattle.well_formed.proofs.Accepted.{accepted_formed}
 use Rattle.whole_meaning.proofs.Nodes.{accepted_nodes}
 use Rattle.whole_meaning.proofs.Told as told
 use Rattle.kept_facts.proofs.Seen as seen
-use Rattle.whole_rounds.specs.Standing.{Active, active_path, site_of, active_news, actives_news, AreLive, IsAfter}
+use Rattle.ended_blocks.specs.Active.{Active, active}
+use Rattle.whole_rounds.specs.Standing.{active_path, site_of, active_news, actives_news, AreLive, IsAfter}
 use Rattle.whole_rounds.proofs.Meant.{told_is_news}
 use Rattle.whole_rounds.proofs.Quiet.{told_is_silent}
 
@@ -110,10 +111,9 @@ module _ (s : Core) (l : Learned) (placed : IsPlaced s l.instances) where
     pub told_all : (f : Fact) → ToldOf s K (λ path. see path) (λ path. recall path) f → f ∈ actives_news l telling
     told_all f x =
         let h = live.all x.path x.st x.live in
-        let a = h.active in
-        let there : f ∈ news s (see (active_path l a)) (recall (active_path l a)) (active_path l a) a.statement
-        = subst (λ (p : Path). f ∈ news s (see p) (recall p) p a.statement) (sym h.path_is)
-        (subst (λ (st : Stmt). f ∈ news s (see x.path) (recall x.path) x.path st) (sym h.stmt_is) x.told) in
+        let a = active h.instance x.st in
+        let there : f ∈ news s (see (active_path l a)) (recall (active_path l a)) (active_path l a) x.st
+        = subst (λ (p : Path). f ∈ news s (see p) (recall p) p x.st) (sym h.path_is) x.told in
         told_here a f h.there (subst (λ (fs : List Fact). f ∈ fs) (sym (active_meant a (live.within a h.there))) there)
 
 -- ROUNDS

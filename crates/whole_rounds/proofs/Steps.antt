@@ -12,7 +12,8 @@ use Rattle.whole_facts.specs.declared.learned.Learned.{Learned}
 use Rattle.whole_rounds.specs.declared.site.Site.{Site}
 use Rattle.whole_rounds.specs.declared.state.Task.{Task}
 use Rattle.whole_rounds.specs.Told.{sight_at, past_at, path_at, cells_news, element_news, elements_news}
-use Rattle.whole_rounds.specs.Standing.{Active, active_of, active_news, actives_news}
+use Rattle.ended_blocks.specs.Active.{Active}
+use Rattle.whole_rounds.specs.Standing.{active_of, active_news, actives_news}
 use Rattle.whole_rounds.proofs.Behind.{cells_append, parts_append}
 
 pub parts_step : {A : Type 0} (l : Learned) (t : Site) (ps : List (Part A)) (i : ℕ) (d : Part A) (xs ys zs : List Fact) → i < length ps

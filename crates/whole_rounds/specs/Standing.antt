@@ -14,6 +14,7 @@ use Rattle.whole_facts.specs.declared.learned.Learned.{Learned}
 use Rattle.whole_facts.specs.Keeping.{kept_of, IsPlaced}
 use Rattle.whole_facts.specs.Paths.{path_of}
 use Rattle.held_facts.specs.Held.{HasPlaces}
+use Rattle.ended_blocks.specs.Active.{Active, active, IsListed}
 use Rattle.whole_rounds.specs.declared.site.Site.{Site}
 use Rattle.whole_rounds.specs.declared.state.Content.{Content}
 use Rattle.whole_rounds.specs.declared.state.Deed.{Deed}
@@ -30,12 +31,8 @@ deed_view (Deed.Does a) = action_view a.now
 deed_view (Deed.Waits ns c) = wait (map awaited_view ns.now) (content_view c)
 
 -- a live statement, by its instance
-pub record Active : Type 0 where
-  pub instance : ℕ
-  pub statement : Stmt
-
 abbrev pub active_of : {A : Type 0} → Task A → Active
-active_of t = record { instance = t.site.instance; statement = stmt t.site.at t.site.node (deed_view t.deed) }
+active_of t = active t.site.instance (stmt t.site.at t.site.node (deed_view t.deed))
 
 abbrev pub active_path : Learned → Active → Path
 active_path l a = path_of l.instances.all.items a.instance
@@ -63,18 +60,11 @@ still_telling l xs = filter (λ a. not (active_told l a)) xs
 abbrev pub HavePlaces : List Instance → List Active → Type 0
 HavePlaces ns xs = (a : Active) → a ∈ xs → HasPlaces ns a.instance
 
--- one of these is the statement at a path
-pub record HasActive (l : Learned) (ls : List Active) (path : Path) (st : Stmt) : Type 0 where
-  pub active : Active
-  pub there : active ∈ ls
-  pub path_is : active_path l active ≡ path
-  pub stmt_is : active.statement ≡ st
-
 -- these are the live statements, and what is not among the others has nothing more to tell
 pub record AreLive (s : Core) (K : Knowledge) (l : Learned) (ls telling : List Active) : Type 0 where
   pub within : (a : Active) → a ∈ ls → a.instance < length l.instances.all.items
   pub so : (a : Active) → a ∈ ls → LiveStmt s K (active_path l a) a.statement
-  pub all : (path : Path) (st : Stmt) → LiveStmt s K path st → HasActive l ls path st
+  pub all : (path : Path) (st : Stmt) → LiveStmt s K path st → IsListed l ls path st
   pub among : (a : Active) → a ∈ telling → a ∈ ls
   pub quiet : (a : Active) → a ∈ ls → (a ∈ telling) ⊎ (active_told l a ≡ true)
 

@@ -5,14 +5,10 @@
 #![tactic(auto)]
 
 mod adding;
-mod closing;
-pub mod knowledge;
+pub mod ending;
 pub mod laws;
-mod opening;
-pub mod reading;
-pub mod rounds;
 mod silence;
-mod site;
-mod state;
+pub mod site;
+pub mod state;
 mod telling;
-mod told;
+pub mod told;

@@ -4,10 +4,14 @@ ghost use Rattle.std.specs.Prelude.{◌≡◌, ◌++◌, ◌∷◌, [], IfOk, On
 ghost use Rattle.flow.specs.View.{action_view, block_view, core_of, statement_view, waits_around};
 ghost use Rattle.syntax_trees.specs.Core.{local, stmt};
 ghost use Rattle.syntax_trees.specs.Parts.{block_list};
-ghost use Rattle.whole_facts.specs.Targeted.{assigns_in};
-ghost use Rattle.whole_rounds.specs.Made.{arrays_of, declares, declares_by, fresh, fresh_all, tasks_of, telling_of, unless_assigned, waiting_of};
+ghost use Rattle.whole_facts.specs.Fresh.{IsFresh};
+ghost use Rattle.ended_blocks.specs.Active.{active};
+ghost use Rattle.ended_blocks.specs.Never.{never_in};
+ghost use Rattle.opened_blocks.specs.Listed.{all_active, unless_never};
+ghost use Rattle.whole_rounds.specs.Made.{arrays_of, declares_here, declares_here_by, no_calls, tasks_of, telling_of, waiting_of};
 ghost use Rattle.whole_rounds.specs.Standing.{active_of, deed_view};
 
+use crate::ending::never_ends_in;
 use crate::site::Site;
 use flow::name::{Name, Owned};
 use flow::script::Flow;
@@ -15,7 +19,6 @@ use flow::statement::{Action, Block, Header, Statement};
 use std::alloc::{AllocError, Allocator, Global};
 use whole_facts::facts::Place;
 use whole_facts::learned::Learned;
-use whole_facts::targets::is_assigned_in;
 
 /// A block: waits one in another, outermost first, with a block's statements in the innermost.
 #[derive(Drop)]
@@ -43,7 +46,7 @@ pub struct Task<'a, A: Allocator> {
 #[derive(Drop)]
 pub struct Array<'a, A: Allocator> {
     pub place: Place,
-    pub content: Content<'a, A>,
+    pub block: &'a Block<A>,
 }
 
 /// What is known of a script, with what is live and closed by it: the live statements, and those among them that may have
@@ -85,10 +88,11 @@ impl<'a, A: Allocator> Task<'a, A> {
 impl<'a, A: Allocator> State<'a, A> {
     /// Nothing is known, and the script's own block is live.
     pub fn new(alloc: Global, flow: &'a Flow<A>) -> Result<State<'a, A>, AllocError>
-        ensures tasks { IfOk result (λ state. tasks_of state ≡ fresh_all 0 (block_list (core_of flow.entry.now).body)) }
-        ensures telling { IfOk result (λ state. telling_of state ≡ fresh_all 0 (block_list (core_of flow.entry.now).body)) }
+        ensures learned { IfOk result (λ state. IsFresh state.learned) }
+        ensures tasks { IfOk result (λ state. tasks_of state ≡ all_active 0 (block_list (core_of flow.entry.now).body)) }
+        ensures telling { IfOk result (λ state. telling_of state ≡ all_active 0 (block_list (core_of flow.entry.now).body)) }
         ensures passed { IfOk result (λ state. (state.passed ≡ 0) × (waiting_of state ≡ [])) }
-        ensures arrays { IfOk result (λ state. arrays_of state ≡ declares 0 (core_of flow.entry.now).body (block_list (core_of flow.entry.now).body)) }
+        ensures arrays { IfOk result (λ state. arrays_of state ≡ declares_here 0 (core_of flow.entry.now).body (block_list (core_of flow.entry.now).body)) }
         ensures flow { IfOk result (λ state. state.flow.now ≡ flow.entry.now) }
     {
         let mut state = State {
@@ -111,9 +115,9 @@ impl<'a, A: Allocator> State<'a, A> {
         waits: &'a [Header<A>],
         block: &'a Block<A>,
     ) -> Result<(), AllocError>
-        ensures tasks { OnOk result (tasks_of self.new ≡ tasks_of self.old ++ fresh_all instance (block_list (waits_around waits.entry.now (block_view block.entry.now)))) }
-        ensures telling { OnOk result (telling_of self.new ≡ telling_of self.old ++ fresh_all instance (block_list (waits_around waits.entry.now (block_view block.entry.now)))) }
-        ensures arrays { OnOk result (let inside = waits_around waits.entry.now (block_view block.entry.now) in arrays_of self.new ≡ arrays_of self.old ++ declares instance inside (block_list inside)) }
+        ensures tasks { OnOk result (tasks_of self.new ≡ tasks_of self.old ++ all_active instance (block_list (waits_around waits.entry.now (block_view block.entry.now)))) }
+        ensures telling { OnOk result (telling_of self.new ≡ telling_of self.old ++ all_active instance (block_list (waits_around waits.entry.now (block_view block.entry.now)))) }
+        ensures arrays { OnOk result (let inside = waits_around waits.entry.now (block_view block.entry.now) in arrays_of self.new ≡ arrays_of self.old ++ declares_here instance inside (block_list inside)) }
         ensures learned { self.new.learned ≡ self.old.learned }
         ensures flow { self.new.flow.now ≡ self.old.flow.now }
         ensures passed { self.new.passed ≡ self.old.passed }
@@ -139,9 +143,9 @@ impl<'a, A: Allocator> State<'a, A> {
     }
 
     fn add_statements(&mut self, instance: usize, block: &'a Block<A>) -> Result<(), AllocError>
-        ensures tasks { OnOk result (tasks_of self.new ≡ tasks_of self.old ++ fresh_all instance (block_list (block_view block.entry.now))) }
-        ensures telling { OnOk result (telling_of self.new ≡ telling_of self.old ++ fresh_all instance (block_list (block_view block.entry.now))) }
-        ensures arrays { OnOk result (arrays_of self.new ≡ arrays_of self.old ++ declares instance (block_view block.entry.now) (block_list (block_view block.entry.now))) }
+        ensures tasks { OnOk result (tasks_of self.new ≡ tasks_of self.old ++ all_active instance (block_list (block_view block.entry.now))) }
+        ensures telling { OnOk result (telling_of self.new ≡ telling_of self.old ++ all_active instance (block_list (block_view block.entry.now))) }
+        ensures arrays { OnOk result (arrays_of self.new ≡ arrays_of self.old ++ declares_here instance (block_view block.entry.now) (block_list (block_view block.entry.now))) }
         ensures learned { self.new.learned ≡ self.old.learned }
         ensures flow { self.new.flow.now ≡ self.old.flow.now }
         ensures passed { self.new.passed ≡ self.old.passed }
@@ -159,9 +163,9 @@ impl<'a, A: Allocator> State<'a, A> {
         block: &'a Block<A>,
         statement: &'a Statement<A>,
     ) -> Result<(), AllocError>
-        ensures tasks { OnOk result (tasks_of self.new ≡ tasks_of self.old ++ fresh instance (statement_view statement.entry.now) ∷ []) }
-        ensures telling { OnOk result (telling_of self.new ≡ telling_of self.old ++ fresh instance (statement_view statement.entry.now) ∷ []) }
-        ensures arrays { OnOk result (arrays_of self.new ≡ arrays_of self.old ++ declares instance (block_view block.entry.now) (statement_view statement.entry.now ∷ [])) }
+        ensures tasks { OnOk result (tasks_of self.new ≡ tasks_of self.old ++ active instance (statement_view statement.entry.now) ∷ []) }
+        ensures telling { OnOk result (telling_of self.new ≡ telling_of self.old ++ active instance (statement_view statement.entry.now) ∷ []) }
+        ensures arrays { OnOk result (arrays_of self.new ≡ arrays_of self.old ++ declares_here instance (block_view block.entry.now) (statement_view statement.entry.now ∷ [])) }
         ensures learned { self.new.learned ≡ self.old.learned }
         ensures flow { self.new.flow.now ≡ self.old.flow.now }
         ensures passed { self.new.passed ≡ self.old.passed }
@@ -176,14 +180,14 @@ impl<'a, A: Allocator> State<'a, A> {
         self.add_task(site, deed_of(&statement.action))
     }
 
-    /// Adds a variable that a block declares, where it may come to be closed: what is assigned as a scalar never is.
+    /// Adds a variable that a block declares, where it may come to be closed: what is assigned as a scalar, whatever its branches choose, never is.
     fn add_declared(
         &mut self,
         instance: usize,
         block: &'a Block<A>,
         action: &'a Action<A>,
     ) -> Result<(), AllocError>
-        ensures arrays { OnOk result (arrays_of self.new ≡ arrays_of self.old ++ declares_by instance (block_view block.entry.now) (action_view action.entry.now)) }
+        ensures arrays { OnOk result (arrays_of self.new ≡ arrays_of self.old ++ declares_here_by instance (block_view block.entry.now) (action_view action.entry.now)) }
         ensures tasks { tasks_of self.new ≡ tasks_of self.old }
         ensures telling { telling_of self.new ≡ telling_of self.old }
         ensures learned { self.new.learned ≡ self.old.learned }
@@ -214,7 +218,7 @@ impl<'a, A: Allocator> State<'a, A> {
         node: u32,
     ) -> Result<(), AllocError>
         ensures arrays { OnOk result (arrays_of self.new
-            ≡ arrays_of self.old ++ unless_assigned instance (block_view block.entry.now) node (assigns_in (local node) (block_view block.entry.now))) }
+            ≡ arrays_of self.old ++ unless_never instance (block_view block.entry.now) node (never_in no_calls (local node) (block_view block.entry.now))) }
         ensures tasks { tasks_of self.new ≡ tasks_of self.old }
         ensures telling { telling_of self.new ≡ telling_of self.old }
         ensures learned { self.new.learned ≡ self.old.learned }
@@ -222,18 +226,18 @@ impl<'a, A: Allocator> State<'a, A> {
         ensures passed { self.new.passed ≡ self.old.passed }
         ensures waiting { waiting_of self.new ≡ waiting_of self.old }
     {
-        if !is_assigned_in(Owned::Local(node), block) {
+        if !never_ends_in(Owned::Local(node), block) {
             self.arrays.push(Array {
                 place: Place { instance, node },
-                content: Content { waits: &[], block },
+                block,
             })?;
         }
         Ok(())
     }
 
     fn add_task(&mut self, site: Site, deed: Deed<'a, A>) -> Result<(), AllocError>
-        ensures tasks { OnOk result (tasks_of self.new ≡ tasks_of self.old ++ fresh site.instance (stmt site.at site.node (deed_view deed.entry)) ∷ []) }
-        ensures telling { OnOk result (telling_of self.new ≡ telling_of self.old ++ fresh site.instance (stmt site.at site.node (deed_view deed.entry)) ∷ []) }
+        ensures tasks { OnOk result (tasks_of self.new ≡ tasks_of self.old ++ active site.instance (stmt site.at site.node (deed_view deed.entry)) ∷ []) }
+        ensures telling { OnOk result (telling_of self.new ≡ telling_of self.old ++ active site.instance (stmt site.at site.node (deed_view deed.entry)) ∷ []) }
         ensures arrays { arrays_of self.new ≡ arrays_of self.old }
         ensures learned { self.new.learned ≡ self.old.learned }
         ensures flow { self.new.flow.now ≡ self.old.flow.now }

@@ -1,29 +1,5 @@
-use Rattle.std.proofs.Common.{sym, subst}
-use Rattle.syntax_trees.specs.Meaning.{Known}
-use Rattle.syntax_trees.specs.Resolved.{core}
-use Rattle.meaning_laws.proofs.Declared.{stmt_in}
-use Rattle.meaning_laws.proofs.Whole.{one_scalar_known}
-use Rattle.well_formed.proofs.Accepted.{accepted_formed}
-use Rattle.whole_meaning.specs.Environment.{Sight, Sees}
-use Rattle.whole_meaning.specs.News.{Past, Recalls}
-use Rattle.kept_facts.proofs.Seen as seen
-use Rattle.whole_facts.specs.Keeping.{kept_of}
-use Rattle.whole_facts.specs.Paths.{path_of}
-use Rattle.whole_facts.proofs.Keeping.{sees_kept, recalls_kept}
-use Rattle.ended_blocks.proofs.Indexes.{has_indexes}
-use Rattle.outcome_lists.proofs.Finding as law
+use Rattle.outcome_lists.proofs.Exact.{stuck_exact}
 use Rattle.outcome_lists.proofs.laws.what_is_stuck.Goals as goal
 
 pub returns : goal.returns
-returns c = λ bytes t tree r w single n l placed keeps holds i within at m a live. (
-    let s = core t tree in
-    let formed = accepted_formed bytes t tree r w single in
-    let one = one_scalar_known s formed single n in
-    let path = path_of l.instances.all.items i in
-    let sees = subst (λ (g : Sight). Sees s (Known s n) path g) (sym (sees_kept s l placed i within)) (seen.sees s (Known s n) (kept_of l) keeps one path) in
-    let recalls = subst (λ (g : Past). Recalls s (Known s n) path g) (sym (recalls_kept s l placed i within)) (seen.recalls s (Known s n) (kept_of l) keeps one path) in
-    let indexes = has_indexes s formed single n in (
-      λ e. law.stuck_so s (Known s n) l placed.tree holds i within sees recalls indexes at m a (stmt_in s live) live e,
-      λ h. law.stuck_all s (Known s n) l placed.tree holds i within sees recalls indexes at m a h,
-    )
-    )
+returns c = stuck_exact

@@ -3,9 +3,10 @@ use Rattle.std.proofs.lemmas.Grind.{common_steps}
 use Rattle.flow.specs.declared.statement.Block.{out-Block}
 use Rattle.flow.specs.declared.statement.Statement.{Statement}
 use Rattle.flow.specs.View.{block_view, statement_view}
-use Rattle.whole_rounds.specs.Made.{Declared, arrays_of, declares, fresh_all, tasks_of, telling_of}
-use Rattle.whole_rounds.specs.Standing.{Active}
-use Rattle.whole_rounds.proofs.Made.{declares_joins, fresh_joins, made_all, made_step}
+use Rattle.whole_rounds.specs.Made.{arrays_of, declares_here, tasks_of, telling_of}
+use Rattle.ended_blocks.specs.Active.{Active, Candidate}
+use Rattle.opened_blocks.specs.Listed.{all_active}
+use Rattle.whole_rounds.proofs.Made.{declares_joins, active_joins, made_all, made_step}
 use Rattle.whole_rounds.proofs.state.State.add_statements.Goals as goal
 
 pub loop-statement-preserved : goal.loop-statement-preserved
@@ -17,15 +18,15 @@ loop-statement-preserved g c =
     let within : c.loop-statement.statement-index < length (out-Block g.row.A.Denot c.args.block.now).statements.items = grind (arith, common_steps) in
     let item : get_or (out-Block g.row.A.Denot c.args.block.now).statements.items c.loop-statement.statement-index c.statement-item.result ≡ c.statement-item.result = search rules in
     record {
-      tasks = made_step A Active (λ z. fresh_all i z) (fresh_joins i) ss c.loop-statement.statement-index c.statement-item.result
+      tasks = made_step A Active (λ z. all_active i z) (active_joins i) ss c.loop-statement.statement-index c.statement-item.result
           (tasks_of {A = A} c.args.self.now) (tasks_of {A = A} c.loop-statement.self) (tasks_of {A = A} c.add_statement.new.self) within c.loop-statement.invariant.tasks
-          (c.in_ok-add_statement.ensures.tasks ∙ ap (λ (z : Statement A). tasks_of {A = A} c.loop-statement.self ++ fresh_all i (statement_view {A = A} z ∷ [])) (sym item));
-      telling = made_step A Active (λ z. fresh_all i z) (fresh_joins i) ss c.loop-statement.statement-index c.statement-item.result
+          (c.in_ok-add_statement.ensures.tasks ∙ ap (λ (z : Statement A). tasks_of {A = A} c.loop-statement.self ++ all_active i (statement_view {A = A} z ∷ [])) (sym item));
+      telling = made_step A Active (λ z. all_active i z) (active_joins i) ss c.loop-statement.statement-index c.statement-item.result
           (telling_of {A = A} c.args.self.now) (telling_of {A = A} c.loop-statement.self) (telling_of {A = A} c.add_statement.new.self) within c.loop-statement.invariant.telling
-          (c.in_ok-add_statement.ensures.telling ∙ ap (λ (z : Statement A). telling_of {A = A} c.loop-statement.self ++ fresh_all i (statement_view {A = A} z ∷ [])) (sym item));
-      arrays = made_step A Declared (λ z. declares i b z) (declares_joins i b) ss c.loop-statement.statement-index c.statement-item.result
+          (c.in_ok-add_statement.ensures.telling ∙ ap (λ (z : Statement A). telling_of {A = A} c.loop-statement.self ++ all_active i (statement_view {A = A} z ∷ [])) (sym item));
+      arrays = made_step A Candidate (λ z. declares_here i b z) (declares_joins i b) ss c.loop-statement.statement-index c.statement-item.result
           (arrays_of {A = A} c.args.self.now) (arrays_of {A = A} c.loop-statement.self) (arrays_of {A = A} c.add_statement.new.self) within c.loop-statement.invariant.arrays
-          (c.in_ok-add_statement.ensures.arrays ∙ ap (λ (z : Statement A). arrays_of {A = A} c.loop-statement.self ++ declares i b (statement_view {A = A} z ∷ [])) (sym item));
+          (c.in_ok-add_statement.ensures.arrays ∙ ap (λ (z : Statement A). arrays_of {A = A} c.loop-statement.self ++ declares_here i b (statement_view {A = A} z ∷ [])) (sym item));
       learned = c.add_statement.ensures.learned ∙ c.loop-statement.invariant.learned;
       flow = c.add_statement.ensures.flow ∙ c.loop-statement.invariant.flow;
       passed = c.add_statement.ensures.passed ∙ c.loop-statement.invariant.passed;
@@ -36,19 +37,19 @@ pub returns-clause-tasks : goal.returns-clause-tasks
 returns-clause-tasks g c =
     let A = g.row.A.Denot in
     let full : take c.loop-statement.statement-index (out-Block g.row.A.Denot c.args.block.now).statements.items ≡ (out-Block g.row.A.Denot c.args.block.now).statements.items = grind (arith, common_steps) in
-    made_all A Active (λ z. fresh_all c.args.instance z) c.args.block.now (take c.loop-statement.statement-index (out-Block A c.args.block.now).statements.items)
+    made_all A Active (λ z. all_active c.args.instance z) c.args.block.now (take c.loop-statement.statement-index (out-Block A c.args.block.now).statements.items)
     (tasks_of {A = A} c.args.self.now) (tasks_of {A = A} c.loop-statement.self) full c.loop-statement.invariant.tasks
 
 pub returns-clause-telling : goal.returns-clause-telling
 returns-clause-telling g c =
     let A = g.row.A.Denot in
     let full : take c.loop-statement.statement-index (out-Block g.row.A.Denot c.args.block.now).statements.items ≡ (out-Block g.row.A.Denot c.args.block.now).statements.items = grind (arith, common_steps) in
-    made_all A Active (λ z. fresh_all c.args.instance z) c.args.block.now (take c.loop-statement.statement-index (out-Block A c.args.block.now).statements.items)
+    made_all A Active (λ z. all_active c.args.instance z) c.args.block.now (take c.loop-statement.statement-index (out-Block A c.args.block.now).statements.items)
     (telling_of {A = A} c.args.self.now) (telling_of {A = A} c.loop-statement.self) full c.loop-statement.invariant.telling
 
 pub returns-clause-arrays : goal.returns-clause-arrays
 returns-clause-arrays g c =
     let A = g.row.A.Denot in
     let full : take c.loop-statement.statement-index (out-Block g.row.A.Denot c.args.block.now).statements.items ≡ (out-Block g.row.A.Denot c.args.block.now).statements.items = grind (arith, common_steps) in
-    made_all A Declared (λ z. declares c.args.instance (block_view {A = A} c.args.block.now) z) c.args.block.now (take c.loop-statement.statement-index (out-Block A c.args.block.now).statements.items)
+    made_all A Candidate (λ z. declares_here c.args.instance (block_view {A = A} c.args.block.now) z) c.args.block.now (take c.loop-statement.statement-index (out-Block A c.args.block.now).statements.items)
     (arrays_of {A = A} c.args.self.now) (arrays_of {A = A} c.loop-statement.self) full c.loop-statement.invariant.arrays

@@ -1,0 +1,4 @@
+pub mod Known
+pub mod Lists
+pub mod Order
+pub mod Read

@@ -1,0 +1,47 @@
+//! The rounds: each adds what follows from what was known before.
+ghost use Rattle.std.specs.Prelude.{◌≡◌, ◌≤◌, ℕ, List, false, IfOk};
+ghost use Rattle.flow.specs.View.{core_of};
+ghost use Rattle.syntax_trees.specs.Reads.{Reads};
+ghost use Rattle.syntax_trees.specs.Resolved.{core};
+ghost use Rattle.syntax_trees.specs.Single.{SinglyAssigned};
+ghost use Rattle.syntax_trees.specs.Table.{Table};
+ghost use Rattle.syntax_trees.specs.Tree.{Tree};
+ghost use Rattle.syntax_trees.specs.Typing.{WellTyped};
+ghost use Rattle.script_meaning.specs.Known.{IsKnowledgeOf};
+
+use crate::knowledge::Knowledge;
+use crate::settle::settle;
+use flow::script::Flow;
+use std::alloc::{AllocError, Allocator, Global};
+use whole_rounds::state::State;
+
+/// What is known of a script after so many rounds as add something, or after `limit` rounds.
+///
+/// # Errors
+///
+/// `AllocError` where memory that was asked for was refused.
+pub fn rounds<A: Allocator>(
+    alloc: Global,
+    flow: &Flow<A>,
+    limit: u32,
+) -> Result<Knowledge, AllocError>
+    ensures known { IfOk result (λ k. (bytes : List ℕ) (t : Table) (tree : Tree) → Reads bytes tree → WellTyped tree t → SinglyAssigned (core t tree)
+        → core_of flow.now ≡ core t tree → IsKnowledgeOf (core t tree) k) }
+    ensures within { IfOk result (λ k. (k.rounds ≤ limit) × (k.finished ≡ false → k.rounds ≡ limit)) }
+{
+    let mut state = State::new(alloc, flow)?;
+    for round in 0..limit {
+        settle(&mut state, alloc)?;
+        let news = state.news(alloc)?;
+        if news.is_empty() {
+            let known = Knowledge::of(alloc, state, round, true)?;
+            return Ok(known);
+        }
+        state.learn(alloc, news)?;
+    }
+    settle(&mut state, alloc)?;
+    let last = state.news(alloc)?;
+    let finished = last.is_empty();
+    let knowledge = Knowledge::of(alloc, state, limit, finished)?;
+    Ok(knowledge)
+}

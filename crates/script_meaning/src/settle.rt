@@ -1,0 +1,34 @@
+//! What is live and closed by the facts that are known.
+ghost use Rattle.std.specs.Prelude.{◌≡◌, ℕ, OnOk};
+ghost use Rattle.flow.specs.View.{core_of};
+ghost use Rattle.syntax_trees.specs.Core.{Core};
+ghost use Rattle.syntax_trees.specs.Single.{SinglyAssigned};
+ghost use Rattle.syntax_trees.specs.WellFormed.{WellFormed};
+ghost use Rattle.opened_blocks.specs.Opened.{OffsetsApart};
+ghost use Rattle.whole_rounds.specs.Going.{IsBetween};
+ghost use Rattle.whole_rounds.specs.Made.{tasks_of, telling_of};
+ghost use Rattle.whole_rounds.specs.Standing.{IsAfter};
+
+use array_closings::closing::close_some;
+use block_openings::opening::open_all;
+use std::alloc::{AllocError, Allocator, Global};
+use whole_rounds::state::State;
+
+/// Makes live and closed what is so by the facts that are known: opens all that is ready and closes the arrays whose blocks are
+/// done, by turns until nothing more closes.
+pub(crate) fn settle<'a, A: Allocator>(
+    state: &mut State<'a, A>,
+    alloc: Global,
+) -> Result<(), AllocError>
+    ensures so { OnOk result ((s : Core) (n : ℕ) → s ≡ core_of state.old.flow.now → WellFormed s → SinglyAssigned s → OffsetsApart s → IsBetween s n state.old
+        → IsBetween s n state.new × IsAfter s n state.new.learned (tasks_of state.new) (telling_of state.new)) }
+    ensures flow { state.new.flow.now ≡ state.old.flow.now }
+{
+    for _ in 0..usize::MAX {
+        open_all(state, alloc)?;
+        if !close_some(state, alloc)? {
+            return Ok(());
+        }
+    }
+    Err(AllocError)
+}
