@@ -49,8 +49,8 @@ module _ (s : Core) (l m : Learned) (ls ms : List Active) (a : IsPlaced s l.inst
       let p = spot l.instances.all.items i x in
       let q = spot m.instances.all.items i x in
       let same : ◌≡◌ {A = Place} (path_of m.instances.all.items (spot m.instances.all.items i x).instance, (spot m.instances.all.items i x).node)
-          (path_of l.instances.all.items (spot l.instances.all.items i x).instance, (spot l.instances.all.items i x).node) =
-          new.view_is ∙ ap (λ (z : Path). place s z x) (g.path_same i h) ∙ sym old.view_is in
+      (path_of l.instances.all.items (spot l.instances.all.items i x).instance, (spot l.instances.all.items i x).node) =
+      new.view_is ∙ ap (λ (z : Path). place s z x) (g.path_same i h) ∙ sym old.view_is in
       place_is (spot m.instances.all.items i x) (spot l.instances.all.items i x)
       (one_instance m.instances b.tree (spot m.instances.all.items i x).instance (spot l.instances.all.items i x).instance new.within (g.within (spot l.instances.all.items i x).instance old.within)
       (ap (λ (z : Place). z.0) same ∙ sym (g.path_same (spot l.instances.all.items i x).instance old.within)))
@@ -142,7 +142,7 @@ module _ {A : Type 0} (s : Core) (n : ℕ) (old new : State A) (c : IsClosing ol
       → IsAfter s n new.learned (tasks_of new) (telling_of new)
   closed_after w single offsets same ended =
       let after = settled_after s w single n offsets old.learned (tasks_of old) (arrays_of old) (waiting_of old) (telling_of old) h.stands h.unready
-          (λ p b i still ends one. ended (p, b) i still (record { ended = ends; one = one })) in
+      (λ p b i still ends one. ended (p, b) i still (record { ended = ends; one = one })) in
       subst (λ (z : Learned). IsAfter s n z (tasks_of new) (telling_of new)) (sym same)
       (subst (λ (z : List Active). IsAfter s n old.learned z (telling_of new)) (sym c.tasks)
       (subst (λ (z : List Active). IsAfter s n old.learned (tasks_of old) z) (sym c.telling) after))
@@ -181,7 +181,7 @@ module _ {A : Type 0} (of_first of_old of_mid : Core) (first old mid new : State
 
   pub turn_after : AllStaySo of_mid (arrays_of mid) mid.learned new.learned → new.learned ≡ mid.learned → AreEnded of_mid mid.learned (arrays_of mid) → EndsAfter of_first first new
   turn_after so learned ended s n e w single apart h = (
-      turn_between so s n e w single apart h,
-      closed_after s n mid new closing (turn_opens s n e w single apart h) w single apart learned
-      (subst (λ (z : Core). AreEnded z mid.learned (arrays_of mid)) (still ∙ same ∙ sym e) ended),
+    turn_between so s n e w single apart h,
+    closed_after s n mid new closing (turn_opens s n e w single apart h) w single apart learned
+        (subst (λ (z : Core). AreEnded z mid.learned (arrays_of mid)) (still ∙ same ∙ sym e) ended),
   )
