@@ -91,6 +91,7 @@ at_fault files code bytes fault stop has read bad none e =
   where
     there : (t : Trouble) → StopsAtTrace (Some bytes) code t → StopsAtTrace (source_of files 1) code t
     there t h = subst (λ (o : Option (List ℕ)). StopsAtTrace o code t) (sym read) h
+
     by : (f : ReplayFault) → ((n : ℕ) → f ≡ Faulty.BadLine n → IsFirstBad bytes n) → ((n : ℕ) → f ≡ Faulty.NotARun n → IsFirstNoStep code bytes n) → StopsBeforeReplay files (stop_of f).place (stop_of f).trouble
     by (Faulty.BadLine n) b d = (code, has, there (Is.BadLine n) (b n refl))
     by (Faulty.NotARun n) b d = (code, has, there (Is.NotARun n) (d n refl))

@@ -17,7 +17,8 @@ fn never_ends<A: Allocator>(what: Owned, action: &Action<A>) -> bool
 {
     match action {
         Action::Assign { target, .. } => is_same(target.what, what),
-        Action::Choose { then, other, .. } => never_ends_in(what, then) && never_ends_in(what, other),
+        Action::Choose { then, other, .. } => never_ends_in(what, then)
+            && never_ends_in(what, other),
         Action::Wait { content, .. } => never_ends_in(what, content),
         Action::Declare(_) => false,
         Action::Call { .. } => false,
