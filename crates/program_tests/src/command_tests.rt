@@ -134,7 +134,7 @@ fn says_what_scripts_mean(rt: HostRuntime) -> Result<(), Fail> {
     assert_eq!(rt; cut.as_str(), "swt: blocked 32 /\nswt: limit 2\n|||5");
     let rows: [(&[u8], &str); 5] = [
         (swapped, "3\n|||0"),
-        (b"if (true) { }", "|swt: refused N1 NotYet 0 2\n||1"),
+        (b"if (true) { printf(\"in\"); }", "in\n|||0"),
         (
             b"printf(\"b\"); int x = 9223372036854775807 + 1; printf(\"a\");",
             "a\nb\nswt: fault F1 Overflow 13 /\n|||3",

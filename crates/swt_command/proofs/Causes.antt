@@ -18,7 +18,7 @@ use Rattle.swt_command.specs.Causes.{AsksTooMuch, SomeRefused}
 use Rattle.swt_command.specs.Checks.{Checks, StopsBy, Verdict, check_status}
 use Rattle.swt_command.specs.Files.{Files, IsRefusal, StopsAt, name_at, source_of}
 use Rattle.swt_command.specs.Listings.{Lists, StopsListing}
-use Rattle.swt_command.specs.Means.{IsNotMeant, Means, StopsMean, status_by}
+use Rattle.swt_command.specs.Means.{Means, StopsMean, status_by}
 use Rattle.swt_command.specs.Owes.{Does, Owes, status_of}
 use Rattle.swt_command.specs.Runs.{Replays, Runs, StopsAtTrace, StopsReplay, StopsRun, end_status, most_threads}
 use Rattle.swt_command.specs.Sinks.{Held}
@@ -91,22 +91,18 @@ check_is_no_usage (None ∷ vs) e = check_is_no_usage vs e
 
 -- REFUSED
 
--- some file's text is refused so
-abbrev IsSome : (List ℕ → Refusal → Type 0) → Files → Type 0
-IsSome why files = (place : ℕ) × (r : Refusal) × (src : List ℕ) × (source_of files place ≡ Some src) × why src r
-
 not_by_refusal : (name : List ℕ) (source : Option (List ℕ)) (r : Refusal) (mid new : Held) → StopsBy name source (Is.Refused r) mid new → ⊥
 not_by_refusal name None r mid new h = h
 not_by_refusal name (Some src) r mid new h = h
 
-at_file : (files : Files) (r : Refusal) → StopsAt files 0 (Is.Refused r) → IsSome IsRefusal files
+at_file : (files : Files) (r : Refusal) → StopsAt files 0 (Is.Refused r) → SomeRefused files
 at_file files r h = (0, r, h.0, h.1, h.2)
 
 no_refused_trace : (source : Option (List ℕ)) (code : Code) (r : Refusal) → StopsAtTrace source code (Is.Refused r) → ⊥
 no_refused_trace None code r h = h
 no_refused_trace (Some bytes) code r h = h
 
-check_refused : (names : List (List ℕ)) (files : Files) (done : Result Status Stop) (out new : Held) → Checks names files done out new → number_of (status_of done) ≡ 1 → IsSome IsRefusal files
+check_refused : (names : List (List ℕ)) (files : Files) (done : Result Status Stop) (out new : Held) → Checks names files done out new → number_of (status_of done) ≡ 1 → SomeRefused files
 check_refused names files (Ok status) out new d e =
     let k = refused_place d.0 (ap number_of (sym d.3) ∙ e) in
     let v = d.2.verdicts k.0 (Some k.1) k.2 in
@@ -115,7 +111,7 @@ check_refused names files (Err stop) out new d e =
     let k = refused_only stop.trouble e in
     absurd (not_by_refusal (name_at names stop.place) (source_of files stop.place) k.0 d.3.0 new (subst (λ (t : Trouble). StopsBy (name_at names stop.place) (source_of files stop.place) t d.3.0 new) k.1 d.3.2))
 
-mean_refused : (files : Files) (limit : ℕ) (done : Result Status Stop) (out new : Held) → Means files limit done out new → number_of (status_of done) ≡ 1 → IsSome IsNotMeant files
+mean_refused : (files : Files) (limit : ℕ) (done : Result Status Stop) (out new : Held) → Means files limit done out new → number_of (status_of done) ≡ 1 → SomeRefused files
 mean_refused files limit (Ok status) out new d e = let m = d.1.2 in absurd (mean_is_none m.told.blocked.items m.told.faults.items m.told.enough status m.status_is (inl e))
 mean_refused files limit (Err stop) out new d e =
     let k = refused_only stop.trouble e in
@@ -123,37 +119,37 @@ mean_refused files limit (Err stop) out new d e =
     (0, k.0, h.0, h.1, h.2)
 
 run_refused : (files : Files) (threads steps : ℕ) (wanted : Bool) (done : Result Status Stop) (out out_new trace trace_new : Held) → Runs files threads steps wanted done out out_new trace trace_new
-    → number_of (status_of done) ≡ 1 → IsSome IsRefusal files
+    → number_of (status_of done) ≡ 1 → SomeRefused files
 run_refused files threads steps wanted (Ok status) out out_new trace trace_new d e = absurd (end_is_none d.0.end d.0.blocked.items status d.2 (inl e))
 run_refused files threads steps wanted (Err stop) out out_new trace trace_new d e =
     let k = refused_only stop.trouble e in
     at_file files k.0 (subst (λ (t : Trouble). StopsRun files threads steps wanted t out out_new trace trace_new) k.1 d.1).0
 
-replay_stop_refused : (files : Files) (place : ℕ) (r : Refusal) (out new : Held) → StopsReplay files place (Is.Refused r) out new → IsSome IsRefusal files
+replay_stop_refused : (files : Files) (place : ℕ) (r : Refusal) (out new : Held) → StopsReplay files place (Is.Refused r) out new → SomeRefused files
 replay_stop_refused files zero r out new h = at_file files r h.0
 replay_stop_refused files (suc zero) r out new h = absurd (no_refused_trace (source_of files 1) h.0.0 r h.0.2)
 replay_stop_refused files (suc (suc n)) r out new h = absurd h.0
 
-replay_refused : (files : Files) (done : Result Status Stop) (out new : Held) → Replays files done out new → number_of (status_of done) ≡ 1 → IsSome IsRefusal files
+replay_refused : (files : Files) (done : Result Status Stop) (out new : Held) → Replays files done out new → number_of (status_of done) ≡ 1 → SomeRefused files
 replay_refused files (Ok status) out new d e = absurd (end_is_none d.0.end d.0.blocked.items status d.2 (inl e))
 replay_refused files (Err stop) out new d e =
     let k = refused_only stop.trouble e in
     replay_stop_refused files stop.place k.0 out new (subst (λ (t : Trouble). StopsReplay files stop.place t out new) k.1 d)
 
-listing_refused : (files : Files) (done : Result Status Stop) (out new : Held) → Lists files done out new → number_of (status_of done) ≡ 1 → IsSome IsRefusal files
+listing_refused : (files : Files) (done : Result Status Stop) (out new : Held) → Lists files done out new → number_of (status_of done) ≡ 1 → SomeRefused files
 listing_refused files (Ok status) out new d e = let z : number_of Ends.Done ≡ 1 = ap number_of (sym d.0) ∙ e in absurd (omega (arith, z))
 listing_refused files (Err stop) out new d e =
     let k = refused_only stop.trouble e in
     at_file files k.0 (subst (λ (t : Trouble). StopsListing files t out new) k.1 d.1).0
 
-does_refused : (line : Line) (files : Files) (done : Result Status Stop) (out out_new trace trace_new : Held) → Does line files done out out_new trace trace_new → number_of (status_of done) ≡ 1 → SomeRefused line files
+does_refused : (line : Line) (files : Files) (done : Result Status Stop) (out out_new trace trace_new : Held) → Does line files done out out_new trace trace_new → number_of (status_of done) ≡ 1 → SomeRefused files
 does_refused (Lines.Check names) files done out out_new trace trace_new d e = check_refused names files done out out_new d.0 e
 does_refused (Lines.Mean file rounds) files done out out_new trace trace_new d e = mean_refused files rounds done out out_new d.0 e
 does_refused (Lines.Code file dot) files done out out_new trace trace_new d e = listing_refused files done out out_new d.0 e
 does_refused (Lines.Run file engines workers steps wanted) files done out out_new trace trace_new d e = run_refused files (engines + workers) steps (is_some wanted) done out out_new trace trace_new d e
 does_refused (Lines.Replay file events) files done out out_new trace trace_new d e = replay_refused files done out out_new d.0 e
 
-pub refused_tells : (line : Line) (files : Files) (out out_new err err_new trace trace_new : Held) (number : ℕ) → Owes line files out out_new err err_new trace trace_new number → number ≡ 1 → SomeRefused line files
+pub refused_tells : (line : Line) (files : Files) (out out_new err err_new trace trace_new : Held) (number : ℕ) → Owes line files out out_new err err_new trace trace_new number → number ≡ 1 → SomeRefused files
 refused_tells line files out out_new err err_new trace trace_new number o e = does_refused line files o.ended out out_new trace trace_new o.does (sym o.number_is ∙ e)
 
 -- USAGE

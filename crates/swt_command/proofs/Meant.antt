@@ -1,174 +1,208 @@
--- What is told of a script of scalars, against the script.
-use Rattle.std.proofs.Common.{◌≡◌, ◌∙◌, sym, ap, refl, inl, inr, ◌⊎◌, ℕ, ◌<◌, ◌≤◌, Bool, true, false, ◌&&◌, ◌||◌, List, [], ◌∷◌, map, subst, arith}
-use Rattle.std.specs.Prelude.{IsPermutation, IsSorted, nat_eq, nat_lt, reverse}
+-- What is told of a script, against the script.
+use Rattle.std.proofs.Common.{◌≡◌, ◌∙◌, sym, ap, refl, inl, inr, ◌⊎◌, ℕ, ◌≤◌, Bool, true, false, ◌&&◌, ◌||◌, List, [], ◌∷◌, map, subst, arith}
+use Rattle.std.specs.Prelude.{IsSorted, nat_eq, nat_lt, reverse}
 use Rattle.std.specs.Cmp.Lexicographic.{slice_cmp}
 use Rattle.std.specs.Ordering.{nat_cmp}
 use Rattle.dataflow.specs.System.{In}
-use Rattle.values.specs.declared.fault.OpFault.{OpFault}
-use Rattle.values.specs.declared.fault.OpFault.TheVariants.{Overflow, DivideByZero, BadStep, NotANumber, AssertFailed, Memory}
+use Rattle.values.specs.declared.key.Key.{Key}
+use Rattle.values.specs.Keys.{key_below, same_key}
 use Rattle.syntax_trees.specs.Core.{Core}
 use Rattle.syntax_trees.specs.Facts as Facts
 use Rattle.syntax_trees.specs.Meaning.{Known}
-use Rattle.syntax_trees.specs.Outcomes.{Blocked, Faults}
+use Rattle.syntax_trees.specs.Members.{◌∈◌}
+use Rattle.syntax_trees.specs.Outcomes.{Blocked, Faults, Lines}
 use Rattle.syntax_trees.specs.Places.{Path}
-use Rattle.task_code.specs.Places.{Step}
+use Rattle.task_code.specs.Places as Places
 use Rattle.task_code.proofs.Checked.{or_true, true_or}
 use Rattle.task_code.proofs.Equal.{both_true, nat_same, nat_sound, true_and}
 use Rattle.agreement.specs.Headline.{script_fault, script_path}
-use Rattle.board.specs.Blocked.{InTextOrder, comes_before, path_of}
+use Rattle.agreement.proofs.Members.{from_in, to_in}
+use Rattle.board.specs.Blocked.{InTextOrder, comes_before, path_below, path_of}
 use Rattle.board.specs.View.{kind_of_fault, path_view}
+use Rattle.board_frames.specs.View.{step_view}
 use Rattle.board_frames.specs.declared.place.Fault.{Fault}
 use Rattle.board_frames.specs.declared.place.FaultKind.{FaultKind}
-use Rattle.board_frames.specs.declared.place.FaultKind.TheVariants.{OfEntry}
 use Rattle.board_frames.specs.declared.place.Statement.{Statement}
-use Rattle.board_work.specs.declared.outcome.EntryFault.TheVariants.{InOperation}
-use Rattle.meaning.specs.declared.knowledge.Knowledge.{Knowledge}
-use Rattle.meaning.specs.declared.reading.Fault.{Fault as PlainFault}
-use Rattle.meaning.specs.declared.reading.Statement.{Statement as PlainStatement}
-use Rattle.meaning.specs.Known.{IsKnowledgeOf}
-use Rattle.meaning.specs.Listed.{InOrder, ListsBlocked, ListsFaults, fault_before, fault_number, statement_before}
-use Rattle.meaning.specs.Reading.{printed}
+use Rattle.board_frames.specs.declared.place.Step.{Step}
+use Rattle.whole_facts.specs.declared.facts.FaultKind.{FaultKind as MeantKind}
+use Rattle.whole_facts.specs.declared.facts.FaultKind.TheVariants as Kind
+use Rattle.whole_facts.specs.declared.instances.Step.{Step as MeantStep}
+use Rattle.whole_facts.specs.Kinds.{kind_view}
+use Rattle.whole_facts.specs.Paths as meant
+use Rattle.script_meaning.specs.declared.knowledge.Knowledge.{Knowledge}
+use Rattle.script_meaning.specs.declared.order.Fault.{Fault as MeantFault}
+use Rattle.script_meaning.specs.declared.order.Statement.{Statement as MeantStatement}
+use Rattle.script_meaning.specs.Known.{IsKnowledgeOf}
+use Rattle.script_meaning.specs.Lists.{IsInOrder}
+use Rattle.script_meaning.specs.Order.{fault_below, fault_number, same_path, same_statement, statement_below}
+use Rattle.script_meaning.specs.Order as order
+use Rattle.script_meaning.specs.Read.{AreBlocked, AreFaults}
+use Rattle.script_meaning.specs.Read as read
+use Rattle.script_meaning.proofs.Orders.{path_order}
+use Rattle.script_meaning.proofs.Steps.{turned}
 use Rattle.runs.specs.Same.{place_view}
 use Rattle.swt_command.specs.declared.told.Told.{Told}
-use Rattle.swt_command.specs.Means.{AreEnough, AreKnown, InFaultOrder, IsTold, behind_it, kind_number, operation_number}
-use Rattle.swt_command.specs.Means as Means
-use Rattle.swt_command.specs.Plain.{plain_fault, plain_place, told_fault}
+use Rattle.swt_command.specs.Means.{AreEnough, AreKnown, InFaultOrder, IsTold, behind_it, fault_before, kind_number}
+use Rattle.swt_command.specs.Plain.{meant_fault, meant_kind, meant_path, meant_place, meant_step, told_fault}
 
--- BLOCKED STATEMENTS
+-- PATHS
 
--- the statement of the script's own block that a plain one is
-abbrev IsPlain : Statement → PlainStatement → Type 0
-IsPlain b c = (b.at ≡ c.at) × (path_of b ≡ [])
+-- the same test of a step and a step behind it
+abbrev below : ℕ → Key → ℕ → Key → Bool → Bool
+below a k b l rest = (nat_lt a b || (nat_eq a b && key_below k l)) || ((nat_eq a b && same_key k l) && rest)
 
-plain_is : (b : Statement) (c : PlainStatement) → ◌≡◌ {A = ℕ × List Step} (place_view b) (plain_place c) → IsPlain b c
-plain_is b c p = (ap (λ (z : ℕ × List Step). z.0) p, ap (λ (z : ℕ × List Step). reverse (z.1)) p)
+first_step : (x : Step) (xs : List Step) (y : MeantStep) (ys : List MeantStep) → map step_view (x ∷ xs) ≡ map meant_step (y ∷ ys) → (x.offset ≡ y.at) × (x.key ≡ y.key)
+first_step x xs y ys e = let p : ◌≡◌ {A = Places.Step} (step_view x) (meant_step y) = cc in (ap (λ (s : Places.Step). s.offset) p, ap (λ (s : Places.Step). s.key) p)
 
-first_is : (b : Statement) (bs : List Statement) (c : PlainStatement) (cs : List PlainStatement) → map place_view (b ∷ bs) ≡ map plain_place (c ∷ cs) → IsPlain b c
-first_is b bs c cs e = let p : ◌≡◌ {A = ℕ × List Step} (place_view b) (plain_place c) = cc in plain_is b c p
+rest_steps : (x : Step) (xs : List Step) (y : MeantStep) (ys : List MeantStep) → map step_view (x ∷ xs) ≡ map meant_step (y ∷ ys) → map step_view xs ≡ map meant_step ys
+rest_steps x xs y ys e = cc
 
-rest_is : (b : Statement) (bs : List Statement) (c : PlainStatement) (cs : List PlainStatement) → map place_view (b ∷ bs) ≡ map plain_place (c ∷ cs) → map place_view bs ≡ map plain_place cs
-rest_is b bs c cs e = cc
+below_same : (p : List Step) (c : List MeantStep) (q : List Step) (d : List MeantStep) → map step_view p ≡ map meant_step c → map step_view q ≡ map meant_step d → path_below p q ≡ order.path_below c d
+below_same [] (y ∷ c) q d e f = absurd (cc (e))
+below_same (x ∷ p) [] q d e f = absurd (cc (e))
+below_same [] [] [] [] e f = refl
+below_same [] [] [] (z ∷ d) e f = absurd (cc (f))
+below_same [] [] (t ∷ q) [] e f = absurd (cc (f))
+below_same [] [] (t ∷ q) (z ∷ d) e f = refl
+below_same (x ∷ p) (y ∷ c) [] [] e f = refl
+below_same (x ∷ p) (y ∷ c) [] (z ∷ d) e f = absurd (cc (f))
+below_same (x ∷ p) (y ∷ c) (t ∷ q) [] e f = absurd (cc (f))
+below_same (x ∷ p) (y ∷ c) (t ∷ q) (z ∷ d) e f =
+    let a = first_step x p y c e in
+    let b = first_step t q z d f in
+    let r = below_same p c q d (rest_steps x p y c e) (rest_steps t q z d f) in
+    ap (λ (n : ℕ). below n x.key t.offset t.key (path_below p q)) a.0 ∙ ap (λ (k : Key). below y.at k t.offset t.key (path_below p q)) a.1
+    ∙ ap (λ (n : ℕ). below y.at y.key n t.key (path_below p q)) b.0 ∙ ap (λ (k : Key). below y.at y.key z.at k (path_below p q)) b.1 ∙ ap (λ (rest : Bool). below y.at y.key z.at z.key rest) r
 
-plain_of : (bs : List Statement) (cs : List PlainStatement) → map place_view bs ≡ map plain_place cs → (b : Statement) → In b bs → (c : PlainStatement) × In c cs × IsPlain b c
-plain_of [] cs e b h = absurd h
-plain_of (x ∷ xs) [] e b h = absurd (cc (e))
-plain_of (x ∷ xs) (c ∷ cs) e b (inl p) = (c, inl refl, subst (λ (y : Statement). IsPlain y c) (sym p) (first_is x xs c cs e))
-plain_of (x ∷ xs) (c ∷ cs) e b (inr h) = let r = plain_of xs cs (rest_is x xs c cs e) b h in (r.0, inr r.1, r.2)
+-- a path's steps, as the script's
+pairs : (ys : List MeantStep) → script_path (map meant_step ys) ≡ map meant.step_view ys
+pairs [] = refl
+pairs (y ∷ ys) = ap (λ (zs : Path). (y.at, y.key) ∷ zs) (pairs ys)
 
-told_of : (bs : List Statement) (cs : List PlainStatement) → map place_view bs ≡ map plain_place cs → (c : PlainStatement) → In c cs → (b : Statement) × In b bs × IsPlain b c
-told_of bs [] e c h = absurd h
-told_of [] (d ∷ cs) e c h = absurd (cc (e))
-told_of (x ∷ xs) (d ∷ cs) e c (inl p) = (x, inl refl, subst (λ (y : PlainStatement). IsPlain x y) (sym p) (first_is x xs d cs e))
-told_of (x ∷ xs) (d ∷ cs) e c (inr h) = let r = told_of xs cs (rest_is x xs d cs e) c h in (r.0, inr r.1, r.2)
+script_is : (p : List Places.Step) (ys : List MeantStep) → p ≡ map meant_step ys → script_path (reverse p) ≡ reverse (map meant.step_view ys)
+script_is p ys e = ap (λ (z : List Places.Step). script_path (reverse z)) e ∙ turned (λ (s : Places.Step). (s.offset, s.key)) (map meant_step ys) ∙ ap (λ (zs : Path). reverse zs) (pairs ys)
 
-is_less : (a b : ℕ) → nat_lt a b ≡ true → a < b
-is_less a b h = grind arith
+-- STATEMENTS
 
-less_is : (a b : ℕ) → a < b → nat_lt a b ≡ true
-less_is a b h = grind arith
+-- the statement of a report that one of the meaning is
+abbrev IsMeant : Statement → MeantStatement → Type 0
+IsMeant b c = (b.at ≡ c.at) × (path_view b.path.items ≡ meant_path c)
 
--- the first stands before all behind it
-first_before : (c : PlainStatement) (cs : List PlainStatement) → InOrder statement_before (c ∷ cs) → (d : PlainStatement) → In d cs → c.at < d.at
-first_before c [] o d h = absurd h
-first_before c (x ∷ cs) o d (inl p) = subst (λ (y : PlainStatement). c.at < y.at) (sym p) (is_less c.at x.at o.0)
-first_before c (x ∷ cs) o d (inr h) = let l = is_less c.at x.at o.0 in let m = first_before x cs o.1 d h in omega (arith, l, m)
+meant_is : (b : Statement) (c : MeantStatement) → ◌≡◌ {A = ℕ × List Places.Step} (place_view b) (meant_place c) → IsMeant b c
+meant_is b c p = (ap (λ (z : ℕ × List Places.Step). z.0) p, ap (λ (z : ℕ × List Places.Step). z.1) p)
 
-rest_ordered : (c : PlainStatement) (cs : List PlainStatement) → InOrder statement_before (c ∷ cs) → InOrder statement_before cs
-rest_ordered c [] o = tt
-rest_ordered c (x ∷ cs) o = o.1
+path_is : (b : Statement) (c : MeantStatement) → IsMeant b c → script_path (path_of b) ≡ read.path_of c
+path_is b c h = script_is (path_view b.path.items) c.path.items h.1
 
-before_of : (a b : Statement) (c d : PlainStatement) → IsPlain a c → IsPlain b d → c.at < d.at → comes_before a b
-before_of a b c d p q l = inr (p.1 ∙ sym q.1, less_is a.at b.at (subst (λ (n : ℕ). n < b.at) (sym p.0) (subst (λ (n : ℕ). c.at < n) (sym q.0) l)))
+-- of two lists that look the same one by one
+module _ {X Y Z : Type 0} (f : X → Z) (g : Y → Z) where
+  first_same : (x : X) (xs : List X) (y : Y) (ys : List Y) → map f (x ∷ xs) ≡ map g (y ∷ ys) → f x ≡ g y
+  first_same x xs y ys e = cc
 
-in_order : (bs : List Statement) (cs : List PlainStatement) → map place_view bs ≡ map plain_place cs → InOrder statement_before cs → InTextOrder bs
+  rest_same : (x : X) (xs : List X) (y : Y) (ys : List Y) → map f (x ∷ xs) ≡ map g (y ∷ ys) → map f xs ≡ map g ys
+  rest_same x xs y ys e = cc
+
+  meant_of : (xs : List X) (ys : List Y) → map f xs ≡ map g ys → (x : X) → In x xs → (y : Y) × In y ys × (f x ≡ g y)
+  meant_of [] ys e x h = absurd h
+  meant_of (w ∷ xs) [] e x h = absurd (cc (e))
+  meant_of (w ∷ xs) (y ∷ ys) e x (inl p) = (y, inl refl, ap f p ∙ first_same w xs y ys e)
+  meant_of (w ∷ xs) (y ∷ ys) e x (inr h) = let r = meant_of xs ys (rest_same w xs y ys e) x h in (r.0, inr r.1, r.2)
+
+  told_of : (xs : List X) (ys : List Y) → map f xs ≡ map g ys → (y : Y) → In y ys → (x : X) × In x xs × (f x ≡ g y)
+  told_of xs [] e y h = absurd h
+  told_of [] (z ∷ ys) e y h = absurd (cc (e))
+  told_of (x ∷ xs) (z ∷ ys) e y (inl p) = (x, inl refl, first_same x xs z ys e ∙ ap g (sym p))
+  told_of (x ∷ xs) (z ∷ ys) e y (inr h) = let r = told_of xs ys (rest_same x xs z ys e) y h in (r.0, inr r.1, r.2)
+
+-- what is below in the meaning's order comes before in that of reports
+before_of : (a b : Statement) (c d : MeantStatement) → IsMeant a c → IsMeant b d → statement_below c d ≡ true → comes_before a b
+before_of a b c d p q h = by (or_true (order.path_below c.path.items d.path.items) (same_path c.path.items d.path.items && nat_lt c.at d.at) h)
+  where
+    by : (order.path_below c.path.items d.path.items ≡ true) ⊎ ((same_path c.path.items d.path.items && nat_lt c.at d.at) ≡ true) → comes_before a b
+    by (inl l) = inl (below_same a.path.items c.path.items b.path.items d.path.items p.1 q.1 ∙ l)
+    by (inr m) =
+        let r = true_and (same_path c.path.items d.path.items) (nat_lt c.at d.at) m in
+        let same : c.path.items ≡ d.path.items = path_order.is c.path.items d.path.items r.0 in
+        inr (
+          ap (λ (z : List Places.Step). reverse z) (p.1 ∙ ap (λ (z : List MeantStep). map meant_step z) same ∙ sym q.1),
+          subst (λ (n : ℕ). nat_lt n b.at ≡ true) (sym p.0) (subst (λ (n : ℕ). nat_lt c.at n ≡ true) (sym q.0) r.1),
+        )
+
+in_order : (bs : List Statement) (cs : List MeantStatement) → map place_view bs ≡ map meant_place cs → IsInOrder statement_below cs → InTextOrder bs
 in_order [] cs e o = tt
 in_order (b ∷ bs) [] e o = absurd (cc (e))
 in_order (b ∷ bs) (c ∷ cs) e o = (
-  λ d h. (let r = plain_of bs cs (rest_is b bs c cs e) d h in before_of b d c r.0 (first_is b bs c cs e) r.2 (first_before c cs o r.0 r.1)),
-  in_order bs cs (rest_is b bs c cs e) (rest_ordered c cs o),
+  λ d h. (let r = meant_of place_view meant_place bs cs (rest_same place_view meant_place b bs c cs e) d h in
+      before_of b d c r.0 (meant_is b c (first_same place_view meant_place b bs c cs e)) (meant_is d r.0 r.2) (o.0 r.0 (from_in r.0 cs r.1))),
+  in_order bs cs (rest_same place_view meant_place b bs c cs e) o.1,
 )
 
 -- FAULTS
 
-abbrev IsPlainFault : Fault → PlainFault → Type 0
-IsPlainFault f g = (f.kind ≡ OfEntry (InOperation g.kind)) × (f.statement.at ≡ g.at) × (path_of f.statement ≡ [])
+-- the fault of a report that one of the meaning is
+abbrev IsMeantFault : Fault → MeantFault → Type 0
+IsMeantFault f g = (f.kind ≡ meant_kind g.kind) × IsMeant f.statement g.statement
 
-plain_fault_is : (f : Fault) (g : PlainFault) → ◌≡◌ {A = FaultKind × ℕ × List Step} (told_fault f) (plain_fault g) → IsPlainFault f g
-plain_fault_is f g p = (ap (λ (z : FaultKind × ℕ × List Step). z.0) p, ap (λ (z : FaultKind × ℕ × List Step). z.1) p, ap (λ (z : FaultKind × ℕ × List Step). reverse (z.2)) p)
+meant_fault_is : (f : Fault) (g : MeantFault) → ◌≡◌ {A = FaultKind × ℕ × List Places.Step} (told_fault f) (meant_fault g) → IsMeantFault f g
+meant_fault_is f g p = (ap (λ (z : FaultKind × ℕ × List Places.Step). z.0) p, (ap (λ (z : FaultKind × ℕ × List Places.Step). z.1) p, ap (λ (z : FaultKind × ℕ × List Places.Step). z.2) p))
 
-first_fault_is : (f : Fault) (fs : List Fault) (g : PlainFault) (gs : List PlainFault) → map told_fault (f ∷ fs) ≡ map plain_fault (g ∷ gs) → IsPlainFault f g
-first_fault_is f fs g gs e = let p : ◌≡◌ {A = FaultKind × ℕ × List Step} (told_fault f) (plain_fault g) = cc in plain_fault_is f g p
+same_number : (k : MeantKind) → kind_number (meant_kind k) ≡ fault_number k
+same_number Kind.Overflow = refl
+same_number Kind.DivideByZero = refl
+same_number Kind.NoElement = refl
+same_number Kind.ElementTwice = refl
+same_number Kind.BadStep = refl
+same_number Kind.TooDeep = refl
+same_number Kind.NotANumber = refl
+same_number Kind.AssertFailed = refl
 
-rest_faults : (f : Fault) (fs : List Fault) (g : PlainFault) (gs : List PlainFault) → map told_fault (f ∷ fs) ≡ map plain_fault (g ∷ gs) → map told_fault fs ≡ map plain_fault gs
-rest_faults f fs g gs e = cc
+same_kind : (k : MeantKind) → script_fault (kind_of_fault (meant_kind k)) ≡ kind_view k
+same_kind Kind.Overflow = refl
+same_kind Kind.DivideByZero = refl
+same_kind Kind.NoElement = refl
+same_kind Kind.ElementTwice = refl
+same_kind Kind.BadStep = refl
+same_kind Kind.TooDeep = refl
+same_kind Kind.NotANumber = refl
+same_kind Kind.AssertFailed = refl
 
-plain_fault_of : (fs : List Fault) (gs : List PlainFault) → map told_fault fs ≡ map plain_fault gs → (f : Fault) → In f fs → (g : PlainFault) × In g gs × IsPlainFault f g
-plain_fault_of [] gs e f h = absurd h
-plain_fault_of (x ∷ xs) [] e f h = absurd (cc (e))
-plain_fault_of (x ∷ xs) (g ∷ gs) e f (inl p) = (g, inl refl, subst (λ (y : Fault). IsPlainFault y g) (sym p) (first_fault_is x xs g gs e))
-plain_fault_of (x ∷ xs) (g ∷ gs) e f (inr h) = let r = plain_fault_of xs gs (rest_faults x xs g gs e) f h in (r.0, inr r.1, r.2)
+kind_is : (f : Fault) (g : MeantFault) → IsMeantFault f g → script_fault (kind_of_fault f.kind) ≡ kind_view g.kind
+kind_is f g h = ap (λ (k : FaultKind). script_fault (kind_of_fault k)) h.0 ∙ same_kind g.kind
 
-told_fault_of : (fs : List Fault) (gs : List PlainFault) → map told_fault fs ≡ map plain_fault gs → (g : PlainFault) → In g gs → (f : Fault) × In f fs × IsPlainFault f g
-told_fault_of fs [] e g h = absurd h
-told_fault_of [] (d ∷ gs) e g h = absurd (cc (e))
-told_fault_of (x ∷ xs) (d ∷ gs) e g (inl p) = (x, inl refl, subst (λ (y : PlainFault). IsPlainFault x y) (sym p) (first_fault_is x xs d gs e))
-told_fault_of (x ∷ xs) (d ∷ gs) e g (inr h) = let r = told_fault_of xs gs (rest_faults x xs d gs e) g h in (r.0, inr r.1, r.2)
+number_is : (f : Fault) (g : MeantFault) → IsMeantFault f g → kind_number f.kind ≡ fault_number g.kind
+number_is f g h = ap kind_number h.0 ∙ same_number g.kind
 
--- by offset, and then by number
-abbrev Before : PlainFault → PlainFault → Type 0
-Before f g = (f.at < g.at) ⊎ ((f.at ≡ g.at) × (fault_number f.kind < fault_number g.kind))
-
-is_before : (f g : PlainFault) → fault_before f g ≡ true → Before f g
-is_before f g h = by (or_true (nat_lt f.at g.at) (nat_eq f.at g.at && nat_lt (fault_number f.kind) (fault_number g.kind)) h)
+fault_before_of : (a b : Fault) (f g : MeantFault) → IsMeantFault a f → IsMeantFault b g → fault_below f g ≡ true → fault_before a b
+fault_before_of a b f g p q h = by (or_true (statement_below f.statement g.statement) (same_statement f.statement g.statement && nat_lt (fault_number f.kind) (fault_number g.kind)) h)
   where
-    by : (nat_lt f.at g.at ≡ true) ⊎ ((nat_eq f.at g.at && nat_lt (fault_number f.kind) (fault_number g.kind)) ≡ true) → Before f g
-    by (inl l) = inl (is_less f.at g.at l)
-    by (inr b) = let p = true_and (nat_eq f.at g.at) (nat_lt (fault_number f.kind) (fault_number g.kind)) b in inr (nat_sound f.at g.at p.0, is_less (fault_number f.kind) (fault_number g.kind) p.1)
+    by_place : comes_before a.statement b.statement → fault_before a b
+    by_place (inl l) = inl l
+    by_place (inr m) = inr (m.0, true_or (nat_lt a.statement.at b.statement.at) _ (inl m.1))
 
-before_trans : (f g h : PlainFault) → Before f g → Before g h → Before f h
-before_trans f g h (inl a) (inl b) = inl (omega (arith, a, b))
-before_trans f g h (inl a) (inr b) = let e = b.0 in inl (omega (arith, a, e))
-before_trans f g h (inr a) (inl b) = let e = a.0 in inl (omega (arith, e, b))
-before_trans f g h (inr a) (inr b) = let l = a.1 in let m = b.1 in inr (a.0 ∙ b.0, omega (arith, l, m))
+    by : (statement_below f.statement g.statement ≡ true) ⊎ ((same_statement f.statement g.statement && nat_lt (fault_number f.kind) (fault_number g.kind)) ≡ true) → fault_before a b
+    by (inl l) = by_place (before_of a.statement b.statement f.statement g.statement p.1 q.1 l)
+    by (inr m) =
+        let r = true_and (same_statement f.statement g.statement) (nat_lt (fault_number f.kind) (fault_number g.kind)) m in
+        let w = true_and (same_path f.statement.path.items g.statement.path.items) (nat_eq f.statement.at g.statement.at) r.0 in
+        let same : f.statement.path.items ≡ g.statement.path.items = path_order.is f.statement.path.items g.statement.path.items w.0 in
+        let at : f.statement.at ≡ g.statement.at = nat_sound f.statement.at g.statement.at w.1 in
+        let here : a.statement.at ≡ b.statement.at = p.1.0 ∙ at ∙ sym q.1.0 in
+        let x = number_is a f p in
+        let y = number_is b g q in
+        inr (
+          ap (λ (z : List Places.Step). reverse z) (p.1.1 ∙ ap (λ (z : List MeantStep). map meant_step z) same ∙ sym q.1.1),
+          true_or (nat_lt a.statement.at b.statement.at) _
+              (inr (both_true (nat_eq a.statement.at b.statement.at) _ (subst (λ (n : ℕ). nat_eq a.statement.at n ≡ true) here (nat_same a.statement.at))
+              (subst (λ (n : ℕ). nat_lt n (kind_number b.kind) ≡ true) (sym x) (subst (λ (n : ℕ). nat_lt (fault_number f.kind) n ≡ true) (sym y) r.1)))),
+        )
 
-first_fault_before : (f : PlainFault) (fs : List PlainFault) → InOrder fault_before (f ∷ fs) → (g : PlainFault) → In g fs → Before f g
-first_fault_before f [] o g h = absurd h
-first_fault_before f (x ∷ fs) o g (inl p) = subst (λ (y : PlainFault). Before f y) (sym p) (is_before f x o.0)
-first_fault_before f (x ∷ fs) o g (inr h) = before_trans f x g (is_before f x o.0) (first_fault_before x fs o.1 g h)
-
-rest_faults_ordered : (f : PlainFault) (fs : List PlainFault) → InOrder fault_before (f ∷ fs) → InOrder fault_before fs
-rest_faults_ordered f [] o = tt
-rest_faults_ordered f (x ∷ fs) o = o.1
-
-same_number : (k : OpFault) → operation_number k ≡ fault_number k
-same_number Overflow = refl
-same_number DivideByZero = refl
-same_number BadStep = refl
-same_number NotANumber = refl
-same_number AssertFailed = refl
-same_number Memory = refl
-
-number_is : (f : Fault) (g : PlainFault) → IsPlainFault f g → kind_number f.kind ≡ fault_number g.kind
-number_is f g p = ap kind_number p.0 ∙ same_number g.kind
-
-behind_of : (a b : Fault) (f g : PlainFault) → IsPlainFault a f → IsPlainFault b g → Before f g → behind_it a b ≡ true
-behind_of a b f g p q (inl l) =
-    let at = p.1 in let to = q.1 in
-    true_or (nat_lt a.statement.at b.statement.at) _ (inl (less_is a.statement.at b.statement.at (omega (arith, at, to, l))))
-behind_of a b f g p q (inr l) =
-    let at = p.1 in let to = q.1 in let x = number_is a f p in let y = number_is b g q in let same = l.0 in let less = l.1 in
-    true_or (nat_lt a.statement.at b.statement.at) _
-    (inr (both_true (nat_eq a.statement.at b.statement.at) _ (subst (λ (n : ℕ). nat_eq a.statement.at n ≡ true) (at ∙ same ∙ sym to) (nat_same a.statement.at))
-    (less_is (kind_number a.kind) (kind_number b.kind) (omega (arith, x, y, less)))))
-
-faults_in_order : (fs : List Fault) (gs : List PlainFault) → map told_fault fs ≡ map plain_fault gs → InOrder fault_before gs → InFaultOrder fs
+faults_in_order : (fs : List Fault) (gs : List MeantFault) → map told_fault fs ≡ map meant_fault gs → IsInOrder fault_below gs → InFaultOrder fs
 faults_in_order [] gs e o = tt
 faults_in_order (f ∷ fs) [] e o = absurd (cc (e))
 faults_in_order (f ∷ fs) (g ∷ gs) e o = (
-  λ d h. (let r = plain_fault_of fs gs (rest_faults f fs g gs e) d h in
-      let p = first_fault_is f fs g gs e in
-      inr (p.2 ∙ sym (r.2.2), behind_of f d g r.0 p r.2 (first_fault_before g gs o r.0 r.1))),
-  faults_in_order fs gs (rest_faults f fs g gs e) (rest_faults_ordered g gs o),
+  λ d h. (let r = meant_of told_fault meant_fault fs gs (rest_same told_fault meant_fault f fs g gs e) d h in
+      fault_before_of f d g r.0 (meant_fault_is f g (first_same told_fault meant_fault f fs g gs e)) (meant_fault_is d r.0 r.2) (o.0 r.0 (from_in r.0 gs r.1))),
+  faults_in_order fs gs (rest_same told_fault meant_fault f fs g gs e) o.1,
 )
 
 -- WHAT IS TOLD
@@ -177,35 +211,38 @@ enough_of : (s : Core) (k : Knowledge) (limit : ℕ) → IsKnowledgeOf s k → k
 enough_of s k limit o within exact true e = (o.finished e, within)
 enough_of s k limit o within exact false e = (o.unfinished e, exact e)
 
--- a path of no step
-at_root : (path : List Step) → path ≡ [] → script_path path ≡ []
-at_root path e = ap script_path e
-
-known_of : (s : Core) (k : Knowledge) (lines : List (List ℕ)) (blocked : List PlainStatement) (faults : List PlainFault) (bs : List Statement) (fs : List Fault) → IsKnowledgeOf s k → IsPermutation (printed k.entries.items) lines
-    → IsSorted (slice_cmp nat_cmp) lines → ListsBlocked k.entries.items blocked → ListsFaults k.entries.items faults → map place_view bs ≡ map plain_place blocked → map told_fault fs ≡ map plain_fault faults
-    → AreKnown s k.rounds lines bs fs
-known_of s k lines blocked faults bs fs o permuted sorted lb lf eb ef = record {
-  lines_are = o.lines lines permuted;
+known_of : (s : Core) (n : ℕ) (lines : List (List ℕ)) (blocked : List MeantStatement) (faults : List MeantFault) (bs : List Statement) (fs : List Fault) → Lines (Known s n) lines
+    → IsSorted (slice_cmp nat_cmp) lines → AreBlocked s (Known s n) blocked → AreFaults (Known s n) faults → map place_view bs ≡ map meant_place blocked → map told_fault fs ≡ map meant_fault faults
+    → AreKnown s n lines bs fs
+known_of s n lines blocked faults bs fs are sorted lb lf eb ef = record {
+  lines_are = are;
   lines_in_order = sorted;
-  blocked_in_order = in_order bs blocked eb lb.in_order;
-  each_blocked = λ b i. (let r = plain_of bs blocked eb b i in
-      subst (λ (at : ℕ). Blocked s (Known s k.rounds) at (script_path (path_of b))) (sym (r.2.0))
-      (subst (λ (path : Path). Blocked s (Known s k.rounds) (r.0).at path) (sym (at_root (path_of b) (r.2.1))) (o.blocked_all (r.0).at (lb.each r.0 r.1))));
-  all_blocked = λ at path h. (let w = o.blocked at path h in let c = lb.all at w.1 in let r = told_of bs blocked eb c.0 c.1 in (r.0, r.1, r.2.0 ∙ c.2, at_root (path_of r.0) (r.2.1) ∙ sym w.0));
-  faults_in_order = faults_in_order fs faults ef lf.in_order;
-  each_fault = λ f i. (let r = plain_fault_of fs faults ef f i in let w = lf.each r.0 r.1 in
-      subst (λ (kind : FaultKind). Faults (Known s k.rounds) (script_fault (kind_of_fault kind)) f.statement.at (script_path (path_of f.statement))) (sym (r.2.0))
-      (subst (λ (at : ℕ). Faults (Known s k.rounds) (Facts.operation (r.0).kind) at (script_path (path_of f.statement))) (sym (r.2.1))
-      (subst (λ (path : Path). Faults (Known s k.rounds) (Facts.operation (r.0).kind) (r.0).at path) (sym (at_root (path_of f.statement) (r.2.2))) (w.0, o.sound _ w.1))));
-  all_faults = λ kind at path h. (let w = lf.all kind at path (h.0, o.complete _ h.1) in let r = told_fault_of fs faults ef w.0 w.1 in
-      (r.0, r.1, ap (λ (x : FaultKind). script_fault (kind_of_fault x)) (r.2.0) ∙ sym w.2, r.2.1 ∙ sym w.3, at_root (path_of (r.0).statement) (r.2.2) ∙ sym w.4));
+  blocked_in_order = in_order bs blocked eb lb.order;
+  each_blocked = λ b i. (let r = meant_of place_view meant_place bs blocked eb b i in
+      let m = meant_is b r.0 r.2 in
+      subst (λ (at : ℕ). Blocked s (Known s n) at (script_path (path_of b))) (sym m.0)
+      (subst (λ (path : Path). Blocked s (Known s n) (r.0).at path) (sym (path_is b r.0 m)) (lb.each r.0 (from_in r.0 blocked r.1))));
+  all_blocked = λ at path h. (let c = lb.all at path h in
+      let r = told_of place_view meant_place bs blocked eb c.0 (to_in c.1) in
+      let m = meant_is r.0 c.0 r.2 in
+      (r.0, r.1, m.0 ∙ c.2, path_is r.0 c.0 m ∙ c.3));
+  faults_in_order = faults_in_order fs faults ef lf.order;
+  each_fault = λ f i. (let r = meant_of told_fault meant_fault fs faults ef f i in
+      let m = meant_fault_is f r.0 r.2 in
+      subst (λ (kind : Facts.Fault). Faults (Known s n) kind f.statement.at (script_path (path_of f.statement))) (sym (kind_is f r.0 m))
+      (subst (λ (at : ℕ). Faults (Known s n) (kind_view (r.0).kind) at (script_path (path_of f.statement))) (sym m.1.0)
+      (subst (λ (path : Path). Faults (Known s n) (kind_view (r.0).kind) (r.0).statement.at path) (sym (path_is f.statement (r.0).statement m.1)) (lf.each r.0 (from_in r.0 faults r.1)))));
+  all_faults = λ kind at path h. (let c = lf.all kind at path h in
+      let r = told_of told_fault meant_fault fs faults ef c.0 (to_in c.1) in
+      let m = meant_fault_is r.0 c.0 r.2 in
+      (r.0, r.1, kind_is r.0 c.0 m ∙ c.2, m.1.0 ∙ c.3, path_is (r.0).statement (c.0).statement m.1 ∙ c.4));
 }
 
-pub told_is : (s : Core) (k : Knowledge) (limit : ℕ) (blocked : List PlainStatement) (faults : List PlainFault) (t : Told) → IsKnowledgeOf s k → k.rounds ≤ limit → (k.finished ≡ false → k.rounds ≡ limit)
-    → IsPermutation (printed k.entries.items) t.lines.items → IsSorted (slice_cmp nat_cmp) t.lines.items → ListsBlocked k.entries.items blocked → ListsFaults k.entries.items faults
-    → map place_view t.blocked.items ≡ map plain_place blocked → map told_fault t.faults.items ≡ map plain_fault faults → k.finished ≡ t.enough → IsTold s limit t
-told_is s k limit blocked faults t o within exact permuted sorted lb lf eb ef enough = record {
+pub told_is : (s : Core) (k : Knowledge) (limit : ℕ) (blocked : List MeantStatement) (faults : List MeantFault) (t : Told) → IsKnowledgeOf s k → k.rounds ≤ limit → (k.finished ≡ false → k.rounds ≡ limit)
+    → Lines (Known s k.rounds) t.lines.items → IsSorted (slice_cmp nat_cmp) t.lines.items → AreBlocked s (Known s k.rounds) blocked → AreFaults (Known s k.rounds) faults
+    → map place_view t.blocked.items ≡ map meant_place blocked → map told_fault t.faults.items ≡ map meant_fault faults → k.finished ≡ t.enough → IsTold s limit t
+told_is s k limit blocked faults t o within exact are sorted lb lf eb ef enough = record {
   rounds = k.rounds;
   are_enough = enough_of s k limit o within exact t.enough enough;
-  are_known = known_of s k t.lines.items blocked faults t.blocked.items t.faults.items o permuted sorted lb lf eb ef;
+  are_known = known_of s k.rounds t.lines.items blocked faults t.blocked.items t.faults.items are sorted lb lf eb ef;
 }

@@ -3,12 +3,11 @@ use Rattle.std.proofs.Common.{◌≡◌, ◌∙◌, refl, sym, ap, subst, ℕ, L
 use Rattle.std.specs.Prelude.{option_map}
 use Rattle.lexer.specs.declared.token.Span.{Span}
 use Rattle.compile.specs.declared.fault.CompileFault.{CompileFault}
-use Rattle.compile.specs.Accepted.{IsRefused, IsUnfit}
+use Rattle.compile.specs.Accepted.{IsUnfit}
 use Rattle.compile.specs.Places.{span_of}
 use Rattle.swt_command.specs.declared.refusal.Refusal.{Refusal}
 use Rattle.swt_command.specs.declared.trouble.Trouble.{Trouble}
 use Rattle.swt_command.specs.Files.{Files, IsRefusal, StopsAt, source_of}
-use Rattle.swt_command.specs.Means.{StopsReading}
 use Rattle.swt_command.specs.Names.{refusal_of}
 use Rattle.swt_command.specs.Troubles.{trouble_of}
 
@@ -35,11 +34,3 @@ unfit_stops files src fault t read e h = subst (λ (x : Trouble). StopsAt files 
     by : (o : Option Refusal) → o ≡ refusal_of fault → StopsAt files 0 (trouble_of o)
     by None is = (src, read, tt)
     by (Some r) is = (src, read, is_unfit src fault r is h)
-
--- and `mean` at one whose meaning is not worked out
-pub refused_stops : (files : Files) (src : List ℕ) (fault : CompileFault) (t : Trouble) → source_of files 0 ≡ Some src → t ≡ trouble_of (refusal_of fault) → IsRefused src fault → StopsReading files t
-refused_stops files src fault t read e h = subst (λ (x : Trouble). StopsReading files x) (sym e) (by (refusal_of fault) refl)
-  where
-    by : (o : Option Refusal) → o ≡ refusal_of fault → StopsReading files (trouble_of o)
-    by None is = (src, read, tt)
-    by (Some r) is = (src, read, is_of (IsRefused src) fault r is h)

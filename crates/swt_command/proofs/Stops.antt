@@ -10,7 +10,7 @@ use Rattle.swt_command.specs.declared.trouble.Trouble.{Trouble}
 use Rattle.swt_command.specs.declared.trouble.Trouble.TheVariants as Is
 use Rattle.swt_command.specs.Files.{Files, HasCode, StopsAt, source_of}
 use Rattle.swt_command.specs.Listings.{StopsListing}
-use Rattle.swt_command.specs.Means.{StopsMean, StopsReading}
+use Rattle.swt_command.specs.Means.{StopsMean}
 use Rattle.swt_trace.specs.declared.fault.ReplayFault.{ReplayFault}
 use Rattle.swt_trace.specs.declared.fault.ReplayFault.TheVariants as Faulty
 use Rattle.swt_trace.specs.Replay.{IsFirstNoStep}
@@ -19,7 +19,7 @@ use Rattle.swt_command.specs.Runs.{Ran, Runs, StopsAtTrace, StopsBeforeReplay, S
 use Rattle.swt_command.specs.Sinks.{Held, Lost, Took}
 
 -- a command that stops before anything is written
-pub mean_stopped : (files : Files) (limit : ℕ) (t : Trouble) (out : Held) → StopsReading files t → StopsMean files limit t out out
+pub mean_stopped : (files : Files) (limit : ℕ) (t : Trouble) (out : Held) → StopsAt files 0 t → StopsMean files limit t out out
 mean_stopped files limit Is.Unread out h = (h, refl)
 mean_stopped files limit (Is.Refused r) out h = (h, refl)
 mean_stopped files limit (Is.BadLine n) out h = (h, refl)

@@ -4,17 +4,11 @@ use Rattle.swt_line.specs.declared.line.Line.{Line}
 use Rattle.swt_line.specs.declared.line.Line.TheVariants.{Check, Mean, Code, Run, Replay}
 use Rattle.swt_command.specs.declared.refusal.Refusal.{Refusal}
 use Rattle.swt_command.specs.Files.{Files, IsRefusal, source_of}
-use Rattle.swt_command.specs.Means.{IsNotMeant}
 use Rattle.swt_command.specs.Runs.{most_threads}
 
--- the line's command refuses the text for this reason
-abbrev pub Refuses : Line → List ℕ → Refusal → Type 0
-Refuses (Mean file rounds) src r = IsNotMeant src r
-Refuses line src r = IsRefusal src r
-
--- the line's command refuses the text of some file
-abbrev pub SomeRefused : Line → Files → Type 0
-SomeRefused line files = (place : ℕ) × (r : Refusal) × (src : List ℕ) × (source_of files place ≡ Some src) × Refuses line src r
+-- the text of some file is refused
+abbrev pub SomeRefused : Files → Type 0
+SomeRefused files = (place : ℕ) × (r : Refusal) × (src : List ℕ) × (source_of files place ≡ Some src) × IsRefusal src r
 
 -- the line asks for more engines and workers than there may be
 abbrev pub AsksTooMuch : Line → Type 0

@@ -1,5 +1,5 @@
 -- What `mean` owes: the text of what a script means.
-use Rattle.std.specs.Prelude.{◌≡◌, ◌⊎◌, ℕ, ◌≤◌, Bool, true, false, ◌&&◌, ◌||◌, nat_eq, nat_lt, List, [], ◌∷◌, ◌++◌, Result, Ok, Err, Some, IsSorted}
+use Rattle.std.specs.Prelude.{◌≡◌, ◌⊎◌, ℕ, ◌≤◌, Bool, true, false, ◌&&◌, ◌||◌, nat_eq, nat_lt, List, [], ◌∷◌, ◌++◌, Result, Ok, Err, IsSorted}
 use Rattle.std.specs.Cmp.Lexicographic.{slice_cmp}
 use Rattle.std.specs.List.{flat_map}
 use Rattle.std.specs.Ordering.{nat_cmp}
@@ -19,17 +19,14 @@ use Rattle.board_frames.specs.declared.place.FaultKind.{FaultKind}
 use Rattle.board_frames.specs.declared.place.FaultKind.TheVariants.{OfEntry, ElementTwice}
 use Rattle.board_frames.specs.declared.place.Statement.{Statement}
 use Rattle.board_work.specs.declared.outcome.EntryFault.TheVariants.{InOperation, NoElement, TooDeep}
-use Rattle.compile.specs.Accepted.{IsRefused}
 use Rattle.swt_trace.specs.Report.{blocked_line, fault_line, limit_line, text_line}
-use Rattle.swt_command.specs.declared.refusal.Refusal.{Refusal}
 use Rattle.swt_command.specs.declared.status.Status.{Status}
 use Rattle.swt_command.specs.declared.status.Status.TheVariants as Ends
 use Rattle.swt_command.specs.declared.stop.Stop.{Stop}
 use Rattle.swt_command.specs.declared.told.Told.{Told}
 use Rattle.swt_command.specs.declared.trouble.Trouble.{Trouble}
-use Rattle.swt_command.specs.declared.trouble.Trouble.TheVariants.{Refused, Unprinted}
-use Rattle.swt_command.specs.Files.{Files, HasScript, StopsAt, source_of}
-use Rattle.swt_command.specs.Names.{refusal_of}
+use Rattle.swt_command.specs.declared.trouble.Trouble.TheVariants.{Unprinted}
+use Rattle.swt_command.specs.Files.{Files, HasScript, StopsAt}
 use Rattle.swt_command.specs.Sinks.{Held, Kept, Took, Lost}
 
 -- THE TEXT
@@ -124,19 +121,10 @@ ToldOf files limit t = (s : Core) × HasScript files 0 s × IsTold s limit t
 abbrev pub Tells : Files → (limit : ℕ) → Status → (text : List ℕ) → Type 0
 Tells files limit status text = (s : Core) × HasScript files 0 s × IsMeanText s limit status text
 
--- the text is no script for this reason, or a part of it that begins at this place is not worked out yet
-abbrev pub IsNotMeant : List ℕ → Refusal → Type 0
-IsNotMeant src r = IsRefused src r.fault × (refusal_of r.fault ≡ Some r)
-
--- the first file cannot be read, its meaning is not worked out for some reason, or memory was refused
-abbrev pub StopsReading : Files → Trouble → Type 0
-StopsReading files (Refused r) = (src : List ℕ) × (source_of files 0 ≡ Some src) × IsNotMeant src r
-StopsReading files trouble = StopsAt files 0 trouble
-
 -- a write of the text failed; or the command stopped at the file, with nothing written
 abbrev pub StopsMean : Files → ℕ → Trouble → Held → Held → Type 0
 StopsMean files limit Unprinted out new = (status : Status) × (text : List ℕ) × Tells files limit status text × Lost out text new
-StopsMean files limit trouble out new = StopsReading files trouble × Kept out new
+StopsMean files limit trouble out new = StopsAt files 0 trouble × Kept out new
 
 -- the text was printed; or the command stops
 abbrev pub Means : Files → ℕ → Result Status Stop → Held → Held → Type 0

@@ -1,21 +1,42 @@
--- Statements and faults of a script's own block, beside those of any block.
-use Rattle.std.specs.Prelude.{ℕ, List, []}
+-- Statements and faults as the meaning tells them, beside those of reports.
+use Rattle.std.specs.Prelude.{ℕ, List, map}
 use Rattle.task_code.specs.Places.{Step}
+use Rattle.values.specs.declared.fault.OpFault.TheVariants as Of
 use Rattle.board.specs.View.{path_view}
 use Rattle.board_frames.specs.declared.place.Fault.{Fault}
 use Rattle.board_frames.specs.declared.place.FaultKind.{FaultKind}
-use Rattle.board_frames.specs.declared.place.FaultKind.TheVariants.{OfEntry}
-use Rattle.board_work.specs.declared.outcome.EntryFault.TheVariants.{InOperation}
-use Rattle.meaning.specs.declared.reading.Fault.{Fault as PlainFault}
-use Rattle.meaning.specs.declared.reading.Statement.{Statement as PlainStatement}
+use Rattle.board_frames.specs.declared.place.FaultKind.TheVariants.{ElementTwice, OfEntry}
+use Rattle.board_work.specs.declared.outcome.EntryFault.TheVariants.{InOperation, NoElement, TooDeep}
+use Rattle.whole_facts.specs.declared.facts.FaultKind.{FaultKind as MeantKind}
+use Rattle.whole_facts.specs.declared.facts.FaultKind.TheVariants as Kind
+use Rattle.whole_facts.specs.declared.instances.Step.{Step as MeantStep}
+use Rattle.script_meaning.specs.declared.order.Fault.{Fault as MeantFault}
+use Rattle.script_meaning.specs.declared.order.Statement.{Statement as MeantStatement}
 
--- its offset, and its path from the outermost step on
-abbrev pub plain_place : PlainStatement → ℕ × List Step
-plain_place b = (b.at, [])
+abbrev pub meant_step : MeantStep → Step
+meant_step s = record { offset = s.at; key = s.key }
+
+-- its path, from the outermost step on
+abbrev pub meant_path : MeantStatement → List Step
+meant_path b = map meant_step b.path.items
+
+-- its offset, and its path
+abbrev pub meant_place : MeantStatement → ℕ × List Step
+meant_place b = (b.at, meant_path b)
+
+abbrev pub meant_kind : MeantKind → FaultKind
+meant_kind Kind.Overflow = OfEntry (InOperation Of.Overflow)
+meant_kind Kind.DivideByZero = OfEntry (InOperation Of.DivideByZero)
+meant_kind Kind.NoElement = OfEntry NoElement
+meant_kind Kind.ElementTwice = ElementTwice
+meant_kind Kind.BadStep = OfEntry (InOperation Of.BadStep)
+meant_kind Kind.TooDeep = OfEntry TooDeep
+meant_kind Kind.NotANumber = OfEntry (InOperation Of.NotANumber)
+meant_kind Kind.AssertFailed = OfEntry (InOperation Of.AssertFailed)
 
 -- its kind, and the offset and the path of its statement
-abbrev pub plain_fault : PlainFault → FaultKind × ℕ × List Step
-plain_fault f = (OfEntry (InOperation f.kind), f.at, [])
+abbrev pub meant_fault : MeantFault → FaultKind × ℕ × List Step
+meant_fault f = (meant_kind f.kind, f.statement.at, meant_path f.statement)
 
 abbrev pub told_fault : Fault → FaultKind × ℕ × List Step
 told_fault f = (f.kind, f.statement.at, path_view f.statement.path.items)

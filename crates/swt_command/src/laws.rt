@@ -43,7 +43,7 @@ pub fn runs_print_the_meaning()
 /// many engines and workers.
 pub fn statuses_tell()
     ensures refused { (line : Line) (files : Files) (out out_new err err_new trace trace_new : Held) (number : ℕ)
-        → Owes line files out out_new err err_new trace trace_new number → number ≡ 1 → SomeRefused line files }
+        → Owes line files out out_new err err_new trace trace_new number → number ≡ 1 → SomeRefused files }
     ensures usage { (line : Line) (files : Files) (out out_new err err_new trace trace_new : Held) (number : ℕ)
         → Owes line files out out_new err err_new trace trace_new number → number ≡ 2 → AsksTooMuch line }
 {}

@@ -1,21 +1,26 @@
 //! What is known of a script after some rounds.
-ghost use Rattle.std.specs.Prelude.{◌≡◌, map, IfOk, MatchResult};
-ghost use Rattle.agreement.specs.Scalars.{IsScalars};
+ghost use Rattle.std.specs.Prelude.{◌≡◌, List, ℕ, map, IfOk, MatchResult};
+ghost use Rattle.compile.specs.Accepted.{IsScriptOf};
+ghost use Rattle.flow.specs.View.{core_of};
+ghost use Rattle.board.specs.View.{path_view};
+ghost use Rattle.board_frames.specs.View.{step_view};
 ghost use Rattle.runs.specs.Same.{place_view};
-ghost use Rattle.scalar_flow.specs.View.{core_of};
-ghost use Rattle.swt_command.specs.Files.{HasScript, contents};
-ghost use Rattle.swt_command.specs.Means.{IsTold, StopsReading, ToldOf};
-ghost use Rattle.swt_command.specs.Plain.{plain_fault, plain_place, told_fault};
+ghost use Rattle.swt_command.specs.Files.{HasScript, StopsAt, contents};
+ghost use Rattle.swt_command.specs.Means.{IsTold, ToldOf};
+ghost use Rattle.swt_command.specs.Plain.{meant_fault, meant_kind, meant_place, meant_step, told_fault};
 
 use crate::stop::{Stop, at_script, source};
 use crate::trouble::Trouble;
-use board::{EntryFault, Fault, FaultKind, Statement};
-use compile::scalars::read;
-use meaning::reading::{Fault as PlainFault, Statement as PlainStatement};
-use meaning::rounds::rounds;
-use scalar_flow::statement::Flow;
+use board::{EntryFault, Fault, FaultKind, Statement, Step};
+use compile::compile::read;
+use flow::script::Flow;
+use script_meaning::order::{Fault as MeantFault, Statement as MeantStatement};
+use script_meaning::rounds::rounds;
 use std::alloc::{AllocError, Global};
+use values::fault::OpFault;
 use values::text::Text;
+use whole_facts::facts::FaultKind as MeantKind;
+use whole_facts::instances::Step as MeantStep;
 
 /// What is known of a script after some rounds.
 #[derive(Drop)]
@@ -37,7 +42,7 @@ pub struct Told {
 /// `Unread`, `Refused` or `Memory`.
 pub(crate) fn worked_out(alloc: Global, files: &[Option<Vec<u8>>], limit: u32) -> Result<Told, Stop>
     ensures { MatchResult result (ToldOf (contents files.now) limit)
-        (λ stop. (stop.place ≡ 0) × StopsReading (contents files.now) stop.trouble) }
+        (λ stop. (stop.place ≡ 0) × StopsAt (contents files.now) 0 stop.trouble) }
 {
     let flow = flow_of(alloc, files)?;
     match told_of(alloc, &flow, limit) {
@@ -54,10 +59,9 @@ pub(crate) fn worked_out(alloc: Global, files: &[Option<Vec<u8>>], limit: u32) -
 /// # Errors
 ///
 /// `Unread`, `Refused` or `Memory`.
-fn flow_of(alloc: Global, files: &[Option<Vec<u8>>]) -> Result<Flow, Stop>
-    ensures script { MatchResult result (λ flow. HasScript (contents files.now) 0 (core_of flow))
-        (λ stop. (stop.place ≡ 0) × StopsReading (contents files.now) stop.trouble) }
-    ensures scalars { IfOk result (λ flow. IsScalars (core_of flow)) }
+fn flow_of(alloc: Global, files: &[Option<Vec<u8>>]) -> Result<Flow<Global>, Stop>
+    ensures { MatchResult result (λ flow. HasScript (contents files.now) 0 (core_of flow))
+        (λ stop. (stop.place ≡ 0) × StopsAt (contents files.now) 0 stop.trouble) }
 {
     let source = source(files, 0)?;
     match read(alloc, alloc, source) {
@@ -66,9 +70,9 @@ fn flow_of(alloc: Global, files: &[Option<Vec<u8>>]) -> Result<Flow, Stop>
     }
 }
 
-/// What is known of a script of scalars.
-fn told_of(alloc: Global, flow: &Flow, limit: u32) -> Result<Told, AllocError>
-    requires { IsScalars (core_of flow.now) }
+/// What is known of a script.
+fn told_of(alloc: Global, flow: &Flow<Global>, limit: u32) -> Result<Told, AllocError>
+    requires { (src : List ℕ) × IsScriptOf src (core_of flow.now) }
     ensures { IfOk result (IsTold (core_of flow.now) limit) }
 {
     let known = rounds(alloc, flow, limit)?;
@@ -76,50 +80,86 @@ fn told_of(alloc: Global, flow: &Flow, limit: u32) -> Result<Told, AllocError>
     let faults = known.faults()?;
     Ok(Told {
         lines: known.lines_sorted()?,
-        blocked: in_script(alloc, &blocked)?,
-        faults: faults_in_script(alloc, &faults)?,
+        blocked: statements_of(alloc, &blocked)?,
+        faults: faults_of(alloc, &faults)?,
         enough: known.finished(),
     })
 }
 
-/// Statements of the script's own block.
-fn in_script(alloc: Global, plain: &Vec<PlainStatement>) -> Result<Vec<Statement>, AllocError>
-    ensures { IfOk result (λ all. map place_view all.items ≡ map plain_place plain.now.items) }
+/// Statements, as reports tell them.
+fn statements_of(alloc: Global, meant: &Vec<MeantStatement>) -> Result<Vec<Statement>, AllocError>
+    ensures { IfOk result (λ all. map place_view all.items ≡ map meant_place meant.now.items) }
 {
     let mut all = Vec::new(alloc);
-    for statement in plain {
-        all.push(statement_at(alloc, statement.at))?;
+    for statement in meant {
+        let told = statement_of(alloc, statement)?;
+        all.push(told)?;
     }
     Ok(all)
 }
 
 /// The same for faults.
-fn faults_in_script(alloc: Global, plain: &Vec<PlainFault>) -> Result<Vec<Fault>, AllocError>
-    ensures { IfOk result (λ all. map told_fault all.items ≡ map plain_fault plain.now.items) }
+fn faults_of(alloc: Global, meant: &Vec<MeantFault>) -> Result<Vec<Fault>, AllocError>
+    ensures { IfOk result (λ all. map told_fault all.items ≡ map meant_fault meant.now.items) }
 {
     let mut all = Vec::new(alloc);
-    for fault in plain {
-        all.push(fault_at(alloc, fault))?;
+    for fault in meant {
+        let told = fault_of(alloc, fault)?;
+        all.push(told)?;
     }
     Ok(all)
 }
 
-/// The fault of the script's own block.
-fn fault_at(alloc: Global, plain: &PlainFault) -> Fault
-    ensures { told_fault result ≡ plain_fault plain.now }
+fn fault_of(alloc: Global, meant: &MeantFault) -> Result<Fault, AllocError>
+    ensures { IfOk result (λ fault. told_fault fault ≡ meant_fault meant.now) }
 {
-    Fault {
-        kind: FaultKind::OfEntry(EntryFault::InOperation(plain.kind)),
-        statement: statement_at(alloc, plain.at),
-    }
+    let statement = statement_of(alloc, &meant.statement)?;
+    Ok(Fault {
+        kind: kind_of(meant.kind),
+        statement,
+    })
 }
 
-/// The statement of the script's own block at an offset.
-fn statement_at(alloc: Global, at: u32) -> Statement
-    ensures { place_view result ≡ plain_place (record { at = at }) }
+fn kind_of(meant: MeantKind) -> FaultKind
+    ensures { result ≡ meant_kind meant }
 {
-    Statement {
-        at: at as usize,
-        path: Vec::new(alloc),
+    let operation = match meant {
+        MeantKind::NoElement => return FaultKind::OfEntry(EntryFault::NoElement),
+        MeantKind::ElementTwice => return FaultKind::ElementTwice,
+        MeantKind::TooDeep => return FaultKind::OfEntry(EntryFault::TooDeep),
+        MeantKind::Overflow => OpFault::Overflow,
+        MeantKind::DivideByZero => OpFault::DivideByZero,
+        MeantKind::BadStep => OpFault::BadStep,
+        MeantKind::NotANumber => OpFault::NotANumber,
+        MeantKind::AssertFailed => OpFault::AssertFailed,
+    };
+    FaultKind::OfEntry(EntryFault::InOperation(operation))
+}
+
+fn statement_of(alloc: Global, meant: &MeantStatement) -> Result<Statement, AllocError>
+    ensures { IfOk result (λ statement. place_view statement ≡ meant_place meant.now) }
+{
+    let path = path_of(alloc, &meant.path)?;
+    Ok(Statement { at: meant.at, path })
+}
+
+/// A path, the outermost step first.
+fn path_of(alloc: Global, meant: &Vec<MeantStep>) -> Result<Vec<Step>, AllocError>
+    ensures { IfOk result (λ path. path_view path.items ≡ map meant_step meant.now.items) }
+{
+    let mut path = Vec::new(alloc);
+    for step in meant {
+        let told = step_of(step)?;
+        path.push(told)?;
     }
+    Ok(path)
+}
+
+fn step_of(meant: &MeantStep) -> Result<Step, AllocError>
+    ensures { IfOk result (λ step. step_view step ≡ meant_step meant.now) }
+{
+    Ok(Step {
+        offset: meant.at,
+        key: meant.key.share()?,
+    })
 }
