@@ -1,15 +1,2 @@
 pub mod Members
-pub mod Made
-pub mod ScalarCores
-pub mod Offsets
-pub mod Evaluation
-pub mod Whole
-pub mod Sources
-pub mod Meant
-pub mod Bridge
-pub mod Within
-pub mod Lines
-pub mod Runs
-pub mod TwoScalars
-pub mod UsedBefore
-pub mod Circle
+pub mod Given

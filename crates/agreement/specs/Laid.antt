@@ -1,6 +1,6 @@
 -- Code that is laid for a core, as a table: which block each body stands for, what its entries stand for one by one, and which variables it declares.
 use Rattle.std.specs.List.{flat_map}
-use Rattle.std.specs.Prelude.{◌≡◌, ◌⊎◌, ℕ, suc, ◌<◌, Bool, true, false, List, [], ◌∷◌, ◌++◌, length, Option, Some, None, slice_get, ℤ, pos}
+use Rattle.std.specs.Prelude.{◌≡◌, ℕ, suc, ◌<◌, Bool, true, false, List, [], ◌∷◌, ◌++◌, length, Option, Some, None, slice_get, ℤ, pos}
 use Rattle.dataflow.specs.System.{Distinct, In}
 use Rattle.syntax_trees.specs.Core.{Name, Call, Part, Outer, Awaited, Stmt, stmt, Action, declare, call_alone, when, choose, range, each, wait, Block, Function, Core}
 use Rattle.syntax_trees.specs.Members.{◌∈◌}
@@ -10,7 +10,7 @@ use Rattle.meaning_laws.specs.TypedValues.{own_parts}
 use Rattle.task_code.specs.Code as code
 use Rattle.task_code.specs.Code.{Variable, Argument, Header, If, Range, Each, Wait, Entry, Opener, Code, ByMain, ByCalls, ByStep, ByWait, entry, body, loop_variables}
 use Rattle.agreement.specs.CodeNames.{over, each_once}
-use Rattle.agreement.specs.IsCodeOf.{Layout, OwnPlain, IsSimple, own_needs, own_priority, simple_act, step_expr, seen, IsEntry, PartsAs}
+use Rattle.agreement.specs.IsCodeOf.{Layout, IsSimple, own_needs, own_priority, simple_act, step_expr, seen, IsEntry, PartsAs}
 use Rattle.agreement.specs.Laying.{Headers, Kinds, IsCallOf, Suits, data_in, data_of}
 
 -- for each body, by its number: the block that it stands for, how many inputs the function has whose block it is or is in, and the variables of the loop that opens it

@@ -1,9 +1,9 @@
 -- How code is laid for a core, rule by rule: which entries and bodies a statement adds behind those that are there, which numbers its entries have, and which variables its block
 -- declares for it. Rights, and the offsets that only a listing shows, are free.
-use Rattle.std.specs.Prelude.{◌≡◌, ℕ, zero, suc, ◌+◌, Bool, true, false, not, List, [], ◌∷◌, ◌++◌, map, length, Option, Some, None, slice_get, nat_eq, ℤ, pos, if◌then◌else◌}
+use Rattle.std.specs.Prelude.{◌≡◌, ℕ, zero, suc, ◌+◌, Bool, true, false, not, List, [], ◌∷◌, ◌++◌, map, length, Option, Some, None, slice_get, nat_eq, ℤ, pos}
 use Rattle.std.specs.List.{list_any, flat_map}
 use Rattle.dataflow.specs.System.{In}
-use Rattle.syntax_trees.specs.Core.{Owned, local, input, output, Name, here, Expr, literal, name, whole, operator, Form, compute, read, Cell, Call, Part, inner, calls, Outer, Awaited, Stmt, stmt, Action, declare, call_alone, when, choose, range, each, wait, Block, no_stmts, stmts, Function, Core}
+use Rattle.syntax_trees.specs.Core.{Owned, local, Name, here, literal, name, Form, compute, read, Cell, Call, Part, inner, calls, Outer, Awaited, Stmt, stmt, Action, declare, call_alone, when, choose, range, each, wait, Block, no_stmts, stmts, Function, Core}
 use Rattle.syntax_trees.specs.Members.{◌∈◌}
 use Rattle.syntax_trees.specs.Parts.{parts, part_calls, part_cells}
 use Rattle.meaning_laws.specs.TypedValues.{own_parts}

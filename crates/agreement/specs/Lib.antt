@@ -1,9 +1,4 @@
 pub mod Headline
-pub mod Compile
-pub mod Scalars
-pub mod OfScalars
-pub mod Blocks
-pub mod Worked
 pub mod CodeNames
 pub mod IsCodeOf
 pub mod NodesOnce

@@ -1,7 +1,6 @@
 -- What is known of a text that was read as a tree, and checked.
 use Rattle.std.proofs.Common.{◌≡◌, ℕ, List, [], Some, None, subst, sym, ap, ◌∙◌}
 use Rattle.std.specs.Prelude.{◌≢◌}
-use Rattle.lexer.specs.declared.token.Span.{Span}
 use Rattle.syntax_trees.specs.Core.{Core}
 use Rattle.syntax_trees.specs.Numbered.{numbered}
 use Rattle.syntax_trees.specs.Reads.{Reads}
@@ -20,10 +19,7 @@ use Rattle.assign_check.specs.Faults.{faults, first_fault}
 use Rattle.assign_check.proofs.Earliest.{first_there}
 use Rattle.assign_check.proofs.Law.{singly_assigned, without_fault}
 use Rattle.assign_check.proofs.Named.{breaks}
-use Rattle.agreement.specs.OfScalars.{first_other}
-use Rattle.agreement.specs.Scalars.{IsScalars}
-use Rattle.agreement.proofs.ScalarCores.{is_scalars}
-use Rattle.compile.specs.Accepted.{IsAccepted, IsIllTyped, IsNotSingle, IsNotYet, IsRefusedByTypes, IsRefusedByAssignments}
+use Rattle.compile.specs.Accepted.{IsAccepted, IsIllTyped, IsNotSingle, IsRefusedByTypes, IsRefusedByAssignments}
 
 -- a numbered tree for which this holds
 abbrev IfNumbered : Tree → Type 0 → Type 0
@@ -36,9 +32,6 @@ pub accepted : (src : List ℕ) (tree : Tree) (t : Table) → Reads src tree →
 accepted src tree t reads typed none =
     let well = typed_as_read src tree t reads typed in
     record { reads = reads; typed = well; single = singly_assigned 1 reads.parsed tree t reads.is_numbered well none }
-
-pub scalars_of : (src : List ℕ) (tree : Tree) (t : Table) (s : Core) → IsAccepted src t tree → first_other t tree ≡ None → s ≡ core t tree → IsScalars s
-scalars_of src tree t s told all is = subst IsScalars (sym is) (is_scalars t tree told.reads.parsed told.reads.is_numbered told.typed told.single all)
 
 ill_typed : (src : List ℕ) (tree : Tree) (f : TypeFault) → Reads src tree → f ≢ Typing.Memory → (f ≢ Typing.Memory → checked tree ≡ refused f) → (f ≢ Typing.Memory → typing.Breaks tree f) → (f ≢ Typing.Memory → (t : Table) → ¬ WellTyped tree t)
     → IsIllTyped src f
@@ -80,6 +73,3 @@ refused_by_assignments src tree t (Assign.OuterInLoop at) reads typed is = not_s
 refused_by_assignments src tree t (Assign.WholeAndElements at) reads typed is = not_single src tree t (Assign.WholeAndElements at) reads typed (λ same. absurd (cc)) is
 refused_by_assignments src tree t (Assign.OutputUnassigned at) reads typed is = not_single src tree t (Assign.OutputUnassigned at) reads typed (λ same. absurd (cc)) is
 refused_by_assignments src tree t Assign.Memory reads typed is = (tree, reads)
-
-pub not_yet : (src : List ℕ) (tree : Tree) (t : Table) (at : Span) → IsAccepted src t tree → first_other t tree ≡ Some at → IsNotYet src at
-not_yet src tree t at told other = record { tree = tree; table = t; reads = told.reads; typed = told.typed; single = told.single; other = other }

@@ -1,6 +1,5 @@
 -- What it means that a text is a script, of this core, and that it is refused.
 use Rattle.std.specs.Prelude.{◌≡◌, ℕ, List, Some}
-use Rattle.lexer.specs.declared.token.Span.{Span}
 use Rattle.syntax_trees.specs.Core.{Core}
 use Rattle.syntax_trees.specs.Reads.{Reads}
 use Rattle.syntax_trees.specs.Resolved.{core}
@@ -9,7 +8,6 @@ use Rattle.syntax_trees.specs.Table.{Table}
 use Rattle.syntax_trees.specs.Tree.{Tree}
 use Rattle.syntax_trees.specs.Typing.{WellTyped}
 use Rattle.syntax.specs.Refusals.{Refuses}
-use Rattle.agreement.specs.OfScalars.{first_other}
 use Rattle.types.specs.declared.fault.TypeFault.{TypeFault}
 use Rattle.types.specs.declared.fault.TypeFault.TheVariants as Typing
 use Rattle.types.specs.Breaks as typing
@@ -19,7 +17,6 @@ use Rattle.assign_check.specs.declared.fault.AssignFault.{AssignFault}
 use Rattle.assign_check.specs.declared.fault.AssignFault.TheVariants as Assign
 use Rattle.assign_check.specs.Breaks.{Breaks}
 use Rattle.assign_check.specs.Faults.{faults, first_fault}
-use Rattle.scalar_lowering.specs.declared.fault.LowerFault.TheVariants as Lower
 use Rattle.compile.specs.declared.fault.CompileFault.{CompileFault}
 use Rattle.compile.specs.declared.fault.CompileFault.TheVariants as Fault
 
@@ -64,15 +61,6 @@ pub record IsNotSingle (src : List ℕ) (fault : AssignFault) : Type 0 where
   pub broken : Breaks table tree fault
   pub not_single : ¬ SinglyAssigned (core table tree)
 
--- the text reads as a tree that is well typed and singly assigned, and a part of it that begins here is not one of scalars
-pub record IsNotYet (src : List ℕ) (at : Span) : Type 0 where
-  pub tree : Tree
-  pub table : Table
-  pub reads : Reads src tree
-  pub typed : WellTyped tree table
-  pub single : SinglyAssigned (core table tree)
-  pub other : first_other table tree ≡ Some at
-
 abbrev pub IsRefusedByTypes : List ℕ → TypeFault → Type 0
 IsRefusedByTypes src Typing.Memory = IsRead src
 IsRefusedByTypes src f = IsIllTyped src f
@@ -86,11 +74,4 @@ abbrev pub IsUnfit : List ℕ → CompileFault → Type 0
 IsUnfit src (Fault.Parse f) = Refuses src f
 IsUnfit src (Fault.Types f) = IsRefusedByTypes src f
 IsUnfit src (Fault.Assignments f) = IsRefusedByAssignments src f
-IsUnfit src (Fault.Lower f) = ⊥
 IsUnfit src Fault.Memory = IsRead src
-
--- why the meaning of a text is not worked out, by the first step that refuses it
-abbrev pub IsRefused : List ℕ → CompileFault → Type 0
-IsRefused src (Fault.Lower (Lower.NotYet at)) = IsNotYet src at
-IsRefused src (Fault.Lower Lower.Memory) = IsRead src
-IsRefused src f = IsUnfit src f

@@ -4,7 +4,6 @@ ghost use Rattle.compile.specs.Places.{span_of};
 
 use assign_check::fault::AssignFault;
 use lexer::token::Span;
-use scalar_lowering::fault::LowerFault;
 use std::alloc::AllocError;
 use std::error::Error;
 use std::fmt;
@@ -21,8 +20,6 @@ pub enum CompileFault {
     Types(TypeFault),
     /// The script is not singly assigned.
     Assignments(AssignFault),
-    /// A form that has no code yet.
-    Lower(LowerFault),
     /// Memory that was asked for was refused.
     Memory,
 }
@@ -36,7 +33,6 @@ impl CompileFault {
             CompileFault::Parse(fault) => fault.span(),
             CompileFault::Types(fault) => fault.span(),
             CompileFault::Assignments(fault) => fault.span(),
-            CompileFault::Lower(fault) => fault.span(),
             CompileFault::Memory => None,
         }
     }
@@ -48,7 +44,6 @@ impl fmt::Display for CompileFault {
             CompileFault::Parse(fault) => write!(f, "{fault}"),
             CompileFault::Types(fault) => write!(f, "{fault}"),
             CompileFault::Assignments(fault) => write!(f, "{fault}"),
-            CompileFault::Lower(fault) => write!(f, "{fault}"),
             CompileFault::Memory => write!(f, "no memory"),
         }
     }

@@ -8,4 +8,3 @@ pub mod check;
 pub mod compile;
 pub mod fault;
 pub mod laws;
-pub mod scalars;

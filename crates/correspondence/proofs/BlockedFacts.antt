@@ -33,7 +33,7 @@ use Rattle.task_code.specs.System.{answered, code_system}
 use Rattle.task_code.specs.Whole.{IsCode}
 use Rattle.task_code.proofs.Kept.{code_laws}
 use Rattle.task_code.proofs.Opens.{effect_is}
-use Rattle.agreement.proofs.Sources.{gives_value}
+use Rattle.agreement.proofs.Given.{gives_value}
 use Rattle.agreement.specs.CodeNames.{name_as, wanted, over, each_once}
 use Rattle.agreement.specs.Headline.{script_path}
 use Rattle.agreement.specs.IsCodeOf.{own_form, own_expr, own_needs, own_priority, simple_act, IsSimple, IsEntry, IsCodeOf}

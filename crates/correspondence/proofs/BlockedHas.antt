@@ -32,8 +32,8 @@ use Rattle.task_code.specs.Places as CodePlaces
 use Rattle.task_code.specs.Places.{Step}
 use Rattle.task_code.specs.System.{answered, code_system}
 use Rattle.task_code.specs.Whole.{IsCode}
-use Rattle.agreement.proofs.Meant.{true_value}
-use Rattle.agreement.proofs.Sources.{gives_value}
+use Rattle.agreement.proofs.Given.{true_value}
+use Rattle.agreement.proofs.Given.{gives_value}
 use Rattle.agreement.specs.CodeNames.{name_as, wanted, over, each_once}
 use Rattle.agreement.specs.Headline.{script_path}
 use Rattle.agreement.specs.IsCodeOf.{seen, own_form, own_expr, own_needs, own_priority, fill_act, simple_act, step_expr, IsSimple, IsEntry, IsCodeOf}

@@ -34,7 +34,7 @@ use Rattle.task_code.specs.Places as CodePlaces
 use Rattle.task_code.specs.System.{answered, code_system}
 use Rattle.task_code.specs.Whole.{IsCode}
 use Rattle.agreement.specs.Headline.{script_path, script_place}
-use Rattle.agreement.proofs.Sources.{gives_value}
+use Rattle.agreement.proofs.Given.{gives_value}
 use Rattle.correspondence.specs.Answered.{Reading}
 use Rattle.correspondence.specs.Backs.{RightKnown, Backs}
 use Rattle.correspondence.specs.Knows as Know

@@ -27,7 +27,7 @@ use Rattle.task_code.specs.Places as CodePlaces
 use Rattle.task_code.specs.System.{answered, code_system}
 use Rattle.task_code.specs.Whole.{IsCode}
 use Rattle.agreement.specs.Headline.{script_path}
-use Rattle.agreement.proofs.Sources.{gives_value}
+use Rattle.agreement.proofs.Given.{gives_value}
 use Rattle.correspondence.specs.Answered.{ReadAll, Reading}
 use Rattle.correspondence.specs.Backs.{Backs}
 use Rattle.correspondence.specs.Chains.{Answers, Chain}

@@ -35,7 +35,7 @@ use Rattle.task_code.specs.Whole.{IsCode}
 use Rattle.task_code.proofs.Kept.{code_laws}
 use Rattle.task_code.proofs.Opens.{effect_is}
 use Rattle.agreement.specs.Headline.{script_path}
-use Rattle.agreement.proofs.Sources.{gives_value}
+use Rattle.agreement.proofs.Given.{gives_value}
 use Rattle.correspondence.specs.Answered.{Reading}
 use Rattle.correspondence.specs.Backs.{RightKnown, Backs}
 use Rattle.correspondence.specs.Knows as Know

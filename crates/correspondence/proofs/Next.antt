@@ -31,7 +31,7 @@ use Rattle.task_code.specs.Places.{Step, Datum}
 use Rattle.task_code.specs.System.{code_system}
 use Rattle.task_code.specs.Whole.{IsCode}
 use Rattle.task_code.proofs.Places.{spot_path, spot_variable, not_constant}
-use Rattle.agreement.proofs.Sources.{gives_value}
+use Rattle.agreement.proofs.Given.{gives_value}
 use Rattle.agreement.specs.CodeNames.{wanted, wanted_all}
 use Rattle.agreement.specs.Headline.{script_path, script_place}
 use Rattle.agreement.specs.IsCodeOf.{IsCodeOf}

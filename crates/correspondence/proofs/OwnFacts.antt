@@ -23,7 +23,7 @@ use Rattle.syntax_trees.specs.Places.{Place, place, most_steps}
 use Rattle.syntax_trees.specs.WellFormed.{WellFormed, IsMany, a_list, a_copy}
 use Rattle.meaning_laws.proofs.Sources.{outer_in, cell_gives, IsFull}
 use Rattle.meaning_laws.proofs.Declared.{stmt_in}
-use Rattle.agreement.proofs.Sources.{gives_value}
+use Rattle.agreement.proofs.Given.{gives_value}
 use Rattle.values.specs.Operators.{literal}
 use Rattle.task_code.specs.Code as code
 use Rattle.task_code.specs.Code.{Need, Header, Act, If, Code, entry, body, Way, Through, InPlace, Loop, ways, loop_of}

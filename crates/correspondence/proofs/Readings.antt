@@ -26,7 +26,7 @@ use Rattle.task_code.specs.Compute.{elements, in_key_order, pairs}
 use Rattle.task_code.specs.Places.{Step, place_at, Datum, Constant, Nowhere}
 use Rattle.task_code.specs.Places as CodePlaces
 use Rattle.agreement.specs.Headline.{script_path, script_place}
-use Rattle.agreement.proofs.Sources.{gives_value}
+use Rattle.agreement.proofs.Given.{gives_value}
 use Rattle.correspondence.specs.Backs.{Backs}
 use Rattle.correspondence.specs.Knows.{Knows}
 use Rattle.agreement.specs.CodeNames.{name_as}

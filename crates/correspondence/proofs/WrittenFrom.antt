@@ -31,7 +31,7 @@ use Rattle.task_code.specs.System.{answered, code_system}
 use Rattle.task_code.specs.Whole.{IsCode}
 use Rattle.task_code.proofs.Places.{declared_at}
 use Rattle.agreement.specs.Headline.{script_path, script_place}
-use Rattle.agreement.proofs.Sources.{gives_value}
+use Rattle.agreement.proofs.Given.{gives_value}
 use Rattle.correspondence.proofs.Readings.{name_stands, to_code, same_array, name_inv, literal_inv}
 use Rattle.values.specs.declared.value.Scalar.TheVariants.{Number}
 use Rattle.correspondence.specs.Backs.{RightKnown, Backs}

@@ -1,8 +1,8 @@
-//! Rounds over two small scripts of scalars.
-use compile::scalars::read;
-use meaning::reading::Statement;
-use meaning::rounds::rounds;
+//! Rounds over small scripts.
+use compile::compile::read;
+use script_meaning::rounds::rounds;
 use std::test::Fail;
+use values::key::Key;
 
 #[test]
 fn a_value_is_used_in_the_round_behind_it(rt: HostRuntime) -> Result<(), Fail> {
@@ -34,7 +34,28 @@ fn statements_in_a_circle_are_blocked(rt: HostRuntime) -> Result<(), Fail> {
     assert!(rt; known.finished());
     let blocked = known.blocked()?;
     assert_eq!(rt; blocked.len(), 2);
-    assert_eq!(rt; blocked[0], Statement { at: 14 });
-    assert_eq!(rt; blocked[1], Statement { at: 21 });
+    assert_eq!(rt; blocked[0].at, 14);
+    assert_eq!(rt; blocked[1].at, 21);
+    Ok(())
+}
+
+/// A loop over an array that closes, and a fault in one of its turns.
+#[test]
+fn turns_of_a_loop_are_places(rt: HostRuntime) -> Result<(), Fail> {
+    let alloc = rt.alloc();
+    let flow = read(
+        alloc,
+        alloc,
+        b"int A[]; A[5] = 0; A[7] = 1; foreach v, k in A { printf(\"%i\", k %/ v); }",
+    )?;
+    let known = rounds(alloc, &flow, 50)?;
+    assert!(rt; known.finished());
+    let lines = known.lines_sorted()?;
+    assert_eq!(rt; lines.len(), 1);
+    assert_eq!(rt; lines[0].as_bytes(), b"7".as_slice());
+    let faults = known.faults()?;
+    assert_eq!(rt; faults.len(), 1);
+    assert_eq!(rt; faults[0].statement.path.len(), 1);
+    assert!(rt; faults[0].statement.path[0].key.is_same(&Key::Number(5)));
     Ok(())
 }

@@ -1,19 +1,22 @@
-//! Every order in which small scripts can run, each compared with what the script means: worked out for scripts of scalars, and
-//! written here for others.
+//! Every order in which small scripts can run, each compared with what the script means, worked out by rounds, and with what is
+//! written here.
+use board::{Statement, Step};
 use board::board::Board;
-use compile::compile::compile;
-use compile::scalars::read;
-use meaning::knowledge::Knowledge;
-use meaning::rounds::rounds;
+use compile::compile::{compile, read};
 use runs::one::run_one;
 use runs::report::{End, Report};
 use runs::turn::finish;
+use script_meaning::knowledge::Knowledge;
+use script_meaning::order::Statement as MeantStatement;
+use script_meaning::rounds::rounds;
 use std::alloc::Global;
 use std::test::Fail;
 use swt_command::buffer::Buffer;
 use swt_trace::report::write_report;
 use swt_trace::write::write_trace;
 use task_code::code::Code;
+use values::text::Text;
+use whole_facts::instances::Step as MeantStep;
 
 /// The printed lines of a report, sorted by bytes.
 fn sorted_lines<'a>(alloc: Global, report: &'a Report) -> Result<Vec<&'a [u8]>, Fail> {
@@ -63,48 +66,70 @@ fn is_worked(alloc: Global, report: &Report, worked: &Worked) -> Result<bool, Fa
     Ok(has_lines && worked.ends.contains(&end.as_slice()))
 }
 
-/// The report has what is known of the script.
+/// These are the same step.
+fn is_step(meant: &MeantStep, step: &Step) -> bool {
+    meant.at == step.offset && meant.key.is_same(&step.key)
+}
+
+/// These are the same statement of the same instance.
+fn is_statement(meant: &MeantStatement, statement: &Statement) -> bool {
+    meant.at == statement.at && meant.path.len() == statement.path.len()
+        && meant
+            .path
+            .iter()
+            .zip(statement.path.iter())
+            .all(|(a, b)| is_step(a, b))
+}
+
+/// These are the same lines, and as many.
+fn same_lines(printed: &Vec<&[u8]>, lines: &Vec<Text>) -> bool {
+    printed.len() == lines.len()
+        && printed
+            .iter()
+            .zip(lines.iter())
+            .all(|(a, b)| *a == b.as_bytes())
+}
+
+/// The report has what is known of the script: all of it where it is quiet; one of the faults, and some of the lines, where it
+/// ends with a fault.
 fn is_known(alloc: Global, report: &Report, known: &Knowledge) -> Result<bool, Fail> {
+    let printed = sorted_lines(alloc, report)?;
+    let lines = known.lines_sorted()?;
+    let faults = known.faults()?;
     match &report.end {
         End::Quiet => {
-            let printed = sorted_lines(alloc, report)?;
-            let lines = known.lines_sorted()?;
-            let same_lines = printed.len() == lines.len()
-                && printed
-                    .iter()
-                    .zip(lines.iter())
-                    .all(|(a, b)| *a == b.as_bytes());
             let blocked = known.blocked()?;
             let same_blocked = blocked.len() == report.blocked.len()
                 && blocked
                     .iter()
                     .zip(report.blocked.iter())
-                    .all(|(a, b)| a.at as usize == b.at);
-            Ok(same_lines && same_blocked && known.faults()?.is_empty())
+                    .all(|(a, b)| is_statement(a, b));
+            Ok(same_lines(&printed, &lines) && same_blocked && faults.is_empty())
         }
         End::Fault(fault) => Ok(
-            known
-                .faults()?
+            printed
                 .iter()
-                .any(|f| f.at as usize == fault.statement.at),
+                .all(|line| lines.iter().any(|l| l.as_bytes() == *line))
+                && faults.iter().any(|f| is_statement(&f.statement, &fault.statement)),
         ),
         End::Limit => Ok(false),
     }
 }
 
-/// What a script means: worked out by rounds, or written here.
+/// What a script means: worked out by rounds, and written here.
 #[derive(Drop)]
-enum Meant<'a> {
-    Known(&'a Knowledge),
-    Written(&'a Worked),
+struct Meant<'a> {
+    known: &'a Knowledge,
+    written: Option<&'a Worked>,
 }
 
 impl Meant<'_> {
     /// A run of the script may have this report.
     fn allows(&self, alloc: Global, report: &Report) -> Result<bool, Fail> {
-        match self {
-            Meant::Known(known) => is_known(alloc, report, known),
-            Meant::Written(worked) => is_worked(alloc, report, worked),
+        let is_known = is_known(alloc, report, self.known)?;
+        match self.written {
+            Some(worked) => Ok(is_known && is_worked(alloc, report, worked)?),
+            None => Ok(is_known),
         }
     }
 }
@@ -205,17 +230,30 @@ fn every_order_of_scalars(rt: HostRuntime) -> Result<(), Fail> {
         let known = rounds(alloc, &read(alloc, alloc, script)?, 100)?;
         assert!(rt; known.finished());
         assert_eq!(rt;
-            orders(alloc, &code, 1000, &Meant::Known(&known))?,
+            orders(
+                alloc,
+                &code,
+                1000,
+                &Meant {
+                    known: &known,
+                    written: None,
+                }
+            )?,
             Some(wanted)
         );
     }
     Ok(())
 }
 
-/// Whether every order of the script comes to this, and there is more than one order.
+/// Whether every order of the script comes to this and to what it means, and there is more than one order.
 fn always(alloc: Global, script: &[u8], worked: &Worked) -> Result<bool, Fail> {
     let code = compile(alloc, alloc, script)?;
-    let count = orders(alloc, &code, 20000, &Meant::Written(worked))?;
+    let known = rounds(alloc, &read(alloc, alloc, script)?, 100)?;
+    let meant = Meant {
+        known: &known,
+        written: Some(worked),
+    };
+    let count = orders(alloc, &code, 20000, &meant)?;
     Ok(count.is_some_and(|n| n > 1))
 }
 

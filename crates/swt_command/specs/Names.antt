@@ -9,8 +9,6 @@ use Rattle.types.specs.declared.fault.TypeFault.{TypeFault}
 use Rattle.types.specs.declared.fault.TypeFault.TheVariants as Typing
 use Rattle.assign_check.specs.declared.fault.AssignFault.{AssignFault}
 use Rattle.assign_check.specs.declared.fault.AssignFault.TheVariants as Assign
-use Rattle.scalar_lowering.specs.declared.fault.LowerFault.{LowerFault}
-use Rattle.scalar_lowering.specs.declared.fault.LowerFault.TheVariants as Lower
 use Rattle.compile.specs.declared.fault.CompileFault.{CompileFault}
 use Rattle.compile.specs.declared.fault.CompileFault.TheVariants as Compile
 use Rattle.compile.specs.Places.{span_of}
@@ -48,15 +46,10 @@ assign_name (Assign.WholeAndElements at) = codes "S5 WholeAndElements"
 assign_name (Assign.OutputUnassigned at) = codes "S6 OutputUnassigned"
 assign_name Assign.Memory = codes "no memory"
 
-abbrev pub lower_name : LowerFault → List ℕ
-lower_name (Lower.NotYet at) = codes "N1 NotYet"
-lower_name Lower.Memory = codes "no memory"
-
 abbrev pub fault_name : CompileFault → List ℕ
 fault_name (Compile.Parse f) = parse_name f
 fault_name (Compile.Types f) = type_name f
 fault_name (Compile.Assignments f) = assign_name f
-fault_name (Compile.Lower f) = lower_name f
 fault_name Compile.Memory = codes "no memory"
 
 -- the refusal that a fault is; a fault without a place is none

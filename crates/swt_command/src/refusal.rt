@@ -1,6 +1,6 @@
 //! Why a script is refused, and how that is shown.
 ghost use Rattle.std.specs.Prelude.{◌≡◌, ◌≤◌, length};
-ghost use Rattle.swt_command.specs.Names.{assign_name, fault_name, lex_name, lower_name, parse_name, refusal_of, refusal_text, type_name};
+ghost use Rattle.swt_command.specs.Names.{assign_name, fault_name, lex_name, parse_name, refusal_of, refusal_text, type_name};
 
 use arrayvec::ArrayString;
 use assign_check::fault::AssignFault;
@@ -8,7 +8,6 @@ use compile::fault::CompileFault;
 use itoa::Buffer;
 use lexer::fault::LexFault;
 use lexer::token::Span;
-use scalar_lowering::fault::LowerFault;
 use syntax::error::ParseFault;
 use types::fault::TypeFault;
 
@@ -57,7 +56,6 @@ fn name_of(fault: CompileFault) -> &'static str
         CompileFault::Parse(fault) => name_of_parse(fault),
         CompileFault::Types(fault) => name_of_type(fault),
         CompileFault::Assignments(fault) => name_of_assign(fault),
-        CompileFault::Lower(fault) => name_of_lower(fault),
         CompileFault::Memory => "no memory",
     }
 }
@@ -119,16 +117,5 @@ fn name_of_assign(fault: AssignFault) -> &'static str
         AssignFault::WholeAndElements(_) => "S5 WholeAndElements",
         AssignFault::OutputUnassigned(_) => "S6 OutputUnassigned",
         AssignFault::Memory => "no memory",
-    }
-}
-
-/// The same for a script with a part that has no code yet.
-fn name_of_lower(fault: LowerFault) -> &'static str
-    ensures text { result.now ≡ lower_name fault }
-    ensures short { length result.now ≤ 20 }
-{
-    match fault {
-        LowerFault::NotYet(_) => "N1 NotYet",
-        LowerFault::Memory => "no memory",
     }
 }

@@ -1,7 +1,0 @@
-mod Growth
-mod Law
-mod Readings
-mod Blocked
-mod Printed
-mod Whole
-mod Listed

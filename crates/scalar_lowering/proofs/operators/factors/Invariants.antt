@@ -1,6 +1,0 @@
-use Rattle.std.proofs.Common.{◌≡◌, map, take}
-use Rattle.scalar_lowering.specs.View.{factor_of}
-use Rattle.scalar_lowering.proofs.operators.factors.Given as goal
-
-abbrev pub invariant-loop-operator : goal.invariant-loop-operator
-invariant-loop-operator l = l.found.items ≡ map factor_of (take l.operator-index l.operators)

@@ -1,6 +1,0 @@
-use Rattle.std.proofs.Common.{◌≡◌, map, take}
-use Rattle.scalar_lowering.specs.View.{sign_of}
-use Rattle.scalar_lowering.proofs.operators.signs.Given as goal
-
-abbrev pub invariant-loop-operator : goal.invariant-loop-operator
-invariant-loop-operator l = l.found.items ≡ map sign_of (take l.operator-index l.operators)

@@ -1,5 +1,0 @@
-pub mod Answers
-pub mod Faults
-pub mod Formats
-pub mod Functions
-pub mod View
