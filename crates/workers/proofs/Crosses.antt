@@ -1,0 +1,104 @@
+-- The work of an item, what was done, a board, all that lies under the lock and what a thread has may go to another thread.
+use mathlib.Core.List.{List, [], ◌∷◌}
+use denote.RattleType.{RattleType}
+use denote.Exit.{no}
+use denote.Param.{arg, layout, param}
+use denote.Param.Send.{AllSend, IsSend, arg_send, param_send, sendable}
+use denote.Param.SendFields.{FieldsHave, as_row_send, declared_send}
+use denote.Struct.Field.{row_field}
+use denote.Struct.Tuple.{TupleAt, parts, type_at}
+use Rattle.std.proofs.sync.ledger.Book.TheSendSync as book
+use Rattle.std.proofs.sync.ledger.Share.TheSendSync as share
+use Rattle.std.specs.declared.sync.ledger.Ledger as ledger
+use Rattle.std.proofs.Crossing.{crosses, Box-send}
+use Rattle.std.proofs.option.Option.TheSendSync as option
+use Rattle.values.proofs.value.Scalar.TheSendSync as scalar
+use Rattle.task_code.proofs.Crosses.{code_send, entry_send, entry_sync}
+use Rattle.task_code.proofs.event.Event.TheSendSync as event
+use Rattle.task_code.proofs.entry.Kind.TheSendSync as kinds
+use Rattle.rules.proofs.listing.Rules.TheSendSync as rules
+use Rattle.work_queue.proofs.entry.Entry.TheSendSync as queued
+use Rattle.work_queue.proofs.run.Run.TheSendSync as waiting
+use Rattle.work_queue.proofs.tree.Tree.TheLaws.TheKnot.{send-Tree}
+use Rattle.work_queue.specs.contracts.tree.Tree as tree
+use Rattle.work_queue.specs.contracts.tree.Node as node
+use Rattle.work_queue.specs.contracts.pile.Pile as pile
+use Rattle.work_queue.specs.contracts.queue.Queue as queue
+use Rattle.board_work.specs.contracts.work.Job as job
+use Rattle.board_work.specs.contracts.work.Work as work
+use Rattle.board_work.specs.contracts.work.Done as done
+use Rattle.board_work.proofs.answer.Answer.TheSendSync as answer
+use Rattle.board_code.specs.contracts.program.Program as program
+use Rattle.board_code.proofs.program.EntryTable.TheSendSync as entry_table
+use Rattle.board_code.proofs.program.BodyTable.TheSendSync as body_table
+use Rattle.board_frames.proofs.item.Item.TheSendSync as item
+use Rattle.board_frames.proofs.place.Fault.TheSendSync as fault
+use Rattle.board_items.specs.contracts.items.Items as items
+use Rattle.board_openings.proofs.world.World.TheSendSync as world
+use Rattle.board.specs.contracts.state.Core as core
+use Rattle.board.specs.contracts.board.Board as board
+use Rattle.pool.proofs.pool.PoolSeat.TheSendSync as seat
+use Rattle.workers.proofs.fresh.Fresh.TheSendSync as fresh
+use Rattle.workers.specs.declared.job.Job as jobs
+use Rattle.workers.specs.contracts.desk.Desk as desk
+use Rattle.workers.specs.contracts.floor.Floor as floor
+use Rattle.workers.specs.contracts.hand.Hand as hand
+use Rattle.workers.specs.contracts.hand.Ended as ended
+
+pub job_send : IsSend (job.the_field).row
+job_send = search (entry_send, entry_sync, crosses, sendable) depth 60 fits 4000
+
+pub work_send : IsSend (work.the_field).row
+work_send = search (job_send, answer.the_send, crosses, sendable) depth 60 fits 4000
+
+pub done_send : IsSend (done.the_field).row
+done_send = search (job_send, answer.the_send, crosses, sendable) depth 60 fits 4000
+
+pub program_send : IsSend (program.the_field).row
+program_send = search (code_send, entry_table.the_send, body_table.the_send, crosses, sendable) depth 60 fits 4000
+
+-- The queue's tree is part of itself, so nothing above it has a fact of its own yet.
+tree_send : IsSend (tree.the_field).row
+tree_send = send-Tree Box-send queued.the_send (search sendable)
+
+node_send : IsSend (node.the_field).row
+node_send = search (tree_send, crosses, sendable) depth 60 fits 4000
+
+pile_send : IsSend (pile.the_field).row
+pile_send = search (tree_send, node_send, waiting.the_send, crosses, sendable) depth 60 fits 4000
+
+queue_send : IsSend (queue.the_field).row
+queue_send = search (pile_send, crosses, sendable) depth 60 fits 4000
+
+items_send : IsSend (items.the_field).row
+items_send = search (queue_send, rules.the_send, item.the_send, crosses, sendable) depth 60 fits 4000
+
+core_send : IsSend (core.the_field).row
+core_send = search (items_send, world.the_field_send, option.the_field_send, scalar.the_send, fault.the_send, crosses, sendable) depth 60 fits 4000
+
+pub board_send : IsSend (board.the_field).row
+board_send = search (program_send, core_send, event.the_send, crosses, sendable) depth 60 fits 4000
+
+module _ (J E N : RattleType) (g : jobs.Ghosts J.Denot) (h : ledger.Ghosts E.Denot) (k : ledger.Ghosts N.Denot) where
+  desk_send : IsSend (desk.the_row J E N g h k)
+  desk_send = search (board_send, book.the_send, crosses, sendable) depth 60 fits 4000
+
+  pub floor_send : IsSend (floor.the_row J E N g h k)
+  floor_send = search (desk_send, crosses, sendable) depth 60 fits 4000
+
+  hand_send : IsSend (hand.the_field J E N g h k).row
+  hand_send = search (work_send, done_send, fresh.the_send, seat.the_field_send, share.the_send, kinds.the_field_send, crosses, sendable) depth 60 fits 4000
+
+  pub ended_send : IsSend (ended.the_row J E N g h k)
+  ended_send = search (hand_send, crosses, sendable) depth 60 fits 4000
+
+parts_send : (Ts : List RattleType) → AllSend Ts → FieldsHave IsSend (parts Ts)
+parts_send [] s = tt
+parts_send (T ∷ Ts) s = (as_row_send (row_field T) s.0, parts_send Ts s.1)
+
+abbrev pub Closure : List RattleType → RattleType
+Closure Ts = arg (layout (TupleAt [] Ts)) no (TupleAt [] Ts)
+
+-- what a closure captures may go to another thread, and so may the closure
+pub closure_send : (Ts : List RattleType) → AllSend Ts → IsSend (param 1 (Closure Ts))
+closure_send Ts s = param_send 1 (Closure Ts) (arg_send (layout (TupleAt [] Ts)) no (TupleAt [] Ts) (declared_send (type_at [] Ts) (parts_send Ts s)))

@@ -1,0 +1,66 @@
+-- Runs by engines and workers, one event after the other.
+use Rattle.std.proofs.Common.{◌≡◌, ℕ, ◌+◌, ◌∷◌, [], ◌++◌, List, length, subst, sym, ap, arith, ◌∙◌, refl}
+use Rattle.board.specs.Board.{Accepts, Seen}
+use Rattle.dataflow.specs.Events.{NewlyAt, backs}
+use Rattle.dataflow.specs.Machine.{Back, Begin, End, Event, start}
+use Rattle.dataflow.specs.System.{In}
+use Rattle.task_code.specs.Code.{Code}
+use Rattle.task_code.specs.Machine.{CodeItem, CodeState, CodeStep}
+use Rattle.task_code.specs.System.{code_system, task_kind}
+use Rattle.workers.specs.Threads.{IsPlace, IsTheirs, RunsTo, begins, ends, gives_back, nothing}
+
+began : (C D : Code) (e k : ℕ) (h : List Event) (s : CodeState) → D ≡ C → h ≡ [] → s ≡ start (code_system D) → RunsTo C e k h 0 s
+began C D e k h s code empty is =
+    let t : s ≡ start (code_system C) = is ∙ ap (λ (x : Code). start (code_system x)) code in
+    subst (λ (x : List Event). RunsTo C e k x 0 s) (sym empty) (subst (λ (x : CodeState). RunsTo C e k [] 0 x) (sym t) nothing)
+
+pub first : (C : Code) (e k : ℕ) (b : Seen) → b.code ≡ C → b.history ≡ [] → b.state ≡ start (code_system b.code) → RunsTo C e k b.history 0 b.state
+first C e k b code h s = began C b.code e k b.history b.state code h s
+
+fresh : (C : Code) (old new : Seen) (e : Event) → old.code ≡ C → Accepts old e new → NewlyAt (code_system C) old.state new.state new.newly
+fresh C old new e code a = subst (λ (x : Code). NewlyAt (code_system x) old.state new.state new.newly) code a.newly
+
+stepped : (C : Code) (old new : Seen) (e : Event) → old.code ≡ C → Accepts old e new → CodeStep C old.state e new.state
+stepped C old new e code a = subst (λ (x : Code). CodeStep x old.state e new.state) code a.step
+
+-- an item begins
+pub begun : (C : Code) (e k w i n : ℕ) (old new : Seen) → old.code ≡ C → RunsTo C e k old.history n old.state → Accepts old (Begin w i) new → new.newly ≡ []
+    → (item : CodeItem) → In item old.state.items → item.number ≡ i → IsPlace e k w (task_kind C item.task) → RunsTo C e k new.history n new.state
+begun C e k w i n old new code runs a still item there number place =
+    let all : RunsTo C e k (old.history ++ Begin w i ∷ []) (n + length new.newly) new.state = begins runs (stepped C old new (Begin w i) code a) item there number place (fresh C old new (Begin w i) code a) in
+    let none : n + length new.newly ≡ n = let z = ap (λ (x : List ℕ). length x) still in omega (arith, z) in
+    let counted : RunsTo C e k (old.history ++ Begin w i ∷ []) n new.state = subst (λ (x : ℕ). RunsTo C e k (old.history ++ Begin w i ∷ []) x new.state) none all in
+    subst (λ (x : List Event). RunsTo C e k x n new.state) (sym a.history) counted
+
+-- and ends
+pub ended : (C : Code) (e k w i n m : ℕ) (old new : Seen) → old.code ≡ C → RunsTo C e k old.history n old.state → Accepts old (End w i) new → IsTheirs e k w
+    → m ≡ n + length new.newly → RunsTo C e k new.history m new.state
+ended C e k w i n m old new code runs a theirs count =
+    let all : RunsTo C e k (old.history ++ End w i ∷ []) (n + length new.newly) new.state = ends runs (stepped C old new (End w i) code a) theirs (fresh C old new (End w i) code a) in
+    let counted : RunsTo C e k (old.history ++ End w i ∷ []) m new.state = subst (λ (x : ℕ). RunsTo C e k (old.history ++ End w i ∷ []) x new.state) (sym count) all in
+    subst (λ (x : List Event). RunsTo C e k x m new.state) (sym a.history) counted
+
+-- or is given back
+pub returned : (C : Code) (e k w i n m : ℕ) (old new : Seen) → old.code ≡ C → RunsTo C e k old.history n old.state → Accepts old (Back w i) new → IsTheirs e k w
+    → m ≡ n + length new.newly → RunsTo C e k new.history m new.state
+returned C e k w i n m old new code runs a theirs count =
+    let all : RunsTo C e k (old.history ++ Back w i ∷ []) (n + length new.newly) new.state = gives_back runs (stepped C old new (Back w i) code a) theirs (fresh C old new (Back w i) code a) in
+    let counted : RunsTo C e k (old.history ++ Back w i ∷ []) m new.state = subst (λ (x : ℕ). RunsTo C e k (old.history ++ Back w i ∷ []) x new.state) (sym count) all in
+    subst (λ (x : List Event). RunsTo C e k x m new.state) (sym a.history) counted
+
+-- no event more gives an item back
+backs_more : (es : List Event) (e : Event) → backs (e ∷ []) ≡ 0 → backs (es ++ e ∷ []) ≡ backs es
+backs_more [] e z = z
+backs_more (Begin w n ∷ es) e z = backs_more es e z
+backs_more (End w n ∷ es) e z = backs_more es e z
+backs_more (Back w n ∷ es) e z = let r = backs_more es e z in omega (arith, r)
+
+pub no_back_more : (old new : Seen) (e : Event) → Accepts old e new → backs (e ∷ []) ≡ 0 → backs old.history ≡ 0 → backs new.history ≡ 0
+no_back_more old new e a z none = ap backs a.history ∙ (backs_more old.history e z ∙ none)
+
+length_more : {X : Type 0} (xs : List X) (x : X) → length (xs ++ x ∷ []) ≡ length xs + 1
+length_more [] x = refl
+length_more (y ∷ xs) x = let r = length_more xs x in omega (arith, r)
+
+pub counted_more : (old new : Seen) (e : Event) → Accepts old e new → length new.history ≡ length old.history + 1
+counted_more old new e a = ap length a.history ∙ length_more old.history e

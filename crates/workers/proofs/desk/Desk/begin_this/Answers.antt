@@ -1,0 +1,44 @@
+use Rattle.std.proofs.Common.{rules, arith, ◌≡◌, ap, ◌∙◌, [], subst, refl}
+use Rattle.board.specs.Board.{Accepts}
+use Rattle.dataflow.specs.Machine.{Begin}
+use Rattle.dataflow.specs.System.{In}
+use Rattle.task_code.specs.Code.{Code, Kind}
+use Rattle.task_code.specs.Machine.{CodeItem}
+use Rattle.task_code.specs.System.{task_kind}
+use Rattle.task_code.specs.View.{kind_view}
+use Rattle.workers.specs.Threads.{IsPlace}
+use Rattle.workers.proofs.Threads.{begun, counted_more, no_back_more}
+use Rattle.workers.proofs.desk.Desk.begin_this.Goals as goal
+
+pub invariant_of-self-2 : goal.invariant_of-self-2
+invariant_of-self-2 g c =
+    let k = c.self.invariant in
+    let C = g.J.Job.code in
+    let old = c.self.inside.board in
+    let new = c.begin.new.self in
+    let a : Accepts old (Begin c.args.worker c.args.item) new = search rules in
+    let there : (i : CodeItem) × In i old.state.items × (i.number ≡ c.args.item) × (kind_view c.args.kind ≡ task_kind old.code i.task) = search rules in
+    let still : new.newly ≡ [] = search rules in
+    let same : kind_view c.args.kind ≡ task_kind C there.0.task = there.3 ∙ ap (λ (x : Code). task_kind x there.0.task) k.code in
+    let place = subst (λ (x : Kind). IsPlace g.J.Job.engines g.J.Job.workers c.args.worker x) same c.requires.place in
+    let more = counted_more old new (Begin c.args.worker c.args.item) a in
+    record {
+      code = a.code ∙ k.code;
+      limit_is = a.limit ∙ k.limit_is;
+      some = k.some;
+      counted = omega (arith, more, k.counted, c.add.ensures.total, c.audit.ensures.total);
+      told_is = k.told_is;
+      fits = k.fits;
+      runs = begun C g.J.Job.engines g.J.Job.workers c.args.worker c.args.item c.self.inside.told old new k.code k.runs a still there.0 there.1 there.2 place;
+      no_back = λ going. no_back_more old new (Begin c.args.worker c.args.item) a refl (k.no_back going);
+    }
+
+pub returns-clause-ok : goal.returns-clause-ok
+returns-clause-ok g c =
+    let k = c.self.invariant in
+    let old = c.self.inside.board in
+    let new = c.begin.new.self in
+    let a : Accepts old (Begin c.args.worker c.args.item) new = search rules in
+    let more = counted_more old new (Begin c.args.worker c.args.item) a in
+    let amount = c.audit.ensures.amount ∙ c.add.ensures.amount in
+    (amount, omega (arith, amount, more, k.counted, c.add.ensures.total, c.audit.ensures.bound, c.history-within.ensures.within, c.history-within.ensures.few))

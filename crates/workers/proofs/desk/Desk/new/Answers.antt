@@ -1,0 +1,15 @@
+use Rattle.std.proofs.Common.{arith, ap, sym, ◌∙◌, length, refl}
+use Rattle.workers.proofs.Threads.{first}
+use Rattle.workers.proofs.desk.Desk.new.Goals as goal
+
+pub invariant_of-result : goal.invariant_of-result
+invariant_of-result g c = record {
+  code = c.requires.code.0;
+  limit_is = c.requires.code.1;
+  some = c.requires.some;
+  counted = ap length c.requires.first.0 ∙ sym c.requires.empty.0;
+  told_is = sym c.requires.empty.1;
+  fits = omega arith;
+  runs = first g.J.Job.code g.J.Job.engines g.J.Job.workers c.args.board c.requires.code.0 c.requires.first.0 c.requires.first.1;
+  no_back = λ e. rw c.requires.first.0 refl;
+}

@@ -1,0 +1,14 @@
+//! Runs of code on threads: engines run control items, workers leaf items, over one board under a lock and a pool of numbers outside of it.
+#![tactic(auto)]
+
+mod bells;
+mod crowd;
+mod desk;
+pub mod fault;
+mod floor;
+mod fresh;
+mod hand;
+pub mod job;
+pub mod run;
+mod sums;
+mod work;

@@ -1,0 +1,259 @@
+//! A run of code on threads.
+ghost use Rattle.std.specs.Prelude.{◌≡◌, ◌≢◌, ◌+◌, ◌<◌, ◌≤◌, ◌^◌, None, Err, ◌↔◌, ◌⊎◌, [], All, IsTrue, IfOk, IfErr, OnOk, count_by, length, nat_lt, slice_index, vec_len, sum, map};
+ghost use Rattle.dataflow.specs.Machine.{start};
+ghost use Rattle.pool.specs.Seats.{view, seat_pool, pool_id, seats_of, IsSeatOf};
+ghost use Rattle.pool.specs.Views.{beginner};
+ghost use Rattle.task_code.specs.System.{code_system};
+ghost use Rattle.runs.specs.Report.{Tells};
+ghost use Rattle.workers.specs.Reports.{IsReport};
+
+use crate::bells::Bells;
+use crate::crowd::Crowds;
+use crate::desk::{Desk, Stop};
+use crate::fault::RunFault;
+use crate::floor::Floor;
+use crate::hand::{Ended, Hand};
+use crate::job::{Gate, Job};
+use crate::sums::Sums;
+use crate::work::crew;
+use board::board::Board;
+use pool::{Pool, PoolSeat};
+use runs::report::{Report, report_of};
+use std::alloc::{AllocError, Global};
+use std::marker::Brand;
+use std::sync::ledger::{Blank, Ledger, Share};
+use std::sync::{Mutex, Wait};
+use std::thread::Threads;
+use task_code::code::Code;
+use task_code::entry::Kind;
+
+/// Of the items that came to be ready: how many were offered to the pool, and how many found no hole there; how many numbers were
+/// drawn from it, and how many are left.
+#[derive(Clone, Copy, Debug, PartialEq, Eq, Drop)]
+pub struct PoolCount {
+    pub offered: u64,
+    pub full: u64,
+    pub drawn: u64,
+    pub left: u64,
+}
+
+/// A hand for each seat: the first so many are engines.
+fn hands_of<J: Job, E: Ledger, N: Ledger>(
+    alloc: Global,
+    engines: u8,
+    mut seats: Vec<PoolSeat>,
+    events: &mut Share<E>,
+    news: &mut Share<N>,
+) -> Result<Vec<Ended<J, E, N>>, AllocError>
+    requires places { (engines ≡ J.engines) × (vec_len seats ≡ J.engines + J.workers) × (vec_len seats ≤ 64) }
+    requires seats { All (λ s. (seat_pool s ≡ J.pool) × (view s ≡ beginner 1)) seats.items }
+    requires parts { (events.old.parts ≡ vec_len seats) × (news.old.parts ≡ vec_len seats) }
+    requires amounts { (events.old.amount ≡ 0) × (news.old.amount ≡ 0) }
+    ensures len { IfOk result (λ v. vec_len v ≡ vec_len seats) }
+    ensures parts { OnOk result ((events.new.parts ≡ 0) × (news.new.parts ≡ 0)) }
+    ensures amounts { OnOk result ((events.new.amount ≡ 0) × (news.new.amount ≡ 0)) }
+{
+    let mut hands = Vec::with_capacity(alloc, seats.len())?;
+    while let Some(seat) = seats.pop() {
+        let worker = hands.len() as u8;
+        let kind = if worker < engines {
+            Kind::Control
+        } else {
+            Kind::Leaf
+        };
+        let (mine, told) = (events.split_off(1, 0), news.split_off(1, 0));
+        hands.push(Ended::new(Hand::new(alloc, worker, kind, seat, mine, told)))?;
+    }
+    Ok(hands)
+}
+
+/// What all hands brought back.
+fn gather<J: Job, E: Ledger, N: Ledger>(
+    alloc: Global,
+    desk: &mut Desk<J, E, N>,
+    hands: Vec<Ended<J, E, N>>,
+    events: Share<E>,
+    news: Share<N>,
+) -> Result<Sums<J, E, N>, AllocError>
+    requires { (events.parts ≡ 0) × (news.parts ≡ 0) × (events.amount ≡ 0) × (news.amount ≡ 0) }
+    ensures { IfOk result (λ s. vec_len s.seats ≡ vec_len hands) }
+{
+    let mut sums = Sums::new(alloc, events, news);
+    for hand in hands {
+        sums.add(desk, hand)?;
+    }
+    Ok(sums)
+}
+
+/// Whether each thread counted the events that a report tells of it.
+fn is_counted(told: &[u32; 64], tallies: &[u64]) -> bool {
+    for worker in 0..tallies.len() {
+        if worker >= told.len() || told[worker] as u64 != tallies[worker] {
+            return false;
+        }
+    }
+    true
+}
+
+/// The report of a board on which nothing is left to be done, and why there is none else.
+fn report(alloc: Global, board: &Board, stop: Option<Stop>) -> Result<Report, RunFault>
+    ensures stopped { IfOk result (λ r. stop ≡ None) }
+    ensures tells { IfOk result (Tells board.now) }
+    ensures fault { IfErr result (λ e. e ≢ RunFault.BadCount) }
+{
+    match stop {
+        None => {}
+        Some(Stop::Memory) => return Err(RunFault::Memory),
+        Some(Stop::Spawn) => return Err(RunFault::Spawn),
+        Some(Stop::Stranger) => return Err(RunFault::Stranger),
+    }
+    if board.is_going() && !board.is_quiet() {
+        return Err(RunFault::Stranger);
+    }
+    Ok(report_of(alloc, board)?)
+}
+
+/// The numbers added up.
+fn added(numbers: &[u64]) -> u64
+    requires { sum numbers.now < 2 ^ 64 }
+    ensures { result ≡ sum numbers.now }
+{
+    numbers.iter().sum()
+}
+
+/// How many holes have a number.
+fn filled(holes: &[u64; 96]) -> u64
+    ensures { result ≡ count_by (λ n. nat_lt 0 n) holes.now }
+{
+    holes.iter().filter(|n| **n > 0).count() as u64
+}
+
+/// What the pool's counts come to, where the offered numbers are those that were drawn with those that are left.
+fn counted(offered: u64, full: u64, draws: &[u64], holes: &[u64; 96]) -> PoolCount
+    requires { offered ≡ sum draws.now + count_by (λ n. nat_lt 0 n) holes.now }
+    ensures counts { (result.offered ≡ offered) × (result.full ≡ full) }
+    ensures drawn { offered ≡ result.drawn + result.left }
+{
+    PoolCount {
+        offered,
+        full,
+        drawn: added(draws),
+        left: filled(holes),
+    }
+}
+
+/// The report of a run, once all threads have ended.
+fn settle<J: Job, E: Ledger, N: Ledger>(
+    alloc: Global,
+    pool: Pool,
+    desk: Desk<J, E, N>,
+    sums: Sums<J, E, N>,
+) -> Result<(Report, PoolCount), RunFault>
+    requires pool { pool_id pool ≡ J.pool }
+    requires seats { seats_of pool ≡ vec_len sums.seats }
+    requires parts { (E.parts ≡ vec_len sums.seats) × (N.parts ≡ vec_len sums.seats) }
+    ensures report { IfOk result (λ r. IsReport J.code J.limit J.engines J.workers r.0 r.1) }
+    ensures fault { IfErr result (λ e. e ≢ RunFault.BadCount) }
+{
+    let Sums {
+        mut events,
+        mut news,
+        seats,
+        tallies,
+        draws,
+        offered,
+        full,
+        lost,
+        of: _,
+    } = sums;
+    let (board, stop) = desk.close(&mut events, &mut news);
+    let rest = pool.close(seats);
+    let report = report(alloc, &board, stop)?;
+    if lost > 0 {
+        return Err(RunFault::Memory);
+    }
+    if !is_counted(&report.tallies, &tallies) {
+        return Err(RunFault::Stranger);
+    }
+    let count = counted(offered, full, draws.as_slice(), &rest.holes);
+    Ok((report, count))
+}
+
+/// A run with its books and its pool.
+fn run<
+    J: Job + Send + Sync,
+    E: Ledger + Send + Sync,
+    N: Ledger + Send + Sync,
+    R: Threads + Wait + Sync,
+    G: Gate,
+>(
+    rt: &R,
+    alloc: Global,
+    pool: Pool,
+    seats: Vec<PoolSeat>,
+    board: Board,
+    events: Blank,
+    news: Blank,
+    engines: u8,
+    count: usize,
+    gate: &G,
+) -> Result<(Report, PoolCount), RunFault>
+    requires count { (count ≤ 64) × (engines ≡ J.engines) × (count ≡ J.engines + J.workers) × (vec_len seats ≡ count) × (seats_of pool ≡ count) }
+    requires ledgers { (events.name ≡ E.name) × (events.parts ≡ E.parts) × (news.name ≡ N.name) × (news.parts ≡ N.parts) }
+    requires parts { (events.parts ≡ count) × (news.parts ≡ count) }
+    requires pool { pool_id pool ≡ J.pool }
+    requires seats { All (λ s. IsSeatOf pool s × (view s ≡ beginner 1)) seats.items }
+    requires board { (board.code ≡ J.code) × (board.limit ≡ J.limit) × (board.history ≡ []) × (board.state ≡ start (code_system board.code)) }
+    ensures report { IfOk result (λ r. IsReport J.code J.limit J.engines J.workers r.0 r.1) }
+    ensures fault { IfErr result (λ e. e ≢ RunFault.BadCount) }
+{
+    let (event_book, mut all_events) = events.open::<E>();
+    let (news_book, mut all_news) = news.open::<N>();
+    let hands = hands_of::<J, E, N>(alloc, engines, seats, &mut all_events, &mut all_news)?;
+    let floor = Mutex::new(Floor {
+        desk: Desk::<J, E, N>::new(board, event_book, news_book),
+        crowds: Crowds::new(engines as usize, count.saturating_sub(engines as usize)),
+    });
+    let bells = Bells::new();
+    let back = crew(rt, alloc, &floor, &bells, &pool, gate, hands)?;
+    if back.len() != count {
+        return Err(RunFault::Spawn);
+    }
+    let Floor { mut desk, .. } = floor.into_inner();
+    let sums = gather(alloc, &mut desk, back, all_events, all_news)?;
+    settle(alloc, pool, desk, sums)
+}
+
+/// Runs the code on threads: engines, with the numbers from 0 on, run control items, and workers, which follow, leaf items. At most
+/// `limit` events happen. What an item does is computed by the gate, outside of the lock. The report is that of a run of the code.
+///
+/// # Errors
+///
+/// `BadCount` exactly where there is no engine, no worker or more than 64 of both. `Spawn` where a thread could not be started; the others
+/// stop then. `Stranger` where the threads' counts are not what the board shows. `Memory` where memory that was asked for was refused: a
+/// worker that finds none gives its item back, and the run stops.
+pub fn run_threads<R: Threads + Wait + Sync, G: Gate>(
+    rt: &R,
+    alloc: Global,
+    code: &Code,
+    engines: u8,
+    workers: u8,
+    limit: u32,
+    gate: &G,
+) -> Result<(Report, PoolCount), RunFault>
+    ensures report { IfOk result (λ r. IsReport code.now limit engines workers r.0 r.1) }
+    ensures count { (result ≡ Err RunFault.BadCount) ↔ ((engines ≡ 0) ⊎ ((workers ≡ 0) ⊎ (64 < engines + workers))) }
+{
+    let count = engines as usize + workers as usize;
+    if engines == 0 || workers == 0 || count > 64 {
+        return Err(RunFault::BadCount);
+    }
+    let _whole = code.entry_count();
+    let (pool, seats) = Pool::new(alloc, count)?;
+    let board = Board::new(alloc, code.copy()?, limit)?;
+    let events = Blank::new(count as u64);
+    let news = Blank::new(count as u64);
+    run::<Brand, Brand, Brand, R, G>(
+        rt, alloc, pool, seats, board, events, news, engines, count, gate,
+    )
+}

@@ -1,0 +1,107 @@
+//! What all threads brought back.
+ghost use Rattle.std.specs.Prelude.{◌≡◌, ◌+◌, ◌<◌, ◌^◌, All, length, map, sum, vec_len, OnOk};
+ghost use Rattle.pool.specs.Seats.{view, seat_pool};
+ghost use Rattle.pool.specs.Views.{total};
+
+use crate::desk::Desk;
+use crate::hand::{Ended, Hand};
+use crate::job::Job;
+use pool::PoolSeat;
+use std::alloc::{AllocError, Global};
+use std::marker::PhantomData;
+use std::sync::ledger::{Ledger, Share};
+
+/// The shares put together, the seats, and the counts: of events for each thread, of numbers drawn, and of items that were offered,
+/// found no hole and were lost.
+#[derive(Drop)]
+pub struct Sums<J: Job, E: Ledger, N: Ledger> {
+    pub events: Share<E>,
+    pub news: Share<N>,
+    pub seats: Vec<PoolSeat>,
+    pub tallies: Vec<u64>,
+    pub draws: Vec<u64>,
+    pub offered: u64,
+    pub full: u64,
+    pub lost: u64,
+    pub of: PhantomData<J>,
+    ghost parts: { (events.parts ≡ vec_len seats) × (news.parts ≡ vec_len seats) },
+    ghost tallied: { sum tallies.items ≡ events.amount },
+    ghost told: { news.amount ≡ offered + full + lost },
+    ghost fits: { news.amount < 2 ^ 64 },
+    ghost offers: { total (λ v. length v.offered) (map view seats.items) ≡ offered },
+    ghost takes: { total (λ v. length v.taken) (map view seats.items) ≡ sum draws.items },
+    ghost of_pool: { All (λ s. seat_pool s ≡ J.pool) seats.items },
+}
+
+impl<J: Job, E: Ledger, N: Ledger> Sums<J, E, N> {
+    /// Nothing yet.
+    pub fn new(alloc: Global, events: Share<E>, news: Share<N>) -> Sums<J, E, N>
+        requires { (events.parts ≡ 0) × (news.parts ≡ 0) × (events.amount ≡ 0) × (news.amount ≡ 0) }
+        ensures { vec_len result.seats ≡ 0 }
+    {
+        Sums {
+            events,
+            news,
+            seats: Vec::new(alloc),
+            tallies: Vec::new(alloc),
+            draws: Vec::new(alloc),
+            offered: 0,
+            full: 0,
+            lost: 0,
+            of: PhantomData,
+        }
+    }
+
+    /// What one thread brought back comes to the rest.
+    ///
+    /// # Errors
+    ///
+    /// `AllocError` where memory that was asked for was refused.
+    pub fn add(&mut self, desk: &mut Desk<J, E, N>, ended: Ended<J, E, N>) -> Result<(), AllocError>
+        ensures { OnOk result (vec_len self.new.seats ≡ vec_len self.old.seats + 1) }
+    {
+        self.seats.reserve(1)?;
+        self.tallies.reserve(1)?;
+        self.draws.reserve(1)?;
+        let Ended { hand } = ended;
+        let Hand {
+            worker: _,
+            kind: _,
+            seat,
+            events: their_events,
+            news: their_news,
+            tally,
+            offered: their_offered,
+            full: their_full,
+            drawn,
+            lost: their_lost,
+            pending: _,
+            list: _,
+            works: _,
+            dones: _,
+            comes: _,
+            of: _,
+        } = hand;
+        let Sums {
+            events,
+            news,
+            seats,
+            tallies,
+            draws,
+            offered,
+            full,
+            lost,
+            ..
+        } = self;
+        events.merge(their_events);
+        news.merge(their_news);
+        desk.check(news);
+        seats.push_reserved(seat);
+        tallies.push_reserved(tally);
+        draws.push_reserved(drawn);
+        *offered += their_offered;
+        *full += their_full;
+        *lost += their_lost;
+        Ok(())
+    }
+}
