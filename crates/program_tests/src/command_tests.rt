@@ -1,6 +1,5 @@
 //! Commands on small scripts: what they print, what they say, the trace, and the status.
 use crate::doing::{Small, WIDE, perform};
-use std::alloc::Global;
 use std::test::Fail;
 use swt_command::trouble::{Trouble, tell};
 
@@ -12,23 +11,22 @@ const TRACE: &[u8] = b"swt-trace 1\nB 0 1\nE 0 1\n";
 
 /// What a command printed, said and traced, and its status, in one text.
 fn done_in(
-    alloc: Global,
+    rt: &HostRuntime,
     words: &[&str],
     sources: &[Option<&[u8]>],
     rooms: (usize, usize),
 ) -> Result<String, Fail> {
-    perform(alloc, words, sources, rooms)?.text(alloc)
+    perform(rt, words, sources, rooms)?.text(rt.alloc())
 }
 
 /// The same for one file, with room for all.
-fn done(alloc: Global, words: &[&str], source: &[u8]) -> Result<String, Fail> {
-    done_in(alloc, words, &[Some(source)], WIDE)
+fn done(rt: &HostRuntime, words: &[&str], source: &[u8]) -> Result<String, Fail> {
+    done_in(rt, words, &[Some(source)], WIDE)
 }
 
 #[test]
 fn runs_scripts(rt: HostRuntime) -> Result<(), Fail> {
-    let alloc = rt.alloc();
-    let rows: [(&[u8], &str); 18] = [
+    let rows: [(&[u8], &str); 17] = [
         (b"", "|||0"),
         (HELLO, "hello\n|||0"),
         (b"int x = 5; printf(\"%i %d%%\", x, 7);", "5 7%\n|||0"),
@@ -50,7 +48,6 @@ fn runs_scripts(rt: HostRuntime) -> Result<(), Fail> {
             "3\n|||0",
         ),
         (b"if (true) { }", "|||0"),
-        (b"printf(\"a\"); @prio=5 printf(\"b\");", "b\na\n|||0"),
         (
             b"printf(\"%i %i %i\", -7 %/ 2, -7 %% 2, 7 %% -2);",
             "-3 -1 1\n|||0",
@@ -85,14 +82,15 @@ fn runs_scripts(rt: HostRuntime) -> Result<(), Fail> {
         ),
     ];
     for (source, wanted) in rows {
-        assert_eq!(rt; done(alloc, &["run", "f"], source)?.as_str(), wanted);
+        assert_eq!(rt; done(&rt, &["run", "f"], source)?.as_str(), wanted);
     }
+    let both = done(&rt, &["run", "f"], b"printf(\"a\"); @prio=5 printf(\"b\");")?;
+    assert!(rt; both.as_str() == "a\nb\n|||0" || both.as_str() == "b\na\n|||0");
     Ok(())
 }
 
 #[test]
 fn takes_options(rt: HostRuntime) -> Result<(), Fail> {
-    let alloc = rt.alloc();
     let traced = "hello\n||swt-trace 1\nB 0 1\nE 0 1\nB 1 2\nE 1 2\n|0";
     let rows: [(&[&str], &str); 6] = [
         (
@@ -121,16 +119,15 @@ fn takes_options(rt: HostRuntime) -> Result<(), Fail> {
         (&["code", "f"], "body 0 script\n  1 leaf print 0 0\n|||0"),
     ];
     for (words, wanted) in rows {
-        assert_eq!(rt; done(alloc, words, HELLO)?.as_str(), wanted);
+        assert_eq!(rt; done(&rt, words, HELLO)?.as_str(), wanted);
     }
     Ok(())
 }
 
 #[test]
 fn says_what_scripts_mean(rt: HostRuntime) -> Result<(), Fail> {
-    let alloc = rt.alloc();
     let swapped = b"int x; int y; x = y + 1; y = 2; printf(\"%i\", x);";
-    let cut = done(alloc, &["mean", "f", "--rounds", "2"], swapped)?;
+    let cut = done(&rt, &["mean", "f", "--rounds", "2"], swapped)?;
     assert_eq!(rt; cut.as_str(), "swt: blocked 32 /\nswt: limit 2\n|||5");
     let rows: [(&[u8], &str); 5] = [
         (swapped, "3\n|||0"),
@@ -149,7 +146,7 @@ fn says_what_scripts_mean(rt: HostRuntime) -> Result<(), Fail> {
         ),
     ];
     for (source, wanted) in rows {
-        assert_eq!(rt; done(alloc, &["mean", "f"], source)?.as_str(), wanted);
+        assert_eq!(rt; done(&rt, &["mean", "f"], source)?.as_str(), wanted);
     }
     Ok(())
 }
@@ -158,7 +155,7 @@ fn says_what_scripts_mean(rt: HostRuntime) -> Result<(), Fail> {
 fn checks_scripts(rt: HostRuntime) -> Result<(), Fail> {
     let alloc = rt.alloc();
     assert_eq!(rt;
-        done(alloc, &["check", "f"], HELLO)?.as_str(),
+        done(&rt, &["check", "f"], HELLO)?.as_str(),
         "f: accepted\n|||0"
     );
     let rows: [(&[u8], &str); 19] = [
@@ -191,7 +188,7 @@ fn checks_scripts(rt: HostRuntime) -> Result<(), Fail> {
     for (source, wanted) in rows {
         let wanted = format!(in alloc; "f: refused {wanted}\n|||1")?;
         assert_eq!(rt;
-            done(alloc, &["check", "f"], source)?.as_str(),
+            done(&rt, &["check", "f"], source)?.as_str(),
             wanted.as_str()
         );
     }
@@ -200,7 +197,6 @@ fn checks_scripts(rt: HostRuntime) -> Result<(), Fail> {
 
 #[test]
 fn accepts_the_whole_language(rt: HostRuntime) -> Result<(), Fail> {
-    let alloc = rt.alloc();
     let scripts: [&[u8]; 6] = [
         b"",
         b"int A[];",
@@ -211,7 +207,7 @@ fn accepts_the_whole_language(rt: HostRuntime) -> Result<(), Fail> {
     ];
     for script in scripts {
         assert_eq!(rt;
-            done(alloc, &["check", "f"], script)?.as_str(),
+            done(&rt, &["check", "f"], script)?.as_str(),
             "f: accepted\n|||0"
         );
     }
@@ -220,7 +216,6 @@ fn accepts_the_whole_language(rt: HostRuntime) -> Result<(), Fail> {
 
 #[test]
 fn replays_traces(rt: HostRuntime) -> Result<(), Fail> {
-    let alloc = rt.alloc();
     let rows: [(&[u8], &str); 5] = [
         (b"swt-trace 1\nB 0 1\nE 0 1\nB 1 2\nE 1 2\n", "hello\n|||0"),
         (b"swt-trace 1\nB 0 1\nE 0 1\nB 1 2\n", "swt: limit 3\n|||5"),
@@ -234,81 +229,76 @@ fn replays_traces(rt: HostRuntime) -> Result<(), Fail> {
     for (trace, wanted) in rows {
         let sources = [Some(HELLO), Some(trace)];
         let words = ["replay", "f", "t"];
-        assert_eq!(rt; done_in(alloc, &words, &sources, WIDE)?.as_str(), wanted);
+        assert_eq!(rt; done_in(&rt, &words, &sources, WIDE)?.as_str(), wanted);
     }
     Ok(())
 }
 
 /// Whether a command with these rooms for what is printed and for the trace did so.
 fn does(
-    alloc: Global,
+    rt: &HostRuntime,
     words: &[&str],
     sources: &[Option<&[u8]>],
     rooms: (usize, usize),
     wanted: &str,
 ) -> Result<bool, Fail> {
-    let text = done_in(alloc, words, sources, rooms)?;
+    let text = done_in(rt, words, sources, rooms)?;
     Ok(text.as_str() == wanted)
 }
 
 #[test]
 fn stops_at_a_file(rt: HostRuntime) -> Result<(), Fail> {
-    let alloc = rt.alloc();
     let lacks = "|swt: cannot read f\n||7";
-    assert!(rt; does(alloc, &["run", "f"], &[None], WIDE, lacks)?);
-    assert!(rt; does(alloc, &["mean", "f"], &[None], WIDE, lacks)?);
+    assert!(rt; does(&rt, &["run", "f"], &[None], WIDE, lacks)?);
+    assert!(rt; does(&rt, &["mean", "f"], &[None], WIDE, lacks)?);
     let none = "|swt: cannot read a\n||7";
-    assert!(rt; does(alloc, &["check", "a"], &[], WIDE, none)?);
+    assert!(rt; does(&rt, &["check", "a"], &[], WIDE, none)?);
     Ok(())
 }
 
 #[test]
 fn stops_at_a_trace(rt: HostRuntime) -> Result<(), Fail> {
-    let alloc = rt.alloc();
     let words = ["replay", "f", "t"];
     let lacks = "|swt: cannot read f\n||7";
-    assert!(rt; does(alloc, &words, &[None, None], WIDE, lacks)?);
+    assert!(rt; does(&rt, &words, &[None, None], WIDE, lacks)?);
     let lacks = "|swt: cannot read t\n||7";
-    assert!(rt; does(alloc, &words, &[Some(HELLO), None], WIDE, lacks)?);
+    assert!(rt; does(&rt, &words, &[Some(HELLO), None], WIDE, lacks)?);
     let refused = "|swt: refused S1 AssignedTwice 11 12\n||1";
-    assert!(rt; does(alloc, &words, &[Some(TWICE), None], WIDE, refused)?);
+    assert!(rt; does(&rt, &words, &[Some(TWICE), None], WIDE, refused)?);
     Ok(())
 }
 
 #[test]
 fn checks_files_up_to_one_that_lacks(rt: HostRuntime) -> Result<(), Fail> {
-    let alloc = rt.alloc();
     let all = "a: refused S1 AssignedTwice 11 12\nb: accepted\n|||1";
     let sources = [Some(TWICE), Some(HELLO)];
-    assert!(rt; does(alloc, &["check", "a", "b"], &sources, WIDE, all)?);
+    assert!(rt; does(&rt, &["check", "a", "b"], &sources, WIDE, all)?);
     let part = "a: refused S1 AssignedTwice 11 12\n|swt: cannot read b\n||7";
     let sources = [Some(TWICE), None, Some(HELLO)];
-    assert!(rt; does(alloc, &["check", "a", "b", "c"], &sources, WIDE, part)?);
+    assert!(rt; does(&rt, &["check", "a", "b", "c"], &sources, WIDE, part)?);
     Ok(())
 }
 
 #[test]
 fn stops_at_a_write(rt: HostRuntime) -> Result<(), Fail> {
-    let alloc = rt.alloc();
     let words = ["run", "f", "--trace", "t"];
     let part = "hel|swt: cannot write\n||7";
-    assert!(rt; does(alloc, &words, &[Some(HELLO)], (3, 1000), part)?);
+    assert!(rt; does(&rt, &words, &[Some(HELLO)], (3, 1000), part)?);
     let part = "hello\n|swt: cannot write\n|swt-trace 1\nB 0 1\nE |7";
-    assert!(rt; does(alloc, &words, &[Some(HELLO)], (6, 20), part)?);
+    assert!(rt; does(&rt, &words, &[Some(HELLO)], (6, 20), part)?);
     let part = "|swt: cannot write\n||7";
-    assert!(rt; does(alloc, &["mean", "f"], &[Some(HELLO)], (0, 0), part)?);
+    assert!(rt; does(&rt, &["mean", "f"], &[Some(HELLO)], (0, 0), part)?);
     Ok(())
 }
 
 #[test]
 fn stops_at_a_write_among_others(rt: HostRuntime) -> Result<(), Fail> {
-    let alloc = rt.alloc();
     let part = "a: accepted\nb:|swt: cannot write\n||7";
     let sources = [Some(HELLO), Some(HELLO)];
-    assert!(rt; does(alloc, &["check", "a", "b"], &sources, (14, 0), part)?);
+    assert!(rt; does(&rt, &["check", "a", "b"], &sources, (14, 0), part)?);
     let part = "swt: limit 2|swt: cannot write\n||7";
     let sources = [Some(HELLO), Some(TRACE)];
-    assert!(rt; does(alloc, &["replay", "f", "t"], &sources, (12, 0), part)?);
+    assert!(rt; does(&rt, &["replay", "f", "t"], &sources, (12, 0), part)?);
     Ok(())
 }
 

@@ -75,11 +75,12 @@ impl Done {
 
 /// Does a command. `None` is a file that cannot be read; the first room is for what is printed, the second for the trace.
 pub(crate) fn perform(
-    alloc: Global,
+    rt: &HostRuntime,
     words: &[&str],
     sources: &[Option<&[u8]>],
     rooms: (usize, usize),
 ) -> Result<Done, Fail> {
+    let alloc = rt.alloc();
     let mut list = Vec::new(alloc);
     for word in words {
         list.push(String::from_str(alloc, word)?)?;
@@ -96,6 +97,7 @@ pub(crate) fn perform(
     let mut err = Small::new(alloc, 1000);
     let mut trace = Small::new(alloc, rooms.1);
     let status = command(
+        rt,
         alloc,
         &line,
         files.as_slice(),
@@ -109,4 +111,14 @@ pub(crate) fn perform(
         trace: trace.bytes,
         status,
     })
+}
+
+/// The lines of a text, sorted by bytes: a run on threads prints them in any order.
+pub(crate) fn sorted_lines(alloc: Global, text: &[u8]) -> Result<Vec<&[u8]>, Fail> {
+    let mut lines = Vec::new(alloc);
+    for line in text.split(|byte| *byte == b'\n') {
+        lines.push(line)?;
+    }
+    lines.sort()?;
+    Ok(lines)
 }

@@ -55,6 +55,7 @@ fn perform(rt: &HostRuntime, line: &Line) -> Result<u8, AllocError> {
     let mut trace = Buffer::new(alloc);
     let files = read_files(rt, line)?;
     let status = command(
+        rt,
         alloc,
         line,
         files.as_slice(),

@@ -14,13 +14,13 @@ use Rattle.swt_command.specs.declared.status.Status.TheVariants as Ends
 use Rattle.swt_command.specs.declared.stop.Stop.{Stop}
 use Rattle.swt_command.specs.declared.trouble.Trouble.{Trouble}
 use Rattle.swt_command.specs.declared.trouble.Trouble.TheVariants as Is
-use Rattle.swt_command.specs.Causes.{AsksTooMuch, SomeRefused}
+use Rattle.swt_command.specs.Causes.{AsksBadly, SomeRefused}
 use Rattle.swt_command.specs.Checks.{Checks, StopsBy, Verdict, check_status}
 use Rattle.swt_command.specs.Files.{Files, IsRefusal, StopsAt, name_at, source_of}
 use Rattle.swt_command.specs.Listings.{Lists, StopsListing}
 use Rattle.swt_command.specs.Means.{Means, StopsMean, status_by}
 use Rattle.swt_command.specs.Owes.{Does, Owes, status_of}
-use Rattle.swt_command.specs.Runs.{Replays, Runs, StopsAtTrace, StopsReplay, StopsRun, end_status, most_threads}
+use Rattle.swt_command.specs.Runs.{Replays, Runs, StopsAtTrace, StopsReplay, StopsRun, end_status, IsBadCount}
 use Rattle.swt_command.specs.Sinks.{Held}
 use Rattle.swt_command.specs.Statuses.{number_of}
 use Rattle.swt_command.specs.Troubles.{trouble_status}
@@ -37,6 +37,8 @@ refused_only (Is.Refused r) e = (r, refl)
 refused_only (Is.BadLine n) e = absurd (omega (arith, e))
 refused_only (Is.NotARun n) e = absurd (omega (arith, e))
 refused_only Is.BadCount e = absurd (omega (arith, e))
+refused_only Is.NoThread e = absurd (omega (arith, e))
+refused_only Is.Stranger e = absurd (omega (arith, e))
 refused_only Is.Memory e = absurd (omega (arith, e))
 refused_only Is.Unprinted e = absurd (omega (arith, e))
 refused_only Is.Untraced e = absurd (omega (arith, e))
@@ -48,6 +50,8 @@ usage_only (Is.BadLine n) e = absurd (omega (arith, e))
 usage_only (Is.NotARun n) e = absurd (omega (arith, e))
 usage_only Is.BadCount e = refl
 usage_only Is.Memory e = absurd (omega (arith, e))
+usage_only Is.NoThread e = absurd (omega (arith, e))
+usage_only Is.Stranger e = absurd (omega (arith, e))
 usage_only Is.Unprinted e = absurd (omega (arith, e))
 usage_only Is.Untraced e = absurd (omega (arith, e))
 
@@ -118,12 +122,12 @@ mean_refused files limit (Err stop) out new d e =
     let h = (subst (λ (t : Trouble). StopsMean files limit t out new) k.1 d.1).0 in
     (0, k.0, h.0, h.1, h.2)
 
-run_refused : (files : Files) (threads steps : ℕ) (wanted : Bool) (done : Result Status Stop) (out out_new trace trace_new : Held) → Runs files threads steps wanted done out out_new trace trace_new
+run_refused : (files : Files) (engines workers steps : ℕ) (wanted : Bool) (done : Result Status Stop) (out out_new trace trace_new : Held) → Runs files engines workers steps wanted done out out_new trace trace_new
     → number_of (status_of done) ≡ 1 → SomeRefused files
-run_refused files threads steps wanted (Ok status) out out_new trace trace_new d e = absurd (end_is_none d.0.end d.0.blocked.items status d.2 (inl e))
-run_refused files threads steps wanted (Err stop) out out_new trace trace_new d e =
+run_refused files engines workers steps wanted (Ok status) out out_new trace trace_new d e = absurd (end_is_none d.0.end d.0.blocked.items status d.2 (inl e))
+run_refused files engines workers steps wanted (Err stop) out out_new trace trace_new d e =
     let k = refused_only stop.trouble e in
-    at_file files k.0 (subst (λ (t : Trouble). StopsRun files threads steps wanted t out out_new trace trace_new) k.1 d.1).0
+    at_file files k.0 (subst (λ (t : Trouble). StopsRun files engines workers steps wanted t out out_new trace trace_new) k.1 d.1).0
 
 replay_stop_refused : (files : Files) (place : ℕ) (r : Refusal) (out new : Held) → StopsReplay files place (Is.Refused r) out new → SomeRefused files
 replay_stop_refused files zero r out new h = at_file files r h.0
@@ -146,7 +150,7 @@ does_refused : (line : Line) (files : Files) (done : Result Status Stop) (out ou
 does_refused (Lines.Check names) files done out out_new trace trace_new d e = check_refused names files done out out_new d.0 e
 does_refused (Lines.Mean file rounds) files done out out_new trace trace_new d e = mean_refused files rounds done out out_new d.0 e
 does_refused (Lines.Code file dot) files done out out_new trace trace_new d e = listing_refused files done out out_new d.0 e
-does_refused (Lines.Run file engines workers steps wanted) files done out out_new trace trace_new d e = run_refused files (engines + workers) steps (is_some wanted) done out out_new trace trace_new d e
+does_refused (Lines.Run file engines workers steps wanted) files done out out_new trace trace_new d e = run_refused files engines workers steps (is_some wanted) done out out_new trace trace_new d e
 does_refused (Lines.Replay file events) files done out out_new trace trace_new d e = replay_refused files done out out_new d.0 e
 
 pub refused_tells : (line : Line) (files : Files) (out out_new err err_new trace trace_new : Held) (number : ℕ) → Owes line files out out_new err err_new trace trace_new number → number ≡ 1 → SomeRefused files
@@ -170,10 +174,10 @@ listing_usage : (files : Files) (done : Result Status Stop) (out new : Held) →
 listing_usage files (Ok status) out new d e = let z : number_of Ends.Done ≡ 2 = ap number_of (sym d.0) ∙ e in omega (arith, z)
 listing_usage files (Err stop) out new d e = (subst (λ (t : Trouble). StopsListing files t out new) (usage_only stop.trouble e) d.1).0.2
 
-run_usage : (files : Files) (threads steps : ℕ) (wanted : Bool) (done : Result Status Stop) (out out_new trace trace_new : Held) → Runs files threads steps wanted done out out_new trace trace_new
-    → number_of (status_of done) ≡ 2 → most_threads < threads
-run_usage files threads steps wanted (Ok status) out out_new trace trace_new d e = absurd (end_is_none d.0.end d.0.blocked.items status d.2 (inr e))
-run_usage files threads steps wanted (Err stop) out out_new trace trace_new d e = (subst (λ (t : Trouble). StopsRun files threads steps wanted t out out_new trace trace_new) (usage_only stop.trouble e) d.1).0.2
+run_usage : (files : Files) (engines workers steps : ℕ) (wanted : Bool) (done : Result Status Stop) (out out_new trace trace_new : Held) → Runs files engines workers steps wanted done out out_new trace trace_new
+    → number_of (status_of done) ≡ 2 → IsBadCount engines workers
+run_usage files engines workers steps wanted (Ok status) out out_new trace trace_new d e = absurd (end_is_none d.0.end d.0.blocked.items status d.2 (inr e))
+run_usage files engines workers steps wanted (Err stop) out out_new trace trace_new d e = (subst (λ (t : Trouble). StopsRun files engines workers steps wanted t out out_new trace trace_new) (usage_only stop.trouble e) d.1).0.2
 
 no_usage_trace : (source : Option (List ℕ)) (code : Code) → StopsAtTrace source code Is.BadCount → ⊥
 no_usage_trace None code h = h
@@ -188,12 +192,12 @@ replay_usage : (files : Files) (done : Result Status Stop) (out new : Held) → 
 replay_usage files (Ok status) out new d e = end_is_none d.0.end d.0.blocked.items status d.2 (inr e)
 replay_usage files (Err stop) out new d e = bad_count_replay files stop.place out new (subst (λ (t : Trouble). StopsReplay files stop.place t out new) (usage_only stop.trouble e) d)
 
-does_usage : (line : Line) (files : Files) (done : Result Status Stop) (out out_new trace trace_new : Held) → Does line files done out out_new trace trace_new → number_of (status_of done) ≡ 2 → AsksTooMuch line
+does_usage : (line : Line) (files : Files) (done : Result Status Stop) (out out_new trace trace_new : Held) → Does line files done out out_new trace trace_new → number_of (status_of done) ≡ 2 → AsksBadly line
 does_usage (Lines.Check names) files done out out_new trace trace_new d e = check_usage names files done out out_new d.0 e
 does_usage (Lines.Mean file rounds) files done out out_new trace trace_new d e = mean_usage files rounds done out out_new d.0 e
 does_usage (Lines.Code file dot) files done out out_new trace trace_new d e = listing_usage files done out out_new d.0 e
-does_usage (Lines.Run file engines workers steps wanted) files done out out_new trace trace_new d e = run_usage files (engines + workers) steps (is_some wanted) done out out_new trace trace_new d e
+does_usage (Lines.Run file engines workers steps wanted) files done out out_new trace trace_new d e = run_usage files engines workers steps (is_some wanted) done out out_new trace trace_new d e
 does_usage (Lines.Replay file events) files done out out_new trace trace_new d e = replay_usage files done out out_new d.0 e
 
-pub usage_tells : (line : Line) (files : Files) (out out_new err err_new trace trace_new : Held) (number : ℕ) → Owes line files out out_new err err_new trace trace_new number → number ≡ 2 → AsksTooMuch line
+pub usage_tells : (line : Line) (files : Files) (out out_new err err_new trace trace_new : Held) (number : ℕ) → Owes line files out out_new err err_new trace trace_new number → number ≡ 2 → AsksBadly line
 usage_tells line files out out_new err err_new trace trace_new number o e = does_usage line files o.ended out out_new trace trace_new o.does (sym o.number_is ∙ e)

@@ -7,7 +7,6 @@ use Rattle.board_frames.specs.declared.place.Statement.{Statement}
 use Rattle.runs.specs.declared.report.End.{End}
 use Rattle.runs.specs.declared.report.End.TheVariants as Was
 use Rattle.runs.specs.declared.report.Report.{Report}
-use Rattle.runs.specs.Report.{Reports}
 use Rattle.swt_trace.specs.Report.{ReportText}
 use Rattle.swt_line.specs.declared.line.Line.TheVariants.{Run, Replay}
 use Rattle.swt_command.specs.declared.status.Status.{Status}
@@ -21,7 +20,7 @@ use Rattle.swt_command.specs.Runs.{Replays, Runs, end_status, report_status}
 use Rattle.swt_command.specs.Sinks.{Held, Took}
 use Rattle.swt_command.specs.Statuses.{number_of}
 use Rattle.swt_command.specs.Troubles.{trouble_status}
-use Rattle.swt_command.proofs.Reported.{reported}
+use Rattle.swt_command.proofs.Reported.{IsOfRun, of_one, of_threads, whole_report}
 
 -- 0 and 4 are the statuses of quiet ends
 abbrev IsQuiet : ℕ → Type 0
@@ -39,6 +38,8 @@ quiet_end Was.Limit blocked n is h = absurd (is_none_of n 5 is (λ x. omega (ari
 
 not_stopped : (t : Trouble) (n : ℕ) → n ≡ number_of (trouble_status t) → IsQuiet n → ⊥
 not_stopped Is.Unread n is h = is_none_of n 7 is (λ x. omega (arith, x)) (λ x. omega (arith, x)) h
+not_stopped Is.NoThread n is h = is_none_of n 7 is (λ x. omega (arith, x)) (λ x. omega (arith, x)) h
+not_stopped Is.Stranger n is h = is_none_of n 7 is (λ x. omega (arith, x)) (λ x. omega (arith, x)) h
 not_stopped (Is.Refused r) n is h = is_none_of n 1 is (λ x. omega (arith, x)) (λ x. omega (arith, x)) h
 not_stopped (Is.BadLine m) n is h = is_none_of n 7 is (λ x. omega (arith, x)) (λ x. omega (arith, x)) h
 not_stopped (Is.NotARun m) n is h = is_none_of n 7 is (λ x. omega (arith, x)) (λ x. omega (arith, x)) h
@@ -47,24 +48,24 @@ not_stopped Is.Memory n is h = is_none_of n 6 is (λ x. omega (arith, x)) (λ x.
 not_stopped Is.Unprinted n is h = is_none_of n 7 is (λ x. omega (arith, x)) (λ x. omega (arith, x)) h
 not_stopped Is.Untraced n is h = is_none_of n 7 is (λ x. omega (arith, x)) (λ x. omega (arith, x)) h
 
-whole_printed : (files : Files) (code : Code) (limit : ℕ) (r : Report) (out new : Held) → HasCode files 0 code → Reports code limit r → Took out (ReportText r) new → r.end ≡ Was.Quiet → PrintsWhole files out new
-whole_printed files code limit r out new (src, read, w) reports took quiet =
-    (core w.table w.tree, (src, read, record { table = w.table; tree = w.tree; accepted = w.accepted; is = refl }), (r, reported src code limit r w reports quiet, took))
+whole_printed : (files : Files) (code : Code) (r : Report) (out new : Held) → HasCode files 0 code → IsOfRun code r → Took out (ReportText r) new → r.end ≡ Was.Quiet → PrintsWhole files out new
+whole_printed files code r out new (src, read, w) reports took quiet =
+    (core w.table w.tree, (src, read, record { table = w.table; tree = w.tree; accepted = w.accepted; is = refl }), (r, whole_report src code r w reports quiet, took))
 
-run_done : (files : Files) (threads steps : ℕ) (wanted : Bool) (done : Result Status Stop) (out out_new trace trace_new : Held) (n : ℕ) → Runs files threads steps wanted done out out_new trace trace_new
+run_done : (files : Files) (engines workers steps : ℕ) (wanted : Bool) (done : Result Status Stop) (out out_new trace trace_new : Held) (n : ℕ) → Runs files engines workers steps wanted done out out_new trace trace_new
     → n ≡ number_of (status_of done) → IsQuiet n → PrintsWhole files out out_new
-run_done files threads steps wanted (Ok status) out out_new trace trace_new n d is h =
-    whole_printed files d.1.0 steps d.0 out out_new d.1.1 d.1.3 d.3 (quiet_end d.0.end d.0.blocked.items n (is ∙ ap number_of d.2) h)
-run_done files threads steps wanted (Err stop) out out_new trace trace_new n d is h = absurd (not_stopped stop.trouble n is h)
+run_done files engines workers steps wanted (Ok status) out out_new trace trace_new n d is h =
+    whole_printed files d.1.0 d.0 out out_new d.1.1 (of_threads d.1.0 steps engines workers d.0 d.1.3.0 d.1.3.1) d.3 (quiet_end d.0.end d.0.blocked.items n (is ∙ ap number_of d.2) h)
+run_done files engines workers steps wanted (Err stop) out out_new trace trace_new n d is h = absurd (not_stopped stop.trouble n is h)
 
 pub run_prints : (file : List ℕ) (engines workers steps : ℕ) (wanted : Option (List ℕ)) (files : Files) (out out_new err err_new trace trace_new : Held) (number : ℕ)
     → Owes (Run file engines workers steps wanted) files out out_new err err_new trace trace_new number → (number ≡ 0) ⊎ (number ≡ 4) → PrintsWhole files out out_new
 run_prints file engines workers steps wanted files out out_new err err_new trace trace_new number o h =
-    run_done files (engines + workers) steps (is_some wanted) o.ended out out_new trace trace_new number o.does o.number_is h
+    run_done files engines workers steps (is_some wanted) o.ended out out_new trace trace_new number o.does o.number_is h
 
 replay_done : (files : Files) (done : Result Status Stop) (out out_new : Held) (n : ℕ) → Replays files done out out_new → n ≡ number_of (status_of done) → IsQuiet n → PrintsWhole files out out_new
 replay_done files (Ok status) out out_new n d is h =
-    whole_printed files d.1.0 _ d.0 out out_new d.1.1 d.1.2.2.reports d.3 (quiet_end d.0.end d.0.blocked.items n (is ∙ ap number_of d.2) h)
+    whole_printed files d.1.0 d.0 out out_new d.1.1 (of_one d.1.0 _ d.0 d.1.2.2.reports) d.3 (quiet_end d.0.end d.0.blocked.items n (is ∙ ap number_of d.2) h)
 replay_done files (Err stop) out out_new n d is h = absurd (not_stopped stop.trouble n is h)
 
 pub replay_prints : (file events : List ℕ) (files : Files) (out out_new err err_new trace trace_new : Held) (number : ℕ)

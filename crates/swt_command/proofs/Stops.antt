@@ -13,10 +13,13 @@ use Rattle.swt_command.specs.Listings.{StopsListing}
 use Rattle.swt_command.specs.Means.{StopsMean}
 use Rattle.swt_trace.specs.declared.fault.ReplayFault.{ReplayFault}
 use Rattle.swt_trace.specs.declared.fault.ReplayFault.TheVariants as Faulty
+use Rattle.workers.specs.declared.fault.RunFault.{RunFault}
+use Rattle.workers.specs.declared.fault.RunFault.TheVariants as Run
 use Rattle.swt_trace.specs.Replay.{IsFirstNoStep}
 use Rattle.swt_trace.specs.Trace.{IsFirstBad, TraceText}
-use Rattle.swt_command.specs.Runs.{Ran, Runs, StopsAtTrace, StopsBeforeReplay, StopsBeforeRun, StopsReplay, StopsRun, Traces, report_status, stop_of}
+use Rattle.swt_command.specs.Runs.{IsBadCount, Ran, Runs, StopsAtTrace, StopsBeforeReplay, StopsBeforeRun, StopsReplay, StopsRun, Traces, report_status, stop_of}
 use Rattle.swt_command.specs.Sinks.{Held, Lost, Took}
+use Rattle.swt_command.specs.Troubles.{run_trouble}
 
 -- a command that stops before anything is written
 pub mean_stopped : (files : Files) (limit : ℕ) (t : Trouble) (out : Held) → StopsAt files 0 t → StopsMean files limit t out out
@@ -25,6 +28,8 @@ mean_stopped files limit (Is.Refused r) out h = (h, refl)
 mean_stopped files limit (Is.BadLine n) out h = (h, refl)
 mean_stopped files limit (Is.NotARun n) out h = (h, refl)
 mean_stopped files limit Is.BadCount out h = (h, refl)
+mean_stopped files limit Is.NoThread out h = (h, refl)
+mean_stopped files limit Is.Stranger out h = (h, refl)
 mean_stopped files limit Is.Memory out h = (h, refl)
 mean_stopped files limit Is.Unprinted out h = absurd h.2
 mean_stopped files limit Is.Untraced out h = (h, refl)
@@ -35,38 +40,44 @@ listing_stopped files (Is.Refused r) out h = (h, refl)
 listing_stopped files (Is.BadLine n) out h = (h, refl)
 listing_stopped files (Is.NotARun n) out h = (h, refl)
 listing_stopped files Is.BadCount out h = (h, refl)
+listing_stopped files Is.NoThread out h = (h, refl)
+listing_stopped files Is.Stranger out h = (h, refl)
 listing_stopped files Is.Memory out h = (h, refl)
 listing_stopped files Is.Unprinted out h = absurd h.2
 listing_stopped files Is.Untraced out h = (h, refl)
 
-pub run_stopped : (files : Files) (threads steps : ℕ) (wanted : Bool) (t : Trouble) (out trace : Held) → StopsBeforeRun files threads t → StopsRun files threads steps wanted t out out trace trace
-run_stopped files threads steps wanted Is.Unread out trace h = (h, refl, refl)
-run_stopped files threads steps wanted (Is.Refused r) out trace h = (h, refl, refl)
-run_stopped files threads steps wanted (Is.BadLine n) out trace h = (h, refl, refl)
-run_stopped files threads steps wanted (Is.NotARun n) out trace h = (h, refl, refl)
-run_stopped files threads steps wanted Is.BadCount out trace h = (h, refl, refl)
-run_stopped files threads steps wanted Is.Memory out trace h = (h, refl, refl)
-run_stopped files threads steps wanted Is.Unprinted out trace h = absurd h.2
-run_stopped files threads steps wanted Is.Untraced out trace h = absurd h.2
+pub run_stopped : (files : Files) (engines workers steps : ℕ) (wanted : Bool) (t : Trouble) (out trace : Held) → StopsBeforeRun files engines workers t → StopsRun files engines workers steps wanted t out out trace trace
+run_stopped files engines workers steps wanted Is.Unread out trace h = (h, refl, refl)
+run_stopped files engines workers steps wanted (Is.Refused r) out trace h = (h, refl, refl)
+run_stopped files engines workers steps wanted (Is.BadLine n) out trace h = (h, refl, refl)
+run_stopped files engines workers steps wanted (Is.NotARun n) out trace h = (h, refl, refl)
+run_stopped files engines workers steps wanted Is.BadCount out trace h = (h, refl, refl)
+run_stopped files engines workers steps wanted Is.NoThread out trace h = (h, refl, refl)
+run_stopped files engines workers steps wanted Is.Stranger out trace h = (h, refl, refl)
+run_stopped files engines workers steps wanted Is.Memory out trace h = (h, refl, refl)
+run_stopped files engines workers steps wanted Is.Unprinted out trace h = absurd h.2
+run_stopped files engines workers steps wanted Is.Untraced out trace h = absurd h.2
 
 -- a run whose report was printed, by what came of its trace
-pub run_traced : (files : Files) (threads steps : ℕ) (wanted : Bool) (report : Report) (r : Result Status Stop) (out out_new trace trace_new : Held) → Ran files threads steps report → Took out (ReportText report) out_new
+pub run_traced : (files : Files) (engines workers steps : ℕ) (wanted : Bool) (report : Report) (r : Result Status Stop) (out out_new trace trace_new : Held) → Ran files engines workers steps report → Took out (ReportText report) out_new
     → MatchResult r (λ status. (status ≡ report_status report) × Traces wanted report trace trace_new) (λ stop. (stop.place ≡ 0) × (stop.trouble ≡ Is.Untraced) × (wanted ≡ true) × Lost trace (TraceText report.history.items) trace_new)
-    → Runs files threads steps wanted r out out_new trace trace_new
-run_traced files threads steps wanted report (Ok status) out out_new trace trace_new ran took h = (report, ran, h.0, took, h.1)
-run_traced files threads steps wanted report (Err stop) out out_new trace trace_new ran took h =
-    (h.0, subst (λ (t : Trouble). StopsRun files threads steps wanted t out out_new trace trace_new) (sym h.1) (report, ran, took, h.2, h.3))
+    → Runs files engines workers steps wanted r out out_new trace trace_new
+run_traced files engines workers steps wanted report (Ok status) out out_new trace trace_new ran took h = (report, ran, h.0, took, h.1)
+run_traced files engines workers steps wanted report (Err stop) out out_new trace trace_new ran took h =
+    (h.0, subst (λ (t : Trouble). StopsRun files engines workers steps wanted t out out_new trace trace_new) (sym h.1) (report, ran, took, h.2, h.3))
 
 -- what stops at a script stops a run before it begins
-pub before_run : (files : Files) (threads : ℕ) (t : Trouble) → StopsAt files 0 t → StopsBeforeRun files threads t
-before_run files threads Is.Unread h = h
-before_run files threads (Is.Refused r) h = h
-before_run files threads (Is.BadLine n) h = h
-before_run files threads (Is.NotARun n) h = h
-before_run files threads Is.BadCount h = absurd h.2
-before_run files threads Is.Memory h = h
-before_run files threads Is.Unprinted h = h
-before_run files threads Is.Untraced h = h
+pub before_run : (files : Files) (engines workers : ℕ) (t : Trouble) → StopsAt files 0 t → StopsBeforeRun files engines workers t
+before_run files engines workers Is.Unread h = h
+before_run files engines workers (Is.Refused r) h = h
+before_run files engines workers (Is.BadLine n) h = h
+before_run files engines workers (Is.NotARun n) h = h
+before_run files engines workers Is.BadCount h = absurd h.2
+before_run files engines workers Is.NoThread h = absurd h.2
+before_run files engines workers Is.Stranger h = absurd h.2
+before_run files engines workers Is.Memory h = h
+before_run files engines workers Is.Unprinted h = h
+before_run files engines workers Is.Untraced h = h
 
 not_at_trace : (source : Option (List ℕ)) (code : Code) → StopsAtTrace source code Is.Unprinted → ⊥
 not_at_trace None code h = h
@@ -114,6 +125,15 @@ replay_stopped files place (Is.Refused r) out h = (h, refl)
 replay_stopped files place (Is.BadLine n) out h = (h, refl)
 replay_stopped files place (Is.NotARun n) out h = (h, refl)
 replay_stopped files place Is.BadCount out h = (h, refl)
+replay_stopped files place Is.NoThread out h = (h, refl)
+replay_stopped files place Is.Stranger out h = (h, refl)
 replay_stopped files place Is.Memory out h = (h, refl)
 replay_stopped files place Is.Unprinted out h = absurd (no_unprinted files place h)
 replay_stopped files place Is.Untraced out h = (h, refl)
+
+-- a run that gives no report
+pub no_report : (files : Files) (engines workers : ℕ) (code : Code) (fault : RunFault) → HasCode files 0 code → (fault ≡ Run.BadCount → IsBadCount engines workers) → StopsBeforeRun files engines workers (run_trouble fault)
+no_report files engines workers code Run.BadCount has bad = (code, has, bad refl)
+no_report files engines workers code Run.Stranger has bad = (code, has)
+no_report files engines workers code Run.Spawn has bad = (code, has)
+no_report files engines workers code Run.Memory (src, read, w) bad = (src, read, tt)

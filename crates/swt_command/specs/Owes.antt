@@ -1,5 +1,5 @@
 -- What a command owes for the files that its line names: what it prints, what it says of its failure, its trace and its status.
-use Rattle.std.specs.Prelude.{◌≡◌, ℕ, ◌+◌, List, Result, Ok, Err, is_some}
+use Rattle.std.specs.Prelude.{◌≡◌, ℕ, List, Result, Ok, Err, is_some}
 use Rattle.swt_line.specs.declared.line.Line.{Line}
 use Rattle.swt_line.specs.declared.line.Line.TheVariants.{Check, Mean, Code, Run, Replay}
 use Rattle.swt_line.specs.Lines.{files_of}
@@ -20,7 +20,7 @@ Does (Check names) files done out out_new trace trace_new = Checks names files d
 Does (Mean file rounds) files done out out_new trace trace_new = Means files rounds done out out_new × Kept trace trace_new
 Does (Code file dot) files done out out_new trace trace_new = Lists files done out out_new × Kept trace trace_new
 Does (Run file engines workers steps wanted) files done out out_new trace trace_new =
-    Runs files (engines + workers) steps (is_some wanted) done out out_new trace trace_new
+    Runs files engines workers steps (is_some wanted) done out out_new trace trace_new
 Does (Replay file events) files done out out_new trace trace_new = Replays files done out out_new × Kept trace trace_new
 
 -- a command that stops says why, of the file at which it does; any other says nothing

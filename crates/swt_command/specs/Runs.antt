@@ -1,16 +1,17 @@
 -- What `run` and `replay` owe: the report of a run of the script.
-use Rattle.std.specs.Prelude.{◌≡◌, ℕ, zero, suc, ◌<◌, ◌≤◌, Bool, true, false, List, [], ◌∷◌, Result, Ok, Err, Option, Some, None}
+use Rattle.std.specs.Prelude.{◌≡◌, ◌⊎◌, ℕ, zero, suc, ◌+◌, ◌<◌, Bool, true, false, List, [], ◌∷◌, Result, Ok, Err, Option, Some, None}
 use Rattle.task_code.specs.Code.{Code}
 use Rattle.board_frames.specs.declared.place.Statement.{Statement}
 use Rattle.runs.specs.declared.report.End.{End}
 use Rattle.runs.specs.declared.report.End.TheVariants as Was
 use Rattle.runs.specs.declared.report.Report.{Report}
-use Rattle.runs.specs.Report.{Reports}
 use Rattle.swt_trace.specs.declared.fault.ReplayFault.{ReplayFault}
 use Rattle.swt_trace.specs.declared.fault.ReplayFault.TheVariants as Faulty
 use Rattle.swt_trace.specs.Replay.{IsFirstNoStep, ReplaysTo}
 use Rattle.swt_trace.specs.Report.{ReportText}
 use Rattle.swt_trace.specs.Trace.{IsFirstBad, TraceText}
+use Rattle.workers.specs.declared.run.PoolCount.{PoolCount}
+use Rattle.workers.specs.Reports.{IsReport}
 use Rattle.swt_command.specs.declared.status.Status.{Status}
 use Rattle.swt_command.specs.declared.status.Status.TheVariants as Ends
 use Rattle.swt_command.specs.declared.stop.Stop.{Stop}
@@ -35,34 +36,40 @@ report_status r = end_status r.end r.blocked.items
 
 -- RUN
 
--- the report is of a run of the script's code, of so many events at most
-abbrev pub Ran : Files → (threads steps : ℕ) → Report → Type 0
-Ran files threads steps r = (code : Code) × HasCode files 0 code × (threads ≤ most_threads) × Reports code steps r
+-- no engine, no worker, or more of both than there may be
+abbrev pub IsBadCount : (engines workers : ℕ) → Type 0
+IsBadCount engines workers = (engines ≡ 0) ⊎ ((workers ≡ 0) ⊎ (most_threads < engines + workers))
+
+-- the report is of a run of the script's code by so many engines and workers, of so many events at most
+abbrev pub Ran : Files → (engines workers steps : ℕ) → Report → Type 0
+Ran files engines workers steps r = (code : Code) × HasCode files 0 code × ¬ IsBadCount engines workers × ((p : PoolCount) × IsReport code steps engines workers r p)
 
 -- the trace was written where it is wanted
 abbrev pub Traces : (wanted : Bool) → Report → Held → Held → Type 0
 Traces true r trace new = Took trace (TraceText r.history.items) new
 Traces false r trace new = Kept trace new
 
--- before the run: the file cannot be read or its script is refused, there are too many threads, or memory was refused
-abbrev pub StopsBeforeRun : Files → (threads : ℕ) → Trouble → Type 0
-StopsBeforeRun files threads Is.BadCount = (code : Code) × HasCode files 0 code × (most_threads < threads)
-StopsBeforeRun files threads trouble = StopsAt files 0 trouble
+-- before there is a report: the file cannot be read or its script is refused, there cannot be so many engines and workers, a thread could not be started, the threads' counts are not what the board shows, or memory was refused
+abbrev pub StopsBeforeRun : Files → (engines workers : ℕ) → Trouble → Type 0
+StopsBeforeRun files engines workers Is.BadCount = (code : Code) × HasCode files 0 code × IsBadCount engines workers
+StopsBeforeRun files engines workers Is.NoThread = (code : Code) × HasCode files 0 code
+StopsBeforeRun files engines workers Is.Stranger = (code : Code) × HasCode files 0 code
+StopsBeforeRun files engines workers trouble = StopsAt files 0 trouble
 
 -- a write of the report or of the trace failed; or the command stopped before, with nothing written
-abbrev pub StopsRun : Files → (threads steps : ℕ) → (wanted : Bool) → Trouble → (out out_new trace trace_new : Held) → Type 0
-StopsRun files threads steps wanted Is.Unprinted out out_new trace trace_new =
-    (r : Report) × Ran files threads steps r × Lost out (ReportText r) out_new × Kept trace trace_new
-StopsRun files threads steps wanted Is.Untraced out out_new trace trace_new =
-    (r : Report) × Ran files threads steps r × Took out (ReportText r) out_new × (wanted ≡ true) × Lost trace (TraceText r.history.items) trace_new
-StopsRun files threads steps wanted trouble out out_new trace trace_new = StopsBeforeRun files threads trouble × Kept out out_new × Kept trace trace_new
+abbrev pub StopsRun : Files → (engines workers steps : ℕ) → (wanted : Bool) → Trouble → (out out_new trace trace_new : Held) → Type 0
+StopsRun files engines workers steps wanted Is.Unprinted out out_new trace trace_new =
+    (r : Report) × Ran files engines workers steps r × Lost out (ReportText r) out_new × Kept trace trace_new
+StopsRun files engines workers steps wanted Is.Untraced out out_new trace trace_new =
+    (r : Report) × Ran files engines workers steps r × Took out (ReportText r) out_new × (wanted ≡ true) × Lost trace (TraceText r.history.items) trace_new
+StopsRun files engines workers steps wanted trouble out out_new trace trace_new = StopsBeforeRun files engines workers trouble × Kept out out_new × Kept trace trace_new
 
 -- the report was printed, and then its trace was written where it is wanted; or the command stops
-abbrev pub Runs : Files → (threads steps : ℕ) → (wanted : Bool) → Result Status Stop → (out out_new trace trace_new : Held) → Type 0
-Runs files threads steps wanted (Ok status) out out_new trace trace_new =
-    (r : Report) × Ran files threads steps r × (status ≡ report_status r) × Took out (ReportText r) out_new × Traces wanted r trace trace_new
-Runs files threads steps wanted (Err stop) out out_new trace trace_new =
-    (stop.place ≡ 0) × StopsRun files threads steps wanted stop.trouble out out_new trace trace_new
+abbrev pub Runs : Files → (engines workers steps : ℕ) → (wanted : Bool) → Result Status Stop → (out out_new trace trace_new : Held) → Type 0
+Runs files engines workers steps wanted (Ok status) out out_new trace trace_new =
+    (r : Report) × Ran files engines workers steps r × (status ≡ report_status r) × Took out (ReportText r) out_new × Traces wanted r trace trace_new
+Runs files engines workers steps wanted (Err stop) out out_new trace trace_new =
+    (stop.place ≡ 0) × StopsRun files engines workers steps wanted stop.trouble out out_new trace trace_new
 
 -- REPLAY
 

@@ -2,6 +2,8 @@
 use Rattle.std.specs.Prelude.{ℕ, List, ◌++◌, Option, Some, None, codes}
 use Rattle.std.specs.Fmt.{decimal}
 use Rattle.swt_trace.specs.Report.{text_line}
+use Rattle.workers.specs.declared.fault.RunFault.{RunFault}
+use Rattle.workers.specs.declared.fault.RunFault.TheVariants as Run
 use Rattle.swt_command.specs.declared.refusal.Refusal.{Refusal}
 use Rattle.swt_command.specs.declared.status.Status.{Status}
 use Rattle.swt_command.specs.declared.status.Status.TheVariants as Ends
@@ -16,6 +18,8 @@ trouble_line (Is.Refused r) file = text_line (codes "swt: refused " ++ refusal_t
 trouble_line (Is.BadLine n) file = text_line (codes "swt: T1 BadLine " ++ decimal n)
 trouble_line (Is.NotARun n) file = text_line (codes "swt: T2 NotARun " ++ decimal n)
 trouble_line Is.BadCount file = text_line (codes "swt: bad count")
+trouble_line Is.NoThread file = text_line (codes "swt: no thread")
+trouble_line Is.Stranger file = text_line (codes "swt: stranger")
 trouble_line Is.Memory file = text_line (codes "swt: no memory")
 trouble_line Is.Unprinted file = text_line (codes "swt: cannot write")
 trouble_line Is.Untraced file = text_line (codes "swt: cannot write")
@@ -26,6 +30,8 @@ trouble_status (Is.Refused r) = Ends.Refused
 trouble_status (Is.BadLine n) = Ends.Failed
 trouble_status (Is.NotARun n) = Ends.Failed
 trouble_status Is.BadCount = Ends.Usage
+trouble_status Is.NoThread = Ends.Failed
+trouble_status Is.Stranger = Ends.Failed
 trouble_status Is.Memory = Ends.Memory
 trouble_status Is.Unprinted = Ends.Failed
 trouble_status Is.Untraced = Ends.Failed
@@ -34,3 +40,10 @@ trouble_status Is.Untraced = Ends.Failed
 abbrev pub trouble_of : Option Refusal → Trouble
 trouble_of None = Is.Memory
 trouble_of (Some r) = Is.Refused r
+
+-- the trouble with a run that gives no report
+abbrev pub run_trouble : RunFault → Trouble
+run_trouble Run.BadCount = Is.BadCount
+run_trouble Run.Stranger = Is.Stranger
+run_trouble Run.Spawn = Is.NoThread
+run_trouble Run.Memory = Is.Memory

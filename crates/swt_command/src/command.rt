@@ -13,6 +13,8 @@ use crate::status::Status;
 use crate::stop::Stop;
 use crate::trouble::tell;
 use std::alloc::Global;
+use std::sync::Wait;
+use std::thread::Threads;
 use swt_line::line::Line;
 use swt_line::word::Word;
 use values::sink::Sink;
@@ -21,8 +23,9 @@ use values::sink::Sink;
 /// cannot be read. The answer is the status of the process.
 ///
 /// What the command prints goes to `out`, what it says of its failure to `err`, and the trace of a run, where the line wants
-/// one, to `trace`. A write to `err` that fails changes no status.
-pub fn command<O: Sink, E: Sink, S: Sink>(
+/// one, to `trace`. A write to `err` that fails changes no status. `rt` starts the threads of a run and waits for them.
+pub fn command<R: Threads + Wait + Sync, O: Sink, E: Sink, S: Sink>(
+    rt: &R,
     alloc: Global,
     line: &Line,
     files: &[Option<Vec<u8>>],
@@ -38,7 +41,7 @@ pub fn command<O: Sink, E: Sink, S: Sink>(
         (held (E.taken err.old) (E.failures err.old)) (held (E.taken err.new) (E.failures err.new))
         (held (S.taken trace.old) (S.failures trace.old)) (held (S.taken trace.new) (S.failures trace.new)) result }
 {
-    match perform(alloc, line, files, out, trace) {
+    match perform(rt, alloc, line, files, out, trace) {
         Ok(status) => status.number(),
         Err(stop) => {
             let _ = tell(stop.trouble, name_of(line, stop.place), err);
@@ -48,7 +51,8 @@ pub fn command<O: Sink, E: Sink, S: Sink>(
 }
 
 /// Does the line's command.
-fn perform<O: Sink, S: Sink>(
+fn perform<R: Threads + Wait + Sync, O: Sink, S: Sink>(
+    rt: &R,
     alloc: Global,
     line: &Line,
     files: &[Option<Vec<u8>>],
@@ -71,8 +75,10 @@ fn perform<O: Sink, S: Sink>(
             trace: wanted,
             ..
         } => {
-            let threads = *engines as u16 + *workers as u16;
-            run(alloc, files, threads, *steps, wanted.is_some(), out, trace)
+            let is_wanted = wanted.is_some();
+            run(
+                rt, alloc, files, *engines, *workers, *steps, is_wanted, out, trace,
+            )
         }
         Line::Code { dot, .. } => code(alloc, files, *dot, out),
         Line::Replay { .. } => replay(alloc, files, out),

@@ -12,7 +12,7 @@ ghost use Rattle.runs.specs.Report.{Reports};
 ghost use Rattle.compile.specs.Compiled.{IsCompiled};
 ghost use Rattle.swt_line.specs.declared.line.Line.{Line};
 ghost use Rattle.swt_line.specs.declared.line.Line.TheVariants.{Run, Replay};
-ghost use Rattle.swt_command.specs.Causes.{AsksTooMuch, SomeRefused};
+ghost use Rattle.swt_command.specs.Causes.{AsksBadly, SomeRefused};
 ghost use Rattle.swt_command.specs.Files.{Files};
 ghost use Rattle.swt_command.specs.OneThread.{IsWhole, IsScriptFault, PrintsWhole};
 ghost use Rattle.swt_command.specs.Owes.{Owes};
@@ -39,11 +39,11 @@ pub fn runs_print_the_meaning()
         → Owes (Replay file events) files out out_new err err_new trace trace_new number → (number ≡ 0) ⊎ (number ≡ 4) → PrintsWhole files out out_new }
 {}
 
-/// A process ends with status 1 only where its command refuses the text of a file, and with status 2 only where its line asks for too
-/// many engines and workers.
+/// A process ends with status 1 only where its command refuses the text of a file, and with status 2 only where its line asks for
+/// engines and workers that there cannot be.
 pub fn statuses_tell()
     ensures refused { (line : Line) (files : Files) (out out_new err err_new trace trace_new : Held) (number : ℕ)
         → Owes line files out out_new err err_new trace trace_new number → number ≡ 1 → SomeRefused files }
     ensures usage { (line : Line) (files : Files) (out out_new err err_new trace trace_new : Held) (number : ℕ)
-        → Owes line files out out_new err err_new trace trace_new number → number ≡ 2 → AsksTooMuch line }
+        → Owes line files out out_new err err_new trace trace_new number → number ≡ 2 → AsksBadly line }
 {}

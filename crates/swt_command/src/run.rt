@@ -4,33 +4,37 @@ ghost use Rattle.swt_trace.specs.Trace.{TraceText};
 ghost use Rattle.swt_command.specs.Files.{contents};
 ghost use Rattle.swt_command.specs.Runs.{Ran, Replayed, Replays, Runs, StopsBeforeReplay, StopsBeforeRun, Traces, report_status, stop_of};
 ghost use Rattle.swt_command.specs.Sinks.{Lost, held};
+ghost use Rattle.swt_command.specs.Troubles.{run_trouble};
 
 use crate::status::Status;
 use crate::stop::{Stop, code_of, source};
 use crate::trouble::Trouble;
-use runs::one::run_one;
 use runs::report::{End, Report};
 use std::alloc::Global;
+use std::sync::Wait;
+use std::thread::Threads;
 use swt_trace::fault::ReplayFault;
 use swt_trace::replay::replay as replay_trace;
 use swt_trace::report::write_report;
 use swt_trace::write::write_trace;
 use values::sink::Sink;
+use workers::fault::RunFault;
+use workers::job::Open;
+use workers::run::run_threads;
 
-/// The most engines and workers together.
-const MOST_THREADS: u16 = 64;
-
-/// Runs a script on one thread for so many events at most and prints the report, and then writes its trace where it is wanted.
-/// The engines and workers are only counted.
+/// Runs a script on threads, so many engines and so many workers, for so many events at most; prints the report, and then writes
+/// its trace where it is wanted.
 ///
 /// # Errors
 ///
-/// The script could not be read or was refused, there were too many engines and workers, memory was refused, or a text could
-/// not be written.
-pub fn run<O: Sink, S: Sink>(
+/// The script could not be read or was refused, there cannot be so many engines and workers, a thread could not be started, the
+/// threads' counts were not what the board showed, memory was refused, or a text could not be written.
+pub fn run<R: Threads + Wait + Sync, O: Sink, S: Sink>(
+    rt: &R,
     alloc: Global,
     files: &[Option<Vec<u8>>],
-    threads: u16,
+    engines: u8,
+    workers: u8,
     steps: u32,
     wanted: bool,
     out: &mut O,
@@ -38,11 +42,11 @@ pub fn run<O: Sink, S: Sink>(
 ) -> Result<Status, Stop>
     requires out { O.failures out.old < u64.MAX }
     requires trace { S.failures trace.old < u64.MAX }
-    ensures { Runs (contents files.now) threads steps wanted result
+    ensures { Runs (contents files.now) engines workers steps wanted result
         (held (O.taken out.old) (O.failures out.old)) (held (O.taken out.new) (O.failures out.new))
         (held (S.taken trace.old) (S.failures trace.old)) (held (S.taken trace.new) (S.failures trace.new)) }
 {
-    let report = ran(alloc, files, threads, steps)?;
+    let report = ran(rt, alloc, files, engines, workers, steps)?;
     match write_report(&report, out) {
         Ok(()) => traced(&report, wanted, trace),
         Err(_failed) => Err(Stop {
@@ -74,23 +78,36 @@ fn traced<S: Sink>(report: &Report, wanted: bool, trace: &mut S) -> Result<Statu
 }
 
 /// The report of a run.
-fn ran(alloc: Global, files: &[Option<Vec<u8>>], threads: u16, steps: u32) -> Result<Report, Stop>
-    ensures { MatchResult result (Ran (contents files.now) threads steps)
-        (λ stop. (stop.place ≡ 0) × StopsBeforeRun (contents files.now) threads stop.trouble) }
+fn ran<R: Threads + Wait + Sync>(
+    rt: &R,
+    alloc: Global,
+    files: &[Option<Vec<u8>>],
+    engines: u8,
+    workers: u8,
+    steps: u32,
+) -> Result<Report, Stop>
+    ensures { MatchResult result (Ran (contents files.now) engines workers steps)
+        (λ stop. (stop.place ≡ 0) × StopsBeforeRun (contents files.now) engines workers stop.trouble) }
 {
     let code = code_of(alloc, files)?;
-    if threads > MOST_THREADS {
-        return Err(Stop {
+    match run_threads(rt, alloc, &code, engines, workers, steps, &Open) {
+        Ok((report, _count)) => Ok(report),
+        Err(fault) => Err(Stop {
             place: 0,
-            trouble: Trouble::BadCount,
-        });
-    }
-    match run_one(alloc, &code, &[], steps) {
-        Ok(report) => Ok(report),
-        Err(_refused) => Err(Stop {
-            place: 0,
-            trouble: Trouble::Memory,
+            trouble: trouble_of(fault),
         }),
+    }
+}
+
+/// The trouble with a run that gives no report.
+fn trouble_of(fault: RunFault) -> Trouble
+    ensures { result ≡ run_trouble fault }
+{
+    match fault {
+        RunFault::BadCount => Trouble::BadCount,
+        RunFault::Stranger => Trouble::Stranger,
+        RunFault::Spawn => Trouble::NoThread,
+        RunFault::Memory => Trouble::Memory,
     }
 }
 

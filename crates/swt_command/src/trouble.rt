@@ -20,8 +20,12 @@ pub enum Trouble {
     BadLine(u64),
     /// This line's event is no step of the script's code.
     NotARun(u64),
-    /// More than 64 engines and workers.
+    /// No engine, no worker, or more than 64 of both.
     BadCount,
+    /// A thread could not be started.
+    NoThread,
+    /// What the threads counted is not what the board shows.
+    Stranger,
     /// Memory that was asked for was refused.
     Memory,
     /// What was to be printed could not be written.
@@ -41,6 +45,8 @@ impl Trouble {
             Trouble::BadLine(_) => Status::Failed,
             Trouble::NotARun(_) => Status::Failed,
             Trouble::BadCount => Status::Usage,
+            Trouble::NoThread => Status::Failed,
+            Trouble::Stranger => Status::Failed,
             Trouble::Memory => Status::Memory,
             Trouble::Unprinted => Status::Failed,
             Trouble::Untraced => Status::Failed,
@@ -86,6 +92,8 @@ pub fn tell<E: Sink>(trouble: Trouble, file: &str, err: &mut E) -> Result<(), Si
             )
         }
         Trouble::BadCount => write_parts(err, b"swt: ", b"bad count", b"\n"),
+        Trouble::NoThread => write_parts(err, b"swt: ", b"no thread", b"\n"),
+        Trouble::Stranger => write_parts(err, b"swt: ", b"stranger", b"\n"),
         Trouble::Memory => write_parts(err, b"swt: ", b"no memory", b"\n"),
         Trouble::Unprinted => write_parts(err, b"swt: ", b"cannot write", b"\n"),
         Trouble::Untraced => write_parts(err, b"swt: ", b"cannot write", b"\n"),
