@@ -1,6 +1,9 @@
 //! Commands on small scripts: what they print, what they say, the trace, and the status.
 use crate::doing::{Small, WIDE, perform};
+use std::alloc::Global;
+use std::sync::Wait;
 use std::test::Fail;
+use std::thread::Threads;
 use swt_command::trouble::{Trouble, tell};
 
 const HELLO: &[u8] = b"printf(\"hello\");";
@@ -10,18 +13,24 @@ const TWICE: &[u8] = b"int x = 1; x = 2;";
 const TRACE: &[u8] = b"swt-trace 1\nB 0 1\nE 0 1\n";
 
 /// What a command printed, said and traced, and its status, in one text.
-fn done_in(
-    rt: &HostRuntime,
+fn done_in<R: Threads + Wait + Sync>(
+    rt: &R,
+    alloc: Global,
     words: &[&str],
     sources: &[Option<&[u8]>],
     rooms: (usize, usize),
 ) -> Result<String, Fail> {
-    perform(rt, words, sources, rooms)?.text(rt.alloc())
+    perform(rt, alloc, words, sources, rooms)?.text(alloc)
 }
 
 /// The same for one file, with room for all.
-fn done(rt: &HostRuntime, words: &[&str], source: &[u8]) -> Result<String, Fail> {
-    done_in(rt, words, &[Some(source)], WIDE)
+fn done<R: Threads + Wait + Sync>(
+    rt: &R,
+    alloc: Global,
+    words: &[&str],
+    source: &[u8],
+) -> Result<String, Fail> {
+    done_in(rt, alloc, words, &[Some(source)], WIDE)
 }
 
 #[test]
@@ -82,9 +91,17 @@ fn runs_scripts(rt: HostRuntime) -> Result<(), Fail> {
         ),
     ];
     for (source, wanted) in rows {
-        assert_eq!(rt; done(&rt, &["run", "f"], source)?.as_str(), wanted);
+        assert_eq!(rt;
+            done(&rt, rt.alloc(), &["run", "f"], source)?.as_str(),
+            wanted
+        );
     }
-    let both = done(&rt, &["run", "f"], b"printf(\"a\"); @prio=5 printf(\"b\");")?;
+    let both = done(
+        &rt,
+        rt.alloc(),
+        &["run", "f"],
+        b"printf(\"a\"); @prio=5 printf(\"b\");",
+    )?;
     assert!(rt; both.as_str() == "a\nb\n|||0" || both.as_str() == "b\na\n|||0");
     Ok(())
 }
@@ -119,7 +136,7 @@ fn takes_options(rt: HostRuntime) -> Result<(), Fail> {
         (&["code", "f"], "body 0 script\n  1 leaf print 0 0\n|||0"),
     ];
     for (words, wanted) in rows {
-        assert_eq!(rt; done(&rt, words, HELLO)?.as_str(), wanted);
+        assert_eq!(rt; done(&rt, rt.alloc(), words, HELLO)?.as_str(), wanted);
     }
     Ok(())
 }
@@ -127,7 +144,7 @@ fn takes_options(rt: HostRuntime) -> Result<(), Fail> {
 #[test]
 fn says_what_scripts_mean(rt: HostRuntime) -> Result<(), Fail> {
     let swapped = b"int x; int y; x = y + 1; y = 2; printf(\"%i\", x);";
-    let cut = done(&rt, &["mean", "f", "--rounds", "2"], swapped)?;
+    let cut = done(&rt, rt.alloc(), &["mean", "f", "--rounds", "2"], swapped)?;
     assert_eq!(rt; cut.as_str(), "swt: blocked 32 /\nswt: limit 2\n|||5");
     let rows: [(&[u8], &str); 5] = [
         (swapped, "3\n|||0"),
@@ -146,7 +163,10 @@ fn says_what_scripts_mean(rt: HostRuntime) -> Result<(), Fail> {
         ),
     ];
     for (source, wanted) in rows {
-        assert_eq!(rt; done(&rt, &["mean", "f"], source)?.as_str(), wanted);
+        assert_eq!(rt;
+            done(&rt, rt.alloc(), &["mean", "f"], source)?.as_str(),
+            wanted
+        );
     }
     Ok(())
 }
@@ -155,7 +175,7 @@ fn says_what_scripts_mean(rt: HostRuntime) -> Result<(), Fail> {
 fn checks_scripts(rt: HostRuntime) -> Result<(), Fail> {
     let alloc = rt.alloc();
     assert_eq!(rt;
-        done(&rt, &["check", "f"], HELLO)?.as_str(),
+        done(&rt, rt.alloc(), &["check", "f"], HELLO)?.as_str(),
         "f: accepted\n|||0"
     );
     let rows: [(&[u8], &str); 19] = [
@@ -188,7 +208,7 @@ fn checks_scripts(rt: HostRuntime) -> Result<(), Fail> {
     for (source, wanted) in rows {
         let wanted = format!(in alloc; "f: refused {wanted}\n|||1")?;
         assert_eq!(rt;
-            done(&rt, &["check", "f"], source)?.as_str(),
+            done(&rt, rt.alloc(), &["check", "f"], source)?.as_str(),
             wanted.as_str()
         );
     }
@@ -207,7 +227,7 @@ fn accepts_the_whole_language(rt: HostRuntime) -> Result<(), Fail> {
     ];
     for script in scripts {
         assert_eq!(rt;
-            done(&rt, &["check", "f"], script)?.as_str(),
+            done(&rt, rt.alloc(), &["check", "f"], script)?.as_str(),
             "f: accepted\n|||0"
         );
     }
@@ -229,30 +249,34 @@ fn replays_traces(rt: HostRuntime) -> Result<(), Fail> {
     for (trace, wanted) in rows {
         let sources = [Some(HELLO), Some(trace)];
         let words = ["replay", "f", "t"];
-        assert_eq!(rt; done_in(&rt, &words, &sources, WIDE)?.as_str(), wanted);
+        assert_eq!(rt;
+            done_in(&rt, rt.alloc(), &words, &sources, WIDE)?.as_str(),
+            wanted
+        );
     }
     Ok(())
 }
 
 /// Whether a command with these rooms for what is printed and for the trace did so.
-fn does(
-    rt: &HostRuntime,
+fn does<R: Threads + Wait + Sync>(
+    rt: &R,
+    alloc: Global,
     words: &[&str],
     sources: &[Option<&[u8]>],
     rooms: (usize, usize),
     wanted: &str,
 ) -> Result<bool, Fail> {
-    let text = done_in(rt, words, sources, rooms)?;
+    let text = done_in(rt, alloc, words, sources, rooms)?;
     Ok(text.as_str() == wanted)
 }
 
 #[test]
 fn stops_at_a_file(rt: HostRuntime) -> Result<(), Fail> {
     let lacks = "|swt: cannot read f\n||7";
-    assert!(rt; does(&rt, &["run", "f"], &[None], WIDE, lacks)?);
-    assert!(rt; does(&rt, &["mean", "f"], &[None], WIDE, lacks)?);
+    assert!(rt; does(&rt, rt.alloc(), &["run", "f"], &[None], WIDE, lacks)?);
+    assert!(rt; does(&rt, rt.alloc(), &["mean", "f"], &[None], WIDE, lacks)?);
     let none = "|swt: cannot read a\n||7";
-    assert!(rt; does(&rt, &["check", "a"], &[], WIDE, none)?);
+    assert!(rt; does(&rt, rt.alloc(), &["check", "a"], &[], WIDE, none)?);
     Ok(())
 }
 
@@ -260,11 +284,11 @@ fn stops_at_a_file(rt: HostRuntime) -> Result<(), Fail> {
 fn stops_at_a_trace(rt: HostRuntime) -> Result<(), Fail> {
     let words = ["replay", "f", "t"];
     let lacks = "|swt: cannot read f\n||7";
-    assert!(rt; does(&rt, &words, &[None, None], WIDE, lacks)?);
+    assert!(rt; does(&rt, rt.alloc(), &words, &[None, None], WIDE, lacks)?);
     let lacks = "|swt: cannot read t\n||7";
-    assert!(rt; does(&rt, &words, &[Some(HELLO), None], WIDE, lacks)?);
+    assert!(rt; does(&rt, rt.alloc(), &words, &[Some(HELLO), None], WIDE, lacks)?);
     let refused = "|swt: refused S1 AssignedTwice 11 12\n||1";
-    assert!(rt; does(&rt, &words, &[Some(TWICE), None], WIDE, refused)?);
+    assert!(rt; does(&rt, rt.alloc(), &words, &[Some(TWICE), None], WIDE, refused)?);
     Ok(())
 }
 
@@ -272,10 +296,19 @@ fn stops_at_a_trace(rt: HostRuntime) -> Result<(), Fail> {
 fn checks_files_up_to_one_that_lacks(rt: HostRuntime) -> Result<(), Fail> {
     let all = "a: refused S1 AssignedTwice 11 12\nb: accepted\n|||1";
     let sources = [Some(TWICE), Some(HELLO)];
-    assert!(rt; does(&rt, &["check", "a", "b"], &sources, WIDE, all)?);
+    assert!(rt; does(&rt, rt.alloc(), &["check", "a", "b"], &sources, WIDE, all)?);
     let part = "a: refused S1 AssignedTwice 11 12\n|swt: cannot read b\n||7";
     let sources = [Some(TWICE), None, Some(HELLO)];
-    assert!(rt; does(&rt, &["check", "a", "b", "c"], &sources, WIDE, part)?);
+    assert!(rt;
+        does(
+            &rt,
+            rt.alloc(),
+            &["check", "a", "b", "c"],
+            &sources,
+            WIDE,
+            part
+        )?
+    );
     Ok(())
 }
 
@@ -283,11 +316,20 @@ fn checks_files_up_to_one_that_lacks(rt: HostRuntime) -> Result<(), Fail> {
 fn stops_at_a_write(rt: HostRuntime) -> Result<(), Fail> {
     let words = ["run", "f", "--trace", "t"];
     let part = "hel|swt: cannot write\n||7";
-    assert!(rt; does(&rt, &words, &[Some(HELLO)], (3, 1000), part)?);
+    assert!(rt; does(&rt, rt.alloc(), &words, &[Some(HELLO)], (3, 1000), part)?);
     let part = "hello\n|swt: cannot write\n|swt-trace 1\nB 0 1\nE |7";
-    assert!(rt; does(&rt, &words, &[Some(HELLO)], (6, 20), part)?);
+    assert!(rt; does(&rt, rt.alloc(), &words, &[Some(HELLO)], (6, 20), part)?);
     let part = "|swt: cannot write\n||7";
-    assert!(rt; does(&rt, &["mean", "f"], &[Some(HELLO)], (0, 0), part)?);
+    assert!(rt;
+        does(
+            &rt,
+            rt.alloc(),
+            &["mean", "f"],
+            &[Some(HELLO)],
+            (0, 0),
+            part
+        )?
+    );
     Ok(())
 }
 
@@ -295,10 +337,28 @@ fn stops_at_a_write(rt: HostRuntime) -> Result<(), Fail> {
 fn stops_at_a_write_among_others(rt: HostRuntime) -> Result<(), Fail> {
     let part = "a: accepted\nb:|swt: cannot write\n||7";
     let sources = [Some(HELLO), Some(HELLO)];
-    assert!(rt; does(&rt, &["check", "a", "b"], &sources, (14, 0), part)?);
+    assert!(rt;
+        does(
+            &rt,
+            rt.alloc(),
+            &["check", "a", "b"],
+            &sources,
+            (14, 0),
+            part
+        )?
+    );
     let part = "swt: limit 2|swt: cannot write\n||7";
     let sources = [Some(HELLO), Some(TRACE)];
-    assert!(rt; does(&rt, &["replay", "f", "t"], &sources, (12, 0), part)?);
+    assert!(rt;
+        does(
+            &rt,
+            rt.alloc(),
+            &["replay", "f", "t"],
+            &sources,
+            (12, 0),
+            part
+        )?
+    );
     Ok(())
 }
 

@@ -1,6 +1,8 @@
 //! Commands over files in memory, with sinks that take one byte a write.
 use std::alloc::Global;
+use std::sync::Wait;
 use std::test::Fail;
+use std::thread::Threads;
 use swt_command::command::command;
 use swt_line::line::Line;
 use values::sink::{Sink, SinkFault};
@@ -74,13 +76,13 @@ impl Done {
 }
 
 /// Does a command. `None` is a file that cannot be read; the first room is for what is printed, the second for the trace.
-pub(crate) fn perform(
-    rt: &HostRuntime,
+pub(crate) fn perform<R: Threads + Wait + Sync>(
+    rt: &R,
+    alloc: Global,
     words: &[&str],
     sources: &[Option<&[u8]>],
     rooms: (usize, usize),
 ) -> Result<Done, Fail> {
-    let alloc = rt.alloc();
     let mut list = Vec::new(alloc);
     for word in words {
         list.push(String::from_str(alloc, word)?)?;

@@ -1,31 +1,51 @@
 //! Scripts of the whole language: what a run prints, and its trace run again, which prints the same.
 use crate::doing::{WIDE, perform, sorted_lines};
+use std::alloc::Global;
+use std::sync::Wait;
 use std::test::Fail;
+use std::thread::Threads;
 
 /// Whether a run of the script prints these lines in some order, says nothing, and ends with this status, and its trace run again
 /// prints the same.
-fn runs_to(rt: &HostRuntime, script: &[u8], wanted: &[u8], status: u8) -> Result<bool, Fail> {
-    let run = perform(rt, &["run", "f", "--trace", "t"], &[Some(script)], WIDE)?;
+fn runs_to<R: Threads + Wait + Sync>(
+    rt: &R,
+    alloc: Global,
+    script: &[u8],
+    wanted: &[u8],
+    status: u8,
+) -> Result<bool, Fail> {
+    let run = perform(
+        rt,
+        alloc,
+        &["run", "f", "--trace", "t"],
+        &[Some(script)],
+        WIDE,
+    )?;
     let trace = run.trace.as_slice();
     let again = perform(
         rt,
+        alloc,
         &["replay", "f", "t"],
         &[Some(script), Some(trace)],
         WIDE,
     )?;
-    let alloc = rt.alloc();
     let printed = sorted_lines(alloc, run.out.as_slice())?;
     let has_lines = printed.as_slice() == sorted_lines(alloc, wanted)?.as_slice();
     let is_wanted = has_lines && run.err.is_empty() && run.status == status;
-    let is_same = again.out.as_slice() == run.out.as_slice() && again.err.is_empty()
+    let is_same = again.out.as_slice() == run.out.as_slice()
+        && again.err.is_empty()
         && again.status == status;
     Ok(is_wanted && is_same)
 }
 
 /// The first of these scripts that does not run to what stands beside it.
-fn first_other(rt: &HostRuntime, rows: &[(&[u8], &[u8], u8)]) -> Result<Option<usize>, Fail> {
+fn first_other<R: Threads + Wait + Sync>(
+    rt: &R,
+    alloc: Global,
+    rows: &[(&[u8], &[u8], u8)],
+) -> Result<Option<usize>, Fail> {
     for (place, (script, wanted, status)) in rows.iter().enumerate() {
-        if !runs_to(rt, script, wanted, *status)? {
+        if !runs_to(rt, alloc, script, wanted, *status)? {
             return Ok(Some(place));
         }
     }
@@ -82,7 +102,7 @@ fn branches_waits_and_calls(rt: HostRuntime) -> Result<(), Fail> {
             4,
         ),
     ];
-    assert_eq!(rt; first_other(&rt, &rows)?, None);
+    assert_eq!(rt; first_other(&rt, rt.alloc(), &rows)?, None);
     Ok(())
 }
 
@@ -137,7 +157,7 @@ fn arrays_and_loops(rt: HostRuntime) -> Result<(), Fail> {
             4,
         ),
     ];
-    assert_eq!(rt; first_other(&rt, &rows)?, None);
+    assert_eq!(rt; first_other(&rt, rt.alloc(), &rows)?, None);
     Ok(())
 }
 
@@ -175,7 +195,7 @@ fn faults(rt: HostRuntime) -> Result<(), Fail> {
             3,
         ),
     ];
-    assert_eq!(rt; first_other(&rt, &rows)?, None);
+    assert_eq!(rt; first_other(&rt, rt.alloc(), &rows)?, None);
     Ok(())
 }
 
@@ -188,7 +208,7 @@ fn long_loop(rt: HostRuntime) -> Result<(), Fail> {
         wanted.extend_from_slice(format!(in alloc; "{i}\n")?.as_str().as_bytes())?;
     }
     let script = b"foreach i in [1:1000] { printf(\"%i\", i); }";
-    assert!(rt; runs_to(&rt, script, wanted.as_slice(), 0)?);
+    assert!(rt; runs_to(&rt, alloc, script, wanted.as_slice(), 0)?);
     Ok(())
 }
 
@@ -203,6 +223,6 @@ fn too_deep(rt: HostRuntime) -> Result<(), Fail> {
     }
     wanted.push(b'\n')?;
     let script = b"(int r) f(int n) { r = f(n + 1); } printf(\"%i\", f(0));";
-    assert!(rt; runs_to(&rt, script, wanted.as_slice(), 3)?);
+    assert!(rt; runs_to(&rt, alloc, script, wanted.as_slice(), 3)?);
     Ok(())
 }

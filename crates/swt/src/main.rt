@@ -5,6 +5,8 @@ use std::alloc::AllocError;
 use std::io::{self, Write};
 use std::path::PathBuf;
 use std::process::ExitCode;
+use std::sync::Wait;
+use std::thread::Threads;
 use std::{env, fs};
 use swt_command::buffer::Buffer;
 use swt_command::command::command;
@@ -15,7 +17,7 @@ use swt_line::word::Word;
 
 fn main(rt: HostRuntime) -> ExitCode {
     let status = match line(&rt) {
-        Ok(line) => match perform(&rt, &line) {
+        Ok(line) => match perform(&rt, &rt, &line) {
             Ok(status) => status,
             Err(AllocError) => say(&rt, Status::Memory),
         },
@@ -44,8 +46,13 @@ fn line(rt: &HostRuntime) -> Result<Line, LineFault> {
     Line::read(rt.alloc(), words)
 }
 
-/// Does the line's command, and writes what it printed. The answer is the status of the process.
-fn perform(rt: &HostRuntime, line: &Line) -> Result<u8, AllocError> {
+/// Does the line's command, on threads of `threads` where it runs a script, and writes what it printed. The answer is the status
+/// of the process.
+fn perform<R: Threads + Wait + Sync>(
+    rt: &HostRuntime,
+    threads: &R,
+    line: &Line,
+) -> Result<u8, AllocError> {
     let alloc = rt.alloc();
     if writes_what_it_reads(rt, line)? {
         return Ok(say(rt, Status::Failed));
@@ -55,7 +62,7 @@ fn perform(rt: &HostRuntime, line: &Line) -> Result<u8, AllocError> {
     let mut trace = Buffer::new(alloc);
     let files = read_files(rt, line)?;
     let status = command(
-        rt,
+        threads,
         alloc,
         line,
         files.as_slice(),
