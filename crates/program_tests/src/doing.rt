@@ -4,7 +4,8 @@ use std::sync::Wait;
 use std::test::Fail;
 use std::thread::Threads;
 use swt_command::command::command;
-use swt_line::line::Line;
+use swt_line::request::Request;
+use swt_line::word::Word;
 use values::sink::{Sink, SinkFault};
 
 /// Room for all that is written here.
@@ -85,9 +86,9 @@ pub(crate) fn perform<R: Threads + Wait + Sync>(
 ) -> Result<Done, Fail> {
     let mut list = Vec::new(alloc);
     for word in words {
-        list.push(String::from_str(alloc, word)?)?;
+        list.push(Word::new(String::from_str(alloc, word)?))?;
     }
-    let line = Line::read(alloc, list)?;
+    let request = Request::read(alloc, list.as_slice())?;
     let mut files = Vec::new(alloc);
     for source in sources {
         match source {
@@ -101,7 +102,7 @@ pub(crate) fn perform<R: Threads + Wait + Sync>(
     let status = command(
         rt,
         alloc,
-        &line,
+        &request.line,
         files.as_slice(),
         &mut out,
         &mut err,

@@ -2,16 +2,22 @@
 use std::alloc::{AllocError, Global};
 use std::test::Fail;
 use swt_line::command::Command;
+use swt_line::complaint::first_wrong;
 use swt_line::fault::LineFault;
 use swt_line::line::Line;
+use swt_line::request::Request;
 use swt_line::word::Word;
 
-fn read(alloc: Global, words: &[&str]) -> Result<Line, LineFault> {
+fn words_of(alloc: Global, words: &[&str]) -> Result<Vec<Word>, AllocError> {
     let mut list = Vec::new(alloc);
     for word in words {
-        list.push(String::from_str(alloc, word)?)?;
+        list.push(Word::new(String::from_str(alloc, word)?))?;
     }
-    Line::read(alloc, list)
+    Ok(list)
+}
+
+fn read(alloc: Global, words: &[&str]) -> Result<Request, LineFault> {
+    Request::read(alloc, words_of(alloc, words)?.as_slice())
 }
 
 fn is_usage(alloc: Global, words: &[&str]) -> bool {
@@ -20,12 +26,12 @@ fn is_usage(alloc: Global, words: &[&str]) -> bool {
 
 /// A line in one text, to compare.
 fn shown(alloc: Global, words: &[&str]) -> Result<String, Fail> {
-    let line = match read(alloc, words) {
-        Ok(line) => line,
+    let request = match read(alloc, words) {
+        Ok(request) => request,
         Err(LineFault::Usage) => return Ok(String::from_str(alloc, "usage")?),
         Err(LineFault::Memory) => return Ok(String::from_str(alloc, "memory")?),
     };
-    let text = match &line {
+    let mut text = match &request.line {
         Line::Check { files } => {
             let mut text = String::from_str(alloc, "check")?;
             for file in files.as_slice() {
@@ -63,13 +69,16 @@ fn shown(alloc: Global, words: &[&str]) -> Result<String, Fail> {
             format!(in alloc; "replay {} {}", file.as_str(), trace.as_str())?
         }
     };
+    if request.explain {
+        text.push_str(" explain")?;
+    }
     Ok(text)
 }
 
 #[test]
 fn commands(rt: HostRuntime) -> Result<(), Fail> {
     let alloc = rt.alloc();
-    let rows: [(&[&str], &str); 11] = [
+    let rows: [(&[&str], &str); 15] = [
         (&["check", "a.swift"], "check a.swift"),
         (&["check", "a", "b", "a"], "check a b a"),
         (&["mean", "a"], "mean a 1000000"),
@@ -98,6 +107,13 @@ fn commands(rt: HostRuntime) -> Result<(), Fail> {
             "run a 2 63 0 t",
         ),
         (&["replay", "a", "t"], "replay a t"),
+        (&["check", "--explain", "a"], "check a explain"),
+        (&["mean", "a", "--explain"], "mean a 1000000 explain"),
+        (
+            &["run", "--steps", "1", "--explain", "a"],
+            "run a 1 3 1 none explain",
+        ),
+        (&["replay", "--explain", "a", "t"], "replay a t explain"),
     ];
     for (words, text) in rows {
         assert_eq!(rt; shown(alloc, words)?.as_str(), text);
@@ -108,7 +124,7 @@ fn commands(rt: HostRuntime) -> Result<(), Fail> {
 #[test]
 fn no_commands(rt: HostRuntime) -> Result<(), Fail> {
     let alloc = rt.alloc();
-    let rows: [&[&str]; 33] = [
+    let rows: [&[&str]; 36] = [
         &[],
         &[""],
         &["--help"],
@@ -140,11 +156,15 @@ fn no_commands(rt: HostRuntime) -> Result<(), Fail> {
         &["run", "a", "--engines", "1", "--engines", "1"],
         &["run", "a", "--trace"],
         &["run", "a", "--trace", "--steps", "1"],
+        &["code", "a", "--explain"],
+        &["run", "--explain", "a", "--explain"],
+        &["--explain", "run", "a"],
         &["replay", "a"],
         &["replay", "a", "t", "u"],
     ];
     for words in rows {
         assert!(rt; is_usage(alloc, words));
+        assert!(rt; first_wrong(words_of(alloc, words)?.as_slice()).is_some());
     }
     Ok(())
 }
@@ -171,6 +191,7 @@ fn other_forms(rt: HostRuntime) -> Result<(), Fail> {
     ];
     for words in rows {
         assert!(rt; is_usage(alloc, words));
+        assert!(rt; first_wrong(words_of(alloc, words)?.as_slice()).is_some());
     }
     assert_eq!(rt;
         shown(alloc, &["check", "", "=", "a=b"])?.as_str(),
@@ -214,8 +235,8 @@ fn files_to_be_read(rt: HostRuntime) -> Result<(), Fail> {
     for (words, names) in rows {
         let read = read(alloc, words);
         assert!(rt; read.is_ok());
-        let Ok(line) = read else { continue };
-        let files = line.files(alloc)?;
+        let Ok(request) = read else { continue };
+        let files = request.line.files(alloc)?;
         assert_eq!(rt; files.len(), names.len());
         for (file, name) in files.iter().zip(names.iter()) {
             assert_eq!(rt; file.as_str(), *name);
@@ -235,9 +256,56 @@ fn single_words(rt: HostRuntime) -> Result<(), Fail> {
 }
 
 #[test]
+fn complaints(rt: HostRuntime) -> Result<(), Fail> {
+    let alloc = rt.alloc();
+    let rows: [(&[&str], &str); 11] = [
+        (&[], "swt: no command is given"),
+        (&["walk", "a"], "swt: walk is no command"),
+        (
+            &["check", "a", "--steps", "1"],
+            "swt: --steps is no option of check",
+        ),
+        (
+            &["run", "a", "--trace"],
+            "swt: --trace has no value behind it",
+        ),
+        (
+            &["run", "--steps", "--engines", "1", "a"],
+            "swt: --steps has no value behind it",
+        ),
+        (
+            &["run", "a", "--workers", "64"],
+            "swt: 64 is no number from 1 to 63",
+        ),
+        (
+            &["mean", "a", "--rounds", "many"],
+            "swt: many is no number from 1 to 4294967295",
+        ),
+        (&["code", "a", "--dot", "--dot"], "swt: --dot stands twice"),
+        (&["mean", "a", "b"], "swt: b is one file too many for mean"),
+        (&["check"], "swt: check wants one file or more"),
+        (&["replay", "a"], "swt: replay wants a file and its trace"),
+    ];
+    for (words, text) in rows {
+        let words = words_of(alloc, words)?;
+        let wrong = first_wrong(words.as_slice());
+        assert!(rt; wrong.is_some());
+        let Some(wrong) = wrong else { continue };
+        assert_eq!(rt; format!(in alloc; "{wrong}")?.as_str(), text);
+    }
+    let right = words_of(alloc, &["run", "a", "--trace", "t"])?;
+    assert!(rt; first_wrong(right.as_slice()).is_none());
+    Ok(())
+}
+
+#[test]
 fn fault_texts(rt: HostRuntime) -> Result<(), Fail> {
     let usage = format!(in rt.alloc(); "{}", LineFault::Usage)?;
-    assert!(rt; usage.as_str().starts_with("usage: swt check FILE..\n"));
+    assert!(rt;
+        usage
+            .as_str()
+            .starts_with("usage: swt check FILE.. [--explain]\n")
+    );
     assert_eq!(rt;
         format!(in rt.alloc(); "{}", LineFault::Memory)?.as_str(),
         "no memory"

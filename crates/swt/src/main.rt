@@ -1,6 +1,7 @@
 //! `swt`: checks, explains and runs scripts of a profile of Swift/T. Called without words it says how it is called.
 #![tactic(auto)]
 
+use explanation::refusal::explained;
 use std::alloc::AllocError;
 use std::io::{self, Write};
 use std::path::PathBuf;
@@ -11,49 +12,57 @@ use std::{env, fs};
 use swt_command::buffer::Buffer;
 use swt_command::command::command;
 use swt_command::status::Status;
+use swt_line::complaint::first_wrong;
 use swt_line::fault::LineFault;
 use swt_line::line::Line;
+use swt_line::request::Request;
 use swt_line::word::Word;
 
 fn main(rt: HostRuntime) -> ExitCode {
-    let status = match line(&rt) {
-        Ok(line) => match perform(&rt, &rt, &line) {
-            Ok(status) => status,
-            Err(AllocError) => say(&rt, Status::Memory),
-        },
-        Err(LineFault::Usage) => {
-            // Where this can't be written, the status says enough.
-            let _ = eprintln!(rt; "{}", LineFault::Usage);
-            Status::Usage.number()
-        }
+    let status = match words(&rt) {
+        Ok(words) => obey(&rt, &rt, words.as_slice()),
+        Err(LineFault::Usage) => say_usage(&rt, &[]),
         Err(LineFault::Memory) => say(&rt, Status::Memory),
     };
     ExitCode::from(status)
 }
 
-/// The command that the program's words give.
-fn line(rt: &HostRuntime) -> Result<Line, LineFault> {
+/// The program's words, without its own name.
+fn words(rt: &HostRuntime) -> Result<Vec<Word>, LineFault> {
     let mut words = Vec::new(rt.alloc());
     match env::args(rt) {
         Ok(all) => {
             for word in all.skip(1) {
-                words.push(word)?;
+                words.push(Word::new(word))?;
             }
         }
         Err(error) if error.kind() == io::ErrorKind::OutOfMemory => return Err(LineFault::Memory),
         Err(_) => return Err(LineFault::Usage),
     }
-    Line::read(rt.alloc(), words)
+    Ok(words)
 }
 
-/// Does the line's command, on threads of `threads` where it runs a script, and writes what it printed. The answer is the status
-/// of the process.
+/// Does what the words ask for. The answer is the status of the process.
+fn obey<R: Threads + Wait + Sync>(rt: &HostRuntime, threads: &R, words: &[Word]) -> u8 {
+    match Request::read(rt.alloc(), words) {
+        Ok(request) => match perform(rt, threads, &request) {
+            Ok(status) => status,
+            Err(AllocError) => say(rt, Status::Memory),
+        },
+        Err(LineFault::Usage) => say_usage(rt, words),
+        Err(LineFault::Memory) => say(rt, Status::Memory),
+    }
+}
+
+/// Does the command, on threads of `threads` where it runs a script, and writes what it printed. The answer is the status of
+/// the process.
 fn perform<R: Threads + Wait + Sync>(
     rt: &HostRuntime,
     threads: &R,
-    line: &Line,
+    request: &Request,
 ) -> Result<u8, AllocError> {
     let alloc = rt.alloc();
+    let line = &request.line;
     if writes_what_it_reads(rt, line)? {
         return Ok(say(rt, Status::Failed));
     }
@@ -70,6 +79,9 @@ fn perform<R: Threads + Wait + Sync>(
         &mut err,
         &mut trace,
     );
+    if request.explain {
+        explain(rt, line, files.as_slice(), &mut err.bytes)?;
+    }
     let printed = io::writer(rt).write_all(out.bytes()).is_ok();
     let _ = rt.stderr().write_all(err.bytes());
     if printed && write_file(rt, line, trace.bytes()) {
@@ -77,6 +89,28 @@ fn perform<R: Threads + Wait + Sync>(
     } else {
         Ok(say(rt, Status::Failed))
     }
+}
+
+/// Adds what is to be said of each script that is refused, up to a file that cannot be read.
+fn explain(
+    rt: &HostRuntime,
+    line: &Line,
+    files: &[Option<Vec<u8>>],
+    text: &mut Vec<u8>,
+) -> Result<(), AllocError> {
+    let alloc = rt.alloc();
+    let names = line.files(alloc)?;
+    let scripts = match line {
+        Line::Check { .. } => names.len(),
+        _ => 1,
+    };
+    for (name, file) in names.iter().zip(files).take(scripts) {
+        let Some(bytes) = file else { break };
+        if let Some(refusal) = explained(alloc, name.as_str(), bytes.as_slice())? {
+            text.extend_from_slice(refusal.as_slice())?;
+        }
+    }
+    Ok(())
 }
 
 /// Whether the trace would be written into the script, by whatever path the line names it.
@@ -141,4 +175,14 @@ fn say(rt: &HostRuntime, status: Status) -> u8 {
     };
     let _ = eprintln!(rt; "{text}");
     status.number()
+}
+
+/// Says which of the words is wrong, and how the program is called, and gives the status of that.
+fn say_usage(rt: &HostRuntime, words: &[Word]) -> u8 {
+    // Where this can't be written, the status says enough.
+    if let Some(wrong) = first_wrong(words) {
+        let _ = eprintln!(rt; "{wrong}");
+    }
+    let _ = eprintln!(rt; "{}", LineFault::Usage);
+    Status::Usage.number()
 }

@@ -1,5 +1,5 @@
 -- The names of the commands, and their options.
-use Rattle.std.specs.Prelude.{ℕ, Bool, false, List, [], ◌∷◌, Option, Some, None, if◌then◌else◌, codes}
+use Rattle.std.specs.Prelude.{ℕ, Bool, List, [], ◌∷◌, Option, Some, None, if◌then◌else◌, codes}
 use Rattle.std.specs.List.{list_any}
 use Rattle.std.specs.Str.{bytes_eq}
 use Rattle.swt_line.specs.declared.command.Command.{Command}
@@ -26,10 +26,10 @@ options_of Replay = []
 -- whether a word is an option of the command that has no value
 abbrev pub is_flag : Command → List ℕ → Bool
 is_flag Code w = bytes_eq w (codes "--dot")
-is_flag Check w = false
-is_flag Mean w = false
-is_flag Run w = false
-is_flag Replay w = false
+is_flag Check w = bytes_eq w (codes "--explain")
+is_flag Mean w = bytes_eq w (codes "--explain")
+is_flag Run w = bytes_eq w (codes "--explain")
+is_flag Replay w = bytes_eq w (codes "--explain")
 
 -- whether the command has this option
 abbrev pub has_option : Command → List ℕ → Bool

@@ -1,4 +1,5 @@
 pub mod Commands
 pub mod Words
 pub mod Lines
+pub mod Requests
 pub mod Reader

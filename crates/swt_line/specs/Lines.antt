@@ -1,11 +1,10 @@
--- The line that the words behind the program's name give.
+-- The line that the words behind a command give.
 use Rattle.std.specs.Prelude.{ℕ, ◌≤◌, List, [], ◌∷◌, false, Option, Some, None, option_and_then, if◌then◌else◌, codes}
 use Rattle.swt_line.specs.declared.command.Command.{Command}
 use Rattle.swt_line.specs.declared.command.Command.TheVariants as command
 use Rattle.swt_line.specs.declared.line.Line.{Line}
 use Rattle.swt_line.specs.declared.line.Line.TheVariants.{Check, Mean, Code, Run, Replay}
-use Rattle.swt_line.specs.Commands.{command_of}
-use Rattle.swt_line.specs.Words.{well_formed, files_in, flag_given, flags_in, unflagged, values_of, number_given, only, optional}
+use Rattle.swt_line.specs.Words.{well_formed, files_in, flag_given, values_of, number_given, only, optional}
 
 -- `check`, with one or more files
 abbrev pub check_line : List (List ℕ) → Option Line
@@ -57,15 +56,6 @@ command_line command.Replay ws flags = replay_line (files_in false ws)
 -- the same, where the words are well formed
 abbrev pub formed_line : Command → List (List ℕ) → ℕ → Option Line
 formed_line c ws flags = if well_formed c false ws then command_line c ws flags else None
-
--- the same of all words behind it
-abbrev pub behind_command : Command → List (List ℕ) → Option Line
-behind_command c ws = formed_line c (unflagged c ws) (flags_in c ws)
-
--- the line of the words behind the program's name
-abbrev pub line_of : List (List ℕ) → Option Line
-line_of [] = None
-line_of (w ∷ ws) = option_and_then (λ c. behind_command c ws) (command_of w)
 
 -- the files that a line names to be read, in order
 abbrev pub files_of : Line → List (List ℕ)

@@ -1,6 +1,6 @@
 //! The commands.
-ghost use Rattle.std.specs.Prelude.{◌≡◌};
-ghost use Rattle.swt_line.specs.Commands.{command_of, is_flag};
+ghost use Rattle.std.specs.Prelude.{◌≡◌, Some};
+ghost use Rattle.swt_line.specs.Commands.{command_of, has_option, is_flag};
 
 /// What the program is told to do.
 #[derive(Clone, Copy, PartialEq, Eq, Debug, Drop)]
@@ -43,7 +43,44 @@ impl Command {
     {
         match self {
             Command::Code => word == "--dot",
-            Command::Check | Command::Mean | Command::Run | Command::Replay => false,
+            Command::Check | Command::Mean | Command::Run | Command::Replay => word == "--explain",
+        }
+    }
+
+    /// Whether a word is an option of the command that has a value.
+    pub fn has_option(self, word: &str) -> bool
+        ensures { result ≡ has_option self word.now }
+    {
+        match self {
+            Command::Mean => word == "--rounds",
+            Command::Run => {
+                word == "--engines" || word == "--workers" || word == "--steps" || word == "--trace"
+            }
+            Command::Check | Command::Code | Command::Replay => false,
+        }
+    }
+
+    /// Its name.
+    pub fn name(self) -> &'static str
+        ensures { command_of result.now ≡ Some self }
+    {
+        match self {
+            Command::Check => "check",
+            Command::Mean => "mean",
+            Command::Code => "code",
+            Command::Run => "run",
+            Command::Replay => "replay",
+        }
+    }
+
+    /// What it wants behind it, in words.
+    pub fn wanted(self) -> &'static str {
+        match self {
+            Command::Check => "check wants one file or more",
+            Command::Mean => "mean wants a file",
+            Command::Code => "code wants a file",
+            Command::Run => "run wants a file",
+            Command::Replay => "replay wants a file and its trace",
         }
     }
 }

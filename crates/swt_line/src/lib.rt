@@ -1,14 +1,16 @@
 //! The command line of `swt`, read.
 //!
-//! `Line::read` takes the words behind the program's own name and gives the command that they are, with its files and
-//! numbers, or `LineFault::Usage`, whose text is the usage. An option is a word that begins with a dash; its value is
+//! `Request::read` takes the words behind the program's own name and gives the command that they are, with its files and
+//! numbers and whether it is to explain, or `LineFault::Usage`, whose text is the usage. An option is a word that begins with a dash; its value is
 //! the word behind it. Options and files stand in any order. The words behind the command are read by `clap`, but for
 //! those that it would take in ways of its own.
 #![tactic(auto)]
 
 pub mod command;
+pub mod complaint;
 pub mod fault;
 pub mod line;
 mod reading;
+pub mod request;
 pub mod word;
 mod words;

@@ -1,9 +1,8 @@
-//! The command line, read.
-ghost use Rattle.std.specs.Prelude.{◌≡◌, ◌≤◌, codes, map, IfOk};
-ghost use Rattle.std.specs.String.{string_bytes};
-ghost use Rattle.swt_line.specs.Words.{flags_in, number_given, unflagged, Answers};
+//! A command with its files and numbers.
+ghost use Rattle.std.specs.Prelude.{◌≡◌, ◌≤◌, codes, IfOk};
+ghost use Rattle.swt_line.specs.Words.{number_given, Answers};
 ghost use Rattle.swt_line.specs.Reader.{values_given};
-ghost use Rattle.swt_line.specs.Lines.{line_of, behind_command, formed_line, check_line, mean_line, code_line, run_line, replay_line, files_of, IsInRange};
+ghost use Rattle.swt_line.specs.Lines.{formed_line, check_line, mean_line, code_line, run_line, replay_line, files_of, IsInRange};
 
 use crate::command::Command;
 use crate::fault::LineFault;
@@ -68,21 +67,6 @@ pub enum Line {
 }
 
 impl Line {
-    /// The command that the words give, without the program's own name. `Usage` where they give none.
-    pub fn read(alloc: Global, words: Vec<String>) -> Result<Line, LineFault>
-        ensures line { Answers (line_of (map string_bytes words.items)) result }
-        ensures in_range { IfOk result IsInRange }
-    {
-        let words = owned(alloc, words)?;
-        match words.as_slice() {
-            [] => Err(LineFault::Usage),
-            [first, rest @ ..] => match Command::of(first.as_str()) {
-                Some(command) => read_command(alloc, command, rest),
-                None => Err(LineFault::Usage),
-            },
-        }
-    }
-
     /// The files that the line names to be read, in order.
     pub fn files(&self, alloc: Global) -> Result<Vec<Word>, AllocError>
         ensures { IfOk result (λ files. files.items ≡ files_of self.now) }
@@ -99,16 +83,6 @@ impl Line {
     }
 }
 
-fn owned(alloc: Global, texts: Vec<String>) -> Result<Vec<Word>, AllocError>
-    ensures { IfOk result (λ words. words.items ≡ map string_bytes texts.items) }
-{
-    let mut words = Vec::new(alloc);
-    for text in texts {
-        words.push(Word::new(text))?;
-    }
-    Ok(words)
-}
-
 fn copies(alloc: Global, words: &[Word]) -> Result<Vec<Word>, AllocError>
     ensures { IfOk result (λ copies. copies.items ≡ words.now) }
 {
@@ -119,43 +93,8 @@ fn copies(alloc: Global, words: &[Word]) -> Result<Vec<Word>, AllocError>
     Ok(copies)
 }
 
-fn read_command(alloc: Global, command: Command, words: &[Word]) -> Result<Line, LineFault>
-    ensures line { Answers (behind_command command words.now) result }
-    ensures in_range { IfOk result IsInRange }
-{
-    let flags = flags(command, words);
-    let others = unflagged(alloc, command, words)?;
-    read_others(alloc, command, others.as_slice(), flags)
-}
-
-/// How many of the words are options that have no value.
-fn flags(command: Command, words: &[Word]) -> usize
-    ensures { result ≡ flags_in command words.now }
-{
-    let mut flags = 0;
-    for word in words {
-        if command.is_flag(word.as_str()) {
-            flags += 1;
-        }
-    }
-    flags
-}
-
-/// The words but for the options that have no value.
-fn unflagged(alloc: Global, command: Command, words: &[Word]) -> Result<Vec<Word>, AllocError>
-    ensures { IfOk result (λ others. others.items ≡ unflagged command words.now) }
-{
-    let mut others = Vec::new(alloc);
-    for word in words {
-        if !command.is_flag(word.as_str()) {
-            others.push(word.copy(alloc)?)?;
-        }
-    }
-    Ok(others)
-}
-
 /// The line of a command with these words behind it, and so many options that have no value.
-fn read_others(
+pub fn read(
     alloc: Global,
     command: Command,
     words: &[Word],

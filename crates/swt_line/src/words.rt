@@ -23,7 +23,7 @@ pub fn number(text: Option<&str>, least: u32, most: u32, default: u32) -> Option
 }
 
 /// The number that the text spells in decimal, if it is from `least` to `most`.
-fn number_within(text: &str, least: u32, most: u32) -> Option<u32>
+pub fn number_within(text: &str, least: u32, most: u32) -> Option<u32>
     ensures value { result ≡ number_within least most (number_in text.now) }
     ensures within { IfSome result (λ n. (least ≤ n) × (n ≤ most)) }
 {

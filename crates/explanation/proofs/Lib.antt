@@ -1,0 +1,3 @@
+mod Any
+mod Verdicts
+mod Views

@@ -1,0 +1,63 @@
+//! Texts that are no scripts, explained.
+
+use crate::lookup::bytes_at;
+use crate::told::Told;
+use itoa::Buffer;
+use lexer::fault::LexFault;
+use lexer::token::Span;
+use std::alloc::{AllocError, Global};
+use syntax::error::ParseFault;
+
+/// What is said of a text that is no script.
+pub fn told_of_text(alloc: Global, text: &[u8], fault: ParseFault) -> Result<Told, AllocError> {
+    match fault {
+        ParseFault::Lex(fault) => told_of_token(alloc, text, fault),
+        ParseFault::Unexpected(at) => told_of_unexpected(alloc, text, at),
+        ParseFault::TooNested(_) => Told::plain(alloc, "this nests deeper than 64 levels"),
+        ParseFault::TooLong(_) => Told::plain(alloc, "the script has more than 1048576 bytes"),
+        ParseFault::Memory => Told::plain(alloc, "no memory"),
+    }
+}
+
+fn told_of_unexpected(alloc: Global, text: &[u8], at: Span) -> Result<Told, AllocError> {
+    let token = bytes_at(text, at);
+    if token.is_empty() {
+        Told::plain(
+            alloc,
+            "the script ends here, before its last statement does",
+        )
+    } else {
+        Told::of(alloc, token, "can not stand here", None)
+    }
+}
+
+fn told_of_token(alloc: Global, text: &[u8], fault: LexFault) -> Result<Told, AllocError> {
+    match fault {
+        LexFault::BadByte(at) => told_of_byte(alloc, text, at),
+        LexFault::BadNumber(_) => {
+            Told::plain(
+                alloc,
+                "a number has digits alone, no 0 before others, and is at most 9223372036854775807",
+            )
+        }
+        LexFault::OpenString(_) => Told::plain(alloc, "this string is not closed on its line"),
+        LexFault::OpenComment(_) => Told::plain(alloc, "this comment is not closed by */"),
+        LexFault::BadEscape(_) => {
+            Told::plain(
+                alloc,
+                "this is no escape: a string has \\n, \\t, \\\\ and \\\"",
+            )
+        }
+    }
+}
+
+/// What is said of a byte that no script has there.
+fn told_of_byte(alloc: Global, text: &[u8], at: Span) -> Result<Told, AllocError> {
+    match bytes_at(text, at) {
+        [byte, ..] if *byte == b'"' || *byte < b' ' || *byte > b'~' => {
+            let mut buffer = Buffer::new();
+            Told::of(alloc, b"byte", buffer.format(*byte), None)
+        }
+        _ => Told::plain(alloc, "no token begins with this byte"),
+    }
+}

@@ -1,7 +1,0 @@
-(int r) fib(int n) {
-    if (n < 2) { r = n; } else { r = fib(n-1) + fib(n-2); }
-}
-int A[] = [3, 1, 2];
-foreach v, k in A {
-    printf("%i %i", k, fib(v));
-}

@@ -1,0 +1,2 @@
+// The smallest script. Prints: hello
+printf("hello");

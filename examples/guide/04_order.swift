@@ -1,0 +1,6 @@
+// A statement runs when its inputs are known, not where it stands. Prints: 3
+int x;
+int y;
+x = y + 1;
+y = 2;
+printf("%i", x);

@@ -1,0 +1,4 @@
+// A loop over a range, both ends included; its turns run at once, and its lines come in any order. Prints: 1 | 4 | 7 | 10
+foreach i in [1:10:3] {
+  printf("%i", i);
+}

@@ -1,9 +1,0 @@
-// Arrays are sparse; a loop over one runs when nothing can write it any more.
-// Prints, in some order: -2 holds 5   10 holds 7   and in the end: 2 elements
-int A[];
-A[10] = 7;
-A[-2] = 5;
-foreach v, k in A {
-  printf("%i holds %i", k, v);
-}
-printf("%i elements", size(A));
