@@ -84,11 +84,6 @@ pub(crate) fn perform<R: Threads + Wait + Sync>(
     sources: &[Option<&[u8]>],
     rooms: (usize, usize),
 ) -> Result<Done, Fail> {
-    let mut list = Vec::new(alloc);
-    for word in words {
-        list.push(Word::new(String::from_str(alloc, word)?))?;
-    }
-    let request = Request::read(alloc, list.as_slice())?;
     let mut files = Vec::new(alloc);
     for source in sources {
         match source {
@@ -96,6 +91,22 @@ pub(crate) fn perform<R: Threads + Wait + Sync>(
             None => files.push(None)?,
         }
     }
+    perform_on(rt, alloc, words, files.as_slice(), rooms)
+}
+
+/// The same, over files that are there already.
+pub(crate) fn perform_on<R: Threads + Wait + Sync>(
+    rt: &R,
+    alloc: Global,
+    words: &[&str],
+    files: &[Option<Vec<u8>>],
+    rooms: (usize, usize),
+) -> Result<Done, Fail> {
+    let mut list = Vec::new(alloc);
+    for word in words {
+        list.push(Word::new(String::from_str(alloc, word)?))?;
+    }
+    let request = Request::read(alloc, list.as_slice())?;
     let mut out = Small::new(alloc, rooms.0);
     let mut err = Small::new(alloc, 1000);
     let mut trace = Small::new(alloc, rooms.1);
@@ -103,7 +114,7 @@ pub(crate) fn perform<R: Threads + Wait + Sync>(
         rt,
         alloc,
         &request.line,
-        files.as_slice(),
+        files,
         &mut out,
         &mut err,
         &mut trace,
@@ -116,12 +127,17 @@ pub(crate) fn perform<R: Threads + Wait + Sync>(
     })
 }
 
-/// The lines of a text, sorted by bytes: a run on threads prints them in any order.
-pub(crate) fn sorted_lines(alloc: Global, text: &[u8]) -> Result<Vec<&[u8]>, Fail> {
+/// A text with its lines sorted by bytes: a run on threads prints them in any order.
+pub(crate) fn sorted_text(alloc: Global, text: &[u8]) -> Result<Vec<u8>, Fail> {
     let mut lines = Vec::new(alloc);
     for line in text.split(|byte| *byte == b'\n') {
         lines.push(line)?;
     }
     lines.sort()?;
-    Ok(lines)
+    let mut sorted = Vec::new(alloc);
+    for line in &lines {
+        sorted.extend_from_slice(line)?;
+        sorted.push(b'\n')?;
+    }
+    Ok(sorted)
 }

@@ -1,9 +1,22 @@
 //! Scripts of the whole language: what a run prints, and its trace run again, which prints the same.
-use crate::doing::{WIDE, perform, sorted_lines};
+use crate::doing::{Done, WIDE, perform, perform_on, sorted_text};
 use std::alloc::Global;
 use std::sync::Wait;
 use std::test::Fail;
 use std::thread::Threads;
+
+/// What the trace of a run of the script does again.
+fn replayed<R: Threads + Wait + Sync>(
+    rt: &R,
+    alloc: Global,
+    script: &[u8],
+    run: &Done,
+) -> Result<Done, Fail> {
+    let mut files = Vec::new(alloc);
+    files.push(Some(Vec::from_slice(alloc, script)?))?;
+    files.push(Some(Vec::from_slice(alloc, run.trace.as_slice())?))?;
+    perform_on(rt, alloc, &["replay", "f", "t"], files.as_slice(), WIDE)
+}
 
 /// Whether a run of the script prints these lines in some order, says nothing, and ends with this status, and its trace run again
 /// prints the same.
@@ -21,16 +34,10 @@ fn runs_to<R: Threads + Wait + Sync>(
         &[Some(script)],
         WIDE,
     )?;
-    let trace = run.trace.as_slice();
-    let again = perform(
-        rt,
-        alloc,
-        &["replay", "f", "t"],
-        &[Some(script), Some(trace)],
-        WIDE,
-    )?;
-    let printed = sorted_lines(alloc, run.out.as_slice())?;
-    let has_lines = printed.as_slice() == sorted_lines(alloc, wanted)?.as_slice();
+    let again = replayed(rt, alloc, script, &run)?;
+    let printed = sorted_text(alloc, run.out.as_slice())?;
+    let meant = sorted_text(alloc, wanted)?;
+    let has_lines = printed.as_slice() == meant.as_slice();
     let is_wanted = has_lines && run.err.is_empty() && run.status == status;
     let is_same = again.out.as_slice() == run.out.as_slice()
         && again.err.is_empty()
