@@ -17,3 +17,5 @@ mod syntax_trees_tests;
 mod types_tests;
 #[cfg(test)]
 mod values_tests;
+#[cfg(test)]
+mod whole_flow_tests;

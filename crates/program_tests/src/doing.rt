@@ -7,6 +7,7 @@ use swt_command::command::command;
 use swt_line::request::Request;
 use swt_line::word::Word;
 use values::sink::{Sink, SinkFault};
+use workers::job::Open;
 
 /// Room for all that is written here.
 pub(crate) const WIDE: (usize, usize) = (100000, 100000);
@@ -115,6 +116,7 @@ pub(crate) fn perform_on<R: Threads + Wait + Sync>(
         alloc,
         &request.line,
         files,
+        &Open,
         &mut out,
         &mut err,
         &mut trace,

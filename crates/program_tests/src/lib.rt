@@ -17,4 +17,6 @@ mod meaning_tests;
 #[cfg(test)]
 mod order_tests;
 #[cfg(test)]
+mod random_tests;
+#[cfg(test)]
 mod whole_tests;

@@ -72,13 +72,16 @@ fn shown(alloc: Global, words: &[&str]) -> Result<String, Fail> {
     if request.explain {
         text.push_str(" explain")?;
     }
+    if request.progress {
+        text.push_str(" progress")?;
+    }
     Ok(text)
 }
 
 #[test]
 fn commands(rt: HostRuntime) -> Result<(), Fail> {
     let alloc = rt.alloc();
-    let rows: [(&[&str], &str); 15] = [
+    let rows: [(&[&str], &str); 16] = [
         (&["check", "a.swift"], "check a.swift"),
         (&["check", "a", "b", "a"], "check a b a"),
         (&["mean", "a"], "mean a 1000000"),
@@ -113,6 +116,10 @@ fn commands(rt: HostRuntime) -> Result<(), Fail> {
             &["run", "--steps", "1", "--explain", "a"],
             "run a 1 3 1 none explain",
         ),
+        (
+            &["run", "--progress", "a", "--explain"],
+            "run a 1 3 10000000 none explain progress",
+        ),
         (&["replay", "--explain", "a", "t"], "replay a t explain"),
     ];
     for (words, text) in rows {
@@ -124,7 +131,7 @@ fn commands(rt: HostRuntime) -> Result<(), Fail> {
 #[test]
 fn no_commands(rt: HostRuntime) -> Result<(), Fail> {
     let alloc = rt.alloc();
-    let rows: [&[&str]; 36] = [
+    let rows: [&[&str]; 38] = [
         &[],
         &[""],
         &["--help"],
@@ -158,6 +165,8 @@ fn no_commands(rt: HostRuntime) -> Result<(), Fail> {
         &["run", "a", "--trace", "--steps", "1"],
         &["code", "a", "--explain"],
         &["run", "--explain", "a", "--explain"],
+        &["run", "--progress", "a", "--progress"],
+        &["mean", "a", "--progress"],
         &["--explain", "run", "a"],
         &["replay", "a"],
         &["replay", "a", "t", "u"],

@@ -18,7 +18,7 @@ use Rattle.syntax_trees.specs.Typing.{WellTyped}
 use Rattle.syntax_trees.proofs.Members.{either, split_in, to_left, to_right}
 use Rattle.meaning_laws.proofs.Whole.{one_scalar_known}
 use Rattle.well_formed.proofs.Accepted.{accepted_formed}
-use Rattle.kept_facts.specs.Kept.{past_by, sight_by}
+use Rattle.kept_facts.specs.Kept.{past_by, sight_by, Keeps}
 use Rattle.kept_facts.proofs.Seen as seen
 use Rattle.whole_facts.specs.declared.facts.Fact.{Fact}
 use Rattle.whole_facts.specs.declared.facts.Facts.{Facts}
@@ -138,6 +138,7 @@ module _ (bytes : List ℕ) (t : Table) (tree : Tree) (r : Reads bytes tree) (w 
         record {
           placed = subst (λ (z : Learned). IsPlaced s z.instances) (sym learned) after.placed;
           holds = subst (λ (z : Learned). Holds (Known s k.rounds) z) (sym learned) (subst (λ (z : ℕ). Holds (Known s z) l) (sym rounds) holds);
+          keeps = subst (λ (z : Learned). Keeps s (Known s k.rounds) (kept_of z)) (sym learned) (subst (λ (z : ℕ). Keeps s (Known s z) (kept_of l)) (sym rounds) after.keeps);
           stuck = subst (λ (z : Learned). AreStuck s k.rounds z k.stuck.items) (sym learned) (subst (λ (z : ℕ). AreStuck s z l k.stuck.items) (sym rounds) stuck_here);
           finished = λ e. subst (λ (z : ℕ). IsFinished s z) (sym rounds) (fin e);
           unfinished = λ e f. unfin e (subst (λ (z : ℕ). IsFinished s z) rounds f);

@@ -7,7 +7,8 @@ use Rattle.syntax_trees.specs.Outcomes.{Blocked}
 use Rattle.syntax_trees.specs.Parts.{stmt_at}
 use Rattle.syntax_trees.specs.Places.{Path}
 use Rattle.whole_facts.specs.declared.learned.Learned.{Learned}
-use Rattle.whole_facts.specs.Keeping.{IsPlaced}
+use Rattle.kept_facts.specs.Kept.{Keeps}
+use Rattle.whole_facts.specs.Keeping.{kept_of, IsPlaced}
 use Rattle.whole_facts.specs.Paths.{path_of}
 use Rattle.held_facts.specs.Held.{Holds}
 use Rattle.ended_blocks.specs.Active.{Active}
@@ -32,11 +33,12 @@ pub record AreStuck (s : Core) (n : ℕ) (l : Learned) (bs : List Stuck) : Type 
   pub each : (b : Stuck) → b ∈ bs → Blocked s (Known s n) b.at (stuck_path l b)
   pub all : (at : ℕ) (path : Path) → Blocked s (Known s n) at path → (b : Stuck) × (b ∈ bs) × (b.at ≡ at) × (stuck_path l b ≡ path)
 
--- what is known of a script after so many rounds: the facts, each in an instance that stands where a block does; the blocked
--- statements; whether one more round adds nothing
+-- what is known of a script after so many rounds: the facts, each in an instance that stands where a block does; which arrays are
+-- closed, and what the variables of loops are; the blocked statements; whether one more round adds nothing
 pub record IsKnowledgeOf (s : Core) (k : Knowledge) : Type 0 where
   pub placed : IsPlaced s k.learned.instances
   pub holds : Holds (Known s k.rounds) k.learned
+  pub keeps : Keeps s (Known s k.rounds) (kept_of k.learned)
   pub stuck : AreStuck s k.rounds k.learned k.stuck.items
   pub finished : k.finished ≡ true → IsFinished s k.rounds
   pub unfinished : k.finished ≡ false → ¬ IsFinished s k.rounds

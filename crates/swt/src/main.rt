@@ -1,6 +1,10 @@
 //! `swt`: checks, explains and runs scripts of a profile of Swift/T. Called without words it says how it is called.
 #![tactic(auto)]
 
+mod progress;
+
+use crate::progress::Teller;
+use blocked_words::blocked::blocked_told;
 use explanation::refusal::explained;
 use std::alloc::AllocError;
 use std::io::{self, Write};
@@ -70,17 +74,19 @@ fn perform<R: Threads + Wait + Sync>(
     let mut err = Buffer::new(alloc);
     let mut trace = Buffer::new(alloc);
     let files = read_files(rt, line)?;
+    let teller = Teller::new(rt, request.progress);
     let status = command(
         threads,
         alloc,
         line,
         files.as_slice(),
+        &teller,
         &mut out,
         &mut err,
         &mut trace,
     );
     if request.explain {
-        explain(rt, line, files.as_slice(), &mut err.bytes)?;
+        explain(rt, line, files.as_slice(), status, &mut err.bytes)?;
     }
     let printed = io::writer(rt).write_all(out.bytes()).is_ok();
     let _ = rt.stderr().write_all(err.bytes());
@@ -91,8 +97,46 @@ fn perform<R: Threads + Wait + Sync>(
     }
 }
 
-/// Adds what is to be said of each script that is refused, up to a file that cannot be read.
+/// Adds what is to be said of a command that ended so.
 fn explain(
+    rt: &HostRuntime,
+    line: &Line,
+    files: &[Option<Vec<u8>>],
+    status: u8,
+    text: &mut Vec<u8>,
+) -> Result<(), AllocError> {
+    explain_refusals(rt, line, files, text)?;
+    if status == Status::Blocked.number() {
+        explain_blocked(rt, line, files, text)?;
+    }
+    Ok(())
+}
+
+/// Adds what is to be said of the blocked statements of the line's script. Those of a run are those of the script's meaning.
+fn explain_blocked(
+    rt: &HostRuntime,
+    line: &Line,
+    files: &[Option<Vec<u8>>],
+    text: &mut Vec<u8>,
+) -> Result<(), AllocError> {
+    let alloc = rt.alloc();
+    let names = line.files(alloc)?;
+    let limit = match line {
+        Line::Mean { rounds, .. } => *rounds,
+        _ => u32::MAX,
+    };
+    match (names.as_slice().first(), files.first()) {
+        (Some(name), Some(Some(bytes))) => {
+            let told = blocked_told(alloc, name.as_str(), bytes.as_slice(), limit)?;
+            text.extend_from_slice(told.as_slice())?;
+            Ok(())
+        }
+        _ => Ok(()),
+    }
+}
+
+/// Adds what is to be said of each script that is refused, up to a file that cannot be read.
+fn explain_refusals(
     rt: &HostRuntime,
     line: &Line,
     files: &[Option<Vec<u8>>],

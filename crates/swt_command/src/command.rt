@@ -18,17 +18,20 @@ use std::thread::Threads;
 use swt_line::line::Line;
 use swt_line::word::Word;
 use values::sink::Sink;
+use workers::job::Gate;
 
 /// Does the line's command on the bytes of the files that it names to be read, one for each in order, and none for one that
 /// cannot be read. The answer is the status of the process.
 ///
 /// What the command prints goes to `out`, what it says of its failure to `err`, and the trace of a run, where the line wants
-/// one, to `trace`. A write to `err` that fails changes no status. `rt` starts the threads of a run and waits for them.
-pub fn command<R: Threads + Wait + Sync, O: Sink, E: Sink, S: Sink>(
+/// one, to `trace`. A write to `err` that fails changes no status. `rt` starts the threads of a run and waits for them; what its
+/// tasks do is computed by the gate, which also learns how far the run is.
+pub fn command<R: Threads + Wait + Sync, G: Gate, O: Sink, E: Sink, S: Sink>(
     rt: &R,
     alloc: Global,
     line: &Line,
     files: &[Option<Vec<u8>>],
+    gate: &G,
     out: &mut O,
     err: &mut E,
     trace: &mut S,
@@ -41,7 +44,7 @@ pub fn command<R: Threads + Wait + Sync, O: Sink, E: Sink, S: Sink>(
         (held (E.taken err.old) (E.failures err.old)) (held (E.taken err.new) (E.failures err.new))
         (held (S.taken trace.old) (S.failures trace.old)) (held (S.taken trace.new) (S.failures trace.new)) result }
 {
-    match perform(rt, alloc, line, files, out, trace) {
+    match perform(rt, alloc, line, files, gate, out, trace) {
         Ok(status) => status.number(),
         Err(stop) => {
             let _ = tell(stop.trouble, name_of(line, stop.place), err);
@@ -51,11 +54,12 @@ pub fn command<R: Threads + Wait + Sync, O: Sink, E: Sink, S: Sink>(
 }
 
 /// Does the line's command.
-fn perform<R: Threads + Wait + Sync, O: Sink, S: Sink>(
+fn perform<R: Threads + Wait + Sync, G: Gate, O: Sink, S: Sink>(
     rt: &R,
     alloc: Global,
     line: &Line,
     files: &[Option<Vec<u8>>],
+    gate: &G,
     out: &mut O,
     trace: &mut S,
 ) -> Result<Status, Stop>
@@ -77,7 +81,7 @@ fn perform<R: Threads + Wait + Sync, O: Sink, S: Sink>(
         } => {
             let is_wanted = wanted.is_some();
             run(
-                rt, alloc, files, *engines, *workers, *steps, is_wanted, out, trace,
+                rt, alloc, files, *engines, *workers, *steps, is_wanted, gate, out, trace,
             )
         }
         Line::Code { dot, .. } => code(alloc, files, *dot, out),

@@ -19,17 +19,17 @@ use swt_trace::report::write_report;
 use swt_trace::write::write_trace;
 use values::sink::Sink;
 use workers::fault::RunFault;
-use workers::job::Open;
+use workers::job::Gate;
 use workers::run::run_threads;
 
 /// Runs a script on threads, so many engines and so many workers, for so many events at most; prints the report, and then writes
-/// its trace where it is wanted.
+/// its trace where it is wanted. What the tasks do is computed by the gate, which also learns how far the run is.
 ///
 /// # Errors
 ///
 /// The script could not be read or was refused, there cannot be so many engines and workers, a thread could not be started, the
 /// threads' counts were not what the board showed, memory was refused, or a text could not be written.
-pub fn run<R: Threads + Wait + Sync, O: Sink, S: Sink>(
+pub fn run<R: Threads + Wait + Sync, G: Gate, O: Sink, S: Sink>(
     rt: &R,
     alloc: Global,
     files: &[Option<Vec<u8>>],
@@ -37,6 +37,7 @@ pub fn run<R: Threads + Wait + Sync, O: Sink, S: Sink>(
     workers: u8,
     steps: u32,
     wanted: bool,
+    gate: &G,
     out: &mut O,
     trace: &mut S,
 ) -> Result<Status, Stop>
@@ -46,7 +47,7 @@ pub fn run<R: Threads + Wait + Sync, O: Sink, S: Sink>(
         (held (O.taken out.old) (O.failures out.old)) (held (O.taken out.new) (O.failures out.new))
         (held (S.taken trace.old) (S.failures trace.old)) (held (S.taken trace.new) (S.failures trace.new)) }
 {
-    let report = ran(rt, alloc, files, engines, workers, steps)?;
+    let report = ran(rt, alloc, files, engines, workers, steps, gate)?;
     match write_report(&report, out) {
         Ok(()) => traced(&report, wanted, trace),
         Err(_failed) => Err(Stop {
@@ -78,19 +79,20 @@ fn traced<S: Sink>(report: &Report, wanted: bool, trace: &mut S) -> Result<Statu
 }
 
 /// The report of a run.
-fn ran<R: Threads + Wait + Sync>(
+fn ran<R: Threads + Wait + Sync, G: Gate>(
     rt: &R,
     alloc: Global,
     files: &[Option<Vec<u8>>],
     engines: u8,
     workers: u8,
     steps: u32,
+    gate: &G,
 ) -> Result<Report, Stop>
     ensures { MatchResult result (Ran (contents files.now) engines workers steps)
         (λ stop. (stop.place ≡ 0) × StopsBeforeRun (contents files.now) engines workers stop.trouble) }
 {
     let code = code_of(alloc, files)?;
-    match run_threads(rt, alloc, &code, engines, workers, steps, &Open) {
+    match run_threads(rt, alloc, &code, engines, workers, steps, gate) {
         Ok((report, _count)) => Ok(report),
         Err(fault) => Err(Stop {
             place: 0,

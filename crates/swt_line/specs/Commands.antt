@@ -23,13 +23,17 @@ options_of Check = []
 options_of Code = []
 options_of Replay = []
 
+-- the options of a command that have no value
+abbrev pub flags_of : Command → List (List ℕ)
+flags_of Code = codes "--dot" ∷ []
+flags_of Check = codes "--explain" ∷ []
+flags_of Mean = codes "--explain" ∷ []
+flags_of Run = codes "--explain" ∷ codes "--progress" ∷ []
+flags_of Replay = codes "--explain" ∷ []
+
 -- whether a word is an option of the command that has no value
 abbrev pub is_flag : Command → List ℕ → Bool
-is_flag Code w = bytes_eq w (codes "--dot")
-is_flag Check w = bytes_eq w (codes "--explain")
-is_flag Mean w = bytes_eq w (codes "--explain")
-is_flag Run w = bytes_eq w (codes "--explain")
-is_flag Replay w = bytes_eq w (codes "--explain")
+is_flag c w = list_any (bytes_eq w) (flags_of c)
 
 -- whether the command has this option
 abbrev pub has_option : Command → List ℕ → Bool

@@ -8,14 +8,15 @@ use Rattle.swt_line.specs.declared.fault.LineFault.{LineFault}
 use Rattle.swt_line.specs.declared.fault.LineFault.TheVariants.{Usage, Memory}
 use Rattle.swt_line.specs.Commands.{has_option, is_flag}
 
--- the words but for the options that have no value, and how many of those there are
+-- the words but for the options that have no value
 abbrev pub unflagged : Command → List (List ℕ) → List (List ℕ)
 unflagged command [] = []
 unflagged command (w ∷ ws) = if is_flag command w then unflagged command ws else w ∷ unflagged command ws
 
-abbrev pub flags_in : Command → List (List ℕ) → ℕ
-flags_in command [] = 0
-flags_in command (w ∷ ws) = if is_flag command w then suc (flags_in command ws) else flags_in command ws
+-- how often an option stands among words
+abbrev pub often : List ℕ → List (List ℕ) → ℕ
+often option [] = 0
+often option (w ∷ ws) = if bytes_eq w option then suc (often option ws) else often option ws
 
 -- a word that begins with a dash, as an option does
 abbrev pub marked : List ℕ → Bool

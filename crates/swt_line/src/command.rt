@@ -43,7 +43,8 @@ impl Command {
     {
         match self {
             Command::Code => word == "--dot",
-            Command::Check | Command::Mean | Command::Run | Command::Replay => word == "--explain",
+            Command::Run => word == "--explain" || word == "--progress",
+            Command::Check | Command::Mean | Command::Replay => word == "--explain",
         }
     }
 

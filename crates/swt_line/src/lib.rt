@@ -1,7 +1,7 @@
 //! The command line of `swt`, read.
 //!
 //! `Request::read` takes the words behind the program's own name and gives the command that they are, with its files and
-//! numbers and whether it is to explain, or `LineFault::Usage`, whose text is the usage. An option is a word that begins with a dash; its value is
+//! numbers, whether it is to explain and whether it shows how far it is, or `LineFault::Usage`, whose text is the usage. An option is a word that begins with a dash; its value is
 //! the word behind it. Options and files stand in any order. The words behind the command are read by `clap`, but for
 //! those that it would take in ways of its own.
 #![tactic(auto)]

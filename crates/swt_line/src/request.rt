@@ -1,8 +1,8 @@
 //! The command line, read.
-ghost use Rattle.std.specs.Prelude.{◌≡◌, IfOk};
+ghost use Rattle.std.specs.Prelude.{◌≡◌, codes, IfOk};
 ghost use Rattle.swt_line.specs.Lines.{IsInRange};
-ghost use Rattle.swt_line.specs.Requests.{behind_command, explain_given, request_of};
-ghost use Rattle.swt_line.specs.Words.{flags_in, unflagged, Answers};
+ghost use Rattle.swt_line.specs.Requests.{behind_command, explain_given, progress_given, request_of};
+ghost use Rattle.swt_line.specs.Words.{often, unflagged, Answers};
 
 use crate::command::Command;
 use crate::fault::LineFault;
@@ -17,6 +17,8 @@ pub struct Request {
     pub line: Line,
     /// Whether refusals, faults and blocked statements are to be explained.
     pub explain: bool,
+    /// Whether a run is to show how far it is.
+    pub progress: bool,
 }
 
 impl Request {
@@ -39,24 +41,28 @@ fn read_command(alloc: Global, command: Command, words: &[Word]) -> Result<Reque
     ensures request { Answers (behind_command command words.now) result }
     ensures in_range { IfOk result (λ request. IsInRange request.line) }
 {
-    let flags = flags(command, words);
     let others = unflagged(alloc, command, words)?;
-    let line = line::read(alloc, command, others.as_slice(), flags)?;
-    let explain = explains(command, flags)?;
-    Ok(Request { line, explain })
+    let line = line::read(alloc, command, others.as_slice(), often("--dot", words))?;
+    let explain = explains(command, words)?;
+    let progress = shows_progress(command, words)?;
+    Ok(Request {
+        line,
+        explain,
+        progress,
+    })
 }
 
-/// How many of the words are options that have no value.
-fn flags(command: Command, words: &[Word]) -> usize
-    ensures { result ≡ flags_in command words.now }
+/// How often an option stands among the words.
+fn often(option: &str, words: &[Word]) -> usize
+    ensures { result ≡ often option.now words.now }
 {
-    let mut flags = 0;
+    let mut count = 0;
     for word in words {
-        if command.is_flag(word.as_str()) {
-            flags += 1;
+        if word.as_str() == option {
+            count += 1;
         }
     }
-    flags
+    count
 }
 
 /// The words but for the options that have no value.
@@ -72,12 +78,24 @@ fn unflagged(alloc: Global, command: Command, words: &[Word]) -> Result<Vec<Word
     Ok(others)
 }
 
-/// Whether a command is to explain, where its options without a value stand so often.
-fn explains(command: Command, flags: usize) -> Result<bool, LineFault>
-    ensures { Answers (explain_given command flags) result }
+/// Whether a command is to explain, with these words behind it.
+fn explains(command: Command, words: &[Word]) -> Result<bool, LineFault>
+    ensures { Answers (explain_given command words.now) result }
 {
     match command {
         Command::Code => Ok(false),
-        Command::Check | Command::Mean | Command::Run | Command::Replay => words::flag(flags),
+        Command::Check | Command::Mean | Command::Run | Command::Replay => {
+            words::flag(often("--explain", words))
+        }
+    }
+}
+
+/// Whether it is to show how far it is.
+fn shows_progress(command: Command, words: &[Word]) -> Result<bool, LineFault>
+    ensures { Answers (progress_given command words.now) result }
+{
+    match command {
+        Command::Run => words::flag(often("--progress", words)),
+        Command::Check | Command::Mean | Command::Code | Command::Replay => Ok(false),
     }
 }

@@ -10,7 +10,7 @@ use std::sync::{Condvar, MutexGuard, Wait};
 use task_code::entry::Kind;
 
 /// So often a thread that stays awake looks for a sign before it may sleep.
-const TURNS: u32 = 300;
+const TURNS: u32 = 3000;
 
 /// Where the threads of one kind sleep, and the sign for the one that stays awake.
 #[derive(Drop)]

@@ -1,5 +1,7 @@
 //! Who has nothing to run, and how many items there are for them.
 
+use crate::job::Progress;
+use board::board::Board;
 use std::cmp;
 use task_code::entry::Kind;
 
@@ -98,11 +100,15 @@ pub struct Call {
     pub wakes: bool,
 }
 
-/// The engines and the workers.
+/// The engines and the workers, and the items that there are for both.
 #[derive(Clone, Copy, Debug, Drop)]
 pub struct Crowds {
     engines: Crowd,
     workers: Crowd,
+    /// How many items were made, and so the number of the last one.
+    made: u64,
+    running: u64,
+    ended: u64,
 }
 
 impl Crowds {
@@ -111,6 +117,44 @@ impl Crowds {
         Crowds {
             engines: Crowd::new(engines, 1),
             workers: Crowd::new(workers, 0),
+            made: 1,
+            running: 0,
+            ended: 0,
+        }
+    }
+
+    /// An item of the kind begins.
+    pub fn begins(&mut self, kind: Kind) {
+        self.of(kind).loses();
+        self.running = self.running.saturating_add(1);
+    }
+
+    /// An item ended, and the board has those that this made: they have the next numbers.
+    pub fn ends(&mut self, board: &Board) {
+        self.running = self.running.saturating_sub(1);
+        self.ended = self.ended.saturating_add(1);
+        for _ in 0..u32::MAX {
+            let next = self.made.saturating_add(1);
+            if board.kind(next).is_none() {
+                break;
+            }
+            self.made = next;
+        }
+    }
+
+    /// How far a run is, of which there were so many events and lines.
+    pub fn progress(&self, events: usize, lines: usize) -> Progress {
+        let ready = self.engines.ready.saturating_add(self.workers.ready) as u64;
+        let active = self
+            .ended
+            .saturating_add(self.running)
+            .saturating_add(ready);
+        Progress {
+            events,
+            ready,
+            running: self.running,
+            waiting: self.made.saturating_sub(active),
+            lines,
         }
     }
 

@@ -90,6 +90,16 @@ impl<J: Job, E: Ledger, N: Ledger> Desk<J, E, N> {
         self.board.next(kind).is_some()
     }
 
+    /// How many events there were.
+    pub fn events(&self) -> usize {
+        self.board.history().len()
+    }
+
+    /// How many lines were printed.
+    pub fn lines(&self) -> usize {
+        self.board.lines().len()
+    }
+
     /// The item of the number begins, if it is of the kind and can begin.
     fn begin_this(
         &mut self,
@@ -241,6 +251,7 @@ impl<J: Job, E: Ledger, N: Ledger> Desk<J, E, N> {
     pub fn close(self, events: &mut Share<E>, news: &mut Share<N>) -> (Board, Option<Stop>)
         requires { (events.old.parts ≡ E.parts) × (news.old.parts ≡ N.parts) }
         ensures code { (result.0.code ≡ J.code) × (result.0.limit ≡ J.limit) }
+        ensures within { length result.0.history ≤ J.limit }
         ensures run { RunsTo J.code J.engines J.workers result.0.history news.old.amount result.0.state }
         ensures no_back { result.1 ≡ None → backs result.0.history ≡ 0 }
         ensures events { length result.0.history ≡ events.old.amount }
@@ -255,6 +266,7 @@ impl<J: Job, E: Ledger, N: Ledger> Desk<J, E, N> {
         } = self;
         book.audit(events);
         news_book.audit(news);
+        let _within = board.history();
         (board, stop)
     }
 }

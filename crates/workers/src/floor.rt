@@ -2,7 +2,7 @@
 
 use crate::crowd::{Call, Crowds};
 use crate::desk::Desk;
-use crate::job::Job;
+use crate::job::{Job, Progress};
 use std::sync::ledger::Ledger;
 use task_code::entry::Kind;
 
@@ -58,6 +58,11 @@ impl<J: Job, E: Ledger, N: Ledger> Floor<J, E, N> {
     /// How many items one thread begins at once.
     pub fn share(&mut self, kind: Kind) -> usize {
         self.crowds.of(kind).share()
+    }
+
+    /// How far the run is.
+    pub fn progress(&self) -> Progress {
+        self.crowds.progress(self.desk.events(), self.desk.lines())
     }
 
     /// Who is told what once the lock is let go.

@@ -43,6 +43,7 @@ pub fn list_fresh(board: &Board, list: &mut Vec<Fresh>, crowds: &mut Crowds) -> 
     ensures few { result < 2 ^ 63 }
     ensures listed { vec_len list.new ≤ vec_len list.old + result }
 {
+    crowds.ends(board);
     let count = board.newly_len();
     for place in 0..count {
         if let Some((kind, priority, number)) = board.newly(place) {

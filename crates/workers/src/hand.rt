@@ -163,7 +163,7 @@ impl<J: Job, E: Ledger, N: Ledger> Hand<J, E, N> {
             return Err(Refusal::Memory);
         }
         let work = desk.begin(worker, kind, drawn, events)?;
-        crowds.of(kind).loses();
+        crowds.begins(kind);
         works.push_reserved(work);
         *tally += 1;
         Ok(())

@@ -36,7 +36,23 @@ impl Job for Brand {
     ghost pool = { no_pool };
 }
 
-/// Where the work of an item is computed, outside of the lock: the one place where a run gets what was done.
+/// How far a run is.
+#[derive(Clone, Copy, Debug, PartialEq, Eq, Drop)]
+pub struct Progress {
+    /// How many starts and ends of items there were.
+    pub events: usize,
+    /// How many items can begin.
+    pub ready: u64,
+    /// How many run.
+    pub running: u64,
+    /// How many wait for inputs.
+    pub waiting: u64,
+    /// How many lines were printed.
+    pub lines: usize,
+}
+
+/// Where the work of an item is computed, outside of the lock: the one place where a run gets what was done. It also learns how far the
+/// run is.
 pub trait Gate: Sync {
     ghost use Rattle.std.specs.Prelude.{◌≡◌, IfOk, IfErr};
 
@@ -48,6 +64,9 @@ pub trait Gate: Sync {
     fn pass(&self, worker: u8, work: Work) -> Result<Done, (Work, AllocError)>
         ensures done { IfOk result (λ done. done ≡ work) }
         ensures back { IfErr result (λ refused. refused.0 ≡ work) };
+
+    /// What it learns each time that a thread let go of the lock, outside of it.
+    fn note(&self, _progress: Progress) {}
 }
 
 /// The gate that computes each item at once.

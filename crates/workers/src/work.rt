@@ -131,14 +131,15 @@ fn end_all<J: Job, E: Ledger, N: Ledger>(
 }
 
 /// Ends the items that are done, and begins the next ones where there are some.
-fn finish<J: Job, E: Ledger, N: Ledger, R: Wait>(
+fn finish<J: Job, E: Ledger, N: Ledger, R: Wait, G: Gate>(
     rt: &R,
     floor: &Mutex<Floor<J, E, N>>,
     bells: &Bells,
+    gate: &G,
     hand: &mut Hand<J, E, N>,
     drawn: Option<u64>,
 ) -> Next {
-    let (then, calls) = {
+    let (then, calls, progress) = {
         let mut guard = floor.lock(rt);
         let under = &mut *guard;
         let then = if end_all(under, hand) {
@@ -146,9 +147,10 @@ fn finish<J: Job, E: Ledger, N: Ledger, R: Wait>(
         } else {
             Next::Stops
         };
-        (then, under.calls())
+        (then, under.calls(), under.progress())
     };
     bells.ring(calls);
+    gate.note(progress);
     then
 }
 
@@ -183,7 +185,7 @@ fn step<J: Job, E: Ledger, N: Ledger, R: Wait, G: Gate>(
     let then = match hand.compute_all(gate) {
         Ok(()) => {
             let drawn = hand.draw(pool);
-            finish(rt, floor, bells, hand, drawn)
+            finish(rt, floor, bells, gate, hand, drawn)
         }
         Err(item) => {
             give_back(rt, floor, bells, hand, item);

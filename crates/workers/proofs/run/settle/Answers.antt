@@ -15,6 +15,7 @@ returns-clause-report g c =
       board = b;
       code = c.close-board.ensures.code.0;
       limit_is = c.close-board.ensures.code.1;
+      within = c.close-board.ensures.within;
       run = subst (λ (n : ℕ). RunsTo g.J.Job.code g.J.Job.engines g.J.Job.workers b.history n b.state) count c.close-board.ensures.run;
       no_back = c.close-board.ensures.no_back stopped;
       tells = search rules;

@@ -1,0 +1,66 @@
+#!/usr/bin/env python3
+"""Runs each script and its counterpart in OpenMP tasks one right after the other, and prints nanoseconds and ratios.
+
+    compare.py SWT      with the built program; gcc with OpenMP must be there
+
+Of each the least of three runs counts. The items of a script are its events, halved; a run of `swt` is timed whole, from its start to its
+last line, reading and compiling too. A task of OpenMP does more than an item: for a turn of a loop there is one task and there are some items. So
+the last column compares the whole times.
+"""
+import os, subprocess, sys, tempfile, time
+
+HERE = os.path.dirname(os.path.abspath(__file__))
+COUNTS = [(1, 1), (1, 3), (2, 2)]
+
+
+def chain(folder):
+    path = os.path.join(folder, "chain.swift")
+    with open(path, "w") as file:
+        file.write("import io;\nint x0 = 0;\n")
+        for i in range(1, 50_001 if len(sys.argv) < 3 else int(sys.argv[2])):
+            file.write(f"int x{i:x}=x{i - 1:x}+1;")
+        file.write(f'\nprintf("%i", x{i:x});\n')
+    return path
+
+
+def timed(words):
+    start = time.monotonic()
+    done = subprocess.run(words, stdout=subprocess.DEVNULL, stderr=subprocess.PIPE, text=True)
+    if done.returncode:
+        sys.exit(f"{' '.join(words)}: status {done.returncode}: {done.stderr}")
+    return time.monotonic() - start
+
+
+def events(swt, script, folder):
+    trace = os.path.join(folder, "trace")
+    timed([swt, "run", script, "--trace", trace, "--steps", "4294967295"])
+    with open(trace, "rb") as file:
+        return sum(1 for _ in file) - 1
+
+
+def main():
+    swt = sys.argv[1]
+    with tempfile.TemporaryDirectory() as folder:
+        tasks = os.path.join(folder, "tasks")
+        subprocess.run(["gcc", "-O2", "-fopenmp", "-o", tasks, os.path.join(HERE, "tasks.c")], check=True)
+        names = ["flat", "fib22", "fib24", "chain", "array", "nested", "calls"]
+        print("| script | items | " + " | ".join(f"{e} + {w}, ns an item" for e, w in COUNTS) + " | OpenMP on 4, ns a task | best whole run: OpenMP / swt |")
+        print("|---|---|" + "---|" * len(COUNTS) + "---|---|")
+        for name in names:
+            script = chain(folder) if name == "chain" else os.path.join(HERE, "scripts", name + ".swift")
+            items = events(swt, script, folder) // 2
+            ours = []
+            for engines, workers in COUNTS:
+                words = [swt, "run", script, "--engines", str(engines), "--workers", str(workers), "--steps", "4294967295"]
+                ours.append(min(timed(words) for _ in range(3)))
+            theirs = []
+            for _ in range(3):
+                said = subprocess.run([tasks, name], env={**os.environ, "OMP_NUM_THREADS": "4"}, capture_output=True, text=True, check=True)
+                nanos, made, _ = said.stdout.split()
+                theirs.append((int(nanos), int(made)))
+            nanos, made = min(theirs)
+            cells = [f"{t * 1e9 / items:.0f}" for t in ours]
+            print(f"| {name} | {items:,} | " + " | ".join(cells) + f" | {nanos / made:.0f} | {nanos / 1e9 / min(ours):.2f} |", flush=True)
+
+
+main()

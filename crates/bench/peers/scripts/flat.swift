@@ -1,0 +1,2 @@
+import io;
+foreach i in [1:1000000] { printf("%i", i); }

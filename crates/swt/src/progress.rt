@@ -1,0 +1,69 @@
+//! How far a run is, said once a second.
+
+use board_work::work::{Done, Work};
+use std::alloc::AllocError;
+use std::sync::atomic::{AtomicU64, Ordering};
+use std::time::Instant;
+use workers::job::{Gate, Progress};
+
+/// Computes each item at once, and says once a second on standard error how far the run is, where that is wanted.
+#[derive(Drop)]
+pub struct Teller<'a> {
+    rt: &'a HostRuntime,
+    /// When the run began, where it is to be said how far it is.
+    start: Option<Instant>,
+    /// In how many of the seconds since then it was said.
+    told: AtomicU64,
+}
+
+impl Teller<'_> {
+    /// Says it from now on, if it is wanted and there is a clock.
+    pub fn new(rt: &HostRuntime, wanted: bool) -> Teller<'_> {
+        let start = if wanted { Instant::now(rt).ok() } else { None };
+        Teller {
+            rt,
+            start,
+            told: AtomicU64::new(0),
+        }
+    }
+
+    /// Says it, in the second of the run that has begun.
+    fn tell(&self, second: u64, progress: Progress) {
+        let Progress {
+            events,
+            ready,
+            running,
+            waiting,
+            lines,
+        } = progress;
+        // Where this can't be written, the run goes on.
+        let _ = eprintln!(self.rt;
+            "swt: {second} s: {events} events, {lines} lines; items: {ready} ready, {running} running, {waiting} waiting"
+        );
+    }
+}
+
+impl Gate for Teller<'_> {
+    fn pass(&self, _worker: u8, work: Work) -> Result<Done, (Work, AllocError)> {
+        work.compute()
+    }
+
+    fn note(&self, progress: Progress) {
+        let Some(start) = &self.start else {
+            return;
+        };
+        let Ok(elapsed) = start.elapsed(self.rt) else {
+            return;
+        };
+        let second = elapsed.as_secs();
+        let told = self.told.load(Ordering::SeqCst);
+        let is_new = second > told
+            && self
+                .told
+                .compare_exchange(told, second, Ordering::SeqCst, Ordering::SeqCst)
+                .is_ok();
+        if is_new {
+            self.tell(second, progress);
+        }
+    }
+}

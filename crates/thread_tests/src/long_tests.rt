@@ -1,0 +1,20 @@
+//! A long run on as many threads as there may be.
+use crate::runs::{MANY, run_of};
+use runs::report::End;
+use std::test::Fail;
+use workers::job::Open;
+
+#[test]
+fn ten_million_events_on_64_threads(rt: HostRuntime) -> Result<(), Fail> {
+    let script = b"foreach i in [1:4000000] { int x = i + 1; int y = x * 2; }";
+    let (report, count) = run_of(&rt, rt.alloc(), script, (8, 56), MANY, &Open)?;
+    assert!(rt; matches!(report.end, End::Limit));
+    assert_eq!(rt; report.history.len(), 10_000_000);
+    let mut told = 0u32;
+    for tally in report.tallies {
+        told = told.saturating_add(tally);
+    }
+    assert_eq!(rt; told, MANY);
+    assert_eq!(rt; count.offered, count.drawn.saturating_add(count.left));
+    Ok(())
+}
