@@ -17,6 +17,4 @@ mod meaning_tests;
 #[cfg(test)]
 mod order_tests;
 #[cfg(test)]
-mod random_tests;
-#[cfg(test)]
 mod whole_tests;
