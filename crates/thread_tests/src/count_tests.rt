@@ -1,5 +1,5 @@
 //! How many engines and workers a run may have.
-use crate::runs::{MANY, is_done, is_replayed, run_of};
+use crate::threaded::{MANY, is_done, is_replayed, run_of};
 use compile::compile::compile;
 use std::test::Fail;
 use workers::fault::RunFault;

@@ -1,6 +1,6 @@
 //! Leaf items that run side by side, offers and draws, and what a gate learns of a run.
 use crate::gates::{Held, Watched};
-use crate::runs::{MANY, is_done, is_replayed, run_of};
+use crate::threaded::{MANY, is_done, is_replayed, run_of};
 use std::test::Fail;
 
 #[test]

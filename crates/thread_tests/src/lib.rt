@@ -10,4 +10,4 @@ mod gates;
 #[cfg(test)]
 mod long_tests;
 #[cfg(test)]
-mod runs;
+mod threaded;

@@ -1,5 +1,5 @@
 //! A long run on as many threads as there may be.
-use crate::runs::{MANY, run_of};
+use crate::threaded::{MANY, run_of};
 use runs::report::End;
 use std::test::Fail;
 use workers::job::Open;
