@@ -1,7 +1,7 @@
 #!/usr/bin/env python3
 """Runs each script and its counterpart in OpenMP tasks one right after the other, and prints nanoseconds and ratios.
 
-    compare.py SWT      with the built program; gcc with OpenMP must be there
+    compare.py SWT [NAME ..]      with the built program; gcc with OpenMP must be there
 
 Of each the least of three runs counts. The items of a script are its events, halved; a run of `swt` is timed whole, from its start to its
 last line, reading and compiling too. A task of OpenMP does more than an item: for a turn of a loop there is one task and there are some items. So
@@ -13,13 +13,18 @@ HERE = os.path.dirname(os.path.abspath(__file__))
 COUNTS = [(1, 1), (1, 3), (2, 2)]
 
 
+CHAIN = 10_000
+NAMES = ["flat", "fib22", "fib24", "chain", "array", "nested", "calls"]
+
+
 def chain(folder):
+    """A script of so many scalars, each from the one before."""
     path = os.path.join(folder, "chain.swift")
     with open(path, "w") as file:
         file.write("import io;\nint x0 = 0;\n")
-        for i in range(1, 50_001 if len(sys.argv) < 3 else int(sys.argv[2])):
+        for i in range(1, CHAIN):
             file.write(f"int x{i:x}=x{i - 1:x}+1;")
-        file.write(f'\nprintf("%i", x{i:x});\n')
+        file.write(f'\nprintf("%i", x{CHAIN - 1:x});\n')
     return path
 
 
@@ -38,12 +43,22 @@ def events(swt, script, folder):
         return sum(1 for _ in file) - 1
 
 
+def least(tasks, name):
+    """The least of three runs of the tasks: nanoseconds, and how many tasks there were."""
+    words = [tasks, name] + [str(CHAIN)] * (name == "chain")
+    found = []
+    for _ in range(3):
+        said = subprocess.run(words, env={**os.environ, "OMP_NUM_THREADS": "4"}, capture_output=True, text=True, check=True)
+        nanos, made, _ = said.stdout.split()
+        found.append((int(nanos), int(made)))
+    return min(found)
+
+
 def main():
-    swt = sys.argv[1]
+    swt, names = sys.argv[1], sys.argv[2:] or NAMES
     with tempfile.TemporaryDirectory() as folder:
         tasks = os.path.join(folder, "tasks")
         subprocess.run(["gcc", "-O2", "-fopenmp", "-o", tasks, os.path.join(HERE, "tasks.c")], check=True)
-        names = ["flat", "fib22", "fib24", "chain", "array", "nested", "calls"]
         print("| script | items | " + " | ".join(f"{e} + {w}, ns an item" for e, w in COUNTS) + " | OpenMP on 4, ns a task | best whole run: OpenMP / swt |")
         print("|---|---|" + "---|" * len(COUNTS) + "---|---|")
         for name in names:
@@ -53,12 +68,7 @@ def main():
             for engines, workers in COUNTS:
                 words = [swt, "run", script, "--engines", str(engines), "--workers", str(workers), "--steps", "4294967295"]
                 ours.append(min(timed(words) for _ in range(3)))
-            theirs = []
-            for _ in range(3):
-                said = subprocess.run([tasks, name], env={**os.environ, "OMP_NUM_THREADS": "4"}, capture_output=True, text=True, check=True)
-                nanos, made, _ = said.stdout.split()
-                theirs.append((int(nanos), int(made)))
-            nanos, made = min(theirs)
+            nanos, made = least(tasks, name)
             cells = [f"{t * 1e9 / items:.0f}" for t in ours]
             print(f"| {name} | {items:,} | " + " | ".join(cells) + f" | {nanos / made:.0f} | {nanos / 1e9 / min(ours):.2f} |", flush=True)
 

@@ -1,5 +1,5 @@
 // The work of the scripts beside it as OpenMP tasks: tasks NAME prints nanoseconds, tasks made and a check.
-// gcc -O2 -fopenmp -o tasks tasks.c && OMP_NUM_THREADS=4 ./tasks chain
+// gcc -O2 -fopenmp -o tasks tasks.c && OMP_NUM_THREADS=4 ./tasks chain 10000
 #include <omp.h>
 #include <stdio.h>
 #include <stdlib.h>
@@ -109,7 +109,7 @@ int main(int argc, char **argv) {
     if (!strcmp(name, "flat")) answer = flat(1000000);
     if (!strcmp(name, "fib22")) answer = fib(22);
     if (!strcmp(name, "fib24")) answer = fib(24);
-    if (!strcmp(name, "chain")) answer = chain(50000);
+    if (!strcmp(name, "chain")) answer = chain(argc > 2 ? atol(argv[2]) : 10000);
     if (!strcmp(name, "array")) answer = chain(1000000);
     if (!strcmp(name, "nested")) answer = nested(1000);
     if (!strcmp(name, "calls")) answer = calls(200000);
