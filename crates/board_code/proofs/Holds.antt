@@ -20,7 +20,7 @@ use Rattle.board_code.specs.declared.program.Hold.{Hold}
 use Rattle.board_code.specs.declared.spot.Spot.{Spot}
 
 -- lists to a place
-taken : {X : Type 0} (xs : List X) (i : ℕ) (d : X) → i < length xs → take (i + 1) xs ≡ take i xs ++ slice_index_or xs i d ∷ []
+pub taken : {X : Type 0} (xs : List X) (i : ℕ) (d : X) → i < length xs → take (i + 1) xs ≡ take i xs ++ slice_index_or xs i d ∷ []
 taken [] i d h = absurd (omega (arith, h))
 taken (x ∷ xs) zero d h = refl
 taken (x ∷ xs) (suc i) d h = ap (λ n. take n (x ∷ xs)) (later i) ∙ ap (λ l. x ∷ l) (taken xs i d (omega (arith, h)))
@@ -28,13 +28,13 @@ taken (x ∷ xs) (suc i) d h = ap (λ n. take n (x ∷ xs)) (later i) ∙ ap (λ
     later : (i : ℕ) → suc i + 1 ≡ suc (i + 1)
     later i = omega arith
 
-whole : {X : Type 0} (xs : List X) (i : ℕ) → length xs ≤ i → take i xs ≡ xs
+pub whole : {X : Type 0} (xs : List X) (i : ℕ) → length xs ≤ i → take i xs ≡ xs
 whole [] zero h = refl
 whole [] (suc i) h = refl
 whole (x ∷ xs) zero h = absurd (omega (arith, h))
 whole (x ∷ xs) (suc i) h = ap (λ l. x ∷ l) (whole xs i (omega (arith, h)))
 
-map_more : {X Y : Type 0} (g : X → Y) (xs ys : List X) → map g (xs ++ ys) ≡ map g xs ++ map g ys
+pub map_more : {X Y : Type 0} (g : X → Y) (xs ys : List X) → map g (xs ++ ys) ≡ map g xs ++ map g ys
 map_more g [] ys = refl
 map_more g (x ∷ xs) ys = ap (λ l. g x ∷ l) (map_more g xs ys)
 

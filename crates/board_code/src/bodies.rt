@@ -1,33 +1,20 @@
 //! What an instance of a body begins with: the counts of its own data, and what it adds to those outside.
-ghost use Rattle.std.specs.Prelude.{◌≡◌, ◌+◌, ◌<◌, ◌∷◌, [], length, map, IfOk, OnOk};
+ghost use Rattle.std.specs.Prelude.{◌≡◌, ◌+◌, ◌<◌, ◌∷◌, [], length, map, replicate, slice_index_or, IfOk, OnOk};
 ghost use Rattle.std.specs.Bool.{OnTrue};
-ghost use Rattle.replayed.specs.Static.{name_times};
-ghost use Rattle.task_code.specs.Check.{is_declared};
-ghost use Rattle.task_code.specs.Code.{Control, body as body_at, here};
-ghost use Rattle.task_code.specs.Places.{name_eq};
+ghost use Rattle.task_code.specs.Code.{Control, body as body_at};
 ghost use Rattle.task_code.specs.View.{body_view, name_view, variable_view};
-ghost use Rattle.board_code.specs.Spots.{homes_of, place_from};
-ghost use Rattle.board_code.specs.Tables.{GainsHold, GainsNames, HoldsOf, IsBodyTable, is_place, names_of, own_from, own_row, queue_kind, run_as, shape_of};
-ghost use Rattle.task_code.specs.Code.{Leaf};
+ghost use Rattle.board_code.specs.Places.{CountsMore, CountsOf, FindsPlaces, own_place, with_counts};
+ghost use Rattle.board_code.specs.Spots.{homes_of};
+ghost use Rattle.board_code.specs.Tables.{GainsHold, GainsNames, HoldsOf, IsBodyTable, names_of, own_from, run_as, shape_of};
 
+use crate::places::{place_in, places_among};
 use crate::program::{BodyTable, Hold, Own};
-use crate::spot::{Spot, place_among, spot_in};
+use crate::spot::{Spot, spot_in};
 use data_store::store::Shape;
+use indexmap::IndexMap;
 use std::alloc::{AllocError, Global};
 use task_code::code::{Body, Code};
 use task_code::entry::{Kind, Name, Owned, Variable};
-
-/// Whether the name is this variable of its own block.
-fn is_variable(name: Name, variable: Variable) -> bool
-    ensures { result ≡ name_eq (here (variable_view variable)) (name_view name) }
-{
-    match name.owned {
-        Owned::Local(found) => {
-            name.up == 0 && variable.node == found.node && variable.array == found.array
-        }
-        Owned::Parameter(_, _) => false,
-    }
-}
 
 /// One more, or want of memory where 64 bits do not tell it.
 fn one_more(count: u64) -> Result<u64, AllocError>
@@ -39,46 +26,105 @@ fn one_more(count: u64) -> Result<u64, AllocError>
     }
 }
 
-/// Adds how many of the names are the variable.
-#[tactic(auto, using(crate::proofs::Counts::times_next, crate::proofs::Counts::times_other, crate::proofs::Counts::times_end))]
-fn count_names(count: u64, names: &[Name], variable: Variable) -> Result<u64, AllocError>
-    ensures { IfOk result (λ all. all ≡ count + name_times (here (variable_view variable)) (map name_view names.now)) }
+/// The place of a name that is one of the block's own variables.
+fn own_place(places: &IndexMap<u64, usize>, name: Name) -> Option<usize>
+    ensures { result ≡ own_place places.now (name_view name) }
 {
-    let mut all = count;
-    for at in 0..names.len() {
-        if is_variable(names[at], variable) {
-            all = one_more(all)?;
+    match name.owned {
+        Owned::Local(variable) => {
+            if name.up == 0 {
+                place_in(places, variable)
+            } else {
+                None
+            }
         }
+        Owned::Parameter(_, _) => None,
     }
-    Ok(all)
 }
 
-/// How many of the names that entries may read are the variable.
-#[tactic(auto, using(crate::proofs::Counts::reads_next, crate::proofs::Counts::reads_past, crate::proofs::Counts::names_end))]
-fn count_reads(code: &Code, entries: &[u32], variable: Variable) -> Result<u64, AllocError>
-    ensures { IfOk result (λ all. all ≡ name_times (here (variable_view variable)) (names_of code.now (λ e. e.reads) entries.now)) }
+/// Counts a name at the place of its variable, if it is one of the block's own.
+#[tactic(auto, using(crate::proofs::Counted::one_counted, crate::proofs::Counted::past_counted, crate::proofs::Counted::none_counted))]
+fn count_name(
+    counts: &mut Vec<u64>,
+    places: &IndexMap<u64, usize>,
+    name: Name,
+) -> Result<(), AllocError>
+    ensures { OnOk result (CountsMore places.now (name_view name ∷ []) counts.old.items counts.new.items) }
 {
-    let mut all = 0;
+    let Some(place) = own_place(places, name) else {
+        return Ok(());
+    };
+    if place < counts.len() {
+        counts[place] = one_more(counts[place])?;
+    }
+    Ok(())
+}
+
+/// The same for each of the names.
+#[tactic(auto, using(crate::proofs::Counted::counted_none, crate::proofs::Counted::counted_next, crate::proofs::Counted::counted_all))]
+fn count_names(
+    counts: &mut Vec<u64>,
+    places: &IndexMap<u64, usize>,
+    names: &[Name],
+) -> Result<(), AllocError>
+    ensures { OnOk result (CountsMore places.now (map name_view names.now) counts.old.items counts.new.items) }
+{
+    for at in 0..names.len() {
+        count_name(counts, places, names[at])?;
+    }
+    Ok(())
+}
+
+/// As many counts of nothing.
+#[tactic(auto, using(crate::proofs::Counted::one_more_none))]
+fn no_counts(alloc: Global, many: usize) -> Result<Vec<u64>, AllocError>
+    ensures { IfOk result (λ counts. counts.items ≡ replicate many 0) }
+{
+    let mut counts = Vec::new(alloc);
+    for _ in 0..many {
+        counts.push(0)?;
+    }
+    Ok(counts)
+}
+
+/// How many of the names that entries may read are each of the variables.
+#[tactic(auto, using(crate::proofs::Counted::all_none, crate::proofs::Counted::reads_next, crate::proofs::Counted::reads_past, crate::proofs::Counted::all_entries))]
+fn count_reads(
+    alloc: Global,
+    code: &Code,
+    entries: &[u32],
+    places: &IndexMap<u64, usize>,
+    many: usize,
+) -> Result<Vec<u64>, AllocError>
+    ensures { IfOk result (λ counts. CountsOf places.now many (names_of code.now (λ e. e.reads) entries.now) counts.items) }
+{
+    let mut counts = no_counts(alloc, many)?;
     for at in 0..entries.len() {
         if let Some(entry) = code.entry(entries[at]) {
-            all = count_names(all, entry.reads.as_slice(), variable)?;
+            count_names(&mut counts, places, entry.reads.as_slice())?;
         }
     }
-    Ok(all)
+    Ok(counts)
 }
 
 /// How many of those that they may write.
-#[tactic(auto, using(crate::proofs::Counts::writes_next, crate::proofs::Counts::writes_past, crate::proofs::Counts::names_end))]
-fn count_writes(code: &Code, entries: &[u32], variable: Variable) -> Result<u64, AllocError>
-    ensures { IfOk result (λ all. all ≡ name_times (here (variable_view variable)) (names_of code.now (λ e. e.writes) entries.now)) }
+#[tactic(auto, using(crate::proofs::Counted::all_none, crate::proofs::Counted::writes_next, crate::proofs::Counted::writes_past, crate::proofs::Counted::all_entries))]
+fn count_writes(
+    alloc: Global,
+    code: &Code,
+    entries: &[u32],
+    places: &IndexMap<u64, usize>,
+    many: usize,
+) -> Result<Vec<u64>, AllocError>
+    ensures { IfOk result (λ counts. CountsOf places.now many (names_of code.now (λ e. e.writes) entries.now) counts.items) }
 {
-    let mut all = 0;
+    let mut counts = no_counts(alloc, many)?;
     for at in 0..entries.len() {
         if let Some(entry) = code.entry(entries[at]) {
-            all = count_names(all, entry.writes.as_slice(), variable)?;
+            count_names(&mut counts, places, entry.writes.as_slice())?;
         }
     }
-    Ok(all)
+    Ok(counts)
 }
 
 /// What a datum is.
@@ -88,44 +134,53 @@ fn shape_of(array: bool) -> Shape
     if array { Shape::Keyed } else { Shape::Single }
 }
 
-/// Whether the variable's first place is this one.
-fn is_first(makes: &[Variable], at: usize, variable: Variable) -> bool
-    ensures { result ≡ is_place at (place_from 0 (variable_view variable) (map variable_view makes.now)) }
+/// The count at a place.
+fn count_at(counts: &[u64], place: usize) -> u64
+    ensures { result ≡ slice_index_or counts.now place 0 }
 {
-    match place_among(makes, variable) {
-        Some(place) => at == place,
-        None => false,
+    if place < counts.len() {
+        counts[place]
+    } else {
+        0
     }
 }
 
-/// The body's own datum at a place.
-fn own_of(code: &Code, body: &Body, at: usize, variable: Variable) -> Result<Own, AllocError>
-    ensures { IfOk result (λ own. own ≡ own_row (body_view body.now).makes (names_of code.now (λ e. e.reads) (body_view body.now).entries) (names_of code.now (λ e. e.writes) (body_view body.now).entries) at (variable_view variable)) }
-{
-    let shape = shape_of(variable.array);
-    if !is_first(body.makes.as_slice(), at, variable) {
-        return Ok(Own {
-            shape,
-            reads: 0,
-            writes: 0,
-        });
-    }
-    Ok(Own {
-        shape,
-        reads: count_reads(code, body.entries.as_slice(), variable)?,
-        writes: count_writes(code, body.entries.as_slice(), variable)?,
-    })
-}
-
-/// The body's own data.
-#[tactic(auto, using(crate::proofs::Counts::own_more, crate::proofs::Counts::own_end))]
-fn own_data(alloc: Global, code: &Code, body: &Body) -> Result<Vec<Own>, AllocError>
-    ensures { IfOk result (λ own. own.items ≡ own_from (body_view body.now).makes (names_of code.now (λ e. e.reads) (body_view body.now).entries) (names_of code.now (λ e. e.writes) (body_view body.now).entries) 0 (body_view body.now).makes) }
+/// Variables with their counts.
+#[tactic(auto, using(crate::proofs::Counted::owns_next, crate::proofs::Counted::owns_all))]
+fn with_counts(
+    alloc: Global,
+    makes: &[Variable],
+    reads: &[u64],
+    writes: &[u64],
+) -> Result<Vec<Own>, AllocError>
+    ensures { IfOk result (λ own. own.items ≡ with_counts 0 reads.now writes.now (map variable_view makes.now)) }
 {
     let mut own = Vec::new(alloc);
-    for at in 0..body.makes.len() {
-        own.push(own_of(code, body, at, body.makes[at])?)?;
+    for at in 0..makes.len() {
+        own.push(Own {
+            shape: shape_of(makes[at].array),
+            reads: count_at(reads, at),
+            writes: count_at(writes, at),
+        })?;
     }
+    Ok(own)
+}
+
+/// A body's own data, by the places of its variables.
+#[tactic(auto, using(crate::proofs::Counted::own_counted))]
+fn own_data(
+    alloc: Global,
+    code: &Code,
+    makes: &[Variable],
+    entries: &[u32],
+    places: &IndexMap<u64, usize>,
+) -> Result<Vec<Own>, AllocError>
+    requires { FindsPlaces (map variable_view makes.now) places.now }
+    ensures { IfOk result (λ own. own.items ≡ own_from (map variable_view makes.now) (names_of code.now (λ e. e.reads) entries.now) (names_of code.now (λ e. e.writes) entries.now) 0 (map variable_view makes.now)) }
+{
+    let reads = count_reads(alloc, code, entries, places, makes.len())?;
+    let writes = count_writes(alloc, code, entries, places, makes.len())?;
+    let own = with_counts(alloc, makes, reads.as_slice(), writes.as_slice())?;
     Ok(own)
 }
 
@@ -168,50 +223,34 @@ fn add_hold(outer: &mut Vec<Hold>, added: Hold) -> Result<(), AllocError>
     Ok(())
 }
 
-/// Whether the body declares the name.
-#[tactic(auto, using(crate::proofs::Counts::place_told))]
-fn is_declared(code: &Code, body: u32, name: Name) -> bool
-    ensures { result ≡ is_declared code.now body (name_view name) }
-{
-    let Some(found) = code.body(body) else {
-        return false;
-    };
-    match name.owned {
-        Owned::Local(variable) => {
-            name.up == 0 && place_among(found.makes.as_slice(), variable).is_some()
-        }
-        Owned::Parameter(_, _) => false,
-    }
-}
-
 /// Holds what a name stands for, so many times of each kind, unless the body declares it.
-#[tactic(auto, using(crate::proofs::Holds::gains_own, crate::proofs::Holds::gains_nowhere, crate::proofs::Holds::gains_one))]
+#[tactic(auto, using(crate::proofs::Counted::declared_if, crate::proofs::Holds::gains_own, crate::proofs::Holds::gains_nowhere, crate::proofs::Holds::gains_one))]
 fn hold_name(
     code: &Code,
     homes: &[Option<u32>],
+    places: &IndexMap<u64, usize>,
     body: u32,
     name: Name,
     reads: u64,
     writes: u64,
     outer: &mut Vec<Hold>,
 ) -> Result<(), AllocError>
-    requires { homes.now ≡ homes_of code.now }
+    requires homes { homes.now ≡ homes_of code.now }
+    requires places { FindsPlaces (body_at code.now body).makes places.now }
     ensures { OnOk result (GainsNames code.now body reads writes (name_view name ∷ []) outer.old.items outer.new.items) }
 {
-    if is_declared(code, body, name) {
+    if own_place(places, name).is_some() {
         return Ok(());
     }
-    match spot_in(code, homes, body, name) {
-        Some(spot) => add_hold(
-            outer,
-            Hold {
-                spot,
-                reads,
-                writes,
-            },
-        ),
-        None => Ok(()),
+    if let Some(spot) = spot_in(code, homes, body, name) {
+        let hold = Hold {
+            spot,
+            reads,
+            writes,
+        };
+        add_hold(outer, hold)?;
     }
+    Ok(())
 }
 
 /// The same for each of the names.
@@ -219,17 +258,19 @@ fn hold_name(
 fn hold_names(
     code: &Code,
     homes: &[Option<u32>],
+    places: &IndexMap<u64, usize>,
     body: u32,
     names: &[Name],
     reads: u64,
     writes: u64,
     outer: &mut Vec<Hold>,
 ) -> Result<(), AllocError>
-    requires { homes.now ≡ homes_of code.now }
+    requires homes { homes.now ≡ homes_of code.now }
+    requires places { FindsPlaces (body_at code.now body).makes places.now }
     ensures { OnOk result (GainsNames code.now body reads writes (map name_view names.now) outer.old.items outer.new.items) }
 {
     for at in 0..names.len() {
-        hold_name(code, homes, body, names[at], reads, writes, outer)?;
+        hold_name(code, homes, places, body, names[at], reads, writes, outer)?;
     }
     Ok(())
 }
@@ -240,17 +281,21 @@ fn outer_holds(
     alloc: Global,
     code: &Code,
     homes: &[Option<u32>],
+    places: &IndexMap<u64, usize>,
     body: u32,
     entries: &[u32],
 ) -> Result<Vec<Hold>, AllocError>
-    requires { homes.now ≡ homes_of code.now }
+    requires homes { homes.now ≡ homes_of code.now }
+    requires places { FindsPlaces (body_at code.now body).makes places.now }
     ensures { IfOk result (λ holds. HoldsOf code.now body entries.now holds.items) }
 {
     let mut outer = Vec::new(alloc);
     for at in 0..entries.len() {
         if let Some(entry) = code.entry(entries[at]) {
-            hold_names(code, homes, body, entry.reads.as_slice(), 1, 0, &mut outer)?;
-            hold_names(code, homes, body, entry.writes.as_slice(), 0, 1, &mut outer)?;
+            let reads = entry.reads.as_slice();
+            hold_names(code, homes, places, body, reads, 1, 0, &mut outer)?;
+            let writes = entry.writes.as_slice();
+            hold_names(code, homes, places, body, writes, 0, 1, &mut outer)?;
         }
     }
     Ok(outer)
@@ -286,9 +331,11 @@ pub fn body_table(
 {
     let entries = body.entries.as_slice();
     let controls = controls(code, entries);
+    let makes = body.makes.as_slice();
+    let places = places_among(alloc, makes)?;
     Ok(BodyTable {
-        own: own_data(alloc, code, body)?,
-        outer: outer_holds(alloc, code, homes, number, entries)?,
+        own: own_data(alloc, code, makes, entries, &places)?,
+        outer: outer_holds(alloc, code, homes, &places, number, entries)?,
         controls,
         leaves: entries.len().saturating_sub(controls),
     })
