@@ -102,7 +102,7 @@ impl<'a> Ended<'a> {
             body,
             offset: self.entry.mark,
         };
-        let mut list = Vec::new(self.alloc);
+        let mut list = Vec::with_capacity(self.alloc, 1)?;
         push_block(
             site,
             &mut list,
@@ -172,7 +172,7 @@ impl<'a> Ended<'a> {
             body,
             offset: self.entry.mark,
         };
-        let mut list = Vec::new(self.alloc);
+        let mut list = Vec::with_capacity(self.alloc, end.saturating_sub(first) as usize)?;
         push_range(site, &mut list, range, first, end)?;
         self.opens_list(body, list, end < range.count)
     }
@@ -196,7 +196,7 @@ impl<'a> Ended<'a> {
             body,
             offset: self.entry.mark,
         };
-        let mut list = Vec::new(self.alloc);
+        let mut list = Vec::with_capacity(self.alloc, end.saturating_sub(first) as usize)?;
         push_elements(site, &mut list, &elements[first as usize..end as usize])?;
         self.opens_list(body, list, end < elements.len() as u64)
     }

@@ -29,8 +29,8 @@ returns c = λ w l.
     (chunk_opens c.args.self w c.args.body l (range_turns low step 0 count) count first end begins ends (range_length low step 0 count) c.push_range.new.list.items
     (λ some there. turns_are (code_of c.args.self) (frames_of c.args.self) c.args.self.view.at c.args.body c.args.self.entry.now.mark (range_turns low step first (min end count - first)) (chunk c.args.self.chunk (range_turns low step 0 count)) [] c.push_range.new.list.items
     (ap (λ n. range_turns low step n (min end count - n)) begins ∙ ap (λ n. range_turns low step (min (c.args.self.chunk * 64) count) (min n count - min (c.args.self.chunk * 64) count)) ends ∙ range_chunk low step c.args.self.chunk count)
-    (subst (λ old. AddsTurns (code_of c.args.self) (frames_of c.args.self) c.args.self.view.at c.args.body c.args.self.entry.now.mark (range_turns low step first (min end count - first)) old c.push_range.new.list.items) c.new-list.ensures.items (c.in_ok-push_range.ensures.added some there)))
-    (λ e. c.in_ok-push_range.ensures.none e ∙ c.new-list.ensures.items)
+    (subst (λ old. AddsTurns (code_of c.args.self) (frames_of c.args.self) c.args.self.view.at c.args.body c.args.self.entry.now.mark (range_turns low step first (min end count - first)) old c.push_range.new.list.items) c.in_ok-list.ensures.items (c.in_ok-push_range.ensures.added some there)))
+    (λ e. c.in_ok-push_range.ensures.none e ∙ c.in_ok-list.ensures.items)
     (λ h. elim c.else-first-end.branch [
       | else-first-end-via-then-first-end+else-is_too_deep y ↦ sym (y.is_too_deep.ensures w) ∙ y.if-is_too_deep.false
       | else-first-end-via-else-first-end y ↦ absurd (omega (arith, h, y.if-first-end.false))

@@ -30,8 +30,8 @@ returns c = λ w l.
     (chunk_opens c.args.self w c.args.body l (pairs es) (length es) first end begins ends (pairs_length es) c.push_elements.new.list.items
     (λ some there. turns_are (code_of c.args.self) (frames_of c.args.self) c.args.self.view.at c.args.body c.args.self.entry.now.mark (pairs (take (end - first) (drop first es))) (chunk c.args.self.chunk (pairs es)) [] c.push_elements.new.list.items
     (elements_chunk c.args.self.chunk es first end begins ends)
-    (subst (λ old. AddsTurns (code_of c.args.self) (frames_of c.args.self) c.args.self.view.at c.args.body c.args.self.entry.now.mark (pairs (take (end - first) (drop first es))) old c.push_elements.new.list.items) c.new-list.ensures.items (c.in_ok-push_elements.ensures.added some there)))
-    (λ e. c.in_ok-push_elements.ensures.none e ∙ c.new-list.ensures.items)
+    (subst (λ old. AddsTurns (code_of c.args.self) (frames_of c.args.self) c.args.self.view.at c.args.body c.args.self.entry.now.mark (pairs (take (end - first) (drop first es))) old c.push_elements.new.list.items) c.in_ok-list.ensures.items (c.in_ok-push_elements.ensures.added some there)))
+    (λ e. c.in_ok-push_elements.ensures.none e ∙ c.in_ok-list.ensures.items)
     (λ h. elim c.else-first-end.branch [
       | else-first-end-via-then-first-end+else-is_too_deep y ↦ sym (y.is_too_deep.ensures w) ∙ y.if-is_too_deep.false
       | else-first-end-via-else-first-end y ↦ absurd (omega (arith, h, y.if-first-end.false))

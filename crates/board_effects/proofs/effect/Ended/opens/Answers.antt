@@ -24,10 +24,10 @@ returns c = λ w x r.
     (block_opens c.args.self w x c.args.body _ r c.push_block.new.list.items
     (λ some there. (let q = c.in_ok-push_block.ensures.added some there in (
       q.0,
-      q.1 ∙ ap (λ l. l ++ q.0 ∷ []) c.new-list.ensures.items,
+      q.1 ∙ ap (λ l. l ++ q.0 ∷ []) c.in_ok-list.ensures.items,
       subst (λ l. IsOpening (code_of c.args.self) (frames_of c.args.self) c.args.self.view.at c.args.body (option_map step_view c.args.way) (passed_from (frames_of c.args.self) c.args.self.view.at c.args.self.number 0 l) None None q.0) c.as_slice.ensures.value q.2,
     )))
-    (λ e. c.in_ok-push_block.ensures.none e ∙ c.new-list.ensures.items)
+    (λ e. c.in_ok-push_block.ensures.none e ∙ c.in_ok-list.ensures.items)
     (omega (arith, c.if-self-gt0.false))
     (elim c.else-is_some.branch [
       | else-is_some-via-then-is_some+else-is_too_deep y ↦ and_right _ _ (sym (y.is_too_deep.ensures w) ∙ y.if-is_too_deep.false)
