@@ -99,8 +99,8 @@ pub struct Rules {
     // Where those that wait for an input are found. There are none where memory was refused for them:
     // then every slot is looked at, until an item is added and there is memory again.
     places: Places,
-    // How many more inputs may be noted before the places are made anew. So they grow with the number of
-    // items that wait, and what was noted and is no longer needed is dropped in time.
+    // How many more inputs may be noted before the places are made anew, which is as many as there are slots. So
+    // what is no longer needed is dropped in time, and looking at every slot is paid by the inputs since.
     left: usize,
     alloc: Global,
 }
@@ -145,7 +145,7 @@ impl Rules {
         ensures { self.new ≡ self.old }
     {
         if self.left == 0 {
-            let size = self.waiters.len().max(FEWEST);
+            let size = self.waiters.capacity().max(FEWEST);
             self.places = made_places(self.alloc, size, &self.waiters);
             self.left = size;
         }
