@@ -6,7 +6,7 @@ use Rattle.indexmap.specs.IndexMap.{IndexMap, get, IsEmpty}
 use Rattle.replayed.specs.Static.{name_times}
 use Rattle.task_code.proofs.Equal.{nat_same, nat_sound, name_sound, true_and, variable_same, variable_sound}
 use Rattle.task_code.specs.Check.{is_declared}
-use Rattle.task_code.specs.Code.{body, Code, Entry, entry, here, Local, Name, Owned, Parameter, Variable}
+use Rattle.task_code.specs.Code.{body, Code, Entry, entry, here, Local, Name, Owned, Parameter, scalar, Variable}
 use Rattle.task_code.specs.Places.{name_eq, variable_eq}
 use Rattle.task_code.specs.View.{entry_view, name_view, variable_view}
 use Rattle.task_code.specs.declared.entry.Entry.{Entry as EntryValue}
@@ -18,6 +18,7 @@ use Rattle.board_code.proofs.Homes.{cut, emptied, next}
 use Rattle.board_code.specs.Places.{CountsMore, CountsOf, FindsPlaces, counts_from, number_of, own_place, place_in, with_counts}
 use Rattle.board_code.specs.Spots.{place_from}
 use Rattle.board_code.specs.Tables.{first_count, is_place, names_of, own_from, shape_of}
+use Rattle.board_code.specs.declared.places.Places.{Places}
 use Rattle.board_code.specs.declared.program.Own.{Own}
 
 -- numbers of variables
@@ -44,13 +45,13 @@ numbers_apart w v = by (nat_eq (number_of w) (number_of v)) (variable_eq w v) re
 
 module _ {S : Type 0} where
   -- a list of variables is noted from its end
-  pub none_found : (m : IndexMap ℕ ℕ S) (xs : List VariableValue) → IsEmpty m → (v : Variable) → place_in m v ≡ place_from (length xs) v (map variable_view (drop (length xs) xs))
+  pub none_found : (m : IndexMap ℕ ℕ S) (xs : List VariableValue) → IsEmpty m → (v : Variable) → get nat_eq m (number_of v) ≡ place_from (length xs) v (map variable_view (drop (length xs) xs))
   none_found m xs h v = ap (λ es. lookup (nat_eq (number_of v)) es) h ∙ sym (ap (λ l. place_from (length xs) v (map variable_view l)) (emptied xs (length xs) (omega arith)))
 
-  pub one_found : (old new : IndexMap ℕ ℕ S) (xs : List VariableValue) (i : ℕ) (d : VariableValue) → i < length xs → ((v : Variable) → place_in old v ≡ place_from (i + 1) v (map variable_view (drop (i + 1) xs))) → ((q : ℕ) → get nat_eq new q ≡ cond (nat_eq (number_of (variable_view (slice_index_or xs i d))) q) (Some i) (get nat_eq old q)) → (v : Variable) → place_in new v ≡ place_from i v (map variable_view (drop i xs))
+  pub one_found : (old new : IndexMap ℕ ℕ S) (xs : List VariableValue) (i : ℕ) (d : VariableValue) → i < length xs → ((v : Variable) → get nat_eq old (number_of v) ≡ place_from (i + 1) v (map variable_view (drop (i + 1) xs))) → ((q : ℕ) → get nat_eq new q ≡ cond (nat_eq (number_of (variable_view (slice_index_or xs i d))) q) (Some i) (get nat_eq old q)) → (v : Variable) → get nat_eq new (number_of v) ≡ place_from i v (map variable_view (drop i xs))
   one_found old new xs i d h before noted v =
       noted (number_of v)
-      ∙ ap (λ b. cond b (Some i) (place_in old v)) (numbers_apart (variable_view (slice_index_or xs i d)) v)
+      ∙ ap (λ b. cond b (Some i) (get nat_eq old (number_of v))) (numbers_apart (variable_view (slice_index_or xs i d)) v)
       ∙ ap (λ p. cond (variable_eq (variable_view (slice_index_or xs i d)) v) (Some i) p) (before v)
       ∙ same (variable_eq (variable_view (slice_index_or xs i d)) v) _ _
       ∙ ap (λ n. if variable_eq (variable_view (slice_index_or xs i d)) v then Some i else place_from n v (map variable_view (drop n xs))) (sym (next i))
@@ -60,8 +61,8 @@ module _ {S : Type 0} where
       same true x y = refl
       same false x y = refl
 
-  pub all_found : (m : IndexMap ℕ ℕ S) (xs : List VariableValue) → ((v : Variable) → place_in m v ≡ place_from 0 v (map variable_view xs)) → FindsPlaces (map variable_view xs) m
-  all_found m xs h = record { each = h }
+pub all_found : (m : Places) (xs : List VariableValue) → ((v : Variable) → get nat_eq m.found (number_of v) ≡ place_from 0 v (map variable_view xs)) → FindsPlaces (map variable_view xs) m
+all_found m xs h = record { each = h }
 
 -- what a name adds to the count of a variable at a place
 some_same : (a b : ℕ) → ◌≡◌ {A = Option ℕ} (Some a) (Some b) → a ≡ b
@@ -160,7 +161,7 @@ counts_length : (ms : List Variable) (rs : List Name) (n : ℕ) (xs : List Varia
 counts_length ms rs n [] = refl
 counts_length ms rs n (x ∷ xs) = ap suc (counts_length ms rs (suc n) xs)
 
-module _ {S : Type 0} (m : IndexMap ℕ ℕ S) where
+module _ (m : Places) where
   -- one name
   pub one_counted : (r : Name) (old : List ℕ) (k x : ℕ) (d : ℕ) → own_place m r ≡ Some k → k < length old → x ≡ slice_index_or old k d + 1 → CountsMore m (r ∷ []) old (set old k x)
   one_counted r old k x d e l q = by r.up r.owned e
@@ -371,3 +372,7 @@ module _ (cs ds : List ℕ) where
       right : (xs : List Own) → xs ++ [] ≡ xs
       right [] = refl
       right (x ∷ xs) = ap (λ l. x ∷ l) (right xs)
+
+-- a scalar is found at its first place
+pub scalar_placed : (ms : List Variable) (m : Places) (n : ℕ) → FindsPlaces ms m → place_in m (scalar n) ≡ place_from 0 (scalar n) ms
+scalar_placed ms m n f = f.each (scalar n)

@@ -7,8 +7,7 @@ use Rattle.task_code.specs.View.{name_view}
 use Rattle.task_code.specs.declared.entry.Name.{Name as NameValue}
 use Rattle.board_code.proofs.Homes.{cut, emptied, next, plus}
 use Rattle.board_code.specs.Spots.{spot_in}
-use Rattle.board_code.specs.Tables.{AllFrom, IsBodyTable, IsEntryTable, body_of, spots_in}
-use Rattle.board_code.specs.declared.program.BodyTable.{BodyTable}
+use Rattle.board_code.specs.Tables.{AllFrom, IsEntryTable, body_of, spots_in}
 use Rattle.board_code.specs.declared.program.EntryTable.{EntryTable}
 use Rattle.board_code.specs.declared.spot.Spot.{Spot}
 
@@ -52,12 +51,10 @@ module _ (C : Code) (b : ℕ) where
   spots_end xs i h = ap (λ (l : List NameValue). spots_in C b (map name_view l)) (emptied xs i h)
 
 -- one table more
+pub pushed : {X : Type 0} (P : ℕ → X → Type 0) (ts us : List X) (t : X) (n : ℕ) → AllFrom P 0 ts → length ts ≡ n → us ≡ ts ++ t ∷ [] → P n t → AllFrom P 0 us
+pushed P ts us t n h l e x = subst (λ ts. AllFrom P 0 ts) (sym e) (all_more P 0 ts t h (subst (λ m. P m t) (sym l ∙ sym (plus (length ts))) x))
+
 pub entry_pushed : (C : Code) (ts us : List EntryTable) (t : EntryTable) (n b : ℕ) → AllFrom (λ i t. IsEntryTable C (body_of C i) i t) 0 ts → length ts ≡ n → us ≡ ts ++ t ∷ [] → b ≡ body_of C n → IsEntryTable C b n t → AllFrom (λ i t. IsEntryTable C (body_of C i) i t) 0 us
 entry_pushed C ts us t n b h l e q x =
     let P : ℕ → EntryTable → Type 0 = λ i t. IsEntryTable C (body_of C i) i t in
     subst (λ ts. AllFrom P 0 ts) (sym e) (all_more P 0 ts t h (subst (λ m. P m t) (sym l ∙ sym (plus (length ts))) (subst (λ c. IsEntryTable C c n t) q x)))
-
-pub body_pushed : (C : Code) (ts us : List BodyTable) (t : BodyTable) (n : ℕ) → AllFrom (λ b t. IsBodyTable C b t) 0 ts → length ts ≡ n → us ≡ ts ++ t ∷ [] → IsBodyTable C n t → AllFrom (λ b t. IsBodyTable C b t) 0 us
-body_pushed C ts us t n h l e x =
-    let P : ℕ → BodyTable → Type 0 = λ b t. IsBodyTable C b t in
-    subst (λ ts. AllFrom P 0 ts) (sym e) (all_more P 0 ts t h (subst (λ m. P m t) (sym l ∙ sym (plus (length ts))) x))

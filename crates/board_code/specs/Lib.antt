@@ -1,3 +1,4 @@
 pub mod Places
+pub mod Program
 pub mod Spots
 pub mod Tables

@@ -1,9 +1,10 @@
 -- Places of variables, by a number of each.
 use Rattle.std.specs.Prelude.{◌≡◌, nat_eq, ℕ, zero, suc, ◌+◌, ◌*◌, List, [], ◌∷◌, ◌++◌, length, Option, None, slice_index_or, if◌then◌else◌}
-use Rattle.indexmap.specs.IndexMap.{IndexMap, get}
+use Rattle.indexmap.specs.IndexMap.{get}
 use Rattle.task_code.specs.Code.{Local, Name, Owned, Parameter, Variable}
 use Rattle.board_code.specs.Spots.{place_from}
 use Rattle.board_code.specs.Tables.{first_count, shape_of}
+use Rattle.board_code.specs.declared.places.Places.{Places}
 use Rattle.board_code.specs.declared.program.Own.{Own}
 
 -- no two variables have one number
@@ -11,11 +12,11 @@ abbrev pub number_of : Variable → ℕ
 number_of v = 2 * v.node + (if v.array then 1 else 0)
 
 -- where a variable is found to stand
-abbrev pub place_in : {S : Type 0} → IndexMap ℕ ℕ S → Variable → Option ℕ
-place_in m v = get nat_eq m (number_of v)
+abbrev pub place_in : Places → Variable → Option ℕ
+place_in m v = get nat_eq m.found (number_of v)
 
 -- each variable is found at its first place among those that a block declares
-pub record FindsPlaces {S : Type 0} (ms : List Variable) (m : IndexMap ℕ ℕ S) : Type 0 where
+pub record FindsPlaces (ms : List Variable) (m : Places) : Type 0 where
   pub each : (v : Variable) → place_in m v ≡ place_from 0 v ms
 
 -- how many of the names are each of the variables, counted at its first place
@@ -24,15 +25,15 @@ counts_from ms rs n [] = []
 counts_from ms rs n (v ∷ vs) = first_count ms n v rs ∷ counts_from ms rs (suc n) vs
 
 -- the counts of names, wherever places are found so
-pub record CountsOf {S : Type 0} (m : IndexMap ℕ ℕ S) (many : ℕ) (rs : List Name) (cs : List ℕ) : Type 0 where
+pub record CountsOf (m : Places) (many : ℕ) (rs : List Name) (cs : List ℕ) : Type 0 where
   pub counts : (ms : List Variable) → FindsPlaces ms m → length ms ≡ many → cs ≡ counts_from ms rs 0 ms
 
 -- counts to which more names are added
-pub record CountsMore {S : Type 0} (m : IndexMap ℕ ℕ S) (more : List Name) (old new : List ℕ) : Type 0 where
+pub record CountsMore (m : Places) (more : List Name) (old new : List ℕ) : Type 0 where
   pub counts : (ms : List Variable) (rs : List Name) → FindsPlaces ms m → old ≡ counts_from ms rs 0 ms → new ≡ counts_from ms (rs ++ more) 0 ms
 
 -- where a name is found that is one of the block's own
-abbrev pub own_place : {S : Type 0} → IndexMap ℕ ℕ S → Name → Option ℕ
+abbrev pub own_place : Places → Name → Option ℕ
 own_place m r = by r.up r.owned
   where
     by : ℕ → Owned → Option ℕ

@@ -1,5 +1,5 @@
 -- What is worked out of an entry and of a body, as it follows from the code.
-use Rattle.std.specs.Prelude.{◌≡◌, ◌<◌, ◌^◌, nat_eq, not, ℕ, suc, ◌+◌, Bool, true, false, List, [], ◌∷◌, map, length, Option, Some, None, if◌then◌else◌}
+use Rattle.std.specs.Prelude.{◌≡◌, nat_eq, not, ℕ, suc, ◌+◌, Bool, true, false, List, [], ◌∷◌, map, length, Option, Some, None, if◌then◌else◌}
 use Rattle.std.specs.List.{filter, filter_map, flat_map}
 use Rattle.data_store.specs.declared.datum.Shape.{Shape}
 use Rattle.data_store.specs.declared.datum.Shape.TheVariants.{Single, Keyed}
@@ -174,13 +174,3 @@ module _ (C : Code) where
 abbrev pub AllFrom : {X : Type 0} → (ℕ → X → Type 0) → ℕ → List X → Type 0
 AllFrom P n [] = Unit {0}
 AllFrom P n (x ∷ xs) = P n x × AllFrom P (suc n) xs
-
--- the tables of a code
-pub record IsProgram (C : Code) (homes : List (Option ℕ)) (entries : List EntryTable) (bodies : List BodyTable) : Type 0 where
-  pub homes_are : homes ≡ homes_of C
-  pub few_bodies : length C.bodies < 2 ^ 32
-  pub few_entries : length C.entries < 2 ^ 32
-  pub each_entry : AllFrom (λ i t. IsEntryTable C (body_of C i) i t) 0 entries
-  pub all_entries : length entries ≡ length C.entries
-  pub each_body : AllFrom (λ b t. IsBodyTable C b t) 0 bodies
-  pub all_bodies : length bodies ≡ length C.bodies

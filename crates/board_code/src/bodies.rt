@@ -3,15 +3,14 @@ ghost use Rattle.std.specs.Prelude.{◌≡◌, ◌+◌, ◌<◌, ◌∷◌, [], 
 ghost use Rattle.std.specs.Bool.{OnTrue};
 ghost use Rattle.task_code.specs.Code.{Control, body as body_at};
 ghost use Rattle.task_code.specs.View.{body_view, name_view, variable_view};
-ghost use Rattle.board_code.specs.Places.{CountsMore, CountsOf, FindsPlaces, own_place, with_counts};
-ghost use Rattle.board_code.specs.Spots.{homes_of};
+ghost use Rattle.board_code.specs.Places.{CountsMore, CountsOf, FindsPlaces, with_counts};
+ghost use Rattle.board_code.specs.Program.{IsLeads};
 ghost use Rattle.board_code.specs.Tables.{GainsHold, GainsNames, HoldsOf, IsBodyTable, names_of, own_from, run_as, shape_of};
 
-use crate::places::{place_in, places_among};
+use crate::places::Places;
 use crate::program::{BodyTable, Hold, Own};
-use crate::spot::{Spot, spot_in};
+use crate::spot::{Leads, Spot};
 use data_store::store::Shape;
-use indexmap::IndexMap;
 use std::alloc::{AllocError, Global};
 use task_code::code::{Body, Code};
 use task_code::entry::{Kind, Name, Owned, Variable};
@@ -26,32 +25,12 @@ fn one_more(count: u64) -> Result<u64, AllocError>
     }
 }
 
-/// The place of a name that is one of the block's own variables.
-fn own_place(places: &IndexMap<u64, usize>, name: Name) -> Option<usize>
-    ensures { result ≡ own_place places.now (name_view name) }
-{
-    match name.owned {
-        Owned::Local(variable) => {
-            if name.up == 0 {
-                place_in(places, variable)
-            } else {
-                None
-            }
-        }
-        Owned::Parameter(_, _) => None,
-    }
-}
-
 /// Counts a name at the place of its variable, if it is one of the block's own.
 #[tactic(auto, using(crate::proofs::Counted::one_counted, crate::proofs::Counted::past_counted, crate::proofs::Counted::none_counted))]
-fn count_name(
-    counts: &mut Vec<u64>,
-    places: &IndexMap<u64, usize>,
-    name: Name,
-) -> Result<(), AllocError>
+fn count_name(counts: &mut Vec<u64>, places: &Places, name: Name) -> Result<(), AllocError>
     ensures { OnOk result (CountsMore places.now (name_view name ∷ []) counts.old.items counts.new.items) }
 {
-    let Some(place) = own_place(places, name) else {
+    let Some(place) = places.of_name(name) else {
         return Ok(());
     };
     if place < counts.len() {
@@ -62,11 +41,7 @@ fn count_name(
 
 /// The same for each of the names.
 #[tactic(auto, using(crate::proofs::Counted::counted_none, crate::proofs::Counted::counted_next, crate::proofs::Counted::counted_all))]
-fn count_names(
-    counts: &mut Vec<u64>,
-    places: &IndexMap<u64, usize>,
-    names: &[Name],
-) -> Result<(), AllocError>
+fn count_names(counts: &mut Vec<u64>, places: &Places, names: &[Name]) -> Result<(), AllocError>
     ensures { OnOk result (CountsMore places.now (map name_view names.now) counts.old.items counts.new.items) }
 {
     for at in 0..names.len() {
@@ -93,7 +68,7 @@ fn count_reads(
     alloc: Global,
     code: &Code,
     entries: &[u32],
-    places: &IndexMap<u64, usize>,
+    places: &Places,
     many: usize,
 ) -> Result<Vec<u64>, AllocError>
     ensures { IfOk result (λ counts. CountsOf places.now many (names_of code.now (λ e. e.reads) entries.now) counts.items) }
@@ -113,7 +88,7 @@ fn count_writes(
     alloc: Global,
     code: &Code,
     entries: &[u32],
-    places: &IndexMap<u64, usize>,
+    places: &Places,
     many: usize,
 ) -> Result<Vec<u64>, AllocError>
     ensures { IfOk result (λ counts. CountsOf places.now many (names_of code.now (λ e. e.writes) entries.now) counts.items) }
@@ -173,7 +148,7 @@ fn own_data(
     code: &Code,
     makes: &[Variable],
     entries: &[u32],
-    places: &IndexMap<u64, usize>,
+    places: &Places,
 ) -> Result<Vec<Own>, AllocError>
     requires { FindsPlaces (map variable_view makes.now) places.now }
     ensures { IfOk result (λ own. own.items ≡ own_from (map variable_view makes.now) (names_of code.now (λ e. e.reads) entries.now) (names_of code.now (λ e. e.writes) entries.now) 0 (map variable_view makes.now)) }
@@ -227,22 +202,22 @@ fn add_hold(outer: &mut Vec<Hold>, added: Hold) -> Result<(), AllocError>
 #[tactic(auto, using(crate::proofs::Counted::declared_if, crate::proofs::Holds::gains_own, crate::proofs::Holds::gains_nowhere, crate::proofs::Holds::gains_one))]
 fn hold_name(
     code: &Code,
-    homes: &[Option<u32>],
-    places: &IndexMap<u64, usize>,
+    leads: &Leads,
+    places: &Places,
     body: u32,
     name: Name,
     reads: u64,
     writes: u64,
     outer: &mut Vec<Hold>,
 ) -> Result<(), AllocError>
-    requires homes { homes.now ≡ homes_of code.now }
+    requires leads { IsLeads code.now leads.now }
     requires places { FindsPlaces (body_at code.now body).makes places.now }
     ensures { OnOk result (GainsNames code.now body reads writes (name_view name ∷ []) outer.old.items outer.new.items) }
 {
-    if own_place(places, name).is_some() {
+    if places.of_name(name).is_some() {
         return Ok(());
     }
-    if let Some(spot) = spot_in(code, homes, body, name) {
+    if let Some(spot) = leads.spot_in(code, body, name) {
         let hold = Hold {
             spot,
             reads,
@@ -257,20 +232,20 @@ fn hold_name(
 #[tactic(auto, using(crate::proofs::Holds::gains_none, crate::proofs::Holds::gains_next, crate::proofs::Holds::gains_all))]
 fn hold_names(
     code: &Code,
-    homes: &[Option<u32>],
-    places: &IndexMap<u64, usize>,
+    leads: &Leads,
+    places: &Places,
     body: u32,
     names: &[Name],
     reads: u64,
     writes: u64,
     outer: &mut Vec<Hold>,
 ) -> Result<(), AllocError>
-    requires homes { homes.now ≡ homes_of code.now }
+    requires leads { IsLeads code.now leads.now }
     requires places { FindsPlaces (body_at code.now body).makes places.now }
     ensures { OnOk result (GainsNames code.now body reads writes (map name_view names.now) outer.old.items outer.new.items) }
 {
     for at in 0..names.len() {
-        hold_name(code, homes, places, body, names[at], reads, writes, outer)?;
+        hold_name(code, leads, places, body, names[at], reads, writes, outer)?;
     }
     Ok(())
 }
@@ -280,12 +255,12 @@ fn hold_names(
 fn outer_holds(
     alloc: Global,
     code: &Code,
-    homes: &[Option<u32>],
-    places: &IndexMap<u64, usize>,
+    leads: &Leads,
+    places: &Places,
     body: u32,
     entries: &[u32],
 ) -> Result<Vec<Hold>, AllocError>
-    requires homes { homes.now ≡ homes_of code.now }
+    requires leads { IsLeads code.now leads.now }
     requires places { FindsPlaces (body_at code.now body).makes places.now }
     ensures { IfOk result (λ holds. HoldsOf code.now body entries.now holds.items) }
 {
@@ -293,9 +268,9 @@ fn outer_holds(
     for at in 0..entries.len() {
         if let Some(entry) = code.entry(entries[at]) {
             let reads = entry.reads.as_slice();
-            hold_names(code, homes, places, body, reads, 1, 0, &mut outer)?;
+            hold_names(code, leads, places, body, reads, 1, 0, &mut outer)?;
             let writes = entry.writes.as_slice();
-            hold_names(code, homes, places, body, writes, 0, 1, &mut outer)?;
+            hold_names(code, leads, places, body, writes, 0, 1, &mut outer)?;
         }
     }
     Ok(outer)
@@ -321,21 +296,22 @@ fn controls(code: &Code, entries: &[u32]) -> usize
 pub fn body_table(
     alloc: Global,
     code: &Code,
-    homes: &[Option<u32>],
+    leads: &Leads,
+    places: &Places,
     number: u32,
     body: &Body,
 ) -> Result<BodyTable, AllocError>
-    requires homes { homes.now ≡ homes_of code.now }
+    requires leads { IsLeads code.now leads.now }
+    requires places { FindsPlaces (body_view body.now).makes places.now }
     requires there { body_view body.now ≡ body_at code.now number }
     ensures { IfOk result (λ table. IsBodyTable code.now number table) }
 {
     let entries = body.entries.as_slice();
     let controls = controls(code, entries);
     let makes = body.makes.as_slice();
-    let places = places_among(alloc, makes)?;
     Ok(BodyTable {
-        own: own_data(alloc, code, makes, entries, &places)?,
-        outer: outer_holds(alloc, code, homes, &places, number, entries)?,
+        own: own_data(alloc, code, makes, entries, places)?,
+        outer: outer_holds(alloc, code, leads, places, number, entries)?,
         controls,
         leaves: entries.len().saturating_sub(controls),
     })

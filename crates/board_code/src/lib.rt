@@ -4,6 +4,6 @@
 mod bodies;
 pub mod key;
 pub mod laws;
-mod places;
+pub mod places;
 pub mod program;
 pub mod spot;

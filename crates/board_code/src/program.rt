@@ -2,13 +2,14 @@
 
 ghost use Rattle.std.specs.Prelude.{◌≡◌, ◌<◌, ◌≤◌, ◌^◌, ◌++◌, length, map, option_map, IfOk, MatchOption, OnOk};
 ghost use Rattle.std.specs.Option.{option_to_list};
-ghost use Rattle.task_code.specs.Code.{Named, arguments, body as body_at, entry as entry_at, kind_of, loop_of, scalar, stored_of};
+ghost use Rattle.task_code.specs.Code.{Code, Named, arguments, body as body_at, entry as entry_at, kind_of, loop_of, scalar, stored_of};
 ghost use Rattle.task_code.specs.View.{act_view, argument_view, entry_view, loop_view, name_view, need_view};
-ghost use Rattle.board_code.specs.Spots.{home_of, homes_of, place_from};
+ghost use Rattle.board_code.specs.Program.{IsLeads};
+ghost use Rattle.board_code.specs.Spots.{home_of, place_from};
 ghost use Rattle.board_code.specs.Tables.{AllFrom, IsBodyTable, IsEntryTable, body_of, body_or_script, first_spot, passed_in, queue_kind, spots_in, turn_slot, value_slot, wanted_in};
 
 use crate::bodies::body_table;
-use crate::spot::{Spot, homes, place_among, spot_in};
+use crate::spot::{Leads, Spot};
 use data_store::store::Shape;
 use std::alloc::{AllocError, Global};
 use std::marker::Model;
@@ -80,7 +81,7 @@ pub struct BodyTable {
 #[derive(Drop)]
 pub struct Program {
     pub code: Code,
-    homes: Vec<Option<u32>>,
+    leads: Leads,
     entries: Vec<EntryTable>,
     bodies: Vec<BodyTable>,
 }
@@ -96,19 +97,19 @@ fn kind_of(code: &Code, number: u32) -> Kind
 }
 
 /// What a need comes to, by where its names lead from the body.
-fn wanted_of(code: &Code, homes: &[Option<u32>], body: u32, need: &Need) -> Wanted
-    requires { homes.now ≡ homes_of code.now }
+fn wanted_of(code: &Code, leads: &Leads, body: u32, need: &Need) -> Wanted
+    requires { IsLeads code.now leads.now }
     ensures { result ≡ wanted_in code.now body (need_view need.now) }
 {
     match need {
-        Need::Stored(name) => Wanted::Stored(spot_in(code, homes, body, *name)),
-        Need::Closed(name) => Wanted::Closed(spot_in(code, homes, body, *name)),
+        Need::Stored(name) => Wanted::Stored(leads.spot_in(code, body, *name)),
+        Need::Closed(name) => Wanted::Closed(leads.spot_in(code, body, *name)),
         Need::At(array, index) => Wanted::At(
-            spot_in(code, homes, body, *array),
-            spot_in(code, homes, body, *index),
+            leads.spot_in(code, body, *array),
+            leads.spot_in(code, body, *index),
         ),
         Need::AtKey(array, key) => Wanted::AtKey(
-            spot_in(code, homes, body, *array),
+            leads.spot_in(code, body, *array),
             crate::key::copy_key(key),
         ),
     }
@@ -117,16 +118,16 @@ fn wanted_of(code: &Code, homes: &[Option<u32>], body: u32, need: &Need) -> Want
 fn needs_of(
     alloc: Global,
     code: &Code,
-    homes: &[Option<u32>],
+    leads: &Leads,
     body: u32,
     needs: &[Need],
 ) -> Result<Vec<Wanted>, AllocError>
-    requires { homes.now ≡ homes_of code.now }
+    requires { IsLeads code.now leads.now }
     ensures { IfOk result (λ wanted. wanted.items ≡ map (wanted_in code.now body) (map need_view needs.now)) }
 {
     let mut wanted = Vec::new(alloc);
     for need in needs {
-        wanted.push(wanted_of(code, homes, body, need))?;
+        wanted.push(wanted_of(code, leads, body, need))?;
     }
     Ok(wanted)
 }
@@ -136,16 +137,16 @@ fn needs_of(
 fn spots_of(
     alloc: Global,
     code: &Code,
-    homes: &[Option<u32>],
+    leads: &Leads,
     body: u32,
     names: &[Name],
 ) -> Result<Vec<Spot>, AllocError>
-    requires { homes.now ≡ homes_of code.now }
+    requires { IsLeads code.now leads.now }
     ensures { IfOk result (λ spots. spots.items ≡ spots_in code.now body (map name_view names.now)) }
 {
     let mut spots = Vec::new(alloc);
     for at in 0..names.len() {
-        if let Some(spot) = spot_in(code, homes, body, names[at]) {
+        if let Some(spot) = leads.spot_in(code, body, names[at]) {
             spots.push(spot)?;
         }
     }
@@ -172,12 +173,12 @@ fn target_of(entry: &Entry) -> Option<Name>
 }
 
 /// Where that name leads.
-fn target_spot(code: &Code, homes: &[Option<u32>], body: u32, entry: &Entry) -> Option<Spot>
-    requires { homes.now ≡ homes_of code.now }
+fn target_spot(code: &Code, leads: &Leads, body: u32, entry: &Entry) -> Option<Spot>
+    requires { IsLeads code.now leads.now }
     ensures { result ≡ first_spot code.now body (stored_of (entry_view entry.now).node (entry_view entry.now).act) }
 {
     match target_of(entry) {
-        Some(name) => spot_in(code, homes, body, name),
+        Some(name) => leads.spot_in(code, body, name),
         None => None,
     }
 }
@@ -186,26 +187,26 @@ fn target_spot(code: &Code, homes: &[Option<u32>], body: u32, entry: &Entry) -> 
 fn push_inputs(
     passed: &mut Vec<Passed>,
     code: &Code,
-    homes: &[Option<u32>],
+    leads: &Leads,
     body: u32,
     inputs: &[Argument],
 ) -> Result<(), AllocError>
-    requires { homes.now ≡ homes_of code.now }
+    requires { IsLeads code.now leads.now }
     ensures { OnOk result (passed.new.items ≡ passed.old.items ++ map (passed_in code.now body) (map argument_view inputs.now)) }
 {
     for input in inputs {
-        passed.push(passed_of(code, homes, body, input))?;
+        passed.push(passed_of(code, leads, body, input))?;
     }
     Ok(())
 }
 
 /// What it hands over for one input.
-fn passed_of(code: &Code, homes: &[Option<u32>], body: u32, input: &Argument) -> Passed
-    requires { homes.now ≡ homes_of code.now }
+fn passed_of(code: &Code, leads: &Leads, body: u32, input: &Argument) -> Passed
+    requires { IsLeads code.now leads.now }
     ensures { result ≡ passed_in code.now body (argument_view input.now) }
 {
     match input {
-        Argument::Named(name) => Passed::Named(spot_in(code, homes, body, *name)),
+        Argument::Named(name) => Passed::Named(leads.spot_in(code, body, *name)),
         Argument::Fixed(_) => Passed::Fixed,
     }
 }
@@ -214,15 +215,15 @@ fn passed_of(code: &Code, homes: &[Option<u32>], body: u32, input: &Argument) ->
 fn push_outputs(
     passed: &mut Vec<Passed>,
     code: &Code,
-    homes: &[Option<u32>],
+    leads: &Leads,
     body: u32,
     outputs: &[Name],
 ) -> Result<(), AllocError>
-    requires { homes.now ≡ homes_of code.now }
+    requires { IsLeads code.now leads.now }
     ensures { OnOk result (passed.new.items ≡ passed.old.items ++ map (passed_in code.now body) (map Named (map name_view outputs.now))) }
 {
     for output in outputs {
-        passed.push(Passed::Named(spot_in(code, homes, body, *output)))?;
+        passed.push(Passed::Named(leads.spot_in(code, body, *output)))?;
     }
     Ok(())
 }
@@ -231,11 +232,11 @@ fn push_outputs(
 fn arguments_of(
     alloc: Global,
     code: &Code,
-    homes: &[Option<u32>],
+    leads: &Leads,
     body: u32,
     act: &Act,
 ) -> Result<Vec<Passed>, AllocError>
-    requires { homes.now ≡ homes_of code.now }
+    requires { IsLeads code.now leads.now }
     ensures { IfOk result (λ passed. passed.items ≡ map (passed_in code.now body) (arguments (act_view act.now))) }
 {
     let mut passed = Vec::new(alloc);
@@ -245,19 +246,19 @@ fn arguments_of(
         outputs,
     } = act
     {
-        push_inputs(&mut passed, code, homes, body, inputs.as_slice())?;
-        push_outputs(&mut passed, code, homes, body, outputs.as_slice())?;
+        push_inputs(&mut passed, code, leads, body, inputs.as_slice())?;
+        push_outputs(&mut passed, code, leads, body, outputs.as_slice())?;
     }
     Ok(passed)
 }
 
 /// The slot of a scalar of the body, told by its node.
-#[tactic(auto, using(crate::proofs::Counts::no_place))]
-fn scalar_slot(code: &Code, body: u32, node: u32) -> Option<usize>
-    ensures { result ≡ place_from 0 (scalar node) (body_at code.now body).makes }
+#[tactic(auto, using(crate::proofs::Counted::scalar_placed, crate::proofs::Counts::no_place))]
+fn scalar_slot(leads: &Leads, body: u32, node: u32) -> Option<usize>
+    ensures { (C : Code) → IsLeads C leads.now → result ≡ place_from 0 (scalar node) (body_at C body).makes }
 {
-    match code.body(body) {
-        Some(found) => place_among(found.makes.as_slice(), Variable { node, array: false }),
+    match leads.places(body) {
+        Some(places) => places.of(Variable { node, array: false }),
         None => None,
     }
 }
@@ -273,22 +274,22 @@ fn loop_of(act: &Act) -> Option<Loop>
 }
 
 /// The slot of the value in the turns of a loop.
-fn value_slot(code: &Code, act: &Act) -> Option<usize>
-    ensures { result ≡ value_slot code.now (loop_of (act_view act.now)) }
+fn value_slot(leads: &Leads, act: &Act) -> Option<usize>
+    ensures { (C : Code) → IsLeads C leads.now → result ≡ value_slot C (loop_of (act_view act.now)) }
 {
     match loop_of(act) {
-        Some(found) => scalar_slot(code, found.body, found.value),
+        Some(found) => scalar_slot(leads, found.body, found.value),
         None => None,
     }
 }
 
 /// The slot of the key or number of the turn.
-fn turn_slot(code: &Code, act: &Act) -> Option<usize>
-    ensures { result ≡ turn_slot code.now (loop_of (act_view act.now)) }
+fn turn_slot(leads: &Leads, act: &Act) -> Option<usize>
+    ensures { (C : Code) → IsLeads C leads.now → result ≡ turn_slot C (loop_of (act_view act.now)) }
 {
     match loop_of(act) {
         Some(found) => match found.turn {
-            Some(node) => scalar_slot(code, found.body, node),
+            Some(node) => scalar_slot(leads, found.body, node),
             None => None,
         },
         None => None,
@@ -299,48 +300,41 @@ fn turn_slot(code: &Code, act: &Act) -> Option<usize>
 fn entry_table(
     alloc: Global,
     code: &Code,
-    homes: &[Option<u32>],
+    leads: &Leads,
     body: u32,
     number: u32,
     entry: &Entry,
 ) -> Result<EntryTable, AllocError>
-    requires homes { homes.now ≡ homes_of code.now }
+    requires leads { IsLeads code.now leads.now }
     requires there { entry_view entry.now ≡ entry_at code.now number }
     ensures { IfOk result (λ table. IsEntryTable code.now body number table) }
 {
     Ok(EntryTable {
         kind: kind_of(code, number),
         priority: entry.priority,
-        needs: needs_of(alloc, code, homes, body, entry.needs.as_slice())?,
-        reads: spots_of(alloc, code, homes, body, entry.reads.as_slice())?,
-        writes: spots_of(alloc, code, homes, body, entry.writes.as_slice())?,
-        target: target_spot(code, homes, body, entry),
-        arguments: arguments_of(alloc, code, homes, body, &entry.act)?,
-        value: value_slot(code, &entry.act),
-        turn: turn_slot(code, &entry.act),
+        needs: needs_of(alloc, code, leads, body, entry.needs.as_slice())?,
+        reads: spots_of(alloc, code, leads, body, entry.reads.as_slice())?,
+        writes: spots_of(alloc, code, leads, body, entry.writes.as_slice())?,
+        target: target_spot(code, leads, body, entry),
+        arguments: arguments_of(alloc, code, leads, body, &entry.act)?,
+        value: value_slot(leads, &entry.act),
+        turn: turn_slot(leads, &entry.act),
     })
 }
 
 /// The body that has an entry. One that no body has is taken for one of the script's.
-fn body_of(homes: &[Option<u32>], number: u32) -> u32
-    ensures { result ≡ body_or_script (home_of homes.now number) }
+fn body_of(leads: &Leads, number: u32) -> u32
+    ensures { result ≡ body_or_script (home_of leads.now.homes.items number) }
 {
-    if number as usize >= homes.len() {
-        return 0;
-    }
-    match homes[number as usize] {
+    match leads.home(number) {
         Some(body) => body,
         None => 0,
     }
 }
 
 /// What is worked out of all entries.
-fn entry_tables(
-    alloc: Global,
-    code: &Code,
-    homes: &[Option<u32>],
-) -> Result<Vec<EntryTable>, AllocError>
-    requires { homes.now ≡ homes_of code.now }
+fn entry_tables(alloc: Global, code: &Code, leads: &Leads) -> Result<Vec<EntryTable>, AllocError>
+    requires { IsLeads code.now leads.now }
     ensures each { IfOk result (λ tables. AllFrom (λ i t. IsEntryTable code.now (body_of code.now i) i t) 0 tables.items) }
     ensures all { IfOk result (λ tables. length tables.items ≡ length code.now.entries) }
 {
@@ -350,19 +344,15 @@ fn entry_tables(
         let Some(entry) = code.entry(number) else {
             break;
         };
-        let body = body_of(homes, number);
-        tables.push(entry_table(alloc, code, homes, body, number, entry)?)?;
+        let body = body_of(leads, number);
+        tables.push(entry_table(alloc, code, leads, body, number, entry)?)?;
     }
     Ok(tables)
 }
 
 /// What is worked out of all bodies.
-fn body_tables(
-    alloc: Global,
-    code: &Code,
-    homes: &[Option<u32>],
-) -> Result<Vec<BodyTable>, AllocError>
-    requires homes { homes.now ≡ homes_of code.now }
+fn body_tables(alloc: Global, code: &Code, leads: &Leads) -> Result<Vec<BodyTable>, AllocError>
+    requires leads { IsLeads code.now leads.now }
     requires few { length code.now.bodies < 2 ^ 32 }
     ensures each { IfOk result (λ tables. AllFrom (λ b t. IsBodyTable code.now b t) 0 tables.items) }
     ensures all { IfOk result (λ tables. length tables.items ≡ length code.now.bodies) }
@@ -370,17 +360,17 @@ fn body_tables(
     let mut tables = Vec::new(alloc);
     for number in 0..code.body_count() {
         let number = number as u32;
-        let Some(body) = code.body(number) else {
+        let (Some(body), Some(places)) = (code.body(number), leads.places(number)) else {
             break;
         };
-        tables.push(body_table(alloc, code, homes, number, body)?)?;
+        tables.push(body_table(alloc, code, leads, places, number, body)?)?;
     }
     Ok(tables)
 }
 
 impl Model for Program {
     ghost use Rattle.task_code.specs.Code.{Code as PureCode};
-    ghost use Rattle.board_code.specs.Tables.{IsProgram};
+    ghost use Rattle.board_code.specs.Program.{IsProgram};
     ghost use Rattle.std.specs.Coded.{codes};
     ghost use Rattle.task_code.specs.Tokens.{expr_code, exprs_code};
 
@@ -390,7 +380,7 @@ impl Model for Program {
 
     ghost view = { λ p. p.code };
 
-    ghost invariant = { λ p. IsProgram p.code p.homes.items p.entries.items p.bodies.items };
+    ghost invariant = { λ p. IsProgram p.code p.leads p.entries.items p.bodies.items };
 }
 
 impl Program {
@@ -402,12 +392,12 @@ impl Program {
         if code.body_count() > u32::MAX as usize {
             return Err(AllocError);
         }
-        let homes = homes(alloc, &code)?;
-        let entries = entry_tables(alloc, &code, homes.as_slice())?;
-        let bodies = body_tables(alloc, &code, homes.as_slice())?;
+        let leads = Leads::new(alloc, &code)?;
+        let entries = entry_tables(alloc, &code, &leads)?;
+        let bodies = body_tables(alloc, &code, &leads)?;
         Ok(Program {
             code,
-            homes,
+            leads,
             entries,
             bodies,
         })
@@ -446,6 +436,6 @@ impl Program {
     pub fn wanted(&self, body: u32, need: &Need) -> Wanted
         ensures { result ≡ wanted_in self.now body (need_view need.now) }
     {
-        wanted_of(&self.code, self.homes.as_slice(), body, need)
+        wanted_of(&self.code, &self.leads, body, need)
     }
 }

@@ -1,11 +1,16 @@
 //! Where the names of a body lead, worked out from the code alone.
-ghost use Rattle.std.specs.Prelude.{◌≡◌, ◌<◌, ◌^◌, length, map, replicate, None, IfOk};
-ghost use Rattle.task_code.specs.View.{body_view, name_view, opener_view, owned_view, variable_view};
-ghost use Rattle.board_code.specs.Spots.{at_home, go_out, home_of, homes_of, note, own_if, own_slot, place_from, spot_from, spot_in};
+ghost use Rattle.std.specs.Prelude.{◌≡◌, ◌<◌, ◌≤◌, ◌^◌, length, replicate, None, IfOk, MatchOption};
+ghost use Rattle.task_code.specs.Code.{Code, body as body_at};
+ghost use Rattle.task_code.specs.View.{body_view, name_view, opener_view, owned_view};
+ghost use Rattle.board_code.specs.Places.{FindsPlaces};
+ghost use Rattle.board_code.specs.Program.{IsLeads};
+ghost use Rattle.board_code.specs.Spots.{at_home, go_out, home_of, homes_of, note, own_if, spot_in};
+ghost use Rattle.board_code.specs.Tables.{AllFrom};
 
+use crate::places::{Places, places_among};
 use std::alloc::{AllocError, Global};
 use task_code::code::{Body, Code, Opener};
-use task_code::entry::{Name, Owned, Variable};
+use task_code::entry::{Name, Owned};
 
 /// So many instances further out, at this slot.
 #[derive(Clone, Copy, PartialEq, Eq, Debug, Drop)]
@@ -41,7 +46,7 @@ fn no_homes(alloc: Global, count: usize) -> Result<Vec<Option<u32>>, AllocError>
 
 /// The body that has each entry, by the entry's number.
 #[tactic(auto, using(crate::proofs::Homes::noted_next, crate::proofs::Homes::noted_end))]
-pub fn homes(alloc: Global, code: &Code) -> Result<Vec<Option<u32>>, AllocError>
+fn homes(alloc: Global, code: &Code) -> Result<Vec<Option<u32>>, AllocError>
     requires { length code.now.bodies < 2 ^ 32 }
     ensures { IfOk result (λ homes. homes.items ≡ homes_of code.now) }
 {
@@ -53,32 +58,6 @@ pub fn homes(alloc: Global, code: &Code) -> Result<Vec<Option<u32>>, AllocError>
         }
     }
     Ok(homes)
-}
-
-/// The place of a variable among those that a block declares.
-#[tactic(auto, using(crate::proofs::Spots::place_next, crate::proofs::Spots::place_here, crate::proofs::Spots::place_end))]
-pub fn place_among(makes: &[Variable], variable: Variable) -> Option<usize>
-    ensures { result ≡ place_from 0 (variable_view variable) (map variable_view makes.now) }
-{
-    for at in 0..makes.len() {
-        if makes[at].node == variable.node && makes[at].array == variable.array {
-            return Some(at);
-        }
-    }
-    None
-}
-
-/// The slot of what the body can name as its own: its variables come first, then the parameters of its function.
-pub fn own_slot(body: &Body, owned: Owned) -> Option<usize>
-    ensures { result ≡ own_slot (body_view body.now) (owned_view owned) }
-{
-    match owned {
-        Owned::Local(variable) => place_among(body.makes.as_slice(), variable),
-        Owned::Parameter(place, _) => match body.opener {
-            Opener::ByCalls => Some(body.makes.len().saturating_add(place)),
-            _ => None,
-        },
-    }
 }
 
 /// The body around another one that is opened by the entry, and how many steps of the path are left from there.
@@ -111,36 +90,101 @@ fn home_of(homes: &[Option<u32>], entry: u32, up: usize) -> Option<(u32, usize)>
     }
 }
 
-/// Where a name of the body leads, if anywhere.
-#[tactic(auto, using(crate::proofs::Spots::spot_own, crate::proofs::Spots::spot_none, crate::proofs::Spots::spot_out, crate::proofs::Spots::spot_past, crate::proofs::Spots::spot_end))]
-fn spot_of(code: &Code, homes: &[Option<u32>], body: u32, name: Name) -> Option<Spot>
-    ensures { result ≡ spot_from code.now homes.now (length code.now.bodies) body name.up (owned_view name.owned) }
-{
-    let mut at = body;
-    let mut up = name.up;
-    for levels in 0..code.body_count() {
-        let found = code.body(at)?;
-        if let Some(slot) = slot_if(found, up, name.owned) {
-            return Some(Spot { levels, slot });
-        }
-        let (outer, left) = further_out(homes, found.opener, up)?;
-        at = outer;
-        up = left;
-    }
-    None
-}
-
-/// The same for the bodies that have the entries.
-pub fn spot_in(code: &Code, homes: &[Option<u32>], body: u32, name: Name) -> Option<Spot>
-    requires { homes.now ≡ homes_of code.now }
-    ensures { result ≡ spot_in code.now body (name_view name) }
-{
-    spot_of(code, homes, body, name)
-}
-
-/// The slot of what is the body's own, where the owner lies no step further out.
-fn slot_if(body: &Body, up: usize, owned: Owned) -> Option<usize>
+/// The slot of what is the body's own, where the owner lies no step further out: its variables come first, then the
+/// parameters of its function.
+fn slot_if(body: &Body, places: &Places, up: usize, owned: Owned) -> Option<usize>
+    requires { FindsPlaces (body_view body.now).makes places.now }
     ensures { result ≡ own_if up (body_view body.now) (owned_view owned) }
 {
-    if up == 0 { own_slot(body, owned) } else { None }
+    if up > 0 {
+        return None;
+    }
+    match owned {
+        Owned::Local(variable) => places.of(variable),
+        Owned::Parameter(place, _) => match body.opener {
+            Opener::ByCalls => Some(body.makes.len().saturating_add(place)),
+            _ => None,
+        },
+    }
+}
+
+/// The places of the variables of each body, by the body's number.
+fn all_places(alloc: Global, code: &Code) -> Result<Vec<Places>, AllocError>
+    requires { length code.now.bodies < 2 ^ 32 }
+    ensures each { IfOk result (λ all. AllFrom (λ b m. FindsPlaces (body_at code.now b).makes m) 0 all.items) }
+    ensures all { IfOk result (λ all. length all.items ≡ length code.now.bodies) }
+{
+    let mut all = Vec::new(alloc);
+    for number in 0..code.body_count() {
+        let number = number as u32;
+        let Some(body) = code.body(number) else {
+            break;
+        };
+        all.push(places_among(alloc, body.makes.as_slice())?)?;
+    }
+    Ok(all)
+}
+
+/// Where the names of code lead.
+#[derive(Drop)]
+pub struct Leads {
+    /// The body that has each entry.
+    homes: Vec<Option<u32>>,
+    /// The places of the variables of each body.
+    places: Vec<Places>,
+}
+
+impl Leads {
+    /// Where the names of this code lead.
+    pub fn new(alloc: Global, code: &Code) -> Result<Leads, AllocError>
+        requires { length code.now.bodies < 2 ^ 32 }
+        ensures { IfOk result (IsLeads code.now) }
+    {
+        Ok(Leads {
+            homes: homes(alloc, code)?,
+            places: all_places(alloc, code)?,
+        })
+    }
+
+    /// The body that has an entry, if one has it.
+    pub fn home(&self, number: u32) -> Option<u32>
+        ensures { result ≡ home_of self.now.homes.items number }
+    {
+        if number as usize >= self.homes.len() {
+            return None;
+        }
+        self.homes[number as usize]
+    }
+
+    /// The places of what a body declares.
+    #[tactic(auto, using(crate::proofs::Tables::all_at))]
+    pub fn places(&self, body: u32) -> Option<&Places>
+        ensures { (C : Code) → IsLeads C self.now → MatchOption result (length C.bodies ≤ body) (λ places. (body < length C.bodies) × FindsPlaces (body_at C body).makes places.now) }
+    {
+        if body as usize >= self.places.len() {
+            return None;
+        }
+        Some(&self.places[body as usize])
+    }
+
+    /// Where a name of the body leads, if anywhere.
+    #[tactic(auto, using(crate::proofs::Spots::spot_own, crate::proofs::Spots::spot_none, crate::proofs::Spots::spot_out, crate::proofs::Spots::spot_past, crate::proofs::Spots::spot_end))]
+    pub fn spot_in(&self, code: &Code, body: u32, name: Name) -> Option<Spot>
+        requires { IsLeads code.now self.now }
+        ensures { result ≡ spot_in code.now body (name_view name) }
+    {
+        let mut at = body;
+        let mut up = name.up;
+        for levels in 0..code.body_count() {
+            let found = code.body(at)?;
+            let places = self.places(at)?;
+            if let Some(slot) = slot_if(found, places, up, name.owned) {
+                return Some(Spot { levels, slot });
+            }
+            let (outer, left) = further_out(self.homes.as_slice(), found.opener, up)?;
+            at = outer;
+            up = left;
+        }
+        None
+    }
 }

@@ -4,8 +4,9 @@ ghost use Rattle.std.specs.Prelude.{◌≡◌};
 use crate::codes::{NAME, X, asserted};
 use crate::worlds::FIRST;
 use board_code::key::copy_key;
+use board_code::places::places_among;
 use board_code::program::{Own, Program, Wanted};
-use board_code::spot::{homes, own_slot, place_among, spot_in};
+use board_code::spot::Leads;
 use data_store::store::Shape;
 use std::alloc::Global;
 use std::process::Abort;
@@ -73,36 +74,38 @@ fn a_block_has_its_holds(rt: HostRuntime) {
 fn names_lead_to_their_slots(rt: HostRuntime) {
     let code = code_of(&rt, rt.alloc());
     assert_eq!(rt; code.body_count(), 1);
-    let homes = homes(rt.alloc(), &code).expect(&rt, "memory");
-    assert!(rt; homes.as_slice() == [Some(0u32), Some(0)].as_slice());
+    let leads = Leads::new(rt.alloc(), &code).expect(&rt, "memory");
+    assert_eq!(rt;
+        (leads.home(0), leads.home(1), leads.home(2)),
+        (Some(0u32), Some(0), None)
+    );
     let lost = Name {
         up: 0,
         owned: Owned::Local(OTHER),
     };
     assert_eq!(rt;
-        (
-            spot_in(&code, homes.as_slice(), 0, NAME),
-            spot_in(&code, homes.as_slice(), 0, lost)
-        ),
+        (leads.spot_in(&code, 0, NAME), leads.spot_in(&code, 0, lost)),
         (Some(FIRST), None)
     );
 }
 
 #[test]
-fn a_block_has_its_slots(rt: HostRuntime) {
+fn a_block_has_its_places(rt: HostRuntime) {
     let code = code_of(&rt, rt.alloc());
-    let body = code.body(0).expect(&rt, "a body");
-    let makes = body.makes.as_slice();
+    assert_eq!(rt; code.body_count(), 1);
+    let leads = Leads::new(rt.alloc(), &code).expect(&rt, "memory");
+    let places = leads.places(0).expect(&rt, "a body");
+    assert_eq!(rt; (places.of(X), places.of(OTHER)), (Some(0), None));
+    let further = Name {
+        up: 1,
+        owned: Owned::Local(X),
+    };
     assert_eq!(rt;
-        (place_among(makes, X), place_among(makes, OTHER)),
+        (places.of_name(NAME), places.of_name(further)),
         (Some(0), None)
     );
-    assert_eq!(rt;
-        (
-            own_slot(body, Owned::Local(X)),
-            own_slot(body, Owned::Parameter(0, false))
-        ),
-        (Some(0), None)
-    );
+    let both = places_among(rt.alloc(), [OTHER, X, OTHER].as_slice()).expect(&rt, "memory");
+    assert_eq!(rt; (both.of(OTHER), both.of(X)), (Some(0), Some(1)));
+    assert!(rt; leads.places(1).is_none());
     assert!(rt; matches!(copy_key(&Key::Number(-3)), Key::Number(-3)));
 }
