@@ -76,7 +76,7 @@ fn value_of(alloc: Global, expr: &Expr, answers: &[Answer]) -> Result<Value, OpF
     }
 }
 
-/// What an operator gives for its operands.
+/// What an operator gives for its operands. Where they are few their values take no memory.
 #[cycle(value)]
 fn operate(
     alloc: Global,
@@ -87,9 +87,22 @@ fn operate(
     ensures value { IfOk result (λ value. evaluated (operation_of op.now) (evals (answers_view answers.now) (exprs_view operands.now.items)) ≡ Ok value) }
     ensures fault { IfErr result (λ fault. fault ≢ OpFault.Memory → evaluated (operation_of op.now) (evals (answers_view answers.now) (exprs_view operands.now.items)) ≡ Err fault) }
 {
-    let mut values = Vec::new(alloc);
-    append_values(alloc, &mut values, operands, answers)?;
-    op.apply(alloc, &values)
+    match operands.as_slice() {
+        [one] => {
+            let one = value_of(alloc, one, answers)?;
+            op.apply(alloc, &[one])
+        }
+        [one, other] => {
+            let one = value_of(alloc, one, answers)?;
+            let other = value_of(alloc, other, answers)?;
+            op.apply(alloc, &[one, other])
+        }
+        _ => {
+            let mut values = Vec::with_capacity(alloc, operands.len())?;
+            append_values(alloc, &mut values, operands, answers)?;
+            op.apply(alloc, &values)
+        }
+    }
 }
 
 /// Puts the values of expressions behind others, up to the first fault.
