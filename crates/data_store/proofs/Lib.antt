@@ -1,3 +1,4 @@
 pub mod Arranged
 pub mod Filled
+pub mod Held
 pub mod Numbers

@@ -1,4 +1,5 @@
 pub mod Arrays
 pub mod Data
 pub mod Filled
+pub mod Held
 pub mod Stores

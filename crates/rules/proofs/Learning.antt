@@ -6,8 +6,8 @@ use Rattle.std.proofs.lemmas.List.{append_assoc, append-nil}
 use Rattle.std.proofs.lemmas.List.Sorted.{IsPermutation-refl, IsPermutation-trans, IsPermutation-append_right, IsPermutation-append_left, IsPermutation-append_comm}
 use Rattle.rules.specs.declared.input.Input.{Input}
 use Rattle.rules.specs.Inputs.{covers}
-use Rattle.rules.specs.Waiting.{Waiting, is_ready, with_known, still_waiting, woken, without_item}
-use Rattle.rules.specs.Slots.{after_slot, told, unless_item, is_idle, present, IsSettled, Learnt}
+use Rattle.rules.specs.Waiting.{Waiting, is_ready, with_known, still_waiting, woken, without_item, EachMisses}
+use Rattle.rules.specs.Slots.{after_slot, told, unless_item, is_idle, present, AllBusy, IsSettled, Learnt}
 use Rattle.rules.proofs.Settling.{stepped, kept_step}
 
 -- a test that is made twice tells no more
@@ -123,3 +123,9 @@ busy_unless x (Some w) h =
       | true ↦ refl
       | false ↦ h
     ]
+
+-- where no slot has an item that misses nothing, each item misses something
+pub each_misses : (slots : List (Option Waiting)) → AllBusy slots → EachMisses (present slots)
+each_misses [] h = tt
+each_misses (None ∷ rest) h = each_misses rest (λ k. h (suc k))
+each_misses (Some w ∷ rest) h = (h zero, each_misses rest (λ k. h (suc k)))

@@ -1,5 +1,6 @@
 -- Items that wait, and what becomes of them.
-use Rattle.std.specs.Prelude.{◌≡◌, max, ℕ, ◌+◌, ◌<◌, ◌≤◌, ◌==◌, Bool, not, if◌then◌else◌, List, [], ◌∷◌, ◌++◌, length, filter, map, filter_map, Option, Some, None, IsPermutation}
+use Rattle.std.specs.Prelude.{◌≡◌, max, ℕ, ◌+◌, ◌<◌, ◌≤◌, ◌==◌, Bool, false, not, if◌then◌else◌, List, [], ◌∷◌, ◌++◌, length, filter, map, filter_map, Option, Some, None, IsPermutation}
+use Rattle.std.specs.List.{AllByRecursion}
 use Rattle.rules.specs.declared.input.Input.{Input}
 use Rattle.rules.specs.Inputs.{covers}
 
@@ -24,6 +25,10 @@ with_known i w = record w { missing = filter (λ j. not (covers i j)) w.missing 
 -- nothing is missing
 abbrev pub is_ready : Waiting → Bool
 is_ready w = length w.missing == 0
+
+-- each of them misses something
+abbrev pub EachMisses : List Waiting → Type 0
+EachMisses ws = AllByRecursion (λ w. is_ready w ≡ false) ws
 
 -- what is left of an item that waits once the input is known: nothing where this was its last
 abbrev pub after_known : Input → Waiting → Option Waiting

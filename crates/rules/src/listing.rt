@@ -1,7 +1,7 @@
 //! The items that wait, with what they wait for.
 ghost use Rattle.std.specs.Prelude.{◌≡◌, ◌==◌, ℕ, ◌+◌, ◌<◌, ◌≤◌, ◌∷◌, false, length, OnOk, OnErr, IfOk, IsOk, IsPermutation, Some, slice_index_or, None, vec_len, vec_capacity};
 ghost use Rattle.slab.specs.Slab.{slab_len, HasRoomFor};
-ghost use Rattle.rules.specs.Waiting.{empty, with_room, IsAdded, IsListed, GivesRoomBack, still_waiting, woken, without_item};
+ghost use Rattle.rules.specs.Waiting.{empty, with_room, IsAdded, IsListed, GivesRoomBack, EachMisses, still_waiting, woken, without_item};
 ghost use Rattle.rules.specs.Slots.{after_slot, unless_item, present, is_idle, IsSettled, Shrinks, Learnt, AllBusy};
 ghost use Rattle.rules.specs.Places.{IsNoted};
 
@@ -140,11 +140,11 @@ impl Rules {
         self.waiters.len()
     }
 
-    // Makes the places anew, if enough was noted in them.
+    // Makes the places anew, if enough was noted in them, or if there are none.
     fn refresh(&mut self, inputs: usize)
         ensures { self.new ≡ self.old }
     {
-        if self.left == 0 {
+        if self.left == 0 || self.places.len() == 0 {
             let size = self.waiters.capacity().max(FEWEST);
             self.places = made_places(self.alloc, size, &self.waiters);
             self.left = size;
@@ -207,6 +207,7 @@ impl Rules {
         ensures ready { length inputs.items ≡ 0 → self.new ≡ self.old }
         ensures added { 0 < length inputs.items → OnOk result (IsAdded self.old self.new (record { item = item; missing = inputs.items })) }
         ensures succeeds { 0 < self.old.room → IsOk result }
+        ensures asks_nothing { length inputs.items ≡ 0 → IsOk result }
         ensures err { OnErr result (self.new ≡ self.old) }
     {
         if inputs.is_empty() {
@@ -226,6 +227,7 @@ impl Rules {
         ensures listed { IsListed (woken input.now self.old.waiting) out.old.items out.new.items }
         ensures room { GivesRoomBack self.old self.new }
         ensures out_capacity { vec_capacity out.new ≡ vec_capacity out.old }
+        ensures each_missed { EachMisses self.old.waiting }
     {
         wake(&mut self.waiters, &self.places, input, out);
     }

@@ -5,7 +5,7 @@ use Rattle.rules.specs.Waiting.{still_waiting, woken}
 use Rattle.rules.specs.Slots.{after_slot, present}
 use Rattle.slab.specs.Slab.{slab_len}
 use Rattle.rules.proofs.Settling.{all_settled}
-use Rattle.rules.proofs.Learning.{after_twice, still_cons, woken_clean, busy_after}
+use Rattle.rules.proofs.Learning.{after_twice, still_cons, woken_clean, busy_after, each_misses}
 use Rattle.rules.proofs.Noting.{noted_shrinks, busy_shrinks, needs_after}
 use Rattle.rules.proofs.Counting.{length_present}
 use Rattle.rules.proofs.listing.Rules.known.Goals as goal
@@ -45,3 +45,6 @@ pub returns-clause-room : goal.returns-clause-room
 returns-clause-room c =
     let fewer : slab_len c.wake.new.waiters ≤ slab_len c.self.inside.waiters = omega (arith, c.wake.ensures.balance, c.wake.new.out.ok.0, c.args.out.now.ok.0, ap length c.wake.ensures.learnt.is, length-append c.args.out.now.items c.wake.ensures.learnt.said) in
     rw (← c.self.view_is) (omega (arith, c.self.invariant.used, length_present c.self.inside.waiters.slots, length_present c.wake.new.waiters.slots, fewer))
+
+pub returns-clause-each_missed : goal.returns-clause-each_missed
+returns-clause-each_missed c = rw (← c.self.view_is) (each_misses c.self.inside.waiters.slots c.self.invariant.busy)
