@@ -14,6 +14,8 @@ mod syntax_tests;
 #[cfg(test)]
 mod syntax_trees_tests;
 #[cfg(test)]
+mod tree_numbers_tests;
+#[cfg(test)]
 mod types_tests;
 #[cfg(test)]
 mod values_tests;

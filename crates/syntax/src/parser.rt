@@ -15,6 +15,7 @@ use lexer::fault::LexFault;
 use lexer::token::Span;
 use std::alloc::Allocator;
 use syntax_trees::tree::Script;
+use tree_numbers::number;
 
 /// How many bytes a text may have.
 pub const MAX_SOURCE: usize = 1_048_576;
@@ -54,12 +55,15 @@ pub fn parse<A: Allocator + Clone>(alloc: A, src: &[u8]) -> Result<Script<A>, Pa
     }
     let (list, fault) = tokens(alloc.clone()?, src)?;
     let mut cursor = Cursor::new(list.as_slice());
-    let script = match script(&alloc, &mut cursor, MAX_NESTING) {
+    let mut script = match script(&alloc, &mut cursor, MAX_NESTING) {
         Ok(script) => script,
         Err(stop) => return Err(answer(stop, fault, src.len())),
     };
     match fault {
         Some(fault) => Err(ParseFault::Lex(fault)),
-        None => Ok(script.numbered(alloc)?),
+        None => {
+            number(&mut script);
+            Ok(script)
+        }
     }
 }

@@ -1,0 +1,43 @@
+//! Trees that are numbered where they lie.
+
+ghost use Rattle.std.specs.Prelude.{◌≡◌, IfOk};
+ghost use Rattle.syntax_trees.specs.View.{tree_of};
+ghost use Rattle.syntax_trees.specs.Numbered.{tree_size};
+
+use lexer::token::Span;
+use std::alloc::{AllocError, Global};
+use std::process::Abort;
+use std::test::Fail;
+use syntax_trees::stmt;
+use syntax_trees::tree::{Base, Decl, Item, Name, Script, Shape, StmtKind};
+use tree_numbers::number;
+
+/// `int x;`, with these numbers of the statement and of the name.
+fn declared(alloc: Global, statement: u32, word: u32) -> Result<Script<Global>, AllocError>
+    ensures { IfOk result (λ s. tree_size (tree_of s) ≡ 2) }
+{
+    let name = Name {
+        number: word,
+        span: Span { from: 4, to: 5 },
+        text: Vec::from_slice(alloc, b"x")?,
+    };
+    let decl = Decl {
+        base: Base::Int,
+        name,
+        shape: Shape::Scalar,
+    };
+    let mut declaration = stmt(Span { from: 0, to: 3 }, 6, StmtKind::Declare(decl, None));
+    declaration.number = statement;
+    let mut items = Vec::new(alloc);
+    items.push(Item::Statement(Box::new(alloc, declaration)?))?;
+    Ok(Script { items })
+}
+
+#[test]
+fn numbers_are_put_in_their_places(rt: HostRuntime) -> Result<(), Fail> {
+    let mut script = declared(rt.alloc(), 7, 7)?;
+    number(&mut script);
+    let wanted = declared(rt.alloc(), 1, 2)?;
+    assert!(rt; script == wanted);
+    Ok(())
+}
