@@ -23,6 +23,7 @@ use board_frames::item::{Job, Mark, item_of};
 use board_frames::place::{Fault, Statement};
 use board_items::items::order_of;
 use board_work::work::{Done, Job as Task, Work};
+use rules::input::Input;
 use std::alloc::{AllocError, Global};
 use std::marker::Model;
 use task_code::code::Code;
@@ -39,6 +40,8 @@ pub struct Board {
     limit: u32,
     core: Core,
     history: Vec<Event>,
+    /// What an End makes known, until that is told. It means nothing between two calls.
+    known: Vec<Input>,
 }
 
 impl Model for Board {
@@ -94,6 +97,7 @@ impl Board {
             limit,
             core: Core::new(alloc)?,
             history: Vec::new(alloc),
+            known: Vec::new(alloc),
         })
     }
 
@@ -167,9 +171,14 @@ impl Board {
         if !self.core.is_done_for(&self.program, job, &done) {
             return Err((done, Refusal::Stranger));
         }
-        let Ok(()) = self
-            .core
-            .end(&self.program, self.most_names, item, job, &done)
+        let Ok(()) = self.core.end(
+            &self.program,
+            self.most_names,
+            item,
+            job,
+            &done,
+            &mut self.known,
+        )
         else {
             return Err((done, Refusal::Memory));
         };

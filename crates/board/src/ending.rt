@@ -16,6 +16,7 @@ use board_frames::item::Job;
 use board_frames::place::Fault;
 use board_items::settling::Outlook;
 use board_work::work::Done;
+use rules::input::Input;
 use std::alloc::AllocError;
 
 impl Core {
@@ -64,7 +65,8 @@ impl Core {
         self.fault = Some(fault);
     }
 
-    /// The item, which runs, ends with this effect, which is no fault. No entry reads or writes more names than `most`.
+    /// The item, which runs, ends with this effect, which is no fault. No entry reads or writes more names than `most`. What becomes
+    /// known is told by way of the list, whatever was in it.
     fn pass(
         &mut self,
         program: &Program,
@@ -72,6 +74,7 @@ impl Core {
         number: u64,
         job: Job,
         effect: Effect,
+        known: &mut Vec<Input>,
     ) -> Result<(), AllocError>
         requires { AreAtMost program.now most }
         ensures passed { OnOk result (HasPassed program.now number (job_view job) effect self.old self.new) }
@@ -81,10 +84,10 @@ impl Core {
         if !self.can_change(program, most, job, &change) {
             return Err(AllocError);
         }
-        let mut known = Vec::new(self.alloc);
-        self.make_room(program, job, &change, &mut known)?;
+        known.clear();
+        self.make_room(program, job, &change, known)?;
         let first = self.items.rows.len();
-        let spare = self.make(program, job, change, line, &mut known)?;
+        let spare = self.make(program, job, change, line, known)?;
         let outlook = Outlook {
             alloc: self.alloc,
             program,
@@ -94,7 +97,8 @@ impl Core {
         self.items.finish(outlook, number, job, first, spare)
     }
 
-    /// The item, which runs, ends with what was done for it. No entry reads or writes more names than `most`.
+    /// The item, which runs, ends with what was done for it, by way of the list as `pass` does. No entry reads or writes more names
+    /// than `most`.
     pub fn end(
         &mut self,
         program: &Program,
@@ -102,6 +106,7 @@ impl Core {
         number: u64,
         job: Job,
         done: &Done,
+        known: &mut Vec<Input>,
     ) -> Result<(), AllocError>
         requires there { IsThere program.now (job_view job) }
         requires names { AreAtMost program.now most }
@@ -113,7 +118,7 @@ impl Core {
                 self.fail(fault);
                 Ok(())
             }
-            passed => match self.pass(program, most, number, job, passed) {
+            passed => match self.pass(program, most, number, job, passed, known) {
                 Ok(()) => Ok(()),
                 Err(refused) => Err(refused),
             },
