@@ -19,6 +19,7 @@ pub mod Kept
 pub mod Marked
 pub mod Most
 pub mod Moves
+pub mod NoMore
 pub mod OpensWell
 pub mod Orders
 pub mod Own

@@ -6,12 +6,15 @@ ghost use Rattle.board_data.specs.View.{cells_view};
 ghost use Rattle.board_frames.specs.View.{job_view};
 ghost use Rattle.board_openings.specs.Room.{OpensWell, TakesMore};
 ghost use Rattle.board_openings.specs.World.{HasRoomToEnd};
+ghost use Rattle.task_code.specs.Code.{Code};
+ghost use Rattle.board_items.specs.Room.{IsRoomy, IsRoomyFor};
+ghost use Rattle.board_items.specs.Settled.{StaysButRoom};
 ghost use Rattle.board.specs.Room.{HasRoomForItems, new_controls, new_leaves};
 
 use crate::state::Core;
 use board_code::program::Program;
 use board_frames::item::Job;
-use board_items::items::Counts;
+use board_items::items::{Counts, Items};
 use board_openings::world::Change;
 use rules::input::Input;
 use std::alloc::AllocError;
@@ -35,6 +38,20 @@ fn new_items(program: &Program, change: &Change) -> Option<Counts>
     Some(Counts { controls, leaves })
 }
 
+/// Room for so many new items, if there are any. Nothing else changes.
+#[tactic(auto, using(crate::proofs::NoMore::none_more))]
+fn reserve_items(items: &mut Items, added: Counts) -> Result<(), AllocError>
+    ensures stays { StaysButRoom items.old items.new }
+    ensures roomy { OnOk result ((code : Code) → IsRoomy code items.old → IsRoomyFor code added.controls added.leaves items.new) }
+    ensures kept { (code : Code) → IsRoomy code items.old → IsRoomy code items.new }
+    ensures rules { OnOk result (added.controls + added.leaves ≤ items.new.rules.room) }
+{
+    if added.controls == 0 && added.leaves == 0 {
+        return Ok(());
+    }
+    items.reserve_new(added)
+}
+
 impl Core {
     /// Room for the items that wait, for so many new ones, and for a line.
     fn make_room_for_items(&mut self, program: &Program, added: Counts) -> Result<(), AllocError>
@@ -52,7 +69,7 @@ impl Core {
             return Err(AllocError);
         };
         self.lines.reserve(1)?;
-        self.items.reserve_new(added)?;
+        reserve_items(&mut self.items, added)?;
         self.items.woken.reserve(waiting)?;
         self.items.newly.reserve(ready)
     }
