@@ -9,11 +9,11 @@ use lexer::token::Span;
 use std::alloc::{AllocError, Allocator, Global};
 use std::process::Abort;
 use std::test::Fail;
+use syntax::parser::parse;
 use syntax_trees::tree::{
-    Base, Call, Decl, Expr, ExprKind, Item, Level, Name, Operator, Right, Script, Shape, Stmt,
-    StmtKind,
+    Expr, ExprKind, Item, Level, Name, Operator, Right, Script, Stmt, StmtKind,
 };
-use syntax_trees::{block, expr, stmt};
+use syntax_trees::{expr, stmt};
 
 fn at(from: usize, to: usize) -> Span {
     Span { from, to }
@@ -57,44 +57,6 @@ fn sum(alloc: Global) -> Result<Stmt<Global>, AllocError>
     ))
 }
 
-/// `@prio=5 f(z);`
-fn urgent(alloc: Global) -> Result<Stmt<Global>, AllocError> {
-    let mut arguments = Vec::new(alloc);
-    arguments.push(variable(alloc, b"z", 10, 11)?)?;
-    let call = Call {
-        number: 0,
-        first: at(8, 9),
-        to: 12,
-        name: name(alloc, b"f", 8, 9)?,
-        arguments,
-    };
-    Ok(stmt(at(0, 1), 13, StmtKind::Call(5, Box::new(alloc, call)?)))
-}
-
-/// `if (b) { x = y + 1; } else { @prio=5 f(z); }` and `string s[];`, with places of no account.
-fn script(alloc: Global) -> Result<Script<Global>, AllocError> {
-    let mut then = Vec::new(alloc);
-    then.push(sum(alloc)?)?;
-    let mut other = Vec::new(alloc);
-    other.push(urgent(alloc)?)?;
-    let test = Box::new(alloc, variable(alloc, b"b", 4, 5)?)?;
-    let then = Box::new(alloc, block(7, then))?;
-    let other = Box::new(alloc, block(27, other))?;
-    let choice = stmt(at(0, 2), 44, StmtKind::If(test, then, Some(other)));
-    let declared = Decl {
-        base: Base::Text,
-        name: name(alloc, b"s", 52, 53)?,
-        shape: Shape::Array,
-    };
-    let mut items = Vec::new(alloc);
-    items.push(Item::Statement(Box::new(alloc, choice)?))?;
-    items.push(Item::Statement(Box::new(
-        alloc,
-        stmt(at(45, 51), 56, StmtKind::Declare(declared, None)),
-    )?))?;
-    Ok(Script { items })
-}
-
 /// A script of one statement.
 fn alone(alloc: Global, stmt: Stmt<Global>) -> Result<Script<Global>, AllocError>
     ensures { IfOk result (λ s. tree_size (tree_of s) ≡ statement_size (statement_view stmt)) }
@@ -104,13 +66,21 @@ fn alone(alloc: Global, stmt: Stmt<Global>) -> Result<Script<Global>, AllocError
     Ok(Script { items })
 }
 
+const TEXTS: &str = r#"
+import io; if (b) { x = y + 1; } else { @prio=5 f(z); } string s[];
+(int r, boolean b) f(int n, string A[]) { (r, b) = g(n, A); } int A[] = [1, -2]; A[-1] = !(1 < 2 * 3) && true;
+foreach v, k in [lo:hi:2] { wait (v, k) { printf("%i", A[k] - size(A)); } } foreach v in A { }"#;
+
+// A tree is equal to another where its numbers, places and names are too.
 #[test]
 fn a_copy_to_an_arena_and_back_is_equal(rt: HostRuntime) -> Result<(), Fail> {
-    let tree = script(rt.alloc())?;
-    let arena = Bump::new(rt.alloc());
-    let copy = tree.copy_to(&arena)?;
-    let back = copy.copy_to(rt.alloc())?;
-    assert!(rt; back == tree);
+    for text in TEXTS.lines() {
+        let tree = parse(rt.alloc(), text.as_bytes())?;
+        let arena = Bump::new(rt.alloc());
+        let copy = tree.copy_to(&arena)?;
+        let back = copy.copy_to(rt.alloc())?;
+        assert!(rt; back == tree, "{text}");
+    }
     Ok(())
 }
 
