@@ -126,7 +126,7 @@ fn variables(alloc: Global, node: u32) -> Result<Vec<Variable<Global>>, AllocErr
 }
 
 /// A block of these statements.
-pub fn block(statements: Vec<Statement<Global>>) -> Block<Global> {
+fn block(statements: Vec<Statement<Global>>) -> Block<Global> {
     Block {
         from: 0,
         statements,

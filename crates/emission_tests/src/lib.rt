@@ -9,5 +9,3 @@ mod flows;
 mod granting_tests;
 #[cfg(test)]
 mod part_entries_tests;
-#[cfg(test)]
-mod wait_merge_tests;

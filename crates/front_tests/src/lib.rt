@@ -4,6 +4,8 @@
 #[cfg(test)]
 mod assign_check_tests;
 #[cfg(test)]
+mod flows;
+#[cfg(test)]
 mod lexer_tests;
 #[cfg(test)]
 mod lowering_tests;
@@ -19,5 +21,7 @@ mod tree_numbers_tests;
 mod types_tests;
 #[cfg(test)]
 mod values_tests;
+#[cfg(test)]
+mod wait_merge_tests;
 #[cfg(test)]
 mod whole_flow_tests;

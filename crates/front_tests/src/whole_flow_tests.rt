@@ -1,9 +1,7 @@
 //! Flows of scripts that are accepted are whole; a flow is not, once a declaration is taken out.
 
-use flow::script::Flow;
-use lowering::lower;
+use crate::flows::flow;
 use std::alloc::Global;
-use syntax::parser::parse;
 use whole_flow::is_whole;
 
 const SCRIPTS: &str = r#"
@@ -15,13 +13,6 @@ int A[] = [1, 2]; int i = 1; int b = A[A[i] - 1]; foreach v, k in A { printf("%i
 (int a, int b) f() { a = 1; b = 2; } int x; int y; if (true) { (x, y) = f(); } else { x = 1; y = 2; }
 (int B[]) f(int A[]) { foreach v, k in A { B[k] = v; } } int A[]; A[1] = 2; int B[] = f(A); printf("%i", size(B));
 int x = 1; int y = 2; wait (x) { wait (y) { wait (x, y) { int z = x + y; wait (z) { printf("%i", z); } } } }"#;
-
-/// The flow of a text.
-fn flow(alloc: Global, text: &[u8]) -> Option<Flow<Global>> {
-    let script = parse(alloc, text).ok()?;
-    let typed = types::check(alloc, &script).ok()?;
-    lower(alloc, &script, &typed).ok()
-}
 
 /// Whether the flow of a text is whole, where it has one.
 fn judgement(alloc: Global, text: &[u8]) -> Option<bool> {

@@ -1,0 +1,33 @@
+//! Waits one in another become one; one with two statements in it stays.
+
+use crate::flows::flow;
+use flow::script::Flow;
+use flow::statement::Action;
+use std::alloc::Global;
+use wait_merge::merge;
+
+/// How many headers the last statement has behind its own, where it is a `wait`, and how many statements are in it.
+fn headers(flow: &Flow<Global>) -> Option<(usize, usize)> {
+    match &flow.body.statements.last()?.action {
+        Action::Wait { inner, content, .. } => Some((inner.len(), content.statements.len())),
+        _ => None,
+    }
+}
+
+/// The same of a text whose waits were merged.
+fn merged(alloc: Global, text: &[u8]) -> Option<(usize, usize)> {
+    let found = merge(flow(alloc, text)?).ok()?;
+    headers(&found)
+}
+
+#[test]
+fn waits_one_in_another_become_one(rt: HostRuntime) {
+    let text = b"int x = 1; wait (x) { wait (x) { wait (x) { } } }";
+    assert_eq!(rt; merged(rt.alloc(), text), Some((2, 0)));
+}
+
+#[test]
+fn a_wait_with_something_beside_it_stays(rt: HostRuntime) {
+    let text = b"int x = 1; wait (x) { wait (x) { } wait (x) { } }";
+    assert_eq!(rt; merged(rt.alloc(), text), Some((0, 2)));
+}
