@@ -3,7 +3,7 @@
 
     compare.py SWT [NAME ..]      with the built program; gcc with OpenMP must be there
 
-Of each the least of three runs counts. The items of a script are its events, halved; a run of `swt` is timed whole, from its start to its
+Of each the least of three runs counts, or of so many as the variable RUNS says; CHAIN says how long the chain is. The items of a script are its events, halved; a run of `swt` is timed whole, from its start to its
 last line, reading and compiling too. A task of OpenMP does more than an item: for a turn of a loop there is one task and there are some items. So
 the last column compares the whole times.
 """
@@ -12,8 +12,8 @@ import os, subprocess, sys, tempfile, time
 HERE = os.path.dirname(os.path.abspath(__file__))
 COUNTS = [(1, 1), (1, 3), (2, 2)]
 
-
-CHAIN = 10_000
+CHAIN = int(os.environ.get("CHAIN", "10000"))
+RUNS = int(os.environ.get("RUNS", "3"))
 NAMES = ["flat", "fib22", "fib24", "chain", "array", "nested", "calls"]
 
 
@@ -44,10 +44,10 @@ def events(swt, script, folder):
 
 
 def least(tasks, name):
-    """The least of three runs of the tasks: nanoseconds, and how many tasks there were."""
+    """The least of the runs of the tasks: nanoseconds, and how many tasks there were."""
     words = [tasks, name] + [str(CHAIN)] * (name == "chain")
     found = []
-    for _ in range(3):
+    for _ in range(RUNS):
         said = subprocess.run(words, env={**os.environ, "OMP_NUM_THREADS": "4"}, capture_output=True, text=True, check=True)
         nanos, made, _ = said.stdout.split()
         found.append((int(nanos), int(made)))
@@ -67,7 +67,7 @@ def main():
             ours = []
             for engines, workers in COUNTS:
                 words = [swt, "run", script, "--engines", str(engines), "--workers", str(workers), "--steps", "4294967295"]
-                ours.append(min(timed(words) for _ in range(3)))
+                ours.append(min(timed(words) for _ in range(RUNS)))
             nanos, made = least(tasks, name)
             cells = [f"{t * 1e9 / items:.0f}" for t in ours]
             print(f"| {name} | {items:,} | " + " | ".join(cells) + f" | {nanos / made:.0f} | {nanos / 1e9 / min(ours):.2f} |", flush=True)

@@ -1,0 +1,105 @@
+//! How long whole scripts take: compiled, and run on one thread, on two and on four.
+
+use crate::scripts::{SCRIPTS, Script};
+use compile::compile::compile;
+use runs::one::run_one;
+use std::alloc::Global;
+use std::io;
+use std::sync::Wait;
+use std::thread::Threads;
+use std::time::{Clock, Instant};
+use task_code::code::Code;
+use workers::job::Open;
+use workers::run::run_threads;
+
+/// How many engines and workers there are. Where there are none, one thread does it all, without a lock.
+const CREWS: [(u8, u8); 4] = [(0, 0), (1, 1), (1, 3), (2, 2)];
+
+/// Runs the code on one thread, and counts the events.
+fn run_alone(alloc: Global, code: &Code) -> usize {
+    match run_one(alloc, code, &[], u32::MAX) {
+        Ok(report) => report.history.len(),
+        Err(_) => 0,
+    }
+}
+
+/// The same on so many engines and workers.
+fn run_by_crew<R: Threads + Wait + Sync>(
+    rt: &R,
+    alloc: Global,
+    code: &Code,
+    engines: u8,
+    workers: u8,
+) -> usize {
+    match run_threads(rt, alloc, code, engines, workers, u32::MAX, &Open) {
+        Ok((report, _)) => report.history.len(),
+        Err(_) => 0,
+    }
+}
+
+/// How many items a run has, and the nanoseconds of each, from the board's making to the report's end.
+fn items_and_nanos<R: Clock + Threads + Wait + Sync>(
+    rt: &R,
+    alloc: Global,
+    code: &Code,
+    engines: u8,
+    workers: u8,
+) -> io::Result<(u128, u128)> {
+    let start = Instant::now(rt)?;
+    let events = if engines == 0 {
+        run_alone(alloc, code)
+    } else {
+        run_by_crew(rt, alloc, code, engines, workers)
+    };
+    let nanos = start.elapsed(rt)?.as_nanos();
+    let items = events as u128 / 2;
+    Ok((items, nanos / items.max(1)))
+}
+
+/// Prints the time of an item on one thread, on two and on four.
+fn time_code<R: Clock + Print + Threads + Wait + Sync>(
+    rt: &R,
+    alloc: Global,
+    code: &Code,
+) -> io::Result<()> {
+    for (engines, workers) in CREWS {
+        let (items, nanos) = items_and_nanos(rt, alloc, code, engines, workers)?;
+        println!(rt; "  {engines} + {workers}: {items} items, {nanos} nanoseconds each")?;
+    }
+    Ok(())
+}
+
+/// Prints the time in which the script with the number is compiled, and those of its items.
+fn time_script<R: Clock + Print + Threads + Wait + Sync>(
+    rt: &R,
+    alloc: Global,
+    script: Script,
+    number: u32,
+) -> io::Result<()> {
+    let text = script.text(alloc, number)?;
+    let start = Instant::now(rt)?;
+    let answer = compile(alloc, alloc, text.as_bytes());
+    let micros = start.elapsed(rt)?.as_micros();
+    let (name, len) = (script.name, text.len());
+    println!(rt; "{name} {number}: {len} bytes, compiled in {micros} microseconds")?;
+    match answer {
+        Ok(code) => time_code(rt, alloc, &code),
+        Err(_) => println!(rt; "  refused"),
+    }
+}
+
+/// Prints the times of the script of this name with each of its numbers, or of `all` scripts.
+pub fn time<R: Clock + Print + Threads + Wait + Sync>(
+    rt: &R,
+    alloc: Global,
+    name: &str,
+) -> io::Result<()> {
+    for script in SCRIPTS {
+        if name == "all" || name == script.name {
+            for number in script.numbers {
+                time_script(rt, alloc, script, number)?;
+            }
+        }
+    }
+    Ok(())
+}
