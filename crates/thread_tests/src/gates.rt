@@ -6,7 +6,7 @@ use std::thread;
 use std::time::Duration;
 use workers::job::{Gate, Progress};
 
-/// So many milliseconds an item is held at most.
+/// So many milliseconds an item is held at most. Once one was held for so long none is held any more.
 const TURNS: u32 = 10_000;
 
 /// Holds each leaf item until so many leaf items and so many control items have begun.
@@ -51,7 +51,7 @@ impl Held<'_> {
 
     fn hold(&self) {
         for _ in 0..TURNS {
-            if self.is_open() {
+            if self.is_open() || self.ran_out() {
                 return;
             }
             thread::sleep(self.clock, Duration::from_millis(1));
