@@ -163,6 +163,16 @@ impl<'a, A: Allocator> Index<'a, A> {
         self.sites.get(i)
     }
 
+    /// The statement of a node that can be blocked.
+    pub fn site_of(&self, node: u32) -> Option<&Site<'a, A>> {
+        for site in &self.sites {
+            if site.node == node && site.counts() {
+                return Some(site);
+            }
+        }
+        None
+    }
+
     /// The name of the function that is called at an offset.
     pub fn function_at(&self, at: usize) -> Option<&'a [u8]> {
         let i = *self.called.get(&at)?;

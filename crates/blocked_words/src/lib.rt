@@ -1,11 +1,11 @@
-//! What is said to a person of blocked statements: where each stands, and what it waits for.
+//! What is said to a person of blocked statements: where each stands, and what it waits for. The parts serve for faults too.
 #![tactic(auto)]
 
 pub mod blocked;
-mod index;
+pub mod index;
 mod inputs;
-mod paths;
-mod scene;
-mod sites;
-mod words;
-mod writers;
+pub mod paths;
+pub mod scene;
+pub mod sites;
+pub mod words;
+pub mod writers;

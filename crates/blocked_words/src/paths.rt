@@ -1,12 +1,15 @@
 //! Paths in words.
 
 use crate::scene::Scene;
-use crate::words::{say, say_place, say_scalar};
+use crate::words::{say, say_count, say_place, say_scalar};
 use flow::statement::{Action, Variable};
 use std::alloc::{AllocError, Allocator};
 use values::key::Key;
 use whole_facts::facts::Place;
 use whole_facts::instances::Step;
+
+/// The most steps of a path that are told.
+const MOST: usize = 12;
 
 /// Adds where an instance stands, the innermost step first: a line of its own, or nothing for the script's own.
 pub fn say_path<'t, 'a, A: Allocator>(
@@ -23,7 +26,8 @@ pub fn say_path<'t, 'a, A: Allocator>(
     say(out, "\n")
 }
 
-fn say_steps<'t, 'a, A: Allocator>(
+/// Adds the steps to an instance, the innermost first; of many the innermost ones and how many there are besides.
+pub fn say_steps<'t, 'a, A: Allocator>(
     scene: &Scene<'t, 'a, A>,
     out: &mut Vec<u8>,
     instance: usize,
@@ -31,6 +35,9 @@ fn say_steps<'t, 'a, A: Allocator>(
 ) -> Result<(), AllocError> {
     let mut inside = instance;
     for i in 0..steps.len() {
+        if i >= MOST {
+            return say_more(out, steps.len() - i);
+        }
         if i > 0 {
             say(out, "; ")?;
         }
@@ -38,6 +45,12 @@ fn say_steps<'t, 'a, A: Allocator>(
         inside = parent_of(scene, inside);
     }
     Ok(())
+}
+
+fn say_more(out: &mut Vec<u8>, count: usize) -> Result<(), AllocError> {
+    say(out, "; and ")?;
+    say_count(out, count)?;
+    say(out, " more")
 }
 
 /// The instance that opened one.

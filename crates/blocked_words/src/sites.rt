@@ -14,10 +14,11 @@ pub enum Deed<'a, A: Allocator> {
     Waits(&'a [Name], &'a Block<A>),
 }
 
-/// A statement: the offset of its first token, the function that it stands in if any, and what it does.
+/// A statement: the offset of its first token, its node, the function that it stands in if any, and what it does.
 #[derive(Drop)]
 pub struct Site<'a, A: Allocator> {
     pub at: usize,
+    pub node: u32,
     pub function: Option<usize>,
     pub deed: Deed<'a, A>,
 }
@@ -54,6 +55,7 @@ fn add_statement<'a, A: Allocator>(
     statement: &'a Statement<A>,
 ) -> Result<(), AllocError> {
     let at = statement.at;
+    let node = statement.node;
     match &statement.action {
         Action::Wait {
             names,
@@ -61,13 +63,23 @@ fn add_statement<'a, A: Allocator>(
             content,
         } => {
             let deed = Deed::Waits(names.as_slice(), &**content);
-            sites.push(Site { at, function, deed })?;
+            sites.push(Site {
+                at,
+                node,
+                function,
+                deed,
+            })?;
             add_waits(sites, function, inner.as_slice(), content)?;
             add_block(sites, function, content)
         }
         action => {
             let deed = Deed::Does(action);
-            sites.push(Site { at, function, deed })?;
+            sites.push(Site {
+                at,
+                node,
+                function,
+                deed,
+            })?;
             add_inside(sites, function, action)
         }
     }
@@ -83,6 +95,7 @@ fn add_waits<'a, A: Allocator>(
     for wait in waits {
         sites.push(Site {
             at: wait.at,
+            node: wait.node,
             function,
             deed: Deed::Waits(wait.names.as_slice(), content),
         })?;

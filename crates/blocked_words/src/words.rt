@@ -1,11 +1,13 @@
 //! Words, put one behind another.
 
 use explanation::position::position_of;
+use explanation::quote::add_quote;
 use itoa::Buffer;
+use lexer::token::Span;
 use std::alloc::AllocError;
 use values::value::Scalar;
 
-/// The most bytes of a text that are shown.
+/// The most bytes of a value's text that are shown.
 const SHOWN: usize = 40;
 
 pub fn say(out: &mut Vec<u8>, words: &str) -> Result<(), AllocError> {
@@ -16,11 +18,14 @@ pub fn say(out: &mut Vec<u8>, words: &str) -> Result<(), AllocError> {
 /// Adds `LINE:COLUMN` of an offset.
 pub fn say_place(out: &mut Vec<u8>, text: &[u8], at: usize) -> Result<(), AllocError> {
     let position = position_of(text, at.min(text.len()));
+    say_count(out, position.line)?;
+    say(out, ":")?;
+    say_count(out, position.column)
+}
+
+pub fn say_count(out: &mut Vec<u8>, count: usize) -> Result<(), AllocError> {
     let mut buffer = Buffer::new();
-    out.extend_from_slice(buffer.format(position.line).as_bytes())?;
-    out.push(b':')?;
-    let mut buffer = Buffer::new();
-    out.extend_from_slice(buffer.format(position.column).as_bytes())?;
+    out.extend_from_slice(buffer.format(count).as_bytes())?;
     Ok(())
 }
 
@@ -43,12 +48,33 @@ pub fn say_scalar(out: &mut Vec<u8>, scalar: &Scalar) -> Result<(), AllocError> 
 /// Adds a text in quotes, cut where it is long.
 fn say_text(out: &mut Vec<u8>, bytes: &[u8]) -> Result<(), AllocError> {
     out.push(b'"')?;
-    for byte in &bytes[..bytes.len().min(SHOWN)] {
+    say_bytes(out, bytes, SHOWN)?;
+    out.push(b'"')?;
+    Ok(())
+}
+
+/// Adds so many bytes of a text at most, with `?` for what is no character.
+pub fn say_bytes(out: &mut Vec<u8>, bytes: &[u8], most: usize) -> Result<(), AllocError> {
+    for byte in &bytes[..bytes.len().min(most)] {
         out.push(if *byte < b' ' || *byte > b'~' {
             b'?'
         } else {
             *byte
         })?;
     }
-    say(out, if bytes.len() > SHOWN { "..\"" } else { "\"" })
+    say(out, if bytes.len() > most { ".." } else { "" })
+}
+
+/// Adds `FILE:LINE:COLUMN: ` of an offset.
+pub fn say_start(out: &mut Vec<u8>, file: &str, text: &[u8], at: usize) -> Result<(), AllocError> {
+    say(out, file)?;
+    say(out, ":")?;
+    say_place(out, text, at)?;
+    say(out, ": ")
+}
+
+/// Adds the line of an offset with that marked.
+pub fn add_mark(out: &mut Vec<u8>, text: &[u8], at: usize) -> Result<(), AllocError> {
+    let to = at.saturating_add(1);
+    add_quote(out, text, Span { from: at, to })
 }

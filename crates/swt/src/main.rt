@@ -1,12 +1,16 @@
 //! `swt`: checks, explains and runs scripts of a profile of Swift/T. Called without words it says how it is called.
 #![tactic(auto)]
 
+mod explain;
+mod left;
 mod progress;
 
+use crate::explain::{explain_blocked, explain_fault, explain_meaning};
+use crate::left::left_behind;
 use crate::progress::Teller;
-use blocked_words::blocked::blocked_told;
 use explanation::refusal::explained;
-use std::alloc::AllocError;
+use fault_words::limits::add_limit_of_steps;
+use std::alloc::{AllocError, Global};
 use std::io::{self, Write};
 use std::path::PathBuf;
 use std::process::ExitCode;
@@ -74,7 +78,7 @@ fn perform<R: Threads + Wait + Sync>(
     let mut err = Buffer::new(alloc);
     let mut trace = Buffer::new(alloc);
     let files = read_files(rt, line)?;
-    let teller = Teller::new(rt, request.progress);
+    let teller = Teller::new(rt, request.progress, most_steps(line));
     let status = command(
         threads,
         alloc,
@@ -85,54 +89,118 @@ fn perform<R: Threads + Wait + Sync>(
         &mut err,
         &mut trace,
     );
-    if request.explain {
-        explain(rt, line, files.as_slice(), status, &mut err.bytes)?;
-    }
     let printed = io::writer(rt).write_all(out.bytes()).is_ok();
     let _ = rt.stderr().write_all(err.bytes());
-    if printed && write_file(rt, line, trace.bytes()) {
+    let is_written = printed && write_file(rt, line, trace.bytes());
+    if request.explain {
+        explain_command(rt, line, files.as_slice(), status, &teller, out.bytes())?;
+    }
+    if is_written {
         Ok(status)
     } else {
         Ok(say(rt, Status::Failed))
     }
 }
 
-/// Adds what is to be said of a command that ended so.
-fn explain(
+/// Says on standard error what is to be said of a command that ended so, and printed this.
+fn explain_command(
     rt: &HostRuntime,
     line: &Line,
     files: &[Option<Vec<u8>>],
     status: u8,
-    text: &mut Vec<u8>,
+    teller: &Teller<'_>,
+    printed: &[u8],
 ) -> Result<(), AllocError> {
-    explain_refusals(rt, line, files, text)?;
-    if status == Status::Blocked.number() {
-        explain_blocked(rt, line, files, text)?;
-    }
+    let mut text = Vec::new(rt.alloc());
+    explain_refusals(rt, line, files, &mut text)?;
+    explain_end(rt, line, files, status, teller, printed, &mut text)?;
+    // Where this can't be written, the status says enough.
+    let _ = rt.stderr().write_all(text.as_slice());
     Ok(())
 }
 
-/// Adds what is to be said of the blocked statements of the line's script. Those of a run are those of the script's meaning.
-fn explain_blocked(
+/// The most events that the line's run may have.
+fn most_steps(line: &Line) -> u32 {
+    match line {
+        Line::Run { steps, .. } => *steps,
+        _ => u32::MAX,
+    }
+}
+
+/// Adds what is to be said of a command on a script that is accepted, by the status that it ended with and what it printed: of blocked
+/// statements, of faults, and of a limit.
+fn explain_end(
     rt: &HostRuntime,
     line: &Line,
     files: &[Option<Vec<u8>>],
+    status: u8,
+    teller: &Teller<'_>,
+    printed: &[u8],
     text: &mut Vec<u8>,
 ) -> Result<(), AllocError> {
     let alloc = rt.alloc();
     let names = line.files(alloc)?;
-    let limit = match line {
-        Line::Mean { rounds, .. } => *rounds,
-        _ => u32::MAX,
+    let (Some(name), Some(Some(file))) = (names.as_slice().first(), files.first()) else {
+        return Ok(());
     };
-    match (names.as_slice().first(), files.first()) {
-        (Some(name), Some(Some(bytes))) => {
-            let told = blocked_told(alloc, name.as_str(), bytes.as_slice(), limit)?;
-            text.extend_from_slice(told.as_slice())?;
+    let (name, script) = (name.as_str(), file.as_slice());
+    match line {
+        Line::Check { .. } | Line::Code { .. } => Ok(()),
+        Line::Mean { rounds, .. } => {
+            if status == Status::Fault.number()
+                || status == Status::Blocked.number()
+                || status == Status::Limit.number()
+            {
+                explain_meaning(alloc, name, script, *rounds, text)?;
+            }
             Ok(())
         }
-        _ => Ok(()),
+        Line::Run { .. } | Line::Replay { .. } => {
+            if status == Status::Limit.number() {
+                explain_limit(alloc, name, files, teller, text)
+            } else {
+                explain_run(alloc, name, script, status, printed, text)
+            }
+        }
     }
+}
+
+/// Adds what is to be said of a run that was not cut off.
+fn explain_run(
+    alloc: Global,
+    name: &str,
+    script: &[u8],
+    status: u8,
+    printed: &[u8],
+    text: &mut Vec<u8>,
+) -> Result<(), AllocError> {
+    if status == Status::Fault.number() {
+        explain_fault(alloc, name, script, printed, text)
+    } else if status == Status::Blocked.number() {
+        explain_blocked(alloc, name, script, text)
+    } else {
+        Ok(())
+    }
+}
+
+/// Adds what was left to be done where a run met its limit, or behind the end of the trace that is the second file.
+fn explain_limit(
+    alloc: Global,
+    name: &str,
+    files: &[Option<Vec<u8>>],
+    teller: &Teller<'_>,
+    text: &mut Vec<u8>,
+) -> Result<(), AllocError> {
+    let left = match files {
+        [Some(script), Some(trace)] => {
+            let Some(left) = left_behind(alloc, script.as_slice(), trace.as_slice())? else {
+                return Ok(());
+            };
+            left
+        }
+        _ => teller.left(),
+    };
+    add_limit_of_steps(text, name, left.events, left.ready, left.running)
 }
 
 /// Adds what is to be said of each script that is refused, up to a file that cannot be read.

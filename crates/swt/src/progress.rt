@@ -1,12 +1,14 @@
-//! How far a run is, said once a second.
+//! How far a run is, said once a second, and what was left to be done where it was cut off.
 
+use crate::left::Left;
 use board_work::work::{Done, Work};
 use std::alloc::AllocError;
 use std::sync::atomic::{AtomicU64, Ordering};
 use std::time::Instant;
 use workers::job::{Gate, Progress};
 
-/// Computes each item at once, and says once a second on standard error how far the run is, where that is wanted.
+/// Computes each item at once, and says once a second on standard error how far the run is, where that is wanted. It keeps what is left to
+/// be done at the limit.
 #[derive(Drop)]
 pub struct Teller<'a> {
     rt: &'a HostRuntime,
@@ -14,16 +16,33 @@ pub struct Teller<'a> {
     start: Option<Instant>,
     /// In how many of the seconds since then it was said.
     told: AtomicU64,
+    /// How many events the run may have.
+    limit: usize,
+    /// How many items can begin behind these, and how many run.
+    ready: AtomicU64,
+    running: AtomicU64,
 }
 
 impl Teller<'_> {
     /// Says it from now on, if it is wanted and there is a clock.
-    pub fn new(rt: &HostRuntime, wanted: bool) -> Teller<'_> {
+    pub fn new(rt: &HostRuntime, wanted: bool, limit: u32) -> Teller<'_> {
         let start = if wanted { Instant::now(rt).ok() } else { None };
         Teller {
             rt,
             start,
             told: AtomicU64::new(0),
+            limit: limit as usize,
+            ready: AtomicU64::new(0),
+            running: AtomicU64::new(0),
+        }
+    }
+
+    /// What was left to be done at the limit, where the run met it.
+    pub fn left(&self) -> Left {
+        Left {
+            events: self.limit,
+            ready: self.ready.load(Ordering::SeqCst) as usize,
+            running: self.running.load(Ordering::SeqCst) as usize,
         }
     }
 
@@ -49,6 +68,11 @@ impl Gate for Teller<'_> {
     }
 
     fn note(&self, progress: Progress) {
+        // Behind the last event that is allowed all notes are the same.
+        if progress.events >= self.limit {
+            self.ready.store(progress.ready, Ordering::SeqCst);
+            self.running.store(progress.running, Ordering::SeqCst);
+        }
         let Some(start) = &self.start else {
             return;
         };

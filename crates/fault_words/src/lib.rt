@@ -1,0 +1,10 @@
+//! What is said to a person of faults, and of an end at a limit: the place, the values that were met, and the path in words.
+#![tactic(auto)]
+
+pub mod faults;
+mod keys;
+pub mod limits;
+mod operations;
+mod parts;
+pub mod printed;
+mod reasons;
