@@ -1,17 +1,20 @@
 //! From the bytes of a text to its script.
 
-ghost use Rattle.std.specs.Prelude.{◌≡◌, IfOk, IfErr};
+ghost use Rattle.std.specs.Prelude.{◌≡◌, ◌++◌, IfOk, IfErr, List, Ok, Option, length, map};
+ghost use Rattle.lexer.specs.Items.{Lexeme};
+ghost use Rattle.lexer.specs.Tokens.{Tokens};
+ghost use Rattle.lexer.specs.declared.fault.LexFault.{LexFault};
 ghost use Rattle.syntax_trees.specs.View.{tree_of};
 ghost use Rattle.syntax_trees.specs.Reads.{Reads};
 ghost use Rattle.syntax.specs.Answers.{answer_of};
+ghost use Rattle.syntax.specs.Endings.{ending};
 ghost use Rattle.syntax.specs.Refusals.{Refuses};
 
 use crate::cursor::Cursor;
 use crate::error::ParseFault;
 use crate::script::script;
 use crate::stop::Stop;
-use crate::tokens::tokens;
-use lexer::fault::LexFault;
+use crate::tokens::fault_of;
 use lexer::token::Span;
 use std::alloc::Allocator;
 use syntax_trees::tree::Script;
@@ -23,16 +26,16 @@ pub const MAX_SOURCE: usize = 1_048_576;
 /// How deep a text may nest.
 pub const MAX_NESTING: u32 = 64;
 
-/// The answer to a text of a length, by where its reading stops and the fault behind its last token.
-fn answer(stop: Stop, fault: Option<LexFault>, length: usize) -> ParseFault
-    ensures { result ≡ answer_of stop fault length }
+/// The answer to a text, by where its reading stops.
+fn answer(stop: Stop, src: &[u8]) -> ParseFault
+    ensures { (ts : List Lexeme) (fault : Option LexFault) → Tokens src.now (map Ok ts ++ ending fault) → result ≡ answer_of stop fault (length src.now) }
 {
     match stop {
-        Stop::AtEnd => match fault {
+        Stop::AtEnd => match fault_of(src) {
             Some(fault) => ParseFault::Lex(fault),
             None => ParseFault::Unexpected(Span {
-                from: length,
-                to: length,
+                from: src.len(),
+                to: src.len(),
             }),
         },
         Stop::Unexpected(span) => ParseFault::Unexpected(span),
@@ -42,7 +45,7 @@ fn answer(stop: Stop, fault: Option<LexFault>, length: usize) -> ParseFault
 }
 
 /// The script of a text.
-#[tactic(auto, using(crate::proofs::scripts::Texts::stop_refuses, crate::proofs::scripts::Texts::fault_refuses, crate::proofs::scripts::Texts::long_refuses, crate::proofs::scripts::Texts::text_fits, crate::proofs::scripts::Texts::text_reads))]
+#[tactic(auto, using(crate::proofs::scripts::Texts::begun_stops, crate::proofs::scripts::Texts::begun_faulty, crate::proofs::scripts::Texts::long_refuses, crate::proofs::scripts::Texts::begun_fits, crate::proofs::scripts::Texts::begun_reads))]
 pub fn parse<A: Allocator + Clone>(alloc: A, src: &[u8]) -> Result<Script<A>, ParseFault>
     ensures read { IfOk result (λ script. Reads src.now (tree_of script)) }
     ensures refused { IfErr result (λ fault. Refuses src.now fault) }
@@ -53,13 +56,12 @@ pub fn parse<A: Allocator + Clone>(alloc: A, src: &[u8]) -> Result<Script<A>, Pa
             to: MAX_SOURCE,
         }));
     }
-    let (list, fault) = tokens(alloc.clone()?, src)?;
-    let mut cursor = Cursor::new(list.as_slice());
+    let mut cursor = Cursor::new(src);
     let mut script = match script(&alloc, &mut cursor, MAX_NESTING) {
         Ok(script) => script,
-        Err(stop) => return Err(answer(stop, fault, src.len())),
+        Err(stop) => return Err(answer(stop, src)),
     };
-    match fault {
+    match fault_of(src) {
         Some(fault) => Err(ParseFault::Lex(fault)),
         None => {
             number(&mut script);

@@ -1,5 +1,5 @@
 -- What the parts of a text's reading say of the text.
-use Rattle.std.proofs.Common.{◌≡◌, ℕ, ◌+◌, ◌^◌, ◌<◌, ◌≤◌, length, List, [], ◌∷◌, ◌++◌, map, refl, sym, subst, inl, inr}
+use Rattle.std.proofs.Common.{◌≡◌, ℕ, ◌+◌, ◌^◌, ◌<◌, ◌≤◌, length, List, [], ◌∷◌, ◌++◌, map, refl, ap, sym, ◌∙◌, subst, inl, inr}
 use Rattle.std.specs.Prelude.{Ok, Err, Option, Some, None}
 use Rattle.lexer.specs.Items.{Lexeme}
 use Rattle.lexer.specs.Tokens.{Tokens}
@@ -10,9 +10,11 @@ use Rattle.syntax_trees.specs.Reads.{Reads}
 use Rattle.syntax_trees.specs.Rules.{Place}
 use Rattle.syntax.specs.declared.stop.Stop.{Stop}
 use Rattle.syntax.specs.declared.stop.Stop.TheVariants.{AtEnd, Unexpected, TooNested, Memory}
+use Rattle.syntax.specs.declared.error.ParseFault.{ParseFault}
 use Rattle.syntax.specs.declared.error.ParseFault.TheVariants as Fault
 use Rattle.syntax.specs.Answers.{Fails, answer_of}
 use Rattle.syntax.specs.Endings.{ending}
+use Rattle.syntax.specs.Held.{Begins}
 use Rattle.syntax.specs.Readers.{refused, got, start}
 use Rattle.syntax.specs.Reading.{read_script}
 use Rattle.syntax.specs.Refusals.{HasNone, Refuses}
@@ -46,3 +48,30 @@ text_fits bytes ts tree u short lexed read = numbers_fit bytes ts tree short (wh
 pub text_reads : (bytes : List ℕ) (ts : List Lexeme) (tree : Tree) (u : Place) (t : Tree) → length bytes ≤ 1048576 → Tokens bytes (map Ok ts ++ []) → read_script 64 (start ts) ≡ got tree u
     → t ≡ numbered 1 tree → Reads bytes t
 text_reads bytes ts tree u t short lexed read is = subst (Reads bytes) (sym is) (reads_text bytes ts tree u short (whole bytes ts lexed) read)
+
+-- THE SAME, FROM THE PLACE BEFORE ALL TOKENS
+
+-- what ends the tokens of a text
+abbrev pub EndsAs : List ℕ → Option LexFault → Type 0
+EndsAs bytes end = (ts : List Lexeme) (fault : Option LexFault) → Tokens bytes (map Ok ts ++ ending fault) → end ≡ fault
+
+ended_as : (bytes : List ℕ) (s : Place) (end found : Option LexFault) → (begun : Begins bytes s) → EndsAs bytes end → end ≡ found → Tokens bytes (map Ok begun.0 ++ ending found)
+ended_as bytes s end found begun ends is = subst (λ f. Tokens bytes (map Ok begun.0 ++ ending f)) (sym (ends begun.0 begun.1 begun.2) ∙ is) begun.2
+
+pub begun_stops : (bytes : List ℕ) (s : Place) (stop : Stop) (answer : ParseFault) → length bytes ≤ 1048576 → Begins bytes s → Fails stop (read_script 64 s)
+    → ((ts : List Lexeme) (fault : Option LexFault) → Tokens bytes (map Ok ts ++ ending fault) → answer ≡ answer_of stop fault (length bytes)) → Refuses bytes answer
+begun_stops bytes s stop answer short begun fails answers =
+    subst (Refuses bytes) (sym (answers begun.0 begun.1 begun.2)) (stop_refuses bytes begun.0 begun.1 stop short begun.2 (subst (λ p. Fails stop (read_script 64 p)) begun.3 fails))
+
+pub begun_faulty : (bytes : List ℕ) (s : Place) (end : Option LexFault) (f : LexFault) (tree : Tree) (u : Place) → length bytes ≤ 1048576 → Begins bytes s → read_script 64 s ≡ got tree u
+    → EndsAs bytes end → end ≡ Some f → Refuses bytes (Fault.Lex f)
+begun_faulty bytes s end f tree u short begun read ends is =
+    fault_refuses bytes begun.0 f tree u short (ended_as bytes s end (Some f) begun ends is) (sym (ap (read_script 64) begun.3) ∙ read)
+
+pub begun_fits : (bytes : List ℕ) (s : Place) (end : Option LexFault) (tree : Tree) (u : Place) → length bytes ≤ 1048576 → Begins bytes s → read_script 64 s ≡ got tree u
+    → EndsAs bytes end → end ≡ None → tree_size tree + 1 < 2 ^ 32
+begun_fits bytes s end tree u short begun read ends is = text_fits bytes begun.0 tree u short (ended_as bytes s end None begun ends is) (sym (ap (read_script 64) begun.3) ∙ read)
+
+pub begun_reads : (bytes : List ℕ) (s : Place) (end : Option LexFault) (tree : Tree) (u : Place) (t : Tree) → length bytes ≤ 1048576 → Begins bytes s → read_script 64 s ≡ got tree u
+    → EndsAs bytes end → end ≡ None → t ≡ numbered 1 tree → Reads bytes t
+begun_reads bytes s end tree u t short begun read ends is same = text_reads bytes begun.0 tree u t short (ended_as bytes s end None begun ends is) (sym (ap (read_script 64) begun.3) ∙ read) same
