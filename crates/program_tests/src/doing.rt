@@ -1,4 +1,5 @@
 //! Commands over files in memory, with sinks that take one byte a write.
+use bumpalo::Bump;
 use std::alloc::Global;
 use std::sync::Wait;
 use std::test::Fail;
@@ -114,6 +115,7 @@ pub(crate) fn perform_on<R: Threads + Wait + Sync>(
     let status = command(
         rt,
         alloc,
+        &mut Bump::new(alloc),
         &request.line,
         files,
         &Open,

@@ -3,6 +3,8 @@
 #![tactic(auto)]
 
 #[cfg(test)]
+mod arena_tests;
+#[cfg(test)]
 mod code_tests;
 #[cfg(test)]
 mod command_tests;

@@ -8,6 +8,7 @@ mod progress;
 use crate::explain::{explain_blocked, explain_fault, explain_meaning};
 use crate::left::left_behind;
 use crate::progress::Teller;
+use bumpalo::Bump;
 use explanation::refusal::explained;
 use fault_words::limits::add_limit_of_steps;
 use std::alloc::{AllocError, Global};
@@ -53,7 +54,7 @@ fn words(rt: &HostRuntime) -> Result<Vec<Word>, LineFault> {
 /// Does what the words ask for. The answer is the status of the process.
 fn obey<R: Threads + Wait + Sync>(rt: &HostRuntime, threads: &R, words: &[Word]) -> u8 {
     match Request::read(rt.alloc(), words) {
-        Ok(request) => match perform(rt, threads, &request) {
+        Ok(request) => match in_turn(rt, threads, &request) {
             Ok(status) => status,
             Err(AllocError) => say(rt, Status::Memory),
         },
@@ -62,11 +63,49 @@ fn obey<R: Threads + Wait + Sync>(rt: &HostRuntime, threads: &R, words: &[Word])
     }
 }
 
+/// Does the command, with one arena for all trees. Of a check each file is read, checked and told in turn, up to one that ends
+/// it, so that no more than one is kept. The answer is the status of the process.
+fn in_turn<R: Threads + Wait + Sync>(
+    rt: &HostRuntime,
+    threads: &R,
+    request: &Request,
+) -> Result<u8, AllocError> {
+    let mut arena = Bump::new(rt.alloc());
+    let Line::Check { files } = &request.line else {
+        return perform(rt, threads, &mut arena, request);
+    };
+    let mut status = Status::Done.number();
+    for file in files.as_slice() {
+        let Ok(one) = check_of(rt, file, request.explain) else {
+            return Err(AllocError);
+        };
+        let number = perform(rt, threads, &mut arena, &one)?;
+        if number > Status::Refused.number() {
+            return Ok(number);
+        }
+        status = status.max(number);
+    }
+    Ok(status)
+}
+
+/// The request to check this file alone. `Memory` where memory was refused, and nothing else.
+fn check_of(rt: &HostRuntime, file: &Word, explain: bool) -> Result<Request, LineFault> {
+    let alloc = rt.alloc();
+    let mut words = Vec::new(alloc);
+    words.push(Word::new(String::from_str(alloc, "check")?))?;
+    words.push(file.copy(alloc)?)?;
+    if explain {
+        words.push(Word::new(String::from_str(alloc, "--explain")?))?;
+    }
+    Request::read(alloc, words.as_slice())
+}
+
 /// Does the command, on threads of `threads` where it runs a script, and writes what it printed. The answer is the status of
 /// the process.
 fn perform<R: Threads + Wait + Sync>(
     rt: &HostRuntime,
     threads: &R,
+    arena: &mut Bump,
     request: &Request,
 ) -> Result<u8, AllocError> {
     let alloc = rt.alloc();
@@ -82,6 +121,7 @@ fn perform<R: Threads + Wait + Sync>(
     let status = command(
         threads,
         alloc,
+        arena,
         line,
         files.as_slice(),
         &teller,

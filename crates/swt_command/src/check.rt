@@ -4,12 +4,14 @@ ghost use Rattle.swt_command.specs.Checks.{Checks, IsSaid, IsVerdict, StopsBy, a
 ghost use Rattle.swt_command.specs.Files.{contents, source_of};
 ghost use Rattle.swt_command.specs.Sinks.{Took, Writes, held};
 
+use crate::arena::empty;
 use crate::parts::write_parts;
 use crate::refusal::Refusal;
 use crate::status::Status;
 use crate::stop::{Stop, source};
 use crate::trouble::Trouble;
 use arrayvec::ArrayString;
+use bumpalo::Bump;
 use compile::check::check as check_text;
 use std::alloc::Global;
 use swt_line::word::Word;
@@ -18,13 +20,14 @@ use values::sink::{Sink, SinkFault};
 /// The most bytes of what is said of a file behind its name: `: refused ` and a refusal.
 const LONGEST_VERDICT: usize = 80;
 
-/// Says of each file whether it is accepted, up to one that ends it.
+/// Says of each file whether it is accepted, up to one that ends it. The tree of each lies in the arena, which is empty behind it.
 ///
 /// # Errors
 ///
 /// The first file that could not be read, for which memory was refused, or whose line could not be written.
 pub fn check<O: Sink>(
     alloc: Global,
+    arena: &mut Bump,
     names: &[Word],
     files: &[Option<Vec<u8>>],
     out: &mut O,
@@ -35,10 +38,11 @@ pub fn check<O: Sink>(
 {
     let mut status = Status::Done;
     for place in 0..names.len() {
-        match check_file(alloc, names[place].as_str(), files, place, out) {
+        match check_file(alloc, arena, names[place].as_str(), files, place, out) {
             Ok(refusal) => status = after(refusal, status),
             Err(trouble) => return Err(Stop { place, trouble }),
         }
+        empty(alloc, arena);
     }
     Ok(status)
 }
@@ -56,6 +60,7 @@ fn after(refusal: Option<Refusal>, status: Status) -> Status
 /// Says whether the file of a place is accepted, and gives its refusal.
 fn check_file<O: Sink>(
     alloc: Global,
+    arena: &Bump,
     name: &str,
     files: &[Option<Vec<u8>>],
     place: usize,
@@ -71,7 +76,7 @@ fn check_file<O: Sink>(
     let Ok(source) = source(files, place) else {
         return Err(Trouble::Unread);
     };
-    let refusal = verdict(alloc, source)?;
+    let refusal = verdict(alloc, arena, source)?;
     match write_verdict(name, refusal, out) {
         Ok(()) => Ok(refusal),
         Err(SinkFault) => Err(Trouble::Unprinted),
@@ -79,10 +84,10 @@ fn check_file<O: Sink>(
 }
 
 /// The refusal of a text, and none where it is accepted.
-fn verdict(alloc: Global, source: &[u8]) -> Result<Option<Refusal>, Trouble>
+fn verdict(alloc: Global, arena: &Bump, source: &[u8]) -> Result<Option<Refusal>, Trouble>
     ensures { MatchResult result (IsVerdict source.now) (λ trouble. trouble ≡ Trouble.Memory) }
 {
-    match check_text(alloc, alloc, source) {
+    match check_text(alloc, arena, source) {
         Ok(()) => Ok(None),
         Err(fault) => match Refusal::of(fault) {
             Some(refusal) => Ok(Some(refusal)),

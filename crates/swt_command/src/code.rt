@@ -7,6 +7,7 @@ ghost use Rattle.swt_command.specs.Sinks.{held};
 use crate::status::Status;
 use crate::stop::{Stop, drawing_of, listing_of};
 use crate::trouble::Trouble;
+use bumpalo::Bump;
 use std::alloc::Global;
 use values::sink::{Sink, SinkFault, write_all};
 
@@ -17,6 +18,7 @@ use values::sink::{Sink, SinkFault, write_all};
 /// The script could not be read or was refused, memory was refused, or the text could not be written.
 pub fn code<O: Sink>(
     alloc: Global,
+    arena: &Bump,
     files: &[Option<Vec<u8>>],
     dot: bool,
     out: &mut O,
@@ -25,7 +27,7 @@ pub fn code<O: Sink>(
     ensures { Lists (contents files.now) result (held (O.taken out.old) (O.failures out.old))
         (held (O.taken out.new) (O.failures out.new)) }
 {
-    let text = text_of(alloc, files, dot)?;
+    let text = text_of(alloc, arena, files, dot)?;
     match write_all(out, text.as_slice()) {
         Ok(()) => Ok(Status::Done),
         Err(SinkFault) => Err(Stop {
@@ -40,13 +42,18 @@ pub fn code<O: Sink>(
 /// # Errors
 ///
 /// `Unread`, `Refused` or `Memory`.
-fn text_of(alloc: Global, files: &[Option<Vec<u8>>], dot: bool) -> Result<Vec<u8>, Stop>
+fn text_of(
+    alloc: Global,
+    arena: &Bump,
+    files: &[Option<Vec<u8>>],
+    dot: bool,
+) -> Result<Vec<u8>, Stop>
     ensures { MatchResult result (λ text. IsAcceptedAt (contents files.now) 0)
         (λ stop. (stop.place ≡ 0) × StopsAt (contents files.now) 0 stop.trouble) }
 {
     if dot {
-        drawing_of(alloc, files)
+        drawing_of(alloc, arena, files)
     } else {
-        listing_of(alloc, files)
+        listing_of(alloc, arena, files)
     }
 }

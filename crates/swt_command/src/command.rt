@@ -12,6 +12,7 @@ use crate::run::{replay, run};
 use crate::status::Status;
 use crate::stop::Stop;
 use crate::trouble::tell;
+use bumpalo::Bump;
 use std::alloc::Global;
 use std::sync::Wait;
 use std::thread::Threads;
@@ -24,11 +25,12 @@ use workers::job::Gate;
 /// cannot be read. The answer is the status of the process.
 ///
 /// What the command prints goes to `out`, what it says of its failure to `err`, and the trace of a run, where the line wants
-/// one, to `trace`. A write to `err` that fails changes no status. `rt` starts the threads of a run and waits for them; what its
+/// one, to `trace`. Trees of scripts lie in the arena. A write to `err` that fails changes no status. `rt` starts the threads of a run and waits for them; what its
 /// tasks do is computed by the gate, which also learns how far the run is.
 pub fn command<R: Threads + Wait + Sync, G: Gate, O: Sink, E: Sink, S: Sink>(
     rt: &R,
     alloc: Global,
+    arena: &mut Bump,
     line: &Line,
     files: &[Option<Vec<u8>>],
     gate: &G,
@@ -44,7 +46,7 @@ pub fn command<R: Threads + Wait + Sync, G: Gate, O: Sink, E: Sink, S: Sink>(
         (held (E.taken err.old) (E.failures err.old)) (held (E.taken err.new) (E.failures err.new))
         (held (S.taken trace.old) (S.failures trace.old)) (held (S.taken trace.new) (S.failures trace.new)) result }
 {
-    match perform(rt, alloc, line, files, gate, out, trace) {
+    match perform(rt, alloc, arena, line, files, gate, out, trace) {
         Ok(status) => status.number(),
         Err(stop) => {
             let _ = tell(stop.trouble, name_of(line, stop.place), err);
@@ -57,6 +59,7 @@ pub fn command<R: Threads + Wait + Sync, G: Gate, O: Sink, E: Sink, S: Sink>(
 fn perform<R: Threads + Wait + Sync, G: Gate, O: Sink, S: Sink>(
     rt: &R,
     alloc: Global,
+    arena: &mut Bump,
     line: &Line,
     files: &[Option<Vec<u8>>],
     gate: &G,
@@ -70,8 +73,8 @@ fn perform<R: Threads + Wait + Sync, G: Gate, O: Sink, S: Sink>(
         (held (S.taken trace.old) (S.failures trace.old)) (held (S.taken trace.new) (S.failures trace.new)) }
 {
     match line {
-        Line::Check { files: names } => check(alloc, names.as_slice(), files, out),
-        Line::Mean { rounds, .. } => mean(alloc, files, *rounds, out),
+        Line::Check { files: names } => check(alloc, arena, names.as_slice(), files, out),
+        Line::Mean { rounds, .. } => mean(alloc, arena, files, *rounds, out),
         Line::Run {
             engines,
             workers,
@@ -81,11 +84,11 @@ fn perform<R: Threads + Wait + Sync, G: Gate, O: Sink, S: Sink>(
         } => {
             let is_wanted = wanted.is_some();
             run(
-                rt, alloc, files, *engines, *workers, *steps, is_wanted, gate, out, trace,
+                rt, alloc, arena, files, *engines, *workers, *steps, is_wanted, gate, out, trace,
             )
         }
-        Line::Code { dot, .. } => code(alloc, files, *dot, out),
-        Line::Replay { .. } => replay(alloc, files, out),
+        Line::Code { dot, .. } => code(alloc, arena, files, *dot, out),
+        Line::Replay { .. } => replay(alloc, arena, files, out),
     }
 }
 

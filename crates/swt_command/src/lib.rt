@@ -1,6 +1,7 @@
 //! The commands of `swt`: what each does with the bytes of its files, what it writes, and the status that it ends with.
 #![tactic(auto)]
 
+mod arena;
 pub mod buffer;
 mod check;
 mod code;

@@ -12,6 +12,7 @@ use crate::stop::Stop;
 use crate::told::{Told, worked_out};
 use crate::trouble::Trouble;
 use board::Fault;
+use bumpalo::Bump;
 use std::alloc::Global;
 use swt_trace::report::{write_blocked, write_fault, write_limit, write_lines};
 use values::sink::{Sink, SinkFault};
@@ -23,6 +24,7 @@ use values::sink::{Sink, SinkFault};
 /// The script could not be read or was refused, memory was refused, or the text could not be written.
 pub fn mean<O: Sink>(
     alloc: Global,
+    arena: &Bump,
     files: &[Option<Vec<u8>>],
     limit: u32,
     out: &mut O,
@@ -31,7 +33,7 @@ pub fn mean<O: Sink>(
     ensures { Means (contents files.now) limit result (held (O.taken out.old) (O.failures out.old))
         (held (O.taken out.new) (O.failures out.new)) }
 {
-    let told = worked_out(alloc, files, limit)?;
+    let told = worked_out(alloc, arena, files, limit)?;
     match write_told(&told, limit, out) {
         Ok(()) => Ok(status_of(&told)),
         Err(SinkFault) => Err(Stop {

@@ -6,9 +6,11 @@ ghost use Rattle.swt_command.specs.Runs.{Ran, Replayed, Replays, Runs, StopsBefo
 ghost use Rattle.swt_command.specs.Sinks.{Lost, held};
 ghost use Rattle.swt_command.specs.Troubles.{run_trouble};
 
+use crate::arena::empty;
 use crate::status::Status;
 use crate::stop::{Stop, code_of, source};
 use crate::trouble::Trouble;
+use bumpalo::Bump;
 use runs::report::{End, Report};
 use std::alloc::Global;
 use std::sync::Wait;
@@ -32,6 +34,7 @@ use workers::run::run_threads;
 pub fn run<R: Threads + Wait + Sync, G: Gate, O: Sink, S: Sink>(
     rt: &R,
     alloc: Global,
+    arena: &mut Bump,
     files: &[Option<Vec<u8>>],
     engines: u8,
     workers: u8,
@@ -47,7 +50,7 @@ pub fn run<R: Threads + Wait + Sync, G: Gate, O: Sink, S: Sink>(
         (held (O.taken out.old) (O.failures out.old)) (held (O.taken out.new) (O.failures out.new))
         (held (S.taken trace.old) (S.failures trace.old)) (held (S.taken trace.new) (S.failures trace.new)) }
 {
-    let report = ran(rt, alloc, files, engines, workers, steps, gate)?;
+    let report = ran(rt, alloc, arena, files, engines, workers, steps, gate)?;
     match write_report(&report, out) {
         Ok(()) => traced(&report, wanted, trace),
         Err(_failed) => Err(Stop {
@@ -82,6 +85,7 @@ fn traced<S: Sink>(report: &Report, wanted: bool, trace: &mut S) -> Result<Statu
 fn ran<R: Threads + Wait + Sync, G: Gate>(
     rt: &R,
     alloc: Global,
+    arena: &mut Bump,
     files: &[Option<Vec<u8>>],
     engines: u8,
     workers: u8,
@@ -91,7 +95,8 @@ fn ran<R: Threads + Wait + Sync, G: Gate>(
     ensures { MatchResult result (Ran (contents files.now) engines workers steps)
         (λ stop. (stop.place ≡ 0) × StopsBeforeRun (contents files.now) engines workers stop.trouble) }
 {
-    let code = code_of(alloc, files)?;
+    let code = code_of(alloc, arena, files)?;
+    empty(alloc, arena);
     match run_threads(rt, alloc, &code, engines, workers, steps, gate) {
         Ok((report, _count)) => Ok(report),
         Err(fault) => Err(Stop {
@@ -121,6 +126,7 @@ fn trouble_of(fault: RunFault) -> Trouble
 /// refused, or the report could not be written.
 pub fn replay<O: Sink>(
     alloc: Global,
+    arena: &mut Bump,
     files: &[Option<Vec<u8>>],
     out: &mut O,
 ) -> Result<Status, Stop>
@@ -128,7 +134,7 @@ pub fn replay<O: Sink>(
     ensures { Replays (contents files.now) result (held (O.taken out.old) (O.failures out.old))
         (held (O.taken out.new) (O.failures out.new)) }
 {
-    let report = replayed(alloc, files)?;
+    let report = replayed(alloc, arena, files)?;
     match write_report(&report, out) {
         Ok(()) => Ok(status_of(&report)),
         Err(_failed) => Err(Stop {
@@ -139,11 +145,16 @@ pub fn replay<O: Sink>(
 }
 
 /// The report of the run that a trace is of.
-fn replayed(alloc: Global, files: &[Option<Vec<u8>>]) -> Result<Report, Stop>
+fn replayed(
+    alloc: Global,
+    arena: &mut Bump,
+    files: &[Option<Vec<u8>>],
+) -> Result<Report, Stop>
     ensures { MatchResult result (Replayed (contents files.now))
         (λ stop. StopsBeforeReplay (contents files.now) stop.place stop.trouble) }
 {
-    let code = code_of(alloc, files)?;
+    let code = code_of(alloc, arena, files)?;
+    empty(alloc, arena);
     let trace = source(files, 1)?;
     match replay_trace(alloc, &code, trace) {
         Ok(report) => Ok(report),

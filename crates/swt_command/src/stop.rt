@@ -7,6 +7,7 @@ ghost use Rattle.swt_command.specs.Troubles.{trouble_of};
 
 use crate::refusal::Refusal;
 use crate::trouble::Trouble;
+use bumpalo::Bump;
 use compile::compile::{compile, drawn, listed};
 use compile::fault::CompileFault;
 use std::alloc::Global;
@@ -38,49 +39,49 @@ pub fn source(files: &[Option<Vec<u8>>], place: usize) -> Result<&[u8], Stop>
     }
 }
 
-/// The code of the first file's script.
+/// The code of the first file's script. Its tree lies in the arena until the answer.
 ///
 /// # Errors
 ///
 /// `Unread`, `Refused` or `Memory`.
-pub fn code_of(alloc: Global, files: &[Option<Vec<u8>>]) -> Result<Code, Stop>
+pub fn code_of(alloc: Global, arena: &Bump, files: &[Option<Vec<u8>>]) -> Result<Code, Stop>
     ensures { MatchResult result (HasCode (contents files.now) 0)
         (λ stop. (stop.place ≡ 0) × StopsAt (contents files.now) 0 stop.trouble) }
 {
     let source = source(files, 0)?;
-    match compile(alloc, alloc, source) {
+    match compile(alloc, arena, source) {
         Ok(code) => Ok(code),
         Err(fault) => Err(at_script(fault)),
     }
 }
 
-/// The listing of the code of the first file's script.
+/// The listing of the code of the first file's script. Its tree lies in the arena until the answer.
 ///
 /// # Errors
 ///
 /// `Unread`, `Refused` or `Memory`.
-pub fn listing_of(alloc: Global, files: &[Option<Vec<u8>>]) -> Result<Vec<u8>, Stop>
+pub fn listing_of(alloc: Global, arena: &Bump, files: &[Option<Vec<u8>>]) -> Result<Vec<u8>, Stop>
     ensures { MatchResult result (λ text. IsAcceptedAt (contents files.now) 0)
         (λ stop. (stop.place ≡ 0) × StopsAt (contents files.now) 0 stop.trouble) }
 {
     let source = source(files, 0)?;
-    match listed(alloc, alloc, source) {
+    match listed(alloc, arena, source) {
         Ok(text) => Ok(text),
         Err(fault) => Err(at_script(fault)),
     }
 }
 
-/// The code of the first file's script, drawn.
+/// The code of the first file's script, drawn. Its tree lies in the arena until the answer.
 ///
 /// # Errors
 ///
 /// `Unread`, `Refused` or `Memory`.
-pub fn drawing_of(alloc: Global, files: &[Option<Vec<u8>>]) -> Result<Vec<u8>, Stop>
+pub fn drawing_of(alloc: Global, arena: &Bump, files: &[Option<Vec<u8>>]) -> Result<Vec<u8>, Stop>
     ensures { MatchResult result (λ text. IsAcceptedAt (contents files.now) 0)
         (λ stop. (stop.place ≡ 0) × StopsAt (contents files.now) 0 stop.trouble) }
 {
     let source = source(files, 0)?;
-    match drawn(alloc, alloc, source) {
+    match drawn(alloc, arena, source) {
         Ok(text) => Ok(text),
         Err(fault) => Err(at_script(fault)),
     }

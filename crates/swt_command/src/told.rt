@@ -12,6 +12,7 @@ ghost use Rattle.swt_command.specs.Plain.{meant_fault, meant_kind, meant_place, 
 use crate::stop::{Stop, at_script, source};
 use crate::trouble::Trouble;
 use board::{EntryFault, Fault, FaultKind, Statement, Step};
+use bumpalo::Bump;
 use compile::compile::read;
 use flow::script::Flow;
 use script_meaning::order::{Fault as MeantFault, Statement as MeantStatement};
@@ -40,11 +41,16 @@ pub struct Told {
 /// # Errors
 ///
 /// `Unread`, `Refused` or `Memory`.
-pub(crate) fn worked_out(alloc: Global, files: &[Option<Vec<u8>>], limit: u32) -> Result<Told, Stop>
+pub(crate) fn worked_out(
+    alloc: Global,
+    arena: &Bump,
+    files: &[Option<Vec<u8>>],
+    limit: u32,
+) -> Result<Told, Stop>
     ensures { MatchResult result (ToldOf (contents files.now) limit)
         (λ stop. (stop.place ≡ 0) × StopsAt (contents files.now) 0 stop.trouble) }
 {
-    let flow = flow_of(alloc, files)?;
+    let flow = flow_of(alloc, arena, files)?;
     match told_of(alloc, &flow, limit) {
         Ok(told) => Ok(told),
         Err(_refused) => Err(Stop {
@@ -54,24 +60,28 @@ pub(crate) fn worked_out(alloc: Global, files: &[Option<Vec<u8>>], limit: u32) -
     }
 }
 
-/// The statements of the first file's script, whose meaning is worked out.
+/// The statements of the first file's script, whose meaning is worked out. They lie in the arena.
 ///
 /// # Errors
 ///
 /// `Unread`, `Refused` or `Memory`.
-fn flow_of(alloc: Global, files: &[Option<Vec<u8>>]) -> Result<Flow<Global>, Stop>
+fn flow_of<'a>(
+    alloc: Global,
+    arena: &'a Bump,
+    files: &[Option<Vec<u8>>],
+) -> Result<Flow<&'a Bump>, Stop>
     ensures { MatchResult result (λ flow. HasScript (contents files.now) 0 (core_of flow))
         (λ stop. (stop.place ≡ 0) × StopsAt (contents files.now) 0 stop.trouble) }
 {
     let source = source(files, 0)?;
-    match read(alloc, alloc, source) {
+    match read(alloc, arena, source) {
         Ok(flow) => Ok(flow),
         Err(fault) => Err(at_script(fault)),
     }
 }
 
 /// What is known of a script.
-fn told_of(alloc: Global, flow: &Flow<Global>, limit: u32) -> Result<Told, AllocError>
+fn told_of(alloc: Global, flow: &Flow<&Bump>, limit: u32) -> Result<Told, AllocError>
     requires { (src : List ℕ) × IsScriptOf src (core_of flow.now) }
     ensures { IfOk result (IsTold (core_of flow.now) limit) }
 {
