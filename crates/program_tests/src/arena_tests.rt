@@ -20,7 +20,10 @@ fn are_alike(rt: &impl Abort, alloc: Global, arena: &mut Bump, text: &[u8]) -> R
     for n in 0..text.len() + 1 {
         let part = &text[..n];
         assert!(rt; is_read_alike(alloc, arena, part)?, "at {n}");
-        assert!(rt; listed(alloc, alloc, part) == listed(alloc, &*arena, part), "at {n}");
+        assert!(rt;
+            listed(alloc, alloc, part) == listed(alloc, &*arena, part),
+            "at {n}"
+        );
         assert!(rt; arena.reset().is_ok());
     }
     Ok(())
@@ -36,7 +39,8 @@ fn an_arena_changes_nothing(rt: HostRuntime) -> Result<(), Fail> {
 }
 
 /// A script a line.
-const SCRIPTS: &str = r#"(int r) fib(int n) { if (n < 2) { r = n; } else { r = fib(n-1) + fib(n-2); } } printf("%i", fib(10));
+const SCRIPTS: &str =
+    r#"(int r) fib(int n) { if (n < 2) { r = n; } else { r = fib(n-1) + fib(n-2); } } printf("%i", fib(10));
 printf("hello");
 int x; int y; x = y + 1; y = 2; printf("%i", x);
 int A[]; A[0] = 1; foreach i in [1:5] { A[i] = A[i-1] * 2; } printf("%i", A[5]);

@@ -42,7 +42,10 @@ pub const SCRIPTS: [Script; 6] = [
     },
     Script {
         name: "array",
-        body: Body::Between("int A[]; A[0] = 0; foreach i in [1:", "] { A[i] = A[i-1] + 1; }"),
+        body: Body::Between(
+            "int A[]; A[0] = 0; foreach i in [1:",
+            "] { A[i] = A[i-1] + 1; }",
+        ),
         numbers: [1_000, 10_000, 100_000, 1_000_000],
     },
     Script {

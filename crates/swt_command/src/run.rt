@@ -145,11 +145,7 @@ pub fn replay<O: Sink>(
 }
 
 /// The report of the run that a trace is of.
-fn replayed(
-    alloc: Global,
-    arena: &mut Bump,
-    files: &[Option<Vec<u8>>],
-) -> Result<Report, Stop>
+fn replayed(alloc: Global, arena: &mut Bump, files: &[Option<Vec<u8>>]) -> Result<Report, Stop>
     ensures { MatchResult result (Replayed (contents files.now))
         (λ stop. StopsBeforeReplay (contents files.now) stop.place stop.trouble) }
 {
