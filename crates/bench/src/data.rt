@@ -2,6 +2,7 @@
 ghost use Rattle.std.specs.Bool.{OnTrue};
 ghost use Rattle.data_store.specs.Stores.{IsArrayAt};
 
+use crate::watch::tell;
 use data_store::store::{DatumNo, Shape, Store};
 use std::alloc::{AllocError, Global};
 use std::io;
@@ -153,12 +154,15 @@ fn time_cells(
 ) -> io::Result<()> {
     let start = Instant::now(rt)?;
     let mut all = make_batches(alloc, batches, count)?;
-    let makes = start.elapsed(rt)?.as_micros();
+    tell(rt, start, "cells made", batches, count)?;
     let start = Instant::now(rt)?;
     let left = free_batches(all.as_mut_slice());
-    let frees = start.elapsed(rt)?.as_micros();
-    println!(rt;
-        "{batches} times {count} cells made in {makes} microseconds, freed in {frees}; {left} left"
+    tell(
+        rt,
+        start,
+        "cells freed, and those left",
+        batches,
+        left as u64,
     )
 }
 
@@ -171,19 +175,37 @@ fn time_inserts(
     scattered: bool,
 ) -> io::Result<()> {
     let mut store = Store::new(alloc);
-    let mut filled = Vec::new(alloc);
-    let start = Instant::now(rt)?;
-    let inserted = fill_arrays(&mut store, &mut filled, arrays, count, scattered)?;
-    let inserts = start.elapsed(rt)?.as_micros();
+    let filled = time_fills(rt, alloc, &mut store, arrays, count, scattered)?;
     let start = Instant::now(rt)?;
     let found = find_each(&store, filled.as_slice(), count, scattered);
-    let finds = start.elapsed(rt)?.as_micros();
+    tell(rt, start, "elements found", arrays, found)?;
     let start = Instant::now(rt)?;
     let listed = list_each(&mut store, filled.as_slice())?;
-    let sorts = start.elapsed(rt)?.as_micros();
-    println!(rt;
-        "{arrays} times {count}: {inserted} inserts in {inserts} microseconds, {found} found in {finds}, {listed} sorted in {sorts}; scattered: {scattered}"
-    )
+    tell(rt, start, "elements sorted", arrays, listed as u64)
+}
+
+/// Prints the time of inserts, and gives the arrays.
+fn time_fills(
+    rt: &(impl Clock + Print),
+    alloc: Global,
+    store: &mut Store,
+    arrays: u64,
+    count: u64,
+    scattered: bool,
+) -> io::Result<Vec<DatumNo>> {
+    let mut filled = Vec::new(alloc);
+    let start = Instant::now(rt)?;
+    let inserted = fill_arrays(store, &mut filled, arrays, count, scattered)?;
+    tell(rt, start, keys_of(scattered), arrays, inserted)?;
+    Ok(filled)
+}
+
+fn keys_of(scattered: bool) -> &'static str {
+    if scattered {
+        "elements inserted at scattered keys"
+    } else {
+        "elements inserted at rising keys"
+    }
 }
 
 /// Prints the times of a million cells and elements, 1,000 to 1,000,000 in each store or array. All are kept, so that

@@ -6,6 +6,7 @@ mod holes;
 mod queue;
 mod tokens;
 mod waits;
+mod watch;
 
 use std::{env, io};
 

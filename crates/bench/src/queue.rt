@@ -1,5 +1,6 @@
 //! How long items take through the queue.
 
+use crate::watch::tell;
 use std::alloc::{AllocError, Global};
 use std::io;
 use std::time::{Clock, Instant};
@@ -45,7 +46,7 @@ fn take_all(queue: &mut Queue, count: u64) -> u64 {
     taken
 }
 
-/// Prints the times of puts, removes and takes.
+/// Prints the times of puts, removes and takes, of items of three priorities or of many.
 fn time_size(
     rt: &(impl Clock + Print),
     alloc: Global,
@@ -53,18 +54,33 @@ fn time_size(
     scattered: bool,
 ) -> io::Result<()> {
     let mut queue = Queue::new(alloc);
-    let start = Instant::now(rt)?;
-    put_all(&mut queue, count, scattered)?;
-    let puts = start.elapsed(rt)?.as_micros();
+    time_puts(rt, &mut queue, count, scattered)?;
     let start = Instant::now(rt)?;
     let removed = remove_half(&mut queue, count, scattered);
-    let removes = start.elapsed(rt)?.as_micros();
+    tell(rt, start, "removes", count / 2, removed)?;
     let start = Instant::now(rt)?;
     let taken = take_all(&mut queue, count);
-    let takes = start.elapsed(rt)?.as_micros();
-    println!(rt;
-        "{count} puts in {puts} microseconds, {removed} removes in {removes}, {taken} takes in {takes}; scattered: {scattered}"
-    )
+    tell(rt, start, "takes", count, taken)
+}
+
+/// Prints the time of puts.
+fn time_puts(
+    rt: &(impl Clock + Print),
+    queue: &mut Queue,
+    count: u64,
+    scattered: bool,
+) -> io::Result<()> {
+    let start = Instant::now(rt)?;
+    put_all(queue, count, scattered)?;
+    tell(rt, start, priorities_of(scattered), count, count)
+}
+
+fn priorities_of(scattered: bool) -> &'static str {
+    if scattered {
+        "puts at many priorities"
+    } else {
+        "puts at three priorities"
+    }
 }
 
 /// The next of a row of numbers that look as if drawn.
@@ -98,7 +114,7 @@ fn turn_over(queue: &mut Queue, len: u64, turns: u64) -> Result<u64, AllocError>
     Ok(taken)
 }
 
-/// Prints the time of a put, a take, a remove and a put while so many wait.
+/// Prints the time of turns, each a put, a take, a remove and a put, while so many wait.
 fn time_turns(rt: &(impl Clock + Print), alloc: Global, len: u64) -> io::Result<()> {
     let turns = 1_000_000u64;
     let mut queue = Queue::new(alloc);
@@ -107,10 +123,8 @@ fn time_turns(rt: &(impl Clock + Print), alloc: Global, len: u64) -> io::Result<
     }
     let start = Instant::now(rt)?;
     let taken = turn_over(&mut queue, len, turns)?;
-    let nanos = start.elapsed(rt)?.as_nanos() / u128::from(turns);
-    println!(rt;
-        "{len} waiting: a put, a take, a remove and a put in {nanos} nanoseconds; {taken} taken"
-    )
+    println!(rt; "with {len} waiting, ")?;
+    tell(rt, start, "turns", turns, taken)
 }
 
 /// Prints the times of 125,000 to 1,000,000 items, at three priorities and at many, and those of a call

@@ -1,5 +1,6 @@
 //! How long items take that wait for their inputs.
 
+use crate::watch;
 use rules::input::Input;
 use rules::listing::Rules;
 use smallvec::SmallVec;
@@ -71,13 +72,15 @@ fn time_size(rt: &(impl Clock + Print), alloc: Global, parts: u64, count: u64) -
     let mut out = Vec::with_capacity(alloc, 1_000_000)?;
     let start = Instant::now(rt)?;
     let mut all = add_each(alloc, parts, count)?;
-    let adds = start.elapsed(rt)?.as_micros();
+    watch::tell(rt, start, "adds, so many in each", parts, count)?;
     let start = Instant::now(rt)?;
     tell_each(all.as_mut_slice(), count, &mut out);
-    let knowns = start.elapsed(rt)?.as_micros();
-    let listed = out.len();
-    println!(rt;
-        "{parts} times {count}: adds in {adds} microseconds, two knowns each in {knowns}; {listed} listed"
+    watch::tell(
+        rt,
+        start,
+        "two knowns each, and the items listed",
+        parts,
+        out.len() as u64,
     )
 }
 
