@@ -129,3 +129,14 @@ pub each_misses : (slots : List (Option Waiting)) → AllBusy slots → EachMiss
 each_misses [] h = tt
 each_misses (None ∷ rest) h = each_misses rest (λ k. h (suc k))
 each_misses (Some w ∷ rest) h = (h zero, each_misses rest (λ k. h (suc k)))
+
+-- what was learnt from some slots, and then from others
+pub learnt_on : (i : Input) (a b c : List (Option Waiting)) (k l m : List ℕ) → Learnt i a b k l → Learnt i b c l m → Learnt i a c k m
+learnt_on i a b c k l m g h =
+    let later = woken i (present c) in
+    record {
+      said = g.said ++ h.said;
+      is = h.is ∙ ap (λ n. n ++ h.said) g.is ∙ append_assoc k g.said h.said;
+      told = rw (append_assoc g.said h.said later) (IsPermutation-trans _ (g.said ++ woken i (present b)) _ g.told (IsPermutation-append_right g.said _ _ h.told));
+      still = h.still ∙ g.still;
+    }

@@ -1,4 +1,5 @@
 pub mod Counting
 pub mod Learning
+pub mod Linking
 pub mod Noting
 pub mod Settling

@@ -1,65 +1,27 @@
--- Lists of slots that get longer, and slots that shrink.
-use Rattle.std.proofs.Common.{arith, ◌≡◌, ◌≢◌, ◌⊎◌, inl, inr, ℕ, ◌+◌, ◌*◌, ◌<◌, ◌≤◌, ◌%◌, ◌^◌, ◌==◌, ◌||◌, Bool, true, false, not, cond, nat_eq, List, [], ◌∷◌, ◌++◌, length, map, filter, take, set, get_or, Option, Some, None, refl, sym, ap, subst, ◌∙◌, Contains}
+-- Slots that are noted, and slots that shrink.
+use Rattle.std.proofs.Common.{arith, ◌≡◌, ◌≢◌, ◌⊎◌, inl, inr, ℕ, suc, zero, ◌+◌, ◌-◌, ◌*◌, ◌<◌, ◌≤◌, ◌%◌, ◌^◌, ◌==◌, ◌||◌, Bool, true, false, not, cond, nat_eq, count_by, is_some, List, [], ◌∷◌, length, filter, take, get_or, Option, Some, None, refl, sym, ap, subst, ◌∙◌, Contains}
 use Rattle.std.specs.Prelude.{ℤ}
 use Rattle.std.specs.List.{list_any}
 use Rattle.std.specs.Ordering.{int_eq}
-use Rattle.smallvec.specs.SmallVec.{SmallVec}
 use Rattle.std.proofs.lemmas.Bool.{cases_eq, cases_lt, cases_Bool, or_cases, and_parts}
 use Rattle.std.proofs.lemmas.Int.{ints}
-use Rattle.std.proofs.lemmas.Nat.{mod_below}
-use Rattle.std.proofs.lemmas.List.{get_or-set_same, get_or-set_other, get_or_past, length-set, length-map, map-set, get_or-map}
-use Rattle.std.proofs.lemmas.List.Elements.{Contains-append_left, Contains-append_right}
+use Rattle.std.proofs.lemmas.List.{get_or_past}
 use Rattle.std.proofs.lemmas.List.Folds.{list_any_more}
+use Rattle.std.proofs.lemmas.List.Sums.{sum_by-cons}
 use Rattle.values.specs.Keys.{same_key}
 use Rattle.values.specs.declared.key.Key.{Key}
 use Rattle.values.specs.declared.key.Key.TheVariants.{Number}
 use Rattle.rules.specs.declared.input.Input.{Input}
 use Rattle.rules.specs.declared.input.Input.TheVariants.{Whole, Element}
+use Rattle.rules.specs.declared.places.Note.{Note}
 use Rattle.rules.specs.Inputs.{covers}
 use Rattle.rules.specs.Waiting.{Waiting, is_ready, with_known}
-use Rattle.rules.specs.Slots.{after_slot, unless_item, is_idle, IsSettled, Shrinks}
-use Rattle.rules.specs.Places.{noted, Grows, IsNoted, at_bucket, needs, slot_needs, address, key_bits}
+use Rattle.rules.specs.Slots.{after_slot, unless_item, is_idle, AllBusy, IsSettled, Shrinks}
+use Rattle.slab.specs.Slab.{Slab}
+use Rattle.rules.specs.Places.{Noted, IsKept, Grows, IsNoted, IsFound, IsAt, IsLast, note_at, is_at, needs, slot_needs, address, datum, key_bits}
 
 true_false : true ≡ false → ⊥
 true_false e = cc
-
--- a list that gets longer loses nothing
-grows_set : (lists : List (List ℕ)) (b : ℕ) (more : List ℕ) → Grows lists (set lists b (noted lists b ++ more))
-grows_set lists b more = record {
-  same_length = length-set lists b (noted lists b ++ more);
-  keeps = λ a k h. elim (cases_eq a b) [
-    | inl e ↦ subst (λ m. Contains (noted (set lists b (noted lists b ++ more)) m) k) (sym e) (here k (subst (λ m. Contains (noted lists m) k) e h))
-    | inr differs ↦ rw (get_or-set_other lists b a (noted lists b ++ more) [] differs) h
-  ];
-}
-  where
-    here : (k : ℕ) → Contains (noted lists b) k → Contains (noted (set lists b (noted lists b ++ more)) b) k
-    here k h = elim (cases_lt b (length lists)) [
-      | inl below ↦ rw (get_or-set_same lists b (noted lists b ++ more) [] below) (Contains-append_left (noted lists b) more k h)
-      | inr past ↦ absurd (omega (arith, (subst (λ l. Contains l k) (get_or_past lists b [] past) h).1))
-    ]
-
-noted_set : (lists : List (List ℕ)) (b x : ℕ) → b < length lists → Contains (noted (set lists b (noted lists b ++ x ∷ [])) b) x
-noted_set lists b x below = rw (get_or-set_same lists b (noted lists b ++ x ∷ []) [] below) (Contains-append_right (noted lists b) (x ∷ []) x (0, omega arith, refl))
-
-set_is : (bs : List (SmallVec ℕ)) (b x : ℕ) (old new : SmallVec ℕ) → b < length bs → old ≡ get_or bs b old → new.items ≡ old.items ++ x ∷ [] → map (λ v. v.items) (set bs b new) ≡ set (map (λ v. v.items) bs) b (noted (map (λ v. v.items) bs) b ++ x ∷ [])
-set_is bs b x old new below was is =
-    let before : noted (map (λ v. v.items) bs) b ≡ old.items = get_or-map (λ v. v.items) bs b old [] below ∙ ap (λ v. v.items) (sym was) in
-    map-set (λ v. v.items) bs b new ∙ ap (set (map (λ v. v.items) bs) b) (is ∙ ap (λ l. l ++ x ∷ []) (sym before))
-
--- one list has one slot more
-pub put_grows : (bs : List (SmallVec ℕ)) (b x : ℕ) (old new : SmallVec ℕ) → b < length bs → old ≡ get_or bs b old → new.items ≡ old.items ++ x ∷ [] → Grows (map (λ v. v.items) bs) (map (λ v. v.items) (set bs b new))
-put_grows bs b x old new below was is = subst (Grows (map (λ v. v.items) bs)) (sym (set_is bs b x old new below was is)) (grows_set (map (λ v. v.items) bs) b (x ∷ []))
-
-pub put_notes : (bs : List (SmallVec ℕ)) (b x : ℕ) (old new : SmallVec ℕ) → b < length bs → old ≡ get_or bs b old → new.items ≡ old.items ++ x ∷ [] → Contains (noted (map (λ v. v.items) (set bs b new)) b) x
-put_notes bs b x old new below was is =
-    subst (λ l. Contains (noted l b) x) (sym (set_is bs b x old new below was is)) (noted_set (map (λ v. v.items) bs) b x (rw (length-map bs (λ v. v.items)) below))
-
-pub grows_on : (a b c : List (List ℕ)) → Grows a b → Grows b c → Grows a c
-grows_on a b c g h = record { same_length = h.same_length ∙ g.same_length; keeps = λ n k p. h.keeps n k (g.keeps n k p) }
-
-pub grows_none : (a : List (List ℕ)) → Grows a a
-grows_none a = record { same_length = refl; keeps = λ n k p. p }
 
 or_first : (x y : Bool) → x ≡ true → (x || y) ≡ true
 or_first x y e = rw e refl
@@ -67,61 +29,6 @@ or_first x y e = rw e refl
 or_second : (x y : Bool) → y ≡ true → (x || y) ≡ true
 or_second true y e = refl
 or_second false y e = e
-
--- one input more of an item is noted
-pub note_more : (old new : List (List ℕ)) (item : ℕ) (is : List Input) (k x : ℕ) (d : Input) → k < length is → Grows old new
-    → ((b : ℕ) → ((item % length old == b) || list_any (at_bucket (length old) b) (take k is)) ≡ true → Contains (noted old b) x)
-    → ((b : ℕ) → at_bucket (length old) b (get_or is k d) ≡ true → Contains (noted new b) x)
-    → (b : ℕ) → ((item % length new == b) || list_any (at_bucket (length new) b) (take (k + 1) is)) ≡ true → Contains (noted new b) x
-note_more old new item is k x d below g was now b h =
-    let n = length old in
-    let first : Bool = item % n == b in
-    let earlier : Bool = list_any (at_bucket n b) (take k is) in
-    let same : (first || list_any (at_bucket n b) (take (k + 1) is)) ≡ true = subst (λ m. ((item % m == b) || list_any (at_bucket m b) (take (k + 1) is)) ≡ true) g.same_length h in
-    let parts : (first || (earlier || at_bucket n b (get_or is k d))) ≡ true = subst (λ l. (first || l) ≡ true) (list_any_more (at_bucket n b) is k d below) same in
-    elim (or_cases first (earlier || at_bucket n b (get_or is k d)) parts) [
-      | inl e ↦ g.keeps b x (was b (or_first first earlier e))
-      | inr rest ↦ elim (or_cases earlier (at_bucket n b (get_or is k d)) rest) [
-        | inl e ↦ g.keeps b x (was b (or_second first earlier e))
-        | inr e ↦ now b e
-      ]
-    ]
-
--- one slot more is noted
-pub slot_more : (n at : ℕ) (slots : List (Option Waiting)) (old new : List (List ℕ)) → length old ≡ n → Grows old new
-    → ((b : ℕ) → slot_needs (length old) b (get_or slots at None) ≡ true → Contains (noted new b) at)
-    → ((b k : ℕ) → k < at → slot_needs n b (get_or slots k None) ≡ true → Contains (noted old b) k)
-    → (b k : ℕ) → k < at + 1 → slot_needs n b (get_or slots k None) ≡ true → Contains (noted new b) k
-slot_more n at slots old new size g now was b k below h =
-    elim (cases_eq k at) [
-      | inl e ↦ subst (λ m. Contains (noted new b) m) (sym e) (now b (subst (λ m. slot_needs m b (get_or slots at None) ≡ true) (sym size) (subst (λ m. slot_needs n b (get_or slots m None) ≡ true) e h)))
-      | inr differs ↦ g.keeps b k (was b k (omega (arith, below, differs)) h)
-    ]
-
--- where all slots are gone through, all are noted
-pub all_noted : (lists : List (List ℕ)) (slots : List (Option Waiting)) (n end : ℕ) → length lists ≡ n → length slots ≤ end
-    → ((b k : ℕ) → k < end → slot_needs n b (get_or slots k None) ≡ true → Contains (noted lists b) k) → IsNoted lists slots
-all_noted lists slots n end size fits was b k below h =
-    elim (cases_lt k end) [
-      | inl within ↦ was b k within (subst (λ m. slot_needs m b (get_or slots k None) ≡ true) size h)
-      | inr past ↦ absurd (true_false (sym (subst (λ o. slot_needs (length lists) b o ≡ true) (get_or_past slots k None (omega (arith, past, fits))) h)))
-    ]
-
--- no list, nothing to be noted
-pub none_noted : (slots : List (Option Waiting)) → IsNoted [] slots
-none_noted slots b k below h = absurd (omega (arith, below))
-
--- a slot more is filled and noted
-pub noted_insert : (old new : List (List ℕ)) (before after : List (Option Waiting)) (at : ℕ) → Grows old new → IsNoted old before
-    → ((k : ℕ) → k ≢ at → get_or after k None ≡ get_or before k None)
-    → ((b : ℕ) → slot_needs (length old) b (get_or after at None) ≡ true → Contains (noted new b) at)
-    → IsNoted new after
-noted_insert old new before after at g was others now b k below h =
-    let here : slot_needs (length old) b (get_or after k None) ≡ true = subst (λ m. slot_needs m b (get_or after k None) ≡ true) g.same_length h in
-    elim (cases_eq k at) [
-      | inl e ↦ subst (λ m. Contains (noted new b) m) (sym e) (now b (subst (λ m. slot_needs (length old) b (get_or after m None) ≡ true) e here))
-      | inr differs ↦ g.keeps b k (was b k (rw (← g.same_length) below) (subst (λ o. slot_needs (length old) b o ≡ true) (others k differs) here))
-    ]
 
 int_sound : (p q : ℤ) → int_eq p q ≡ true → p ≡ q
 int_sound p q h = grind (arith, ints)
@@ -132,67 +39,162 @@ nat_sound m n h = grind arith
 nat_itself : (n : ℕ) → nat_eq n n ≡ true
 nat_itself n = grind arith
 
+pub grows_on : (a b c : Noted) → Grows a b → Grows b c → Grows a c
+grows_on a b c g h = record { notes = λ n k p. h.notes n k (g.notes n k p); strays = λ k p. h.strays k (g.strays k p); place = h.place ∙ g.place }
+
+pub grows_none : (a : Noted) → Grows a a
+grows_none a = record { notes = λ n k p. p; strays = λ k p. p; place = refl }
+
+-- who is noted at both addresses of an input is noted wherever those are that miss it
+pub input_noted : (i : Input) (notes : List Note) (k : ℕ) → IsAt notes (address i) k → IsAt notes (datum i) k → (a : ℕ) → is_at a i ≡ true → IsAt notes a k
+input_noted i notes k first second a h =
+    elim (or_cases (address i == a) (datum i == a) h) [
+      | inl e ↦ subst (λ m. IsAt notes m k) (nat_sound (address i) a e) first
+      | inr e ↦ subst (λ m. IsAt notes m k) (nat_sound (datum i) a e) second
+    ]
+
+-- an item is noted at its number
+pub item_noted : (x k : ℕ) (notes : List Note) → IsAt notes x k → (a : ℕ) → ((x == a) || false) ≡ true → IsAt notes a k
+item_noted x k notes here a h =
+    elim (or_cases (x == a) false h) [
+      | inl e ↦ subst (λ m. IsAt notes m k) (nat_sound x a e) here
+      | inr e ↦ absurd (true_false (sym e))
+    ]
+
+-- one input more of an item is noted
+pub note_more : (old new : Noted) (item : ℕ) (is : List Input) (k x : ℕ) (d : Input) → k < length is → Grows old new
+    → ((a : ℕ) → ((item == a) || list_any (is_at a) (take k is)) ≡ true → IsAt old.notes a x)
+    → ((a : ℕ) → is_at a (get_or is k d) ≡ true → IsAt new.notes a x)
+    → (a : ℕ) → ((item == a) || list_any (is_at a) (take (k + 1) is)) ≡ true → IsAt new.notes a x
+note_more old new item is k x d below g was now a h =
+    let first : Bool = item == a in
+    let earlier : Bool = list_any (is_at a) (take k is) in
+    let parts : (first || (earlier || is_at a (get_or is k d))) ≡ true = subst (λ l. (first || l) ≡ true) (list_any_more (is_at a) is k d below) h in
+    elim (or_cases first (earlier || is_at a (get_or is k d)) parts) [
+      | inl e ↦ g.notes a x (was a (or_first first earlier e))
+      | inr rest ↦ elim (or_cases earlier (is_at a (get_or is k d)) rest) [
+        | inl e ↦ g.notes a x (was a (or_second first earlier e))
+        | inr e ↦ now a e
+      ]
+    ]
+
+-- nothing is to be found in a vacant slot
+pub vacant_found : (places : Noted) (k : ℕ) → IsFound places k None
+vacant_found places k = inr (λ a h. absurd (true_false (sym h)))
+
+pub found_grows : (old new : Noted) (k : ℕ) (o : Option Waiting) → Grows old new → IsFound old k o → IsFound new k o
+found_grows old new k o g h =
+    elim h [
+      | inl stray ↦ inl (g.strays k stray)
+      | inr noted ↦ inr (λ a need. g.notes a k (noted a need))
+    ]
+
+-- one slot more is found
+pub slot_more : (at : ℕ) (slots : List (Option Waiting)) (old new : Noted) → Grows old new → IsFound new at (get_or slots at None)
+    → ((k : ℕ) → k < at → IsFound old k (get_or slots k None)) → (k : ℕ) → k < at + 1 → IsFound new k (get_or slots k None)
+slot_more at slots old new g now was k below =
+    elim (cases_eq k at) [
+      | inl e ↦ subst (λ m. IsFound new m (get_or slots m None)) (sym e) now
+      | inr differs ↦ found_grows old new k (get_or slots k None) g (was k (omega (arith, below, differs)))
+    ]
+
+-- where all slots are gone through, all are found
+pub all_noted : (places : Noted) (slots : List (Option Waiting)) (end : ℕ) → length slots ≤ end
+    → ((k : ℕ) → k < end → IsFound places k (get_or slots k None)) → IsNoted places slots
+all_noted places slots end fits was k =
+    elim (cases_lt k end) [
+      | inl within ↦ was k within
+      | inr past ↦ rw (get_or_past slots k None (omega (arith, past, fits))) (vacant_found places k)
+    ]
+
+-- where there are no items there is none to be found
+pub none_noted : (places : Noted) → IsNoted places []
+none_noted places k = vacant_found places k
+
+-- a slot more is filled and found
+pub noted_insert : (old new : Noted) (before after : List (Option Waiting)) (at : ℕ) → Grows old new → IsNoted old before
+    → ((k : ℕ) → k ≢ at → get_or after k None ≡ get_or before k None) → IsFound new at (get_or after at None) → IsNoted new after
+noted_insert old new before after at g was others now k =
+    elim (cases_eq k at) [
+      | inl e ↦ subst (λ m. IsFound new m (get_or after m None)) (sym e) now
+      | inr differs ↦ subst (λ o. IsFound new k o) (sym (others k differs)) (found_grows old new k (get_or before k None) g (was k))
+    ]
+
+-- how many items lie in one slot more
+count_more : (slots : List (Option Waiting)) (at : ℕ) → count_by is_some (take (suc at) slots) ≡ count_by is_some (take at slots) + cond (is_some (get_or slots at None)) 1 0
+count_more [] zero = refl
+count_more [] (suc at) = refl
+count_more (o ∷ rest) zero = omega (arith, sum_by-cons (λ p. cond (is_some p) 1 0) o [])
+count_more (o ∷ rest) (suc at) = omega (arith, count_more rest at, sum_by-cons (λ p. cond (is_some p) 1 0) o (take (suc at) rest), sum_by-cons (λ p. cond (is_some p) 1 0) o (take at rest))
+
+pub count_next : (slots : List (Option Waiting)) (at : ℕ) → count_by is_some (take (at + 1) slots) ≡ count_by is_some (take at slots) + cond (is_some (get_or slots at None)) 1 0
+count_next slots at =
+    let e : suc at ≡ at + 1 = omega arith in
+    subst (λ m. count_by is_some (take m slots) ≡ count_by is_some (take at slots) + cond (is_some (get_or slots at None)) 1 0) e (count_more slots at)
+
 same_bits : (k l : Key) → same_key k l ≡ true → key_bits k ≡ key_bits l
 same_bits (Number a) (Number b) h = ap (λ z. key_bits (Number z)) (int_sound a b h)
 
-equal_mod : (a b n : ℕ) → a ≡ b → nat_eq (b % n) (a % n) ≡ true
-equal_mod a b n e = subst (λ m. nat_eq (m % n) (a % n) ≡ true) e (nat_itself (a % n))
+equal_at : (a b : ℕ) → a ≡ b → nat_eq b a ≡ true
+equal_at a b e = subst (λ m. nat_eq m a ≡ true) e (nat_itself a)
 
--- who misses what an input covers is noted in that input's list
-covers_at : (i j : Input) (n : ℕ) → covers i j ≡ true → at_bucket n (address i % n) j ≡ true
-covers_at (Whole a) (Whole b) n h = or_first _ _ (equal_mod a b n (nat_sound a b h))
-covers_at (Whole a) (Element b k) n h = or_second _ _ (equal_mod a b n (nat_sound a b h))
-covers_at (Element a k) (Whole b) n h = absurd (true_false (sym h))
-covers_at (Element a k) (Element b l) n h =
+-- who misses what an input covers is noted at that input's address
+covers_at : (i j : Input) → covers i j ≡ true → is_at (address i) j ≡ true
+covers_at (Whole a) (Whole b) h = or_first _ _ (equal_at a b (nat_sound a b h))
+covers_at (Whole a) (Element b k) h = or_second _ _ (equal_at a b (nat_sound a b h))
+covers_at (Element a k) (Whole b) h = absurd (true_false (sym h))
+covers_at (Element a k) (Element b l) h =
     let parts = and_parts (nat_eq a b) (same_key k l) h in
-    or_first _ _ (equal_mod (address (Element a k)) (address (Element b l)) n
+    or_first _ _ (equal_at (address (Element a k)) (address (Element b l))
     (ap (λ d. (d * 11400714819323198485 % 2 ^ 64 + key_bits k) % 2 ^ 64) (nat_sound a b parts.0) ∙ ap (λ m. (b * 11400714819323198485 % 2 ^ 64 + m) % 2 ^ 64) (same_bits k l parts.1)))
 
 or_false : (x y : Bool) → (x || y) ≡ false → (x ≡ false) × (y ≡ false)
 or_false true y h = absurd (true_false h)
 or_false false y h = (refl, h)
 
-kept_all : (i : Input) (n : ℕ) (js : List Input) → list_any (at_bucket n (address i % n)) js ≡ false → filter (λ j. not (covers i j)) js ≡ js
-kept_all i n [] h = refl
-kept_all i n (j ∷ js) h =
-    let parts = or_false (at_bucket n (address i % n) j) (list_any (at_bucket n (address i % n)) js) h in
+kept_all : (i : Input) (js : List Input) → list_any (is_at (address i)) js ≡ false → filter (λ j. not (covers i j)) js ≡ js
+kept_all i [] h = refl
+kept_all i (j ∷ js) h =
+    let parts = or_false (is_at (address i) j) (list_any (is_at (address i)) js) h in
     elim (cases_Bool (covers i j)) [
-      | inl hit ↦ absurd (true_false (sym (covers_at i j n hit) ∙ parts.0))
-      | inr lacks ↦ rw lacks (ap (λ l. j ∷ l) (kept_all i n js parts.1))
+      | inl hit ↦ absurd (true_false (sym (covers_at i j hit) ∙ parts.0))
+      | inr lacks ↦ rw lacks (ap (λ l. j ∷ l) (kept_all i js parts.1))
     ]
 
--- an item that is not noted in an input's list learns nothing from it
-untouched : (i : Input) (n : ℕ) (o : Option Waiting) → is_idle o ≡ false → slot_needs n (address i % n) o ≡ false → after_slot i o ≡ o
-untouched i n None busy h = refl
-untouched i n (Some w) busy h =
-    let parts = or_false (w.item % n == address i % n) (list_any (at_bucket n (address i % n)) w.missing) h in
-    let same : with_known i w ≡ w = ap (λ js. record { item = w.item; missing = js }) (kept_all i n w.missing parts.1) in
+-- an item that is not noted at an input's address learns nothing from it
+untouched : (i : Input) (o : Option Waiting) → is_idle o ≡ false → slot_needs (address i) o ≡ false → after_slot i o ≡ o
+untouched i None busy h = refl
+untouched i (Some w) busy h =
+    let parts = or_false (w.item == address i) (list_any (is_at (address i)) w.missing) h in
+    let same : with_known i w ≡ w = ap (λ js. record { item = w.item; missing = js }) (kept_all i w.missing parts.1) in
     ap (λ v. cond (is_ready v) None (Some v)) same ∙ ap (λ b. cond b None (Some w)) busy
 
--- each item is found in the input's list, or learns nothing
-pub found : (i : Input) (lists : List (List ℕ)) (slots : List (Option Waiting)) (k : ℕ) → 0 < length lists → IsNoted lists slots → ((j : ℕ) → is_idle (get_or slots j None) ≡ false)
-    → Contains (noted lists (address i % length lists)) k ⊎ IsSettled (after_slot i) slots k
-found i lists slots k positive are busy =
-    elim (cases_Bool (slot_needs (length lists) (address i % length lists) (get_or slots k None))) [
-      | inl hit ↦ inl (are (address i % length lists) k (mod_below (address i) (length lists) positive) hit)
-      | inr lacks ↦ inr (untouched i (length lists) (get_or slots k None) (busy k) lacks)
+-- each item is a stray, or noted at the input's address, or learns nothing
+pub found : (i : Input) (places : Noted) (slots : List (Option Waiting)) (k : ℕ) → IsNoted places slots → AllBusy slots
+    → Contains places.strays k ⊎ (IsAt places.notes (address i) k ⊎ IsSettled (after_slot i) slots k)
+found i places slots k are busy =
+    elim (are k) [
+      | inl stray ↦ inl stray
+      | inr noted ↦ inr (elim (cases_Bool (slot_needs (address i) (get_or slots k None))) as (λ _. IsAt places.notes (address i) k ⊎ IsSettled (after_slot i) slots k) [
+        | inl hit ↦ inl (noted (address i) hit)
+        | inr lacks ↦ inr (untouched i (get_or slots k None) (busy k) lacks)
+      ])
     ]
 
-elsewhere : (x n : ℕ) (o : Option Waiting) → slot_needs n (x % n) o ≡ false → unless_item x o ≡ o
-elsewhere x n None h = refl
-elsewhere x n (Some w) h =
-    let parts = or_false (w.item % n == x % n) (list_any (at_bucket n (x % n)) w.missing) h in
-    elim (cases_Bool (nat_eq w.item x)) [
-      | inl hit ↦ absurd (true_false (sym (equal_mod x w.item n (sym (nat_sound w.item x hit))) ∙ parts.0))
-      | inr lacks ↦ ap (λ b. cond b None (Some w)) lacks
-    ]
+elsewhere : (x : ℕ) (o : Option Waiting) → slot_needs x o ≡ false → unless_item x o ≡ o
+elsewhere x None h = refl
+elsewhere x (Some w) h =
+    ap (λ b. cond b None (Some w)) (or_false (w.item == x) (list_any (is_at x) w.missing) h).0
 
-pub found_item : (x : ℕ) (lists : List (List ℕ)) (slots : List (Option Waiting)) (k : ℕ) → 0 < length lists → IsNoted lists slots
-    → Contains (noted lists (x % length lists)) k ⊎ IsSettled (unless_item x) slots k
-found_item x lists slots k positive are =
-    elim (cases_Bool (slot_needs (length lists) (x % length lists) (get_or slots k None))) [
-      | inl hit ↦ inl (are (x % length lists) k (mod_below x (length lists) positive) hit)
-      | inr lacks ↦ inr (elsewhere x (length lists) (get_or slots k None) lacks)
+pub found_item : (x : ℕ) (places : Noted) (slots : List (Option Waiting)) (k : ℕ) → IsNoted places slots
+    → Contains places.strays k ⊎ (IsAt places.notes x k ⊎ IsSettled (unless_item x) slots k)
+found_item x places slots k are =
+    elim (are k) [
+      | inl stray ↦ inl stray
+      | inr noted ↦ inr (elim (cases_Bool (slot_needs x (get_or slots k None))) as (λ _. IsAt places.notes x k ⊎ IsSettled (unless_item x) slots k) [
+        | inl hit ↦ inl (noted x hit)
+        | inr lacks ↦ inr (elsewhere x (get_or slots k None) lacks)
+      ])
     ]
 
 any_filter : (p q : Input → Bool) (js : List Input) → list_any p (filter q js) ≡ true → list_any p js ≡ true
@@ -207,33 +209,75 @@ any_filter p q (j ∷ js) h =
     ] h
 
 -- an item that has learnt is to be noted nowhere else
-pub needs_after : (i : Input) (n b : ℕ) (o : Option Waiting) → slot_needs n b (after_slot i o) ≡ true → slot_needs n b o ≡ true
-needs_after i n b None h = h
-needs_after i n b (Some w) h =
-    elim (is_ready (with_known i w)) as (λ r. slot_needs n b (cond r None (Some (with_known i w))) ≡ true → needs n b w ≡ true) [
+pub needs_after : (i : Input) (a : ℕ) (o : Option Waiting) → slot_needs a (after_slot i o) ≡ true → slot_needs a o ≡ true
+needs_after i a None h = h
+needs_after i a (Some w) h =
+    elim (is_ready (with_known i w)) as (λ r. slot_needs a (cond r None (Some (with_known i w))) ≡ true → needs a w ≡ true) [
       | true ↦ λ e. absurd (true_false (sym e))
-      | false ↦ λ e. elim (or_cases (w.item % n == b) (list_any (at_bucket n b) (filter (λ j. not (covers i j)) w.missing)) e) [
-        | inl here ↦ or_first (w.item % n == b) (list_any (at_bucket n b) w.missing) here
-        | inr later ↦ or_second (w.item % n == b) (list_any (at_bucket n b) w.missing) (any_filter (at_bucket n b) (λ j. not (covers i j)) w.missing later)
+      | false ↦ λ e. elim (or_cases (w.item == a) (list_any (is_at a) (filter (λ j. not (covers i j)) w.missing)) e) [
+        | inl here ↦ or_first (w.item == a) (list_any (is_at a) w.missing) here
+        | inr later ↦ or_second (w.item == a) (list_any (is_at a) w.missing) (any_filter (is_at a) (λ j. not (covers i j)) w.missing later)
       ]
     ] h
 
-pub needs_unless : (x n b : ℕ) (o : Option Waiting) → slot_needs n b (unless_item x o) ≡ true → slot_needs n b o ≡ true
-needs_unless x n b None h = h
-needs_unless x n b (Some w) h =
-    elim (nat_eq w.item x) as (λ r. slot_needs n b (cond r None (Some w)) ≡ true → needs n b w ≡ true) [
+pub needs_unless : (x a : ℕ) (o : Option Waiting) → slot_needs a (unless_item x o) ≡ true → slot_needs a o ≡ true
+needs_unless x a None h = h
+needs_unless x a (Some w) h =
+    elim (nat_eq w.item x) as (λ r. slot_needs a (cond r None (Some w)) ≡ true → needs a w ≡ true) [
       | true ↦ λ e. absurd (true_false (sym e))
       | false ↦ λ e. e
     ] h
 
--- where slots shrink, all that are left are noted as they were
-pub noted_shrinks : (f : Option Waiting → Option Waiting) → ((n b : ℕ) (o : Option Waiting) → slot_needs n b (f o) ≡ true → slot_needs n b o ≡ true)
-    → (lists : List (List ℕ)) (old new : List (Option Waiting)) → Shrinks f old new → IsNoted lists old → IsNoted lists new
-noted_shrinks f fewer lists old new shrinks are b k below h =
-    elim (shrinks k) [
-      | inl same ↦ are b k below (subst (λ o. slot_needs (length lists) b o ≡ true) same h)
-      | inr changed ↦ are b k below (fewer (length lists) b (get_or old k None) (subst (λ o. slot_needs (length lists) b o ≡ true) changed h))
+-- where slots shrink, all that are left are found as they were
+pub noted_shrinks : (f : Option Waiting → Option Waiting) → ((a : ℕ) (o : Option Waiting) → slot_needs a (f o) ≡ true → slot_needs a o ≡ true)
+    → (places : Noted) (old new : List (Option Waiting)) → Shrinks f old new → IsNoted places old → IsNoted places new
+noted_shrinks f fewer places old new shrinks are k =
+    elim (are k) [
+      | inl stray ↦ inl stray
+      | inr noted ↦ inr (λ a need. noted a (elim (shrinks k) as (λ _. slot_needs a (get_or old k None) ≡ true) [
+        | inl same ↦ subst (λ o. slot_needs a o ≡ true) same need
+        | inr changed ↦ fewer a (get_or old k None) (subst (λ o. slot_needs a o ≡ true) changed need)
+      ]))
     ]
+
+-- more slots, and the same items in them
+pub kept_more : (old new : Slab Waiting) (slots : ℕ) (places : Noted) → new ≡ record old { capacity = new.capacity } → old.capacity ≤ new.capacity → IsKept old slots places → IsKept new slots places
+kept_more old new slots places e more k =
+    let same : old.slots ≡ new.slots = sym (ap (λ s. s.slots) e) in
+    record {
+      used = subst (λ ss. count_by is_some ss ≤ slots) same k.used;
+      has_place = omega (arith, k.has_place, more);
+      place = k.place;
+      busy = subst AllBusy same k.busy;
+      noted = subst (IsNoted places) same k.noted;
+    }
+
+-- of the notes at an address, those from `next` on, and then those from the note before that one on
+pub walk_step : (S : ℕ → Type 0) (n : ℕ) (notes : List Note) (a next : ℕ) (x : Note) → x ≡ note_at notes (next - 1)
+    → 0 < next → (note_at notes (next - 1)).address % n ≡ a % n → IsLast n notes (x.address % n) x.earlier (next - 1)
+    → (x.address ≡ a → S x.slot)
+    → ((j : ℕ) → next ≤ j → j < length notes → (note_at notes j).address ≡ a → S (note_at notes j).slot)
+    → (j : ℕ) → x.earlier ≤ j → j < length notes → (note_at notes j).address ≡ a → S (note_at notes j).slot
+walk_step S n notes a next x same positive last link now was j from to e =
+    elim (cases_lt j next) [
+      | inl below ↦ elim (cases_eq j (next - 1)) as (λ _. S (note_at notes j).slot) [
+        | inl here ↦
+            let is : note_at notes j ≡ x = ap (note_at notes) here ∙ sym same in
+            rw is (now (sym (ap (λ m. m.address) is) ∙ e))
+        | inr differs ↦ absurd (link.others j from (omega (arith, below, differs, positive)) (ap (λ m. m % n) e ∙ sym last ∙ ap (λ m. m.address % n) (sym same)))
+      ]
+      | inr above ↦ was j above to e
+    ]
+
+-- the note before is of the same list
+pub walk_last : (n : ℕ) (notes : List Note) (a next : ℕ) (x : Note) → x ≡ note_at notes (next - 1) → (note_at notes (next - 1)).address % n ≡ a % n
+    → IsLast n notes (x.address % n) x.earlier (next - 1) → 0 < x.earlier → (note_at notes (x.earlier - 1)).address % n ≡ a % n
+walk_last n notes a next x same last link positive = link.last positive ∙ ap (λ m. m.address % n) same ∙ last
+
+-- behind the last note of a list there is none at its address
+pub walk_start : (S : ℕ → Type 0) (n : ℕ) (notes : List Note) (a next : ℕ) → IsLast n notes (a % n) next (length notes)
+    → (j : ℕ) → next ≤ j → j < length notes → (note_at notes j).address ≡ a → S (note_at notes j).slot
+walk_start S n notes a next last j from to e = absurd (last.others j from to (ap (λ m. m % n) e))
 
 pub busy_shrinks : (f : Option Waiting → Option Waiting) → ((o : Option Waiting) → is_idle o ≡ false → is_idle (f o) ≡ false)
     → (old new : List (Option Waiting)) → Shrinks f old new → ((k : ℕ) → is_idle (get_or old k None) ≡ false) → (k : ℕ) → is_idle (get_or new k None) ≡ false

@@ -59,6 +59,19 @@ module _ (f : Option Waiting → Option Waiting) (twice : (o : Option Waiting) �
             ]
       ]
 
+  pub shrinks_on : (a b c : List (Option Waiting)) → Shrinks f a b → Shrinks f b c → Shrinks f a c
+  shrinks_on a b c g h k =
+      elim (h k) [
+        | inl same ↦ elim (g k) as (λ _. (get_or c k None ≡ get_or a k None) ⊎ (get_or c k None ≡ f (get_or a k None))) [
+          | inl was ↦ inl (same ∙ was)
+          | inr changed ↦ inr (same ∙ changed)
+        ]
+        | inr changed ↦ elim (g k) as (λ _. (get_or c k None ≡ get_or a k None) ⊎ (get_or c k None ≡ f (get_or a k None))) [
+          | inl was ↦ inr (changed ∙ ap f was)
+          | inr before ↦ inr (changed ∙ ap f before ∙ twice (get_or a k None))
+        ]
+      ]
+
   module _ (all : List Waiting → List Waiting) (all_nil : all [] ≡ []) (all_cons : (o : Option Waiting) (ws : List Waiting) → all (cons_option o ws) ≡ cons_option (f o) (all ws)) where
     -- a change of one slot takes nothing from what all of them come to
     pub kept_step : (slots : List (Option Waiting)) (k : ℕ) → all (present (stepped slots k)) ≡ all (present slots)

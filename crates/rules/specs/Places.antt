@@ -1,11 +1,12 @@
 -- Where the items that wait for an input are found.
-use Rattle.std.specs.Prelude.{◌≡◌, ℕ, ◌+◌, ◌*◌, ◌<◌, ◌%◌, ◌^◌, ◌==◌, ◌||◌, Bool, true, false, List, [], length, Option, Some, None, slice_index_or, Contains, ◌≤◌}
+use Rattle.std.specs.Prelude.{◌≡◌, ◌≢◌, ◌⊎◌, ℕ, ◌+◌, ◌-◌, ◌*◌, ◌<◌, ◌≤◌, ◌%◌, ◌^◌, ◌==◌, ◌||◌, Bool, true, false, List, length, Option, Some, None, slice_index_or, Contains}
 use Rattle.std.specs.List.{list_any}
 use Rattle.std.specs.Int.{w64, cast_unsigned}
 use Rattle.values.specs.declared.key.Key.{Key}
 use Rattle.values.specs.declared.key.Key.TheVariants.{Number}
 use Rattle.rules.specs.declared.input.Input.{Input}
 use Rattle.rules.specs.declared.input.Input.TheVariants.{Whole, Element}
+use Rattle.rules.specs.declared.places.Note.{Note}
 use Rattle.slab.specs.Slab.{Slab, slab_len}
 use Rattle.rules.specs.Slots.{AllBusy}
 use Rattle.rules.specs.Waiting.{Waiting}
@@ -19,40 +20,76 @@ abbrev pub datum : Input → ℕ
 datum (Whole d) = d
 datum (Element d k) = d
 
--- the number in whose list those that wait for an input are noted
+-- the number under which those that wait for an input are noted
 abbrev pub address : Input → ℕ
 address (Whole d) = d
 address (Element d k) = (d * 11400714819323198485 % 2 ^ 64 + key_bits k) % 2 ^ 64
 
--- of so many lists this is one in which who misses the input is noted
-abbrev pub at_bucket : ℕ → ℕ → Input → Bool
-at_bucket n b i = (address i % n == b) || (datum i % n == b)
+-- who misses the input is noted at this address
+abbrev pub is_at : ℕ → Input → Bool
+is_at a i = (address i == a) || (datum i == a)
 
--- the item is to be noted in this list
-abbrev pub needs : ℕ → ℕ → Waiting → Bool
-needs n b w = (w.item % n == b) || list_any (at_bucket n b) w.missing
+-- the item is to be noted at this address
+abbrev pub needs : ℕ → Waiting → Bool
+needs a w = (w.item == a) || list_any (is_at a) w.missing
 
--- the item in the slot, if any, is to be noted in this list
-abbrev pub slot_needs : ℕ → ℕ → Option Waiting → Bool
-slot_needs n b None = false
-slot_needs n b (Some w) = needs n b w
+-- the item in the slot, if any, is to be noted at this address
+abbrev pub slot_needs : ℕ → Option Waiting → Bool
+slot_needs a None = false
+slot_needs a (Some w) = needs a w
 
--- what a list holds
-abbrev pub noted : List (List ℕ) → ℕ → List ℕ
-noted lists b = slice_index_or lists b []
+-- a note of nothing
+abbrev pub blank : Note
+blank = record { address = 0; slot = 0; earlier = 0 }
 
--- as many lists, each with what it had
-pub record Grows (old new : List (List ℕ)) : Type 0 where
-  pub same_length : length new ≡ length old
-  pub keeps : (b k : ℕ) → Contains (noted old b) k → Contains (noted new b) k
+-- the note of this number
+abbrev pub note_at : List Note → ℕ → Note
+note_at notes i = slice_index_or notes i blank
 
--- each item in the slots is noted wherever it is to be
-abbrev pub IsNoted : List (List ℕ) → List (Option Waiting) → Type 0
-IsNoted lists slots = (b k : ℕ) → b < length lists → slot_needs (length lists) b (slice_index_or slots k None) ≡ true → Contains (noted lists b) k
+-- the slot is noted at the address
+pub record IsAt (notes : List Note) (a k : ℕ) : Type 0 where
+  pub number : ℕ
+  pub below : number < length notes
+  pub address : (note_at notes number).address ≡ a
+  pub slot : (note_at notes number).slot ≡ k
 
--- there are so many slots at least, each item in them misses something, and is noted wherever it is to be
-pub record IsKept (waiters : Slab Waiting) (slots : ℕ) (lists : List (List ℕ)) : Type 0 where
+-- of n lists, the notes of list b with numbers below `end` are below c, and the last of them is right below it
+pub record IsLast (n : ℕ) (notes : List Note) (b c end : ℕ) : Type 0 where
+  pub within : c ≤ end
+  pub last : 0 < c → (note_at notes (c - 1)).address % n ≡ b
+  pub others : (j : ℕ) → c ≤ j → j < end → (note_at notes j).address % n ≢ b
+
+-- each list is found from its head, and on from each note
+pub record IsLinked (heads : List ℕ) (notes : List Note) : Type 0 where
+  pub tops : (b : ℕ) → b < length heads → IsLast (length heads) notes b (slice_index_or heads b 0) (length notes)
+  pub links : (i : ℕ) → i < length notes → IsLast (length heads) notes ((note_at notes i).address % length heads) (note_at notes i).earlier i
+  pub none : length heads ≡ 0 → length notes ≡ 0
+
+-- what is noted in so many lists, the slots that are to be looked at for each input, and for how many of them there is place
+pub record Noted : Type 0 where
+  pub lists : ℕ
+  pub notes : List Note
+  pub strays : List ℕ
+  pub place : ℕ
+
+-- as much is noted, and there is place for as much
+pub record Grows (old new : Noted) : Type 0 where
+  pub notes : (a k : ℕ) → IsAt old.notes a k → IsAt new.notes a k
+  pub strays : (k : ℕ) → Contains old.strays k → Contains new.strays k
+  pub place : new.place ≡ old.place
+
+-- what lies in the slot is noted wherever it is to be, or the slot is a stray
+abbrev pub IsFound : Noted → ℕ → Option Waiting → Type 0
+IsFound places k o = Contains places.strays k ⊎ ((a : ℕ) → slot_needs a o ≡ true → IsAt places.notes a k)
+
+-- each item in the slots is found
+abbrev pub IsNoted : Noted → List (Option Waiting) → Type 0
+IsNoted places slots = (k : ℕ) → IsFound places k (slice_index_or slots k None)
+
+-- there are so many slots at least, and place for as many strays, and each item in them misses something and is found
+pub record IsKept (waiters : Slab Waiting) (slots : ℕ) (places : Noted) : Type 0 where
   pub used : slab_len waiters ≤ slots
   pub has_place : slots ≤ waiters.capacity
+  pub place : slots ≤ places.place
   pub busy : AllBusy waiters.slots
-  pub noted : IsNoted lists waiters.slots
+  pub noted : IsNoted places waiters.slots

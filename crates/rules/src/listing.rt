@@ -7,7 +7,7 @@ ghost use Rattle.rules.specs.Places.{IsNoted};
 
 use crate::input::Input;
 use crate::places::Places;
-use crate::visit::{leave_all, leave_listed, visit_all, visit_listed};
+use crate::visit::{leave_listed, leave_noted, visit_listed, visit_noted};
 use crate::waiter::Waiter;
 use slab::Slab;
 use smallvec::SmallVec;
@@ -29,11 +29,8 @@ fn wake(waiters: &mut Slab<Waiter>, places: &Places, input: &Input, out: &mut Ve
     ensures capacity { waiters.new.capacity ≡ waiters.old.capacity }
     ensures out_capacity { vec_capacity out.new ≡ vec_capacity out.old }
 {
-    if places.len() == 0 {
-        visit_all(waiters, input, out);
-    } else {
-        visit_listed(waiters, places.at(input.address()), input, out);
-    }
+    visit_noted(waiters, places, input, out);
+    visit_listed(waiters, places.strays(), input, out);
 }
 
 // Takes an item out.
@@ -45,27 +42,35 @@ fn let_go(waiters: &mut Slab<Waiter>, places: &Places, item: u64)
     ensures fewer { slab_len waiters.new ≤ slab_len waiters.old }
     ensures capacity { waiters.new.capacity ≡ waiters.old.capacity }
 {
-    if places.len() == 0 {
-        leave_all(waiters, item);
-    } else {
-        leave_listed(waiters, places.at(item), item);
-    }
+    leave_noted(waiters, places, item);
+    leave_listed(waiters, places.strays(), item);
 }
 
-// Places for all that wait, or none where memory is refused.
-fn made_places(alloc: Global, size: usize, waiters: &Slab<Waiter>) -> Places
-    requires { 0 < size }
-    ensures { IsNoted result waiters.now.slots }
+// Takes memory for the notes of as many items of two inputs, if there is less.
+fn fit(
+    alloc: Global,
+    waiters: &Slab<Waiter>,
+    places: &mut Places,
+    slots: usize,
+) -> Result<(), AllocError>
+    requires used { slab_len waiters.now ≤ slots }
+    requires noted { IsNoted places.old waiters.now.slots }
+    ensures noted { IsNoted places.new waiters.now.slots }
+    ensures place { OnOk result (slots ≤ places.new.place) }
+    ensures more { places.old.place ≤ places.new.place }
 {
-    match Places::of(alloc, size, waiters) {
-        Ok(places) => places,
-        Err(_) => Places::none(alloc),
+    if places.place() < slots {
+        let mut wider = Places::sized(alloc, slots.max(FEWEST))?;
+        wider.renew(waiters);
+        *places = wider;
     }
+    Ok(())
 }
 
-// Gives a slot to an item, and notes it. Where memory is refused for that no places are left.
-fn settle(alloc: Global, waiters: &mut Slab<Waiter>, places: &mut Places, waiter: Waiter)
+// Gives a slot to an item, and sees that it is found.
+fn settle(waiters: &mut Slab<Waiter>, places: &mut Places, waiter: Waiter)
     requires room { HasRoomFor waiters.old 1 }
+    requires place { slab_len waiters.old < places.old.place }
     requires busy { AllBusy waiters.old.slots }
     requires misses { is_idle (Some waiter) ≡ false }
     requires noted { IsNoted places.old waiters.old.slots }
@@ -74,13 +79,11 @@ fn settle(alloc: Global, waiters: &mut Slab<Waiter>, places: &mut Places, waiter
     ensures noted { IsNoted places.new waiters.new.slots }
     ensures len { slab_len waiters.new ≡ slab_len waiters.old + 1 }
     ensures capacity { waiters.new.capacity ≡ waiters.old.capacity }
+    ensures place { places.new.place ≡ places.old.place }
 {
     let slot = waiters.insert_reserved(waiter);
-    if places.len() == 0 {
-        return;
-    }
-    if places.note_slot(waiters, slot).is_err() {
-        *places = Places::none(alloc);
+    if !places.keep_slot(waiters, slot, usize::MAX) {
+        places.renew(waiters);
     }
 }
 
@@ -96,12 +99,8 @@ pub struct Rules {
     waiters: Slab<Waiter>,
     // How many items are sure to find a slot, those that wait among them.
     slots: usize,
-    // Where those that wait for an input are found. There are none where memory was refused for them:
-    // then every slot is looked at, until an item is added and there is memory again.
+    // Where those that wait for an input are found.
     places: Places,
-    // How many more inputs may be noted before the places are made anew, which is as many as there are slots. So
-    // what is no longer needed is dropped in time, and looking at every slot is paid by the inputs since.
-    left: usize,
     alloc: Global,
 }
 
@@ -128,7 +127,6 @@ impl Rules {
             waiters: Slab::new(alloc),
             slots: 0,
             places: Places::none(alloc),
-            left: 0,
             alloc,
         }
     }
@@ -140,16 +138,11 @@ impl Rules {
         self.waiters.len()
     }
 
-    // Makes the places anew, if enough was noted in them, or if there are none.
+    // Sees to it that there is place for the notes of an item of so many inputs.
     fn refresh(&mut self, inputs: usize)
         ensures { self.new ≡ self.old }
     {
-        if self.left == 0 || self.places.len() == 0 {
-            let size = self.waiters.capacity().max(FEWEST);
-            self.places = made_places(self.alloc, size, &self.waiters);
-            self.left = size;
-        }
-        self.left = self.left.saturating_sub(inputs);
+        self.places.refresh(self.alloc, &self.waiters, inputs);
     }
 
     // Puts an item into the room that there is.
@@ -158,7 +151,7 @@ impl Rules {
         requires misses { is_idle (Some waiter) ≡ false }
         ensures { IsAdded self.old self.new waiter }
     {
-        settle(self.alloc, &mut self.waiters, &mut self.places, waiter);
+        settle(&mut self.waiters, &mut self.places, waiter);
     }
 
     // Makes room for one item, if there is none.
@@ -171,7 +164,9 @@ impl Rules {
     {
         if self.waiters.len() == self.slots {
             self.waiters.reserve(1)?;
-            self.slots = self.waiters.capacity();
+            let slots = self.waiters.capacity();
+            fit(self.alloc, &self.waiters, &mut self.places, slots)?;
+            self.slots = slots;
         }
         Ok(())
     }
@@ -191,6 +186,7 @@ impl Rules {
             let most = self.waiters.capacity();
             let slots = self.waiters.len() + n;
             prove!(slots <= most);
+            fit(self.alloc, &self.waiters, &mut self.places, most)?;
             self.slots = slots;
         }
         Ok(())

@@ -3,8 +3,10 @@ ghost use Rattle.std.specs.Prelude.{◌≡◌, ◌⊎◌, ℕ, ◌+◌, ◌≤�
 ghost use Rattle.slab.specs.Slab.{get, slab_len};
 ghost use Rattle.rules.specs.Slots.{after_slot, unless_item, told, present, IsSettled, Shrinks, Learnt};
 ghost use Rattle.rules.specs.Waiting.{without_item};
+ghost use Rattle.rules.specs.Places.{address, IsAt};
 
 use crate::input::Input;
+use crate::places::Places;
 use crate::waiter::Waiter;
 use slab::Slab;
 
@@ -44,18 +46,26 @@ pub fn visit_listed(waiters: &mut Slab<Waiter>, slots: &[usize], input: &Input, 
     }
 }
 
-/// Visits all slots.
-pub fn visit_all(waiters: &mut Slab<Waiter>, input: &Input, out: &mut Vec<u64>)
+/// Visits each slot that is noted at the input's address.
+pub fn visit_noted(waiters: &mut Slab<Waiter>, places: &Places, input: &Input, out: &mut Vec<u64>)
     requires { slab_len waiters.old + vec_len out.old ≤ vec_capacity out.old }
     ensures learnt { Learnt input.now waiters.old.slots waiters.new.slots out.old.items out.new.items }
-    ensures settled { (k : ℕ) → IsSettled (after_slot input.now) waiters.new.slots k }
+    ensures settled { (k : ℕ) → IsAt places.now.notes (address input.now) k ⊎ IsSettled (after_slot input.now) waiters.old.slots k
+        → IsSettled (after_slot input.now) waiters.new.slots k }
     ensures shrinks { Shrinks (after_slot input.now) waiters.old.slots waiters.new.slots }
     ensures balance { slab_len waiters.new + vec_len out.new ≡ slab_len waiters.old + vec_len out.old }
     ensures capacity { waiters.new.capacity ≡ waiters.old.capacity }
     ensures out_capacity { vec_capacity out.new ≡ vec_capacity out.old }
 {
-    for slot in 0..waiters.capacity() {
-        visit(waiters, slot, input, out);
+    let address = input.address();
+    let mut next = places.last(address);
+    while next > 0 {
+        let note = places.note(next - 1);
+        next = note.earlier;
+        if note.address != address {
+            continue;
+        }
+        visit(waiters, note.slot, input, out);
     }
 }
 
@@ -87,15 +97,22 @@ pub fn leave_listed(waiters: &mut Slab<Waiter>, slots: &[usize], item: u64)
     }
 }
 
-/// Takes the item out of all slots.
-pub fn leave_all(waiters: &mut Slab<Waiter>, item: u64)
+/// Takes the item out of each slot that is noted at its number.
+pub fn leave_noted(waiters: &mut Slab<Waiter>, places: &Places, item: u64)
     ensures others { without_item item (present waiters.new.slots) ≡ without_item item (present waiters.old.slots) }
-    ensures settled { (k : ℕ) → IsSettled (unless_item item) waiters.new.slots k }
+    ensures settled { (k : ℕ) → IsAt places.now.notes item k ⊎ IsSettled (unless_item item) waiters.old.slots k
+        → IsSettled (unless_item item) waiters.new.slots k }
     ensures shrinks { Shrinks (unless_item item) waiters.old.slots waiters.new.slots }
     ensures fewer { slab_len waiters.new ≤ slab_len waiters.old }
     ensures capacity { waiters.new.capacity ≡ waiters.old.capacity }
 {
-    for slot in 0..waiters.capacity() {
-        leave(waiters, slot, item);
+    let mut next = places.last(item);
+    while next > 0 {
+        let note = places.note(next - 1);
+        next = note.earlier;
+        if note.address != item {
+            continue;
+        }
+        leave(waiters, note.slot, item);
     }
 }

@@ -16,6 +16,7 @@ invariant_of-self c =
     record {
       used = omega (arith, c.self.invariant.used, after.fewer);
       has_place = rw after.capacity c.self.invariant.has_place;
+      place = c.self.invariant.place;
       busy = busy_shrinks (unless_item x) (busy_unless x) old new after.shrinks c.self.invariant.busy;
       noted = noted_shrinks (unless_item x) (needs_unless x) c.self.inside.places old new after.shrinks c.self.invariant.noted;
     }

@@ -24,6 +24,7 @@ invariant_of-self c =
     record {
       used = omega (arith, c.self.invariant.used, fewer);
       has_place = rw after.capacity c.self.invariant.has_place;
+      place = c.self.invariant.place;
       busy = busy_shrinks (after_slot i) (λ o h. busy_after i o) old new after.shrinks c.self.invariant.busy;
       noted = noted_shrinks (after_slot i) (needs_after i) c.self.inside.places old new after.shrinks c.self.invariant.noted;
     }
