@@ -22,7 +22,7 @@ mark_view Marks.Over = Pure.Over
 
 abbrev pub job_view : Job → Pure.Job
 job_view Jobs.Script = Pure.Script
-job_view (Jobs.Does k e c) = Pure.Does k e c
+job_view (Jobs.Does e k c) = Pure.Does k e c
 
 abbrev pub row_view : Item → Pure.Row
 row_view i = record { job = job_view i.job; mark = mark_view i.mark }
@@ -32,7 +32,7 @@ rows_view items = map row_view items
 
 -- the new item of an entry in an instance
 abbrev pub new_item : (instance entry : ℕ) → Item
-new_item k e = record { job = Jobs.Does k e 0; mark = Marks.Waiting }
+new_item k e = record { job = Jobs.Does e k 0; mark = Marks.Waiting }
 
 -- instances
 abbrev pub step_view : Step → Places.Step

@@ -18,8 +18,8 @@ pub enum Mark {
 pub enum Job {
     Script,
     Does {
-        instance: usize,
         entry: u32,
+        instance: usize,
         chunk: usize,
     },
 }

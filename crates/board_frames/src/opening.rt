@@ -38,14 +38,14 @@ pub struct Opening {
 #[derive(Drop)]
 pub struct Openings {
     pub body: u32,
+    /// Whether one more item goes on with the loop.
+    pub goes_on: bool,
     pub list: Vec<Opening>,
     /// The slots of a turn's variables.
     pub value: Option<usize>,
     pub turn: Option<usize>,
     /// Lists for what items miss that may wait for more than two inputs.
     pub spare: Vec<Inputs>,
-    /// Whether one more item goes on with the loop.
-    pub goes_on: bool,
 }
 
 /// What a call hands over in one place.
