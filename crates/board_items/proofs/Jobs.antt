@@ -1,6 +1,7 @@
 -- What jobs miss, and by whom they are run.
-use Rattle.std.proofs.Common.{◌≡◌, ◌∙◌, ℕ, zero, suc, ◌≤◌, Bool, true, false, List, [], ◌∷◌, ◌++◌, map, length, refl, sym, ap, subst, arith, append-nil, Option, Some, None}
-use Rattle.std.specs.List.{flat_map}
+use Rattle.std.proofs.lemmas.Bool.Decides.{nat_tests}
+use Rattle.std.proofs.Common.{◌≡◌, ◌∙◌, ℕ, zero, suc, ◌≤◌, Bool, true, false, IsTrue, List, [], ◌∷◌, ◌++◌, map, length, refl, sym, ap, subst, arith, append-nil, Option, Some, None}
+use Rattle.std.specs.List.{AllZip, flat_map}
 use Rattle.board_code.specs.Spots.{layout_of}
 use Rattle.board_code.proofs.Found.{home_found}
 use Rattle.dataflow.specs.System.{In}
@@ -15,12 +16,13 @@ use Rattle.replayed.specs.Fields.{Counted, Does, Frame, Job, Script, Want, slot_
 use Rattle.replayed.specs.Needs.{missed}
 use Rattle.task_code.specs.Code.{Code, Entry, blank_entry, body, entry, kind_of, nth}
 use Rattle.work_queue.specs.declared.entry.Kind.TheVariants.{Leaf}
-use Rattle.std.specs.Prelude.{pos}
-use Rattle.std.specs.Bool.{OnFalse, OnTrue}
+use Rattle.std.specs.Prelude.{filter, if◌then◌else◌, nat_lt, pos}
+use Rattle.std.specs.Bool.{OnTrue}
 use Rattle.board_items.specs.Learnt.{is_nil}
 use Rattle.rules.specs.declared.input.Input.{Input}
 use Rattle.smallvec.specs.SmallVec.{HasRoomFor, SmallVec}
-use Rattle.board_items.specs.Ended.{IsSeen, first_needs, goes_on_with, misses, needs_of}
+use Rattle.board_items.specs.Room.{AreSpare}
+use Rattle.board_items.specs.Ended.{IsSeen, first_needs, goes_on_with, misses, misses_first, needs_of}
 
 nth_past : (xs : List Entry) (i : ℕ) → length xs ≤ i → nth blank_entry xs i ≡ blank_entry
 nth_past [] i h = refl
@@ -51,14 +53,11 @@ module _ (C : Code) (fs : List (Option Frame)) (cs : List (Option Counted)) wher
   pub listed_past : (xs : List (Want ℕ)) (k e c : ℕ) (j : Job) → j ≡ Does k e c → IsSeen C fs j → length C.entries ≤ e → xs ≡ xs ++ misses C fs cs j
   listed_past xs k e c j q x h = sym (ap (λ ys. xs ++ ys) (ap (misses C fs cs) q ∙ misses_past k e c (subst (IsSeen C fs) q x) h) ∙ append-nil xs)
 
+  pub missed_past : (k e c : ℕ) (j : Job) → j ≡ Does k e c → IsSeen C fs j → length C.entries ≤ e → misses C fs cs j ≡ []
+  missed_past k e c j q x h = ap (misses C fs cs) q ∙ misses_past k e c (subst (IsSeen C fs) q x) h
+
   pub listed_there : (ws : List Wanted) (k e c : ℕ) (j : Job) → j ≡ Does k e c → FewSlots fs → IsSeen C fs j → ws ≡ map (wanted_in C (body_of C e)) (entry C e).needs → flat_map (wanted_missed C cs (led_slot fs k)) ws ≡ misses C fs cs j
   listed_there ws k e c j q few x t = misses_listed k e c ws few (subst (IsSeen C fs) q x) t ∙ sym (ap (misses C fs cs) q)
-
-pub needs_past : (C : Code) (k e c : ℕ) (j : Job) → j ≡ Does k e c → length C.entries ≤ e → needs_of C j ≤ 2
-needs_past C k e c j q h =
-    let a : needs_of C j ≡ length (entry C e).needs = ap (needs_of C) q in
-    let b : length (entry C e).needs ≡ 0 = ap (λ (x : Entry). length x.needs) (nth_past C.entries e h) in
-    omega arith
 
 -- a test whether nothing is missed
 nil_of : (xs : List (Want ℕ)) → is_nil xs ≡ true → xs ≡ []
@@ -69,9 +68,8 @@ pub true_none : (b : Bool) (xs ys : List (Want ℕ)) → b ≡ is_nil xs → xs 
 true_none true xs ys e q = sym q ∙ nil_of xs (sym e)
 true_none false xs ys e q = tt
 
-pub false_some : (P : Type 0) (b : Bool) (xs ys : List (Want ℕ)) → b ≡ is_nil xs → xs ≡ ys → ys ≡ [] → OnFalse b P
-false_some P true xs ys e q z = tt
-false_some P false xs ys e q z = let t : false ≡ true = e ∙ ap is_nil (q ∙ z) in absurd (cc (t))
+pub none_true : (b : Bool) (xs ys : List (Want ℕ)) → b ≡ is_nil xs → xs ≡ ys → ys ≡ [] → IsTrue b
+none_true b xs ys e q z = e ∙ ap is_nil (q ∙ z)
 
 -- new items
 pub first_past : (C : Code) (k e c : ℕ) (j : Job) → j ≡ Does k e c → length C.entries ≤ e → 0 ≡ first_needs C j
@@ -91,6 +89,25 @@ room_first C j v e h g = by j h g
     by Script h g = let z = none in omega arith
     by (Does k e zero) h g = let z = none in omega arith
     by (Does k e (suc c)) h g = absurd (cc (g))
+
+-- what a new item misses
+module _ (C : Code) (fs : List (Option Frame)) (cs : List (Option Counted)) where
+  pub goes_none : (j : Job) → goes_on_with j ≡ true → misses_first C fs cs j ≡ []
+  goes_none Script h = refl
+  goes_none (Does k e zero) h = absurd (cc (h))
+  goes_none (Does k e (suc c)) h = refl
+
+  pub first_same : (j : Job) → goes_on_with j ≡ false → misses_first C fs cs j ≡ misses C fs cs j
+  first_same Script h = refl
+  first_same (Does k e zero) h = refl
+  first_same (Does k e (suc c)) h = absurd (cc (h))
+
+-- the lists for new items behind one that needs none
+pub spare_rest : (C : Code) (j : Job) (js : List Job) (ls : List (SmallVec Input)) → first_needs C j ≤ 2 → AreSpare C (j ∷ js) ls → AreSpare C js ls
+spare_rest C j js ls h s = subst (λ (b : Bool). AllZip (λ n (l : SmallVec Input). n ≤ l.capacity) (if b then first_needs C j ∷ filter (nat_lt 2) (map (first_needs C) js) else filter (nat_lt 2) (map (first_needs C) js)) ls) (few (first_needs C j) h) s
+  where
+    few : (n : ℕ) → n ≤ 2 → nat_lt 2 n ≡ false
+    few n h = grind (arith, nat_tests)
 
 -- an entry in an instance of the body that has it
 pub seen_there : (C : Code) → IsCode C → (fs : List (Option Frame)) (k e c : ℕ) (f : Frame) → slot_at fs k ≡ Some f → In e (body C f.body).entries → IsSeen C fs (Does k e c)

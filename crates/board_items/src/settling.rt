@@ -3,7 +3,7 @@ ghost use Rattle.std.specs.Bool.{OnFalse, OnTrue};
 ghost use Rattle.std.specs.List.{flat_map};
 ghost use Rattle.board_data.specs.Wanted.{wanted_missed};
 ghost use Rattle.board_frames.specs.Names.{led_slot};
-ghost use Rattle.std.specs.Prelude.{◌≡◌, ◌⊎◌, ◌<◌, ◌≤◌, ◌+◌, ◌-◌, ◌++◌, ◌∷◌, [], ℕ, ℤ, List, Some, length, map, reverse, true, false, IfOk, IsOk, OnErr, OnOk, vec_len, vec_capacity};
+ghost use Rattle.std.specs.Prelude.{◌≡◌, ◌⊎◌, ◌<◌, ◌≤◌, ◌+◌, ◌-◌, ◌++◌, ◌∷◌, [], ℕ, ℤ, List, Some, length, map, reverse, true, false, IfOk, IsOk, IsTrue, OnErr, OnOk, vec_len, vec_capacity};
 ghost use Rattle.smallvec.specs.SmallVec.{HasRoomFor};
 ghost use Rattle.replayed.specs.Ending.{job_kind, job_priority};
 ghost use Rattle.replayed.specs.Fields.{Job as AJob, Over as over_mark, Row, Waiter, Want, row_of};
@@ -82,13 +82,12 @@ impl<'a> Outlook<'a> {
         view.list_missing(table.needs.as_slice(), inputs)
     }
 
-    /// Whether the item of a job may wait for more than two inputs, and misses none of them.
-    fn has_many(self, job: Job) -> bool
+    /// Whether the item of a job misses nothing.
+    fn has_inputs(self, job: Job) -> bool
         ensures none { FewSlots (frames_view self.entry.instances.now.slots) → IsSeen self.entry.program.now (frames_view self.entry.instances.now.slots) (job_view job) →
             OnTrue result (misses self.entry.program.now (frames_view self.entry.instances.now.slots) (cells_view self.entry.store.now.cells) (job_view job) ≡ []) }
-        ensures few { FewSlots (frames_view self.entry.instances.now.slots) → IsSeen self.entry.program.now (frames_view self.entry.instances.now.slots) (job_view job) →
-            misses self.entry.program.now (frames_view self.entry.instances.now.slots) (cells_view self.entry.store.now.cells) (job_view job) ≡ [] →
-            OnFalse result (needs_of self.entry.program.now (job_view job) ≤ 2) }
+        ensures some { FewSlots (frames_view self.entry.instances.now.slots) → IsSeen self.entry.program.now (frames_view self.entry.instances.now.slots) (job_view job) →
+            misses self.entry.program.now (frames_view self.entry.instances.now.slots) (cells_view self.entry.store.now.cells) (job_view job) ≡ [] → IsTrue result }
     {
         let Job::Does {
             instance,
@@ -96,10 +95,10 @@ impl<'a> Outlook<'a> {
             chunk: _,
         } = job
         else {
-            return false;
+            return true;
         };
         let Some(table) = self.program.entry(entry) else {
-            return false;
+            return true;
         };
         let view = View {
             program: self.program,
@@ -107,24 +106,36 @@ impl<'a> Outlook<'a> {
             store: self.store,
             at: instance,
         };
-        table.needs.len() > 2 && has_all(view, table.needs.as_slice())
+        has_all(view, table.needs.as_slice())
+    }
+
+    /// Whether a new item misses nothing that may wait for two inputs at most.
+    fn begins(self, job: Job) -> bool
+        ensures none { FewSlots (frames_view self.entry.instances.now.slots) → IsSeen self.entry.program.now (frames_view self.entry.instances.now.slots) (job_view job) →
+            OnTrue result (misses_first self.entry.program.now (frames_view self.entry.instances.now.slots) (cells_view self.entry.store.now.cells) (job_view job) ≡ []) }
+        ensures few { OnTrue result (first_needs self.entry.program.now (job_view job) ≤ 2) }
+    {
+        if first_needs(self.program, job) > 2 {
+            return false;
+        }
+        if goes_on(job) {
+            return true;
+        }
+        self.has_inputs(job)
     }
 
     /// What an item that was woken misses next.
     ///
     /// # Errors
     ///
-    /// `AllocError` where it misses something, may wait for more than two inputs, and memory is refused.
+    /// `AllocError` where it may wait for more than two inputs, and memory is refused.
     fn missed_next(self, job: Job) -> Result<Inputs, AllocError>
         ensures listed { FewSlots (frames_view self.entry.instances.now.slots) → IsSeen self.entry.program.now (frames_view self.entry.instances.now.slots) (job_view job) →
             IfOk result (λ inputs. map want_view inputs.items ≡ misses self.entry.program.now (frames_view self.entry.instances.now.slots) (cells_view self.entry.store.now.cells) (job_view job)) }
-        ensures succeeds { FewSlots (frames_view self.entry.instances.now.slots) → IsSeen self.entry.program.now (frames_view self.entry.instances.now.slots) (job_view job) →
-            (needs_of self.entry.program.now (job_view job) ≤ 2) ⊎ (misses self.entry.program.now (frames_view self.entry.instances.now.slots) (cells_view self.entry.store.now.cells) (job_view job) ≡ []) → IsOk result }
+        ensures succeeds { needs_of self.entry.program.now (job_view job) ≤ 2 → IsOk result }
     {
         let mut inputs = SmallVec::new(self.alloc);
-        if !self.has_many(job) {
-            self.list_missing(job, &mut inputs)?;
-        }
+        self.list_missing(job, &mut inputs)?;
         Ok(inputs)
     }
 
@@ -220,6 +231,16 @@ impl Items {
         Ok(())
     }
 
+    /// The item, which misses nothing, can begin.
+    fn settle_ready(&mut self, number: u64, order: (Kind, i32))
+        ensures settles { Settles number [] order.0 order.1 self.old self.new }
+        ensures woken { self.new.woken ≡ self.old.woken }
+        ensures running { self.new.running ≡ self.old.running }
+        ensures len { vec_len self.new.rows ≡ vec_len self.old.rows }
+    {
+        self.make_ready(number, order);
+    }
+
     /// An item that has learnt of its last input waits for what it misses next, or can begin.
     fn wake_one(&mut self, outlook: Outlook<'_>, number: u64) -> Result<(), AllocError>
         ensures settles { OnOk result ((r : Row) → row_of (rows_view self.old.rows.items) number ≡ Some r → FewSlots (frames_view outlook.entry.instances.now.slots) → IsSeen outlook.entry.program.now (frames_view outlook.entry.instances.now.slots) r.job →
@@ -233,8 +254,13 @@ impl Items {
         let Some(item) = item_of(self.rows.as_slice(), number) else {
             return Ok(());
         };
+        let order = order_of(outlook.program, item.job);
+        if outlook.has_inputs(item.job) {
+            self.settle_ready(number, order);
+            return Ok(());
+        }
         let inputs = outlook.missed_next(item.job)?;
-        self.settle_with(number, order_of(outlook.program, item.job), inputs)
+        self.settle_with(number, order, inputs)
     }
 
     /// The new item at this place waits for what it misses first, or can begin.
@@ -254,8 +280,14 @@ impl Items {
         ensures succeeds { (r : Row) (jobs : List AJob) → row_of (rows_view self.old.rows.items) (place + 1) ≡ Some r → AreSpare outlook.entry.program.now (r.job ∷ jobs) (reverse spare.old.items) → 0 < self.old.rules.room → IsOk result }
     {
         let job = self.rows[place].job;
+        let number = place as u64 + 1;
+        let order = order_of(outlook.program, job);
+        if outlook.begins(job) {
+            self.settle_ready(number, order);
+            return Ok(());
+        }
         let inputs = outlook.missed_first(job, spare)?;
-        self.settle_with(place as u64 + 1, order_of(outlook.program, job), inputs)
+        self.settle_with(number, order, inputs)
     }
 
     /// Those that have learnt of their last input wait for what they miss next, or can begin.
