@@ -16,6 +16,7 @@ use Rattle.task_code.specs.View.{event_view}
 use Rattle.task_code.specs.Whole.{IsCode}
 use Rattle.task_code.specs.declared.event.Event.{Event as BoardEvent}
 use Rattle.rules.specs.declared.input.Input.{Input}
+use Rattle.board_work.specs.declared.answer.Answer.{Answer}
 use Rattle.board_code.specs.Spots.{layout_of}
 use Rattle.board_frames.specs.View.{rows_view}
 use Rattle.board_frames.specs.declared.place.Fault.{Fault}
@@ -204,8 +205,8 @@ sound_on a s b e program most limit history stand room within worker number =
     events = ap (map event_view) history ∙ history_goes a.history.items e
 
 -- the board as it was, but for room
-pub same_on : (a : Inside) (s : IsSound a) (core : Core) (known : Vec Input Global) → IsUnchanged a.program (map event_view a.history.items) a.core core → IsSound (record { program = a.program; most_names = a.most_names; limit = a.limit; core = core; history = a.history; known = known })
-same_on a s core known k =
+pub same_on : (a : Inside) (s : IsSound a) (core : Core) (known : Vec Input Global) (answers : Vec Answer Global) → IsUnchanged a.program (map event_view a.history.items) a.core core → IsSound (record { program = a.program; most_names = a.most_names; limit = a.limit; core = core; history = a.history; known = known; answers = answers })
+same_on a s core known answers k =
     record {
       whole = s.whole;
       names = s.names;
@@ -217,12 +218,12 @@ same_on a s core known k =
       numbers = s.numbers;
     }
 
-pub same_seen : (a : Inside) (core : Core) (known : Vec Input Global) → core.items.newly.items ≡ a.core.items.newly.items → seen_of (record { program = a.program; most_names = a.most_names; limit = a.limit; core = core; history = a.history; known = known }) ≡ seen_of a
-same_seen a core known e = ap (λ (ns : List ℕ). record { code = a.program; limit = a.limit; state = state_of a.program (map event_view a.history.items); history = map event_view a.history.items; newly = ns }) e
+pub same_seen : (a : Inside) (core : Core) (known : Vec Input Global) (answers : Vec Answer Global) → core.items.newly.items ≡ a.core.items.newly.items → seen_of (record { program = a.program; most_names = a.most_names; limit = a.limit; core = core; history = a.history; known = known; answers = answers }) ≡ seen_of a
+same_seen a core known answers e = ap (λ (ns : List ℕ). record { code = a.program; limit = a.limit; state = state_of a.program (map event_view a.history.items); history = map event_view a.history.items; newly = ns }) e
 
 -- the same board
-pub sorted_sound : (a : Inside) (s : IsSound a) (core : Core) → core ≡ a.core → (history : Vec BoardEvent Global) → history.items ≡ a.history.items → vec_len history ≡ vec_len a.history → vec_capacity a.history ≤ vec_capacity history → IsSound (record { program = a.program; most_names = a.most_names; limit = a.limit; core = core; history = history; known = a.known })
-sorted_sound a s core e history items len capacity =
+pub sorted_sound : (a : Inside) (s : IsSound a) (core : Core) (answers : Vec Answer Global) → core ≡ a.core → (history : Vec BoardEvent Global) → history.items ≡ a.history.items → vec_len history ≡ vec_len a.history → vec_capacity a.history ≤ vec_capacity history → IsSound (record { program = a.program; most_names = a.most_names; limit = a.limit; core = core; history = history; known = a.known; answers = answers })
+sorted_sound a s core answers e history items len capacity =
     record {
       whole = s.whole;
       names = s.names;

@@ -22,10 +22,12 @@ use board_code::program::Program;
 use board_frames::item::{Job, Mark, item_of};
 use board_frames::place::{Fault, Statement};
 use board_items::items::order_of;
+use board_work::answer::Answer;
 use board_work::work::{Done, Job as Task, Work};
 use rules::input::Input;
 use std::alloc::{AllocError, Global};
 use std::marker::Model;
+use std::mem::replace;
 use task_code::code::Code;
 use task_code::entry::Kind;
 use task_code::event::Event;
@@ -42,6 +44,8 @@ pub struct Board {
     history: Vec<Event>,
     /// What an End makes known, until that is told. It means nothing between two calls.
     known: Vec<Input>,
+    /// The list of the answers of work that has ended, for those of the next. It means nothing.
+    answers: Vec<Answer>,
 }
 
 impl Model for Board {
@@ -98,6 +102,7 @@ impl Board {
             core: Core::new(alloc)?,
             history: Vec::new(alloc),
             known: Vec::new(alloc),
+            answers: Vec::new(alloc),
         })
     }
 
@@ -131,7 +136,8 @@ impl Board {
         let Ok(()) = self.core.sort_arrays(&self.program, job) else {
             return Err(Refusal::Memory);
         };
-        let Ok(work) = self.core.work(&self.program, item, job) else {
+        let list = replace(&mut self.answers, Vec::new(self.core.alloc));
+        let Ok(work) = self.core.work(&self.program, item, job, list) else {
             return Err(Refusal::Memory);
         };
         // Room for this event, and for the next one of each item that runs.
@@ -183,6 +189,7 @@ impl Board {
             return Err((done, Refusal::Memory));
         };
         self.history.push_reserved(Event::End { worker, item });
+        self.answers = done.into_list();
         Ok(())
     }
 
@@ -226,7 +233,8 @@ impl Board {
         let Some(job) = self.core.running_job(worker, item) else {
             return Err(Refusal::NotYours);
         };
-        let Ok(work) = self.core.work(&self.program, item, job) else {
+        let list = Vec::new(self.core.alloc);
+        let Ok(work) = self.core.work(&self.program, item, job, list) else {
             return Err(Refusal::Memory);
         };
         Ok(work)

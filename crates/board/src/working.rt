@@ -13,6 +13,7 @@ use board_data::answers::{answers, are_answers};
 use board_data::data;
 use board_frames::instance::datum_at;
 use board_frames::item::Job;
+use board_work::answer::Answer;
 use board_work::work::{Done, Job as Task, Work};
 use std::alloc::AllocError;
 
@@ -39,8 +40,14 @@ impl Core {
         Ok(())
     }
 
-    /// The work of the item of a number, which has this job.
-    pub fn work(&self, program: &Program, number: u64, job: Job) -> Result<Work, AllocError>
+    /// The work of the item of a number, which has this job, with the answers in the list, whatever was in it.
+    pub fn work(
+        &self,
+        program: &Program,
+        number: u64,
+        job: Job,
+        list: Vec<Answer>,
+    ) -> Result<Work, AllocError>
         requires { IsThere program.now (job_view job) }
         ensures number { IfOk result (λ work. work.item ≡ number) }
         ensures own { IfOk result (λ work. IsWorkAt program.now (frames_view self.now.world.instances.slots) (cells_view self.now.world.store.cells) (job_view job) work) }
@@ -56,7 +63,7 @@ impl Core {
                 program.entry(entry),
             ) {
                 let view = self.view(program, instance);
-                let found = answers(self.alloc, view, table.needs.as_slice())?;
+                let found = answers(list, view, table.needs.as_slice())?;
                 return Ok(Work::new(number, Task::Entry(shared), found));
             }
         }

@@ -19,7 +19,7 @@ use crate::wanted::View;
 use board_code::program::Wanted;
 use board_work::answer::Answer;
 use data_store::store::{Shape, Store};
-use std::alloc::{AllocError, Global};
+use std::alloc::AllocError;
 use values::map::{Element, Map};
 use values::value::Scalar;
 
@@ -57,15 +57,20 @@ fn answer(view: View<'_>, wanted: &Wanted) -> Result<Answer, AllocError>
     }
 }
 
-/// The answers to all that is waited for, in order.
+/// The answers to all that is waited for, in order, in a list that is emptied first.
 ///
 /// # Errors
 ///
-/// `AllocError` where memory that was asked for was refused.
-pub fn answers(alloc: Global, view: View<'_>, needs: &[Wanted]) -> Result<Vec<Answer>, AllocError>
+/// `AllocError` where memory that was asked for was refused. None is asked for where the list has room.
+pub fn answers(
+    list: Vec<Answer>,
+    view: View<'_>,
+    needs: &[Wanted],
+) -> Result<Vec<Answer>, AllocError>
     ensures { IfOk result (λ answers. answers_view answers.items ≡ map (wanted_answer view.entry.program.now (cells_view view.entry.store.now.cells) (led_slot (frames_view view.entry.instances.now.slots) view.entry.at)) needs.now) }
 {
-    let mut answers = Vec::new(alloc);
+    let mut answers = list;
+    answers.clear();
     answers.reserve_exact(needs.len())?;
     for wanted in needs {
         answers.push(answer(view, wanted)?)?;

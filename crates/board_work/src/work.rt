@@ -1,5 +1,5 @@
 //! Items that run, and what they come to.
-ghost use Rattle.std.specs.Prelude.{◌≡◌, ◌↔◌, IfOk, IfErr, IsTrue};
+ghost use Rattle.std.specs.Prelude.{◌≡◌, ◌↔◌, [], IfOk, IfErr, IsTrue};
 ghost use Rattle.std.specs.Option.{option_copied};
 ghost use Rattle.task_code.specs.View.{entry_view, kind_view};
 ghost use Rattle.board_work.specs.View.{answers_view};
@@ -170,6 +170,15 @@ impl Done {
         ensures { answers_view result.now.items ≡ self.now.answers }
     {
         &self.answers
+    }
+
+    /// The list that had the answers, emptied, with the room that it has.
+    pub fn into_list(self) -> Vec<Answer>
+        ensures { result.items ≡ [] }
+    {
+        let mut list = self.answers;
+        list.clear();
+        list
     }
 
     /// What the item computed.

@@ -149,7 +149,8 @@ fn needs_are_answered(rt: HostRuntime) {
     let mut opened = open(&rt, rt.alloc());
     data::put(&mut opened.world.store, 0, Scalar::Truth(true));
     let needs = [Wanted::Stored(Some(FIRST)), Wanted::Closed(None)];
-    let found = answers(rt.alloc(), opened.view(), &needs).expect(&rt, "memory");
+    let list = Vec::from_array(rt.alloc(), [Answer::Missing]).expect(&rt, "memory");
+    let found = answers(list, opened.view(), &needs).expect(&rt, "memory");
     assert!(rt;
         matches!(
             found.as_slice(),

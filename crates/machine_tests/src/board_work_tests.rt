@@ -325,6 +325,7 @@ fn what_is_done_has_a_result(rt: HostRuntime) {
     let done = stored(&rt, rt.alloc(), b"1x+");
     assert!(rt; matches!(done.result(), Some(Ok(Value::One(Scalar::Number(6))))));
     assert_eq!(rt; done.answers().len(), 1);
+    assert!(rt; done.into_list().is_empty());
 }
 
 /// Whether an answer is the array that has these numbers under 4 and 5.

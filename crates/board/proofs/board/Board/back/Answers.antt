@@ -26,7 +26,7 @@ invariant_of-self c =
     let here : IsGoing (seen_of c.self.inside) = subst (λ (b : Seen). IsGoing b) (sym c.self.view_is) going in
     let none = free_core c.self.inside.program c.self.invariant.whole (map event_view c.self.inside.history.items) c.self.inside.core c.self.invariant.stand here.0 in
     let some = some_run c.self.inside.program c.self.invariant.whole (map event_view c.self.inside.history.items) c.self.inside.core c.self.invariant.stand c.args.worker c.args.item (job_view c.in-Some.job) c.in-Some.ensures.some in
-    sound_on c.self.inside c.self.invariant (record { program = c.self.inside.program; most_names = c.self.inside.most_names; limit = c.self.inside.limit; core = c.back.new.self; history = c.push_reserved.new.self; known = c.self.inside.known }) (Events.Back c.args.worker c.args.item) refl refl refl (search rules)
+    sound_on c.self.inside c.self.invariant (record { program = c.self.inside.program; most_names = c.self.inside.most_names; limit = c.self.inside.limit; core = c.back.new.self; history = c.push_reserved.new.self; known = c.self.inside.known; answers = c.self.inside.answers }) (Events.Back c.args.worker c.args.item) refl refl refl (search rules)
     (c.back.ensures.stand (map event_view c.self.inside.history.items) c.args.worker c.self.invariant.whole c.self.invariant.stand none c.in-Some.ensures.some)
     (λ h. grind (arith, common_steps, c.self.invariant.room none, some, c.back.ensures.running))
     (grind (arith, common_steps, here.1))
@@ -38,5 +38,5 @@ returns-clause-accepted c =
     let going : IsGoing c.args.self.now = search rules in
     let here : IsGoing (seen_of c.self.inside) = subst (λ (b : Seen). IsGoing b) (sym c.self.view_is) going in
     let none = free_core c.self.inside.program c.self.invariant.whole (map event_view c.self.inside.history.items) c.self.inside.core c.self.invariant.stand here.0 in
-    rw (← c.self.view_is) (accepts_on c.self.inside c.self.invariant (record { program = c.self.inside.program; most_names = c.self.inside.most_names; limit = c.self.inside.limit; core = c.back.new.self; history = c.push_reserved.new.self; known = c.self.inside.known }) (Events.Back c.args.worker c.args.item) refl refl (search rules)
+    rw (← c.self.view_is) (accepts_on c.self.inside c.self.invariant (record { program = c.self.inside.program; most_names = c.self.inside.most_names; limit = c.self.inside.limit; core = c.back.new.self; history = c.push_reserved.new.self; known = c.self.inside.known; answers = c.self.inside.answers }) (Events.Back c.args.worker c.args.item) refl refl (search rules)
     (c.back.ensures.stand (map event_view c.self.inside.history.items) c.args.worker c.self.invariant.whole c.self.invariant.stand none c.in-Some.ensures.some) here)

@@ -37,7 +37,7 @@ invariant_of-self-2 c =
     let here : IsGoing (seen_of c.self.inside) = subst (λ (b : Seen). IsGoing b) (sym c.self.view_is) going in
     let none = free_core c.self.inside.program c.self.invariant.whole (map event_view c.self.inside.history.items) c.self.inside.core c.self.invariant.stand here.0 in
     let at : IsWorkAt c.self.inside.program (frames_view c.self.inside.core.world.instances.slots) (cells_view c.self.inside.core.world.store.cells) (job_view c.in-Some.job) c.args.done = c.is_done_for.ensures.0 (search rules) in
-    sound_on c.self.inside c.self.invariant (record { program = c.self.inside.program; most_names = c.self.inside.most_names; limit = c.self.inside.limit; core = c.end.new.self; history = c.push_reserved.new.self; known = c.end.new.known }) (Events.End c.args.worker c.item-item.result) refl refl refl (search rules)
+    sound_on c.self.inside c.self.invariant (record { program = c.self.inside.program; most_names = c.self.inside.most_names; limit = c.self.inside.limit; core = c.end.new.self; history = c.push_reserved.new.self; known = c.end.new.known; answers = c.into_list.result }) (Events.End c.args.worker c.item-item.result) refl refl refl (search rules)
     (c.in-Ok.ensures.ended.stand (map event_view c.self.inside.history.items) c.args.worker c.self.invariant.whole c.self.invariant.stand none c.in-Some.ensures.some
     (work_own c.self.inside.program c.self.invariant.whole (map event_view c.self.inside.history.items) c.self.inside.core c.self.invariant.stand none c.args.worker c.item-item.result (job_view c.in-Some.job) c.in-Some.ensures.some c.args.done at))
     (λ h. grind (arith, common_steps, c.self.invariant.room none, c.in-Ok.ensures.ended.running (map event_view c.self.inside.history.items) c.args.worker c.self.invariant.whole c.self.invariant.stand c.in-Some.ensures.some h))
@@ -51,7 +51,7 @@ returns-clause-accepted c =
     let here : IsGoing (seen_of c.self.inside) = subst (λ (b : Seen). IsGoing b) (sym c.self.view_is) going in
     let none = free_core c.self.inside.program c.self.invariant.whole (map event_view c.self.inside.history.items) c.self.inside.core c.self.invariant.stand here.0 in
     let at : IsWorkAt c.self.inside.program (frames_view c.self.inside.core.world.instances.slots) (cells_view c.self.inside.core.world.store.cells) (job_view c.in-Some.job) c.args.done = c.is_done_for.ensures.0 (search rules) in
-    rw (← c.self.view_is, ← c.item-item.ensures) (accepts_on c.self.inside c.self.invariant (record { program = c.self.inside.program; most_names = c.self.inside.most_names; limit = c.self.inside.limit; core = c.end.new.self; history = c.push_reserved.new.self; known = c.end.new.known }) (Events.End c.args.worker c.item-item.result) refl refl (search rules)
+    rw (← c.self.view_is, ← c.item-item.ensures) (accepts_on c.self.inside c.self.invariant (record { program = c.self.inside.program; most_names = c.self.inside.most_names; limit = c.self.inside.limit; core = c.end.new.self; history = c.push_reserved.new.self; known = c.end.new.known; answers = c.into_list.result }) (Events.End c.args.worker c.item-item.result) refl refl (search rules)
     (c.in-Ok.ensures.ended.stand (map event_view c.self.inside.history.items) c.args.worker c.self.invariant.whole c.self.invariant.stand none c.in-Some.ensures.some
     (work_own c.self.inside.program c.self.invariant.whole (map event_view c.self.inside.history.items) c.self.inside.core c.self.invariant.stand none c.args.worker c.item-item.result (job_view c.in-Some.job) c.in-Some.ensures.some c.args.done at)) here)
 
@@ -96,7 +96,7 @@ invariant_of-self c =
     let at : IsWorkAt c.self.inside.program (frames_view c.self.inside.core.world.instances.slots) (cells_view c.self.inside.core.world.store.cells) (job_view c.in-Some.job) c.args.done = c.is_done_for.ensures.0 (search rules) in
     let same = c.in_default-end.ensures.same (map event_view c.self.inside.history.items) c.args.worker c.self.invariant.whole c.self.invariant.stand none c.in-Some.ensures.some
     (work_own c.self.inside.program c.self.invariant.whole (map event_view c.self.inside.history.items) c.self.inside.core c.self.invariant.stand none c.args.worker c.item-item.result (job_view c.in-Some.job) c.in-Some.ensures.some c.args.done at) in
-    same_on c.self.inside c.self.invariant c.end.new.self c.end.new.known same
+    same_on c.self.inside c.self.invariant c.end.new.self c.end.new.known c.self.inside.answers same
 
 pub returns-in_default-end-clause-unchanged : goal.returns-in_default-end-clause-unchanged
 returns-in_default-end-clause-unchanged c =
@@ -106,4 +106,4 @@ returns-in_default-end-clause-unchanged c =
     let at : IsWorkAt c.self.inside.program (frames_view c.self.inside.core.world.instances.slots) (cells_view c.self.inside.core.world.store.cells) (job_view c.in-Some.job) c.args.done = c.is_done_for.ensures.0 (search rules) in
     let same = c.in_default-end.ensures.same (map event_view c.self.inside.history.items) c.args.worker c.self.invariant.whole c.self.invariant.stand none c.in-Some.ensures.some
     (work_own c.self.inside.program c.self.invariant.whole (map event_view c.self.inside.history.items) c.self.inside.core c.self.invariant.stand none c.args.worker c.item-item.result (job_view c.in-Some.job) c.in-Some.ensures.some c.args.done at) in
-    same_seen c.self.inside c.end.new.self c.end.new.known same.newly ∙ c.self.view_is
+    same_seen c.self.inside c.end.new.self c.end.new.known c.self.inside.answers same.newly ∙ c.self.view_is
