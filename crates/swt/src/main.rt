@@ -13,7 +13,7 @@ use explanation::refusal::explained;
 use fault_words::limits::add_limit_of_steps;
 use std::alloc::{AllocError, Global};
 use std::io::{self, Write};
-use std::path::PathBuf;
+use std::os::unix::fs::MetadataExt;
 use std::process::ExitCode;
 use std::sync::Wait;
 use std::thread::Threads;
@@ -265,7 +265,7 @@ fn explain_refusals(
     Ok(())
 }
 
-/// Whether the trace would be written into the script, by whatever path the line names it.
+/// Whether the trace would be written into the script, by whatever name the line has for it.
 fn writes_what_it_reads(rt: &HostRuntime, line: &Line) -> Result<bool, AllocError> {
     let Line::Run {
         file,
@@ -275,16 +275,16 @@ fn writes_what_it_reads(rt: &HostRuntime, line: &Line) -> Result<bool, AllocErro
     else {
         return Ok(false);
     };
-    match (path_of(rt, file)?, path_of(rt, trace)?) {
+    match (file_of(rt, file)?, file_of(rt, trace)?) {
         (Some(read), Some(written)) => Ok(read == written),
         _ => Ok(false),
     }
 }
 
-/// The path of a file without links on the way, where there is such a file.
-fn path_of(rt: &HostRuntime, name: &Word) -> Result<Option<PathBuf>, AllocError> {
-    match fs::canonicalize(rt, name.as_str()) {
-        Ok(path) => Ok(Some(path)),
+/// The device that a file lies on and its number there, where there is such a file.
+fn file_of(rt: &HostRuntime, name: &Word) -> Result<Option<(u64, u64)>, AllocError> {
+    match fs::metadata(rt, name.as_str()) {
+        Ok(found) => Ok(Some((found.dev(), found.ino()))),
         Err(error) if error.kind() == io::ErrorKind::OutOfMemory => Err(AllocError),
         Err(_) => Ok(None),
     }
