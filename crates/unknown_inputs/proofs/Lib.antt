@@ -1,2 +1,2 @@
-pub mod Adding
 pub mod Seeing
+pub mod Waiting

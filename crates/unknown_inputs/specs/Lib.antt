@@ -1,2 +1,3 @@
+pub mod Blocking
 pub mod Inputs
 pub mod Missing

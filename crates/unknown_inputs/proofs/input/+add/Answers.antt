@@ -4,7 +4,7 @@ use Rattle.std.specs.Prelude.{List}
 use Rattle.flow.specs.declared.expression.Expr.{Expr}
 use Rattle.flow.specs.View.{expr_view, exprs_view}
 use Rattle.unknown_inputs.specs.Inputs.{inputs_view, expr_inputs, exprs_inputs}
-use Rattle.unknown_inputs.proofs.Adding.{one_more}
+use Rattle.flow_sites.proofs.Adding.{one_more}
 use Rattle.unknown_inputs.proofs.input.+add.Goals as goal
 
 pub add_exprs-loop-expr-preserved : goal.add_exprs-loop-expr-preserved

@@ -6,7 +6,7 @@ use Rattle.flow.specs.declared.cell.Outer.{Outer}
 use Rattle.flow.specs.View.{outer_view}
 use Rattle.whole_facts.specs.Listed.{outers_listed}
 use Rattle.unknown_inputs.specs.Inputs.{inputs_view, outer_inputs, outers_inputs}
-use Rattle.unknown_inputs.proofs.Adding.{one_more}
+use Rattle.flow_sites.proofs.Adding.{one_more}
 use Rattle.unknown_inputs.proofs.input.add_outers.Goals as goal
 
 pub loop-outer-preserved : goal.loop-outer-preserved

@@ -4,7 +4,7 @@ use Rattle.std.specs.Prelude.{List}
 use Rattle.flow.specs.declared.cell.Part.{Part}
 use Rattle.flow.specs.View.{part_view, parts_view}
 use Rattle.unknown_inputs.specs.Inputs.{inputs_view, part_inputs, parts_inputs}
-use Rattle.unknown_inputs.proofs.Adding.{one_more}
+use Rattle.flow_sites.proofs.Adding.{one_more}
 use Rattle.unknown_inputs.proofs.input.add_parts.Goals as goal
 
 pub loop-part-preserved : goal.loop-part-preserved

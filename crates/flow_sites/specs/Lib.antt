@@ -1,0 +1,4 @@
+pub mod Candidates
+pub mod Noted
+pub mod Sites
+pub mod Waits
