@@ -1,3 +1,4 @@
 pub mod Chains
+pub mod Climbing
 pub mod Expressions
 pub mod Forms

@@ -51,6 +51,12 @@ pub spans_view : {A : Type 0} (s u : Place) (first : Span) (to : ℕ) (k : ExprK
     → expression_view e ≡ spans s f u
 spans_view s u first to k e f one two is form = cc
 
+-- an expression from a token to a place
+pub chain_view : {A : Type 0} (start : Span) (u : Place) (to : ℕ) (k : ExprKind A) (e : Expr A) (f : Form)
+    → to ≡ u.before → expression_view e ≡ expression (record { number = 0; first = start; to = to }) (form_view k) → form_view k ≡ f
+    → expression_view e ≡ expression (record { number = 0; first = start; to = u.before }) f
+chain_view start u to k e f one is form = cc
+
 -- a statement from one place to another
 pub does_view : {A : Type 0} (s u : Place) (first : Span) (to : ℕ) (k : StmtKind A) (e : Stmt A) (c : Command)
     → first ≡ first_of s.rest → to ≡ u.before → statement_view e ≡ statement (record { number = 0; first = first; to = to }) (command_view k) → command_view k ≡ c

@@ -4,17 +4,18 @@ use Rattle.std.proofs.lemmas.List.{append-nil}
 use Rattle.syntax_trees.specs.declared.tree.Operator.{Operator}
 use Rattle.syntax_trees.specs.declared.tree.Level.{Level}
 use Rattle.syntax_trees.specs.declared.tree.Prefix.{Prefix}
-use Rattle.syntax_trees.specs.Tree.{Word, Expression, variable, element, prefixed, call, chain, expressions_of}
+use Rattle.syntax_trees.specs.Tree.{Word, Expression, expression, variable, element, prefixed, call, chain, expressions_of}
 use Rattle.syntax_trees.specs.Kinds.{repeats}
 use Rattle.syntax_trees.specs.Rules.{Place}
-use Rattle.syntax_trees.specs.Grammar.{spans, chained}
+use Rattle.syntax_trees.specs.Grammar.{spans}
+use Rattle.lexer.specs.declared.token.Span.{Span}
 use Rattle.lexer.specs.declared.token.TokenKind.{TokenKind}
 use Rattle.lexer.specs.declared.token.TokenKind.TheVariants as Kind
 use Rattle.syntax.specs.declared.stop.Stop.{Stop}
 use Rattle.syntax.specs.Readers.{refused, got, Reader, ◌>>=◌, second, cond, choose, made, ◌∗◌, many_over, many, once, opened}
-use Rattle.syntax.specs.Reading.{at_operator, read_operator, operands, chain_over, read_name, read_unary, read_form, read_prefixed, read_arguments, read_index, read_named, read_operand, read_operands, read_chain}
+use Rattle.syntax.specs.Reading.{at_operator, read_operator, operands, read_name, read_unary, read_form, read_prefixed, read_arguments, read_index, read_named, read_operand, read_operands, joined, read_link}
 use Rattle.syntax.proofs.combining.Combine.{bind_got, got_value}
-use Rattle.syntax.proofs.expressions.Forms.{both_got, both_fails, operands_none, chain_alone, form_same}
+use Rattle.syntax.proofs.expressions.Forms.{both_got, both_fails, operands_none, form_same}
 
 -- a repetition only appends
 many_extends : {A : Type 0} (test : Place → Bool) (r : Reader A) (n : ℕ) (xs : List A) (s : Place) (ys : List A) (u : Place) → many_over test r n xs s ≡ got ys u
@@ -57,40 +58,24 @@ operands_some l operand s ys u holds h = cases (repeats l) h
     cases true g = many_some (at_operator l) (read_operator l ∗ operand) (suc (length s.rest)) s ys u holds g
     cases false g = once_some (at_operator l) (read_operator l ∗ operand) s ys u holds g
 
-chain_over_got : (l : Level) (operand : Reader Expression) (s : Place) (x : Expression) (v : Place) (ps : List (Operator × Expression)) (u : Place)
-    → operand s ≡ got x v → operands l operand [] v ≡ got ps u → chain_over l operand s ≡ got (chained s (x, ps) u) u
-chain_over_got l operand s x v ps u one more =
-    ap (λ z. (z >>= λ a w. operands l operand [] w >>= λ b u. got (a, b) u) >>= λ p u. got (chained s p u) u) one
-    ∙ ap (λ z. (z >>= λ b u. got (x, b) u) >>= λ p u. got (chained s p u) u) more
-
-chained_some : (s : Place) (x : Expression) (ps : List (Operator × Expression)) (u : Place) → Some ps
-    → chained s (x, ps) u ≡ spans s (chain (map (λ q. q.0) ps) (expressions_of (x ∷ map (λ q. q.1) ps))) u
-chained_some s x ps u (p, qs, is) = subst (λ rs. chained s (x, rs) u ≡ spans s (chain (map (λ q. q.0) rs) (expressions_of (x ∷ map (λ q. q.1) rs))) u) (sym is) refl
+joined_some : (first : Span) (x : Expression) (ps : List (Operator × Expression)) (u : Place) → Some ps
+    → joined first x ps u ≡ expression (record { number = 0; first = first; to = u.before }) (chain (map (λ q. q.0) ps) (expressions_of (x ∷ map (λ q. q.1) ps)))
+joined_some first x ps u (p, qs, is) =
+    subst (λ rs. joined first x rs u ≡ expression (record { number = 0; first = first; to = u.before }) (chain (map (λ q. q.0) rs) (expressions_of (x ∷ map (λ q. q.1) rs)))) (sym is) refl
 
 -- a chain with an operator
-pub chain_long : (depth : ℕ) (l : Level) (s : Place) (x : Expression) (v : Place) (ps : List (Operator × Expression)) (u : Place) (os : List Operator) (es : List Expression)
-    → read_operand depth l s ≡ got x v → at_operator l v ≡ true → read_operands depth l [] v ≡ got ps u → os ≡ map (λ q. q.0) ps → es ≡ x ∷ map (λ q. q.1) ps
-    → read_chain depth l s ≡ got (spans s (chain os (expressions_of es)) u) u
-unfolding read_chain read_operands
-chain_long depth l s x v ps u os es one holds more ops exprs =
-    chain_over_got l (read_operand depth l) s x v ps u one more
-    ∙ ap (λ e. got e u) (chained_some s x ps u (operands_some l (read_operand depth l) v ps u holds more))
-    ∙ ap₂ (λ a b. got (spans s (chain a (expressions_of b)) u) u) (sym ops) (sym exprs)
+pub link_got : (depth : ℕ) (l : Level) (first : Span) (x : Expression) (v : Place) (ps : List (Operator × Expression)) (u : Place) (os : List Operator) (es : List Expression)
+    → at_operator l v ≡ true → read_operands depth l [] v ≡ got ps u → os ≡ map (λ q. q.0) ps → es ≡ x ∷ map (λ q. q.1) ps
+    → read_link depth l first x v ≡ got (expression (record { number = 0; first = first; to = u.before }) (chain os (expressions_of es))) u
+unfolding read_link read_operands
+link_got depth l first x v ps u os es holds more ops exprs =
+    ap (λ r. r >>= λ ps u. got (joined first x ps u) u) more
+    ∙ ap (λ e. got e u) (joined_some first x ps u (operands_some l (read_operand depth l) v ps u holds more))
+    ∙ ap₂ (λ a b. got (expression (record { number = 0; first = first; to = u.before }) (chain a (expressions_of b))) u) (sym ops) (sym exprs)
 
--- its first operand alone
-pub chain_short : (depth : ℕ) (l : Level) (s : Place) (x : Expression) (v : Place) → read_operand depth l s ≡ got x v → at_operator l v ≡ false → read_chain depth l s ≡ got x v
-unfolding read_chain
-chain_short depth l s x v one none = chain_alone l (read_operand depth l) s x v one none
-
-pub chain_fails : (depth : ℕ) (l : Level) (s : Place) (stop : Stop) → read_operand depth l s ≡ refused stop → read_chain depth l s ≡ refused stop
-unfolding read_chain
-chain_fails depth l s stop one = ap (λ z. (z >>= λ a w. operands l (read_operand depth l) [] w >>= λ b u. got (a, b) u) >>= λ p u. got (chained s p u) u) one
-
-pub chain_stops : (depth : ℕ) (l : Level) (s : Place) (x : Expression) (v : Place) → read_operand depth l s ≡ got x v → (stop : Stop) → read_operands depth l [] v ≡ refused stop → read_chain depth l s ≡ refused stop
-unfolding read_chain read_operands
-chain_stops depth l s x v one stop more =
-    ap (λ z. (z >>= λ a w. operands l (read_operand depth l) [] w >>= λ b u. got (a, b) u) >>= λ p u. got (chained s p u) u) one
-    ∙ ap (λ z. (z >>= λ b u. got (x, b) u) >>= λ p u. got (chained s p u) u) more
+pub link_fails : (depth : ℕ) (l : Level) (first : Span) (x : Expression) (v : Place) (stop : Stop) → read_operands depth l [] v ≡ refused stop → read_link depth l first x v ≡ refused stop
+unfolding read_link
+link_fails depth l first x v stop more = ap (λ r. r >>= λ ps u. got (joined first x ps u) u) more
 
 -- at a level whose operators may not follow one another
 pub operand_one : (depth : ℕ) (l : Level) (s : Place) (o : Operator) (v : Place) (e : Expression) (u : Place) → repeats l ≡ false → at_operator l s ≡ true

@@ -11,13 +11,13 @@ use Rattle.syntax.specs.declared.stop.Stop.{Stop}
 use Rattle.syntax.specs.declared.stop.Stop.TheVariants.{AtEnd, Unexpected, TooNested, Memory}
 use Rattle.syntax_trees.specs.declared.tree.Level.{Level}
 use Rattle.syntax_trees.specs.Kinds.{repeats}
-use Rattle.syntax_trees.specs.Grammar.{spans, chained}
+use Rattle.syntax_trees.specs.Grammar.{spans}
 use Rattle.syntax.specs.Readers.{Read, refused, got, Reader, ◌>>=◌, at, second, cond, the, ◌∗◌, ◌▸◌, ◌◂◌, made, tight, stop_at, many_over, many, once, perhaps, commas, round, square, bracket}
 use Rattle.syntax.specs.Answers.{Fails}
-use Rattle.syntax.specs.Reading.{at_operator, read_operator, operands, chain_over, read_name, expr_over, arguments_over, read_unary, read_expr, read_exprs, read_form, read_prefixed, read_literal, read_test, read_named, read_index, read_arguments}
+use Rattle.syntax.specs.Reading.{at_operator, read_operator, operands, read_name, expr_over, arguments_over, read_unary, read_expr, read_exprs, read_form, read_prefixed, read_literal, read_test, read_named, read_index, read_arguments}
 use Rattle.syntax.proofs.combining.Combine.{opened_deep, opened_zero, tight_stays}
 
-bind_assoc : {A B C : Type 0} (x : Read A) (f : A → Place → Read B) (h : B → Place → Read C) → ((x >>= f) >>= h) ≡ (x >>= λ a v. f a v >>= h)
+pub bind_assoc : {A B C : Type 0} (x : Read A) (f : A → Place → Read B) (h : B → Place → Read C) → ((x >>= f) >>= h) ≡ (x >>= λ a v. f a v >>= h)
 bind_assoc (refused stop) f h = refl
 bind_assoc (got a v) f h = refl
 
@@ -149,11 +149,6 @@ operands_none l operand s none = cases (repeats l)
     cases : (b : Bool) → cond b (many (at_operator l) (read_operator l ∗ operand) []) (once (at_operator l) (read_operator l ∗ operand) []) s ≡ got [] s
     cases true = many_stop (at_operator l) (read_operator l ∗ operand) (suc (length s.rest)) [] s (omega arith) none
     cases false = ap (λ b. cond b ((read_operator l ∗ operand) s >>= λ a u. got (a ∷ []) u) (got [] s)) none
-
-pub chain_alone : (l : Level) (operand : Reader Expression) (s : Place) (x : Expression) (v : Place) → operand s ≡ got x v → at_operator l v ≡ false → chain_over l operand s ≡ got x v
-chain_alone l operand s x v one none =
-    ap (λ z. (z >>= λ a w. operands l operand [] w >>= λ b u. got (a, b) u) >>= λ p u. got (chained s p u) u) one
-    ∙ ap (λ z. (z >>= λ b u. got (x, b) u) >>= λ p u. got (chained s p u) u) (operands_none l operand v none)
 
 pub literal_got : (k : TokenKind) (form : Lexeme → Form) (s : Place) (t : Lexeme) (u : Place) → the k s ≡ got t u → read_literal k form s ≡ got (spans s (form t) u) u
 unfolding read_literal
