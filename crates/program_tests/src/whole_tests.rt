@@ -219,17 +219,33 @@ fn long_loop(rt: HostRuntime) -> Result<(), Fail> {
     Ok(())
 }
 
+/// What is said of a fault at the 512th step of a path, by its offset with the first step, and the others.
+fn too_deep_at(alloc: Global, first: &str, others: &str) -> Result<String, Fail> {
+    let mut text = format!(in alloc; "swt: fault F6 TooDeep {first}")?;
+    for _ in 1..512u32 {
+        text.push_str(others)?;
+    }
+    text.push_str("\n")?;
+    Ok(text)
+}
+
 /// A function that calls itself without end has a fault at the 512th step of its path.
 #[test]
 fn too_deep(rt: HostRuntime) -> Result<(), Fail> {
     let alloc = rt.alloc();
-    let mut wanted = Vec::new(alloc);
-    wanted.extend_from_slice(b"swt: fault F6 TooDeep 19 /48.0")?;
-    for _ in 1..512u32 {
-        wanted.extend_from_slice(b"/23.0")?;
-    }
-    wanted.push(b'\n')?;
+    let wanted = too_deep_at(alloc, "19 /48.0", "/23.0")?;
     let script = b"(int r) f(int n) { r = f(n + 1); } printf(\"%i\", f(0));";
-    assert!(rt; runs_to(&rt, alloc, script, wanted.as_slice(), 3)?);
+    assert!(rt; runs_to(&rt, alloc, script, wanted.as_str().as_bytes(), 3)?);
+    Ok(())
+}
+
+/// One that would hand on its caller's array leaves the array open: its size is never printed.
+#[test]
+fn an_array_that_calls_may_write_stays_open(rt: HostRuntime) -> Result<(), Fail> {
+    let alloc = rt.alloc();
+    let wanted = too_deep_at(alloc, "21 /50.0", "/25.0")?;
+    let script =
+        b"(int B[]) f(int n) { B = f(n + 1); } int A[]; A = f(0); printf(\"%i\", size(A));";
+    assert!(rt; runs_to(&rt, alloc, script, wanted.as_str().as_bytes(), 3)?);
     Ok(())
 }

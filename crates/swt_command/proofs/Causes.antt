@@ -1,5 +1,5 @@
 -- Why a process ended with status 1 or 2.
-use Rattle.std.proofs.Common.{◌≡◌, ◌∙◌, sym, ap, refl, subst, inl, inr, ◌⊎◌, ℕ, zero, suc, ◌+◌, ◌<◌, Bool, true, false, List, [], ◌∷◌, arith, Option, Some, None, Result, Ok, Err}
+use Rattle.std.proofs.Common.{◌≡◌, ◌∙◌, sym, ap, refl, subst, inl, inr, ◌⊎◌, ℕ, zero, suc, Bool, true, false, List, [], ◌∷◌, arith, Option, Some, None, Result, Ok, Err}
 use Rattle.std.specs.Prelude.{is_some, slice_get}
 use Rattle.task_code.specs.Code.{Code}
 use Rattle.board_frames.specs.declared.place.Fault.{Fault}
@@ -16,7 +16,7 @@ use Rattle.swt_command.specs.declared.trouble.Trouble.{Trouble}
 use Rattle.swt_command.specs.declared.trouble.Trouble.TheVariants as Is
 use Rattle.swt_command.specs.Causes.{AsksBadly, SomeRefused}
 use Rattle.swt_command.specs.Checks.{Checks, StopsBy, Verdict, check_status}
-use Rattle.swt_command.specs.Files.{Files, IsRefusal, StopsAt, name_at, source_of}
+use Rattle.swt_command.specs.Files.{Files, StopsAt, name_at, source_of}
 use Rattle.swt_command.specs.Listings.{Lists, StopsListing}
 use Rattle.swt_command.specs.Means.{Means, StopsMean, status_by}
 use Rattle.swt_command.specs.Owes.{Does, Owes, status_of}

@@ -1,5 +1,7 @@
 pub mod Causes
 pub mod Checking
+pub mod Endings
+pub mod Halts
 pub mod Meant
 pub mod Plain
 pub mod Printed

@@ -1,10 +1,28 @@
 -- What the status of a process alone tells.
-use Rattle.std.specs.Prelude.{◌≡◌, ℕ, List, Some}
+use Rattle.std.specs.Prelude.{◌≡◌, ◌⊎◌, ℕ, ◌<◌, true, false, List, [], length, Some, None}
+use Rattle.dataflow.specs.System.{In}
+use Rattle.task_code.specs.Code.{Code as ScriptCode}
+use Rattle.board_frames.specs.declared.place.Fault.{Fault}
+use Rattle.board_frames.specs.declared.place.Statement.{Statement}
+use Rattle.runs.specs.declared.report.End.TheVariants as Was
+use Rattle.runs.specs.declared.report.Report.{Report}
+use Rattle.swt_line.specs.Lines.{files_of}
 use Rattle.swt_line.specs.declared.line.Line.{Line}
 use Rattle.swt_line.specs.declared.line.Line.TheVariants.{Check, Mean, Code, Run, Replay}
+use Rattle.swt_trace.specs.Replay.{IsFirstNoStep}
+use Rattle.swt_trace.specs.Report.{ReportText}
+use Rattle.swt_trace.specs.Trace.{IsFirstBad}
 use Rattle.swt_command.specs.declared.refusal.Refusal.{Refusal}
-use Rattle.swt_command.specs.Files.{Files, IsRefusal, source_of}
-use Rattle.swt_command.specs.Runs.{IsBadCount}
+use Rattle.swt_command.specs.declared.told.Told.{Told}
+use Rattle.swt_command.specs.declared.trouble.Trouble.{Trouble}
+use Rattle.swt_command.specs.declared.trouble.Trouble.TheVariants as Is
+use Rattle.swt_command.specs.Checks.{Verdict, Judged}
+use Rattle.swt_command.specs.Files.{Files, HasCode, IsRefusal, source_of}
+use Rattle.swt_command.specs.Listings.{IsAcceptedAt}
+use Rattle.swt_command.specs.Means.{ToldOf, mean_text}
+use Rattle.swt_command.specs.Runs.{IsBadCount, Ran, Replayed}
+use Rattle.swt_command.specs.Sinks.{Held, Given, Kept, Took}
+use Rattle.swt_command.specs.Troubles.{trouble_line}
 
 -- the text of some file is refused
 abbrev pub SomeRefused : Files → Type 0
@@ -17,3 +35,84 @@ AsksBadly (Mean file rounds) = ⊥
 AsksBadly (Code file dot) = ⊥
 AsksBadly (Run file engines workers steps wanted) = IsBadCount engines workers
 AsksBadly (Replay file events) = ⊥
+
+-- WHAT WAS PRINTED WHOLE
+
+-- this is the report of a run of the script, or of the events of a trace
+abbrev pub Reported : Line → Files → Report → (out new : Held) → Type 0
+Reported (Run file engines workers steps wanted) files r out new = Ran files engines workers steps r × Took out (ReportText r) new
+Reported (Replay file events) files r out new = Replayed files r × Took out (ReportText r) new
+Reported _ files r out new = ⊥
+
+-- this is told of the script
+abbrev pub Informed : Line → Files → Told → (out new : Held) → Type 0
+Informed (Mean file rounds) files t out new = ToldOf files rounds t × Took out (mean_text t rounds) new
+Informed _ files t out new = ⊥
+
+-- each of the files is a script
+abbrev pub Accepted : Line → Files → Type 0
+Accepted (Check names) files = (place : ℕ) → place < length names → IsAcceptedAt files place
+Accepted (Code file dot) files = IsAcceptedAt files 0
+Accepted _ files = ⊥
+
+-- HOW A COMMAND ENDED THAT WAS NOT STOPPED
+
+-- quiet with nothing blocked, without a fault and with nothing blocked, or with scripts alone
+abbrev pub IsDone : Line → Files → (out new : Held) → Type 0
+IsDone line files out new =
+    ((r : Report) × Reported line files r out new × (r.end ≡ Was.Quiet) × (r.blocked.items ≡ []))
+    ⊎ (((t : Told) × Informed line files t out new × (t.enough ≡ true) × (t.faults.items ≡ []) × (t.blocked.items ≡ []))
+    ⊎ Accepted line files)
+
+-- in a fault of the run, or with one of the script
+abbrev pub MetFault : Line → Files → (out new : Held) → Type 0
+MetFault line files out new =
+    ((r : Report) × (f : Fault) × Reported line files r out new × (r.end ≡ Was.Fault f))
+    ⊎ ((t : Told) × (f : Fault) × Informed line files t out new × (t.enough ≡ true) × In f t.faults.items)
+
+-- quiet, or without a fault, with a blocked statement
+abbrev pub LeftBlocked : Line → Files → (out new : Held) → Type 0
+LeftBlocked line files out new =
+    ((r : Report) × (b : Statement) × Reported line files r out new × (r.end ≡ Was.Quiet) × In b r.blocked.items)
+    ⊎ ((t : Told) × (b : Statement) × Informed line files t out new × (t.enough ≡ true) × (t.faults.items ≡ []) × In b t.blocked.items)
+
+-- behind as many events as were allowed, or as many rounds, which were not enough
+abbrev pub AtLimit : Line → Files → (out new : Held) → Type 0
+AtLimit line files out new =
+    ((r : Report) × Reported line files r out new × (r.end ≡ Was.Limit))
+    ⊎ ((t : Told) × Informed line files t out new × (t.enough ≡ false))
+
+-- WHY A COMMAND WAS STOPPED
+
+-- nothing was printed, but by `check` a line for each of the files before
+abbrev pub PrintedBefore : Line → Files → (out new : Held) → Type 0
+PrintedBefore (Check names) files out new = (vs : List Verdict) × (length vs < length names) × Judged names files vs out new
+PrintedBefore _ files out new = Kept out new
+
+-- this trouble was said, whose line names no file, with nothing else printed and nothing traced
+abbrev pub Stopped : Trouble → Line → Files → (out out_new err err_new trace trace_new : Held) → Type 0
+Stopped trouble line files out out_new err err_new trace trace_new =
+    PrintedBefore line files out out_new × Given err (trouble_line trouble []) err_new × Kept trace trace_new
+
+abbrev pub IsRun : Line → Type 0
+IsRun (Run file engines workers steps wanted) = Unit {0}
+IsRun _ = ⊥
+
+abbrev pub IsReplay : Line → Type 0
+IsReplay (Replay file events) = Unit {0}
+IsReplay _ = ⊥
+
+module _ (line : Line) (files : Files) (out out_new err err_new trace trace_new : Held) where
+  -- it was stopped for want of memory
+  abbrev pub LacksMemory : Type 0
+  LacksMemory = Stopped Is.Memory line files out out_new err err_new trace trace_new
+
+  -- a file cannot be read, the second is no trace or none of a run of the script, a write failed, a thread could not be started, or the counts of threads are not what the board shows
+  pub data HasFailed : Type 0 where
+    unread : (place : ℕ) → place < length (files_of line) → source_of files place ≡ None → HasFailed
+    no_trace : (bytes : List ℕ) (n : ℕ) → IsReplay line → source_of files 1 ≡ Some bytes → IsFirstBad bytes n → HasFailed
+    no_run : (code : ScriptCode) (bytes : List ℕ) (n : ℕ) → IsReplay line → HasCode files 0 code → source_of files 1 ≡ Some bytes → IsFirstNoStep code bytes n → HasFailed
+    unprinted : out.failures < out_new.failures → HasFailed
+    untraced : trace.failures < trace_new.failures → HasFailed
+    no_thread : (code : ScriptCode) → IsRun line → HasCode files 0 code → Stopped Is.NoThread line files out out_new err err_new trace trace_new → HasFailed
+    stranger : (code : ScriptCode) → IsRun line → HasCode files 0 code → Stopped Is.Stranger line files out out_new err err_new trace trace_new → HasFailed

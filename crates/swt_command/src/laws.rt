@@ -1,5 +1,5 @@
 //! What a run and what it prints owe to the script.
-ghost use Rattle.std.specs.Prelude.{◌≡◌, ◌⊎◌, ℕ, List, Option};
+ghost use Rattle.std.specs.Prelude.{◌≡◌, ◌⊎◌, ℕ, ◌<◌, List, length, Option, None};
 ghost use Rattle.syntax_trees.specs.Meaning.{Meaning};
 ghost use Rattle.syntax_trees.specs.Outcomes.{Clean};
 ghost use Rattle.syntax_trees.specs.Resolved.{core};
@@ -10,10 +10,11 @@ ghost use Rattle.runs.specs.declared.report.End.TheVariants as Ends;
 ghost use Rattle.runs.specs.declared.report.Report.{Report};
 ghost use Rattle.runs.specs.Report.{Reports};
 ghost use Rattle.compile.specs.Compiled.{IsCompiled};
+ghost use Rattle.swt_line.specs.Lines.{files_of};
 ghost use Rattle.swt_line.specs.declared.line.Line.{Line};
 ghost use Rattle.swt_line.specs.declared.line.Line.TheVariants.{Run, Replay};
-ghost use Rattle.swt_command.specs.Causes.{AsksBadly, SomeRefused};
-ghost use Rattle.swt_command.specs.Files.{Files};
+ghost use Rattle.swt_command.specs.Causes.{AsksBadly, AtLimit, HasFailed, IsDone, LacksMemory, LeftBlocked, MetFault, SomeRefused};
+ghost use Rattle.swt_command.specs.Files.{Files, source_of};
 ghost use Rattle.swt_command.specs.OneThread.{IsWhole, IsScriptFault, PrintsWhole};
 ghost use Rattle.swt_command.specs.Owes.{Owes};
 ghost use Rattle.swt_command.specs.Sinks.{Held};
@@ -39,11 +40,29 @@ pub fn runs_print_the_meaning()
         → Owes (Replay file events) files out out_new err err_new trace trace_new number → (number ≡ 0) ⊎ (number ≡ 4) → PrintsWhole files out out_new }
 {}
 
-/// A process ends with status 1 only where its command refuses the text of a file, and with status 2 only where its line asks for
-/// engines and workers that there cannot be.
+/// The status of a process tells its cause: 0 that all is done, 1 that the text of a file is refused, 2 that the line asks for
+/// engines and workers that there cannot be, 3 that there is a fault, 4 that statements are blocked, 5 that there were as many
+/// events or rounds as were allowed, 6 that it was stopped for want of memory, 7 that a file, a trace, a write or a thread
+/// failed. It is 7 wherever a write of what is printed or traced failed, and wherever the first file cannot be read.
 pub fn statuses_tell()
     ensures refused { (line : Line) (files : Files) (out out_new err err_new trace trace_new : Held) (number : ℕ)
         → Owes line files out out_new err err_new trace trace_new number → number ≡ 1 → SomeRefused files }
     ensures usage { (line : Line) (files : Files) (out out_new err err_new trace trace_new : Held) (number : ℕ)
         → Owes line files out out_new err err_new trace trace_new number → number ≡ 2 → AsksBadly line }
+    ensures done { (line : Line) (files : Files) (out out_new err err_new trace trace_new : Held) (number : ℕ)
+        → Owes line files out out_new err err_new trace trace_new number → number ≡ 0 → IsDone line files out out_new }
+    ensures fault { (line : Line) (files : Files) (out out_new err err_new trace trace_new : Held) (number : ℕ)
+        → Owes line files out out_new err err_new trace trace_new number → number ≡ 3 → MetFault line files out out_new }
+    ensures blocked { (line : Line) (files : Files) (out out_new err err_new trace trace_new : Held) (number : ℕ)
+        → Owes line files out out_new err err_new trace trace_new number → number ≡ 4 → LeftBlocked line files out out_new }
+    ensures limit { (line : Line) (files : Files) (out out_new err err_new trace trace_new : Held) (number : ℕ)
+        → Owes line files out out_new err err_new trace trace_new number → number ≡ 5 → AtLimit line files out out_new }
+    ensures memory { (line : Line) (files : Files) (out out_new err err_new trace trace_new : Held) (number : ℕ)
+        → Owes line files out out_new err err_new trace trace_new number → number ≡ 6 → LacksMemory line files out out_new err err_new trace trace_new }
+    ensures failed { (line : Line) (files : Files) (out out_new err err_new trace trace_new : Held) (number : ℕ)
+        → Owes line files out out_new err err_new trace trace_new number → number ≡ 7 → HasFailed line files out out_new err err_new trace trace_new }
+    ensures writes { (line : Line) (files : Files) (out out_new err err_new trace trace_new : Held) (number : ℕ)
+        → Owes line files out out_new err err_new trace trace_new number → (out.failures < out_new.failures) ⊎ (trace.failures < trace_new.failures) → number ≡ 7 }
+    ensures unread { (line : Line) (files : Files) (out out_new err err_new trace trace_new : Held) (number : ℕ)
+        → Owes line files out out_new err err_new trace trace_new number → 0 < length (files_of line) → source_of files 0 ≡ None → number ≡ 7 }
 {}
