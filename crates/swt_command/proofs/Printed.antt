@@ -1,4 +1,4 @@
--- What a run prints that ends quiet, against the script.
+-- What a run prints, against the script.
 use Rattle.std.proofs.Common.{◌≡◌, ◌∙◌, sym, ap, refl, inl, inr, ◌⊎◌, ℕ, List, [], ◌∷◌, arith, Option, Result, Ok, Err}
 use Rattle.std.specs.Prelude.{◌+◌, is_some, Bool}
 use Rattle.syntax_trees.specs.Resolved.{core}
@@ -8,19 +8,22 @@ use Rattle.runs.specs.declared.report.End.{End}
 use Rattle.runs.specs.declared.report.End.TheVariants as Was
 use Rattle.runs.specs.declared.report.Report.{Report}
 use Rattle.swt_trace.specs.Report.{ReportText}
+use Rattle.swt_line.specs.declared.line.Line.{Line}
+use Rattle.swt_line.specs.declared.line.Line.TheVariants as Lines
 use Rattle.swt_line.specs.declared.line.Line.TheVariants.{Run, Replay}
 use Rattle.swt_command.specs.declared.status.Status.{Status}
 use Rattle.swt_command.specs.declared.stop.Stop.{Stop}
 use Rattle.swt_command.specs.declared.trouble.Trouble.{Trouble}
 use Rattle.swt_command.specs.declared.trouble.Trouble.TheVariants as Is
+use Rattle.swt_command.specs.Causes.{Reported}
 use Rattle.swt_command.specs.Files.{Files, HasCode}
-use Rattle.swt_command.specs.OneThread.{PrintsWhole}
+use Rattle.swt_command.specs.OneThread.{IsMeantBy, PrintsWhole}
 use Rattle.swt_command.specs.Owes.{Owes, status_of}
 use Rattle.swt_command.specs.Runs.{Replays, Runs, end_status, report_status}
 use Rattle.swt_command.specs.Sinks.{Held, Took}
 use Rattle.swt_command.specs.Statuses.{number_of}
 use Rattle.swt_command.specs.Troubles.{trouble_status}
-use Rattle.swt_command.proofs.Reported.{IsOfRun, of_one, of_threads, whole_report}
+use Rattle.swt_command.proofs.Reported.{IsOfRun, fault_report, of_one, of_threads, part_report, whole_report}
 
 -- 0 and 4 are the statuses of quiet ends
 abbrev IsQuiet : ℕ → Type 0
@@ -72,3 +75,20 @@ pub replay_prints : (file events : List ℕ) (files : Files) (out out_new err er
     → Owes (Replay file events) files out out_new err err_new trace trace_new number → (number ≡ 0) ⊎ (number ≡ 4) → PrintsWhole files out out_new
 replay_prints file events files out out_new err err_new trace trace_new number o h =
     replay_done files o.ended out out_new number o.does.0 o.number_is h
+
+meant_by : (files : Files) (code : Code) (r : Report) → HasCode files 0 code → IsOfRun code r → IsMeantBy files r
+meant_by files code r (src, read, w) t = (
+  core w.table w.tree,
+  (src, read, record { table = w.table; tree = w.tree; accepted = w.accepted; is = refl }),
+  record {
+    whole = λ quiet. whole_report src code r w t quiet;
+    part = λ clean. part_report src code r w clean t;
+    fault = λ clean f faulty. fault_report src code r f w clean t faulty;
+  })
+
+pub printed_meant : (line : Line) (files : Files) (r : Report) (out new : Held) → Reported line files r out new → IsMeantBy files r
+printed_meant (Lines.Check names) files r out new h = absurd h
+printed_meant (Lines.Mean file rounds) files r out new h = absurd h
+printed_meant (Lines.Code file dot) files r out new h = absurd h
+printed_meant (Lines.Run file engines workers steps wanted) files r out new h = meant_by files h.0.0 r h.0.1 (of_threads h.0.0 steps engines workers r h.0.3.0 h.0.3.1)
+printed_meant (Lines.Replay file events) files r out new h = meant_by files h.0.0 r h.0.1 (of_one h.0.0 _ r h.0.2.2.reports)

@@ -77,13 +77,19 @@ fault_of s C st f a i =
     subst (λ (at : ℕ). Faults (Meaning s) (script_fault (kind_of_fault f.kind)) at (script_path (path_of f.statement))) (sym i.stands)
     (a.fault _ (kind_of_fault f.kind) i.is)
 
-pub reported_part : (src : List ℕ) (code : Code) (limit : ℕ) (r : Report) (w : IsCompiled src code) → Clean (core w.table w.tree) → Reports code limit r → PartOfLines (Meaning (core w.table w.tree)) r.lines.items
-reported_part src code limit r w clean t =
+pub part_report : (src : List ℕ) (code : Code) (r : Report) (w : IsCompiled src code) → Clean (core w.table w.tree) → IsOfRun code r → PartOfLines (Meaning (core w.table w.tree)) r.lines.items
+part_report src code r w clean t =
     let a = w.headline.agrees clean t.board.history t.board.state t.run in
     subst (λ (ls : List (List ℕ)). PartOfLines (Meaning (core w.table w.tree)) ls) (sym (texts_told t.board r a.printed t.tells a.printed_is)) a.lines
 
-pub reported_fault : (src : List ℕ) (code : Code) (limit : ℕ) (r : Report) (f : Fault) (w : IsCompiled src code) → Clean (core w.table w.tree) → Reports code limit r → r.end ≡ Ends.Fault f → IsScriptFault (core w.table w.tree) f
-reported_fault src code limit r f w clean t faulty =
+pub fault_report : (src : List ℕ) (code : Code) (r : Report) (f : Fault) (w : IsCompiled src code) → Clean (core w.table w.tree) → IsOfRun code r → r.end ≡ Ends.Fault f → IsScriptFault (core w.table w.tree) f
+fault_report src code r f w clean t faulty =
     fault_of (core w.table w.tree) code t.board.state f
     (w.headline.agrees clean t.board.history t.board.state t.run)
-    (subst (λ (D : Code). IsFaultOf D t.board.state f) t.code (subst (EndsAs t.board) faulty t.tells.end))
+    (subst (λ (D : Code). IsFaultOf D t.board.state f) t.code_is (subst (EndsAs t.board) faulty t.tells.end))
+
+pub reported_part : (src : List ℕ) (code : Code) (limit : ℕ) (r : Report) (w : IsCompiled src code) → Clean (core w.table w.tree) → Reports code limit r → PartOfLines (Meaning (core w.table w.tree)) r.lines.items
+reported_part src code limit r w clean t = part_report src code r w clean (of_one code limit r t)
+
+pub reported_fault : (src : List ℕ) (code : Code) (limit : ℕ) (r : Report) (f : Fault) (w : IsCompiled src code) → Clean (core w.table w.tree) → Reports code limit r → r.end ≡ Ends.Fault f → IsScriptFault (core w.table w.tree) f
+reported_fault src code limit r f w clean t faulty = fault_report src code r f w clean (of_one code limit r t) faulty

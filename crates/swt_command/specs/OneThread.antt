@@ -4,14 +4,15 @@ use Rattle.dataflow.specs.System.{In}
 use Rattle.syntax_trees.specs.Core.{Core}
 use Rattle.syntax_trees.specs.Facts as Facts
 use Rattle.syntax_trees.specs.Meaning.{Meaning}
-use Rattle.syntax_trees.specs.Outcomes.{Lines, Faults, Blocked}
+use Rattle.syntax_trees.specs.Outcomes.{Blocked, Clean, Faults, Lines}
 use Rattle.syntax_trees.specs.Places.{Path}
 use Rattle.task_code.specs.Places.{Step}
-use Rattle.agreement.specs.Headline.{script_path, script_fault}
+use Rattle.agreement.specs.Headline.{PartOfLines, script_path, script_fault}
 use Rattle.board_frames.specs.declared.place.Fault.{Fault}
 use Rattle.board_frames.specs.declared.place.Statement.{Statement}
 use Rattle.board.specs.Blocked.{InTextOrder, path_of}
 use Rattle.board.specs.View.{kind_of_fault}
+use Rattle.runs.specs.declared.report.End.TheVariants as Was
 use Rattle.runs.specs.declared.report.Report.{Report}
 use Rattle.swt_trace.specs.Report.{ReportText}
 use Rattle.swt_command.specs.Files.{Files, HasScript}
@@ -28,6 +29,16 @@ pub record IsWhole (s : Core) (r : Report) : Type 0 where
 -- the fault is among the script's, at its statement
 abbrev pub IsScriptFault : Core → Fault → Type 0
 IsScriptFault s f = Faults (Meaning s) (script_fault (kind_of_fault f.kind)) f.statement.at (script_path (path_of f.statement))
+
+-- one that ends quiet is whole; where no key is written twice the lines of any are a part of the script's, and a fault that it ends in is among the script's
+pub record IsMeant (s : Core) (r : Report) : Type 0 where
+  pub whole : r.end ≡ Was.Quiet → IsWhole s r
+  pub part : Clean s → PartOfLines (Meaning s) r.lines.items
+  pub fault : Clean s → (f : Fault) → r.end ≡ Was.Fault f → IsScriptFault s f
+
+-- it is meant by the script of the first file
+abbrev pub IsMeantBy : Files → Report → Type 0
+IsMeantBy files r = (s : Core) × HasScript files 0 s × IsMeant s r
 
 -- the text of a report was printed that has all that the first file's script means
 abbrev pub PrintsWhole : Files → (out new : Held) → Type 0

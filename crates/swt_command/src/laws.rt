@@ -13,9 +13,9 @@ ghost use Rattle.compile.specs.Compiled.{IsCompiled};
 ghost use Rattle.swt_line.specs.Lines.{files_of};
 ghost use Rattle.swt_line.specs.declared.line.Line.{Line};
 ghost use Rattle.swt_line.specs.declared.line.Line.TheVariants.{Run, Replay};
-ghost use Rattle.swt_command.specs.Causes.{AsksBadly, AtLimit, HasFailed, IsDone, LacksMemory, LeftBlocked, MetFault, SomeRefused};
+ghost use Rattle.swt_command.specs.Causes.{AsksBadly, AtLimit, HasFailed, IsDone, LacksMemory, LeftBlocked, MetFault, Reported, SomeRefused};
 ghost use Rattle.swt_command.specs.Files.{Files, source_of};
-ghost use Rattle.swt_command.specs.OneThread.{IsWhole, IsScriptFault, PrintsWhole};
+ghost use Rattle.swt_command.specs.OneThread.{IsMeantBy, IsScriptFault, IsWhole, PrintsWhole};
 ghost use Rattle.swt_command.specs.Owes.{Owes};
 ghost use Rattle.swt_command.specs.Sinks.{Held};
 
@@ -38,6 +38,12 @@ pub fn runs_print_the_meaning()
         → Owes (Run file engines workers steps wanted) files out out_new err err_new trace trace_new number → (number ≡ 0) ⊎ (number ≡ 4) → PrintsWhole files out out_new }
     ensures replay { (file events : List ℕ) (files : Files) (out out_new err err_new trace trace_new : Held) (number : ℕ)
         → Owes (Replay file events) files out out_new err err_new trace trace_new number → (number ≡ 0) ⊎ (number ≡ 4) → PrintsWhole files out out_new }
+{}
+
+/// A report that a command printed is meant by the script of its first file, whatever the status: where it ends quiet it is
+/// whole, and where the script writes no key twice its lines are a part of the script's, and its fault is among the script's.
+pub fn printed_reports_are_meant()
+    ensures { (line : Line) (files : Files) (r : Report) (out new : Held) → Reported line files r out new → IsMeantBy files r }
 {}
 
 /// The status of a process tells its cause: 0 that all is done, 1 that the text of a file is refused, 2 that the line asks for
