@@ -1,7 +1,9 @@
 pub mod Causes
 pub mod Checking
 pub mod Endings
+pub mod Enough
 pub mod Halts
+pub mod Meanings
 pub mod Meant
 pub mod Plain
 pub mod Printed

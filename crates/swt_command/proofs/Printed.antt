@@ -1,6 +1,6 @@
 -- What a run prints, against the script.
 use Rattle.std.proofs.Common.{◌≡◌, ◌∙◌, sym, ap, refl, inl, inr, ◌⊎◌, ℕ, List, [], ◌∷◌, arith, Option, Result, Ok, Err}
-use Rattle.std.specs.Prelude.{◌+◌, is_some, Bool}
+use Rattle.std.specs.Prelude.{Bool, is_some}
 use Rattle.syntax_trees.specs.Resolved.{core}
 use Rattle.task_code.specs.Code.{Code}
 use Rattle.board_frames.specs.declared.place.Statement.{Statement}
@@ -19,7 +19,7 @@ use Rattle.swt_command.specs.Causes.{Reported}
 use Rattle.swt_command.specs.Files.{Files, HasCode}
 use Rattle.swt_command.specs.OneThread.{IsMeantBy, PrintsWhole}
 use Rattle.swt_command.specs.Owes.{Owes, status_of}
-use Rattle.swt_command.specs.Runs.{Replays, Runs, end_status, report_status}
+use Rattle.swt_command.specs.Runs.{Replays, Runs, end_status}
 use Rattle.swt_command.specs.Sinks.{Held, Took}
 use Rattle.swt_command.specs.Statuses.{number_of}
 use Rattle.swt_command.specs.Troubles.{trouble_status}

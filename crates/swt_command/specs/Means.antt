@@ -8,7 +8,8 @@ use Rattle.values.specs.declared.fault.OpFault.{OpFault}
 use Rattle.values.specs.declared.fault.OpFault.TheVariants as Of
 use Rattle.syntax_trees.specs.Core.{Core}
 use Rattle.syntax_trees.specs.Facts as Facts
-use Rattle.syntax_trees.specs.Meaning.{Known, IsFinished}
+use Rattle.syntax_trees.specs.Facts.{Knowledge}
+use Rattle.syntax_trees.specs.Meaning.{IsFinished, Known, Meaning}
 use Rattle.syntax_trees.specs.Outcomes.{Blocked, Faults, Lines}
 use Rattle.syntax_trees.specs.Places.{Path}
 use Rattle.agreement.specs.Headline.{script_fault, script_path}
@@ -82,16 +83,24 @@ abbrev pub InFaultOrder : List Fault → Type 0
 InFaultOrder [] = Unit {0}
 InFaultOrder (f ∷ fs) = ((g : Fault) → In g fs → fault_before f g) × InFaultOrder fs
 
--- these are what is known of a script after so many rounds: the lines by their bytes, the blocked statements by path and offset, the faults by path, offset and number, each once
-pub record AreKnown (s : Core) (rounds : ℕ) (lines : List (List ℕ)) (blocked : List Statement) (faults : List Fault) : Type 0 where
-  pub lines_are : Lines (Known s rounds) lines
+-- these are the outcomes of a script by what is known of it: the lines by their bytes, the blocked statements by path and offset, the faults by path, offset and number, each once
+pub record AreOutcomes (s : Core) (K : Knowledge) (lines : List (List ℕ)) (blocked : List Statement) (faults : List Fault) : Type 0 where
+  pub lines_are : Lines K lines
   pub lines_in_order : IsSorted (slice_cmp nat_cmp) lines
   pub blocked_in_order : InTextOrder blocked
-  pub each_blocked : (b : Statement) → In b blocked → Blocked s (Known s rounds) b.at (script_path (path_of b))
-  pub all_blocked : (at : ℕ) (path : Path) → Blocked s (Known s rounds) at path → (b : Statement) × In b blocked × (b.at ≡ at) × (script_path (path_of b) ≡ path)
+  pub each_blocked : (b : Statement) → In b blocked → Blocked s K b.at (script_path (path_of b))
+  pub all_blocked : (at : ℕ) (path : Path) → Blocked s K at path → (b : Statement) × In b blocked × (b.at ≡ at) × (script_path (path_of b) ≡ path)
   pub faults_in_order : InFaultOrder faults
-  pub each_fault : (f : Fault) → In f faults → Faults (Known s rounds) (script_fault (kind_of_fault f.kind)) f.statement.at (script_path (path_of f.statement))
-  pub all_faults : (kind : Facts.Fault) (at : ℕ) (path : Path) → Faults (Known s rounds) kind at path → (f : Fault) × In f faults × (script_fault (kind_of_fault f.kind) ≡ kind) × (f.statement.at ≡ at) × (script_path (path_of f.statement) ≡ path)
+  pub each_fault : (f : Fault) → In f faults → Faults K (script_fault (kind_of_fault f.kind)) f.statement.at (script_path (path_of f.statement))
+  pub all_faults : (kind : Facts.Fault) (at : ℕ) (path : Path) → Faults K kind at path → (f : Fault) × In f faults × (script_fault (kind_of_fault f.kind) ≡ kind) × (f.statement.at ≡ at) × (script_path (path_of f.statement) ≡ path)
+
+-- these are what is known after so many rounds
+abbrev pub AreKnown : Core → (rounds : ℕ) → List (List ℕ) → List Statement → List Fault → Type 0
+AreKnown s rounds lines blocked faults = AreOutcomes s (Known s rounds) lines blocked faults
+
+-- this is all that the script means
+abbrev pub IsMeaning : Core → Told → Type 0
+IsMeaning s t = AreOutcomes s (Meaning s) t.lines.items t.blocked.items t.faults.items
 
 -- so many rounds were enough, or there were as many as the limit allows
 abbrev pub AreEnough : Core → (rounds limit : ℕ) → Bool → Type 0
@@ -130,3 +139,7 @@ StopsMean files limit trouble out new = StopsAt files 0 trouble × Kept out new
 abbrev pub Means : Files → ℕ → Result Status Stop → Held → Held → Type 0
 Means files limit (Ok status) out new = (text : List ℕ) × Tells files limit status text × Took out text new
 Means files limit (Err stop) out new = (stop.place ≡ 0) × StopsMean files limit stop.trouble out new
+
+-- the text was printed of all that the first file's script means
+abbrev pub PrintsMeaning : Files → (limit : ℕ) → (out new : Held) → Type 0
+PrintsMeaning files limit out new = (s : Core) × HasScript files 0 s × ((t : Told) × IsMeaning s t × (t.enough ≡ true) × Took out (mean_text t limit) new)

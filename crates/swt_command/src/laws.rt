@@ -1,6 +1,8 @@
 //! What a run and what it prints owe to the script.
-ghost use Rattle.std.specs.Prelude.{◌≡◌, ◌⊎◌, ℕ, ◌<◌, List, length, Option, None};
-ghost use Rattle.syntax_trees.specs.Meaning.{Meaning};
+ghost use Rattle.std.specs.Prelude.{◌≡◌, ◌⊎◌, ◌↔◌, ℕ, ◌<◌, true, List, length, Option, None};
+ghost use Rattle.syntax_trees.specs.Core.{Core};
+ghost use Rattle.syntax_trees.specs.Facts.{Fact};
+ghost use Rattle.syntax_trees.specs.Meaning.{IsFinished, Known, Meaning};
 ghost use Rattle.syntax_trees.specs.Outcomes.{Clean};
 ghost use Rattle.syntax_trees.specs.Resolved.{core};
 ghost use Rattle.agreement.specs.Headline.{PartOfLines};
@@ -12,9 +14,11 @@ ghost use Rattle.runs.specs.Report.{Reports};
 ghost use Rattle.compile.specs.Compiled.{IsCompiled};
 ghost use Rattle.swt_line.specs.Lines.{files_of};
 ghost use Rattle.swt_line.specs.declared.line.Line.{Line};
-ghost use Rattle.swt_line.specs.declared.line.Line.TheVariants.{Run, Replay};
+ghost use Rattle.swt_line.specs.declared.line.Line.TheVariants.{Mean, Run, Replay};
 ghost use Rattle.swt_command.specs.Causes.{AsksBadly, AtLimit, HasFailed, IsDone, LacksMemory, LeftBlocked, MetFault, Reported, SomeRefused};
 ghost use Rattle.swt_command.specs.Files.{Files, source_of};
+ghost use Rattle.swt_command.specs.declared.told.Told.{Told};
+ghost use Rattle.swt_command.specs.Means.{IsMeaning, IsTold, PrintsMeaning};
 ghost use Rattle.swt_command.specs.OneThread.{IsMeantBy, IsScriptFault, IsWhole, PrintsWhole};
 ghost use Rattle.swt_command.specs.Owes.{Owes};
 ghost use Rattle.swt_command.specs.Sinks.{Held};
@@ -44,6 +48,18 @@ pub fn runs_print_the_meaning()
 /// whole, and where the script writes no key twice its lines are a part of the script's, and its fault is among the script's.
 pub fn printed_reports_are_meant()
     ensures { (line : Line) (files : Files) (r : Report) (out new : Held) → Reported line files r out new → IsMeantBy files r }
+{}
+
+/// Where one more round of a script adds nothing, what is known is all that the script means.
+pub fn enough_is_meant()
+    ensures { (s : Core) (n : ℕ) → IsFinished s n → (f : Fact) → Meaning s f ↔ Known s n f }
+{}
+
+/// `mean` that ended with status 0, 3 or 4 has printed all that the script means, its faults among it, and nothing else.
+pub fn mean_prints_the_meaning()
+    ensures told { (s : Core) (limit : ℕ) (t : Told) → IsTold s limit t → t.enough ≡ true → IsMeaning s t }
+    ensures printed { (file : List ℕ) (rounds : ℕ) (files : Files) (out out_new err err_new trace trace_new : Held) (number : ℕ)
+        → Owes (Mean file rounds) files out out_new err err_new trace trace_new number → (number ≡ 0) ⊎ ((number ≡ 3) ⊎ (number ≡ 4)) → PrintsMeaning files rounds out out_new }
 {}
 
 /// The status of a process tells its cause: 0 that all is done, 1 that the text of a file is refused, 2 that the line asks for
