@@ -85,7 +85,8 @@ same_blocked s K L e at path (n, a, x) = (
     no_fact = λ o. x.no_fact (same_own s L K (other_way K L e) path n a o);
     no_fault = λ f k. x.no_fault f (e.back _ k);
     no_cell_fault = λ c f i k. x.no_cell_fault c f i (e.back _ k);
-  })
+  },
+)
 
 pub same_faults : (K L : Knowledge) → Same K L → (f : Fault) (at : ℕ) (path : Path) → Faults K f at path → Faults L f at path
 same_faults K L e f at path (n, k) = (n, e.more _ k)
@@ -103,6 +104,7 @@ module _ (s : Core) (n : ℕ) (finished : IsFinished s n) where
       least : ((suc m ≤ n) ⊎ (m ≡ n)) → New s (Known s m) f → Known s n f
       least (inl l) new = known_later s (suc m) n f l (inr new)
       least (inr e) new = finished f (inr (subst (λ (k : ℕ). New s (Known s k) f) e new))
+
       by : ((g : Fact) → Known s m g → Known s n g) → ((n ≤ m) ⊎ (m ≤ n)) → Known s (suc m) f → Known s n f
       by rec h (inl k) = rec f k
       by rec (inl l) (inr new) = finished f (inr (same_new s (Known s m) (Known s n) (record { more = rec; back = λ g k. known_later s n m g l k }) new))

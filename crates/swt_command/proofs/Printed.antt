@@ -84,7 +84,8 @@ meant_by files code r (src, read, w) t = (
     whole = λ quiet. whole_report src code r w t quiet;
     part = λ clean. part_report src code r w clean t;
     fault = λ clean f faulty. fault_report src code r f w clean t faulty;
-  })
+  },
+)
 
 pub printed_meant : (line : Line) (files : Files) (r : Report) (out new : Held) → Reported line files r out new → IsMeantBy files r
 printed_meant (Lines.Check names) files r out new h = absurd h
