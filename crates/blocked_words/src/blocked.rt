@@ -3,13 +3,10 @@
 use crate::inputs::say_inputs;
 use crate::paths::say_path;
 use crate::scene::{Scene, Stand};
-use crate::sites::{Deed, Site};
 use crate::words::{add_mark, say, say_start};
 use script_meaning::order::Statement;
 use std::alloc::{AllocError, Allocator};
-use unknown_inputs::input::{Input, inputs_of, inputs_of_wait};
-use unknown_inputs::missing::missing_of;
-use whole_facts::instances::{Instances, Step};
+use unknown_inputs::blocking::inputs_blocking;
 
 /// Adds what is said of the statements that are blocked by what is known of a script, in the order in which they are told: of each
 /// `FILE:LINE:COLUMN: blocked: waits for y (assigned at 1:30, itself blocked)`, the line of the source with the place marked, and its
@@ -38,27 +35,23 @@ fn add_blocked<'t, 'a, A: Allocator>(
     statement: &Statement,
 ) -> Result<(), AllocError> {
     let at = statement.at;
-    let Some(instance) = instance_at(&scene.known.learned.instances, statement.path.as_slice())
-    else {
-        return Ok(());
-    };
-    let Some(site) = scene.index.site(at) else {
+    let sites = &scene.index.sites;
+    let Some(waiting) = inputs_blocking(scene.alloc, sites, scene.known, statement)? else {
         return Ok(());
     };
     let stand = Stand {
         at,
-        function: site.function,
-        instance,
+        function: waiting.site.function,
+        instance: waiting.instance,
     };
     say_start(out, file, scene.text, at)?;
     say(out, "blocked: ")?;
-    let missing = missing_at(scene, site, instance)?;
-    if !say_inputs(scene, out, stand, missing.as_slice())? {
+    if !say_inputs(scene, out, stand, waiting.missing.as_slice())? {
         say_nothing(scene, out)?;
     }
     say(out, "\n")?;
     add_mark(out, scene.text, at)?;
-    say_path(scene, out, instance)
+    say_path(scene, out, waiting.instance)
 }
 
 /// Adds what is said where a statement waits for nothing that has a name.
@@ -74,26 +67,4 @@ fn say_nothing<'t, 'a, A: Allocator>(
             "all that it reads is known: it has its turn in the next round",
         )
     }
-}
-
-/// The inputs of a statement that are not known in an instance.
-fn missing_at<'t, 'a, A: Allocator>(
-    scene: &Scene<'t, 'a, A>,
-    site: &Site<'a, A>,
-    instance: usize,
-) -> Result<Vec<Input>, AllocError> {
-    let inputs = match &site.deed {
-        Deed::Does(action) => inputs_of(scene.alloc, *action)?,
-        Deed::Waits(names, _) => inputs_of_wait(scene.alloc, *names)?,
-    };
-    missing_of(scene.alloc, scene.known, instance, inputs.as_slice())
-}
-
-/// The instance at a path, the outermost step first.
-pub fn instance_at(instances: &Instances, path: &[Step]) -> Option<usize> {
-    let mut instance = 0;
-    for step in path {
-        instance = instances.child(instance, step.at, &step.key)?;
-    }
-    Some(instance)
 }

@@ -1,10 +1,15 @@
 //! Where the statements, variables, cells and calls of a script stand, found by their offsets and nodes.
+ghost use Rattle.std.specs.Prelude.{IfOk};
+ghost use Rattle.flow.specs.View.{core_of};
+ghost use Rattle.flow_sites.specs.Sites.{AreSites};
 
-use crate::sites::{Site, sites_of};
+use crate::sites::{action_of, variable_of};
 use flow::cell::{Call, Cell, Outer, Part};
 use flow::name::{Name, Owned};
 use flow::script::Flow;
 use flow::statement::{Action, Variable};
+use flow_sites::site::Site;
+use flow_sites::table::Sites;
 use std::alloc::{AllocError, Allocator, Global};
 use std::collections::HashMap;
 use whole_facts::parts::outers_of;
@@ -20,9 +25,13 @@ pub struct Spot<'a, A: Allocator> {
 #[derive(Drop)]
 pub struct Index<'a, A: Allocator> {
     pub flow: &'a Flow<A>,
-    sites: Vec<Site<'a, A>>,
-    /// The statements that can be blocked, by their offsets.
-    counting: HashMap<usize, usize>,
+    pub sites: Sites<'a, A>,
+    tables: Tables<'a, A>,
+}
+
+/// Where things stand in the statements of a script.
+#[derive(Drop)]
+struct Tables<'a, A: Allocator> {
     /// The statements that declare variables, by the nodes of these.
     declaring: HashMap<u32, usize>,
     spots: Vec<Spot<'a, A>>,
@@ -34,35 +43,25 @@ pub struct Index<'a, A: Allocator> {
     called: HashMap<usize, usize>,
 }
 
-impl<'a, A: Allocator> Index<'a, A> {
-    pub fn new(alloc: Global, flow: &'a Flow<A>) -> Result<Index<'a, A>, AllocError> {
-        let mut index = Index {
-            flow,
-            sites: sites_of(alloc, flow)?,
-            counting: HashMap::new(alloc),
+impl<'a, A: Allocator> Tables<'a, A> {
+    fn of(alloc: Global, sites: &[Site<'a, A>]) -> Result<Tables<'a, A>, AllocError> {
+        let mut tables = Tables {
             declaring: HashMap::new(alloc),
             spots: Vec::new(alloc),
             cells: HashMap::new(alloc),
             giving: HashMap::new(alloc),
             called: HashMap::new(alloc),
         };
-        for i in 0..index.sites.len() {
-            index.note_site(alloc, i)?;
+        for i in 0..sites.len() {
+            tables.note_site(alloc, i, &sites[i])?;
         }
-        Ok(index)
+        Ok(tables)
     }
 
-    fn note_site(&mut self, alloc: Global, i: usize) -> Result<(), AllocError> {
-        let Some(site) = self.sites.get(i) else {
-            return Ok(());
-        };
-        let function = site.function;
-        if site.counts() {
-            self.counting.insert(site.at, i)?;
-        }
-        match site.action() {
+    fn note_site(&mut self, alloc: Global, i: usize, site: &Site<'a, A>) -> Result<(), AllocError> {
+        match action_of(site) {
             None => Ok(()),
-            Some(action) => self.note_action(alloc, i, function, action),
+            Some(action) => self.note_action(alloc, i, site.function, action),
         }
     }
 
@@ -156,17 +155,30 @@ impl<'a, A: Allocator> Index<'a, A> {
         }
         Ok(())
     }
+}
+
+impl<'a, A: Allocator> Index<'a, A> {
+    pub fn new(alloc: Global, flow: &'a Flow<A>) -> Result<Index<'a, A>, AllocError>
+        ensures { IfOk result (λ index. AreSites (core_of flow.entry.now) index.sites) }
+    {
+        let sites = Sites::of(alloc, flow)?;
+        let tables = Tables::of(alloc, sites.all.as_slice())?;
+        Ok(Index {
+            flow,
+            sites,
+            tables,
+        })
+    }
 
     /// The statement at an offset that can be blocked.
     pub fn site(&self, at: usize) -> Option<&Site<'a, A>> {
-        let i = *self.counting.get(&at)?;
-        self.sites.get(i)
+        self.sites.at(at)
     }
 
     /// The statement of a node that can be blocked.
     pub fn site_of(&self, node: u32) -> Option<&Site<'a, A>> {
-        for site in &self.sites {
-            if site.node == node && site.counts() {
+        for site in &self.sites.all {
+            if site.node() == node && site.can_be_blocked() {
                 return Some(site);
             }
         }
@@ -175,26 +187,26 @@ impl<'a, A: Allocator> Index<'a, A> {
 
     /// The name of the function that is called at an offset.
     pub fn function_at(&self, at: usize) -> Option<&'a [u8]> {
-        let i = *self.called.get(&at)?;
+        let i = *self.tables.called.get(&at)?;
         let function = self.flow.functions.get(i)?;
         Some(function.name.as_slice())
     }
 
     /// The cell of a node.
     pub fn spot(&self, node: u32) -> Option<&Spot<'a, A>> {
-        let i = *self.cells.get(&node)?;
-        self.spots.get(i)
+        let i = *self.tables.cells.get(&node)?;
+        self.tables.spots.get(i)
     }
 
     /// Where the call stands that gives what is of this node.
     pub fn giving_at(&self, node: u32) -> Option<usize> {
-        self.giving.get(&node).copied()
+        self.tables.giving.get(&node).copied()
     }
 
     /// What a variable is called that is declared at this node.
     pub fn variable_name(&self, node: u32) -> Option<&'a [u8]> {
-        let i = *self.declaring.get(&node)?;
-        let variable = self.sites.get(i)?.variable(node)?;
+        let i = *self.tables.declaring.get(&node)?;
+        let variable = variable_of(self.sites.all.get(i)?, node)?;
         Some(variable.name.as_slice())
     }
 

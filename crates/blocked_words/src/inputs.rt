@@ -1,6 +1,7 @@
 //! What a statement waits for, in words.
 
 use crate::scene::{Scene, Stand};
+use crate::sites::{opens_blocks, word_of};
 use crate::words::{say, say_number, say_place};
 use crate::writers::Writer;
 use flow::name::{Name, Owned};
@@ -278,14 +279,14 @@ fn say_writer<'t, 'a, A: Allocator>(
 
 fn has_blocks<'t, 'a, A: Allocator>(scene: &Scene<'t, 'a, A>, at: usize) -> bool {
     match scene.index.site(at) {
-        Some(site) => site.has_blocks(),
+        Some(site) => opens_blocks(site),
         None => false,
     }
 }
 
 fn kind_of<'t, 'a, A: Allocator>(scene: &Scene<'t, 'a, A>, at: usize) -> &'static str {
     match scene.index.site(at) {
-        Some(site) => site.kind(),
+        Some(site) => word_of(site),
         None => "statement",
     }
 }

@@ -1,6 +1,7 @@
 //! Paths in words.
 
 use crate::scene::Scene;
+use crate::sites::action_of;
 use crate::words::{say, say_count, say_place, say_scalar};
 use flow::statement::{Action, Variable};
 use std::alloc::{AllocError, Allocator};
@@ -84,7 +85,7 @@ fn say_step<'t, 'a, A: Allocator>(
 
 /// What the statement does that opens blocks at an offset.
 fn opener<'t, 'a, A: Allocator>(scene: &Scene<'t, 'a, A>, at: usize) -> Option<&'a Action<A>> {
-    scene.index.site(at)?.action()
+    action_of(scene.index.site(at)?)
 }
 
 fn say_branch(out: &mut Vec<u8>, key: &Key) -> Result<(), AllocError> {

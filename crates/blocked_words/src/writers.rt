@@ -1,9 +1,9 @@
 //! Which statements that can not go on would write a variable.
 
 use crate::index::Index;
-use crate::sites::Deed;
 use flow::name::Name;
 use flow::statement::{Action, Block};
+use flow_sites::site::Form;
 use script_meaning::knowledge::Knowledge;
 use std::alloc::{AllocError, Allocator, Global};
 use std::collections::HashMap;
@@ -95,9 +95,11 @@ impl Writers {
             depth: 0,
             writer,
         };
-        match &site.deed {
-            Deed::Waits(_, content) => self.note_block(alloc, &known.learned, stand, *content),
-            Deed::Does(action) => self.note_action(alloc, &known.learned, stand, *action),
+        match &site.form {
+            Form::Inner(_, _, content) => self.note_block(alloc, &known.learned, stand, *content),
+            Form::Whole(statement) => {
+                self.note_action(alloc, &known.learned, stand, &statement.action)
+            }
         }
     }
 

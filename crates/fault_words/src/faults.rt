@@ -2,7 +2,6 @@
 
 use crate::printed::Printed;
 use crate::reasons::{plain_of, rule_of, say_reason};
-use blocked_words::blocked::instance_at;
 use blocked_words::paths::{say_path, say_steps};
 use blocked_words::scene::Scene;
 use blocked_words::words::{add_mark, say, say_start};
@@ -12,6 +11,7 @@ use script_meaning::knowledge::Knowledge;
 use script_meaning::rounds::rounds;
 use std::alloc::{AllocError, Allocator, Global};
 use std::collections::HashMap;
+use unknown_inputs::blocking::instance_at;
 use whole_facts::facts::{FaultFact, FaultKind, Place};
 use whole_facts::instances::Step;
 

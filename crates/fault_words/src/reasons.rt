@@ -5,11 +5,12 @@ use crate::operations::{say_message, say_operation};
 use blocked_words::index::Spot;
 use blocked_words::paths::say_steps;
 use blocked_words::scene::Scene;
-use blocked_words::sites::Site;
+use blocked_words::sites::action_of;
 use blocked_words::words::{say, say_place, say_scalar};
 use flow::cell::{Form, Outer};
 use flow::name::Name;
 use flow::statement::{Action, Range};
+use flow_sites::site::Site;
 use std::alloc::{AllocError, Allocator};
 use values::key::Key;
 use values::value::Value;
@@ -60,7 +61,7 @@ pub fn say_reason<'t, 'a, A: Allocator>(
     let Some(site) = scene.index.site(fact.at) else {
         return Ok(false);
     };
-    match (fact.kind, site.action()) {
+    match (fact.kind, action_of(site)) {
         (FaultKind::ElementTwice, Some(Action::Insert { array, .. })) => {
             say_twice(scene, out, fact, site, *array)
         }
@@ -177,9 +178,9 @@ fn say_other<'t, 'a, A: Allocator>(
     other: &Write,
 ) -> Result<(), AllocError> {
     match scene.index.site_of(other.writer.node) {
-        Some(site) if site.at != at => {
+        Some(site) if site.at() != at => {
             say(out, "at ")?;
-            say_place(out, scene.text, site.at)?;
+            say_place(out, scene.text, site.at())?;
         }
         _ => say(out, "by the same statement")?,
     }
