@@ -1,5 +1,5 @@
 -- The one statement at an offset that can be blocked is the blocked one, and the instance at its path is there.
-use Rattle.std.specs.Prelude.{◌≡◌, ◌⊎◌, ℕ, ◌+◌, ◌<◌, ◌≤◌, Bool, true, false, ◌&&◌, List, [], ◌∷◌, ◌++◌, length, map, reverse, filter, nat_eq, Option, Some, None, slice_get, take, drop, refl}
+use Rattle.std.specs.Prelude.{◌≡◌, ◌⊎◌, ℕ, ◌+◌, ◌<◌, ◌≤◌, Bool, true, List, [], ◌∷◌, ◌++◌, length, map, reverse, filter, nat_eq, Option, Some, None, take, drop, refl}
 use Rattle.std.proofs.Common.{rules, inl, inr, sym, ap, ◌∙◌, subst, arith, get_or}
 use Rattle.std.proofs.lemmas.Bool.{cases_Bool, cases_lt}
 use Rattle.std.proofs.lemmas.Option.{slice_get_past}
@@ -8,7 +8,7 @@ use Rattle.syntax_trees.specs.Core.{Core, Stmt, stmt, Action, declare, call_alon
 use Rattle.syntax_trees.specs.Meaning.{Known}
 use Rattle.syntax_trees.specs.Members.{◌∈◌, first, later}
 use Rattle.syntax_trees.specs.Outcomes.{Counts, Stuck}
-use Rattle.syntax_trees.specs.Parts.{script_stmts, stmt_action, stmt_at}
+use Rattle.syntax_trees.specs.Parts.{script_stmts, stmt_action}
 use Rattle.syntax_trees.specs.Places.{Path}
 use Rattle.meaning_laws.proofs.Declared.{stmt_in}
 use Rattle.whole_facts.specs.declared.instances.Instances.{Instances}

@@ -1,4 +1,4 @@
-use Rattle.std.proofs.Common.{rules, arith, ◌≡◌, ◌<◌, ℕ, [], nat_eq, length, get_or, refl, sym, subst}
+use Rattle.std.proofs.Common.{rules, arith, ◌≡◌, ◌<◌, [], nat_eq, length, get_or, refl, sym, subst}
 use Rattle.std.proofs.lemmas.Grind.{common_steps}
 use Rattle.std.specs.Prelude.{Option, None}
 use Rattle.std.specs.HashMap.{get}

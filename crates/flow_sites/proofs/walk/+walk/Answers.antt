@@ -1,9 +1,9 @@
-use Rattle.std.proofs.Common.{rules, arith, ◌≡◌, ◌<◌, ◌+◌, ◌++◌, [], List, length, get_or, drop, sym, ap, ◌∙◌}
+use Rattle.std.proofs.Common.{rules, arith, ◌≡◌, ◌<◌, ◌++◌, [], List, length, get_or, drop, sym, ap, ◌∙◌}
 use Rattle.std.proofs.lemmas.Grind.{common_steps}
 use Rattle.std.proofs.lemmas.List.{append-nil, append_assoc}
 use Rattle.std.proofs.lemmas.Result.{on_ok_weaker}
 use Rattle.flow.specs.declared.statement.Action.{Action}
-use Rattle.flow.specs.declared.statement.Block.{Block, out-Block}
+use Rattle.flow.specs.declared.statement.Block.{out-Block}
 use Rattle.flow.specs.declared.statement.Statement.{Statement}
 use Rattle.flow.specs.View.{action_view, block_view}
 use Rattle.syntax_trees.specs.Core.{Stmt}

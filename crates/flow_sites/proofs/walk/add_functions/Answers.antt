@@ -1,4 +1,4 @@
-use Rattle.std.proofs.Common.{rules, arith, ◌≡◌, ◌<◌, ◌++◌, List, length, get_or, drop, sym, ap, ◌∙◌}
+use Rattle.std.proofs.Common.{arith, ◌<◌, ◌++◌, List, length, get_or}
 use Rattle.std.proofs.lemmas.Grind.{common_steps}
 use Rattle.flow.specs.declared.script.Function.{Function}
 use Rattle.flow.specs.View.{block_view}

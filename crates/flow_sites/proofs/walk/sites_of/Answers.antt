@@ -2,7 +2,7 @@ use Rattle.std.proofs.Common.{rules, ◌≡◌, ◌++◌, [], List, map, sym, ap
 use Rattle.flow.specs.declared.script.Function.{Function}
 use Rattle.flow.specs.View.{block_view, function_view}
 use Rattle.syntax_trees.specs.Core.{Stmt}
-use Rattle.syntax_trees.specs.Parts.{blocks_of, function_blocks, stmts_among, stmts_within}
+use Rattle.syntax_trees.specs.Parts.{blocks_of, function_blocks, stmts_within}
 use Rattle.flow_sites.specs.declared.site.Site.{Site}
 use Rattle.flow_sites.specs.Sites.{sites_view}
 use Rattle.flow_sites.proofs.Walking.{among_joins, functions_of}

@@ -1,4 +1,4 @@
-use Rattle.std.proofs.Common.{rules, ◌≡◌, List, nat_eq, sym, ap, ◌∙◌}
+use Rattle.std.proofs.Common.{rules, ◌≡◌, List, nat_eq, ap, ◌∙◌}
 use Rattle.std.specs.Prelude.{Option, Some, option_map, slice_get}
 use Rattle.std.specs.HashMap.{get}
 use Rattle.flow_sites.specs.declared.site.Site.{Site}
