@@ -1,7 +1,9 @@
 //! Rounds over small scripts.
 use compile::compile::read;
+use flow_sites::table::Sites;
 use script_meaning::rounds::rounds;
 use std::test::Fail;
+use unknown_inputs::blocking::inputs_blocking;
 use values::key::Key;
 
 #[test]
@@ -36,6 +38,25 @@ fn statements_in_a_circle_are_blocked(rt: HostRuntime) -> Result<(), Fail> {
     assert_eq!(rt; blocked.len(), 2);
     assert_eq!(rt; blocked[0].at, 14);
     assert_eq!(rt; blocked[1].at, 21);
+    Ok(())
+}
+
+/// Of two statements in a circle the second waits for the first one's variable.
+#[test]
+fn a_blocked_statement_waits_for_what_is_not_known(rt: HostRuntime) -> Result<(), Fail> {
+    let alloc = rt.alloc();
+    let flow = read(alloc, alloc, b"int x; int y; x = y; y = x + 1;")?;
+    let known = rounds(alloc, &flow, 10)?;
+    let sites = Sites::of(alloc, &flow)?;
+    let blocked = known.blocked()?;
+    assert_eq!(rt; blocked.len(), 2);
+    let found = inputs_blocking(alloc, &sites, &known, &blocked[1])?;
+    assert!(rt; found.is_some());
+    if let Some(waiting) = found {
+        assert_eq!(rt; waiting.site.at(), 21);
+        assert_eq!(rt; waiting.instance, 0);
+        assert_eq!(rt; waiting.missing.len(), 1);
+    }
     Ok(())
 }
 
