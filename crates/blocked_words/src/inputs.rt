@@ -139,15 +139,15 @@ fn say_reason<'t, 'a, A: Allocator>(
         Input::Scalar(name) => {
             let place = scene.known.learned.instances.place(stand.instance, name);
             say_given(scene, out, place)?;
-            say_assigned(scene, out, stand, scene.writers.of(place))
+            say_givers(scene, out, stand, Giving::Assign, scene.writers.of(place))
         }
         Input::Array(name) => {
             let place = scene.known.learned.instances.place(stand.instance, name);
-            say_writers(scene, out, stand, scene.writers.of(place))
+            say_givers(scene, out, stand, Giving::Write, scene.writers.of(place))
         }
         Input::Element { array, .. } => {
             let place = scene.known.learned.instances.place(stand.instance, array);
-            say_writers(scene, out, stand, scene.writers.of(place))
+            say_givers(scene, out, stand, Giving::Write, scene.writers.of(place))
         }
     }
 }
@@ -193,20 +193,49 @@ fn say_waiting<'t, 'a, A: Allocator>(
     Ok(())
 }
 
-/// Adds which statements would assign a scalar.
-fn say_assigned<'t, 'a, A: Allocator>(
+/// What the statements would do that are told: assign a scalar, or write an array.
+#[derive(Clone, Copy, Drop)]
+enum Giving {
+    Assign,
+    Write,
+}
+
+/// What stands before the first of them, and between two.
+fn before(giving: Giving, is_first: bool) -> &'static str {
+    match (giving, is_first) {
+        (Giving::Assign, true) => " (assigned ",
+        (Giving::Assign, false) => ", ",
+        (Giving::Write, true) => " (",
+        (Giving::Write, false) => "; ",
+    }
+}
+
+/// What is said where the blocked statement is one of them.
+fn by_itself(giving: Giving) -> &'static str {
+    match giving {
+        Giving::Assign => "by the same statement",
+        Giving::Write => "the same statement may still write it",
+    }
+}
+
+/// Adds which statements would assign a scalar, or may still write an array.
+fn say_givers<'t, 'a, A: Allocator>(
     scene: &Scene<'t, 'a, A>,
     out: &mut Vec<u8>,
     stand: Stand,
+    giving: Giving,
     writers: &[Writer],
 ) -> Result<(), AllocError> {
     for i in 0..writers.len() {
         let writer = writers[i];
-        say(out, if i == 0 { " (assigned " } else { ", " })?;
+        say(out, before(giving, i == 0))?;
         if writer.at == stand.at {
-            say(out, "by the same statement")?;
-        } else {
-            say_assignment(scene, out, writer)?;
+            say(out, by_itself(giving))?;
+            continue;
+        }
+        match giving {
+            Giving::Assign => say_assignment(scene, out, writer)?,
+            Giving::Write => say_writer(scene, out, writer)?,
         }
     }
     if writers.is_empty() {
@@ -236,29 +265,6 @@ fn say_assignment<'t, 'a, A: Allocator>(
             ", which has a fault"
         },
     )
-}
-
-/// Adds which statements may still write an array.
-fn say_writers<'t, 'a, A: Allocator>(
-    scene: &Scene<'t, 'a, A>,
-    out: &mut Vec<u8>,
-    stand: Stand,
-    writers: &[Writer],
-) -> Result<(), AllocError> {
-    for i in 0..writers.len() {
-        let writer = writers[i];
-        say(out, if i == 0 { " (" } else { "; " })?;
-        if writer.at == stand.at {
-            say(out, "the same statement may still write it")?;
-        } else {
-            say_writer(scene, out, writer)?;
-        }
-    }
-    if writers.is_empty() {
-        Ok(())
-    } else {
-        say(out, ")")
-    }
 }
 
 fn say_writer<'t, 'a, A: Allocator>(
