@@ -18,10 +18,10 @@ use Rattle.syntax.proofs.statement.+stmt.Goals as goal
 
 pub stmts-loop-statements-init : goal.stmts-loop-statements-init
 stmts-loop-statements-init g t c =
-    let none = ap (map (statement_view {A = g.row.A.Denot})) c.new-statements.ensures.items in (
+    let none = ap (map (statement_view {A = g.row.A.Denot})) c.in_ok-statements.ensures.items in (
       suc (length c.args.cursor.now.rest),
       omega arith,
-      stmts_begin c.args.depth c.args.cursor.now (map (statement_view {A = g.row.A.Denot}) c.new-statements.result.items) none,
+      stmts_begin c.args.depth c.args.cursor.now (map (statement_view {A = g.row.A.Denot}) c.in_ok-statements.statements.items) none,
       omega arith,
     )
 
