@@ -158,11 +158,11 @@ fn command<A: Allocator>(
             steps.push(Step::Splits(number, at, first, other))?;
             Ok(())
         }
-        StmtKind::Foreach(value, key, source, body) => {
-            read_source(typed, source, steps)?;
+        StmtKind::Foreach(header, body) => {
+            read_source(typed, &header.source, steps)?;
             let mut within = Vec::new(alloc);
-            loop_variable(value, &mut within)?;
-            key_variable(key, &mut within)?;
+            loop_variable(&header.value, &mut within)?;
+            key_variable(&header.key, &mut within)?;
             block(alloc, typed, body, &mut within)?;
             steps.push(Step::Repeats(number, within))?;
             Ok(())

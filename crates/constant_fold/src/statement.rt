@@ -128,8 +128,8 @@ fn command<A: Allocator + Clone>(
                 Some(other) => block(machine, alloc, other),
             }
         }
-        StmtKind::Foreach(_, _, over, body) => {
-            source(machine, alloc, over)?;
+        StmtKind::Foreach(header, body) => {
+            source(machine, alloc, &mut header.source)?;
             block(machine, alloc, body)
         }
         StmtKind::Wait(_, body) => block(machine, alloc, body),

@@ -209,9 +209,10 @@ fn command<A: Allocator>(kind: &StmtKind<A>, mentions: &mut Vec<Mention>) -> Res
                 Some(other) => block(other, mentions),
             }
         }
-        StmtKind::Foreach(value, by, source, body) => {
-            add(Kind::Given, value_sort(source), value, mentions)?;
-            key(by, mentions)?;
+        StmtKind::Foreach(header, body) => {
+            let sort = value_sort(&header.source);
+            add(Kind::Given, sort, &header.value, mentions)?;
+            key(&header.key, mentions)?;
             block(body, mentions)
         }
         StmtKind::Wait(_, body) => block(body, mentions),

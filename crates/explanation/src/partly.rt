@@ -65,9 +65,7 @@ fn in_command<A: Allocator>(
                 Some(other) => in_block(search, other, found),
             }
         }
-        StmtKind::Foreach(_, _, _, body) | StmtKind::Wait(_, body) => {
-            in_block(search, body, found)
-        }
+        StmtKind::Foreach(_, body) | StmtKind::Wait(_, body) => { in_block(search, body, found) }
         _ => Ok(()),
     }
 }

@@ -69,8 +69,8 @@ fn in_command<A: Allocator>(search: &Search<A>, kind: &StmtKind<A>, found: &mut 
                 in_block(search, other, found);
             }
         }
-        StmtKind::Foreach(_, _, source, body) => {
-            in_source(search, source, found);
+        StmtKind::Foreach(header, body) => {
+            in_source(search, &header.source, found);
             in_block(search, body, found);
         }
         StmtKind::Wait(_, body) => in_block(search, body, found),

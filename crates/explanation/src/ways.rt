@@ -71,7 +71,7 @@ fn in_command<A: Allocator>(each: bool, name: &[u8], kind: &StmtKind<A>) -> bool
                 Some(other) => both_or_one(each, one, in_block(each, name, other)),
             }
         }
-        StmtKind::Foreach(_, _, _, _) => false,
+        StmtKind::Foreach(_, _) => false,
         StmtKind::Wait(_, body) => in_block(each, name, body),
     }
 }

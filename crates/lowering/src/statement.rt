@@ -19,7 +19,7 @@ use flow::name::{Name, Owned};
 use flow::statement::{Action, Block, Range, Statement};
 use lexer::token::Span;
 use std::alloc::{AllocError, Allocator};
-use syntax_trees::tree::{self, Decl, Expr, Right, Shape, Source, Stmt, StmtKind};
+use syntax_trees::tree::{self, Decl, Expr, Header, Right, Shape, Source, Stmt, StmtKind};
 use types::typed::Typed;
 
 /// Adds a statement.
@@ -183,8 +183,8 @@ fn command<A: Allocator + Clone>(
             let action = branches(alloc, typed, test, then, other)?;
             add(found, number, first.from, action)
         }
-        StmtKind::Foreach(value, key, source, body) => {
-            let action = repeated(alloc, typed, value, key, source, body)?;
+        StmtKind::Foreach(header, body) => {
+            let action = repeated(alloc, typed, header, body)?;
             add(found, number, first.from, action)
         }
         StmtKind::Wait(names, body) => {
@@ -237,18 +237,16 @@ fn branches<A: Allocator + Clone>(
 fn repeated<A: Allocator + Clone>(
     alloc: &A,
     typed: &Typed,
-    value: &tree::Name<A>,
-    key: &Option<tree::Name<A>>,
-    source: &Source<A>,
+    header: &Header<A>,
     body: &tree::Block<A>,
 ) -> Result<Action<A>, AllocError>
-    ensures core { IfOk result (λ a. let t = table_of typed.now in action_view a ≡ rules.loop_action t (word_of value.now) (option_map word_of key.now) (over_of source.now) (rules.block_of t (body_view body.now))) }
+    ensures core { IfOk result (λ a. let t = table_of typed.now in action_view a ≡ rules.loop_action t (word_of header.now.value) (option_map word_of header.now.key) (over_of header.now.source) (rules.block_of t (body_view body.now))) }
     ensures declared { IfOk result (λ a. action_declared a ≡ flagged (body_declarations (body_view body.now))) }
 {
-    let value = variable(alloc, value, Shape::Scalar)?;
-    let key = optional(alloc, key)?;
+    let value = variable(alloc, &header.value, Shape::Scalar)?;
+    let key = optional(alloc, &header.key)?;
     let body = boxed_block(alloc, typed, body)?;
-    match source {
+    match &header.source {
         Source::Array(name) => Ok(Action::Each {
             array: refer(typed, name),
             value,

@@ -11,7 +11,7 @@ use Rattle.syntax_trees.specs.declared.tree.Name.{Name}
 use Rattle.syntax_trees.specs.declared.tree.Operator.{Operator}
 use Rattle.syntax_trees.specs.declared.tree.Expr.{Expr}
 use Rattle.syntax_trees.specs.declared.tree.ExprKind.{Call, Chain, the_lemmas}
-use Rattle.syntax_trees.specs.declared.tree.Source.{Source}
+use Rattle.syntax_trees.specs.declared.tree.Header.{Header}
 use Rattle.syntax_trees.specs.declared.tree.Block.{Block, out-Block}
 use Rattle.syntax_trees.specs.declared.tree.StmtKind.{Foreach, Wait, the_lemmas as statement_lemmas}
 
@@ -43,8 +43,8 @@ block-room A kept b = ap (body_room kept) (view-Block A b) ∙ room-statements_o
 pub block-size : (A : Type 0) → (b : Block A) → body_size (body_view b) ≡ sum_by statement_size (map statement_view (out-Block A b).statements.items)
 block-size A b = block-room A false b
 
-pub view-Foreach : {A : Type 0} → (v : Name A) (k : Option (Name A)) (s : Source A) (b : Box (Block A) A) → command_view (Foreach v k s b) ≡ loop (word_of v) (option_map word_of k) (over_of s) (body_view b.value)
-view-Foreach v k s b = search (rules, statement_lemmas)
+pub view-Foreach : {A : Type 0} → (h : Box (Header A) A) (b : Box (Block A) A) → command_view (Foreach h b) ≡ loop (word_of h.value.value) (option_map word_of h.value.key) (over_of h.value.source) (body_view b.value)
+view-Foreach h b = search (rules, statement_lemmas)
 
 pub view-Wait : {A : Type 0} → (v : Vec (Name A) A) (b : Box (Block A) A) → command_view (Wait v b) ≡ waits (words_view v) (body_view b.value)
 view-Wait v b = search (rules, statement_lemmas)

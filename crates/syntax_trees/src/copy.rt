@@ -9,8 +9,8 @@ ghost use Rattle.syntax_trees.specs.Numbered.{unit, given, expression_room, form
 ghost use Rattle.syntax_trees.specs.Numbers.{numbers, numbers_from};
 
 use crate::tree::{
-    Block, Call, Decl, Expr, ExprKind, Function, Item, ListOf, Name, Range, Right, Script, Source,
-    Stmt, StmtKind,
+    Block, Call, Decl, Expr, ExprKind, Function, Header, Item, ListOf, Name, Range, Right, Script,
+    Source, Stmt, StmtKind,
 };
 use std::alloc::{AllocError, Allocator};
 
@@ -366,6 +366,24 @@ fn copy_source<A: Allocator, B: Allocator + Clone>(
     }
 }
 
+fn copy_header<A: Allocator, B: Allocator + Clone>(
+    header: &Header<A>,
+    kept: bool,
+    next: &mut u32,
+    alloc: &B,
+) -> Result<Box<Header<B>, B>, AllocError>
+    requires { next.old + unit kept + option_size (word_room kept) (option_map word_of header.now.key) + over_room kept (over_of header.now.source) < 2 ^ 32 }
+    ensures value { IfOk result (λ h. word_of h.value.value ≡ copied_word kept next.old (word_of header.now.value)) }
+    ensures key { IfOk result (λ h. option_map word_of h.value.key ≡ option_map (copied_word kept (next.old + unit kept)) (option_map word_of header.now.key)) }
+    ensures source { IfOk result (λ h. over_of h.value.source ≡ copied_over kept (next.old + unit kept + option_size (word_room kept) (option_map word_of header.now.key)) (over_of header.now.source)) }
+    ensures counts { OnOk result (next.new ≡ next.old + unit kept + option_size (word_room kept) (option_map word_of header.now.key) + over_room kept (over_of header.now.source)) }
+{
+    let value = copy_name(&header.value, kept, next, alloc)?;
+    let key = copy_key(&header.key, kept, next, alloc)?;
+    let source = copy_source(&header.source, kept, next, alloc)?;
+    Ok(Box::new(alloc.clone()?, Header { value, key, source })?)
+}
+
 // STATEMENTS
 
 #[cycle(copy_stmt)]
@@ -430,10 +448,8 @@ fn copy_command<A: Allocator, B: Allocator + Clone>(
             copy_block(then, kept, next, alloc)?,
             Some(copy_block(other, kept, next, alloc)?),
         )),
-        StmtKind::Foreach(value, key, source, body) => Ok(StmtKind::Foreach(
-            copy_name(value, kept, next, alloc)?,
-            copy_key(key, kept, next, alloc)?,
-            copy_source(source, kept, next, alloc)?,
+        StmtKind::Foreach(header, body) => Ok(StmtKind::Foreach(
+            copy_header(header, kept, next, alloc)?,
             copy_block(body, kept, next, alloc)?,
         )),
         StmtKind::Wait(names, body) => Ok(StmtKind::Wait(

@@ -7,7 +7,7 @@ ghost use Rattle.syntax_trees.specs.Numbered.{declaration_size, expression_size,
 use crate::expression::{expression, expressions, name, names};
 use std::alloc::Allocator;
 use syntax_trees::tree::{
-    Block, Call, Decl, Expr, ListOf, Name, Range, Right, Source, Stmt, StmtKind,
+    Block, Call, Decl, Expr, Header, ListOf, Name, Range, Right, Source, Stmt, StmtKind,
 };
 
 /// Numbers the name of a declaration.
@@ -125,6 +125,19 @@ fn source<A: Allocator>(source: &mut Source<A>, from: u32) -> u32
     }
 }
 
+/// Numbers what a loop names before its block: its variables, then what it goes over.
+fn loop_header<A: Allocator>(header: &mut Header<A>, from: u32) -> u32
+    requires { from + 1 + option_size word_size (option_map word_of header.old.key) + over_size (over_of header.old.source) < 2 ^ 32 }
+    ensures value { word_of header.new.value ≡ numbered_word from (word_of header.old.value) }
+    ensures key { option_map word_of header.new.key ≡ option_map (numbered_word (from + 1)) (option_map word_of header.old.key) }
+    ensures source { over_of header.new.source ≡ numbered_over (from + 1 + option_size word_size (option_map word_of header.old.key)) (over_of header.old.source) }
+    ensures next { result ≡ from + 1 + option_size word_size (option_map word_of header.old.key) + over_size (over_of header.old.source) }
+{
+    let behind = name(&mut header.value, from);
+    let next = key(&mut header.key, behind);
+    source(&mut header.source, next)
+}
+
 /// Numbers a statement: its node, then its parts.
 #[cycle(numbered)]
 pub fn statement<A: Allocator>(stmt: &mut Stmt<A>, from: u32) -> u32
@@ -170,10 +183,8 @@ fn command<A: Allocator>(kind: &mut StmtKind<A>, from: u32) -> u32
                 Some(other) => block(other, next),
             }
         }
-        StmtKind::Foreach(value, index, over, body) => {
-            let behind = name(value, from);
-            let middle = key(index, behind);
-            let next = source(over, middle);
+        StmtKind::Foreach(header, body) => {
+            let next = loop_header(header, from);
             block(body, next)
         }
         StmtKind::Wait(awaited, body) => {

@@ -23,8 +23,8 @@ use crate::typed::{Builtin, Callee, Owned, Settled, VariableType};
 use lexer::token::Span;
 use std::alloc::{AllocError, Allocator, Global};
 use syntax_trees::tree::{
-    Base, Block, Call, Decl, Expr, ExprKind, ListOf, Name, Range, Right, Shape, Source, Stmt,
-    StmtKind,
+    Base, Block, Call, Decl, Expr, ExprKind, Header, ListOf, Name, Range, Right, Shape, Source,
+    Stmt, StmtKind,
 };
 use values::format::{Format, FormatFault, Piece};
 
@@ -413,9 +413,9 @@ fn command<A: Allocator>(
         StmtKind::If(condition, then, other) => choice(
             alloc, functions, scope, settled, condition, then, other,
         ),
-        StmtKind::Foreach(value, key, over, body) => repetition(
-            alloc, functions, scope, settled, value, key, over, body,
-        ),
+        StmtKind::Foreach(header, body) => {
+            repetition(alloc, functions, scope, settled, header, body)
+        }
         StmtKind::Wait(names, body) => waiting(alloc, functions, scope, settled, names, body),
     }
 }
@@ -556,18 +556,16 @@ fn repetition<A: Allocator>(
     functions: &Functions,
     scope: &mut Scope,
     settled: &mut Vec<Settled>,
-    value: &Name<A>,
-    key: &Option<Name<A>>,
-    over: &Source<A>,
+    header: &Header<A>,
     body: &Block<A>,
 ) -> Result<(), TypeFault>
-    ensures { Gives (λ _. around_of scope.new) result settled.new.items (steps.commanded (signatures_of functions.now) (around_of scope.old) (trees.loop (word_of value.now) (option_map word_of key.now) (over_of over.now) (body_view body.now)) settled.old.items) }
+    ensures { Gives (λ _. around_of scope.new) result settled.new.items (steps.commanded (signatures_of functions.now) (around_of scope.old) (trees.loop (word_of header.now.value) (option_map word_of header.now.key) (over_of header.now.source) (body_view body.now)) settled.old.items) }
 {
-    fresh_variables(scope, value, key)?;
-    let base = source(functions, scope, settled, over)?;
+    fresh_variables(scope, &header.value, &header.key)?;
+    let base = source(functions, scope, settled, &header.source)?;
     let visible = scope.names.len();
     scope.blocks.push(visible)?;
-    add_variables(alloc, scope, value, key, base)?;
+    add_variables(alloc, scope, &header.value, &header.key, base)?;
     block(alloc, functions, scope, settled, body)?;
     leave(scope, visible);
     Ok(())

@@ -10,7 +10,7 @@ use Rattle.syntax_trees.specs.declared.tree.ExprKind.{ExprKind, Text, Call as Ca
 use Rattle.syntax_trees.specs.declared.tree.Call.{Call}
 use Rattle.syntax_trees.specs.declared.tree.Stmt.{Stmt}
 use Rattle.syntax_trees.specs.declared.tree.Block.{Block}
-use Rattle.syntax_trees.specs.declared.tree.Source.{Source}
+use Rattle.syntax_trees.specs.declared.tree.Header.{Header}
 use Rattle.syntax_trees.specs.declared.tree.Decl.{Decl}
 use Rattle.syntax_trees.specs.declared.tree.Function.{Function}
 use Rattle.syntax.specs.Answers.{branch_view}
@@ -39,8 +39,8 @@ pub view-If : {A : Type 0} (e : Box (Expr A) A) (b : Box (Block A) A) (o : Optio
 view-If e b None = search (rules, statement_lemmas)
 view-If e b (Some c) = search (rules, statement_lemmas)
 
-pub view-Foreach : {A : Type 0} (n : Name A) (k : Option (Name A)) (s : Source A) (b : Box (Block A) A) → command_view {A = A} (Foreach n k s b) ≡ loop (word_of n) (option_map word_of k) (over_of s) (body_view b.value)
-view-Foreach n k s b = search (rules, statement_lemmas)
+pub view-Foreach : {A : Type 0} (h : Box (Header A) A) (b : Box (Block A) A) → command_view {A = A} (Foreach h b) ≡ loop (word_of h.value.value) (option_map word_of h.value.key) (over_of h.value.source) (body_view b.value)
+view-Foreach h b = search (rules, statement_lemmas)
 
 pub view-Wait : {A : Type 0} (v : Vec (Name A) A) (b : Box (Block A) A) → command_view {A = A} (Wait v b) ≡ waits (words_view v) (body_view b.value)
 view-Wait v b = search (rules, statement_lemmas)

@@ -4,6 +4,7 @@ use Rattle.std.proofs.lemmas.Result.{on_ok_weaker}
 use Rattle.std.specs.List.{sum_by}
 use Rattle.syntax_trees.specs.declared.tree.Stmt.{out-Stmt}
 use Rattle.syntax_trees.specs.declared.tree.Block.{out-Block}
+use Rattle.syntax_trees.specs.declared.tree.Header.{Header}
 use Rattle.syntax_trees.specs.declared.tree.Range.{Range}
 use Rattle.syntax_trees.specs.View.{word_of, words_view, expression_view, calling_of, over_of, statement_view, command_view, body_view}
 use Rattle.syntax_trees.specs.Numbered.{statement_size}
@@ -112,16 +113,18 @@ pub command-returns-in_ok-action-in-Foreach-clause-core : goal.command-returns-i
 command-returns-in_ok-action-in-Foreach-clause-core g t c =
     let A = g.row.A.Denot in
     let tb = table_of c.args.typed.now in
-    let w = word_of {A = A} c.in-Foreach.value in
-    let k = option_map (word_of {A = A}) c.in-Foreach.key in
-    let o = over_of {A = A} c.in-Foreach.source in
+    let w = word_of {A = A} c.in-Foreach.header.value.value in
+    let k = option_map (word_of {A = A}) c.in-Foreach.header.value.key in
+    let o = over_of {A = A} c.in-Foreach.header.value.source in
     let F : trees.Body → core.Action = λ b. rules_of.loop_action tb w k o (rules_of.block_of tb b) in
     on_ok_weaker c.add-in-Foreach.result
     (λ adds. λ to. one_form tb (record { number = c.args.number; first = c.args.first; to = to }) (command_view {A = A} c.args.kind.now)
     (trees.loop w k o (body_view {A = A} c.in-Foreach.body.value))
     (statements_view c.args.found.now.items) (statements_view c.add-in-Foreach.new.found.items) (action_view c.in_ok-action-in-Foreach.action) (F (body_view {A = A} c.in-Foreach.body.value))
-    (ap command_view c.in-Foreach.is ∙ view-Foreach c.in-Foreach.value c.in-Foreach.key c.in-Foreach.source c.in-Foreach.body) refl adds
-    (c.in_ok-action-in-Foreach.ensures.core ∙ ap F (ap (body_view {A = A}) c.deref-in-Foreach.ensures)))
+    (ap command_view c.in-Foreach.is ∙ view-Foreach c.in-Foreach.header c.in-Foreach.body) refl adds
+    (c.in_ok-action-in-Foreach.ensures.core
+    ∙ ap (λ (h : Header A). rules_of.loop_action tb (word_of {A = A} h.value) (option_map (word_of {A = A}) h.key) (over_of {A = A} h.source) (rules_of.block_of tb (body_view {A = A} c.deref-in-Foreach-2.result))) c.deref-in-Foreach.ensures
+    ∙ ap F (ap (body_view {A = A}) c.deref-in-Foreach-2.ensures)))
     c.add-in-Foreach.ensures.core
 
 pub repeated-returns-in_ok-range-in-Range-2-clause-core : goal.repeated-returns-in_ok-range-in-Range-2-clause-core
@@ -130,7 +133,7 @@ repeated-returns-in_ok-range-in-Range-2-clause-core g t c =
     let tb = table_of c.args.typed.now in
     let over = c.in-Range.over.value in
     let boxed : c.in_ok-range-in-Range-2.range.value ≡ c.in_ok-range-in-Range.field-0 = grind (arith, common_steps) in
-    range_found tb (word_of {A = A} c.args.value.now) (option_map (word_of {A = A}) c.args.key.now) (over_of {A = A} c.args.source.now)
+    range_found tb (word_of {A = A} c.args.header.now.value) (option_map (word_of {A = A}) c.args.header.now.key) (over_of {A = A} c.args.header.now.source)
     (expression_view {A = A} over.low) (expression_view {A = A} over.high) (option_map (expression_view {A = A}) over.step) (rules_of.block_of tb (body_view {A = A} c.args.body.now))
     c.in_ok-range-in-Range-2.range c.in_ok-value.value c.in_ok-key.key c.in_ok-body.body
     (ap (over_of {A = A}) c.in-Range.is)
@@ -158,8 +161,8 @@ pub command-returns-in_ok-action-in-Foreach-clause-declared : goal.command-retur
 command-returns-in_ok-action-in-Foreach-clause-declared g t c =
     let A = g.row.A.Denot in
     let old = declared_by c.args.found.now.items in
-    let inside = ap (λ (b : _). flagged (body_declarations (body_view {A = A} b))) c.deref-in-Foreach.ensures in
-    let is = ap (λ (k : Command). flagged (command_declarations k)) (ap (command_view {A = A}) c.in-Foreach.is ∙ view-Foreach c.in-Foreach.value c.in-Foreach.key c.in-Foreach.source c.in-Foreach.body) in
+    let inside = ap (λ (b : _). flagged (body_declarations (body_view {A = A} b))) c.deref-in-Foreach-2.ensures in
+    let is = ap (λ (k : Command). flagged (command_declarations k)) (ap (command_view {A = A}) c.in-Foreach.is ∙ view-Foreach c.in-Foreach.header c.in-Foreach.body) in
     on_ok_weaker c.add-in-Foreach.result (λ adds. adds ∙ ap (λ ds. old ++ ds) (c.in_ok-action-in-Foreach.ensures.declared ∙ inside ∙ sym is)) c.add-in-Foreach.ensures.declared
 
 pub repeated-returns-in_ok-range-in-Range-2-clause-declared : goal.repeated-returns-in_ok-range-in-Range-2-clause-declared

@@ -91,14 +91,15 @@ choice-returns-clause-reads g t c =
 
 pub foreach-returns-clause-reads : goal.foreach-returns-clause-reads
 foreach-returns-clause-reads g t c =
+    let header : c.in_ok-header.header.value ≡ record { value = c.in_ok-value.value; key = c.in_ok-key.key; source = c.in_ok-source.source } = grind (arith, common_steps) in
     let boxed : c.in_ok-new.field-0.value ≡ c.in_ok-body.body = grind (arith, common_steps) in
     foreach_reads c.args.depth c.args.cursor.now (lexeme_of c.in_ok-take.field-0) c.take.new.self (word_of c.in_ok-value.value) c.name.new.cursor (option_map word_of c.in_ok-key.key) c.loop_key.new.cursor
     (lexeme_of c.in_ok-take-2.field-0) c.take-2.new.self (over_of c.in_ok-source.source) c.source.new.cursor (body_view c.in_ok-body.body) c.block.new.cursor
     c.in_ok-take.ensures.reads c.in_ok-value.ensures.reads c.in_ok-key.ensures.reads c.in_ok-take-2.ensures.reads c.in_ok-source.ensures.reads c.in_ok-body.ensures.reads
     ∙ ap (λ e. got e c.block.new.cursor) (sym (does_view c.args.cursor.now c.block.new.cursor c.first-first.result c.before-2.result _ c.stmt.result
     (loop (word_of c.in_ok-value.value) (option_map word_of c.in_ok-key.key) (over_of c.in_ok-source.source) (body_view c.in_ok-body.body))
-    c.first-first.ensures c.before-2.ensures c.stmt.ensures (view-Foreach c.in_ok-value.value c.in_ok-key.key c.in_ok-source.source c.in_ok-new.field-0
-    ∙ ap (λ b. loop (word_of c.in_ok-value.value) (option_map word_of c.in_ok-key.key) (over_of c.in_ok-source.source) (body_view b)) boxed)))
+    c.first-first.ensures c.before-2.ensures c.stmt.ensures (view-Foreach c.in_ok-header.header c.in_ok-new.field-0
+    ∙ ap₂ (λ h b. loop (word_of h.value) (option_map word_of h.key) (over_of h.source) (body_view b)) header boxed)))
 
 pub foreach-returns-clause-shorter : goal.foreach-returns-clause-shorter
 foreach-returns-clause-shorter g t c =

@@ -4,7 +4,7 @@ use Rattle.std.specs.List.{sum_by}
 use Rattle.std.specs.Prelude.{option_map}
 use Rattle.syntax_trees.specs.Tree.{waits}
 use Rattle.syntax_trees.specs.View.{word_of, over_of, statement_view, command_view, body_view}
-use Rattle.syntax_trees.specs.Numbered.{body_room, command_room, copied_body, copied_command, copied_over, copied_statement, copied_word, numbered_each, option_size, over_room, statement_room, statement_size, word_room}
+use Rattle.syntax_trees.specs.Numbered.{body_room, command_room, copied_body, copied_command, copied_over, copied_statement, copied_word, numbered_each, option_size, over_room, statement_room, statement_size, unit, word_room}
 use Rattle.syntax_trees.proofs.Views.{size_of_element, block-room, block-size, view-Foreach, view-Wait, same_loop}
 use Rattle.syntax_trees.proofs.Numbering.{numbered_more, counted_more, fits_more, viewed_all, copied-Block}
 use Rattle.syntax_trees.proofs.copy.+copy_stmt.Goals as goal
@@ -56,22 +56,21 @@ copy_body-returns-clause-counts g t c =
 
 pub copy_command-returns-in_ok-copy_block-in-Foreach-clause-copied : goal.copy_command-returns-in_ok-copy_block-in-Foreach-clause-copied
 copy_command-returns-in_ok-copy_block-in-Foreach-clause-copied g t c =
-    let behind_name = c.in_ok-copy_name-in-Foreach.ensures.counts in
-    let behind_key = c.in_ok-copy_key-in-Foreach.ensures.counts ∙ ap (λ n. n + option_size (word_room c.args.kept) (option_map word_of c.in-Foreach.key)) behind_name in
-    let behind_source = c.in_ok-copy_source-in-Foreach.ensures.counts ∙ ap (λ n. n + over_room c.args.kept (over_of c.in-Foreach.source)) behind_key in
-    view-Foreach c.in_ok-copy_name-in-Foreach.field-0 c.in_ok-copy_key-in-Foreach.field-0 c.in_ok-copy_source-in-Foreach.field-0 c.in_ok-copy_block-in-Foreach.field-0
-    ∙ same_loop c.in_ok-copy_name-in-Foreach.ensures.copied
-    (c.in_ok-copy_key-in-Foreach.ensures.copied ∙ ap (λ n. option_map ((copied_word c.args.kept) n) (option_map word_of c.in-Foreach.key)) behind_name)
-    (c.in_ok-copy_source-in-Foreach.ensures.copied ∙ ap (λ n. copied_over c.args.kept n (over_of c.in-Foreach.source)) behind_key)
-    (c.in_ok-copy_block-in-Foreach.ensures.copied ∙ ap₂ (λ n b. copied_body c.args.kept n (body_view {A = g.row.A.Denot} b)) behind_source c.deref-in-Foreach.ensures)
+    let same = c.deref-in-Foreach.ensures in
+    view-Foreach c.in_ok-copy_header-in-Foreach.field-0 c.in_ok-copy_block-in-Foreach.field-0
+    ∙ same_loop (c.in_ok-copy_header-in-Foreach.ensures.value ∙ ap (λ h. copied_word c.args.kept c.args.next.now (word_of h.value)) same)
+    (c.in_ok-copy_header-in-Foreach.ensures.key ∙ ap (λ h. option_map (copied_word c.args.kept (c.args.next.now + unit c.args.kept)) (option_map word_of h.key)) same)
+    (c.in_ok-copy_header-in-Foreach.ensures.source ∙ ap (λ h. copied_over c.args.kept (c.args.next.now + unit c.args.kept + option_size (word_room c.args.kept) (option_map word_of h.key)) (over_of h.source)) same)
+    (c.in_ok-copy_block-in-Foreach.ensures.copied ∙ ap₂ (λ n b. copied_body c.args.kept n (body_view {A = g.row.A.Denot} b)) (c.in_ok-copy_header-in-Foreach.ensures.counts ∙ ap (λ h. c.args.next.now + unit c.args.kept + option_size (word_room c.args.kept) (option_map word_of h.key) + over_room c.args.kept (over_of h.source)) same) c.deref-in-Foreach-2.ensures)
     ∙ sym (ap (λ k. copied_command c.args.kept c.args.next.now (command_view {A = g.row.A.Denot} k)) c.in-Foreach.is
-    ∙ ap ((copied_command c.args.kept) c.args.next.now) (view-Foreach c.in-Foreach.value c.in-Foreach.key c.in-Foreach.source c.in-Foreach.body))
+    ∙ ap ((copied_command c.args.kept) c.args.next.now) (view-Foreach c.in-Foreach.header c.in-Foreach.body))
 
 pub copy_command-returns-in_ok-copy_block-in-Foreach-clause-counts : goal.copy_command-returns-in_ok-copy_block-in-Foreach-clause-counts
 copy_command-returns-in_ok-copy_block-in-Foreach-clause-counts g t c =
-    let size = ap (λ k. command_room c.args.kept (command_view {A = g.row.A.Denot} k)) c.in-Foreach.is ∙ ap (command_room c.args.kept) (view-Foreach c.in-Foreach.value c.in-Foreach.key c.in-Foreach.source c.in-Foreach.body) in
-    let inner = ap (λ b. body_room c.args.kept (body_view {A = g.row.A.Denot} b)) c.deref-in-Foreach.ensures in
-    omega (arith, c.in_ok-copy_name-in-Foreach.ensures.counts, c.in_ok-copy_key-in-Foreach.ensures.counts, c.in_ok-copy_source-in-Foreach.ensures.counts, c.in_ok-copy_block-in-Foreach.ensures.counts)
+    let size = ap (λ k. command_room c.args.kept (command_view {A = g.row.A.Denot} k)) c.in-Foreach.is ∙ ap (command_room c.args.kept) (view-Foreach c.in-Foreach.header c.in-Foreach.body) in
+    let outer = ap (λ h. option_size (word_room c.args.kept) (option_map word_of h.key) + over_room c.args.kept (over_of h.source)) c.deref-in-Foreach.ensures in
+    let inner = ap (λ b. body_room c.args.kept (body_view {A = g.row.A.Denot} b)) c.deref-in-Foreach-2.ensures in
+    omega (arith, c.in_ok-copy_header-in-Foreach.ensures.counts, c.in_ok-copy_block-in-Foreach.ensures.counts)
 
 pub copy_command-returns-in_ok-copy_block-in-Wait-clause-copied : goal.copy_command-returns-in_ok-copy_block-in-Wait-clause-copied
 copy_command-returns-in_ok-copy_block-in-Wait-clause-copied g t c =
