@@ -52,6 +52,16 @@ fn reserve_items(items: &mut Items, added: Counts) -> Result<(), AllocError>
     items.reserve_new(added)
 }
 
+/// Memory for finding those items of the change that may wait for more than two inputs. Nothing else changes.
+fn reserve_to_wait(items: &mut Items, change: &Change) -> Result<(), AllocError>
+    ensures { items.new ≡ items.old }
+{
+    match change {
+        Change::Opens(openings) => items.reserve_to_wait(openings.spare.as_slice()),
+        _ => Ok(()),
+    }
+}
+
 impl Core {
     /// Room for the items that wait, for so many new ones, and for a line.
     fn make_room_for_items(&mut self, program: &Program, added: Counts) -> Result<(), AllocError>
@@ -95,6 +105,7 @@ impl Core {
             return Err(AllocError);
         };
         self.make_room_for_items(program, added)?;
+        reserve_to_wait(&mut self.items, change)?;
         self.world
             .make_room(&mut self.items.rows, known, program, job, change)
     }

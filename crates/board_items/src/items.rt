@@ -18,6 +18,7 @@ ghost use Rattle.board_items.specs.Settled.{AreFirst, one_more, IsTold, StaysBut
 
 use board_code::program::Program;
 use board_frames::item::{Item, Job, Mark, mark_item};
+use board_frames::opening::Inputs;
 use rules::input::Input;
 use rules::listing::Rules;
 use std::alloc::{AllocError, Global};
@@ -242,4 +243,28 @@ impl Items {
         self.apart = Counts { controls, leaves };
         Ok(())
     }
+
+    /// Memory for finding the new items that may wait for more than two inputs, for which these lists are, once there is room
+    /// for the items. Nothing else changes.
+    ///
+    /// # Errors
+    ///
+    /// `AllocError` where memory is refused.
+    pub fn reserve_to_wait(&mut self, spare: &[Inputs]) -> Result<(), AllocError>
+        ensures { self.new ≡ self.old }
+    {
+        if spare.is_empty() {
+            return Ok(());
+        }
+        self.rules.reserve_inputs(spare.len(), inputs_in(spare))
+    }
+}
+
+// For how many inputs the lists have room.
+fn inputs_in(spare: &[Inputs]) -> usize {
+    let mut inputs = 0_usize;
+    for list in spare {
+        inputs = inputs.saturating_add(list.capacity());
+    }
+    inputs
 }

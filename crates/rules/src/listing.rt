@@ -6,7 +6,7 @@ ghost use Rattle.rules.specs.Slots.{after_slot, unless_item, present, is_idle, I
 ghost use Rattle.rules.specs.Places.{IsNoted};
 
 use crate::input::Input;
-use crate::places::Places;
+use crate::places::{Places, heavy, notes_of_all};
 use crate::visit::{leave_listed, leave_noted, visit_listed, visit_noted};
 use crate::waiter::Waiter;
 use slab::Slab;
@@ -60,7 +60,7 @@ fn fit(
     ensures more { places.old.place ≤ places.new.place }
 {
     if places.place() < slots {
-        let mut wider = Places::sized(alloc, slots.max(FEWEST))?;
+        let mut wider = Places::sized(alloc, slots.max(FEWEST), heavy(waiters))?;
         wider.renew(waiters);
         *places = wider;
     }
@@ -190,6 +190,20 @@ impl Rules {
             self.slots = slots;
         }
         Ok(())
+    }
+
+    /// Takes memory for finding so many items that are added next and wait for more than two inputs, with so many
+    /// inputs between them. Where there was none, and it is refused to the `add` of such an item, each call looks at that
+    /// item until there is memory again. `add` works the same in any case.
+    ///
+    /// # Errors
+    ///
+    /// `AllocError` where there was less and memory is refused.
+    pub fn reserve_inputs(&mut self, items: usize, inputs: usize) -> Result<(), AllocError>
+        ensures { self.new ≡ self.old }
+    {
+        let more = notes_of_all(items, inputs);
+        self.places.reserve_notes(self.alloc, &self.waiters, more)
     }
 
     /// Lets an item wait for these inputs, each of which is not known yet. Where there are none nothing

@@ -32,6 +32,8 @@ pub struct Places {
     strays: Vec<usize>,
     // How many more notes may be asked for before all are made anew.
     left: usize,
+    // At least so many notes as those items have that wait for more than two inputs.
+    heavy: usize,
 }
 
 impl Model for Places {
@@ -55,20 +57,24 @@ impl Places {
             notes: Vec::new(alloc),
             strays: Vec::new(alloc),
             left: 0,
+            heavy: 0,
         }
     }
 
-    /// So many lists with nothing in them, and memory for twice the notes that as many items of two inputs have.
-    pub fn sized(alloc: Global, size: usize) -> Result<Places, AllocError>
+    /// So many lists with nothing in them, and memory for twice the notes that as many items of two inputs have, and twice so
+    /// many more.
+    pub fn sized(alloc: Global, size: usize, more: usize) -> Result<Places, AllocError>
         ensures place { IfOk result (λ places. places.place ≡ size) }
     {
         let mut heads = Vec::new(alloc);
         heads.resize(size, 0)?;
+        let notes = size.saturating_mul(PLAIN).saturating_add(more);
         Ok(Places {
             heads,
-            notes: Vec::with_capacity(alloc, size.saturating_mul(2 * PLAIN))?,
+            notes: Vec::with_capacity(alloc, notes.saturating_mul(2))?,
             strays: Vec::with_capacity(alloc, size)?,
             left: 0,
+            heavy: more,
         })
     }
 
@@ -239,6 +245,7 @@ impl Places {
             self.keep_slot(waiters, slot, most);
         }
         self.left = self.notes.capacity().saturating_sub(self.notes.len());
+        self.heavy = heavy(waiters);
     }
 
     // Makes all notes anew where there is place for fewer than so many, and takes more memory for them if items of more
@@ -261,6 +268,35 @@ impl Places {
         ensures { self.new ≡ self.old }
     {
         self.left = self.left.saturating_sub(weight);
+        if weight > PLAIN {
+            self.heavy = self.heavy.saturating_add(weight);
+        }
+    }
+
+    /// Takes memory for so many notes of items that are added next and wait for more than two inputs, if there is less. The
+    /// notes are looked through only where more than half of the memory may be in use.
+    pub fn reserve_notes(
+        &mut self,
+        alloc: Global,
+        waiters: &Slab<Waiter>,
+        more: usize,
+    ) -> Result<(), AllocError>
+        requires place { slab_len waiters.now ≤ self.old.place }
+        requires noted { IsNoted self.old waiters.now.slots }
+        ensures noted { IsNoted self.new waiters.now.slots }
+        ensures place { self.new.place ≡ self.old.place }
+    {
+        if self.notes.capacity() >= twice(waiters, self.heavy, more) {
+            return Ok(());
+        }
+        let wanted = twice(waiters, heavy(waiters), more).saturating_mul(2);
+        if self.notes.capacity() < wanted {
+            let notes = Vec::with_capacity(alloc, wanted)?;
+            self.clear();
+            self.notes = notes;
+        }
+        self.renew(waiters);
+        Ok(())
     }
 
     /// Sees to it that there is place for the notes of an item of so many inputs: all notes are made anew once as many were
@@ -279,11 +315,23 @@ impl Places {
 
 // The most notes that an item of so many inputs has: two for each, and one for its number.
 fn notes_of(inputs: usize) -> usize {
-    inputs.saturating_mul(2).saturating_add(1)
+    notes_of_all(1, inputs)
 }
 
-// How many notes those items may have that have more than an item of two inputs.
-fn heavy(waiters: &Slab<Waiter>) -> usize {
+/// The most notes that so many items with so many inputs between them have.
+pub fn notes_of_all(items: usize, inputs: usize) -> usize {
+    inputs.saturating_mul(2).saturating_add(items)
+}
+
+// Twice the notes of all that wait, where those of more than two inputs have so many, once so many more are added.
+fn twice(waiters: &Slab<Waiter>, heavy: usize, more: usize) -> usize {
+    let plain = waiters.len().saturating_mul(2 * PLAIN);
+    let notes = heavy.saturating_add(more).saturating_add(plain);
+    notes.saturating_mul(2)
+}
+
+/// How many notes those items may have that have more than an item of two inputs.
+pub fn heavy(waiters: &Slab<Waiter>) -> usize {
     let mut sum = 0_usize;
     for slot in 0..waiters.capacity() {
         if let Some(waiter) = waiters.get(slot) {
@@ -298,13 +346,10 @@ fn heavy(waiters: &Slab<Waiter>) -> usize {
 
 // For how many notes there should be memory beyond that of items of two inputs, once an item with so many is added.
 fn wanted(waiters: &Slab<Waiter>, weight: usize) -> usize {
-    let mut notes = heavy(waiters);
-    if weight > PLAIN {
-        notes = notes.saturating_add(weight);
-    }
-    if notes == 0 {
+    let heavy = heavy(waiters);
+    let more = if weight > PLAIN { weight } else { 0 };
+    if heavy == 0 && more == 0 {
         return 0;
     }
-    let plain = waiters.len().saturating_mul(2 * PLAIN);
-    notes.saturating_add(plain).saturating_mul(2)
+    twice(waiters, heavy, more)
 }
