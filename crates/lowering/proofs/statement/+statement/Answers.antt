@@ -123,7 +123,7 @@ command-returns-in_ok-action-in-Foreach-clause-core g t c =
     (statements_view c.args.found.now.items) (statements_view c.add-in-Foreach.new.found.items) (action_view c.in_ok-action-in-Foreach.action) (F (body_view {A = A} c.in-Foreach.body.value))
     (ap command_view c.in-Foreach.is ∙ view-Foreach c.in-Foreach.header c.in-Foreach.body) refl adds
     (c.in_ok-action-in-Foreach.ensures.core
-    ∙ ap (λ (h : Header A). rules_of.loop_action tb (word_of {A = A} h.value) (option_map (word_of {A = A}) h.key) (over_of {A = A} h.source) (rules_of.block_of tb (body_view {A = A} c.deref-in-Foreach-2.result))) c.deref-in-Foreach.ensures
+    ∙ ap (λ (h : Header A). rules_of.loop_action tb (word_of {A = A} h.value) (option_map (word_of {A = A}) h.key) (over_of {A = A} h.source) (rules_of.block_of tb (body_view {A = A} c.deref-in-Foreach-2.result.now))) c.deref-in-Foreach.ensures
     ∙ ap F (ap (body_view {A = A}) c.deref-in-Foreach-2.ensures)))
     c.add-in-Foreach.ensures.core
 
