@@ -6,8 +6,9 @@ ghost use Rattle.explanation.specs.Mentions.{mentions_around};
 
 use crate::mention::{Kind, Mention};
 use crate::mentions::mentions_around;
+use crate::told::Refused;
 use lexer::token::Span;
-use std::alloc::{AllocError, Allocator, Global};
+use std::alloc::{AllocError, Allocator};
 use syntax_trees::tree::{Function, Item, Script};
 
 /// What is looked for.
@@ -90,17 +91,16 @@ pub fn function_named<'a, A: Allocator>(
 /// The place of a name's last mention that is of the kind that is wanted and ends at an offset or before it, in the block of the
 /// function, or of the script, that the name stands in.
 pub fn place_before<A: Allocator>(
-    alloc: Global,
-    text: &[u8],
-    script: &Script<A>,
+    refused: &Refused<'_, A>,
     name: Span,
     wanted: Wanted,
     before: usize,
 ) -> Result<Option<Span>, AllocError>
     ensures { IfOk result (λ place. place ≡ option_map (λ m. m.at)
-        (last_fitting (fits text.now wanted (bytes_at text.now name) before) (mentions_around name.from (tree_of script.now)))) }
+        (last_fitting (fits refused.now.text.now wanted (bytes_at refused.now.text.now name) before) (mentions_around name.from (tree_of refused.now.script.now)))) }
 {
-    let mentions = mentions_around(alloc, name.from, script)?;
+    let text = refused.text;
+    let mentions = mentions_around(refused.alloc, name.from, refused.script)?;
     match last_before(
         text,
         mentions.as_slice(),

@@ -10,7 +10,7 @@ use crate::assignments_told::told_of_assignments;
 use crate::position::{Position, position_of};
 use crate::quote::add_quote;
 use crate::texts::told_of_text;
-use crate::told::{Note, Told};
+use crate::told::{Note, Refused, Told};
 use crate::types_told::told_of_types;
 use assign_check::fault::AssignFault;
 use itoa::Buffer;
@@ -75,7 +75,14 @@ fn ill_typed<A: Allocator>(
     let Some(at) = fault.span() else {
         return Err(AllocError);
     };
-    let told = told_of_types(alloc, text, script, fault)?;
+    let told = told_of_types(
+        &Refused {
+            alloc,
+            text,
+            script,
+        },
+        fault,
+    )?;
     let name = format!(in alloc; "{fault}")?;
     shown(alloc, file, text, at, name.as_str(), &told)
 }
@@ -93,7 +100,14 @@ fn not_single<A: Allocator>(
     let Some(at) = fault.span() else {
         return Err(AllocError);
     };
-    let told = told_of_assignments(alloc, text, script, fault)?;
+    let told = told_of_assignments(
+        &Refused {
+            alloc,
+            text,
+            script,
+        },
+        fault,
+    )?;
     let name = format!(in alloc; "{fault}")?;
     shown(alloc, file, text, at, name.as_str(), &told)
 }

@@ -1,7 +1,16 @@
 //! What is said of a refusal.
 
 use lexer::token::Span;
-use std::alloc::{AllocError, Global};
+use std::alloc::{AllocError, Allocator, Global};
+use syntax_trees::tree::Script;
+
+/// A script that is refused, with its text, and the memory that the words on it take.
+#[derive(Clone, Copy, Drop)]
+pub struct Refused<'a, A: Allocator> {
+    pub alloc: Global,
+    pub text: &'a [u8],
+    pub script: &'a Script<A>,
+}
 
 /// Another place that a refusal speaks of.
 #[derive(Clone, Copy, Debug, PartialEq, Eq)]

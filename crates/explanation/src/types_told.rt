@@ -4,85 +4,78 @@ use crate::lookup::{Wanted, bytes_at, function_named, place_before};
 use crate::mention::Sort;
 use crate::mentions::{function_around, mentions_around};
 use crate::sorts::{Search, first_mismatch};
-use crate::told::{Note, Told, note_of};
+use crate::told::{Note, Refused, Told, note_of};
 use itoa::Buffer;
 use lexer::token::Span;
-use std::alloc::{AllocError, Allocator, Global};
-use syntax_trees::tree::{Base, Function, Script, Shape};
+use std::alloc::{AllocError, Allocator};
+use syntax_trees::tree::{Base, Function, Shape};
 use types::fault::TypeFault;
 
 /// What is said of a script that is not well typed.
 pub fn told_of_types<A: Allocator>(
-    alloc: Global,
-    text: &[u8],
-    script: &Script<A>,
+    refused: &Refused<'_, A>,
     fault: TypeFault,
 ) -> Result<Told, AllocError> {
     match fault {
-        TypeFault::Unknown(at) => told_of_unknown(alloc, text, script, at),
-        TypeFault::Declared(at) => told_of_declared(alloc, text, script, at),
-        TypeFault::Mismatch(at) => told_of_mismatch(alloc, text, script, at),
-        TypeFault::WrongCount(at) => told_of_count(alloc, bytes_at(text, at), script),
+        TypeFault::Unknown(at) => told_of_unknown(refused, at),
+        TypeFault::Declared(at) => told_of_declared(refused, at),
+        TypeFault::Mismatch(at) => told_of_mismatch(refused, at),
+        TypeFault::WrongCount(at) => told_of_count(refused, bytes_at(refused.text, at)),
         TypeFault::BadFormat(_) => {
             Told::plain(
-                alloc,
+                refused.alloc,
                 "printf wants a string first in which each % begins %i, %d, %s or %%",
             )
         }
         TypeFault::NotAFunction(at) => {
-            Told::of(alloc, bytes_at(text, at), "is no function", None)
+            Told::of(
+                refused.alloc,
+                bytes_at(refused.text, at),
+                "is no function",
+                None,
+            )
         }
-        TypeFault::Memory => Told::plain(alloc, "no memory"),
+        TypeFault::Memory => Told::plain(refused.alloc, "no memory"),
     }
 }
 
-fn told_of_unknown<A: Allocator>(
-    alloc: Global,
-    text: &[u8],
-    script: &Script<A>,
-    at: Span,
-) -> Result<Told, AllocError> {
-    let name = bytes_at(text, at);
-    let other = place_before(alloc, text, script, at, Wanted::Declaration, text.len())?;
+fn told_of_unknown<A: Allocator>(refused: &Refused<'_, A>, at: Span) -> Result<Told, AllocError> {
+    let name = bytes_at(refused.text, at);
+    let other = place_before(refused, at, Wanted::Declaration, refused.text.len())?;
     let note = note_of("another block or a later line declares it at", other);
-    Told::of(alloc, name, "is no variable that is visible here", note)
+    Told::of(
+        refused.alloc,
+        name,
+        "is no variable that is visible here",
+        note,
+    )
 }
 
-fn told_of_declared<A: Allocator>(
-    alloc: Global,
-    text: &[u8],
-    script: &Script<A>,
-    at: Span,
-) -> Result<Told, AllocError> {
-    let name = bytes_at(text, at);
-    match function_around(at.from, script) {
-        Some(one) if one.name.span == at => told_of_function(alloc, name, script, at),
+fn told_of_declared<A: Allocator>(refused: &Refused<'_, A>, at: Span) -> Result<Told, AllocError> {
+    let name = bytes_at(refused.text, at);
+    match function_around(at.from, refused.script) {
+        Some(one) if one.name.span == at => told_of_function(refused, name, at),
         _ => {
-            let first = place_before(alloc, text, script, at, Wanted::Declaration, at.from)?;
+            let first = place_before(refused, at, Wanted::Declaration, at.from)?;
             let note = note_of("declared at", first);
-            Told::of(alloc, name, "is declared a second time", note)
+            Told::of(refused.alloc, name, "is declared a second time", note)
         }
     }
 }
 
 /// What is said of an expression or a name of a wrong type.
-fn told_of_mismatch<A: Allocator>(
-    alloc: Global,
-    text: &[u8],
-    script: &Script<A>,
-    at: Span,
-) -> Result<Told, AllocError> {
-    let mentions = mentions_around(alloc, at.from, script)?;
+fn told_of_mismatch<A: Allocator>(refused: &Refused<'_, A>, at: Span) -> Result<Told, AllocError> {
+    let mentions = mentions_around(refused.alloc, at.from, refused.script)?;
     let search = Search {
-        text,
-        script,
+        text: refused.text,
+        script: refused.script,
         mentions: mentions.as_slice(),
         at,
     };
     match first_mismatch(&search) {
-        None => Told::plain(alloc, "this is of a wrong type"),
+        None => Told::plain(refused.alloc, "this is of a wrong type"),
         Some(mismatch) => {
-            let mut told = Told::plain(alloc, "this is ")?;
+            let mut told = Told::plain(refused.alloc, "this is ")?;
             add_sort(&mut told.sentence, mismatch.found)?;
             told.sentence.extend_from_slice(b", and wanted is ")?;
             add_sort(&mut told.sentence, mismatch.wanted)?;
@@ -106,18 +99,17 @@ fn add_sort(out: &mut Vec<u8>, sort: Sort) -> Result<(), AllocError> {
 
 /// What is said of a function whose name is taken.
 fn told_of_function<A: Allocator>(
-    alloc: Global,
+    refused: &Refused<'_, A>,
     name: &[u8],
-    script: &Script<A>,
     at: Span,
 ) -> Result<Told, AllocError> {
-    match function_named(name, script) {
+    match function_named(name, refused.script) {
         Some(first) if first.name.span != at => {
             let note = Some(defined_at(first));
-            Told::of(alloc, name, "is defined a second time", note)
+            Told::of(refused.alloc, name, "is defined a second time", note)
         }
         _ => Told::of(
-            alloc,
+            refused.alloc,
             name,
             "is a function that is there without a definition",
             None,
@@ -133,21 +125,17 @@ fn defined_at<A: Allocator>(function: &Function<A>) -> Note {
 }
 
 /// What is said of a call with a wrong number of arguments or outputs.
-fn told_of_count<A: Allocator>(
-    alloc: Global,
-    name: &[u8],
-    script: &Script<A>,
-) -> Result<Told, AllocError> {
-    match function_named(name, script) {
+fn told_of_count<A: Allocator>(refused: &Refused<'_, A>, name: &[u8]) -> Result<Told, AllocError> {
+    match function_named(name, refused.script) {
         Some(function) => {
             let note = Some(defined_at(function));
-            let mut told = Told::of(alloc, name, "takes ", note)?;
+            let mut told = Told::of(refused.alloc, name, "takes ", note)?;
             add_count(&mut told.sentence, function.inputs.len(), " argument")?;
             told.sentence.extend_from_slice(b" and gives ")?;
             add_count(&mut told.sentence, function.outputs.len(), " value")?;
             Ok(told)
         }
-        None => Told::of(alloc, name, built_in_counts(name), None),
+        None => Told::of(refused.alloc, name, built_in_counts(name), None),
     }
 }
 
