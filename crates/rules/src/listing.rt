@@ -17,8 +17,8 @@ use std::marker::Model;
 // The fewest lists that there are once there are any.
 const FEWEST: usize = 64;
 
-// Tells those that the input leaves with nothing to wait for.
-fn wake(waiters: &mut Slab<Waiter>, places: &Places, input: &Input, out: &mut Vec<u64>)
+// Tells those that the input leaves with nothing to wait for. The answer is how many notes the input's list has.
+fn wake(waiters: &mut Slab<Waiter>, places: &Places, input: &Input, out: &mut Vec<u64>) -> usize
     requires room { slab_len waiters.old + vec_len out.old ≤ vec_capacity out.old }
     requires busy { AllBusy waiters.old.slots }
     requires noted { IsNoted places.now waiters.old.slots }
@@ -29,8 +29,9 @@ fn wake(waiters: &mut Slab<Waiter>, places: &Places, input: &Input, out: &mut Ve
     ensures capacity { waiters.new.capacity ≡ waiters.old.capacity }
     ensures out_capacity { vec_capacity out.new ≡ vec_capacity out.old }
 {
-    visit_noted(waiters, places, input, out);
+    let walked = visit_noted(waiters, places, input, out);
     visit_listed(waiters, places.strays(), input, out);
+    walked
 }
 
 // Takes an item out.
@@ -239,7 +240,8 @@ impl Rules {
         ensures out_capacity { vec_capacity out.new ≡ vec_capacity out.old }
         ensures each_missed { EachMisses self.old.waiting }
     {
-        wake(&mut self.waiters, &self.places, input, out);
+        let walked = wake(&mut self.waiters, &self.places, input, out);
+        self.places.count_walk(&self.waiters, walked);
     }
 
     /// Takes an item out, if it waits. Takes no memory.

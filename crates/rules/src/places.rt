@@ -12,6 +12,9 @@ use std::marker::Model;
 // The most notes that an item of two inputs has.
 const PLAIN: usize = 5;
 
+// The most notes of a list that is not long.
+const SHORT: usize = 8;
+
 /// That what lies in a slot is looked for at an address.
 #[derive(Clone, Copy, Debug, PartialEq, Eq)]
 pub struct Note {
@@ -34,6 +37,8 @@ pub struct Places {
     left: usize,
     // At least so many notes as those items have that wait for more than two inputs.
     heavy: usize,
+    // How many notes were walked past in long lists since all were made anew.
+    passed: usize,
 }
 
 impl Model for Places {
@@ -58,6 +63,7 @@ impl Places {
             strays: Vec::new(alloc),
             left: 0,
             heavy: 0,
+            passed: 0,
         }
     }
 
@@ -75,6 +81,7 @@ impl Places {
             strays: Vec::with_capacity(alloc, size)?,
             left: 0,
             heavy: more,
+            passed: 0,
         })
     }
 
@@ -246,6 +253,33 @@ impl Places {
         }
         self.left = self.notes.capacity().saturating_sub(self.notes.len());
         self.heavy = heavy(waiters);
+        self.passed = 0;
+    }
+
+    // Counts notes that were walked past.
+    fn pass(&mut self, notes: usize)
+        ensures { self.new ≡ self.old }
+    {
+        self.passed = self.passed.saturating_add(notes);
+    }
+
+    // Whether more were walked past than there are.
+    fn has_long_lists(&self) -> bool {
+        self.passed > self.notes.len()
+    }
+
+    /// Counts the notes that an input's list had. All are made anew once more were walked past in long lists than there are, since
+    /// what is no longer needed makes lists long where the number of a datum is used again and again.
+    pub fn count_walk(&mut self, waiters: &Slab<Waiter>, walked: usize)
+        requires place { slab_len waiters.now ≤ self.old.place }
+        requires noted { IsNoted self.old waiters.now.slots }
+        ensures noted { IsNoted self.new waiters.now.slots }
+        ensures place { self.new.place ≡ self.old.place }
+    {
+        self.pass(walked.saturating_sub(SHORT));
+        if self.has_long_lists() {
+            self.renew(waiters);
+        }
     }
 
     // Makes all notes anew where there is place for fewer than so many, and takes more memory for them if items of more

@@ -46,8 +46,13 @@ pub fn visit_listed(waiters: &mut Slab<Waiter>, slots: &[usize], input: &Input, 
     }
 }
 
-/// Visits each slot that is noted at the input's address.
-pub fn visit_noted(waiters: &mut Slab<Waiter>, places: &Places, input: &Input, out: &mut Vec<u64>)
+/// Visits each slot that is noted at the input's address. The answer is how many notes its list has.
+pub fn visit_noted(
+    waiters: &mut Slab<Waiter>,
+    places: &Places,
+    input: &Input,
+    out: &mut Vec<u64>,
+) -> usize
     requires { slab_len waiters.old + vec_len out.old ≤ vec_capacity out.old }
     ensures learnt { Learnt input.now waiters.old.slots waiters.new.slots out.old.items out.new.items }
     ensures settled { (k : ℕ) → IsAt places.now.notes (address input.now) k ⊎ IsSettled (after_slot input.now) waiters.old.slots k
@@ -59,14 +64,17 @@ pub fn visit_noted(waiters: &mut Slab<Waiter>, places: &Places, input: &Input, o
 {
     let address = input.address();
     let mut next = places.last(address);
+    let mut walked = 0_usize;
     while next > 0 {
         let note = places.note(next - 1);
         next = note.earlier;
+        walked = walked.saturating_add(1);
         if note.address != address {
             continue;
         }
         visit(waiters, note.slot, input, out);
     }
+    walked
 }
 
 /// Takes out the item of a slot, if it is this one.
