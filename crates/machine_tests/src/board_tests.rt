@@ -88,17 +88,26 @@ fn the_limit_ends_a_board(rt: HostRuntime) {
     assert_eq!(rt; board.next(Kind::Control), None);
 }
 
+/// What the item of `printf("other");` comes to, on a board of its own.
+fn others_result(alloc: Global) -> Result<Done, Refusal> {
+    let Ok(code) = printed(alloc, b"other") else {
+        return Err(Refusal::Memory);
+    };
+    let Ok(mut board) = Board::new(alloc, code, 100) else {
+        return Err(Refusal::Memory);
+    };
+    work_on(&mut board, 0, 1)?;
+    done_on(&mut board, 1, 2)
+}
+
 /// The result of another entry is refused, and the item still runs.
 #[test]
 fn another_entry_is_a_stranger(rt: HostRuntime) {
+    let strange = others_result(rt.alloc()).expect(&rt, "done");
     let code = hello(rt.alloc()).expect(&rt, "a code");
     let mut board = Board::new(rt.alloc(), code, 100).expect(&rt, "memory");
-    let code = printed(rt.alloc(), b"other").expect(&rt, "a code");
-    let mut other = Board::new(rt.alloc(), code, 100).expect(&rt, "memory");
     assert_eq!(rt; work_on(&mut board, 0, 1), Ok(()));
-    assert_eq!(rt; work_on(&mut other, 0, 1), Ok(()));
     let own = done_on(&mut board, 1, 2).expect(&rt, "done");
-    let strange = done_on(&mut other, 1, 2).expect(&rt, "done");
     assert_eq!(rt; end_on(&mut board, 1, strange), Err(Refusal::Stranger));
     assert!(rt; board.lines().is_empty());
     assert_eq!(rt; end_on(&mut board, 1, own), Ok(()));
@@ -120,31 +129,37 @@ fn asserting(alloc: Global, holds: bool) -> Result<(Board, Done), Refusal> {
     Ok((board, done))
 }
 
+/// How many items can begin since the last event, the first of them, and how many data are stored.
+fn told_by(board: &Board) -> (usize, Option<(Kind, i32, u64)>, usize) {
+    (board.newly_len(), board.newly(0), board.stored())
+}
+
 /// Each end tells which items can begin from then on, and a datum goes with its last reader.
 #[test]
 fn items_and_data_come_and_go(rt: HostRuntime) {
     let code = asserted(rt.alloc(), true).expect(&rt, "a code");
     let mut board = Board::new(rt.alloc(), code, 100).expect(&rt, "memory");
     assert_eq!(rt; work_on(&mut board, 0, 1), Ok(()));
-    assert_eq!(rt; (board.newly_len(), board.stored()), (1, 1));
-    assert_eq!(rt; board.newly(0), Some((Kind::Leaf, 0, 2)));
+    assert!(rt; told_by(&board) == (1, Some((Kind::Leaf, 0, 2)), 1));
     assert_eq!(rt; work_on(&mut board, 1, 2), Ok(()));
-    assert_eq!(rt;
-        (board.newly(0), board.newly(1)),
-        (Some((Kind::Leaf, 0, 3)), None)
-    );
+    assert!(rt; told_by(&board) == (1, Some((Kind::Leaf, 0, 3)), 1));
     assert_eq!(rt; work_on(&mut board, 1, 3), Ok(()));
-    assert_eq!(rt; (board.newly_len(), board.stored()), (0, 0));
-    assert!(rt; board.is_quiet());
+    assert!(rt; told_by(&board) == (0, None, 0));
+}
+
+/// What that other item comes to.
+fn asserted_result(alloc: Global, holds: bool) -> Result<Done, Refusal> {
+    let (_board, done) = asserting(alloc, holds)?;
+    Ok(done)
 }
 
 /// The result of the same entry with another input is refused, and that with the same input is not, from wherever it comes.
 #[test]
 fn other_inputs_are_strange(rt: HostRuntime) {
+    let strange = asserted_result(rt.alloc(), false).expect(&rt, "done");
+    let same = asserted_result(rt.alloc(), true).expect(&rt, "done");
     let (mut board, _own) = asserting(rt.alloc(), true).expect(&rt, "a board");
-    let (_other, strange) = asserting(rt.alloc(), false).expect(&rt, "a board");
     assert_eq!(rt; end_on(&mut board, 1, strange), Err(Refusal::Stranger));
-    let (_another, same) = asserting(rt.alloc(), true).expect(&rt, "a board");
     assert_eq!(rt; end_on(&mut board, 1, same), Ok(()));
     assert!(rt; board.is_quiet());
 }

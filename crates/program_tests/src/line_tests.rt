@@ -24,26 +24,41 @@ fn is_usage(alloc: Global, words: &[&str]) -> bool {
     matches!(read(alloc, words), Err(LineFault::Usage))
 }
 
-/// A line in one text, to compare.
-fn shown(alloc: Global, words: &[&str]) -> Result<String, Fail> {
-    let request = match read(alloc, words) {
-        Ok(request) => request,
-        Err(LineFault::Usage) => return Ok(String::from_str(alloc, "usage")?),
-        Err(LineFault::Memory) => return Ok(String::from_str(alloc, "memory")?),
+/// The names of the files of a check in one text.
+fn checked(alloc: Global, files: &[Word]) -> Result<String, Fail> {
+    let mut text = String::from_str(alloc, "check")?;
+    for file in files {
+        text.push_str(" ")?;
+        text.push_str(file.as_str())?;
+    }
+    Ok(text)
+}
+
+/// A run's words in one text.
+fn shown_run(
+    alloc: Global,
+    file: &str,
+    counts: (u8, u8, u32),
+    trace: &Option<Word>,
+) -> Result<String, Fail> {
+    let trace = match trace {
+        Some(name) => name.as_str(),
+        None => "none",
     };
-    let mut text = match &request.line {
-        Line::Check { files } => {
-            let mut text = String::from_str(alloc, "check")?;
-            for file in files.as_slice() {
-                text.push_str(" ")?;
-                text.push_str(file.as_str())?;
-            }
-            text
+    let (engines, workers, steps) = counts;
+    Ok(format!(in alloc; "run {file} {engines} {workers} {steps} {trace}")?)
+}
+
+/// What a line asks for, in one text.
+fn shown_line(alloc: Global, line: &Line) -> Result<String, Fail> {
+    match line {
+        Line::Check { files } => checked(alloc, files.as_slice()),
+        Line::Mean { file, rounds } => {
+            Ok(format!(in alloc; "mean {} {}", file.as_str(), rounds)?)
         }
-        Line::Mean { file, rounds } => format!(in alloc; "mean {} {}", file.as_str(), rounds)?,
         Line::Code { file, dot } => {
             let form = if *dot { " dot" } else { "" };
-            format!(in alloc; "code {}{}", file.as_str(), form)?
+            Ok(format!(in alloc; "code {}{}", file.as_str(), form)?)
         }
         Line::Run {
             file,
@@ -51,24 +66,21 @@ fn shown(alloc: Global, words: &[&str]) -> Result<String, Fail> {
             workers,
             steps,
             trace,
-        } => {
-            let trace = match trace {
-                Some(name) => name.as_str(),
-                None => "none",
-            };
-            format!(in alloc;
-                "run {} {} {} {} {}",
-                file.as_str(),
-                engines,
-                workers,
-                steps,
-                trace
-            )?
-        }
+        } => shown_run(alloc, file.as_str(), (*engines, *workers, *steps), trace),
         Line::Replay { file, trace } => {
-            format!(in alloc; "replay {} {}", file.as_str(), trace.as_str())?
+            Ok(format!(in alloc; "replay {} {}", file.as_str(), trace.as_str())?)
         }
+    }
+}
+
+/// A line in one text, to compare.
+fn shown(alloc: Global, words: &[&str]) -> Result<String, Fail> {
+    let request = match read(alloc, words) {
+        Ok(request) => request,
+        Err(LineFault::Usage) => return Ok(String::from_str(alloc, "usage")?),
+        Err(LineFault::Memory) => return Ok(String::from_str(alloc, "memory")?),
     };
+    let mut text = shown_line(alloc, &request.line)?;
     if request.explain {
         text.push_str(" explain")?;
     }

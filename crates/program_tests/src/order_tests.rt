@@ -146,21 +146,34 @@ fn choice_at(choices: &[u32], turn: usize) -> u32 {
     }
 }
 
+/// Runs the item that is chosen at a turn, and adds how many could begin. False where none can, or the board has ended.
+fn take_turn(
+    board: &mut Board,
+    choices: &[u32],
+    turn: usize,
+    widths: &mut Vec<usize>,
+) -> Result<bool, Fail> {
+    let ready = board.ready_items()?;
+    if ready.is_empty() || !board.is_going() {
+        return Ok(false);
+    }
+    widths.push(ready.len())?;
+    let item = ready[choice_at(choices, turn) as usize % ready.len()];
+    let Ok(work) = board.begin(0, item) else {
+        return Ok(false);
+    };
+    finish(board, 0, work)?;
+    Ok(true)
+}
+
 /// How many items can begin at each turn, by these choices and then by 0.
 fn widths(alloc: Global, code: &Code, choices: &[u32]) -> Result<Vec<usize>, Fail> {
     let mut board = Board::new(alloc, code.copy()?, 1000)?;
     let mut widths = Vec::new(alloc);
     for turn in 0..1000usize {
-        let ready = board.ready_items()?;
-        if ready.is_empty() || !board.is_going() {
-            return Ok(widths);
+        if !take_turn(&mut board, choices, turn, &mut widths)? {
+            break;
         }
-        widths.push(ready.len())?;
-        let item = ready[choice_at(choices, turn) as usize % ready.len()];
-        let Ok(work) = board.begin(0, item) else {
-            return Ok(widths);
-        };
-        finish(&mut board, 0, work)?;
     }
     Ok(widths)
 }
