@@ -1,7 +1,6 @@
 //! Runs of small codes, call by call, and results that are handed in where they do not belong.
 ghost use Rattle.board.specs.Board.{IsWorker};
 
-use crate::codes::{asserted, hello, printed};
 use board::board::Board;
 use board::refusal::Refusal;
 use board::{Done, Work};
@@ -9,6 +8,7 @@ use std::alloc::Global;
 use task_code::entry::Kind;
 use task_code::event::Event;
 use values::value::Scalar;
+use worked_codes::codes::{asserted, hello, printed};
 
 /// Begins the item and computes it.
 fn done_on(board: &mut Board, worker: u8, item: u64) -> Result<Done, Refusal>

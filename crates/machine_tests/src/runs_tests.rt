@@ -1,11 +1,11 @@
 //! Runs of `printf("hello");`: whole ones, ones that the limit cuts, and a turn taken by hand.
 
-use crate::codes::hello;
 use board::board::Board;
 use runs::one::run_one;
 use runs::report::{End, Report, report_of};
 use runs::turn::finish;
 use task_code::event::Event;
+use worked_codes::codes::hello;
 
 /// Whether a report shows the one line `hello`.
 fn prints_hello(report: &Report) -> bool {

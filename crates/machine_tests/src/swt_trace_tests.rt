@@ -2,7 +2,6 @@
 //! end, and sinks that fail.
 ghost use Rattle.std.specs.Prelude.{◌≡◌};
 
-use crate::codes::{empty, hello};
 use board::{Fault, FaultKind, Statement, Step};
 use board_work::outcome::EntryFault;
 use runs::report::{End, Report};
@@ -17,6 +16,7 @@ use task_code::event::Event;
 use values::key::Key;
 use values::sink::{Sink, SinkFault};
 use values::text::Text;
+use worked_codes::codes::{empty, hello};
 
 const HELLO: &[u8] = b"swt-trace 1\nB 0 1\nE 0 1\nB 1 2\nE 1 2\n";
 

@@ -1,6 +1,5 @@
 //! The codes of two scripts, built, read and copied: their entries stand as the listing of each script has them.
 
-use crate::codes::hello;
 use std::alloc::Global;
 use std::process::Abort;
 use task_code::code::{Body, Code, Opener};
@@ -11,6 +10,7 @@ use task_code::expr::{Expr, Operator};
 use values::format::{Format, Piece};
 use values::op::{Op, Order, Sign};
 use values::value::Scalar;
+use worked_codes::codes::hello;
 
 fn own(node: u32) -> Name {
     Name {

@@ -1,6 +1,5 @@
 //! What the script of `boolean x = true; assert(x, "");` opens, made by the parts of a board alone.
 
-use crate::codes::asserted;
 use board_code::program::Program;
 use board_code::spot::Spot;
 use board_data::wanted::View;
@@ -10,6 +9,7 @@ use board_frames::item::{Item, Job, Mark};
 use board_openings::world::{Change, World};
 use rules::input::Input;
 use std::alloc::{AllocError, Global};
+use worked_codes::codes::asserted;
 
 /// Its variable stands in the first slot of the block.
 pub const FIRST: Spot = Spot { levels: 0, slot: 0 };

@@ -1,6 +1,6 @@
 use Rattle.std.proofs.Common.{[], refl, arith}
 use Rattle.task_code.proofs.Checked.{code_checked}
-use Rattle.machine_tests.proofs.codes.empty.Goals as goal
+use Rattle.worked_codes.proofs.codes.empty.Goals as goal
 
 pub of-requires-clause-whole : goal.of-requires-clause-whole
 of-requires-clause-whole c = rw (c.new.ensures) (code_checked (record { entries = []; bodies = [] }) refl)

@@ -1,6 +1,6 @@
 use Rattle.std.proofs.Common.{◌≡◌, ◌+◌, All, vec_len}
 use Rattle.pool.specs.Seats.{IsSeatOf}
-use Rattle.machine_tests.proofs.pool_tests.seats_back.Given as goal
+use Rattle.leaf_tests.proofs.pool_tests.seats_back.Given as goal
 
 abbrev pub invariant-loop-hand : goal.invariant-loop-hand
 invariant-loop-hand l = record {

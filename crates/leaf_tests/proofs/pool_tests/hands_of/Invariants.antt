@@ -1,6 +1,6 @@
 use Rattle.std.proofs.Common.{◌≡◌, ◌+◌, All, vec_len}
 use Rattle.pool.specs.Seats.{IsSeatOf}
-use Rattle.machine_tests.proofs.pool_tests.hands_of.Given as goal
+use Rattle.leaf_tests.proofs.pool_tests.hands_of.Given as goal
 
 abbrev pub invariant-loop-seat : goal.invariant-loop-seat
 invariant-loop-seat l = record {

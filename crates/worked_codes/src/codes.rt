@@ -4,7 +4,7 @@ ghost use Rattle.values.specs.Operators.{printf};
 ghost use Rattle.task_code.specs.Code.{Assert, Print, need, no_operand, operation};
 ghost use Rattle.task_code.specs.View.{act_view, entry_view};
 ghost use Rattle.task_code.specs.Whole.{IsCode};
-ghost use Rattle.machine_tests.specs.Codes.{assert_entry, set_entry};
+ghost use Rattle.worked_codes.specs.Codes.{assert_entry, set_entry};
 
 use std::alloc::{AllocError, Global};
 use task_code::code::{Body, Code, Opener};

@@ -1,6 +1,6 @@
 use Rattle.std.proofs.Common.{arith}
-use Rattle.machine_tests.proofs.WholeCodes.{asserts_whole}
-use Rattle.machine_tests.proofs.codes.asserted_draft.Goals as goal
+use Rattle.worked_codes.proofs.WholeCodes.{asserts_whole}
+use Rattle.worked_codes.proofs.codes.asserted_draft.Goals as goal
 
 pub returns-clause-whole : goal.returns-clause-whole
 returns-clause-whole c =

@@ -1,7 +1,6 @@
 //! What is worked out of `boolean x = true; assert(x, "");`: where its names lead, and what its entries and its body hold.
 ghost use Rattle.std.specs.Prelude.{◌≡◌};
 
-use crate::codes::{NAME, X, asserted};
 use crate::worlds::FIRST;
 use board_code::key::copy_key;
 use board_code::places::places_among;
@@ -14,6 +13,7 @@ use task_code::code::Code;
 use task_code::entry::{Name, Need, Owned, Variable};
 use values::key::Key;
 use work_queue::entry::Kind;
+use worked_codes::codes::{NAME, X, asserted};
 
 /// A variable that the block lacks.
 const OTHER: Variable = Variable {

@@ -3,7 +3,7 @@ use Rattle.std.proofs.Common.{Bool, List, refl}
 use Rattle.values.specs.declared.format.Piece.{Piece}
 use Rattle.task_code.specs.Whole.{IsCode}
 use Rattle.task_code.proofs.Checked.{code_checked}
-use Rattle.machine_tests.specs.Codes.{asserts, prints}
+use Rattle.worked_codes.specs.Codes.{asserts, prints}
 
 pub prints_whole : (ps : List Piece) → IsCode (prints ps)
 prints_whole ps = code_checked (prints ps) refl

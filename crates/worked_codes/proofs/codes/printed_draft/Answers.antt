@@ -1,6 +1,6 @@
 use Rattle.std.proofs.Common.{arith}
-use Rattle.machine_tests.proofs.WholeCodes.{prints_whole}
-use Rattle.machine_tests.proofs.codes.printed_draft.Goals as goal
+use Rattle.worked_codes.proofs.WholeCodes.{prints_whole}
+use Rattle.worked_codes.proofs.codes.printed_draft.Goals as goal
 
 pub returns-clause-whole : goal.returns-clause-whole
 returns-clause-whole c =

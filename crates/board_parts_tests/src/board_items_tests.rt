@@ -1,6 +1,5 @@
 //! The items of `boolean x = true; assert(x, "");`: which can begin, run or wait, and what wakes them.
 
-use crate::codes::asserted;
 use crate::worlds::{ASSERT, SET, open};
 use board_code::program::Program;
 use board_frames::item::Job;
@@ -11,6 +10,7 @@ use rules::input::Input;
 use std::alloc::{AllocError, Global};
 use std::process::Abort;
 use work_queue::entry::Kind;
+use worked_codes::codes::asserted;
 
 fn program_of(rt: &impl Abort, alloc: Global) -> Program {
     let code = asserted(alloc, true).expect(rt, "a code");

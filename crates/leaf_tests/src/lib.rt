@@ -1,0 +1,11 @@
+//! Tests of the crates that the board stands on, over their public contracts. Nothing here runs outside of tests.
+#![tactic(auto)]
+
+#[cfg(test)]
+mod data_store_tests;
+#[cfg(test)]
+mod pool_tests;
+#[cfg(test)]
+mod rules_tests;
+#[cfg(test)]
+mod work_queue_tests;

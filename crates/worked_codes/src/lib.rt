@@ -1,0 +1,4 @@
+//! Small codes that tests of the machine run.
+#![tactic(auto)]
+
+pub mod codes;
