@@ -126,3 +126,18 @@ fn many_items_are_each_woken_once(rt: HostRuntime) -> Result<(), Fail> {
     assert_eq!(rt; woken_items, 1500);
     Ok(())
 }
+
+#[test]
+fn an_item_of_three_inputs_waits_in_memory_that_was_taken(rt: HostRuntime) -> Result<(), Fail> {
+    let alloc = rt.alloc();
+    let mut rules = Rules::new(alloc);
+    rules.reserve(1)?;
+    rules.reserve_inputs(1, 3)?;
+    let mut inputs = SmallVec::new(alloc);
+    inputs.push(Input::Whole(1))?;
+    inputs.push(Input::Whole(2))?;
+    inputs.push(Input::Whole(3))?;
+    assert!(rt; !rules.add(inputs, 4)?);
+    assert_eq!(rt; rules.waiting(), 1);
+    Ok(())
+}
