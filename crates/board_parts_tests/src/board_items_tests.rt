@@ -3,10 +3,12 @@
 use crate::worlds::{ASSERT, SET, open};
 use board_code::program::Program;
 use board_frames::item::Job;
+use board_frames::opening::Inputs;
 use board_items::items::{Counts, Items, order_of};
 use board_items::settling::Outlook;
 use board_openings::world::World;
 use rules::input::Input;
+use smallvec::SmallVec;
 use std::alloc::{AllocError, Global};
 use std::process::Abort;
 use work_queue::entry::Kind;
@@ -88,4 +90,22 @@ fn a_value_wakes_who_waits_for_it(rt: HostRuntime) {
     items.tell(&Input::Whole(0));
     assert!(rt; items.woken.as_slice() == [3u64].as_slice());
     assert_eq!(rt; items.rules.waiting(), 0);
+}
+
+/// One list with room for three inputs.
+fn list_of_three(alloc: Global) -> Result<Vec<Inputs>, AllocError> {
+    let mut list = SmallVec::new(alloc);
+    list.reserve(3)?;
+    let mut lists = Vec::new(alloc);
+    lists.push(list)?;
+    Ok(lists)
+}
+
+#[test]
+fn memory_is_taken_for_items_of_many_inputs(rt: HostRuntime) {
+    let program = program_of(&rt, rt.alloc());
+    let mut items = settled(rt.alloc(), &program).expect(&rt, "memory");
+    let spare = list_of_three(rt.alloc()).expect(&rt, "memory");
+    assert!(rt; items.reserve_to_wait(spare.as_slice()).is_ok());
+    assert_eq!(rt; (items.rules.waiting(), items.rows.len()), (1, 3));
 }
