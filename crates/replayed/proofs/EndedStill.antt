@@ -39,7 +39,7 @@ same_plain (AtKey a k) (x ∷ xs) h = same_plain (AtKey a k) xs h
 every_plain : (f : Need → Bool) (xs : List Need) → ((x : Need) → f x ≡ true → is_plain x ≡ true) → list_all f xs ≡ true → (x : Need) → In x xs → is_plain x ≡ true
 every_plain f xs h a x i = h x (every_in f xs a x i)
 
-abbrev AllPlain : List Need → Type 0
+abbrev pub AllPlain : List Need → Type 0
 AllPlain ns = (x : Need) → In x ns → is_plain x ≡ true
 
 some_header : (m : Need) (hs : List Header) → list_any (λ h. list_any (is_same_plain m) h.needs) hs ≡ true → is_plain m ≡ true
@@ -76,7 +76,7 @@ one_of_element (AtKey a k ∷ m ∷ ns) h = yes_no h refl
 one_of_element (Stored r ∷ ns) h = yes_no h refl
 one_of_element (Closed r ∷ ns) h = yes_no h refl
 
-shapes : (a : Act) (ns : List Need) → has_shape a ns ≡ true → AllPlain ns ⊎ OneElement ns
+pub shapes : (a : Act) (ns : List Need) → has_shape a ns ≡ true → AllPlain ns ⊎ OneElement ns
 shapes (Cell e) ns h = inl (fed_plain ns _ h)
 shapes Read ns h = inr (one_of_element ns h)
 shapes (Call b rs os) ns h = inl (none_plain ns h)
@@ -235,7 +235,7 @@ module _ (C : Code) (I : IsCode C) (L : Layout) (es : List Event) (F : Fields) (
     rest x ns = flat_map (wanted C x) (flat_map (inputs_at C p) ns)
 
     -- what is still missed of plain needs
-    plain_still : (ns : List Need) → ((m : Need) → In m ns → In m (entry C e).needs) → ((m : Need) → In m ns → is_plain m ≡ true) → (vs : List (Want ℕ)) → AllStand names vs (flat_map (wanted C s) (flat_map (inputs_at C p) ns)) → AllStand later (still_missed known vs) (flat_map (wanted C t) (flat_map (inputs_at C p) ns))
+    pub plain_still : (ns : List Need) → ((m : Need) → In m ns → In m (entry C e).needs) → ((m : Need) → In m ns → is_plain m ≡ true) → (vs : List (Want ℕ)) → AllStand names vs (flat_map (wanted C s) (flat_map (inputs_at C p) ns)) → AllStand later (still_missed known vs) (flat_map (wanted C t) (flat_map (inputs_at C p) ns))
     plain_still [] inn pl [] h = tt
     plain_still [] inn pl (v ∷ vs) h = absurd h
     plain_still (m ∷ ns) inn pl vs h =
