@@ -1,6 +1,6 @@
 -- A statement whose own entry has an effect, by the script's answers, has its own fact in the script.
 use Rattle.std.proofs.Common.{◌≡◌, inl, ℕ, true, List, [], ◌∷◌, ◌++◌, refl, sym, ap, ◌∙◌, subst, Option, Some, None, Result, Ok, Err}
-use Rattle.dataflow.specs.System.{In, Effect, Outcome, Good, Bad}
+use Rattle.dataflow.specs.System.{In, Effect}
 use Rattle.dataflow.proofs.Lists.{in_left, in_right}
 use Rattle.values.specs.declared.fault.OpFault.{OpFault}
 use Rattle.values.specs.declared.key.Key.{Key}
@@ -26,7 +26,7 @@ use Rattle.meaning_laws.specs.Scoped.{FormIn, Scoped}
 use Rattle.meaning_laws.specs.TypedValues.{TypedValues}
 use Rattle.task_code.specs.Code as code
 use Rattle.task_code.specs.Code.{Need, Act, Code, entry, body}
-use Rattle.task_code.specs.Compute.{EntryFault, InOperation, Computed, Fails, eval, branched, given, filled, put, ranged, turns_or, compute as work_out}
+use Rattle.task_code.specs.Compute.{EntryFault, InOperation, Computed, Fails, eval, branched, given, filled, put, compute as work_out}
 use Rattle.task_code.specs.Effects.{Task, Item, effect_at, instances, outcome_of, is_too_deep}
 use Rattle.task_code.specs.Places as CodePlaces
 use Rattle.task_code.specs.Places.{Step}
@@ -44,34 +44,11 @@ use Rattle.correspondence.specs.Knows.{Knows}
 use Rattle.correspondence.proofs.Evaluate.{Got, AnsAll, in_once}
 use Rattle.correspondence.proofs.LiveTo.{value_of, says, answers_all, condition_known, cell_known_by, range_known, bounds_two, bounds_three, ok_step}
 use Rattle.correspondence.proofs.Means.{chain_live, chain_scope}
+use Rattle.correspondence.proofs.NoFault.{bad_good, RangeAll, range_all}
 use Rattle.correspondence.proofs.Opening.{name_value}
 use Rattle.correspondence.proofs.Readings.{cell_has}
 use Rattle.correspondence.proofs.Roles.{OwnAs, own_simple, own_branch, own_branches, own_range, own_each, own_wait}
 use Rattle.correspondence.proofs.WrittenTo.{own_in_scope}
-
-bad_good : {f : EntryFault} {e : Effect Task CodePlaces.Place Key Scalar} → ◌≡◌ {A = Outcome Task CodePlaces.Place Key Scalar EntryFault} (Bad f) (Good e) → ⊥
-bad_good h = absurd (cc (h))
-
--- a range that is no fault
-record Ranged (rl rh rs : Result Value OpFault) : Type 0 where
-  low : Value
-  high : Value
-  step : Value
-  low_is : rl ≡ Ok low
-  high_is : rh ≡ Ok high
-  step_is : rs ≡ Ok step
-  many : ℕ
-  count : range_count (number_of low) (number_of high) (number_of step) ≡ Ok many
-
-ranged_ok : (rl rh rs : Result Value OpFault) → ((f : EntryFault) → ranged rl rh rs ≡ Fails f → ⊥) → Ranged rl rh rs
-ranged_ok (Err f) rh rs h = absurd (h _ refl)
-ranged_ok (Ok l) (Err f) rs h = absurd (h _ refl)
-ranged_ok (Ok l) (Ok g) (Err f) h = absurd (h _ refl)
-ranged_ok (Ok l) (Ok g) (Ok d) h = by (range_count (number_of l) (number_of g) (number_of d)) refl h
-  where
-    by : (c : Result ℕ OpFault) → range_count (number_of l) (number_of g) (number_of d) ≡ c → ((f : EntryFault) → turns_or c (number_of l) (number_of d) ≡ Fails f → ⊥) → Ranged (Ok l) (Ok g) (Ok d)
-    by (Err f) q h = absurd (h _ refl)
-    by (Ok n) q h = record { low = l; high = g; step = d; low_is = refl; high_is = refl; step_is = refl; many = n; count = q }
 
 -- a statement that is no wait
 abbrev pub NoWait : Action → Type 0
@@ -190,7 +167,7 @@ module _ (s : Core) (C : Code) (w : IsCodeOf s C) (K : Knowledge) (wf : WellForm
       by (Ok v) q = (v, (condition_known s C w K wf kn I sc ty ch i c there e f at n a o m cm nq v q).1)
 
   range_has : {at n x : ℕ} {lo hi : Outer} (st : Option Outer) {y : Option ℕ} {d : Block} → stmt at n (range lo hi st x y d) ∈ block_list b → (ms : List Need) → own_needs w.layout k (range lo hi st x y d) ≡ ms
-      → (entry C i).needs ≡ ms → Ranged (eval ys (over k ms (seen w.layout lo.cell))) (eval ys (over k ms (seen w.layout hi.cell))) (eval ys (over k ms (step_expr w.layout k st))) → IsReady s K (script_path p) (range lo hi st x y d)
+      → (entry C i).needs ≡ ms → RangeAll (eval ys (over k ms (seen w.layout lo.cell))) (eval ys (over k ms (seen w.layout hi.cell))) (eval ys (over k ms (step_expr w.layout k st))) → IsReady s K (script_path p) (range lo hi st x y d)
   range_has {at} {n} {x} {lo} {hi} None {y} {d} m ms mq nq r =
       let known = range_known s C w K wf kn I sc ty ch i c there e f at n x lo hi None y d m ms mq nq in
       let e1 = wanted k (seen w.layout lo.cell) in
@@ -227,7 +204,7 @@ module _ (s : Core) (C : Code) (w : IsCodeOf s C) (K : Knowledge) (wf : WellForm
       let r = condition_ok o m (outer_in o.parts o.cell) en.needs_is (ap (λ (z : Act). work_out z ys) en.act_is) in
       let tr = ty.choose_truth (script_path p) at n o d d' r.0 (stmt_in s (live m)) r.1 in
       (One (Truth tr.0) ∷ [], cells_known (next_cell (subst (λ (u : Value). K (value (script_path p, o.cell.node) u)) tr.1 r.1) no_cell) two_ways)
-  own_has at n a nw m (own_range {st = st} en mk ba) = range_has st m _ refl en.needs_is (ranged_ok _ _ _ (λ g q. fails g (ap (λ (z : Act). work_out z ys) en.act_is ∙ q)))
+  own_has at n a nw m (own_range {st = st} en mk ba) = range_has st m _ refl en.needs_is (range_all _ _ _ (λ g q. fails g (ap (λ (z : Act). work_out z ys) en.act_is ∙ q)))
   own_has at n a nw m (own_each {x = x} {a = y} {y = z} {b = d} en mk ba) = by ys (subst (λ (l : List Need). AnsAll s C K p l ys) en.needs_is (answers_all s C w K wf kn I sc ty ch i c there e f))
     where
       by : (zs : List Got) → AnsAll s C K p (code.Closed (name_as k true y) ∷ []) zs → IsReady s K (script_path p) (each y x z d)

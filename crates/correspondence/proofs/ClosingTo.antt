@@ -2,7 +2,7 @@
 use Rattle.std.proofs.Common.{◌≡◌, inl, inr, ℕ, suc, ◌<◌, Bool, true, false, List, [], ◌∷◌, map, length, refl, sym, ap, ◌∙◌, subst, Option, Some, None, Result, Ok, Err, arith}
 use Rattle.std.specs.Prelude.{pos, ℤ, slice_get, take, if◌then◌else◌}
 use Rattle.std.specs.List.{flat_map}
-use Rattle.dataflow.specs.System.{In, Effect, Outcome, Good, Bad, Opening}
+use Rattle.dataflow.specs.System.{In, Opening}
 use Rattle.dataflow.specs.Facts as Fa
 use Rattle.dataflow.proofs.Lists.{in_left, in_right, in_map}
 use Rattle.values.specs.declared.fault.OpFault.{OpFault}
@@ -27,8 +27,8 @@ use Rattle.meaning_laws.proofs.Declared.{local_same, stmt_in, live_block, header
 use Rattle.syntax_trees.proofs.Members.{to_right}
 use Rattle.meaning_laws.proofs.Sources.{outer_in, index_in, right_in}
 use Rattle.task_code.specs.Code as code
-use Rattle.task_code.specs.Code.{Variable, Need, Header, Act, If, Wait, Way, InPlace, Through, Loop, Code, entry, body, ways, loop_of}
-use Rattle.task_code.specs.Compute.{EntryFault, InOperation, Computed, Fails, Takes, Turns, Elements, eval, branched, ranged, range_turns, turns_or, content, answer_at, filled, put, elements, compute as work_out}
+use Rattle.task_code.specs.Code.{Variable, Need, Header, Act, If, Wait, InPlace, Through, Loop, Code, entry, body, ways, loop_of}
+use Rattle.task_code.specs.Compute.{EntryFault, InOperation, Computed, Fails, Takes, Turns, Elements, eval, branched, range_turns, content, answer_at, filled, put, elements, compute as work_out}
 use Rattle.task_code.specs.Effects.{Task, Item, block, effect_at, instances, turns_of, chunk, step_at, steps_on, outcome_of, is_too_deep}
 use Rattle.task_code.specs.Places as CodePlaces
 use Rattle.task_code.specs.Places.{Step, Datum, place_at}
@@ -52,6 +52,7 @@ use Rattle.correspondence.proofs.Hits.{IsArrayAt, right_hits, made_in_block, arr
 use Rattle.correspondence.proofs.HeaderWorks.{turn_there}
 use Rattle.correspondence.proofs.LiveTo.{value_of, says, answers_all, condition_known, cell_known_by, range_known, awaited_come, awaited_all, bounds_two, bounds_three, ok_step}
 use Rattle.correspondence.proofs.Means.{chain_live, chain_body, chain_scope}
+use Rattle.correspondence.proofs.NoFault.{bad_good, RangeAll, range_all}
 use Rattle.correspondence.proofs.Opening.{depth_below, shallow}
 use Rattle.correspondence.proofs.Readings.{in_element}
 use Rattle.correspondence.proofs.Rights.{alone_call, IsArray, stmt_of_body, target_right, only_one}
@@ -59,35 +60,10 @@ use Rattle.correspondence.proofs.Roles.{own_simple, own_branch, own_branches, ow
 use Rattle.correspondence.proofs.Steps.{InAll, now_opened, turn_in_all, computes_by, DoneBy, Step_, item_closes}
 use Rattle.correspondence.proofs.Targets.{UsesIn, uses_block, uses_stmt, NoneInside, none_inner, none_declared, none_output, OnlyAt, only_declared, only_output, only_header, only_wait}
 
-bad_good : {f : EntryFault} {e : Effect Task CodePlaces.Place Key Scalar} → ◌≡◌ {A = Outcome Task CodePlaces.Place Key Scalar EntryFault} (Bad f) (Good e) → ⊥
-bad_good h = absurd (cc (h))
-
 -- some turn stands in the first chunk
 first_turn : {X : Type 0} (xs : List X) (x : X) → In x xs → (y : X) × In y (take 64 xs)
 first_turn [] x h = absurd h
 first_turn (y ∷ xs) x h = (y, inl refl)
-
--- a range that is no fault
-record RangeAll (rl rh rs : Result Value OpFault) : Type 0 where
-  low : Value
-  high : Value
-  step : Value
-  low_is : rl ≡ Ok low
-  high_is : rh ≡ Ok high
-  step_is : rs ≡ Ok step
-  many : ℕ
-  count : range_count (number_of low) (number_of high) (number_of step) ≡ Ok many
-  turns_is : ranged rl rh rs ≡ Turns (range_turns (number_of low) (number_of step) 0 many)
-
-range_all : (rl rh rs : Result Value OpFault) → ((f : EntryFault) → ranged rl rh rs ≡ Fails f → ⊥) → RangeAll rl rh rs
-range_all (Err f) rh rs h = absurd (h _ refl)
-range_all (Ok l) (Err f) rs h = absurd (h _ refl)
-range_all (Ok l) (Ok g) (Err f) h = absurd (h _ refl)
-range_all (Ok l) (Ok g) (Ok d) h = by (range_count (number_of l) (number_of g) (number_of d)) refl h
-  where
-    by : (c : Result ℕ OpFault) → range_count (number_of l) (number_of g) (number_of d) ≡ c → ((f : EntryFault) → turns_or c (number_of l) (number_of d) ≡ Fails f → ⊥) → RangeAll (Ok l) (Ok g) (Ok d)
-    by (Err f) q h = absurd (h _ refl)
-    by (Ok n) q h = record { low = l; high = g; step = d; low_is = refl; high_is = refl; step_is = refl; many = n; count = q; turns_is = ap (λ (c : Result ℕ OpFault). turns_or c (number_of l) (number_of d)) q }
 
 ok_same : {n m : ℕ} → ◌≡◌ {A = Result ℕ OpFault} (Ok n) (Ok m) → n ≡ m
 ok_same h = cc

@@ -7,6 +7,7 @@ pub mod Between
 pub mod Readings
 pub mod Roles
 pub mod Opening
+pub mod NoFault
 pub mod LiveTo
 pub mod Facts
 pub mod HeaderWorks

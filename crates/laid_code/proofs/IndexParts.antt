@@ -1,17 +1,18 @@
 -- In the core of a tree the cell that gives the index of a read stands before the read.
-use Rattle.std.proofs.Common.{◌≡◌, inl, inr, ℕ, List, [], ◌∷◌, ◌++◌, map, refl, sym, ap, subst, Option, Some, None, option_map, append_assoc}
+use Rattle.std.proofs.Common.{◌≡◌, inl, inr, ℕ, List, [], ◌∷◌, ◌++◌, refl, sym, ap, subst, Option, Some, None, option_map, append_assoc}
 use Rattle.std.specs.Prelude.{ℤ, option_to_list}
 use Rattle.syntax_trees.specs.declared.tree.Shape.{Shape}
-use Rattle.syntax_trees.specs.Core.{Name, here, Form, compute, read, Cell, Part, inner, calls, Outer, Stmt, stmt, Action, declare, call_alone, assign, fill, insert, print, assert, when, choose, range, each, wait, Block, no_stmts, stmts, Function}
+use Rattle.syntax_trees.specs.Core.{Name, here, Form, compute, read, Cell, Part, inner, calls, Outer, stmt, Action, assign, Block}
 use Rattle.syntax_trees.specs.Members.{◌∈◌, first, later}
-use Rattle.syntax_trees.specs.Parts.{part_cells, outer_parts, block_list, blocks_below, blocks_in, blocks_inside, blocks_of, function_blocks, script_blocks, stmts_among}
-use Rattle.syntax_trees.specs.Resolved.{refers, number_of, Formed, Operands, Arguments, as_cell, as_operand, as_argument, variable_or_cell, call_form, call_to, form_of, form_in, operands_of, arguments_of, outer, after_first, plain_right, call_right, right_of, call_action, several, loop_action, block_of, block_in, with_statement, with_command, script_block, functions_of, core}
+use Rattle.syntax_trees.specs.Parts.{part_cells, outer_parts}
+use Rattle.syntax_trees.specs.Resolved.{number_of, Formed, Operands, Arguments, as_cell, as_operand, as_argument, variable_or_cell, call_form, call_to, form_of, form_in, operands_of, arguments_of, outer, after_first, plain_right, call_right, right_of, call_action, several, loop_action, core}
 use Rattle.syntax_trees.specs.Table as table
-use Rattle.syntax_trees.specs.Table.{Table, Builtin, Callee, composite, built_in}
+use Rattle.syntax_trees.specs.Table.{Table, Callee, composite, built_in}
 use Rattle.syntax_trees.specs.Tree as T
-use Rattle.syntax_trees.specs.Tree.{expressions_of, Word, Node, Expression, expression, number, text, truth, variable, element, call, prefixed, chain, Expressions, no_expressions, and_expression, RightSide, value, list, Over, Statement, statement, Command, choice, choice_else, loop, waits, Body, body, Statements, no_statements, and_statement, Tree, import, function, single}
+use Rattle.syntax_trees.specs.Tree.{expressions_of, Word, Expression, expression, number, text, truth, variable, element, call, prefixed, chain, Expressions, no_expressions, and_expression, RightSide, value, list, Over, Tree}
 use Rattle.syntax_trees.proofs.Members.{split_in, either}
 use Rattle.meaning_laws.specs.TypedValues.{own_cell, own_parts}
+use Rattle.tree_statements.proofs.Each.{OfEach, holds_of_all}
 use Rattle.agreement.specs.Laying.{IndexesStand}
 use Rattle.agreement.specs.Emitted.{ReadsStand}
 
@@ -143,98 +144,31 @@ outers_stand (o ∷ os) h =
 
 -- STATEMENTS
 
--- it is so in a block and in those inside it
-abbrev mutual
-  Standing : Block → Type 0
-  Standing no_stmts = Unit {0}
-  Standing (stmts s b) = StandingIn s × Standing b
-
-  StandingIn : Stmt → Type 0
-  StandingIn (stmt at n a) = IndexesStand (own_parts a) × StandingBy a
-
-  StandingBy : Action → Type 0
-  StandingBy (declare v) = Unit {0}
-  StandingBy (call_alone p ps c) = Unit {0}
-  StandingBy (assign x o) = Unit {0}
-  StandingBy (fill x o) = Unit {0}
-  StandingBy (insert x i o) = Unit {0}
-  StandingBy (print p o) = Unit {0}
-  StandingBy (assert p o) = Unit {0}
-  StandingBy (when c b) = Standing b
-  StandingBy (choose c b d) = Standing b × Standing d
-  StandingBy (range lo hi st x t b) = Standing b
-  StandingBy (each a x t b) = Standing b
-  StandingBy (wait ns b) = Standing b
-
-mutual
-  below : (b : Block) → Standing b → (c : Block) → c ∈ blocks_below b → Standing c
-  below no_stmts g c h = elim h [ ]
-  below (stmts s b) g c h = elim (either (blocks_in s) (blocks_below b) h) [ inl i ↦ below_stmt s g.0 c i | inr i ↦ below b g.1 c i ]
-
-  below_stmt : (s : Stmt) → StandingIn s → (c : Block) → c ∈ blocks_in s → Standing c
-  below_stmt (stmt at n a) g c h = below_action a g.1 c h
-
-  below_action : (a : Action) → StandingBy a → (c : Block) → c ∈ blocks_inside a → Standing c
-  below_action (declare v) g c h = elim h [ ]
-  below_action (call_alone p ps x) g c h = elim h [ ]
-  below_action (assign x o) g c h = elim h [ ]
-  below_action (fill x o) g c h = elim h [ ]
-  below_action (insert x i o) g c h = elim h [ ]
-  below_action (print p o) g c h = elim h [ ]
-  below_action (assert p o) g c h = elim h [ ]
-  below_action (when o b) g c h = elim (split_in h) [ inl e ↦ subst Standing (sym e) g | inr i ↦ below b g c i ]
-  below_action (choose o b d) g c h =
-      elim (split_in h) [
-        | inl e ↦ subst Standing (sym e) g.0
-        | inr i ↦ elim (either (blocks_below b) (d ∷ blocks_below d) i) [ inl i ↦ below b g.0 c i | inr i ↦ elim (split_in i) [ inl e ↦ subst Standing (sym e) g.1 | inr i ↦ below d g.1 c i ] ]
-      ]
-  below_action (range lo hi st x t b) g c h = elim (split_in h) [ inl e ↦ subst Standing (sym e) g | inr i ↦ below b g c i ]
-  below_action (each a x t b) g c h = elim (split_in h) [ inl e ↦ subst Standing (sym e) g | inr i ↦ below b g c i ]
-  below_action (wait ns b) g c h = elim (split_in h) [ inl e ↦ subst Standing (sym e) g | inr i ↦ below b g c i ]
-
-in_block : (b : Block) → Standing b → (st : Stmt) → st ∈ block_list b → StandingIn st
-in_block no_stmts g st h = elim h [ ]
-in_block (stmts s b) g st h = elim (split_in h) [ inl e ↦ subst StandingIn (sym e) g.0 | inr i ↦ in_block b g.1 st i ]
-
-in_blocks : (bs : List Block) → ((b : Block) → b ∈ bs → Standing b) → (st : Stmt) → st ∈ stmts_among bs → StandingIn st
-in_blocks [] g st h = elim h [ ]
-in_blocks (b ∷ bs) g st h = elim (either (block_list b) (stmts_among bs) h) [ inl i ↦ in_block b (g b first) st i | inr i ↦ in_blocks bs (λ c j. g c (later j)) st i ]
-
-in_body : (b : Block) → Standing b → (c : Block) → c ∈ blocks_of b → Standing c
-in_body b g c h = elim (split_in h) [ inl e ↦ subst Standing (sym e) g | inr i ↦ below b g c i ]
-
-in_functions : (fs : List Function) → ((f : Function) → f ∈ fs → Standing f.body) → (c : Block) → c ∈ function_blocks fs → Standing c
-in_functions [] g c h = elim h [ ]
-in_functions (f ∷ fs) g c h = elim (either (blocks_of f.body) (function_blocks fs) h) [ inl i ↦ in_body f.body (g f first) c i | inr i ↦ in_functions fs (λ e j. g e (later j)) c i ]
-
--- ACTIONS
-
--- an action without blocks
-abbrev Alone : Action → Type 0
-Alone a = IndexesStand (own_parts a) × StandingBy a
+abbrev OwnStand : Action → Type 0
+OwnStand a = IndexesStand (own_parts a)
 
 outer_stands : (t : Table) (e : Expression) → OuterStands (outer t e)
 outer_stands t e = expression_stands t e
 
-assign_stands : (t : Table) (x : Name) (e : Expression) → Alone (assign x (outer t e))
-assign_stands t x e = (own_stands (number_of e) (form_of t e).0 (form_of t e).1 (expression_stands t e), tt)
+assign_stands : (t : Table) (x : Name) (e : Expression) → OwnStand (assign x (outer t e))
+assign_stands t x e = own_stands (number_of e) (form_of t e).0 (form_of t e).1 (expression_stands t e)
 
-plain_stands : (t : Table) (x : Name) (a : Shape) (e : Expression) → Alone (plain_right t x a e)
+plain_stands : (t : Table) (x : Name) (a : Shape) (e : Expression) → OwnStand (plain_right t x a e)
 plain_stands t x Shape.Scalar e = assign_stands t x e
 plain_stands t x Shape.Array (expression nd (number z)) = assign_stands t x (expression nd (number z))
 plain_stands t x Shape.Array (expression nd (text b)) = assign_stands t x (expression nd (text b))
 plain_stands t x Shape.Array (expression nd (truth b)) = assign_stands t x (expression nd (truth b))
-plain_stands t x Shape.Array (expression nd (variable w)) = (nothing_stands, tt)
+plain_stands t x Shape.Array (expression nd (variable w)) = nothing_stands
 plain_stands t x Shape.Array (expression nd (element w i)) = assign_stands t x (expression nd (element w i))
 plain_stands t x Shape.Array (expression nd (call w es)) = assign_stands t x (expression nd (call w es))
 plain_stands t x Shape.Array (expression nd (prefixed p e)) = assign_stands t x (expression nd (prefixed p e))
 plain_stands t x Shape.Array (expression nd (chain os es)) = assign_stands t x (expression nd (chain os es))
 
-call_right_stands : (t : Table) (x : Name) (e : Expression) (w : Word) (es : Expressions) (c : Callee) → Alone (call_right t x e w es c)
-call_right_stands t x e w es (composite i) = (stand_call (arguments_of t es).0 (call_to w i (arguments_of t es).1 (x ∷ [])) (arguments_stand t es), tt)
+call_right_stands : (t : Table) (x : Name) (e : Expression) (w : Word) (es : Expressions) (c : Callee) → OwnStand (call_right t x e w es c)
+call_right_stands t x e w es (composite i) = stand_call (arguments_of t es).0 (call_to w i (arguments_of t es).1 (x ∷ [])) (arguments_stand t es)
 call_right_stands t x e w es (built_in b) = assign_stands t x e
 
-right_stands : (t : Table) (x : Name) (a : Shape) (r : RightSide) → Alone (right_of t x a r)
+right_stands : (t : Table) (x : Name) (a : Shape) (r : RightSide) → OwnStand (right_of t x a r)
 right_stands t x a (value (expression nd (number z))) = plain_stands t x a (expression nd (number z))
 right_stands t x a (value (expression nd (text b))) = plain_stands t x a (expression nd (text b))
 right_stands t x a (value (expression nd (truth b))) = plain_stands t x a (expression nd (truth b))
@@ -243,25 +177,25 @@ right_stands t x a (value (expression nd (element w i))) = plain_stands t x a (e
 right_stands t x a (value (expression nd (call w es))) = call_right_stands t x (expression nd (call w es)) w es (t.callee_of w.number)
 right_stands t x a (value (expression nd (prefixed p e))) = plain_stands t x a (expression nd (prefixed p e))
 right_stands t x a (value (expression nd (chain os es))) = plain_stands t x a (expression nd (chain os es))
-right_stands t x a (list nd es) = (stand_both (operands_of t (expressions_of es)).0 [] (operands_stand t (expressions_of es)) nothing_stands, tt)
+right_stands t x a (list nd es) = stand_both (operands_of t (expressions_of es)).0 [] (operands_stand t (expressions_of es)) nothing_stands
 
 assert_stands : (t : Table) (es : Expressions) → IndexesStand ((operands_of t es).0 ++ [])
 assert_stands t es = stand_both (operands_of t es).0 [] (operands_stand t es) nothing_stands
 
-call_action_stands : (t : Table) (p : ℤ) (n : ℕ) (w : Word) (es : Expressions) (c : Callee) → Alone (call_action t p n w es c)
-call_action_stands t p n w es (composite i) = (stand_call (arguments_of t es).0 (call_to w i (arguments_of t es).1 []) (arguments_stand t es), tt)
-call_action_stands t p n w es (built_in table.printf) = (assert_stands t (after_first es), tt)
-call_action_stands t p n w es (built_in table.strcat) = (assert_stands t es, tt)
-call_action_stands t p n w es (built_in table.fromint) = (assert_stands t es, tt)
-call_action_stands t p n w es (built_in table.toint) = (assert_stands t es, tt)
-call_action_stands t p n w es (built_in table.size) = (assert_stands t es, tt)
-call_action_stands t p n w es (built_in table.assert) = (assert_stands t es, tt)
+call_action_stands : (t : Table) (p : ℤ) (n : ℕ) (w : Word) (es : Expressions) (c : Callee) → OwnStand (call_action t p n w es c)
+call_action_stands t p n w es (composite i) = stand_call (arguments_of t es).0 (call_to w i (arguments_of t es).1 []) (arguments_stand t es)
+call_action_stands t p n w es (built_in table.printf) = assert_stands t (after_first es)
+call_action_stands t p n w es (built_in table.strcat) = assert_stands t es
+call_action_stands t p n w es (built_in table.fromint) = assert_stands t es
+call_action_stands t p n w es (built_in table.toint) = assert_stands t es
+call_action_stands t p n w es (built_in table.size) = assert_stands t es
+call_action_stands t p n w es (built_in table.assert) = assert_stands t es
 
-several_stands : (t : Table) (n : ℕ) (w : Word) (es : Expressions) (xs : List Name) (c : Callee) → Alone (several t n w es xs c)
-several_stands t n w es xs (composite i) = (stand_call (arguments_of t es).0 (call_to w i (arguments_of t es).1 xs) (arguments_stand t es), tt)
+several_stands : (t : Table) (n : ℕ) (w : Word) (es : Expressions) (xs : List Name) (c : Callee) → OwnStand (several t n w es xs c)
+several_stands t n w es xs (composite i) = stand_call (arguments_of t es).0 (call_to w i (arguments_of t es).1 xs) (arguments_stand t es)
 several_stands t n w es xs (built_in b) =
     let f = call_form t w (built_in b) es ([], []) (operands_of t es) in
-    (own_stands n f.0 f.1 (call_stands t w (built_in b) es ([], []) (operands_of t es) nothing_stands (operands_stand t es)), tt)
+    own_stands n f.0 f.1 (call_stands t w (built_in b) es ([], []) (operands_of t es) nothing_stands (operands_stand t es))
 
 each_outer : (t : Table) (low high : Expression) (step : Option Expression) (o : Outer) → o ∈ (outer t low ∷ outer t high ∷ option_to_list (option_map (outer t) step)) → OuterStands o
 each_outer t low high step o m = elim (split_in m) [
@@ -273,9 +207,9 @@ each_outer t low high step o m = elim (split_in m) [
     by None m = elim m [ ]
     by (Some e) m = elim (split_in m) [ inl q ↦ subst OuterStands (sym q) (outer_stands t e) | inr z ↦ elim z [ ] ]
 
-loop_stands : (t : Table) (v : Word) (k : Option Word) (o : Over) (b : Block) → Standing b → Alone (loop_action t v k o b)
-loop_stands t v k (T.array w) b g = (nothing_stands, g)
-loop_stands t v k (T.range low high step) b g = (outers_stand (outer t low ∷ outer t high ∷ option_to_list (option_map (outer t) step)) (each_outer t low high step), g)
+loop_stands : (t : Table) (v : Word) (k : Option Word) (o : Over) (b : Block) → OwnStand (loop_action t v k o b)
+loop_stands t v k (T.array w) b = nothing_stands
+loop_stands t v k (T.range low high step) b = outers_stand (outer t low ∷ outer t high ∷ option_to_list (option_map (outer t) step)) (each_outer t low high step)
 
 one_outer : (t : Table) (e : Expression) → IndexesStand (outer_parts (outer t e ∷ []))
 one_outer t e = outers_stand (outer t e ∷ []) (λ o m. elim (split_in m) [ inl q ↦ subst OuterStands (sym q) (outer_stands t e) | inr z ↦ elim z [ ] ])
@@ -283,45 +217,20 @@ one_outer t e = outers_stand (outer t e ∷ []) (λ o m. elim (split_in m) [ inl
 two_outers : (t : Table) (i e : Expression) → IndexesStand (outer_parts (outer t i ∷ outer t e ∷ []))
 two_outers t i e = outers_stand (outer t i ∷ outer t e ∷ []) (λ o m. each_outer t i e None o m)
 
-mutual
-  body_stands : (t : Table) (d : Body) → Standing (block_of t d)
-  body_stands t (body from ss) = statements_stand t ss
-
-  statements_stand : (t : Table) (ss : Statements) → Standing (block_in t ss)
-  statements_stand t no_statements = tt
-  statements_stand t (and_statement s ss) = statement_stands t s (block_in t ss) (statements_stand t ss)
-
-  statement_stands : (t : Table) (s : Statement) (b : Block) → Standing b → Standing (with_statement t s b)
-  statement_stands t (statement nd c) b g = command_stands t nd c b g
-
-  command_stands : (t : Table) (nd : Node) (c : Command) (b : Block) → Standing b → Standing (with_command t nd c b)
-  command_stands t nd (T.declare d None) b g = ((nothing_stands, tt), g)
-  command_stands t nd (T.declare d (Some r)) b g = ((nothing_stands, tt), (right_stands t (here d.name.number) d.shape r, g))
-  command_stands t nd (T.assign w r) b g = (right_stands t (refers t w) (t.shape_of w.number) r, g)
-  command_stands t nd (T.write w i e) b g = ((two_outers t i e, tt), g)
-  command_stands t nd (T.assign_all ws c) b g = (several_stands t c.node.number c.name (expressions_of c.arguments) (map (refers t) ws) (t.callee_of c.name.number), g)
-  command_stands t nd (T.calls p c) b g = (call_action_stands t p c.node.number c.name (expressions_of c.arguments) (t.callee_of c.name.number), g)
-  command_stands t nd (choice e d) b g = ((one_outer t e, body_stands t d), g)
-  command_stands t nd (choice_else e d other) b g = ((one_outer t e, (body_stands t d, body_stands t other)), g)
-  command_stands t nd (loop v k o d) b g = (loop_stands t v k o (block_of t d) (body_stands t d), g)
-  command_stands t nd (waits ws d) b g = ((nothing_stands, body_stands t d), g)
-
-script_stands : (t : Table) (tree : Tree) → Standing (script_block t tree)
-script_stands t [] = tt
-script_stands t (import sp ∷ ps) = script_stands t ps
-script_stands t (function f ∷ ps) = script_stands t ps
-script_stands t (single s ∷ ps) = statement_stands t s (script_block t ps) (script_stands t ps)
-
-functions_stand : (t : Table) (tree : Tree) → (f : Function) → f ∈ functions_of t tree → Standing f.body
-functions_stand t [] f h = elim h [ ]
-functions_stand t (import sp ∷ ps) f h = functions_stand t ps f h
-functions_stand t (function d ∷ ps) f h = elim (split_in h) [ inl e ↦ subst (λ (z : Function). Standing z.body) (sym e) (body_stands t d.body) | inr i ↦ functions_stand t ps f i ]
-functions_stand t (single s ∷ ps) f h = functions_stand t ps f h
-
 -- THE CORE OF A TREE
+
+each_stands : (t : Table) → OfEach OwnStand t
+each_stands t = record {
+  declares = λ v. nothing_stands;
+  rights = right_stands t;
+  writes = λ x i e. two_outers t i e;
+  severals = several_stands t;
+  calleds = λ n p. call_action_stands t p n;
+  whens = λ e d. one_outer t e;
+  chooses = λ e d f. one_outer t e;
+  loops = loop_stands t;
+  waits = λ ws b. nothing_stands;
+}
+
 pub reads_stand : (t : Table) (tree : Tree) → ReadsStand (core t tree)
-reads_stand t tree at n a h =
-    (in_blocks (script_blocks (core t tree)) (λ b i. elim (either (blocks_of (script_block t tree)) (function_blocks (functions_of t tree)) i) [
-      | inl i ↦ in_body (script_block t tree) (script_stands t tree) b i
-      | inr i ↦ in_functions (functions_of t tree) (functions_stand t tree) b i
-    ]) (stmt at n a) h).0
+reads_stand t tree at n a h = holds_of_all OwnStand t (each_stands t) tree (stmt at n a) h
