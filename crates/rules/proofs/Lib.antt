@@ -3,3 +3,5 @@ pub mod Learning
 pub mod Linking
 pub mod Noting
 pub mod Settling
+pub mod Splicing
+pub mod Walking

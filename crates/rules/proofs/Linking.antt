@@ -4,7 +4,7 @@ use Rattle.std.proofs.lemmas.Bool.{cases_eq, cases_lt}
 use Rattle.std.proofs.lemmas.List.{get_or-set_same, get_or-set_other, get_or_append_left, length-set, length-append}
 use Rattle.std.proofs.Math.Seq.{get_or-append_seam}
 use Rattle.rules.specs.declared.places.Note.{Note}
-use Rattle.rules.specs.Places.{blank, note_at, IsAt, IsLast, IsLinked}
+use Rattle.rules.specs.Places.{blank, no_slot, note_at, IsAt, IsLast, IsLinked}
 
 -- one more
 longer : (notes : List Note) (x : Note) → length (notes ++ x ∷ []) ≡ length notes + 1
@@ -22,21 +22,23 @@ at_before notes x a k here = record {
   below = omega (arith, longer notes x, here.below);
   address = ap (λ n. n.address) (note_before notes x here.number here.below) ∙ here.address;
   slot = ap (λ n. n.slot) (note_before notes x here.number here.below) ∙ here.slot;
+  real = here.real;
 }
 
-pub at_last : (notes : List Note) (x : Note) → IsAt (notes ++ x ∷ []) x.address x.slot
-at_last notes x = record {
+pub at_last : (notes : List Note) (x : Note) → x.slot ≢ no_slot → IsAt (notes ++ x ∷ []) x.address x.slot
+at_last notes x real = record {
   number = length notes;
   below = omega (arith, longer notes x);
   address = ap (λ n. n.address) (note_last notes x);
   slot = ap (λ n. n.slot) (note_last notes x);
+  real = real;
 }
 
 last_before : (n : ℕ) (notes : List Note) (x : Note) (b c end : ℕ) → end ≤ length notes → IsLast n notes b c end → IsLast n (notes ++ x ∷ []) b c end
 last_before n notes x b c end fits l = record {
   within = l.within;
   last = λ p. ap (λ m. m.address % n) (note_before notes x (c - 1) (omega (arith, p, fits, l.within))) ∙ l.last p;
-  others = λ j from to e. l.others j from to (sym (ap (λ m. m.address % n) (note_before notes x j (omega (arith, to, fits)))) ∙ e);
+  others = λ j from to real e. l.others j from to (λ q. real (ap (λ m. m.slot) (note_before notes x j (omega (arith, to, fits))) ∙ q)) (sym (ap (λ m. m.address % n) (note_before notes x j (omega (arith, to, fits)))) ∙ e);
 }
 
 module _ (heads : List ℕ) (notes : List Note) (b : ℕ) (x : Note) (below : b < length heads) (here : x.address % length heads ≡ b) (was : x.earlier ≡ get_or heads b 0) (old : IsLinked heads notes) where
@@ -44,7 +46,7 @@ module _ (heads : List ℕ) (notes : List Note) (b : ℕ) (x : Note) (below : b 
   top_here = record {
     within = omega (arith, longer notes x);
     last = λ p. ap (λ m. m.address % length heads) (subst (λ m. note_at (notes ++ x ∷ []) m ≡ x) (omega arith) (note_last notes x)) ∙ here;
-    others = λ j from to e. absurd (omega (arith, from, to, longer notes x));
+    others = λ j from to real e. absurd (omega (arith, from, to, longer notes x));
   }
 
   top_else : (a : ℕ) → a ≢ b → a < length heads → IsLast (length heads) (notes ++ x ∷ []) a (get_or heads a 0) (length (notes ++ x ∷ []))
@@ -54,8 +56,8 @@ module _ (heads : List ℕ) (notes : List Note) (b : ℕ) (x : Note) (below : b 
       record {
         within = omega (arith, l.within, longer notes x);
         last = before.last;
-        others = λ j from to e. elim (cases_lt j (length notes)) [
-          | inl within ↦ before.others j from within e
+        others = λ j from to real e. elim (cases_lt j (length notes)) [
+          | inl within ↦ before.others j from within real e
           | inr past ↦
               let same : j ≡ length notes = omega (arith, past, to, longer notes x) in
               differs (sym e ∙ ap (λ m. m.address % length heads) (ap (note_at (notes ++ x ∷ [])) same ∙ note_last notes x) ∙ here)

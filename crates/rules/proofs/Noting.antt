@@ -1,5 +1,5 @@
 -- Slots that are noted, and slots that shrink.
-use Rattle.std.proofs.Common.{arith, ◌≡◌, ◌≢◌, ◌⊎◌, inl, inr, ℕ, suc, zero, ◌+◌, ◌-◌, ◌*◌, ◌<◌, ◌≤◌, ◌%◌, ◌^◌, ◌==◌, ◌||◌, Bool, true, false, not, cond, nat_eq, count_by, is_some, List, [], ◌∷◌, length, filter, take, get_or, Option, Some, None, refl, sym, ap, subst, ◌∙◌, Contains}
+use Rattle.std.proofs.Common.{arith, ◌≡◌, ◌≢◌, ◌⊎◌, inl, inr, ℕ, suc, zero, ◌+◌, ◌*◌, ◌<◌, ◌≤◌, ◌%◌, ◌^◌, ◌==◌, ◌||◌, Bool, true, false, not, cond, nat_eq, count_by, is_some, List, [], ◌∷◌, length, filter, take, get_or, Option, Some, None, refl, sym, ap, subst, ◌∙◌, Contains}
 use Rattle.std.specs.Prelude.{ℤ}
 use Rattle.std.specs.List.{list_any}
 use Rattle.std.specs.Ordering.{int_eq}
@@ -18,9 +18,9 @@ use Rattle.rules.specs.Inputs.{covers}
 use Rattle.rules.specs.Waiting.{Waiting, is_ready, with_known}
 use Rattle.rules.specs.Slots.{after_slot, unless_item, is_idle, AllBusy, IsSettled, Shrinks}
 use Rattle.slab.specs.Slab.{Slab}
-use Rattle.rules.specs.Places.{Noted, IsKept, Grows, IsNoted, IsFound, IsAt, IsLast, note_at, is_at, needs, slot_needs, address, datum, key_bits}
+use Rattle.rules.specs.Places.{Noted, IsKept, Grows, IsNoted, IsFound, IsAt, is_at, needs, slot_needs, address, datum, key_bits}
 
-true_false : true ≡ false → ⊥
+pub true_false : true ≡ false → ⊥
 true_false e = cc
 
 or_first : (x y : Bool) → x ≡ true → (x || y) ≡ true
@@ -251,33 +251,6 @@ kept_more old new slots places e more k =
       busy = subst AllBusy same k.busy;
       noted = subst (IsNoted places) same k.noted;
     }
-
--- of the notes at an address, those from `next` on, and then those from the note before that one on
-pub walk_step : (S : ℕ → Type 0) (n : ℕ) (notes : List Note) (a next : ℕ) (x : Note) → x ≡ note_at notes (next - 1)
-    → 0 < next → (note_at notes (next - 1)).address % n ≡ a % n → IsLast n notes (x.address % n) x.earlier (next - 1)
-    → (x.address ≡ a → S x.slot)
-    → ((j : ℕ) → next ≤ j → j < length notes → (note_at notes j).address ≡ a → S (note_at notes j).slot)
-    → (j : ℕ) → x.earlier ≤ j → j < length notes → (note_at notes j).address ≡ a → S (note_at notes j).slot
-walk_step S n notes a next x same positive last link now was j from to e =
-    elim (cases_lt j next) [
-      | inl below ↦ elim (cases_eq j (next - 1)) as (λ _. S (note_at notes j).slot) [
-        | inl here ↦
-            let is : note_at notes j ≡ x = ap (note_at notes) here ∙ sym same in
-            rw is (now (sym (ap (λ m. m.address) is) ∙ e))
-        | inr differs ↦ absurd (link.others j from (omega (arith, below, differs, positive)) (ap (λ m. m % n) e ∙ sym last ∙ ap (λ m. m.address % n) (sym same)))
-      ]
-      | inr above ↦ was j above to e
-    ]
-
--- the note before is of the same list
-pub walk_last : (n : ℕ) (notes : List Note) (a next : ℕ) (x : Note) → x ≡ note_at notes (next - 1) → (note_at notes (next - 1)).address % n ≡ a % n
-    → IsLast n notes (x.address % n) x.earlier (next - 1) → 0 < x.earlier → (note_at notes (x.earlier - 1)).address % n ≡ a % n
-walk_last n notes a next x same last link positive = link.last positive ∙ ap (λ m. m.address % n) same ∙ last
-
--- behind the last note of a list there is none at its address
-pub walk_start : (S : ℕ → Type 0) (n : ℕ) (notes : List Note) (a next : ℕ) → IsLast n notes (a % n) next (length notes)
-    → (j : ℕ) → next ≤ j → j < length notes → (note_at notes j).address ≡ a → S (note_at notes j).slot
-walk_start S n notes a next last j from to e = absurd (last.others j from to (ap (λ m. m % n) e))
 
 pub busy_shrinks : (f : Option Waiting → Option Waiting) → ((o : Option Waiting) → is_idle o ≡ false → is_idle (f o) ≡ false)
     → (old new : List (Option Waiting)) → Shrinks f old new → ((k : ℕ) → is_idle (get_or old k None) ≡ false) → (k : ℕ) → is_idle (get_or new k None) ≡ false

@@ -46,18 +46,23 @@ blank = record { address = 0; slot = 0; earlier = 0 }
 abbrev pub note_at : List Note → ℕ → Note
 note_at notes i = slice_index_or notes i blank
 
+-- the slot of a note that is in no list any more
+abbrev pub no_slot : ℕ
+no_slot = 18446744073709551615
+
 -- the slot is noted at the address
 pub record IsAt (notes : List Note) (a k : ℕ) : Type 0 where
   pub number : ℕ
   pub below : number < length notes
   pub address : (note_at notes number).address ≡ a
   pub slot : (note_at notes number).slot ≡ k
+  pub real : k ≢ no_slot
 
--- of n lists, the notes of list b with numbers below `end` are below c, and the last of them is right below it
+-- of n lists, the notes of a slot in list b with numbers below `end` are below c, and right below it is a note of the list
 pub record IsLast (n : ℕ) (notes : List Note) (b c end : ℕ) : Type 0 where
   pub within : c ≤ end
   pub last : 0 < c → (note_at notes (c - 1)).address % n ≡ b
-  pub others : (j : ℕ) → c ≤ j → j < end → (note_at notes j).address % n ≢ b
+  pub others : (j : ℕ) → c ≤ j → j < end → (note_at notes j).slot ≢ no_slot → (note_at notes j).address % n ≢ b
 
 -- each list is found from its head, and on from each note
 pub record IsLinked (heads : List ℕ) (notes : List Note) : Type 0 where
@@ -77,6 +82,15 @@ pub record Grows (old new : Noted) : Type 0 where
   pub notes : (a k : ℕ) → IsAt old.notes a k → IsAt new.notes a k
   pub strays : (k : ℕ) → Contains old.strays k → Contains new.strays k
   pub place : new.place ≡ old.place
+
+-- each note but that of this number notes the slot that it did
+pub record IsAllBut (old new : Noted) (number : ℕ) : Type 0 where
+  pub lists : new.lists ≡ old.lists
+  pub strays : new.strays ≡ old.strays
+  pub place : new.place ≡ old.place
+  pub size : length new.notes ≡ length old.notes
+  pub addresses : (j : ℕ) → (note_at new.notes j).address ≡ (note_at old.notes j).address
+  pub slots : (j : ℕ) → j ≢ number → (note_at new.notes j).slot ≡ (note_at old.notes j).slot
 
 -- what lies in the slot is noted wherever it is to be, or the slot is a stray
 abbrev pub IsFound : Noted → ℕ → Option Waiting → Type 0

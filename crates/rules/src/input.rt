@@ -1,7 +1,7 @@
 //! What an item waits for.
 ghost use Rattle.std.specs.Prelude.{◌≡◌};
 ghost use Rattle.rules.specs.Inputs.{covers};
-ghost use Rattle.rules.specs.Places.{address, datum};
+ghost use Rattle.rules.specs.Places.{address, datum, is_at};
 
 use values::key::Key;
 
@@ -55,5 +55,12 @@ impl Input {
             Input::Whole(datum) => *datum,
             Input::Element(datum, _) => *datum,
         }
+    }
+
+    /// Whether those that wait for it are noted at this address.
+    pub(crate) fn is_at(&self, address: u64) -> bool
+        ensures { result ≡ is_at address self.now }
+    {
+        self.address() == address || self.datum() == address
     }
 }

@@ -17,31 +17,34 @@ use std::marker::Model;
 // The fewest lists that there are once there are any.
 const FEWEST: usize = 64;
 
-// Tells those that the input leaves with nothing to wait for. The answer is how many notes the input's list has.
-fn wake(waiters: &mut Slab<Waiter>, places: &Places, input: &Input, out: &mut Vec<u64>) -> usize
+// Tells those that the input leaves with nothing to wait for.
+fn wake(waiters: &mut Slab<Waiter>, places: &mut Places, input: &Input, out: &mut Vec<u64>)
     requires room { slab_len waiters.old + vec_len out.old ≤ vec_capacity out.old }
     requires busy { AllBusy waiters.old.slots }
-    requires noted { IsNoted places.now waiters.old.slots }
+    requires noted { IsNoted places.old waiters.old.slots }
     ensures learnt { Learnt input.now waiters.old.slots waiters.new.slots out.old.items out.new.items }
     ensures settled { (k : ℕ) → IsSettled (after_slot input.now) waiters.new.slots k }
     ensures shrinks { Shrinks (after_slot input.now) waiters.old.slots waiters.new.slots }
     ensures balance { slab_len waiters.new + vec_len out.new ≡ slab_len waiters.old + vec_len out.old }
     ensures capacity { waiters.new.capacity ≡ waiters.old.capacity }
     ensures out_capacity { vec_capacity out.new ≡ vec_capacity out.old }
+    ensures noted { IsNoted places.new waiters.new.slots }
+    ensures place { places.new.place ≡ places.old.place }
 {
-    let walked = visit_noted(waiters, places, input, out);
+    visit_noted(waiters, places, input, out);
     visit_listed(waiters, places.strays(), input, out);
-    walked
 }
 
 // Takes an item out.
-fn let_go(waiters: &mut Slab<Waiter>, places: &Places, item: u64)
-    requires noted { IsNoted places.now waiters.old.slots }
+fn let_go(waiters: &mut Slab<Waiter>, places: &mut Places, item: u64)
+    requires noted { IsNoted places.old waiters.old.slots }
     ensures others { without_item item (present waiters.new.slots) ≡ without_item item (present waiters.old.slots) }
     ensures settled { (k : ℕ) → IsSettled (unless_item item) waiters.new.slots k }
     ensures shrinks { Shrinks (unless_item item) waiters.old.slots waiters.new.slots }
     ensures fewer { slab_len waiters.new ≤ slab_len waiters.old }
     ensures capacity { waiters.new.capacity ≡ waiters.old.capacity }
+    ensures noted { IsNoted places.new waiters.new.slots }
+    ensures place { places.new.place ≡ places.old.place }
 {
     leave_noted(waiters, places, item);
     leave_listed(waiters, places.strays(), item);
@@ -240,8 +243,7 @@ impl Rules {
         ensures out_capacity { vec_capacity out.new ≡ vec_capacity out.old }
         ensures each_missed { EachMisses self.old.waiting }
     {
-        let walked = wake(&mut self.waiters, &self.places, input, out);
-        self.places.count_walk(&self.waiters, walked);
+        wake(&mut self.waiters, &mut self.places, input, out);
     }
 
     /// Takes an item out, if it waits. Takes no memory.
@@ -249,6 +251,6 @@ impl Rules {
         ensures waiting { self.new.waiting ≡ without_item item self.old.waiting }
         ensures room { GivesRoomBack self.old self.new }
     {
-        let_go(&mut self.waiters, &self.places, item);
+        let_go(&mut self.waiters, &mut self.places, item);
     }
 }

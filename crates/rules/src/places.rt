@@ -1,7 +1,7 @@
 //! Where the items that wait for an input are found.
 ghost use Rattle.std.specs.Prelude.{◌≡◌, ◌⊎◌, ℕ, ◌+◌, ◌<◌, ◌≤◌, ◌%◌, [], true, cond, is_some, None, Some, length, Contains, IfOk};
 ghost use Rattle.slab.specs.Slab.{get, slab_len};
-ghost use Rattle.rules.specs.Places.{IsAt, IsLast, note_at, Grows, IsFound, IsNoted, is_at, needs};
+ghost use Rattle.rules.specs.Places.{IsAt, IsAllBut, IsLast, no_slot, note_at, Grows, IsFound, IsNoted, is_at, needs, slot_needs};
 
 use crate::input::Input;
 use crate::waiter::Waiter;
@@ -12,8 +12,8 @@ use std::marker::Model;
 // The most notes that an item of two inputs has.
 const PLAIN: usize = 5;
 
-// The most notes of a list that is not long.
-const SHORT: usize = 8;
+// The slot of a note that is in no list any more.
+const NO_SLOT: usize = 18_446_744_073_709_551_615;
 
 /// That what lies in a slot is looked for at an address.
 #[derive(Clone, Copy, Debug, PartialEq, Eq)]
@@ -25,20 +25,17 @@ pub struct Note {
 }
 
 /// Notes, each in the list of its address. The slot of an item that waits is noted at its number, and at the
-/// addresses of what it misses. What is no longer needed stays until all are made anew, so whoever looks there sees
-/// whether it is. A slot for whose notes there is no place is a stray: it is looked at for each input.
+/// addresses of what it misses. A note that is no longer needed is taken out of its list by the next walk past it, and
+/// its memory is free again once all are made anew. A slot for whose notes there is no place is a stray: it is looked
+/// at for each input.
 #[derive(Drop)]
 pub struct Places {
     // For each list one more than the number of its last note, or 0 where it has none.
     heads: Vec<usize>,
     notes: Vec<Note>,
     strays: Vec<usize>,
-    // How many more notes may be asked for before all are made anew.
-    left: usize,
     // At least so many notes as those items have that wait for more than two inputs.
     heavy: usize,
-    // How many notes were walked past in long lists since all were made anew.
-    passed: usize,
 }
 
 impl Model for Places {
@@ -61,27 +58,22 @@ impl Places {
             heads: Vec::new(alloc),
             notes: Vec::new(alloc),
             strays: Vec::new(alloc),
-            left: 0,
             heavy: 0,
-            passed: 0,
         }
     }
 
-    /// So many lists with nothing in them, and memory for twice the notes that as many items of two inputs have, and twice so
-    /// many more.
-    pub fn sized(alloc: Global, size: usize, more: usize) -> Result<Places, AllocError>
-        ensures place { IfOk result (λ places. places.place ≡ size) }
+    /// Lists for so many slots with nothing in them, and memory for their notes, so many of them of items of more than two
+    /// inputs.
+    pub fn sized(alloc: Global, slots: usize, heavy: usize) -> Result<Places, AllocError>
+        ensures place { IfOk result (λ places. places.place ≡ slots) }
     {
         let mut heads = Vec::new(alloc);
-        heads.resize(size, 0)?;
-        let notes = size.saturating_mul(PLAIN).saturating_add(more);
+        heads.resize(slots.saturating_mul(2), 0)?;
         Ok(Places {
             heads,
-            notes: Vec::with_capacity(alloc, notes.saturating_mul(2))?,
-            strays: Vec::with_capacity(alloc, size)?,
-            left: 0,
-            heavy: more,
-            passed: 0,
+            notes: Vec::with_capacity(alloc, ample(slots, heavy))?,
+            strays: Vec::with_capacity(alloc, slots)?,
+            heavy,
         })
     }
 
@@ -119,6 +111,87 @@ impl Places {
         self.notes[number]
     }
 
+    // Lets a note be of no slot.
+    fn retire(&mut self, number: usize)
+        requires below { number < length self.old.notes }
+        ensures all { IsAllBut self.old self.new number }
+        ensures retired { (note_at self.new.notes number).slot ≡ no_slot }
+    {
+        let note = self.notes[number];
+        self.notes[number] = Note {
+            address: note.address,
+            slot: NO_SLOT,
+            earlier: note.earlier,
+        };
+    }
+
+    // Lets the head of the list lead past a note that is of no slot, if it leads to it.
+    fn unlink_first(&mut self, number: usize)
+        requires below { number < length self.old.notes }
+        requires retired { (note_at self.old.notes number).slot ≡ no_slot }
+        ensures { IsAllBut self.old self.new number }
+    {
+        if self.heads.is_empty() {
+            return;
+        }
+        let note = self.notes[number];
+        let list = (note.address % self.heads.len() as u64) as usize;
+        if self.heads[list] == number + 1 {
+            self.heads[list] = note.earlier;
+        }
+    }
+
+    // Lets a note lead past one that is of no slot, if it leads to it.
+    fn unlink_next(&mut self, later: usize, number: usize)
+        requires later { later < length self.old.notes }
+        requires below { number < length self.old.notes }
+        requires retired { (note_at self.old.notes number).slot ≡ no_slot }
+        ensures { IsAllBut self.old self.new number }
+    {
+        let note = self.notes[number];
+        let holder = self.notes[later];
+        if holder.earlier == number + 1 {
+            self.notes[later] = Note {
+                address: holder.address,
+                slot: holder.slot,
+                earlier: note.earlier,
+            };
+        }
+    }
+
+    // Takes a note out of its list. The link to it is that of the note right below `holder`, or the head of the list where
+    // `holder` is 0.
+    fn take_out(&mut self, holder: usize, number: usize)
+        requires holder { holder ≤ length self.old.notes }
+        requires below { number < length self.old.notes }
+        ensures { IsAllBut self.old self.new number }
+    {
+        self.retire(number);
+        if holder == 0 {
+            self.unlink_first(number);
+        } else {
+            self.unlink_next(holder - 1, number);
+        }
+    }
+
+    /// Takes a note out of its list, if what lies in its slot needs it no more. The link to it is that of the note right below
+    /// `holder`, or the head of the list where `holder` is 0. The answer says the same of the link that leads on.
+    pub fn tidy(&mut self, waiters: &Slab<Waiter>, holder: usize, number: usize) -> usize
+        requires holder { holder ≤ length self.old.notes }
+        requires below { number < length self.old.notes }
+        requires noted { IsNoted self.old waiters.now.slots }
+        ensures noted { IsNoted self.new waiters.now.slots }
+        ensures all { IsAllBut self.old self.new number }
+        ensures holder { result ≤ length self.new.notes }
+    {
+        let note = self.notes[number];
+        if is_needed(waiters, note.address, note.slot) {
+            return number + 1;
+        }
+        self.take_out(holder, number);
+        holder
+    }
+
     // Notes a slot at an address, where there is place.
     #[tactic(auto, using(crate::proofs::Linking::at_before, crate::proofs::Linking::at_last))]
     fn put(&mut self, address: u64, slot: usize) -> bool
@@ -126,7 +199,7 @@ impl Places {
         ensures strays { self.new.strays ≡ self.old.strays }
         ensures noted { result ≡ true → IsAt self.new.notes address slot }
     {
-        if self.heads.is_empty() || self.notes.len() == self.notes.capacity() {
+        if self.heads.is_empty() || self.notes.len() == self.notes.capacity() || slot == NO_SLOT {
             return false;
         }
         let list = (address % self.heads.len() as u64) as usize;
@@ -227,88 +300,49 @@ impl Places {
         self.strays.clear();
     }
 
-    // Takes memory for so many notes, if there are fewer and it is to be had. Then nothing is noted.
-    fn widen(&mut self, alloc: Global, wanted: usize)
-        ensures { self.new.place ≡ self.old.place }
-    {
-        if self.notes.capacity() < wanted {
-            if let Ok(notes) = Vec::with_capacity(alloc, wanted) {
-                self.clear();
-                self.notes = notes;
-            }
-        }
-    }
-
-    /// Makes all notes anew, and leaves place for as many again as there are of items of two inputs.
+    /// Makes all notes anew. A quarter of the memory is free then.
     pub fn renew(&mut self, waiters: &Slab<Waiter>)
         requires { slab_len waiters.now ≤ self.old.place }
         ensures noted { IsNoted self.new waiters.now.slots }
         ensures place { self.new.place ≡ self.old.place }
     {
         self.clear();
-        let plain = waiters.len().saturating_mul(PLAIN);
-        let most = (self.notes.capacity() / 2).saturating_sub(plain);
-        for slot in 0..waiters.capacity() {
-            self.keep_slot(waiters, slot, most);
+        let slots = waiters.capacity();
+        let most = three_quarters(self.notes.capacity());
+        for slot in 0..slots {
+            let later = plain(slots.saturating_sub(slot));
+            self.keep_slot(waiters, slot, most.saturating_sub(later));
         }
-        self.left = self.notes.capacity().saturating_sub(self.notes.len());
-        self.heavy = heavy(waiters);
-        self.passed = 0;
     }
 
-    // Counts notes that were walked past.
-    fn pass(&mut self, notes: usize)
+    // Counts notes of items of more than two inputs.
+    fn count(&mut self, heavy: usize)
         ensures { self.new ≡ self.old }
     {
-        self.passed = self.passed.saturating_add(notes);
+        self.heavy = heavy;
     }
 
-    // Whether more were walked past than there are.
-    fn has_long_lists(&self) -> bool {
-        self.passed > self.notes.len()
-    }
-
-    /// Counts the notes that an input's list had. All are made anew once more were walked past in long lists than there are, since
-    /// what is no longer needed makes lists long where the number of a datum is used again and again.
-    pub fn count_walk(&mut self, waiters: &Slab<Waiter>, walked: usize)
+    // Makes all notes anew in memory for so many.
+    fn widen(
+        &mut self,
+        alloc: Global,
+        waiters: &Slab<Waiter>,
+        notes: usize,
+    ) -> Result<(), AllocError>
         requires place { slab_len waiters.now ≤ self.old.place }
         requires noted { IsNoted self.old waiters.now.slots }
         ensures noted { IsNoted self.new waiters.now.slots }
         ensures place { self.new.place ≡ self.old.place }
     {
-        self.pass(walked.saturating_sub(SHORT));
-        if self.has_long_lists() {
-            self.renew(waiters);
-        }
-    }
-
-    // Makes all notes anew where there is place for fewer than so many, and takes more memory for them if items of more
-    // than two inputs want it.
-    fn make_place(&mut self, alloc: Global, waiters: &Slab<Waiter>, weight: usize)
-        requires place { slab_len waiters.now ≤ self.old.place }
-        requires noted { IsNoted self.old waiters.now.slots }
-        ensures noted { IsNoted self.new waiters.now.slots }
-        ensures place { self.new.place ≡ self.old.place }
-    {
-        if self.left >= weight {
-            return;
-        }
-        self.widen(alloc, wanted(waiters, weight));
+        let notes = Vec::with_capacity(alloc, notes)?;
+        self.clear();
+        self.notes = notes;
         self.renew(waiters);
+        Ok(())
     }
 
-    // Counts notes that are asked for.
-    fn spend(&mut self, weight: usize)
-        ensures { self.new ≡ self.old }
-    {
-        self.left = self.left.saturating_sub(weight);
-        if weight > PLAIN {
-            self.heavy = self.heavy.saturating_add(weight);
-        }
-    }
-
-    /// Takes memory for so many notes of items that are added next and wait for more than two inputs, if there is less. The
-    /// notes are looked through only where more than half of the memory may be in use.
+    /// Takes memory for so many notes of items that are added next and wait for more than two inputs, if there is less. It is
+    /// enough whatever fills the slots that there are now.
     pub fn reserve_notes(
         &mut self,
         alloc: Global,
@@ -320,21 +354,42 @@ impl Places {
         ensures noted { IsNoted self.new waiters.now.slots }
         ensures place { self.new.place ≡ self.old.place }
     {
-        if self.notes.capacity() >= twice(waiters, self.heavy, more) {
+        let slots = waiters.capacity();
+        let most = three_quarters(self.notes.capacity());
+        if plain(slots).saturating_add(self.heavy).saturating_add(more) <= most {
             return Ok(());
         }
-        let wanted = twice(waiters, heavy(waiters), more).saturating_mul(2);
-        if self.notes.capacity() < wanted {
-            let notes = Vec::with_capacity(alloc, wanted)?;
-            self.clear();
-            self.notes = notes;
+        self.count(heavy(waiters));
+        let wanted = ample(slots, self.heavy.saturating_add(more));
+        if self.notes.capacity() >= wanted {
+            return Ok(());
         }
-        self.renew(waiters);
-        Ok(())
+        self.widen(alloc, waiters, wanted)
     }
 
-    /// Sees to it that there is place for the notes of an item of so many inputs: all notes are made anew once as many were
-    /// asked for as there was place for.
+    // How many more notes there is memory for.
+    fn free(&self) -> usize {
+        self.notes.capacity().saturating_sub(self.notes.len())
+    }
+
+    // Makes all notes anew where there is memory for fewer than so many more, in more memory where items of more than two
+    // inputs want it and it is to be had.
+    fn make_place(&mut self, alloc: Global, waiters: &Slab<Waiter>, weight: usize)
+        requires place { slab_len waiters.now ≤ self.old.place }
+        requires noted { IsNoted self.old waiters.now.slots }
+        ensures noted { IsNoted self.new waiters.now.slots }
+        ensures place { self.new.place ≡ self.old.place }
+    {
+        if self.free() >= weight {
+            return;
+        }
+        let _taken = self.reserve_notes(alloc, waiters, heavy_part(weight));
+        if self.free() < weight {
+            self.renew(waiters);
+        }
+    }
+
+    /// Sees to it that there is place for the notes of an item of so many inputs that is added next.
     pub fn refresh(&mut self, alloc: Global, waiters: &Slab<Waiter>, inputs: usize)
         requires place { slab_len waiters.now ≤ self.old.place }
         requires noted { IsNoted self.old waiters.now.slots }
@@ -343,7 +398,8 @@ impl Places {
     {
         let weight = notes_of(inputs);
         self.make_place(alloc, waiters, weight);
-        self.spend(weight);
+        let heavy = self.heavy.saturating_add(heavy_part(weight));
+        self.count(heavy);
     }
 }
 
@@ -357,11 +413,27 @@ pub fn notes_of_all(items: usize, inputs: usize) -> usize {
     inputs.saturating_mul(2).saturating_add(items)
 }
 
-// Twice the notes of all that wait, where those of more than two inputs have so many, once so many more are added.
-fn twice(waiters: &Slab<Waiter>, heavy: usize, more: usize) -> usize {
-    let plain = waiters.len().saturating_mul(2 * PLAIN);
-    let notes = heavy.saturating_add(more).saturating_add(plain);
-    notes.saturating_mul(2)
+// So many notes, if an item of two inputs has fewer.
+fn heavy_part(notes: usize) -> usize {
+    if notes > PLAIN { notes } else { 0 }
+}
+
+// The most notes that so many items of two inputs have.
+fn plain(items: usize) -> usize {
+    items.saturating_mul(PLAIN)
+}
+
+// The most notes that may be in use once all are made anew, where there is memory for so many.
+fn three_quarters(capacity: usize) -> usize {
+    capacity.saturating_sub(capacity / 4)
+}
+
+// For how many notes there is memory once it is taken: for twice those of items of two inputs in all slots, and four times
+// those of items of more.
+fn ample(slots: usize, heavy: usize) -> usize {
+    plain(slots)
+        .saturating_mul(2)
+        .saturating_add(heavy.saturating_mul(4))
 }
 
 /// How many notes those items may have that have more than an item of two inputs.
@@ -370,20 +442,18 @@ pub fn heavy(waiters: &Slab<Waiter>) -> usize {
     for slot in 0..waiters.capacity() {
         if let Some(waiter) = waiters.get(slot) {
             let weight = notes_of(waiter.missing().len());
-            if weight > PLAIN {
-                sum = sum.saturating_add(weight);
-            }
+            sum = sum.saturating_add(heavy_part(weight));
         }
     }
     sum
 }
 
-// For how many notes there should be memory beyond that of items of two inputs, once an item with so many is added.
-fn wanted(waiters: &Slab<Waiter>, weight: usize) -> usize {
-    let heavy = heavy(waiters);
-    let more = if weight > PLAIN { weight } else { 0 };
-    if heavy == 0 && more == 0 {
-        return 0;
+// Whether what lies in the slot is to be noted at this address.
+fn is_needed(waiters: &Slab<Waiter>, address: u64, slot: usize) -> bool
+    ensures { result ≡ slot_needs address (get waiters.now slot) }
+{
+    match waiters.get(slot) {
+        None => false,
+        Some(waiter) => waiter.needs(address),
     }
-    twice(waiters, heavy, more)
 }

@@ -3,7 +3,7 @@ ghost use Rattle.std.specs.Prelude.{◌≡◌, ◌⊎◌, ℕ, ◌+◌, ◌≤�
 ghost use Rattle.slab.specs.Slab.{get, slab_len};
 ghost use Rattle.rules.specs.Slots.{after_slot, unless_item, told, present, IsSettled, Shrinks, Learnt};
 ghost use Rattle.rules.specs.Waiting.{without_item};
-ghost use Rattle.rules.specs.Places.{address, IsAt};
+ghost use Rattle.rules.specs.Places.{address, IsAt, IsNoted};
 
 use crate::input::Input;
 use crate::places::Places;
@@ -46,35 +46,40 @@ pub fn visit_listed(waiters: &mut Slab<Waiter>, slots: &[usize], input: &Input, 
     }
 }
 
-/// Visits each slot that is noted at the input's address. The answer is how many notes its list has.
+/// Visits each slot that is noted at the input's address, and takes those notes out of its list that are no longer needed.
 pub fn visit_noted(
     waiters: &mut Slab<Waiter>,
-    places: &Places,
+    places: &mut Places,
     input: &Input,
     out: &mut Vec<u64>,
-) -> usize
-    requires { slab_len waiters.old + vec_len out.old ≤ vec_capacity out.old }
+)
+    requires room { slab_len waiters.old + vec_len out.old ≤ vec_capacity out.old }
+    requires noted { IsNoted places.old waiters.old.slots }
     ensures learnt { Learnt input.now waiters.old.slots waiters.new.slots out.old.items out.new.items }
-    ensures settled { (k : ℕ) → IsAt places.now.notes (address input.now) k ⊎ IsSettled (after_slot input.now) waiters.old.slots k
+    ensures settled { (k : ℕ) → IsAt places.old.notes (address input.now) k ⊎ IsSettled (after_slot input.now) waiters.old.slots k
         → IsSettled (after_slot input.now) waiters.new.slots k }
     ensures shrinks { Shrinks (after_slot input.now) waiters.old.slots waiters.new.slots }
     ensures balance { slab_len waiters.new + vec_len out.new ≡ slab_len waiters.old + vec_len out.old }
     ensures capacity { waiters.new.capacity ≡ waiters.old.capacity }
     ensures out_capacity { vec_capacity out.new ≡ vec_capacity out.old }
+    ensures noted { IsNoted places.new waiters.new.slots }
+    ensures strays { places.new.strays ≡ places.old.strays }
+    ensures place { places.new.place ≡ places.old.place }
 {
     let address = input.address();
+    let mut holder = 0;
     let mut next = places.last(address);
-    let mut walked = 0_usize;
     while next > 0 {
-        let note = places.note(next - 1);
+        let number = next - 1;
+        let note = places.note(number);
         next = note.earlier;
-        walked = walked.saturating_add(1);
         if note.address != address {
+            holder = places.tidy(waiters, holder, number);
             continue;
         }
         visit(waiters, note.slot, input, out);
+        holder = places.tidy(waiters, holder, number);
     }
-    walked
 }
 
 /// Takes out the item of a slot, if it is this one.
@@ -105,22 +110,30 @@ pub fn leave_listed(waiters: &mut Slab<Waiter>, slots: &[usize], item: u64)
     }
 }
 
-/// Takes the item out of each slot that is noted at its number.
-pub fn leave_noted(waiters: &mut Slab<Waiter>, places: &Places, item: u64)
+/// Takes the item out of each slot that is noted at its number, and those notes out of its list that are no longer needed.
+pub fn leave_noted(waiters: &mut Slab<Waiter>, places: &mut Places, item: u64)
+    requires noted { IsNoted places.old waiters.old.slots }
     ensures others { without_item item (present waiters.new.slots) ≡ without_item item (present waiters.old.slots) }
-    ensures settled { (k : ℕ) → IsAt places.now.notes item k ⊎ IsSettled (unless_item item) waiters.old.slots k
+    ensures settled { (k : ℕ) → IsAt places.old.notes item k ⊎ IsSettled (unless_item item) waiters.old.slots k
         → IsSettled (unless_item item) waiters.new.slots k }
     ensures shrinks { Shrinks (unless_item item) waiters.old.slots waiters.new.slots }
     ensures fewer { slab_len waiters.new ≤ slab_len waiters.old }
     ensures capacity { waiters.new.capacity ≡ waiters.old.capacity }
+    ensures noted { IsNoted places.new waiters.new.slots }
+    ensures strays { places.new.strays ≡ places.old.strays }
+    ensures place { places.new.place ≡ places.old.place }
 {
+    let mut holder = 0;
     let mut next = places.last(item);
     while next > 0 {
-        let note = places.note(next - 1);
+        let number = next - 1;
+        let note = places.note(number);
         next = note.earlier;
         if note.address != item {
+            holder = places.tidy(waiters, holder, number);
             continue;
         }
         leave(waiters, note.slot, item);
+        holder = places.tidy(waiters, holder, number);
     }
 }

@@ -1,6 +1,8 @@
 //! An item that waits.
 ghost use Rattle.std.specs.Prelude.{◌≡◌, ◌==◌, length};
+ghost use Rattle.std.specs.List.{list_any};
 ghost use Rattle.rules.specs.Waiting.{with_known};
+ghost use Rattle.rules.specs.Places.{needs, is_at};
 
 use crate::input::Input;
 use smallvec::SmallVec;
@@ -41,6 +43,13 @@ impl Waiter {
         self.missing.as_slice()
     }
 
+    /// Whether it is to be noted at this address.
+    pub fn needs(&self, address: u64) -> bool
+        ensures { result ≡ needs address self.now }
+    {
+        self.item == address || is_any_at(self.missing(), address)
+    }
+
     /// Whether nothing is missing any more.
     pub fn is_ready(&self) -> bool
         ensures { result ≡ (length self.now.missing == 0) }
@@ -54,4 +63,11 @@ impl Waiter {
     {
         self.missing.retain(|missed| !input.covers(missed));
     }
+}
+
+// Whether those that wait for one of the inputs are noted at this address.
+fn is_any_at(inputs: &[Input], address: u64) -> bool
+    ensures { result ≡ list_any (is_at address) inputs.now }
+{
+    inputs.iter().any(|input| input.is_at(address))
 }

@@ -3,7 +3,7 @@ use Rattle.rules.specs.Waiting.{without_item}
 use Rattle.rules.specs.Slots.{unless_item}
 use Rattle.rules.proofs.Settling.{all_settled}
 use Rattle.rules.proofs.Learning.{unless_twice, without_cons, busy_unless}
-use Rattle.rules.proofs.Noting.{noted_shrinks, busy_shrinks, needs_unless}
+use Rattle.rules.proofs.Noting.{busy_shrinks}
 use Rattle.rules.proofs.Counting.{length_present}
 use Rattle.rules.proofs.listing.Rules.forget.Goals as goal
 
@@ -16,9 +16,9 @@ invariant_of-self c =
     record {
       used = omega (arith, c.self.invariant.used, after.fewer);
       has_place = rw after.capacity c.self.invariant.has_place;
-      place = c.self.invariant.place;
+      place = rw after.place c.self.invariant.place;
       busy = busy_shrinks (unless_item x) (busy_unless x) old new after.shrinks c.self.invariant.busy;
-      noted = noted_shrinks (unless_item x) (needs_unless x) c.self.inside.places old new after.shrinks c.self.invariant.noted;
+      noted = after.noted;
     }
 
 pub returns-clause-waiting : goal.returns-clause-waiting

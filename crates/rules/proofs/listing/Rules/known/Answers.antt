@@ -6,56 +6,46 @@ use Rattle.rules.specs.Slots.{after_slot, present}
 use Rattle.slab.specs.Slab.{slab_len}
 use Rattle.rules.proofs.Settling.{all_settled}
 use Rattle.rules.proofs.Learning.{after_twice, still_cons, woken_clean, busy_after, each_misses}
-use Rattle.rules.proofs.Noting.{noted_shrinks, busy_shrinks, needs_after}
+use Rattle.rules.proofs.Noting.{busy_shrinks}
 use Rattle.rules.proofs.Counting.{length_present}
 use Rattle.rules.proofs.listing.Rules.known.Goals as goal
 
-pub wake-walked-requires-clause-room : goal.wake-walked-requires-clause-room
-wake-walked-requires-clause-room c =
+pub wake-requires-clause-room : goal.wake-requires-clause-room
+wake-requires-clause-room c =
     omega (arith, rw (← c.self.view_is) at c.requires, length_present c.self.inside.waiters.slots)
-
-pub count_walk-requires-clause-place : goal.count_walk-requires-clause-place
-count_walk-requires-clause-place c =
-    let fewer : slab_len c.wake-walked.new.waiters ≤ slab_len c.self.inside.waiters = omega (arith, c.wake-walked.ensures.balance, c.wake-walked.new.out.ok.0, c.args.out.now.ok.0, ap length c.wake-walked.ensures.learnt.is, length-append c.args.out.now.items c.wake-walked.ensures.learnt.said) in
-    omega (arith, c.self.invariant.used, c.self.invariant.place, fewer)
-
-pub count_walk-requires-clause-noted : goal.count_walk-requires-clause-noted
-count_walk-requires-clause-noted c =
-    let i = c.args.input.now in
-    noted_shrinks (after_slot i) (needs_after i) c.self.inside.places c.self.inside.waiters.slots c.wake-walked.new.waiters.slots c.wake-walked.ensures.shrinks c.self.invariant.noted
 
 pub invariant_of-self : goal.invariant_of-self
 invariant_of-self c =
     let i = c.args.input.now in
     let old = c.self.inside.waiters.slots in
-    let new = c.wake-walked.new.waiters.slots in
-    let after = c.wake-walked.ensures in
-    let fewer : slab_len c.wake-walked.new.waiters ≤ slab_len c.self.inside.waiters = omega (arith, c.wake-walked.ensures.balance, c.wake-walked.new.out.ok.0, c.args.out.now.ok.0, ap length c.wake-walked.ensures.learnt.is, length-append c.args.out.now.items c.wake-walked.ensures.learnt.said) in
+    let new = c.wake.new.waiters.slots in
+    let after = c.wake.ensures in
+    let fewer : slab_len c.wake.new.waiters ≤ slab_len c.self.inside.waiters = omega (arith, c.wake.ensures.balance, c.wake.new.out.ok.0, c.args.out.now.ok.0, ap length c.wake.ensures.learnt.is, length-append c.args.out.now.items c.wake.ensures.learnt.said) in
     record {
       used = omega (arith, c.self.invariant.used, fewer);
       has_place = rw after.capacity c.self.invariant.has_place;
-      place = rw c.count_walk.ensures.place c.self.invariant.place;
+      place = rw after.place c.self.invariant.place;
       busy = busy_shrinks (after_slot i) (λ o h. busy_after i o) old new after.shrinks c.self.invariant.busy;
-      noted = c.count_walk.ensures.noted;
+      noted = after.noted;
     }
 
 pub returns-clause-waiting : goal.returns-clause-waiting
 returns-clause-waiting c =
     let i = c.args.input.now in
-    let after = c.wake-walked.ensures in
-    rw (← c.self.view_is) (sym (all_settled (after_slot i) (after_twice i) refl (still_waiting i) refl (still_cons i) c.wake-walked.new.waiters.slots after.settled) ∙ after.learnt.still)
+    let after = c.wake.ensures in
+    rw (← c.self.view_is) (sym (all_settled (after_slot i) (after_twice i) refl (still_waiting i) refl (still_cons i) c.wake.new.waiters.slots after.settled) ∙ after.learnt.still)
 
 pub returns-clause-listed : goal.returns-clause-listed
 returns-clause-listed c =
     let i = c.args.input.now in
-    let learnt = c.wake-walked.ensures.learnt in
-    let all = ap (λ l. learnt.said ++ l) (woken_clean i c.wake-walked.new.waiters.slots c.wake-walked.ensures.settled) ∙ append-nil learnt.said in
+    let learnt = c.wake.ensures.learnt in
+    let all = ap (λ l. learnt.said ++ l) (woken_clean i c.wake.new.waiters.slots c.wake.ensures.settled) ∙ append-nil learnt.said in
     rw (← c.self.view_is) (record { said = learnt.said; is = learnt.is; all = subst (λ l. IsPermutation (woken i (present c.self.inside.waiters.slots)) l) all learnt.told })
 
 pub returns-clause-room : goal.returns-clause-room
 returns-clause-room c =
-    let fewer : slab_len c.wake-walked.new.waiters ≤ slab_len c.self.inside.waiters = omega (arith, c.wake-walked.ensures.balance, c.wake-walked.new.out.ok.0, c.args.out.now.ok.0, ap length c.wake-walked.ensures.learnt.is, length-append c.args.out.now.items c.wake-walked.ensures.learnt.said) in
-    rw (← c.self.view_is) (omega (arith, c.self.invariant.used, length_present c.self.inside.waiters.slots, length_present c.wake-walked.new.waiters.slots, fewer))
+    let fewer : slab_len c.wake.new.waiters ≤ slab_len c.self.inside.waiters = omega (arith, c.wake.ensures.balance, c.wake.new.out.ok.0, c.args.out.now.ok.0, ap length c.wake.ensures.learnt.is, length-append c.args.out.now.items c.wake.ensures.learnt.said) in
+    rw (← c.self.view_is) (omega (arith, c.self.invariant.used, length_present c.self.inside.waiters.slots, length_present c.wake.new.waiters.slots, fewer))
 
 pub returns-clause-each_missed : goal.returns-clause-each_missed
 returns-clause-each_missed c = rw (← c.self.view_is) (each_misses c.self.inside.waiters.slots c.self.invariant.busy)

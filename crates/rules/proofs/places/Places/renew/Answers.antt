@@ -1,6 +1,5 @@
-use Rattle.std.proofs.Common.{arith, ◌≡◌, ◌+◌, true, cond, is_some, sym, subst, ◌∙◌}
+use Rattle.std.proofs.Common.{arith, ◌≡◌, ◌+◌, true, cond, is_some, ◌∙◌}
 use Rattle.std.proofs.lemmas.List.Sums.{sum_by-take-le}
-use Rattle.rules.specs.Places.{IsNoted}
 use Rattle.rules.proofs.Noting.{count_next, slot_more, all_noted}
 use Rattle.rules.proofs.places.Places.renew.Goals as goal
 
@@ -21,4 +20,4 @@ loop-slot-preserved c =
 pub returns-clause-noted : goal.returns-clause-noted
 returns-clause-noted c =
     let slots = c.args.waiters.now.slots in
-    subst (λ p. IsNoted p slots) (sym c.self-2.view_is) (all_noted c.loop-slot.self slots c.loop-slot.slot (omega (arith, c.loop-slot-test.false, c.capacity-slot-end.ensures.slots)) c.loop-slot.invariant.0)
+    all_noted c.loop-slot.self slots c.loop-slot.slot (omega (arith, c.loop-slot-test.false, c.capacity-slots.ensures.slots)) c.loop-slot.invariant.0
