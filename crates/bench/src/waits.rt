@@ -12,6 +12,9 @@ use values::key::Key;
 // The array whose elements are waited for, above the numbers of all scalars.
 const ARRAY: u64 = 1 << 40;
 
+// The first of the data that are used again and again, above the numbers of all others.
+const AGAIN: u64 = (1 << 41) + 100_003;
+
 fn element(number: u64) -> Input {
     Input::Element(ARRAY, Key::Number((number & 0xffff_ffff) as i64))
 }
@@ -84,6 +87,39 @@ fn time_size(rt: &(impl Clock + Print), alloc: Global, parts: u64, count: u64) -
     )
 }
 
+/// Adds an item for each of 64 data in turn, and tells it.
+fn use_again(
+    alloc: Global,
+    rules: &mut Rules,
+    times: u64,
+    out: &mut Vec<u64>,
+) -> Result<(), AllocError> {
+    for turn in 0..times {
+        let input = Input::Whole(AGAIN.wrapping_add(turn % 64));
+        let mut inputs = SmallVec::new(alloc);
+        inputs.push(Input::Whole(AGAIN.wrapping_add(turn % 64)))?;
+        rules.add(inputs, AGAIN.wrapping_add(turn))?;
+        tell(rules, &input, out);
+    }
+    Ok(())
+}
+
+/// Prints the time of a million adds and knowns of the same few data while so many items wait on others.
+fn time_again(rt: &(impl Clock + Print), alloc: Global, count: u64) -> io::Result<()> {
+    let mut out = Vec::with_capacity(alloc, 2_200_000)?;
+    let mut rules = Rules::new(alloc);
+    add_all(alloc, &mut rules, count)?;
+    let start = Instant::now(rt)?;
+    use_again(alloc, &mut rules, 1_000_000, &mut out)?;
+    watch::tell(
+        rt,
+        start,
+        "adds and knowns of 64 data, beside so many that wait",
+        1,
+        count,
+    )
+}
+
 /// Prints the times of a million items, 1,000 to 1,000,000 of them in each value. All are kept, so that each size
 /// touches as much memory for the first time.
 pub fn time(rt: &(impl Clock + Print), alloc: Global) -> io::Result<()> {
@@ -94,6 +130,9 @@ pub fn time(rt: &(impl Clock + Print), alloc: Global) -> io::Result<()> {
         (1, 1_000_000),
     ] {
         time_size(rt, alloc, parts, count)?;
+    }
+    for count in [1_000u64, 10_000, 100_000, 1_000_000] {
+        time_again(rt, alloc, count)?;
     }
     Ok(())
 }
