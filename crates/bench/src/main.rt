@@ -5,6 +5,7 @@ mod data;
 mod holes;
 mod queue;
 mod tokens;
+mod trees;
 mod waits;
 mod watch;
 
@@ -12,10 +13,11 @@ use std::{env, io};
 
 fn main(rt: HostRuntime) -> io::Result<()> {
     let Some(word) = env::args(&rt)?.nth(1) else {
-        return println!(rt; "lexer pool queue rules store");
+        return println!(rt; "lexer parsing pool queue rules store");
     };
     match word.as_str() {
         "lexer" => tokens::time(&rt, rt.alloc()),
+        "parsing" => trees::time(&rt, rt.alloc()),
         "pool" => holes::time(&rt, rt.alloc()),
         "queue" => queue::time(&rt, rt.alloc()),
         "rules" => waits::time(&rt, rt.alloc()),

@@ -1,5 +1,5 @@
 -- How many numbers the nodes of a tree take: at most two for each token.
-use Rattle.std.specs.Prelude.{◌*◌, ◌^◌, ◌<◌, Ok, map, sum_by}
+use Rattle.std.specs.Prelude.{◌*◌, Ok, map, sum_by}
 use Rattle.std.proofs.Common.{◌≡◌, ℕ, zero, suc, ◌+◌, ◌≤◌, length, List, [], ◌∷◌, Option, Some, None, Bool, true, false, refl, ap, sym, ◌∙◌, arith}
 use Rattle.std.proofs.lemmas.List.{length-map}
 use Rattle.std.proofs.lemmas.List.Sums.{sum_by-cons}
@@ -313,7 +313,7 @@ module_within s t u (string is) = (the_fits Kind.String).fits s t u is
 module_fits : Fits (λ t. 2) IsModule
 module_fits = record { fits = module_within }
 
-part_fits : (depth : ℕ) → Fits part_size (IsPart depth)
+pub part_fits : (depth : ℕ) → Fits part_size (IsPart depth)
 part_fits depth = record { fits = fits }
   where
     fits : (s : Place) (p : Part) (u : Place) → IsPart depth s p u → part_size p + 2 * length u.rest ≤ 2 * length s.rest
@@ -331,7 +331,7 @@ part_fits depth = record { fits = fits }
 pub script_fits : (depth : ℕ) (ts : List Lexeme) (tree : Tree) → IsScript depth ts tree → tree_size tree ≤ 2 * length ts
 script_fits depth ts tree (u, parts, end) = let p = (many_fits (part_fits depth)).fits (record { before = 0; rest = ts }) tree u parts in omega arith
 
-rising : (least most : ℕ) (items : List Item) → SpansRise least most items → least ≤ most → length items + least ≤ most
+pub rising : (least most : ℕ) (items : List Item) → SpansRise least most items → least ≤ most → length items + least ≤ most
 rising least most [] rise le = omega arith
 rising least most (x ∷ items) (from, some, to, more) le = let rest = rising (place x).to most items more to in omega arith
 
@@ -344,11 +344,3 @@ tokens_fit bytes ts lexed =
     let all = rising 0 (length bytes) (items_from 0 bytes) (spans_rise bytes) (omega arith) in
     let many : length (items_from 0 bytes) ≡ length ts = count ts (items_from 0 bytes) (sym (only_tokens 0 bytes (map Ok ts) lexed)) in
     omega arith
-
--- the numbers of a text's tree
-pub text_fits : (bytes : List ℕ) (ts : List Lexeme) (tree : Tree) → Tokens bytes (map Ok ts) → IsScript 64 ts tree → tree_size tree ≤ 2 * length bytes
-text_fits bytes ts tree lexed is = let a = script_fits 64 ts tree is in let b = tokens_fit bytes ts lexed in omega arith
-
--- they stay below 2^32 for a text that is not too long
-pub numbers_fit : (bytes : List ℕ) (ts : List Lexeme) (tree : Tree) → length bytes ≤ 1048576 → Tokens bytes (map Ok ts) → IsScript 64 ts tree → tree_size tree + 1 < 2 ^ 32
-numbers_fit bytes ts tree short lexed is = let a = text_fits bytes ts tree lexed is in omega arith

@@ -2,7 +2,8 @@
 use Rattle.std.specs.Prelude.{◌≡◌, ℕ, List, ◌++◌, map, Result, Ok, Err, Option, Some, None, option_map, Vec, Box}
 use Rattle.syntax_trees.specs.declared.tree.Stmt.{Stmt}
 use Rattle.syntax_trees.specs.declared.tree.Block.{Block}
-use Rattle.syntax_trees.specs.Tree.{Body, Statement}
+use Rattle.syntax_trees.specs.Tree.{Body, Statement, Tree}
+use Rattle.syntax_trees.specs.Numbered.{numbered}
 use Rattle.syntax_trees.specs.View.{body_view, statement_view}
 use Rattle.syntax.specs.declared.stop.Stop.{Stop}
 use Rattle.syntax.specs.declared.stop.Stop.TheVariants.{AtEnd, Unexpected, TooNested, Memory}
@@ -23,6 +24,11 @@ Fails Memory read = Unit {0}
 abbrev pub Gives : {X A : Type 0} → (X → A) → Result X Stop → Place → Read A → Type 0
 Gives view (Ok x) u read = read ≡ got (view x) u
 Gives view (Err f) u read = Fails f read
+
+-- a script that a function returned is what reading gives, numbered from 1 on, unless memory ran out
+abbrev pub GivesNumbered : {X : Type 0} → (X → Tree) → Result X Stop → Place → Read Tree → Type 0
+GivesNumbered view (Ok x) u read = (tree : Tree) × (read ≡ got tree u) × (view x ≡ numbered 1 tree)
+GivesNumbered view (Err f) u read = Fails f read
 
 -- what a function appended to two lists is what reading gives, unless memory ran out
 abbrev pub Appends : {X A B : Type 0} → Result X Stop → Place → Read (List (A × B)) → List A → List A → List B → List B → Type 0

@@ -18,7 +18,6 @@ use crate::tokens::fault_of;
 use lexer::token::Span;
 use std::alloc::Allocator;
 use syntax_trees::tree::Script;
-use tree_numbers::number;
 
 /// How many bytes a text may have.
 pub const MAX_SOURCE: usize = 1_048_576;
@@ -45,7 +44,7 @@ fn answer(stop: Stop, src: &[u8]) -> ParseFault
 }
 
 /// The script of a text.
-#[tactic(auto, using(crate::proofs::scripts::Texts::begun_stops, crate::proofs::scripts::Texts::begun_faulty, crate::proofs::scripts::Texts::long_refuses, crate::proofs::scripts::Texts::begun_fits, crate::proofs::scripts::Texts::begun_reads))]
+#[tactic(auto, using(crate::proofs::scripts::Texts::begun_stops, crate::proofs::scripts::Texts::begun_faulty, crate::proofs::scripts::Texts::long_refuses, crate::proofs::scripts::Parts::begun_short, crate::proofs::scripts::Texts::begun_reads))]
 pub fn parse<A: Allocator + Clone>(alloc: A, src: &[u8]) -> Result<Script<A>, ParseFault>
     ensures read { IfOk result (λ script. Reads src.now (tree_of script)) }
     ensures refused { IfErr result (λ fault. Refuses src.now fault) }
@@ -57,15 +56,12 @@ pub fn parse<A: Allocator + Clone>(alloc: A, src: &[u8]) -> Result<Script<A>, Pa
         }));
     }
     let mut cursor = Cursor::new(src);
-    let mut script = match script(&alloc, &mut cursor, MAX_NESTING) {
+    let script = match script(&alloc, &mut cursor, MAX_NESTING) {
         Ok(script) => script,
         Err(stop) => return Err(answer(stop, src)),
     };
     match fault_of(src) {
         Some(fault) => Err(ParseFault::Lex(fault)),
-        None => {
-            number(&mut script);
-            Ok(script)
-        }
+        None => Ok(script),
     }
 }

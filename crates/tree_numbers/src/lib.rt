@@ -7,4 +7,4 @@ mod expression;
 mod script;
 mod statement;
 
-pub use script::number;
+pub use script::{number, part};

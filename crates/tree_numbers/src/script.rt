@@ -23,8 +23,8 @@ fn function<A: Allocator>(function: &mut Function<A>, from: u32) -> u32
     block(&mut function.body, next)
 }
 
-/// Numbers a part of a script. Imports have no number.
-fn part<A: Allocator>(item: &mut Item<A>, from: u32) -> u32
+/// Numbers a part of a script from a number on, in reading order, and answers with the next one. Imports have no number.
+pub fn part<A: Allocator>(item: &mut Item<A>, from: u32) -> u32
     requires { from + part_size (part_of item.old) < 2 ^ 32 }
     ensures numbered { part_of item.new ≡ numbered_part from (part_of item.old) }
     ensures next { result ≡ from + part_size (part_of item.old) }

@@ -1,11 +1,11 @@
 -- What the parts of a text's reading say of the text.
-use Rattle.std.proofs.Common.{◌≡◌, ℕ, ◌+◌, ◌^◌, ◌<◌, ◌≤◌, length, List, [], ◌∷◌, ◌++◌, map, refl, ap, sym, ◌∙◌, subst, inl, inr}
+use Rattle.std.proofs.Common.{◌≡◌, ℕ, ◌<◌, ◌≤◌, length, List, [], ◌∷◌, ◌++◌, map, refl, ap, sym, ◌∙◌, subst, inl, inr}
 use Rattle.std.specs.Prelude.{Ok, Err, Option, Some, None}
 use Rattle.lexer.specs.Items.{Lexeme}
 use Rattle.lexer.specs.Tokens.{Tokens}
 use Rattle.lexer.specs.declared.fault.LexFault.{LexFault}
 use Rattle.syntax_trees.specs.Tree.{Tree}
-use Rattle.syntax_trees.specs.Numbered.{numbered, tree_size}
+use Rattle.syntax_trees.specs.Numbered.{numbered}
 use Rattle.syntax_trees.specs.Reads.{Reads}
 use Rattle.syntax_trees.specs.Rules.{Place}
 use Rattle.syntax.specs.declared.stop.Stop.{Stop}
@@ -19,7 +19,6 @@ use Rattle.syntax.specs.Readers.{refused, got, start}
 use Rattle.syntax.specs.Reading.{read_script}
 use Rattle.syntax.specs.Refusals.{HasNone, Refuses}
 use Rattle.syntax.proofs.scripts.Scripts.{script_sound}
-use Rattle.syntax.proofs.Sizes.{numbers_fit}
 use Rattle.syntax.proofs.stopping.Viable.{stops_first}
 use Rattle.syntax.proofs.scripts.Trees.{whole, reads_text, long_text, refused_text, faulty_text}
 
@@ -41,9 +40,6 @@ fault_refuses bytes ts f tree u short lexed read = (short, faulty_text bytes ts 
 
 pub long_refuses : (bytes : List ℕ) → 1048576 < length bytes → Refuses bytes (Fault.TooLong (record { from = 1048576; to = 1048576 }))
 long_refuses bytes long = (long, long_text bytes long, refl)
-
-pub text_fits : (bytes : List ℕ) (ts : List Lexeme) (tree : Tree) (u : Place) → length bytes ≤ 1048576 → Tokens bytes (map Ok ts ++ []) → read_script 64 (start ts) ≡ got tree u → tree_size tree + 1 < 2 ^ 32
-text_fits bytes ts tree u short lexed read = numbers_fit bytes ts tree short (whole bytes ts lexed) (script_sound 64 ts tree u read).0
 
 pub text_reads : (bytes : List ℕ) (ts : List Lexeme) (tree : Tree) (u : Place) (t : Tree) → length bytes ≤ 1048576 → Tokens bytes (map Ok ts ++ []) → read_script 64 (start ts) ≡ got tree u
     → t ≡ numbered 1 tree → Reads bytes t
@@ -67,10 +63,6 @@ pub begun_faulty : (bytes : List ℕ) (s : Place) (end : Option LexFault) (f : L
     → EndsAs bytes end → end ≡ Some f → Refuses bytes (Fault.Lex f)
 begun_faulty bytes s end f tree u short begun read ends is =
     fault_refuses bytes begun.0 f tree u short (ended_as bytes s end (Some f) begun ends is) (sym (ap (read_script 64) begun.3) ∙ read)
-
-pub begun_fits : (bytes : List ℕ) (s : Place) (end : Option LexFault) (tree : Tree) (u : Place) → length bytes ≤ 1048576 → Begins bytes s → read_script 64 s ≡ got tree u
-    → EndsAs bytes end → end ≡ None → tree_size tree + 1 < 2 ^ 32
-begun_fits bytes s end tree u short begun read ends is = text_fits bytes begun.0 tree u short (ended_as bytes s end None begun ends is) (sym (ap (read_script 64) begun.3) ∙ read)
 
 pub begun_reads : (bytes : List ℕ) (s : Place) (end : Option LexFault) (tree : Tree) (u : Place) (t : Tree) → length bytes ≤ 1048576 → Begins bytes s → read_script 64 s ≡ got tree u
     → EndsAs bytes end → end ≡ None → t ≡ numbered 1 tree → Reads bytes t
