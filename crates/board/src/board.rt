@@ -193,6 +193,42 @@ impl Board {
         Ok(())
     }
 
+    /// Ends the item on the worker as `end` does, where the work is known to be its own: entry and answers are not looked at again.
+    ///
+    /// # Errors
+    ///
+    /// With the work that was done: `Ended` after a fault or at the limit; `Memory`.
+    pub fn end_own(&mut self, worker: u8, done: Done) -> Result<(), (Done, Refusal)>
+        requires worker { IsWorker worker }
+        requires own { IsOwn self.old worker done }
+        ensures accepted { OnOk result (Accepts self.old (Machine.End worker done.item) self.new) }
+        ensures refused { IfErr result (λ e. RefusesEnd self.old worker done e.1) }
+        ensures handed_back { IfErr result (λ e. e.0 ≡ done) }
+        ensures unchanged { OnErr result (self.new ≡ self.old) }
+    {
+        if !self.is_going() {
+            return Err((done, Refusal::Ended));
+        }
+        let item = done.item();
+        let Some(job) = self.core.running_job(worker, item) else {
+            return Err((done, Refusal::NotYours));
+        };
+        let Ok(()) = self.core.end(
+            &self.program,
+            self.most_names,
+            item,
+            job,
+            &done,
+            &mut self.known,
+        )
+        else {
+            return Err((done, Refusal::Memory));
+        };
+        self.history.push_reserved(Event::End { worker, item });
+        self.answers = done.into_list();
+        Ok(())
+    }
+
     /// Gives the item back: it runs no more. Takes no memory.
     ///
     /// # Errors

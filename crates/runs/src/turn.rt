@@ -131,7 +131,7 @@ fn hand_in(board: &mut Board, worker: u8, done: Done) -> Result<bool, AllocError
     ensures ends { IfOk result (λ taken. MatchBool taken (Accepts board.old (End worker done.item) board.new) ((board.new ≡ board.old) × ¬ IsGoing board.old)) }
     ensures unchanged { OnErr result (board.new ≡ board.old) }
 {
-    match board.end(worker, done) {
+    match board.end_own(worker, done) {
         Ok(()) => Ok(true),
         Err((done, refusal)) => {
             drop(done);
