@@ -1,11 +1,9 @@
 -- Room is kept for items that wait or run.
-use Rattle.std.proofs.Common.{◌≡◌, ℕ, zero, suc, ◌+◌, ◌-◌, ◌<◌, ◌≤◌, Bool, true, false, ◌&&◌, List, [], ◌∷◌, refl, sym, ap, ◌∙◌, subst, Option, Some, length, if◌then◌else◌, arith}
+use Rattle.std.proofs.Common.{◌≡◌, ℕ, zero, suc, ◌+◌, ◌-◌, ◌<◌, ◌≤◌, Bool, true, false, ◌&&◌, List, [], ◌∷◌, refl, sym, ap, ◌∙◌, subst, length, arith}
 use Rattle.std.specs.Prelude.{◌^◌, vec_capacity}
 use Rattle.replayed.specs.Ending.{job_kind}
-use Rattle.replayed.specs.Fields.{Job, Mark, Ready, Row, Running, row_of}
+use Rattle.replayed.specs.Fields.{Job, Ready, Row, Running}
 use Rattle.replayed.specs.Marking.{kind_eq, mark_at}
-use Rattle.replayed.proofs.Rows.{no_row}
-use Rattle.replayed.proofs.Tests.{none_some}
 use Rattle.task_code.specs.Code.{Code, Control, Kind, Leaf, blank_entry, entry, nth}
 use Rattle.work_queue.specs.Both.{Both, of, with_changed}
 use Rattle.work_queue.specs.Waiting.{with_put, without}
@@ -14,6 +12,8 @@ use Rattle.board_code.specs.Tables.{queue_kind}
 use Rattle.board_frames.specs.View.{rows_view}
 use Rattle.board_items.specs.Settled.{one_more, one_less}
 use Rattle.board_items.specs.Room.{IsRoomy, apart_in, is_apart}
+use Rattle.board_items.proofs.Apart.{marked_at}
+use Rattle.board_items.proofs.Progress.{Fits, counted_of, fits_of, less_roomy, one_counted, one_if, put_of, room_of, roomy_of}
 use Rattle.board.specs.Rows.{IsReady, RunsOn}
 use Rattle.board_items.specs.declared.items.Counts.{Counts}
 use Rattle.board_items.specs.declared.items.Items.{Items}
@@ -26,23 +26,6 @@ nth_past d (x ∷ xs) (suc n) h = nth_past d xs n (omega (arith, h))
 pub entry_past : (C : Code) (n : ℕ) → length C.entries ≤ n → entry C n ≡ blank_entry
 entry_past C n h = nth_past blank_entry C.entries n h
 
-abbrev one_if : Bool → ℕ
-one_if b = if b then 1 else 0
-
-pub apart_marked : (C : Code) (k : Kind) (rows : List Row) (j : ℕ) (r : Row) (m : Mark) → row_of rows (suc j) ≡ Some r → apart_in C k (mark_at rows (suc j) m) + one_if (is_apart r.mark && kind_eq k (job_kind C r.job)) ≡ apart_in C k rows + one_if (is_apart m && kind_eq k (job_kind C r.job))
-apart_marked C k [] j r m h = none_some h
-apart_marked C k (q ∷ rows) zero r m h =
-    let e : r ≡ q = (let p : ◌≡◌ {A = Option Row} (Some q) (Some r) = h in cc) in
-    swap (one_if (is_apart m && kind_eq k (job_kind C q.job))) (apart_in C k rows) (one_if (is_apart r.mark && kind_eq k (job_kind C r.job))) (one_if (is_apart q.mark && kind_eq k (job_kind C q.job))) (one_if (is_apart m && kind_eq k (job_kind C r.job))) (λ i. one_if (is_apart (e i).mark && kind_eq k (job_kind C (e i).job))) (λ i. one_if (is_apart m && kind_eq k (job_kind C (e i).job)))
-  where
-    swap : (a b c d f : ℕ) → c ≡ d → f ≡ a → (a + b) + c ≡ (d + b) + f
-    swap a b c d f h g = omega arith
-apart_marked C k (q ∷ rows) (suc j) r m h =
-    behind (one_if (is_apart q.mark && kind_eq k (job_kind C q.job))) (apart_in C k (mark_at rows (suc j) m)) (one_if (is_apart r.mark && kind_eq k (job_kind C r.job))) (apart_in C k rows) (one_if (is_apart m && kind_eq k (job_kind C r.job))) (apart_marked C k rows j r m h)
-  where
-    behind : (z a b c d : ℕ) → a + b ≡ c + d → (z + a) + b ≡ (z + c) + d
-    behind z a b c d h = omega arith
-
 one_most : (b : Bool) → one_if b ≤ 1
 one_most true = omega arith
 one_most false = omega arith
@@ -54,133 +37,40 @@ apart_few C k (r ∷ rows) =
     let b = apart_few C k rows in
     omega arith
 
--- one that begins
-module _ (C : Code) (rows : List Row) (n w : ℕ) (j : Job) where
-  begun_apart : IsReady rows n j → (k : Kind) → apart_in C k (mark_at rows n (Running w)) ≡ apart_in C k rows + one_if (kind_eq k (job_kind C j))
-  begun_apart h k = at n h
-    where
-      at : (n : ℕ) → IsReady rows n j → apart_in C k (mark_at rows n (Running w)) ≡ apart_in C k rows + one_if (kind_eq k (job_kind C j))
-      at zero h = no_row rows (record { job = j; mark = Ready }) h
-      at (suc m) h = let e = apart_marked C k rows m (record { job = j; mark = Ready }) (Running w) h in omega arith
+-- one more of a kind, and one less in the queue
+more_of : (k l : Kind) (a : Counts) (m : ℕ) → m ≤ counted_of k a + one_if (kind_eq k l) → m ≤ 2 ^ 64 - 1 → m ≤ counted_of k (one_more (queue_kind l) a)
+more_of Control Control a m h f = omega arith
+more_of Control Leaf a m h f = omega arith
+more_of Leaf Control a m h f = omega arith
+more_of Leaf Leaf a m h f = omega arith
 
-  back_apart : RunsOn rows w n j → (k : Kind) → apart_in C k (mark_at rows n Ready) + one_if (kind_eq k (job_kind C j)) ≡ apart_in C k rows
-  back_apart h k = at n h
-    where
-      at : (n : ℕ) → RunsOn rows w n j → apart_in C k (mark_at rows n Ready) + one_if (kind_eq k (job_kind C j)) ≡ apart_in C k rows
-      at zero h = no_row rows (record { job = j; mark = Running w }) h
-      at (suc m) h = let e = apart_marked C k rows m (record { job = j; mark = Running w }) Ready h in omega arith
+taken_of : (k l : Kind) (x : Queued) (q : Both) → room_of k (with_changed (queue_kind l) (without x) q) ≡ room_of k q + one_if (kind_eq k l)
+taken_of Control Control x q = refl
+taken_of Control Leaf x q = omega arith
+taken_of Leaf Control x q = omega arith
+taken_of Leaf Leaf x q = refl
 
 -- an item that begins keeps room for itself
 pub roomy_begun : (C : Code) (old new : Items) (n w : ℕ) (j : Job) (x : Queued) → IsRoomy C old → IsReady (rows_view old.rows.items) n j → rows_view new.rows.items ≡ mark_at (rows_view old.rows.items) n (Running w) → new.queue ≡ with_changed (queue_kind (job_kind C j)) (without x) old.queue → new.apart ≡ one_more (queue_kind (job_kind C j)) old.apart → 0 < vec_capacity new.newly → length (rows_view old.rows.items) + 1 ≤ 2 ^ 64 - 1 → IsRoomy C new
-roomy_begun C old new n w j x r ready rows queue apart noted few = by (job_kind C j) refl (begun_apart C (rows_view old.rows.items) n w j ready)
+roomy_begun C old new n w j x room ready rows queue apart noted few = roomy_of C new fits noted
   where
-    by : (k : Kind) → job_kind C j ≡ k → ((l : Kind) → apart_in C l (mark_at (rows_view old.rows.items) n (Running w)) ≡ apart_in C l (rows_view old.rows.items) + one_if (kind_eq l (job_kind C j))) → IsRoomy C new
-    by Control e f =
-        let a = f Control ∙ ap (λ (k : Kind). apart_in C Control (rows_view old.rows.items) + one_if (kind_eq Control k)) e in
-        let b = f Leaf ∙ ap (λ (k : Kind). apart_in C Leaf (rows_view old.rows.items) + one_if (kind_eq Leaf k)) e in
-        let ra = ap (apart_in C Control) rows in
-        let rb = ap (apart_in C Leaf) rows in
-        let q = queue ∙ ap (λ (k : Kind). with_changed (queue_kind k) (without x) old.queue) e in
-        let p = apart ∙ ap (λ (k : Kind). one_more (queue_kind k) old.apart) e in
-        let fa = apart_few C Control (rows_view old.rows.items) in
-        let qc = ap (λ (z : Both). z.control.room) q in
-        let ql = ap (λ (z : Both). z.leaf.room) q in
-        let pc = ap (λ (z : Counts). z.controls) p in
-        let pl = ap (λ (z : Counts). z.leaves) p in
-        let o1 = r.controls_counted in
-        let o2 = r.leaves_counted in
-        let o3 = r.controls_fit in
-        let o4 = r.leaves_fit in
-        record {
-          controls_counted = omega arith;
-          leaves_counted = omega arith;
-          controls_fit = omega arith;
-          leaves_fit = omega arith;
-          noted = noted;
-        }
-    by Leaf e f =
-        let a = f Control ∙ ap (λ (k : Kind). apart_in C Control (rows_view old.rows.items) + one_if (kind_eq Control k)) e in
-        let b = f Leaf ∙ ap (λ (k : Kind). apart_in C Leaf (rows_view old.rows.items) + one_if (kind_eq Leaf k)) e in
-        let ra = ap (apart_in C Control) rows in
-        let rb = ap (apart_in C Leaf) rows in
-        let q = queue ∙ ap (λ (k : Kind). with_changed (queue_kind k) (without x) old.queue) e in
-        let p = apart ∙ ap (λ (k : Kind). one_more (queue_kind k) old.apart) e in
-        let fa = apart_few C Leaf (rows_view old.rows.items) in
-        let qc = ap (λ (z : Both). z.control.room) q in
-        let ql = ap (λ (z : Both). z.leaf.room) q in
-        let pc = ap (λ (z : Counts). z.controls) p in
-        let pl = ap (λ (z : Counts). z.leaves) p in
-        let o1 = r.controls_counted in
-        let o2 = r.leaves_counted in
-        let o3 = r.controls_fit in
-        let o4 = r.leaves_fit in
-        record {
-          controls_counted = omega arith;
-          leaves_counted = omega arith;
-          controls_fit = omega arith;
-          leaves_fit = omega arith;
-          noted = noted;
-        }
+    fits : (k : Kind) → Fits C k new
+    fits k =
+        let a = marked_at C k (rows_view old.rows.items) n (record { job = j; mark = Ready }) (Running w) ready in
+        let d = ap (apart_in C k) rows in
+        let f = fits_of C old room k in
+        let fc = f.counted in
+        let ff = f.fits in
+        let l = apart_few C k (rows_view old.rows.items) in
+        let q = ap (room_of k) queue ∙ taken_of k (job_kind C j) x old.queue in
+        let o = one_most (kind_eq k (job_kind C j)) in
+        let c = more_of k (job_kind C j) old.apart (apart_in C k (rows_view new.rows.items)) (omega arith) (omega arith) in
+        record { counted = subst (λ (z : Counts). apart_in C k (rows_view new.rows.items) ≤ counted_of k z) (sym apart) c; fits = omega arith }
 
 -- one that is given back has room
 pub back_fits : (C : Code) (old : Items) (n w : ℕ) (j : Job) → IsRoomy C old → RunsOn (rows_view old.rows.items) w n j → 0 < (of (queue_kind (job_kind C j)) old.queue).room
-back_fits C old n w j r runs = by (job_kind C j) refl (back_apart C (rows_view old.rows.items) n w j runs)
-  where
-    by : (k : Kind) → job_kind C j ≡ k → ((l : Kind) → apart_in C l (mark_at (rows_view old.rows.items) n Ready) + one_if (kind_eq l (job_kind C j)) ≡ apart_in C l (rows_view old.rows.items)) → 0 < (of (queue_kind (job_kind C j)) old.queue).room
-    by Control e f =
-        let a = ap (λ (k : Kind). apart_in C Control (mark_at (rows_view old.rows.items) n Ready) + one_if (kind_eq Control k)) (sym e) ∙ f Control in
-        let o = r.controls_fit in
-        subst (λ (k : Kind). 0 < (of (queue_kind k) old.queue).room) (sym e) (omega arith)
-    by Leaf e f =
-        let a = ap (λ (k : Kind). apart_in C Leaf (mark_at (rows_view old.rows.items) n Ready) + one_if (kind_eq Leaf k)) (sym e) ∙ f Leaf in
-        let o = r.leaves_fit in
-        subst (λ (k : Kind). 0 < (of (queue_kind k) old.queue).room) (sym e) (omega arith)
+back_fits C old n w j room runs = one_counted C old n (record { job = j; mark = Running w }) runs refl room
 
 pub roomy_back : (C : Code) (old new : Items) (n w : ℕ) (j : Job) (x : Queued) → IsRoomy C old → RunsOn (rows_view old.rows.items) w n j → rows_view new.rows.items ≡ mark_at (rows_view old.rows.items) n Ready → new.queue ≡ with_changed (queue_kind (job_kind C j)) (with_put x) old.queue → new.apart ≡ one_less (queue_kind (job_kind C j)) old.apart → 0 < vec_capacity new.newly → IsRoomy C new
-roomy_back C old new n w j x r runs rows queue apart noted = by (job_kind C j) refl (back_apart C (rows_view old.rows.items) n w j runs)
-  where
-    by : (k : Kind) → job_kind C j ≡ k → ((l : Kind) → apart_in C l (mark_at (rows_view old.rows.items) n Ready) + one_if (kind_eq l (job_kind C j)) ≡ apart_in C l (rows_view old.rows.items)) → IsRoomy C new
-    by Control e f =
-        let a = ap (λ (k : Kind). apart_in C Control (mark_at (rows_view old.rows.items) n Ready) + one_if (kind_eq Control k)) (sym e) ∙ f Control in
-        let b = ap (λ (k : Kind). apart_in C Leaf (mark_at (rows_view old.rows.items) n Ready) + one_if (kind_eq Leaf k)) (sym e) ∙ f Leaf in
-        let ra = ap (apart_in C Control) rows in
-        let rb = ap (apart_in C Leaf) rows in
-        let q = queue ∙ ap (λ (k : Kind). with_changed (queue_kind k) (with_put x) old.queue) e in
-        let p = apart ∙ ap (λ (k : Kind). one_less (queue_kind k) old.apart) e in
-        let qc = ap (λ (z : Both). z.control.room) q in
-        let ql = ap (λ (z : Both). z.leaf.room) q in
-        let pc = ap (λ (z : Counts). z.controls) p in
-        let pl = ap (λ (z : Counts). z.leaves) p in
-        let o1 = r.controls_counted in
-        let o2 = r.leaves_counted in
-        let o3 = r.controls_fit in
-        let o4 = r.leaves_fit in
-        record {
-          controls_counted = omega arith;
-          leaves_counted = omega arith;
-          controls_fit = omega arith;
-          leaves_fit = omega arith;
-          noted = noted;
-        }
-    by Leaf e f =
-        let a = ap (λ (k : Kind). apart_in C Control (mark_at (rows_view old.rows.items) n Ready) + one_if (kind_eq Control k)) (sym e) ∙ f Control in
-        let b = ap (λ (k : Kind). apart_in C Leaf (mark_at (rows_view old.rows.items) n Ready) + one_if (kind_eq Leaf k)) (sym e) ∙ f Leaf in
-        let ra = ap (apart_in C Control) rows in
-        let rb = ap (apart_in C Leaf) rows in
-        let q = queue ∙ ap (λ (k : Kind). with_changed (queue_kind k) (with_put x) old.queue) e in
-        let p = apart ∙ ap (λ (k : Kind). one_less (queue_kind k) old.apart) e in
-        let qc = ap (λ (z : Both). z.control.room) q in
-        let ql = ap (λ (z : Both). z.leaf.room) q in
-        let pc = ap (λ (z : Counts). z.controls) p in
-        let pl = ap (λ (z : Counts). z.leaves) p in
-        let o1 = r.controls_counted in
-        let o2 = r.leaves_counted in
-        let o3 = r.controls_fit in
-        let o4 = r.leaves_fit in
-        record {
-          controls_counted = omega arith;
-          leaves_counted = omega arith;
-          controls_fit = omega arith;
-          leaves_fit = omega arith;
-          noted = noted;
-        }
+roomy_back C old new n w j x room runs rows queue apart noted =
+    less_roomy C old new n (record { job = j; mark = Running w }) Ready runs refl refl rows room apart (λ k. let e = ap (room_of k) queue ∙ put_of k (job_kind C j) x old.queue in omega arith) noted

@@ -1,5 +1,5 @@
 -- One item more is settled, where there is room.
-use Rattle.std.proofs.Common.{◌≡◌, ◌⊎◌, inl, inr, ◌∙◌, ℕ, zero, suc, ◌+◌, ◌-◌, ◌<◌, ◌≤◌, Bool, true, false, List, [], ◌∷◌, ◌++◌, length, map, append_assoc, get_or, take, refl, sym, ap, subst, arith, length-append, Option, Some}
+use Rattle.std.proofs.Common.{◌≡◌, ◌⊎◌, inl, inr, ◌∙◌, ℕ, zero, suc, ◌+◌, ◌-◌, ◌<◌, ◌≤◌, Bool, true, false, ◌&&◌, List, [], ◌∷◌, ◌++◌, length, map, append_assoc, get_or, take, refl, sym, ap, subst, arith, length-append, Option, Some}
 use Rattle.std.specs.Prelude.{ℤ, if◌then◌else◌, vec_capacity, vec_len, IsPermutation}
 use Rattle.std.specs.List.{filter}
 use Rattle.std.proofs.lemmas.List.Sorted.{IsPermutation-map}
@@ -20,15 +20,16 @@ use Rattle.board_code.specs.Tables.{queue_kind}
 use Rattle.board_frames.specs.View.{rows_view}
 use Rattle.work_queue.specs.Both.{Both, of, with_changed}
 use Rattle.work_queue.specs.Waiting.{with_put}
+use Rattle.work_queue.specs.declared.entry.Entry.{Entry}
 use Rattle.board_data.specs.Wanted.{FewSlots}
 use Rattle.board_items.specs.Ended.{AreSettled, AreShort, AreToSettle, IsSeen, can_begin, missed_at, misses, misses_first, needs_of, numbers_behind, row_misses, runs_so}
 use Rattle.board_items.specs.Progress.{AreOld, CanFinish, Progress, jobs_behind}
 use Rattle.board_items.specs.Room.{AreSpare, IsRoomy, apart_in, is_apart}
-use Rattle.board_items.specs.Settled.{IsReady, IsWaiting, Settles, one_less}
+use Rattle.board_items.specs.Settled.{IsWaiting, Settles, one_less}
 use Rattle.board_items.specs.View.{queue_view, waiter_view, waiters_view}
 use Rattle.board_items.specs.declared.items.Counts.{Counts}
 use Rattle.board_items.specs.declared.items.Items.{Items}
-use Rattle.board_items.proofs.Apart.{counts_apart, counts_not, counts_other, marked_at}
+use Rattle.board_items.proofs.Apart.{counts_apart, counts_not, marked_at}
 use Rattle.dataflow.proofs.Lists.{in_left, in_right, in_split}
 use Rattle.rules.specs.declared.input.Input.{Input}
 use Rattle.smallvec.specs.SmallVec.{SmallVec}
@@ -80,63 +81,99 @@ waits_still n newly rows (suc j) r h w d e =
     (λ t. absurd (d (nat_sound (suc j) n t)))
     (λ f. choose (λ (x : Mark). x ≡ Waiting) (is_one (suc j) newly) Ready r.mark (λ t. absurd (e (one_in (suc j) newly t))) (λ g. w)))
 
--- room in the queue, and the count, where one item more is ready
-module _ (C : Code) (old new : Items) (m : ℕ) (p : ℤ) (r : Row) (there : row_of (rows_view old.rows.items) m ≡ Some r) (apart : is_apart r.mark ≡ true) (s : IsReady m (queue_kind (job_kind C r.job)) p old new) (room : IsRoomy C old) where
-  after : (k : Kind) → (b : Bool) → kind_eq k (job_kind C r.job) ≡ b → apart_in C k (rows_view new.rows.items) + (if b then 1 else 0) ≡ apart_in C k (rows_view old.rows.items)
-  after k true e =
-      let a = marked_at C k (rows_view old.rows.items) m r Ready there in
-      let b = counts_apart C k r.mark r apart e in
-      let c = counts_not C k Ready r refl in
-      let d = ap (apart_in C k) s.rows in
-      omega arith
-  after k false e =
-      let a = marked_at C k (rows_view old.rows.items) m r Ready there in
-      let b = counts_other C k r.mark r e in
-      let c = counts_not C k Ready r refl in
-      let d = ap (apart_in C k) s.rows in
+-- ROOM BY KINDS
+
+abbrev pub one_if : Bool → ℕ
+one_if b = if b then 1 else 0
+
+abbrev pub counted_of : Kind → Counts → ℕ
+counted_of Control a = a.controls
+counted_of Leaf a = a.leaves
+
+abbrev pub room_of : Kind → Both → ℕ
+room_of k q = (of (queue_kind k) q).room
+
+-- the items of a kind that wait or run are counted, and the queue has room for them
+pub record Fits (C : Code) (k : Kind) (items : Items) : Type 0 where
+  pub counted : apart_in C k (rows_view items.rows.items) ≤ counted_of k items.apart
+  pub fits : apart_in C k (rows_view items.rows.items) ≤ room_of k items.queue
+
+pub fits_of : (C : Code) (items : Items) → IsRoomy C items → (k : Kind) → Fits C k items
+fits_of C items r Control = record { counted = r.controls_counted; fits = r.controls_fit }
+fits_of C items r Leaf = record { counted = r.leaves_counted; fits = r.leaves_fit }
+
+pub roomy_of : (C : Code) (items : Items) → ((k : Kind) → Fits C k items) → 0 < vec_capacity items.newly → IsRoomy C items
+roomy_of C items f noted = record {
+  controls_counted = (f Control).counted;
+  leaves_counted = (f Leaf).counted;
+  controls_fit = (f Control).fits;
+  leaves_fit = (f Leaf).fits;
+  noted = noted;
+}
+
+-- one less of a kind, and one more in the queue
+less_of : (k l : Kind) (a : Counts) → counted_of k (one_less (queue_kind l) a) ≡ counted_of k a - one_if (kind_eq k l)
+less_of Control Control a = refl
+less_of Control Leaf a = omega arith
+less_of Leaf Control a = omega arith
+less_of Leaf Leaf a = refl
+
+pub put_of : (k l : Kind) (x : Entry) (q : Both) → room_of k (with_changed (queue_kind l) (with_put x) q) ≡ room_of k q - one_if (kind_eq k l)
+put_of Control Control x q = refl
+put_of Control Leaf x q = omega arith
+put_of Leaf Control x q = omega arith
+put_of Leaf Leaf x q = refl
+
+kind_own : (k : Kind) → kind_eq k k ≡ true
+kind_own Control = refl
+kind_own Leaf = refl
+
+-- there is room for an item that waits or runs
+pub one_counted : (C : Code) (items : Items) (n : ℕ) (r : Row) → row_of (rows_view items.rows.items) n ≡ Some r → is_apart r.mark ≡ true → IsRoomy C items → 0 < room_of (job_kind C r.job) items.queue
+one_counted C items n r there apart room =
+    let a = marked_at C (job_kind C r.job) (rows_view items.rows.items) n r Over there in
+    let b = counts_apart C (job_kind C r.job) r.mark r apart (kind_own (job_kind C r.job)) in
+    let c = counts_not C (job_kind C r.job) Over r refl in
+    let f = (fits_of C items room (job_kind C r.job)).fits in
+    omega arith
+
+-- an item that waited or ran does so no longer
+module _ (C : Code) (old new : Items) (n : ℕ) (r : Row) (m : Mark) (there : row_of (rows_view old.rows.items) n ≡ Some r) (apart : is_apart r.mark ≡ true) (free : is_apart m ≡ false) (rows_are : rows_view new.rows.items ≡ mark_at (rows_view old.rows.items) n m) (room : IsRoomy C old) where
+  fewer : (k : Kind) → apart_in C k (rows_view new.rows.items) + one_if (kind_eq k (job_kind C r.job)) ≡ apart_in C k (rows_view old.rows.items)
+  fewer k =
+      let a = marked_at C k (rows_view old.rows.items) n r m there in
+      let b : one_if (is_apart r.mark && kind_eq k (job_kind C r.job)) ≡ one_if (kind_eq k (job_kind C r.job)) = λ i. one_if (apart i && kind_eq k (job_kind C r.job)) in
+      let c = counts_not C k m r free in
+      let d = ap (apart_in C k) rows_are in
       omega arith
 
-  pub one_there : 0 < (of (queue_kind (job_kind C r.job)) old.queue).room
-  one_there = by (job_kind C r.job) refl
+  -- so there is room for what still does, where the queue has at most one entry more of its kind
+  pub less_roomy : new.apart ≡ one_less (queue_kind (job_kind C r.job)) old.apart → ((k : Kind) → room_of k old.queue - one_if (kind_eq k (job_kind C r.job)) ≤ room_of k new.queue) → 0 < vec_capacity new.newly → IsRoomy C new
+  less_roomy z q noted = roomy_of C new fits noted
     where
-      by : (k : Kind) → job_kind C r.job ≡ k → 0 < (of (queue_kind k) old.queue).room
-      by Control e = let a = after Control true (ap (kind_eq Control) e) in let f = room.controls_fit in omega arith
-      by Leaf e = let a = after Leaf true (ap (kind_eq Leaf) e) in let f = room.leaves_fit in omega arith
+      fits : (k : Kind) → Fits C k new
+      fits k =
+          let a = fewer k in
+          let f = fits_of C old room k in
+          let fc = f.counted in
+          let ff = f.fits in
+          let zk = ap (counted_of k) z ∙ less_of k (job_kind C r.job) old.apart in
+          let qk = q k in
+          record { counted = omega arith; fits = omega arith }
 
-  pub still_roomy : vec_capacity old.newly ≤ vec_capacity new.newly → IsRoomy C new
-  still_roomy grows = by (job_kind C r.job) refl (s.queue one_there) s.apart
-    where
-      by : (k : Kind) → job_kind C r.job ≡ k → new.queue ≡ with_changed (queue_kind (job_kind C r.job)) (with_put (record { priority = p; no = m })) old.queue → new.apart ≡ one_less (queue_kind (job_kind C r.job)) old.apart → IsRoomy C new
-      by Control e q z =
-          let a = after Control true (ap (kind_eq Control) e) in
-          let b = after Leaf false (ap (kind_eq Leaf) e) in
-          let q1 = q ∙ ap (λ (k : Kind). with_changed (queue_kind k) (with_put (record { priority = p; no = m })) old.queue) e in
-          let z1 = z ∙ ap (λ (k : Kind). one_less (queue_kind k) old.apart) e in
-          let qc = ap (λ (x : Both). x.control.room) q1 in
-          let ql = ap (λ (x : Both). x.leaf.room) q1 in
-          let zc = ap (λ (x : Counts). x.controls) z1 in
-          let zl = ap (λ (x : Counts). x.leaves) z1 in
-          let o1 = room.controls_counted in
-          let o2 = room.leaves_counted in
-          let o3 = room.controls_fit in
-          let o4 = room.leaves_fit in
-          let o5 = room.noted in
-          record { controls_counted = omega arith; leaves_counted = omega arith; controls_fit = omega arith; leaves_fit = omega arith; noted = omega arith }
-      by Leaf e q z =
-          let a = after Control false (ap (kind_eq Control) e) in
-          let b = after Leaf true (ap (kind_eq Leaf) e) in
-          let q1 = q ∙ ap (λ (k : Kind). with_changed (queue_kind k) (with_put (record { priority = p; no = m })) old.queue) e in
-          let z1 = z ∙ ap (λ (k : Kind). one_less (queue_kind k) old.apart) e in
-          let qc = ap (λ (x : Both). x.control.room) q1 in
-          let ql = ap (λ (x : Both). x.leaf.room) q1 in
-          let zc = ap (λ (x : Counts). x.controls) z1 in
-          let zl = ap (λ (x : Counts). x.leaves) z1 in
-          let o1 = room.controls_counted in
-          let o2 = room.leaves_counted in
-          let o3 = room.controls_fit in
-          let o4 = room.leaves_fit in
-          let o5 = room.noted in
-          record { controls_counted = omega arith; leaves_counted = omega arith; controls_fit = omega arith; leaves_fit = omega arith; noted = omega arith }
+-- what else there is does not matter
+pub same_roomy : (C : Code) (old new : Items) → rows_view new.rows.items ≡ rows_view old.rows.items → new.queue ≡ old.queue → new.apart ≡ old.apart → 0 < vec_capacity new.newly → IsRoomy C old → IsRoomy C new
+same_roomy C old new er eq ea noted room = roomy_of C new fits noted
+  where
+    fits : (k : Kind) → Fits C k new
+    fits k =
+        let r = ap (apart_in C k) er in
+        let f = fits_of C old room k in
+        let fc = f.counted in
+        let ff = f.fits in
+        let a = ap (counted_of k) ea in
+        let q = ap (room_of k) eq in
+        record { counted = omega arith; fits = omega arith }
 
 module _ (C : Code) (fs : List (Option Frame)) (cs : List (Option Counted)) (rows : List Row) (first number : ℕ) (before : List Waiter) (queued : Kind → ℤ → List ℕ) where
   abbrev Far : List ℕ → ℕ → Items → Type 0
@@ -173,21 +210,7 @@ module _ (C : Code) (fs : List (Option Frame)) (cs : List (Option Counted)) (row
           }
         where
           roomy : IsWaiting m (missed_at C fs cs rows first m) old new → IsRoomy C new
-          roomy x =
-              let y = far.room.roomy in
-              let q1 = ap (λ (q : Both). q.control.room) x.queue in
-              let q2 = ap (λ (q : Both). q.leaf.room) x.queue in
-              let a1 = ap (λ (q : Counts). q.controls) x.apart in
-              let a2 = ap (λ (q : Counts). q.leaves) x.apart in
-              let r1 = ap (λ v. apart_in C Control (rows_view v.items)) x.rows in
-              let r2 = ap (λ v. apart_in C Leaf (rows_view v.items)) x.rows in
-              let o1 = y.controls_counted in
-              let o2 = y.leaves_counted in
-              let o3 = y.controls_fit in
-              let o4 = y.leaves_fit in
-              let o5 = y.noted in
-              let c = s.capacity in
-              record { controls_counted = omega arith; leaves_counted = omega arith; controls_fit = omega arith; leaves_fit = omega arith; noted = omega arith }
+          roomy x = let c = s.capacity in let o5 = far.room.roomy.noted in same_roomy C old new (ap (λ v. rows_view v.items) x.rows) x.queue x.apart (omega arith) far.room.roomy
 
       ready : missed_at C fs cs rows first m ≡ [] → Far (done ++ m ∷ []) left new
       ready z =
@@ -196,8 +219,10 @@ module _ (C : Code) (fs : List (Option Frame)) (cs : List (Option Counted)) (row
           let f = far.room.rules_fit in
           let c = s.capacity in
           let n = x.newly (omega arith) in
-          let q = x.queue (one_there C old new m (job_priority C r.job) (record { job = r.job; mark = Waiting }) there refl x far.room.roomy) in
+          let q = x.queue (one_counted C old m (record { job = r.job; mark = Waiting }) there refl far.room.roomy) in
           let ru = ap (λ l. l.room) x.rules in
+          let o5 = far.room.roomy.noted in
+          let noted : 0 < vec_capacity new.newly = omega arith in
           let l0 = old.newly.ok.0 in
           let l1 = new.newly.ok.0 in
           let l2 = ap length n ∙ length-append old.newly.items (m ∷ []) in
@@ -208,7 +233,11 @@ module _ (C : Code) (fs : List (Option Frame)) (cs : List (Option Counted)) (row
                 (settled_ready C fs cs rows first number before queued done (rows_view old.rows.items) (waiters_view old.rules.waiting) (queue_view old.queue) old.newly.items a m (rows_view new.rows.items) (queue_view new.queue) r h d z x.rows
                 (λ k y. subst (λ (b : Bool). IsPermutation (queue_view old.queue k y ++ (if b then m ∷ [] else [])) (queue_view new.queue k y)) (sym (ap (runs_so C k y) h))
                 (subst (λ (u : Both). IsPermutation (queue_view old.queue k y ++ (if runs_so C k y (Some r) then m ∷ [] else [])) (queue_view u k y)) (sym q) (queue_put (job_kind C r.job) (job_priority C r.job) m old.queue k y)))));
-            room = record { roomy = still_roomy C old new m (job_priority C r.job) (record { job = r.job; mark = Waiting }) there refl x far.room.roomy c; rules_fit = omega arith; newly_fit = omega arith };
+            room = record {
+              roomy = less_roomy C old new m (record { job = r.job; mark = Waiting }) Ready there refl refl x.rows far.room.roomy x.apart (λ k. let e = ap (room_of k) q ∙ put_of k (job_kind C r.job) _ old.queue in omega arith) noted;
+              rules_fit = omega arith;
+              newly_fit = omega arith;
+            };
           }
 
       by : (missed_at C fs cs rows first m ≡ []) ⊎ (missed_at C fs cs rows first m ≡ [] → ⊥) → Far (done ++ m ∷ []) left new
@@ -310,70 +339,7 @@ module _ (C : Code) (fs : List (Option Frame)) (cs : List (Option Counted)) (row
       }
     where
       roomy : IsRoomy C new
-      roomy =
-          let y = far.room.roomy in
-          let q1 = ap (λ (q : Both). q.control.room) eq in
-          let q2 = ap (λ (q : Both). q.leaf.room) eq in
-          let a1 = ap (λ (q : Counts). q.controls) ea in
-          let a2 = ap (λ (q : Counts). q.leaves) ea in
-          let r1 = ap (λ v. apart_in C Control (rows_view v.items)) er in
-          let r2 = ap (λ v. apart_in C Leaf (rows_view v.items)) er in
-          let o1 = y.controls_counted in
-          let o2 = y.leaves_counted in
-          let o3 = y.controls_fit in
-          let o4 = y.leaves_fit in
-          let o5 = y.noted in
-          let c = ap (λ v. vec_capacity v) en in
-          record { controls_counted = omega arith; leaves_counted = omega arith; controls_fit = omega arith; leaves_fit = omega arith; noted = omega arith }
-
--- the item that ran is over
-module _ (C : Code) (old new : Items) (n : ℕ) (r : Row) (there : row_of (rows_view old.rows.items) n ≡ Some r) (apart : is_apart r.mark ≡ true) (rows_are : rows_view new.rows.items ≡ mark_at (rows_view old.rows.items) n Over) (room : IsRoomy C old) where
-  fewer : (k : Kind) → (b : Bool) → kind_eq k (job_kind C r.job) ≡ b → apart_in C k (rows_view new.rows.items) + (if b then 1 else 0) ≡ apart_in C k (rows_view old.rows.items)
-  fewer k true e =
-      let a = marked_at C k (rows_view old.rows.items) n r Over there in
-      let b = counts_apart C k r.mark r apart e in
-      let c = counts_not C k Over r refl in
-      let d = ap (apart_in C k) rows_are in
-      omega arith
-  fewer k false e =
-      let a = marked_at C k (rows_view old.rows.items) n r Over there in
-      let b = counts_other C k r.mark r e in
-      let c = counts_not C k Over r refl in
-      let d = ap (apart_in C k) rows_are in
-      omega arith
-
-  pub closed_roomy : new.queue ≡ old.queue → new.apart ≡ one_less (queue_kind (job_kind C r.job)) old.apart → vec_capacity new.newly ≡ vec_capacity old.newly → IsRoomy C new
-  closed_roomy q z grows = by (job_kind C r.job) refl z
-    where
-      by : (k : Kind) → job_kind C r.job ≡ k → new.apart ≡ one_less (queue_kind (job_kind C r.job)) old.apart → IsRoomy C new
-      by Control e z =
-          let a = fewer Control true (ap (kind_eq Control) e) in
-          let b = fewer Leaf false (ap (kind_eq Leaf) e) in
-          let z1 = z ∙ ap (λ (k : Kind). one_less (queue_kind k) old.apart) e in
-          let qc = ap (λ (x : Both). x.control.room) q in
-          let ql = ap (λ (x : Both). x.leaf.room) q in
-          let zc = ap (λ (x : Counts). x.controls) z1 in
-          let zl = ap (λ (x : Counts). x.leaves) z1 in
-          let o1 = room.controls_counted in
-          let o2 = room.leaves_counted in
-          let o3 = room.controls_fit in
-          let o4 = room.leaves_fit in
-          let o5 = room.noted in
-          record { controls_counted = omega arith; leaves_counted = omega arith; controls_fit = omega arith; leaves_fit = omega arith; noted = omega arith }
-      by Leaf e z =
-          let a = fewer Control false (ap (kind_eq Control) e) in
-          let b = fewer Leaf true (ap (kind_eq Leaf) e) in
-          let z1 = z ∙ ap (λ (k : Kind). one_less (queue_kind k) old.apart) e in
-          let qc = ap (λ (x : Both). x.control.room) q in
-          let ql = ap (λ (x : Both). x.leaf.room) q in
-          let zc = ap (λ (x : Counts). x.controls) z1 in
-          let zl = ap (λ (x : Counts). x.leaves) z1 in
-          let o1 = room.controls_counted in
-          let o2 = room.leaves_counted in
-          let o3 = room.controls_fit in
-          let o4 = room.leaves_fit in
-          let o5 = room.noted in
-          record { controls_counted = omega arith; leaves_counted = omega arith; controls_fit = omega arith; leaves_fit = omega arith; noted = omega arith }
+      roomy = let c = ap (λ v. vec_capacity v) en in let o5 = far.room.roomy.noted in same_roomy C old new (ap (λ v. rows_view v.items) er) eq ea (omega arith) far.room.roomy
 
 -- an item that ran has ended, and the others are to be settled
 module _ (C : Code) (fs : List (Option Frame)) (cs : List (Option Counted)) (number : ℕ) (job : Job) (first : ℕ) (old : Items) (can : CanFinish C fs cs number job first old) where
@@ -388,6 +354,7 @@ module _ (C : Code) (fs : List (Option Frame)) (cs : List (Option Counted)) (num
       let f = can.rules_fit in
       let g = can.newly_fit in
       let u = ap (λ l. l.room) eu in
+      let o5 = can.roomy.noted in
       let l0 = new.newly.ok.0 in
       let l1 = ap length en in
       record {
@@ -396,7 +363,7 @@ module _ (C : Code) (fs : List (Option Frame)) (cs : List (Option Counted)) (num
             (subst (λ ru. AreSettled C fs cs was first number (waiters_view old.rules.waiting) (queue_view old.queue) [] (rows_view new.rows.items) (waiters_view ru) (queue_view new.queue) []) (sym (ap (λ l. l.waiting) eu))
             (subst (λ (q : Both). AreSettled C fs cs was first number (waiters_view old.rules.waiting) (queue_view old.queue) [] (rows_view new.rows.items) (waiters_view old.rules.waiting) (queue_view q) []) (sym eq)
             (settled_none C fs cs was first number (waiters_view old.rules.waiting) (queue_view old.queue) (rows_view new.rows.items) can.row can.there er)));
-        room = record { roomy = closed_roomy C old new number can.row can.there can.runs er can.roomy eq (ea ∙ ap (λ (j : Job). one_less (queue_kind (job_kind C j)) old.apart) (sym can.job_is)) ec; rules_fit = omega arith; newly_fit = omega arith };
+        room = record { roomy = less_roomy C old new number can.row Over can.there can.runs refl er can.roomy (ea ∙ ap (λ (j : Job). one_less (queue_kind (job_kind C j)) old.apart) (sym can.job_is)) (λ k. let e = ap (room_of k) eq in omega arith) (omega arith); rules_fit = omega arith; newly_fit = omega arith };
       }
 
   -- those that were woken, and the new ones
