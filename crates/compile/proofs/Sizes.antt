@@ -8,7 +8,7 @@ use Rattle.syntax_trees.specs.Reads.{Reads}
 use Rattle.syntax_trees.specs.Resolved.{core}
 use Rattle.syntax_trees.specs.Table.{Table}
 use Rattle.syntax_trees.specs.Typing.{WellTyped}
-use Rattle.syntax.proofs.Sizes.{text_fits}
+use Rattle.syntax.proofs.Sizes.{script_fits, tokens_fit}
 use Rattle.agreement.specs.Emitted.{size_of}
 use Rattle.agreement.specs.Room.{CoreRoom}
 use Rattle.well_formed.proofs.Apart.{read_placed}
@@ -97,7 +97,8 @@ numbered_same n t = each_same numbered_part part_size part_same n t
 -- a tree that was read has at most two numbers for each byte
 pub read_fits : (src : List ℕ) (tree : Tree) → Reads src tree → tree_size tree ≤ 2097152
 read_fits src tree r =
-    let fits = text_fits src r.tokens r.parsed r.lexed r.is_script in
+    let numbers = script_fits 64 r.tokens r.parsed r.is_script in
+    let tokens = tokens_fit src r.tokens r.lexed in
     let same : tree_size tree ≡ tree_size r.parsed = ap tree_size r.is_numbered ∙ numbered_same 1 r.parsed in
     let short = r.short in
     omega arith
