@@ -1,8 +1,8 @@
 //! Trees that are numbered where they lie.
 
 ghost use Rattle.std.specs.Prelude.{◌≡◌, IfOk};
-ghost use Rattle.syntax_trees.specs.View.{tree_of};
-ghost use Rattle.syntax_trees.specs.Numbered.{tree_size};
+ghost use Rattle.syntax_trees.specs.View.{part_of, tree_of};
+ghost use Rattle.syntax_trees.specs.Numbered.{part_size, tree_size};
 
 use lexer::token::Span;
 use std::alloc::{AllocError, Global};
@@ -10,11 +10,11 @@ use std::process::Abort;
 use std::test::Fail;
 use syntax_trees::stmt;
 use syntax_trees::tree::{Base, Decl, Item, Name, Script, Shape, StmtKind};
-use tree_numbers::number;
+use tree_numbers::{number, part};
 
-/// `int x;`, with these numbers of the statement and of the name.
-fn declared(alloc: Global, statement: u32, word: u32) -> Result<Script<Global>, AllocError>
-    ensures { IfOk result (λ s. tree_size (tree_of s) ≡ 2) }
+/// `int x;` as a part of a script, with these numbers of the statement and of the name.
+fn declaration(alloc: Global, statement: u32, word: u32) -> Result<Item<Global>, AllocError>
+    ensures { IfOk result (λ i. part_size (part_of i) ≡ 2) }
 {
     let name = Name {
         number: word,
@@ -28,8 +28,15 @@ fn declared(alloc: Global, statement: u32, word: u32) -> Result<Script<Global>, 
     };
     let mut declaration = stmt(Span { from: 0, to: 3 }, 6, StmtKind::Declare(decl, None));
     declaration.number = statement;
+    Ok(Item::Statement(Box::new(alloc, declaration)?))
+}
+
+/// The script that is that part alone.
+fn declared(alloc: Global, statement: u32, word: u32) -> Result<Script<Global>, AllocError>
+    ensures { IfOk result (λ s. tree_size (tree_of s) ≡ 2) }
+{
     let mut items = Vec::new(alloc);
-    items.push(Item::Statement(Box::new(alloc, declaration)?))?;
+    items.push(declaration(alloc, statement, word)?)?;
     Ok(Script { items })
 }
 
@@ -39,5 +46,16 @@ fn numbers_are_put_in_their_places(rt: HostRuntime) -> Result<(), Fail> {
     number(&mut script);
     let wanted = declared(rt.alloc(), 1, 2)?;
     assert!(rt; script == wanted);
+    Ok(())
+}
+
+/// A part is numbered from the number that it is given, and the next one is behind its own.
+#[test]
+fn a_part_takes_the_numbers_behind(rt: HostRuntime) -> Result<(), Fail> {
+    let mut item = declaration(rt.alloc(), 9, 9)?;
+    let next = part(&mut item, 5);
+    let wanted = declaration(rt.alloc(), 5, 6)?;
+    assert_eq!(rt; next, 7);
+    assert!(rt; item == wanted);
     Ok(())
 }
