@@ -87,19 +87,20 @@ fn time_size(rt: &(impl Clock + Print), alloc: Global, parts: u64, count: u64) -
     )
 }
 
-/// Adds an item for each of 64 data in turn, and tells it.
+/// Adds an item for each of so many data in turn, and tells it.
 fn use_again(
     alloc: Global,
     rules: &mut Rules,
-    times: u64,
+    first: u64,
+    data: u64,
     out: &mut Vec<u64>,
 ) -> Result<(), AllocError> {
-    for turn in 0..times {
-        let input = Input::Whole(AGAIN.wrapping_add(turn % 64));
+    for turn in 0..1_000_000_u64 {
+        let datum = first.wrapping_add(turn.checked_rem(data).unwrap_or(0));
         let mut inputs = SmallVec::new(alloc);
-        inputs.push(Input::Whole(AGAIN.wrapping_add(turn % 64)))?;
+        inputs.push(Input::Whole(datum))?;
         rules.add(inputs, AGAIN.wrapping_add(turn))?;
-        tell(rules, &input, out);
+        tell(rules, &Input::Whole(datum), out);
     }
     Ok(())
 }
@@ -110,11 +111,41 @@ fn time_again(rt: &(impl Clock + Print), alloc: Global, count: u64) -> io::Resul
     let mut rules = Rules::new(alloc);
     add_all(alloc, &mut rules, count)?;
     let start = Instant::now(rt)?;
-    use_again(alloc, &mut rules, 1_000_000, &mut out)?;
+    use_again(alloc, &mut rules, AGAIN, 64, &mut out)?;
     watch::tell(
         rt,
         start,
         "adds and knowns of 64 data, beside so many that wait",
+        1,
+        count,
+    )
+}
+
+/// Lets so many items wait for one datum, with room for as many more.
+fn add_to_one(alloc: Global, rules: &mut Rules, count: u64) -> Result<(), AllocError> {
+    rules.reserve((count as usize).saturating_mul(2))?;
+    for number in 0..count {
+        let mut inputs = SmallVec::new(alloc);
+        inputs.push(Input::Whole(ARRAY))?;
+        rules.add(inputs, number)?;
+    }
+    Ok(())
+}
+
+/// Prints the time of a million adds and knowns of a datum that shares its list with one for which so many items wait, where
+/// there are four lists for each of them, or one less than that.
+fn time_shared(rt: &(impl Clock + Print), alloc: Global, count: u64) -> io::Result<()> {
+    let mut out = Vec::with_capacity(alloc, 2_200_000)?;
+    let mut rules = Rules::new(alloc);
+    add_to_one(alloc, &mut rules, count)?;
+    let start = Instant::now(rt)?;
+    let lists = count.wrapping_mul(4);
+    let datum = ARRAY.wrapping_add(lists.wrapping_mul(lists.wrapping_sub(1)));
+    use_again(alloc, &mut rules, datum, 1, &mut out)?;
+    watch::tell(
+        rt,
+        start,
+        "adds and knowns of one datum, beside so many that wait for another in its list",
         1,
         count,
     )
@@ -133,6 +164,9 @@ pub fn time(rt: &(impl Clock + Print), alloc: Global) -> io::Result<()> {
     }
     for count in [1_000u64, 10_000, 100_000, 1_000_000] {
         time_again(rt, alloc, count)?;
+    }
+    for count in [1_000u64, 10_000, 100_000, 1_000_000] {
+        time_shared(rt, alloc, count)?;
     }
     Ok(())
 }

@@ -22,6 +22,7 @@ fn wake(waiters: &mut Slab<Waiter>, places: &mut Places, input: &Input, out: &mu
     requires room { slab_len waiters.old + vec_len out.old ≤ vec_capacity out.old }
     requires busy { AllBusy waiters.old.slots }
     requires noted { IsNoted places.old waiters.old.slots }
+    requires place { slab_len waiters.old ≤ places.old.place }
     ensures learnt { Learnt input.now waiters.old.slots waiters.new.slots out.old.items out.new.items }
     ensures settled { (k : ℕ) → IsSettled (after_slot input.now) waiters.new.slots k }
     ensures shrinks { Shrinks (after_slot input.now) waiters.old.slots waiters.new.slots }
@@ -31,13 +32,15 @@ fn wake(waiters: &mut Slab<Waiter>, places: &mut Places, input: &Input, out: &mu
     ensures noted { IsNoted places.new waiters.new.slots }
     ensures place { places.new.place ≡ places.old.place }
 {
-    visit_noted(waiters, places, input, out);
+    let passed = visit_noted(waiters, places, input, out);
     visit_listed(waiters, places.strays(), input, out);
+    places.hear(waiters, passed);
 }
 
 // Takes an item out.
 fn let_go(waiters: &mut Slab<Waiter>, places: &mut Places, item: u64)
     requires noted { IsNoted places.old waiters.old.slots }
+    requires place { slab_len waiters.old ≤ places.old.place }
     ensures others { without_item item (present waiters.new.slots) ≡ without_item item (present waiters.old.slots) }
     ensures settled { (k : ℕ) → IsSettled (unless_item item) waiters.new.slots k }
     ensures shrinks { Shrinks (unless_item item) waiters.old.slots waiters.new.slots }
@@ -46,8 +49,9 @@ fn let_go(waiters: &mut Slab<Waiter>, places: &mut Places, item: u64)
     ensures noted { IsNoted places.new waiters.new.slots }
     ensures place { places.new.place ≡ places.old.place }
 {
-    leave_noted(waiters, places, item);
+    let passed = leave_noted(waiters, places, item);
     leave_listed(waiters, places.strays(), item);
+    places.hear(waiters, passed);
 }
 
 // Takes memory for the notes of as many items of two inputs, if there is less.

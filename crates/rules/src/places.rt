@@ -12,6 +12,9 @@ use std::marker::Model;
 // The most notes that an item of two inputs has.
 const PLAIN: usize = 5;
 
+// Notes of other addresses that a call may walk past without more ado.
+const FEW: usize = 64;
+
 // The slot of a note that is in no list any more.
 const NO_SLOT: usize = 18_446_744_073_709_551_615;
 
@@ -26,8 +29,9 @@ pub struct Note {
 
 /// Notes, each in the list of its address. The slot of an item that waits is noted at its number, and at the
 /// addresses of what it misses. A note that is no longer needed is taken out of its list by the next walk past it, and
-/// its memory is free again once all are made anew. A slot for whose notes there is no place is a stray: it is looked
-/// at for each input.
+/// its memory is free again once all are made anew. Addresses may share a list: where calls have walked past many notes of
+/// others, all are made anew in another number of lists, in which those addresses lie apart. A slot for whose notes there
+/// is no place is a stray: it is looked at for each input.
 #[derive(Drop)]
 pub struct Places {
     // For each list one more than the number of its last note, or 0 where it has none.
@@ -36,6 +40,8 @@ pub struct Places {
     strays: Vec<usize>,
     // At least so many notes as those items have that wait for more than two inputs.
     heavy: usize,
+    // How many notes of other addresses long walks have passed since all notes were made anew.
+    passed: usize,
 }
 
 impl Model for Places {
@@ -59,6 +65,7 @@ impl Places {
             notes: Vec::new(alloc),
             strays: Vec::new(alloc),
             heavy: 0,
+            passed: 0,
         }
     }
 
@@ -74,6 +81,7 @@ impl Places {
             notes: Vec::with_capacity(alloc, ample(slots, heavy))?,
             strays: Vec::with_capacity(alloc, slots)?,
             heavy,
+            passed: 0,
         })
     }
 
@@ -287,17 +295,29 @@ impl Places {
         }
     }
 
-    // Takes all notes back.
+    // One list less than there are, or twice as many as slots where those are all but as many. Two addresses that share one of n
+    // lists share none of n - 1, unless they lie n times n - 1 apart.
+    fn other_lists(&self) -> usize {
+        let slots = self.strays.capacity();
+        if self.heads.len() > slots.saturating_add(1) {
+            self.heads.len() - 1
+        } else {
+            slots.saturating_mul(2)
+        }
+    }
+
+    // Takes all notes back, and lets there be another number of lists.
     fn clear(&mut self)
         ensures notes { self.new.notes ≡ [] }
         ensures strays { self.new.strays ≡ [] }
         ensures place { self.new.place ≡ self.old.place }
     {
-        let lists = self.heads.len();
+        let lists = self.other_lists();
         self.heads.clear();
         let _made = self.heads.resize(lists, 0);
         self.notes.clear();
         self.strays.clear();
+        self.passed = 0;
     }
 
     /// Makes all notes anew. A quarter of the memory is free then.
@@ -312,6 +332,30 @@ impl Places {
         for slot in 0..slots {
             let later = plain(slots.saturating_sub(slot));
             self.keep_slot(waiters, slot, most.saturating_sub(later));
+        }
+    }
+
+    // Counts notes that a long walk has passed.
+    fn count_passed(&mut self, passed: usize)
+        ensures { self.new ≡ self.old }
+    {
+        self.passed = self.passed.saturating_add(passed);
+    }
+
+    /// Hears of a walk past so many notes of other addresses. Once long walks have passed more of them than it takes to make
+    /// all notes anew, they are made anew, in another number of lists.
+    pub fn hear(&mut self, waiters: &Slab<Waiter>, passed: usize)
+        requires place { slab_len waiters.now ≤ self.old.place }
+        requires noted { IsNoted self.old waiters.now.slots }
+        ensures noted { IsNoted self.new waiters.now.slots }
+        ensures place { self.new.place ≡ self.old.place }
+    {
+        if passed <= FEW {
+            return;
+        }
+        self.count_passed(passed);
+        if self.passed > self.heads.len() {
+            self.renew(waiters);
         }
     }
 

@@ -46,13 +46,14 @@ pub fn visit_listed(waiters: &mut Slab<Waiter>, slots: &[usize], input: &Input, 
     }
 }
 
-/// Visits each slot that is noted at the input's address, and takes those notes out of its list that are no longer needed.
+/// Visits each slot that is noted at the input's address, and takes those notes out of its list that are no longer needed. The
+/// answer tells how many notes of other addresses were passed.
 pub fn visit_noted(
     waiters: &mut Slab<Waiter>,
     places: &mut Places,
     input: &Input,
     out: &mut Vec<u64>,
-)
+) -> usize
     requires room { slab_len waiters.old + vec_len out.old ≤ vec_capacity out.old }
     requires noted { IsNoted places.old waiters.old.slots }
     ensures learnt { Learnt input.now waiters.old.slots waiters.new.slots out.old.items out.new.items }
@@ -67,6 +68,7 @@ pub fn visit_noted(
     ensures place { places.new.place ≡ places.old.place }
 {
     let address = input.address();
+    let mut passed = 0_usize;
     let mut holder = 0;
     let mut next = places.last(address);
     while next > 0 {
@@ -74,12 +76,14 @@ pub fn visit_noted(
         let note = places.note(number);
         next = note.earlier;
         if note.address != address {
+            passed = passed.saturating_add(1);
             holder = places.tidy(waiters, holder, number);
             continue;
         }
         visit(waiters, note.slot, input, out);
         holder = places.tidy(waiters, holder, number);
     }
+    passed
 }
 
 /// Takes out the item of a slot, if it is this one.
@@ -110,8 +114,9 @@ pub fn leave_listed(waiters: &mut Slab<Waiter>, slots: &[usize], item: u64)
     }
 }
 
-/// Takes the item out of each slot that is noted at its number, and those notes out of its list that are no longer needed.
-pub fn leave_noted(waiters: &mut Slab<Waiter>, places: &mut Places, item: u64)
+/// Takes the item out of each slot that is noted at its number, and those notes out of its list that are no longer needed. The
+/// answer tells how many notes of other addresses were passed.
+pub fn leave_noted(waiters: &mut Slab<Waiter>, places: &mut Places, item: u64) -> usize
     requires noted { IsNoted places.old waiters.old.slots }
     ensures others { without_item item (present waiters.new.slots) ≡ without_item item (present waiters.old.slots) }
     ensures settled { (k : ℕ) → IsAt places.old.notes item k ⊎ IsSettled (unless_item item) waiters.old.slots k
@@ -123,6 +128,7 @@ pub fn leave_noted(waiters: &mut Slab<Waiter>, places: &mut Places, item: u64)
     ensures strays { places.new.strays ≡ places.old.strays }
     ensures place { places.new.place ≡ places.old.place }
 {
+    let mut passed = 0_usize;
     let mut holder = 0;
     let mut next = places.last(item);
     while next > 0 {
@@ -130,10 +136,12 @@ pub fn leave_noted(waiters: &mut Slab<Waiter>, places: &mut Places, item: u64)
         let note = places.note(number);
         next = note.earlier;
         if note.address != item {
+            passed = passed.saturating_add(1);
             holder = places.tidy(waiters, holder, number);
             continue;
         }
         leave(waiters, note.slot, item);
         holder = places.tidy(waiters, holder, number);
     }
+    passed
 }
