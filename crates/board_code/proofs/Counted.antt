@@ -1,8 +1,6 @@
 -- Variables found by their numbers, and names counted at the places of their variables.
-use Rattle.std.proofs.Common.{◌≡◌, ◌∙◌, refl, sym, ap, subst, cond, ℕ, zero, suc, ◌+◌, ◌*◌, ◌<◌, ◌≤◌, List, [], ◌∷◌, ◌++◌, length, map, take, drop, Option, Some, None, Bool, true, false, arith}
+use Rattle.std.proofs.Common.{◌≡◌, ◌∙◌, refl, sym, ap, subst, ℕ, zero, suc, ◌+◌, ◌*◌, ◌<◌, ◌≤◌, List, [], ◌∷◌, ◌++◌, length, map, take, drop, Option, Some, None, Bool, true, false, arith}
 use Rattle.std.specs.Prelude.{is_some, nat_eq, replicate, set, slice_index_or, if◌then◌else◌}
-use Rattle.std.specs.Map.{lookup}
-use Rattle.indexmap.specs.IndexMap.{IndexMap, get, IsEmpty}
 use Rattle.replayed.specs.Static.{name_times}
 use Rattle.task_code.proofs.Equal.{nat_same, nat_sound, name_sound, true_and, variable_same, variable_sound}
 use Rattle.task_code.specs.Check.{is_declared}
@@ -15,7 +13,7 @@ use Rattle.task_code.specs.declared.entry.Variable.{Variable as VariableValue}
 use Rattle.board_code.proofs.Counts.{blank_there, place_told, times_append}
 use Rattle.board_code.proofs.Holds.{map_more, taken, whole}
 use Rattle.board_code.proofs.Homes.{cut, emptied, next}
-use Rattle.board_code.specs.Places.{CountsMore, CountsOf, FindsPlaces, counts_from, number_of, own_place, place_in, with_counts}
+use Rattle.board_code.specs.Places.{CountsMore, CountsOf, FindsPlaces, NotesPlace, counts_from, number_of, own_place, place_at, place_in, with_counts}
 use Rattle.board_code.specs.Spots.{place_from}
 use Rattle.board_code.specs.Tables.{first_count, is_place, names_of, own_from, shape_of}
 use Rattle.board_code.specs.declared.places.Places.{Places}
@@ -43,25 +41,19 @@ numbers_apart w v = by (nat_eq (number_of w) (number_of v)) (variable_eq w v) re
     by true false p q = absurd (no_both (sym q ∙ subst (λ (z : Variable). variable_eq w z ≡ true) (number_sound w v (nat_sound _ _ p)) (variable_same w)))
     by false true p q = absurd (no_both (sym p ∙ subst (λ (z : Variable). nat_eq (number_of w) (number_of z) ≡ true) (variable_sound w v q) (nat_same (number_of w))))
 
-module _ {S : Type 0} where
-  -- a list of variables is noted from its end
-  pub none_found : (m : IndexMap ℕ ℕ S) (xs : List VariableValue) → IsEmpty m → (v : Variable) → get nat_eq m (number_of v) ≡ place_from (length xs) v (map variable_view (drop (length xs) xs))
-  none_found m xs h v = ap (λ es. lookup (nat_eq (number_of v)) es) h ∙ sym (ap (λ l. place_from (length xs) v (map variable_view l)) (emptied xs (length xs) (omega arith)))
+-- a list of variables is noted from its end
+pub none_found : (m : Places) (xs : List VariableValue) → ((n : ℕ) → place_at m n ≡ None) → (v : Variable) → place_in m v ≡ place_from (length xs) v (map variable_view (drop (length xs) xs))
+none_found m xs h v = h (number_of v) ∙ sym (ap (λ l. place_from (length xs) v (map variable_view l)) (emptied xs (length xs) (omega arith)))
 
-  pub one_found : (old new : IndexMap ℕ ℕ S) (xs : List VariableValue) (i : ℕ) (d : VariableValue) → i < length xs → ((v : Variable) → get nat_eq old (number_of v) ≡ place_from (i + 1) v (map variable_view (drop (i + 1) xs))) → ((q : ℕ) → get nat_eq new q ≡ cond (nat_eq (number_of (variable_view (slice_index_or xs i d))) q) (Some i) (get nat_eq old q)) → (v : Variable) → get nat_eq new (number_of v) ≡ place_from i v (map variable_view (drop i xs))
-  one_found old new xs i d h before noted v =
-      noted (number_of v)
-      ∙ ap (λ b. cond b (Some i) (get nat_eq old (number_of v))) (numbers_apart (variable_view (slice_index_or xs i d)) v)
-      ∙ ap (λ p. cond (variable_eq (variable_view (slice_index_or xs i d)) v) (Some i) p) (before v)
-      ∙ same (variable_eq (variable_view (slice_index_or xs i d)) v) _ _
-      ∙ ap (λ n. if variable_eq (variable_view (slice_index_or xs i d)) v then Some i else place_from n v (map variable_view (drop n xs))) (sym (next i))
-      ∙ sym (ap (λ (l : List VariableValue). place_from i v (map variable_view l)) (cut xs i d h))
-    where
-      same : (b : Bool) (x y : Option ℕ) → cond b x y ≡ (if b then x else y)
-      same true x y = refl
-      same false x y = refl
+pub one_found : (old new : Places) (xs : List VariableValue) (i : ℕ) (d : VariableValue) → i < length xs → ((v : Variable) → place_in old v ≡ place_from (i + 1) v (map variable_view (drop (i + 1) xs))) → NotesPlace old new (number_of (variable_view (slice_index_or xs i d))) i → (v : Variable) → place_in new v ≡ place_from i v (map variable_view (drop i xs))
+one_found old new xs i d h before noted v =
+    noted.each (number_of v)
+    ∙ ap (λ b. if b then Some i else place_in old v) (numbers_apart (variable_view (slice_index_or xs i d)) v)
+    ∙ ap (λ p. if variable_eq (variable_view (slice_index_or xs i d)) v then Some i else p) (before v)
+    ∙ ap (λ n. if variable_eq (variable_view (slice_index_or xs i d)) v then Some i else place_from n v (map variable_view (drop n xs))) (sym (next i))
+    ∙ sym (ap (λ (l : List VariableValue). place_from i v (map variable_view l)) (cut xs i d h))
 
-pub all_found : (m : Places) (xs : List VariableValue) → ((v : Variable) → get nat_eq m.found (number_of v) ≡ place_from 0 v (map variable_view xs)) → FindsPlaces (map variable_view xs) m
+pub all_found : (m : Places) (xs : List VariableValue) → ((v : Variable) → place_in m v ≡ place_from 0 v (map variable_view xs)) → FindsPlaces (map variable_view xs) m
 all_found m xs h = record { each = h }
 
 -- what a name adds to the count of a variable at a place

@@ -1,5 +1,5 @@
 -- Places of variables, by a number of each.
-use Rattle.std.specs.Prelude.{◌≡◌, nat_eq, ℕ, zero, suc, ◌+◌, ◌*◌, List, [], ◌∷◌, ◌++◌, length, Option, None, slice_index_or, if◌then◌else◌}
+use Rattle.std.specs.Prelude.{◌≡◌, nat_eq, nat_lt, ℕ, zero, suc, ◌+◌, ◌-◌, ◌*◌, List, [], ◌∷◌, ◌++◌, length, Option, Some, None, slice_index_or, if◌then◌else◌}
 use Rattle.indexmap.specs.IndexMap.{get}
 use Rattle.task_code.specs.Code.{Local, Name, Owned, Parameter, Variable}
 use Rattle.board_code.specs.Spots.{place_from}
@@ -11,9 +11,29 @@ use Rattle.board_code.specs.declared.program.Own.{Own}
 abbrev pub number_of : Variable → ℕ
 number_of v = 2 * v.node + (if v.array then 1 else 0)
 
+-- where a number stands in a table of so many, of which the first is the least number's
+abbrev pub index_from : (least size n : ℕ) → Option ℕ
+index_from least size n = if nat_lt n least then None else if nat_lt (n - least) size then Some (n - least) else None
+
+-- an entry of the table is one more than a place, or 0 where there is none
+abbrev pub entry_place : ℕ → Option ℕ
+entry_place e = if nat_eq e 0 then None else Some (e - 1)
+
+abbrev pub entry_or : List ℕ → Option ℕ → Option ℕ → Option ℕ
+entry_or table far None = far
+entry_or table far (Some k) = entry_place (slice_index_or table k 0)
+
+-- the place of a number: the table has it where it reaches so far, and else the map
+abbrev pub place_at : Places → ℕ → Option ℕ
+place_at m n = entry_or m.table.items (get nat_eq m.far n) (index_from m.least (length m.table.items) n)
+
 -- where a variable is found to stand
 abbrev pub place_in : Places → Variable → Option ℕ
-place_in m v = get nat_eq m.found (number_of v)
+place_in m v = place_at m (number_of v)
+
+-- a number has this place from now on, and all others have theirs
+pub record NotesPlace (old new : Places) (n p : ℕ) : Type 0 where
+  pub each : (q : ℕ) → place_at new q ≡ (if nat_eq n q then Some p else place_at old q)
 
 -- each variable is found at its first place among those that a block declares
 pub record FindsPlaces (ms : List Variable) (m : Places) : Type 0 where
