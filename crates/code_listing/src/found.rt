@@ -63,14 +63,23 @@ pub fn find<A: Allocator>(alloc: Global, flow: &Flow<A>) -> Result<Found, AllocE
         roots: Vec::new(alloc),
         inner: Vec::new(alloc),
     };
+    find_script(alloc, &mut found, flow)?;
+    Ok(found)
+}
+
+/// Finds what a script shows.
+fn find_script<A: Allocator>(
+    alloc: Global,
+    found: &mut Found,
+    flow: &Flow<A>,
+) -> Result<(), AllocError> {
     found.roots.push(Stand {
         from: 0,
         what: What::Script,
         function: 0,
     })?;
-    find_block(alloc, &mut found, 0, &flow.body)?;
-    find_functions(alloc, &mut found, &flow.functions)?;
-    Ok(found)
+    find_block(alloc, found, 0, &flow.body)?;
+    find_functions(alloc, found, &flow.functions)
 }
 
 /// Finds what functions show.
@@ -169,22 +178,30 @@ fn find_action<A: Allocator>(
             turn,
             body,
             ..
-        } => {
-            name_loop(alloc, &mut found.names, value, turn)?;
-            find_opened(alloc, found, function, What::Loop, body)
-        }
+        } => find_loop(alloc, found, function, value, turn, body),
         Action::Each {
             value,
             key,
             body,
             ..
-        } => {
-            name_loop(alloc, &mut found.names, value, key)?;
-            find_opened(alloc, found, function, What::Loop, body)
-        }
+        } => find_loop(alloc, found, function, value, key, body),
         Action::Wait { content, .. } => find_opened(alloc, found, function, What::Wait, content),
         _ => Ok(()),
     }
+}
+
+/// Finds what a loop shows.
+#[cycle(statement)]
+fn find_loop<A: Allocator>(
+    alloc: Global,
+    found: &mut Found,
+    function: u32,
+    value: &Variable<A>,
+    turn: &Option<Variable<A>>,
+    body: &Block<A>,
+) -> Result<(), AllocError> {
+    name_loop(alloc, &mut found.names, value, turn)?;
+    find_opened(alloc, found, function, What::Loop, body)
 }
 
 /// Adds the bodies of both branches of an `if`.

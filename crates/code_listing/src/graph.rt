@@ -4,14 +4,14 @@
 //! edge from whatever it waits for, a dashed one to the point of each body that it opens, and one with an empty head to each
 //! variable that it stores.
 
-use crate::bodies::{in_order, places};
+use crate::bodies::{Seat, in_order, places};
 use crate::found::{Found, Stand, What, find};
-use crate::needs::{Scope, giver, number};
-use crate::text::{act_text, add_priority, add_title, kind_text};
+use crate::needs::{Scope, counted, giver};
+use crate::text::{add_act, add_title};
 use flow::script::{Flow, Function};
 use flow::statement::Variable as Named;
 use std::alloc::{AllocError, Allocator, Global};
-use task_code::code::Code;
+use task_code::code::{Body, Code};
 use task_code::entry::{Act, Entry, Name, Need, Owned, Variable};
 
 /// What is drawn, and for each body of the code its number in the listing.
@@ -36,19 +36,28 @@ pub fn graph<A: Allocator>(
     let found = find(alloc, flow)?;
     let seats = in_order(alloc, &found)?;
     let places = places(alloc, &seats)?;
-    let mut text = Vec::new(alloc);
-    text.extend_from_slice(b"digraph code {\n  node [shape=box];\n")?;
     let drawing = Drawing {
         code,
         found: &found,
         functions: &flow.functions,
         places: &places,
     };
-    for place in 0..seats.len() {
-        add_body(&mut text, &drawing, seats[place].body, place)?;
-    }
-    text.extend_from_slice(b"}\n")?;
+    let mut text = Vec::new(alloc);
+    add_bodies(&mut text, &drawing, &seats)?;
     Ok(text)
+}
+
+/// Adds the graph with these bodies.
+fn add_bodies<A: Allocator>(
+    text: &mut Vec<u8>,
+    drawing: &Drawing<'_, A>,
+    seats: &Vec<Seat>,
+) -> Result<(), AllocError> {
+    text.extend_from_slice(b"digraph code {\n  node [shape=box];\n")?;
+    for place in 0..seats.len() {
+        add_body(text, drawing, seats[place].body, place)?;
+    }
+    text.extend_from_slice(b"}\n")
 }
 
 /// Adds a body and the edges of its entries.
@@ -66,9 +75,7 @@ fn add_body<A: Allocator>(
     };
     add_opening(text, drawing, stand, place)?;
     add_parameters(text, drawing, stand)?;
-    add_variables(text, drawing, body.makes.as_slice())?;
-    add_boxes(text, drawing, body.entries.as_slice(), place)?;
-    text.extend_from_slice(b"  }\n")?;
+    add_content(text, drawing, body, place)?;
     add_edges(
         text,
         drawing,
@@ -78,6 +85,18 @@ fn add_body<A: Allocator>(
     )
 }
 
+/// Adds the variables and boxes of a body, and its end.
+fn add_content<A: Allocator>(
+    text: &mut Vec<u8>,
+    drawing: &Drawing<'_, A>,
+    body: &Body,
+    place: usize,
+) -> Result<(), AllocError> {
+    add_variables(text, drawing, body.makes.as_slice())?;
+    add_boxes(text, drawing, body.entries.as_slice(), place)?;
+    text.extend_from_slice(b"  }\n")
+}
+
 /// Adds the first lines of a body: its title, and the point of its opening.
 fn add_opening<A: Allocator>(
     text: &mut Vec<u8>,
@@ -85,12 +104,10 @@ fn add_opening<A: Allocator>(
     stand: Stand,
     place: usize,
 ) -> Result<(), AllocError> {
-    text.extend_from_slice(b"  subgraph cluster_")?;
-    number(text, place)?;
+    counted(text, b"  subgraph cluster_", place)?;
     text.extend_from_slice(b" {\n    label=\"")?;
     add_title(text, drawing.functions, stand, place)?;
-    text.extend_from_slice(b"\";\n    b")?;
-    number(text, place)?;
+    counted(text, b"\";\n    b", place)?;
     text.extend_from_slice(b" [shape=point];\n")
 }
 
@@ -143,14 +160,16 @@ fn add_variables<A: Allocator>(
     for variable in variables {
         match drawing.found.names.get(&variable.node) {
             None => {}
-            Some(name) => {
-                text.extend_from_slice(b"    v")?;
-                number(text, variable.node as usize)?;
-                add_ellipse(text, name.as_slice())?;
-            }
+            Some(name) => add_variable(text, variable.node, name.as_slice())?,
         }
     }
     Ok(())
+}
+
+/// Adds a variable with its name.
+fn add_variable(text: &mut Vec<u8>, node: u32, name: &[u8]) -> Result<(), AllocError> {
+    counted(text, b"    v", node as usize)?;
+    add_ellipse(text, name)
 }
 
 /// Adds what a variable looks like, behind its point.
@@ -180,30 +199,21 @@ fn add_boxes<A: Allocator>(
 fn add_box(text: &mut Vec<u8>, entry: &Entry, place: usize, k: usize) -> Result<(), AllocError> {
     text.extend_from_slice(b"    ")?;
     add_entry(text, place, k)?;
-    text.extend_from_slice(b" [label=\"")?;
-    number(text, k)?;
-    text.extend_from_slice(kind_text(entry.act.kind()).as_bytes())?;
-    text.extend_from_slice(act_text(&entry.act).as_bytes())?;
-    number(text, entry.mark)?;
-    text.extend_from_slice(b" ")?;
-    add_priority(text, entry.priority)?;
+    counted(text, b" [label=\"", k)?;
+    add_act(text, entry)?;
     text.extend_from_slice(b"\"];\n")
 }
 
 /// Adds the point of an entry.
 fn add_entry(text: &mut Vec<u8>, place: usize, k: usize) -> Result<(), AllocError> {
-    text.extend_from_slice(b"e")?;
-    number(text, place)?;
-    text.extend_from_slice(b"_")?;
-    number(text, k)
+    counted(text, b"e", place)?;
+    counted(text, b"_", k)
 }
 
 /// Adds the point of an input or output.
 fn add_parameter(text: &mut Vec<u8>, function: u32, place: usize) -> Result<(), AllocError> {
-    text.extend_from_slice(b"p")?;
-    number(text, function as usize)?;
-    text.extend_from_slice(b"_")?;
-    number(text, place)
+    counted(text, b"p", function as usize)?;
+    counted(text, b"_", place)
 }
 
 /// Adds the edges of the entries of a body.
@@ -242,17 +252,27 @@ fn add_needs<A: Allocator>(
     entry: &Entry,
 ) -> Result<(), AllocError> {
     for need in &entry.needs {
-        match need {
-            Need::Stored(scalar) => add_need(text, scope, place, scalar, b"")?,
-            Need::Closed(array) => add_need(text, scope, place, array, b"[]")?,
-            Need::At(array, scalar) => {
-                add_need(text, scope, place, scalar, b"")?;
-                add_need(text, scope, place, array, b"[*]")?;
-            }
-            Need::AtKey(array, _) => add_need(text, scope, place, array, b"[*]")?,
-        }
+        add_edge(text, scope, place, need)?;
     }
     Ok(())
+}
+
+/// Adds the edges from what is waited for.
+fn add_edge<A: Allocator>(
+    text: &mut Vec<u8>,
+    scope: &Scope<'_, A>,
+    place: usize,
+    need: &Need,
+) -> Result<(), AllocError> {
+    match need {
+        Need::Stored(scalar) => add_need(text, scope, place, scalar, b""),
+        Need::Closed(array) => add_need(text, scope, place, array, b" [label=\"[]\"]"),
+        Need::At(array, scalar) => {
+            add_need(text, scope, place, scalar, b"")?;
+            add_need(text, scope, place, array, b" [label=\"[*]\"]")
+        }
+        Need::AtKey(array, _) => add_need(text, scope, place, array, b" [label=\"[*]\"]"),
+    }
 }
 
 /// Adds the edge from what a name stands for.
@@ -267,11 +287,7 @@ fn add_need<A: Allocator>(
     add_point(text, scope, place, name)?;
     text.extend_from_slice(b" -> ")?;
     add_entry(text, place, scope.before.len() + 1)?;
-    if !label.is_empty() {
-        text.extend_from_slice(b" [label=\"")?;
-        text.extend_from_slice(label)?;
-        text.extend_from_slice(b"\"]")?;
-    }
+    text.extend_from_slice(label)?;
     text.extend_from_slice(b";\n")
 }
 
@@ -286,8 +302,7 @@ fn add_point<A: Allocator>(
         Owned::Parameter(at, _) => add_parameter(text, scope.function, at),
         Owned::Local(variable) => {
             if has_name(scope, name) {
-                text.extend_from_slice(b"v")?;
-                number(text, variable.node as usize)
+                counted(text, b"v", variable.node as usize)
             } else {
                 add_entry(text, place, giver(scope.code, scope.before, variable.node))
             }
@@ -384,8 +399,7 @@ fn add_body_edge(
         Some(opened) => {
             text.extend_from_slice(b"  ")?;
             add_entry(text, place, k)?;
-            text.extend_from_slice(b" -> b")?;
-            number(text, *opened)?;
+            counted(text, b" -> b", *opened)?;
             text.extend_from_slice(b" [style=dashed];\n")
         }
     }

@@ -14,6 +14,12 @@ pub fn number(text: &mut Vec<u8>, number: usize) -> Result<(), AllocError> {
     Ok(())
 }
 
+/// Adds words with a number behind them.
+pub fn counted(text: &mut Vec<u8>, words: &[u8], count: usize) -> Result<(), AllocError> {
+    text.extend_from_slice(words)?;
+    number(text, count)
+}
+
 /// Where the names of an entry are looked up: in the script, in the function of this number, and among the entries of its
 /// body before it.
 #[derive(Drop)]
@@ -45,20 +51,24 @@ fn add_need<A: Allocator>(
 ) -> Result<(), AllocError> {
     match need {
         Need::Stored(scalar) => add_name(text, scope, scalar),
-        Need::Closed(array) => {
-            add_name(text, scope, array)?;
-            text.extend_from_slice(b"[]")
-        }
+        Need::Closed(array) => add_array(text, scope, array, b"[]"),
         Need::At(array, scalar) => {
             add_name(text, scope, scalar)?;
-            add_name(text, scope, array)?;
-            text.extend_from_slice(b"[*]")
+            add_array(text, scope, array, b"[*]")
         }
-        Need::AtKey(array, _) => {
-            add_name(text, scope, array)?;
-            text.extend_from_slice(b"[*]")
-        }
+        Need::AtKey(array, _) => add_array(text, scope, array, b"[*]"),
     }
+}
+
+/// Adds the name of an array behind a space, and what of the array is waited for.
+fn add_array<A: Allocator>(
+    text: &mut Vec<u8>,
+    scope: &Scope<'_, A>,
+    array: &Name,
+    part: &[u8],
+) -> Result<(), AllocError> {
+    add_name(text, scope, array)?;
+    text.extend_from_slice(part)
 }
 
 /// Adds a name behind a space.
@@ -112,10 +122,7 @@ fn add_local<A: Allocator>(
 ) -> Result<(), AllocError> {
     match scope.found.names.get(&node) {
         Some(name) => text.extend_from_slice(name.as_slice()),
-        None => {
-            text.extend_from_slice(b"#")?;
-            number(text, giver(scope.code, scope.before, node))
-        }
+        None => counted(text, b"#", giver(scope.code, scope.before, node)),
     }
 }
 

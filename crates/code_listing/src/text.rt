@@ -2,7 +2,7 @@
 
 use crate::bodies::{in_order, places};
 use crate::found::{Found, Stand, What, find};
-use crate::needs::{Scope, needs, number};
+use crate::needs::{Scope, counted, needs, number};
 use flow::script::{Flow, Function};
 use itoa::Buffer;
 use std::alloc::{AllocError, Allocator, Global};
@@ -73,8 +73,7 @@ pub fn add_title<A: Allocator>(
     stand: Stand,
     place: usize,
 ) -> Result<(), AllocError> {
-    text.extend_from_slice(b"body ")?;
-    number(text, place)?;
+    counted(text, b"body ", place)?;
     text.extend_from_slice(what_text(stand.what).as_bytes())?;
     if stand.what == What::Function && stand.function > 0 {
         match functions.get(stand.function as usize - 1) {
@@ -132,16 +131,19 @@ fn add_entry<A: Allocator>(
     places: &Vec<usize>,
     entry: &Entry,
 ) -> Result<(), AllocError> {
-    text.extend_from_slice(b"  ")?;
-    number(text, scope.before.len() + 1)?;
-    text.extend_from_slice(kind_text(entry.act.kind()).as_bytes())?;
-    text.extend_from_slice(act_text(&entry.act).as_bytes())?;
-    number(text, entry.mark)?;
-    text.extend_from_slice(b" ")?;
-    add_priority(text, entry.priority)?;
+    counted(text, b"  ", scope.before.len() + 1)?;
+    add_act(text, entry)?;
     needs(text, scope, entry)?;
     add_opened(text, places, &entry.act)?;
     text.extend_from_slice(b"\n")
+}
+
+/// Adds who runs an entry, what it does, where it stands in the script, and its priority.
+pub fn add_act(text: &mut Vec<u8>, entry: &Entry) -> Result<(), AllocError> {
+    text.extend_from_slice(kind_text(entry.act.kind()).as_bytes())?;
+    counted(text, act_text(&entry.act).as_bytes(), entry.mark)?;
+    text.extend_from_slice(b" ")?;
+    add_priority(text, entry.priority)
 }
 
 /// Adds a priority.

@@ -38,22 +38,45 @@ impl fmt::Display for Complaint<'_> {
     fn fmt<W: fmt::Write>(&self, f: &mut fmt::Formatter<W>) -> fmt::Result {
         let word = self.word;
         match self.wrong {
-            Wrong::NoCommand => write!(f, "swt: no command is given"),
-            Wrong::NotACommand => write!(f, "swt: {word} is no command"),
+            Wrong::NoCommand => f.write_str("swt: no command is given"),
+            Wrong::NotACommand => write_word(f, word, " is no command"),
             Wrong::NotAnOption(command) => {
-                write!(f, "swt: {word} is no option of {}", command.name())
+                write_command(f, word, " is no option of ", command.name())
             }
-            Wrong::NoValue => write!(f, "swt: {word} has no value behind it"),
-            Wrong::Twice => write!(f, "swt: {word} stands twice"),
-            Wrong::NotWithin(least, most) => {
-                write!(f, "swt: {word} is no number from {least} to {most}")
-            }
+            Wrong::NoValue => write_word(f, word, " has no value behind it"),
+            Wrong::Twice => write_word(f, word, " stands twice"),
+            Wrong::NotWithin(least, most) => write_range(f, word, least, most),
             Wrong::OneTooMany(command) => {
-                write!(f, "swt: {word} is one file too many for {}", command.name())
+                write_command(f, word, " is one file too many for ", command.name())
             }
             Wrong::TooFew(command) => write!(f, "swt: {}", command.wanted()),
         }
     }
+}
+
+/// Writes a word with what is wrong with it.
+fn write_word<W: fmt::Write>(f: &mut fmt::Formatter<W>, word: &str, wrong: &str) -> fmt::Result {
+    write!(f, "swt: {word}{wrong}")
+}
+
+/// The same, where it is wrong for a command.
+fn write_command<W: fmt::Write>(
+    f: &mut fmt::Formatter<W>,
+    word: &str,
+    wrong: &str,
+    command: &str,
+) -> fmt::Result {
+    write!(f, "swt: {word}{wrong}{command}")
+}
+
+/// The same, where it is no number of a range.
+fn write_range<W: fmt::Write>(
+    f: &mut fmt::Formatter<W>,
+    word: &str,
+    least: u32,
+    most: u32,
+) -> fmt::Result {
+    write!(f, "swt: {word} is no number from {least} to {most}")
 }
 
 /// The first of the words that is wrong, and why; none where no word is.

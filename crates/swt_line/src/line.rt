@@ -1,5 +1,5 @@
 //! A command with its files and numbers.
-ghost use Rattle.std.specs.Prelude.{◌≡◌, ◌≤◌, codes, IfOk};
+ghost use Rattle.std.specs.Prelude.{◌≡◌, ◌≤◌, [], ◌∷◌, codes, IfOk};
 ghost use Rattle.swt_line.specs.Words.{number_given, Answers};
 ghost use Rattle.swt_line.specs.Reader.{values_given};
 ghost use Rattle.swt_line.specs.Lines.{formed_line, check_line, mean_line, code_line, run_line, replay_line, files_of, IsInRange};
@@ -74,13 +74,23 @@ impl Line {
         match self {
             Line::Check { files } => copies(alloc, files.as_slice()),
             Line::Mean { file, .. } | Line::Code { file, .. } | Line::Run { file, .. } => {
-                Ok(Vec::from_array(alloc, [file.copy(alloc)?])?)
+                one(alloc, file)
             }
-            Line::Replay { file, trace } => {
-                Ok(Vec::from_array(alloc, [file.copy(alloc)?, trace.copy(alloc)?])?)
-            }
+            Line::Replay { file, trace } => two(alloc, file, trace),
         }
     }
+}
+
+fn one(alloc: Global, file: &Word) -> Result<Vec<Word>, AllocError>
+    ensures { IfOk result (λ files. files.items ≡ file.now ∷ []) }
+{
+    Ok(Vec::from_array(alloc, [file.copy(alloc)?])?)
+}
+
+fn two(alloc: Global, first: &Word, second: &Word) -> Result<Vec<Word>, AllocError>
+    ensures { IfOk result (λ files. files.items ≡ first.now ∷ second.now ∷ []) }
+{
+    Ok(Vec::from_array(alloc, [first.copy(alloc)?, second.copy(alloc)?])?)
 }
 
 fn copies(alloc: Global, words: &[Word]) -> Result<Vec<Word>, AllocError>

@@ -3,6 +3,7 @@ ghost use Rattle.std.specs.Prelude.{◌≡◌, IfOk, Some, drop, map, false};
 ghost use Rattle.std.specs.List.{list_all};
 ghost use Rattle.clap.specs.Words.{app_of, with_rule};
 ghost use Rattle.swt_line.specs.Commands.{options_of};
+ghost use Rattle.swt_line.specs.declared.command.Command.TheVariants.{Check, Mean, Run};
 ghost use Rattle.swt_line.specs.Reader.{IsRead, app_with, files_given, is_plain, option_rule};
 
 use crate::command::Command;
@@ -48,21 +49,39 @@ fn is_plain(word: &Word) -> bool
 fn reader<'a>(alloc: Global, command: Command) -> Result<clap::Command<'a>, AllocError>
     ensures { IfOk result (λ reader. app_of reader ≡ app_with (options_of command)) }
 {
+    match command {
+        Command::Check | Command::Code | Command::Replay => bare(alloc),
+        Command::Mean => mean_reader(alloc),
+        Command::Run => run_reader(alloc),
+    }
+}
+
+/// The reader of files alone.
+fn bare<'a>(alloc: Global) -> Result<clap::Command<'a>, AllocError>
+    ensures { IfOk result (λ reader. app_of reader ≡ app_with (options_of Check)) }
+{
     let files = Arg::new(alloc, "FILE").action(ArgAction::Append);
-    let bare = clap::Command::new(alloc, "swt")
+    clap::Command::new(alloc, "swt")
         .no_binary_name(true)
         .disable_help_flag(true)
-        .arg(files)?;
-    match command {
-        Command::Check | Command::Code | Command::Replay => Ok(bare),
-        Command::Mean => with_option(alloc, bare, "--rounds", "rounds"),
-        Command::Run => {
-            let one = with_option(alloc, bare, "--engines", "engines")?;
-            let two = with_option(alloc, one, "--workers", "workers")?;
-            let three = with_option(alloc, two, "--steps", "steps")?;
-            with_option(alloc, three, "--trace", "trace")
-        }
-    }
+        .arg(files)
+}
+
+/// The reader of `mean`.
+fn mean_reader<'a>(alloc: Global) -> Result<clap::Command<'a>, AllocError>
+    ensures { IfOk result (λ reader. app_of reader ≡ app_with (options_of Mean)) }
+{
+    with_option(alloc, bare(alloc)?, "--rounds", "rounds")
+}
+
+/// The reader of `run`.
+fn run_reader<'a>(alloc: Global) -> Result<clap::Command<'a>, AllocError>
+    ensures { IfOk result (λ reader. app_of reader ≡ app_with (options_of Run)) }
+{
+    let engines = with_option(alloc, bare(alloc)?, "--engines", "engines")?;
+    let workers = with_option(alloc, engines, "--workers", "workers")?;
+    let steps = with_option(alloc, workers, "--steps", "steps")?;
+    with_option(alloc, steps, "--trace", "trace")
 }
 
 /// The reader with one more option, of one value; `long` is its name behind the dashes. It may be used once.
