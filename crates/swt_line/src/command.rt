@@ -2,6 +2,8 @@
 ghost use Rattle.std.specs.Prelude.{◌≡◌, Some};
 ghost use Rattle.swt_line.specs.Commands.{command_of, has_option, is_flag};
 
+use crate::words::is;
+
 /// What the program is told to do.
 #[derive(Clone, Copy, PartialEq, Eq, Debug, Drop)]
 pub enum Command {
@@ -22,15 +24,15 @@ impl Command {
     pub fn of(word: &str) -> Option<Command>
         ensures { result ≡ command_of word.now }
     {
-        if word == "check" {
+        if is(word, "check") {
             Some(Command::Check)
-        } else if word == "mean" {
+        } else if is(word, "mean") {
             Some(Command::Mean)
-        } else if word == "code" {
+        } else if is(word, "code") {
             Some(Command::Code)
-        } else if word == "run" {
+        } else if is(word, "run") {
             Some(Command::Run)
-        } else if word == "replay" {
+        } else if is(word, "replay") {
             Some(Command::Replay)
         } else {
             None
@@ -42,9 +44,9 @@ impl Command {
         ensures { result ≡ is_flag self word.now }
     {
         match self {
-            Command::Code => word == "--dot",
-            Command::Run => word == "--explain" || word == "--progress",
-            Command::Check | Command::Mean | Command::Replay => word == "--explain",
+            Command::Code => is(word, "--dot"),
+            Command::Run => is(word, "--explain") || is(word, "--progress"),
+            Command::Check | Command::Mean | Command::Replay => is(word, "--explain"),
         }
     }
 
@@ -53,9 +55,12 @@ impl Command {
         ensures { result ≡ has_option self word.now }
     {
         match self {
-            Command::Mean => word == "--rounds",
+            Command::Mean => is(word, "--rounds"),
             Command::Run => {
-                word == "--engines" || word == "--workers" || word == "--steps" || word == "--trace"
+                is(word, "--engines")
+                    || is(word, "--workers")
+                    || is(word, "--steps")
+                    || is(word, "--trace")
             }
             Command::Check | Command::Code | Command::Replay => false,
         }

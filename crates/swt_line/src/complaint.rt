@@ -3,7 +3,7 @@ ghost use Rattle.std.specs.Prelude.{◌≤◌, length};
 
 use crate::command::Command;
 use crate::word::Word;
-use crate::words::number_within;
+use crate::words::{is, number_within};
 use std::fmt;
 
 /// What is wrong with a word, or what is missing.
@@ -169,11 +169,11 @@ fn wrong_value(option: &str, word: &str) -> Option<Wrong> {
 
 /// The numbers that an option may have, where it has a number.
 fn range_of(option: &str) -> Option<(u32, u32)> {
-    if option == "--rounds" {
+    if is(option, "--rounds") {
         Some((1, u32::MAX))
-    } else if option == "--steps" {
+    } else if is(option, "--steps") {
         Some((0, u32::MAX))
-    } else if option == "--engines" || option == "--workers" {
+    } else if is(option, "--engines") || is(option, "--workers") {
         Some((1, 63))
     } else {
         None

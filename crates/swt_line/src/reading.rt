@@ -1,5 +1,5 @@
 //! The words behind a command, read by `clap`.
-ghost use Rattle.std.specs.Prelude.{◌≡◌, IfOk, Some, drop, map, false};
+ghost use Rattle.std.specs.Prelude.{◌≡◌, [], ◌∷◌, IfOk, Some, codes, drop, map, false};
 ghost use Rattle.std.specs.List.{list_all};
 ghost use Rattle.clap.specs.Words.{app_of, with_rule};
 ghost use Rattle.swt_line.specs.Commands.{options_of};
@@ -78,10 +78,16 @@ fn mean_reader<'a>(alloc: Global) -> Result<clap::Command<'a>, AllocError>
 fn run_reader<'a>(alloc: Global) -> Result<clap::Command<'a>, AllocError>
     ensures { IfOk result (λ reader. app_of reader ≡ app_with (options_of Run)) }
 {
-    let engines = with_option(alloc, bare(alloc)?, "--engines", "engines")?;
-    let workers = with_option(alloc, engines, "--workers", "workers")?;
-    let steps = with_option(alloc, workers, "--steps", "steps")?;
+    let steps = with_option(alloc, seats_reader(alloc)?, "--steps", "steps")?;
     with_option(alloc, steps, "--trace", "trace")
+}
+
+/// The reader of engines and workers.
+fn seats_reader<'a>(alloc: Global) -> Result<clap::Command<'a>, AllocError>
+    ensures { IfOk result (λ reader. app_of reader ≡ app_with (codes "--engines" ∷ codes "--workers" ∷ [])) }
+{
+    let engines = with_option(alloc, bare(alloc)?, "--engines", "engines")?;
+    with_option(alloc, engines, "--workers", "workers")
 }
 
 /// The reader with one more option, of one value; `long` is its name behind the dashes. It may be used once.

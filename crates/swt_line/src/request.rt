@@ -1,6 +1,6 @@
 //! The command line, read.
 ghost use Rattle.std.specs.Prelude.{◌≡◌, codes, IfOk};
-ghost use Rattle.swt_line.specs.Lines.{IsInRange};
+ghost use Rattle.swt_line.specs.Lines.{formed_line, IsInRange};
 ghost use Rattle.swt_line.specs.Requests.{behind_command, explain_given, progress_given, request_of};
 ghost use Rattle.swt_line.specs.Words.{often, unflagged, Answers};
 
@@ -41,8 +41,7 @@ fn read_command(alloc: Global, command: Command, words: &[Word]) -> Result<Reque
     ensures request { Answers (behind_command command words.now) result }
     ensures in_range { IfOk result (λ request. IsInRange request.line) }
 {
-    let others = unflagged(alloc, command, words)?;
-    let line = line::read(alloc, command, others.as_slice(), often("--dot", words))?;
+    let line = read_line(alloc, command, words)?;
     let explain = explains(command, words)?;
     let progress = shows_progress(command, words)?;
     Ok(Request {
@@ -50,6 +49,15 @@ fn read_command(alloc: Global, command: Command, words: &[Word]) -> Result<Reque
         explain,
         progress,
     })
+}
+
+/// The line of a command with these words behind it.
+fn read_line(alloc: Global, command: Command, words: &[Word]) -> Result<Line, LineFault>
+    ensures line { Answers (formed_line command (unflagged command words.now) (often (codes "--dot") words.now)) result }
+    ensures in_range { IfOk result IsInRange }
+{
+    let others = unflagged(alloc, command, words)?;
+    line::read(alloc, command, others.as_slice(), often("--dot", words))
 }
 
 /// How often an option stands among the words.

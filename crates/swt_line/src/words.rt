@@ -1,5 +1,6 @@
-//! What the value of an option gives, and the only file.
+//! What the value of an option gives, the only file, and whether a word is another.
 ghost use Rattle.std.specs.Prelude.{◌≡◌, ◌≤◌, IfSome, option_map, option_to_list};
+ghost use Rattle.std.specs.Str.{bytes_eq};
 ghost use Rattle.values.specs.Numbers.{number_in};
 ghost use Rattle.swt_line.specs.Words.{flag_given, number_given, number_within, only, optional, Answers};
 
@@ -62,4 +63,11 @@ pub fn optional(alloc: Global, text: Option<&str>) -> Result<Option<Word>, LineF
         None => Ok(None),
         Some(text) => Ok(Some(Word::new(String::from_str(alloc, text)?))),
     }
+}
+
+/// Whether a word is this one.
+pub fn is(word: &str, other: &str) -> bool
+    ensures { result ≡ bytes_eq word.now other.now }
+{
+    word == other
 }
