@@ -35,19 +35,30 @@ pub fn graph<A: Allocator>(
 ) -> Result<Vec<u8>, AllocError> {
     let found = find(alloc, flow)?;
     let seats = in_order(alloc, &found)?;
-    let places = places(alloc, &seats)?;
+    draw(alloc, flow, code, &found, &seats)
+}
+
+/// The graph with these bodies.
+fn draw<A: Allocator>(
+    alloc: Global,
+    flow: &Flow<A>,
+    code: &Code,
+    found: &Found,
+    seats: &Vec<Seat>,
+) -> Result<Vec<u8>, AllocError> {
+    let places = places(alloc, seats)?;
     let drawing = Drawing {
         code,
-        found: &found,
+        found,
         functions: &flow.functions,
         places: &places,
     };
     let mut text = Vec::new(alloc);
-    add_bodies(&mut text, &drawing, &seats)?;
+    add_bodies(&mut text, &drawing, seats)?;
     Ok(text)
 }
 
-/// Adds the graph with these bodies.
+/// Adds the bodies, between the first line and the last.
 fn add_bodies<A: Allocator>(
     text: &mut Vec<u8>,
     drawing: &Drawing<'_, A>,

@@ -1,6 +1,6 @@
 //! Bodies and entries.
 
-use crate::bodies::{in_order, places};
+use crate::bodies::{Seat, in_order, places};
 use crate::found::{Found, Stand, What, find};
 use crate::needs::{Scope, counted, needs, number};
 use flow::script::{Flow, Function};
@@ -21,14 +21,25 @@ pub fn listing<A: Allocator>(
 ) -> Result<Vec<u8>, AllocError> {
     let found = find(alloc, flow)?;
     let seats = in_order(alloc, &found)?;
-    let places = places(alloc, &seats)?;
+    list(alloc, flow, code, &found, &seats)
+}
+
+/// The text of these bodies.
+fn list<A: Allocator>(
+    alloc: Global,
+    flow: &Flow<A>,
+    code: &Code,
+    found: &Found,
+    seats: &Vec<Seat>,
+) -> Result<Vec<u8>, AllocError> {
+    let places = places(alloc, seats)?;
     let mut text = Vec::new(alloc);
     for place in 0..seats.len() {
         add_body(
             &mut text,
             flow,
             code,
-            &found,
+            found,
             &places,
             seats[place].body,
             place,
