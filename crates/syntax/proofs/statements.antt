@@ -1,3 +1,4 @@
 pub mod Commands
 pub mod Declarations
+pub mod Ranges
 pub mod Statements
