@@ -170,27 +170,13 @@ impl Board {
         if !self.is_going() {
             return Err((done, Refusal::Ended));
         }
-        let item = done.item();
-        let Some(job) = self.core.running_job(worker, item) else {
+        let Some(job) = self.core.running_job(worker, done.item()) else {
             return Err((done, Refusal::NotYours));
         };
         if !self.core.is_done_for(&self.program, job, &done) {
             return Err((done, Refusal::Stranger));
         }
-        let Ok(()) = self.core.end(
-            &self.program,
-            self.most_names,
-            item,
-            job,
-            &done,
-            &mut self.known,
-        )
-        else {
-            return Err((done, Refusal::Memory));
-        };
-        self.history.push_reserved(Event::End { worker, item });
-        self.answers = done.into_list();
-        Ok(())
+        self.end_own(worker, done)
     }
 
     /// Ends the item on the worker as `end` does, where the work is known to be its own: entry and answers are not looked at again.
