@@ -33,6 +33,19 @@ fn work_on(board: &mut Board, worker: u8, item: u64) -> Result<(), Refusal>
     end_on(board, worker, done)
 }
 
+/// Begins the item, computes it and ends it as the worker's own.
+fn own_on(board: &mut Board, worker: u8, item: u64) -> Result<(), Refusal>
+    requires { IsWorker worker }
+{
+    let work = board.begin(worker, item)?;
+    let Ok(done) = work.compute() else {
+        return Err(Refusal::Memory);
+    };
+    board
+        .end_own(worker, done)
+        .map_err(|(_done, refused)| refused)
+}
+
 /// Whether the board has printed the one line `hello`.
 fn prints_hello(board: &Board) -> bool {
     match board.lines().as_slice() {
@@ -61,6 +74,20 @@ fn hello_is_printed(rt: HostRuntime) {
     assert!(rt; board.is_quiet() && board.fault().is_none() && prints_hello(&board));
     let last = Event::End { worker: 2, item: 2 };
     assert_eq!(rt; board.history().last(), Some(&last));
+}
+
+/// An item that is ended as the worker's own has begun and ended in the history, once each, and is over.
+#[test]
+fn an_own_item_ends(rt: HostRuntime) {
+    let code = hello(rt.alloc()).expect(&rt, "a code");
+    let mut board = Board::new(rt.alloc(), code, 100).expect(&rt, "memory");
+    assert_eq!(rt; own_on(&mut board, 3, 1), Ok(()));
+    let events = [
+        Event::Begin { worker: 3, item: 1 },
+        Event::End { worker: 3, item: 1 },
+    ];
+    assert!(rt; board.history().as_slice() == events.as_slice());
+    assert_eq!(rt; (board.kind(1), board.kind(2)), (None, Some(Kind::Leaf)));
 }
 
 #[test]
