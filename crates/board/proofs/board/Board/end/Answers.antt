@@ -6,6 +6,7 @@ use Rattle.board_frames.specs.View.{frames_view, job_view}
 use Rattle.board.specs.Board.{IsGoing, Seen}
 use Rattle.board.specs.Inside.{seen_of}
 use Rattle.board.specs.Working.{IsWorkAt}
+use Rattle.board.proofs.Ends.{ok_from}
 use Rattle.board.proofs.Own.{free_core, not_theirs, not_true, theirs}
 use Rattle.board.proofs.OwnWork.{job_there, own_seen, running_live, seen_own}
 use Rattle.board.proofs.board.Board.end.Goals as goal
@@ -38,3 +39,11 @@ end_own-requires-clause-own c =
     let none = free_core c.self.inside.program c.self.invariant.whole (map event_view c.self.inside.history.items) c.self.inside.core c.self.invariant.stand here.0 in
     let at : IsWorkAt c.self.inside.program (frames_view c.self.inside.core.world.instances.slots) (cells_view c.self.inside.core.world.store.cells) (job_view c.in-Some.job) c.args.done = c.is_done_for.ensures.0 (search rules) in
     rw (← c.self.view_is) (own_seen c.self.inside c.self.invariant none c.args.worker c.item.result (job_view c.in-Some.job) c.in-Some.ensures.some c.args.done (sym c.item.ensures) at)
+
+pub returns-clause-own : goal.returns-clause-own
+returns-clause-own c =
+    let going : IsGoing c.args.self.now = search rules in
+    let here : IsGoing (seen_of c.self.inside) = subst (λ (b : Seen). IsGoing b) (sym c.self.view_is) going in
+    let none = free_core c.self.inside.program c.self.invariant.whole (map event_view c.self.inside.history.items) c.self.inside.core c.self.invariant.stand here.0 in
+    let at : IsWorkAt c.self.inside.program (frames_view c.self.inside.core.world.instances.slots) (cells_view c.self.inside.core.world.store.cells) (job_view c.in-Some.job) c.args.done = c.is_done_for.ensures.0 (search rules) in
+    ok_from c.end_own.result (λ _. rw (← c.self.view_is) (own_seen c.self.inside c.self.invariant none c.args.worker c.item.result (job_view c.in-Some.job) c.in-Some.ensures.some c.args.done (sym c.item.ensures) at))
