@@ -1,16 +1,16 @@
 //! Trees that are numbered where they lie.
 
 ghost use Rattle.std.specs.Prelude.{◌≡◌, IfOk};
-ghost use Rattle.syntax_trees.specs.View.{part_of, tree_of};
-ghost use Rattle.syntax_trees.specs.Numbered.{part_size, tree_size};
+ghost use Rattle.syntax_trees.specs.View.{part_of};
+ghost use Rattle.syntax_trees.specs.Numbered.{part_size};
 
 use lexer::token::Span;
 use std::alloc::{AllocError, Global};
 use std::process::Abort;
 use std::test::Fail;
 use syntax_trees::stmt;
-use syntax_trees::tree::{Base, Decl, Item, Name, Script, Shape, StmtKind};
-use tree_numbers::{number, part};
+use syntax_trees::tree::{Base, Decl, Item, Name, Shape, StmtKind};
+use tree_numbers::part;
 
 /// `int x;` as a part of a script, with these numbers of the statement and of the name.
 fn declaration(alloc: Global, statement: u32, word: u32) -> Result<Item<Global>, AllocError>
@@ -29,24 +29,6 @@ fn declaration(alloc: Global, statement: u32, word: u32) -> Result<Item<Global>,
     let mut declaration = stmt(Span { from: 0, to: 3 }, 6, StmtKind::Declare(decl, None));
     declaration.number = statement;
     Ok(Item::Statement(Box::new(alloc, declaration)?))
-}
-
-/// The script that is that part alone.
-fn declared(alloc: Global, statement: u32, word: u32) -> Result<Script<Global>, AllocError>
-    ensures { IfOk result (λ s. tree_size (tree_of s) ≡ 2) }
-{
-    let mut items = Vec::new(alloc);
-    items.push(declaration(alloc, statement, word)?)?;
-    Ok(Script { items })
-}
-
-#[test]
-fn numbers_are_put_in_their_places(rt: HostRuntime) -> Result<(), Fail> {
-    let mut script = declared(rt.alloc(), 7, 7)?;
-    number(&mut script);
-    let wanted = declared(rt.alloc(), 1, 2)?;
-    assert!(rt; script == wanted);
-    Ok(())
 }
 
 /// A part is numbered from the number that it is given, and the next one is behind its own.

@@ -1,12 +1,12 @@
 -- The view of each variant, and lists that are viewed one by one.
-use Rattle.std.proofs.Common.{◌≡◌, ℕ, Bool, false, ◌<◌, ◌≤◌, ◌+◌, List, [], ◌∷◌, Option, map, length, get_or, rules, ap, subst, refl, sym, ◌∙◌, Vec, Box}
+use Rattle.std.proofs.Common.{◌≡◌, ℕ, ◌<◌, ◌≤◌, ◌+◌, List, [], ◌∷◌, Option, map, length, get_or, rules, ap, subst, refl, sym, ◌∙◌, Vec, Box}
 use Rattle.std.proofs.lemmas.List.{length-map, get_or-map}
 use Rattle.std.proofs.lemmas.List.Sums.{get_or-le-sum_by, sum_by-cons}
 use Rattle.std.specs.List.{sum_by}
 use Rattle.std.specs.Prelude.{option_map}
 use Rattle.syntax_trees.specs.Tree.{call, chain, expressions_of, Word, Over, Statement, statements_of, Body, body, loop, waits}
 use Rattle.syntax_trees.specs.View.{word_of, expression_view, form_view, words_view, over_of, statement_view, command_view, body_view}
-use Rattle.syntax_trees.specs.Numbered.{statement_room, statements_room, body_room, statement_size, body_size}
+use Rattle.syntax_trees.specs.Numbered.{statements_size, statement_size, body_size}
 use Rattle.syntax_trees.specs.declared.tree.Name.{Name}
 use Rattle.syntax_trees.specs.declared.tree.Operator.{Operator}
 use Rattle.syntax_trees.specs.declared.tree.Expr.{Expr}
@@ -29,19 +29,16 @@ size_of_element f size xs i x below is =
     let same : f x ≡ get_or (map f xs) i (f x) = ap f is ∙ sym (get_or-map f xs i x (f x) below) in
     subst (λ y. size y ≤ sum_by size (map f xs)) (sym same) here
 
--- the room of statements, and of a block
-pub room-statements_of : (kept : Bool) (ss : List Statement) → statements_room kept (statements_of ss) ≡ sum_by (statement_room kept) ss
-room-statements_of kept [] = refl
-room-statements_of kept (s ∷ ss) = ap (λ n. statement_room kept s + n) (room-statements_of kept ss) ∙ sym (sum_by-cons (statement_room kept) s ss)
+-- the size of statements, and of a block
+pub size-statements_of : (ss : List Statement) → statements_size (statements_of ss) ≡ sum_by statement_size ss
+size-statements_of [] = refl
+size-statements_of (s ∷ ss) = ap (λ n. statement_size s + n) (size-statements_of ss) ∙ sym (sum_by-cons statement_size s ss)
 
 pub view-Block : (A : Type 0) → (b : Block A) → body_view b ≡ body (out-Block A b).from (statements_of (map statement_view (out-Block A b).statements.items))
 view-Block A b = search (rules, statement_lemmas)
 
-pub block-room : (A : Type 0) (kept : Bool) (b : Block A) → body_room kept (body_view b) ≡ sum_by (statement_room kept) (map statement_view (out-Block A b).statements.items)
-block-room A kept b = ap (body_room kept) (view-Block A b) ∙ room-statements_of kept (map statement_view (out-Block A b).statements.items)
-
 pub block-size : (A : Type 0) → (b : Block A) → body_size (body_view b) ≡ sum_by statement_size (map statement_view (out-Block A b).statements.items)
-block-size A b = block-room A false b
+block-size A b = ap body_size (view-Block A b) ∙ size-statements_of (map statement_view (out-Block A b).statements.items)
 
 pub view-Foreach : {A : Type 0} → (h : Box (Header A) A) (b : Box (Block A) A) → command_view (Foreach h b) ≡ loop (word_of h.value.value) (option_map word_of h.value.key) (over_of h.value.source) (body_view b.value)
 view-Foreach h b = search (rules, statement_lemmas)

@@ -1,48 +1,44 @@
--- A tree with its numbers kept, or with numbers in reading order: each node before its parts, and each name. Blocks and imports have none. States docs/LANGUAGE.md: Grammar.
-use Rattle.std.specs.Prelude.{ℕ, ◌+◌, Bool, false, cond, List, [], ◌∷◌, Option, Some, None, option_map, sum_by}
+-- A tree with its numbers in reading order: each node before its parts, and each name. Blocks and imports have none. States docs/LANGUAGE.md: Grammar.
+use Rattle.std.specs.Prelude.{ℕ, ◌+◌, List, [], ◌∷◌, Option, Some, None, option_map, sum_by}
 use Rattle.syntax_trees.specs.Tree.{Word, Node, Expression, expression, Form, number, text, truth, variable, element, call, prefixed, chain, Expressions, no_expressions, and_expression, Declaration, RightSide, value, list, Calling, Over, array, range, Statement, statement, Statements, no_statements, and_statement, Command, declare, assign, write, assign_all, calls, choice, choice_else, loop, waits, Body, body, Composite, Part, import, function, single, Tree}
 
--- ROOM: how many new numbers the copy of a thing takes
-
--- a node or a name: none where it keeps its own
-abbrev pub unit : Bool → ℕ
-unit kept = cond kept 0 1
+-- SIZES: how many numbers a thing takes
 
 -- an expression: its node, and its parts
 abbrev mutual
-  pub expression_room : Bool → Expression → ℕ
-  expression_room kept (expression node f) = unit kept + form_room kept f
+  pub expression_size : Expression → ℕ
+  expression_size (expression node f) = 1 + form_size f
 
-  pub form_room : Bool → Form → ℕ
-  form_room kept (number z) = 0
-  form_room kept (text t) = 0
-  form_room kept (truth b) = 0
-  form_room kept (variable w) = unit kept
-  form_room kept (element w e) = unit kept + expression_room kept e
-  form_room kept (call w es) = unit kept + expressions_room kept es
-  form_room kept (prefixed p e) = expression_room kept e
-  form_room kept (chain os es) = expressions_room kept es
+  pub form_size : Form → ℕ
+  form_size (number z) = 0
+  form_size (text t) = 0
+  form_size (truth b) = 0
+  form_size (variable w) = 1
+  form_size (element w e) = 1 + expression_size e
+  form_size (call w es) = 1 + expressions_size es
+  form_size (prefixed p e) = expression_size e
+  form_size (chain os es) = expressions_size es
 
-  pub expressions_room : Bool → Expressions → ℕ
-  expressions_room kept no_expressions = 0
-  expressions_room kept (and_expression e es) = expression_room kept e + expressions_room kept es
+  pub expressions_size : Expressions → ℕ
+  expressions_size no_expressions = 0
+  expressions_size (and_expression e es) = expression_size e + expressions_size es
 
 -- a name
-abbrev pub word_room : Bool → Word → ℕ
-word_room kept w = unit kept
+abbrev pub word_size : Word → ℕ
+word_size w = 1
 
 -- a declaration: its name
-abbrev pub declaration_room : Bool → Declaration → ℕ
-declaration_room kept d = unit kept
+abbrev pub declaration_size : Declaration → ℕ
+declaration_size d = 1
 
 -- a right side: its expression, or the literal and its elements
-abbrev pub right_room : Bool → RightSide → ℕ
-right_room kept (value e) = expression_room kept e
-right_room kept (list node es) = unit kept + sum_by (expression_room kept) es
+abbrev pub right_size : RightSide → ℕ
+right_size (value e) = expression_size e
+right_size (list node es) = 1 + sum_by expression_size es
 
 -- a call that is no expression: its node, its name and its arguments
-abbrev pub calling_room : Bool → Calling → ℕ
-calling_room kept c = unit kept + unit kept + sum_by (expression_room kept) c.arguments
+abbrev pub calling_size : Calling → ℕ
+calling_size c = 1 + 1 + sum_by expression_size c.arguments
 
 -- nothing has no number
 abbrev pub option_size : {X : Type 0} → (X → ℕ) → Option X → ℕ
@@ -50,60 +46,56 @@ option_size size None = 0
 option_size size (Some x) = size x
 
 -- what a loop goes over: a name, or a range's ends and its step
-abbrev pub over_room : Bool → Over → ℕ
-over_room kept (array w) = unit kept
-over_room kept (range low high step) = expression_room kept low + expression_room kept high + option_size (expression_room kept) step
+abbrev pub over_size : Over → ℕ
+over_size (array w) = 1
+over_size (range low high step) = expression_size low + expression_size high + option_size expression_size step
 
 -- a statement: its node, and its parts
 abbrev mutual
-  pub statement_room : Bool → Statement → ℕ
-  statement_room kept (statement node c) = unit kept + command_room kept c
+  pub statement_size : Statement → ℕ
+  statement_size (statement node c) = 1 + command_size c
 
-  pub command_room : Bool → Command → ℕ
-  command_room kept (declare d r) = unit kept + option_size (right_room kept) r
-  command_room kept (assign w r) = unit kept + right_room kept r
-  command_room kept (write w i e) = unit kept + expression_room kept i + expression_room kept e
-  command_room kept (assign_all ws c) = sum_by (word_room kept) ws + calling_room kept c
-  command_room kept (calls p c) = calling_room kept c
-  command_room kept (choice e b) = expression_room kept e + body_room kept b
-  command_room kept (choice_else e b other) = expression_room kept e + body_room kept b + body_room kept other
-  command_room kept (loop w k o b) = unit kept + option_size (word_room kept) k + over_room kept o + body_room kept b
-  command_room kept (waits ws b) = sum_by (word_room kept) ws + body_room kept b
+  pub command_size : Command → ℕ
+  command_size (declare d r) = 1 + option_size right_size r
+  command_size (assign w r) = 1 + right_size r
+  command_size (write w i e) = 1 + expression_size i + expression_size e
+  command_size (assign_all ws c) = sum_by word_size ws + calling_size c
+  command_size (calls p c) = calling_size c
+  command_size (choice e b) = expression_size e + body_size b
+  command_size (choice_else e b other) = expression_size e + body_size b + body_size other
+  command_size (loop w k o b) = 1 + option_size word_size k + over_size o + body_size b
+  command_size (waits ws b) = sum_by word_size ws + body_size b
 
-  pub body_room : Bool → Body → ℕ
-  body_room kept (body from ss) = statements_room kept ss
+  pub body_size : Body → ℕ
+  body_size (body from ss) = statements_size ss
 
-  pub statements_room : Bool → Statements → ℕ
-  statements_room kept no_statements = 0
-  statements_room kept (and_statement s ss) = statement_room kept s + statements_room kept ss
+  pub statements_size : Statements → ℕ
+  statements_size no_statements = 0
+  statements_size (and_statement s ss) = statement_size s + statements_size ss
 
 -- a function: its node, its outputs, its name, its inputs and its body
-abbrev pub composite_room : Bool → Composite → ℕ
-composite_room kept f = unit kept + sum_by (declaration_room kept) f.outputs + unit kept + sum_by (declaration_room kept) f.inputs + body_room kept f.body
+abbrev pub composite_size : Composite → ℕ
+composite_size f = 1 + sum_by declaration_size f.outputs + 1 + sum_by declaration_size f.inputs + body_size f.body
 
 -- a part of a script
-abbrev pub part_room : Bool → Part → ℕ
-part_room kept (import s) = 0
-part_room kept (function f) = composite_room kept f
-part_room kept (single s) = statement_room kept s
+abbrev pub part_size : Part → ℕ
+part_size (import s) = 0
+part_size (function f) = composite_size f
+part_size (single s) = statement_size s
 
 -- a script
-abbrev pub tree_room : Bool → Tree → ℕ
-tree_room kept t = sum_by (part_room kept) t
+abbrev pub tree_size : Tree → ℕ
+tree_size t = sum_by part_size t
 
--- COPIED: the same thing, with its own numbers, or with those in reading order from n on
-
--- the number of a node or a name: its own, or the next
-abbrev pub given : Bool → ℕ → ℕ → ℕ
-given kept n own = cond kept own n
+-- NUMBERED: the same thing with its numbers in reading order from n on
 
 -- a name
-abbrev pub copied_word : Bool → ℕ → Word → Word
-copied_word kept n w = record { number = given kept n w.number; span = w.span; text = w.text }
+abbrev pub numbered_word : ℕ → Word → Word
+numbered_word n w = record { number = n; span = w.span; text = w.text }
 
 -- a node
-abbrev pub copied_node : Bool → ℕ → Node → Node
-copied_node kept n node = record { number = given kept n node.number; first = node.first; to = node.to }
+abbrev pub numbered_node : ℕ → Node → Node
+numbered_node n node = record { number = n; first = node.first; to = node.to }
 
 -- a list: each from the number behind those of the one before
 abbrev pub numbered_each : {X : Type 0} → (ℕ → X → X) → (X → ℕ) → ℕ → List X → List X
@@ -112,187 +104,92 @@ numbered_each numbered size n (x ∷ xs) = numbered n x ∷ numbered_each number
 
 -- an expression: its node, then its parts
 abbrev mutual
-  pub copied_expression : Bool → ℕ → Expression → Expression
-  copied_expression kept n (expression node f) = expression (copied_node kept n node) (copied_form kept (n + unit kept) f)
+  pub numbered_expression : ℕ → Expression → Expression
+  numbered_expression n (expression node f) = expression (numbered_node n node) (numbered_form (n + 1) f)
 
-  pub copied_form : Bool → ℕ → Form → Form
-  copied_form kept n (number z) = number z
-  copied_form kept n (text t) = text t
-  copied_form kept n (truth b) = truth b
-  copied_form kept n (variable w) = variable (copied_word kept n w)
-  copied_form kept n (element w e) = element (copied_word kept n w) (copied_expression kept (n + unit kept) e)
-  copied_form kept n (call w es) = call (copied_word kept n w) (copied_expressions kept (n + unit kept) es)
-  copied_form kept n (prefixed p e) = prefixed p (copied_expression kept n e)
-  copied_form kept n (chain os es) = chain os (copied_expressions kept n es)
+  pub numbered_form : ℕ → Form → Form
+  numbered_form n (number z) = number z
+  numbered_form n (text t) = text t
+  numbered_form n (truth b) = truth b
+  numbered_form n (variable w) = variable (numbered_word n w)
+  numbered_form n (element w e) = element (numbered_word n w) (numbered_expression (n + 1) e)
+  numbered_form n (call w es) = call (numbered_word n w) (numbered_expressions (n + 1) es)
+  numbered_form n (prefixed p e) = prefixed p (numbered_expression n e)
+  numbered_form n (chain os es) = chain os (numbered_expressions n es)
 
-  pub copied_expressions : Bool → ℕ → Expressions → Expressions
-  copied_expressions kept n no_expressions = no_expressions
-  copied_expressions kept n (and_expression e es) = and_expression (copied_expression kept n e) (copied_expressions kept (n + expression_room kept e) es)
+  pub numbered_expressions : ℕ → Expressions → Expressions
+  numbered_expressions n no_expressions = no_expressions
+  numbered_expressions n (and_expression e es) = and_expression (numbered_expression n e) (numbered_expressions (n + expression_size e) es)
 
 -- a declaration
-abbrev pub copied_declaration : Bool → ℕ → Declaration → Declaration
-copied_declaration kept n d = record { base = d.base; name = copied_word kept n d.name; shape = d.shape }
+abbrev pub numbered_declaration : ℕ → Declaration → Declaration
+numbered_declaration n d = record { base = d.base; name = numbered_word n d.name; shape = d.shape }
 
 -- a right side
-abbrev pub copied_right : Bool → ℕ → RightSide → RightSide
-copied_right kept n (value e) = value (copied_expression kept n e)
-copied_right kept n (list node es) = list (copied_node kept n node) (numbered_each (copied_expression kept) (expression_room kept) (n + unit kept) es)
+abbrev pub numbered_right : ℕ → RightSide → RightSide
+numbered_right n (value e) = value (numbered_expression n e)
+numbered_right n (list node es) = list (numbered_node n node) (numbered_each numbered_expression expression_size (n + 1) es)
 
 -- a call that is no expression
-abbrev pub copied_calling : Bool → ℕ → Calling → Calling
-copied_calling kept n c = record {
-  node = copied_node kept n c.node;
-  name = copied_word kept (n + unit kept) c.name;
-  arguments = numbered_each (copied_expression kept) (expression_room kept) (n + unit kept + unit kept) c.arguments;
+abbrev pub numbered_calling : ℕ → Calling → Calling
+numbered_calling n c = record {
+  node = numbered_node n c.node;
+  name = numbered_word (n + 1) c.name;
+  arguments = numbered_each numbered_expression expression_size (n + 1 + 1) c.arguments;
 }
 
 -- what a loop goes over
-abbrev pub copied_over : Bool → ℕ → Over → Over
-copied_over kept n (array w) = array (copied_word kept n w)
-copied_over kept n (range low high step) =
-    range (copied_expression kept n low)
-    (copied_expression kept (n + expression_room kept low) high)
-    (option_map (copied_expression kept (n + expression_room kept low + expression_room kept high)) step)
+abbrev pub numbered_over : ℕ → Over → Over
+numbered_over n (array w) = array (numbered_word n w)
+numbered_over n (range low high step) =
+    range (numbered_expression n low)
+    (numbered_expression (n + expression_size low) high)
+    (option_map (numbered_expression (n + expression_size low + expression_size high)) step)
 
 -- a statement: its node, then its parts
 abbrev mutual
-  pub copied_statement : Bool → ℕ → Statement → Statement
-  copied_statement kept n (statement node c) = statement (copied_node kept n node) (copied_command kept (n + unit kept) c)
+  pub numbered_statement : ℕ → Statement → Statement
+  numbered_statement n (statement node c) = statement (numbered_node n node) (numbered_command (n + 1) c)
 
-  pub copied_command : Bool → ℕ → Command → Command
-  copied_command kept n (declare d r) = declare (copied_declaration kept n d) (option_map (copied_right kept (n + unit kept)) r)
-  copied_command kept n (assign w r) = assign (copied_word kept n w) (copied_right kept (n + unit kept) r)
-  copied_command kept n (write w i e) = write (copied_word kept n w) (copied_expression kept (n + unit kept) i) (copied_expression kept (n + unit kept + expression_room kept i) e)
-  copied_command kept n (assign_all ws c) = assign_all (numbered_each (copied_word kept) (word_room kept) n ws) (copied_calling kept (n + sum_by (word_room kept) ws) c)
-  copied_command kept n (calls p c) = calls p (copied_calling kept n c)
-  copied_command kept n (choice e b) = choice (copied_expression kept n e) (copied_body kept (n + expression_room kept e) b)
-  copied_command kept n (choice_else e b other) =
-      choice_else (copied_expression kept n e) (copied_body kept (n + expression_room kept e) b) (copied_body kept (n + expression_room kept e + body_room kept b) other)
-  copied_command kept n (loop w k o b) =
-      loop (copied_word kept n w)
-      (option_map (copied_word kept (n + unit kept)) k)
-      (copied_over kept (n + unit kept + option_size (word_room kept) k) o)
-      (copied_body kept (n + unit kept + option_size (word_room kept) k + over_room kept o) b)
-  copied_command kept n (waits ws b) = waits (numbered_each (copied_word kept) (word_room kept) n ws) (copied_body kept (n + sum_by (word_room kept) ws) b)
+  pub numbered_command : ℕ → Command → Command
+  numbered_command n (declare d r) = declare (numbered_declaration n d) (option_map (numbered_right (n + 1)) r)
+  numbered_command n (assign w r) = assign (numbered_word n w) (numbered_right (n + 1) r)
+  numbered_command n (write w i e) = write (numbered_word n w) (numbered_expression (n + 1) i) (numbered_expression (n + 1 + expression_size i) e)
+  numbered_command n (assign_all ws c) = assign_all (numbered_each numbered_word word_size n ws) (numbered_calling (n + sum_by word_size ws) c)
+  numbered_command n (calls p c) = calls p (numbered_calling n c)
+  numbered_command n (choice e b) = choice (numbered_expression n e) (numbered_body (n + expression_size e) b)
+  numbered_command n (choice_else e b other) =
+      choice_else (numbered_expression n e) (numbered_body (n + expression_size e) b) (numbered_body (n + expression_size e + body_size b) other)
+  numbered_command n (loop w k o b) =
+      loop (numbered_word n w)
+      (option_map (numbered_word (n + 1)) k)
+      (numbered_over (n + 1 + option_size word_size k) o)
+      (numbered_body (n + 1 + option_size word_size k + over_size o) b)
+  numbered_command n (waits ws b) = waits (numbered_each numbered_word word_size n ws) (numbered_body (n + sum_by word_size ws) b)
 
-  pub copied_body : Bool → ℕ → Body → Body
-  copied_body kept n (body from ss) = body from (copied_statements kept n ss)
+  pub numbered_body : ℕ → Body → Body
+  numbered_body n (body from ss) = body from (numbered_statements n ss)
 
-  pub copied_statements : Bool → ℕ → Statements → Statements
-  copied_statements kept n no_statements = no_statements
-  copied_statements kept n (and_statement s ss) = and_statement (copied_statement kept n s) (copied_statements kept (n + statement_room kept s) ss)
+  pub numbered_statements : ℕ → Statements → Statements
+  numbered_statements n no_statements = no_statements
+  numbered_statements n (and_statement s ss) = and_statement (numbered_statement n s) (numbered_statements (n + statement_size s) ss)
 
 -- a function
-abbrev pub copied_composite : Bool → ℕ → Composite → Composite
-copied_composite kept n f = record {
-  node = copied_node kept n f.node;
-  outputs = numbered_each (copied_declaration kept) (declaration_room kept) (n + unit kept) f.outputs;
-  name = copied_word kept (n + unit kept + sum_by (declaration_room kept) f.outputs) f.name;
-  inputs = numbered_each (copied_declaration kept) (declaration_room kept) (n + unit kept + sum_by (declaration_room kept) f.outputs + unit kept) f.inputs;
-  body = copied_body kept (n + unit kept + sum_by (declaration_room kept) f.outputs + unit kept + sum_by (declaration_room kept) f.inputs) f.body;
+abbrev pub numbered_composite : ℕ → Composite → Composite
+numbered_composite n f = record {
+  node = numbered_node n f.node;
+  outputs = numbered_each numbered_declaration declaration_size (n + 1) f.outputs;
+  name = numbered_word (n + 1 + sum_by declaration_size f.outputs) f.name;
+  inputs = numbered_each numbered_declaration declaration_size (n + 1 + sum_by declaration_size f.outputs + 1) f.inputs;
+  body = numbered_body (n + 1 + sum_by declaration_size f.outputs + 1 + sum_by declaration_size f.inputs) f.body;
 }
 
 -- a part of a script: imports have no number
-abbrev pub copied_part : Bool → ℕ → Part → Part
-copied_part kept n (import s) = import s
-copied_part kept n (function f) = function (copied_composite kept n f)
-copied_part kept n (single s) = single (copied_statement kept n s)
+abbrev pub numbered_part : ℕ → Part → Part
+numbered_part n (import s) = import s
+numbered_part n (function f) = function (numbered_composite n f)
+numbered_part n (single s) = single (numbered_statement n s)
 
 -- a script
-abbrev pub copied : Bool → ℕ → Tree → Tree
-copied kept n t = numbered_each (copied_part kept) (part_room kept) n t
-
--- NUMBERED: sizes, and the same things with their numbers in reading order from n on
-
-abbrev pub expression_size : Expression → ℕ
-expression_size = expression_room false
-
-abbrev pub form_size : Form → ℕ
-form_size = form_room false
-
-abbrev pub expressions_size : Expressions → ℕ
-expressions_size = expressions_room false
-
-abbrev pub word_size : Word → ℕ
-word_size = word_room false
-
-abbrev pub declaration_size : Declaration → ℕ
-declaration_size = declaration_room false
-
-abbrev pub right_size : RightSide → ℕ
-right_size = right_room false
-
-abbrev pub calling_size : Calling → ℕ
-calling_size = calling_room false
-
-abbrev pub over_size : Over → ℕ
-over_size = over_room false
-
-abbrev pub statement_size : Statement → ℕ
-statement_size = statement_room false
-
-abbrev pub command_size : Command → ℕ
-command_size = command_room false
-
-abbrev pub body_size : Body → ℕ
-body_size = body_room false
-
-abbrev pub statements_size : Statements → ℕ
-statements_size = statements_room false
-
-abbrev pub composite_size : Composite → ℕ
-composite_size = composite_room false
-
-abbrev pub part_size : Part → ℕ
-part_size = part_room false
-
-abbrev pub tree_size : Tree → ℕ
-tree_size = tree_room false
-
-abbrev pub numbered_word : ℕ → Word → Word
-numbered_word = copied_word false
-
-abbrev pub numbered_node : ℕ → Node → Node
-numbered_node = copied_node false
-
-abbrev pub numbered_expression : ℕ → Expression → Expression
-numbered_expression = copied_expression false
-
-abbrev pub numbered_form : ℕ → Form → Form
-numbered_form = copied_form false
-
-abbrev pub numbered_expressions : ℕ → Expressions → Expressions
-numbered_expressions = copied_expressions false
-
-abbrev pub numbered_declaration : ℕ → Declaration → Declaration
-numbered_declaration = copied_declaration false
-
-abbrev pub numbered_right : ℕ → RightSide → RightSide
-numbered_right = copied_right false
-
-abbrev pub numbered_calling : ℕ → Calling → Calling
-numbered_calling = copied_calling false
-
-abbrev pub numbered_over : ℕ → Over → Over
-numbered_over = copied_over false
-
-abbrev pub numbered_statement : ℕ → Statement → Statement
-numbered_statement = copied_statement false
-
-abbrev pub numbered_command : ℕ → Command → Command
-numbered_command = copied_command false
-
-abbrev pub numbered_body : ℕ → Body → Body
-numbered_body = copied_body false
-
-abbrev pub numbered_statements : ℕ → Statements → Statements
-numbered_statements = copied_statements false
-
-abbrev pub numbered_composite : ℕ → Composite → Composite
-numbered_composite = copied_composite false
-
-abbrev pub numbered_part : ℕ → Part → Part
-numbered_part = copied_part false
-
 abbrev pub numbered : ℕ → Tree → Tree
-numbered = copied false
+numbered n t = numbered_each numbered_part part_size n t

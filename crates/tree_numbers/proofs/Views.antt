@@ -11,7 +11,7 @@ use Rattle.syntax_trees.specs.Tree.{call, chain, expressions_of, body, statement
 use Rattle.syntax_trees.specs.View.{word_of, expression_view, form_view, statement_view, body_view}
 use Rattle.syntax_trees.specs.Numbered.{expression_size, numbered_each, numbered_expression, numbered_form, numbered_word, numbered_statement, numbered_body, statement_size}
 use Rattle.syntax_trees.proofs.Views.{view-Call, view-Chain}
-use Rattle.syntax_trees.proofs.Numbering.{copied-Call, copied-Chain, copied-Block}
+use Rattle.syntax_trees.proofs.Numbering.{numbered-Call, numbered-Chain, numbered-Block}
 
 -- A BLOCK
 
@@ -26,7 +26,7 @@ pub block_numbered : (A : Type 0) (n : ℕ) (b : Block A) (v : Vec (Stmt A) A)
 block_numbered A n b v inner =
     view_rolled A (out-Block A b).from v
     ∙ ap (λ ss. body (out-Block A b).from (statements_of ss)) inner
-    ∙ sym (copied-Block A false n b)
+    ∙ sym (numbered-Block A n b)
 
 -- THE FORMS THAT HOLD EXPRESSIONS
 
@@ -36,7 +36,7 @@ pub call_numbered : (A : Type 0) (n : ℕ) (k : ExprKind A) (w w' : Name A) (v v
 call_numbered A n k w w' v v' is word inner =
     view-Call w' v'
     ∙ ap₂ call word (ap expressions_of inner)
-    ∙ sym (ap (λ (j : ExprKind A). numbered_form n (form_view j)) is ∙ copied-Call A false n w v)
+    ∙ sym (ap (λ (j : ExprKind A). numbered_form n (form_view j)) is ∙ numbered-Call A n w v)
 
 pub chain_numbered : (A : Type 0) (n : ℕ) (k : ExprKind A) (o : Vec Operator A) (v v' : Vec (Expr A) A) → k ≡ Chain o v
     → map expression_view v'.items ≡ numbered_each numbered_expression expression_size n (map expression_view v.items)
@@ -44,4 +44,4 @@ pub chain_numbered : (A : Type 0) (n : ℕ) (k : ExprKind A) (o : Vec Operator A
 chain_numbered A n k o v v' is inner =
     view-Chain o v'
     ∙ ap (λ es. chain o.items (expressions_of es)) inner
-    ∙ sym (ap (λ (j : ExprKind A). numbered_form n (form_view j)) is ∙ copied-Chain A false n o v)
+    ∙ sym (ap (λ (j : ExprKind A). numbered_form n (form_view j)) is ∙ numbered-Chain A n o v)

@@ -7,4 +7,4 @@ mod expression;
 mod script;
 mod statement;
 
-pub use script::{number, part};
+pub use script::{numbers_are_distinct, part};

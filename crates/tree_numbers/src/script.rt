@@ -1,14 +1,15 @@
-//! Whole scripts.
+//! Parts of scripts.
 
-ghost use Rattle.std.specs.Prelude.{◌≡◌, ◌+◌, ◌^◌, ◌<◌, map, sum_by};
-ghost use Rattle.syntax_trees.specs.View.{composite_of, part_of, tree_of};
-ghost use Rattle.syntax_trees.specs.Numbered.{composite_size, part_size, tree_size, numbered_each, numbered_composite, numbered_part, numbered};
+ghost use Rattle.std.specs.Prelude.{◌≡◌, ◌+◌, ◌^◌, ◌<◌};
+ghost use Rattle.syntax_trees.specs.View.{composite_of, part_of};
+ghost use Rattle.syntax_trees.specs.Numbered.{composite_size, part_size, tree_size, numbered_composite, numbered_part, numbered};
 ghost use Rattle.syntax_trees.specs.Numbers.{numbers, numbers_from};
+ghost use Rattle.syntax_trees.specs.Tree.{Tree};
 
 use crate::expression::name;
 use crate::statement::{block, declarations, statement};
 use std::alloc::Allocator;
-use syntax_trees::tree::{Function, Item, Script};
+use syntax_trees::tree::{Function, Item};
 
 /// Numbers a function: its node, its outputs, its name, its inputs and its body.
 fn function<A: Allocator>(function: &mut Function<A>, from: u32) -> u32
@@ -36,27 +37,8 @@ pub fn part<A: Allocator>(item: &mut Item<A>, from: u32) -> u32
     }
 }
 
-/// Numbers the parts of a script in their order.
-fn parts<A: Allocator>(items: &mut Vec<Item<A>, A>, from: u32) -> u32
-    requires { from + sum_by part_size (map part_of items.old.items) < 2 ^ 32 }
-    ensures numbered { map part_of items.new.items ≡ numbered_each numbered_part part_size from (map part_of items.old.items) }
-    ensures next { result ≡ from + sum_by part_size (map part_of items.old.items) }
-{
-    let mut next = from;
-    for i in 0..items.len() {
-        let one = &mut items[i];
-        next = part(one, next);
-    }
-    next
-}
-
-/// Numbers a script where it lies, from 1 on in reading order: each node before its parts, and each name. It asks for no memory.
-pub fn number<A: Allocator>(script: &mut Script<A>)
-    requires { tree_size (tree_of script.old) + 1 < 2 ^ 32 }
-    ensures tree { tree_of script.new ≡ numbered 1 (tree_of script.old) }
-
-    // Its numbers in reading order are 1, 2, 3 .., so no two nodes share one.
-    ensures distinct { numbers (tree_of script.new) ≡ numbers_from 1 (tree_size (tree_of script.old)) }
-{
-    parts(&mut script.items, 1);
-}
+/// Where the parts of a script are numbered in their order from 1 on, its numbers in reading order are 1, 2, 3 .., so no two nodes share
+/// one.
+pub fn numbers_are_distinct()
+    ensures { (t : Tree) → numbers (numbered 1 t) ≡ numbers_from 1 (tree_size t) }
+{}

@@ -1,7 +1,7 @@
-use Rattle.std.proofs.Common.{◌≡◌, ◌+◌, ◌*◌, ◌++◌, map, take}
+use Rattle.std.proofs.Common.{◌≡◌, ◌+◌, ◌*◌, map, take}
 use Rattle.std.specs.List.{sum_by}
 use Rattle.syntax_trees.specs.View.{statement_view, command_view, body_view}
-use Rattle.syntax_trees.specs.Numbered.{body_size, command_size, copied_statement, numbered_each, statement_room, statement_size}
+use Rattle.syntax_trees.specs.Numbered.{body_size, command_size, statement_size}
 use Rattle.syntax_trees.proofs.copy.+copy_stmt.Given as goal
 
 abbrev pub decreases-copy_stmt : goal.decreases-copy_stmt
@@ -16,11 +16,8 @@ decreases-copy_block g l = 5 * body_size (body_view l.block.now) + 3
 abbrev pub decreases-copy_body : goal.decreases-copy_body
 decreases-copy_body g l = 5 * body_size (body_view l.block.now) + 2
 
-abbrev pub decreases-append_stmts : goal.decreases-append_stmts
-decreases-append_stmts g l = 5 * sum_by statement_size (map statement_view l.stmts.now.items) + 1
+abbrev pub decreases-copy_stmts : goal.decreases-copy_stmts
+decreases-copy_stmts g l = 5 * sum_by statement_size (map statement_view l.stmts.now.items) + 1
 
-abbrev pub invariant-append_stmts-loop-stmt : goal.invariant-append_stmts-loop-stmt
-invariant-append_stmts-loop-stmt g l = record {
-  copied : map statement_view l.copies.items ≡ map statement_view l.fn.copies.items ++ numbered_each (copied_statement l.kept) (statement_room l.kept) l.fn.next (map statement_view (take l.stmt-index l.stmts.items));
-  counts : l.next ≡ l.fn.next + sum_by (statement_room l.kept) (map statement_view (take l.stmt-index l.stmts.items));
-}
+abbrev pub invariant-copy_stmts-loop-stmt : goal.invariant-copy_stmts-loop-stmt
+invariant-copy_stmts-loop-stmt g l = map statement_view l.copies.items ≡ map statement_view (take l.stmt-index l.stmts.items)

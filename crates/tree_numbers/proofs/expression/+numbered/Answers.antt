@@ -1,7 +1,7 @@
 use Rattle.std.proofs.Common.{rules, false, map, ap, ◌∙◌}
 use Rattle.syntax_trees.specs.View.{expression_view, form_view}
 use Rattle.syntax_trees.specs.Numbered.{expression_size, form_size, numbered_each, numbered_expression, numbered_form}
-use Rattle.syntax_trees.proofs.Numbering.{room-Call, room-Chain}
+use Rattle.syntax_trees.proofs.Numbering.{size-Call, size-Chain}
 use Rattle.tree_numbers.proofs.Views.{call_numbered, chain_numbered}
 use Rattle.tree_numbers.proofs.expression.+numbered.Goals as goal
 
@@ -16,12 +16,12 @@ form-returns-clause-next g t c =
 
 pub parts-expressions-next-requires : goal.parts-expressions-next-requires
 parts-expressions-next-requires g t c κs within =
-    let size = ap (λ k. form_size (form_view {A = g.row.A.Denot} k)) c.in-Call.is ∙ room-Call g.row.A.Denot false c.in-Call.function c.in-Call.arguments in
+    let size = ap (λ k. form_size (form_view {A = g.row.A.Denot} k)) c.in-Call.is ∙ size-Call g.row.A.Denot c.in-Call.function c.in-Call.arguments in
     search rules
 
 pub parts-expressions-next-requires-in-Chain : goal.parts-expressions-next-requires-in-Chain
 parts-expressions-next-requires-in-Chain g t c κs within =
-    let size = ap (λ k. form_size (form_view {A = g.row.A.Denot} k)) c.in-Chain.is ∙ room-Chain g.row.A.Denot false c.in-Chain.operators c.in-Chain.operands in
+    let size = ap (λ k. form_size (form_view {A = g.row.A.Denot} k)) c.in-Chain.is ∙ size-Chain g.row.A.Denot c.in-Chain.operators c.in-Chain.operands in
     search rules
 
 pub parts-returns-in-Call-clause-numbered : goal.parts-returns-in-Call-clause-numbered
@@ -31,7 +31,7 @@ parts-returns-in-Call-clause-numbered g t c =
 
 pub parts-returns-in-Call-clause-next : goal.parts-returns-in-Call-clause-next
 parts-returns-in-Call-clause-next g t c =
-    let size = ap (λ k. form_size (form_view {A = g.row.A.Denot} k)) c.in-Call.is ∙ room-Call g.row.A.Denot false c.in-Call.function c.in-Call.arguments in
+    let size = ap (λ k. form_size (form_view {A = g.row.A.Denot} k)) c.in-Call.is ∙ size-Call g.row.A.Denot c.in-Call.function c.in-Call.arguments in
     search rules
 
 pub parts-returns-in-Chain-clause-numbered : goal.parts-returns-in-Chain-clause-numbered
@@ -40,5 +40,5 @@ parts-returns-in-Chain-clause-numbered g t c =
 
 pub parts-returns-in-Chain-clause-next : goal.parts-returns-in-Chain-clause-next
 parts-returns-in-Chain-clause-next g t c =
-    let size = ap (λ k. form_size (form_view {A = g.row.A.Denot} k)) c.in-Chain.is ∙ room-Chain g.row.A.Denot false c.in-Chain.operators c.in-Chain.operands in
+    let size = ap (λ k. form_size (form_view {A = g.row.A.Denot} k)) c.in-Chain.is ∙ size-Chain g.row.A.Denot c.in-Chain.operators c.in-Chain.operands in
     search rules
