@@ -2,4 +2,4 @@ use Rattle.syntax_trees.proofs.Numbers.{numbers-numbered}
 use Rattle.tree_numbers.proofs.script.numbers_are_distinct.Goals as goal
 
 pub returns : goal.returns
-returns g c = numbers-numbered 1
+returns c = numbers-numbered 1
