@@ -73,32 +73,32 @@ other-returns-clause-reads g t c =
 pub choice-returns-in_err-other-clause-reads : goal.choice-returns-in_err-other-clause-reads
 choice-returns-in_err-other-clause-reads g t c =
     let fails = fails_on c.in_err-other.field-0.0 (maybe (at Kind.Else) (the Kind.Else ▸ read_else c.args.depth) c.block.new.cursor) (read_if c.args.depth c.args.cursor.now)
-    (if_branch_fails c.args.depth c.args.cursor.now (lexeme_of c.in_ok-take.field-0) c.take.new.self (expression_view c.in_ok-condition.condition) c.test.new.cursor (body_view c.in_ok-then.then) c.block.new.cursor
-    c.in_ok-take.ensures.reads c.in_ok-condition.ensures.reads c.in_ok-then.ensures.reads) c.in_err-other.ensures.reads in
+    (if_branch_fails c.args.depth c.args.cursor.now (lexeme_of c.in_ok-take.field-0) c.take.new.self (expression_view c.in_ok-test.field-0) c.test.new.cursor (body_view c.in_ok-block.field-0) c.block.new.cursor
+    c.in_ok-take.ensures.reads c.in_ok-test.ensures.reads c.in_ok-block.ensures.reads) c.in_err-other.ensures.reads in
     let p = err_from_is_err_and c.from_residual-in_err-other.result c.from_residual-in_err-other.ensures.1 in
     rw (p.1, p.2) fails
 
 pub choice-returns-clause-reads : goal.choice-returns-clause-reads
 choice-returns-clause-reads g t c =
-    let test : c.in_ok-new.field-0.value ≡ c.in_ok-condition.condition = grind (arith, common_steps) in
-    let then : c.in_ok-new-2.field-0.value ≡ c.in_ok-then.then = grind (arith, common_steps) in
-    if_reads c.args.depth c.args.cursor.now (lexeme_of c.in_ok-take.field-0) c.take.new.self (expression_view c.in_ok-condition.condition) c.test.new.cursor (body_view c.in_ok-then.then) c.block.new.cursor
-    (branch_view c.in_ok-other.other) c.else_branch.new.cursor c.in_ok-take.ensures.reads c.in_ok-condition.ensures.reads c.in_ok-then.ensures.reads c.in_ok-other.ensures.reads
+    let test : c.in_ok-condition.condition.value ≡ c.in_ok-test.field-0 = grind (arith, common_steps) in
+    let then : c.in_ok-then.then.value ≡ c.in_ok-block.field-0 = grind (arith, common_steps) in
+    if_reads c.args.depth c.args.cursor.now (lexeme_of c.in_ok-take.field-0) c.take.new.self (expression_view c.in_ok-test.field-0) c.test.new.cursor (body_view c.in_ok-block.field-0) c.block.new.cursor
+    (branch_view c.in_ok-other.other) c.else_branch.new.cursor c.in_ok-take.ensures.reads c.in_ok-test.ensures.reads c.in_ok-block.ensures.reads c.in_ok-other.ensures.reads
     ∙ ap (λ e. got e c.else_branch.new.cursor) (sym (does_view c.args.cursor.now c.else_branch.new.cursor c.first-first.result c.before-2.result _ c.stmt.result
-    (choice_of (expression_view c.in_ok-condition.condition) (body_view c.in_ok-then.then) (branch_view c.in_ok-other.other))
-    c.first-first.ensures c.before-2.ensures c.stmt.ensures (view-If c.in_ok-new.field-0 c.in_ok-new-2.field-0 c.in_ok-other.other
+    (choice_of (expression_view c.in_ok-test.field-0) (body_view c.in_ok-block.field-0) (branch_view c.in_ok-other.other))
+    c.first-first.ensures c.before-2.ensures c.stmt.ensures (view-If c.in_ok-condition.condition c.in_ok-then.then c.in_ok-other.other
     ∙ ap₂ (λ e b. choice_of (expression_view e) (body_view b) (branch_view c.in_ok-other.other)) test then)))
 
 pub foreach-returns-clause-reads : goal.foreach-returns-clause-reads
 foreach-returns-clause-reads g t c =
     let header : c.in_ok-header.header.value ≡ record { value = c.in_ok-value.value; key = c.in_ok-key.key; source = c.in_ok-source.source } = grind (arith, common_steps) in
-    let boxed : c.in_ok-new.field-0.value ≡ c.in_ok-body.body = grind (arith, common_steps) in
+    let boxed : c.in_ok-body.body.value ≡ c.in_ok-block.field-0 = grind (arith, common_steps) in
     foreach_reads c.args.depth c.args.cursor.now (lexeme_of c.in_ok-take.field-0) c.take.new.self (word_of c.in_ok-value.value) c.name.new.cursor (option_map word_of c.in_ok-key.key) c.loop_key.new.cursor
-    (lexeme_of c.in_ok-take-2.field-0) c.take-2.new.self (over_of c.in_ok-source.source) c.source.new.cursor (body_view c.in_ok-body.body) c.block.new.cursor
-    c.in_ok-take.ensures.reads c.in_ok-value.ensures.reads c.in_ok-key.ensures.reads c.in_ok-take-2.ensures.reads c.in_ok-source.ensures.reads c.in_ok-body.ensures.reads
+    (lexeme_of c.in_ok-take-2.field-0) c.take-2.new.self (over_of c.in_ok-source.source) c.source.new.cursor (body_view c.in_ok-block.field-0) c.block.new.cursor
+    c.in_ok-take.ensures.reads c.in_ok-value.ensures.reads c.in_ok-key.ensures.reads c.in_ok-take-2.ensures.reads c.in_ok-source.ensures.reads c.in_ok-block.ensures.reads
     ∙ ap (λ e. got e c.block.new.cursor) (sym (does_view c.args.cursor.now c.block.new.cursor c.first-first.result c.before-2.result _ c.stmt.result
-    (loop (word_of c.in_ok-value.value) (option_map word_of c.in_ok-key.key) (over_of c.in_ok-source.source) (body_view c.in_ok-body.body))
-    c.first-first.ensures c.before-2.ensures c.stmt.ensures (view-Foreach c.in_ok-header.header c.in_ok-new.field-0
+    (loop (word_of c.in_ok-value.value) (option_map word_of c.in_ok-key.key) (over_of c.in_ok-source.source) (body_view c.in_ok-block.field-0))
+    c.first-first.ensures c.before-2.ensures c.stmt.ensures (view-Foreach c.in_ok-header.header c.in_ok-body.body
     ∙ ap₂ (λ h b. loop (word_of h.value) (option_map word_of h.key) (over_of h.source) (body_view b)) header boxed)))
 
 pub foreach-returns-clause-shorter : goal.foreach-returns-clause-shorter
@@ -108,15 +108,15 @@ foreach-returns-clause-shorter g t c =
     let d = c.in_ok-key.ensures.shorter in
     let e = c.in_ok-take-2.ensures.shorter in
     let f = c.in_ok-source.ensures.shorter in
-    let h = c.in_ok-body.ensures.shorter in
+    let h = c.in_ok-block.ensures.shorter in
     omega arith
 
 pub wait-returns-clause-reads : goal.wait-returns-clause-reads
 wait-returns-clause-reads g t c =
-    let boxed : c.in_ok-new.field-0.value ≡ c.in_ok-body.body = grind (arith, common_steps) in
-    wait_reads c.args.depth c.args.cursor.now (lexeme_of c.in_ok-take.field-0) c.take.new.self (words_view c.in_ok-waited.waited) c.names.new.cursor (body_view c.in_ok-body.body) c.block.new.cursor
-    c.in_ok-take.ensures.reads c.in_ok-waited.ensures.reads c.in_ok-body.ensures.reads
+    let boxed : c.in_ok-body.body.value ≡ c.in_ok-block.field-0 = grind (arith, common_steps) in
+    wait_reads c.args.depth c.args.cursor.now (lexeme_of c.in_ok-take.field-0) c.take.new.self (words_view c.in_ok-waited.waited) c.names.new.cursor (body_view c.in_ok-block.field-0) c.block.new.cursor
+    c.in_ok-take.ensures.reads c.in_ok-waited.ensures.reads c.in_ok-block.ensures.reads
     ∙ ap (λ e. got e c.block.new.cursor) (sym (does_view c.args.cursor.now c.block.new.cursor c.first-first.result c.before-2.result _ c.stmt.result
-    (waits (words_view c.in_ok-waited.waited) (body_view c.in_ok-body.body))
-    c.first-first.ensures c.before-2.ensures c.stmt.ensures (view-Wait c.in_ok-waited.waited c.in_ok-new.field-0
+    (waits (words_view c.in_ok-waited.waited) (body_view c.in_ok-block.field-0))
+    c.first-first.ensures c.before-2.ensures c.stmt.ensures (view-Wait c.in_ok-waited.waited c.in_ok-body.body
     ∙ ap (λ b. waits (words_view c.in_ok-waited.waited) (body_view b)) boxed)))

@@ -10,9 +10,9 @@ use Rattle.syntax.proofs.statement.many.Goals as goal
 
 pub returns-clause-reads : goal.returns-clause-reads
 returns-clause-reads g c =
-    let boxed : c.in_ok-new.field-0.value ≡ c.in_ok-call.call = grind (arith, common_steps) in
-    many_reads c.args.depth c.args.cursor.now (words_view c.in_ok-targets.targets) c.names.new.cursor (lexeme_of c.in_ok-take.field-0) c.take.new.self (calling_of c.in_ok-call.call) c.call.new.cursor
+    let boxed : c.in_ok-boxed.boxed.value ≡ c.in_ok-call.field-0 = grind (arith, common_steps) in
+    many_reads c.args.depth c.args.cursor.now (words_view c.in_ok-targets.targets) c.names.new.cursor (lexeme_of c.in_ok-take.field-0) c.take.new.self (calling_of c.in_ok-call.field-0) c.call.new.cursor
     (lexeme_of c.in_ok-take-2.field-0) c.take-2.new.self c.in_ok-targets.ensures.reads c.in_ok-take.ensures.reads c.in_ok-call.ensures.reads c.in_ok-take-2.ensures.reads
     ∙ ap (λ e. got e c.take-2.new.self) (sym (does_view c.args.cursor.now c.take-2.new.self c.first-first.result c.before-2.result _ c.stmt.result
-    (assign_all (words_view c.in_ok-targets.targets) (calling_of c.in_ok-call.call))
-    c.first-first.ensures c.before-2.ensures c.stmt.ensures (view-AssignAll c.in_ok-targets.targets c.in_ok-new.field-0 ∙ ap (λ v. assign_all (words_view c.in_ok-targets.targets) (calling_of v)) boxed)))
+    (assign_all (words_view c.in_ok-targets.targets) (calling_of c.in_ok-call.field-0))
+    c.first-first.ensures c.before-2.ensures c.stmt.ensures (view-AssignAll c.in_ok-targets.targets c.in_ok-boxed.boxed ∙ ap (λ v. assign_all (words_view c.in_ok-targets.targets) (calling_of v)) boxed)))
