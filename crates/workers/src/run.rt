@@ -179,6 +179,37 @@ fn settle<J: Job, E: Ledger, N: Ledger>(
     Ok((report, count))
 }
 
+/// Lets the crew work at the desk until the run is over: the desk, and all hands.
+fn work_at<
+    J: Job + Send + Sync,
+    E: Ledger + Send + Sync,
+    N: Ledger + Send + Sync,
+    R: Threads + Wait + Sync,
+    G: Gate,
+>(
+    rt: &R,
+    alloc: Global,
+    pool: &Pool,
+    desk: Desk<J, E, N>,
+    crowds: Crowds,
+    gate: &G,
+    hands: Vec<Ended<J, E, N>>,
+    count: usize,
+) -> Result<(Desk<J, E, N>, Vec<Ended<J, E, N>>), RunFault>
+    requires { pool_id pool.now ≡ J.pool }
+    ensures len { IfOk result (λ r. vec_len r.1 ≡ count) }
+    ensures fault { IfErr result (λ e. e ≢ RunFault.BadCount) }
+{
+    let floor = Mutex::new(Floor { desk, crowds });
+    let bells = Bells::new();
+    let back = crew(rt, alloc, &floor, &bells, pool, gate, hands)?;
+    if back.len() != count {
+        return Err(RunFault::Spawn);
+    }
+    let Floor { desk, .. } = floor.into_inner();
+    Ok((desk, back))
+}
+
 /// A run with its books and its pool.
 fn run<
     J: Job + Send + Sync,
@@ -210,16 +241,9 @@ fn run<
     let (event_book, mut all_events) = events.open::<E>();
     let (news_book, mut all_news) = news.open::<N>();
     let hands = hands_of::<J, E, N>(alloc, engines, seats, &mut all_events, &mut all_news)?;
-    let floor = Mutex::new(Floor {
-        desk: Desk::<J, E, N>::new(board, event_book, news_book),
-        crowds: Crowds::new(engines as usize, count.saturating_sub(engines as usize)),
-    });
-    let bells = Bells::new();
-    let back = crew(rt, alloc, &floor, &bells, &pool, gate, hands)?;
-    if back.len() != count {
-        return Err(RunFault::Spawn);
-    }
-    let Floor { mut desk, .. } = floor.into_inner();
+    let desk = Desk::<J, E, N>::new(board, event_book, news_book);
+    let crowds = Crowds::new(engines as usize, count.saturating_sub(engines as usize));
+    let (mut desk, back) = work_at(rt, alloc, &pool, desk, crowds, gate, hands, count)?;
     let sums = gather(alloc, &mut desk, back, all_events, all_news)?;
     settle(alloc, pool, desk, sums)
 }
