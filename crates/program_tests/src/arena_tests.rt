@@ -4,15 +4,48 @@ use compile::compile::listed;
 use std::alloc::Global;
 use std::process::Abort;
 use std::test::Fail;
+use syntax::error::ParseFault;
 use syntax::parser::parse;
+use syntax_trees::tree::Script;
 
 /// Whether a text has the same tree over both, or is refused alike.
 fn is_read_alike(alloc: Global, arena: &Bump, text: &[u8]) -> Result<bool, Fail> {
-    match (parse(alloc, text), parse(arena, text)) {
-        (Ok(one), Ok(other)) => Ok(one == other.copy_to(alloc)?),
-        (Err(one), Err(other)) => Ok(one == other),
-        _ => Ok(false),
+    let one = parse(alloc, text);
+    match parse(arena, text) {
+        Ok(other) => is_copied(alloc, &one, &other),
+        Err(fault) => Ok(is_refused(&one, fault)),
     }
+}
+
+/// Whether a text that has this tree over an arena has the same over the machine's memory.
+fn is_copied(
+    alloc: Global,
+    one: &Result<Script<Global>, ParseFault>,
+    other: &Script<&Bump>,
+) -> Result<bool, Fail> {
+    let copy = other.copy_to(alloc)?;
+    Ok(has_tree(one, &copy))
+}
+
+/// Whether this tree was read.
+fn has_tree(read: &Result<Script<Global>, ParseFault>, tree: &Script<Global>) -> bool {
+    match read {
+        Ok(script) => script == tree,
+        Err(_) => false,
+    }
+}
+
+/// Whether a text was refused with this fault.
+fn is_refused(read: &Result<Script<Global>, ParseFault>, fault: ParseFault) -> bool {
+    match read {
+        Ok(_) => false,
+        Err(own) => *own == fault,
+    }
+}
+
+/// Whether a text has the same listing over both, or is refused alike.
+fn is_listed_alike(alloc: Global, arena: &Bump, text: &[u8]) -> bool {
+    listed(alloc, alloc, text) == listed(alloc, arena, text)
 }
 
 /// Each beginning of a text is the same over both, and nothing of it is left in the arena.
@@ -20,10 +53,7 @@ fn are_alike(rt: &impl Abort, alloc: Global, arena: &mut Bump, text: &[u8]) -> R
     for n in 0..text.len() + 1 {
         let part = &text[..n];
         assert!(rt; is_read_alike(alloc, arena, part)?, "at {n}");
-        assert!(rt;
-            listed(alloc, alloc, part) == listed(alloc, &*arena, part),
-            "at {n}"
-        );
+        assert!(rt; is_listed_alike(alloc, arena, part), "at {n}");
         assert!(rt; arena.reset().is_ok());
     }
     Ok(())

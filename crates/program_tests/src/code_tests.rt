@@ -1,20 +1,39 @@
 //! Scripts that are accepted, with their code, and the first refusal of those that are not.
 use compile::compile::compile;
+use compile::fault::CompileFault;
 use std::alloc::Global;
+use std::process::Abort;
 use std::test::Fail;
 use task_code::code::{Code, Opener};
 use task_code::entry::{Act, Name, Need, Owned, Variable};
 use task_code::expr::Expr as Placed;
 use values::value::Scalar;
 
-fn refusal(alloc: Global, src: &[u8]) -> Result<String, Fail> {
-    match compile(alloc, alloc, src) {
-        Ok(_) => Ok(String::from_str(alloc, "accepted")?),
-        Err(fault) => match fault.span() {
-            Some(span) => Ok(format!(in alloc; "{fault} {} {}", span.from, span.to)?),
-            None => Ok(format!(in alloc; "{fault}")?),
-        },
+/// Why a script has no code.
+fn fault_of(alloc: Global, src: &[u8]) -> Option<CompileFault> {
+    compile(alloc, alloc, src).err()
+}
+
+/// A fault in one text, with its place.
+fn fault_text(alloc: Global, fault: CompileFault) -> Result<String, Fail> {
+    match fault.span() {
+        Some(span) => Ok(format!(in alloc; "{fault} {} {}", span.from, span.to)?),
+        None => Ok(format!(in alloc; "{fault}")?),
     }
+}
+
+/// A script's refusal in one text.
+fn refusal(alloc: Global, src: &[u8]) -> Result<String, Fail> {
+    match fault_of(alloc, src) {
+        Some(fault) => fault_text(alloc, fault),
+        None => Ok(String::from_str(alloc, "accepted")?),
+    }
+}
+
+/// How many entries and bodies a script's code has.
+fn counts_of(alloc: Global, src: &[u8]) -> Result<(usize, usize), Fail> {
+    let code = compile(alloc, alloc, src)?;
+    Ok((code.entry_count(), code.body_count()))
 }
 
 #[test]
@@ -34,8 +53,7 @@ fn counts_entries_and_bodies(rt: HostRuntime) -> Result<(), Fail> {
         ),
     ];
     for (src, counts) in rows {
-        let code = compile(alloc, alloc, src)?;
-        assert_eq!(rt; (code.entry_count(), code.body_count()), counts);
+        assert_eq!(rt; counts_of(alloc, src)?, counts);
     }
     Ok(())
 }
@@ -107,6 +125,29 @@ fn is_body(code: &Code, makes: usize, count: u32) -> bool {
     body.opener == Opener::ByMain && body.makes.len() == makes && number == count
 }
 
+/// Whether the entry of this number prints its first need and a 7.
+fn prints_need_and_seven(code: &Code, number: u32) -> bool {
+    let Some(entry) = code.entry(number) else {
+        return false;
+    };
+    match &entry.act {
+        Act::Print(Placed::Operation(_, operands)) => matches!(
+            operands.as_slice(),
+            [Placed::Need(0), Placed::Constant(Scalar::Number(7))]
+        ),
+        _ => false,
+    }
+}
+
+/// The code of an assignment, and of a print behind it that has a priority.
+fn has_placed_operands(rt: &impl Abort, code: &Code) {
+    assert!(rt; is_body(code, 1, 2));
+    assert!(rt; waits_for(code, 0, 0, &[]));
+    assert!(rt; waits_for(code, 1, 11, &[0]));
+    assert_eq!(rt; (code.priority(0), code.priority(1)), (0, 3));
+    assert!(rt; prints_need_and_seven(code, 1));
+}
+
 #[test]
 fn operands_are_placed(rt: HostRuntime) -> Result<(), Fail> {
     let alloc = rt.alloc();
@@ -115,22 +156,27 @@ fn operands_are_placed(rt: HostRuntime) -> Result<(), Fail> {
         alloc,
         b"int x = 5; @prio=3 printf(\"%i %d%%\", x, 7);",
     )?;
-    assert!(rt; is_body(&code, 1, 2));
-    assert!(rt; waits_for(&code, 0, 0, &[]));
-    assert!(rt; waits_for(&code, 1, 11, &[0]));
-    assert_eq!(rt; (code.priority(0), code.priority(1)), (0, 3));
-    let is_placed = match code.entry(1) {
-        Some(entry) => match &entry.act {
-            Act::Print(Placed::Operation(_, operands)) => matches!(
-                operands.as_slice(),
-                [Placed::Need(0), Placed::Constant(Scalar::Number(7))]
-            ),
-            _ => false,
-        },
-        None => false,
-    };
-    assert!(rt; is_placed);
+    has_placed_operands(&rt, &code);
     Ok(())
+}
+
+/// Whether the entry of this number writes the scalar of this place alone.
+fn writes(code: &Code, number: u32, place: usize) -> bool {
+    match (code.entry(number), made(code, place)) {
+        (Some(entry), Some(own)) => entry.writes.len() == 1 && entry.writes[0] == own,
+        _ => false,
+    }
+}
+
+/// The code of two assignments, the first of which waits for the second, and of a print of the first.
+fn waits_before_assignments(rt: &impl Abort, code: &Code) {
+    assert!(rt; is_body(code, 2, 3));
+    assert!(rt; waits_for(code, 0, 14, &[1]));
+    assert!(rt; waits_for(code, 1, 25, &[]));
+    assert!(rt; waits_for(code, 2, 32, &[0]));
+    assert!(rt; writes(code, 0, 0));
+    assert!(rt; writes(code, 1, 1));
+    assert!(rt; code.entry(2).is_some_and(|entry| entry.writes.is_empty()));
 }
 
 #[test]
@@ -141,17 +187,6 @@ fn a_scalar_is_waited_for_before_its_assignment(rt: HostRuntime) -> Result<(), F
         alloc,
         b"int x; int y; x = y + 1; y = 2; printf(\"%i\", x);",
     )?;
-    assert!(rt; is_body(&code, 2, 3));
-    assert!(rt; waits_for(&code, 0, 14, &[1]));
-    assert!(rt; waits_for(&code, 1, 25, &[]));
-    assert!(rt; waits_for(&code, 2, 32, &[0]));
-    for number in 0..2u32 {
-        let written = match (code.entry(number), made(&code, number as usize)) {
-            (Some(entry), Some(own)) => entry.writes.len() == 1 && entry.writes[0] == own,
-            _ => false,
-        };
-        assert!(rt; written);
-    }
-    assert!(rt; code.entry(2).is_some_and(|entry| entry.writes.is_empty()));
+    waits_before_assignments(&rt, &code);
     Ok(())
 }

@@ -1,6 +1,7 @@
 //! Commands on small scripts: what they print, what they say, the trace, and the status.
 use crate::doing::{Small, WIDE, perform};
 use std::alloc::Global;
+use std::process::Abort;
 use std::sync::Wait;
 use std::test::Fail;
 use std::thread::Threads;
@@ -23,14 +24,30 @@ fn done_in<R: Threads + Wait + Sync>(
     perform(rt, alloc, words, sources, rooms)?.text(alloc)
 }
 
-/// The same for one file, with room for all.
-fn done<R: Threads + Wait + Sync>(
+/// With these words a command over one file, with room for all, does so.
+fn does_so<R: Threads + Wait + Sync + Abort>(
     rt: &R,
     alloc: Global,
     words: &[&str],
     source: &[u8],
-) -> Result<String, Fail> {
-    done_in(rt, alloc, words, &[Some(source)], WIDE)
+    wanted: &str,
+) -> Result<(), Fail> {
+    let text = done_in(rt, alloc, words, &[Some(source)], WIDE)?;
+    assert_eq!(rt; text.as_str(), wanted);
+    Ok(())
+}
+
+/// The same of each of these files.
+fn each_does_so<R: Threads + Wait + Sync + Abort>(
+    rt: &R,
+    alloc: Global,
+    words: &[&str],
+    rows: &[(&[u8], &str)],
+) -> Result<(), Fail> {
+    for (source, wanted) in rows {
+        does_so(rt, alloc, words, source, wanted)?;
+    }
+    Ok(())
 }
 
 #[test]
@@ -90,18 +107,13 @@ fn runs_scripts(rt: HostRuntime) -> Result<(), Fail> {
             "-3\n|||0",
         ),
     ];
-    for (source, wanted) in rows {
-        assert_eq!(rt;
-            done(&rt, rt.alloc(), &["run", "f"], source)?.as_str(),
-            wanted
-        );
-    }
-    let both = done(
-        &rt,
-        rt.alloc(),
-        &["run", "f"],
-        b"printf(\"a\"); @prio=5 printf(\"b\");",
-    )?;
+    each_does_so(&rt, rt.alloc(), &["run", "f"], &rows)
+}
+
+#[test]
+fn runs_a_script_in_either_order(rt: HostRuntime) -> Result<(), Fail> {
+    let script = b"printf(\"a\"); @prio=5 printf(\"b\");";
+    let both = done_in(&rt, rt.alloc(), &["run", "f"], &[Some(script)], WIDE)?;
     assert!(rt; both.as_str() == "a\nb\n|||0" || both.as_str() == "b\na\n|||0");
     Ok(())
 }
@@ -136,7 +148,7 @@ fn takes_options(rt: HostRuntime) -> Result<(), Fail> {
         (&["code", "f"], "body 0 script\n  1 leaf print 0 0\n|||0"),
     ];
     for (words, wanted) in rows {
-        assert_eq!(rt; done(&rt, rt.alloc(), words, HELLO)?.as_str(), wanted);
+        does_so(&rt, rt.alloc(), words, HELLO, wanted)?;
     }
     Ok(())
 }
@@ -144,8 +156,13 @@ fn takes_options(rt: HostRuntime) -> Result<(), Fail> {
 #[test]
 fn says_what_scripts_mean(rt: HostRuntime) -> Result<(), Fail> {
     let swapped = b"int x; int y; x = y + 1; y = 2; printf(\"%i\", x);";
-    let cut = done(&rt, rt.alloc(), &["mean", "f", "--rounds", "2"], swapped)?;
-    assert_eq!(rt; cut.as_str(), "swt: blocked 32 /\nswt: limit 2\n|||5");
+    does_so(
+        &rt,
+        rt.alloc(),
+        &["mean", "f", "--rounds", "2"],
+        swapped,
+        "swt: blocked 32 /\nswt: limit 2\n|||5",
+    )?;
     let rows: [(&[u8], &str); 5] = [
         (swapped, "3\n|||0"),
         (b"if (true) { printf(\"in\"); }", "in\n|||0"),
@@ -162,22 +179,22 @@ fn says_what_scripts_mean(rt: HostRuntime) -> Result<(), Fail> {
             "|swt: refused S1 AssignedTwice 11 12\n||1",
         ),
     ];
-    for (source, wanted) in rows {
-        assert_eq!(rt;
-            done(&rt, rt.alloc(), &["mean", "f"], source)?.as_str(),
-            wanted
-        );
-    }
-    Ok(())
+    each_does_so(&rt, rt.alloc(), &["mean", "f"], &rows)
+}
+
+/// A check refuses the script so.
+fn is_refused<R: Threads + Wait + Sync + Abort>(
+    rt: &R,
+    alloc: Global,
+    source: &[u8],
+    refusal: &str,
+) -> Result<(), Fail> {
+    let wanted = format!(in alloc; "f: refused {refusal}\n|||1")?;
+    does_so(rt, alloc, &["check", "f"], source, wanted.as_str())
 }
 
 #[test]
-fn checks_scripts(rt: HostRuntime) -> Result<(), Fail> {
-    let alloc = rt.alloc();
-    assert_eq!(rt;
-        done(&rt, rt.alloc(), &["check", "f"], HELLO)?.as_str(),
-        "f: accepted\n|||0"
-    );
+fn refuses_scripts(rt: HostRuntime) -> Result<(), Fail> {
     let rows: [(&[u8], &str); 19] = [
         (b"#", "L1 BadByte 0 1"),
         (b"01", "L2 BadNumber 0 2"),
@@ -205,19 +222,16 @@ fn checks_scripts(rt: HostRuntime) -> Result<(), Fail> {
         (b"printf(\"%q\");", "Y5 BadFormat 7 11"),
         (b"foo(1);", "Y6 NotAFunction 0 3"),
     ];
-    for (source, wanted) in rows {
-        let wanted = format!(in alloc; "f: refused {wanted}\n|||1")?;
-        assert_eq!(rt;
-            done(&rt, rt.alloc(), &["check", "f"], source)?.as_str(),
-            wanted.as_str()
-        );
+    for (source, refusal) in rows {
+        is_refused(&rt, rt.alloc(), source, refusal)?;
     }
     Ok(())
 }
 
 #[test]
 fn accepts_the_whole_language(rt: HostRuntime) -> Result<(), Fail> {
-    let scripts: [&[u8]; 6] = [
+    let scripts: [&[u8]; 7] = [
+        HELLO,
         b"",
         b"int A[];",
         b"(int r) fib(int n) { if (n < 2) { r = n; } else { r = fib(n-1) + fib(n-2); } } printf(\"%i\", fib(10));",
@@ -226,11 +240,40 @@ fn accepts_the_whole_language(rt: HostRuntime) -> Result<(), Fail> {
         b"(int B[]) g(int m) { foreach i in [0:m-1] { B[i] = i*i; } } int C[]; C = g(4); printf(\"%i %i\", size(C), C[3]);",
     ];
     for script in scripts {
-        assert_eq!(rt;
-            done(&rt, rt.alloc(), &["check", "f"], script)?.as_str(),
-            "f: accepted\n|||0"
-        );
+        does_so(
+            &rt,
+            rt.alloc(),
+            &["check", "f"],
+            script,
+            "f: accepted\n|||0",
+        )?;
     }
+    Ok(())
+}
+
+/// Whether a command with these rooms for what is printed and for the trace did so.
+fn does<R: Threads + Wait + Sync>(
+    rt: &R,
+    alloc: Global,
+    words: &[&str],
+    sources: &[Option<&[u8]>],
+    rooms: (usize, usize),
+    wanted: &str,
+) -> Result<bool, Fail> {
+    let text = done_in(rt, alloc, words, sources, rooms)?;
+    Ok(text.as_str() == wanted)
+}
+
+/// The trace of a run of a script that prints a line, run again, does so.
+fn replays<R: Threads + Wait + Sync + Abort>(
+    rt: &R,
+    alloc: Global,
+    trace: &[u8],
+    wanted: &str,
+) -> Result<(), Fail> {
+    let sources = [Some(HELLO), Some(trace)];
+    let text = done_in(rt, alloc, &["replay", "f", "t"], &sources, WIDE)?;
+    assert_eq!(rt; text.as_str(), wanted);
     Ok(())
 }
 
@@ -247,27 +290,9 @@ fn replays_traces(rt: HostRuntime) -> Result<(), Fail> {
         (b"", "|swt: T1 BadLine 1\n||7"),
     ];
     for (trace, wanted) in rows {
-        let sources = [Some(HELLO), Some(trace)];
-        let words = ["replay", "f", "t"];
-        assert_eq!(rt;
-            done_in(&rt, rt.alloc(), &words, &sources, WIDE)?.as_str(),
-            wanted
-        );
+        replays(&rt, rt.alloc(), trace, wanted)?;
     }
     Ok(())
-}
-
-/// Whether a command with these rooms for what is printed and for the trace did so.
-fn does<R: Threads + Wait + Sync>(
-    rt: &R,
-    alloc: Global,
-    words: &[&str],
-    sources: &[Option<&[u8]>],
-    rooms: (usize, usize),
-    wanted: &str,
-) -> Result<bool, Fail> {
-    let text = done_in(rt, alloc, words, sources, rooms)?;
-    Ok(text.as_str() == wanted)
 }
 
 #[test]

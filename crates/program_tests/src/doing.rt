@@ -1,10 +1,15 @@
-//! Commands over files in memory, with sinks that take one byte a write.
+//! What several tests do: commands over files in memory, with sinks that take one byte a write, and rounds over a script.
 use bumpalo::Bump;
-use std::alloc::Global;
+use compile::compile::read;
+use script_meaning::knowledge::Knowledge;
+use script_meaning::rounds::rounds;
+use std::alloc::{AllocError, Global};
 use std::sync::Wait;
 use std::test::Fail;
 use std::thread::Threads;
 use swt_command::command::command;
+use swt_line::fault::LineFault;
+use swt_line::line::Line;
 use swt_line::request::Request;
 use swt_line::word::Word;
 use values::sink::{Sink, SinkFault};
@@ -65,17 +70,57 @@ impl Done {
     /// All of it in one text.
     pub(crate) fn text(&self, alloc: Global) -> Result<String, Fail> {
         let mut text = String::new(alloc);
-        for part in [
-            self.out.as_slice(),
-            self.err.as_slice(),
-            self.trace.as_slice(),
-        ] {
-            text.push_str(std::str::from_utf8(part)?)?;
-            text.push_str("|")?;
-        }
-        text.push_str(format!(in alloc; "{}", self.status)?.as_str())?;
+        self.add_to(alloc, &mut text)?;
         Ok(text)
     }
+
+    /// Adds all of it to a text.
+    fn add_to(&self, alloc: Global, text: &mut String) -> Result<(), Fail> {
+        add_part(text, self.out.as_slice())?;
+        add_part(text, self.err.as_slice())?;
+        add_part(text, self.trace.as_slice())?;
+        text.push_str(format!(in alloc; "{}", self.status)?.as_str())?;
+        Ok(())
+    }
+}
+
+/// Adds a part, with its end, to a text.
+fn add_part(text: &mut String, part: &[u8]) -> Result<(), Fail> {
+    text.push_str(std::str::from_utf8(part)?)?;
+    text.push_str("|")?;
+    Ok(())
+}
+
+/// The words of a line.
+pub(crate) fn words_of(alloc: Global, words: &[&str]) -> Result<Vec<Word>, AllocError> {
+    let mut list = Vec::new(alloc);
+    for word in words {
+        list.push(Word::new(String::from_str(alloc, word)?))?;
+    }
+    Ok(list)
+}
+
+/// What the words ask for.
+pub(crate) fn request_of(alloc: Global, words: &[&str]) -> Result<Request, LineFault> {
+    let list = words_of(alloc, words)?;
+    Request::read(alloc, list.as_slice())
+}
+
+/// A file in memory, or `None` for one that cannot be read.
+fn file_of(alloc: Global, source: &Option<&[u8]>) -> Result<Option<Vec<u8>>, AllocError> {
+    match source {
+        Some(bytes) => Ok(Some(Vec::from_slice(alloc, bytes)?)),
+        None => Ok(None),
+    }
+}
+
+/// Files in memory.
+fn files_of(alloc: Global, sources: &[Option<&[u8]>]) -> Result<Vec<Option<Vec<u8>>>, AllocError> {
+    let mut files = Vec::new(alloc);
+    for source in sources {
+        files.push(file_of(alloc, source)?)?;
+    }
+    Ok(files)
 }
 
 /// Does a command. `None` is a file that cannot be read; the first room is for what is printed, the second for the trace.
@@ -86,29 +131,19 @@ pub(crate) fn perform<R: Threads + Wait + Sync>(
     sources: &[Option<&[u8]>],
     rooms: (usize, usize),
 ) -> Result<Done, Fail> {
-    let mut files = Vec::new(alloc);
-    for source in sources {
-        match source {
-            Some(bytes) => files.push(Some(Vec::from_slice(alloc, bytes)?))?,
-            None => files.push(None)?,
-        }
-    }
-    perform_on(rt, alloc, words, files.as_slice(), rooms)
+    let files = files_of(alloc, sources)?;
+    let request = request_of(alloc, words)?;
+    Ok(done_by(rt, alloc, &request.line, files.as_slice(), rooms))
 }
 
-/// The same, over files that are there already.
-pub(crate) fn perform_on<R: Threads + Wait + Sync>(
+/// What the command of a line does with these files.
+fn done_by<R: Threads + Wait + Sync>(
     rt: &R,
     alloc: Global,
-    words: &[&str],
+    line: &Line,
     files: &[Option<Vec<u8>>],
     rooms: (usize, usize),
-) -> Result<Done, Fail> {
-    let mut list = Vec::new(alloc);
-    for word in words {
-        list.push(Word::new(String::from_str(alloc, word)?))?;
-    }
-    let request = Request::read(alloc, list.as_slice())?;
+) -> Done {
     let mut out = Small::new(alloc, rooms.0);
     let mut err = Small::new(alloc, 1000);
     let mut trace = Small::new(alloc, rooms.1);
@@ -116,32 +151,55 @@ pub(crate) fn perform_on<R: Threads + Wait + Sync>(
         rt,
         alloc,
         &mut Bump::new(alloc),
-        &request.line,
+        line,
         files,
         &Open,
         &mut out,
         &mut err,
         &mut trace,
     );
-    Ok(Done {
+    Done {
         out: out.bytes,
         err: err.bytes,
         trace: trace.bytes,
         status,
-    })
+    }
 }
 
-/// A text with its lines sorted by bytes: a run on threads prints them in any order.
-pub(crate) fn sorted_text(alloc: Global, text: &[u8]) -> Result<Vec<u8>, Fail> {
+/// The lines of a text, sorted by bytes.
+fn sorted_lines(alloc: Global, text: &[u8]) -> Result<Vec<&[u8]>, Fail> {
     let mut lines = Vec::new(alloc);
     for line in text.split(|byte| *byte == b'\n') {
         lines.push(line)?;
     }
     lines.sort()?;
-    let mut sorted = Vec::new(alloc);
-    for line in &lines {
-        sorted.extend_from_slice(line)?;
-        sorted.push(b'\n')?;
+    Ok(lines)
+}
+
+/// Adds a line to a text.
+fn add_line(text: &mut Vec<u8>, line: &[u8]) -> Result<(), Fail> {
+    text.extend_from_slice(line)?;
+    text.push(b'\n')?;
+    Ok(())
+}
+
+/// A text of these lines.
+fn text_of(alloc: Global, lines: &[&[u8]]) -> Result<Vec<u8>, Fail> {
+    let mut text = Vec::new(alloc);
+    for line in lines {
+        add_line(&mut text, line)?;
     }
-    Ok(sorted)
+    Ok(text)
+}
+
+/// A text with its lines sorted by bytes: a run on threads prints them in any order.
+pub(crate) fn sorted_text(alloc: Global, text: &[u8]) -> Result<Vec<u8>, Fail> {
+    let lines = sorted_lines(alloc, text)?;
+    text_of(alloc, lines.as_slice())
+}
+
+/// What is known of a script after so many rounds at most.
+pub(crate) fn known_of(alloc: Global, script: &[u8], most: u32) -> Result<Knowledge, Fail> {
+    let flow = read(alloc, alloc, script)?;
+    Ok(rounds(alloc, &flow, most)?)
 }

@@ -1,27 +1,33 @@
 //! Each command on plain words, its defaults and ranges, and words that are no command.
-use std::alloc::{AllocError, Global};
+use crate::doing::{request_of, words_of};
+use std::alloc::Global;
+use std::process::Abort;
 use std::test::Fail;
 use swt_line::command::Command;
-use swt_line::complaint::first_wrong;
+use swt_line::complaint::{Complaint, first_wrong};
 use swt_line::fault::LineFault;
 use swt_line::line::Line;
 use swt_line::request::Request;
 use swt_line::word::Word;
 
-fn words_of(alloc: Global, words: &[&str]) -> Result<Vec<Word>, AllocError> {
-    let mut list = Vec::new(alloc);
-    for word in words {
-        list.push(Word::new(String::from_str(alloc, word)?))?;
-    }
-    Ok(list)
-}
-
-fn read(alloc: Global, words: &[&str]) -> Result<Request, LineFault> {
-    Request::read(alloc, words_of(alloc, words)?.as_slice())
-}
-
+/// The words are no request.
 fn is_usage(alloc: Global, words: &[&str]) -> bool {
-    matches!(read(alloc, words), Err(LineFault::Usage))
+    matches!(request_of(alloc, words), Err(LineFault::Usage))
+}
+
+/// Something is wrong with the words.
+fn has_wrong(alloc: Global, words: &[&str]) -> Result<bool, Fail> {
+    let words = words_of(alloc, words)?;
+    Ok(first_wrong(words.as_slice()).is_some())
+}
+
+/// Each of these is no command, and something is wrong with its words.
+fn are_no_commands(rt: &impl Abort, alloc: Global, rows: &[&[&str]]) -> Result<(), Fail> {
+    for words in rows {
+        assert!(rt; is_usage(alloc, words));
+        assert!(rt; has_wrong(alloc, words)?);
+    }
+    Ok(())
 }
 
 /// The names of the files of a check in one text.
@@ -73,21 +79,45 @@ fn shown_line(alloc: Global, line: &Line) -> Result<String, Fail> {
     }
 }
 
-/// A line in one text, to compare.
-fn shown(alloc: Global, words: &[&str]) -> Result<String, Fail> {
-    let request = match read(alloc, words) {
-        Ok(request) => request,
-        Err(LineFault::Usage) => return Ok(String::from_str(alloc, "usage")?),
-        Err(LineFault::Memory) => return Ok(String::from_str(alloc, "memory")?),
-    };
-    let mut text = shown_line(alloc, &request.line)?;
-    if request.explain {
+/// Adds the options that several commands have.
+fn add_options(text: &mut String, explain: bool, progress: bool) -> Result<(), Fail> {
+    if explain {
         text.push_str(" explain")?;
     }
-    if request.progress {
+    if progress {
         text.push_str(" progress")?;
     }
+    Ok(())
+}
+
+/// A request in one text.
+fn shown_request(alloc: Global, request: &Request) -> Result<String, Fail> {
+    let mut text = shown_line(alloc, &request.line)?;
+    add_options(&mut text, request.explain, request.progress)?;
     Ok(text)
+}
+
+/// The word for a fault.
+fn fault_word(fault: &LineFault) -> &'static str {
+    match fault {
+        LineFault::Usage => "usage",
+        LineFault::Memory => "memory",
+    }
+}
+
+/// A line in one text, to compare.
+fn shown(alloc: Global, words: &[&str]) -> Result<String, Fail> {
+    match request_of(alloc, words) {
+        Ok(request) => shown_request(alloc, &request),
+        Err(fault) => Ok(String::from_str(alloc, fault_word(&fault))?),
+    }
+}
+
+/// The words are shown so.
+fn is_shown(rt: &impl Abort, alloc: Global, words: &[&str], text: &str) -> Result<(), Fail> {
+    let found = shown(alloc, words)?;
+    assert_eq!(rt; found.as_str(), text);
+    Ok(())
 }
 
 #[test]
@@ -135,14 +165,13 @@ fn commands(rt: HostRuntime) -> Result<(), Fail> {
         (&["replay", "--explain", "a", "t"], "replay a t explain"),
     ];
     for (words, text) in rows {
-        assert_eq!(rt; shown(alloc, words)?.as_str(), text);
+        is_shown(&rt, alloc, words, text)?;
     }
     Ok(())
 }
 
 #[test]
 fn no_commands(rt: HostRuntime) -> Result<(), Fail> {
-    let alloc = rt.alloc();
     let rows: [&[&str]; 38] = [
         &[],
         &[""],
@@ -183,17 +212,12 @@ fn no_commands(rt: HostRuntime) -> Result<(), Fail> {
         &["replay", "a"],
         &["replay", "a", "t", "u"],
     ];
-    for words in rows {
-        assert!(rt; is_usage(alloc, words));
-        assert!(rt; first_wrong(words_of(alloc, words)?.as_slice()).is_some());
-    }
-    Ok(())
+    are_no_commands(&rt, rt.alloc(), &rows)
 }
 
 /// Words that a reader of command lines often takes in other ways.
 #[test]
 fn other_forms(rt: HostRuntime) -> Result<(), Fail> {
-    let alloc = rt.alloc();
     let rows: [&[&str]; 14] = [
         &["--", "run", "a"],
         &["run", "--", "a"],
@@ -210,36 +234,58 @@ fn other_forms(rt: HostRuntime) -> Result<(), Fail> {
         &["run", "a", "--trace", "t", "--trace", "t"],
         &["help", "run"],
     ];
-    for words in rows {
-        assert!(rt; is_usage(alloc, words));
-        assert!(rt; first_wrong(words_of(alloc, words)?.as_slice()).is_some());
-    }
-    assert_eq!(rt;
-        shown(alloc, &["check", "", "=", "a=b"])?.as_str(),
-        "check  = a=b"
-    );
-    assert_eq!(rt;
-        shown(alloc, &["run", "help", "--trace", "run"])?.as_str(),
-        "run help 1 3 10000000 run"
-    );
-    assert_eq!(rt;
-        shown(alloc, &["mean", "--rounds", "007", "./-a"])?.as_str(),
-        "mean ./-a 7"
-    );
-    Ok(())
+    are_no_commands(&rt, rt.alloc(), &rows)
+}
+
+/// Words that look like others, and are names and numbers.
+#[test]
+fn other_names(rt: HostRuntime) -> Result<(), Fail> {
+    let alloc = rt.alloc();
+    is_shown(&rt, alloc, &["check", "", "=", "a=b"], "check  = a=b")?;
+    is_shown(
+        &rt,
+        alloc,
+        &["run", "help", "--trace", "run"],
+        "run help 1 3 10000000 run",
+    )?;
+    is_shown(
+        &rt,
+        alloc,
+        &["mean", "--rounds", "007", "./-a"],
+        "mean ./-a 7",
+    )
 }
 
 #[test]
 fn steps_range(rt: HostRuntime) -> Result<(), Fail> {
-    let alloc = rt.alloc();
-    assert_eq!(rt;
-        shown(alloc, &["run", "a", "--steps", "4294967295"])?.as_str(),
-        "run a 1 3 4294967295 none"
-    );
-    assert!(rt; is_usage(alloc, &["run", "a", "--steps", "4294967296"]));
-    assert!(rt; is_usage(alloc, &["run", "a", "--steps", "99999999999999999999"]));
-    assert!(rt; is_usage(alloc, &["run", "a", "--steps", "ten"]));
-    assert!(rt; is_usage(alloc, &["run", "a", "--steps", ""]));
+    for steps in ["4294967296", "99999999999999999999", "ten", ""] {
+        assert!(rt; is_usage(rt.alloc(), &["run", "a", "--steps", steps]));
+    }
+    is_shown(
+        &rt,
+        rt.alloc(),
+        &["run", "a", "--steps", "4294967295"],
+        "run a 1 3 4294967295 none",
+    )
+}
+
+/// These files have these names.
+fn have_names(rt: &impl Abort, files: &[Word], names: &[&str]) {
+    assert_eq!(rt; files.len(), names.len());
+    for (file, name) in files.iter().zip(names.iter()) {
+        assert_eq!(rt; file.as_str(), *name);
+    }
+}
+
+/// The files that a request needs have these names.
+fn needs_files(
+    rt: &impl Abort,
+    alloc: Global,
+    request: &Request,
+    names: &[&str],
+) -> Result<(), Fail> {
+    let files = request.line.files(alloc)?;
+    have_names(rt, files.as_slice(), names);
     Ok(())
 }
 
@@ -254,14 +300,8 @@ fn files_to_be_read(rt: HostRuntime) -> Result<(), Fail> {
         (&["replay", "a", "t"], &["a", "t"]),
     ];
     for (words, names) in rows {
-        let read = read(alloc, words);
-        assert!(rt; read.is_ok());
-        let Ok(request) = read else { continue };
-        let files = request.line.files(alloc)?;
-        assert_eq!(rt; files.len(), names.len());
-        for (file, name) in files.iter().zip(names.iter()) {
-            assert_eq!(rt; file.as_str(), *name);
-        }
+        let request = request_of(alloc, words)?;
+        needs_files(&rt, alloc, &request, names)?;
     }
     Ok(())
 }
@@ -274,6 +314,24 @@ fn single_words(rt: HostRuntime) -> Result<(), Fail> {
     let word = Word::new(String::from_str(alloc, "-x")?);
     assert_eq!(rt; word.copy(alloc)?.as_str(), "-x");
     Ok(())
+}
+
+/// The complaint has this text.
+fn has_text(rt: &impl Abort, alloc: Global, wrong: Complaint<'_>, text: &str) -> Result<(), Fail> {
+    let found = format!(in alloc; "{wrong}")?;
+    assert_eq!(rt; found.as_str(), text);
+    Ok(())
+}
+
+/// What is wrong with the words has this text.
+fn is_complained(rt: &impl Abort, alloc: Global, words: &[&str], text: &str) -> Result<(), Fail> {
+    let words = words_of(alloc, words)?;
+    let wrong = first_wrong(words.as_slice());
+    assert!(rt; wrong.is_some());
+    match wrong {
+        Some(wrong) => has_text(rt, alloc, wrong, text),
+        None => Ok(()),
+    }
 }
 
 #[test]
@@ -308,28 +366,26 @@ fn complaints(rt: HostRuntime) -> Result<(), Fail> {
         (&["replay", "a"], "swt: replay wants a file and its trace"),
     ];
     for (words, text) in rows {
-        let words = words_of(alloc, words)?;
-        let wrong = first_wrong(words.as_slice());
-        assert!(rt; wrong.is_some());
-        let Some(wrong) = wrong else { continue };
-        assert_eq!(rt; format!(in alloc; "{wrong}")?.as_str(), text);
+        is_complained(&rt, alloc, words, text)?;
     }
-    let right = words_of(alloc, &["run", "a", "--trace", "t"])?;
-    assert!(rt; first_wrong(right.as_slice()).is_none());
+    assert!(rt; !has_wrong(alloc, &["run", "a", "--trace", "t"])?);
     Ok(())
 }
 
 #[test]
-fn fault_texts(rt: HostRuntime) -> Result<(), Fail> {
+fn usage_has_a_text(rt: HostRuntime) -> Result<(), Fail> {
     let usage = format!(in rt.alloc(); "{}", LineFault::Usage)?;
     assert!(rt;
         usage
             .as_str()
             .starts_with("usage: swt check FILE.. [--explain]\n")
     );
-    assert_eq!(rt;
-        format!(in rt.alloc(); "{}", LineFault::Memory)?.as_str(),
-        "no memory"
-    );
+    Ok(())
+}
+
+#[test]
+fn lack_of_memory_has_a_text(rt: HostRuntime) -> Result<(), Fail> {
+    let text = format!(in rt.alloc(); "{}", LineFault::Memory)?;
+    assert_eq!(rt; text.as_str(), "no memory");
     Ok(())
 }

@@ -1,5 +1,7 @@
 //! Listings of small scripts: each word of an entry, `else if`, merged waits, priorities, functions that are called before they stand, literals as arguments.
 use compile::compile::{drawn, listed};
+use std::alloc::Global;
+use std::process::Abort;
 use std::test::Fail;
 
 const NOTHING: (&[u8], &str) = (b"", "body 0 script\n");
@@ -59,6 +61,13 @@ const LOOPS: (&[u8], &str) = (
     "body 0 script\n  1 leaf print 0 0\n  2 leaf set 13 0\n  3 leaf fill 29 0 x2\n  4 leaf cell 50 0 x2\n  5 control if 46 0 #4 > 1\n  6 leaf print 285 1\n  7 control each 306 0 A3[] > 4\n  8 leaf set 344 0\nbody 1 then\n  1 control each 62 0 A3[] > 2\n  2 leaf print 87 0 x2\n  3 control read 129 0 A3[*]\n  4 leaf print 114 0 #3\n  5 control wait 151 0 A3[] > 3\n  6 control read 250 0 A4[*]\n  7 leaf cell 239 0 x2 #6\n  8 control put 231 0 #7\n  9 control read 265 0 A4[*]\n  10 control put 257 0 #9\nbody 2 loop\nbody 3 wait\n  1 leaf cell 171 0 x2\n  2 control put 163 0 #1\n  3 leaf cell 214 0 x2\n  4 control put 206 0 #3\nbody 4 loop\n  1 leaf print 329 0\n",
 );
 
+/// The script has this listing.
+fn is_listed(rt: &impl Abort, alloc: Global, script: &[u8], wanted: &str) -> Result<(), Fail> {
+    let text = listed(alloc, alloc, script)?;
+    assert_eq!(rt; text.as_slice(), wanted.as_bytes());
+    Ok(())
+}
+
 #[test]
 fn lists_code(rt: HostRuntime) -> Result<(), Fail> {
     let alloc = rt.alloc();
@@ -77,8 +86,7 @@ fn lists_code(rt: HostRuntime) -> Result<(), Fail> {
         LOOPS,
     ];
     for (script, wanted) in rows {
-        let text = listed(alloc, alloc, script)?;
-        assert_eq!(rt; text.as_slice(), wanted.as_bytes());
+        is_listed(&rt, alloc, script, wanted)?;
     }
     Ok(())
 }

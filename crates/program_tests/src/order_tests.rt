@@ -1,15 +1,16 @@
 //! Every order in which small scripts can run, each compared with what the script means, worked out by rounds, and with what is
 //! written here.
+use crate::doing::known_of;
 use board::board::Board;
-use board::{Statement, Step};
-use compile::compile::{compile, read};
+use board::{Fault, Statement, Step};
+use compile::compile::compile;
 use runs::one::run_one;
 use runs::report::{End, Report};
 use runs::turn::finish;
 use script_meaning::knowledge::Knowledge;
 use script_meaning::order::Statement as MeantStatement;
-use script_meaning::rounds::rounds;
 use std::alloc::Global;
+use std::process::Abort;
 use std::test::Fail;
 use swt_command::buffer::Buffer;
 use swt_trace::report::write_report;
@@ -30,40 +31,56 @@ fn sorted_lines<'a>(alloc: Global, report: &'a Report) -> Result<Vec<&'a [u8]>, 
 
 /// What the runs of a script have: its lines, sorted by bytes, and what is said behind them of one that ends quiet; or, where it
 /// has faults, one of these, and some of its lines.
-#[derive(Drop)]
+#[derive(Clone, Copy)]
 struct Worked {
     lines: &'static [&'static [u8]],
     ends: &'static [&'static [u8]],
     has_faults: bool,
 }
 
-/// What the report says behind its lines.
-fn end_of(alloc: Global, report: &Report) -> Result<Vec<u8>, Fail> {
+/// All that the report says.
+fn told(alloc: Global, report: &Report) -> Result<Buffer, Fail> {
     let mut out = Buffer::new(alloc);
     write_report(report, &mut out)?;
+    Ok(out)
+}
+
+/// Where the text of these lines ends.
+fn end_of_lines(lines: &[Text]) -> usize {
     let mut place = 0usize;
-    for line in &report.lines {
+    for line in lines {
         place = place
             .saturating_add(line.as_bytes().len())
             .saturating_add(1);
     }
-    match out.bytes().get(place..) {
-        Some(end) => Ok(Vec::from_slice(alloc, end)?),
-        None => Ok(Vec::new(alloc)),
-    }
+    place
 }
 
-/// The report has what was worked out for the script.
-fn is_worked(alloc: Global, report: &Report, worked: &Worked) -> Result<bool, Fail> {
+/// What the report says behind its lines is one of these.
+fn has_end(alloc: Global, report: &Report, ends: &[&[u8]]) -> Result<bool, Fail> {
+    let out = told(alloc, report)?;
+    let end = out
+        .bytes()
+        .get(end_of_lines(report.lines.as_slice())..)
+        .unwrap_or(b"");
+    Ok(ends.contains(&end))
+}
+
+/// The report has the lines that were worked out for the script, or some of them where it has faults.
+fn has_lines(alloc: Global, report: &Report, worked: &Worked) -> Result<bool, Fail> {
     let printed = sorted_lines(alloc, report)?;
-    let has_lines = match &report.end {
+    Ok(match &report.end {
         End::Quiet => !worked.has_faults && printed.as_slice() == worked.lines,
         End::Fault(_) => worked.has_faults
             && printed.iter().all(|line| worked.lines.contains(line)),
         End::Limit => false,
-    };
-    let end = end_of(alloc, report)?;
-    Ok(has_lines && worked.ends.contains(&end.as_slice()))
+    })
+}
+
+/// The report has what was worked out for the script.
+fn is_worked(alloc: Global, report: &Report, worked: &Worked) -> Result<bool, Fail> {
+    let has_end = has_end(alloc, report, worked.ends)?;
+    Ok(has_lines(alloc, report, worked)? && has_end)
 }
 
 /// These are the same step.
@@ -91,37 +108,73 @@ fn same_lines(printed: &Vec<&[u8]>, lines: &Vec<Text>) -> bool {
             .all(|(a, b)| *a == b.as_bytes())
 }
 
+/// The report has all known lines, and no other.
+fn has_known_lines(alloc: Global, report: &Report, known: &Knowledge) -> Result<bool, Fail> {
+    let printed = sorted_lines(alloc, report)?;
+    let lines = known.lines_sorted()?;
+    Ok(same_lines(&printed, &lines))
+}
+
+/// The report has no line but known ones.
+fn has_some_known_lines(alloc: Global, report: &Report, known: &Knowledge) -> Result<bool, Fail> {
+    let printed = sorted_lines(alloc, report)?;
+    let lines = known.lines_sorted()?;
+    Ok(
+        printed
+            .iter()
+            .all(|line| lines.iter().any(|l| l.as_bytes() == *line)),
+    )
+}
+
+/// These are all known blocked statements, and no other.
+fn are_known_blocked(blocked: &[Statement], known: &Knowledge) -> Result<bool, Fail> {
+    let meant = known.blocked()?;
+    Ok(
+        meant.len() == blocked.len()
+            && meant
+                .iter()
+                .zip(blocked.iter())
+                .all(|(a, b)| is_statement(a, b)),
+    )
+}
+
+/// No fault is known.
+fn knows_no_fault(known: &Knowledge) -> Result<bool, Fail> {
+    Ok(known.faults()?.is_empty())
+}
+
+/// The fault is a known one.
+fn is_known_fault(fault: &Fault, known: &Knowledge) -> Result<bool, Fail> {
+    let faults = known.faults()?;
+    Ok(
+        faults
+            .iter()
+            .any(|f| is_statement(&f.statement, &fault.statement)),
+    )
+}
+
+/// The quiet report has all that is known of the script.
+fn is_known_quiet(alloc: Global, report: &Report, known: &Knowledge) -> Result<bool, Fail> {
+    let has_lines = has_known_lines(alloc, report, known)?;
+    let has_blocked = are_known_blocked(report.blocked.as_slice(), known)?;
+    Ok(knows_no_fault(known)? && has_lines && has_blocked)
+}
+
 /// The report has what is known of the script: all of it where it is quiet; one of the faults, and some of the lines, where it
 /// ends with a fault. A script that writes a key twice may print before what it does not mean.
 fn is_known(alloc: Global, report: &Report, known: &Knowledge) -> Result<bool, Fail> {
-    let printed = sorted_lines(alloc, report)?;
-    let lines = known.lines_sorted()?;
-    let faults = known.faults()?;
     match &report.end {
-        End::Quiet => {
-            let blocked = known.blocked()?;
-            let same_blocked = blocked.len() == report.blocked.len()
-                && blocked
-                    .iter()
-                    .zip(report.blocked.iter())
-                    .all(|(a, b)| is_statement(a, b));
-            Ok(same_lines(&printed, &lines) && same_blocked && faults.is_empty())
+        End::Quiet => is_known_quiet(alloc, report, known),
+        End::Fault(fault) => {
+            let has_lines = has_some_known_lines(alloc, report, known)?;
+            Ok(is_known_fault(fault, known)? && (!known.is_clean() || has_lines))
         }
-        End::Fault(fault) => Ok(
-            (!known.is_clean()
-                || printed
-                    .iter()
-                    .all(|line| lines.iter().any(|l| l.as_bytes() == *line)))
-                && faults
-                    .iter()
-                    .any(|f| is_statement(&f.statement, &fault.statement)),
-        ),
         End::Limit => Ok(false),
     }
 }
 
 /// What a script means: worked out by rounds, and written here.
-#[derive(Drop)]
+#[derive(Clone, Copy)]
 struct Meant<'a> {
     known: &'a Knowledge,
     written: Option<&'a Worked>,
@@ -146,6 +199,22 @@ fn choice_at(choices: &[u32], turn: usize) -> u32 {
     }
 }
 
+/// The item that is chosen at a turn; how many could begin is added. None where none can, or the board has ended.
+fn chosen_item(
+    board: &Board,
+    choices: &[u32],
+    turn: usize,
+    widths: &mut Vec<usize>,
+) -> Result<Option<u64>, Fail> {
+    let ready = board.ready_items()?;
+    if ready.is_empty() || !board.is_going() {
+        return Ok(None);
+    }
+    widths.push(ready.len())?;
+    let place = choice_at(choices, turn) as usize % ready.len();
+    Ok(Some(ready[place]))
+}
+
 /// Runs the item that is chosen at a turn, and adds how many could begin. False where none can, or the board has ended.
 fn take_turn(
     board: &mut Board,
@@ -153,12 +222,9 @@ fn take_turn(
     turn: usize,
     widths: &mut Vec<usize>,
 ) -> Result<bool, Fail> {
-    let ready = board.ready_items()?;
-    if ready.is_empty() || !board.is_going() {
+    let Some(item) = chosen_item(board, choices, turn, widths)? else {
         return Ok(false);
-    }
-    widths.push(ready.len())?;
-    let item = ready[choice_at(choices, turn) as usize % ready.len()];
+    };
     let Ok(work) = board.begin(0, item) else {
         return Ok(false);
     };
@@ -166,16 +232,36 @@ fn take_turn(
     Ok(true)
 }
 
-/// How many items can begin at each turn, by these choices and then by 0.
-fn widths(alloc: Global, code: &Code, choices: &[u32]) -> Result<Vec<usize>, Fail> {
-    let mut board = Board::new(alloc, code.copy()?, 1000)?;
+/// A board of the code.
+fn board_of(alloc: Global, code: &Code) -> Result<Board, Fail> {
+    Ok(Board::new(alloc, code.copy()?, 1000)?)
+}
+
+/// How many items can begin at each turn on the board, by these choices and then by 0.
+fn widths_on(board: &mut Board, alloc: Global, choices: &[u32]) -> Result<Vec<usize>, Fail> {
     let mut widths = Vec::new(alloc);
     for turn in 0..1000usize {
-        if !take_turn(&mut board, choices, turn, &mut widths)? {
+        if !take_turn(board, choices, turn, &mut widths)? {
             break;
         }
     }
     Ok(widths)
+}
+
+/// How many items can begin at each turn, by these choices and then by 0.
+fn widths(alloc: Global, code: &Code, choices: &[u32]) -> Result<Vec<usize>, Fail> {
+    let mut board = board_of(alloc, code)?;
+    widths_on(&mut board, alloc, choices)
+}
+
+/// The first of the choices, up to this place, where the one is greater by one.
+fn raised(alloc: Global, choices: &[u32], place: usize) -> Result<Vec<u32>, Fail> {
+    let mut next = Vec::new(alloc);
+    for turn in 0..place {
+        next.push(choice_at(choices, turn))?;
+    }
+    next.push(choice_at(choices, place).saturating_add(1))?;
+    Ok(next)
 }
 
 /// The choices behind these, where so many items can begin at each turn: the last that can be greater is greater by one.
@@ -188,15 +274,22 @@ fn next_choices(
         let place = widths.len() - 1 - back;
         let here = choice_at(choices, place);
         if (here as usize) < widths[place].saturating_sub(1) {
-            let mut next = Vec::new(alloc);
-            for turn in 0..place {
-                next.push(choice_at(choices, turn))?;
-            }
-            next.push(here.saturating_add(1))?;
-            return Ok(Some(next));
+            return Ok(Some(raised(alloc, choices, place)?));
         }
     }
     Ok(None)
+}
+
+/// Whether a run by these choices comes to what the script means.
+fn comes_to(alloc: Global, code: &Code, choices: &[u32], meant: &Meant) -> Result<bool, Fail> {
+    let report = run_one(alloc, code, choices, 1000)?;
+    meant.allows(alloc, &report)
+}
+
+/// The choices behind these.
+fn choices_behind(alloc: Global, code: &Code, choices: &[u32]) -> Result<Option<Vec<u32>>, Fail> {
+    let widths = widths(alloc, code, choices)?;
+    next_choices(alloc, choices, widths.as_slice())
 }
 
 /// In how many orders one thread can run a script, where each comes to what the script means. None where one does not, or
@@ -204,17 +297,33 @@ fn next_choices(
 fn orders(alloc: Global, code: &Code, most: u32, meant: &Meant) -> Result<Option<u32>, Fail> {
     let mut choices = Vec::new(alloc);
     for count in 1..most {
-        let report = run_one(alloc, code, choices.as_slice(), 1000)?;
-        if !meant.allows(alloc, &report)? {
+        if !comes_to(alloc, code, choices.as_slice(), meant)? {
             return Ok(None);
         }
-        let widths = widths(alloc, code, choices.as_slice())?;
-        match next_choices(alloc, choices.as_slice(), widths.as_slice())? {
+        match choices_behind(alloc, code, choices.as_slice())? {
             Some(next) => choices = next,
             None => return Ok(Some(count)),
         }
     }
     Ok(None)
+}
+
+/// In how many orders one thread can run the script, where each comes to what is known and what is written.
+fn orders_of(alloc: Global, script: &[u8], most: u32, meant: &Meant) -> Result<Option<u32>, Fail> {
+    let code = compile(alloc, alloc, script)?;
+    orders(alloc, &code, most, meant)
+}
+
+/// The script can be run in so many orders, and each comes to what it means.
+fn has_orders(rt: &impl Abort, alloc: Global, script: &[u8], wanted: u32) -> Result<(), Fail> {
+    let known = known_of(alloc, script, 100)?;
+    assert!(rt; known.finished());
+    let meant = Meant {
+        known: &known,
+        written: None,
+    };
+    assert_eq!(rt; orders_of(alloc, script, 1000, &meant)?, Some(wanted));
+    Ok(())
 }
 
 #[test]
@@ -243,34 +352,19 @@ fn every_order_of_scalars(rt: HostRuntime) -> Result<(), Fail> {
         ),
     ];
     for (script, wanted) in scripts {
-        let code = compile(alloc, alloc, script)?;
-        let known = rounds(alloc, &read(alloc, alloc, script)?, 100)?;
-        assert!(rt; known.finished());
-        assert_eq!(rt;
-            orders(
-                alloc,
-                &code,
-                1000,
-                &Meant {
-                    known: &known,
-                    written: None,
-                }
-            )?,
-            Some(wanted)
-        );
+        has_orders(&rt, alloc, script, wanted)?;
     }
     Ok(())
 }
 
 /// Whether every order of the script comes to this and to what it means, and there is more than one order.
 fn always(alloc: Global, script: &[u8], worked: &Worked) -> Result<bool, Fail> {
-    let code = compile(alloc, alloc, script)?;
-    let known = rounds(alloc, &read(alloc, alloc, script)?, 100)?;
+    let known = known_of(alloc, script, 100)?;
     let meant = Meant {
         known: &known,
         written: Some(worked),
     };
-    let count = orders(alloc, &code, 20000, &meant)?;
+    let count = orders_of(alloc, script, 20000, &meant)?;
     Ok(count.is_some_and(|n| n > 1))
 }
 
@@ -365,22 +459,34 @@ fn every_order_of_faults(rt: HostRuntime) -> Result<(), Fail> {
     Ok(())
 }
 
+/// A run of the script by these choices.
+fn run_of(alloc: Global, script: &[u8], choices: &[u32]) -> Result<Report, Fail> {
+    let code = compile(alloc, alloc, script)?;
+    Ok(run_one(alloc, &code, choices, 100)?)
+}
+
+/// The report says this.
+fn tells(rt: &impl Abort, alloc: Global, report: &Report, wanted: &[u8]) -> Result<(), Fail> {
+    let out = told(alloc, report)?;
+    assert_eq!(rt; out.bytes(), wanted);
+    Ok(())
+}
+
+/// The report has this trace.
+fn has_events(rt: &impl Abort, alloc: Global, report: &Report, events: &[u8]) -> Result<(), Fail> {
+    let mut trace = Buffer::new(alloc);
+    write_trace(report, &mut trace)?;
+    assert_eq!(rt; trace.bytes(), events);
+    Ok(())
+}
+
 /// A choice picks among the items that can begin, counted round.
 #[test]
 fn chosen_order(rt: HostRuntime) -> Result<(), Fail> {
     let alloc = rt.alloc();
-    let code = compile(
-        alloc,
-        alloc,
-        b"int x = 1; printf(\"a\"); printf(\"%i\", x);",
-    )?;
-    let report = run_one(alloc, &code, &[7, 1], 100)?;
-    let mut out = Buffer::new(alloc);
-    write_report(&report, &mut out)?;
-    assert_eq!(rt; out.bytes(), b"a\n1\n".as_slice());
-    let mut trace = Buffer::new(alloc);
-    write_trace(&report, &mut trace)?;
+    let script = b"int x = 1; printf(\"a\"); printf(\"%i\", x);";
+    let report = run_of(alloc, script, &[7, 1])?;
+    tells(&rt, alloc, &report, b"a\n1\n")?;
     let events = b"swt-trace 1\nB 0 1\nE 0 1\nB 1 3\nE 1 3\nB 1 2\nE 1 2\nB 1 4\nE 1 4\n";
-    assert_eq!(rt; trace.bytes(), events.as_slice());
-    Ok(())
+    has_events(&rt, alloc, &report, events)
 }

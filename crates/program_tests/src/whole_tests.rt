@@ -1,5 +1,5 @@
 //! Scripts of the whole language: what a run prints, and its trace run again, which prints the same.
-use crate::doing::{Done, WIDE, perform, perform_on, sorted_text};
+use crate::doing::{Done, WIDE, perform, sorted_text};
 use std::alloc::Global;
 use std::sync::Wait;
 use std::test::Fail;
@@ -12,10 +12,33 @@ fn replayed<R: Threads + Wait + Sync>(
     script: &[u8],
     run: &Done,
 ) -> Result<Done, Fail> {
-    let mut files = Vec::new(alloc);
-    files.push(Some(Vec::from_slice(alloc, script)?))?;
-    files.push(Some(Vec::from_slice(alloc, run.trace.as_slice())?))?;
-    perform_on(rt, alloc, &["replay", "f", "t"], files.as_slice(), WIDE)
+    let sources = [Some(script), Some(run.trace.as_slice())];
+    perform(rt, alloc, &["replay", "f", "t"], &sources, WIDE)
+}
+
+/// Whether these texts have the same lines, in some order.
+fn have_same_lines(alloc: Global, printed: &[u8], wanted: &[u8]) -> Result<bool, Fail> {
+    let printed = sorted_text(alloc, printed)?;
+    let meant = sorted_text(alloc, wanted)?;
+    Ok(printed.as_slice() == meant.as_slice())
+}
+
+/// Whether a run printed these lines in some order, said nothing, and ended with this status.
+fn is_wanted(alloc: Global, run: &Done, wanted: &[u8], status: u8) -> Result<bool, Fail> {
+    let has_lines = have_same_lines(alloc, run.out.as_slice(), wanted)?;
+    Ok(has_lines && run.err.is_empty() && run.status == status)
+}
+
+/// Whether the trace of a run of the script, run again, prints the same, says nothing, and ends with this status.
+fn is_same_again<R: Threads + Wait + Sync>(
+    rt: &R,
+    alloc: Global,
+    script: &[u8],
+    run: &Done,
+    status: u8,
+) -> Result<bool, Fail> {
+    let again = replayed(rt, alloc, script, run)?;
+    Ok(again.out.as_slice() == run.out.as_slice() && again.err.is_empty() && again.status == status)
 }
 
 /// Whether a run of the script prints these lines in some order, says nothing, and ends with this status, and its trace run again
@@ -34,14 +57,8 @@ fn runs_to<R: Threads + Wait + Sync>(
         &[Some(script)],
         WIDE,
     )?;
-    let again = replayed(rt, alloc, script, &run)?;
-    let printed = sorted_text(alloc, run.out.as_slice())?;
-    let meant = sorted_text(alloc, wanted)?;
-    let has_lines = printed.as_slice() == meant.as_slice();
-    let is_wanted = has_lines && run.err.is_empty() && run.status == status;
-    let is_same = again.out.as_slice() == run.out.as_slice()
-        && again.err.is_empty()
-        && again.status == status;
+    let is_same = is_same_again(rt, alloc, script, &run, status)?;
+    let is_wanted = is_wanted(alloc, &run, wanted, status)?;
     Ok(is_wanted && is_same)
 }
 
@@ -206,26 +223,45 @@ fn faults(rt: HostRuntime) -> Result<(), Fail> {
     Ok(())
 }
 
+/// Adds a number, with its end of a line, to a text.
+fn add_number(alloc: Global, number: u32, text: &mut Vec<u8>) -> Result<(), Fail> {
+    let line = format!(in alloc; "{number}\n")?;
+    text.extend_from_slice(line.as_str().as_bytes())?;
+    Ok(())
+}
+
+/// The numbers from 1 to 1000, a line each.
+fn thousand_lines(alloc: Global) -> Result<Vec<u8>, Fail> {
+    let mut text = Vec::new(alloc);
+    for i in 1..1001u32 {
+        add_number(alloc, i, &mut text)?;
+    }
+    Ok(text)
+}
+
 /// A thousand turns of a loop are made in chunks of 64.
 #[test]
 fn long_loop(rt: HostRuntime) -> Result<(), Fail> {
     let alloc = rt.alloc();
-    let mut wanted = Vec::new(alloc);
-    for i in 1..1001u32 {
-        wanted.extend_from_slice(format!(in alloc; "{i}\n")?.as_str().as_bytes())?;
-    }
+    let wanted = thousand_lines(alloc)?;
     let script = b"foreach i in [1:1000] { printf(\"%i\", i); }";
     assert!(rt; runs_to(&rt, alloc, script, wanted.as_slice(), 0)?);
+    Ok(())
+}
+
+/// Adds 511 of these steps, and the end of a line, to a text.
+fn add_steps(text: &mut String, step: &str) -> Result<(), Fail> {
+    for _ in 1..512u32 {
+        text.push_str(step)?;
+    }
+    text.push_str("\n")?;
     Ok(())
 }
 
 /// What is said of a fault at the 512th step of a path, by its offset with the first step, and the others.
 fn too_deep_at(alloc: Global, first: &str, others: &str) -> Result<String, Fail> {
     let mut text = format!(in alloc; "swt: fault F6 TooDeep {first}")?;
-    for _ in 1..512u32 {
-        text.push_str(others)?;
-    }
-    text.push_str("\n")?;
+    add_steps(&mut text, others)?;
     Ok(text)
 }
 
