@@ -4,5 +4,6 @@ pub mod Pieces
 pub mod Parts
 pub mod Steps
 pub mod Events
+pub mod Faults
 pub mod Replays
 pub mod Again

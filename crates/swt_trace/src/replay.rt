@@ -1,9 +1,9 @@
 //! Running a trace again.
-ghost use Rattle.std.specs.Prelude.{◌≡◌, ◌<◌, ℕ, length, IfOk, IfErr};
+ghost use Rattle.std.specs.Prelude.{◌≡◌, ◌<◌, ℕ, List, [], length, map, IfOk, IfErr, OnOk};
 ghost use Rattle.dataflow.specs.Machine.{Back, Begin, End};
 ghost use Rattle.task_code.specs.View.{event_view};
 ghost use Rattle.board.specs.Board.{IsWorker};
-ghost use Rattle.swt_trace.specs.Trace.{IsFirstBad, worker_of};
+ghost use Rattle.swt_trace.specs.Trace.{IsFirstBad, IsTrace, worker_of};
 ghost use Rattle.runs.specs.declared.report.Report.{Report};
 ghost use Rattle.runs.specs.Same.{SameReport};
 ghost use Rattle.swt_trace.specs.Replay.{IsFirstNoStep, IsTraceOf, ReplaysTo, Takes};
@@ -38,13 +38,40 @@ pub fn replay(alloc: Global, code: &Code, trace: &[u8]) -> Result<Report, Replay
     let _whole = code.entry_count();
     let events = read_trace(alloc, trace)?;
     let mut board = Board::new(alloc, code.copy()?, events.len() as u32)?;
+    report_behind(alloc, &mut board, events.as_slice())
+}
+
+/// The report of the events of a trace, on a board without any before.
+fn report_behind(alloc: Global, board: &mut Board, events: &[Event]) -> Result<Report, ReplayFault>
+    requires trace { (bytes : List ℕ) × IsTrace bytes events.now }
+    requires none { board.old.history ≡ [] }
+    requires room { board.old.limit ≡ length events.now }
+    ensures report { IfOk result (λ report. (bytes : List ℕ) → IsTrace bytes events.now → ReplaysTo board.old.code bytes report) }
+    ensures bad { IfErr result (λ fault. (n : ℕ) → fault ≡ ReplayFault.BadLine n → ⊥) }
+    ensures no_step { IfErr result (λ fault. (n : ℕ) → fault ≡ ReplayFault.NotARun n → (bytes : List ℕ) → IsTrace bytes events.now → IsFirstNoStep board.old.code bytes n) }
+{
+    take_all(board, events)?;
+    Ok(report_of(alloc, board)?)
+}
+
+/// Does what the events of a trace say, on a board without any before, up to one that is no step.
+fn take_all(board: &mut Board, events: &[Event]) -> Result<(), ReplayFault>
+    requires trace { (bytes : List ℕ) × IsTrace bytes events.now }
+    requires none { board.old.history ≡ [] }
+    requires room { board.old.limit ≡ length events.now }
+    ensures code { OnOk result (board.new.code ≡ board.old.code) }
+    ensures limit { OnOk result (board.new.limit ≡ board.old.limit) }
+    ensures history { OnOk result (board.new.history ≡ map event_view events.now) }
+    ensures bad { IfErr result (λ fault. (n : ℕ) → fault ≡ ReplayFault.BadLine n → ⊥) }
+    ensures no_step { IfErr result (λ fault. (n : ℕ) → fault ≡ ReplayFault.NotARun n → (bytes : List ℕ) → IsTrace bytes events.now → IsFirstNoStep board.old.code bytes n) }
+{
     for (place, event) in events.iter().enumerate() {
-        if !take_step(&mut board, event)? {
+        if !take_step(board, event)? {
             let _replays = board.history();
             return Err(ReplayFault::NotARun(place as u64 + 2));
         }
     }
-    Ok(report_of(alloc, &board)?)
+    Ok(())
 }
 
 /// Does what the event says, and says whether it is a step.
