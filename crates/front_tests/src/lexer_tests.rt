@@ -2,10 +2,34 @@
 
 use lexer::fault::LexFault;
 use lexer::lexer::Lexer;
-use lexer::token::{Span, TokenKind};
+use lexer::token::{Span, Token, TokenKind};
 use lexer::value::{number_value, string_content};
+use std::alloc::Global;
 use std::process::Abort;
-use std::test::Fail;
+
+/// The bytes from one place to another.
+fn at(from: usize, to: usize) -> Span {
+    Span { from, to }
+}
+
+/// The item is a token of this kind, at this place of the text.
+fn is_token(
+    rt: &impl Abort,
+    item: Option<Result<Token<'_>, LexFault>>,
+    text: &[u8],
+    kind: TokenKind,
+    place: Span,
+) {
+    let token = item.expect(rt, "a token").ok().expect(rt, "no fault");
+    assert_eq!(rt; token.kind, kind);
+    assert_eq!(rt; token.span, place);
+    assert_eq!(rt; Some(token.text), text.get(place.from..place.to));
+}
+
+/// The item is this fault.
+fn is_fault(rt: &impl Abort, item: Option<Result<Token<'_>, LexFault>>, wanted: LexFault) {
+    assert_eq!(rt; item.expect(rt, "a fault").err(), Some(wanted));
+}
 
 /// The text has these tokens at these places, then this fault or its end.
 fn expect(
@@ -16,23 +40,10 @@ fn expect(
 ) {
     let mut lexer = Lexer::new(text);
     for (kind, from, to) in tokens {
-        let item = lexer.next();
-        let token = item.expect(rt, "a token").ok().expect(rt, "no fault");
-        assert_eq!(rt; token.kind, *kind);
-        assert_eq!(rt;
-            token.span,
-            Span {
-                from: *from,
-                to: *to
-            }
-        );
-        assert_eq!(rt; Some(token.text), text.get(*from..*to));
+        is_token(rt, lexer.next(), text, *kind, at(*from, *to));
     }
     match fault {
-        Some(fault) => {
-            let item = lexer.next();
-            assert_eq!(rt; item.expect(rt, "a fault").err(), Some(fault));
-        }
+        Some(fault) => is_fault(rt, lexer.next(), fault),
         None => {}
     }
     assert!(rt; lexer.next().is_none());
@@ -124,8 +135,7 @@ fn expect_fault(rt: &impl Abort, text: &[u8], fault: LexFault) {
 }
 
 #[test]
-fn finds_faults(rt: HostRuntime) {
-    let at = |from: usize, to: usize| Span { from, to };
+fn finds_bad_bytes(rt: HostRuntime) {
     expect_fault(&rt, b"#".as_slice(), LexFault::BadByte(at(0, 1)));
     expect_fault(&rt, b" /".as_slice(), LexFault::BadByte(at(1, 2)));
     expect_fault(&rt, b"&".as_slice(), LexFault::BadByte(at(0, 1)));
@@ -134,6 +144,10 @@ fn finds_faults(rt: HostRuntime) {
     expect_fault(&rt, b"//a\x01".as_slice(), LexFault::BadByte(at(3, 4)));
     expect_fault(&rt, b"/*\x7f*/".as_slice(), LexFault::BadByte(at(2, 3)));
     expect_fault(&rt, b"\"a\xc3\"".as_slice(), LexFault::BadByte(at(2, 3)));
+}
+
+#[test]
+fn finds_bad_numbers_and_escapes(rt: HostRuntime) {
     expect_fault(&rt, b"007".as_slice(), LexFault::BadNumber(at(0, 3)));
     expect_fault(&rt, b"12a_ ".as_slice(), LexFault::BadNumber(at(0, 4)));
     expect_fault(
@@ -141,14 +155,18 @@ fn finds_faults(rt: HostRuntime) {
         b"9223372036854775808".as_slice(),
         LexFault::BadNumber(at(0, 19)),
     );
+    expect_fault(&rt, b"\"ab\\q\"".as_slice(), LexFault::BadEscape(at(3, 5)));
+    expect_fault(&rt, b"\"\\\xff\"".as_slice(), LexFault::BadEscape(at(1, 3)));
+}
+
+#[test]
+fn finds_open_strings_and_comments(rt: HostRuntime) {
     expect_fault(&rt, b"\"a\n\"".as_slice(), LexFault::OpenString(at(0, 2)));
     expect_fault(&rt, b"\"a\tb\"".as_slice(), LexFault::OpenString(at(0, 2)));
     expect_fault(&rt, b"\"a\\".as_slice(), LexFault::OpenString(at(0, 3)));
     expect_fault(&rt, b"\"a\\\r\"".as_slice(), LexFault::OpenString(at(0, 3)));
     expect_fault(&rt, b"/* /*".as_slice(), LexFault::OpenComment(at(0, 5)));
     expect_fault(&rt, b"\n/*/".as_slice(), LexFault::OpenComment(at(1, 4)));
-    expect_fault(&rt, b"\"ab\\q\"".as_slice(), LexFault::BadEscape(at(3, 5)));
-    expect_fault(&rt, b"\"\\\xff\"".as_slice(), LexFault::BadEscape(at(1, 3)));
 }
 
 #[test]
@@ -161,39 +179,40 @@ fn finds_faults_behind_tokens(rt: HostRuntime) {
     expect(&rt, b"%//".as_slice(), divide.as_slice(), Some(slash));
 }
 
-#[test]
-fn names_faults(rt: HostRuntime) -> Result<(), Fail> {
-    let span = Span { from: 0, to: 1 };
-    let texts = [
-        (LexFault::BadByte(span), "L1 BadByte"),
-        (LexFault::BadNumber(span), "L2 BadNumber"),
-        (LexFault::OpenString(span), "L3 OpenString"),
-        (LexFault::OpenComment(span), "L4 OpenComment"),
-        (LexFault::BadEscape(span), "L5 BadEscape"),
-    ];
-    for (fault, text) in texts {
-        assert_eq!(rt; format!(in rt.alloc(); "{fault}")?.as_str(), text);
-        assert_eq!(rt; fault.span(), Span::at(0, 1));
-    }
-    Ok(())
+/// The fault of the first byte is told so.
+fn is_told(rt: &impl Abort, alloc: Global, fault: LexFault, wanted: &str) {
+    let told = format!(in alloc; "{fault}").expect(rt, "memory");
+    assert_eq!(rt; told.as_str(), wanted);
+    assert_eq!(rt; fault.span(), Span::at(0, 1));
 }
 
 #[test]
-fn gives_values(rt: HostRuntime) -> Result<(), Fail> {
+fn names_faults(rt: HostRuntime) {
+    let alloc = rt.alloc();
+    let span = Span { from: 0, to: 1 };
+    is_told(&rt, alloc, LexFault::BadByte(span), "L1 BadByte");
+    is_told(&rt, alloc, LexFault::BadNumber(span), "L2 BadNumber");
+    is_told(&rt, alloc, LexFault::OpenString(span), "L3 OpenString");
+    is_told(&rt, alloc, LexFault::OpenComment(span), "L4 OpenComment");
+    is_told(&rt, alloc, LexFault::BadEscape(span), "L5 BadEscape");
+}
+
+#[test]
+fn gives_values_of_numbers(rt: HostRuntime) {
     assert_eq!(rt; number_value(b"0".as_slice()), Some(0));
     assert_eq!(rt;
         number_value(b"9223372036854775807".as_slice()),
         Some(9_223_372_036_854_775_807)
     );
     assert_eq!(rt; number_value(b"9223372036854775808".as_slice()), None);
+}
+
+#[test]
+fn gives_the_content_of_a_string(rt: HostRuntime) {
     let mut lexer = Lexer::new(b"\"a\\n\\t\\\\\\\"b\"".as_slice());
-    let token = lexer
-        .next()
-        .expect(&rt, "a token")
-        .ok()
-        .expect(&rt, "no fault");
+    let item = lexer.next();
+    let token = item.expect(&rt, "a token").ok().expect(&rt, "no fault");
     assert!(rt; token.kind == TokenKind::Text);
-    let content = string_content(rt.alloc(), token.text)?;
+    let content = string_content(rt.alloc(), token.text).expect(&rt, "memory");
     assert_eq!(rt; content.as_slice(), b"a\n\t\\\"b".as_slice());
-    Ok(())
 }
