@@ -5,6 +5,8 @@ use std::alloc::{AllocError, Global};
 use std::fmt::Display;
 use std::process::Abort;
 use syntax::parser::parse;
+use syntax_trees::tree::Script;
+use types::typed::Typed;
 
 /// A fault's name, and the bytes where its place begins and ends.
 fn told(alloc: Global, fault: &impl Display, place: Option<Span>) -> Result<String, AllocError> {
@@ -22,18 +24,30 @@ fn reading(alloc: Global, text: &[u8]) -> Result<String, AllocError> {
     }
 }
 
+/// What the check of single assignment says of a script that is well typed.
+fn assignments(
+    alloc: Global,
+    script: &Script<Global>,
+    typed: &Typed,
+) -> Result<String, AllocError> {
+    match assign_check::check(alloc, script, typed) {
+        Ok(()) => String::from_str(alloc, "accepted"),
+        Err(fault) => told(alloc, &fault, fault.span()),
+    }
+}
+
+/// What the first of the checks that refuses a script says of it.
+fn checked(alloc: Global, script: &Script<Global>) -> Result<String, AllocError> {
+    match types::check(alloc, script) {
+        Ok(typed) => assignments(alloc, script, &typed),
+        Err(fault) => told(alloc, &fault, fault.span()),
+    }
+}
+
 /// What the first of the parser and the checks that refuses a text says of it.
 fn judgement(alloc: Global, text: &[u8]) -> Result<String, AllocError> {
-    let script = match parse(alloc, text) {
-        Ok(script) => script,
-        Err(fault) => return told(alloc, &fault, fault.span()),
-    };
-    let typed = match types::check(alloc, &script) {
-        Ok(typed) => typed,
-        Err(fault) => return told(alloc, &fault, fault.span()),
-    };
-    match assign_check::check(alloc, &script, &typed) {
-        Ok(()) => String::from_str(alloc, "accepted"),
+    match parse(alloc, text) {
+        Ok(script) => checked(alloc, &script),
         Err(fault) => told(alloc, &fault, fault.span()),
     }
 }
@@ -44,12 +58,17 @@ fn parts<'a>(rt: &impl Abort, row: &'a str) -> (&'a str, &'a [u8]) {
     (wanted, text.as_bytes())
 }
 
+/// The answer is as wanted.
+fn is_answered(rt: &impl Abort, answer: Result<String, AllocError>, wanted: &str, row: &str) {
+    let answer = answer.expect(rt, "memory");
+    assert_eq!(rt; answer.as_str(), wanted, "{row}");
+}
+
 /// The parser answers each row as wanted.
 pub fn are_read(rt: &impl Abort, alloc: Global, rows: &str) {
     for row in rows.lines() {
         let (wanted, text) = parts(rt, row);
-        let answer = reading(alloc, text).expect(rt, "memory");
-        assert_eq!(rt; answer.as_str(), wanted, "{row}");
+        is_answered(rt, reading(alloc, text), wanted, row);
     }
 }
 
@@ -57,7 +76,6 @@ pub fn are_read(rt: &impl Abort, alloc: Global, rows: &str) {
 pub fn are_judged(rt: &impl Abort, alloc: Global, rows: &str) {
     for row in rows.lines() {
         let (wanted, text) = parts(rt, row);
-        let answer = judgement(alloc, text).expect(rt, "memory");
-        assert_eq!(rt; answer.as_str(), wanted, "{row}");
+        is_answered(rt, judgement(alloc, text), wanted, row);
     }
 }

@@ -5,7 +5,6 @@ use bumpalo::Bump;
 use lexer::token::Span;
 use std::alloc::{AllocError, Allocator, Global};
 use std::process::Abort;
-use std::test::Fail;
 use syntax::error::ParseFault;
 use syntax::parser::{MAX_SOURCE, parse};
 use syntax_trees::tree::{Expr, ExprKind, Item, Right, Script, StmtKind};
@@ -47,13 +46,25 @@ fn refused_texts(rt: HostRuntime) {
 const FIB: &[u8] =
     b"(int r) fib(int n) { if (n < 2) { r = n; } else { r = fib(n-1) + fib(n-2); } } printf(\"%i\", fib(10));";
 
+/// The fault of a text that is refused.
+fn fault_of(alloc: Global, text: &[u8]) -> Option<ParseFault> {
+    parse(alloc, text).err()
+}
+
 // A function is a script, as are spaces behind it, and as is the whole.
 #[test]
 fn beginnings_of_a_text(rt: HostRuntime) {
     for n in 0..FIB.len() + 1 {
         let accepted = n == 0 || n == 78 || n == 79 || n == 101;
-        assert!(rt; parse(rt.alloc(), &FIB[..n]).is_ok() == accepted, "at {n}");
+        assert!(rt;
+            fault_of(rt.alloc(), &FIB[..n]).is_none() == accepted,
+            "at {n}"
+        );
     }
+}
+
+#[test]
+fn cut_texts(rt: HostRuntime) {
     are_read(&rt, rt.alloc(), CUT);
 }
 
@@ -78,42 +89,66 @@ fn repeated(
     Ok(text)
 }
 
+/// A number in so many brackets, as a text.
+fn brackets(alloc: Global, times: usize) -> Result<Vec<u8>, AllocError> {
+    let closed = repeated(alloc, b"1", b")", times, b";")?;
+    repeated(alloc, b"int x = ", b"(", times, closed.as_slice())
+}
+
 /// The text nests 64 deep and is read, or one deeper at this place and is refused for that.
-fn nests(rt: &impl Abort, alloc: Global, text: &[u8], deeper: bool, place: Span) {
+fn nests(
+    rt: &impl Abort,
+    alloc: Global,
+    text: Result<Vec<u8>, AllocError>,
+    deeper: bool,
+    place: Span,
+) {
+    let text = text.expect(rt, "memory");
     let fault = ParseFault::TooNested(place);
     let wanted = if deeper { Some(fault) } else { None };
-    assert_eq!(rt; parse(alloc, text).err(), wanted);
+    assert_eq!(rt; fault_of(alloc, text.as_slice()), wanted);
 }
 
 #[test]
-fn nesting(rt: HostRuntime) -> Result<(), Fail> {
+fn nesting(rt: HostRuntime) {
     let alloc = rt.alloc();
     for n in 64..66 {
         let deeper = n == 65;
-        let closed = repeated(alloc, b"1", b")", n, b";")?;
-        let text = repeated(alloc, b"int x = ", b"(", n, closed.as_slice())?;
-        nests(&rt, alloc, text.as_slice(), deeper, Span::at(72, 1));
-        let text = repeated(alloc, b"boolean b = ", b"!", n, b"true;")?;
-        nests(&rt, alloc, text.as_slice(), deeper, Span::at(76, 1));
-        let text = repeated(alloc, b"if (true) { }", b" else if (true) { }", n - 1, b"")?;
-        nests(&rt, alloc, text.as_slice(), deeper, Span::at(1219, 1));
+        nests(&rt, alloc, brackets(alloc, n), deeper, Span::at(72, 1));
+        let text = repeated(alloc, b"boolean b = ", b"!", n, b"true;");
+        nests(&rt, alloc, text, deeper, Span::at(76, 1));
+        let text = repeated(alloc, b"if (true) { }", b" else if (true) { }", n - 1, b"");
+        nests(&rt, alloc, text, deeper, Span::at(1219, 1));
     }
-    Ok(())
+}
+
+const LONG: ParseFault = ParseFault::TooLong(Span {
+    from: 1_048_576,
+    to: 1_048_576,
+});
+
+#[test]
+fn lengths(rt: HostRuntime) {
+    let alloc = rt.alloc();
+    let mut text = repeated(alloc, b"", b" ", MAX_SOURCE, b"").expect(&rt, "memory");
+    assert_eq!(rt; fault_of(alloc, text.as_slice()), None);
+    text.push(b'#').expect(&rt, "memory");
+    assert_eq!(rt; fault_of(alloc, text.as_slice()), Some(LONG));
+}
+
+/// The fault is told so.
+fn is_told(rt: &impl Abort, alloc: Global, fault: ParseFault, wanted: &str) {
+    let told = format!(in alloc; "{fault}").expect(rt, "memory");
+    assert_eq!(rt; told.as_str(), wanted);
 }
 
 #[test]
-fn lengths(rt: HostRuntime) -> Result<(), Fail> {
-    let mut text = repeated(rt.alloc(), b"", b" ", MAX_SOURCE, b"")?;
-    assert_eq!(rt; parse(rt.alloc(), text.as_slice()).err(), None);
-    text.push(b'#')?;
-    let long = ParseFault::TooLong(Span::at(1_048_576, 0));
-    assert_eq!(rt; parse(rt.alloc(), text.as_slice()).err(), Some(long));
-    assert_eq!(rt; format!(in rt.alloc(); "{long}")?.as_str(), "P4 TooLong");
+fn faults_of_bounds(rt: HostRuntime) {
+    is_told(&rt, rt.alloc(), LONG, "P4 TooLong");
     let deep = ParseFault::TooNested(Span::at(2, 3));
-    assert_eq!(rt; format!(in rt.alloc(); "{deep}")?.as_str(), "P3 TooNested");
+    is_told(&rt, rt.alloc(), deep, "P3 TooNested");
     assert_eq!(rt; deep.span(), Some(Span::at(2, 3)));
     assert_eq!(rt; ParseFault::Memory.span(), None);
-    Ok(())
 }
 
 /// The right side of a script that is one assignment.
@@ -126,24 +161,28 @@ fn assigned<'s, A: Allocator>(rt: &impl Abort, script: &'s Script<A>) -> &'s Exp
     panic!(rt; "one assignment")
 }
 
+/// The expression has this number, and stands here.
+fn stands<A: Allocator>(rt: &impl Abort, expr: &Expr<A>, number: u32, first: Span, to: usize) {
+    assert_eq!(rt; (expr.number, expr.first, expr.to), (number, first, to));
+}
+
 // The statement is number 1, x 2; behind the sum's 1, the expression y and its name stand before the last operand.
-#[test]
-fn places_and_numbers(rt: HostRuntime) -> Result<(), Fail> {
-    let arena = Bump::new(rt.alloc());
-    let script = parse(&arena, b"x = (1 + y) * (2);")?;
-    let product = assigned(&rt, &script);
-    assert_eq!(rt;
-        (product.number, product.first, product.to),
-        (3, Span::at(4, 1), 17)
-    );
+fn is_product<A: Allocator>(rt: &impl Abort, product: &Expr<A>) {
+    stands(rt, product, 3, Span::at(4, 1), 17);
     let ExprKind::Chain(_, operands) = &product.kind else {
         panic!(rt; "a product")
     };
     let [sum, two] = operands.as_slice() else {
         panic!(rt; "two operands")
     };
-    assert_eq!(rt; (sum.number, sum.first, sum.to), (4, Span::at(5, 1), 10));
+    stands(rt, sum, 4, Span::at(5, 1), 10);
     assert_eq!(rt; two.number, 8);
     assert!(rt; matches!(&two.kind, ExprKind::Number(2)));
-    Ok(())
+}
+
+#[test]
+fn places_and_numbers(rt: HostRuntime) {
+    let arena = Bump::new(rt.alloc());
+    let script = parse(&arena, b"x = (1 + y) * (2);").expect(&rt, "a script");
+    is_product(&rt, assigned(&rt, &script));
 }

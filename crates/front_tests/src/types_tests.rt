@@ -2,12 +2,13 @@
 
 use crate::rows::are_judged;
 use lexer::token::Span;
-use std::test::Fail;
+use std::alloc::Global;
+use std::process::Abort;
 use syntax::parser::parse;
 use syntax_trees::tree::Shape;
 use types::check;
 use types::fault::TypeFault;
-use types::typed::{Builtin, Callee, Meaning, Owned, Reference, Settled, by_number};
+use types::typed::{Builtin, Callee, Meaning, Owned, Reference, Settled, Typed, by_number};
 
 const REFUSED: &str = r#"Y1 Unknown 13 14 | printf("%i", y);
 Y1 Unknown 6 7 | wait (q) { }
@@ -53,6 +54,7 @@ fn accepted_scripts(rt: HostRuntime) {
     are_judged(&rt, rt.alloc(), ACCEPTED);
 }
 
+/// A variable of the block that it is used in.
 fn own(what: Owned) -> Reference {
     Reference { up: 0, what }
 }
@@ -60,44 +62,72 @@ fn own(what: Owned) -> Reference {
 // In reading order: the function 1, r 2, f 3, A 4, the assignment 5, r 6, its right side 7, size 8, A 9 and its name 10,
 // B's statement 11 and B 12, x's statement 13 and x 14, the call 15, f 16, B 17 and its name 18, the branch 19, its test 20,
 // the statement 21, the call 22, printf 23, the format 24, x 25 and its name 26.
+const NAMES: &[u8] =
+    b"(int r) f(int A[]) { r = size(A); } int B[]; int x = f(B); if (true) { printf(\"%i\", x); }";
+
+/// What the names of that text are.
+fn names(rt: &impl Abort, alloc: Global) -> Typed {
+    let script = parse(alloc, NAMES).expect(rt, "a script");
+    check(alloc, &script).expect(rt, "a script that is well typed")
+}
+
+/// The variable's name at a node refers to this.
+fn refers(rt: &impl Abort, typed: &Typed, number: u32, wanted: Reference) {
+    assert_eq!(rt; typed.name(number), wanted);
+}
+
+/// The function's name at a node is this.
+fn calls(rt: &impl Abort, typed: &Typed, number: u32, wanted: Callee) {
+    assert_eq!(rt; typed.callee(number), wanted);
+}
+
 #[test]
-fn what_names_are(rt: HostRuntime) -> Result<(), Fail> {
-    let text =
-        b"(int r) f(int A[]) { r = size(A); } int B[]; int x = f(B); if (true) { printf(\"%i\", x); }";
-    let script = parse(rt.alloc(), text.as_slice())?;
-    let typed = check(rt.alloc(), &script)?;
-    assert_eq!(rt; typed.name(6), own(Owned::Output(0)));
-    assert_eq!(rt; typed.name(10), own(Owned::Input(0)));
-    assert_eq!(rt; typed.name(18), own(Owned::Local(12)));
+fn what_names_are(rt: HostRuntime) {
+    let typed = names(&rt, rt.alloc());
+    refers(&rt, &typed, 6, own(Owned::Output(0)));
+    refers(&rt, &typed, 10, own(Owned::Input(0)));
+    refers(&rt, &typed, 18, own(Owned::Local(12)));
     let outer = Reference {
         up: 1,
         what: Owned::Local(14),
     };
-    assert_eq!(rt; typed.name(26), outer);
+    refers(&rt, &typed, 26, outer);
     assert_eq!(rt; typed.shape(10), Shape::Array);
     assert_eq!(rt; typed.shape(26), Shape::Scalar);
-    assert_eq!(rt; typed.callee(8), Callee::BuiltIn(Builtin::Size));
-    assert_eq!(rt; typed.callee(16), Callee::Function(0));
-    assert_eq!(rt; typed.callee(23), Callee::BuiltIn(Builtin::Printf));
-    Ok(())
 }
 
 #[test]
-fn what_was_settled_last_holds(rt: HostRuntime) -> Result<(), Fail> {
-    let meanings = [
-        (3, Meaning::Called(Callee::Function(1))),
-        (1, Meaning::Variable(own(Owned::Input(4)), Shape::Array)),
-        (3, Meaning::Called(Callee::Function(2))),
+fn what_calls_are(rt: HostRuntime) {
+    let typed = names(&rt, rt.alloc());
+    calls(&rt, &typed, 8, Callee::BuiltIn(Builtin::Size));
+    calls(&rt, &typed, 16, Callee::Function(0));
+    calls(&rt, &typed, 23, Callee::BuiltIn(Builtin::Printf));
+}
+
+/// One of these meanings.
+fn settled(number: u32, meaning: Meaning) -> Settled {
+    Settled { number, meaning }
+}
+
+#[test]
+fn what_was_settled_last_holds(rt: HostRuntime) {
+    let variable = Meaning::Variable(own(Owned::Input(4)), Shape::Array);
+    let settled = [
+        settled(3, Meaning::Called(Callee::Function(1))),
+        settled(1, variable),
+        settled(3, Meaning::Called(Callee::Function(2))),
     ];
-    let settled = meanings.map(|(number, meaning)| Settled { number, meaning });
-    let typed = by_number(rt.alloc(), &settled)?;
-    assert_eq!(rt; typed.callee(3), Callee::Function(2));
-    assert_eq!(rt; typed.name(1), own(Owned::Input(4)));
-    assert_eq!(rt; typed.name(2), own(Owned::Local(0)));
+    let typed = by_number(rt.alloc(), &settled).expect(&rt, "memory");
+    calls(&rt, &typed, 3, Callee::Function(2));
+    refers(&rt, &typed, 1, own(Owned::Input(4)));
+    refers(&rt, &typed, 2, own(Owned::Local(0)));
+}
+
+#[test]
+fn places_of_faults(rt: HostRuntime) {
     assert_eq!(rt; TypeFault::Memory.span(), None);
     assert_eq!(rt;
         TypeFault::Unknown(Span::at(3, 1)).span(),
         Some(Span::at(3, 1))
     );
-    Ok(())
 }
