@@ -2,12 +2,22 @@
 
 use flow::script::Flow;
 use lowering::lower;
-use std::alloc::Global;
+use std::alloc::{Allocator, Global};
 use syntax::parser::parse;
+use syntax_trees::tree::Script;
+
+/// The flow of a script that is well typed, with the types in the machine's memory.
+pub fn lowered<A: Allocator + Clone>(
+    machine: Global,
+    alloc: A,
+    script: &Script<A>,
+) -> Option<Flow<A>> {
+    let typed = types::check(machine, script).ok()?;
+    lower(alloc, script, &typed).ok()
+}
 
 /// The flow of a text that is well typed.
 pub fn flow(alloc: Global, text: &[u8]) -> Option<Flow<Global>> {
     let script = parse(alloc, text).ok()?;
-    let typed = types::check(alloc, &script).ok()?;
-    lower(alloc, &script, &typed).ok()
+    lowered(alloc, alloc, &script)
 }

@@ -1,21 +1,14 @@
 //! A script lowered, with what its flow keeps for a listing alone.
 
+use crate::flows::{flow, lowered};
 use bumpalo::Bump;
-use flow::script::Flow;
+use flow::script::{Flow, Function};
 use flow::statement::{Action, Block};
-use lowering::lower;
 use std::alloc::{AllocError, Allocator, Global};
-use std::test::Fail;
+use std::process::Abort;
 use syntax::parser::parse;
 
 const TEXT: &[u8] = b"(int r) f(int n) { r = n; } int x = 1; wait (x) { wait (x) { } }";
-
-/// The flow of the text.
-fn flow<A: Allocator + Clone>(machine: Global, alloc: A) -> Option<Flow<A>> {
-    let script = parse(alloc.clone().ok()?, TEXT).ok()?;
-    let typed = types::check(machine, &script).ok()?;
-    lower(alloc, &script, &typed).ok()
-}
 
 /// What a statement does, in a letter.
 fn letter<A: Allocator>(action: &Action<A>) -> u8 {
@@ -36,46 +29,59 @@ fn letters<A: Allocator>(machine: Global, block: &Block<A>) -> Result<Vec<u8>, A
     Ok(found)
 }
 
-#[test]
-fn statements_stand_in_their_blocks(rt: HostRuntime) -> Result<(), Fail> {
-    let alloc = rt.alloc();
-    let found = flow(alloc, alloc);
-    assert!(rt; found.is_some());
-    let Some(found) = found else {
-        return Ok(());
-    };
-    assert_eq!(rt; letters(alloc, &found.body)?.as_slice(), b"daw".as_slice());
-    assert_eq!(rt; found.body.from, 0);
-    for statement in &found.body.statements {
-        if let Action::Wait { inner, content, .. } = &statement.action {
-            assert!(rt; inner.is_empty());
-            assert_eq!(rt; content.from, 48);
-            assert_eq!(rt; letters(alloc, content)?.as_slice(), b"w".as_slice());
-        }
+/// The statements of a block do this, in letters.
+fn does<A: Allocator>(rt: &impl Abort, machine: Global, block: &Block<A>, wanted: &[u8]) {
+    let found = letters(machine, block).expect(rt, "memory");
+    assert_eq!(rt; found.as_slice(), wanted);
+}
+
+/// A `wait` has one header and a `wait` in it.
+fn is_wait_in_wait<A: Allocator>(rt: &impl Abort, machine: Global, action: &Action<A>) {
+    if let Action::Wait { inner, content, .. } = action {
+        assert!(rt; inner.is_empty());
+        assert_eq!(rt; content.from, 48);
+        does(rt, machine, content, b"w");
     }
-    Ok(())
 }
 
 #[test]
-fn functions_keep_their_names(rt: HostRuntime) -> Result<(), Fail> {
-    let arena = Bump::new(rt.alloc());
-    let found = flow(rt.alloc(), &arena);
-    assert!(rt; found.is_some());
-    let Some(found) = found else {
-        return Ok(());
-    };
-    assert_eq!(rt; found.functions.len(), 1);
-    for function in &found.functions {
-        assert_eq!(rt; function.at, 8);
-        assert_eq!(rt; function.name.as_slice(), b"f".as_slice());
-        assert_eq!(rt; function.body.from, 17);
-        assert_eq!(rt;
-            letters(rt.alloc(), &function.body)?.as_slice(),
-            b"a".as_slice()
-        );
-        for input in &function.inputs {
-            assert_eq!(rt; input.name.as_slice(), b"n".as_slice());
-        }
+fn statements_stand_in_their_blocks(rt: HostRuntime) {
+    let found = flow(rt.alloc(), TEXT).expect(&rt, "a flow");
+    does(&rt, rt.alloc(), &found.body, b"daw");
+    assert_eq!(rt; found.body.from, 0);
+    for statement in &found.body.statements {
+        is_wait_in_wait(&rt, rt.alloc(), &statement.action);
     }
-    Ok(())
+}
+
+/// The name is this one.
+fn is_named(rt: &impl Abort, name: &[u8], wanted: &[u8]) {
+    assert_eq!(rt; name, wanted);
+}
+
+/// The function is `f`, with its input and its body.
+fn is_f<A: Allocator>(rt: &impl Abort, machine: Global, function: &Function<A>) {
+    assert_eq!(rt; function.at, 8);
+    is_named(rt, function.name.as_slice(), b"f");
+    assert_eq!(rt; function.body.from, 17);
+    does(rt, machine, &function.body, b"a");
+    for input in &function.inputs {
+        is_named(rt, input.name.as_slice(), b"n");
+    }
+}
+
+/// The flow has that function alone.
+fn has_f<A: Allocator>(rt: &impl Abort, machine: Global, flow: &Flow<A>) {
+    assert_eq!(rt; flow.functions.len(), 1);
+    for function in &flow.functions {
+        is_f(rt, machine, function);
+    }
+}
+
+#[test]
+fn functions_keep_their_names(rt: HostRuntime) {
+    let arena = Bump::new(rt.alloc());
+    let script = parse(&arena, TEXT).expect(&rt, "a script");
+    let found = lowered(rt.alloc(), &arena, &script).expect(&rt, "a flow");
+    has_f(&rt, rt.alloc(), &found);
 }

@@ -1,7 +1,9 @@
 //! Flows of scripts that are accepted are whole; a flow is not, once a declaration is taken out.
 
 use crate::flows::flow;
+use flow::script::Flow;
 use std::alloc::Global;
+use std::process::Abort;
 use whole_flow::is_whole;
 
 const SCRIPTS: &str = r#"
@@ -28,15 +30,17 @@ fn accepted_scripts(rt: HostRuntime) {
     }
 }
 
+/// The flow loses its first statement.
+fn cut(rt: &impl Abort, flow: &mut Flow<Global>) {
+    assert!(rt; !flow.body.statements.is_empty());
+    let _taken = flow.body.statements.remove(0);
+}
+
 #[test]
 fn a_name_without_its_declaration(rt: HostRuntime) {
-    let found = flow(rt.alloc(), b"int x = 1; printf(\"%i\", x);".as_slice());
-    assert!(rt; found.is_some());
-    let Some(mut found) = found else {
-        return;
-    };
+    let text = b"int x = 1; printf(\"%i\", x);";
+    let mut found = flow(rt.alloc(), text.as_slice()).expect(&rt, "a flow");
     assert!(rt; is_whole(&found));
-    assert!(rt; !found.body.statements.is_empty());
-    let _taken = found.body.statements.remove(0);
+    cut(&rt, &mut found);
     assert!(rt; !is_whole(&found));
 }
