@@ -5,6 +5,7 @@ ghost use Rattle.pool.specs.Seats.{IsSeatOf, seats_of};
 
 use pool::{Kind, Left, Offer, Pool, PoolSeat};
 use std::alloc::{AllocError, Global};
+use std::process::Abort;
 use std::test::Fail;
 use std::thread;
 
@@ -28,21 +29,60 @@ fn close_alone(alloc: Global, pool: Pool, seat: PoolSeat) -> Result<Left, AllocE
     Ok(pool.close(seats))
 }
 
+/// A leaf of this class is taken in.
+fn is_offered(rt: &impl Abort, pool: &Pool, seat: &mut PoolSeat, class: u8, number: u64)
+    requires seat { IsSeatOf pool.now seat.old }
+    requires class { class < 3 }
+    requires number { 0 < number }
+    ensures { IsSeatOf pool.now seat.new }
+{
+    assert_eq!(rt; pool.offer(seat, Kind::Leaf, class, number), Offer::Offered);
+}
+
+/// A take of this kind gives this number, or none.
+fn gives(rt: &impl Abort, pool: &Pool, seat: &mut PoolSeat, kind: Kind, number: Option<u64>)
+    requires { IsSeatOf pool.now seat.old }
+    ensures { IsSeatOf pool.now seat.new }
+{
+    assert_eq!(rt; pool.take(seat, kind), number);
+}
+
+/// Whether nothing lies in a hole.
+fn is_empty(left: &Left) -> bool {
+    left.holes.iter().all(|number| *number == 0)
+}
+
+/// Four leaves of three classes are taken in.
+fn offer_four(rt: &impl Abort, pool: &Pool, seat: &mut PoolSeat)
+    requires { IsSeatOf pool.now seat.old }
+    ensures { IsSeatOf pool.now seat.new }
+{
+    is_offered(rt, pool, seat, 1, 5);
+    is_offered(rt, pool, seat, 2, 6);
+    is_offered(rt, pool, seat, 0, 7);
+    is_offered(rt, pool, seat, 1, 8);
+}
+
+/// The four leaves are taken by class, and for control there is nothing.
+fn take_four(rt: &impl Abort, pool: &Pool, seat: &mut PoolSeat)
+    requires { IsSeatOf pool.now seat.old }
+    ensures { IsSeatOf pool.now seat.new }
+{
+    gives(rt, pool, seat, Kind::Control, None);
+    gives(rt, pool, seat, Kind::Leaf, Some(6));
+    gives(rt, pool, seat, Kind::Leaf, Some(5));
+    gives(rt, pool, seat, Kind::Leaf, Some(8));
+    gives(rt, pool, seat, Kind::Leaf, Some(7));
+    gives(rt, pool, seat, Kind::Leaf, None);
+}
+
 #[test]
 fn takes_the_highest_class_first(rt: HostRuntime) -> Result<(), Fail> {
     let (pool, mut seat) = alone(rt.alloc())?;
-    assert_eq!(rt; pool.offer(&mut seat, Kind::Leaf, 1, 5), Offer::Offered);
-    assert_eq!(rt; pool.offer(&mut seat, Kind::Leaf, 2, 6), Offer::Offered);
-    assert_eq!(rt; pool.offer(&mut seat, Kind::Leaf, 0, 7), Offer::Offered);
-    assert_eq!(rt; pool.offer(&mut seat, Kind::Leaf, 1, 8), Offer::Offered);
-    assert_eq!(rt; pool.take(&mut seat, Kind::Control), None);
-    assert_eq!(rt; pool.take(&mut seat, Kind::Leaf), Some(6));
-    assert_eq!(rt; pool.take(&mut seat, Kind::Leaf), Some(5));
-    assert_eq!(rt; pool.take(&mut seat, Kind::Leaf), Some(8));
-    assert_eq!(rt; pool.take(&mut seat, Kind::Leaf), Some(7));
-    assert_eq!(rt; pool.take(&mut seat, Kind::Leaf), None);
+    offer_four(&rt, &pool, &mut seat);
+    take_four(&rt, &pool, &mut seat);
     let left = close_alone(rt.alloc(), pool, seat)?;
-    assert!(rt; left.holes.iter().all(|number| *number == 0));
+    assert!(rt; is_empty(&left));
     Ok(())
 }
 
@@ -60,12 +100,17 @@ fn fill(pool: &Pool, seat: &mut PoolSeat) -> u32
     count
 }
 
-#[test]
-fn hands_the_seventeenth_back(rt: HostRuntime) -> Result<(), Fail> {
-    let (pool, mut seat) = alone(rt.alloc())?;
-    assert_eq!(rt; fill(&pool, &mut seat), 16);
-    assert_eq!(rt; pool.offer(&mut seat, Kind::Leaf, 1, 17), Offer::Full(17));
-    let left = close_alone(rt.alloc(), pool, seat)?;
+/// The class is full after sixteen, and the seventeenth comes back.
+fn fill_past(rt: &impl Abort, pool: &Pool, seat: &mut PoolSeat)
+    requires { IsSeatOf pool.now seat.old }
+    ensures { IsSeatOf pool.now seat.new }
+{
+    assert_eq!(rt; fill(pool, seat), 16);
+    assert_eq!(rt; pool.offer(seat, Kind::Leaf, 1, 17), Offer::Full(17));
+}
+
+/// The sixteen lie in the holes of their class, and nothing in another.
+fn has_sixteen(rt: &impl Abort, left: &Left) {
     for (place, number) in left.holes.iter().enumerate() {
         let want = if 64 <= place && place < 80 {
             place - 63
@@ -74,6 +119,14 @@ fn hands_the_seventeenth_back(rt: HostRuntime) -> Result<(), Fail> {
         };
         assert_eq!(rt; *number, want as u64, "in hole {place}");
     }
+}
+
+#[test]
+fn hands_the_seventeenth_back(rt: HostRuntime) -> Result<(), Fail> {
+    let (pool, mut seat) = alone(rt.alloc())?;
+    fill_past(&rt, &pool, &mut seat);
+    let left = close_alone(rt.alloc(), pool, seat)?;
+    has_sixteen(&rt, &left);
     Ok(())
 }
 
@@ -157,6 +210,40 @@ fn seats_back(
     Ok(seats)
 }
 
+/// Adds what the hands offered and took to the lists, and what lies in the closed pool to what was taken.
+fn add_all(
+    alloc: Global,
+    pool: Pool,
+    hands: Vec<Hand>,
+    offered: &mut Vec<u64>,
+    taken: &mut Vec<u64>,
+) -> Result<(), AllocError>
+    requires each { All (λ h. IsSeatOf pool h.seat) hands.items }
+    requires all { vec_len hands ≡ seats_of pool }
+{
+    let seats = seats_back(alloc, &pool, hands, offered, taken)?;
+    let left = pool.close(seats);
+    add_numbers(taken, left.holes.as_slice())
+}
+
+/// Whether each number is greater than the one before.
+fn rises(numbers: &[u64]) -> bool {
+    numbers.windows(2).all(|pair| pair[0] < pair[1])
+}
+
+/// At least 2,000 numbers were taken in, none twice, and each came out once.
+fn balances(rt: &impl Abort, offered: &[u64], taken: &[u64]) {
+    assert!(rt; offered.len() >= 2000);
+    assert!(rt; rises(offered));
+    assert_eq!(rt; offered, taken);
+}
+
+/// Sorts both lists.
+fn sort_both(offered: &mut Vec<u64>, taken: &mut Vec<u64>) -> Result<(), AllocError> {
+    offered.sort()?;
+    taken.sort()
+}
+
 #[test]
 fn balances_four_threads(rt: HostRuntime) -> Result<(), Fail> {
     let (pool, seats) = Pool::new(rt.alloc(), 4)?;
@@ -164,13 +251,8 @@ fn balances_four_threads(rt: HostRuntime) -> Result<(), Fail> {
     thread::for_each_mut(&rt, hands.as_mut_slice(), 4, &|_, hand| work(&pool, hand));
     let mut offered = Vec::new(rt.alloc());
     let mut taken = Vec::new(rt.alloc());
-    let seats = seats_back(rt.alloc(), &pool, hands, &mut offered, &mut taken)?;
-    let left = pool.close(seats);
-    add_numbers(&mut taken, left.holes.as_slice())?;
-    offered.sort()?;
-    taken.sort()?;
-    assert!(rt; offered.len() >= 2000);
-    assert!(rt; offered.windows(2).all(|pair| pair[0] < pair[1]));
-    assert_eq!(rt; offered.as_slice(), taken.as_slice());
+    add_all(rt.alloc(), pool, hands, &mut offered, &mut taken)?;
+    sort_both(&mut offered, &mut taken)?;
+    balances(&rt, offered.as_slice(), taken.as_slice());
     Ok(())
 }

@@ -106,18 +106,28 @@ fn listed(rt: &impl Abort, queue: &Queue) -> usize {
     }
 }
 
+/// Puts 1 to 5, each with itself for priority.
+fn put_five(rt: &impl Abort, queue: &mut Queue) {
+    for no in 1..6u64 {
+        put_again(rt, queue, no as i32, no);
+    }
+}
+
+/// Lays room by for three leaves, and where the memory is refused, sees that nothing changed and lays it by again.
+fn reserve_three(rt: &impl Abort, queue: &mut Queue) {
+    if queue.reserve(Kind::Leaf, 3).is_err() {
+        assert_eq!(rt; queue.first(Kind::Leaf), None);
+        queue.reserve(Kind::Leaf, 3).expect(rt, "memory");
+    }
+}
+
 // Also run with each request for memory refused in turn: what is refused changes nothing, and the
 // same call succeeds once memory is there again.
 #[test]
 fn refused_calls_change_nothing(rt: HostRuntime) {
     let mut queue = Queue::new(rt.alloc());
-    for no in 1..6u64 {
-        put_again(&rt, &mut queue, no as i32, no);
-    }
-    if queue.reserve(Kind::Leaf, 3).is_err() {
-        assert_eq!(rt; queue.first(Kind::Leaf), None);
-        queue.reserve(Kind::Leaf, 3).expect(&rt, "memory");
-    }
+    put_five(&rt, &mut queue);
+    reserve_three(&rt, &mut queue);
     assert_eq!(rt; listed(&rt, &queue), 5);
     gives(&rt, &mut queue, Kind::Control, &[5, 4, 3, 2, 1]);
 }
