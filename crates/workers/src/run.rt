@@ -113,6 +113,30 @@ fn report(alloc: Global, board: &Board, stop: Option<Stop>) -> Result<Report, Ru
     Ok(report_of(alloc, board)?)
 }
 
+/// The same of a board that is over, which goes.
+fn last_report(alloc: Global, board: Board, stop: Option<Stop>) -> Result<Report, RunFault>
+    ensures stopped { IfOk result (λ r. stop ≡ None) }
+    ensures tells { IfOk result (Tells board) }
+    ensures fault { IfErr result (λ e. e ≢ RunFault.BadCount) }
+{
+    report(alloc, &board, stop)
+}
+
+/// The report, where no item was lost on its way to the pool, and each thread counted the events that it tells of it.
+fn agreed(report: Report, tallies: &[u64], lost: u64) -> Result<Report, RunFault>
+    ensures same { IfOk result (λ r. r ≡ report) }
+    ensures none_lost { IfOk result (λ r. lost ≡ 0) }
+    ensures fault { IfErr result (λ e. e ≢ RunFault.BadCount) }
+{
+    if lost > 0 {
+        return Err(RunFault::Memory);
+    }
+    if !is_counted(&report.tallies, tallies) {
+        return Err(RunFault::Stranger);
+    }
+    Ok(report)
+}
+
 /// The numbers added up.
 fn added(numbers: &[u64]) -> u64
     requires { sum numbers.now < 2 ^ 64 }
@@ -168,13 +192,8 @@ fn settle<J: Job, E: Ledger, N: Ledger>(
     } = sums;
     let (board, stop) = desk.close(&mut events, &mut news);
     let rest = pool.close(seats);
-    let report = report(alloc, &board, stop)?;
-    if lost > 0 {
-        return Err(RunFault::Memory);
-    }
-    if !is_counted(&report.tallies, &tallies) {
-        return Err(RunFault::Stranger);
-    }
+    let report = last_report(alloc, board, stop)?;
+    let report = agreed(report, tallies.as_slice(), lost)?;
     let count = counted(offered, full, draws.as_slice(), &rest.holes);
     Ok((report, count))
 }
