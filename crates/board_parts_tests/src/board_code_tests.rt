@@ -1,5 +1,6 @@
 //! What is worked out of `boolean x = true; assert(x, "");`: where its names lead, and what its entries and its body hold.
 ghost use Rattle.std.specs.Prelude.{◌≡◌};
+ghost use Rattle.board_code.specs.Program.{IsLeads};
 
 use crate::worlds::FIRST;
 use board_code::key::copy_key;
@@ -31,34 +32,54 @@ fn program_of(rt: &impl Abort, alloc: Global) -> Program {
     program
 }
 
-#[test]
-fn entries_have_their_data(rt: HostRuntime) {
-    let program = program_of(&rt, rt.alloc());
-    let set = program.entry(0).expect(&rt, "an entry");
+/// The assignment is a leaf that stores into the first slot.
+fn set_is_a_leaf(rt: &impl Abort, program: &Program) {
+    let set = program.entry(0).expect(rt, "an entry");
     assert_eq!(rt; (set.kind, set.priority), (Kind::Leaf, 0));
     assert_eq!(rt;
         (set.target, set.value, set.turn),
         (Some(FIRST), None, None)
     );
+}
+
+/// The assignment needs nothing, and writes the first slot.
+fn set_needs_nothing(rt: &impl Abort, program: &Program) {
+    let set = program.entry(0).expect(rt, "an entry");
     assert!(rt; set.needs.is_empty() && set.reads.is_empty() && set.arguments.is_empty());
     assert!(rt; set.writes.as_slice() == [FIRST].as_slice());
-    assert!(rt; program.entry(2).is_none());
 }
 
 #[test]
-fn an_entry_wants_its_needs(rt: HostRuntime) {
+fn entries_have_their_data(rt: HostRuntime) {
     let program = program_of(&rt, rt.alloc());
-    let asserts = program.entry(1).expect(&rt, "an entry");
+    set_is_a_leaf(&rt, &program);
+    set_needs_nothing(&rt, &program);
+    assert!(rt; program.entry(2).is_none());
+}
+
+/// What is asserted wants the first slot's value.
+fn asserts_wants(rt: &impl Abort, program: &Program) {
+    let asserts = program.entry(1).expect(rt, "an entry");
     assert!(rt; matches!(asserts.needs.as_slice(), [Wanted::Stored(Some(FIRST))]));
     assert!(rt; asserts.reads.as_slice() == [FIRST].as_slice());
+}
+
+/// An element of the variable is wanted of the first slot, under its key.
+fn element_is_wanted(rt: &impl Abort, program: &Program) {
     let wanted = program.wanted(0, &Need::AtKey(NAME, Key::Number(7)));
     assert!(rt; matches!(wanted, Wanted::AtKey(Some(FIRST), Key::Number(7))));
 }
 
 #[test]
-fn a_block_has_its_holds(rt: HostRuntime) {
+fn an_entry_wants_its_needs(rt: HostRuntime) {
     let program = program_of(&rt, rt.alloc());
-    let body = program.body(0).expect(&rt, "a body");
+    asserts_wants(&rt, &program);
+    element_is_wanted(&rt, &program);
+}
+
+/// The body has one variable of its own, none from outside, and two leaves.
+fn body_has_its_holds(rt: &impl Abort, program: &Program) {
+    let body = program.body(0).expect(rt, "a body");
     let own = Own {
         shape: Shape::Single,
         reads: 1,
@@ -67,34 +88,56 @@ fn a_block_has_its_holds(rt: HostRuntime) {
     assert!(rt; body.own.as_slice() == [own].as_slice());
     assert!(rt; body.outer.is_empty());
     assert_eq!(rt; (body.controls, body.leaves), (0, 2));
-    assert!(rt; program.body(1).is_none());
 }
 
 #[test]
-fn names_lead_to_their_slots(rt: HostRuntime) {
-    let code = code_of(&rt, rt.alloc());
+fn a_block_has_its_holds(rt: HostRuntime) {
+    let program = program_of(&rt, rt.alloc());
+    body_has_its_holds(&rt, &program);
+    assert!(rt; program.body(1).is_none());
+}
+
+/// Where the names of the code lead, which has one body.
+fn leads_of(rt: &impl Abort, alloc: Global, code: &Code) -> Leads
+    ensures { IsLeads code.now result }
+{
     assert_eq!(rt; code.body_count(), 1);
-    let leads = Leads::new(rt.alloc(), &code).expect(&rt, "memory");
+    Leads::new(alloc, code).expect(rt, "memory")
+}
+
+/// Both entries are of the body, and there is no third.
+fn entries_have_homes(rt: &impl Abort, leads: &Leads) {
     assert_eq!(rt;
         (leads.home(0), leads.home(1), leads.home(2)),
         (Some(0u32), Some(0), None)
     );
+}
+
+/// The variable's name leads to its slot, and another's nowhere.
+fn names_have_slots(rt: &impl Abort, code: &Code, leads: &Leads)
+    requires { IsLeads code.now leads.now }
+{
     let lost = Name {
         up: 0,
         owned: Owned::Local(OTHER),
     };
     assert_eq!(rt;
-        (leads.spot_in(&code, 0, NAME), leads.spot_in(&code, 0, lost)),
+        (leads.spot_in(code, 0, NAME), leads.spot_in(code, 0, lost)),
         (Some(FIRST), None)
     );
 }
 
 #[test]
-fn a_block_has_its_places(rt: HostRuntime) {
+fn names_lead_to_their_slots(rt: HostRuntime) {
     let code = code_of(&rt, rt.alloc());
-    assert_eq!(rt; code.body_count(), 1);
-    let leads = Leads::new(rt.alloc(), &code).expect(&rt, "memory");
-    let places = leads.places(0).expect(&rt, "a body");
+    let leads = leads_of(&rt, rt.alloc(), &code);
+    entries_have_homes(&rt, &leads);
+    names_have_slots(&rt, &code, &leads);
+}
+
+/// The body has a place for its variable, by the variable and by its name.
+fn body_has_a_place(rt: &impl Abort, leads: &Leads) {
+    let places = leads.places(0).expect(rt, "a body");
     assert_eq!(rt; (places.of(X), places.of(OTHER)), (Some(0), None));
     let further = Name {
         up: 1,
@@ -104,8 +147,20 @@ fn a_block_has_its_places(rt: HostRuntime) {
         (places.of_name(NAME), places.of_name(further)),
         (Some(0), None)
     );
-    let both = places_among(rt.alloc(), [OTHER, X, OTHER].as_slice()).expect(&rt, "memory");
+}
+
+/// The first of equal variables has the place.
+fn first_has_the_place(rt: &impl Abort, alloc: Global) {
+    let both = places_among(alloc, [OTHER, X, OTHER].as_slice()).expect(rt, "memory");
     assert_eq!(rt; (both.of(OTHER), both.of(X)), (Some(0), Some(1)));
+}
+
+#[test]
+fn a_block_has_its_places(rt: HostRuntime) {
+    let code = code_of(&rt, rt.alloc());
+    let leads = leads_of(&rt, rt.alloc(), &code);
+    body_has_a_place(&rt, &leads);
+    first_has_the_place(&rt, rt.alloc());
     assert!(rt; leads.places(1).is_none());
     assert!(rt; matches!(copy_key(&Key::Number(-3)), Key::Number(-3)));
 }

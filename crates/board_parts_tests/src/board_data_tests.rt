@@ -7,7 +7,9 @@ use board_data::data;
 use board_data::holding::{give_up, hold_outer};
 use board_data::making::{Starts, make_data};
 use board_data::storing::{store_all, store_element, store_value};
+use board_data::wanted::View;
 use board_frames::instance::Slot;
+use board_openings::world::World;
 use board_work::answer::Answer;
 use data_store::store::{Shape, Store};
 use rules::input::Input;
@@ -37,31 +39,42 @@ fn with_array(alloc: Global) -> Result<Store, AllocError> {
     Ok(store)
 }
 
+/// A scalar takes the first number alone, and has no element.
+fn put_three(rt: &impl Abort, store: &mut Store, x: usize) {
+    assert!(rt; data::value(store, x).is_none());
+    data::put(store, x, number(4));
+    store_value(store, Some(x), number(5));
+    store_value(store, None, number(6));
+    assert!(rt; matches!(data::value(store, x), Some(Scalar::Number(4))));
+    assert!(rt; data::element(store, x, &Key::Number(0)).is_none());
+}
+
 #[test]
 fn a_scalar_is_put_once(rt: HostRuntime) {
     let mut store = Store::new(rt.alloc());
     let x = store.new_cell(Shape::Single, 1, 1).expect(&rt, "memory");
-    assert!(rt; data::value(&store, x).is_none());
-    data::put(&mut store, x, number(4));
-    store_value(&mut store, Some(x), number(5));
-    store_value(&mut store, None, number(6));
-    assert!(rt; matches!(data::value(&store, x), Some(Scalar::Number(4))));
-    assert!(rt; data::element(&store, x, &Key::Number(0)).is_none());
+    put_three(&rt, &mut store, x);
 }
 
-#[test]
-fn an_array_has_its_elements(rt: HostRuntime) {
-    let mut store = with_array(rt.alloc()).expect(&rt, "memory");
-    data::insert(&mut store, 0, Key::Number(9), number(1));
-    store_element(&mut store, Some(0), Key::Number(2), number(3));
-    let more = Vec::from_array(rt.alloc(), [element(5, 7)]).expect(&rt, "memory");
-    store_all(&mut store, Some(0), more);
-    assert_eq!(rt; data::size(&store, 0), 3);
-    let found = data::element(&store, 0, &Key::Number(2));
+/// Puts three elements into the array, in each way.
+fn fill_array(rt: &impl Abort, alloc: Global, store: &mut Store) {
+    data::insert(store, 0, Key::Number(9), number(1));
+    store_element(store, Some(0), Key::Number(2), number(3));
+    let more = Vec::from_array(alloc, [element(5, 7)]).expect(rt, "memory");
+    store_all(store, Some(0), more);
+}
+
+/// The array has three elements, and one of them under 2.
+fn array_is_filled(rt: &impl Abort, store: &Store) {
+    assert_eq!(rt; data::size(store, 0), 3);
+    let found = data::element(store, 0, &Key::Number(2));
     assert!(rt; matches!(found, Some(Scalar::Number(3))));
-    data::sort(&mut store, Some(0)).expect(&rt, "memory");
-    let listed = data::listed(&store, 0).expect(&rt, "memory");
-    let first = listed.expect(&rt, "an array");
+}
+
+/// The element under 2 is listed first.
+fn two_is_first(rt: &impl Abort, store: &Store) {
+    let listed = data::listed(store, 0).expect(rt, "memory");
+    let first = listed.expect(rt, "an array");
     assert!(rt;
         matches!(
             first.elements(),
@@ -77,27 +90,44 @@ fn an_array_has_its_elements(rt: HostRuntime) {
 }
 
 #[test]
+fn an_array_has_its_elements(rt: HostRuntime) {
+    let mut store = with_array(rt.alloc()).expect(&rt, "memory");
+    fill_array(&rt, rt.alloc(), &mut store);
+    array_is_filled(&rt, &store);
+    data::sort(&mut store, Some(0)).expect(&rt, "memory");
+    two_is_first(&rt, &store);
+}
+
+/// The array is closed when its last writer is, and lives on.
+fn close_writers(rt: &impl Abort, store: &mut Store) {
+    data::hold(store, 0, 1, 1);
+    assert!(rt; !data::close_writer(store, 0));
+    assert!(rt; !data::is_closed(store, 0));
+    assert!(rt; data::close_writer(store, 0));
+    assert!(rt; data::is_closed(store, 0) && store.len() == 1);
+}
+
+/// The array goes with its last reader.
+fn release_readers(rt: &impl Abort, store: &mut Store) {
+    data::release(store, 0);
+    data::release(store, 0);
+    data::release(store, 0);
+    assert_eq!(rt; store.len(), 0);
+}
+
+#[test]
 fn holds_come_and_go(rt: HostRuntime) {
     let mut store = with_array(rt.alloc()).expect(&rt, "memory");
-    data::hold(&mut store, 0, 1, 1);
-    assert!(rt; !data::close_writer(&mut store, 0));
-    assert!(rt; !data::is_closed(&store, 0));
-    assert!(rt; data::close_writer(&mut store, 0));
-    assert!(rt; data::is_closed(&store, 0) && store.len() == 1);
-    data::release(&mut store, 0);
-    data::release(&mut store, 0);
-    data::release(&mut store, 0);
-    assert_eq!(rt; store.len(), 0);
+    close_writers(&rt, &mut store);
+    release_readers(&rt, &mut store);
 }
 
 fn open(rt: &impl Abort, alloc: Global) -> Opened {
     opened_script(alloc).expect(rt, "a world")
 }
 
-#[test]
-fn instances_hold_what_lies_outside(rt: HostRuntime) {
-    let mut opened = open(&rt, rt.alloc());
-    let world = &mut opened.world;
+/// Three items hold the first datum twice each.
+fn hold_thrice(rt: &impl Abort, world: &mut World) {
     let hold = Hold {
         spot: FIRST,
         reads: 2,
@@ -105,7 +135,11 @@ fn instances_hold_what_lies_outside(rt: HostRuntime) {
     };
     hold_outer(&mut world.store, &world.instances, &[hold], 0, 3);
     assert_eq!(rt; reads(&world.store), Some(7));
-    let mut closed = Vec::new(rt.alloc());
+}
+
+/// One read and one write of the first datum are given up, and it was no array that this closes.
+fn give_up_once(rt: &impl Abort, alloc: Global, world: &mut World) {
+    let mut closed = Vec::new(alloc);
     give_up(
         &mut world.store,
         &mut closed,
@@ -118,6 +152,13 @@ fn instances_hold_what_lies_outside(rt: HostRuntime) {
     assert!(rt; closed.is_empty());
 }
 
+#[test]
+fn instances_hold_what_lies_outside(rt: HostRuntime) {
+    let mut opened = open(&rt, rt.alloc());
+    hold_thrice(&rt, &mut opened.world);
+    give_up_once(&rt, rt.alloc(), &mut opened.world);
+}
+
 /// The holds for reading on the first datum.
 fn reads(store: &Store) -> Option<u64> {
     if store.is_live(0) {
@@ -127,17 +168,21 @@ fn reads(store: &Store) -> Option<u64> {
     }
 }
 
-#[test]
-fn an_item_misses_what_is_not_known(rt: HostRuntime) {
-    let mut opened = open(&rt, rt.alloc());
-    let wanted = Wanted::Stored(Some(FIRST));
-    let missing = opened.view().missing(&wanted);
+/// The first datum has no value, which is missed.
+fn first_is_missed(rt: &impl Abort, view: View<'_>) {
+    let missing = view.missing(&Wanted::Stored(Some(FIRST)));
     assert!(rt; matches!(missing, Some(Input::Whole(0))));
-    let mut inputs = SmallVec::new(rt.alloc());
-    let listed = opened.view().list_missing(&[wanted], &mut inputs);
+}
+
+/// What is missed is listed.
+fn first_is_listed(rt: &impl Abort, alloc: Global, view: View<'_>) {
+    let mut inputs = SmallVec::new(alloc);
+    let listed = view.list_missing(&[Wanted::Stored(Some(FIRST))], &mut inputs);
     assert!(rt; listed.is_ok() && inputs.len() == 1);
-    data::put(&mut opened.world.store, 0, Scalar::Truth(true));
-    let view = opened.view();
+}
+
+/// The first datum has its value, which is not missed.
+fn first_is_known(rt: &impl Abort, view: View<'_>) {
     assert_eq!(rt; view.datum(Some(FIRST)), Some(0));
     assert!(rt; matches!(view.scalar(Some(FIRST)), Some(Scalar::Truth(true))));
     assert!(rt; view.missing(&Wanted::Stored(Some(FIRST))).is_none());
@@ -145,40 +190,63 @@ fn an_item_misses_what_is_not_known(rt: HostRuntime) {
 }
 
 #[test]
+fn an_item_misses_what_is_not_known(rt: HostRuntime) {
+    let mut opened = open(&rt, rt.alloc());
+    first_is_missed(&rt, opened.view());
+    first_is_listed(&rt, rt.alloc(), opened.view());
+    data::put(&mut opened.world.store, 0, Scalar::Truth(true));
+    first_is_known(&rt, opened.view());
+}
+
+/// The first datum's value is found, and an array that is none is missing.
+fn are_found(found: &[Answer]) -> bool {
+    matches!(found, [Answer::Found(Scalar::Truth(true)), Answer::Missing])
+}
+
+/// Two needs have their answers, in a list that had another, and no other list has.
+fn two_are_answered(rt: &impl Abort, alloc: Global, view: View<'_>, needs: &[Wanted]) {
+    let list = Vec::from_array(alloc, [Answer::Missing]).expect(rt, "memory");
+    let found = answers(list, view, needs).expect(rt, "memory");
+    assert!(rt; are_found(found.as_slice()));
+    assert!(rt; are_answers(view, needs, found.as_slice()));
+    assert!(rt; !are_answers(view, needs, &[]));
+}
+
+#[test]
 fn needs_are_answered(rt: HostRuntime) {
     let mut opened = open(&rt, rt.alloc());
     data::put(&mut opened.world.store, 0, Scalar::Truth(true));
     let needs = [Wanted::Stored(Some(FIRST)), Wanted::Closed(None)];
-    let list = Vec::from_array(rt.alloc(), [Answer::Missing]).expect(&rt, "memory");
-    let found = answers(list, opened.view(), &needs).expect(&rt, "memory");
-    assert!(rt;
-        matches!(
-            found.as_slice(),
-            [Answer::Found(Scalar::Truth(true)), Answer::Missing]
-        )
-    );
-    assert!(rt; are_answers(opened.view(), &needs, found.as_slice()));
-    assert!(rt; !are_answers(opened.view(), &needs, &[]));
+    two_are_answered(&rt, rt.alloc(), opened.view(), &needs);
 }
 
-/// Nobody may read or write the second variable, and the third is a turn's.
-#[test]
-fn data_are_made_for_variables(rt: HostRuntime) {
-    let mut store = Store::new(rt.alloc());
-    let own = |reads: u64| Own {
+/// Of a variable that is read so often and never written.
+fn own(reads: u64) -> Own {
+    Own {
         shape: Shape::Single,
         reads,
         writes: 0,
-    };
+    }
+}
+
+/// Makes the data of three variables, the third of which is a turn's.
+fn make_three(rt: &impl Abort, store: &mut Store, slots: &mut [Slot]) {
     let starts = Starts {
         value_at: None,
         value: None,
         turn_at: Some(2),
         turn: Some(number(8)),
     };
-    let mut slots = [Slot::Absent, Slot::Absent, Slot::Absent];
-    let made = make_data(&mut store, &[own(1), own(0), own(1)], &mut slots, starts);
+    let made = make_data(store, &[own(1), own(0), own(1)], slots, starts);
     assert!(rt; made.is_ok());
+}
+
+/// Nobody may read or write the second variable, and the third is a turn's.
+#[test]
+fn data_are_made_for_variables(rt: HostRuntime) {
+    let mut store = Store::new(rt.alloc());
+    let mut slots = [Slot::Absent, Slot::Absent, Slot::Absent];
+    make_three(&rt, &mut store, &mut slots);
     let wanted = [Slot::Datum(0), Slot::Absent, Slot::Datum(1)];
     assert!(rt; slots.as_slice() == wanted.as_slice());
     assert!(rt; matches!(data::value(&store, 1), Some(Scalar::Number(8))));

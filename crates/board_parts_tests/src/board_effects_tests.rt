@@ -11,13 +11,7 @@ use values::fault::OpFault;
 use values::value::{Scalar, Value};
 
 /// What the item of the entry does that came to this.
-fn effect(
-    rt: &impl Abort,
-    alloc: Global,
-    world: &Opened,
-    number: u32,
-    outcome: &Outcome,
-) -> Effect {
+fn effect(rt: &impl Abort, alloc: Global, world: &Opened, number: u32, outcome: Outcome) -> Effect {
     let program = &world.program;
     let ended = Ended {
         alloc,
@@ -27,13 +21,11 @@ fn effect(
         table: program.entry(number).expect(rt, "an entry"),
         chunk: 0,
     };
-    ended.effect(outcome).expect(rt, "memory")
+    ended.effect(&outcome).expect(rt, "memory")
 }
 
-#[test]
-fn the_script_opens_its_block(rt: HostRuntime) {
-    let world = opened_script(rt.alloc()).expect(&rt, "a world");
-    let effect = script_effect(rt.alloc(), &world.program).expect(&rt, "memory");
+/// It opens one instance of the script's block, and goes on with no loop.
+fn opens_one(rt: &impl Abort, effect: &Effect) {
     match effect {
         Effect::Opens(openings) => {
             assert_eq!(rt; (openings.body, openings.list.len()), (0, 1));
@@ -44,20 +36,39 @@ fn the_script_opens_its_block(rt: HostRuntime) {
 }
 
 #[test]
-fn an_assignment_stores(rt: HostRuntime) {
+fn the_script_opens_its_block(rt: HostRuntime) {
     let world = opened_script(rt.alloc()).expect(&rt, "a world");
-    let truth = Outcome::Leaf(Ok(Value::from_truth(true)));
-    let stores = effect(&rt, rt.alloc(), &world, 0, &truth);
+    let opens = script_effect(rt.alloc(), &world.program).expect(&rt, "memory");
+    opens_one(&rt, &opens);
+}
+
+/// A leaf that came to true.
+fn truth() -> Outcome {
+    Outcome::Leaf(Ok(Value::from_truth(true)))
+}
+
+/// The item of the assignment stores true into the first datum.
+fn set_stores(rt: &impl Abort, alloc: Global, world: &Opened) {
+    let stores = effect(rt, alloc, world, 0, truth());
     assert!(rt; matches!(stores, Effect::Stores(Some(0), Scalar::Truth(true))));
-    let passes = effect(&rt, rt.alloc(), &world, 1, &truth);
+}
+
+/// The item of what is asserted does nothing.
+fn assert_passes(rt: &impl Abort, alloc: Global, world: &Opened) {
+    let passes = effect(rt, alloc, world, 1, truth());
     assert!(rt; matches!(passes, Effect::Passes));
 }
 
 #[test]
-fn a_fault_has_its_statement(rt: HostRuntime) {
+fn an_assignment_stores(rt: HostRuntime) {
     let world = opened_script(rt.alloc()).expect(&rt, "a world");
-    let failed = Outcome::Leaf(Err(OpFault::AssertFailed));
-    match effect(&rt, rt.alloc(), &world, 1, &failed) {
+    set_stores(&rt, rt.alloc(), &world);
+    assert_passes(&rt, rt.alloc(), &world);
+}
+
+/// It fails with what was asserted, at its statement.
+fn fails_at_its_statement(rt: &impl Abort, effect: &Effect) {
+    match effect {
         Effect::Fails(fault) => {
             let kind = FaultKind::OfEntry(EntryFault::InOperation(OpFault::AssertFailed));
             assert_eq!(rt; (fault.kind, fault.statement.at), (kind, 18));
@@ -65,4 +76,12 @@ fn a_fault_has_its_statement(rt: HostRuntime) {
         }
         _ => assert!(rt; false),
     }
+}
+
+#[test]
+fn a_fault_has_its_statement(rt: HostRuntime) {
+    let world = opened_script(rt.alloc()).expect(&rt, "a world");
+    let failed = Outcome::Leaf(Err(OpFault::AssertFailed));
+    let fails = effect(&rt, rt.alloc(), &world, 1, failed);
+    fails_at_its_statement(&rt, &fails);
 }

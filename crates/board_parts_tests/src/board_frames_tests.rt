@@ -8,6 +8,7 @@ use board_frames::opening::{Around, Opening, inner, outermost};
 use board_frames::place::Step;
 use board_frames::placing::{go_on, place_all};
 use board_frames::turns::{Site, push_block, push_elements, push_range};
+use board_openings::world::World;
 use std::alloc::{AllocError, Global};
 use std::process::Abort;
 use values::key::Key;
@@ -31,43 +32,62 @@ fn way(key: i64) -> Step {
     }
 }
 
-#[test]
-fn names_stand_for_data(rt: HostRuntime) {
-    let world = open(&rt, rt.alloc());
+/// The variable stands for the first datum, and what lies outside for nothing.
+fn names_have_data(rt: &impl Abort, world: &World) {
     let outside = Spot { levels: 1, slot: 0 };
-    let instances = &world.world.instances;
+    let instances = &world.instances;
     assert_eq!(rt;
         (slot_at(instances, 0, FIRST), slot_at(instances, 0, outside)),
         (Slot::Datum(0), Slot::Absent)
     );
     assert_eq!(rt; datum_at(instances, 0, Some(FIRST)), Some(0));
     assert_eq!(rt; datum_at(instances, 0, None), None);
-    let path = path_of(rt.alloc(), instances, 0).expect(&rt, "memory");
-    assert!(rt; path.is_empty());
+}
+
+/// How many steps the path of an instance has.
+fn path_length(rt: &impl Abort, alloc: Global, world: &World, at: usize) -> usize {
+    let path = path_of(alloc, &world.instances, at).expect(rt, "memory");
+    path.len()
+}
+
+#[test]
+fn names_stand_for_data(rt: HostRuntime) {
+    let world = open(&rt, rt.alloc());
+    names_have_data(&rt, &world.world);
+    assert_eq!(rt; path_length(&rt, rt.alloc(), &world.world, 0), 0);
+}
+
+/// The assignment's item waits under its number, and none has the number 0.
+fn set_waits(rt: &impl Abort, rows: &[Item]) {
+    let waiting = Some(Item {
+        job: SET,
+        mark: Mark::Waiting,
+    });
+    assert_eq!(rt; item_of(rows, 2), waiting);
+    assert_eq!(rt; item_of(rows, 0), None);
+}
+
+/// The item of what is asserted is ready under its number, which is the last.
+fn assert_is_ready(rt: &impl Abort, rows: &[Item]) {
+    let ready = Some(Item {
+        job: ASSERT,
+        mark: Mark::Ready,
+    });
+    assert_eq!(rt; item_of(rows, 3), ready);
+    assert_eq!(rt; item_of(rows, 4), None);
 }
 
 #[test]
 fn items_have_numbers(rt: HostRuntime) {
     let mut world = open(&rt, rt.alloc());
-    let waiting = Some(Item {
-        job: SET,
-        mark: Mark::Waiting,
-    });
-    assert_eq!(rt; item_of(world.rows.as_slice(), 2), waiting);
-    assert_eq!(rt; item_of(world.rows.as_slice(), 0), None);
+    set_waits(&rt, world.rows.as_slice());
     mark_item(world.rows.as_mut_slice(), 3, Mark::Ready);
-    let ready = Some(Item {
-        job: ASSERT,
-        mark: Mark::Ready,
-    });
-    assert_eq!(rt; item_of(world.rows.as_slice(), 3), ready);
-    assert_eq!(rt; item_of(world.rows.as_slice(), 4), None);
+    assert_is_ready(&rt, world.rows.as_slice());
 }
 
-#[test]
-fn an_instance_goes_with_its_last_item(rt: HostRuntime) {
-    let mut world = open(&rt, rt.alloc());
-    let instances = &mut world.world.instances;
+/// One item more enters the instance, and all three leave it.
+fn leave_thrice(rt: &impl Abort, world: &mut World) {
+    let instances = &mut world.instances;
     enter(instances, 0, 1);
     leave(instances, 0);
     leave(instances, 0);
@@ -77,17 +97,38 @@ fn an_instance_goes_with_its_last_item(rt: HostRuntime) {
 }
 
 #[test]
-fn instances_lie_in_one_another(rt: HostRuntime) {
-    let world = open(&rt, rt.alloc());
-    let body = world.program.code().body(0).expect(&rt, "a body");
-    let first = outermost(rt.alloc(), body).expect(&rt, "memory");
+fn an_instance_goes_with_its_last_item(rt: HostRuntime) {
+    let mut world = open(&rt, rt.alloc());
+    leave_thrice(&rt, &mut world.world);
+}
+
+/// The outermost instance of the body, which lies in no other.
+fn outermost_lies_in_none(rt: &impl Abort, alloc: Global, world: &Opened) {
+    let body = world.program.code().body(0).expect(rt, "a body");
+    let first = outermost(alloc, body).expect(rt, "memory");
     assert_eq!(rt; (first.level, first.depth, first.live), (0, 0, 2));
-    let found = inner(rt.alloc(), around(&world), 0, Some(way(7)), (0, &[]));
-    let inside = found.expect(&rt, "memory").expect(&rt, "an instance");
+}
+
+/// An instance that lies in the script's, a step further.
+fn inner_lies_in_first(rt: &impl Abort, alloc: Global, world: &Opened) {
+    let found = inner(alloc, around(world), 0, Some(way(7)), (0, &[]));
+    let inside = found.expect(rt, "memory").expect(rt, "an instance");
     assert_eq!(rt; (inside.level, inside.depth, inside.live), (1, 1, 2));
     assert_eq!(rt; inside.parent, Some(0));
-    let none = inner(rt.alloc(), around(&world), 1, None, (0, &[]));
-    assert!(rt; none.expect(&rt, "memory").is_none());
+}
+
+/// There is no instance of a body that is not.
+fn no_body_has_none(rt: &impl Abort, alloc: Global, world: &Opened) {
+    let none = inner(alloc, around(world), 1, None, (0, &[]));
+    assert!(rt; none.expect(rt, "memory").is_none());
+}
+
+#[test]
+fn instances_lie_in_one_another(rt: HostRuntime) {
+    let world = open(&rt, rt.alloc());
+    outermost_lies_in_none(&rt, rt.alloc(), &world);
+    inner_lies_in_first(&rt, rt.alloc(), &world);
+    no_body_has_none(&rt, rt.alloc(), &world);
 }
 
 fn site(world: &Opened, alloc: Global) -> Site<'_> {
@@ -115,28 +156,41 @@ fn turns(alloc: Global, world: &Opened) -> Result<Vec<Opening>, AllocError> {
     Ok(list)
 }
 
+/// The last turn has the range's last number and its place, and a step by that place.
+fn is_last_turn(rt: &impl Abort, last: &Opening) {
+    assert!(rt; matches!(&last.value, Some(Scalar::Number(9))));
+    assert!(rt; matches!(&last.turn, Some(Scalar::Number(2))));
+    let way = last.instance.way.as_ref().expect(rt, "a step");
+    assert!(rt; way.offset == 40 && matches!(way.key, Key::Number(2)));
+}
+
 #[test]
 fn loops_have_turns(rt: HostRuntime) {
     let world = open(&rt, rt.alloc());
     let list = turns(rt.alloc(), &world).expect(&rt, "memory");
     assert_eq!(rt; list.len(), 4);
-    let last = list.last().expect(&rt, "a turn");
-    assert!(rt; matches!(&last.value, Some(Scalar::Number(9))));
-    assert!(rt; matches!(&last.turn, Some(Scalar::Number(2))));
-    let way = last.instance.way.as_ref().expect(&rt, "a step");
-    assert!(rt; way.offset == 40 && matches!(way.key, Key::Number(2)));
+    is_last_turn(&rt, list.last().expect(&rt, "a turn"));
+}
+
+/// Places the turns in the script's instance, and gives the key of the last.
+fn place_turns(rt: &impl Abort, alloc: Global, world: &mut Opened) -> usize {
+    let list = turns(alloc, world).expect(rt, "memory");
+    let instances = &mut world.world.instances;
+    let last = place_all(instances, &mut world.rows, Some(0), &[1], list);
+    last.expect(rt, "memory").expect(rt, "a key")
+}
+
+/// How many instances and items there are.
+fn counts(world: &Opened) -> (usize, usize) {
+    (world.world.instances.len(), world.rows.len())
 }
 
 #[test]
 fn instances_are_placed_with_their_items(rt: HostRuntime) {
     let mut world = open(&rt, rt.alloc());
-    let list = turns(rt.alloc(), &world).expect(&rt, "memory");
-    let instances = &mut world.world.instances;
-    let last = place_all(instances, &mut world.rows, Some(0), &[1], list);
-    let last = last.expect(&rt, "memory").expect(&rt, "a key");
-    assert_eq!(rt; (instances.len(), world.rows.len()), (5, 7));
-    let path = path_of(rt.alloc(), instances, last).expect(&rt, "memory");
-    assert_eq!(rt; path.len(), 1);
+    let last = place_turns(&rt, rt.alloc(), &mut world);
+    assert_eq!(rt; counts(&world), (5, 7));
+    assert_eq!(rt; path_length(&rt, rt.alloc(), &world.world, last), 1);
     go_on(&mut world.rows, 0, 1, 0).expect(&rt, "memory");
     assert_eq!(rt; world.rows.len(), 8);
 }

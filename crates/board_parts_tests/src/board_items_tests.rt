@@ -38,43 +38,72 @@ fn entries_have_an_order(rt: HostRuntime) {
     assert_eq!(rt; order_of(&program, ASSERT), (Kind::Leaf, 0));
 }
 
-#[test]
-fn the_first_item_begins_and_comes_back(rt: HostRuntime) {
-    let mut items = Items::new(rt.alloc()).expect(&rt, "memory");
+/// The first item begins, and is in the queue no more.
+fn first_begins(rt: &impl Abort, items: &mut Items) {
     assert_eq!(rt; items.queue.first(Kind::Control), Some(1));
     items.begin(3, 1, (Kind::Control, 0));
     assert!(rt; !items.is_still() && items.running == 1);
     assert_eq!(rt; items.queue.first(Kind::Control), None);
+}
+
+/// The first item comes back, and is new.
+fn first_comes_back(rt: &impl Abort, items: &mut Items) {
     items.back(1, (Kind::Control, 0));
     assert!(rt; !items.is_still() && items.running == 0);
     assert!(rt; items.newly.as_slice() == [1u64].as_slice());
 }
 
-/// The items after the script's own has ended.
-fn settled(alloc: Global, program: &Program) -> Result<Items, AllocError> {
-    let (mut items, mut world) = (Items::new(alloc)?, World::new(alloc));
-    let mut known = Vec::new(alloc);
+#[test]
+fn the_first_item_begins_and_comes_back(rt: HostRuntime) {
+    let mut items = Items::new(rt.alloc()).expect(&rt, "memory");
+    first_begins(&rt, &mut items);
+    first_comes_back(&rt, &mut items);
+}
+
+/// Begins the script's item, and makes room for what its end wakes and makes.
+fn begin_script(program: &Program, items: &mut Items) -> Result<(), AllocError> {
     items.begin(0, 1, order_of(program, Job::Script));
     items.reserve_to_wake(2)?;
     items.reserve_new(Counts {
         controls: 0,
         leaves: 2,
-    })?;
-    open(alloc, program, &mut world, &mut items.rows, &mut known)?;
+    })
+}
+
+/// Ends the script's item in the world that it has opened.
+fn finish_script(
+    alloc: Global,
+    program: &Program,
+    world: &World,
+    items: &mut Items,
+) -> Result<(), AllocError> {
     let outlook = Outlook {
         alloc,
         program,
         instances: &world.instances,
         store: &world.store,
     };
-    items.finish(outlook, 1, Job::Script, 1, Vec::new(alloc))?;
+    items.finish(outlook, 1, Job::Script, 1, Vec::new(alloc))
+}
+
+/// Opens the script in a world of its own, and ends its item.
+fn open_script(alloc: Global, program: &Program, items: &mut Items) -> Result<(), AllocError> {
+    let mut world = World::new(alloc);
+    let mut known = Vec::new(alloc);
+    open(alloc, program, &mut world, &mut items.rows, &mut known)?;
+    finish_script(alloc, program, &world, items)
+}
+
+/// The items after the script's own has ended.
+fn settled(alloc: Global, program: &Program) -> Result<Items, AllocError> {
+    let mut items = Items::new(alloc)?;
+    begin_script(program, &mut items)?;
+    open_script(alloc, program, &mut items)?;
     Ok(items)
 }
 
-#[test]
-fn new_items_can_begin_or_wait(rt: HostRuntime) {
-    let program = program_of(&rt, rt.alloc());
-    let items = settled(rt.alloc(), &program).expect(&rt, "memory");
+/// The assignment can begin, and what is asserted waits.
+fn one_begins_and_one_waits(rt: &impl Abort, items: &Items) {
     assert!(rt; items.newly.as_slice() == [2u64].as_slice());
     assert_eq!(rt; items.queue.first(Kind::Leaf), Some(2));
     assert_eq!(rt; (items.rules.waiting(), items.rows.len()), (1, 3));
@@ -82,14 +111,26 @@ fn new_items_can_begin_or_wait(rt: HostRuntime) {
 }
 
 #[test]
-fn a_value_wakes_who_waits_for_it(rt: HostRuntime) {
+fn new_items_can_begin_or_wait(rt: HostRuntime) {
     let program = program_of(&rt, rt.alloc());
-    let mut items = settled(rt.alloc(), &program).expect(&rt, "memory");
-    items.begin(1, 2, order_of(&program, SET));
+    let items = settled(rt.alloc(), &program).expect(&rt, "memory");
+    one_begins_and_one_waits(&rt, &items);
+}
+
+/// The first datum's value wakes what is asserted.
+fn value_wakes_assert(rt: &impl Abort, items: &mut Items) {
     assert!(rt; items.reserve_to_wake(0).is_ok());
     items.tell(&Input::Whole(0));
     assert!(rt; items.woken.as_slice() == [3u64].as_slice());
     assert_eq!(rt; items.rules.waiting(), 0);
+}
+
+#[test]
+fn a_value_wakes_who_waits_for_it(rt: HostRuntime) {
+    let program = program_of(&rt, rt.alloc());
+    let mut items = settled(rt.alloc(), &program).expect(&rt, "memory");
+    items.begin(1, 2, order_of(&program, SET));
+    value_wakes_assert(&rt, &mut items);
 }
 
 /// One list with room for three inputs.

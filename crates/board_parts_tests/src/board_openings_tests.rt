@@ -11,21 +11,29 @@ use board_openings::world::Change;
 use data_store::store::{Shape, Store};
 use rules::input::Input;
 use std::alloc::{AllocError, Global};
+use std::process::Abort;
 use values::value::Scalar;
 
-#[test]
-fn the_script_is_opened(rt: HostRuntime) {
-    let opened = opened_script(rt.alloc()).expect(&rt, "a world");
-    assert_eq!(rt;
-        (opened.world.instances.len(), opened.world.store.len()),
-        (1, 1)
-    );
+/// How many instances and data there are.
+fn counts(opened: &Opened) -> (usize, usize) {
+    (opened.world.instances.len(), opened.world.store.len())
+}
+
+/// The item of what is asserted is the last, and nothing has become known.
+fn assert_is_last(rt: &impl Abort, opened: &Opened) {
     let new = Item {
         job: ASSERT,
         mark: Mark::Waiting,
     };
     assert_eq!(rt; opened.rows.last(), Some(&new));
     assert!(rt; opened.known.is_empty());
+}
+
+#[test]
+fn the_script_is_opened(rt: HostRuntime) {
+    let opened = opened_script(rt.alloc()).expect(&rt, "a world");
+    assert_eq!(rt; counts(&opened), (1, 1));
+    assert_is_last(&rt, &opened);
     assert_eq!(rt; (home(Job::Script), home(SET)), (None, Some(0)));
 }
 
@@ -36,27 +44,33 @@ fn end_in(alloc: Global, opened: &mut Opened, job: Job, change: Change) -> Resul
     end(alloc, &opened.program, world, rows, known, (job, change))
 }
 
-#[test]
-fn what_is_stored_becomes_known(rt: HostRuntime) {
-    let mut opened = opened_script(rt.alloc()).expect(&rt, "a world");
+/// The assignment's item ends, which stores true.
+fn end_set(rt: &impl Abort, alloc: Global, opened: &mut Opened) {
     let stores = Change::Value(Some(0), Scalar::Truth(true));
-    assert!(rt; end_in(rt.alloc(), &mut opened, SET, stores).is_ok());
+    assert!(rt; end_in(alloc, opened, SET, stores).is_ok());
+}
+
+/// The first datum has the value true, and that is known.
+fn truth_is_known(rt: &impl Abort, opened: &Opened) {
     assert!(rt; matches!(opened.known.as_slice(), [Input::Whole(0)]));
     let stored = data::value(&opened.world.store, 0);
     assert!(rt; matches!(stored, Some(Scalar::Truth(true))));
+}
+
+#[test]
+fn what_is_stored_becomes_known(rt: HostRuntime) {
+    let mut opened = opened_script(rt.alloc()).expect(&rt, "a world");
+    end_set(&rt, rt.alloc(), &mut opened);
+    truth_is_known(&rt, &opened);
     assert_eq!(rt; opened.world.instances.len(), 1);
 }
 
 #[test]
 fn the_last_item_takes_all_with_it(rt: HostRuntime) {
     let mut opened = opened_script(rt.alloc()).expect(&rt, "a world");
-    let stores = Change::Value(Some(0), Scalar::Truth(true));
-    assert!(rt; end_in(rt.alloc(), &mut opened, SET, stores).is_ok());
+    end_set(&rt, rt.alloc(), &mut opened);
     assert!(rt; end_in(rt.alloc(), &mut opened, ASSERT, Change::Nothing).is_ok());
-    assert_eq!(rt;
-        (opened.world.instances.len(), opened.world.store.len()),
-        (0, 0)
-    );
+    assert_eq!(rt; counts(&opened), (0, 0));
 }
 
 #[test]
@@ -85,11 +99,8 @@ fn turn(alloc: Global, opened: &Opened) -> Result<Vec<Opening>, AllocError> {
     Ok(list)
 }
 
-#[test]
-fn data_of_a_turn_are_made(rt: HostRuntime) {
-    let opened = opened_script(rt.alloc()).expect(&rt, "a world");
-    let mut list = turn(rt.alloc(), &opened).expect(&rt, "memory");
-    let mut store = Store::new(rt.alloc());
+/// Makes the data of the instances, with the values of their turns in the first slot.
+fn fill(rt: &impl Abort, store: &mut Store, list: &mut Vec<Opening>) {
     let own = Own {
         shape: Shape::Single,
         reads: 1,
@@ -99,6 +110,14 @@ fn data_of_a_turn_are_made(rt: HostRuntime) {
         value: Some(0),
         turn: None,
     };
-    assert!(rt; fill_all(&mut store, &[own], &mut list, slots).is_ok());
+    assert!(rt; fill_all(store, &[own], list, slots).is_ok());
+}
+
+#[test]
+fn data_of_a_turn_are_made(rt: HostRuntime) {
+    let opened = opened_script(rt.alloc()).expect(&rt, "a world");
+    let mut list = turn(rt.alloc(), &opened).expect(&rt, "memory");
+    let mut store = Store::new(rt.alloc());
+    fill(&rt, &mut store, &mut list);
     assert!(rt; matches!(data::value(&store, 0), Some(Scalar::Number(6))));
 }

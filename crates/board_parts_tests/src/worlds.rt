@@ -68,23 +68,34 @@ pub fn end(
     Ok(())
 }
 
-/// The script, opened.
-pub fn opened_script(alloc: Global) -> Result<Opened, AllocError> {
-    let program = Program::new(alloc, asserted(alloc, true)?)?;
-    let mut world = World::new(alloc);
+/// The script's item, which runs.
+fn script_row(alloc: Global) -> Result<Vec<Item>, AllocError> {
     let mut rows = Vec::new(alloc);
     rows.push(Item {
         job: Job::Script,
         mark: Mark::Running(0),
     })?;
-    let mut known = Vec::new(alloc);
-    open(alloc, &program, &mut world, &mut rows, &mut known)?;
+    Ok(rows)
+}
+
+/// The script, before it is opened.
+fn unopened_script(alloc: Global) -> Result<Opened, AllocError> {
+    let program = Program::new(alloc, asserted(alloc, true)?)?;
+    let rows = script_row(alloc)?;
     Ok(Opened {
         program,
-        world,
+        world: World::new(alloc),
         rows,
-        known,
+        known: Vec::new(alloc),
     })
+}
+
+/// The script, opened.
+pub fn opened_script(alloc: Global) -> Result<Opened, AllocError> {
+    let mut opened = unopened_script(alloc)?;
+    let (rows, known) = (&mut opened.rows, &mut opened.known);
+    open(alloc, &opened.program, &mut opened.world, rows, known)?;
+    Ok(opened)
 }
 
 impl Opened {
