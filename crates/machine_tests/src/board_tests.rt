@@ -5,10 +5,24 @@ use board::board::Board;
 use board::refusal::Refusal;
 use board::{Done, Work};
 use std::alloc::Global;
+use std::process::Abort;
 use task_code::entry::Kind;
 use task_code::event::Event;
 use values::value::Scalar;
 use worked_codes::codes::{asserted, hello, printed};
+
+/// A board over `printf("hello");` with so many events at most.
+fn hello_board(rt: &impl Abort, alloc: Global, limit: u32) -> Board {
+    let code = hello(alloc).expect(rt, "a code");
+    Board::new(alloc, code, limit).expect(rt, "memory")
+}
+
+/// Begins the item, and lets its work go.
+fn begin_on(board: &mut Board, worker: u8, item: u64) -> Result<(), Refusal>
+    requires { IsWorker worker }
+{
+    board.begin(worker, item).map(|_work| ())
+}
 
 /// Begins the item and computes it.
 fn done_on(board: &mut Board, worker: u8, item: u64) -> Result<Done, Refusal>
@@ -46,6 +60,13 @@ fn own_on(board: &mut Board, worker: u8, item: u64) -> Result<(), Refusal>
         .map_err(|(_done, refused)| refused)
 }
 
+/// The item is begun, computed and ended on the worker.
+fn works(rt: &impl Abort, board: &mut Board, worker: u8, item: u64)
+    requires { IsWorker worker }
+{
+    assert_eq!(rt; work_on(board, worker, item), Ok(()));
+}
+
 /// Whether the board has printed the one line `hello`.
 fn prints_hello(board: &Board) -> bool {
     match board.lines().as_slice() {
@@ -54,34 +75,57 @@ fn prints_hello(board: &Board) -> bool {
     }
 }
 
-#[test]
-fn hello_is_printed(rt: HostRuntime) {
-    let code = hello(rt.alloc()).expect(&rt, "a code");
-    let mut board = Board::new(rt.alloc(), code, 100).expect(&rt, "memory");
+/// The result is the worker's item's, which ends, and then `hello` is printed.
+fn prints(rt: &impl Abort, board: &mut Board, worker: u8, done: Done)
+    requires { IsWorker worker }
+{
+    assert_eq!(rt; end_on(board, worker, done), Ok(()));
+    assert!(rt; prints_hello(board));
+}
+
+/// A new board has its code and its limit, and only the script can begin.
+fn is_new(rt: &impl Abort, board: &Board) {
     assert_eq!(rt; (board.limit(), board.code().entry_count()), (100, 1));
     assert_eq!(rt;
         (board.next(Kind::Control), board.next(Kind::Leaf)),
         (Some(1), None)
     );
-    assert_eq!(rt; work_on(&mut board, 0, 1), Ok(()));
+}
+
+/// The item of `printf` alone can begin.
+fn is_ready(rt: &impl Abort, board: &Board) {
     assert!(rt; board.is_going() && !board.is_quiet());
-    let ready = board.ready_items().expect(&rt, "memory");
+    let ready = board.ready_items().expect(rt, "memory");
     assert!(rt; ready.as_slice() == [2].as_slice());
     assert_eq!(rt; board.kind(2), Some(Kind::Leaf));
-    let blocked = board.blocked().expect(&rt, "memory");
+}
+
+/// One statement is not over.
+fn has_one_left(rt: &impl Abort, board: &Board) {
+    let blocked = board.blocked().expect(rt, "memory");
     assert_eq!(rt; blocked.len(), 1);
-    assert_eq!(rt; work_on(&mut board, 2, 2), Ok(()));
-    assert!(rt; board.is_quiet() && board.fault().is_none() && prints_hello(&board));
+}
+
+/// The run is over, without a fault, and ended with that item.
+fn is_over(rt: &impl Abort, board: &Board) {
+    assert!(rt; board.is_quiet() && board.fault().is_none() && prints_hello(board));
     let last = Event::End { worker: 2, item: 2 };
     assert_eq!(rt; board.history().last(), Some(&last));
 }
 
-/// An item that is ended as the worker's own has begun and ended in the history, once each, and is over.
 #[test]
-fn an_own_item_ends(rt: HostRuntime) {
-    let code = hello(rt.alloc()).expect(&rt, "a code");
-    let mut board = Board::new(rt.alloc(), code, 100).expect(&rt, "memory");
-    assert_eq!(rt; own_on(&mut board, 3, 1), Ok(()));
+fn hello_is_printed(rt: HostRuntime) {
+    let mut board = hello_board(&rt, rt.alloc(), 100);
+    is_new(&rt, &board);
+    works(&rt, &mut board, 0, 1);
+    is_ready(&rt, &board);
+    has_one_left(&rt, &board);
+    works(&rt, &mut board, 2, 2);
+    is_over(&rt, &board);
+}
+
+/// The script has begun and ended on worker 3, once each, and is over.
+fn has_opened(rt: &impl Abort, board: &Board) {
     let events = [
         Event::Begin { worker: 3, item: 1 },
         Event::End { worker: 3, item: 1 },
@@ -90,118 +134,150 @@ fn an_own_item_ends(rt: HostRuntime) {
     assert_eq!(rt; (board.kind(1), board.kind(2)), (None, Some(Kind::Leaf)));
 }
 
+/// An item that is ended as the worker's own has begun and ended in the history, once each, and is over.
 #[test]
-fn an_item_runs_on_one_worker(rt: HostRuntime) {
-    let code = hello(rt.alloc()).expect(&rt, "a code");
-    let mut board = Board::new(rt.alloc(), code, 100).expect(&rt, "memory");
-    let _work = board.begin(1, 1).expect(&rt, "begun");
-    let again = board.work(1, 1).expect(&rt, "its work");
+fn an_own_item_ends(rt: HostRuntime) {
+    let mut board = hello_board(&rt, rt.alloc(), 100);
+    assert_eq!(rt; own_on(&mut board, 3, 1), Ok(()));
+    has_opened(&rt, &board);
+}
+
+/// The script runs on worker 1, which can have its work again; it does not begin again.
+fn runs_on_one(rt: &impl Abort, board: &mut Board) {
+    let again = board.work(1, 1).expect(rt, "its work");
     assert_eq!(rt; again.item(), 1);
-    assert_eq!(rt; board.begin(1, 1).err(), Some(Refusal::NotReady));
+    assert_eq!(rt; begin_on(board, 1, 1), Err(Refusal::NotReady));
+}
+
+/// That worker alone gives it back, and once.
+fn is_given_back_once(rt: &impl Abort, board: &mut Board) {
     assert_eq!(rt; board.back(2, 1), Err(Refusal::NotYours));
     assert_eq!(rt; board.back(1, 1), Ok(()));
     assert_eq!(rt; board.back(1, 1), Err(Refusal::NotYours));
 }
 
 #[test]
-fn the_limit_ends_a_board(rt: HostRuntime) {
-    let code = hello(rt.alloc()).expect(&rt, "a code");
-    let mut board = Board::new(rt.alloc(), code, 1).expect(&rt, "memory");
-    let done = done_on(&mut board, 0, 1).expect(&rt, "done");
+fn an_item_runs_on_one_worker(rt: HostRuntime) {
+    let mut board = hello_board(&rt, rt.alloc(), 100);
+    begin_on(&mut board, 1, 1).expect(&rt, "begun");
+    runs_on_one(&rt, &mut board);
+    is_given_back_once(&rt, &mut board);
+}
+
+/// No more events are accepted, the end of this work among them, and nothing is offered.
+fn is_ended(rt: &impl Abort, board: &mut Board, done: Done) {
     assert!(rt; !board.is_going());
     assert_eq!(rt; board.back(0, 1), Err(Refusal::Ended));
-    assert_eq!(rt; end_on(&mut board, 0, done), Err(Refusal::Ended));
-    assert_eq!(rt; board.begin(0, 1).err(), Some(Refusal::Ended));
+    assert_eq!(rt; end_on(board, 0, done), Err(Refusal::Ended));
+    assert_eq!(rt; begin_on(board, 0, 1), Err(Refusal::Ended));
     assert_eq!(rt; board.next(Kind::Control), None);
 }
 
+#[test]
+fn the_limit_ends_a_board(rt: HostRuntime) {
+    let mut board = hello_board(&rt, rt.alloc(), 1);
+    let done = done_on(&mut board, 0, 1).expect(&rt, "done");
+    is_ended(&rt, &mut board, done);
+}
+
 /// What the item of `printf("other");` comes to, on a board of its own.
-fn others_result(alloc: Global) -> Result<Done, Refusal> {
-    let Ok(code) = printed(alloc, b"other") else {
-        return Err(Refusal::Memory);
-    };
-    let Ok(mut board) = Board::new(alloc, code, 100) else {
-        return Err(Refusal::Memory);
-    };
-    work_on(&mut board, 0, 1)?;
-    done_on(&mut board, 1, 2)
+fn others_result(rt: &impl Abort, alloc: Global) -> Done {
+    let code = printed(alloc, b"other").expect(rt, "a code");
+    let mut board = Board::new(alloc, code, 100).expect(rt, "memory");
+    works(rt, &mut board, 0, 1);
+    done_on(&mut board, 1, 2).expect(rt, "done")
+}
+
+/// The result is refused to worker 1, and prints nothing.
+fn refuses(rt: &impl Abort, board: &mut Board, strange: Done) {
+    assert_eq!(rt; end_on(board, 1, strange), Err(Refusal::Stranger));
+    assert!(rt; board.lines().is_empty());
 }
 
 /// The result of another entry is refused, and the item still runs.
 #[test]
 fn another_entry_is_a_stranger(rt: HostRuntime) {
-    let strange = others_result(rt.alloc()).expect(&rt, "done");
-    let code = hello(rt.alloc()).expect(&rt, "a code");
-    let mut board = Board::new(rt.alloc(), code, 100).expect(&rt, "memory");
-    assert_eq!(rt; work_on(&mut board, 0, 1), Ok(()));
+    let mut board = hello_board(&rt, rt.alloc(), 100);
+    works(&rt, &mut board, 0, 1);
     let own = done_on(&mut board, 1, 2).expect(&rt, "done");
-    assert_eq!(rt; end_on(&mut board, 1, strange), Err(Refusal::Stranger));
-    assert!(rt; board.lines().is_empty());
-    assert_eq!(rt; end_on(&mut board, 1, own), Ok(()));
-    assert!(rt; prints_hello(&board));
+    refuses(&rt, &mut board, others_result(&rt, rt.alloc()));
+    prints(&rt, &mut board, 1, own);
 }
 
-/// A board on which the script and the assignment of `asserted` have ended, and the other item runs on worker 1, with what it
-/// comes to.
-fn asserting(alloc: Global, holds: bool) -> Result<(Board, Done), Refusal> {
-    let Ok(code) = asserted(alloc, holds) else {
-        return Err(Refusal::Memory);
-    };
-    let Ok(mut board) = Board::new(alloc, code, 100) else {
-        return Err(Refusal::Memory);
-    };
-    work_on(&mut board, 0, 1)?;
-    work_on(&mut board, 1, 2)?;
-    let done = done_on(&mut board, 1, 3)?;
-    Ok((board, done))
+/// A board over `asserted`.
+fn asserted_board(rt: &impl Abort, alloc: Global, holds: bool) -> Board {
+    let code = asserted(alloc, holds).expect(rt, "a code");
+    Board::new(alloc, code, 100).expect(rt, "memory")
 }
 
-/// How many items can begin since the last event, the first of them, and how many data are stored.
-fn told_by(board: &Board) -> (usize, Option<(Kind, i32, u64)>, usize) {
-    (board.newly_len(), board.newly(0), board.stored())
+/// What the other item of `asserted` comes to on worker 1, once the script and the assignment have ended.
+fn asserting(rt: &impl Abort, board: &mut Board) -> Done {
+    works(rt, board, 0, 1);
+    works(rt, board, 1, 2);
+    done_on(board, 1, 3).expect(rt, "done")
+}
+
+/// So many items can begin since the last event, this one first, and so many data are stored.
+fn tells(
+    rt: &impl Abort,
+    board: &Board,
+    ready: usize,
+    first: Option<(Kind, i32, u64)>,
+    data: usize,
+) {
+    assert!(rt; (board.newly_len(), board.newly(0), board.stored()) == (ready, first, data));
 }
 
 /// Each end tells which items can begin from then on, and a datum goes with its last reader.
 #[test]
 fn items_and_data_come_and_go(rt: HostRuntime) {
-    let code = asserted(rt.alloc(), true).expect(&rt, "a code");
-    let mut board = Board::new(rt.alloc(), code, 100).expect(&rt, "memory");
-    assert_eq!(rt; work_on(&mut board, 0, 1), Ok(()));
-    assert!(rt; told_by(&board) == (1, Some((Kind::Leaf, 0, 2)), 1));
-    assert_eq!(rt; work_on(&mut board, 1, 2), Ok(()));
-    assert!(rt; told_by(&board) == (1, Some((Kind::Leaf, 0, 3)), 1));
-    assert_eq!(rt; work_on(&mut board, 1, 3), Ok(()));
-    assert!(rt; told_by(&board) == (0, None, 0));
+    let mut board = asserted_board(&rt, rt.alloc(), true);
+    works(&rt, &mut board, 0, 1);
+    tells(&rt, &board, 1, Some((Kind::Leaf, 0, 2)), 1);
+    works(&rt, &mut board, 1, 2);
+    tells(&rt, &board, 1, Some((Kind::Leaf, 0, 3)), 1);
+    works(&rt, &mut board, 1, 3);
+    tells(&rt, &board, 0, None, 0);
 }
 
-/// What that other item comes to.
-fn asserted_result(alloc: Global, holds: bool) -> Result<Done, Refusal> {
-    let (_board, done) = asserting(alloc, holds)?;
-    Ok(done)
+/// What that other item comes to, on a board of its own.
+fn asserted_result(rt: &impl Abort, alloc: Global, holds: bool) -> Done {
+    let mut board = asserted_board(rt, alloc, holds);
+    asserting(rt, &mut board)
+}
+
+/// The one result is refused to worker 1, and with the other the run is over.
+fn takes(rt: &impl Abort, board: &mut Board, strange: Done, same: Done) {
+    assert_eq!(rt; end_on(board, 1, strange), Err(Refusal::Stranger));
+    assert_eq!(rt; end_on(board, 1, same), Ok(()));
+    assert!(rt; board.is_quiet());
 }
 
 /// The result of the same entry with another input is refused, and that with the same input is not, from wherever it comes.
 #[test]
 fn other_inputs_are_strange(rt: HostRuntime) {
-    let strange = asserted_result(rt.alloc(), false).expect(&rt, "done");
-    let same = asserted_result(rt.alloc(), true).expect(&rt, "done");
-    let (mut board, _own) = asserting(rt.alloc(), true).expect(&rt, "a board");
-    assert_eq!(rt; end_on(&mut board, 1, strange), Err(Refusal::Stranger));
-    assert_eq!(rt; end_on(&mut board, 1, same), Ok(()));
-    assert!(rt; board.is_quiet());
+    let mut board = asserted_board(&rt, rt.alloc(), true);
+    let _own = asserting(&rt, &mut board);
+    let strange = asserted_result(&rt, rt.alloc(), false);
+    let same = asserted_result(&rt, rt.alloc(), true);
+    takes(&rt, &mut board, strange, same);
+}
+
+/// The result comes too late for worker 4, and is handed back.
+fn comes_too_late(rt: &impl Abort, board: &mut Board, done: Done) -> Done {
+    let (done, refused) = board.end(4, done).err().expect(rt, "refused");
+    assert_eq!(rt; refused, Refusal::NotYours);
+    done
 }
 
 /// A result comes too late once its item was given back; another worker that begins the item may hand it in.
 #[test]
 fn a_result_given_back_is_another_workers(rt: HostRuntime) {
-    let code = hello(rt.alloc()).expect(&rt, "a code");
-    let mut board = Board::new(rt.alloc(), code, 100).expect(&rt, "memory");
-    assert_eq!(rt; work_on(&mut board, 0, 1), Ok(()));
+    let mut board = hello_board(&rt, rt.alloc(), 100);
+    works(&rt, &mut board, 0, 1);
     let done = done_on(&mut board, 4, 2).expect(&rt, "done");
     assert_eq!(rt; board.back(4, 2), Ok(()));
-    let (done, refused) = board.end(4, done).err().expect(&rt, "refused");
-    assert_eq!(rt; refused, Refusal::NotYours);
-    let _work = board.begin(5, 2).expect(&rt, "begun");
-    assert_eq!(rt; end_on(&mut board, 5, done), Ok(()));
-    assert!(rt; prints_hello(&board));
+    let done = comes_too_late(&rt, &mut board, done);
+    begin_on(&mut board, 5, 2).expect(&rt, "begun");
+    prints(&rt, &mut board, 5, done);
 }

@@ -150,26 +150,40 @@ F2 DivideByZero | f10/1=&
 false | tf&
 true | 12<";
 
+/// What the expression of a text without needs comes to, as a text.
+fn value_text(rt: &impl Abort, alloc: Global, text: &[u8]) -> String {
+    let expr = expr(rt, alloc, text);
+    let result = evaluate(alloc, &expr, &[]).expect(rt, "memory");
+    result_text(rt, alloc, &result)
+}
+
+/// A row's expression comes to what stands before it.
+fn is_right(rt: &impl Abort, alloc: Global, row: &str) {
+    let (wanted, text) = row.split_once(" | ").expect(rt, "a row has two parts");
+    let text = value_text(rt, alloc, text.as_bytes());
+    assert_eq!(rt; text.as_str(), wanted, "{row}");
+}
+
 #[test]
 fn expressions(rt: HostRuntime) {
-    let alloc = rt.alloc();
     for row in EXPRESSIONS.lines() {
-        let (wanted, text) = row.split_once(" | ").expect(&rt, "a row has two parts");
-        let expr = expr(&rt, alloc, text.as_bytes());
-        let result = evaluate(alloc, &expr, &[]).expect(&rt, "memory");
-        let text = result_text(&rt, alloc, &result);
-        assert_eq!(rt; text.as_str(), wanted, "{row}");
+        is_right(&rt, rt.alloc(), row);
     }
+}
+
+/// The expressions of two texts.
+fn exprs(rt: &impl Abort, alloc: Global, first: &[u8], second: &[u8]) -> Vec<Expr> {
+    let exprs = [expr(rt, alloc, first), expr(rt, alloc, second)];
+    Vec::from_array(alloc, exprs).expect(rt, "memory")
 }
 
 #[test]
 fn a_literal_has_keys_from_0(rt: HostRuntime) {
-    let alloc = rt.alloc();
-    let exprs = [expr(&rt, alloc, b"8"), expr(&rt, alloc, b"x1+")];
-    let exprs = Vec::from_array(alloc, exprs).expect(&rt, "memory");
-    let answers = [Answer::Found(Scalar::Number(5))];
-    let result = evaluate_literal(alloc, &exprs, &answers).expect(&rt, "memory");
-    assert_eq!(rt; result_text(&rt, alloc, &result).as_str(), "[0]=8[1]=6");
+    let exprs = exprs(&rt, rt.alloc(), b"8", b"x1+");
+    let answers = [five()];
+    let result = evaluate_literal(rt.alloc(), &exprs, &answers).expect(&rt, "memory");
+    let text = result_text(&rt, rt.alloc(), &result);
+    assert_eq!(rt; text.as_str(), "[0]=8[1]=6");
 }
 
 /// The entry that does this.
@@ -199,13 +213,29 @@ fn job(rt: &impl Abort, alloc: Global, act: Act) -> Job {
     Job::Entry(Arc::new(alloc, entry(alloc, act)).expect(rt, "memory"))
 }
 
+/// The outcome has this text.
+fn is_outcome(rt: &impl Abort, alloc: Global, outcome: &Outcome, wanted: &str) {
+    let text = outcome_text(rt, alloc, outcome);
+    assert_eq!(rt; text.as_str(), wanted);
+}
+
+/// An entry that does this comes to what is wanted, asked for alone.
+fn gives(rt: &impl Abort, alloc: Global, act: &Act, answers: &[Answer], wanted: &str) {
+    let outcome = outcome_of(alloc, act, answers).expect(rt, "memory");
+    is_outcome(rt, alloc, &outcome, wanted);
+}
+
+/// The work of an item whose entry does this comes to what is wanted.
+fn works(rt: &impl Abort, alloc: Global, act: Act, answers: Vec<Answer>, wanted: &str) {
+    let done = done(rt, job(rt, alloc, act), answers);
+    is_outcome(rt, alloc, done.outcome(), wanted);
+}
+
 /// An entry that does this comes to what is wanted, asked for alone and as the work of an item.
 fn comes_to(rt: &impl Abort, alloc: Global, act: Act, answer: Answer, wanted: &str) {
     let answers = Vec::from_array(alloc, [answer]).expect(rt, "memory");
-    let outcome = outcome_of(alloc, &act, answers.as_slice()).expect(rt, "memory");
-    assert_eq!(rt; outcome_text(rt, alloc, &outcome).as_str(), wanted);
-    let done = done(rt, job(rt, alloc, act), answers);
-    assert_eq!(rt; outcome_text(rt, alloc, done.outcome()).as_str(), wanted);
+    gives(rt, alloc, &act, answers.as_slice(), wanted);
+    works(rt, alloc, act, answers, wanted);
 }
 
 /// What the tests' entries get for their first need.
@@ -334,16 +364,28 @@ fn is_array(rt: &impl Abort, alloc: Global, answer: &Answer, first: i64, second:
     answer.is_content(&map)
 }
 
-#[test]
-fn answers_are_shared_and_compared(rt: HostRuntime) {
-    let alloc = rt.alloc();
-    let answer = Answer::Content(array(&rt, alloc, 1, 2))
-        .share()
-        .expect(&rt, "memory");
-    assert!(rt; is_array(&rt, alloc, &answer, 1, 2));
-    assert!(rt; !is_array(&rt, alloc, &answer, 1, 3));
+/// An answer is the array that has 1 and 2 under 4 and 5, and nothing else.
+fn is_1_and_2(rt: &impl Abort, alloc: Global, answer: &Answer) {
+    assert!(rt; is_array(rt, alloc, answer, 1, 2));
+    assert!(rt; !is_array(rt, alloc, answer, 1, 3));
     assert!(rt; !answer.is_missing());
     assert!(rt; !answer.is_found(&Scalar::Number(2)));
+}
+
+/// That array, shared with an answer that is let go.
+fn shared(rt: &impl Abort, alloc: Global) -> Answer {
+    let answer = Answer::Content(array(rt, alloc, 1, 2));
+    answer.share().expect(rt, "memory")
+}
+
+#[test]
+fn answers_are_shared(rt: HostRuntime) {
+    let answer = shared(&rt, rt.alloc());
+    is_1_and_2(&rt, rt.alloc(), &answer);
+}
+
+#[test]
+fn answers_are_compared(rt: HostRuntime) {
     assert!(rt; five().is_found(&Scalar::Number(5)));
     assert!(rt; Answer::Missing.is_missing());
 }

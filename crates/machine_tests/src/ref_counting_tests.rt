@@ -53,6 +53,30 @@ fn parameter(place: usize, array: bool) -> Name {
     }
 }
 
+/// The script's block, which makes the array.
+fn main_body(alloc: Global) -> Result<Body, AllocError> {
+    let made = Variable {
+        node: 1,
+        array: true,
+    };
+    let makes = Vec::from_array(alloc, [made])?;
+    Ok(Body {
+        opener: Opener::ByMain,
+        makes,
+        entries: Vec::from_array(alloc, [0])?,
+    })
+}
+
+/// The block of the function.
+fn function_body(alloc: Global) -> Result<Body, AllocError> {
+    let entries = Vec::from_array(alloc, [1])?;
+    Ok(Body {
+        opener: Opener::ByCalls,
+        makes: Vec::new(alloc),
+        entries,
+    })
+}
+
 /// The code of that script.
 fn calls_itself(alloc: Global) -> Result<Draft, AllocError>
     ensures marks { IfOk result (λ code. HasMarks code) }
@@ -64,22 +88,8 @@ fn calls_itself(alloc: Global) -> Result<Draft, AllocError>
     code.push_entry(call(alloc, 10, zero, array(1))?)?;
     let same = Argument::Named(parameter(0, false));
     code.push_entry(call(alloc, 20, same, parameter(1, true))?)?;
-    code.push_body(Body {
-        opener: Opener::ByMain,
-        makes: Vec::from_array(
-            alloc,
-            [Variable {
-                node: 1,
-                array: true,
-            }],
-        )?,
-        entries: Vec::from_array(alloc, [0])?,
-    })?;
-    code.push_body(Body {
-        opener: Opener::ByCalls,
-        makes: Vec::new(alloc),
-        entries: Vec::from_array(alloc, [1])?,
-    })?;
+    code.push_body(main_body(alloc)?)?;
+    code.push_body(function_body(alloc)?)?;
     Ok(code)
 }
 

@@ -4,8 +4,16 @@ use board::board::Board;
 use runs::one::run_one;
 use runs::report::{End, Report, report_of};
 use runs::turn::finish;
+use std::alloc::Global;
+use std::process::Abort;
 use task_code::event::Event;
 use worked_codes::codes::hello;
+
+/// The report of a run with these choices, and so many events at most.
+fn run_of(rt: &impl Abort, alloc: Global, choices: &[u32], limit: u32) -> Report {
+    let code = hello(alloc).expect(rt, "a code");
+    run_one(alloc, &code, choices, limit).expect(rt, "memory")
+}
 
 /// Whether a report shows the one line `hello`.
 fn prints_hello(report: &Report) -> bool {
@@ -15,13 +23,15 @@ fn prints_hello(report: &Report) -> bool {
     }
 }
 
-#[test]
-fn a_run_ends_quiet(rt: HostRuntime) {
-    let code = hello(rt.alloc()).expect(&rt, "a code");
-    let report = run_one(rt.alloc(), &code, &[7, 7], 100).expect(&rt, "memory");
+/// The run ended quiet, with the one line and nothing blocked.
+fn is_quiet(rt: &impl Abort, report: &Report) {
     assert!(rt; matches!(report.end, End::Quiet));
-    assert!(rt; prints_hello(&report));
+    assert!(rt; prints_hello(report));
     assert!(rt; report.blocked.is_empty());
+}
+
+/// The item of each of the two workers begins and ends.
+fn has_all_events(rt: &impl Abort, report: &Report) {
     assert_eq!(rt; report.history.len(), 4);
     let last = Event::End { worker: 1, item: 2 };
     assert_eq!(rt; report.history.last(), Some(&last));
@@ -29,9 +39,14 @@ fn a_run_ends_quiet(rt: HostRuntime) {
 }
 
 #[test]
-fn the_limit_cuts_a_run(rt: HostRuntime) {
-    let code = hello(rt.alloc()).expect(&rt, "a code");
-    let report = run_one(rt.alloc(), &code, &[], 3).expect(&rt, "memory");
+fn a_run_ends_quiet(rt: HostRuntime) {
+    let report = run_of(&rt, rt.alloc(), &[7, 7], 100);
+    is_quiet(&rt, &report);
+    has_all_events(&rt, &report);
+}
+
+/// The run was cut after it began the item of `printf`, before a line was printed.
+fn is_cut(rt: &impl Abort, report: &Report) {
     assert!(rt; matches!(report.end, End::Limit));
     assert!(rt; report.lines.is_empty());
     let last = Event::Begin { worker: 1, item: 2 };
@@ -39,13 +54,34 @@ fn the_limit_cuts_a_run(rt: HostRuntime) {
 }
 
 #[test]
-fn a_board_without_events_left_is_reported(rt: HostRuntime) {
-    let code = hello(rt.alloc()).expect(&rt, "a code");
-    let mut board = Board::new(rt.alloc(), code, 2).expect(&rt, "memory");
-    let work = board.begin(0, 1).expect(&rt, "begun");
-    assert!(rt; finish(&mut board, 0, work).expect(&rt, "memory"));
+fn the_limit_cuts_a_run(rt: HostRuntime) {
+    let report = run_of(&rt, rt.alloc(), &[], 3);
+    is_cut(&rt, &report);
+}
+
+/// A board with room for two events.
+fn board_of_two(rt: &impl Abort, alloc: Global) -> Board {
+    let code = hello(alloc).expect(rt, "a code");
+    Board::new(alloc, code, 2).expect(rt, "memory")
+}
+
+/// The script runs on worker 0 and ends.
+fn takes_a_turn(rt: &impl Abort, board: &mut Board) {
+    let work = board.begin(0, 1).expect(rt, "begun");
+    assert!(rt; finish(board, 0, work).expect(rt, "memory"));
+}
+
+/// The report of the board, which has no events left.
+fn report_at_limit(rt: &impl Abort, alloc: Global, board: &Board) -> Report {
     assert_eq!(rt; (board.history().len(), board.is_going()), (2, false));
-    let report = report_of(rt.alloc(), &board).expect(&rt, "memory");
+    report_of(alloc, board).expect(rt, "memory")
+}
+
+#[test]
+fn a_board_without_events_left_is_reported(rt: HostRuntime) {
+    let mut board = board_of_two(&rt, rt.alloc());
+    takes_a_turn(&rt, &mut board);
+    let report = report_at_limit(&rt, rt.alloc(), &board);
     assert!(rt; matches!(report.end, End::Limit));
     assert_eq!(rt; report.history.len(), 2);
 }

@@ -72,10 +72,15 @@ const BAD_SECOND_LINES: &str =
 
 const BAD_FIRST_LINES: &str = "|\n|swt-trace 1|swt-trace 2\n| swt-trace 1\n";
 
+/// A trace with these lines behind its first.
+fn trace_of(rt: &impl Abort, alloc: Global, lines: &str) -> String {
+    format!(in alloc; "swt-trace 1\n{lines}").expect(rt, "memory")
+}
+
 #[test]
 fn bad_lines_are_refused(rt: HostRuntime) {
     for line in BAD_SECOND_LINES.split('|') {
-        let text = format!(in rt.alloc(); "swt-trace 1\n{line}").expect(&rt, "memory");
+        let text = trace_of(&rt, rt.alloc(), line);
         is_bad(&rt, rt.alloc(), text.as_bytes(), 2);
     }
     for text in BAD_FIRST_LINES.split('|') {
@@ -139,7 +144,17 @@ fn sink_of(alloc: Global, at_once: usize, refused: u8) -> Failing
     }
 }
 
-/// A report of these events, with the lines `a` and the empty one.
+/// The lines `a` and the empty one.
+fn two_lines(rt: &impl Abort, alloc: Global) -> Vec<Text> {
+    let mut lines = Vec::new(alloc);
+    for line in [b"a".as_slice(), b"".as_slice()] {
+        let text = Text::from_slice(alloc, line).expect(rt, "memory");
+        lines.push(text).expect(rt, "memory");
+    }
+    lines
+}
+
+/// A report of these events, with those two lines.
 fn report_with(
     rt: &impl Abort,
     alloc: Global,
@@ -147,28 +162,34 @@ fn report_with(
     end: End,
     blocked: Vec<Statement>,
 ) -> Report {
-    let mut lines = Vec::new(alloc);
-    for line in [b"a".as_slice(), b"".as_slice()] {
-        let text = Text::from_slice(alloc, line).expect(rt, "memory");
-        lines.push(text).expect(rt, "memory");
-    }
+    let history = Vec::from_slice(alloc, events).expect(rt, "memory");
     Report {
         code: empty(alloc),
-        history: Vec::from_slice(alloc, events).expect(rt, "memory"),
-        lines,
+        history,
+        lines: two_lines(rt, alloc),
         end,
         blocked,
         tallies: [0; 64],
     }
 }
 
+/// A report of these events that the limit ended.
+fn limit_report(rt: &impl Abort, alloc: Global, events: &[Event]) -> Report {
+    report_with(rt, alloc, events, End::Limit, Vec::new(alloc))
+}
+
+/// The report's trace is written, so many bytes at once.
+fn is_traced(rt: &impl Abort, alloc: Global, report: &Report, trace: &[u8], at_once: usize) {
+    let mut sink = sink_of(alloc, at_once, 0);
+    assert_eq!(rt; write_trace(report, &mut sink).err(), None);
+    assert_eq!(rt; sink.taken.as_slice(), trace);
+}
+
 /// The trace of these events is written, a few bytes at once or all.
 fn is_written(rt: &impl Abort, alloc: Global, events: &[Event], trace: &[u8]) {
-    let report = report_with(rt, alloc, events, End::Limit, Vec::new(alloc));
+    let report = limit_report(rt, alloc, events);
     for at_once in [1, 5, 100] {
-        let mut sink = sink_of(alloc, at_once, 0);
-        assert_eq!(rt; write_trace(&report, &mut sink).err(), None);
-        assert_eq!(rt; sink.taken.as_slice(), trace);
+        is_traced(rt, alloc, &report, trace, at_once);
     }
 }
 
@@ -178,12 +199,17 @@ fn traces_are_written(rt: HostRuntime) {
     is_written(&rt, rt.alloc(), &MOST_EVENTS, MOST);
 }
 
+/// A report is written as this text, so many bytes at once.
+fn is_text(rt: &impl Abort, alloc: Global, report: &Report, text: &[u8], at_once: usize) {
+    let mut sink = sink_of(alloc, at_once, 0);
+    assert_eq!(rt; write_report(report, &mut sink).err(), None);
+    assert_eq!(rt; sink.taken.as_slice(), text);
+}
+
 /// A report is written as this text, a few bytes at once or all.
 fn is_shown(rt: &impl Abort, alloc: Global, report: &Report, text: &[u8]) {
     for at_once in [1, 7, 100] {
-        let mut sink = sink_of(alloc, at_once, 0);
-        assert_eq!(rt; write_report(report, &mut sink).err(), None);
-        assert_eq!(rt; sink.taken.as_slice(), text);
+        is_text(rt, alloc, report, text, at_once);
     }
 }
 
@@ -199,20 +225,20 @@ fn statement(rt: &impl Abort, alloc: Global, at: usize, steps: &[(usize, i64)]) 
     Statement { at, path }
 }
 
+/// Two blocked statements, with the greatest and the least number.
+fn two_blocked(rt: &impl Abort, alloc: Global) -> Vec<Statement> {
+    let first = statement(rt, alloc, 14, &[]);
+    let path = [(25, 3), (40, -9223372036854775808)];
+    let second = statement(rt, alloc, 4294967295, &path);
+    Vec::from_array(alloc, [first, second]).expect(rt, "memory")
+}
+
 #[test]
 fn blocked_statements_are_shown(rt: HostRuntime) {
-    let alloc = rt.alloc();
-    let first = statement(&rt, alloc, 14, &[]);
-    let second = statement(
-        &rt,
-        alloc,
-        4294967295,
-        &[(25, 3), (40, -9223372036854775808)],
-    );
-    let blocked = Vec::from_array(alloc, [first, second]).expect(&rt, "memory");
-    let report = report_with(&rt, alloc, &HELLO_EVENTS, End::Quiet, blocked);
+    let blocked = two_blocked(&rt, rt.alloc());
+    let report = report_with(&rt, rt.alloc(), &HELLO_EVENTS, End::Quiet, blocked);
     let text = b"a\n\nswt: blocked 14 /\nswt: blocked 4294967295 /25.3/40.-9223372036854775808\n";
-    is_shown(&rt, alloc, &report, text);
+    is_shown(&rt, rt.alloc(), &report, text);
 }
 
 /// A report that ends in this fault, or at the limit after one event, is written as this text.
@@ -222,83 +248,96 @@ fn is_end(rt: &impl Abort, alloc: Global, end: End, text: &[u8]) {
 }
 
 #[test]
-fn faults_and_limits_are_shown(rt: HostRuntime) {
-    let alloc = rt.alloc();
+fn missing_elements_are_shown(rt: HostRuntime) {
     let missing = Fault {
         kind: FaultKind::OfEntry(EntryFault::NoElement),
-        statement: statement(&rt, alloc, 7, &[]),
+        statement: statement(&rt, rt.alloc(), 7, &[]),
     };
-    is_end(
-        &rt,
-        alloc,
-        End::Fault(missing),
-        b"a\n\nswt: fault F3 NoElement 7 /\n",
-    );
+    let text = b"a\n\nswt: fault F3 NoElement 7 /\n";
+    is_end(&rt, rt.alloc(), End::Fault(missing), text);
+}
+
+#[test]
+fn elements_put_twice_are_shown(rt: HostRuntime) {
     let twice = Fault {
         kind: FaultKind::ElementTwice,
-        statement: statement(&rt, alloc, 9, &[(0, 1)]),
+        statement: statement(&rt, rt.alloc(), 9, &[(0, 1)]),
     };
-    is_end(
-        &rt,
-        alloc,
-        End::Fault(twice),
-        b"a\n\nswt: fault F4 ElementTwice 9 /0.1\n",
-    );
-    is_end(&rt, alloc, End::Limit, b"a\n\nswt: limit 1\n");
+    let text = b"a\n\nswt: fault F4 ElementTwice 9 /0.1\n";
+    is_end(&rt, rt.alloc(), End::Fault(twice), text);
+}
+
+#[test]
+fn limits_are_shown(rt: HostRuntime) {
+    is_end(&rt, rt.alloc(), End::Limit, b"a\n\nswt: limit 1\n");
+}
+
+/// The sink has failed once, and has the bytes of the text before the one that it refused.
+fn has_stopped(rt: &impl Abort, sink: &Failing, text: &[u8], refused: u8) {
+    let before = refused.saturating_sub(1) as usize;
+    assert!(rt; Some(sink.taken.as_slice()) == text.get(..before));
+    assert_eq!(rt; sink.failures, 1);
+}
+
+/// The report's trace is written until that write is refused.
+fn stops_writing(rt: &impl Abort, alloc: Global, report: &Report, refused: u8) {
+    let mut sink = sink_of(alloc, 1, refused);
+    let fault = write_trace(report, &mut sink).err();
+    assert_eq!(rt; fault, Some(WriteFault::Write));
+    has_stopped(rt, &sink, HELLO, refused);
 }
 
 /// A sink that takes one byte a write and refuses one of them has the bytes before it.
 #[test]
 fn writing_stops_at_a_refused_write(rt: HostRuntime) {
-    let alloc = rt.alloc();
-    let report = report_with(&rt, alloc, &HELLO_EVENTS, End::Limit, Vec::new(alloc));
+    let report = limit_report(&rt, rt.alloc(), &HELLO_EVENTS);
     for refused in 1..37u8 {
-        let mut sink = sink_of(alloc, 1, refused);
-        assert_eq!(rt;
-            write_trace(&report, &mut sink).err(),
-            Some(WriteFault::Write)
-        );
-        assert!(rt; Some(sink.taken.as_slice()) == HELLO.get(..refused as usize - 1));
-        assert_eq!(rt; sink.failures, 1);
+        stops_writing(&rt, rt.alloc(), &report, refused);
     }
+}
+
+/// The report's text is written until that write is refused.
+fn stops_showing(rt: &impl Abort, alloc: Global, report: &Report, refused: u8) {
+    let mut sink = sink_of(alloc, 1, refused);
+    let fault = write_report(report, &mut sink).err();
+    assert_eq!(rt; fault, Some(WriteFault::Write));
+    has_stopped(rt, &sink, b"a\n\nswt: limit 4\n", refused);
 }
 
 /// A report's text likewise.
 #[test]
 fn showing_stops_at_a_refused_write(rt: HostRuntime) {
-    let alloc = rt.alloc();
-    let report = report_with(&rt, alloc, &HELLO_EVENTS, End::Limit, Vec::new(alloc));
+    let report = limit_report(&rt, rt.alloc(), &HELLO_EVENTS);
     for refused in 1..17u8 {
-        let mut sink = sink_of(alloc, 1, refused);
-        assert_eq!(rt;
-            write_report(&report, &mut sink).err(),
-            Some(WriteFault::Write)
-        );
-        let text = b"a\n\nswt: limit 4\n".as_slice();
-        assert!(rt; Some(sink.taken.as_slice()) == text.get(..refused as usize - 1));
-        assert_eq!(rt; sink.failures, 1);
+        stops_showing(&rt, rt.alloc(), &report, refused);
     }
 }
 
-/// Why the trace of `printf("hello");` with these lines is not replayed.
-fn refusal(rt: &impl Abort, alloc: Global, lines: &str) -> Option<ReplayFault> {
+/// What the trace of `printf("hello");` with these lines comes to, run again.
+fn replayed(rt: &impl Abort, alloc: Global, lines: &str) -> Result<Report, ReplayFault> {
     let code = hello(alloc).expect(rt, "a code");
-    let trace = format!(in alloc; "swt-trace 1\n{lines}").expect(rt, "memory");
-    replay(alloc, &code, trace.as_bytes()).err()
+    let trace = trace_of(rt, alloc, lines);
+    replay(alloc, &code, trace.as_bytes())
 }
 
 #[test]
 fn hello_is_replayed(rt: HostRuntime) {
-    let alloc = rt.alloc();
-    let code = hello(alloc).expect(&rt, "a code");
-    let trace = b"swt-trace 1\nB 0 1\nE 0 1\nB 2 2\nE 2 2\n";
-    let report = replay(alloc, &code, trace).expect(&rt, "a run");
+    let lines = "B 0 1\nE 0 1\nB 2 2\nE 2 2\n";
+    let report = replayed(&rt, rt.alloc(), lines).expect(&rt, "a run");
     assert!(rt; matches!(report.end, End::Quiet));
     assert_eq!(rt; (report.lines.len(), report.history.len()), (1, 4));
-    let cut = replay(alloc, &code, b"swt-trace 1\nB 0 1\n").expect(&rt, "a run");
+}
+
+#[test]
+fn a_trace_may_stop_in_the_midst(rt: HostRuntime) {
+    let cut = replayed(&rt, rt.alloc(), "B 0 1\n").expect(&rt, "a run");
     assert!(rt; matches!(cut.end, End::Limit));
-    let bad = refusal(&rt, alloc, "B 0 1\nE 0\n");
+}
+
+#[test]
+fn bad_traces_are_not_replayed(rt: HostRuntime) {
+    let bad = replayed(&rt, rt.alloc(), "B 0 1\nE 0\n").err();
     assert_eq!(rt; bad, Some(ReplayFault::BadLine(3)));
-    let stranger = refusal(&rt, alloc, "B 0 1\nE 1 1\n");
+    let stranger = replayed(&rt, rt.alloc(), "B 0 1\nE 1 1\n").err();
     assert_eq!(rt; stranger, Some(ReplayFault::NotARun(3)));
 }

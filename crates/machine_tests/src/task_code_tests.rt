@@ -203,40 +203,67 @@ fn printed(code: &Code, number: u32) -> Option<&[Piece]> {
     }
 }
 
-#[test]
-fn hello_is_read_and_copied(rt: HostRuntime) {
-    let code = hello(rt.alloc())
-        .expect(&rt, "a code")
-        .copy()
-        .expect(&rt, "memory");
+/// A copy of the code of `printf("hello");`.
+fn hello_copy(rt: &impl Abort, alloc: Global) -> Code {
+    let code = hello(alloc).expect(rt, "a code");
+    code.copy().expect(rt, "memory")
+}
+
+/// The code has the one entry, which prints, and the one body.
+fn prints_hello(rt: &impl Abort, code: &Code) {
     assert_eq!(rt; (code.entry_count(), code.body_count()), (1, 1));
     let letters = b"hello".map(|letter| Piece::Byte(letter));
-    assert!(rt; printed(&code, 0) == Some(letters.as_slice()));
+    assert!(rt; printed(code, 0) == Some(letters.as_slice()));
     assert_eq!(rt; code.kind(0), Kind::Leaf);
+}
+
+#[test]
+fn hello_is_read_and_copied(rt: HostRuntime) {
+    let code = hello_copy(&rt, rt.alloc());
+    prints_hello(&rt, &code);
     assert!(rt; code.entry(1).is_none());
     assert!(rt; code.body(1).is_none());
 }
 
-#[test]
-fn fibonacci_is_read_and_copied(rt: HostRuntime) {
-    let code = fibonacci(&rt, rt.alloc()).copy().expect(&rt, "memory");
-    let kinds = b"CLLCLLCLCL";
-    let marks = [92, 79, 25, 21, 34, 58, 54, 69, 65, 50];
-    assert_eq!(rt; (code.entry_count(), code.body_count()), (10, 4));
-    for (number, (kind, mark)) in kinds.iter().zip(marks.iter()).enumerate() {
-        let number = number as u32;
-        let kind = if *kind == b'C' {
-            Kind::Control
-        } else {
-            Kind::Leaf
-        };
-        assert_eq!(rt; (code.kind(number), code.priority(number)), (kind, 0));
-        let shared = code.share_entry(number).expect(&rt, "memory");
-        assert_eq!(rt; shared.map(|found| found.mark), Some(*mark), "at {number}");
-    }
-    let branch = code.body(3).expect(&rt, "a body");
+/// The mark of a shared entry.
+fn shared_mark(rt: &impl Abort, code: &Draft, number: u32) -> Option<usize> {
+    let shared = code.share_entry(number).expect(rt, "memory");
+    shared.map(|found| found.mark)
+}
+
+/// The entry has that kind, `C` or `L`, and that mark.
+fn is_entry(rt: &impl Abort, code: &Draft, number: u32, letter: u8, mark: usize) {
+    let kind = if letter == b'C' {
+        Kind::Control
+    } else {
+        Kind::Leaf
+    };
+    assert_eq!(rt; (code.kind(number), code.priority(number)), (kind, 0));
+    assert_eq!(rt; shared_mark(rt, code, number), Some(mark), "at {number}");
+}
+
+/// The body of the second branch has its opener, and so many entries and variables.
+fn has_branch(rt: &impl Abort, code: &Draft) {
+    let branch = code.body(3).expect(rt, "a body");
     assert_eq!(rt; branch.opener, Opener::ByStep(3));
     assert_eq!(rt; (branch.entries.len(), branch.makes.len()), (5, 4));
+}
+
+/// A copy of the code of the Fibonacci numbers.
+fn fibonacci_copy(rt: &impl Abort, alloc: Global) -> Draft {
+    let code = fibonacci(rt, alloc);
+    code.copy().expect(rt, "memory")
+}
+
+#[test]
+fn fibonacci_is_read_and_copied(rt: HostRuntime) {
+    let code = fibonacci_copy(&rt, rt.alloc());
+    assert_eq!(rt; (code.entry_count(), code.body_count()), (10, 4));
+    let marks = [92, 79, 25, 21, 34, 58, 54, 69, 65, 50];
+    for (number, (kind, mark)) in b"CLLCLLCLCL".iter().zip(marks.iter()).enumerate() {
+        is_entry(&rt, &code, number as u32, *kind, *mark);
+    }
+    has_branch(&rt, &code);
 }
 
 #[test]

@@ -1,10 +1,15 @@
 //! How many engines and workers a run may have.
-use crate::threaded::{MANY, is_done, is_replayed, run_of};
+use crate::threaded::{MANY, adds_up, is_cut, is_whole, run_of};
 use compile::compile::compile;
+use runs::report::Report;
+use std::alloc::Global;
+use std::process::Abort;
+use std::sync::Wait;
 use std::test::Fail;
+use std::thread::Threads;
 use workers::fault::RunFault;
 use workers::job::Open;
-use workers::run::run_threads;
+use workers::run::{PoolCount, run_threads};
 
 /// Numbers of engines and workers that no run has.
 const BAD: [(u8, u8); 8] = [
@@ -18,28 +23,52 @@ const BAD: [(u8, u8); 8] = [
     (255, 255),
 ];
 
+/// Whether a run was refused for its counts.
+fn is_refused(answer: Result<(Report, PoolCount), RunFault>) -> bool {
+    matches!(answer, Err(RunFault::BadCount))
+}
+
 #[test]
 fn there_are_some_of_each_and_64_of_both_at_most(rt: HostRuntime) -> Result<(), Fail> {
     let code = compile(rt.alloc(), rt.alloc(), b"printf(\"a\");")?;
     for (engines, workers) in BAD {
         let answer = run_threads(&rt, rt.alloc(), &code, engines, workers, MANY, &Open);
-        assert!(rt; matches!(answer, Err(RunFault::BadCount)));
+        assert!(rt; is_refused(answer));
     }
     Ok(())
+}
+
+/// So many engines and workers run the script.
+fn runs_on<R: Threads + Wait + Sync + Abort>(
+    rt: &R,
+    alloc: Global,
+    script: &[u8],
+    counts: (u8, u8),
+) -> Result<(), Fail> {
+    let (report, count) = run_of(rt, alloc, script, counts, MANY, &Open)?;
+    adds_up(rt, &count);
+    is_whole(rt, alloc, &report, 22)
 }
 
 #[test]
 fn every_count_runs_a_script(rt: HostRuntime) -> Result<(), Fail> {
     let script =
         b"int A[]; A[0] = 1; foreach i in [1:20] { A[i] = A[i-1] + 1; } printf(\"%i\", A[20]); foreach v in A { printf(\"%i\", v); }";
-    for (engines, workers) in [(1, 1), (1, 3), (2, 2), (1, 63), (63, 1), (32, 32)] {
-        let (report, count) = run_of(&rt, rt.alloc(), script, (engines, workers), MANY, &Open)?;
-        assert!(rt; is_done(&report));
-        assert_eq!(rt; report.lines.len(), 22);
-        assert_eq!(rt; count.offered, count.drawn.saturating_add(count.left));
-        assert!(rt; is_replayed(rt.alloc(), &report)?);
+    for counts in [(1, 1), (1, 3), (2, 2), (1, 63), (63, 1), (32, 32)] {
+        runs_on(&rt, rt.alloc(), script, counts)?;
     }
     Ok(())
+}
+
+/// A run of the script is cut off.
+fn is_cut_off<R: Threads + Wait + Sync + Abort>(
+    rt: &R,
+    alloc: Global,
+    script: &[u8],
+    limit: u32,
+) -> Result<(), Fail> {
+    let (report, _count) = run_of(rt, alloc, script, (2, 6), limit, &Open)?;
+    is_cut(rt, alloc, &report, limit)
 }
 
 #[test]
@@ -50,10 +79,7 @@ fn a_run_may_end_at_a_fault_or_the_limit(rt: HostRuntime) -> Result<(), Fail> {
         (b"printf(\"a\");", 0),
     ];
     for (script, limit) in rows {
-        let (report, _count) = run_of(&rt, rt.alloc(), script, (2, 6), limit, &Open)?;
-        assert!(rt; !is_done(&report));
-        assert!(rt; report.history.len() <= limit as usize);
-        assert!(rt; is_replayed(rt.alloc(), &report)?);
+        is_cut_off(&rt, rt.alloc(), script, limit)?;
     }
     Ok(())
 }

@@ -1,18 +1,31 @@
 //! Leaf items that run side by side, offers and draws, and what a gate learns of a run.
 use crate::gates::{Held, Watched};
-use crate::threaded::{MANY, is_done, is_replayed, run_of};
+use crate::threaded::{MANY, is_whole, run_of};
+use std::alloc::Global;
+use std::process::Abort;
+use std::sync::Wait;
 use std::test::Fail;
+use std::thread::Threads;
+use workers::run::PoolCount;
+
+/// The leaf items of the script run on as many workers, each held until the gate opens.
+fn run_side_by_side<R: Threads + Wait + Sync + Abort>(
+    rt: &R,
+    alloc: Global,
+    script: &[u8],
+    leaves: u8,
+    gate: &Held<'_>,
+) -> Result<(), Fail> {
+    let (report, _count) = run_of(rt, alloc, script, (1, leaves), MANY, gate)?;
+    assert!(rt; !gate.ran_out());
+    is_whole(rt, alloc, &report, leaves as usize)
+}
 
 #[test]
 fn two_leaves_run_side_by_side(rt: HostRuntime) -> Result<(), Fail> {
     let script = b"printf(\"a\"); printf(\"b\");";
     let gate = Held::new(&rt, 1, 2, 0);
-    let (report, _count) = run_of(&rt, rt.alloc(), script, (1, 2), MANY, &gate)?;
-    assert!(rt; is_done(&report));
-    assert_eq!(rt; report.lines.len(), 2);
-    assert!(rt; !gate.ran_out());
-    assert!(rt; is_replayed(rt.alloc(), &report)?);
-    Ok(())
+    run_side_by_side(&rt, rt.alloc(), script, 2, &gate)
 }
 
 #[test]
@@ -20,12 +33,13 @@ fn eight_leaves_run_side_by_side(rt: HostRuntime) -> Result<(), Fail> {
     let script =
         b"printf(\"a\"); printf(\"b\"); printf(\"c\"); printf(\"d\"); printf(\"e\"); printf(\"f\"); printf(\"g\"); printf(\"h\");";
     let gate = Held::new(&rt, 1, 8, 0);
-    let (report, _count) = run_of(&rt, rt.alloc(), script, (1, 8), MANY, &gate)?;
-    assert!(rt; is_done(&report));
-    assert_eq!(rt; report.lines.len(), 8);
-    assert!(rt; !gate.ran_out());
-    assert!(rt; is_replayed(rt.alloc(), &report)?);
-    Ok(())
+    run_side_by_side(&rt, rt.alloc(), script, 8, &gate)
+}
+
+/// Each item that came to be ready, in that loop, was offered or found no hole, and some were drawn.
+fn were_offered(rt: &impl Abort, count: &PoolCount) {
+    assert_eq!(rt; count.offered.saturating_add(count.full), 1016);
+    assert!(rt; count.drawn > 0);
 }
 
 #[test]
@@ -33,14 +47,10 @@ fn what_a_loop_makes_ready_is_offered_and_drawn(rt: HostRuntime) -> Result<(), F
     let script = b"foreach i in [1:1000] { printf(\"%i\", i); }";
     let gate = Held::new(&rt, 1, 1, 3);
     let (report, count) = run_of(&rt, rt.alloc(), script, (1, 1), MANY, &gate)?;
-    assert!(rt; is_done(&report));
     assert!(rt; !gate.ran_out());
-    assert_eq!(rt; report.lines.len(), 1000);
     assert_eq!(rt; report.history.len(), 2034);
-    assert_eq!(rt; count.offered.saturating_add(count.full), 1016);
-    assert!(rt; count.drawn > 0);
-    assert!(rt; is_replayed(rt.alloc(), &report)?);
-    Ok(())
+    were_offered(&rt, &count);
+    is_whole(&rt, rt.alloc(), &report, 1000)
 }
 
 #[test]

@@ -1,8 +1,17 @@
 //! A long run on as many threads as there may be.
-use crate::threaded::{MANY, run_of};
-use runs::report::End;
+use crate::threaded::{MANY, adds_up, run_of};
+use runs::report::{End, Report};
 use std::test::Fail;
 use workers::job::Open;
+
+/// The tallies of a report, added up.
+fn told(report: &Report) -> u32 {
+    let mut told = 0u32;
+    for tally in report.tallies {
+        told = told.saturating_add(tally);
+    }
+    told
+}
 
 #[test]
 fn ten_million_events_on_64_threads(rt: HostRuntime) -> Result<(), Fail> {
@@ -10,11 +19,7 @@ fn ten_million_events_on_64_threads(rt: HostRuntime) -> Result<(), Fail> {
     let (report, count) = run_of(&rt, rt.alloc(), script, (8, 56), MANY, &Open)?;
     assert!(rt; matches!(report.end, End::Limit));
     assert_eq!(rt; report.history.len(), 10_000_000);
-    let mut told = 0u32;
-    for tally in report.tallies {
-        told = told.saturating_add(tally);
-    }
-    assert_eq!(rt; told, MANY);
-    assert_eq!(rt; count.offered, count.drawn.saturating_add(count.left));
+    assert_eq!(rt; told(&report), MANY);
+    adds_up(&rt, &count);
     Ok(())
 }

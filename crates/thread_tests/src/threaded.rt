@@ -2,6 +2,7 @@
 use compile::compile::compile;
 use runs::report::{End, Report};
 use std::alloc::Global;
+use std::process::Abort;
 use std::sync::Wait;
 use std::test::Fail;
 use std::thread::Threads;
@@ -54,17 +55,33 @@ pub(crate) fn run_of<R: Threads + Wait + Sync, G: Gate>(
 
 /// Whether the report's trace, run again, gives the same report.
 pub(crate) fn is_replayed(alloc: Global, report: &Report) -> Result<bool, Fail> {
+    let trace = trace_of(alloc, report)?;
+    let again = replay(alloc, &report.code, trace.as_slice())?;
+    tells_same(alloc, &again, report)
+}
+
+/// Whether two reports tell the same.
+fn tells_same(alloc: Global, again: &Report, report: &Report) -> Result<bool, Fail> {
+    if again.tallies.as_slice() == report.tallies.as_slice() && again.history == report.history {
+        has_same_text(alloc, again, report)
+    } else {
+        Ok(false)
+    }
+}
+
+fn has_same_text(alloc: Global, again: &Report, report: &Report) -> Result<bool, Fail> {
+    let text = text_of(alloc, again)?;
+    let wanted = text_of(alloc, report)?;
+    Ok(text == wanted)
+}
+
+fn trace_of(alloc: Global, report: &Report) -> Result<Vec<u8>, Fail> {
     let mut trace = Written {
         bytes: Vec::new(alloc),
         failures: 0,
     };
     write_trace(report, &mut trace)?;
-    let again = replay(alloc, &report.code, trace.bytes.as_slice())?;
-    Ok(
-        again.tallies.as_slice() == report.tallies.as_slice()
-            && again.history == report.history
-            && text_of(alloc, &again)? == text_of(alloc, report)?,
-    )
+    Ok(trace.bytes)
 }
 
 fn text_of(alloc: Global, report: &Report) -> Result<Vec<u8>, Fail> {
@@ -77,6 +94,37 @@ fn text_of(alloc: Global, report: &Report) -> Result<Vec<u8>, Fail> {
 }
 
 /// Whether the run ended quiet with nothing blocked.
-pub(crate) fn is_done(report: &Report) -> bool {
+fn is_done(report: &Report) -> bool {
     matches!(report.end, End::Quiet) && report.blocked.is_empty()
+}
+
+/// The run is done and printed so many lines, and its trace, run again, gives the same report.
+pub(crate) fn is_whole(
+    rt: &impl Abort,
+    alloc: Global,
+    report: &Report,
+    lines: usize,
+) -> Result<(), Fail> {
+    assert!(rt; is_done(report));
+    assert_eq!(rt; report.lines.len(), lines);
+    assert!(rt; is_replayed(alloc, report)?);
+    Ok(())
+}
+
+/// The run was cut off after at most so many events, and its trace, run again, gives the same report.
+pub(crate) fn is_cut(
+    rt: &impl Abort,
+    alloc: Global,
+    report: &Report,
+    limit: u32,
+) -> Result<(), Fail> {
+    assert!(rt; !is_done(report));
+    assert!(rt; report.history.len() <= limit as usize);
+    assert!(rt; is_replayed(alloc, report)?);
+    Ok(())
+}
+
+/// The items that were offered were drawn or left.
+pub(crate) fn adds_up(rt: &impl Abort, count: &PoolCount) {
+    assert_eq!(rt; count.offered, count.drawn.saturating_add(count.left));
 }
