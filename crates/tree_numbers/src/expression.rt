@@ -49,45 +49,19 @@ fn form<A: Allocator>(kind: &mut ExprKind<A>, from: u32) -> u32
     ensures numbered { form_view kind.new ≡ numbered_form from (form_view kind.old) }
     ensures next { result ≡ from + form_size (form_view kind.old) }
 {
-    let old = std::mem::replace(kind, ExprKind::Truth(false));
-    let (new, next) = parts(old, from);
-    *kind = new;
-    next
-}
-
-/// The form with its parts numbered, and the next number.
-#[cycle(numbered)]
-fn parts<A: Allocator>(kind: ExprKind<A>, from: u32) -> (ExprKind<A>, u32)
-    requires { from + form_size (form_view kind) < 2 ^ 32 }
-    ensures numbered { form_view result.0 ≡ numbered_form from (form_view kind) }
-    ensures next { result.1 ≡ from + form_size (form_view kind) }
-{
     match kind {
-        ExprKind::Number(value) => (ExprKind::Number(value), from),
-        ExprKind::Text(bytes) => (ExprKind::Text(bytes), from),
-        ExprKind::Truth(value) => (ExprKind::Truth(value), from),
-        ExprKind::Variable(mut variable) => {
-            let next = name(&mut variable, from);
-            (ExprKind::Variable(variable), next)
+        ExprKind::Number(_) | ExprKind::Text(_) | ExprKind::Truth(_) => from,
+        ExprKind::Variable(variable) => name(variable, from),
+        ExprKind::Element(array, index) => {
+            let next = name(array, from);
+            expression(index, next)
         }
-        ExprKind::Element(mut array, mut index) => {
-            let middle = name(&mut array, from);
-            let next = expression(&mut index, middle);
-            (ExprKind::Element(array, index), next)
+        ExprKind::Call(function, arguments) => {
+            let next = name(function, from);
+            expressions(arguments, next)
         }
-        ExprKind::Call(mut function, mut arguments) => {
-            let middle = name(&mut function, from);
-            let next = expressions(&mut arguments, middle);
-            (ExprKind::Call(function, arguments), next)
-        }
-        ExprKind::Prefixed(prefix, mut operand) => {
-            let next = expression(&mut operand, from);
-            (ExprKind::Prefixed(prefix, operand), next)
-        }
-        ExprKind::Chain(operators, mut operands) => {
-            let next = expressions(&mut operands, from);
-            (ExprKind::Chain(operators, operands), next)
-        }
+        ExprKind::Prefixed(_, operand) => expression(operand, from),
+        ExprKind::Chain(_operators, operands) => expressions(operands, from),
     }
 }
 

@@ -4,16 +4,15 @@ use Rattle.std.proofs.lemmas.List.{append-nil}
 use Rattle.syntax_trees.specs.declared.tree.Operator.{Operator}
 use Rattle.syntax_trees.specs.declared.tree.Level.{Level}
 use Rattle.syntax_trees.specs.declared.tree.Prefix.{Prefix}
-use Rattle.syntax_trees.specs.Tree.{Word, Expression, expression, variable, element, prefixed, call, chain, expressions_of}
+use Rattle.syntax_trees.specs.Tree.{Word, Expression, expression, prefixed, call, chain, expressions_of}
 use Rattle.syntax_trees.specs.Kinds.{repeats}
 use Rattle.syntax_trees.specs.Rules.{Place}
 use Rattle.syntax_trees.specs.Grammar.{spans}
 use Rattle.lexer.specs.declared.token.Span.{Span}
 use Rattle.lexer.specs.declared.token.TokenKind.{TokenKind}
-use Rattle.lexer.specs.declared.token.TokenKind.TheVariants as Kind
 use Rattle.syntax.specs.declared.stop.Stop.{Stop}
-use Rattle.syntax.specs.Readers.{refused, got, Reader, ◌>>=◌, second, cond, choose, made, ◌∗◌, many_over, many, once, opened}
-use Rattle.syntax.specs.Reading.{at_operator, read_operator, operands, read_name, read_unary, read_form, read_prefixed, read_arguments, read_index, read_named, read_operand, read_operands, joined, read_link}
+use Rattle.syntax.specs.Readers.{refused, got, Reader, ◌>>=◌, cond, choose, ◌∗◌, many_over, many, once, opened}
+use Rattle.syntax.specs.Reading.{at_operator, read_operator, operands, read_name, read_unary, read_form, read_prefixed, read_arguments, read_application, read_operand, read_operands, joined, read_link}
 use Rattle.syntax.proofs.combining.Combine.{bind_got, got_value}
 use Rattle.syntax.proofs.expressions.Forms.{both_got, both_fails, operands_none, form_same}
 
@@ -114,19 +113,6 @@ pub passed : {A : Type 0} (test : Place → Bool) (r q : Reader A) (s : Place) �
 passed test r q s is = ap (λ b. cond b (r s) (q s)) is
 
 -- a call
-abbrev an_element : ℕ → Reader Expression
-an_element depth = made (λ s x u. spans s (element x.0 x.1) u) (read_name ∗ read_index depth)
-
-abbrev a_call : ℕ → Reader Expression
-a_call depth = made (λ s x u. spans s (call x.0 (expressions_of x.1)) u) (read_name ∗ read_arguments depth)
-
-abbrev a_variable : Reader Expression
-a_variable = made (λ s w u. spans s (variable w) u) read_name
-
-pub named_call : (depth : ℕ) (s : Place) (w : Word) (v : Place) (es : List Expression) (u : Place) → second Kind.OpenSquare s ≡ false → second Kind.OpenRound s ≡ true
-    → read_name s ≡ got w v → read_arguments depth v ≡ got es u → read_named depth s ≡ got (spans s (call w (expressions_of es)) u) u
-unfolding read_named
-named_call depth s w v es u square round one two =
-    passed (second Kind.OpenSquare) (an_element depth) (choose (second Kind.OpenRound) (a_call depth) a_variable) s square
-    ∙ taken (second Kind.OpenRound) (a_call depth) a_variable s round
-    ∙ ap (λ z. z >>= λ x u. got (spans s (call x.0 (expressions_of x.1)) u) u) (both_got read_name (read_arguments depth) s w v es u one two)
+pub application_got : (depth : ℕ) (s : Place) (w : Word) (v : Place) (es : List Expression) (u : Place)
+    → read_name s ≡ got w v → read_arguments depth v ≡ got es u → read_application depth s ≡ got (spans s (call w (expressions_of es)) u) u
+application_got depth s w v es u one two = ap (λ z. z >>= λ x u. got (spans s (call x.0 (expressions_of x.1)) u) u) (both_got read_name (read_arguments depth) s w v es u one two)

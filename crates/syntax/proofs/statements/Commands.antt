@@ -8,28 +8,28 @@ use Rattle.syntax_trees.specs.View.{choice_of}
 use Rattle.syntax_trees.specs.Rules.{Place}
 use Rattle.syntax_trees.specs.Grammar.{first_of, node, does, or_zero}
 use Rattle.syntax.specs.declared.stop.Stop.{Stop}
-use Rattle.syntax.specs.Readers.{refused, got, ◌>>=◌, at, at_end, the, ◌▸◌, made, maybe, many_over}
+use Rattle.syntax.specs.Readers.{◌◂◌, refused, got, ◌>>=◌, at, at_end, the, ◌▸◌, made, maybe, many_over}
 use Rattle.syntax.specs.Reading.{read_names, read_call, read_many, read_priority, read_calling, read_name, read_test, read_source, read_stmt, read_stmts, read_block, read_else, read_if, read_foreach, read_wait, read_command, read_part, read_script, read_parameters, read_function}
 use Rattle.syntax.proofs.combining.Combine.{bind_got, got_value, got_place}
 use Rattle.syntax.proofs.expressions.Chains.{taken}
 use Rattle.syntax.proofs.statements.Statements.{command_same}
 
 -- several names assigned
-pub many_reads : (depth : ℕ) (s : Place) (ws : List Word) (v : Place) (t : Lexeme) (v' : Place) (c : Calling) (w : Place) (e : Lexeme) (u : Place)
-    → read_names depth s ≡ got ws v → the Kind.Assign v ≡ got t v' → read_call depth v' ≡ got c w → the Kind.Semicolon w ≡ got e u → read_many depth s ≡ got (does s (assign_all ws c) u) u
+pub many_reads : (depth : ℕ) (s : Place) (ws : List Word) (v : Place) (t : Lexeme) (v' : Place) (c : Calling) (u : Place)
+    → read_names depth s ≡ got ws v → the Kind.Assign v ≡ got t v' → (read_call depth ◂ the Kind.Semicolon) v' ≡ got c u → read_many depth s ≡ got (does s (assign_all ws c) u) u
 unfolding read_many
-many_reads depth s ws v t v' c w e u one two three four = rw (one, two, three, four) refl
+many_reads depth s ws v t v' c u one two three = rw (one, two, three) refl
 
-pub calling_reads : (depth : ℕ) (s : Place) (p : ℤ) (v : Place) (c : Calling) (w : Place) (e : Lexeme) (u : Place)
-    → made (λ s x u. or_zero x) (maybe (at Kind.At) read_priority) s ≡ got p v → read_call depth v ≡ got c w → the Kind.Semicolon w ≡ got e u
+pub calling_reads : (depth : ℕ) (s : Place) (p : ℤ) (v : Place) (c : Calling) (u : Place)
+    → made (λ s x u. or_zero x) (maybe (at Kind.At) read_priority) s ≡ got p v → (read_call depth ◂ the Kind.Semicolon) v ≡ got c u
     → read_calling depth s ≡ got (does s (calls p c) u) u
 unfolding read_calling
-calling_reads depth s p v c w e u one two three =
+calling_reads depth s p v c u one two =
     let q = bind_got (maybe (at Kind.At) read_priority s) (λ x u. got (or_zero x) u) p v one in
     let place = got_place (or_zero q.0) p q.1 v q.3 in
     let value = got_value (or_zero q.0) p q.1 v q.3 in
-    let call : read_call depth q.1 ≡ got c w = ap (read_call depth) place ∙ two in
-    rw (q.2, call, three) (ap (λ n. got (does s (calls n c) u) u) value)
+    let call : (read_call depth ◂ the Kind.Semicolon) q.1 ≡ got c u = ap (read_call depth ◂ the Kind.Semicolon) place ∙ two in
+    rw (q.2, call) (ap (λ n. got (does s (calls n c) u) u) value)
 
 -- an `if` behind an `else`
 pub else_if : (depth : ℕ) (s : Place) (x : Statement) (u : Place) → 0 < depth → at Kind.If s ≡ true → read_command (depth - 1) s ≡ got x u
@@ -39,6 +39,16 @@ else_if zero s x u some holds one = absurd (omega arith)
 else_if (suc depth) s x u some holds one =
     let less : suc depth - 1 ≡ depth = omega arith in
     let inner : read_stmt depth s ≡ got x u = sym (command_same depth s) ∙ ap (λ d. read_command d s) (sym less) ∙ one in
+    taken (at Kind.If) (made (λ s x u. body (first_of s.rest).from (and_statement x no_statements)) (read_stmt depth)) (read_block (suc depth)) s holds
+    ∙ ap (λ z. z >>= λ x u. got (body (first_of s.rest).from (and_statement x no_statements)) u) inner
+
+-- and one that is refused
+pub else_if_fails : (depth : ℕ) (s : Place) → 0 < depth → at Kind.If s ≡ true → (stop : Stop) → read_command (depth - 1) s ≡ refused stop → read_else depth s ≡ refused stop
+unfolding read_else
+else_if_fails zero s some holds stop none = absurd (omega arith)
+else_if_fails (suc depth) s some holds stop none =
+    let less : suc depth - 1 ≡ depth = omega arith in
+    let inner : read_stmt depth s ≡ refused stop = sym (command_same depth s) ∙ ap (λ d. read_command d s) (sym less) ∙ none in
     taken (at Kind.If) (made (λ s x u. body (first_of s.rest).from (and_statement x no_statements)) (read_stmt depth)) (read_block (suc depth)) s holds
     ∙ ap (λ z. z >>= λ x u. got (body (first_of s.rest).from (and_statement x no_statements)) u) inner
 

@@ -11,7 +11,7 @@ use Rattle.syntax.specs.Answers.{branch_view}
 use Rattle.syntax.specs.Readers.{got, at, the, ◌▸◌, maybe, many_over}
 use Rattle.syntax.specs.Reading.{read_stmt, read_stmts, read_command, read_else, read_if}
 use Rattle.syntax.proofs.expressions.Forms.{many_stop, many_more, many_fails, fails_on}
-use Rattle.syntax.proofs.statements.Commands.{else_if, stmts_begin, if_reads, if_branch_fails, foreach_reads, wait_reads}
+use Rattle.syntax.proofs.statements.Commands.{else_if, else_if_fails, stmts_begin, if_reads, if_branch_fails, foreach_reads, wait_reads}
 use Rattle.syntax.proofs.statements.Statements.{command_same}
 use Rattle.syntax.proofs.combining.Views.{does_view, view-If, view-Foreach, view-Wait}
 use Rattle.syntax.proofs.statement.+stmt.Goals as goal
@@ -65,10 +65,18 @@ stmts-returns-clause-reads g t c =
 pub other-returns-clause-reads : goal.other-returns-clause-reads
 other-returns-clause-reads g t c =
     let some : 0 < c.args.depth = omega arith in
-    let one : map (statement_view {A = g.row.A.Denot}) c.push.new.self.items ≡ statement_view c.in_ok-inner.inner ∷ [] = grind (arith, common_steps) in
+    let one : map (statement_view {A = g.row.A.Denot}) c.push.new.self.items ≡ statement_view c.in_ok-statement.field-0 ∷ [] = grind (arith, common_steps) in
     let tree = c.block-2.ensures ∙ ap₂ (λ p ss. body p (statements_of ss)) (ap (λ p. p.from) c.first-from.ensures) one in
-    else_if c.args.depth c.args.cursor.now (statement_view c.in_ok-inner.inner) c.statement.new.cursor some (sym c.at.ensures ∙ c.if-not-at.false) c.in_ok-inner.ensures.reads
+    else_if c.args.depth c.args.cursor.now (statement_view c.in_ok-statement.field-0) c.statement.new.cursor some (sym c.at.ensures ∙ c.if-not-at.false) c.in_ok-statement.ensures.reads
     ∙ ap (λ b. got b c.statement.new.cursor) (sym tree)
+
+pub other-returns-in_err-statement-clause-reads : goal.other-returns-in_err-statement-clause-reads
+other-returns-in_err-statement-clause-reads g t c =
+    let some : 0 < c.args.depth = omega arith in
+    let fails = fails_on c.in_err-statement.field-0.0 (read_command (c.args.depth - 1) c.args.cursor.now) (read_else c.args.depth c.args.cursor.now)
+    (else_if_fails c.args.depth c.args.cursor.now some (sym c.at.ensures ∙ c.if-not-at.false)) c.in_err-statement.ensures.reads in
+    let p = err_from_is_err_and c.from_residual-in_err-statement.result c.from_residual-in_err-statement.ensures.1 in
+    rw (p.1, p.2) fails
 
 pub choice-returns-in_err-other-clause-reads : goal.choice-returns-in_err-other-clause-reads
 choice-returns-in_err-other-clause-reads g t c =

@@ -1,5 +1,4 @@
-use Rattle.std.proofs.Common.{◌≡◌, ap, sym, ◌∙◌, arith}
-use Rattle.std.proofs.lemmas.Grind.{common_steps}
+use Rattle.std.proofs.Common.{ap, sym, ◌∙◌}
 use Rattle.lexer.specs.Given.{lexeme_of}
 use Rattle.syntax_trees.specs.Tree.{assign_all}
 use Rattle.syntax_trees.specs.View.{words_view, calling_of}
@@ -10,9 +9,8 @@ use Rattle.syntax.proofs.statement.many.Goals as goal
 
 pub returns-clause-reads : goal.returns-clause-reads
 returns-clause-reads g c =
-    let boxed : c.in_ok-boxed.boxed.value ≡ c.in_ok-call.field-0 = grind (arith, common_steps) in
-    many_reads c.args.depth c.args.cursor.now (words_view c.in_ok-targets.targets) c.names.new.cursor (lexeme_of c.in_ok-take.field-0) c.take.new.self (calling_of c.in_ok-call.field-0) c.call.new.cursor
-    (lexeme_of c.in_ok-take-2.field-0) c.take-2.new.self c.in_ok-targets.ensures.reads c.in_ok-take.ensures.reads c.in_ok-call.ensures.reads c.in_ok-take-2.ensures.reads
-    ∙ ap (λ e. got e c.take-2.new.self) (sym (does_view c.args.cursor.now c.take-2.new.self c.first-first.result c.before-2.result _ c.stmt.result
-    (assign_all (words_view c.in_ok-targets.targets) (calling_of c.in_ok-call.field-0))
-    c.first-first.ensures c.before-2.ensures c.stmt.ensures (view-AssignAll c.in_ok-targets.targets c.in_ok-boxed.boxed ∙ ap (λ v. assign_all (words_view c.in_ok-targets.targets) (calling_of v)) boxed)))
+    many_reads c.args.depth c.args.cursor.now (words_view c.in_ok-targets.targets) c.names.new.cursor (lexeme_of c.in_ok-take.field-0) c.take.new.self (calling_of c.in_ok-call.call.value) c.ended_call.new.cursor
+    c.in_ok-targets.ensures.reads c.in_ok-take.ensures.reads c.in_ok-call.ensures.reads
+    ∙ ap (λ e. got e c.ended_call.new.cursor) (sym (does_view c.args.cursor.now c.ended_call.new.cursor c.first-first.result c.before-2.result _ c.stmt.result
+    (assign_all (words_view c.in_ok-targets.targets) (calling_of c.in_ok-call.call.value))
+    c.first-first.ensures c.before-2.ensures c.stmt.ensures (view-AssignAll c.in_ok-targets.targets c.in_ok-call.call)))

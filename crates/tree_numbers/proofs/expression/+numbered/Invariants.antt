@@ -9,10 +9,7 @@ abbrev pub decreases-expression : goal.decreases-expression
 decreases-expression g l = 4 * expression_size (expression_view l.expr.now)
 
 abbrev pub decreases-form : goal.decreases-form
-decreases-form g l = 4 * form_size (form_view l.kind.now) + 3
-
-abbrev pub decreases-parts : goal.decreases-parts
-decreases-parts g l = 4 * form_size (form_view l.kind) + 2
+decreases-form g l = 4 * form_size (form_view l.kind.now) + 2
 
 abbrev pub decreases-expressions : goal.decreases-expressions
 decreases-expressions g l = 4 * sum_by expression_size (map expression_view l.exprs.now.items) + 1
