@@ -1,4 +1,3 @@
 pub mod Commands
 pub mod Declarations
-pub mod Ranges
 pub mod Statements
