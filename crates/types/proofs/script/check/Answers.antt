@@ -1,5 +1,5 @@
 use Rattle.std.proofs.Common.{rules, ◌≡◌, ℕ, List, ap, ◌∙◌}
-use Rattle.std.proofs.lemmas.Result.{err_from_is_err_and}
+use Rattle.std.proofs.lemmas.Result.{IfOk-from_err, err_from_is_err_and}
 use Rattle.syntax_trees.specs.View.{tree_of}
 use Rattle.types.specs.declared.typed.Settled.{Settled}
 use Rattle.types.specs.declared.typed.Meaning.TheVariants.{Nothing}
@@ -9,6 +9,7 @@ use Rattle.types.specs.Scripts.{checked}
 use Rattle.types.proofs.answered.Answered.{accepted_typed}
 use Rattle.types.proofs.answered.BreaksScript.{refusal_names}
 use Rattle.types.proofs.answered.UnbrokenScript.{script_refused}
+use Rattle.types.proofs.lists.Free.{free}
 use Rattle.types.proofs.script.check.Goals as goal
 
 pub returns-in_err-parts-clause-untyped : goal.returns-in_err-parts-clause-untyped
@@ -31,3 +32,9 @@ returns-in_err-parts-clause-names g c =
     rw (p.1, p.2) (λ m. (let is = c.in_err-parts.ensures m in
     let exact : checked (tree_of {A = g.row.A.Denot} c.args.script.now) ≡ refused c.in_err-parts.field-0.0 = search rules in
     refusal_names (tree_of {A = g.row.A.Denot} c.args.script.now) c.in_err-parts.field-0.0 exact))
+
+pub returns-in_err-by_number-clause-typed : goal.returns-in_err-by_number-clause-typed
+returns-in_err-by_number-clause-typed g c = IfOk-from_err _ _ c.from_residual-in_err-by_number.ensures.0
+
+pub drop-functions-requires-6 : goal.drop-functions-requires-6
+drop-functions-requires-6 g c κs = (free κs.0, free κs.1.0)

@@ -1,6 +1,5 @@
-use Rattle.std.proofs.Common.{rules, ◌≡◌, ◌<◌, ◌≤◌, map, length, get_or, ap, ap₂, subst, sym, ◌∙◌, arith}
+use Rattle.std.proofs.Common.{rules, ◌≡◌, ◌<◌, ◌≤◌, List, map, length, get_or, ap, ap₂, subst, sym, ◌∙◌}
 use Rattle.std.specs.Prelude.{vec_len, option_map}
-use Rattle.std.proofs.lemmas.Grind.{common_steps}
 use Rattle.std.proofs.lemmas.Result.{err_from_is_err_and}
 use Rattle.std.specs.List.{sum_by}
 use Rattle.syntax_trees.specs.View.{expression_view, choice_of, statement_view, command_view, body_view}
@@ -17,8 +16,10 @@ use Rattle.types.proofs.statements.+stmt.Goals as goal
 
 pub each-stmt-requires : goal.each-stmt-requires
 each-stmt-requires g t c =
+    let below : c.loop-inner.inner-index < length c.args.statements.now.items = subst (λ (xs : List _). c.loop-inner.inner-index < length xs) c.deref-inner-items.ensures.value c.loop-inner-test.true in
+    let is : c.inner-item.result ≡ get_or c.args.statements.now.items c.loop-inner.inner-index c.inner-item.result = subst (λ (xs : List _). c.inner-item.result ≡ get_or xs c.loop-inner.inner-index c.inner-item.result) c.deref-inner-items.ensures.value c.inner-item.is in
     let small : statement_size (statement_view {A = g.row.A.Denot} c.inner-item.result) ≤ sum_by statement_size (map (statement_view {A = g.row.A.Denot}) c.args.statements.now.items) =
-    size_of_element (statement_view {A = g.row.A.Denot}) statement_size c.args.statements.now.items c.loop-inner.inner-index c.inner-item.result (grind (arith, common_steps)) (grind (arith, common_steps)) in
+    size_of_element (statement_view {A = g.row.A.Denot}) statement_size c.args.statements.now.items c.loop-inner.inner-index c.inner-item.result below is in
     search rules
 
 pub block-each-requires : goal.block-each-requires
@@ -34,14 +35,14 @@ block-returns-clause-same g t c =
 pub each-returns-in_err-stmt-clause-gives : goal.each-returns-in_err-stmt-clause-gives
 each-returns-in_err-stmt-clause-gives g t c =
     let p = err_from_is_err_and c.from_residual.result c.from_residual.ensures.1 in
-    let below : c.loop-inner.inner-index < length c.args.statements.now.items = grind (arith, common_steps) in
-    let is : c.inner-item.result ≡ get_or c.args.statements.now.items c.loop-inner.inner-index c.inner-item.result = grind (arith, common_steps) in
+    let below : c.loop-inner.inner-index < length c.args.statements.now.items = subst (λ (xs : List _). c.loop-inner.inner-index < length xs) c.deref-inner-items.ensures.value c.loop-inner-test.true in
+    let is : c.inner-item.result ≡ get_or c.args.statements.now.items c.loop-inner.inner-index c.inner-item.result = subst (λ (xs : List _). c.inner-item.result ≡ get_or xs c.loop-inner.inner-index c.inner-item.result) c.deref-inner-items.ensures.value c.inner-item.is in
     rw (p.1, p.2) (λ m. c.loop-inner.invariant.walks ∙ order_refused _ _ _ (statement_view {A = g.row.A.Denot}) c.args.statements.now.items c.loop-inner.inner-index c.inner-item.result _ below is (c.in_err-stmt.ensures m))
 
 pub each-loop-inner-preserved : goal.each-loop-inner-preserved
 each-loop-inner-preserved g t c =
-    let below : c.loop-inner.inner-index < length c.args.statements.now.items = grind (arith, common_steps) in
-    let is : c.inner-item.result ≡ get_or c.args.statements.now.items c.loop-inner.inner-index c.inner-item.result = grind (arith, common_steps) in
+    let below : c.loop-inner.inner-index < length c.args.statements.now.items = subst (λ (xs : List _). c.loop-inner.inner-index < length xs) c.deref-inner-items.ensures.value c.loop-inner-test.true in
+    let is : c.inner-item.result ≡ get_or c.args.statements.now.items c.loop-inner.inner-index c.inner-item.result = subst (λ (xs : List _). c.inner-item.result ≡ get_or xs c.loop-inner.inner-index c.inner-item.result) c.deref-inner-items.ensures.value c.inner-item.is in
     record {
       walks = c.loop-inner.invariant.walks ∙ order_next _ _ _ _ _ (statement_view {A = g.row.A.Denot}) c.args.statements.now.items c.loop-inner.inner-index c.inner-item.result below is c.in_ok-stmt.ensures;
       grown = grown_more c.loop-inner.invariant.grown (stated_grown _ _ _ _ _ _ c.in_ok-stmt.ensures);
@@ -49,7 +50,7 @@ each-loop-inner-preserved g t c =
 
 pub each-returns-clause-gives : goal.each-returns-clause-gives
 each-returns-clause-gives g t c =
-    let past : length c.args.statements.now.items ≤ c.loop-inner.inner-index = grind (arith, common_steps) in
+    let past : length c.args.statements.now.items ≤ c.loop-inner.inner-index = subst (λ (xs : List _). length xs ≤ c.loop-inner.inner-index) c.deref-inner-items.ensures.value c.loop-inner-test.false in
     c.loop-inner.invariant.walks ∙ order_done _ _ _ (statement_view {A = g.row.A.Denot}) c.args.statements.now.items c.loop-inner.inner-index past
 
 pub command-returns-in-If : goal.command-returns-in-If
