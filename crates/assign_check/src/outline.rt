@@ -5,7 +5,7 @@ use syntax_trees::tree::Shape;
 use types::typed::Owned;
 
 /// How a variable is used.
-#[derive(Clone, Copy, Debug, PartialEq, Eq)]
+#[derive(Clone, Copy)]
 pub enum Kind {
     /// It is assigned by its name.
     Named,
@@ -16,7 +16,7 @@ pub enum Kind {
 }
 
 /// A use of a variable, with the place of its name.
-#[derive(Clone, Copy, Debug, PartialEq, Eq)]
+#[derive(Clone, Copy)]
 pub struct Use {
     pub kind: Kind,
     pub of: Owned,
@@ -24,7 +24,7 @@ pub struct Use {
 }
 
 /// What a declaration is for.
-#[derive(Clone, Copy, Debug, PartialEq, Eq)]
+#[derive(Clone, Copy)]
 pub enum Role {
     /// A variable that a statement declares.
     Own,
@@ -35,7 +35,7 @@ pub enum Role {
 }
 
 /// A declaration, with the place of the declared name.
-#[derive(Clone, Copy, Debug, PartialEq, Eq)]
+#[derive(Clone, Copy)]
 pub struct Declared {
     pub what: Owned,
     pub shape: Shape,

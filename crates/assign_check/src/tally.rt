@@ -17,7 +17,7 @@ use std::alloc::AllocError;
 use syntax_trees::tree::Shape;
 
 /// How a variable is used.
-#[derive(Clone, Copy, Debug, PartialEq, Eq)]
+#[derive(Clone, Copy)]
 pub struct Tally {
     /// Whether it is read.
     pub read: bool,
