@@ -8,7 +8,8 @@ ghost use Rattle.syntax_trees.specs.View.{part_of, tree_of};
 ghost use Rattle.types.specs.Typed.{table_of};
 ghost use Rattle.assign_check.specs.Breaks.{Breaks, IsTyped};
 ghost use Rattle.assign_check.specs.Faults as faults;
-ghost use Rattle.assign_check.specs.Outline.{function_outlines};
+ghost use Rattle.assign_check.specs.Outline.{function_outlines, outlined};
+ghost use Rattle.assign_check.specs.Outline as outlines;
 ghost use Rattle.assign_check.specs.Sets.{are_empty};
 ghost use Rattle.assign_check.specs.Tables.{at};
 ghost use Rattle.assign_check.specs.Tallies as tallies;
@@ -65,28 +66,51 @@ fn answer<A: Allocator>(
     let mut way = Way::new(alloc);
     let mut branches = no_branches(alloc);
     let mut tallied = Table::new(alloc, unused());
+    first_fault(alloc, script, typed, &mut way, &mut branches, &mut tallied)
+}
+
+/// The first fault of all blocks that stand in no other. The way, the sets of branches and the tallies are empty before it.
+fn first_fault<A: Allocator>(
+    alloc: Global,
+    script: &Script<A>,
+    typed: &Typed,
+    way: &mut Way,
+    branches: &mut Branches,
+    tallied: &mut Table<Tally>,
+) -> Result<Option<AssignFault>, AllocError>
+    requires way { listed way.old ≡ [] }
+    requires branches { are_empty branches.old }
+    requires tallied { (of : core.Owned) → at tallied.old of ≡ tallies.unused }
+    ensures { IfOk result (λ best. best ≡ faults.first_fault (faults.faults (table_of typed.now) (tree_of script.now))) }
+{
     let mut best = None;
-    let own = script_steps(alloc, typed, &script.items)?;
-    outline(
-        alloc,
-        &own,
-        &mut way,
-        &mut branches,
-        &mut tallied,
-        &mut best,
-    )?;
+    own_block(alloc, typed, script, way, branches, tallied, &mut best)?;
     for item in &script.items {
-        part(
-            alloc,
-            typed,
-            item,
-            &mut way,
-            &mut branches,
-            &mut tallied,
-            &mut best,
-        )?;
+        part(alloc, typed, item, way, branches, tallied, &mut best)?;
     }
     Ok(best)
+}
+
+/// The faults of the statements that stand in no function.
+fn own_block<A: Allocator>(
+    alloc: Global,
+    typed: &Typed,
+    script: &Script<A>,
+    way: &mut Way,
+    branches: &mut Branches,
+    tallied: &mut Table<Tally>,
+    best: &mut Option<AssignFault>,
+) -> Result<(), AllocError>
+    requires way { listed way.old ≡ [] }
+    requires branches { are_empty branches.old }
+    requires tallied { (of : core.Owned) → at tallied.old of ≡ tallies.unused }
+    ensures best { OnOk result (best.new ≡ faults.first_among best.old (faults.faults_of (outlined (outlines.script_steps (table_of typed.now) (tree_of script.now))))) }
+    ensures way { OnOk result (listed way.new ≡ []) }
+    ensures branches { OnOk result (are_empty branches.new) }
+    ensures tallied { OnOk result ((of : core.Owned) → at tallied.new of ≡ tallies.unused) }
+{
+    let steps = script_steps(alloc, typed, &script.items)?;
+    outline(alloc, &steps, way, branches, tallied, best)
 }
 
 /// The faults of a part that is a function.

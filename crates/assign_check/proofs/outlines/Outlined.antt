@@ -61,8 +61,6 @@ one_part t (single s) ps = refl
 one_part t (function f) ps = ap (λ (z : List AssignFault). z ++ part_faults t ps) (sym (append-nil (faults_of (outlined (function_steps t f)))))
 
 -- behind the script's own block
-pub own_first : (read steps : List Step) (rest : List AssignFault) (b : Option AssignFault) → read ≡ steps → b ≡ first_among None (faults_of (outlined read))
+pub own_first : (steps : List Step) (rest : List AssignFault) (b : Option AssignFault) → b ≡ first_among None (faults_of (outlined steps))
     → first_among None (faults_of (outlined steps) ++ rest) ≡ first_among b rest
-own_first read steps rest b same is =
-    first_among-append None (faults_of (outlined steps)) rest
-    ∙ ap (λ (z : Option AssignFault). first_among z rest) (sym (is ∙ ap (λ (ss : List Step). first_among None (faults_of (outlined ss))) same))
+own_first steps rest b is = first_among-append None (faults_of (outlined steps)) rest ∙ ap (λ (z : Option AssignFault). first_among z rest) (sym is)

@@ -9,7 +9,7 @@ use Rattle.assign_check.specs.Sets.{are_empty}
 use Rattle.assign_check.specs.Tables.{at}
 use Rattle.assign_check.specs.Tallies.{unused}
 use Rattle.assign_check.specs.Ways.{listed}
-use Rattle.assign_check.proofs.script.answer.Given as goal
+use Rattle.assign_check.proofs.script.first_fault.Given as goal
 
 abbrev pub invariant-loop-item : goal.invariant-loop-item
 invariant-loop-item g l = record {

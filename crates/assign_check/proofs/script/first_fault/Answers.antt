@@ -4,20 +4,19 @@ use Rattle.syntax_trees.specs.Tree.{Part}
 use Rattle.syntax_trees.specs.View.{part_of, tree_of}
 use Rattle.types.specs.Typed.{table_of}
 use Rattle.assign_check.specs.Outline.{script_steps}
-use Rattle.assign_check.specs.View.{steps_view}
 use Rattle.assign_check.specs.Faults as faults
 use Rattle.assign_check.proofs.outlines.Outlined.{best_more, one_part, part_faults, own_first}
-use Rattle.assign_check.proofs.script.answer.Goals as goal
+use Rattle.assign_check.proofs.script.first_fault.Goals as goal
 
 pub loop-item-init : goal.loop-item-init
 loop-item-init g c =
     let t = table_of c.args.typed.now in
     let tree = tree_of {A = g.row.A.Denot} c.args.script.now in
     record {
-      best = own_first (steps_view c.in_ok-own.own.items) (script_steps t tree) (part_faults t tree) c.outline.new.best c.in_ok-own.ensures c.in_ok-outline.ensures.best;
-      way = c.in_ok-outline.ensures.way;
-      branches = c.in_ok-outline.ensures.branches;
-      tallied = c.in_ok-outline.ensures.tallied;
+      best = own_first (script_steps t tree) (part_faults t tree) c.own_block.new.best c.in_ok-own_block.ensures.best;
+      way = c.in_ok-own_block.ensures.way;
+      branches = c.in_ok-own_block.ensures.branches;
+      tallied = c.in_ok-own_block.ensures.tallied;
     }
 
 pub loop-item-preserved : goal.loop-item-preserved
