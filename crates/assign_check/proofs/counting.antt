@@ -4,3 +4,4 @@ pub mod Sums
 pub mod Among
 pub mod Tallied
 pub mod Handed
+pub mod Placed

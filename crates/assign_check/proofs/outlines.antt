@@ -6,3 +6,4 @@ pub mod Built
 pub mod Pairs
 pub mod Owners
 pub mod Apart
+pub mod Parameters

@@ -5,10 +5,10 @@ use Rattle.std.proofs.Math.Seq.{take-append_seam}
 use Rattle.std.proofs.lemmas.List.{drop_more, append-nil}
 use Rattle.lexer.specs.declared.token.Span.{Span}
 use Rattle.syntax_trees.specs.Core.{Owned}
-use Rattle.assign_check.specs.declared.outline.Step.{Declares, Splits, Repeats, the_lemmas}
+use Rattle.assign_check.specs.declared.outline.Step.{Declares, Splits, Repeats, Encloses, the_lemmas}
 use Rattle.assign_check.specs.declared.outline.Declared.{Declared}
 use Rattle.assign_check.specs.declared.outline.Step.{Step as Code}
-use Rattle.assign_check.specs.Outline.{Outline, followed, Step, declares, splits, repeats, outlined}
+use Rattle.assign_check.specs.Outline.{Outline, followed, Step, declares, splits, repeats, encloses, outlined}
 use Rattle.assign_check.specs.View.{declared_view, step_view}
 use Rattle.assign_check.specs.declared.fault.AssignFault.{AssignFault}
 use Rattle.assign_check.specs.Faults.{earlier, first_among, way, step_way, way_faults, step_faults}
@@ -55,3 +55,6 @@ view-Splits n at b d = search (rules, the_lemmas)
 
 pub view-Declares : (d : Declared) → step_view (Declares d) ≡ declares (declared_view d)
 view-Declares d = search (rules, the_lemmas)
+
+pub view-Encloses : (b : Vec Code Global) → step_view (Encloses b) ≡ encloses (outlined (map step_view b.items))
+view-Encloses b = search (rules, the_lemmas)
