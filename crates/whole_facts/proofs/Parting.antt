@@ -1,8 +1,8 @@
 -- Calls among parts, listed one after another.
-use Rattle.std.specs.Prelude.{◌≡◌, ℕ, ◌+◌, ◌<◌, ℤ, List, [], ◌∷◌, ◌++◌, length, drop, Vec, Box, refl}
+use Rattle.std.specs.Prelude.{◌≡◌, ℕ, ◌+◌, ◌<◌, ◌≤◌, ℤ, List, [], ◌∷◌, ◌++◌, length, drop, Option, Some, option_map, option_to_list, Vec, Box, refl}
 use Rattle.std.specs.Borrow.{Bor}
 use Rattle.std.proofs.Common.{rules, sym, ap, ◌∙◌, get_or}
-use Rattle.std.proofs.lemmas.List.{append_assoc, drop_more}
+use Rattle.std.proofs.lemmas.List.{append_assoc, append-nil, drop_all, drop_more, map-append}
 use Rattle.syntax_trees.specs.Core as core
 use Rattle.syntax_trees.specs.Core.{inner, calls}
 use Rattle.syntax_trees.specs.Parts.{part_calls, outer_parts}
@@ -32,6 +32,10 @@ parts_more {A} whole cs ds ps i p l g e h =
     ∙ sym (append_assoc cs (part_calls (part_view p ∷ [])) (part_calls (parts_view (drop (i + 1) ps))))
     ∙ ap (λ (z : List core.Call). z ++ part_calls (parts_view (drop (i + 1) ps))) (sym h)
 
+-- the calls of all parts
+pub parts_end : {A : Type 0} (whole cs : List core.Call) (ps : List (Part A)) (i : ℕ) → length ps ≤ i → whole ≡ cs ++ part_calls (parts_view (drop i ps)) → cs ≡ whole
+parts_end {A} whole cs ps i l e = sym (e ∙ ap (λ (z : List (Part A)). cs ++ part_calls (parts_view z)) (drop_all i ps l) ∙ append-nil cs)
+
 -- the calls of one outermost cell more
 pub outers_more : {A : Type 0} (whole cs ds : List core.Call) (os : List (Bor (Outer A))) (i : ℕ) (o : Bor (Outer A)) → i < length os → get_or os i o ≡ o
     → whole ≡ cs ++ part_calls (outer_parts (outers_listed (drop i os))) → ds ≡ cs ++ part_calls (parts_view o.now.parts.items) → whole ≡ ds ++ part_calls (outer_parts (outers_listed (drop (i + 1) os)))
@@ -40,6 +44,13 @@ outers_more {A} whole cs ds os i o l g e h =
     ∙ ap (λ (z : List core.Call). cs ++ z) (calls_append (parts_view o.now.parts.items) (inner (outer_view o.now).cell ∷ outer_parts (outers_listed (drop (i + 1) os))))
     ∙ sym (append_assoc cs (part_calls (parts_view o.now.parts.items)) (part_calls (outer_parts (outers_listed (drop (i + 1) os)))))
     ∙ ap (λ (z : List core.Call). z ++ part_calls (outer_parts (outers_listed (drop (i + 1) os)))) (sym h)
+
+-- an outermost cell behind others, where there is one
+pub step_behind : {A : Type 0} (os ps : List (Bor (Outer A))) (o : Bor (Outer A)) (s : Option (Outer A)) → ps ≡ os ++ o ∷ [] → s ≡ Some o.now
+    → outers_listed ps ≡ outers_listed os ++ option_to_list (option_map outer_view s)
+step_behind {A} os ps o s e h =
+    ap outers_listed e ∙ map-append (λ (z : Bor (Outer A)). outer_view z.now) os (o ∷ [])
+    ∙ ap (λ (z : Option (Outer A)). outers_listed os ++ option_to_list (option_map outer_view z)) (sym h)
 
 -- a call behind its parts
 pub call_behind : {A : Type 0} (cs ds : List (Bor (Call A))) (c : Bor (Call A)) (ps : List (Part A)) → ds ≡ cs ++ c ∷ [] → calls_listed cs ≡ part_calls (parts_view ps)
