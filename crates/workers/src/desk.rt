@@ -247,26 +247,32 @@ impl<J: Job, E: Ledger, N: Ledger> Desk<J, E, N> {
         self.news.audit(news);
     }
 
-    /// The board, once all shares are gathered, and why the run stopped before its end.
-    pub fn close(self, events: &mut Share<E>, news: &mut Share<N>) -> (Board, Option<Stop>)
+    /// What the board shows is in the shares, once all are gathered. Why the run stopped before its end is the answer.
+    pub fn close(&mut self, events: &mut Share<E>, news: &mut Share<N>) -> Option<Stop>
         requires { (events.old.parts ≡ E.parts) × (news.old.parts ≡ N.parts) }
-        ensures code { (result.0.code ≡ J.code) × (result.0.limit ≡ J.limit) }
-        ensures within { length result.0.history ≤ J.limit }
-        ensures run { RunsTo J.code J.engines J.workers result.0.history news.old.amount result.0.state }
-        ensures no_back { result.1 ≡ None → backs result.0.history ≡ 0 }
-        ensures events { length result.0.history ≡ events.old.amount }
+        ensures code { (self.new.board.code ≡ J.code) × (self.new.board.limit ≡ J.limit) }
+        ensures within { length self.new.board.history ≤ J.limit }
+        ensures run { RunsTo J.code J.engines J.workers self.new.board.history news.old.amount self.new.board.state }
+        ensures no_back { result ≡ None → backs self.new.board.history ≡ 0 }
+        ensures events { length self.new.board.history ≡ events.old.amount }
     {
         let Desk {
             board,
             stop,
-            told: _,
-            events: mut book,
-            news: mut news_book,
-            of: _,
+            events: book,
+            news: news_book,
+            ..
         } = self;
         book.audit(events);
         news_book.audit(news);
         let _within = board.history();
-        (board, stop)
+        *stop
+    }
+
+    /// The board.
+    pub fn board(&self) -> &Board
+        ensures { result.now ≡ self.now.board }
+    {
+        &self.board
     }
 }

@@ -37,6 +37,31 @@ pub struct PoolCount {
     pub left: u64,
 }
 
+/// The hand of the thread of this number, with a part of the shares: the first so many are engines.
+fn hand_of<J: Job, E: Ledger, N: Ledger>(
+    alloc: Global,
+    engines: u8,
+    worker: u8,
+    seat: PoolSeat,
+    events: &mut Share<E>,
+    news: &mut Share<N>,
+) -> Ended<J, E, N>
+    requires places { (engines ≡ J.engines) × (worker < J.engines + J.workers) }
+    requires seat { (seat_pool seat ≡ J.pool) × (view seat ≡ beginner 1) }
+    requires parts { (0 < events.old.parts) × (0 < news.old.parts) }
+    requires amounts { (events.old.amount ≡ 0) × (news.old.amount ≡ 0) }
+    ensures parts { (events.new.parts + 1 ≡ events.old.parts) × (news.new.parts + 1 ≡ news.old.parts) }
+    ensures amounts { (events.new.amount ≡ 0) × (news.new.amount ≡ 0) }
+{
+    let kind = if worker < engines {
+        Kind::Control
+    } else {
+        Kind::Leaf
+    };
+    let (mine, told) = (events.split_off(1, 0), news.split_off(1, 0));
+    Ended::new(Hand::new(alloc, worker, kind, seat, mine, told))
+}
+
 /// A hand for each seat: the first so many are engines.
 fn hands_of<J: Job, E: Ledger, N: Ledger>(
     alloc: Global,
@@ -56,13 +81,7 @@ fn hands_of<J: Job, E: Ledger, N: Ledger>(
     let mut hands = Vec::with_capacity(alloc, seats.len())?;
     while let Some(seat) = seats.pop() {
         let worker = hands.len() as u8;
-        let kind = if worker < engines {
-            Kind::Control
-        } else {
-            Kind::Leaf
-        };
-        let (mine, told) = (events.split_off(1, 0), news.split_off(1, 0));
-        hands.push(Ended::new(Hand::new(alloc, worker, kind, seat, mine, told)))?;
+        hands.push_reserved(hand_of(alloc, engines, worker, seat, events, news));
     }
     Ok(hands)
 }
@@ -95,10 +114,11 @@ fn is_counted(told: &[u32; 64], tallies: &[u64]) -> bool {
     true
 }
 
-/// The report of a board on which nothing is left to be done, and why there is none else.
-fn report(alloc: Global, board: &Board, stop: Option<Stop>) -> Result<Report, RunFault>
+/// The report of a board on which nothing is left to be done, where no item was lost on its way to the pool, and why there is none else.
+fn report(alloc: Global, board: &Board, stop: Option<Stop>, lost: u64) -> Result<Report, RunFault>
     ensures stopped { IfOk result (λ r. stop ≡ None) }
     ensures tells { IfOk result (Tells board.now) }
+    ensures none_lost { IfOk result (λ r. lost ≡ 0) }
     ensures fault { IfErr result (λ e. e ≢ RunFault.BadCount) }
 {
     match stop {
@@ -110,31 +130,22 @@ fn report(alloc: Global, board: &Board, stop: Option<Stop>) -> Result<Report, Ru
     if board.is_going() && !board.is_quiet() {
         return Err(RunFault::Stranger);
     }
-    Ok(report_of(alloc, board)?)
-}
-
-/// The same of a board that is over, which goes.
-fn last_report(alloc: Global, board: Board, stop: Option<Stop>) -> Result<Report, RunFault>
-    ensures stopped { IfOk result (λ r. stop ≡ None) }
-    ensures tells { IfOk result (Tells board) }
-    ensures fault { IfErr result (λ e. e ≢ RunFault.BadCount) }
-{
-    report(alloc, &board, stop)
-}
-
-/// The report, where no item was lost on its way to the pool, and each thread counted the events that it tells of it.
-fn agreed(report: Report, tallies: &[u64], lost: u64) -> Result<Report, RunFault>
-    ensures same { IfOk result (λ r. r ≡ report) }
-    ensures none_lost { IfOk result (λ r. lost ≡ 0) }
-    ensures fault { IfErr result (λ e. e ≢ RunFault.BadCount) }
-{
     if lost > 0 {
         return Err(RunFault::Memory);
     }
-    if !is_counted(&report.tallies, tallies) {
-        return Err(RunFault::Stranger);
+    Ok(report_of(alloc, board)?)
+}
+
+/// The report, where each thread counted the events that it tells of it.
+fn agreed(report: Report, tallies: &[u64]) -> Result<Report, RunFault>
+    ensures same { IfOk result (λ r. r ≡ report) }
+    ensures fault { IfErr result (λ e. e ≢ RunFault.BadCount) }
+{
+    if is_counted(&report.tallies, tallies) {
+        Ok(report)
+    } else {
+        Err(RunFault::Stranger)
     }
-    Ok(report)
 }
 
 /// The numbers added up.
@@ -170,7 +181,7 @@ fn counted(offered: u64, full: u64, draws: &[u64], holes: &[u64; 96]) -> PoolCou
 fn settle<J: Job, E: Ledger, N: Ledger>(
     alloc: Global,
     pool: Pool,
-    desk: Desk<J, E, N>,
+    desk: &mut Desk<J, E, N>,
     sums: Sums<J, E, N>,
 ) -> Result<(Report, PoolCount), RunFault>
     requires pool { pool_id pool ≡ J.pool }
@@ -190,16 +201,16 @@ fn settle<J: Job, E: Ledger, N: Ledger>(
         lost,
         of: _,
     } = sums;
-    let (board, stop) = desk.close(&mut events, &mut news);
+    let stop = desk.close(&mut events, &mut news);
     let rest = pool.close(seats);
-    let report = last_report(alloc, board, stop)?;
-    let report = agreed(report, tallies.as_slice(), lost)?;
+    let report = report(alloc, desk.board(), stop, lost)?;
+    let report = agreed(report, tallies.as_slice())?;
     let count = counted(offered, full, draws.as_slice(), &rest.holes);
     Ok((report, count))
 }
 
-/// Lets the crew work at the desk until the run is over: the desk, and all hands.
-fn work_at<
+/// Lets the crew work on the floor until the run is over: all hands.
+fn work_on<
     J: Job + Send + Sync,
     E: Ledger + Send + Sync,
     N: Ledger + Send + Sync,
@@ -209,24 +220,57 @@ fn work_at<
     rt: &R,
     alloc: Global,
     pool: &Pool,
-    desk: Desk<J, E, N>,
-    crowds: Crowds,
+    floor: &Mutex<Floor<J, E, N>>,
     gate: &G,
     hands: Vec<Ended<J, E, N>>,
     count: usize,
-) -> Result<(Desk<J, E, N>, Vec<Ended<J, E, N>>), RunFault>
+) -> Result<Vec<Ended<J, E, N>>, RunFault>
     requires { pool_id pool.now ≡ J.pool }
-    ensures len { IfOk result (λ r. vec_len r.1 ≡ count) }
+    ensures len { IfOk result (λ back. vec_len back ≡ count) }
     ensures fault { IfErr result (λ e. e ≢ RunFault.BadCount) }
 {
-    let floor = Mutex::new(Floor { desk, crowds });
     let bells = Bells::new();
-    let back = crew(rt, alloc, &floor, &bells, pool, gate, hands)?;
-    if back.len() != count {
-        return Err(RunFault::Spawn);
+    let back = crew(rt, alloc, floor, &bells, pool, gate, hands)?;
+    if back.len() == count {
+        Ok(back)
+    } else {
+        Err(RunFault::Spawn)
     }
-    let Floor { desk, .. } = floor.into_inner();
-    Ok((desk, back))
+}
+
+/// A run on a floor on which nobody has worked.
+fn run_on<
+    J: Job + Send + Sync,
+    E: Ledger + Send + Sync,
+    N: Ledger + Send + Sync,
+    R: Threads + Wait + Sync,
+    G: Gate,
+>(
+    rt: &R,
+    alloc: Global,
+    pool: Pool,
+    seats: Vec<PoolSeat>,
+    floor: &mut Mutex<Floor<J, E, N>>,
+    mut events: Share<E>,
+    mut news: Share<N>,
+    engines: u8,
+    count: usize,
+    gate: &G,
+) -> Result<(Report, PoolCount), RunFault>
+    requires count { (count ≤ 64) × (engines ≡ J.engines) × (count ≡ J.engines + J.workers) × (vec_len seats ≡ count) × (seats_of pool ≡ count) }
+    requires ledgers { (E.parts ≡ count) × (N.parts ≡ count) }
+    requires parts { (events.parts ≡ count) × (news.parts ≡ count) }
+    requires amounts { (events.amount ≡ 0) × (news.amount ≡ 0) }
+    requires pool { pool_id pool ≡ J.pool }
+    requires seats { All (λ s. IsSeatOf pool s × (view s ≡ beginner 1)) seats.items }
+    ensures report { IfOk result (λ r. IsReport J.code J.limit J.engines J.workers r.0 r.1) }
+    ensures fault { IfErr result (λ e. e ≢ RunFault.BadCount) }
+{
+    let hands = hands_of::<J, E, N>(alloc, engines, seats, &mut events, &mut news)?;
+    let back = work_on(rt, alloc, &pool, floor, gate, hands, count)?;
+    let desk = &mut floor.get_mut().desk;
+    let sums = gather(alloc, desk, back, events, news)?;
+    settle(alloc, pool, desk, sums)
 }
 
 /// A run with its books and its pool.
@@ -257,14 +301,14 @@ fn run<
     ensures report { IfOk result (λ r. IsReport J.code J.limit J.engines J.workers r.0 r.1) }
     ensures fault { IfErr result (λ e. e ≢ RunFault.BadCount) }
 {
-    let (event_book, mut all_events) = events.open::<E>();
-    let (news_book, mut all_news) = news.open::<N>();
-    let hands = hands_of::<J, E, N>(alloc, engines, seats, &mut all_events, &mut all_news)?;
+    let (event_book, all_events) = events.open::<E>();
+    let (news_book, all_news) = news.open::<N>();
     let desk = Desk::<J, E, N>::new(board, event_book, news_book);
     let crowds = Crowds::new(engines as usize, count.saturating_sub(engines as usize));
-    let (mut desk, back) = work_at(rt, alloc, &pool, desk, crowds, gate, hands, count)?;
-    let sums = gather(alloc, &mut desk, back, all_events, all_news)?;
-    settle(alloc, pool, desk, sums)
+    let mut floor = Mutex::new(Floor { desk, crowds });
+    run_on(
+        rt, alloc, pool, seats, &mut floor, all_events, all_news, engines, count, gate,
+    )
 }
 
 /// Runs the code on threads: engines, with the numbers from 0 on, run control items, and workers, which follow, leaf items. At most

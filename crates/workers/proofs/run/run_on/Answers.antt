@@ -2,7 +2,7 @@ use Rattle.std.proofs.Common.{◌≡◌, ◌≢◌, ◌∙◌, sym}
 use Rattle.std.proofs.lemmas.Result.{err_from_is_err_and}
 use Rattle.workers.specs.declared.fault.RunFault.{RunFault}
 use Rattle.workers.specs.declared.fault.RunFault.TheVariants.{BadCount, Memory}
-use Rattle.workers.proofs.run.run.Goals as goal
+use Rattle.workers.proofs.run.run_on.Goals as goal
 
 of_memory : (e : RunFault) → e ≡ Memory → e ≢ BadCount
 of_memory e is bad = cc (sym is ∙ bad)
