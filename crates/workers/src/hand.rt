@@ -216,7 +216,7 @@ impl<J: Job, E: Ledger, N: Ledger> Hand<J, E, N> {
     }
 
     /// Ends an item.
-    pub fn end(&mut self, floor: &mut Floor<J, E, N>, done: Done) -> Result<(), (Done, Refusal)> {
+    pub fn end(&mut self, floor: &mut Floor<J, E, N>, done: Done) -> Result<(), Refusal> {
         let worker = self.worker;
         let Floor { desk, crowds } = floor;
         let Hand {
@@ -227,10 +227,14 @@ impl<J: Job, E: Ledger, N: Ledger> Hand<J, E, N> {
             list,
             ..
         } = self;
-        let count = desk.end(worker, done, events, news, list, crowds)?;
-        *tally += 1;
-        *pending += count;
-        Ok(())
+        match desk.end(worker, done, events, news, list, crowds) {
+            Ok(count) => {
+                *tally += 1;
+                *pending += count;
+                Ok(())
+            }
+            Err((_, refusal)) => Err(refusal),
+        }
     }
 
     /// Gives an item back for want of memory.

@@ -8,12 +8,13 @@ use crate::floor::Floor;
 use crate::hand::{Ended, Hand};
 use crate::job::{Gate, Job};
 use board::refusal::Refusal;
+use board_work::work::Done;
 use pool::Pool;
 use std::alloc::{AllocError, Global};
 use std::sync::ledger::Ledger;
 use std::sync::{Mutex, Wait};
 use std::thread;
-use std::thread::Threads;
+use std::thread::{JoinHandle, Threads};
 
 /// What a thread does next.
 #[derive(Clone, Copy, Debug, PartialEq, Eq, Drop)]
@@ -105,6 +106,22 @@ fn back_under<J: Job, E: Ledger, N: Ledger>(
     }
 }
 
+/// Ends an item under the lock that is done. False where the run is to stop: one for which no memory was found is given back.
+fn end_one<J: Job, E: Ledger, N: Ledger>(
+    under: &mut Floor<J, E, N>,
+    hand: &mut Hand<J, E, N>,
+    done: Done,
+) -> bool {
+    let item = done.item();
+    match hand.end(under, done) {
+        Ok(()) => return true,
+        Err(Refusal::Ended) => {}
+        Err(Refusal::Memory) => back_under(under, hand, item),
+        Err(_) => under.desk.halt(Stop::Stranger),
+    }
+    false
+}
+
 /// Ends the items under the lock that are done. False where the run is to stop.
 fn end_all<J: Job, E: Ledger, N: Ledger>(
     under: &mut Floor<J, E, N>,
@@ -114,17 +131,8 @@ fn end_all<J: Job, E: Ledger, N: Ledger>(
         let Some(done) = hand.next_done() else {
             break;
         };
-        match hand.end(under, done) {
-            Ok(()) => {}
-            Err((_, Refusal::Ended)) => return false,
-            Err((done, Refusal::Memory)) => {
-                back_under(under, hand, done.item());
-                return false;
-            }
-            Err(_) => {
-                under.desk.halt(Stop::Stranger);
-                return false;
-            }
+        if !end_one(under, hand, done) {
+            return false;
         }
     }
     true
@@ -261,6 +269,39 @@ fn resume<J: Job, E: Ledger, N: Ledger, R: Wait, G: Gate>(
     work(rt, floor, bells, pool, gate, hand)
 }
 
+/// One more thread runs. Where it could not be started, or there is no room for it, all stop.
+fn one_more<J: Job, E: Ledger, N: Ledger, R: Wait>(
+    rt: &R,
+    floor: &Mutex<Floor<J, E, N>>,
+    bells: &Bells,
+    thread: Option<JoinHandle<Ended<J, E, N>>>,
+    running: &mut Vec<JoinHandle<Ended<J, E, N>>>,
+) -> bool {
+    let why = match thread {
+        None => Stop::Spawn,
+        Some(thread) => {
+            if running.push(thread).is_ok() {
+                return true;
+            }
+            Stop::Memory
+        }
+    };
+    halt(rt, floor, bells, why);
+    false
+}
+
+/// The hands of threads that run, once these have ended.
+fn join_all<J: Job, E: Ledger, N: Ledger, R: Threads>(
+    rt: &R,
+    running: Vec<JoinHandle<Ended<J, E, N>>>,
+    mut back: Vec<Ended<J, E, N>>,
+) -> Result<Vec<Ended<J, E, N>>, AllocError> {
+    for thread in running {
+        back.push(thread.join(rt))?;
+    }
+    Ok(back)
+}
+
 /// Runs a thread for each hand, and gives back the hands of those that ran. Where one can't be started the others stop.
 ///
 /// # Errors
@@ -283,7 +324,7 @@ pub fn crew<
 ) -> Result<Vec<Ended<J, E, N>>, AllocError>
     requires { pool_id pool.now ≡ J.pool }
 {
-    let mut back = Vec::with_capacity(alloc, hands.len())?;
+    let back = Vec::with_capacity(alloc, hands.len())?;
     let mut running = Vec::with_capacity(alloc, hands.len())?;
     thread::scope(
         thread::scope_env(),
@@ -295,23 +336,11 @@ pub fn crew<
                 let job = move || -> Ended<J, E, N>
                     requires { pool_id pool.now ≡ J.pool }
                 { resume(rt, floor, bells, pool, gate, hand) };
-                match scope.spawn(job) {
-                    Ok(thread) => {
-                        if running.push(thread).is_err() {
-                            halt(rt, floor, bells, Stop::Memory);
-                            break;
-                        }
-                    }
-                    Err(_) => {
-                        halt(rt, floor, bells, Stop::Spawn);
-                        break;
-                    }
+                if !one_more(rt, floor, bells, scope.spawn(job).ok(), &mut running) {
+                    break;
                 }
             }
-            for thread in running {
-                back.push(thread.join(rt))?;
-            }
-            Ok(back)
+            join_all(rt, running, back)
         },
     )
 }
