@@ -1,5 +1,5 @@
 //! What all threads brought back.
-ghost use Rattle.std.specs.Prelude.{◌≡◌, ◌+◌, ◌<◌, ◌^◌, All, length, map, sum, vec_len, OnOk};
+ghost use Rattle.std.specs.Prelude.{◌≡◌, ◌+◌, ◌<◌, ◌^◌, All, length, map, sum, vec_capacity, vec_len, OnOk};
 ghost use Rattle.pool.specs.Seats.{view, seat_pool};
 ghost use Rattle.pool.specs.Views.{total};
 
@@ -33,6 +33,21 @@ pub struct Sums<J: Job, E: Ledger, N: Ledger> {
     ghost of_pool: { All (λ s. seat_pool s ≡ J.pool) seats.items },
 }
 
+/// Room for what one more thread brings back.
+fn room(
+    seats: &mut Vec<PoolSeat>,
+    tallies: &mut Vec<u64>,
+    draws: &mut Vec<u64>,
+) -> Result<(), AllocError>
+    ensures same { (seats.new.items ≡ seats.old.items) × (tallies.new.items ≡ tallies.old.items) × (draws.new.items ≡ draws.old.items) }
+    ensures len { vec_len seats.new ≡ vec_len seats.old }
+    ensures room { OnOk result ((vec_len seats.new < vec_capacity seats.new) × (vec_len tallies.new < vec_capacity tallies.new) × (vec_len draws.new < vec_capacity draws.new)) }
+{
+    seats.reserve(1)?;
+    tallies.reserve(1)?;
+    draws.reserve(1)
+}
+
 impl<J: Job, E: Ledger, N: Ledger> Sums<J, E, N> {
     /// Nothing yet.
     pub fn new(alloc: Global, events: Share<E>, news: Share<N>) -> Sums<J, E, N>
@@ -60,9 +75,7 @@ impl<J: Job, E: Ledger, N: Ledger> Sums<J, E, N> {
     pub fn add(&mut self, desk: &mut Desk<J, E, N>, ended: Ended<J, E, N>) -> Result<(), AllocError>
         ensures { OnOk result (vec_len self.new.seats ≡ vec_len self.old.seats + 1) }
     {
-        self.seats.reserve(1)?;
-        self.tallies.reserve(1)?;
-        self.draws.reserve(1)?;
+        room(&mut self.seats, &mut self.tallies, &mut self.draws)?;
         let Ended { hand } = ended;
         let Hand {
             worker: _,
