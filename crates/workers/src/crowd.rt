@@ -9,7 +9,7 @@ use task_code::entry::Kind;
 const BATCH: usize = 16;
 
 /// The threads of one kind. Those that wait for a call are asleep or called.
-#[derive(Clone, Copy, Debug, Drop)]
+#[derive(Clone, Copy, Drop)]
 pub struct Crowd {
     threads: usize,
     /// How many items can begin that are for them.
@@ -94,14 +94,14 @@ impl Crowd {
 }
 
 /// What the threads of one kind are told once the lock is let go: that there is an item for who stays awake, and that one is to wake up.
-#[derive(Clone, Copy, Debug, Drop)]
+#[derive(Clone, Copy, Drop)]
 pub struct Call {
     pub shows: bool,
     pub wakes: bool,
 }
 
 /// The engines and the workers, and the items that there are for both.
-#[derive(Clone, Copy, Debug, Drop)]
+#[derive(Clone, Copy, Drop)]
 pub struct Crowds {
     engines: Crowd,
     workers: Crowd,

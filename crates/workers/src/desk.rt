@@ -20,7 +20,7 @@ use task_code::entry::Kind;
 const MOST: u64 = 1 << 62;
 
 /// Why a run stopped before its end.
-#[derive(Clone, Copy, Debug, PartialEq, Eq, Drop)]
+#[derive(Clone, Copy, PartialEq, Eq, Drop)]
 pub enum Stop {
     Memory,
     Spawn,

@@ -14,7 +14,7 @@ pub struct Floor<J: Job, E: Ledger, N: Ledger> {
 }
 
 /// Who is told what once the lock is let go.
-#[derive(Clone, Copy, Debug, Drop)]
+#[derive(Clone, Copy, Drop)]
 pub enum Calls {
     /// Nothing is left to be done: all wake up.
     Over,

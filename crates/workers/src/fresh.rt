@@ -7,7 +7,7 @@ use pool::Kind as Side;
 use task_code::entry::Kind;
 
 /// An item that can begin, as it is offered: who runs it, the class of its priority and its number.
-#[derive(Clone, Copy, Debug, Drop)]
+#[derive(Clone, Copy, Drop)]
 pub struct Fresh {
     pub side: Side,
     pub class: u8,

@@ -17,7 +17,7 @@ use std::thread;
 use std::thread::{JoinHandle, Threads};
 
 /// What a thread does next.
-#[derive(Clone, Copy, Debug, PartialEq, Eq, Drop)]
+#[derive(Clone, Copy, PartialEq, Eq, Drop)]
 enum Next {
     /// It computes and ends the items that it runs, if it does any, and begins others.
     Works,
