@@ -13,7 +13,7 @@ use Rattle.ended_blocks.specs.Active.{Candidate, active}
 use Rattle.opened_blocks.specs.Listed.{all_active}
 use Rattle.whole_rounds.specs.Made.{declares_here, declares_here_by}
 
-block_seen : (A : Type 0) (b : Block A) → block_view b ≡ block_of (statements_view (out-Block A b).statements.items)
+pub block_seen : (A : Type 0) (b : Block A) → block_view b ≡ block_of (statements_view (out-Block A b).statements.items)
 block_seen A b = search (rules, the_lemmas)
 
 list_of_block : (ss : List Stmt) → block_list (block_of ss) ≡ ss

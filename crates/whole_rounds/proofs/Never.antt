@@ -1,5 +1,5 @@
 -- What never ends in waits one in another, and in statements one after another.
-use Rattle.std.specs.Prelude.{◌≡◌, ℕ, ℤ, suc, ◌+◌, ◌<◌, Bool, true, false, ◌&&◌, ◌||◌, List, [], ◌∷◌, length, drop, Vec, Box, refl}
+use Rattle.std.specs.Prelude.{◌≡◌, ℕ, ℤ, suc, ◌+◌, ◌<◌, ◌≤◌, Bool, true, false, ◌&&◌, ◌||◌, List, [], ◌∷◌, length, drop, Vec, Box, refl}
 use Rattle.std.proofs.Common.{rules, sym, ap, ◌∙◌, get_or}
 use Rattle.std.proofs.lemmas.List.{drop_more}
 use Rattle.syntax_trees.specs.Core as core
@@ -7,13 +7,16 @@ use Rattle.flow.specs.declared.cell.Call.{Call}
 use Rattle.flow.specs.declared.cell.Part.{Part}
 use Rattle.flow.specs.declared.statement.Action.{the_lemmas}
 use Rattle.flow.specs.declared.statement.Action.{Call as Does}
+use Rattle.flow.specs.declared.statement.Block.{Block, out-Block}
 use Rattle.flow.specs.declared.statement.Header.{Header}
 use Rattle.flow.specs.declared.statement.Statement.{Statement, out-Statement}
 use Rattle.flow.specs.View.{call_view, parts_view, waits_around, action_view, block_view, block_of, statement_view, statements_view}
 use Rattle.whole_facts.specs.Targeted.{same_owned}
 use Rattle.whole_facts.proofs.Aims.{view_statement}
 use Rattle.ended_blocks.specs.Never.{never, never_by, never_in, some_output}
+use Rattle.whole_facts.proofs.Ending.{drop_past}
 use Rattle.whole_rounds.specs.Made.{no_calls}
+use Rattle.whole_rounds.proofs.Made.{block_seen}
 
 and_false : (b : Bool) → b && false ≡ false
 and_false true = refl
@@ -39,6 +42,12 @@ pub never_step : (A : Type 0) (x : core.Owned) (ss : List (Statement A)) (i : �
 never_step A x ss i d l =
     ap (λ (z : List (Statement A)). never_in no_calls x (block_of (statements_view z))) (drop_more ss i d l)
     ∙ ap (λ (z : core.Stmt). never no_calls x z || never_in no_calls x (block_of (statements_view (drop (i + 1) ss)))) (view_statement A (get_or ss i d))
+
+pub never_whole : (A : Type 0) (x : core.Owned) (b : Block A) → never_in no_calls x (block_view b) ≡ never_in no_calls x (block_of (statements_view (out-Block A b).statements.items))
+never_whole A x b = ap (never_in no_calls x) (block_seen A b)
+
+pub never_past : (A : Type 0) (x : core.Owned) (ss : List (Statement A)) (i : ℕ) → length ss ≤ i → never_in no_calls x (block_of (statements_view (drop i ss))) ≡ false
+never_past A x ss i l = ap (λ (z : List (Statement A)). never_in no_calls x (block_of (statements_view z))) (drop_past ss i l)
 
 view_call : {A : Type 0} (p : ℤ) (ps : Vec (Part A) A) (c : Box (Call A) A) → action_view (Does p ps c) ≡ core.call_alone p (parts_view ps.items) (call_view c.value)
 view_call p ps c = search (rules, the_lemmas)

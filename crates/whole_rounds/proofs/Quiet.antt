@@ -1,5 +1,5 @@
 -- A statement whose cells have their values, and with these what it does is known, tells nothing.
-use Rattle.std.specs.Prelude.{◌≡◌, ℕ, ℤ, ◌+◌, ◌<◌, Bool, true, false, ◌&&◌, List, [], ◌∷◌, ◌++◌, length, drop, Option, Some, None, refl}
+use Rattle.std.specs.Prelude.{◌≡◌, ℕ, ℤ, ◌+◌, ◌<◌, ◌≤◌, Bool, true, false, ◌&&◌, List, [], ◌∷◌, ◌++◌, length, drop, Option, Some, None, refl}
 use Rattle.std.proofs.Common.{sym, ap, ◌∙◌, get_or}
 use Rattle.std.proofs.lemmas.List.{drop_more}
 use Rattle.values.specs.declared.map.Element.{Element}
@@ -14,6 +14,7 @@ use Rattle.syntax_trees.specs.Parts.{parts, part_cells, stmt_calls}
 use Rattle.whole_meaning.specs.Environment.{Outcome, outcome}
 use Rattle.whole_meaning.specs.News.{Past, unless, text_in, printed_told, cell_by, branch_by, some_item, some_call}
 use Rattle.whole_facts.specs.declared.learned.Learned.{Learned}
+use Rattle.whole_facts.proofs.Ending.{drop_past}
 use Rattle.whole_rounds.specs.declared.site.Site.{Site}
 use Rattle.whole_rounds.specs.Silence.{all_known, is_done, told_unless, has_told}
 use Rattle.whole_rounds.specs.Told.{sight_at, past_at, path_at, lies_at, cells_news, comes_at, assigned_news, branch_news, each_news, own_news, calls_news, site_news}
@@ -65,6 +66,9 @@ pub part_unknown : {A : Type 0} (l : Learned) (t : Site) (ps : List (Part A)) (i
     → whole ≡ all_known l t (part_cells (parts_view (drop i ps))) → all_known l t (part_cells (part_view (get_or ps i d) ∷ [])) ≡ false
     → whole ≡ false
 part_unknown l t ps i d whole h e f = e ∙ part_next l t ps i d h ∙ ap (λ (b : Bool). b && all_known l t (part_cells (parts_view (drop (i + 1) ps)))) f
+
+pub parts_past : {A : Type 0} (l : Learned) (t : Site) (ps : List (Part A)) (i : ℕ) → length ps ≤ i → all_known l t (part_cells (parts_view (drop i ps))) ≡ true
+parts_past {A} l t ps i h = ap (λ (z : List (Part A)). all_known l t (part_cells (parts_view z))) (drop_past ps i h)
 
 -- WHAT IS TOLD
 

@@ -1,6 +1,6 @@
 //! What follows from what is known: the block instances, their live statements, and the arrays that are closed.
 
-ghost use Rattle.std.specs.Prelude.{◌≡◌, ◌++◌, ◌∷◌, [], IfOk, OnOk};
+ghost use Rattle.std.specs.Prelude.{◌≡◌, ◌++◌, ◌∷◌, [], map, IfOk, OnOk};
 ghost use Rattle.flow.specs.View.{action_view, block_view, core_of, statement_view, waits_around};
 ghost use Rattle.syntax_trees.specs.Core.{local, stmt};
 ghost use Rattle.syntax_trees.specs.Parts.{block_list};
@@ -8,7 +8,7 @@ ghost use Rattle.whole_facts.specs.Fresh.{IsFresh};
 ghost use Rattle.ended_blocks.specs.Active.{active};
 ghost use Rattle.ended_blocks.specs.Never.{never_in};
 ghost use Rattle.opened_blocks.specs.Listed.{all_active, unless_never};
-ghost use Rattle.whole_rounds.specs.Made.{arrays_of, declares_here, declares_here_by, no_calls, tasks_of, telling_of, waiting_of};
+ghost use Rattle.whole_rounds.specs.Made.{arrays_of, candidate_of, declares_here, declares_here_by, no_calls, tasks_of, telling_of, waiting_of};
 ghost use Rattle.whole_rounds.specs.Standing.{active_of, deed_view};
 
 use crate::ending::never_ends_in;
@@ -171,68 +171,13 @@ impl<'a, A: Allocator> State<'a, A> {
         ensures passed { self.new.passed ≡ self.old.passed }
         ensures waiting { waiting_of self.new ≡ waiting_of self.old }
     {
-        self.add_declared(instance, block, &statement.action)?;
+        add_declared(&mut self.arrays, instance, block, &statement.action)?;
         let site = Site {
             instance,
             at: statement.at,
             node: statement.node,
         };
         self.add_task(site, deed_of(&statement.action))
-    }
-
-    /// Adds a variable that a block declares, where it may come to be closed: what is assigned as a scalar, whatever its branches choose, never is.
-    fn add_declared(
-        &mut self,
-        instance: usize,
-        block: &'a Block<A>,
-        action: &'a Action<A>,
-    ) -> Result<(), AllocError>
-        ensures arrays { OnOk result (arrays_of self.new ≡ arrays_of self.old ++ declares_here_by instance (block_view block.entry.now) (action_view action.entry.now)) }
-        ensures tasks { tasks_of self.new ≡ tasks_of self.old }
-        ensures telling { telling_of self.new ≡ telling_of self.old }
-        ensures learned { self.new.learned ≡ self.old.learned }
-        ensures flow { self.new.flow.now ≡ self.old.flow.now }
-        ensures passed { self.new.passed ≡ self.old.passed }
-        ensures waiting { waiting_of self.new ≡ waiting_of self.old }
-    {
-        match action {
-            Action::Declare(variable) => self.add_array(instance, block, variable.node),
-            Action::Call { .. }
-            | Action::Assign { .. }
-            | Action::Fill { .. }
-            | Action::Insert { .. }
-            | Action::Print { .. }
-            | Action::Assert { .. }
-            | Action::When { .. }
-            | Action::Choose { .. }
-            | Action::Range { .. }
-            | Action::Each { .. }
-            | Action::Wait { .. } => Ok(()),
-        }
-    }
-
-    fn add_array(
-        &mut self,
-        instance: usize,
-        block: &'a Block<A>,
-        node: u32,
-    ) -> Result<(), AllocError>
-        ensures arrays { OnOk result (arrays_of self.new
-            ≡ arrays_of self.old ++ unless_never instance (block_view block.entry.now) node (never_in no_calls (local node) (block_view block.entry.now))) }
-        ensures tasks { tasks_of self.new ≡ tasks_of self.old }
-        ensures telling { telling_of self.new ≡ telling_of self.old }
-        ensures learned { self.new.learned ≡ self.old.learned }
-        ensures flow { self.new.flow.now ≡ self.old.flow.now }
-        ensures passed { self.new.passed ≡ self.old.passed }
-        ensures waiting { waiting_of self.new ≡ waiting_of self.old }
-    {
-        if !never_ends_in(Owned::Local(node), block) {
-            self.arrays.push(Array {
-                place: Place { instance, node },
-                block,
-            })?;
-        }
-        Ok(())
     }
 
     fn add_task(&mut self, site: Site, deed: Deed<'a, A>) -> Result<(), AllocError>
@@ -249,6 +194,49 @@ impl<'a, A: Allocator> State<'a, A> {
         self.tasks.push(task)?;
         Ok(())
     }
+}
+
+/// Adds a variable that a block declares, where it may come to be closed: what is assigned as a scalar, whatever its branches choose, never is.
+fn add_declared<'a, A: Allocator>(
+    arrays: &mut Vec<Array<'a, A>>,
+    instance: usize,
+    block: &'a Block<A>,
+    action: &'a Action<A>,
+) -> Result<(), AllocError>
+    ensures { OnOk result (map candidate_of arrays.new.items ≡ map candidate_of arrays.old.items ++ declares_here_by instance (block_view block.entry.now) (action_view action.entry.now)) }
+{
+    match action {
+        Action::Declare(variable) => add_array(arrays, instance, block, variable.node),
+        Action::Call { .. }
+        | Action::Assign { .. }
+        | Action::Fill { .. }
+        | Action::Insert { .. }
+        | Action::Print { .. }
+        | Action::Assert { .. }
+        | Action::When { .. }
+        | Action::Choose { .. }
+        | Action::Range { .. }
+        | Action::Each { .. }
+        | Action::Wait { .. } => Ok(()),
+    }
+}
+
+fn add_array<'a, A: Allocator>(
+    arrays: &mut Vec<Array<'a, A>>,
+    instance: usize,
+    block: &'a Block<A>,
+    node: u32,
+) -> Result<(), AllocError>
+    ensures { OnOk result (map candidate_of arrays.new.items
+        ≡ map candidate_of arrays.old.items ++ unless_never instance (block_view block.entry.now) node (never_in no_calls (local node) (block_view block.entry.now))) }
+{
+    if !never_ends_in(Owned::Local(node), block) {
+        arrays.push(Array {
+            place: Place { instance, node },
+            block,
+        })?;
+    }
+    Ok(())
 }
 
 /// What a statement does, with a `wait` taken apart.

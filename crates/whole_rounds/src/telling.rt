@@ -1,6 +1,6 @@
 //! What a round adds of a live statement, with the values of its outermost cells.
 ghost use Rattle.std.specs.Prelude.{◌≡◌, ◌++◌, ◌∷◌, [], OnOk, Some, map, option_map, option_to_list, pos, true};
-ghost use Rattle.flow.specs.View.{action_view, name_view, outer_view};
+ghost use Rattle.flow.specs.View.{action_view, name_view, outer_view, part_view};
 ghost use Rattle.syntax_trees.specs.Core as core;
 ghost use Rattle.syntax_trees.specs.Parts.{cells, outer_parts, part_calls, parts};
 ghost use Rattle.whole_meaning.specs.News.{comes_all, key_in, one_in, some_call, with_value};
@@ -402,14 +402,23 @@ fn step_has_call<A: Allocator>(range: &Range<A>) -> bool
 }
 
 /// Whether a call lies in an outermost cell.
-#[tactic(auto, using(crate::proofs::Calls::inner_last))]
 fn has_inner_call<A: Allocator>(outer: &Outer<A>) -> bool
     ensures { result ≡ some_call (part_calls (outer_parts (outer_view outer.now ∷ []))) }
 {
     for part in &outer.parts {
-        if let Part::Calls(_) = part {
+        if is_call(part) {
             return true;
         }
     }
     false
+}
+
+/// Whether a part is a call.
+fn is_call<A: Allocator>(part: &Part<A>) -> bool
+    ensures { result ≡ some_call (part_calls (part_view part.now ∷ [])) }
+{
+    match part {
+        Part::Calls(_) => true,
+        Part::Inner(_) => false,
+    }
 }

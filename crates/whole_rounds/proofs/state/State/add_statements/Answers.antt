@@ -1,5 +1,5 @@
-use Rattle.std.proofs.Common.{rules, arith, ◌≡◌, ◌<◌, ◌+◌, ◌++◌, ◌∷◌, [], List, length, get_or, take, sym, ap, ◌∙◌}
-use Rattle.std.proofs.lemmas.Grind.{common_steps}
+use Rattle.std.proofs.Common.{rules, arith, ◌≡◌, ◌<◌, ◌≤◌, ◌+◌, ◌++◌, ◌∷◌, [], length, get_or, take, sym, ap, ◌∙◌}
+use Rattle.std.proofs.lemmas.List.{take_all}
 use Rattle.flow.specs.declared.statement.Block.{out-Block}
 use Rattle.flow.specs.declared.statement.Statement.{Statement}
 use Rattle.flow.specs.View.{block_view, statement_view}
@@ -15,7 +15,7 @@ loop-statement-preserved g c =
     let i = c.args.instance in
     let b = block_view {A = A} c.args.block.now in
     let ss = (out-Block A c.args.block.now).statements.items in
-    let within : c.loop-statement.statement-index < length (out-Block g.row.A.Denot c.args.block.now).statements.items = grind (arith, common_steps) in
+    let within : c.loop-statement.statement-index < length (out-Block g.row.A.Denot c.args.block.now).statements.items = grind arith in
     let item : get_or (out-Block g.row.A.Denot c.args.block.now).statements.items c.loop-statement.statement-index c.statement-item.result ≡ c.statement-item.result = search rules in
     record {
       tasks = made_step A Active (λ z. all_active i z) (active_joins i) ss c.loop-statement.statement-index c.statement-item.result
@@ -33,23 +33,21 @@ loop-statement-preserved g c =
       waiting = c.add_statement.ensures.waiting ∙ c.loop-statement.invariant.waiting;
     }
 
-pub returns-clause-tasks : goal.returns-clause-tasks
-returns-clause-tasks g c =
+pub returns : goal.returns
+returns g c =
     let A = g.row.A.Denot in
-    let full : take c.loop-statement.statement-index (out-Block g.row.A.Denot c.args.block.now).statements.items ≡ (out-Block g.row.A.Denot c.args.block.now).statements.items = grind (arith, common_steps) in
-    made_all A Active (λ z. all_active c.args.instance z) c.args.block.now (take c.loop-statement.statement-index (out-Block A c.args.block.now).statements.items)
-    (tasks_of {A = A} c.args.self.now) (tasks_of {A = A} c.loop-statement.self) full c.loop-statement.invariant.tasks
-
-pub returns-clause-telling : goal.returns-clause-telling
-returns-clause-telling g c =
-    let A = g.row.A.Denot in
-    let full : take c.loop-statement.statement-index (out-Block g.row.A.Denot c.args.block.now).statements.items ≡ (out-Block g.row.A.Denot c.args.block.now).statements.items = grind (arith, common_steps) in
-    made_all A Active (λ z. all_active c.args.instance z) c.args.block.now (take c.loop-statement.statement-index (out-Block A c.args.block.now).statements.items)
-    (telling_of {A = A} c.args.self.now) (telling_of {A = A} c.loop-statement.self) full c.loop-statement.invariant.telling
-
-pub returns-clause-arrays : goal.returns-clause-arrays
-returns-clause-arrays g c =
-    let A = g.row.A.Denot in
-    let full : take c.loop-statement.statement-index (out-Block g.row.A.Denot c.args.block.now).statements.items ≡ (out-Block g.row.A.Denot c.args.block.now).statements.items = grind (arith, common_steps) in
-    made_all A Candidate (λ z. declares_here c.args.instance (block_view {A = A} c.args.block.now) z) c.args.block.now (take c.loop-statement.statement-index (out-Block A c.args.block.now).statements.items)
-    (arrays_of {A = A} c.args.self.now) (arrays_of {A = A} c.loop-statement.self) full c.loop-statement.invariant.arrays
+    let i = c.args.instance in
+    let ss = (out-Block A c.args.block.now).statements.items in
+    let past : length (out-Block g.row.A.Denot c.args.block.now).statements.items ≤ c.loop-statement.statement-index = grind arith in
+    let full = take_all c.loop-statement.statement-index ss past in
+    record {
+      tasks = made_all A Active (λ z. all_active i z) c.args.block.now (take c.loop-statement.statement-index ss) (tasks_of {A = A} c.args.self.now) (tasks_of {A = A} c.loop-statement.self) full c.loop-statement.invariant.tasks;
+      telling = made_all A Active (λ z. all_active i z) c.args.block.now (take c.loop-statement.statement-index ss)
+          (telling_of {A = A} c.args.self.now) (telling_of {A = A} c.loop-statement.self) full c.loop-statement.invariant.telling;
+      arrays = made_all A Candidate (λ z. declares_here i (block_view {A = A} c.args.block.now) z) c.args.block.now (take c.loop-statement.statement-index ss)
+          (arrays_of {A = A} c.args.self.now) (arrays_of {A = A} c.loop-statement.self) full c.loop-statement.invariant.arrays;
+      learned = c.loop-statement.invariant.learned;
+      flow = c.loop-statement.invariant.flow;
+      passed = c.loop-statement.invariant.passed;
+      waiting = c.loop-statement.invariant.waiting;
+    }

@@ -1,9 +1,9 @@
-use Rattle.std.proofs.Common.{◌≡◌, ◌<◌, ◌++◌, length, get_or, ap, ◌∙◌, sym, subst, rules, arith}
+use Rattle.std.proofs.Common.{◌≡◌, ◌<◌, ◌≤◌, ◌++◌, List, length, map, get_or, ap, ◌∙◌, sym, subst}
 use Rattle.whole_rounds.specs.declared.state.Task.{Task}
 use Rattle.whole_rounds.specs.Viewed.{facts_view}
 use Rattle.whole_rounds.specs.Made.{tasks_of, telling_of}
 use Rattle.whole_rounds.specs.Standing.{active_news, active_of, actives_news}
-use Rattle.std.proofs.lemmas.Grind.{common_steps}
+use Rattle.std.proofs.lemmas.List.{take_all}
 use Rattle.whole_rounds.proofs.Round.{round_told}
 use Rattle.syntax_trees.specs.Members.{◌∈◌}
 use Rattle.whole_rounds.proofs.Listed.{mapped_in, nth_in}
@@ -15,8 +15,10 @@ loop-task-preserved g c =
     let A = g.row.A.Denot in
     let l = c.args.self.now.learned in
     let ns = c.args.self.now.learned.instances.all.items in
-    let within : c.loop-task.task-index < length c.args.self.now.telling.items = grind arith in
-    let item : c.task-item.result ≡ get_or c.args.self.now.telling.items c.loop-task.task-index c.task-item.result = search rules in
+    let within : c.loop-task.task-index < length c.args.self.now.telling.items =
+    subst (λ (z : List (Task g.row.A.Denot)). c.loop-task.task-index < length z) c.deref-task-items.ensures.value c.loop-task-test.true in
+    let item : c.task-item.result ≡ get_or c.args.self.now.telling.items c.loop-task.task-index c.task-item.result =
+    c.task-item.is ∙ ap (λ (z : List (Task g.row.A.Denot)). get_or z c.loop-task.task-index c.task-item.result) c.deref-task-items.ensures.value in
     record {
       told = tasks_step {A = A} l c.args.self.now.telling.items c.loop-task.task-index c.task-item.result
           (facts_view ns c.loop-task.news.items) (facts_view ns c.add_task_news.new.news.items)
@@ -30,10 +32,16 @@ loop-task-preserved g c =
           );
     }
 
+pub returns-clause-told : goal.returns-clause-told
+returns-clause-told g c =
+    let A = g.row.A.Denot in
+    let past = subst (λ (z : List (Task A)). length z ≤ c.loop-task.task-index) c.deref-task-items.ensures.value c.loop-task-test.false in
+    c.loop-task.invariant.told
+    ∙ ap (λ (z : List (Task A)). actives_news c.args.self.now.learned (map (active_of {A = A}) z)) (take_all c.loop-task.task-index c.args.self.now.telling.items past)
+
 pub returns-clause-round : goal.returns-clause-round
 returns-clause-round g c =
     let A = g.row.A.Denot in
-    let told : facts_view c.args.self.now.learned.instances.all.items c.loop-task.news.items ≡ actives_news c.args.self.now.learned (telling_of {A = g.row.A.Denot} c.args.self.now) = grind (arith, common_steps) in
     λ bytes t tree r w single n h f.
     round_told bytes t tree r w single n c.args.self.now.learned (tasks_of {A = A} c.args.self.now) (telling_of {A = A} c.args.self.now)
-    (facts_view c.args.self.now.learned.instances.all.items c.loop-task.news.items) told h f
+    (facts_view c.args.self.now.learned.instances.all.items c.loop-task.news.items) (returns-clause-told g c) h f
