@@ -2,9 +2,9 @@
 
 ghost use Rattle.std.specs.Prelude.{◌≡◌, ◌+◌, ◌^◌, ◌<◌, ◌≤◌, length, drop, Some, None, false, slice_index};
 ghost use Rattle.lexer.specs.Kinds.{kind_of_word, symbol_of_one, symbol_of_two};
-ghost use Rattle.lexer.specs.Reading.{line_piece, block_piece, string_piece, word_of, word_piece, symbol_piece, slash_piece, piece};
+ghost use Rattle.lexer.specs.Reading.{line_piece, block_piece, string_piece, word_of, word_piece, symbol_piece, slash_piece, piece, width_of};
 
-use crate::bytes::{escaped_byte, is_allowed, is_blank, is_break, is_word_byte};
+use crate::bytes::{escaped_byte, is_allowed, is_blank, is_break, is_letter, is_word_byte};
 use crate::fault::LexFault;
 use crate::token::{Span, TokenKind};
 use crate::value::number_value;
@@ -17,31 +17,99 @@ pub enum Piece {
     Fault(LexFault),
 }
 
+/// The keyword that a word spells, or a name. It is compared with those of its length alone.
+#[tactic(auto, using(crate::proofs::Words::by_no_keyword))]
 fn kind_of_word(word: &[u8]) -> TokenKind
+    ensures { result ≡ kind_of_word word.now }
+{
+    match word.len() {
+        2 => kind_of_two(word),
+        3 => kind_of_three(word),
+        4 => kind_of_four(word),
+        5 => kind_of_five(word),
+        6 => kind_of_six(word),
+        7 => kind_of_seven(word),
+        _ => TokenKind::Name,
+    }
+}
+
+#[tactic(auto, using(crate::proofs::Words::by_two))]
+fn kind_of_two(word: &[u8]) -> TokenKind
+    requires { length word.now ≡ 2 }
+    ensures { result ≡ kind_of_word word.now }
+{
+    if word == b"if".as_slice() {
+        TokenKind::If
+    } else if word == b"in".as_slice() {
+        TokenKind::In
+    } else {
+        TokenKind::Name
+    }
+}
+
+#[tactic(auto, using(crate::proofs::Words::by_three))]
+fn kind_of_three(word: &[u8]) -> TokenKind
+    requires { length word.now ≡ 3 }
     ensures { result ≡ kind_of_word word.now }
 {
     if word == b"int".as_slice() {
         TokenKind::Int
-    } else if word == b"string".as_slice() {
-        TokenKind::String
-    } else if word == b"boolean".as_slice() {
-        TokenKind::Boolean
-    } else if word == b"if".as_slice() {
-        TokenKind::If
-    } else if word == b"else".as_slice() {
+    } else {
+        TokenKind::Name
+    }
+}
+
+#[tactic(auto, using(crate::proofs::Words::by_four))]
+fn kind_of_four(word: &[u8]) -> TokenKind
+    requires { length word.now ≡ 4 }
+    ensures { result ≡ kind_of_word word.now }
+{
+    if word == b"else".as_slice() {
         TokenKind::Else
-    } else if word == b"foreach".as_slice() {
-        TokenKind::Foreach
-    } else if word == b"in".as_slice() {
-        TokenKind::In
     } else if word == b"wait".as_slice() {
         TokenKind::Wait
-    } else if word == b"import".as_slice() {
-        TokenKind::Import
     } else if word == b"true".as_slice() {
         TokenKind::True
-    } else if word == b"false".as_slice() {
+    } else {
+        TokenKind::Name
+    }
+}
+
+#[tactic(auto, using(crate::proofs::Words::by_five))]
+fn kind_of_five(word: &[u8]) -> TokenKind
+    requires { length word.now ≡ 5 }
+    ensures { result ≡ kind_of_word word.now }
+{
+    if word == b"false".as_slice() {
         TokenKind::False
+    } else {
+        TokenKind::Name
+    }
+}
+
+#[tactic(auto, using(crate::proofs::Words::by_six))]
+fn kind_of_six(word: &[u8]) -> TokenKind
+    requires { length word.now ≡ 6 }
+    ensures { result ≡ kind_of_word word.now }
+{
+    if word == b"string".as_slice() {
+        TokenKind::String
+    } else if word == b"import".as_slice() {
+        TokenKind::Import
+    } else {
+        TokenKind::Name
+    }
+}
+
+#[tactic(auto, using(crate::proofs::Words::by_seven))]
+fn kind_of_seven(word: &[u8]) -> TokenKind
+    requires { length word.now ≡ 7 }
+    ensures { result ≡ kind_of_word word.now }
+{
+    if word == b"boolean".as_slice() {
+        TokenKind::Boolean
+    } else if word == b"foreach".as_slice() {
+        TokenKind::Foreach
     } else {
         TokenKind::Name
     }
@@ -233,5 +301,20 @@ pub fn first_piece(at: usize, bytes: &[u8]) -> Piece
         b'"' => string(at, bytes),
         b'/' => comment(at, bytes),
         _ => symbol(at, bytes),
+    }
+}
+
+/// The number of bytes of what stands at the front of a text, or its fault. It does not ask which keyword a word is.
+pub fn first_width(at: usize, bytes: &[u8]) -> Result<usize, LexFault>
+    requires room { at + length bytes.now < 2 ^ 64 }
+    requires begun { 1 ≤ length bytes.now }
+    ensures { result ≡ width_of (piece at bytes.now) }
+{
+    if is_letter(bytes[0]) {
+        return Ok(word(bytes).len());
+    }
+    match first_piece(at, bytes) {
+        Piece::Gap(n) | Piece::Token(_, n) => Ok(n),
+        Piece::Fault(fault) => Err(fault),
     }
 }

@@ -7,18 +7,11 @@ ghost use Rattle.lexer.specs.declared.fault.LexFault.{LexFault};
 ghost use Rattle.syntax.specs.Endings.{ending};
 
 use lexer::fault::LexFault;
-use lexer::lexer::Lexer;
+use lexer::lexer::first_fault;
 
 /// The fault that ends the tokens of a text, if there is one.
 pub fn fault_of(source: &[u8]) -> Option<LexFault>
     ensures { (ts : List Lexeme) (fault : Option LexFault) → Tokens source.now (map Ok ts ++ ending fault) → result ≡ fault }
 {
-    let mut lexer = Lexer::new(source);
-    while let Some(item) = lexer.next() {
-        match item {
-            Ok(_) => {}
-            Err(fault) => return Some(fault),
-        }
-    }
-    None
+    first_fault(source)
 }
