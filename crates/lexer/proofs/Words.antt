@@ -24,20 +24,20 @@ by_two w size =
     let apart : (n : ℕ) → n ≢ 2 → length w ≢ n = λ n ne e. ne (sym e ∙ size) in
     left_out w (codes "int") Int _ (apart 3 (λ e. cc)) ∙ left_out w (codes "string") String _ (apart 6 (λ e. cc)) ∙ left_out w (codes "boolean") Boolean _ (apart 7 (λ e. cc))
     ∙ ap (λ z. if bytes_eq w (codes "if") then If else z) (
-      left_out w (codes "else") Else _ (apart 4 (λ e. cc)) ∙ left_out w (codes "foreach") Foreach _ (apart 7 (λ e. cc))
-      ∙ ap (λ z. if bytes_eq w (codes "in") then In else z) (
-        left_out w (codes "wait") Wait _ (apart 4 (λ e. cc)) ∙ left_out w (codes "import") Import _ (apart 6 (λ e. cc))
-        ∙ left_out w (codes "true") True _ (apart 4 (λ e. cc)) ∙ left_out w (codes "false") False Name (apart 5 (λ e. cc))))
+    left_out w (codes "else") Else _ (apart 4 (λ e. cc)) ∙ left_out w (codes "foreach") Foreach _ (apart 7 (λ e. cc))
+    ∙ ap (λ z. if bytes_eq w (codes "in") then In else z) (
+    left_out w (codes "wait") Wait _ (apart 4 (λ e. cc)) ∙ left_out w (codes "import") Import _ (apart 6 (λ e. cc))
+    ∙ left_out w (codes "true") True _ (apart 4 (λ e. cc)) ∙ left_out w (codes "false") False Name (apart 5 (λ e. cc))))
 
 pub by_three : (w : List ℕ) → length w ≡ 3 → kind_of_word w ≡ (if bytes_eq w (codes "int") then Int else Name)
 by_three w size =
     let apart : (n : ℕ) → n ≢ 3 → length w ≢ n = λ n ne e. ne (sym e ∙ size) in
     ap (λ z. if bytes_eq w (codes "int") then Int else z) (
-      left_out w (codes "string") String _ (apart 6 (λ e. cc)) ∙ left_out w (codes "boolean") Boolean _ (apart 7 (λ e. cc))
-      ∙ left_out w (codes "if") If _ (apart 2 (λ e. cc)) ∙ left_out w (codes "else") Else _ (apart 4 (λ e. cc))
-      ∙ left_out w (codes "foreach") Foreach _ (apart 7 (λ e. cc)) ∙ left_out w (codes "in") In _ (apart 2 (λ e. cc))
-      ∙ left_out w (codes "wait") Wait _ (apart 4 (λ e. cc)) ∙ left_out w (codes "import") Import _ (apart 6 (λ e. cc))
-      ∙ left_out w (codes "true") True _ (apart 4 (λ e. cc)) ∙ left_out w (codes "false") False Name (apart 5 (λ e. cc)))
+    left_out w (codes "string") String _ (apart 6 (λ e. cc)) ∙ left_out w (codes "boolean") Boolean _ (apart 7 (λ e. cc))
+    ∙ left_out w (codes "if") If _ (apart 2 (λ e. cc)) ∙ left_out w (codes "else") Else _ (apart 4 (λ e. cc))
+    ∙ left_out w (codes "foreach") Foreach _ (apart 7 (λ e. cc)) ∙ left_out w (codes "in") In _ (apart 2 (λ e. cc))
+    ∙ left_out w (codes "wait") Wait _ (apart 4 (λ e. cc)) ∙ left_out w (codes "import") Import _ (apart 6 (λ e. cc))
+    ∙ left_out w (codes "true") True _ (apart 4 (λ e. cc)) ∙ left_out w (codes "false") False Name (apart 5 (λ e. cc)))
 
 pub by_four : (w : List ℕ) → length w ≡ 4 → kind_of_word w ≡ (if bytes_eq w (codes "else") then Else else (if bytes_eq w (codes "wait") then Wait else (if bytes_eq w (codes "true") then True else Name)))
 by_four w size =
@@ -45,10 +45,10 @@ by_four w size =
     left_out w (codes "int") Int _ (apart 3 (λ e. cc)) ∙ left_out w (codes "string") String _ (apart 6 (λ e. cc)) ∙ left_out w (codes "boolean") Boolean _ (apart 7 (λ e. cc))
     ∙ left_out w (codes "if") If _ (apart 2 (λ e. cc))
     ∙ ap (λ z. if bytes_eq w (codes "else") then Else else z) (
-      left_out w (codes "foreach") Foreach _ (apart 7 (λ e. cc)) ∙ left_out w (codes "in") In _ (apart 2 (λ e. cc))
-      ∙ ap (λ z. if bytes_eq w (codes "wait") then Wait else z) (
-        left_out w (codes "import") Import _ (apart 6 (λ e. cc))
-        ∙ ap (λ z. if bytes_eq w (codes "true") then True else z) (left_out w (codes "false") False Name (apart 5 (λ e. cc)))))
+    left_out w (codes "foreach") Foreach _ (apart 7 (λ e. cc)) ∙ left_out w (codes "in") In _ (apart 2 (λ e. cc))
+    ∙ ap (λ z. if bytes_eq w (codes "wait") then Wait else z) (
+    left_out w (codes "import") Import _ (apart 6 (λ e. cc))
+    ∙ ap (λ z. if bytes_eq w (codes "true") then True else z) (left_out w (codes "false") False Name (apart 5 (λ e. cc)))))
 
 pub by_five : (w : List ℕ) → length w ≡ 5 → kind_of_word w ≡ (if bytes_eq w (codes "false") then False else Name)
 by_five w size =
@@ -64,22 +64,22 @@ by_six w size =
     let apart : (n : ℕ) → n ≢ 6 → length w ≢ n = λ n ne e. ne (sym e ∙ size) in
     left_out w (codes "int") Int _ (apart 3 (λ e. cc))
     ∙ ap (λ z. if bytes_eq w (codes "string") then String else z) (
-      left_out w (codes "boolean") Boolean _ (apart 7 (λ e. cc)) ∙ left_out w (codes "if") If _ (apart 2 (λ e. cc))
-      ∙ left_out w (codes "else") Else _ (apart 4 (λ e. cc)) ∙ left_out w (codes "foreach") Foreach _ (apart 7 (λ e. cc))
-      ∙ left_out w (codes "in") In _ (apart 2 (λ e. cc)) ∙ left_out w (codes "wait") Wait _ (apart 4 (λ e. cc))
-      ∙ ap (λ z. if bytes_eq w (codes "import") then Import else z) (
-        left_out w (codes "true") True _ (apart 4 (λ e. cc)) ∙ left_out w (codes "false") False Name (apart 5 (λ e. cc))))
+    left_out w (codes "boolean") Boolean _ (apart 7 (λ e. cc)) ∙ left_out w (codes "if") If _ (apart 2 (λ e. cc))
+    ∙ left_out w (codes "else") Else _ (apart 4 (λ e. cc)) ∙ left_out w (codes "foreach") Foreach _ (apart 7 (λ e. cc))
+    ∙ left_out w (codes "in") In _ (apart 2 (λ e. cc)) ∙ left_out w (codes "wait") Wait _ (apart 4 (λ e. cc))
+    ∙ ap (λ z. if bytes_eq w (codes "import") then Import else z) (
+    left_out w (codes "true") True _ (apart 4 (λ e. cc)) ∙ left_out w (codes "false") False Name (apart 5 (λ e. cc))))
 
 pub by_seven : (w : List ℕ) → length w ≡ 7 → kind_of_word w ≡ (if bytes_eq w (codes "boolean") then Boolean else (if bytes_eq w (codes "foreach") then Foreach else Name))
 by_seven w size =
     let apart : (n : ℕ) → n ≢ 7 → length w ≢ n = λ n ne e. ne (sym e ∙ size) in
     left_out w (codes "int") Int _ (apart 3 (λ e. cc)) ∙ left_out w (codes "string") String _ (apart 6 (λ e. cc))
     ∙ ap (λ z. if bytes_eq w (codes "boolean") then Boolean else z) (
-      left_out w (codes "if") If _ (apart 2 (λ e. cc)) ∙ left_out w (codes "else") Else _ (apart 4 (λ e. cc))
-      ∙ ap (λ z. if bytes_eq w (codes "foreach") then Foreach else z) (
-        left_out w (codes "in") In _ (apart 2 (λ e. cc)) ∙ left_out w (codes "wait") Wait _ (apart 4 (λ e. cc))
-        ∙ left_out w (codes "import") Import _ (apart 6 (λ e. cc)) ∙ left_out w (codes "true") True _ (apart 4 (λ e. cc))
-        ∙ left_out w (codes "false") False Name (apart 5 (λ e. cc))))
+    left_out w (codes "if") If _ (apart 2 (λ e. cc)) ∙ left_out w (codes "else") Else _ (apart 4 (λ e. cc))
+    ∙ ap (λ z. if bytes_eq w (codes "foreach") then Foreach else z) (
+    left_out w (codes "in") In _ (apart 2 (λ e. cc)) ∙ left_out w (codes "wait") Wait _ (apart 4 (λ e. cc))
+    ∙ left_out w (codes "import") Import _ (apart 6 (λ e. cc)) ∙ left_out w (codes "true") True _ (apart 4 (λ e. cc))
+    ∙ left_out w (codes "false") False Name (apart 5 (λ e. cc))))
 
 pub by_no_keyword : (w : List ℕ) → length w ≢ 2 → length w ≢ 3 → length w ≢ 4 → length w ≢ 5 → length w ≢ 6 → length w ≢ 7 → kind_of_word w ≡ Name
 by_no_keyword w no_two no_three no_four no_five no_six no_seven =

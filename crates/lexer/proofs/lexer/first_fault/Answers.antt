@@ -25,7 +25,7 @@ pieces-preserved c =
     let sizes = c.split_at.ensures.back_len in (
       omega arith,
       c.pieces.invariant.1 ∙ (width_fits c.pieces.at c.in-Ok.n c.pieces.rest.now some c.in-Ok.ensures).2
-      ∙ ap (λ rest. fault_in (items_from (c.pieces.at + c.in-Ok.n) rest)) (sym c.split_at.ensures.back),
+          ∙ ap (λ rest. fault_in (items_from (c.pieces.at + c.in-Ok.n) rest)) (sym c.split_at.ensures.back),
     )
 
 pub returns-in-Err : goal.returns-in-Err
