@@ -1,7 +1,7 @@
 //! Texts with their tokens and their faults.
 
 use lexer::fault::LexFault;
-use lexer::lexer::Lexer;
+use lexer::lexer::{Lexer, first_fault};
 use lexer::token::{Span, Token, TokenKind};
 use lexer::value::{number_value, string_content};
 use std::alloc::Global;
@@ -31,7 +31,7 @@ fn is_fault(rt: &impl Abort, item: Option<Result<Token<'_>, LexFault>>, wanted: 
     assert_eq!(rt; item.expect(rt, "a fault").err(), Some(wanted));
 }
 
-/// The text has these tokens at these places, then this fault or its end.
+/// The text has these tokens at these places, then this fault or its end, and no other fault.
 fn expect(
     rt: &impl Abort,
     text: &[u8],
@@ -48,6 +48,7 @@ fn expect(
     }
     assert!(rt; lexer.next().is_none());
     assert!(rt; lexer.next().is_none());
+    assert_eq!(rt; first_fault(text), fault);
 }
 
 #[test]
