@@ -1,7 +1,6 @@
 use Rattle.std.proofs.Common.{rules, ◌≡◌, ◌++◌, ◌∷◌, [], List, Some, None, Ok, Err, sym, ap, ◌∙◌}
 use Rattle.flow.specs.View.{cell_view, form_view}
 use Rattle.syntax_trees.specs.Facts.{Fact}
-use Rattle.values.specs.declared.value.Value.{Value}
 use Rattle.whole_facts.specs.declared.facts.Fact.TheVariants as Is
 use Rattle.whole_facts.specs.declared.facts.Place.{Place}
 use Rattle.whole_facts.specs.Growing.{fact_view}
