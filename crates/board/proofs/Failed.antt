@@ -1,6 +1,6 @@
 -- A fault that an item meets is noted, and the fields stand for the state with it.
-use Rattle.std.proofs.Common.{◌≡◌, ℕ, List, [], ◌∷◌, ◌++◌, refl, sym, ap, ◌∙◌, subst, Option, None, Some, reverse}
-use Rattle.std.specs.Prelude.{false}
+use Rattle.std.proofs.Common.{◌≡◌, ℕ, List, [], ◌∷◌, ◌++◌, refl, sym, ap, ◌∙◌, subst, rules, Option, None, Some, reverse}
+use Rattle.std.specs.Prelude.{false, Result, Ok, Err, IfOk}
 use Rattle.std.proofs.lemmas.List.{reverse-reverse}
 use Rattle.dataflow.specs.System.{Answer, In}
 use Rattle.dataflow.specs.Machine.{End, Event, Fault, SeesAll}
@@ -176,6 +176,17 @@ pub script_effect_of : (C : Code) (core : Core) (j : Job) (is : j ≡ Script) (d
 script_effect_of C core j is done r told es w n I s runs own =
     subst (λ (i : Job). (o : IsWorkOf C (state_of C es) (task_of (frames_view core.world.instances.slots) i) done) → IsEffect C (frames_view core.world.instances.slots) (cells_view core.world.store.cells) i (computed_by C (task_of (frames_view core.world.instances.slots) i) o.inputs) r) (sym is)
     (λ o. told (frames_view core.world.instances.slots) (cells_view core.world.store.cells) (computed_by C (task_of (frames_view core.world.instances.slots) Script) o.inputs)) own
+
+-- the same of what comes of it, where there was memory
+pub entry_result : {X : Type 0} (C : Code) (core : Core) (k e c : ℕ) (j : Job) (is : j ≡ Does k e c) (done : Assigned) (x : PureEntry) (same : x ≡ entry_of C e) (table : EntryTable) → IsEntryTable C (body_of C e) e table → (r : Result Effect X)
+    → (IsAtWork C (frames_view core.world.instances.slots) k e x table → (answers : List (Answer Key Scalar)) → done.job ≡ Work.runs x → done.answers ≡ answers → IfOk r (λ a. IsEffect C (frames_view core.world.instances.slots) (cells_view core.world.store.cells) (Does k e c) (compute x.act answers) a))
+    → IfOk r (IsEffectOf C core j done)
+entry_result C core k e c j is done x same table tabled (Ok a) told = entry_effect C core k e c j is done x same table tabled a told
+entry_result C core k e c j is done x same table tabled (Err a) told = search rules
+
+pub script_result : {X : Type 0} (C : Code) (core : Core) (j : Job) (is : j ≡ Script) (done : Assigned) (r : Result Effect X) → ((fs : List (Option Frame)) (cs : List (Option Counted)) (y : Computed) → IfOk r (λ a. IsEffect C fs cs Script y a)) → IfOk r (IsEffectOf C core j done)
+script_result C core j is done (Ok a) told = script_effect_of C core j is done a told
+script_result C core j is done (Err a) told = search rules
 
 pub stays_if : (C : Code) (n : ℕ) (j : Job) (done : Assigned) (old new : Core) (e : Effect) → is_fault e ≡ false → StaysBy C n j e old new → IsEffectOf C old j done e → StaysIf C n j done old new
 stays_if C n j done old new e good stays effect es w I s free runs own = stays es w I s free runs own.inputs own.known (effect es w n I s runs own) good

@@ -26,10 +26,7 @@ impl Core {
         ensures { IfOk result (IsEffectOf program.now self.now (job_view job) done.now) }
     {
         match job {
-            Job::Script => {
-                let opens = script_effect(self.alloc, program)?;
-                Ok(opens)
-            }
+            Job::Script => return script_effect(self.alloc, program),
             Job::Does {
                 instance,
                 entry,
@@ -49,8 +46,7 @@ impl Core {
                         table,
                         chunk,
                     };
-                    let effect = ended.effect(done.outcome())?;
-                    Ok(effect)
+                    return ended.effect(done.outcome());
                 }
                 _ => Ok(Effect::Passes),
             },
