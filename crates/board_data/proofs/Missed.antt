@@ -1,6 +1,17 @@
 -- What is missed of several needs, one after the other.
 use Rattle.std.proofs.Common.{◌≡◌, ◌∙◌, refl, sym, ap, ℕ, zero, suc, ◌<◌, ◌≤◌, ◌+◌, List, [], ◌∷◌, ◌++◌, length, drop, drop-cons, get_or, add-one, arith, append_assoc, append-nil}
+use Rattle.std.specs.Prelude.{Option}
 use Rattle.std.specs.List.{flat_map}
+use Rattle.board_data.specs.Wanted.{value_missed}
+use Rattle.board_frames.specs.Names.{datum_of}
+use Rattle.replayed.specs.Fields.{Absent, Counted, DatumOf, LiteralOf, Slot}
+use Rattle.replayed.specs.Needs.{scalar_missed}
+
+-- a slot misses the value of its datum
+pub value_of_slot : (cs : List (Option Counted)) (s : Slot) → value_missed cs (datum_of s) ≡ scalar_missed cs s
+value_of_slot cs Absent = refl
+value_of_slot cs (DatumOf d) = refl
+value_of_slot cs (LiteralOf e k) = refl
 
 module _ {X Y : Type 0} (f : X → List Y) where
   step : (xs : List X) (i : ℕ) (d : X) → i < length xs → flat_map f (drop i xs) ≡ f (get_or xs i d) ++ flat_map f (drop (i + 1) xs)

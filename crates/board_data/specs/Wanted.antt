@@ -1,14 +1,25 @@
 -- What is found and missed where names lead.
-use Rattle.std.specs.Prelude.{◌≡◌, ◌≤◌, ◌^◌, length, ℕ, List, Option, Some, None}
+use Rattle.std.specs.Prelude.{◌≡◌, ◌≤◌, ◌^◌, length, ℕ, Bool, true, false, List, [], ◌∷◌, Option, Some, None}
 use Rattle.board_code.specs.declared.program.Wanted.{Wanted}
 use Rattle.board_code.specs.declared.program.Wanted.TheVariants as Waits
 use Rattle.board_code.specs.declared.spot.Spot.{Spot}
 use Rattle.replayed.specs.Fields.{Absent, Counted, DatumOf, Frame, LiteralOf, Slot, Want, literal, slot_at}
 use Rattle.replayed.specs.Needs.{array_missed, at_missed, cell_element, cell_value, element_missed, scalar_missed}
+use Rattle.replayed.specs.Stands.{scalar_wanted}
 use Rattle.task_code.specs.Code.{Code}
 use Rattle.task_code.specs.Compute.{key_of}
 use Rattle.values.specs.declared.key.Key.{Key}
 use Rattle.values.specs.declared.value.Scalar.{Scalar}
+
+-- something is in the list
+abbrev pub is_any : List (Want ℕ) → Bool
+is_any [] = false
+is_any (w ∷ ws) = true
+
+-- what is missed of a datum, if there is one, that is to have a value
+abbrev pub value_missed : List (Option Counted) → Option ℕ → List (Want ℕ)
+value_missed cs None = []
+value_missed cs (Some d) = scalar_wanted (cell_value (slot_at cs d)) d
 
 module _ (C : Code) (cs : List (Option Counted)) where
   -- the scalar that a slot stands for, once it is known

@@ -10,7 +10,7 @@ ghost use Rattle.replayed.specs.Needs.{array_missed, element_missed, index_misse
 ghost use Rattle.board_frames.specs.Names.{datum_of, led_slot};
 ghost use Rattle.board_frames.specs.View.{frames_view, slot_view};
 ghost use Rattle.board_data.specs.View.{cells_view, want_view, wants_in};
-ghost use Rattle.board_data.specs.Wanted.{element_in, scalar_in, wanted_found, wanted_missed};
+ghost use Rattle.board_data.specs.Wanted.{element_in, is_any, scalar_in, value_missed, wanted_found, wanted_missed};
 
 use crate::data::{element, is_closed, value};
 use board_code::key::copy_key;
@@ -91,6 +91,20 @@ fn missing_scalar(store: &Store, slot: Slot) -> Option<Input>
             None => Some(Input::Whole(d as u64)),
         },
         _ => None,
+    }
+}
+
+/// Whether a datum is to have a value, and has none.
+#[tactic(auto, using(crate::proofs::Cells::value_there))]
+fn lacks_value(store: &Store, target: Option<usize>) -> bool
+    ensures { result ≡ is_any (value_missed (cells_view store.now.cells) target) }
+{
+    match target {
+        Some(d) => match value(store, d) {
+            Some(_) => false,
+            None => true,
+        },
+        None => false,
     }
 }
 
@@ -213,6 +227,20 @@ impl<'a> View<'a> {
                 missing_at(self.program.code(), self.store, d, self.slot(*index))
             }
             Wanted::AtKey(array, key) => missing_element(self.store, self.slot(*array), key),
+        }
+    }
+
+    /// Whether something is missing now.
+    #[tactic(auto, using(crate::proofs::Missed::value_of_slot))]
+    pub fn misses(self, wanted: &Wanted) -> bool
+        ensures { result ≡ is_any (wanted_missed self.entry.program.now (cells_view self.entry.store.now.cells) (led_slot (frames_view self.entry.instances.now.slots) self.entry.at) wanted.now) }
+    {
+        match wanted {
+            Wanted::Stored(spot) => lacks_value(self.store, self.datum(*spot)),
+            _ => match self.missing(wanted) {
+                Some(_) => true,
+                None => false,
+            },
         }
     }
 
