@@ -8,7 +8,7 @@ use Rattle.dataflow.specs.System.{In}
 use Rattle.task_code.specs.Whole.{IsCode}
 use Rattle.board_code.specs.Tables.{body_of, body_or_script, queue_kind, wanted_in}
 use Rattle.board_code.specs.declared.program.Wanted.{Wanted}
-use Rattle.board_data.specs.Wanted.{FewSlots, wanted_missed}
+use Rattle.board_data.specs.Wanted.{FewSlots, is_any, wanted_missed}
 use Rattle.board_data.proofs.Named.{all_missed}
 use Rattle.board_frames.specs.Names.{led_slot}
 use Rattle.replayed.specs.Ending.{job_kind, job_priority}
@@ -35,6 +35,15 @@ kind_past C k e c j q h = sym (ap (λ (x : Job). queue_kind (job_kind C x)) q �
 
 pub priority_past : (C : Code) (k e c : ℕ) (j : Job) → j ≡ Does k e c → length C.entries ≤ e → pos 0 ≡ job_priority C j
 priority_past C k e c j q h = sym (ap (job_priority C) q ∙ ap (λ (x : Entry). x.priority) (nth_past C.entries e h))
+
+-- nothing is in a list, or something is
+pub any_none : (xs : List (Want ℕ)) → false ≡ is_any xs → xs ≡ []
+any_none [] h = refl
+any_none (x ∷ xs) h = absurd (cc h)
+
+pub any_some : (xs ys : List (Want ℕ)) → true ≡ is_any xs → false ≡ is_nil (xs ++ ys)
+any_some [] ys h = absurd (cc h)
+any_some (x ∷ xs) ys h = refl
 
 module _ (C : Code) (fs : List (Option Frame)) (cs : List (Option Counted)) where
   misses_at : (k e c : ℕ) (f : Frame) → slot_at fs k ≡ Some f → misses C fs cs (Does k e c) ≡ flat_map (missed C cs (slot_for (layout_of C) fs k f.body)) (entry C e).needs

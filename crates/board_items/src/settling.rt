@@ -44,11 +44,12 @@ pub struct Outlook<'a> {
 }
 
 /// Whether nothing is missed of what is waited for.
+#[tactic(auto, using(crate::proofs::Jobs::any_none, crate::proofs::Jobs::any_some))]
 fn has_all(view: View<'_>, needs: &[Wanted]) -> bool
     ensures { result ≡ is_nil (flat_map (wanted_missed view.entry.program.now (cells_view view.entry.store.now.cells) (led_slot (frames_view view.entry.instances.now.slots) view.entry.at)) needs.now) }
 {
     for wanted in needs {
-        if view.missing(wanted).is_some() {
+        if view.misses(wanted) {
             return false;
         }
     }
