@@ -172,6 +172,7 @@ fn reads(store: &Store) -> Option<u64> {
 fn first_is_missed(rt: &impl Abort, view: View<'_>) {
     let missing = view.missing(&Wanted::Stored(Some(FIRST)));
     assert!(rt; matches!(missing, Some(Input::Whole(0))));
+    assert!(rt; view.misses(&Wanted::Stored(Some(FIRST))));
 }
 
 /// What is missed is listed.
@@ -186,6 +187,7 @@ fn first_is_known(rt: &impl Abort, view: View<'_>) {
     assert_eq!(rt; view.datum(Some(FIRST)), Some(0));
     assert!(rt; matches!(view.scalar(Some(FIRST)), Some(Scalar::Truth(true))));
     assert!(rt; view.missing(&Wanted::Stored(Some(FIRST))).is_none());
+    assert!(rt; !view.misses(&Wanted::Stored(Some(FIRST))));
     assert!(rt; view.found(&Wanted::Closed(Some(FIRST))).is_none());
 }
 
