@@ -13,6 +13,7 @@ use Rattle.syntax_trees.specs.Tree.{Form, Expression, expression, expressions_of
 use Rattle.syntax_trees.specs.View.{word_of, expression_view, form_view, statement_view, command_view, body_view}
 use Rattle.constant_fold.specs.Folded.{scalars_of, called, called_operation, collapsed, folded, folded_form, folded_all, folded_statement, folded_command, folded_body, folded_statements}
 use Rattle.constant_fold.specs.Made.{settled, with_folded_parts}
+use Rattle.syntax_trees.proofs.Views.{view-Call, view-Chain, view-Element, view-Prefixed}
 use Rattle.constant_fold.proofs.Scripts.{all_of}
 
 -- EXPRESSIONS
@@ -21,38 +22,26 @@ lists : (xs ys : List Expression) → ys ≡ map folded xs → expressions_of ys
 lists xs ys same = ap expressions_of same ∙ all_of xs
 
 module _ {A : Type 0} where
-  view_element : (n : Name A) (b : Box (Expr A) A) → form_view (Element n b) ≡ element (word_of n) (expression_view b.value)
-  view_element n b = search (rules, the_lemmas)
+  pub element_parts : (k : ExprKind A) (n : Box (Name A) A) (b b' : Box (Expr A) A) → k ≡ Element n b → expression_view b'.value ≡ folded (expression_view b.value) → form_view (Element n b') ≡ with_folded_parts (form_view k)
+  element_parts k n b b' is inner = view-Element n b' ∙ ap (element (word_of n.value)) inner ∙ sym (ap with_folded_parts (ap form_view is ∙ view-Element n b))
 
-  view_call : (n : Name A) (v : Vec (Expr A) A) → form_view (Call n v) ≡ call (word_of n) (expressions_of (map expression_view v.items))
-  view_call n v = search (rules, the_lemmas)
-
-  view_prefixed : (p : Prefix) (b : Box (Expr A) A) → form_view (Prefixed p b) ≡ prefixed p (expression_view b.value)
-  view_prefixed p b = search (rules, the_lemmas)
-
-  view_chain : (o : Vec Operator A) (v : Vec (Expr A) A) → form_view (Chain o v) ≡ chain o.items (expressions_of (map expression_view v.items))
-  view_chain o v = search (rules, the_lemmas)
-
-  pub element_parts : (k : ExprKind A) (n : Name A) (b b' : Box (Expr A) A) → k ≡ Element n b → expression_view b'.value ≡ folded (expression_view b.value) → form_view (Element n b') ≡ with_folded_parts (form_view k)
-  element_parts k n b b' is inner = view_element n b' ∙ ap (element (word_of n)) inner ∙ sym (ap with_folded_parts (ap form_view is ∙ view_element n b))
-
-  pub call_parts : (k : ExprKind A) (n : Name A) (v v' : Vec (Expr A) A) → k ≡ Call n v → map expression_view v'.items ≡ map folded (map expression_view v.items) → form_view (Call n v') ≡ with_folded_parts (form_view k)
-  call_parts k n v v' is inner = view_call n v' ∙ ap (call (word_of n)) (lists (map expression_view v.items) (map expression_view v'.items) inner) ∙ sym (ap with_folded_parts (ap form_view is ∙ view_call n v))
+  pub call_parts : (k : ExprKind A) (n : Box (Name A) A) (v v' : Vec (Expr A) A) → k ≡ Call n v → map expression_view v'.items ≡ map folded (map expression_view v.items) → form_view (Call n v') ≡ with_folded_parts (form_view k)
+  call_parts k n v v' is inner = view-Call n v' ∙ ap (call (word_of n.value)) (lists (map expression_view v.items) (map expression_view v'.items) inner) ∙ sym (ap with_folded_parts (ap form_view is ∙ view-Call n v))
 
   pub prefixed_parts : (k : ExprKind A) (p : Prefix) (b b' : Box (Expr A) A) → k ≡ Prefixed p b → expression_view b'.value ≡ folded (expression_view b.value) → form_view (Prefixed p b') ≡ with_folded_parts (form_view k)
-  prefixed_parts k p b b' is inner = view_prefixed p b' ∙ ap (prefixed p) inner ∙ sym (ap with_folded_parts (ap form_view is ∙ view_prefixed p b))
+  prefixed_parts k p b b' is inner = view-Prefixed p b' ∙ ap (prefixed p) inner ∙ sym (ap with_folded_parts (ap form_view is ∙ view-Prefixed p b))
 
   pub chain_parts : (k : ExprKind A) (o : Vec Operator A) (v v' : Vec (Expr A) A) → k ≡ Chain o v → map expression_view v'.items ≡ map folded (map expression_view v.items) → form_view (Chain o v') ≡ with_folded_parts (form_view k)
-  chain_parts k o v v' is inner = view_chain o v' ∙ ap (chain o.items) (lists (map expression_view v.items) (map expression_view v'.items) inner) ∙ sym (ap with_folded_parts (ap form_view is ∙ view_chain o v))
+  chain_parts k o v v' is inner = view-Chain o v' ∙ ap (chain o.items) (lists (map expression_view v.items) (map expression_view v'.items) inner) ∙ sym (ap with_folded_parts (ap form_view is ∙ view-Chain o v))
 
-  pub call_settled : (k : ExprKind A) (n : Name A) (v : Vec (Expr A) A) → k ≡ Call n v → called (called_operation n.text.items) (scalars_of (expressions_of (map expression_view v.items))) (form_view k) ≡ settled (form_view k)
-  call_settled k n v is = let same = ap form_view is ∙ view_call n v in ap (called (called_operation n.text.items) (scalars_of (expressions_of (map expression_view v.items)))) same ∙ sym (ap settled same)
+  pub call_settled : (k : ExprKind A) (n : Box (Name A) A) (v : Vec (Expr A) A) → k ≡ Call n v → called (called_operation n.value.text.items) (scalars_of (expressions_of (map expression_view v.items))) (form_view k) ≡ settled (form_view k)
+  call_settled k n v is = let same = ap form_view is ∙ view-Call n v in ap (called (called_operation n.value.text.items) (scalars_of (expressions_of (map expression_view v.items)))) same ∙ sym (ap settled same)
 
   pub prefixed_settled : (k : ExprKind A) (p : Prefix) (b : Box (Expr A) A) → k ≡ Prefixed p b → collapsed (prefix_operation p) (scalars_of (expressions_of (expression_view b.value ∷ []))) (form_view k) ≡ settled (form_view k)
-  prefixed_settled k p b is = let same = ap form_view is ∙ view_prefixed p b in ap (collapsed (prefix_operation p) (scalars_of (expressions_of (expression_view b.value ∷ [])))) same ∙ sym (ap settled same)
+  prefixed_settled k p b is = let same = ap form_view is ∙ view-Prefixed p b in ap (collapsed (prefix_operation p) (scalars_of (expressions_of (expression_view b.value ∷ [])))) same ∙ sym (ap settled same)
 
   pub chain_settled : (k : ExprKind A) (o : Vec Operator A) (v : Vec (Expr A) A) → k ≡ Chain o v → collapsed (chain_operation o.items) (scalars_of (expressions_of (map expression_view v.items))) (form_view k) ≡ settled (form_view k)
-  chain_settled k o v is = let same = ap form_view is ∙ view_chain o v in ap (collapsed (chain_operation o.items) (scalars_of (expressions_of (map expression_view v.items)))) same ∙ sym (ap settled same)
+  chain_settled k o v is = let same = ap form_view is ∙ view-Chain o v in ap (collapsed (chain_operation o.items) (scalars_of (expressions_of (map expression_view v.items)))) same ∙ sym (ap settled same)
 
 -- a form is folded by its parts first
 pub by_parts : (f : Form) → settled (with_folded_parts f) ≡ folded_form f

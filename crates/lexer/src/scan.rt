@@ -1,6 +1,7 @@
 //! What stands at the front of a text.
 
 ghost use Rattle.std.specs.Prelude.{◌≡◌, ◌+◌, ◌^◌, ◌<◌, ◌≤◌, length, drop, Some, None, false, slice_index};
+ghost use Rattle.std.specs.Str.{bytes_eq};
 ghost use Rattle.lexer.specs.Kinds.{kind_of_word, symbol_of_one, symbol_of_two};
 ghost use Rattle.lexer.specs.Reading.{line_piece, block_piece, string_piece, word_of, word_piece, symbol_piece, slash_piece, piece, width_of};
 
@@ -17,99 +18,39 @@ pub enum Piece {
     Fault(LexFault),
 }
 
-/// The keyword that a word spells, or a name. It is compared with those of its length alone.
-#[tactic(auto, using(crate::proofs::Words::by_no_keyword))]
+/// Whether a word is this keyword. Lengths are compared first: most words have another.
+#[tactic(auto, using(crate::proofs::Words::other_length))]
+fn is_word(word: &[u8], keyword: &[u8]) -> bool
+    ensures { result ≡ bytes_eq word.now keyword.now }
+{
+    word.len() == keyword.len() && word == keyword
+}
+
 fn kind_of_word(word: &[u8]) -> TokenKind
     ensures { result ≡ kind_of_word word.now }
 {
-    match word.len() {
-        2 => kind_of_two(word),
-        3 => kind_of_three(word),
-        4 => kind_of_four(word),
-        5 => kind_of_five(word),
-        6 => kind_of_six(word),
-        7 => kind_of_seven(word),
-        _ => TokenKind::Name,
-    }
-}
-
-#[tactic(auto, using(crate::proofs::Words::by_two))]
-fn kind_of_two(word: &[u8]) -> TokenKind
-    requires { length word.now ≡ 2 }
-    ensures { result ≡ kind_of_word word.now }
-{
-    if word == b"if".as_slice() {
-        TokenKind::If
-    } else if word == b"in".as_slice() {
-        TokenKind::In
-    } else {
-        TokenKind::Name
-    }
-}
-
-#[tactic(auto, using(crate::proofs::Words::by_three))]
-fn kind_of_three(word: &[u8]) -> TokenKind
-    requires { length word.now ≡ 3 }
-    ensures { result ≡ kind_of_word word.now }
-{
-    if word == b"int".as_slice() {
+    if is_word(word, b"int".as_slice()) {
         TokenKind::Int
-    } else {
-        TokenKind::Name
-    }
-}
-
-#[tactic(auto, using(crate::proofs::Words::by_four))]
-fn kind_of_four(word: &[u8]) -> TokenKind
-    requires { length word.now ≡ 4 }
-    ensures { result ≡ kind_of_word word.now }
-{
-    if word == b"else".as_slice() {
-        TokenKind::Else
-    } else if word == b"wait".as_slice() {
-        TokenKind::Wait
-    } else if word == b"true".as_slice() {
-        TokenKind::True
-    } else {
-        TokenKind::Name
-    }
-}
-
-#[tactic(auto, using(crate::proofs::Words::by_five))]
-fn kind_of_five(word: &[u8]) -> TokenKind
-    requires { length word.now ≡ 5 }
-    ensures { result ≡ kind_of_word word.now }
-{
-    if word == b"false".as_slice() {
-        TokenKind::False
-    } else {
-        TokenKind::Name
-    }
-}
-
-#[tactic(auto, using(crate::proofs::Words::by_six))]
-fn kind_of_six(word: &[u8]) -> TokenKind
-    requires { length word.now ≡ 6 }
-    ensures { result ≡ kind_of_word word.now }
-{
-    if word == b"string".as_slice() {
+    } else if is_word(word, b"string".as_slice()) {
         TokenKind::String
-    } else if word == b"import".as_slice() {
-        TokenKind::Import
-    } else {
-        TokenKind::Name
-    }
-}
-
-#[tactic(auto, using(crate::proofs::Words::by_seven))]
-fn kind_of_seven(word: &[u8]) -> TokenKind
-    requires { length word.now ≡ 7 }
-    ensures { result ≡ kind_of_word word.now }
-{
-    if word == b"boolean".as_slice() {
+    } else if is_word(word, b"boolean".as_slice()) {
         TokenKind::Boolean
-    } else if word == b"foreach".as_slice() {
+    } else if is_word(word, b"if".as_slice()) {
+        TokenKind::If
+    } else if is_word(word, b"else".as_slice()) {
+        TokenKind::Else
+    } else if is_word(word, b"foreach".as_slice()) {
         TokenKind::Foreach
+    } else if is_word(word, b"in".as_slice()) {
+        TokenKind::In
+    } else if is_word(word, b"wait".as_slice()) {
+        TokenKind::Wait
+    } else if is_word(word, b"import".as_slice()) {
+        TokenKind::Import
+    } else if is_word(word, b"true".as_slice()) {
+        TokenKind::True
+    } else if is_word(word, b"false".as_slice()) {
+        TokenKind::False
     } else {
         TokenKind::Name
     }

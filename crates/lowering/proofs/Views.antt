@@ -1,14 +1,12 @@
 -- How parts of a tree and of a flow are seen.
 use Rattle.std.proofs.Common.{rules, arith, ◌≡◌, ◌<◌, ◌++◌, List, [], ◌∷◌, map, length, get_or, Some, None, refl, sym, ap, ◌∙◌}
-use Rattle.std.specs.Prelude.{Option, Vec, Box}
-use Rattle.syntax_trees.specs.declared.tree.Operator.{Operator}
+use Rattle.std.specs.Prelude.{Option, Vec}
 use Rattle.syntax_trees.specs.declared.tree.Prefix.{Prefix}
-use Rattle.syntax_trees.specs.declared.tree.Name.{Name}
 use Rattle.syntax_trees.specs.declared.tree.Expr.{Expr, out-Expr}
-use Rattle.syntax_trees.specs.declared.tree.ExprKind.{Call, Chain, Prefixed, the_lemmas}
+use Rattle.syntax_trees.specs.declared.tree.ExprKind.{the_lemmas}
 use Rattle.syntax_trees.specs.Tree as T
 use Rattle.syntax_trees.specs.Tree.{Node, Expression, Expressions, expression, and_expression, expressions_of}
-use Rattle.syntax_trees.specs.View.{word_of, expression_view, form_view}
+use Rattle.syntax_trees.specs.View.{expression_view, form_view}
 use Rattle.syntax_trees.specs.Table.{Table}
 use Rattle.syntax_trees.specs.Core as core
 use Rattle.syntax_trees.specs.Core.{none, also}
@@ -20,15 +18,6 @@ use Rattle.flow.specs.declared.expression.Operation.{Operation as Operator'}
 use Rattle.flow.specs.declared.expression.Expr.{Expr as Found, Whole, Operation, the_lemmas as flow_lemmas}
 use Rattle.flow.specs.View.{name_view, expr_view, exprs_view, operation_view, parts_view}
 use Rattle.lowering.specs.View.{Leaves, variable_named}
-
-pub view_call : {A : Type 0} → (n : Name A) (v : Vec (Expr A) A) → form_view (Call n v) ≡ T.call (word_of n) (expressions_of (map expression_view v.items))
-view_call n v = search (rules, the_lemmas)
-
-pub view_chain : {A : Type 0} → (o : Vec Operator A) (v : Vec (Expr A) A) → form_view (Chain o v) ≡ T.chain o.items (expressions_of (map expression_view v.items))
-view_chain o v = search (rules, the_lemmas)
-
-pub view_prefixed : {A : Type 0} → (p : Prefix) (e : Box (Expr A) A) → form_view (Prefixed p e) ≡ T.prefixed p (expression_view e.value)
-view_prefixed p e = search (rules, the_lemmas)
 
 pub view_expr : (A : Type 0) → (e : Expr A)
     → expression_view e ≡ expression (record { number = (out-Expr A e).number; first = (out-Expr A e).first; to = (out-Expr A e).to }) (form_view (out-Expr A e).kind)

@@ -1,5 +1,5 @@
 -- Numbers and sizes of lists, and of the variants that hold lists.
-use Rattle.std.proofs.Common.{◌≡◌, ℕ, ◌<◌, ◌≤◌, ◌+◌, List, [], ◌∷◌, ◌++◌, map, take, length, get_or, ap, ap₂, refl, sym, ◌∙◌, Vec, arith}
+use Rattle.std.proofs.Common.{◌≡◌, ℕ, ◌<◌, ◌≤◌, ◌+◌, List, [], ◌∷◌, ◌++◌, map, take, length, get_or, ap, ap₂, refl, sym, ◌∙◌, Vec, Box, arith}
 use Rattle.std.proofs.lemmas.List.{map_push, map_more, take_all}
 use Rattle.std.proofs.lemmas.List.Sums.{sum_by-cons}
 use Rattle.std.specs.List.{sum_by}
@@ -49,15 +49,15 @@ numbered-statements_of n [] = refl
 numbered-statements_of n (s ∷ ss) = ap (and_statement (numbered_statement n s)) (numbered-statements_of (n + statement_size s) ss)
 
 -- the variants that hold lists
-pub size-Call : (A : Type 0) (w : Name A) (v : Vec (Expr A) A) → form_size (form_view (Call w v)) ≡ 1 + sum_by expression_size (map expression_view v.items)
+pub size-Call : (A : Type 0) (w : Box (Name A) A) (v : Vec (Expr A) A) → form_size (form_view (Call w v)) ≡ 1 + sum_by expression_size (map expression_view v.items)
 size-Call A w v = ap form_size (view-Call w v) ∙ ap (λ n. 1 + n) (expressions_size-expressions_of (map expression_view v.items))
 
 pub size-Chain : (A : Type 0) (o : Vec Operator A) (v : Vec (Expr A) A) → form_size (form_view (Chain o v)) ≡ sum_by expression_size (map expression_view v.items)
 size-Chain A o v = ap form_size (view-Chain o v) ∙ expressions_size-expressions_of (map expression_view v.items)
 
-pub numbered-Call : (A : Type 0) (n : ℕ) (w : Name A) (v : Vec (Expr A) A)
-    → numbered_form n (form_view (Call w v)) ≡ call (numbered_word n (word_of w)) (expressions_of (numbered_each numbered_expression expression_size (n + 1) (map expression_view v.items)))
-numbered-Call A n w v = ap (numbered_form n) (view-Call w v) ∙ ap (call (numbered_word n (word_of w))) (numbered-expressions_of (n + 1) (map expression_view v.items))
+pub numbered-Call : (A : Type 0) (n : ℕ) (w : Box (Name A) A) (v : Vec (Expr A) A)
+    → numbered_form n (form_view (Call w v)) ≡ call (numbered_word n (word_of w.value)) (expressions_of (numbered_each numbered_expression expression_size (n + 1) (map expression_view v.items)))
+numbered-Call A n w v = ap (numbered_form n) (view-Call w v) ∙ ap (call (numbered_word n (word_of w.value))) (numbered-expressions_of (n + 1) (map expression_view v.items))
 
 pub numbered-Chain : (A : Type 0) (n : ℕ) (o : Vec Operator A) (v : Vec (Expr A) A)
     → numbered_form n (form_view (Chain o v)) ≡ chain o.items (expressions_of (numbered_each numbered_expression expression_size n (map expression_view v.items)))

@@ -4,22 +4,29 @@ use Rattle.std.proofs.lemmas.List.{length-map, get_or-map}
 use Rattle.std.proofs.lemmas.List.Sums.{get_or-le-sum_by, sum_by-cons}
 use Rattle.std.specs.List.{sum_by}
 use Rattle.std.specs.Prelude.{option_map}
-use Rattle.syntax_trees.specs.Tree.{call, chain, expressions_of, Word, Over, Statement, statements_of, Body, body, loop, waits}
+use Rattle.syntax_trees.specs.Tree.{call, chain, element, prefixed, expressions_of, Word, Over, Statement, statements_of, Body, body, loop, waits}
 use Rattle.syntax_trees.specs.View.{word_of, expression_view, form_view, words_view, over_of, statement_view, command_view, body_view}
 use Rattle.syntax_trees.specs.Numbered.{statements_size, statement_size, body_size}
 use Rattle.syntax_trees.specs.declared.tree.Name.{Name}
 use Rattle.syntax_trees.specs.declared.tree.Operator.{Operator}
+use Rattle.syntax_trees.specs.declared.tree.Prefix.{Prefix}
 use Rattle.syntax_trees.specs.declared.tree.Expr.{Expr}
-use Rattle.syntax_trees.specs.declared.tree.ExprKind.{Call, Chain, the_lemmas}
+use Rattle.syntax_trees.specs.declared.tree.ExprKind.{Call, Chain, Element, Prefixed, the_lemmas}
 use Rattle.syntax_trees.specs.declared.tree.Header.{Header}
 use Rattle.syntax_trees.specs.declared.tree.Block.{Block, out-Block}
 use Rattle.syntax_trees.specs.declared.tree.StmtKind.{Foreach, Wait, the_lemmas as statement_lemmas}
 
-pub view-Call : {A : Type 0} → (n : Name A) (v : Vec (Expr A) A) → form_view (Call n v) ≡ call (word_of n) (expressions_of (map expression_view v.items))
+pub view-Call : {A : Type 0} → (n : Box (Name A) A) (v : Vec (Expr A) A) → form_view (Call n v) ≡ call (word_of n.value) (expressions_of (map expression_view v.items))
 view-Call n v = search (rules, the_lemmas)
 
 pub view-Chain : {A : Type 0} → (o : Vec Operator A) (v : Vec (Expr A) A) → form_view (Chain o v) ≡ chain o.items (expressions_of (map expression_view v.items))
 view-Chain n v = search (rules, the_lemmas)
+
+pub view-Element : {A : Type 0} → (n : Box (Name A) A) (b : Box (Expr A) A) → form_view (Element n b) ≡ element (word_of n.value) (expression_view b.value)
+view-Element n b = search (rules, the_lemmas)
+
+pub view-Prefixed : {A : Type 0} → (p : Prefix) (b : Box (Expr A) A) → form_view (Prefixed p b) ≡ prefixed p (expression_view b.value)
+view-Prefixed p b = search (rules, the_lemmas)
 
 -- an element is no larger than the list
 pub size_of_element : {X Y : Type 0} (f : X → Y) (size : Y → ℕ) (xs : List X) (i : ℕ) (x : X)

@@ -82,11 +82,11 @@ fn copy_kind<A: Allocator, B: Allocator + Clone>(
         ExprKind::Truth(b) => Ok(ExprKind::Truth(*b)),
         ExprKind::Variable(name) => Ok(ExprKind::Variable(copy_name(name, alloc)?)),
         ExprKind::Element(name, index) => Ok(ExprKind::Element(
-            copy_name(name, alloc)?,
+            Box::new(alloc.clone()?, copy_name(name, alloc)?)?,
             copy_boxed(index, alloc)?,
         )),
         ExprKind::Call(name, arguments) => Ok(ExprKind::Call(
-            copy_name(name, alloc)?,
+            Box::new(alloc.clone()?, copy_name(name, alloc)?)?,
             copy_exprs(arguments, alloc)?,
         )),
         ExprKind::Prefixed(sign, operand) => {

@@ -1,5 +1,5 @@
 -- What holds lists that are numbered in their places.
-use Rattle.std.proofs.Common.{◌≡◌, ◌+◌, ℕ, false, map, rules, ap, ap₂, sym, ◌∙◌, Vec}
+use Rattle.std.proofs.Common.{◌≡◌, ◌+◌, ℕ, false, map, rules, ap, ap₂, sym, ◌∙◌, Vec, Box}
 use Rattle.syntax_trees.specs.declared.tree.Name.{Name}
 use Rattle.syntax_trees.specs.declared.tree.Operator.{Operator}
 use Rattle.syntax_trees.specs.declared.tree.Expr.{Expr}
@@ -30,7 +30,7 @@ block_numbered A n b v inner =
 
 -- THE FORMS THAT HOLD EXPRESSIONS
 
-pub call_numbered : (A : Type 0) (n : ℕ) (k : ExprKind A) (w w' : Name A) (v v' : Vec (Expr A) A) → k ≡ Call w v → word_of w' ≡ numbered_word n (word_of w)
+pub call_numbered : (A : Type 0) (n : ℕ) (k : ExprKind A) (w w' : Box (Name A) A) (v v' : Vec (Expr A) A) → k ≡ Call w v → word_of w'.value ≡ numbered_word n (word_of w.value)
     → map expression_view v'.items ≡ numbered_each numbered_expression expression_size (n + 1) (map expression_view v.items)
     → form_view (Call w' v') ≡ numbered_form n (form_view k)
 call_numbered A n k w w' v v' is word inner =

@@ -4,9 +4,7 @@ use Rattle.std.specs.Prelude.{ℤ, Vec, Box, Option, Some, None, option_map}
 use Rattle.lexer.specs.declared.token.Span.{Span}
 use Rattle.syntax_trees.specs.declared.tree.Name.{Name}
 use Rattle.syntax_trees.specs.declared.tree.Expr.{Expr}
-use Rattle.syntax_trees.specs.declared.tree.Operator.{Operator}
-use Rattle.syntax_trees.specs.declared.tree.Prefix.{Prefix}
-use Rattle.syntax_trees.specs.declared.tree.ExprKind.{ExprKind, Text, Call as CallKind, Prefixed, Chain, the_lemmas}
+use Rattle.syntax_trees.specs.declared.tree.ExprKind.{ExprKind, Text, the_lemmas}
 use Rattle.syntax_trees.specs.declared.tree.Call.{Call}
 use Rattle.syntax_trees.specs.declared.tree.Stmt.{Stmt}
 use Rattle.syntax_trees.specs.declared.tree.Block.{Block}
@@ -15,22 +13,13 @@ use Rattle.syntax_trees.specs.declared.tree.Decl.{Decl}
 use Rattle.syntax_trees.specs.declared.tree.Function.{Function}
 use Rattle.syntax.specs.Answers.{branch_view}
 use Rattle.syntax_trees.specs.declared.tree.StmtKind.{StmtKind, AssignAll, If, Foreach, Wait, the_lemmas as statement_lemmas}
-use Rattle.syntax_trees.specs.Tree.{Composite, Command, statement, assign_all, calls, loop, waits, expression, Form, text, call, prefixed, chain, expressions_of}
-use Rattle.syntax_trees.specs.View.{word_of, expression_view, form_view, expressions_view, words_view, calling_of, statement_view, command_view, body_view, over_of, choice_of, composite_of, declarations_view}
+use Rattle.syntax_trees.specs.Tree.{Composite, Command, statement, assign_all, calls, loop, waits, expression, Form, text}
+use Rattle.syntax_trees.specs.View.{word_of, expression_view, form_view, words_view, calling_of, statement_view, command_view, body_view, over_of, choice_of, composite_of, declarations_view}
 use Rattle.syntax_trees.specs.Rules.{Place}
 use Rattle.syntax_trees.specs.Grammar.{first_of, node, spans, does}
 
 pub view-Text : {A : Type 0} (v : Vec ℕ A) → form_view {A = A} (Text v) ≡ text v.items
 view-Text v = search (rules, the_lemmas)
-
-pub view-Call : {A : Type 0} (n : Name A) (v : Vec (Expr A) A) → form_view {A = A} (CallKind n v) ≡ call (word_of n) (expressions_of (expressions_view v))
-view-Call n v = search (rules, the_lemmas)
-
-pub view-Prefixed : {A : Type 0} (p : Prefix) (b : Box (Expr A) A) → form_view {A = A} (Prefixed p b) ≡ prefixed p (expression_view b.value)
-view-Prefixed p b = search (rules, the_lemmas)
-
-pub view-Chain : {A : Type 0} (o : Vec Operator A) (v : Vec (Expr A) A) → form_view {A = A} (Chain o v) ≡ chain o.items (expressions_of (expressions_view v))
-view-Chain o v = search (rules, the_lemmas)
 
 pub view-AssignAll : {A : Type 0} (v : Vec (Name A) A) (c : Box (Call A) A) → command_view {A = A} (AssignAll v c) ≡ assign_all (words_view v) (calling_of c.value)
 view-AssignAll v c = search (rules, statement_lemmas)

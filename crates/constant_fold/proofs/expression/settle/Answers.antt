@@ -1,5 +1,6 @@
 use Rattle.std.proofs.Common.{map, List, ap, ◌∙◌, ℕ}
 use Rattle.syntax_trees.specs.declared.tree.Expr.{Expr}
+use Rattle.syntax_trees.specs.declared.tree.Name.{Name}
 use Rattle.syntax_trees.specs.declared.tree.Operator.{Operator}
 use Rattle.syntax_trees.specs.Resolved.{chain_operation}
 use Rattle.syntax_trees.specs.Tree.{expressions_of}
@@ -14,7 +15,8 @@ returns-in_ok-found-in-Call g c =
     let k = c.args.kind.now in
     c.in_ok-found-in-Call.ensures (form_view {A = A} k)
     ∙ ap (λ (ws : List ℕ). called (called_operation ws) (scalars_of (expressions_of (map (expression_view {A = A}) c.as_slice-in-Call.result.now))) (form_view {A = A} k)) c.as_slice.ensures.value
-    ∙ ap (λ (es : List (Expr A)). called (called_operation c.in-Call.name.text.items) (scalars_of (expressions_of (map (expression_view {A = A}) es))) (form_view {A = A} k)) c.as_slice-in-Call.ensures.value
+    ∙ ap (λ (n : Name A). called (called_operation n.text.items) (scalars_of (expressions_of (map (expression_view {A = A}) c.as_slice-in-Call.result.now))) (form_view {A = A} k)) c.deref.ensures
+    ∙ ap (λ (es : List (Expr A)). called (called_operation c.in-Call.name.value.text.items) (scalars_of (expressions_of (map (expression_view {A = A}) es))) (form_view {A = A} k)) c.as_slice-in-Call.ensures.value
     ∙ call_settled k c.in-Call.name c.in-Call.arguments c.in-Call.is
 
 pub returns-in_ok-found-in-Chain : goal.returns-in_ok-found-in-Chain

@@ -15,7 +15,8 @@ use Rattle.flow.specs.View as seen
 use Rattle.flow.specs.View.{expr_view, exprs_view, names_view}
 use Rattle.lowering.specs.View.{Leaves}
 use Rattle.lowering.proofs.Operands.{before, from_on, operands_more, operands_all, arguments_more, arguments_all}
-use Rattle.lowering.proofs.Views.{view_call, view_chain, view_prefixed, view_operation, prefixed_found}
+use Rattle.syntax_trees.proofs.Views.{view-Call, view-Chain, view-Prefixed}
+use Rattle.lowering.proofs.Views.{view_operation, prefixed_found}
 use Rattle.lowering.proofs.expression.+expression.Goals as goal
 
 pub called-returns-in-BuiltIn : goal.called-returns-in-BuiltIn
@@ -53,7 +54,8 @@ pub kind_form-returns-in-Call : goal.kind_form-returns-in-Call
 kind_form-returns-in-Call g t c =
     let tb = table_of c.args.typed.now in
     let P : pure.Form → Type 0 = λ k. IfOk c.called.result (λ x. Leaves c.args.parts.now.items c.called.new.parts.items (seen.form_view x) (rules.form_in tb k)) in
-    subst P (sym (ap form_view c.in-Call.is ∙ view_call c.in-Call.name c.in-Call.arguments)) c.called.ensures
+    let es = expressions_of (map (expression_view {A = g.row.A.Denot}) c.in-Call.arguments.items) in
+    subst P (ap (λ n. pure.call (word_of {A = g.row.A.Denot} n) es) c.deref-in-Call.ensures ∙ sym (ap form_view c.in-Call.is ∙ view-Call c.in-Call.name c.in-Call.arguments)) c.called.ensures
 
 pub kind_form-returns-in_ok-operands-in-Prefixed : goal.kind_form-returns-in_ok-operands-in-Prefixed
 kind_form-returns-in_ok-operands-in-Prefixed g t c =
@@ -62,7 +64,7 @@ kind_form-returns-in_ok-operands-in-Prefixed g t c =
     let one = c.in_ok-one-in-Prefixed.one in
     let ops = c.in_ok-operands-in-Prefixed.operands in
     prefixed_found tb c.in-Prefixed.prefix (form_view c.args.kind.now) (expression_view {A = A} c.deref-in-Prefixed.result.now) c.args.parts.now.items c.operand.new.parts.items one _
-    (ap form_view c.in-Prefixed.is ∙ view_prefixed c.in-Prefixed.prefix c.in-Prefixed.expr ∙ ap (λ e. pure.prefixed c.in-Prefixed.prefix (expression_view {A = A} e)) (sym c.deref-in-Prefixed.ensures))
+    (ap form_view c.in-Prefixed.is ∙ view-Prefixed c.in-Prefixed.prefix c.in-Prefixed.expr ∙ ap (λ e. pure.prefixed c.in-Prefixed.prefix (expression_view {A = A} e)) (sym c.deref-in-Prefixed.ensures))
     c.in_ok-one-in-Prefixed.ensures
     (view_operation c.of_prefix.result ops ∙ ap₂ core.operator c.of_prefix.ensures (ap exprs_view c.in_ok-operands-in-Prefixed.ensures))
 
@@ -73,7 +75,7 @@ kind_form-returns-in_ok-operation-in-Chain g t c =
     let es = expressions_of (map (expression_view {A = A}) c.in-Chain.exprs.items) in
     let P : pure.Form → Type 0 = λ f. IfOk c.operation_on.result (λ x. Leaves c.args.parts.now.items c.operation_on.new.parts.items (seen.form_view x) (rules.form_in tb f)) in
     let Q : Operation → Type 0 = λ o. IfOk c.operation_on.result (λ x. Leaves c.args.parts.now.items c.operation_on.new.parts.items (seen.form_view x) (rules.computes o (rules.operands_of tb es))) in
-    subst P (sym (ap form_view c.in-Chain.is ∙ view_chain c.in-Chain.operators c.in-Chain.exprs))
+    subst P (sym (ap form_view c.in-Chain.is ∙ view-Chain c.in-Chain.operators c.in-Chain.exprs))
     (subst Q (c.in_ok-operation-in-Chain.ensures ∙ ap rules.chain_operation c.as_slice-in-Chain.ensures.value) c.operation_on.ensures)
 
 pub operands-loop-i-preserved : goal.operands-loop-i-preserved

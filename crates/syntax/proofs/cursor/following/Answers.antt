@@ -4,7 +4,8 @@ use Rattle.lexer.specs.Tokens.{HasForm}
 use Rattle.syntax.proofs.combining.Collected.{form_of}
 use Rattle.syntax.proofs.cursor.following.Goals as goal
 
-pub returns-in-Ok-clause-formed : goal.returns-in-Ok-clause-formed
-returns-in-Ok-clause-formed c =
-    let form : HasForm c.in-Ok.token.kind c.in-Ok.token.text.now = subst (λ x. IfOk x (λ t. HasForm t.kind t.text.now)) c.in-Ok.is c.in-Some.ensures.form in
-    form_of c.in-Ok.token.kind c.in-Ok.token.text.now form
+pub returns-in-Some-Ok-clause-formed : goal.returns-in-Some-Ok-clause-formed
+returns-in-Some-Ok-clause-formed c =
+    let token = c.in-Some-Ok.token in
+    let form : HasForm token.kind token.text.now = subst (λ x. IfOk x (λ t. HasForm t.kind t.text.now)) c.in-Some-Ok.field-0-is c.in-Some-Ok.ensures.form in
+    form_of token.kind token.text.now form

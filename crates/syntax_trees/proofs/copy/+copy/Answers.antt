@@ -2,7 +2,7 @@ use Rattle.std.proofs.Common.{rules, ◌≡◌, ◌≤◌, ◌++◌, ◌∷◌, 
 use Rattle.std.proofs.lemmas.Grind.{common_steps}
 use Rattle.std.specs.List.{sum_by}
 use Rattle.syntax_trees.specs.Tree.{call, chain, expressions_of}
-use Rattle.syntax_trees.specs.View.{expression_view, form_view}
+use Rattle.syntax_trees.specs.View.{word_of, expression_view, form_view}
 use Rattle.syntax_trees.specs.Numbered.{expression_size, form_size}
 use Rattle.syntax_trees.proofs.Views.{view-Call, view-Chain, size_of_element}
 use Rattle.syntax_trees.proofs.Numbering.{copied_more, viewed_all, size-Call, size-Chain}
@@ -35,8 +35,9 @@ copy_kind-copy_exprs-requires-in-Chain g t c κs within =
 
 pub copy_kind-returns-in_ok-copy_exprs-in-Call : goal.copy_kind-returns-in_ok-copy_exprs-in-Call
 copy_kind-returns-in_ok-copy_exprs-in-Call g t c =
-    view-Call c.in_ok-copy_name-in-Call.field-0 c.in_ok-copy_exprs-in-Call.field-0
-    ∙ ap₂ call c.in_ok-copy_name-in-Call.ensures (ap expressions_of c.in_ok-copy_exprs-in-Call.ensures)
+    let boxed : c.in_ok-new-in-Call.field-0.value ≡ c.in_ok-copy_name-in-Call.field-0 = grind (arith, common_steps) in
+    view-Call c.in_ok-new-in-Call.field-0 c.in_ok-copy_exprs-in-Call.field-0
+    ∙ ap₂ call (ap word_of boxed ∙ c.in_ok-copy_name-in-Call.ensures ∙ ap (word_of {A = g.row.A.Denot}) c.deref-in-Call.ensures) (ap expressions_of c.in_ok-copy_exprs-in-Call.ensures)
     ∙ sym (ap (form_view {A = g.row.A.Denot}) c.in-Call.is ∙ view-Call c.in-Call.name c.in-Call.arguments)
 
 pub copy_kind-returns-in_ok-copy_exprs-in-Chain : goal.copy_kind-returns-in_ok-copy_exprs-in-Chain

@@ -1,4 +1,5 @@
-use Rattle.std.proofs.Common.{rules, map, ap, ◌∙◌}
+use Rattle.std.proofs.Common.{rules, map, ap, ◌∙◌, Box}
+use Rattle.syntax_trees.specs.declared.tree.Name.{Name}
 use Rattle.syntax_trees.specs.View.{word_of, expression_view, form_view}
 use Rattle.syntax_trees.specs.Numbered.{expression_size, form_size, numbered_each, numbered_word, numbered_expression, numbered_form}
 use Rattle.syntax_trees.proofs.Numbering.{size-Call, size-Chain}
@@ -17,11 +18,13 @@ form-expressions-requires-in-Chain g t c κs within =
 
 pub form-returns-in-Call-clause-numbered : goal.form-returns-in-Call-clause-numbered
 form-returns-in-Call-clause-numbered g t c =
-    call_numbered g.row.A.Denot c.args.from c.args.kind.now c.in-Call.function c.name-next-in-Call.new.name c.in-Call.arguments c.expressions.new.exprs c.in-Call.is
-    (c.name-next-in-Call.ensures.numbered ∙ ap (λ w. numbered_word c.args.from (word_of {A = g.row.A.Denot} w)) c.in-Call.function-is)
+    let A = g.row.A.Denot in
+    call_numbered A c.args.from c.args.kind.now c.in-Call.function _ c.in-Call.arguments c.expressions.new.exprs c.in-Call.is
+    (c.name-next-in-Call.ensures.numbered
+    ∙ ap (λ w. numbered_word c.args.from (word_of {A = A} w)) (c.deref_mut-in-Call.ensures.value ∙ ap (λ (b : Box (Name A) A). b.value) c.in-Call.function-is))
     (c.expressions.ensures.numbered
-    ∙ ap (λ v. numbered_each numbered_expression expression_size c.name-next-in-Call.result (map (expression_view {A = g.row.A.Denot}) v.items)) c.in-Call.arguments-is
-    ∙ ap (λ n. numbered_each numbered_expression expression_size n (map (expression_view {A = g.row.A.Denot}) c.in-Call.arguments.items)) c.name-next-in-Call.ensures.next)
+    ∙ ap (λ v. numbered_each numbered_expression expression_size c.name-next-in-Call.result (map (expression_view {A = A}) v.items)) c.in-Call.arguments-is
+    ∙ ap (λ n. numbered_each numbered_expression expression_size n (map (expression_view {A = A}) c.in-Call.arguments.items)) c.name-next-in-Call.ensures.next)
 
 pub form-returns-in-Call-clause-next : goal.form-returns-in-Call-clause-next
 form-returns-in-Call-clause-next g t c =
