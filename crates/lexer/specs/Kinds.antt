@@ -1,24 +1,33 @@
 -- The spelling of the keywords and of the symbols.
-use Rattle.std.specs.Prelude.{ℕ, ◌&&◌, List, Option, Some, None, nat_eq, if◌then◌else◌, codes}
+use Rattle.std.specs.Prelude.{ℕ, ◌&&◌, List, [], ◌∷◌, Option, Some, None, nat_eq, if◌then◌else◌, codes}
 use Rattle.std.specs.Str.{bytes_eq}
 use Rattle.lexer.specs.declared.token.TokenKind.{TokenKind}
 use Rattle.lexer.specs.declared.token.TokenKind.TheVariants.{Name, Int, String, Boolean, If, Else, Foreach, In, Wait, Import, True, False, OpenRound, CloseRound, OpenCurly, CloseCurly, OpenSquare, CloseSquare, Comma, Semicolon, Colon, Assign, Equal, NotEqual, Less, AtMost, Greater, AtLeast, Plus, Minus, Times, Quotient, Remainder, Not, And, Or, At}
 
+-- the keywords
+abbrev pub keywords : List (List ℕ × TokenKind)
+keywords =
+    (codes "int", Int)
+    ∷ (codes "string", String)
+    ∷ (codes "boolean", Boolean)
+    ∷ (codes "if", If)
+    ∷ (codes "else", Else)
+    ∷ (codes "foreach", Foreach)
+    ∷ (codes "in", In)
+    ∷ (codes "wait", Wait)
+    ∷ (codes "import", Import)
+    ∷ (codes "true", True)
+    ∷ (codes "false", False)
+    ∷ []
+
+-- the keyword of a list that a word spells, otherwise a name
+abbrev pub keyword_among : List ℕ → List (List ℕ × TokenKind) → TokenKind
+keyword_among w [] = Name
+keyword_among w ((k, kind) ∷ ks) = if bytes_eq w k then kind else keyword_among w ks
+
 -- the keyword that a word spells, otherwise a name
 abbrev pub kind_of_word : List ℕ → TokenKind
-kind_of_word w =
-    if bytes_eq w (codes "int") then Int
-    else (if bytes_eq w (codes "string") then String
-    else (if bytes_eq w (codes "boolean") then Boolean
-    else (if bytes_eq w (codes "if") then If
-    else (if bytes_eq w (codes "else") then Else
-    else (if bytes_eq w (codes "foreach") then Foreach
-    else (if bytes_eq w (codes "in") then In
-    else (if bytes_eq w (codes "wait") then Wait
-    else (if bytes_eq w (codes "import") then Import
-    else (if bytes_eq w (codes "true") then True
-    else (if bytes_eq w (codes "false") then False
-    else Name))))))))))
+kind_of_word w = keyword_among w keywords
 
 -- the symbol that one byte spells
 abbrev pub symbol_of_one : ℕ → Option TokenKind

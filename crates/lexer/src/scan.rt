@@ -1,6 +1,6 @@
 //! What stands at the front of a text.
 
-ghost use Rattle.std.specs.Prelude.{◌≡◌, ◌+◌, ◌^◌, ◌<◌, ◌≤◌, length, drop, Some, None, false, slice_index};
+ghost use Rattle.std.specs.Prelude.{◌≡◌, ◌+◌, ◌^◌, ◌<◌, ◌≤◌, length, drop, Some, None, false, slice_index, if◌then◌else◌};
 ghost use Rattle.std.specs.Str.{bytes_eq};
 ghost use Rattle.lexer.specs.Kinds.{kind_of_word, symbol_of_one, symbol_of_two};
 ghost use Rattle.lexer.specs.Reading.{line_piece, block_piece, string_piece, word_of, word_piece, symbol_piece, slash_piece, piece, width_of};
@@ -18,41 +18,49 @@ pub enum Piece {
     Fault(LexFault),
 }
 
-/// Whether a word is this keyword. Lengths are compared first: most words have another.
-#[tactic(auto, using(crate::proofs::Words::other_length))]
-fn is_word(word: &[u8], keyword: &[u8]) -> bool
-    ensures { result ≡ bytes_eq word.now keyword.now }
+/// One kind if a word is this keyword, another if it is not.
+fn either(word: &[u8], keyword: &[u8], kind: TokenKind, other: TokenKind) -> TokenKind
+    ensures { result ≡ (if bytes_eq word.now keyword.now then kind else other) }
 {
-    word.len() == keyword.len() && word == keyword
+    if word == keyword { kind } else { other }
 }
 
+/// The keyword that a word spells, or a name. It is compared with those of its length alone.
+#[tactic(auto, using(crate::proofs::Words::of_three, crate::proofs::Words::of_five, crate::proofs::Words::no_keyword))]
 fn kind_of_word(word: &[u8]) -> TokenKind
     ensures { result ≡ kind_of_word word.now }
 {
-    if is_word(word, b"int".as_slice()) {
-        TokenKind::Int
-    } else if is_word(word, b"string".as_slice()) {
-        TokenKind::String
-    } else if is_word(word, b"boolean".as_slice()) {
-        TokenKind::Boolean
-    } else if is_word(word, b"if".as_slice()) {
-        TokenKind::If
-    } else if is_word(word, b"else".as_slice()) {
-        TokenKind::Else
-    } else if is_word(word, b"foreach".as_slice()) {
-        TokenKind::Foreach
-    } else if is_word(word, b"in".as_slice()) {
-        TokenKind::In
-    } else if is_word(word, b"wait".as_slice()) {
-        TokenKind::Wait
-    } else if is_word(word, b"import".as_slice()) {
-        TokenKind::Import
-    } else if is_word(word, b"true".as_slice()) {
-        TokenKind::True
-    } else if is_word(word, b"false".as_slice()) {
-        TokenKind::False
-    } else {
-        TokenKind::Name
+    match word.len() {
+        2 => {
+            let or_in = either(word, b"in".as_slice(), TokenKind::In, TokenKind::Name);
+            either(word, b"if".as_slice(), TokenKind::If, or_in)
+        }
+        3 => either(word, b"int".as_slice(), TokenKind::Int, TokenKind::Name),
+        4 => {
+            let or_true = either(word, b"true".as_slice(), TokenKind::True, TokenKind::Name);
+            let or_wait = either(word, b"wait".as_slice(), TokenKind::Wait, or_true);
+            either(word, b"else".as_slice(), TokenKind::Else, or_wait)
+        }
+        5 => either(word, b"false".as_slice(), TokenKind::False, TokenKind::Name),
+        6 => {
+            let or_import = either(
+                word,
+                b"import".as_slice(),
+                TokenKind::Import,
+                TokenKind::Name,
+            );
+            either(word, b"string".as_slice(), TokenKind::String, or_import)
+        }
+        7 => {
+            let or_foreach = either(
+                word,
+                b"foreach".as_slice(),
+                TokenKind::Foreach,
+                TokenKind::Name,
+            );
+            either(word, b"boolean".as_slice(), TokenKind::Boolean, or_foreach)
+        }
+        _ => TokenKind::Name,
     }
 }
 
