@@ -253,17 +253,30 @@ pub fn first_piece(at: usize, bytes: &[u8]) -> Piece
     }
 }
 
-/// The number of bytes of what stands at the front of a text, or its fault. It does not ask which keyword a word is.
+/// The number of bytes of what stands at the front of a text, or its fault. It does not ask which keyword a word is, and
+/// not what stands behind a byte that begins no longer symbol.
 pub fn first_width(at: usize, bytes: &[u8]) -> Result<usize, LexFault>
     requires room { at + length bytes.now < 2 ^ 64 }
     requires begun { 1 ≤ length bytes.now }
     ensures { result ≡ width_of (piece at bytes.now) }
 {
-    if is_letter(bytes[0]) {
-        return Ok(word(bytes).len());
-    }
-    match first_piece(at, bytes) {
-        Piece::Gap(n) | Piece::Token(_, n) => Ok(n),
-        Piece::Fault(fault) => Err(fault),
+    match bytes[0] {
+        byte if is_letter(byte) => Ok(word(bytes).len()),
+        byte if is_blank(byte) => Ok(1),
+        b';' => Ok(1),
+        b',' => Ok(1),
+        b'(' => Ok(1),
+        b')' => Ok(1),
+        b'[' => Ok(1),
+        b']' => Ok(1),
+        b'{' => Ok(1),
+        b'}' => Ok(1),
+        b'+' => Ok(1),
+        b'-' => Ok(1),
+        b'*' => Ok(1),
+        _ => match first_piece(at, bytes) {
+            Piece::Gap(n) | Piece::Token(_, n) => Ok(n),
+            Piece::Fault(fault) => Err(fault),
+        },
     }
 }
