@@ -11,10 +11,10 @@ use Rattle.task_code.specs.Compute.{key_of}
 use Rattle.values.specs.declared.key.Key.{Key}
 use Rattle.values.specs.declared.value.Scalar.{Scalar}
 
--- something is in the list
-abbrev pub is_any : List (Want ℕ) → Bool
-is_any [] = false
-is_any (w ∷ ws) = true
+-- nothing is in the list
+abbrev pub is_nil : {X : Type 0} → List X → Bool
+is_nil [] = true
+is_nil (x ∷ xs) = false
 
 -- what is missed of a datum, if there is one, that is to have a value
 abbrev pub value_missed : List (Option Counted) → Option ℕ → List (Want ℕ)

@@ -1,5 +1,5 @@
 //! What items wait for, and what they find there.
-ghost use Rattle.std.specs.Prelude.{◌≡◌, ◌+◌, ◌++◌, ℕ, length, map, option_copied, IsOk, OnOk};
+ghost use Rattle.std.specs.Prelude.{◌≡◌, ◌+◌, ◌++◌, ℕ, length, map, not, option_copied, IsOk, OnOk};
 ghost use Rattle.std.specs.List.{flat_map};
 ghost use Rattle.smallvec.specs.SmallVec.{HasRoomFor};
 ghost use Rattle.replayed.specs.Fields.{fixed_in, literal};
@@ -10,7 +10,7 @@ ghost use Rattle.replayed.specs.Needs.{array_missed, element_missed, index_misse
 ghost use Rattle.board_frames.specs.Names.{datum_of, led_slot};
 ghost use Rattle.board_frames.specs.View.{frames_view, slot_view};
 ghost use Rattle.board_data.specs.View.{cells_view, want_view, wants_in};
-ghost use Rattle.board_data.specs.Wanted.{element_in, is_any, scalar_in, value_missed, wanted_found, wanted_missed};
+ghost use Rattle.board_data.specs.Wanted.{element_in, is_nil, scalar_in, value_missed, wanted_found, wanted_missed};
 
 use crate::data::{element, is_closed, value};
 use board_code::key::copy_key;
@@ -97,7 +97,7 @@ fn missing_scalar(store: &Store, slot: Slot) -> Option<Input>
 /// Whether a datum is to have a value, and has none.
 #[tactic(auto, using(crate::proofs::Cells::value_there))]
 fn lacks_value(store: &Store, target: Option<usize>) -> bool
-    ensures { result ≡ is_any (value_missed (cells_view store.now.cells) target) }
+    ensures { result ≡ not (is_nil (value_missed (cells_view store.now.cells) target)) }
 {
     match target {
         Some(d) => match value(store, d) {
@@ -233,7 +233,7 @@ impl<'a> View<'a> {
     /// Whether something is missing now.
     #[tactic(auto, using(crate::proofs::Missed::value_of_slot))]
     pub fn misses(self, wanted: &Wanted) -> bool
-        ensures { result ≡ is_any (wanted_missed self.entry.program.now (cells_view self.entry.store.now.cells) (led_slot (frames_view self.entry.instances.now.slots) self.entry.at) wanted.now) }
+        ensures { result ≡ not (is_nil (wanted_missed self.entry.program.now (cells_view self.entry.store.now.cells) (led_slot (frames_view self.entry.instances.now.slots) self.entry.at) wanted.now)) }
     {
         match wanted {
             Wanted::Stored(spot) => lacks_value(self.store, self.datum(*spot)),

@@ -8,7 +8,7 @@ use Rattle.dataflow.specs.System.{In}
 use Rattle.task_code.specs.Whole.{IsCode}
 use Rattle.board_code.specs.Tables.{body_of, body_or_script, queue_kind, wanted_in}
 use Rattle.board_code.specs.declared.program.Wanted.{Wanted}
-use Rattle.board_data.specs.Wanted.{FewSlots, is_any, wanted_missed}
+use Rattle.board_data.specs.Wanted.{FewSlots, is_nil, wanted_missed}
 use Rattle.board_data.proofs.Named.{all_missed}
 use Rattle.board_frames.specs.Names.{led_slot}
 use Rattle.replayed.specs.Ending.{job_kind, job_priority}
@@ -16,9 +16,8 @@ use Rattle.replayed.specs.Fields.{Counted, Does, Frame, Job, Script, Want, slot_
 use Rattle.replayed.specs.Needs.{missed}
 use Rattle.task_code.specs.Code.{Code, Entry, blank_entry, body, entry, kind_of, nth}
 use Rattle.work_queue.specs.declared.entry.Kind.TheVariants.{Leaf}
-use Rattle.std.specs.Prelude.{filter, if◌then◌else◌, nat_lt, pos}
+use Rattle.std.specs.Prelude.{filter, if◌then◌else◌, nat_lt, not, pos}
 use Rattle.std.specs.Bool.{OnTrue}
-use Rattle.board_items.specs.Learnt.{is_nil}
 use Rattle.rules.specs.declared.input.Input.{Input}
 use Rattle.smallvec.specs.SmallVec.{HasRoomFor, SmallVec}
 use Rattle.board_items.specs.Room.{AreSpare}
@@ -37,11 +36,11 @@ pub priority_past : (C : Code) (k e c : ℕ) (j : Job) → j ≡ Does k e c → 
 priority_past C k e c j q h = sym (ap (job_priority C) q ∙ ap (λ (x : Entry). x.priority) (nth_past C.entries e h))
 
 -- nothing is in a list, or something is
-pub any_none : (xs : List (Want ℕ)) → false ≡ is_any xs → xs ≡ []
+pub any_none : (xs : List (Want ℕ)) → false ≡ not (is_nil xs) → xs ≡ []
 any_none [] h = refl
 any_none (x ∷ xs) h = absurd (cc h)
 
-pub any_some : (xs ys : List (Want ℕ)) → true ≡ is_any xs → false ≡ is_nil (xs ++ ys)
+pub any_some : (xs ys : List (Want ℕ)) → true ≡ not (is_nil xs) → false ≡ is_nil (xs ++ ys)
 any_some [] ys h = absurd (cc h)
 any_some (x ∷ xs) ys h = refl
 
@@ -69,9 +68,9 @@ module _ (C : Code) (fs : List (Option Frame)) (cs : List (Option Counted)) wher
   listed_there ws k e c j q few x t = misses_listed k e c ws few (subst (IsSeen C fs) q x) t ∙ sym (ap (misses C fs cs) q)
 
 -- a test whether nothing is missed
-nil_of : (xs : List (Want ℕ)) → is_nil xs ≡ true → xs ≡ []
+pub nil_of : {X : Type 0} (xs : List X) → is_nil xs ≡ true → xs ≡ []
 nil_of [] h = refl
-nil_of (x ∷ xs) h = absurd (cc (h))
+nil_of (x ∷ xs) h = absurd (cc h)
 
 pub true_none : (b : Bool) (xs ys : List (Want ℕ)) → b ≡ is_nil xs → xs ≡ ys → OnTrue b (ys ≡ [])
 true_none true xs ys e q = sym q ∙ nil_of xs (sym e)

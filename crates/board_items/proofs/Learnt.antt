@@ -13,7 +13,8 @@ use Rattle.rules.specs.Waiting.{IsListed, Waiting, is_ready, still_waiting, with
 use Rattle.rules.specs.declared.input.Input.{Input}
 use Rattle.rules.specs.declared.input.Input.TheVariants as Inputs
 use Rattle.board_data.specs.View.{want_view}
-use Rattle.board_items.specs.Learnt.{HaveLearnt, is_nil, left_to, served, waiting_on}
+use Rattle.board_data.specs.Wanted.{is_nil}
+use Rattle.board_items.specs.Learnt.{HaveLearnt, left_to, served, waiting_on}
 use Rattle.board_items.specs.View.{waiter_view, waiters_view}
 
 covers_view : (i j : Input) → covers i j ≡ needs.covers (want_view i) (want_view j)

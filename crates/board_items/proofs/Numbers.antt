@@ -6,7 +6,8 @@ use Rattle.dataflow.proofs.Lists.{distinct_append, in_left, in_map, in_right, in
 use Rattle.replayed.proofs.Tests.{choose}
 use Rattle.replayed.specs.Fields.{Waiter, Want}
 use Rattle.board_items.specs.Ended.{numbers_behind}
-use Rattle.board_items.specs.Learnt.{is_nil, left_to, served, waiting_on}
+use Rattle.board_data.specs.Wanted.{is_nil}
+use Rattle.board_items.specs.Learnt.{left_to, served, waiting_on}
 
 pub behind_first : (first count m : ℕ) → In m (numbers_behind first count) → (first < m) × (m ≤ first + count)
 behind_first first zero m h = absurd h

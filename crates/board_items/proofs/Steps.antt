@@ -9,7 +9,7 @@ use Rattle.replayed.specs.Fields.{Counted, Frame, Over, Ready, Row, Waiter, row_
 use Rattle.replayed.specs.Marking.{mark_at}
 use Rattle.task_code.specs.Code.{Code, Kind}
 use Rattle.board_items.specs.Ended.{AreSettled, can_begin, missed_at, runs_so, waiter_at}
-use Rattle.board_items.specs.Learnt.{is_nil}
+use Rattle.board_data.specs.Wanted.{is_nil}
 use Rattle.board_items.proofs.Rows.{over_first, ready_more, ready_moved}
 
 pub nil_is : {X : Type 0} (xs : List X) → (xs ≡ [] → ⊥) → is_nil xs ≡ false

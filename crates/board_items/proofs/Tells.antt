@@ -21,8 +21,10 @@ use Rattle.task_code.specs.Code.{Code, Control, Kind, Leaf}
 use Rattle.board_code.specs.Spots.{layout_of}
 use Rattle.board_items.specs.Progress.{AreOld}
 use Rattle.board_items.specs.Ended.{AreSettled, AreToSettle, IsSeen, ItemsFit, can_begin, missed_at, misses, misses_first, numbers_behind, row_misses, runs_so, waiter_at}
-use Rattle.board_items.specs.Learnt.{HaveLearnt, is_nil, left_to, served, waiting_on}
+use Rattle.board_data.specs.Wanted.{is_nil}
+use Rattle.board_items.specs.Learnt.{HaveLearnt, left_to, served, waiting_on}
 use Rattle.board_items.specs.View.{waiters_view}
+use Rattle.board_items.proofs.Jobs.{nil_of}
 use Rattle.board_items.proofs.Lists.{distinct_kept, distinct_moved, in_back, in_moved}
 use Rattle.board_items.proofs.Numbers.{behind_first, behind_once, first_behind, item_of, served_apart, served_is, served_once, served_was, waiting_once, waiting_stays, waiting_was}
 use Rattle.board_items.proofs.Steps.{nil_is}
@@ -48,10 +50,6 @@ below a b h = grind (arith, nat_tests)
 
 not_below : (a b : ℕ) → b ≤ a → nat_lt a b ≡ false
 not_below a b h = grind (arith, nat_tests)
-
-nil_of : {X : Type 0} (xs : List X) → is_nil xs ≡ true → xs ≡ []
-nil_of [] h = refl
-nil_of (x ∷ xs) h = yes_no h refl
 
 ready_waits : {B : Type 0} → Ready ≡ Waiting → B
 ready_waits h = absurd (cc)

@@ -9,7 +9,7 @@ use Rattle.replayed.specs.Needs.{job_missed}
 use Rattle.task_code.specs.Code.{Code, Kind, entry}
 use Rattle.board_code.specs.Spots.{layout_of}
 use Rattle.board_code.specs.Tables.{body_of}
-use Rattle.board_items.specs.Learnt.{is_nil}
+use Rattle.board_data.specs.Wanted.{is_nil}
 
 -- fields with these instances and data, and nothing else
 abbrev pub seen : List (Option Frame) → List (Option Counted) → Fields

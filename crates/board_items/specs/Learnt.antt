@@ -3,12 +3,8 @@ use Rattle.std.specs.Prelude.{◌≡◌, ℕ, Bool, true, false, List, [], ◌�
 use Rattle.replayed.specs.Fields.{Waiter, Want}
 use Rattle.replayed.specs.Needs.{still_missed}
 use Rattle.rules.specs.Waiting.{Waiting}
+use Rattle.board_data.specs.Wanted.{is_nil}
 use Rattle.board_items.specs.View.{waiters_view}
-
--- nothing is in the list
-abbrev pub is_nil : {X : Type 0} → List X → Bool
-is_nil [] = true
-is_nil (x ∷ xs) = false
 
 -- what an item still misses
 abbrev pub left_to : List (Want ℕ) → Waiter → List (Want ℕ)

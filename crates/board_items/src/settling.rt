@@ -1,7 +1,7 @@
 //! Items wait for what they miss, or can begin.
 ghost use Rattle.std.specs.Bool.{OnFalse, OnTrue};
 ghost use Rattle.std.specs.List.{flat_map};
-ghost use Rattle.board_data.specs.Wanted.{wanted_missed};
+ghost use Rattle.board_data.specs.Wanted.{is_nil, wanted_missed};
 ghost use Rattle.board_frames.specs.Names.{led_slot};
 ghost use Rattle.std.specs.Prelude.{◌≡◌, ◌⊎◌, ◌<◌, ◌≤◌, ◌+◌, ◌-◌, ◌++◌, ◌∷◌, [], ℕ, ℤ, List, Some, length, map, reverse, true, false, IfOk, IsOk, IsTrue, OnErr, OnOk, vec_len, vec_capacity};
 ghost use Rattle.smallvec.specs.SmallVec.{HasRoomFor};
@@ -19,7 +19,6 @@ ghost use Rattle.replayed.specs.Marking.{mark_at};
 ghost use Rattle.std.specs.List.Sorted.{IsSorted};
 ghost use Rattle.std.specs.Ordering.{nat_cmp};
 ghost use Rattle.task_code.specs.Code.{Kind as AKind};
-ghost use Rattle.board_items.specs.Learnt.{is_nil};
 ghost use Rattle.board_items.specs.Settled.{Settles, one_less};
 
 use crate::items::{Items, order_of};

@@ -44,12 +44,17 @@ impl Run {
         self.len
     }
 
-    /// Makes place for so many entries, and for as many slots of entries that have left.
+    /// Makes place for so many entries, and for as many slots of entries that have left. Where that is missing, it makes
+    /// twice that place: slots that begin late in their block are moved each time it grows.
     pub fn reserve(&mut self, count: usize) -> Result<(), AllocError>
         ensures { self.new ≡ self.old }
     {
         let wanted = count.saturating_mul(2);
-        self.slots.reserve(wanted.saturating_sub(self.slots.len()))
+        if wanted <= self.slots.capacity() {
+            return Ok(());
+        }
+        let twice = wanted.saturating_mul(2);
+        self.slots.reserve(twice.saturating_sub(self.slots.len()))
     }
 
     /// Adds an entry, if there is place for it.
