@@ -17,22 +17,22 @@ const TRACE: &[u8] = b"swt-trace 1\nB 0 1\nE 0 1\n";
 fn done_in<R: Threads + Wait + Sync>(
     rt: &R,
     alloc: Global,
-    words: &[&str],
+    line: &str,
     sources: &[Option<&[u8]>],
     rooms: (usize, usize),
 ) -> Result<String, Fail> {
-    perform(rt, alloc, words, sources, rooms)?.text(alloc)
+    perform(rt, alloc, line, sources, rooms)?.text(alloc)
 }
 
-/// With these words a command over one file, with room for all, does so.
+/// With this line a command over one file, with room for all, does so.
 fn does_so<R: Threads + Wait + Sync + Abort>(
     rt: &R,
     alloc: Global,
-    words: &[&str],
+    line: &str,
     source: &[u8],
     wanted: &str,
 ) -> Result<(), Fail> {
-    let text = done_in(rt, alloc, words, &[Some(source)], WIDE)?;
+    let text = done_in(rt, alloc, line, &[Some(source)], WIDE)?;
     assert_eq!(rt; text.as_str(), wanted);
     Ok(())
 }
@@ -41,11 +41,11 @@ fn does_so<R: Threads + Wait + Sync + Abort>(
 fn each_does_so<R: Threads + Wait + Sync + Abort>(
     rt: &R,
     alloc: Global,
-    words: &[&str],
+    line: &str,
     rows: &[(&[u8], &str)],
 ) -> Result<(), Fail> {
     for (source, wanted) in rows {
-        does_so(rt, alloc, words, source, wanted)?;
+        does_so(rt, alloc, line, source, wanted)?;
     }
     Ok(())
 }
@@ -107,13 +107,13 @@ fn runs_scripts(rt: HostRuntime) -> Result<(), Fail> {
             "-3\n|||0",
         ),
     ];
-    each_does_so(&rt, rt.alloc(), &["run", "f"], &rows)
+    each_does_so(&rt, rt.alloc(), "run f", &rows)
 }
 
 #[test]
 fn runs_a_script_in_either_order(rt: HostRuntime) -> Result<(), Fail> {
     let script = b"printf(\"a\"); @prio=5 printf(\"b\");";
-    let both = done_in(&rt, rt.alloc(), &["run", "f"], &[Some(script)], WIDE)?;
+    let both = done_in(&rt, rt.alloc(), "run f", &[Some(script)], WIDE)?;
     assert!(rt; both.as_str() == "a\nb\n|||0" || both.as_str() == "b\na\n|||0");
     Ok(())
 }
@@ -121,34 +121,16 @@ fn runs_a_script_in_either_order(rt: HostRuntime) -> Result<(), Fail> {
 #[test]
 fn takes_options(rt: HostRuntime) -> Result<(), Fail> {
     let traced = "hello\n||swt-trace 1\nB 0 1\nE 0 1\nB 1 2\nE 1 2\n|0";
-    let rows: [(&[&str], &str); 6] = [
-        (
-            &[
-                "run",
-                "f",
-                "--engines",
-                "1",
-                "--workers",
-                "1",
-                "--trace",
-                "t",
-            ],
-            traced,
-        ),
-        (&["run", "f", "--steps", "1"], "swt: limit 1\n|||5"),
-        (
-            &["run", "f", "--engines", "63", "--workers", "2"],
-            "|swt: bad count\n||2",
-        ),
-        (
-            &["run", "f", "--engines", "63", "--workers", "1"],
-            "hello\n|||0",
-        ),
-        (&["mean", "f", "--rounds", "1"], "hello\n|||0"),
-        (&["code", "f"], "body 0 script\n  1 leaf print 0 0\n|||0"),
+    let rows: [(&str, &str); 6] = [
+        ("run f --engines 1 --workers 1 --trace t", traced),
+        ("run f --steps 1", "swt: limit 1\n|||5"),
+        ("run f --engines 63 --workers 2", "|swt: bad count\n||2"),
+        ("run f --engines 63 --workers 1", "hello\n|||0"),
+        ("mean f --rounds 1", "hello\n|||0"),
+        ("code f", "body 0 script\n  1 leaf print 0 0\n|||0"),
     ];
-    for (words, wanted) in rows {
-        does_so(&rt, rt.alloc(), words, HELLO, wanted)?;
+    for (line, wanted) in rows {
+        does_so(&rt, rt.alloc(), line, HELLO, wanted)?;
     }
     Ok(())
 }
@@ -159,7 +141,7 @@ fn says_what_scripts_mean(rt: HostRuntime) -> Result<(), Fail> {
     does_so(
         &rt,
         rt.alloc(),
-        &["mean", "f", "--rounds", "2"],
+        "mean f --rounds 2",
         swapped,
         "swt: blocked 32 /\nswt: limit 2\n|||5",
     )?;
@@ -179,7 +161,7 @@ fn says_what_scripts_mean(rt: HostRuntime) -> Result<(), Fail> {
             "|swt: refused S1 AssignedTwice 11 12\n||1",
         ),
     ];
-    each_does_so(&rt, rt.alloc(), &["mean", "f"], &rows)
+    each_does_so(&rt, rt.alloc(), "mean f", &rows)
 }
 
 /// A check refuses the script so.
@@ -190,40 +172,35 @@ fn is_refused<R: Threads + Wait + Sync + Abort>(
     refusal: &str,
 ) -> Result<(), Fail> {
     let wanted = format!(in alloc; "f: refused {refusal}\n|||1")?;
-    does_so(rt, alloc, &["check", "f"], source, wanted.as_str())
+    does_so(rt, alloc, "check f", source, wanted.as_str())
 }
+
+/// What is refused: the answer, and the script.
+const REFUSED: &str = r#"L1 BadByte 0 1 | #
+L2 BadNumber 0 2 | 01
+L3 OpenString 0 2 | "a
+L4 OpenComment 0 2 | /*
+L5 BadEscape 8 10 | printf("\q");
+P2 Unexpected 19 20 | printf("%i", 1 < 2 < 3);
+S1 AssignedTwice 11 12 | int x = 1; x = 2;
+S2 PartlyAssigned 25 27 | boolean b = true; int x; if (b) { x = 1; } printf("%i", x);
+S3 NeverAssigned 4 5 | int x; printf("%i", x);
+S4 OuterInLoop 28 29 | int x; foreach i in [0:1] { x = i; }
+S5 WholeAndElements 15 16 | int A[] = [1]; A[2] = 3;
+S6 OutputUnassigned 5 6 | (int r) f() { }
+Y1 Unknown 13 14 | printf("%i", y);
+Y2 Declared 15 16 | int x = 1; int x = 2;
+Y3 Mismatch 17 18 | string s = "a" + 1;
+Y3 Mismatch 8 15 | int x = fromint(3);
+Y4 WrongCount 0 6 | printf("%i");
+Y5 BadFormat 7 11 | printf("%q");
+Y6 NotAFunction 0 3 | foo(1);"#;
 
 #[test]
 fn refuses_scripts(rt: HostRuntime) -> Result<(), Fail> {
-    let rows: [(&[u8], &str); 19] = [
-        (b"#", "L1 BadByte 0 1"),
-        (b"01", "L2 BadNumber 0 2"),
-        (b"\"a", "L3 OpenString 0 2"),
-        (b"/*", "L4 OpenComment 0 2"),
-        (b"printf(\"\\q\");", "L5 BadEscape 8 10"),
-        (b"printf(\"%i\", 1 < 2 < 3);", "P2 Unexpected 19 20"),
-        (b"int x = 1; x = 2;", "S1 AssignedTwice 11 12"),
-        (
-            b"boolean b = true; int x; if (b) { x = 1; } printf(\"%i\", x);",
-            "S2 PartlyAssigned 25 27",
-        ),
-        (b"int x; printf(\"%i\", x);", "S3 NeverAssigned 4 5"),
-        (
-            b"int x; foreach i in [0:1] { x = i; }",
-            "S4 OuterInLoop 28 29",
-        ),
-        (b"int A[] = [1]; A[2] = 3;", "S5 WholeAndElements 15 16"),
-        (b"(int r) f() { }", "S6 OutputUnassigned 5 6"),
-        (b"printf(\"%i\", y);", "Y1 Unknown 13 14"),
-        (b"int x = 1; int x = 2;", "Y2 Declared 15 16"),
-        (b"string s = \"a\" + 1;", "Y3 Mismatch 17 18"),
-        (b"int x = fromint(3);", "Y3 Mismatch 8 15"),
-        (b"printf(\"%i\");", "Y4 WrongCount 0 6"),
-        (b"printf(\"%q\");", "Y5 BadFormat 7 11"),
-        (b"foo(1);", "Y6 NotAFunction 0 3"),
-    ];
-    for (source, refusal) in rows {
-        is_refused(&rt, rt.alloc(), source, refusal)?;
+    for row in REFUSED.lines() {
+        let (refusal, script) = row.split_once(" | ").expect(&rt, "a row has two parts");
+        is_refused(&rt, rt.alloc(), script.as_bytes(), refusal)?;
     }
     Ok(())
 }
@@ -240,13 +217,7 @@ fn accepts_the_whole_language(rt: HostRuntime) -> Result<(), Fail> {
         b"(int B[]) g(int m) { foreach i in [0:m-1] { B[i] = i*i; } } int C[]; C = g(4); printf(\"%i %i\", size(C), C[3]);",
     ];
     for script in scripts {
-        does_so(
-            &rt,
-            rt.alloc(),
-            &["check", "f"],
-            script,
-            "f: accepted\n|||0",
-        )?;
+        does_so(&rt, rt.alloc(), "check f", script, "f: accepted\n|||0")?;
     }
     Ok(())
 }
@@ -255,12 +226,12 @@ fn accepts_the_whole_language(rt: HostRuntime) -> Result<(), Fail> {
 fn does<R: Threads + Wait + Sync>(
     rt: &R,
     alloc: Global,
-    words: &[&str],
+    line: &str,
     sources: &[Option<&[u8]>],
     rooms: (usize, usize),
     wanted: &str,
 ) -> Result<bool, Fail> {
-    let text = done_in(rt, alloc, words, sources, rooms)?;
+    let text = done_in(rt, alloc, line, sources, rooms)?;
     Ok(text.as_str() == wanted)
 }
 
@@ -272,7 +243,7 @@ fn replays<R: Threads + Wait + Sync + Abort>(
     wanted: &str,
 ) -> Result<(), Fail> {
     let sources = [Some(HELLO), Some(trace)];
-    let text = done_in(rt, alloc, &["replay", "f", "t"], &sources, WIDE)?;
+    let text = done_in(rt, alloc, "replay f t", &sources, WIDE)?;
     assert_eq!(rt; text.as_str(), wanted);
     Ok(())
 }
@@ -298,22 +269,22 @@ fn replays_traces(rt: HostRuntime) -> Result<(), Fail> {
 #[test]
 fn stops_at_a_file(rt: HostRuntime) -> Result<(), Fail> {
     let lacks = "|swt: cannot read f\n||7";
-    assert!(rt; does(&rt, rt.alloc(), &["run", "f"], &[None], WIDE, lacks)?);
-    assert!(rt; does(&rt, rt.alloc(), &["mean", "f"], &[None], WIDE, lacks)?);
+    assert!(rt; does(&rt, rt.alloc(), "run f", &[None], WIDE, lacks)?);
+    assert!(rt; does(&rt, rt.alloc(), "mean f", &[None], WIDE, lacks)?);
     let none = "|swt: cannot read a\n||7";
-    assert!(rt; does(&rt, rt.alloc(), &["check", "a"], &[], WIDE, none)?);
+    assert!(rt; does(&rt, rt.alloc(), "check a", &[], WIDE, none)?);
     Ok(())
 }
 
 #[test]
 fn stops_at_a_trace(rt: HostRuntime) -> Result<(), Fail> {
-    let words = ["replay", "f", "t"];
+    let line = "replay f t";
     let lacks = "|swt: cannot read f\n||7";
-    assert!(rt; does(&rt, rt.alloc(), &words, &[None, None], WIDE, lacks)?);
+    assert!(rt; does(&rt, rt.alloc(), line, &[None, None], WIDE, lacks)?);
     let lacks = "|swt: cannot read t\n||7";
-    assert!(rt; does(&rt, rt.alloc(), &words, &[Some(HELLO), None], WIDE, lacks)?);
+    assert!(rt; does(&rt, rt.alloc(), line, &[Some(HELLO), None], WIDE, lacks)?);
     let refused = "|swt: refused S1 AssignedTwice 11 12\n||1";
-    assert!(rt; does(&rt, rt.alloc(), &words, &[Some(TWICE), None], WIDE, refused)?);
+    assert!(rt; does(&rt, rt.alloc(), line, &[Some(TWICE), None], WIDE, refused)?);
     Ok(())
 }
 
@@ -321,40 +292,22 @@ fn stops_at_a_trace(rt: HostRuntime) -> Result<(), Fail> {
 fn checks_files_up_to_one_that_lacks(rt: HostRuntime) -> Result<(), Fail> {
     let all = "a: refused S1 AssignedTwice 11 12\nb: accepted\n|||1";
     let sources = [Some(TWICE), Some(HELLO)];
-    assert!(rt; does(&rt, rt.alloc(), &["check", "a", "b"], &sources, WIDE, all)?);
+    assert!(rt; does(&rt, rt.alloc(), "check a b", &sources, WIDE, all)?);
     let part = "a: refused S1 AssignedTwice 11 12\n|swt: cannot read b\n||7";
     let sources = [Some(TWICE), None, Some(HELLO)];
-    assert!(rt;
-        does(
-            &rt,
-            rt.alloc(),
-            &["check", "a", "b", "c"],
-            &sources,
-            WIDE,
-            part
-        )?
-    );
+    assert!(rt; does(&rt, rt.alloc(), "check a b c", &sources, WIDE, part)?);
     Ok(())
 }
 
 #[test]
 fn stops_at_a_write(rt: HostRuntime) -> Result<(), Fail> {
-    let words = ["run", "f", "--trace", "t"];
+    let line = "run f --trace t";
     let part = "hel|swt: cannot write\n||7";
-    assert!(rt; does(&rt, rt.alloc(), &words, &[Some(HELLO)], (3, 1000), part)?);
+    assert!(rt; does(&rt, rt.alloc(), line, &[Some(HELLO)], (3, 1000), part)?);
     let part = "hello\n|swt: cannot write\n|swt-trace 1\nB 0 1\nE |7";
-    assert!(rt; does(&rt, rt.alloc(), &words, &[Some(HELLO)], (6, 20), part)?);
+    assert!(rt; does(&rt, rt.alloc(), line, &[Some(HELLO)], (6, 20), part)?);
     let part = "|swt: cannot write\n||7";
-    assert!(rt;
-        does(
-            &rt,
-            rt.alloc(),
-            &["mean", "f"],
-            &[Some(HELLO)],
-            (0, 0),
-            part
-        )?
-    );
+    assert!(rt; does(&rt, rt.alloc(), "mean f", &[Some(HELLO)], (0, 0), part)?);
     Ok(())
 }
 
@@ -362,28 +315,10 @@ fn stops_at_a_write(rt: HostRuntime) -> Result<(), Fail> {
 fn stops_at_a_write_among_others(rt: HostRuntime) -> Result<(), Fail> {
     let part = "a: accepted\nb:|swt: cannot write\n||7";
     let sources = [Some(HELLO), Some(HELLO)];
-    assert!(rt;
-        does(
-            &rt,
-            rt.alloc(),
-            &["check", "a", "b"],
-            &sources,
-            (14, 0),
-            part
-        )?
-    );
+    assert!(rt; does(&rt, rt.alloc(), "check a b", &sources, (14, 0), part)?);
     let part = "swt: limit 2|swt: cannot write\n||7";
     let sources = [Some(HELLO), Some(TRACE)];
-    assert!(rt;
-        does(
-            &rt,
-            rt.alloc(),
-            &["replay", "f", "t"],
-            &sources,
-            (12, 0),
-            part
-        )?
-    );
+    assert!(rt; does(&rt, rt.alloc(), "replay f t", &sources, (12, 0), part)?);
     Ok(())
 }
 

@@ -91,19 +91,19 @@ fn add_part(text: &mut String, part: &[u8]) -> Result<(), Fail> {
     Ok(())
 }
 
-/// The words of a line.
-pub(crate) fn words_of(alloc: Global, words: &[&str]) -> Result<Vec<Word>, AllocError> {
-    let mut list = Vec::new(alloc);
-    for word in words {
-        list.push(Word::new(String::from_str(alloc, word)?))?;
+/// The words of a line, with a space between any two.
+pub(crate) fn words_of(alloc: Global, line: &str) -> Result<Vec<Word>, AllocError> {
+    let mut words = Vec::new(alloc);
+    for word in line.split(' ') {
+        words.push(Word::new(String::from_str(alloc, word)?))?;
     }
-    Ok(list)
+    Ok(words)
 }
 
-/// What the words ask for.
-pub(crate) fn request_of(alloc: Global, words: &[&str]) -> Result<Request, LineFault> {
-    let list = words_of(alloc, words)?;
-    Request::read(alloc, list.as_slice())
+/// What the words of a line ask for.
+pub(crate) fn request_of(alloc: Global, line: &str) -> Result<Request, LineFault> {
+    let words = words_of(alloc, line)?;
+    Request::read(alloc, words.as_slice())
 }
 
 /// A file in memory, or `None` for one that cannot be read.
@@ -127,12 +127,12 @@ fn files_of(alloc: Global, sources: &[Option<&[u8]>]) -> Result<Vec<Option<Vec<u
 pub(crate) fn perform<R: Threads + Wait + Sync>(
     rt: &R,
     alloc: Global,
-    words: &[&str],
+    line: &str,
     sources: &[Option<&[u8]>],
     rooms: (usize, usize),
 ) -> Result<Done, Fail> {
     let files = files_of(alloc, sources)?;
-    let request = request_of(alloc, words)?;
+    let request = request_of(alloc, line)?;
     Ok(done_by(rt, alloc, &request.line, files.as_slice(), rooms))
 }
 

@@ -11,21 +11,21 @@ use swt_line::request::Request;
 use swt_line::word::Word;
 
 /// The words are no request.
-fn is_usage(alloc: Global, words: &[&str]) -> bool {
-    matches!(request_of(alloc, words), Err(LineFault::Usage))
+fn is_usage(alloc: Global, line: &str) -> bool {
+    matches!(request_of(alloc, line), Err(LineFault::Usage))
 }
 
 /// Something is wrong with the words.
-fn has_wrong(alloc: Global, words: &[&str]) -> Result<bool, Fail> {
-    let words = words_of(alloc, words)?;
+fn has_wrong(alloc: Global, line: &str) -> Result<bool, Fail> {
+    let words = words_of(alloc, line)?;
     Ok(first_wrong(words.as_slice()).is_some())
 }
 
-/// Each of these is no command, and something is wrong with its words.
-fn are_no_commands(rt: &impl Abort, alloc: Global, rows: &[&[&str]]) -> Result<(), Fail> {
-    for words in rows {
-        assert!(rt; is_usage(alloc, words));
-        assert!(rt; has_wrong(alloc, words)?);
+/// Each of these lines is no command, and something is wrong with its words.
+fn are_no_commands(rt: &impl Abort, alloc: Global, lines: &str) -> Result<(), Fail> {
+    for line in lines.lines() {
+        assert!(rt; is_usage(alloc, line), "{line}");
+        assert!(rt; has_wrong(alloc, line)?, "{line}");
     }
     Ok(())
 }
@@ -106,201 +106,187 @@ fn fault_word(fault: &LineFault) -> &'static str {
 }
 
 /// A line in one text, to compare.
-fn shown(alloc: Global, words: &[&str]) -> Result<String, Fail> {
-    match request_of(alloc, words) {
+fn shown(alloc: Global, line: &str) -> Result<String, Fail> {
+    match request_of(alloc, line) {
         Ok(request) => shown_request(alloc, &request),
         Err(fault) => Ok(String::from_str(alloc, fault_word(&fault))?),
     }
 }
 
-/// The words are shown so.
-fn is_shown(rt: &impl Abort, alloc: Global, words: &[&str], text: &str) -> Result<(), Fail> {
-    let found = shown(alloc, words)?;
+/// The words of a line are shown so.
+fn is_shown(rt: &impl Abort, alloc: Global, line: &str, text: &str) -> Result<(), Fail> {
+    let found = shown(alloc, line)?;
     assert_eq!(rt; found.as_str(), text);
     Ok(())
 }
 
-#[test]
-fn commands(rt: HostRuntime) -> Result<(), Fail> {
-    let alloc = rt.alloc();
-    let rows: [(&[&str], &str); 16] = [
-        (&["check", "a.swift"], "check a.swift"),
-        (&["check", "a", "b", "a"], "check a b a"),
-        (&["mean", "a"], "mean a 1000000"),
-        (&["mean", "a", "--rounds", "7"], "mean a 7"),
-        (
-            &["mean", "--rounds", "4294967295", "a"],
-            "mean a 4294967295",
-        ),
-        (&["code", "a"], "code a"),
-        (&["code", "a", "--dot"], "code a dot"),
-        (&["code", "--dot", "a"], "code a dot"),
-        (&["run", "a"], "run a 1 3 10000000 none"),
-        (
-            &[
-                "run",
-                "--trace",
-                "t",
-                "--engines",
-                "2",
-                "a",
-                "--steps",
-                "0",
-                "--workers",
-                "63",
-            ],
-            "run a 2 63 0 t",
-        ),
-        (&["replay", "a", "t"], "replay a t"),
-        (&["check", "--explain", "a"], "check a explain"),
-        (&["mean", "a", "--explain"], "mean a 1000000 explain"),
-        (
-            &["run", "--steps", "1", "--explain", "a"],
-            "run a 1 3 1 none explain",
-        ),
-        (
-            &["run", "--progress", "a", "--explain"],
-            "run a 1 3 10000000 none explain progress",
-        ),
-        (&["replay", "--explain", "a", "t"], "replay a t explain"),
-    ];
-    for (words, text) in rows {
-        is_shown(&rt, alloc, words, text)?;
+/// What a row wants, and its line.
+fn parts<'a>(rt: &impl Abort, row: &'a str) -> (&'a str, &'a str) {
+    row.split_once(" | ").expect(rt, "a row has two parts")
+}
+
+/// The line of each row is shown as the row says in front of it.
+fn are_shown(rt: &impl Abort, alloc: Global, rows: &str) -> Result<(), Fail> {
+    for row in rows.lines() {
+        let (text, line) = parts(rt, row);
+        is_shown(rt, alloc, line, text)?;
     }
     Ok(())
 }
+
+const COMMANDS: &str = "\
+check a.swift | check a.swift
+check a b a | check a b a
+mean a 1000000 | mean a
+mean a 7 | mean a --rounds 7
+mean a 4294967295 | mean --rounds 4294967295 a
+code a | code a
+code a dot | code a --dot
+code a dot | code --dot a
+run a 1 3 10000000 none | run a
+run a 2 63 0 t | run --trace t --engines 2 a --steps 0 --workers 63
+replay a t | replay a t
+check a explain | check --explain a
+mean a 1000000 explain | mean a --explain
+run a 1 3 1 none explain | run --steps 1 --explain a
+run a 1 3 10000000 none explain progress | run --progress a --explain
+replay a t explain | replay --explain a t";
+
+#[test]
+fn commands(rt: HostRuntime) -> Result<(), Fail> {
+    are_shown(&rt, rt.alloc(), COMMANDS)
+}
+
+// The first is a word without bytes.
+const NO_COMMANDS: &str = "
+--help
+help
+run --help
+-h
+walk a
+Run a
+check
+check a --rounds 1
+mean
+mean a b
+mean a --rounds 0
+mean a --rounds 4294967296
+mean a --steps 1
+code
+code --dot
+code --dot a --dot
+mean a --dot
+code a b
+run
+run a b
+run a --engines 0
+run a --engines 64
+run a --workers 64
+run a --workers 0
+run a --workers +5
+run a --workers -5
+run a --engines 1 --engines 1
+run a --trace
+run a --trace --steps 1
+code a --explain
+run --explain a --explain
+run --progress a --progress
+mean a --progress
+--explain run a
+replay a
+replay a t u";
 
 #[test]
 fn no_commands(rt: HostRuntime) -> Result<(), Fail> {
-    let rows: [&[&str]; 38] = [
-        &[],
-        &[""],
-        &["--help"],
-        &["help"],
-        &["run", "--help"],
-        &["-h"],
-        &["walk", "a"],
-        &["Run", "a"],
-        &["check"],
-        &["check", "a", "--rounds", "1"],
-        &["mean"],
-        &["mean", "a", "b"],
-        &["mean", "a", "--rounds", "0"],
-        &["mean", "a", "--rounds", "4294967296"],
-        &["mean", "a", "--steps", "1"],
-        &["code"],
-        &["code", "--dot"],
-        &["code", "--dot", "a", "--dot"],
-        &["mean", "a", "--dot"],
-        &["code", "a", "b"],
-        &["run"],
-        &["run", "a", "b"],
-        &["run", "a", "--engines", "0"],
-        &["run", "a", "--engines", "64"],
-        &["run", "a", "--workers", "64"],
-        &["run", "a", "--workers", "0"],
-        &["run", "a", "--workers", "+5"],
-        &["run", "a", "--workers", "-5"],
-        &["run", "a", "--engines", "1", "--engines", "1"],
-        &["run", "a", "--trace"],
-        &["run", "a", "--trace", "--steps", "1"],
-        &["code", "a", "--explain"],
-        &["run", "--explain", "a", "--explain"],
-        &["run", "--progress", "a", "--progress"],
-        &["mean", "a", "--progress"],
-        &["--explain", "run", "a"],
-        &["replay", "a"],
-        &["replay", "a", "t", "u"],
-    ];
-    are_no_commands(&rt, rt.alloc(), &rows)
+    are_no_commands(&rt, rt.alloc(), NO_COMMANDS)
+}
+
+#[test]
+fn no_words(rt: HostRuntime) -> Result<(), Fail> {
+    let read = Request::read(rt.alloc(), &[]);
+    assert!(rt; matches!(read, Err(LineFault::Usage)));
+    let wrong = first_wrong(&[]).expect(&rt, "something is wrong");
+    has_text(&rt, rt.alloc(), wrong, "swt: no command is given")
 }
 
 /// Words that a reader of command lines often takes in other ways.
+const OTHER_FORMS: &str = "\
+-- run a
+run -- a
+run a --
+check -- -a
+check -
+run a --trace -
+run a --steps=1
+run a --step 1
+run a --=1
+run a -s 1
+run a -V
+run a --version
+run a --trace t --trace t
+help run";
+
 #[test]
 fn other_forms(rt: HostRuntime) -> Result<(), Fail> {
-    let rows: [&[&str]; 14] = [
-        &["--", "run", "a"],
-        &["run", "--", "a"],
-        &["run", "a", "--"],
-        &["check", "--", "-a"],
-        &["check", "-"],
-        &["run", "a", "--trace", "-"],
-        &["run", "a", "--steps=1"],
-        &["run", "a", "--step", "1"],
-        &["run", "a", "--=1"],
-        &["run", "a", "-s", "1"],
-        &["run", "a", "-V"],
-        &["run", "a", "--version"],
-        &["run", "a", "--trace", "t", "--trace", "t"],
-        &["help", "run"],
-    ];
-    are_no_commands(&rt, rt.alloc(), &rows)
+    are_no_commands(&rt, rt.alloc(), OTHER_FORMS)
 }
 
-/// Words that look like others, and are names and numbers.
+/// Words that look like others, and are names and numbers. In the first row one has no bytes.
+const OTHER_NAMES: &str = "\
+check  = a=b | check  = a=b
+run help 1 3 10000000 run | run help --trace run
+mean ./-a 7 | mean --rounds 007 ./-a
+run a 1 3 4294967295 none | run a --steps 4294967295";
+
 #[test]
 fn other_names(rt: HostRuntime) -> Result<(), Fail> {
-    let alloc = rt.alloc();
-    is_shown(&rt, alloc, &["check", "", "=", "a=b"], "check  = a=b")?;
-    is_shown(
-        &rt,
-        alloc,
-        &["run", "help", "--trace", "run"],
-        "run help 1 3 10000000 run",
-    )?;
-    is_shown(
-        &rt,
-        alloc,
-        &["mean", "--rounds", "007", "./-a"],
-        "mean ./-a 7",
-    )
+    are_shown(&rt, rt.alloc(), OTHER_NAMES)
 }
+
+/// Numbers of steps that are none. The last has no bytes.
+const NO_STEPS: &str = "\
+run a --steps 4294967296
+run a --steps 99999999999999999999
+run a --steps ten
+run a --steps ";
 
 #[test]
 fn steps_range(rt: HostRuntime) -> Result<(), Fail> {
-    for steps in ["4294967296", "99999999999999999999", "ten", ""] {
-        assert!(rt; is_usage(rt.alloc(), &["run", "a", "--steps", steps]));
-    }
-    is_shown(
-        &rt,
-        rt.alloc(),
-        &["run", "a", "--steps", "4294967295"],
-        "run a 1 3 4294967295 none",
-    )
+    are_no_commands(&rt, rt.alloc(), NO_STEPS)
 }
 
-/// These files have these names.
-fn have_names(rt: &impl Abort, files: &[Word], names: &[&str]) {
-    assert_eq!(rt; files.len(), names.len());
-    for (file, name) in files.iter().zip(names.iter()) {
-        assert_eq!(rt; file.as_str(), *name);
+/// The names of files in one text.
+fn names_of(alloc: Global, files: &[Word]) -> Result<String, Fail> {
+    let mut text = String::new(alloc);
+    for file in files {
+        text.push_str(file.as_str())?;
+        text.push_str(" ")?;
     }
+    Ok(text)
 }
 
-/// The files that a request needs have these names.
-fn needs_files(
-    rt: &impl Abort,
-    alloc: Global,
-    request: &Request,
-    names: &[&str],
-) -> Result<(), Fail> {
+/// The files that a request needs have these names, with a space behind each.
+fn needs_files(rt: &impl Abort, alloc: Global, request: &Request, names: &str) -> Result<(), Fail> {
     let files = request.line.files(alloc)?;
-    have_names(rt, files.as_slice(), names);
+    let found = names_of(alloc, files.as_slice())?;
+    assert_eq!(rt; found.as_str(), names);
     Ok(())
 }
+
+// The names, with a space behind each, and the line that needs them.
+const NEEDED: &str = "\
+b a  | check b a
+a  | mean a
+a  | code a
+a  | run a --trace t
+a t  | replay a t";
 
 #[test]
 fn files_to_be_read(rt: HostRuntime) -> Result<(), Fail> {
     let alloc = rt.alloc();
-    let rows: [(&[&str], &[&str]); 5] = [
-        (&["check", "b", "a"], &["b", "a"]),
-        (&["mean", "a"], &["a"]),
-        (&["code", "a"], &["a"]),
-        (&["run", "a", "--trace", "t"], &["a"]),
-        (&["replay", "a", "t"], &["a", "t"]),
-    ];
-    for (words, names) in rows {
-        let request = request_of(alloc, words)?;
+    for row in NEEDED.lines() {
+        let (names, line) = parts(&rt, row);
+        let request = request_of(alloc, line)?;
         needs_files(&rt, alloc, &request, names)?;
     }
     Ok(())
@@ -324,51 +310,32 @@ fn has_text(rt: &impl Abort, alloc: Global, wrong: Complaint<'_>, text: &str) ->
 }
 
 /// What is wrong with the words has this text.
-fn is_complained(rt: &impl Abort, alloc: Global, words: &[&str], text: &str) -> Result<(), Fail> {
-    let words = words_of(alloc, words)?;
-    let wrong = first_wrong(words.as_slice());
-    assert!(rt; wrong.is_some());
-    match wrong {
-        Some(wrong) => has_text(rt, alloc, wrong, text),
-        None => Ok(()),
-    }
+fn is_complained(rt: &impl Abort, alloc: Global, line: &str, text: &str) -> Result<(), Fail> {
+    let words = words_of(alloc, line)?;
+    let wrong = first_wrong(words.as_slice()).expect(rt, "something is wrong");
+    has_text(rt, alloc, wrong, text)
 }
+
+const COMPLAINTS: &str = "\
+swt: walk is no command | walk a
+swt: --steps is no option of check | check a --steps 1
+swt: --trace has no value behind it | run a --trace
+swt: --steps has no value behind it | run --steps --engines 1 a
+swt: 64 is no number from 1 to 63 | run a --workers 64
+swt: many is no number from 1 to 4294967295 | mean a --rounds many
+swt: --dot stands twice | code a --dot --dot
+swt: b is one file too many for mean | mean a b
+swt: check wants one file or more | check
+swt: replay wants a file and its trace | replay a";
 
 #[test]
 fn complaints(rt: HostRuntime) -> Result<(), Fail> {
     let alloc = rt.alloc();
-    let rows: [(&[&str], &str); 11] = [
-        (&[], "swt: no command is given"),
-        (&["walk", "a"], "swt: walk is no command"),
-        (
-            &["check", "a", "--steps", "1"],
-            "swt: --steps is no option of check",
-        ),
-        (
-            &["run", "a", "--trace"],
-            "swt: --trace has no value behind it",
-        ),
-        (
-            &["run", "--steps", "--engines", "1", "a"],
-            "swt: --steps has no value behind it",
-        ),
-        (
-            &["run", "a", "--workers", "64"],
-            "swt: 64 is no number from 1 to 63",
-        ),
-        (
-            &["mean", "a", "--rounds", "many"],
-            "swt: many is no number from 1 to 4294967295",
-        ),
-        (&["code", "a", "--dot", "--dot"], "swt: --dot stands twice"),
-        (&["mean", "a", "b"], "swt: b is one file too many for mean"),
-        (&["check"], "swt: check wants one file or more"),
-        (&["replay", "a"], "swt: replay wants a file and its trace"),
-    ];
-    for (words, text) in rows {
-        is_complained(&rt, alloc, words, text)?;
+    for row in COMPLAINTS.lines() {
+        let (text, line) = parts(&rt, row);
+        is_complained(&rt, alloc, line, text)?;
     }
-    assert!(rt; !has_wrong(alloc, &["run", "a", "--trace", "t"])?);
+    assert!(rt; !has_wrong(alloc, "run a --trace t")?);
     Ok(())
 }
 

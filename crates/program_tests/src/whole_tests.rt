@@ -13,7 +13,7 @@ fn replayed<R: Threads + Wait + Sync>(
     run: &Done,
 ) -> Result<Done, Fail> {
     let sources = [Some(script), Some(run.trace.as_slice())];
-    perform(rt, alloc, &["replay", "f", "t"], &sources, WIDE)
+    perform(rt, alloc, "replay f t", &sources, WIDE)
 }
 
 /// Whether these texts have the same lines, in some order.
@@ -50,13 +50,7 @@ fn runs_to<R: Threads + Wait + Sync>(
     wanted: &[u8],
     status: u8,
 ) -> Result<bool, Fail> {
-    let run = perform(
-        rt,
-        alloc,
-        &["run", "f", "--trace", "t"],
-        &[Some(script)],
-        WIDE,
-    )?;
+    let run = perform(rt, alloc, "run f --trace t", &[Some(script)], WIDE)?;
     let is_same = is_same_again(rt, alloc, script, &run, status)?;
     let is_wanted = is_wanted(alloc, &run, wanted, status)?;
     Ok(is_wanted && is_same)
