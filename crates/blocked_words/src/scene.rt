@@ -6,7 +6,7 @@ use script_meaning::knowledge::Knowledge;
 use std::alloc::{Allocator, Global};
 
 /// A script's text, where its things stand, what is known of it, and which statements can not go on.
-#[derive(Clone, Copy)]
+#[derive(Drop)]
 pub struct Scene<'t, 'a, A: Allocator> {
     pub alloc: Global,
     pub text: &'t [u8],

@@ -29,22 +29,15 @@ fn add_bodies(code: &mut Draft, bodies: Vec<Body>) -> Result<(), AllocError>
 /// An entry with these rights.
 fn with_rights(
     alloc: Global,
-    entry: Entry,
+    mut entry: Entry,
     reads: &[Name],
     writes: &[Name],
 ) -> Result<Entry, AllocError>
     ensures { IfOk result (λ granted. entry_view granted ≡ record (entry_view entry) { reads = map name_view reads.now; writes = map name_view writes.now }) }
 {
-    Ok(Entry {
-        node: entry.node,
-        at: entry.at,
-        mark: entry.mark,
-        priority: entry.priority,
-        needs: entry.needs,
-        act: entry.act,
-        reads: Vec::from_slice(alloc, reads)?,
-        writes: Vec::from_slice(alloc, writes)?,
-    })
+    entry.reads = Vec::from_slice(alloc, reads)?;
+    entry.writes = Vec::from_slice(alloc, writes)?;
+    Ok(entry)
 }
 
 /// Puts an entry with the rights of its number behind the others.
