@@ -175,12 +175,24 @@ fn time_inserts(
     scattered: bool,
 ) -> io::Result<()> {
     let mut store = Store::new(alloc);
-    let filled = time_fills(rt, alloc, &mut store, arrays, count, scattered)?;
+    time_store(rt, alloc, &mut store, arrays, count, scattered)
+}
+
+/// The same, of an empty store.
+fn time_store(
+    rt: &(impl Clock + Print),
+    alloc: Global,
+    store: &mut Store,
+    arrays: u64,
+    count: u64,
+    scattered: bool,
+) -> io::Result<()> {
+    let filled = time_fills(rt, alloc, store, arrays, count, scattered)?;
     let start = Instant::now(rt)?;
-    let found = find_each(&store, filled.as_slice(), count, scattered);
+    let found = find_each(store, filled.as_slice(), count, scattered);
     tell(rt, start, "elements found", arrays, found)?;
     let start = Instant::now(rt)?;
-    let listed = list_each(&mut store, filled.as_slice())?;
+    let listed = list_each(store, filled.as_slice())?;
     tell(rt, start, "elements sorted", arrays, listed as u64)
 }
 

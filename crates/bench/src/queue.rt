@@ -54,12 +54,22 @@ fn time_size(
     scattered: bool,
 ) -> io::Result<()> {
     let mut queue = Queue::new(alloc);
-    time_puts(rt, &mut queue, count, scattered)?;
+    time_calls(rt, &mut queue, count, scattered)
+}
+
+/// The same, of an empty queue.
+fn time_calls(
+    rt: &(impl Clock + Print),
+    queue: &mut Queue,
+    count: u64,
+    scattered: bool,
+) -> io::Result<()> {
+    time_puts(rt, queue, count, scattered)?;
     let start = Instant::now(rt)?;
-    let removed = remove_half(&mut queue, count, scattered);
+    let removed = remove_half(queue, count, scattered);
     tell(rt, start, "removes", count / 2, removed)?;
     let start = Instant::now(rt)?;
-    let taken = take_all(&mut queue, count);
+    let taken = take_all(queue, count);
     tell(rt, start, "takes", count, taken)
 }
 
@@ -116,13 +126,18 @@ fn turn_over(queue: &mut Queue, len: u64, turns: u64) -> Result<u64, AllocError>
 
 /// Prints the time of turns, each a put, a take, a remove and a put, while so many wait.
 fn time_turns(rt: &(impl Clock + Print), alloc: Global, len: u64) -> io::Result<()> {
-    let turns = 1_000_000u64;
     let mut queue = Queue::new(alloc);
+    time_turns_in(rt, &mut queue, len)
+}
+
+/// The same, of an empty queue.
+fn time_turns_in(rt: &(impl Clock + Print), queue: &mut Queue, len: u64) -> io::Result<()> {
+    let turns = 1_000_000u64;
     for number in 1..len {
         queue.put(Kind::Leaf, 0, number)?;
     }
     let start = Instant::now(rt)?;
-    let taken = turn_over(&mut queue, len, turns)?;
+    let taken = turn_over(queue, len, turns)?;
     println!(rt; "with {len} waiting, ")?;
     tell(rt, start, "turns", turns, taken)
 }

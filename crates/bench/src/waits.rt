@@ -107,11 +107,21 @@ fn use_again(
 
 /// Prints the time of a million adds and knowns of the same few data while so many items wait on others.
 fn time_again(rt: &(impl Clock + Print), alloc: Global, count: u64) -> io::Result<()> {
-    let mut out = Vec::with_capacity(alloc, 2_200_000)?;
     let mut rules = Rules::new(alloc);
-    add_all(alloc, &mut rules, count)?;
+    time_few(rt, alloc, &mut rules, count)
+}
+
+/// The same, of rules without items.
+fn time_few(
+    rt: &(impl Clock + Print),
+    alloc: Global,
+    rules: &mut Rules,
+    count: u64,
+) -> io::Result<()> {
+    let mut out = Vec::with_capacity(alloc, 2_200_000)?;
+    add_all(alloc, rules, count)?;
     let start = Instant::now(rt)?;
-    use_again(alloc, &mut rules, AGAIN, 64, &mut out)?;
+    use_again(alloc, rules, AGAIN, 64, &mut out)?;
     watch::tell(
         rt,
         start,
@@ -135,13 +145,23 @@ fn add_to_one(alloc: Global, rules: &mut Rules, count: u64) -> Result<(), AllocE
 /// Prints the time of a million adds and knowns of a datum that shares its list with one for which so many items wait, where
 /// there are four lists for each of them, or one less than that.
 fn time_shared(rt: &(impl Clock + Print), alloc: Global, count: u64) -> io::Result<()> {
-    let mut out = Vec::with_capacity(alloc, 2_200_000)?;
     let mut rules = Rules::new(alloc);
-    add_to_one(alloc, &mut rules, count)?;
+    time_list(rt, alloc, &mut rules, count)
+}
+
+/// The same, of rules without items.
+fn time_list(
+    rt: &(impl Clock + Print),
+    alloc: Global,
+    rules: &mut Rules,
+    count: u64,
+) -> io::Result<()> {
+    let mut out = Vec::with_capacity(alloc, 2_200_000)?;
+    add_to_one(alloc, rules, count)?;
     let start = Instant::now(rt)?;
     let lists = count.wrapping_mul(4);
     let datum = ARRAY.wrapping_add(lists.wrapping_mul(lists.wrapping_sub(1)));
-    use_again(alloc, &mut rules, datum, 1, &mut out)?;
+    use_again(alloc, rules, datum, 1, &mut out)?;
     watch::tell(
         rt,
         start,

@@ -180,6 +180,18 @@ fn finds_faults_behind_tokens(rt: HostRuntime) {
     expect(&rt, b"%//".as_slice(), divide.as_slice(), Some(slash));
 }
 
+#[test]
+fn goes_on_behind_a_token(rt: HostRuntime) {
+    let text = b"a = 1; /* b */ c \"d".as_slice();
+    let mut lexer = Lexer::behind(text, 6);
+    is_token(&rt, lexer.next(), text, TokenKind::Name, at(15, 16));
+    is_fault(&rt, lexer.next(), LexFault::OpenString(at(17, 19)));
+    assert!(rt; lexer.next().is_none());
+    let mut all = Lexer::behind(text, 0);
+    is_token(&rt, all.next(), text, TokenKind::Name, at(0, 1));
+    assert!(rt; Lexer::behind(text, 19).next().is_none());
+}
+
 /// The fault of the first byte is told so.
 fn is_told(rt: &impl Abort, alloc: Global, fault: LexFault, wanted: &str) {
     let told = format!(in alloc; "{fault}").expect(rt, "memory");

@@ -26,6 +26,19 @@ fn add_bodies(code: &mut Draft, bodies: Vec<Body>) -> Result<(), AllocError>
     Ok(())
 }
 
+/// Both lists, copied.
+fn both_lists(
+    alloc: Global,
+    reads: &[Name],
+    writes: &[Name],
+) -> Result<(Vec<Name>, Vec<Name>), AllocError>
+    ensures { IfOk result (λ lists. (map name_view lists.0.items ≡ map name_view reads.now) × (map name_view lists.1.items ≡ map name_view writes.now)) }
+{
+    let reads = Vec::from_slice(alloc, reads)?;
+    let writes = Vec::from_slice(alloc, writes)?;
+    Ok((reads, writes))
+}
+
 /// An entry with these rights.
 fn with_rights(
     alloc: Global,
@@ -35,8 +48,9 @@ fn with_rights(
 ) -> Result<Entry, AllocError>
     ensures { IfOk result (λ granted. entry_view granted ≡ record (entry_view entry) { reads = map name_view reads.now; writes = map name_view writes.now }) }
 {
-    entry.reads = Vec::from_slice(alloc, reads)?;
-    entry.writes = Vec::from_slice(alloc, writes)?;
+    let (reads, writes) = both_lists(alloc, reads, writes)?;
+    entry.reads = reads;
+    entry.writes = writes;
     Ok(entry)
 }
 

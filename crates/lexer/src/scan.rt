@@ -247,6 +247,13 @@ pub fn first_piece(at: usize, bytes: &[u8]) -> Piece
     match bytes[0] {
         byte if is_blank(byte) => Piece::Gap(1),
         byte if is_word_byte(byte) => name_or_number(at, bytes),
+        b';' => Piece::Token(TokenKind::Semicolon, 1),
+        b',' => Piece::Token(TokenKind::Comma, 1),
+        b'(' => Piece::Token(TokenKind::OpenRound, 1),
+        b')' => Piece::Token(TokenKind::CloseRound, 1),
+        b'+' => Piece::Token(TokenKind::Plus, 1),
+        b'-' => Piece::Token(TokenKind::Minus, 1),
+        b'*' => Piece::Token(TokenKind::Times, 1),
         b'"' => string(at, bytes),
         b'/' => comment(at, bytes),
         _ => symbol(at, bytes),

@@ -14,7 +14,7 @@ use crate::cursor::Cursor;
 use crate::error::ParseFault;
 use crate::script::script;
 use crate::stop::Stop;
-use crate::tokens::fault_of;
+use crate::tokens::{fault_behind, fault_of};
 use lexer::token::Span;
 use std::alloc::Allocator;
 use syntax_trees::tree::Script;
@@ -44,7 +44,7 @@ fn answer(stop: Stop, src: &[u8]) -> ParseFault
 }
 
 /// The script of a text.
-#[tactic(auto, using(crate::proofs::scripts::Texts::begun_stops, crate::proofs::scripts::Texts::begun_faulty, crate::proofs::scripts::Texts::long_refuses, crate::proofs::scripts::Parts::begun_short, crate::proofs::scripts::Texts::begun_reads))]
+#[tactic(auto, using(crate::proofs::scripts::Texts::begun_stops, crate::proofs::scripts::Texts::begun_faulty, crate::proofs::scripts::Texts::begun_within, crate::proofs::scripts::Texts::long_refuses, crate::proofs::scripts::Parts::begun_short, crate::proofs::scripts::Texts::begun_reads))]
 pub fn parse<A: Allocator + Clone>(alloc: A, src: &[u8]) -> Result<Script<A>, ParseFault>
     ensures read { IfOk result (λ script. Reads src.now (tree_of script)) }
     ensures refused { IfErr result (λ fault. Refuses src.now fault) }
@@ -60,7 +60,7 @@ pub fn parse<A: Allocator + Clone>(alloc: A, src: &[u8]) -> Result<Script<A>, Pa
         Ok(script) => script,
         Err(stop) => return Err(answer(stop, src)),
     };
-    match fault_of(src) {
+    match fault_behind(src, cursor.before()) {
         Some(fault) => Err(ParseFault::Lex(fault)),
         None => Ok(script),
     }

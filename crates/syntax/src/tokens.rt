@@ -1,17 +1,28 @@
 //! What stands behind the last token of a text.
 
-ghost use Rattle.std.specs.Prelude.{◌≡◌, ◌++◌, List, Option, map, Ok};
-ghost use Rattle.lexer.specs.Items.{Lexeme};
+ghost use Rattle.std.specs.Prelude.{◌≡◌, ◌≤◌, ◌++◌, List, Option, length, map, Ok};
+ghost use Rattle.lexer.specs.Items.{Lexeme, ends_at};
 ghost use Rattle.lexer.specs.Tokens.{Tokens};
 ghost use Rattle.lexer.specs.declared.fault.LexFault.{LexFault};
 ghost use Rattle.syntax.specs.Endings.{ending};
 
 use lexer::fault::LexFault;
-use lexer::lexer::first_fault;
+use lexer::lexer::{Lexer, first_fault};
 
 /// The fault that ends the tokens of a text, if there is one.
 pub fn fault_of(source: &[u8]) -> Option<LexFault>
     ensures { (ts : List Lexeme) (fault : Option LexFault) → Tokens source.now (map Ok ts ++ ending fault) → result ≡ fault }
 {
     first_fault(source)
+}
+
+/// The fault that ends the tokens of a text of which the last ends there, if there is one. Nothing before is read again.
+pub fn fault_behind(source: &[u8], to: usize) -> Option<LexFault>
+    requires { to ≤ length source.now }
+    ensures { (ts : List Lexeme) (fault : Option LexFault) → Tokens source.now (map Ok ts ++ ending fault) → ends_at 0 ts ≡ to → result ≡ fault }
+{
+    match Lexer::behind(source, to).next() {
+        Some(Err(fault)) => Some(fault),
+        _ => None,
+    }
 }

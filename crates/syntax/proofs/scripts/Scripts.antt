@@ -191,13 +191,16 @@ stopped : (u : Place) → not (at_end u) ≡ false → u.rest ≡ []
 unfolding at_end
 stopped u h = none_is u.rest h
 
--- what is read is the tree of the tokens, and nothing is left of them
-pub script_sound : (depth : ℕ) (ts : List Lexeme) (tree : Tree) (u : Place) → read_script depth (start ts) ≡ got tree u → IsScript depth ts tree × (u.rest ≡ [])
+-- what is read are parts, one behind the other, and nothing is left of the tokens
+pub parts_sound : (depth : ℕ) (ts : List Lexeme) (tree : Tree) (u : Place) → read_script depth (start ts) ≡ got tree u → Many (IsPart depth) (start ts) tree u × (u.rest ≡ [])
 unfolding read_script
-script_sound depth ts tree u h =
+parts_sound depth ts tree u h =
     let p = sound_many (λ s. not (at_end s)) (part_law depth) (suc (length ts)) [] (start ts) tree u h in
-    let end = stopped u (many_ends (λ s. not (at_end s)) (read_part depth) (suc (length ts)) [] (start ts) tree u h) in
-    ((u, subst (λ ys. Many (IsPart depth) (start ts) ys u) (sym p.1) p.2, end), end)
+    (subst (λ ys. Many (IsPart depth) (start ts) ys u) (sym p.1) p.2, stopped u (many_ends (λ s. not (at_end s)) (read_part depth) (suc (length ts)) [] (start ts) tree u h))
+
+-- they are the tree of the tokens
+pub script_sound : (depth : ℕ) (ts : List Lexeme) (tree : Tree) (u : Place) → read_script depth (start ts) ≡ got tree u → IsScript depth ts tree × (u.rest ≡ [])
+script_sound depth ts tree u h = let p = parts_sound depth ts tree u h in ((u, p.0, p.1), p.1)
 
 -- the tree of the tokens is read
 pub script_complete : (depth : ℕ) (ts : List Lexeme) (tree : Tree) → IsScript depth ts tree → (u : Place) × (read_script depth (start ts) ≡ got tree u) × (u.rest ≡ [])

@@ -1,7 +1,8 @@
 -- What the parts of a text's reading say of the text.
 use Rattle.std.proofs.Common.{◌≡◌, ℕ, ◌<◌, ◌≤◌, length, List, [], ◌∷◌, ◌++◌, map, refl, ap, sym, ◌∙◌, subst, inl, inr}
 use Rattle.std.specs.Prelude.{Ok, Err, Option, Some, None}
-use Rattle.lexer.specs.Items.{Lexeme}
+use Rattle.lexer.specs.Items.{Lexeme, ends_at}
+use Rattle.lexer.proofs.Items.{tokens_end}
 use Rattle.lexer.specs.Tokens.{Tokens}
 use Rattle.lexer.specs.declared.fault.LexFault.{LexFault}
 use Rattle.syntax_trees.specs.Tree.{Tree}
@@ -18,7 +19,8 @@ use Rattle.syntax.specs.Held.{Begins}
 use Rattle.syntax.specs.Readers.{refused, got, start}
 use Rattle.syntax.specs.Reading.{read_script}
 use Rattle.syntax.specs.Refusals.{HasNone, Refuses}
-use Rattle.syntax.proofs.scripts.Scripts.{script_sound}
+use Rattle.syntax.proofs.Ends.{parts_end}
+use Rattle.syntax.proofs.scripts.Scripts.{parts_sound, script_sound}
 use Rattle.syntax.proofs.stopping.Viable.{stops_first}
 use Rattle.syntax.proofs.scripts.Trees.{whole, reads_text, long_text, refused_text, faulty_text}
 
@@ -47,12 +49,23 @@ text_reads bytes ts tree u t short lexed read is = subst (Reads bytes) (sym is) 
 
 -- THE SAME, FROM THE PLACE BEFORE ALL TOKENS
 
--- what ends the tokens of a text
-abbrev pub EndsAs : List ℕ → Option LexFault → Type 0
-EndsAs bytes end = (ts : List Lexeme) (fault : Option LexFault) → Tokens bytes (map Ok ts ++ ending fault) → end ≡ fault
+-- what ends the tokens of a text of which the last ends there
+abbrev pub EndsAs : List ℕ → ℕ → Option LexFault → Type 0
+EndsAs bytes to end = (ts : List Lexeme) (fault : Option LexFault) → Tokens bytes (map Ok ts ++ ending fault) → ends_at 0 ts ≡ to → end ≡ fault
 
-ended_as : (bytes : List ℕ) (s : Place) (end found : Option LexFault) → (begun : Begins bytes s) → EndsAs bytes end → end ≡ found → Tokens bytes (map Ok begun.0 ++ ending found)
-ended_as bytes s end found begun ends is = subst (λ f. Tokens bytes (map Ok begun.0 ++ ending f)) (sym (ends begun.0 begun.1 begun.2) ∙ is) begun.2
+-- where a script is read, the last token ends before the place behind it
+begun_end : (bytes : List ℕ) (s : Place) (tree : Tree) (u : Place) → (begun : Begins bytes s) → read_script 64 s ≡ got tree u → ends_at 0 begun.0 ≡ u.before
+begun_end bytes s tree u begun read =
+    let parts = parts_sound 64 begun.0 tree u (sym (ap (read_script 64) begun.3) ∙ read) in
+    sym (parts_end 64 (start begun.0) tree u parts.0 parts.1)
+
+pub begun_within : (bytes : List ℕ) (s : Place) (tree : Tree) (u : Place) → Begins bytes s → read_script 64 s ≡ got tree u → u.before ≤ length bytes
+begun_within bytes s tree u begun read = subst (λ to. to ≤ length bytes) (begun_end bytes s tree u begun read) (tokens_end bytes begun.0 (ending begun.1) begun.2)
+
+ended_as : (bytes : List ℕ) (s : Place) (end found : Option LexFault) (tree : Tree) (u : Place) → (begun : Begins bytes s) → read_script 64 s ≡ got tree u → EndsAs bytes u.before end → end ≡ found
+    → Tokens bytes (map Ok begun.0 ++ ending found)
+ended_as bytes s end found tree u begun read ends is =
+    subst (λ f. Tokens bytes (map Ok begun.0 ++ ending f)) (sym (ends begun.0 begun.1 begun.2 (begun_end bytes s tree u begun read)) ∙ is) begun.2
 
 pub begun_stops : (bytes : List ℕ) (s : Place) (stop : Stop) (answer : ParseFault) → length bytes ≤ 1048576 → Begins bytes s → Fails stop (read_script 64 s)
     → ((ts : List Lexeme) (fault : Option LexFault) → Tokens bytes (map Ok ts ++ ending fault) → answer ≡ answer_of stop fault (length bytes)) → Refuses bytes answer
@@ -60,10 +73,10 @@ begun_stops bytes s stop answer short begun fails answers =
     subst (Refuses bytes) (sym (answers begun.0 begun.1 begun.2)) (stop_refuses bytes begun.0 begun.1 stop short begun.2 (subst (λ p. Fails stop (read_script 64 p)) begun.3 fails))
 
 pub begun_faulty : (bytes : List ℕ) (s : Place) (end : Option LexFault) (f : LexFault) (tree : Tree) (u : Place) → length bytes ≤ 1048576 → Begins bytes s → read_script 64 s ≡ got tree u
-    → EndsAs bytes end → end ≡ Some f → Refuses bytes (Fault.Lex f)
+    → EndsAs bytes u.before end → end ≡ Some f → Refuses bytes (Fault.Lex f)
 begun_faulty bytes s end f tree u short begun read ends is =
-    fault_refuses bytes begun.0 f tree u short (ended_as bytes s end (Some f) begun ends is) (sym (ap (read_script 64) begun.3) ∙ read)
+    fault_refuses bytes begun.0 f tree u short (ended_as bytes s end (Some f) tree u begun read ends is) (sym (ap (read_script 64) begun.3) ∙ read)
 
 pub begun_reads : (bytes : List ℕ) (s : Place) (end : Option LexFault) (tree : Tree) (u : Place) (t : Tree) → length bytes ≤ 1048576 → Begins bytes s → read_script 64 s ≡ got tree u
-    → EndsAs bytes end → end ≡ None → t ≡ numbered 1 tree → Reads bytes t
-begun_reads bytes s end tree u t short begun read ends is same = text_reads bytes begun.0 tree u t short (ended_as bytes s end None begun ends is) (sym (ap (read_script 64) begun.3) ∙ read) same
+    → EndsAs bytes u.before end → end ≡ None → t ≡ numbered 1 tree → Reads bytes t
+begun_reads bytes s end tree u t short begun read ends is same = text_reads bytes begun.0 tree u t short (ended_as bytes s end None tree u begun read ends is) (sym (ap (read_script 64) begun.3) ∙ read) same
