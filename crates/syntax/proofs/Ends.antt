@@ -1,14 +1,13 @@
 -- Where the tokens end: reading moves on token by token, and leaves where the last one ends.
-use Rattle.std.specs.Prelude.{map}
-use Rattle.std.proofs.Common.{◌≡◌, ℕ, zero, suc, List, [], ◌∷◌, Option, Some, None, Bool, true, false, refl, ap, sym, ◌∙◌}
+use Rattle.std.proofs.Common.{◌≡◌, ℕ, zero, suc, List, [], ◌∷◌, Option, Some, None, Bool, true, false, ap, sym, ◌∙◌}
 use Rattle.lexer.specs.Items.{Lexeme, ends_at}
 use Rattle.lexer.specs.declared.token.TokenKind.{TokenKind}
 use Rattle.syntax_trees.specs.declared.tree.Level.{Level}
 use Rattle.syntax_trees.specs.Tree.{Expression, Statement, Body, Part, Over, RightSide}
 use Rattle.syntax_trees.specs.Kinds.{repeats}
-use Rattle.syntax_trees.specs.Rules.{Place, behind, Rule, The, ◌⋆◌, ◌▹◌, ◌◃◌, Nothing, Never, Many, Maybe, AtMostOne, Perhaps, Made, Commas, Round, Square, Curly, Deeper}
+use Rattle.syntax_trees.specs.Rules.{Place, Rule, The, ◌⋆◌, ◌▹◌, ◌◃◌, Nothing, Never, Many, Maybe, AtMostOne, Perhaps, Made, Commas, Deeper}
 use Rattle.syntax_trees.specs.Grammar.{IsName, IsOperator, Repeated, IsChain, IsExprOver, AreArguments, IsUnaryOver, a_not, a_negative, a_number, a_string, a_true, a_false, a_name, an_element, a_call, a_parenthesis, IsUnary, IsExpr, IsType, IsDecl, AreParameters, AreNames, IsCall, IsRight, a_value, a_list, IsRange, IsSource, an_array, a_range}
-use Rattle.syntax_trees.specs.Grammar.{IsPrio, IsSmall, IsPriority, IsElse, a_block, IsStmtOver, a_declaration, an_assignment, a_write, many_assigned, an_if, a_foreach, a_wait, IsBlockOver, IsStmt, IsBlock, IsModule, io, assert, string, IsPart, an_import, a_function, a_statement}
+use Rattle.syntax_trees.specs.Grammar.{IsPrio, IsSmall, IsPriority, IsElse, a_block, IsStmtOver, a_declaration, an_assignment, a_write, many_assigned, an_if, a_foreach, a_wait, IsBlockOver, IsStmt, IsModule, io, assert, string, IsPart, an_import, a_function, a_statement}
 
 -- where the tokens end that are left at a place
 abbrev pub last_end : Place → ℕ

@@ -1,6 +1,6 @@
 -- The tokens of a text, and what ends them.
-use Rattle.std.proofs.Common.{◌≡◌, ℕ, List, [], ◌∷◌, ◌++◌, true, map, take, refl, ap, sym, ◌∙◌, subst}
-use Rattle.std.specs.Prelude.{Ok, Err, Option, Some, None}
+use Rattle.std.proofs.Common.{◌≡◌, ℕ, List, [], ◌∷◌, ◌++◌, true, map, take, refl, ap, ◌∙◌, subst}
+use Rattle.std.specs.Prelude.{Ok, Option, Some, None}
 use Rattle.lexer.specs.Items.{Lexeme, Item, span, fault_in}
 use Rattle.lexer.specs.Tokens.{Tokens, TokensFrom, at_end, after_gap, a_token, a_fault, HasForm}
 use Rattle.lexer.specs.declared.fault.LexFault.{LexFault}

@@ -1,4 +1,4 @@
-use Rattle.std.proofs.Common.{◌≡◌, ℕ, List, drop, sym, ap, ◌∙◌}
+use Rattle.std.proofs.Common.{ℕ, List, drop, sym, ap, ◌∙◌}
 use Rattle.lexer.specs.Items.{Item}
 use Rattle.lexer.specs.Reading.{items_from}
 use Rattle.lexer.proofs.Items.{items_behind}
