@@ -42,16 +42,7 @@ pub fn explain_meaning(
     limit: u32,
     out: &mut Vec<u8>,
 ) -> Result<(), AllocError> {
-    let Some(flow) = flow_of(alloc, text)? else {
-        return Ok(());
-    };
-    let script = Script {
-        file,
-        text,
-        flow: &flow,
-    };
-    let known = rounds(alloc, &flow, limit)?;
-    add_told(alloc, script, &known, Told::Meaning(limit), out)
+    explain(alloc, file, text, Told::Meaning(limit), out)
 }
 
 /// Adds what is said of a script that was run and ended blocked: of the blocked statements of its meaning.
@@ -61,16 +52,7 @@ pub fn explain_blocked(
     text: &[u8],
     out: &mut Vec<u8>,
 ) -> Result<(), AllocError> {
-    let Some(flow) = flow_of(alloc, text)? else {
-        return Ok(());
-    };
-    let script = Script {
-        file,
-        text,
-        flow: &flow,
-    };
-    let known = rounds(alloc, &flow, u32::MAX)?;
-    add_told(alloc, script, &known, Told::Blocked, out)
+    explain(alloc, file, text, Told::Blocked, out)
 }
 
 /// Adds what is said of a script whose run ended with the fault that is the last of what was printed.
@@ -81,31 +63,54 @@ pub fn explain_fault(
     printed: &[u8],
     out: &mut Vec<u8>,
 ) -> Result<(), AllocError> {
-    let Some(fault) = Printed::read(alloc, printed)? else {
-        return Ok(());
-    };
-    let Some(flow) = flow_of(alloc, text)? else {
-        return Ok(());
-    };
-    let script = Script {
-        file,
-        text,
-        flow: &flow,
-    };
-    let known = known_for(alloc, &flow, &fault)?;
-    add_told(alloc, script, &known, Told::Fault(&fault), out)
-}
-
-/// The statements of a script, if it is not refused.
-fn flow_of(alloc: Global, text: &[u8]) -> Result<Option<Flow<Global>>, AllocError> {
-    match read(alloc, alloc, text) {
-        Ok(flow) => Ok(Some(flow)),
-        Err(CompileFault::Memory) => Err(AllocError),
-        Err(_) => Ok(None),
+    match Printed::read(alloc, printed)? {
+        Some(fault) => explain(alloc, file, text, Told::Fault(&fault), out),
+        None => Ok(()),
     }
 }
 
-fn add_told(
+/// Adds what is told of a script, and nothing of one that is refused.
+fn explain(
+    alloc: Global,
+    file: &str,
+    text: &[u8],
+    told: Told<'_>,
+    out: &mut Vec<u8>,
+) -> Result<(), AllocError> {
+    match read(alloc, alloc, text) {
+        Ok(flow) => {
+            let script = Script {
+                file,
+                text,
+                flow: &flow,
+            };
+            explain_script(alloc, script, told, out)
+        }
+        Err(CompileFault::Memory) => Err(AllocError),
+        Err(_) => Ok(()),
+    }
+}
+
+fn explain_script(
+    alloc: Global,
+    script: Script<'_>,
+    told: Told<'_>,
+    out: &mut Vec<u8>,
+) -> Result<(), AllocError> {
+    let known = known_of(alloc, script.flow, told)?;
+    explain_known(alloc, script, &known, told, out)
+}
+
+/// What has to be known of the statements for what is told.
+fn known_of(alloc: Global, flow: &Flow<Global>, told: Told<'_>) -> Result<Knowledge, AllocError> {
+    match told {
+        Told::Meaning(limit) => rounds(alloc, flow, limit),
+        Told::Blocked => rounds(alloc, flow, u32::MAX),
+        Told::Fault(fault) => known_for(alloc, flow, fault),
+    }
+}
+
+fn explain_known(
     alloc: Global,
     script: Script<'_>,
     known: &Knowledge,
@@ -113,24 +118,44 @@ fn add_told(
     out: &mut Vec<u8>,
 ) -> Result<(), AllocError> {
     let index = Index::new(alloc, script.flow)?;
-    let writers = Writers::new(alloc, known, &index)?;
+    explain_indexed(alloc, script, known, &index, told, out)
+}
+
+fn explain_indexed(
+    alloc: Global,
+    script: Script<'_>,
+    known: &Knowledge,
+    index: &Index<'_, Global>,
+    told: Told<'_>,
+    out: &mut Vec<u8>,
+) -> Result<(), AllocError> {
+    let writers = Writers::new(alloc, known, index)?;
     let scene = Scene {
         alloc,
         text: script.text,
-        index: &index,
+        index,
         known,
         writers: &writers,
     };
+    add_told(&scene, script.file, told, out)
+}
+
+fn add_told(
+    scene: &Scene<'_, '_, Global>,
+    file: &str,
+    told: Told<'_>,
+    out: &mut Vec<u8>,
+) -> Result<(), AllocError> {
     match told {
-        Told::Blocked => add_all_blocked(&scene, out, script.file),
-        Told::Fault(fault) => add_printed_fault(&scene, out, script.file, fault),
+        Told::Blocked => add_all_blocked(scene, out, file),
+        Told::Fault(fault) => add_printed_fault(scene, out, file, fault),
         Told::Meaning(limit) => {
-            add_all_blocked(&scene, out, script.file)?;
-            add_all_faults(&scene, out, script.file)?;
-            if known.finished {
+            add_all_blocked(scene, out, file)?;
+            add_all_faults(scene, out, file)?;
+            if scene.known.finished {
                 return Ok(());
             }
-            add_limit_of_rounds(out, script.file, limit as usize, known.stuck.len())
+            add_limit_of_rounds(out, file, limit as usize, scene.known.stuck.len())
         }
     }
 }

@@ -25,25 +25,36 @@ pub fn left_behind(alloc: Global, text: &[u8], trace: &[u8]) -> Result<Option<Le
         Err(CompileFault::Memory) => return Err(AllocError),
         Err(_) => return Ok(None),
     };
+    let mut board = Board::new(alloc, code, u32::MAX)?;
+    left_on(alloc, &mut board, trace)
+}
+
+/// The same, of a board before all events.
+fn left_on(alloc: Global, board: &mut Board, trace: &[u8]) -> Result<Option<Left>, AllocError> {
     let events = match read_trace(alloc, trace) {
         Ok(events) => events,
         Err(TraceFault::Memory) => return Err(AllocError),
         Err(_) => return Ok(None),
     };
-    let mut board = Board::new(alloc, code, u32::MAX)?;
-    let mut running: usize = 0;
-    for event in &events {
-        take(&mut board, *event)?;
-        running = match event {
-            Event::Begin { .. } => running.saturating_add(1),
-            _ => running.saturating_sub(1),
-        };
-    }
+    let running = take_all(board, events.as_slice())?;
     Ok(Some(Left {
         events: events.len(),
         ready: board.ready_items()?.len(),
         running,
     }))
+}
+
+/// Does what the events say, and counts the items that run then.
+fn take_all(board: &mut Board, events: &[Event]) -> Result<usize, AllocError> {
+    let mut running: usize = 0;
+    for event in events {
+        take(board, *event)?;
+        running = match event {
+            Event::Begin { .. } => running.saturating_add(1),
+            _ => running.saturating_sub(1),
+        };
+    }
+    Ok(running)
 }
 
 /// Does what an event says, where it is a step.

@@ -21,7 +21,7 @@ use Rattle.syntax.proofs.scripts.Scripts.{part_law}
 
 -- a part has at most two numbers for each token that it takes
 pub part_within : (depth : ℕ) (s : Place) (p : Part) (u : Place) → read_part depth s ≡ got p u → part_size p + 2 * length u.rest ≤ 2 * length s.rest
-part_within depth s p u read = (part_fits depth).fits s p u ((part_law depth).sound s p u read).0
+part_within depth s p u read = ((part_fits depth).fits s p u ((part_law depth).sound s p u read).0).fits
 
 -- the parts before are numbered, and this one behind them
 pub part_pushed : {X : Type 0} (view : X → Part) (ps : List Part) (p : Part) (before after : List X) (one : X) (n : ℕ)

@@ -19,7 +19,7 @@ use Rattle.syntax.specs.Held.{Begins}
 use Rattle.syntax.specs.Readers.{refused, got, start}
 use Rattle.syntax.specs.Reading.{read_script}
 use Rattle.syntax.specs.Refusals.{HasNone, Refuses}
-use Rattle.syntax.proofs.Ends.{parts_end}
+use Rattle.syntax.proofs.Sizes.{parts_end}
 use Rattle.syntax.proofs.scripts.Scripts.{parts_sound, script_sound}
 use Rattle.syntax.proofs.stopping.Viable.{stops_first}
 use Rattle.syntax.proofs.scripts.Trees.{whole, reads_text, long_text, refused_text, faulty_text}
