@@ -17,27 +17,15 @@ use board_frames::opening::{Around, Opening, Openings, outermost};
 use board_frames::place::{FaultKind, Step};
 use board_frames::turns::{Site, push_block, push_elements, push_range};
 use board_work::outcome::EntryFault;
+use loop_chunks::{are_left, chunk_of};
 use std::alloc::{AllocError, Global};
 use task_code::entry::Act;
 use values::key::Key;
 use values::map::Map;
 use values::range::Range;
 
-/// How many turns of a loop are opened at once.
-const CHUNK: u64 = 64;
-
 /// How many steps a path has at most.
 const MOST_STEPS: usize = 512;
-
-/// The first turn of a chunk, and the one behind its last, where there are so many in all.
-fn chunk_of(chunk: usize, count: u64) -> (u64, u64)
-    ensures first { result.0 ≡ min (chunk * 64) count }
-    ensures end { result.1 ≡ min (chunk * 64 + 64) count }
-{
-    let first = (chunk as u64).saturating_mul(CHUNK).min(count);
-    let end = first.saturating_add(CHUNK).min(count);
-    (first, end)
-}
 
 impl<'a> Ended<'a> {
     /// Whether it may open no block by one more step.
@@ -174,7 +162,7 @@ impl<'a> Ended<'a> {
         };
         let mut list = Vec::with_capacity(self.alloc, end.saturating_sub(first) as usize)?;
         push_range(site, &mut list, range, first, end)?;
-        self.opens_list(body, list, end < range.count)
+        self.opens_list(body, list, are_left(end, range.count))
     }
 
     /// It opens turns for the next elements.
@@ -198,7 +186,7 @@ impl<'a> Ended<'a> {
         };
         let mut list = Vec::with_capacity(self.alloc, end.saturating_sub(first) as usize)?;
         push_elements(site, &mut list, &elements[first as usize..end as usize])?;
-        self.opens_list(body, list, end < elements.len() as u64)
+        self.opens_list(body, list, are_left(end, elements.len() as u64))
     }
 }
 

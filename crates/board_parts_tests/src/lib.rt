@@ -14,4 +14,6 @@ mod board_items_tests;
 #[cfg(test)]
 mod board_openings_tests;
 #[cfg(test)]
+mod loop_chunks_tests;
+#[cfg(test)]
 mod worlds;

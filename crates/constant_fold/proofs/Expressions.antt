@@ -21,7 +21,8 @@ use Rattle.syntax_trees.specs.Tree.{Word, Node, value, Expression, expression, v
 use Rattle.syntax_trees.specs.Typing.{HasType, of_number, of_text, of_truth, of_variable, of_element, of_prefixed, of_chain, of_call, of_builtin, RestType, last_operand, next_operand, ArgumentTypes, no_argument, scalar_argument, array_argument, of_strcat, of_fromint, of_toint, of_size, AllHaveType, none_left, one_more}
 use Rattle.same_meaning.specs.Same.{AllComeTo, no_operand, operand, same_none, same_also, Pairwise, no_pair, a_pair, same_compute, same_read, same_name, SamePart, same_call, SameAction, same_call_alone}
 use Rattle.same_meaning.proofs.Listed.{pairs_both}
-use Rattle.constant_fold.specs.Folded.{scalar_in, also_scalar, scalars_of, called_operation, called, folded, folded_form, folded_all}
+use Rattle.constant_fold.specs.Folded.{also_scalar, scalars_of, called_operation, called, folded, folded_form, folded_all}
+use Rattle.literals.specs.Literals.{scalar_in}
 use Rattle.constant_fold.proofs.Forms.{parts_itself, SameFormed, formed_itself, same_as_cell, SameOperand, same_as_operand, Folds, FoldsExpression, FoldsAll, IsConstant, cell_argument, assigned_same, IsAssigned, itself, literal_itself, becomes, not_called}
 
 pub record Both (x : Option Scalar) (y : Option (List Scalar)) (vs : List Scalar) : Type 0 where

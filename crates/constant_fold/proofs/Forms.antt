@@ -21,7 +21,8 @@ use Rattle.syntax_trees.specs.Tree as T
 use Rattle.syntax_trees.specs.Tree.{Word, Node, value, Expression, expression, number, text, truth, variable, element, call, prefixed, chain, Expressions, no_expressions, and_expression}
 use Rattle.same_meaning.specs.Same.{ComesTo, a_literal, an_operator, AllComeTo, SameExpr, same_literal, same_name, same_whole, same_operator, same_constant, SameExprs, same_none, same_also, Pairwise, no_pair, a_pair, SameForm, same_compute, same_read, SamePart, same_inner, same_call, SameAction, same_assign}
 use Rattle.same_meaning.proofs.Listed.{pairs_both}
-use Rattle.constant_fold.specs.Folded.{scalar_in, literal_of, scalars_of, literal_or, collapsed, called_operation, folded_form}
+use Rattle.constant_fold.specs.Folded.{scalars_of, collapsed, called_operation, folded_form}
+use Rattle.literals.specs.Literals.{scalar_in, literal_of, literal_or}
 
 -- WHAT IS THE SAME AS ITSELF
 

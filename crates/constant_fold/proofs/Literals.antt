@@ -6,7 +6,8 @@ use Rattle.values.specs.declared.value.Scalar.{Scalar}
 use Rattle.values.specs.declared.value.Value.{Value}
 use Rattle.values.specs.declared.value.Value.TheVariants.{One}
 use Rattle.syntax_trees.specs.Tree.{Expression, expressions_of}
-use Rattle.constant_fold.specs.Folded.{also_scalar, scalar_of, scalars_of}
+use Rattle.constant_fold.specs.Folded.{also_scalar, scalars_of}
+use Rattle.literals.specs.Literals.{scalar_of}
 use Rattle.constant_fold.specs.Made.{operands}
 
 -- the operands that are there, and those of literals behind them

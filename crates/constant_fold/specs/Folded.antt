@@ -7,24 +7,10 @@ use Rattle.values.specs.declared.value.Value.{Value}
 use Rattle.values.specs.declared.value.Value.TheVariants.{One, Many}
 use Rattle.values.specs.Operators as op
 use Rattle.values.specs.Operators.{Operation, evaluated}
+use Rattle.literals.specs.Literals.{scalar_of, literal_or}
 use Rattle.syntax_trees.specs.Resolved.{chain_operation, prefix_operation}
 use Rattle.syntax_trees.specs.Table.{builtin_text, strcat, fromint, toint}
 use Rattle.syntax_trees.specs.Tree.{Expression, expression, Form, number, text, truth, variable, element, call, prefixed, chain, Expressions, no_expressions, and_expression, RightSide, value, list, Calling, Over, array, range, Statement, statement, Command, declare, assign, write, assign_all, calls, choice, choice_else, loop, waits, Body, body, Statements, no_statements, and_statement, Composite, Part, import, function, single, Tree}
-
--- the scalar that a literal is, and the literal of a scalar
-abbrev pub scalar_in : Form → Option Scalar
-scalar_in (number z) = Some (Number z)
-scalar_in (text bytes) = Some (Text bytes)
-scalar_in (truth b) = Some (Truth b)
-scalar_in _ = None
-
-abbrev pub literal_of : Scalar → Form
-literal_of (Number z) = number z
-literal_of (Text bytes) = text bytes
-literal_of (Truth b) = truth b
-
-abbrev pub scalar_of : Expression → Option Scalar
-scalar_of (expression nd f) = scalar_in f
 
 -- the scalars of literals, where all are literals
 abbrev pub also_scalar : Option Scalar → Option (List Scalar) → Option (List Scalar)
@@ -34,12 +20,6 @@ also_scalar _ _ = None
 abbrev pub scalars_of : Expressions → Option (List Scalar)
 scalars_of no_expressions = Some []
 scalars_of (and_expression e es) = also_scalar (scalar_of e) (scalars_of es)
-
--- a literal for a result that is a scalar, and else the form as it is
-abbrev pub literal_or : Form → Result Value OpFault → Form
-literal_or f (Ok (One v)) = literal_of v
-literal_or f (Ok (Many es)) = f
-literal_or f (Err fault) = f
 
 -- the literal that an operation gives for literals, where it has no fault, and else the form as it is
 abbrev pub collapsed : Operation → Option (List Scalar) → Form → Form

@@ -14,11 +14,6 @@ use Rattle.constant_fold.specs.Folded.{called, called_operation, collapsed, fold
 abbrev pub operands : List Scalar → List (Result Value OpFault)
 operands vs = map (λ v. Ok (One v)) vs
 
--- a literal in place of a form, where there is one
-abbrev pub in_place : {A : Type 0} → Form → Option (ExprKind A) → Form
-in_place f None = f
-in_place f (Some k) = form_view k
-
 -- a form with its expressions folded, and not yet itself
 abbrev pub with_folded_parts : Form → Form
 with_folded_parts (number z) = number z

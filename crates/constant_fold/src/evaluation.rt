@@ -5,30 +5,17 @@ ghost use Rattle.syntax_trees.specs.Resolved as rules;
 ghost use Rattle.syntax_trees.specs.Tree.{Form, expressions_of};
 ghost use Rattle.syntax_trees.specs.View.{expression_view, form_view};
 ghost use Rattle.values.specs.Operators.{evaluated, product_of, sum_of};
-ghost use Rattle.constant_fold.specs.Folded.{collapsed, literal_of, literal_or, scalar_of, scalars_of, called, called_operation};
-ghost use Rattle.constant_fold.specs.Made.{in_place, operands};
+ghost use Rattle.constant_fold.specs.Folded.{collapsed, scalars_of, called, called_operation};
+ghost use Rattle.literals.specs.Literals.{literal_of, literal_or, scalar_of, in_place};
+ghost use Rattle.constant_fold.specs.Made.{operands};
 
+use literals::{outcome, scalar};
 use std::alloc::{AllocError, Allocator, Global};
 use syntax_trees::tree::{Expr, ExprKind, Operator, Prefix};
 use values::fault::OpFault;
 use values::op::{Factor, Op, Order, Sign};
 use values::text::Text;
 use values::value::{Scalar, Value};
-
-/// The scalar that a literal is.
-fn scalar<A: Allocator>(machine: Global, expr: &Expr<A>) -> Result<Option<Scalar>, AllocError>
-    ensures { IfOk result (λ found. found ≡ scalar_of (expression_view expr.now)) }
-{
-    match &expr.kind {
-        ExprKind::Number(n) => Ok(Some(Scalar::Number(*n))),
-        ExprKind::Text(bytes) => Ok(Some(Scalar::Text(Text::from_slice(
-            machine,
-            bytes.as_slice(),
-        )?))),
-        ExprKind::Truth(b) => Ok(Some(Scalar::Truth(*b))),
-        _ => Ok(None),
-    }
-}
 
 /// The scalars of literals, as operands, where all are literals.
 fn scalars<A: Allocator>(
@@ -45,34 +32,6 @@ fn scalars<A: Allocator>(
         }
     }
     Ok(Some(found))
-}
-
-/// The literal of a scalar.
-fn literal<A: Allocator + Clone>(alloc: &A, scalar: Scalar) -> Result<ExprKind<A>, AllocError>
-    ensures { IfOk result (λ kind. form_view kind ≡ literal_of scalar) }
-{
-    match scalar {
-        Scalar::Number(n) => Ok(ExprKind::Number(n)),
-        Scalar::Truth(b) => Ok(ExprKind::Truth(b)),
-        Scalar::Text(text) => Ok(ExprKind::Text(Vec::from_slice(alloc.clone()?, text.as_bytes())?)),
-    }
-}
-
-/// The literal that an operation on operands gives, where it has no fault.
-fn outcome<A: Allocator + Clone>(
-    machine: Global,
-    alloc: &A,
-    op: Op<'_>,
-    operands: Vec<Result<Value, OpFault>>,
-) -> Result<Option<ExprKind<A>>, AllocError>
-    ensures { IfOk result (λ found. (f : Form) → in_place f found ≡ literal_or f (evaluated (operation_of op.entry) operands.items)) }
-{
-    match op.evaluate(machine, operands) {
-        Ok(Value::One(scalar)) => Ok(Some(literal(alloc, scalar)?)),
-        Ok(Value::Many(_)) => Ok(None),
-        Err(OpFault::Memory) => Err(AllocError),
-        Err(_) => Ok(None),
-    }
 }
 
 /// The literal that an operation on literals gives, where it has no fault and all are literals.

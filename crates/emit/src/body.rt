@@ -1,8 +1,7 @@
-//! Bodies of blocks, and their numbers.
-ghost use Rattle.std.specs.Prelude.{◌≡◌, ◌<◌, ◌+◌, ◌^◌, ◌∷◌, ◌++◌, [], map, length, OnOk};
+//! Bodies of blocks.
+ghost use Rattle.std.specs.Prelude.{◌≡◌, ◌∷◌, ◌++◌, [], map, OnOk};
 ghost use Rattle.task_code.specs.View.{body_view, opener_view, variable_view};
 
-use emit_parts::names::small;
 use statement_entries::filling::Filling;
 use std::alloc::{AllocError, Global};
 use task_code::code::{Body, Opener};
@@ -35,33 +34,4 @@ pub fn add_body(bodies: &mut Vec<Body>, opener: Opener, filling: Filling) -> Res
 {
     bodies.push(body(filling, opener))?;
     Ok(())
-}
-
-/// A number behind another, as far as a number goes.
-pub fn behind(number: usize, more: usize) -> usize
-    ensures { number + more < 2 ^ 64 → result ≡ number + more }
-{
-    if more <= usize::MAX - number {
-        number + more
-    } else {
-        usize::MAX
-    }
-}
-
-/// The number behind a number, as far as 32 bits go.
-pub fn next(number: u32) -> u32
-    ensures { number + 1 < 2 ^ 32 → result ≡ number + 1 }
-{
-    if number < u32::MAX {
-        number + 1
-    } else {
-        u32::MAX
-    }
-}
-
-/// The number of the next body, where so many are the script's and its functions'.
-pub fn next_number(roots: usize, bodies: &Vec<Body>) -> u32
-    ensures { roots + length bodies.now.items < 2 ^ 32 → result ≡ roots + length bodies.now.items }
-{
-    small(behind(roots, bodies.len()))
 }

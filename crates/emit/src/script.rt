@@ -10,8 +10,9 @@ ghost use Rattle.granting.specs.Granted.{laid_code};
 ghost use Rattle.statement_entries.specs.Into.{laying};
 ghost use Rattle.emit.specs.Emits.{CanBeEmitted, EmitsBody, EmitsFirst, EmitsFunctions};
 
-use crate::body::{behind, body, empty};
+use crate::body::{body, empty};
 use crate::statement::block;
+use body_numbers::behind;
 use flow::script::{Flow, Function};
 use flow::statement::Block;
 use granting::granted::granted;

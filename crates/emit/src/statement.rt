@@ -6,11 +6,12 @@ ghost use Rattle.flow.specs.View.{action_view, awaited_view, block_of, block_vie
 ghost use Rattle.task_code.specs.View.{variable_view};
 ghost use Rattle.emit.specs.Emits.{EmitsBlock, EmitsStmt, state};
 
-use crate::body::{add_body, empty, next, next_number};
+use crate::body::{add_body, empty};
 use block_entries::branches::add_branch;
 use block_entries::loops::{add_each, add_range, loop_filling, loop_of};
 use block_entries::parts::{condition_parts, range_parts};
 use block_entries::waits::add_wait;
+use body_numbers::{next, next_number};
 use flow::cell::Outer;
 use flow::name::Name;
 use flow::script::Function;

@@ -1,7 +1,7 @@
 //! Texts with their tokens and their faults.
 
 use lexer::fault::LexFault;
-use lexer::lexer::{Lexer, first_fault};
+use lexer::lexer::Lexer;
 use lexer::token::{Span, Token, TokenKind};
 use lexer::value::{number_value, string_content};
 use std::alloc::Global;
@@ -48,7 +48,6 @@ fn expect(
     }
     assert!(rt; lexer.next().is_none());
     assert!(rt; lexer.next().is_none());
-    assert_eq!(rt; first_fault(text), fault);
 }
 
 #[test]

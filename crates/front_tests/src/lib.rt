@@ -8,6 +8,8 @@ mod flows;
 #[cfg(test)]
 mod lexer_tests;
 #[cfg(test)]
+mod literals_tests;
+#[cfg(test)]
 mod lowering_tests;
 #[cfg(test)]
 mod rows;

@@ -180,9 +180,14 @@ fn is_product<A: Allocator>(rt: &impl Abort, product: &Expr<A>) {
     assert!(rt; matches!(&two.kind, ExprKind::Number(2)));
 }
 
+/// Reads a product, and looks at its places and numbers.
+fn reads_product(rt: &impl Abort, arena: &Bump) {
+    let script = parse(arena, b"x = (1 + y) * (2);").expect(rt, "a script");
+    is_product(rt, assigned(rt, &script));
+}
+
 #[test]
 fn places_and_numbers(rt: HostRuntime) {
     let arena = Bump::new(rt.alloc());
-    let script = parse(&arena, b"x = (1 + y) * (2);").expect(&rt, "a script");
-    is_product(&rt, assigned(&rt, &script));
+    reads_product(&rt, &arena);
 }

@@ -1,13 +1,14 @@
 //! Trees with their numbers and their copies.
 
 use bumpalo::Bump;
-use lexer::token::Span;
+use lexer::token::{Span, TokenKind};
 use std::alloc::{AllocError, Global};
 use syntax::parser::parse;
 use syntax_trees::tree::{
-    Expr, ExprKind, Item, Level, Name, Operator, Right, Script, Stmt, StmtKind,
+    Base, Expr, ExprKind, Item, Level, Name, Operator, Right, Script, Stmt, StmtKind,
 };
 use syntax_trees::{expr, stmt};
+use token_kinds::{base_of_kind, operator_of_kind, repeats};
 
 /// The bytes from one place to another.
 fn at(from: usize, to: usize) -> Span {
@@ -37,7 +38,15 @@ foreach v, k in [lo:hi:2] { wait (v, k) { printf("%i", A[k] - size(A)); } } fore
 /// The tree, copied to an arena and back.
 fn copied(alloc: Global, tree: &Script<Global>) -> Result<Script<Global>, AllocError> {
     let arena = Bump::new(alloc);
-    let copy = tree.copy_to(&arena)?;
+    copied_through(alloc, &arena, tree)
+}
+
+fn copied_through(
+    alloc: Global,
+    arena: &Bump,
+    tree: &Script<Global>,
+) -> Result<Script<Global>, AllocError> {
+    let copy = tree.copy_to(arena)?;
     copy.copy_to(alloc)
 }
 
@@ -125,6 +134,10 @@ fn numbers_stand_in_reading_order(rt: HostRuntime) {
 fn comparisons_do_not_chain(rt: HostRuntime) {
     assert_eq!(rt; Operator::AtMost.level(), Level::Order);
     assert_eq!(rt; Operator::Remainder.level(), Level::Product);
-    assert!(rt; !Level::Order.repeats());
-    assert!(rt; Level::Sum.repeats());
+    assert!(rt; !repeats(Level::Order));
+    assert!(rt; repeats(Level::Sum));
+    assert_eq!(rt; operator_of_kind(TokenKind::AtMost), Some(Operator::AtMost));
+    assert_eq!(rt; operator_of_kind(TokenKind::Not), None);
+    assert_eq!(rt; base_of_kind(TokenKind::String), Some(Base::Text));
+    assert_eq!(rt; base_of_kind(TokenKind::Name), None);
 }

@@ -3,7 +3,7 @@
 ghost use Rattle.std.specs.Prelude.{◌≡◌, ◌+◌, ◌^◌, ◌<◌, ◌≤◌, length, drop, Some, None, false, slice_index, if◌then◌else◌};
 ghost use Rattle.std.specs.Str.{bytes_eq};
 ghost use Rattle.lexer.specs.Kinds.{kind_of_word, symbol_of_one, symbol_of_two};
-ghost use Rattle.lexer.specs.Reading.{line_piece, block_piece, string_piece, word_of, word_piece, symbol_piece, slash_piece, piece, width_of};
+ghost use Rattle.lexer.specs.Reading.{line_piece, block_piece, string_piece, word_of, word_piece, symbol_piece, slash_piece, piece};
 
 use crate::bytes::{escaped_byte, is_allowed, is_blank, is_break, is_letter, is_word_byte};
 use crate::fault::LexFault;
@@ -247,43 +247,8 @@ pub fn first_piece(at: usize, bytes: &[u8]) -> Piece
     match bytes[0] {
         byte if is_blank(byte) => Piece::Gap(1),
         byte if is_word_byte(byte) => name_or_number(at, bytes),
-        b';' => Piece::Token(TokenKind::Semicolon, 1),
-        b',' => Piece::Token(TokenKind::Comma, 1),
-        b'(' => Piece::Token(TokenKind::OpenRound, 1),
-        b')' => Piece::Token(TokenKind::CloseRound, 1),
-        b'+' => Piece::Token(TokenKind::Plus, 1),
-        b'-' => Piece::Token(TokenKind::Minus, 1),
-        b'*' => Piece::Token(TokenKind::Times, 1),
         b'"' => string(at, bytes),
         b'/' => comment(at, bytes),
         _ => symbol(at, bytes),
-    }
-}
-
-/// The number of bytes of what stands at the front of a text, or its fault. It does not ask which keyword a word is, and
-/// not what stands behind a byte that begins no longer symbol.
-pub fn first_width(at: usize, bytes: &[u8]) -> Result<usize, LexFault>
-    requires room { at + length bytes.now < 2 ^ 64 }
-    requires begun { 1 ≤ length bytes.now }
-    ensures { result ≡ width_of (piece at bytes.now) }
-{
-    match bytes[0] {
-        byte if is_letter(byte) => Ok(word(bytes).len()),
-        byte if is_blank(byte) => Ok(1),
-        b';' => Ok(1),
-        b',' => Ok(1),
-        b'(' => Ok(1),
-        b')' => Ok(1),
-        b'[' => Ok(1),
-        b']' => Ok(1),
-        b'{' => Ok(1),
-        b'}' => Ok(1),
-        b'+' => Ok(1),
-        b'-' => Ok(1),
-        b'*' => Ok(1),
-        _ => match first_piece(at, bytes) {
-            Piece::Gap(n) | Piece::Token(_, n) => Ok(n),
-            Piece::Fault(fault) => Err(fault),
-        },
     }
 }

@@ -20,7 +20,8 @@ use Rattle.clap.specs.declared.error.kind.ErrorKind.TheVariants as kind
 use Rattle.swt_line.specs.declared.command.Command.{Command}
 use Rattle.swt_line.specs.declared.command.Command.TheVariants.{Check, Mean, Code, Run, Replay}
 use Rattle.swt_line.specs.Commands.{has_option, options_of}
-use Rattle.swt_line.specs.Words.{Answers, well_formed, files_in, number_given, only, optional, values_of}
+use Rattle.option_numbers.specs.Numbers.{number_given}
+use Rattle.swt_line.specs.Words.{Answers, well_formed, files_in, only, optional, values_of}
 use Rattle.swt_line.specs.Lines.{command_line, formed_line}
 use Rattle.swt_line.specs.Reader.{Holds, IsRead, files_given, values_given, refusal, app_with, is_plain}
 use Rattle.swt_line.proofs.Arguments.{EachOf, each_option, shape_for, is_reader}

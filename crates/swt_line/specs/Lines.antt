@@ -4,7 +4,8 @@ use Rattle.swt_line.specs.declared.command.Command.{Command}
 use Rattle.swt_line.specs.declared.command.Command.TheVariants as command
 use Rattle.swt_line.specs.declared.line.Line.{Line}
 use Rattle.swt_line.specs.declared.line.Line.TheVariants.{Check, Mean, Code, Run, Replay}
-use Rattle.swt_line.specs.Words.{well_formed, files_in, flag_given, values_of, number_given, only, optional}
+use Rattle.option_numbers.specs.Numbers.{number_given}
+use Rattle.swt_line.specs.Words.{well_formed, files_in, flag_given, values_of, only, optional}
 
 -- `check`, with one or more files
 abbrev pub check_line : List (List ℕ) → Option Line

@@ -1,8 +1,6 @@
 -- The words behind a command: its options, each with its value behind it, and its files.
-use Rattle.std.specs.Prelude.{◌≡◌, ℕ, zero, suc, Bool, true, false, not, ◌&&◌, nat_eq, nat_le, List, [], ◌∷◌, Option, Some, None, Result, Ok, Err, ℤ, pos, negsuc, if◌then◌else◌}
+use Rattle.std.specs.Prelude.{◌≡◌, ℕ, zero, suc, Bool, true, false, not, ◌&&◌, nat_eq, List, [], ◌∷◌, Option, Some, None, Result, Ok, Err, if◌then◌else◌}
 use Rattle.std.specs.Str.{bytes_eq}
-use Rattle.values.specs.declared.fault.OpFault.{OpFault}
-use Rattle.values.specs.Numbers.{number_in}
 use Rattle.swt_line.specs.declared.command.Command.{Command}
 use Rattle.swt_line.specs.declared.fault.LineFault.{LineFault}
 use Rattle.swt_line.specs.declared.fault.LineFault.TheVariants.{Usage, Memory}
@@ -40,18 +38,6 @@ abbrev pub values_of : List ℕ → Bool → List (List ℕ) → List (List ℕ)
 values_of option behind [] = []
 values_of option behind (w ∷ ws) =
     if behind then w ∷ values_of option (bytes_eq w option) ws else values_of option (bytes_eq w option) ws
-
--- a number from least to most
-abbrev pub number_within : ℕ → ℕ → Result ℤ OpFault → Option ℕ
-number_within least most (Ok (pos n)) = if nat_le least n && nat_le n most then Some n else None
-number_within least most (Ok (negsuc n)) = None
-number_within least most (Err fault) = None
-
--- the number that an option's values give: the default where there are none, and none where there are several
-abbrev pub number_given : ℕ → ℕ → ℕ → List (List ℕ) → Option ℕ
-number_given least most default [] = Some default
-number_given least most default (w ∷ []) = number_within least most (number_in w)
-number_given least most default (w ∷ v ∷ ws) = None
 
 -- whether an option without a value is given, where it stands so often, and none where it stands twice
 abbrev pub flag_given : ℕ → Option Bool

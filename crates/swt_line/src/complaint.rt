@@ -3,7 +3,8 @@ ghost use Rattle.std.specs.Prelude.{◌≤◌, length};
 
 use crate::command::Command;
 use crate::word::Word;
-use crate::words::{is, number_within};
+use crate::words::is;
+use option_numbers::number_within;
 use std::fmt;
 
 /// What is wrong with a word, or what is missing.

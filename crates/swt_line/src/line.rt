@@ -1,6 +1,7 @@
 //! A command with its files and numbers.
 ghost use Rattle.std.specs.Prelude.{◌≡◌, ◌≤◌, [], ◌∷◌, codes, IfOk};
-ghost use Rattle.swt_line.specs.Words.{number_given, Answers};
+ghost use Rattle.option_numbers.specs.Numbers.{number_given};
+ghost use Rattle.swt_line.specs.Words.{Answers};
 ghost use Rattle.swt_line.specs.Reader.{values_given};
 ghost use Rattle.swt_line.specs.Lines.{formed_line, check_line, mean_line, code_line, run_line, replay_line, files_of, IsInRange};
 
@@ -200,7 +201,7 @@ fn number(
     ensures value { Answers (number_given least most default (values_given matches.now option.now)) result }
     ensures within { IfOk result (λ n. (least ≤ n) × (n ≤ most)) }
 {
-    words::number(matches.get_str(option), least, most, default).ok_or(LineFault::Usage)
+    option_numbers::number(matches.get_str(option), least, most, default).ok_or(LineFault::Usage)
 }
 
 /// The number of engines or of workers, from 1 to 63.
@@ -210,7 +211,7 @@ fn seats(matches: &ArgMatches, option: &str, default: u8) -> Result<u8, LineFaul
     ensures value { Answers (number_given 1 63 default (values_given matches.now option.now)) result }
     ensures within { IfOk result (λ n. (1 ≤ n) × (n ≤ 63)) }
 {
-    match words::number(matches.get_str(option), 1, 63, default as u32) {
+    match option_numbers::number(matches.get_str(option), 1, 63, default as u32) {
         Some(n) => Ok(n as u8),
         None => Err(LineFault::Usage),
     }

@@ -7,13 +7,20 @@ ghost use Rattle.lexer.specs.declared.fault.LexFault.{LexFault};
 ghost use Rattle.syntax.specs.Endings.{ending};
 
 use lexer::fault::LexFault;
-use lexer::lexer::{Lexer, first_fault};
+use lexer::lexer::Lexer;
 
 /// The fault that ends the tokens of a text, if there is one.
 pub fn fault_of(source: &[u8]) -> Option<LexFault>
     ensures { (ts : List Lexeme) (fault : Option LexFault) → Tokens source.now (map Ok ts ++ ending fault) → result ≡ fault }
 {
-    first_fault(source)
+    let mut lexer = Lexer::new(source);
+    while let Some(item) = lexer.next() {
+        match item {
+            Ok(_) => {}
+            Err(fault) => return Some(fault),
+        }
+    }
+    None
 }
 
 /// The fault that ends the tokens of a text of which the last ends there, if there is one. Nothing before is read again.

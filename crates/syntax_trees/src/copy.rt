@@ -1,6 +1,7 @@
 //! The same tree in other memory.
 
 ghost use Rattle.std.specs.Prelude.{◌≡◌, IfOk, map, option_map};
+ghost use Rattle.syntax_trees.specs.Tree.{declare, assign, write, assign_all};
 ghost use Rattle.syntax_trees.specs.View.{word_of, expression_view, form_view, expressions_view, words_view, declaration_of, declarations_view, list_of, right_of, calling_of, range_of, over_of, statement_view, command_view, body_view, composite_of, part_of, tree_of};
 
 use crate::tree::{
@@ -277,6 +278,52 @@ fn copy_header<A: Allocator, B: Allocator + Clone>(
 
 // STATEMENTS
 
+fn copy_declare<A: Allocator, B: Allocator + Clone>(
+    decl: &Decl<A>,
+    right: &Option<Right<A>>,
+    alloc: &B,
+) -> Result<StmtKind<B>, AllocError>
+    ensures { IfOk result (λ k. command_view k ≡ declare (declaration_of decl.now) (option_map right_of right.now)) }
+{
+    let decl = copy_decl(decl, alloc)?;
+    Ok(StmtKind::Declare(decl, copy_initial(right, alloc)?))
+}
+
+fn copy_assign<A: Allocator, B: Allocator + Clone>(
+    name: &Name<A>,
+    right: &Right<A>,
+    alloc: &B,
+) -> Result<StmtKind<B>, AllocError>
+    ensures { IfOk result (λ k. command_view k ≡ assign (word_of name.now) (right_of right.now)) }
+{
+    let name = copy_name(name, alloc)?;
+    Ok(StmtKind::Assign(name, copy_right(right, alloc)?))
+}
+
+fn copy_write<A: Allocator, B: Allocator + Clone>(
+    name: &Name<A>,
+    index: &Expr<A>,
+    value: &Expr<A>,
+    alloc: &B,
+) -> Result<StmtKind<B>, AllocError>
+    ensures { IfOk result (λ k. command_view k ≡ write (word_of name.now) (expression_view index.now) (expression_view value.now)) }
+{
+    let name = copy_name(name, alloc)?;
+    let index = copy_boxed(index, alloc)?;
+    Ok(StmtKind::Write(name, index, copy_boxed(value, alloc)?))
+}
+
+fn copy_assign_all<A: Allocator, B: Allocator + Clone>(
+    names: &Vec<Name<A>, A>,
+    call: &Call<A>,
+    alloc: &B,
+) -> Result<StmtKind<B>, AllocError>
+    ensures { IfOk result (λ k. command_view k ≡ assign_all (words_view names.now) (calling_of call.now)) }
+{
+    let names = copy_names(names, alloc)?;
+    Ok(StmtKind::AssignAll(names, copy_call(call, alloc)?))
+}
+
 #[cycle(copy_stmt)]
 fn copy_stmt<A: Allocator, B: Allocator + Clone>(
     stmt: &Stmt<A>,
@@ -300,23 +347,10 @@ fn copy_command<A: Allocator, B: Allocator + Clone>(
     ensures { IfOk result (λ k. command_view k ≡ command_view kind.now) }
 {
     match kind {
-        StmtKind::Declare(decl, right) => Ok(StmtKind::Declare(
-            copy_decl(decl, alloc)?,
-            copy_initial(right, alloc)?,
-        )),
-        StmtKind::Assign(name, right) => Ok(StmtKind::Assign(
-            copy_name(name, alloc)?,
-            copy_right(right, alloc)?,
-        )),
-        StmtKind::Write(name, index, value) => Ok(StmtKind::Write(
-            copy_name(name, alloc)?,
-            copy_boxed(index, alloc)?,
-            copy_boxed(value, alloc)?,
-        )),
-        StmtKind::AssignAll(names, call) => Ok(StmtKind::AssignAll(
-            copy_names(names, alloc)?,
-            copy_call(call, alloc)?,
-        )),
+        StmtKind::Declare(decl, right) => copy_declare(decl, right, alloc),
+        StmtKind::Assign(name, right) => copy_assign(name, right, alloc),
+        StmtKind::Write(name, index, value) => copy_write(name, index, value, alloc),
+        StmtKind::AssignAll(names, call) => copy_assign_all(names, call, alloc),
         StmtKind::Call(priority, call) => Ok(StmtKind::Call(*priority, copy_call(call, alloc)?)),
         StmtKind::If(test, then, None) => Ok(StmtKind::If(
             copy_boxed(test, alloc)?,

@@ -1,7 +1,7 @@
 -- The tokens of a text, and what ends them.
-use Rattle.std.proofs.Common.{◌≡◌, ℕ, List, [], ◌∷◌, ◌++◌, true, map, take, refl, ap, ◌∙◌, subst}
-use Rattle.std.specs.Prelude.{Ok, Option, Some, None}
-use Rattle.lexer.specs.Items.{Lexeme, Item, span, fault_in}
+use Rattle.std.proofs.Common.{◌≡◌, ℕ, List, [], ◌∷◌, ◌++◌, true, map, take, refl, ap, sym, ◌∙◌, subst}
+use Rattle.std.specs.Prelude.{Ok, Err, Option, Some, None}
+use Rattle.lexer.specs.Items.{Lexeme, Item, span}
 use Rattle.lexer.specs.Tokens.{Tokens, TokensFrom, at_end, after_gap, a_token, a_fault, HasForm}
 use Rattle.lexer.specs.declared.fault.LexFault.{LexFault}
 use Rattle.lexer.specs.declared.token.TokenKind.{TokenKind}
@@ -18,6 +18,12 @@ form_of Kind.Number text form = form.number refl
 form_of Kind.Text text form = string_quoted text (form.string refl)
 form_of _ text form = refl
 
+-- the fault among some items
+abbrev pub fault_in : List Item → Option LexFault
+fault_in [] = None
+fault_in (Ok t ∷ items) = fault_in items
+fault_in (Err f ∷ items) = Some f
+
 pub fault_in-ended : (ts : List Lexeme) (fault : Option LexFault) → fault_in (map Ok ts ++ ending fault) ≡ fault
 fault_in-ended [] None = refl
 fault_in-ended [] (Some f) = refl
@@ -33,7 +39,7 @@ whole (a_fault f stands) = refl
 pub begins : (bytes : List ℕ) (items : List Item) (s : Place) → Tokens bytes items → s ≡ start (tokens_of items) → Begins bytes s
 begins bytes items s lexed is = (tokens_of items, fault_in items, subst (Tokens bytes) (whole lexed) lexed, is)
 
--- the fault among the items of a text ends them
-pub ends_as : (bytes : List ℕ) (end : Option LexFault) → ((items : List Item) → Tokens bytes items → end ≡ fault_in items)
+-- what ends the rest of the items ends the text
+pub ends_as : (bytes : List ℕ) (items rest : List Item) (end : Option LexFault) → ((xs : List Item) → Tokens bytes xs → xs ≡ items) → fault_in rest ≡ fault_in items → fault_in rest ≡ end
     → (ts : List Lexeme) (fault : Option LexFault) → Tokens bytes (map Ok ts ++ ending fault) → end ≡ fault
-ends_as bytes end is ts fault lexed = is (map Ok ts ++ ending fault) lexed ∙ fault_in-ended ts fault
+ends_as bytes items rest end only same is ts fault lexed = sym is ∙ same ∙ ap fault_in (sym (only (map Ok ts ++ ending fault) lexed)) ∙ fault_in-ended ts fault

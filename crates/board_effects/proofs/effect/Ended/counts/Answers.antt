@@ -1,9 +1,9 @@
-use Rattle.std.proofs.Common.{◌∙◌, ◌-◌, ◌*◌, [], sym, ap, subst, arith, min}
+use Rattle.std.proofs.Common.{◌∙◌, ◌-◌, ◌*◌, [], sym, ap, subst, arith, min, IfOk}
 use Rattle.task_code.specs.Compute.{range_turns}
 use Rattle.task_code.specs.Effects.{chunk}
 use Rattle.board_frames.proofs.Turned.{turns_are}
 use Rattle.board_frames.specs.Turns.{AddsTurns}
-use Rattle.board_effects.specs.Ended.{code_of, frames_of}
+use Rattle.board_effects.specs.Ended.{OpensList, code_of, frames_of}
 use Rattle.board_effects.proofs.Chunks.{range_chunk, range_length}
 use Rattle.board_effects.proofs.Loops.{chunk_deep, chunk_opens}
 use Rattle.board_effects.proofs.Values.{ok_map}
@@ -35,4 +35,4 @@ returns c = λ w l.
       | else-first-end-via-then-first-end+else-is_too_deep y ↦ sym (y.is_too_deep.ensures w) ∙ y.if-is_too_deep.false
       | else-first-end-via-else-first-end y ↦ absurd (omega (arith, h, y.if-first-end.false))
     ]))
-    c.opens_list.ensures
+    (subst (λ g. IfOk c.opens_list.result (OpensList c.args.self c.args.body c.push_range.new.list.items g)) c.are_left.ensures c.opens_list.ensures)
