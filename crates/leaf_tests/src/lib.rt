@@ -4,6 +4,8 @@
 #[cfg(test)]
 mod data_store_tests;
 #[cfg(test)]
+mod offers_tests;
+#[cfg(test)]
 mod option_numbers_tests;
 #[cfg(test)]
 mod pool_tests;

@@ -37,8 +37,7 @@ use Rattle.board_items.specs.contracts.items.Items as items
 use Rattle.board_openings.proofs.world.World.TheSendSync as world
 use Rattle.board.specs.contracts.state.Core as core
 use Rattle.board.specs.contracts.board.Board as board
-use Rattle.pool.proofs.pool.PoolSeat.TheSendSync as seat
-use Rattle.workers.proofs.fresh.Fresh.TheSendSync as fresh
+use Rattle.offers.proofs.Offers.TheSendSync as offers
 use Rattle.workers.specs.declared.job.Job as jobs
 use Rattle.workers.specs.contracts.desk.Desk as desk
 use Rattle.workers.specs.contracts.floor.Floor as floor
@@ -87,7 +86,7 @@ module _ (J E N : RattleType) (g : jobs.Ghosts J.Denot) (h : ledger.Ghosts E.Den
   floor_send = search (desk_send, crosses, sendable) depth 60 fits 4000
 
   hand_send : IsSend (hand.the_field J E N g h k).row
-  hand_send = search (work_send, done_send, fresh.the_send, seat.the_field_send, share.the_send, kinds.the_field_send, crosses, sendable) depth 60 fits 4000
+  hand_send = search (work_send, done_send, offers.the_field_send, share.the_send, kinds.the_field_send, crosses, sendable) depth 60 fits 4000
 
   pub ended_send : IsSend (ended.the_row J E N g h k)
   ended_send = search (hand_send, crosses, sendable) depth 60 fits 4000

@@ -7,11 +7,12 @@ ghost use Rattle.task_code.specs.View.{kind_view};
 ghost use Rattle.workers.specs.Threads.{IsPlace, IsTheirs, RunsTo};
 
 use crate::crowd::Crowds;
-use crate::fresh::{Fresh, count_fresh, list_fresh};
+use crate::fresh::{count_fresh, list_fresh};
 use crate::job::Job;
 use board::board::Board;
 use board::refusal::Refusal;
 use board_work::work::{Done, Work};
+use offers::Fresh;
 use std::marker::{Model, PhantomData};
 use std::sync::ledger::{Book, Ledger, Share};
 use task_code::entry::Kind;

@@ -3,17 +3,9 @@ ghost use Rattle.std.specs.Prelude.{◌≡◌, ◌<◌, ◌≤◌, ◌+◌, ◌^
 
 use crate::crowd::Crowds;
 use board::board::Board;
+use offers::Fresh;
 use pool::Kind as Side;
 use task_code::entry::Kind;
-
-/// An item that can begin, as it is offered: who runs it, the class of its priority and its number.
-#[derive(Clone, Copy, Drop)]
-pub struct Fresh {
-    pub side: Side,
-    pub class: u8,
-    pub number: u64,
-    ghost some: { (class < 3) × (0 < number) },
-}
 
 /// Who runs an item, as the pool has it.
 pub fn side_of(kind: Kind) -> Side {

@@ -6,6 +6,7 @@ ghost use Rattle.pool.specs.Views.{total};
 use crate::desk::Desk;
 use crate::hand::{Ended, Hand};
 use crate::job::Job;
+use offers::Offers;
 use pool::PoolSeat;
 use std::alloc::{AllocError, Global};
 use std::marker::PhantomData;
@@ -80,21 +81,24 @@ impl<J: Job, E: Ledger, N: Ledger> Sums<J, E, N> {
         let Hand {
             worker: _,
             kind: _,
-            seat,
+            offers,
             events: their_events,
             news: their_news,
             tally,
+            works: _,
+            dones: _,
+            comes: _,
+            of: _,
+        } = hand;
+        let Offers {
+            seat,
             offered: their_offered,
             full: their_full,
             drawn,
             lost: their_lost,
             pending: _,
             list: _,
-            works: _,
-            dones: _,
-            comes: _,
-            of: _,
-        } = hand;
+        } = offers;
         let Sums {
             events,
             news,

@@ -47,7 +47,7 @@ fn begin_some<J: Job, E: Ledger, N: Ledger>(
     hand: &mut Hand<J, E, N>,
     drawn: Option<u64>,
 ) -> Next
-    ensures { hand.new.pending ≡ hand.old.pending }
+    ensures { hand.new.offers.pending ≡ hand.old.offers.pending }
 {
     if under.desk.is_over() {
         return Next::Stops;
@@ -81,7 +81,7 @@ fn begin_or_stay<J: Job, E: Ledger, N: Ledger>(
     hand: &mut Hand<J, E, N>,
     drawn: Option<u64>,
 ) -> Next
-    ensures { hand.new.pending ≡ hand.old.pending }
+    ensures { hand.new.offers.pending ≡ hand.old.offers.pending }
 {
     if hand.comes {
         under.arrives(hand.kind);
@@ -188,7 +188,7 @@ fn step<J: Job, E: Ledger, N: Ledger, R: Wait, G: Gate>(
     hand: &mut Hand<J, E, N>,
 ) -> Next
     requires pool { pool_id pool.now ≡ J.pool }
-    ensures { hand.new.pending ≡ 0 }
+    ensures { hand.new.offers.pending ≡ 0 }
 {
     let then = match hand.compute_all(gate) {
         Ok(()) => {
@@ -211,7 +211,7 @@ fn rest<J: Job, E: Ledger, N: Ledger, R: Wait>(
     bells: &Bells,
     hand: &mut Hand<J, E, N>,
 )
-    ensures { hand.new.pending ≡ hand.old.pending }
+    ensures { hand.new.offers.pending ≡ hand.old.offers.pending }
 {
     let bell = bells.of(hand.kind);
     if hand.comes && bell.watch() {
@@ -238,7 +238,7 @@ fn work<J: Job, E: Ledger, N: Ledger, R: Wait, G: Gate>(
     mut hand: Hand<J, E, N>,
 ) -> Ended<J, E, N>
     requires pool { pool_id pool.now ≡ J.pool }
-    requires hand { hand.pending ≡ 0 }
+    requires hand { hand.offers.pending ≡ 0 }
 {
     let mut then = Next::Works;
     for _ in rt.forever() {

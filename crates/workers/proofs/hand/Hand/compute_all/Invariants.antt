@@ -2,4 +2,4 @@ use Rattle.std.proofs.Common.{◌≡◌}
 use Rattle.workers.proofs.hand.Hand.compute_all.Given as goal
 
 abbrev pub invariant-loop : goal.invariant-loop
-invariant-loop g l = l.self.pending ≡ l.fn.self.pending
+invariant-loop g l = l.self.offers.pending ≡ l.fn.self.offers.pending

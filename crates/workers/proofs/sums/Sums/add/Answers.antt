@@ -10,22 +10,22 @@ use Rattle.workers.proofs.sums.Sums.add.Goals as goal
 pub invariant_of-self-2-clause-offers : goal.invariant_of-self-2-clause-offers
 invariant_of-self-2-clause-offers g c =
     let old = c.args.self.now.seats.items in
-    let s = c.args.ended.hand.seat in
+    let s = c.args.ended.hand.offers.seat in
     let items : c.push_reserved.new.self.items ≡ old ++ s ∷ [] = search rules in
     let f : SeatView → ℕ = λ v. length v.offered in
     let e = ap (λ (l : List PoolSeat). total f (map view l)) items ∙ total_popped f old s in
-    omega (arith, e, c.args.self.now.offers, c.args.ended.hand.offers)
+    omega (arith, e, c.args.self.now.offers, c.args.ended.hand.offers.offers)
 
 pub invariant_of-self-2-clause-takes : goal.invariant_of-self-2-clause-takes
 invariant_of-self-2-clause-takes g c =
     let old = c.args.self.now.seats.items in
-    let s = c.args.ended.hand.seat in
+    let s = c.args.ended.hand.offers.seat in
     let items : c.push_reserved.new.self.items ≡ old ++ s ∷ [] = search rules in
-    let draws : c.push_reserved-3.new.self.items ≡ c.args.self.now.draws.items ++ c.args.ended.hand.drawn ∷ [] = search rules in
+    let draws : c.push_reserved-3.new.self.items ≡ c.args.self.now.draws.items ++ c.args.ended.hand.offers.drawn ∷ [] = search rules in
     let f : SeatView → ℕ = λ v. length v.taken in
     let e = ap (λ (l : List PoolSeat). total f (map view l)) items ∙ total_popped f old s in
-    let d = sum_more c.args.self.now.draws.items c.push_reserved-3.new.self.items c.args.ended.hand.drawn draws in
-    omega (arith, e, d, c.args.self.now.takes, c.args.ended.hand.takes)
+    let d = sum_more c.args.self.now.draws.items c.push_reserved-3.new.self.items c.args.ended.hand.offers.drawn draws in
+    omega (arith, e, d, c.args.self.now.takes, c.args.ended.hand.offers.takes)
 
 pub invariant_of-self-2-clause-tallied : goal.invariant_of-self-2-clause-tallied
 invariant_of-self-2-clause-tallied g c =
@@ -36,6 +36,6 @@ invariant_of-self-2-clause-tallied g c =
 pub invariant_of-self-2-clause-of_pool : goal.invariant_of-self-2-clause-of_pool
 invariant_of-self-2-clause-of_pool g c =
     let old = c.args.self.now.seats.items in
-    let s = c.args.ended.hand.seat in
+    let s = c.args.ended.hand.offers.seat in
     let items : c.push_reserved.new.self.items ≡ old ++ s ∷ [] = search rules in
     all_more (λ (x : PoolSeat). seat_pool x ≡ g.J.Job.pool) old c.push_reserved.new.self.items s items c.args.self.now.of_pool c.args.ended.hand.of_pool
