@@ -5,7 +5,8 @@ use std::process::Abort;
 use std::sync::Wait;
 use std::test::Fail;
 use std::thread::Threads;
-use swt_command::trouble::{Trouble, tell};
+use stops::trouble::Trouble;
+use swt_command::trouble::tell;
 
 const HELLO: &[u8] = b"printf(\"hello\");";
 

@@ -11,6 +11,8 @@ mod command_tests;
 #[cfg(test)]
 mod doing;
 #[cfg(test)]
+mod exit_status_tests;
+#[cfg(test)]
 mod line_tests;
 #[cfg(test)]
 mod listing_tests;
@@ -18,5 +20,9 @@ mod listing_tests;
 mod meaning_tests;
 #[cfg(test)]
 mod order_tests;
+#[cfg(test)]
+mod refusals_tests;
+#[cfg(test)]
+mod stops_tests;
 #[cfg(test)]
 mod whole_tests;

@@ -8,22 +8,24 @@ use Rattle.runs.specs.declared.report.End.{End}
 use Rattle.runs.specs.declared.report.End.TheVariants as Was
 use Rattle.swt_line.specs.declared.line.Line.{Line}
 use Rattle.swt_line.specs.declared.line.Line.TheVariants as Lines
-use Rattle.swt_command.specs.declared.refusal.Refusal.{Refusal}
-use Rattle.swt_command.specs.declared.status.Status.{Status}
-use Rattle.swt_command.specs.declared.status.Status.TheVariants as Ends
-use Rattle.swt_command.specs.declared.stop.Stop.{Stop}
-use Rattle.swt_command.specs.declared.trouble.Trouble.{Trouble}
-use Rattle.swt_command.specs.declared.trouble.Trouble.TheVariants as Is
+use Rattle.refusals.specs.declared.refusal.Refusal.{Refusal}
+use Rattle.refusals.specs.Verdicts.{Verdict}
+use Rattle.exit_status.specs.declared.status.Status.{Status}
+use Rattle.exit_status.specs.declared.status.Status.TheVariants as Ends
+use Rattle.exit_status.specs.Statuses.{end_status, number_of}
+use Rattle.stops.specs.declared.stop.Stop.{Stop}
+use Rattle.stops.specs.declared.trouble.Trouble.{Trouble}
+use Rattle.stops.specs.declared.trouble.Trouble.TheVariants as Is
+use Rattle.stops.specs.Troubles.{trouble_status}
+use Rattle.stops.specs.Traces.{StopsAtTrace}
 use Rattle.swt_command.specs.Causes.{AsksBadly, SomeRefused}
-use Rattle.swt_command.specs.Checks.{Checks, StopsBy, Verdict, check_status}
+use Rattle.swt_command.specs.Checks.{Checks, StopsBy, check_status}
 use Rattle.swt_command.specs.Files.{Files, StopsAt, name_at, source_of}
 use Rattle.swt_command.specs.Listings.{Lists, StopsListing}
 use Rattle.swt_command.specs.Means.{Means, StopsMean, status_by}
 use Rattle.swt_command.specs.Owes.{Does, Owes, status_of}
-use Rattle.swt_command.specs.Runs.{Replays, Runs, StopsAtTrace, StopsReplay, StopsRun, end_status, IsBadCount}
+use Rattle.swt_command.specs.Runs.{Replays, Runs, StopsReplay, StopsRun, IsBadCount}
 use Rattle.swt_command.specs.Sinks.{Held}
-use Rattle.swt_command.specs.Statuses.{number_of}
-use Rattle.swt_command.specs.Troubles.{trouble_status}
 
 -- the status of a script that is refused, and of a line that asks for too much
 abbrev IsCause : ℕ → Type 0

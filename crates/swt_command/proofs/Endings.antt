@@ -10,21 +10,21 @@ use Rattle.runs.specs.declared.report.End.TheVariants as Was
 use Rattle.runs.specs.declared.report.Report.{Report}
 use Rattle.swt_line.specs.declared.line.Line.{Line}
 use Rattle.swt_line.specs.declared.line.Line.TheVariants as Lines
-use Rattle.swt_command.specs.declared.status.Status.{Status}
-use Rattle.swt_command.specs.declared.stop.Stop.{Stop}
+use Rattle.refusals.specs.Verdicts.{Verdict}
+use Rattle.exit_status.specs.declared.status.Status.{Status}
+use Rattle.exit_status.specs.Statuses.{end_status, number_of, report_status}
+use Rattle.stops.specs.declared.stop.Stop.{Stop}
+use Rattle.stops.specs.Troubles.{trouble_status}
+use Rattle.stops.specs.declared.trouble.Trouble.{Trouble}
+use Rattle.stops.specs.declared.trouble.Trouble.TheVariants as Is
 use Rattle.swt_command.specs.declared.told.Told.{Told}
-use Rattle.swt_command.specs.declared.trouble.Trouble.{Trouble}
-use Rattle.swt_command.specs.declared.trouble.Trouble.TheVariants as Is
 use Rattle.swt_command.specs.Causes.{Accepted, AtLimit, Informed, IsDone, LeftBlocked, MetFault, Reported}
-use Rattle.swt_command.specs.Checks.{HasVerdict, Judged, Verdict, check_status}
+use Rattle.swt_command.specs.Checks.{HasVerdict, Judged, check_status}
 use Rattle.swt_command.specs.Files.{Files}
 use Rattle.swt_command.specs.Listings.{IsAcceptedAt}
 use Rattle.swt_command.specs.Means.{mean_status, status_by}
 use Rattle.swt_command.specs.Owes.{Does, Owes, status_of}
-use Rattle.swt_command.specs.Runs.{end_status, report_status}
 use Rattle.swt_command.specs.Sinks.{Held, Took}
-use Rattle.swt_command.specs.Statuses.{number_of}
-use Rattle.swt_command.specs.Troubles.{trouble_status}
 
 -- the numbers of commands that refuse nothing and are not stopped
 abbrev pub IsEnd : ℕ → Type 0

@@ -13,21 +13,24 @@ use Rattle.swt_line.specs.declared.line.Line.{Line}
 use Rattle.swt_line.specs.declared.line.Line.TheVariants as Lines
 use Rattle.swt_trace.specs.Replay.{IsFirstNoStep}
 use Rattle.swt_trace.specs.Trace.{IsFirstBad}
-use Rattle.swt_command.specs.declared.refusal.Refusal.{Refusal}
-use Rattle.swt_command.specs.declared.status.Status.{Status}
-use Rattle.swt_command.specs.declared.stop.Stop.{Stop}
-use Rattle.swt_command.specs.declared.trouble.Trouble.{Trouble}
-use Rattle.swt_command.specs.declared.trouble.Trouble.TheVariants as Is
+use Rattle.refusals.specs.declared.refusal.Refusal.{Refusal}
+use Rattle.refusals.specs.Verdicts.{Verdict}
+use Rattle.exit_status.specs.declared.status.Status.{Status}
+use Rattle.exit_status.specs.Statuses.{end_status, number_of}
+use Rattle.stops.specs.declared.stop.Stop.{Stop}
+use Rattle.stops.specs.declared.trouble.Trouble.{Trouble}
+use Rattle.stops.specs.declared.trouble.Trouble.TheVariants as Is
+use Rattle.stops.specs.Troubles.{trouble_status}
+use Rattle.stops.specs.Traces.{StopsAtTrace}
 use Rattle.swt_command.specs.Causes.{HasFailed, IsReplay, IsRun, LacksMemory, PrintedBefore, no_run, no_thread, no_trace, stranger, unprinted, unread, untraced}
-use Rattle.swt_command.specs.Checks.{Judged, StopsBy, Verdict, check_status}
+use Rattle.swt_command.specs.Checks.{Judged, StopsBy, check_status}
 use Rattle.swt_command.specs.Files.{Files, HasCode, StopsAt, name_at, source_of}
 use Rattle.swt_command.specs.Listings.{StopsListing}
 use Rattle.swt_command.specs.Means.{StopsMean, status_by}
 use Rattle.swt_command.specs.Owes.{Does, Owes, Says, status_of}
-use Rattle.swt_command.specs.Runs.{StopsAtTrace, StopsBeforeReplay, StopsBeforeRun, StopsReplay, StopsRun, Traces, end_status}
+use Rattle.swt_command.specs.Runs.{StopsBeforeReplay, StopsBeforeRun, StopsReplay, StopsRun, Traces}
 use Rattle.swt_command.specs.Sinks.{Given, Held, Kept}
-use Rattle.swt_command.specs.Statuses.{number_of}
-use Rattle.swt_command.specs.Troubles.{trouble_line, trouble_status}
+use Rattle.swt_command.specs.Troubles.{trouble_line}
 
 -- COMMANDS THAT ARE NOT STOPPED
 

@@ -11,18 +11,18 @@ use Rattle.swt_trace.specs.Report.{ReportText}
 use Rattle.swt_line.specs.declared.line.Line.{Line}
 use Rattle.swt_line.specs.declared.line.Line.TheVariants as Lines
 use Rattle.swt_line.specs.declared.line.Line.TheVariants.{Run, Replay}
-use Rattle.swt_command.specs.declared.status.Status.{Status}
-use Rattle.swt_command.specs.declared.stop.Stop.{Stop}
-use Rattle.swt_command.specs.declared.trouble.Trouble.{Trouble}
-use Rattle.swt_command.specs.declared.trouble.Trouble.TheVariants as Is
+use Rattle.exit_status.specs.declared.status.Status.{Status}
+use Rattle.exit_status.specs.Statuses.{end_status, number_of}
+use Rattle.stops.specs.declared.stop.Stop.{Stop}
+use Rattle.stops.specs.declared.trouble.Trouble.{Trouble}
+use Rattle.stops.specs.declared.trouble.Trouble.TheVariants as Is
+use Rattle.stops.specs.Troubles.{trouble_status}
 use Rattle.swt_command.specs.Causes.{Reported}
 use Rattle.swt_command.specs.Files.{Files, HasCode}
 use Rattle.swt_command.specs.OneThread.{IsMeantBy, PrintsWhole}
 use Rattle.swt_command.specs.Owes.{Owes, status_of}
-use Rattle.swt_command.specs.Runs.{Replays, Runs, end_status}
+use Rattle.swt_command.specs.Runs.{Replays, Runs}
 use Rattle.swt_command.specs.Sinks.{Held, Took}
-use Rattle.swt_command.specs.Statuses.{number_of}
-use Rattle.swt_command.specs.Troubles.{trouble_status}
 use Rattle.swt_command.proofs.Reported.{IsOfRun, fault_report, of_one, of_threads, part_report, whole_report}
 
 -- 0 and 4 are the statuses of quiet ends

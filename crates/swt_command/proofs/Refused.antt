@@ -1,33 +1,15 @@
--- The refusal that a fault is.
-use Rattle.std.proofs.Common.{◌≡◌, ◌∙◌, refl, sym, ap, subst, ℕ, List, Option, Some, None}
-use Rattle.std.specs.Prelude.{option_map}
-use Rattle.lexer.specs.declared.token.Span.{Span}
+-- Where a script is refused.
+use Rattle.std.proofs.Common.{◌≡◌, refl, sym, subst, ℕ, List, Option, Some, None}
 use Rattle.compile.specs.declared.fault.CompileFault.{CompileFault}
 use Rattle.compile.specs.Accepted.{IsUnfit}
-use Rattle.compile.specs.Places.{span_of}
-use Rattle.swt_command.specs.declared.refusal.Refusal.{Refusal}
-use Rattle.swt_command.specs.declared.trouble.Trouble.{Trouble}
-use Rattle.swt_command.specs.Files.{Files, IsRefusal, StopsAt, source_of}
-use Rattle.swt_command.specs.Names.{refusal_of}
+use Rattle.refusals.specs.declared.refusal.Refusal.{Refusal}
+use Rattle.refusals.specs.Names.{refusal_of}
+use Rattle.refusals.proofs.Refused.{is_unfit}
+use Rattle.stops.specs.declared.trouble.Trouble.{Trouble}
+use Rattle.swt_command.specs.Files.{Files, StopsAt, source_of}
 use Rattle.swt_command.specs.Troubles.{trouble_of}
 
-same_fault : (fault : CompileFault) (r : Refusal) (at : Option Span) → Some r ≡ option_map (λ (at : Span). record { fault = fault; at = at }) at → r.fault ≡ fault
-same_fault fault r None e = absurd (cc (e))
-same_fault fault r (Some at) e =
-    let p : ◌≡◌ {A = Refusal} r (record { fault = fault; at = at }) = cc in
-    ap (λ (x : Refusal). x.fault) p
-
--- what is so of a fault is so of that of its refusal
-is_of : (P : CompileFault → Type 0) (fault : CompileFault) (r : Refusal) → Some r ≡ refusal_of fault → P fault → P r.fault × (refusal_of r.fault ≡ Some r)
-is_of P fault r e h =
-    let p : r.fault ≡ fault = same_fault fault r (span_of fault) e in
-    (subst P (sym p) h, ap (λ (f : CompileFault). refusal_of f) p ∙ sym e)
-
--- a text that is no script has the refusal that its fault is
-pub is_unfit : (src : List ℕ) (fault : CompileFault) (r : Refusal) → Some r ≡ refusal_of fault → IsUnfit src fault → IsRefusal src r
-is_unfit src fault r e h = is_of (IsUnfit src) fault r e h
-
--- so a command stops at it
+-- a command stops at a text that is no script
 pub unfit_stops : (files : Files) (src : List ℕ) (fault : CompileFault) (t : Trouble) → source_of files 0 ≡ Some src → t ≡ trouble_of (refusal_of fault) → IsUnfit src fault → StopsAt files 0 t
 unfit_stops files src fault t read e h = subst (λ (x : Trouble). StopsAt files 0 x) (sym e) (by (refusal_of fault) refl)
   where

@@ -3,21 +3,21 @@ use Rattle.std.proofs.Common.{◌≡◌, refl, sym, subst, ℕ, zero, suc, Bool,
 use Rattle.std.specs.Prelude.{IsErrAnd, MatchResult}
 use Rattle.runs.specs.declared.report.Report.{Report}
 use Rattle.swt_trace.specs.Report.{ReportText}
-use Rattle.swt_command.specs.declared.status.Status.{Status}
-use Rattle.swt_command.specs.declared.stop.Stop.{Stop}
 use Rattle.task_code.specs.Code.{Code}
-use Rattle.swt_command.specs.declared.trouble.Trouble.{Trouble}
-use Rattle.swt_command.specs.declared.trouble.Trouble.TheVariants as Is
+use Rattle.exit_status.specs.declared.status.Status.{Status}
+use Rattle.exit_status.specs.Statuses.{report_status}
+use Rattle.stops.specs.declared.stop.Stop.{Stop}
+use Rattle.stops.specs.declared.trouble.Trouble.{Trouble}
+use Rattle.stops.specs.declared.trouble.Trouble.TheVariants as Is
+use Rattle.stops.specs.Traces.{StopsAtTrace}
 use Rattle.swt_command.specs.Files.{Files, HasCode, StopsAt, source_of}
 use Rattle.swt_command.specs.Listings.{StopsListing}
 use Rattle.swt_command.specs.Means.{StopsMean}
-use Rattle.swt_trace.specs.declared.fault.ReplayFault.{ReplayFault}
-use Rattle.swt_trace.specs.declared.fault.ReplayFault.TheVariants as Faulty
 use Rattle.workers.specs.declared.fault.RunFault.{RunFault}
 use Rattle.workers.specs.declared.fault.RunFault.TheVariants as Run
-use Rattle.swt_trace.specs.Replay.{IsFirstNoStep}
-use Rattle.swt_trace.specs.Trace.{IsFirstBad, TraceText}
-use Rattle.swt_command.specs.Runs.{IsBadCount, Ran, Runs, StopsAtTrace, StopsBeforeReplay, StopsBeforeRun, StopsReplay, StopsRun, Traces, report_status, stop_of}
+use Rattle.swt_trace.specs.Replay.{ReplaysTo}
+use Rattle.swt_trace.specs.Trace.{TraceText}
+use Rattle.swt_command.specs.Runs.{IsBadCount, Ran, Replayed, Runs, StopsBeforeReplay, StopsBeforeRun, StopsReplay, StopsRun, Traces}
 use Rattle.swt_command.specs.Sinks.{Held, Lost, Took}
 use Rattle.swt_command.specs.Troubles.{run_trouble}
 
@@ -93,20 +93,16 @@ no_trace files code stop has e t none =
     subst (λ (n : ℕ). StopsBeforeReplay files n stop.trouble) (sym e)
     (subst (λ (x : Trouble). StopsBeforeReplay files 1 x) (sym t) (code, has, subst (λ (o : Option (List ℕ)). StopsAtTrace o code Is.Unread) (sym none) tt))
 
--- and a trace that is none of the code's
-pub at_fault : (files : Files) (code : Code) (bytes : List ℕ) (fault : ReplayFault) (stop : Stop) → HasCode files 0 code → source_of files 1 ≡ Some bytes
-    → ((n : ℕ) → fault ≡ Faulty.BadLine n → IsFirstBad bytes n) → ((n : ℕ) → fault ≡ Faulty.NotARun n → IsFirstNoStep code bytes n) → stop ≡ stop_of fault → StopsBeforeReplay files stop.place stop.trouble
-at_fault files code bytes fault stop has read bad none e =
-    subst (λ (s : Stop). StopsBeforeReplay files s.place s.trouble) (sym e)
-    (by fault bad none)
-  where
-    there : (t : Trouble) → StopsAtTrace (Some bytes) code t → StopsAtTrace (source_of files 1) code t
-    there t h = subst (λ (o : Option (List ℕ)). StopsAtTrace o code t) (sym read) h
+-- and so does one that is none of the code's
+at_trace : (files : Files) (code : Code) (bytes : List ℕ) (stop : Stop) → HasCode files 0 code → source_of files 1 ≡ Some bytes → stop.place ≡ 1 → StopsAtTrace (Some bytes) code stop.trouble → StopsBeforeReplay files stop.place stop.trouble
+at_trace files code bytes stop has read e h =
+    subst (λ (n : ℕ). StopsBeforeReplay files n stop.trouble) (sym e) (code, has, subst (λ (o : Option (List ℕ)). StopsAtTrace o code stop.trouble) (sym read) h)
 
-    by : (f : ReplayFault) → ((n : ℕ) → f ≡ Faulty.BadLine n → IsFirstBad bytes n) → ((n : ℕ) → f ≡ Faulty.NotARun n → IsFirstNoStep code bytes n) → StopsBeforeReplay files (stop_of f).place (stop_of f).trouble
-    by (Faulty.BadLine n) b d = (code, has, there (Is.BadLine n) (b n refl))
-    by (Faulty.NotARun n) b d = (code, has, there (Is.NotARun n) (d n refl))
-    by Faulty.Memory b d = (code, has, there Is.Memory tt)
+-- a replay, by what came of its trace
+pub run_again : (files : Files) (code : Code) (bytes : List ℕ) (r : Result Report Stop) → HasCode files 0 code → source_of files 1 ≡ Some bytes
+    → MatchResult r (ReplaysTo code bytes) (λ stop. (stop.place ≡ 1) × StopsAtTrace (Some bytes) code stop.trouble) → MatchResult r (Replayed files) (λ stop. StopsBeforeReplay files stop.place stop.trouble)
+run_again files code bytes (Ok report) has read h = (code, has, (bytes, read, h))
+run_again files code bytes (Err stop) has read h = at_trace files code bytes stop has read h.0 h.1
 
 -- what is so of the stop that is handed on is so of the result
 pub handed_on : {T : Type 0} (P : T → Type 0) (Q : Stop → Type 0) (r : Result T Stop) (stop : Stop) → IsErrAnd r (λ s. s ≡ stop) → Q stop → MatchResult r P Q

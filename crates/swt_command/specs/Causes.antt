@@ -12,12 +12,13 @@ use Rattle.swt_line.specs.declared.line.Line.TheVariants.{Check, Mean, Code, Run
 use Rattle.swt_trace.specs.Replay.{IsFirstNoStep}
 use Rattle.swt_trace.specs.Report.{ReportText}
 use Rattle.swt_trace.specs.Trace.{IsFirstBad}
-use Rattle.swt_command.specs.declared.refusal.Refusal.{Refusal}
+use Rattle.refusals.specs.declared.refusal.Refusal.{Refusal}
+use Rattle.refusals.specs.Verdicts.{IsRefusal, Verdict}
+use Rattle.stops.specs.declared.trouble.Trouble.{Trouble}
+use Rattle.stops.specs.declared.trouble.Trouble.TheVariants as Is
 use Rattle.swt_command.specs.declared.told.Told.{Told}
-use Rattle.swt_command.specs.declared.trouble.Trouble.{Trouble}
-use Rattle.swt_command.specs.declared.trouble.Trouble.TheVariants as Is
-use Rattle.swt_command.specs.Checks.{Verdict, Judged}
-use Rattle.swt_command.specs.Files.{Files, HasCode, IsRefusal, source_of}
+use Rattle.swt_command.specs.Checks.{Judged}
+use Rattle.swt_command.specs.Files.{Files, HasCode, source_of}
 use Rattle.swt_command.specs.Listings.{IsAcceptedAt}
 use Rattle.swt_command.specs.Means.{ToldOf, mean_text}
 use Rattle.swt_command.specs.Runs.{IsBadCount, Ran, Replayed}

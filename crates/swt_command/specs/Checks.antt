@@ -1,25 +1,15 @@
 -- What `check` owes: a line for each file, up to one that ends it.
 use Rattle.std.specs.Prelude.{◌≡◌, ℕ, ◌<◌, List, [], ◌∷◌, ◌++◌, length, Result, Ok, Err, Option, Some, None, slice_get, codes}
-use Rattle.compile.specs.Accepted.{IsScript}
 use Rattle.swt_trace.specs.Report.{text_line}
-use Rattle.swt_command.specs.declared.refusal.Refusal.{Refusal}
-use Rattle.swt_command.specs.declared.status.Status.{Status}
-use Rattle.swt_command.specs.declared.status.Status.TheVariants as Ends
-use Rattle.swt_command.specs.declared.stop.Stop.{Stop}
-use Rattle.swt_command.specs.declared.trouble.Trouble.{Trouble}
-use Rattle.swt_command.specs.declared.trouble.Trouble.TheVariants as Is
-use Rattle.swt_command.specs.Files.{Files, IsRefusal, source_of, name_at}
-use Rattle.swt_command.specs.Names.{refusal_text}
+use Rattle.refusals.specs.Names.{refusal_text}
+use Rattle.refusals.specs.Verdicts.{IsVerdict, Verdict}
+use Rattle.exit_status.specs.declared.status.Status.{Status}
+use Rattle.exit_status.specs.declared.status.Status.TheVariants as Ends
+use Rattle.stops.specs.declared.stop.Stop.{Stop}
+use Rattle.stops.specs.declared.trouble.Trouble.{Trouble}
+use Rattle.stops.specs.declared.trouble.Trouble.TheVariants as Is
+use Rattle.swt_command.specs.Files.{Files, source_of, name_at}
 use Rattle.swt_command.specs.Sinks.{Held, Kept, Took, Lost}
-
--- of a file: none where its script is accepted, else the refusal
-abbrev pub Verdict : Type 0
-Verdict = Option Refusal
-
--- the text is a script, or is none for this reason
-abbrev pub IsVerdict : List ℕ → Verdict → Type 0
-IsVerdict src None = IsScript src
-IsVerdict src (Some r) = IsRefusal src r
 
 abbrev pub verdict_text : Verdict → List ℕ
 verdict_text None = codes ": accepted"

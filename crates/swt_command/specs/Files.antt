@@ -3,12 +3,11 @@ use Rattle.std.specs.Prelude.{◌≡◌, ℕ, List, [], map, Option, Some, None,
 use Rattle.std.specs.Option.{option_flatten}
 use Rattle.task_code.specs.Code.{Code}
 use Rattle.syntax_trees.specs.Core.{Core}
-use Rattle.compile.specs.Accepted.{IsScriptOf, IsUnfit}
+use Rattle.compile.specs.Accepted.{IsScriptOf}
 use Rattle.compile.specs.Compiled.{IsCompiled}
-use Rattle.swt_command.specs.declared.refusal.Refusal.{Refusal}
-use Rattle.swt_command.specs.declared.trouble.Trouble.{Trouble}
-use Rattle.swt_command.specs.declared.trouble.Trouble.TheVariants.{Unread, Refused, Memory}
-use Rattle.swt_command.specs.Names.{refusal_of}
+use Rattle.refusals.specs.Verdicts.{IsRefusal}
+use Rattle.stops.specs.declared.trouble.Trouble.{Trouble}
+use Rattle.stops.specs.declared.trouble.Trouble.TheVariants.{Unread, Refused, Memory}
 
 -- the bytes of each file, and none where it cannot be read
 abbrev pub Files : Type 0
@@ -24,10 +23,6 @@ source_of files place = option_flatten (slice_get files place)
 -- the name of a place, among the names of files
 abbrev pub name_at : List (List ℕ) → ℕ → List ℕ
 name_at names place = unwrap_or (slice_get names place) []
-
--- the text is no script for this reason, at this place
-abbrev pub IsRefusal : List ℕ → Refusal → Type 0
-IsRefusal src r = IsUnfit src r.fault × (refusal_of r.fault ≡ Some r)
 
 -- the file of that place has this script
 abbrev pub HasScript : Files → ℕ → Core → Type 0

@@ -3,11 +3,9 @@ pub mod Checks
 pub mod Files
 pub mod Listings
 pub mod Means
-pub mod Names
 pub mod OneThread
 pub mod Owes
 pub mod Plain
 pub mod Runs
 pub mod Sinks
-pub mod Statuses
 pub mod Troubles

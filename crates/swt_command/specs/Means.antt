@@ -21,12 +21,12 @@ use Rattle.board_frames.specs.declared.place.FaultKind.TheVariants.{OfEntry, Ele
 use Rattle.board_frames.specs.declared.place.Statement.{Statement}
 use Rattle.board_work.specs.declared.outcome.EntryFault.TheVariants.{InOperation, NoElement, TooDeep}
 use Rattle.swt_trace.specs.Report.{blocked_line, fault_line, limit_line, text_line}
-use Rattle.swt_command.specs.declared.status.Status.{Status}
-use Rattle.swt_command.specs.declared.status.Status.TheVariants as Ends
-use Rattle.swt_command.specs.declared.stop.Stop.{Stop}
+use Rattle.exit_status.specs.declared.status.Status.{Status}
+use Rattle.exit_status.specs.declared.status.Status.TheVariants as Ends
+use Rattle.stops.specs.declared.stop.Stop.{Stop}
+use Rattle.stops.specs.declared.trouble.Trouble.{Trouble}
+use Rattle.stops.specs.declared.trouble.Trouble.TheVariants.{Unprinted}
 use Rattle.swt_command.specs.declared.told.Told.{Told}
-use Rattle.swt_command.specs.declared.trouble.Trouble.{Trouble}
-use Rattle.swt_command.specs.declared.trouble.Trouble.TheVariants.{Unprinted}
 use Rattle.swt_command.specs.Files.{Files, HasScript, StopsAt}
 use Rattle.swt_command.specs.Sinks.{Held, Kept, Took, Lost}
 

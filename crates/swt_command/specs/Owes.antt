@@ -3,16 +3,17 @@ use Rattle.std.specs.Prelude.{◌≡◌, ℕ, List, Result, Ok, Err, is_some}
 use Rattle.swt_line.specs.declared.line.Line.{Line}
 use Rattle.swt_line.specs.declared.line.Line.TheVariants.{Check, Mean, Code, Run, Replay}
 use Rattle.swt_line.specs.Lines.{files_of}
-use Rattle.swt_command.specs.declared.status.Status.{Status}
-use Rattle.swt_command.specs.declared.stop.Stop.{Stop}
+use Rattle.exit_status.specs.declared.status.Status.{Status}
+use Rattle.exit_status.specs.Statuses.{number_of}
+use Rattle.stops.specs.declared.stop.Stop.{Stop}
+use Rattle.stops.specs.Troubles.{trouble_status}
 use Rattle.swt_command.specs.Checks.{Checks}
 use Rattle.swt_command.specs.Files.{Files, name_at}
 use Rattle.swt_command.specs.Listings.{Lists}
 use Rattle.swt_command.specs.Means.{Means}
 use Rattle.swt_command.specs.Runs.{Replays, Runs}
 use Rattle.swt_command.specs.Sinks.{Held, Given, Kept}
-use Rattle.swt_command.specs.Statuses.{number_of}
-use Rattle.swt_command.specs.Troubles.{trouble_line, trouble_status}
+use Rattle.swt_command.specs.Troubles.{trouble_line}
 
 -- what is printed and traced, by the command
 abbrev pub Does : Line → Files → Result Status Stop → (out out_new trace trace_new : Held) → Type 0

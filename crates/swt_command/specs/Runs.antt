@@ -1,38 +1,24 @@
 -- What `run` and `replay` owe: the report of a run of the script.
-use Rattle.std.specs.Prelude.{◌≡◌, ◌⊎◌, ℕ, zero, suc, ◌+◌, ◌<◌, Bool, true, false, List, [], ◌∷◌, Result, Ok, Err, Option, Some, None}
+use Rattle.std.specs.Prelude.{◌≡◌, ◌⊎◌, ℕ, zero, suc, ◌+◌, ◌<◌, Bool, true, false, List, Result, Ok, Err, Some}
 use Rattle.task_code.specs.Code.{Code}
-use Rattle.board_frames.specs.declared.place.Statement.{Statement}
-use Rattle.runs.specs.declared.report.End.{End}
-use Rattle.runs.specs.declared.report.End.TheVariants as Was
 use Rattle.runs.specs.declared.report.Report.{Report}
-use Rattle.swt_trace.specs.declared.fault.ReplayFault.{ReplayFault}
-use Rattle.swt_trace.specs.declared.fault.ReplayFault.TheVariants as Faulty
-use Rattle.swt_trace.specs.Replay.{IsFirstNoStep, ReplaysTo}
+use Rattle.swt_trace.specs.Replay.{ReplaysTo}
 use Rattle.swt_trace.specs.Report.{ReportText}
-use Rattle.swt_trace.specs.Trace.{IsFirstBad, TraceText}
+use Rattle.swt_trace.specs.Trace.{TraceText}
 use Rattle.workers.specs.declared.run.PoolCount.{PoolCount}
 use Rattle.workers.specs.Reports.{IsReport}
-use Rattle.swt_command.specs.declared.status.Status.{Status}
-use Rattle.swt_command.specs.declared.status.Status.TheVariants as Ends
-use Rattle.swt_command.specs.declared.stop.Stop.{Stop}
-use Rattle.swt_command.specs.declared.trouble.Trouble.{Trouble}
-use Rattle.swt_command.specs.declared.trouble.Trouble.TheVariants as Is
+use Rattle.exit_status.specs.declared.status.Status.{Status}
+use Rattle.exit_status.specs.Statuses.{report_status}
+use Rattle.stops.specs.declared.stop.Stop.{Stop}
+use Rattle.stops.specs.declared.trouble.Trouble.{Trouble}
+use Rattle.stops.specs.declared.trouble.Trouble.TheVariants as Is
+use Rattle.stops.specs.Traces.{StopsAtTrace}
 use Rattle.swt_command.specs.Files.{Files, source_of, HasCode, StopsAt}
 use Rattle.swt_command.specs.Sinks.{Held, Kept, Took, Lost}
 
 -- the most engines and workers together
 abbrev pub most_threads : ℕ
 most_threads = 64
-
-abbrev pub end_status : End → List Statement → Status
-end_status (Was.Fault f) blocked = Ends.Fault
-end_status Was.Quiet [] = Ends.Done
-end_status Was.Quiet (b ∷ bs) = Ends.Blocked
-end_status Was.Limit blocked = Ends.Limit
-
--- the status that a report comes with
-abbrev pub report_status : Report → Status
-report_status r = end_status r.end r.blocked.items
 
 -- RUN
 
@@ -76,20 +62,6 @@ Runs files engines workers steps wanted (Err stop) out out_new trace trace_new =
 -- the report is of the events of the second file, run again on the code of the first
 abbrev pub Replayed : Files → Report → Type 0
 Replayed files r = (code : Code) × HasCode files 0 code × ((bytes : List ℕ) × (source_of files 1 ≡ Some bytes) × ReplaysTo code bytes r)
-
--- the stop that a trace's fault is
-abbrev pub stop_of : ReplayFault → Stop
-stop_of (Faulty.BadLine n) = record { place = 1; trouble = Is.BadLine n }
-stop_of (Faulty.NotARun n) = record { place = 1; trouble = Is.NotARun n }
-stop_of Faulty.Memory = record { place = 1; trouble = Is.Memory }
-
--- the trace cannot be read, or is none, or has an event that is no step of the code; or memory was refused
-abbrev pub StopsAtTrace : Option (List ℕ) → Code → Trouble → Type 0
-StopsAtTrace None code Is.Unread = Unit {0}
-StopsAtTrace (Some bytes) code (Is.BadLine n) = IsFirstBad bytes n
-StopsAtTrace (Some bytes) code (Is.NotARun n) = IsFirstNoStep code bytes n
-StopsAtTrace (Some bytes) code Is.Memory = Unit {0}
-StopsAtTrace _ code _ = ⊥
 
 -- before there is a report: at the script, which has place 0, or at its trace, which has place 1
 abbrev pub StopsBeforeReplay : Files → (place : ℕ) → Trouble → Type 0

@@ -1,15 +1,13 @@
--- What is said of trouble on standard error, and the status that it ends a command with.
+-- What is said of trouble on standard error, and the trouble that a refusal or a run without a report is.
 use Rattle.std.specs.Prelude.{ℕ, List, ◌++◌, Option, Some, None, codes}
 use Rattle.std.specs.Fmt.{decimal}
 use Rattle.swt_trace.specs.Report.{text_line}
 use Rattle.workers.specs.declared.fault.RunFault.{RunFault}
 use Rattle.workers.specs.declared.fault.RunFault.TheVariants as Run
-use Rattle.swt_command.specs.declared.refusal.Refusal.{Refusal}
-use Rattle.swt_command.specs.declared.status.Status.{Status}
-use Rattle.swt_command.specs.declared.status.Status.TheVariants as Ends
-use Rattle.swt_command.specs.declared.trouble.Trouble.{Trouble}
-use Rattle.swt_command.specs.declared.trouble.Trouble.TheVariants as Is
-use Rattle.swt_command.specs.Names.{refusal_text}
+use Rattle.refusals.specs.declared.refusal.Refusal.{Refusal}
+use Rattle.refusals.specs.Names.{refusal_text}
+use Rattle.stops.specs.declared.trouble.Trouble.{Trouble}
+use Rattle.stops.specs.declared.trouble.Trouble.TheVariants as Is
 
 -- the line, where the trouble is with a file of this name
 abbrev pub trouble_line : Trouble → List ℕ → List ℕ
@@ -23,18 +21,6 @@ trouble_line Is.Stranger file = text_line (codes "swt: stranger")
 trouble_line Is.Memory file = text_line (codes "swt: no memory")
 trouble_line Is.Unprinted file = text_line (codes "swt: cannot write")
 trouble_line Is.Untraced file = text_line (codes "swt: cannot write")
-
-abbrev pub trouble_status : Trouble → Status
-trouble_status Is.Unread = Ends.Failed
-trouble_status (Is.Refused r) = Ends.Refused
-trouble_status (Is.BadLine n) = Ends.Failed
-trouble_status (Is.NotARun n) = Ends.Failed
-trouble_status Is.BadCount = Ends.Usage
-trouble_status Is.NoThread = Ends.Failed
-trouble_status Is.Stranger = Ends.Failed
-trouble_status Is.Memory = Ends.Memory
-trouble_status Is.Unprinted = Ends.Failed
-trouble_status Is.Untraced = Ends.Failed
 
 -- the trouble with a script that is refused so; without a refusal memory was wanting
 abbrev pub trouble_of : Option Refusal → Trouble

@@ -1,19 +1,20 @@
 //! Whether files are accepted.
 ghost use Rattle.std.specs.Prelude.{◌≡◌, ◌<◌, ◌++◌, length, Ok, Err, IfOk, MatchResult};
-ghost use Rattle.swt_command.specs.Checks.{Checks, IsSaid, IsVerdict, StopsBy, after, verdict_line, verdict_text};
+ghost use Rattle.swt_command.specs.Checks.{Checks, IsSaid, StopsBy, after, verdict_line, verdict_text};
 ghost use Rattle.swt_command.specs.Files.{contents, source_of};
 ghost use Rattle.swt_command.specs.Sinks.{Took, Writes, held};
 
 use crate::arena::empty;
 use crate::parts::write_parts;
-use crate::refusal::Refusal;
-use crate::status::Status;
-use crate::stop::{Stop, source};
-use crate::trouble::Trouble;
+use crate::scripts::source;
 use arrayvec::ArrayString;
 use bumpalo::Bump;
-use compile::check::check as check_text;
+use exit_status::status::Status;
+use refusals::refusal::Refusal;
+use refusals::verdict::verdict;
 use std::alloc::Global;
+use stops::stop::Stop;
+use stops::trouble::Trouble;
 use swt_line::word::Word;
 use values::sink::{Sink, SinkFault};
 
@@ -76,23 +77,12 @@ fn check_file<O: Sink>(
     let Ok(source) = source(files, place) else {
         return Err(Trouble::Unread);
     };
-    let refusal = verdict(alloc, arena, source)?;
+    let Ok(refusal) = verdict(alloc, arena, source) else {
+        return Err(Trouble::Memory);
+    };
     match write_verdict(name, refusal, out) {
         Ok(()) => Ok(refusal),
         Err(SinkFault) => Err(Trouble::Unprinted),
-    }
-}
-
-/// The refusal of a text, and none where it is accepted.
-fn verdict(alloc: Global, arena: &Bump, source: &[u8]) -> Result<Option<Refusal>, Trouble>
-    ensures { MatchResult result (IsVerdict source.now) (λ trouble. trouble ≡ Trouble.Memory) }
-{
-    match check_text(alloc, arena, source) {
-        Ok(()) => Ok(None),
-        Err(fault) => match Refusal::of(fault) {
-            Some(refusal) => Ok(Some(refusal)),
-            None => Err(Trouble::Memory),
-        },
     }
 }
 

@@ -4,11 +4,12 @@ ghost use Rattle.swt_command.specs.Files.{StopsAt, contents};
 ghost use Rattle.swt_command.specs.Listings.{IsAcceptedAt, Lists};
 ghost use Rattle.swt_command.specs.Sinks.{held};
 
-use crate::status::Status;
-use crate::stop::{Stop, drawing_of, listing_of};
-use crate::trouble::Trouble;
+use crate::scripts::{drawing_of, listing_of};
 use bumpalo::Bump;
+use exit_status::status::Status;
 use std::alloc::Global;
+use stops::stop::Stop;
+use stops::trouble::Trouble;
 use values::sink::{Sink, SinkFault, write_all};
 
 /// Prints the listing of the code of the first file's script, or, where `dot` holds, the same drawn, as text for `dot`.

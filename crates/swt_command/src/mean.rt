@@ -7,13 +7,13 @@ ghost use Rattle.swt_command.specs.Files.{contents};
 ghost use Rattle.swt_command.specs.Means.{Means, cut_line, known_text, mean_status, mean_text};
 ghost use Rattle.swt_command.specs.Sinks.{Writes, held};
 
-use crate::status::Status;
-use crate::stop::Stop;
 use crate::told::{Told, worked_out};
-use crate::trouble::Trouble;
 use board::Fault;
 use bumpalo::Bump;
+use exit_status::status::Status;
 use std::alloc::Global;
+use stops::stop::Stop;
+use stops::trouble::Trouble;
 use swt_trace::report::{write_blocked, write_fault, write_limit, write_lines};
 use values::sink::{Sink, SinkFault};
 

@@ -1,22 +1,23 @@
 //! Runs of scripts.
 ghost use Rattle.std.specs.Prelude.{◌≡◌, ◌<◌, true, MatchResult};
 ghost use Rattle.swt_trace.specs.Trace.{TraceText};
+ghost use Rattle.exit_status.specs.Statuses.{report_status};
 ghost use Rattle.swt_command.specs.Files.{contents};
-ghost use Rattle.swt_command.specs.Runs.{Ran, Replayed, Replays, Runs, StopsBeforeReplay, StopsBeforeRun, Traces, report_status, stop_of};
+ghost use Rattle.swt_command.specs.Runs.{Ran, Replayed, Replays, Runs, StopsBeforeReplay, StopsBeforeRun, Traces};
 ghost use Rattle.swt_command.specs.Sinks.{Lost, held};
 ghost use Rattle.swt_command.specs.Troubles.{run_trouble};
 
 use crate::arena::empty;
-use crate::status::Status;
-use crate::stop::{Stop, code_of, source};
-use crate::trouble::Trouble;
+use crate::scripts::{code_of, source};
 use bumpalo::Bump;
-use runs::report::{End, Report};
+use exit_status::status::{Status, status_of};
+use runs::report::Report;
 use std::alloc::Global;
 use std::sync::Wait;
 use std::thread::Threads;
-use swt_trace::fault::ReplayFault;
-use swt_trace::replay::replay as replay_trace;
+use stops::stop::Stop;
+use stops::trace::report_of_trace;
+use stops::trouble::Trouble;
 use swt_trace::report::write_report;
 use swt_trace::write::write_trace;
 use values::sink::Sink;
@@ -152,45 +153,5 @@ fn replayed(alloc: Global, arena: &mut Bump, files: &[Option<Vec<u8>>]) -> Resul
     let code = code_of(alloc, arena, files)?;
     empty(alloc, arena);
     let trace = source(files, 1)?;
-    match replay_trace(alloc, &code, trace) {
-        Ok(report) => Ok(report),
-        Err(fault) => Err(at_trace(fault)),
-    }
-}
-
-/// A stop at a trace, for this reason.
-fn at_trace(fault: ReplayFault) -> Stop
-    ensures { result ≡ stop_of fault }
-{
-    match fault {
-        ReplayFault::BadLine(line) => Stop {
-            place: 1,
-            trouble: Trouble::BadLine(line),
-        },
-        ReplayFault::NotARun(line) => Stop {
-            place: 1,
-            trouble: Trouble::NotARun(line),
-        },
-        ReplayFault::Memory => Stop {
-            place: 1,
-            trouble: Trouble::Memory,
-        },
-    }
-}
-
-/// The status that a run's end comes with.
-fn status_of(report: &Report) -> Status
-    ensures { result ≡ report_status report.now }
-{
-    match report.end {
-        End::Fault(_) => Status::Fault,
-        End::Quiet => {
-            if report.blocked.is_empty() {
-                Status::Done
-            } else {
-                Status::Blocked
-            }
-        }
-        End::Limit => Status::Limit,
-    }
+    report_of_trace(alloc, &code, trace)
 }

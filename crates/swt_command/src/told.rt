@@ -9,8 +9,7 @@ ghost use Rattle.swt_command.specs.Files.{HasScript, StopsAt, contents};
 ghost use Rattle.swt_command.specs.Means.{IsTold, ToldOf};
 ghost use Rattle.swt_command.specs.Plain.{meant_fault, meant_kind, meant_place, meant_step, told_fault};
 
-use crate::stop::{Stop, at_script, source};
-use crate::trouble::Trouble;
+use crate::scripts::{at_script, source};
 use board::{EntryFault, Fault, FaultKind, Statement, Step};
 use bumpalo::Bump;
 use compile::compile::read;
@@ -18,6 +17,8 @@ use flow::script::Flow;
 use script_meaning::order::{Fault as MeantFault, Statement as MeantStatement};
 use script_meaning::rounds::rounds;
 use std::alloc::{AllocError, Global};
+use stops::stop::Stop;
+use stops::trouble::Trouble;
 use values::fault::OpFault;
 use values::text::Text;
 use whole_facts::facts::FaultKind as MeantKind;

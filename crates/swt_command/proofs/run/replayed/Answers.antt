@@ -1,7 +1,7 @@
-use Rattle.swt_command.specs.declared.stop.Stop.{Stop}
+use Rattle.stops.specs.declared.stop.Stop.{Stop}
 use Rattle.swt_command.specs.Files.{contents}
 use Rattle.swt_command.specs.Runs.{Replayed, StopsBeforeReplay}
-use Rattle.swt_command.proofs.Stops.{at_fault, at_script, handed_on, no_trace}
+use Rattle.swt_command.proofs.Stops.{at_script, handed_on, no_trace, run_again}
 use Rattle.swt_command.proofs.run.replayed.Goals as goal
 
 pub returns-in_err-code : goal.returns-in_err-code
@@ -16,10 +16,6 @@ returns-in_err-trace c =
     c.from_residual-in_err-trace.result c.in_err-trace.field-0.0 c.from_residual-in_err-trace.ensures.1
     (no_trace (contents c.args.files.now) c.in_ok-code.code c.in_err-trace.field-0.0 c.in_ok-code.ensures c.in_err-trace.ensures.0 c.in_err-trace.ensures.1 c.in_err-trace.ensures.2)
 
-pub returns-in-Ok : goal.returns-in-Ok
-returns-in-Ok c = (c.in_ok-code.code, c.in_ok-code.ensures, (c.in_ok-trace.trace.now, c.in_ok-trace.ensures, c.in-Ok.ensures.report))
-
 pub returns : goal.returns
 returns c =
-    at_fault (contents c.args.files.now) c.in_ok-code.code c.in_ok-trace.trace.now c.in-Err.fault c.at_trace.result c.in_ok-code.ensures c.in_ok-trace.ensures
-    c.in-Err.ensures.bad c.in-Err.ensures.no_step c.at_trace.ensures
+    run_again (contents c.args.files.now) c.in_ok-code.code c.in_ok-trace.trace.now c.report_of_trace.result c.in_ok-code.ensures c.in_ok-trace.ensures c.report_of_trace.ensures

@@ -1,6 +1,8 @@
 //! How a command ends.
 ghost use Rattle.std.specs.Prelude.{◌≡◌};
-ghost use Rattle.swt_command.specs.Statuses.{number_of};
+ghost use Rattle.exit_status.specs.Statuses.{number_of, report_status};
+
+use runs::report::{End, Report};
 
 /// How a command ended.
 #[derive(Clone, Copy, PartialEq, Eq, Debug, Drop)]
@@ -38,5 +40,22 @@ impl Status {
             Status::Memory => 6,
             Status::Failed => 7,
         }
+    }
+}
+
+/// The status that a run's end comes with.
+pub fn status_of(report: &Report) -> Status
+    ensures { result ≡ report_status report.now }
+{
+    match report.end {
+        End::Fault(_) => Status::Fault,
+        End::Quiet => {
+            if report.blocked.is_empty() {
+                Status::Done
+            } else {
+                Status::Blocked
+            }
+        }
+        End::Limit => Status::Limit,
     }
 }

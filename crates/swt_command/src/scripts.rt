@@ -1,25 +1,18 @@
-//! Where a command stops, and the scripts that it reads.
+//! The files and the scripts that a command reads.
 ghost use Rattle.std.specs.Prelude.{◌≡◌, Some, None, MatchResult};
+ghost use Rattle.refusals.specs.Names.{refusal_of};
 ghost use Rattle.swt_command.specs.Listings.{IsAcceptedAt};
 ghost use Rattle.swt_command.specs.Files.{HasCode, StopsAt, contents, source_of};
-ghost use Rattle.swt_command.specs.Names.{refusal_of};
 ghost use Rattle.swt_command.specs.Troubles.{trouble_of};
 
-use crate::refusal::Refusal;
-use crate::trouble::Trouble;
 use bumpalo::Bump;
 use compile::compile::{compile, drawn, listed};
 use compile::fault::CompileFault;
+use refusals::refusal::Refusal;
 use std::alloc::Global;
+use stops::stop::Stop;
+use stops::trouble::Trouble;
 use task_code::code::Code;
-
-/// What ended a command, and at which of the files that its line names to be read.
-#[derive(Clone, Copy, PartialEq, Eq, Debug)]
-pub struct Stop {
-    /// The place of the file, counted from 0.
-    pub place: usize,
-    pub trouble: Trouble,
-}
 
 /// The bytes of the file of a place.
 ///

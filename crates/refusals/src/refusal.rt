@@ -1,6 +1,6 @@
 //! Why a script is refused, and how that is shown.
 ghost use Rattle.std.specs.Prelude.{◌≡◌, ◌≤◌, length};
-ghost use Rattle.swt_command.specs.Names.{assign_name, fault_name, lex_name, parse_name, refusal_of, refusal_text, type_name};
+ghost use Rattle.refusals.specs.Names.{assign_name, fault_name, lex_name, parse_name, refusal_of, refusal_text, type_name};
 
 use arrayvec::ArrayString;
 use assign_check::fault::AssignFault;

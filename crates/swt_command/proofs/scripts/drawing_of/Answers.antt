@@ -1,6 +1,6 @@
 use Rattle.swt_command.specs.Files.{contents}
 use Rattle.swt_command.proofs.Refused.{unfit_stops}
-use Rattle.swt_command.proofs.stop.code_of.Goals as goal
+use Rattle.swt_command.proofs.scripts.drawing_of.Goals as goal
 
 pub returns-in-Err : goal.returns-in-Err
 returns-in-Err c =

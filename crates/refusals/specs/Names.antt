@@ -12,7 +12,7 @@ use Rattle.assign_check.specs.declared.fault.AssignFault.TheVariants as Assign
 use Rattle.compile.specs.declared.fault.CompileFault.{CompileFault}
 use Rattle.compile.specs.declared.fault.CompileFault.TheVariants as Compile
 use Rattle.compile.specs.Places.{span_of}
-use Rattle.swt_command.specs.declared.refusal.Refusal.{Refusal}
+use Rattle.refusals.specs.declared.refusal.Refusal.{Refusal}
 
 abbrev pub lex_name : LexFault → List ℕ
 lex_name (Lex.BadByte at) = codes "L1 BadByte"

@@ -1,0 +1,4 @@
+//! How a command ends, and the status of the process.
+#![tactic(auto)]
+
+pub mod status;

@@ -1,5 +1,0 @@
-use Rattle.swt_command.proofs.Refused.{is_unfit}
-use Rattle.swt_command.proofs.check.verdict.Goals as goal
-
-pub returns-in-Some : goal.returns-in-Some
-returns-in-Some c = is_unfit c.args.source.now c.in-Err.fault c.in-Some.refusal c.in-Some.ensures c.in-Err.ensures.unfit
