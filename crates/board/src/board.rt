@@ -276,6 +276,14 @@ impl Board {
         &self.history
     }
 
+    /// The events, from the first on, once the board is not needed any more. Takes no memory.
+    pub fn into_history(self) -> Vec<Event>
+        ensures { map event_view result.items ≡ self.history }
+    {
+        let Board { history, .. } = self;
+        history
+    }
+
     /// The lines that were printed so far, in their order: a text each, where the code prints texts alone.
     pub fn lines(&self) -> &Vec<Scalar>
         ensures { self.now.state.lines ≡ result.now.items }

@@ -2,7 +2,7 @@
 
 use board::board::Board;
 use runs::one::run_one;
-use runs::report::{End, Report, report_of};
+use runs::report::{End, Report, last_report, report_of};
 use runs::turn::finish;
 use std::alloc::Global;
 use std::process::Abort;
@@ -83,5 +83,14 @@ fn a_board_without_events_left_is_reported(rt: HostRuntime) {
     takes_a_turn(&rt, &mut board);
     let report = report_at_limit(&rt, rt.alloc(), &board);
     assert!(rt; matches!(report.end, End::Limit));
+    assert_eq!(rt; report.history.len(), 2);
+}
+
+#[test]
+fn a_board_that_is_not_needed_any_more_is_reported(rt: HostRuntime) {
+    let mut board = board_of_two(&rt, rt.alloc());
+    takes_a_turn(&rt, &mut board);
+    assert!(rt; !board.is_going());
+    let report = last_report(rt.alloc(), board).expect(&rt, "memory");
     assert_eq!(rt; report.history.len(), 2);
 }

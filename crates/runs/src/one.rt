@@ -4,7 +4,7 @@ ghost use Rattle.board.specs.Board.{Seen};
 ghost use Rattle.runs.specs.Report.{Tells, Reports};
 ghost use Rattle.runs.specs.Turns.{RanTo, starts};
 
-use crate::report::{Report, report_of};
+use crate::report::{Report, last_report};
 use crate::turn::{Turn, make_turn};
 use board::board::Board;
 use std::alloc::{AllocError, Global};
@@ -31,7 +31,7 @@ pub fn run_one(
 {
     let mut board = Board::new(alloc, code.copy()?, limit)?;
     run_by(&mut board, choices)?;
-    report_of(alloc, &board)
+    last_report(alloc, board)
 }
 
 /// Takes turns by the choices, and after them by the first item, until no more is possible.

@@ -60,6 +60,30 @@ pub fn report_of(alloc: Global, board: &Board) -> Result<Report, AllocError>
     })
 }
 
+/// What `report_of` says, of a board that is not needed any more: its events are the report's.
+///
+/// # Errors
+///
+/// `AllocError` where memory that was asked for was refused.
+pub fn last_report(alloc: Global, board: Board) -> Result<Report, AllocError>
+    requires { IsOver board }
+    ensures tells { IfOk result (λ report. Tells board report) }
+    ensures reports { IfOk result (λ report. Reports board.code board.limit report) }
+{
+    let (end, blocked) = end_of(alloc, &board)?;
+    let code = board.code().copy()?;
+    let lines = texts(alloc, board.lines())?;
+    let tallies = tallies(board.history());
+    Ok(Report {
+        code,
+        history: board.into_history(),
+        lines,
+        end,
+        blocked,
+        tallies,
+    })
+}
+
 /// How a run ended, and the statements that are blocked where it ended quiet.
 fn end_of(alloc: Global, board: &Board) -> Result<(End, Vec<Statement>), AllocError>
     requires { IsOver board.now }

@@ -9,8 +9,8 @@ use Rattle.runs.proofs.Idle.{AllIdle}
 use Rattle.runs.proofs.Turned.{run_is_over, run_keeps, starts_idle}
 use Rattle.runs.proofs.one.run_one.Goals as goal
 
-pub report_of-requires : goal.report_of-requires
-report_of-requires c =
+pub last_report-requires : goal.last_report-requires
+last_report-requires c =
     let is : c.in_ok-board.board ≡ starts c.args.code.now c.args.limit = c.in_ok-board.ensures ∙ ap (λ (C : Code). starts C c.args.limit) c.in_ok-copy.ensures in
     let idle : AllIdle c.in_ok-board.board.state.items = subst (λ (b : Seen). AllIdle b.state.items) (sym is) (starts_idle c.args.code.now c.args.limit) in
     run_is_over c.args.choices.now c.in_ok-board.board c.run_by.new.board idle c.in_ok-run_by.ensures
@@ -19,8 +19,8 @@ pub returns-clause-reports : goal.returns-clause-reports
 returns-clause-reports c =
     let is : c.in_ok-board.board ≡ starts c.args.code.now c.args.limit = c.in_ok-board.ensures ∙ ap (λ (C : Code). starts C c.args.limit) c.in_ok-copy.ensures in
     let kept = run_keeps c.args.choices.now c.in_ok-board.board c.run_by.new.board c.in_ok-run_by.ensures in
-    subst (λ (C : Code). IfOk c.report_of.result (λ r. Reports C c.args.limit r)) (kept.0 ∙ ap (λ (b : Seen). b.code) is)
-    (subst (λ (n : ℕ). IfOk c.report_of.result (λ r. Reports c.run_by.new.board.code n r)) (kept.1 ∙ ap (λ (b : Seen). b.limit) is) c.report_of.ensures.reports)
+    subst (λ (C : Code). IfOk c.last_report.result (λ r. Reports C c.args.limit r)) (kept.0 ∙ ap (λ (b : Seen). b.code) is)
+    (subst (λ (n : ℕ). IfOk c.last_report.result (λ r. Reports c.run_by.new.board.code n r)) (kept.1 ∙ ap (λ (b : Seen). b.limit) is) c.last_report.ensures.reports)
 
 -- what a report tells of a board that was run to
 told : {E : Type 0} (r : Result Report E) (choices : List ℕ) (from to : Seen) → RanTo choices from to → IfOk r (Tells to) → IfOk r (λ report. (board : Seen) × RanTo choices from board × Tells board report)
@@ -31,4 +31,4 @@ pub returns-clause-turns : goal.returns-clause-turns
 returns-clause-turns c =
     let is : c.in_ok-board.board ≡ starts c.args.code.now c.args.limit = c.in_ok-board.ensures ∙ ap (λ (C : Code). starts C c.args.limit) c.in_ok-copy.ensures in
     let ran : RanTo c.args.choices.now (starts c.args.code.now c.args.limit) c.run_by.new.board = subst (λ (b : Seen). RanTo c.args.choices.now b c.run_by.new.board) is c.in_ok-run_by.ensures in
-    told c.report_of.result c.args.choices.now (starts c.args.code.now c.args.limit) c.run_by.new.board ran c.report_of.ensures.tells
+    told c.last_report.result c.args.choices.now (starts c.args.code.now c.args.limit) c.run_by.new.board ran c.last_report.ensures.tells
