@@ -16,7 +16,7 @@ use Rattle.task_code.specs.View.{event_view}
 use Rattle.task_code.specs.Whole.{IsCode}
 use Rattle.task_code.specs.declared.event.Event.{Event as BoardEvent}
 use Rattle.rules.specs.declared.input.Input.{Input}
-use Rattle.board_work.specs.declared.answer.Answer.{Answer}
+use Rattle.entry_outcomes.specs.declared.answer.Answer.{Answer}
 use Rattle.board_code.specs.Spots.{layout_of}
 use Rattle.board_frames.specs.View.{rows_view}
 use Rattle.board_frames.specs.declared.place.Fault.{Fault}

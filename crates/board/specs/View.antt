@@ -5,7 +5,7 @@ use Rattle.replayed.specs.Fields as Pure
 use Rattle.task_code.specs.Compute.{Elements, EntryFault}
 use Rattle.task_code.specs.Effects.{Task}
 use Rattle.task_code.specs.Places as Places
-use Rattle.board_work.specs.View.{fault_view}
+use Rattle.entry_outcomes.specs.View.{fault_view}
 use Rattle.board_data.specs.View.{cells_view}
 use Rattle.board_frames.specs.View.{frames_view, rows_view, step_view}
 use Rattle.board_frames.specs.declared.place.FaultKind.{FaultKind}

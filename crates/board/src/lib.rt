@@ -19,6 +19,6 @@ mod telling;
 mod working;
 
 pub use board_frames::place::{Fault, FaultKind, Statement, Step};
-pub use board_work::answer::Answer;
-pub use board_work::outcome::EntryFault;
 pub use board_work::work::{Done, Work};
+pub use entry_outcomes::answer::Answer;
+pub use entry_outcomes::outcome::EntryFault;

@@ -13,8 +13,8 @@ use board_data::answers::{answers, are_answers};
 use board_data::data;
 use board_frames::instance::datum_at;
 use board_frames::item::Job;
-use board_work::answer::Answer;
 use board_work::work::{Done, Job as Task, Work};
+use entry_outcomes::answer::Answer;
 use std::alloc::AllocError;
 
 impl Core {

@@ -20,7 +20,7 @@ use Rattle.values.specs.declared.map.Element.{Element}
 use Rattle.values.specs.declared.value.Scalar.{Scalar}
 use Rattle.values.specs.declared.value.Value.{Value}
 use Rattle.board_frames.specs.Names.{datum_of, led_slot}
-use Rattle.board_work.specs.Outcome.{of_leaf}
+use Rattle.entry_outcomes.specs.Outcome.{of_leaf}
 use Rattle.board_effects.specs.Effects.{GoesWell, IsStored, OpensBy, OpensNothing, lines_in, target_in, values_in}
 use Rattle.board_effects.specs.Ended.{Ends, FailsWith, IsEnded, act_of, cells_of, code_of, frames_of, job_of}
 use Rattle.board_effects.specs.Fits.{gives_elements, gives_scalar}

@@ -16,7 +16,7 @@ use Rattle.values.specs.declared.value.Scalar.{Scalar}
 use Rattle.board_code.specs.Spots.{layout_of}
 use Rattle.board_code.specs.Tables.{IsEntryTable, is_place}
 use Rattle.board_code.specs.declared.program.EntryTable.{EntryTable}
-use Rattle.board_work.specs.View.{fault_view}
+use Rattle.entry_outcomes.specs.View.{fault_view}
 use Rattle.data_store.specs.Stores.{Store, array_at}
 use Rattle.values.specs.Maps.{element}
 use Rattle.board_data.specs.Stored.{IsScalarTarget, Takes}

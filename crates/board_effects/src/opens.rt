@@ -16,7 +16,7 @@ use board_code::program::Program;
 use board_frames::opening::{Around, Opening, Openings, outermost};
 use board_frames::place::{FaultKind, Step};
 use board_frames::turns::{Site, push_block, push_elements, push_range};
-use board_work::outcome::EntryFault;
+use entry_outcomes::outcome::EntryFault;
 use loop_chunks::{are_left, chunk_of};
 use std::alloc::{AllocError, Global};
 use task_code::entry::Act;

@@ -1,6 +1,6 @@
 //! Where statements and faults of a run stand.
 
-use board_work::outcome::EntryFault;
+use entry_outcomes::outcome::EntryFault;
 use values::key::Key;
 
 /// A step to a block: the offset that opens it, and the branch, the turn's key, or 0 for a call.

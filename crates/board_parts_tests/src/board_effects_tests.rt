@@ -4,7 +4,7 @@ use crate::worlds::{Opened, opened_script};
 use board_effects::effect::{Effect, Ended};
 use board_effects::script_effect;
 use board_frames::place::FaultKind;
-use board_work::outcome::{EntryFault, Outcome};
+use entry_outcomes::outcome::{EntryFault, Outcome};
 use std::alloc::Global;
 use std::process::Abort;
 use values::fault::OpFault;

@@ -1,3 +1,2 @@
-mod Answered
+mod Jobs
 mod Meanings
-pub mod Comparisons

@@ -1,4 +1,1 @@
-pub mod View
-pub mod Outcome
 pub mod Assigned
-pub mod Same

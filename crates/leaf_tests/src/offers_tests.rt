@@ -47,7 +47,10 @@ fn offer_and_draw(rt: &impl Abort, pool: &Pool, offers: &mut Offers)
     requires { IsSeatOf pool.now offers.old.seat }
 {
     offers.offer_all(pool);
-    assert_eq!(rt; (offers.offered, offers.full, offers.lost, offers.pending), (2, 0, 1, 0));
+    assert_eq!(rt;
+        (offers.offered, offers.full, offers.lost, offers.pending),
+        (2, 0, 1, 0)
+    );
     assert_eq!(rt; offers.draw(pool, Kind::Control), None);
     assert_eq!(rt; offers.draw(pool, Kind::Leaf), Some(6));
     assert_eq!(rt; offers.draw(pool, Kind::Leaf), Some(5));

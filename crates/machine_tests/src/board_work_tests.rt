@@ -1,10 +1,11 @@
 //! Values and faults of expressions, and what items of each kind come to. The expected values are worked out by the rules
 //! of the language: `%/` cuts toward zero, a left operand's fault is met first, and every operator is strict.
 
-use board_work::answer::Answer;
-use board_work::evaluation::{evaluate, evaluate_literal};
-use board_work::outcome::{Computed, EntryFault, Outcome, outcome_of};
 use board_work::work::{Done, Job, Work};
+use entry_outcomes::answer::Answer;
+use entry_outcomes::evaluation::{evaluate, evaluate_literal};
+use entry_outcomes::outcome::{Computed, EntryFault, Outcome, outcome_of};
+use entry_outcomes::same::is_same_entry;
 use std::alloc::Global;
 use std::process::Abort;
 use std::sync::Arc;
@@ -335,9 +336,27 @@ fn stored(rt: &impl Abort, alloc: Global, text: &[u8]) -> Done {
     done(rt, job(rt, alloc, act), answers)
 }
 
+/// The entry that stores the expression's value.
+fn setting(rt: &impl Abort, alloc: Global, text: &[u8]) -> Entry {
+    entry(alloc, Act::Set(TARGET, expr(rt, alloc, text)))
+}
+
+/// Whether the entries are the same that store these expressions' values.
+fn are_same(rt: &impl Abort, alloc: Global, text: &[u8], other: &[u8]) -> bool {
+    let one = setting(rt, alloc, text);
+    let other = setting(rt, alloc, other);
+    is_same_entry(&one, &other)
+}
+
+#[test]
+fn entries_are_compared(rt: HostRuntime) {
+    assert!(rt; are_same(&rt, rt.alloc(), b"1x+", b"1x+"));
+    assert!(rt; !are_same(&rt, rt.alloc(), b"1x+", b"1x-"));
+}
+
 /// Whether it is of the entry that stores the expression's value.
 fn is_of(rt: &impl Abort, alloc: Global, done: &Done, text: &[u8]) -> bool {
-    let other = entry(alloc, Act::Set(TARGET, expr(rt, alloc, text)));
+    let other = setting(rt, alloc, text);
     done.is_of(&other)
 }
 

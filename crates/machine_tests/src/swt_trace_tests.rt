@@ -3,7 +3,7 @@
 ghost use Rattle.std.specs.Prelude.{◌≡◌};
 
 use board::{Fault, FaultKind, Statement, Step};
-use board_work::outcome::EntryFault;
+use entry_outcomes::outcome::EntryFault;
 use runs::report::{End, Report};
 use std::alloc::Global;
 use std::process::Abort;

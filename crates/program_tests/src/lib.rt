@@ -21,6 +21,8 @@ mod meaning_tests;
 #[cfg(test)]
 mod order_tests;
 #[cfg(test)]
+mod path_faults_tests;
+#[cfg(test)]
 mod refusals_tests;
 #[cfg(test)]
 mod stops_tests;

@@ -13,9 +13,9 @@ use Rattle.task_code.specs.System.{code_system}
 use Rattle.task_code.specs.View.{event_view}
 use Rattle.task_code.specs.Whole.{IsCode}
 use Rattle.task_code.proofs.Kept.{code_laws}
-use Rattle.board_work.specs.declared.outcome.EntryFault.{EntryFault}
-use Rattle.board_work.specs.declared.outcome.EntryFault.TheVariants as Of
-use Rattle.board_work.specs.View.{fault_view}
+use Rattle.entry_outcomes.specs.declared.outcome.EntryFault.{EntryFault}
+use Rattle.entry_outcomes.specs.declared.outcome.EntryFault.TheVariants as Of
+use Rattle.entry_outcomes.specs.View.{fault_view}
 use Rattle.board_frames.specs.declared.place.Fault.{Fault}
 use Rattle.board_frames.specs.declared.place.FaultKind.{FaultKind}
 use Rattle.board_frames.specs.declared.place.FaultKind.TheVariants.{ElementTwice, OfEntry}

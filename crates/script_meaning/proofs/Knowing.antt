@@ -38,7 +38,7 @@ use Rattle.whole_rounds.specs.declared.state.State.{State}
 use Rattle.whole_rounds.specs.Going.{IsBetween, StandsBetween}
 use Rattle.whole_rounds.specs.Made.{arrays_of, declares_here, tasks_of, telling_of, waiting_of}
 use Rattle.whole_rounds.specs.Standing.{actives_news, still_telling, HavePlaces, IsAfter}
-use Rattle.whole_rounds.specs.Viewed.{facts_view}
+use Rattle.path_faults.specs.Viewed.{facts_view}
 use Rattle.whole_rounds.proofs.Going.{nothing_told, round_goes}
 use Rattle.whole_rounds.proofs.Listed.{none_of_few, not_both}
 use Rattle.whole_rounds.proofs.Round.{told_so}

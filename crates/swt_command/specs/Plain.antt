@@ -6,7 +6,7 @@ use Rattle.board.specs.View.{path_view}
 use Rattle.board_frames.specs.declared.place.Fault.{Fault}
 use Rattle.board_frames.specs.declared.place.FaultKind.{FaultKind}
 use Rattle.board_frames.specs.declared.place.FaultKind.TheVariants.{ElementTwice, OfEntry}
-use Rattle.board_work.specs.declared.outcome.EntryFault.TheVariants.{InOperation, NoElement, TooDeep}
+use Rattle.entry_outcomes.specs.declared.outcome.EntryFault.TheVariants.{InOperation, NoElement, TooDeep}
 use Rattle.whole_facts.specs.declared.facts.FaultKind.{FaultKind as MeantKind}
 use Rattle.whole_facts.specs.declared.facts.FaultKind.TheVariants as Kind
 use Rattle.whole_facts.specs.declared.instances.Step.{Step as MeantStep}

@@ -7,8 +7,8 @@ use Rattle.board_frames.specs.declared.place.FaultKind.{FaultKind}
 use Rattle.board_frames.specs.declared.place.FaultKind.TheVariants.{OfEntry, ElementTwice}
 use Rattle.board_frames.specs.declared.place.Statement.{Statement}
 use Rattle.board_frames.specs.declared.place.Step.{Step}
-use Rattle.board_work.specs.declared.outcome.EntryFault.{EntryFault}
-use Rattle.board_work.specs.declared.outcome.EntryFault.TheVariants.{InOperation, NoElement, TooDeep}
+use Rattle.entry_outcomes.specs.declared.outcome.EntryFault.{EntryFault}
+use Rattle.entry_outcomes.specs.declared.outcome.EntryFault.TheVariants.{InOperation, NoElement, TooDeep}
 use Rattle.runs.specs.declared.report.End.{End}
 use Rattle.runs.specs.declared.report.End.TheVariants as Ends
 use Rattle.runs.specs.declared.report.Report.{Report}

@@ -11,7 +11,7 @@ ghost use Rattle.swt_trace.specs.Report.{ReportText, text_line, key_text, step_t
 use crate::fault::WriteFault;
 use arrayvec::ArrayString;
 use board::{Fault, FaultKind, Statement, Step};
-use board_work::outcome::EntryFault;
+use entry_outcomes::outcome::EntryFault;
 use itoa::Buffer;
 use runs::report::{End, Report};
 use values::fault::OpFault;

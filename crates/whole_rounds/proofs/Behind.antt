@@ -14,10 +14,11 @@ use Rattle.whole_meaning.specs.News.{Past, unless, cell_by, cell_told, cells_tol
 use Rattle.whole_facts.specs.declared.facts.Fact.{Fact as Known}
 use Rattle.whole_facts.specs.declared.instances.Instance.{Instance}
 use Rattle.whole_facts.specs.declared.learned.Learned.{Learned}
-use Rattle.whole_rounds.specs.declared.site.Site.{Site}
-use Rattle.whole_rounds.specs.Told.{sight_at, past_at, path_at, cells_news, outers_news, own_news, fault_news, deep_news, bounds_news}
+use Rattle.path_faults.specs.declared.site.Site.{Site}
+use Rattle.path_faults.specs.Faults.{sight_at, past_at, path_at, fault_news, deep_news}
+use Rattle.whole_rounds.specs.Told.{cells_news, outers_news, own_news, bounds_news}
 use Rattle.whole_facts.specs.Growing.{fact_view}
-use Rattle.whole_rounds.specs.Viewed.{facts_view}
+use Rattle.path_faults.specs.Viewed.{facts_view}
 
 -- LISTS
 

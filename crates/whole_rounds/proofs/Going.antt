@@ -46,7 +46,7 @@ use Rattle.whole_facts.specs.Store.{one_writer_in, writes_at}
 use Rattle.whole_rounds.specs.Going.{IsTelling, StandsBetween}
 use Rattle.whole_rounds.specs.Silence.{KnowsMore}
 use Rattle.whole_rounds.specs.Standing.{active_told, site_of, still_telling, HavePlaces, IsAfter}
-use Rattle.whole_rounds.specs.Viewed.{facts_view}
+use Rattle.path_faults.specs.Viewed.{facts_view}
 use Rattle.whole_rounds.proofs.Lasting.{more_added, told_stays}
 
 -- WHAT IS LEFT TO TELL

@@ -26,9 +26,9 @@ use Rattle.whole_facts.proofs.Growing.{value_stays}
 use Rattle.whole_facts.proofs.Placing.{spot_stays}
 use Rattle.held_facts.specs.Held.{AreAdded, no_more, one_more, with_instances}
 use Rattle.held_facts.proofs.Opening.{grows_by_one}
-use Rattle.whole_rounds.specs.declared.site.Site.{Site}
+use Rattle.path_faults.specs.declared.site.Site.{Site}
 use Rattle.whole_rounds.specs.Silence.{all_known, is_done, told_unless, has_told, KnowsMore}
-use Rattle.whole_rounds.specs.Told.{past_at}
+use Rattle.path_faults.specs.Faults.{past_at}
 
 both : (a b : Bool) → a ≡ true → b ≡ true → a && b ≡ true
 both true true p q = refl

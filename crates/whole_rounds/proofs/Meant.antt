@@ -12,8 +12,9 @@ use Rattle.syntax_trees.specs.Parts.{cells, outer_cells}
 use Rattle.syntax_trees.specs.Places.{Place, place}
 use Rattle.whole_meaning.specs.News.{unless, assigned_told, element_by as meant_by, element_told, elements_told, filled_told, inserted_told, deep_told, bad_told, items_told, own_told, comes_all, key_in, one_in, with_value, news}
 use Rattle.whole_facts.specs.declared.learned.Learned.{Learned}
-use Rattle.whole_rounds.specs.declared.site.Site.{Site}
-use Rattle.whole_rounds.specs.Told.{sight_at, past_at, path_at, lies_at, comes_at, cells_news, assigned_news, element_by, element_news, elements_news, filled_news, inserted_news, branch_news, range_news, each_news, own_news, calls_news, site_news}
+use Rattle.path_faults.specs.declared.site.Site.{Site}
+use Rattle.path_faults.specs.Faults.{sight_at, past_at, path_at, each_news}
+use Rattle.whole_rounds.specs.Told.{lies_at, comes_at, cells_news, assigned_news, element_by, element_news, elements_news, filled_news, inserted_news, branch_news, range_news, own_news, calls_news, site_news}
 
 module _ (s : Core) (l : Learned) (t : Site) (lies : (x : Name) → lies_at l t x ≡ place s (path_at l t) x) where
   assigned_meant : (x : Name) (o : Option Value) → assigned_news l t x o ≡ assigned_told s (past_at l t) (path_at l t) x o

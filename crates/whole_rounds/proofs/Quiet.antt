@@ -15,9 +15,10 @@ use Rattle.whole_meaning.specs.Environment.{Outcome, outcome}
 use Rattle.whole_meaning.specs.News.{Past, unless, text_in, printed_told, cell_by, branch_by, some_item, some_call}
 use Rattle.whole_facts.specs.declared.learned.Learned.{Learned}
 use Rattle.whole_facts.proofs.Ending.{drop_past}
-use Rattle.whole_rounds.specs.declared.site.Site.{Site}
+use Rattle.path_faults.specs.declared.site.Site.{Site}
 use Rattle.whole_rounds.specs.Silence.{all_known, is_done, told_unless, has_told}
-use Rattle.whole_rounds.specs.Told.{sight_at, past_at, path_at, lies_at, cells_news, comes_at, assigned_news, branch_news, each_news, own_news, calls_news, site_news}
+use Rattle.path_faults.specs.Faults.{sight_at, past_at, path_at, each_news}
+use Rattle.whole_rounds.specs.Told.{lies_at, cells_news, comes_at, assigned_news, branch_news, own_news, calls_news, site_news}
 use Rattle.whole_rounds.proofs.Behind.{parts_append, deep_shallow}
 
 -- TESTS

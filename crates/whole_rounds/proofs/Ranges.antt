@@ -10,8 +10,9 @@ use Rattle.syntax_trees.specs.Facts.{Fact}
 use Rattle.syntax_trees.specs.Parts.{part_calls, outer_parts}
 use Rattle.whole_meaning.specs.News.{comes_all, some_call, with_value}
 use Rattle.whole_facts.specs.declared.learned.Learned.{Learned}
-use Rattle.whole_rounds.specs.declared.site.Site.{Site}
-use Rattle.whole_rounds.specs.Told.{sight_at, outers_news, range_news, comes_at, range_outers}
+use Rattle.path_faults.specs.declared.site.Site.{Site}
+use Rattle.path_faults.specs.Faults.{sight_at}
+use Rattle.whole_rounds.specs.Told.{outers_news, range_news, comes_at, range_outers}
 use Rattle.whole_rounds.proofs.Behind.{two_told, three_told}
 use Rattle.whole_rounds.proofs.Calls.{some_outers}
 

@@ -9,9 +9,10 @@ use Rattle.syntax_trees.specs.Core.{Name, Cell}
 use Rattle.syntax_trees.specs.Facts.{Fact}
 use Rattle.syntax_trees.specs.Parts.{part_cells}
 use Rattle.whole_facts.specs.declared.learned.Learned.{Learned}
-use Rattle.whole_rounds.specs.declared.site.Site.{Site}
+use Rattle.path_faults.specs.declared.site.Site.{Site}
 use Rattle.whole_rounds.specs.declared.state.Task.{Task}
-use Rattle.whole_rounds.specs.Told.{sight_at, past_at, path_at, cells_news, element_news, elements_news}
+use Rattle.path_faults.specs.Faults.{sight_at, past_at, path_at}
+use Rattle.whole_rounds.specs.Told.{cells_news, element_news, elements_news}
 use Rattle.ended_blocks.specs.Active.{Active}
 use Rattle.whole_rounds.specs.Standing.{active_of, active_news, actives_news}
 use Rattle.whole_rounds.proofs.Behind.{cells_append, parts_append}

@@ -1,4 +1,3 @@
-pub mod Viewed
 pub mod Told
 pub mod Silence
 pub mod Standing

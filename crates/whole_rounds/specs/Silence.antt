@@ -7,8 +7,8 @@ use Rattle.whole_facts.specs.declared.facts.Place.{Place}
 use Rattle.whole_facts.specs.declared.learned.Learned.{Learned}
 use Rattle.whole_facts.specs.Store.{value_at, line_at, spot}
 use Rattle.held_facts.specs.Held.{Grows}
-use Rattle.whole_rounds.specs.declared.site.Site.{Site}
-use Rattle.whole_rounds.specs.Told.{sight_at, past_at}
+use Rattle.path_faults.specs.declared.site.Site.{Site}
+use Rattle.path_faults.specs.Faults.{sight_at, past_at}
 
 abbrev pub all_known : Learned → Site → List Cell → Bool
 all_known l t [] = true

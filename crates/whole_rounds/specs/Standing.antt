@@ -15,7 +15,7 @@ use Rattle.whole_facts.specs.Keeping.{kept_of, IsPlaced}
 use Rattle.whole_facts.specs.Paths.{path_of}
 use Rattle.held_facts.specs.Held.{HasPlaces}
 use Rattle.ended_blocks.specs.Active.{Active, active, IsListed}
-use Rattle.whole_rounds.specs.declared.site.Site.{Site}
+use Rattle.path_faults.specs.declared.site.Site.{Site}
 use Rattle.whole_rounds.specs.declared.state.Content.{Content}
 use Rattle.whole_rounds.specs.declared.state.Deed.{Deed}
 use Rattle.whole_rounds.specs.declared.state.Deed.TheVariants as Deed

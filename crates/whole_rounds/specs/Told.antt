@@ -1,5 +1,5 @@
 -- What a round tells of a live statement in an instance: as `news` of the meaning, with names placed by the program's instances.
-use Rattle.std.specs.Prelude.{ℕ, Bool, true, false, ◌&&◌, List, [], ◌∷◌, ◌++◌, Option, Some, None, option_map, option_to_list}
+use Rattle.std.specs.Prelude.{Bool, true, false, List, [], ◌∷◌, ◌++◌, Option, Some, None, option_map, option_to_list}
 use Rattle.values.specs.declared.key.Key.{Key}
 use Rattle.values.specs.declared.map.Element.{Element}
 use Rattle.values.specs.declared.value.Scalar.{Scalar}
@@ -8,27 +8,16 @@ use Rattle.values.specs.declared.value.Value.TheVariants.{One, Many}
 use Rattle.flow.specs.declared.statement.Range.{Range}
 use Rattle.flow.specs.View.{outer_view}
 use Rattle.syntax_trees.specs.Core.{Name, Stmt, stmt, Cell, Outer, Action, assign, fill, insert, print, when, choose, range, each}
-use Rattle.syntax_trees.specs.Facts.{Fault, element_twice, Fact, value, element, fault}
+use Rattle.syntax_trees.specs.Facts.{element_twice, Fact, value, element}
 use Rattle.syntax_trees.specs.Parts.{stmt_calls, cells, part_cells, outer_cells, outer_parts}
 use Rattle.syntax_trees.specs.Openings.{bounds}
-use Rattle.syntax_trees.specs.Places.{Path, Place}
-use Rattle.whole_meaning.specs.Environment.{Sight}
-use Rattle.whole_meaning.specs.News.{Past, unless, comes, cell_told, cells_told, key_in, one_in, text_in, comes_all, printed_told, deep_by, bad_by, branch_by, some_item, some_turn, count_of, some_call}
+use Rattle.syntax_trees.specs.Places.{Place}
+use Rattle.whole_meaning.specs.News.{unless, comes, cell_told, cells_told, key_in, one_in, text_in, comes_all, printed_told, bad_by, branch_by, some_turn, count_of, some_call}
 use Rattle.whole_facts.specs.declared.learned.Learned.{Learned}
-use Rattle.whole_facts.specs.Keeping.{place_view, past_of}
-use Rattle.whole_facts.specs.Paths.{path_of}
-use Rattle.whole_facts.specs.Sighted.{sight_of}
+use Rattle.whole_facts.specs.Keeping.{place_view}
 use Rattle.whole_facts.specs.Store.{spot}
-use Rattle.whole_rounds.specs.declared.site.Site.{Site}
-
-abbrev pub sight_at : Learned → Site → Sight
-sight_at l t = sight_of l t.instance
-
-abbrev pub past_at : Learned → Site → Past
-past_at l t = past_of l t.instance
-
-abbrev pub path_at : Learned → Site → Path
-path_at l t = path_of l.instances.all.items t.instance
+use Rattle.path_faults.specs.declared.site.Site.{Site}
+use Rattle.path_faults.specs.Faults.{sight_at, past_at, path_at, fault_news, deep_news, each_news}
 
 -- the place of a name
 abbrev pub lies_at : Learned → Site → Name → Place
@@ -52,13 +41,7 @@ comes_at l t c = comes (sight_at l t) c
 
 -- FAULTS
 
-abbrev pub fault_news : Learned → Site → Fault → ℕ → List Fact
-fault_news l t f n = unless ((past_at l t).faulted f t.at n) (fault f t.at (path_at l t, n))
-
--- that the path would be too long where something is opened
-abbrev pub deep_news : Learned → Site → Bool → List Fact
-deep_news l t opens = deep_by (past_at l t) (path_at l t) t.at t.node ((past_at l t).deep && opens)
-
+-- that the path would be too long where a condition opens a block
 abbrev pub branch_news : Learned → Site → Option Value → (other : Bool) → List Fact
 branch_news l t (Some v) other = deep_news l t (branch_by (v ∷ []) other)
 branch_news l t None other = []
@@ -70,11 +53,6 @@ bounds_news l t vs = bad_by (past_at l t) (path_at l t) t.at t.node (count_of (b
 abbrev pub range_news : Learned → Site → Option (List Value) → List Fact
 range_news l t (Some vs) = bounds_news l t vs
 range_news l t None = []
-
--- that the path would be too long where an array is closed and has an element
-abbrev pub each_news : Learned → Site → (closed : Bool) → List Element → List Fact
-each_news l t true es = deep_news l t (some_item es)
-each_news l t false es = []
 
 -- the outermost cells of a range
 abbrev pub range_outers : {A : Type 0} → Range A → List Outer

@@ -2,16 +2,16 @@
 ghost use Rattle.std.specs.Prelude.{◌≡◌, ◌++◌, ◌∷◌, [], IfOk, OnOk};
 ghost use Rattle.flow.specs.View.{cell_view, outer_view, part_view, parts_view};
 ghost use Rattle.syntax_trees.specs.Parts.{part_cells};
-ghost use Rattle.whole_facts.specs.Kinds.{kind_view};
 ghost use Rattle.held_facts.specs.Held.{StayInside};
-ghost use Rattle.whole_rounds.specs.Viewed.{facts_view};
-ghost use Rattle.whole_rounds.specs.Told.{cell_news, cells_news, outers_news, comes_at, fault_news};
+ghost use Rattle.path_faults.specs.Viewed.{facts_view};
+ghost use Rattle.whole_rounds.specs.Told.{cell_news, cells_news, outers_news, comes_at};
 
-use crate::site::Site;
 use flow::cell::{Cell, Outer, Part};
+use path_faults::faults::add_fault;
+use path_faults::site::Site;
 use std::alloc::{AllocError, Allocator, Global};
 use values::value::Value;
-use whole_facts::facts::{Fact, FaultFact, FaultKind};
+use whole_facts::facts::Fact;
 use whole_facts::learned::Learned;
 
 /// The value that an outermost cell has behind the round. What is new of it and of its parts is added.
@@ -96,27 +96,4 @@ fn cell_comes<A: Allocator>(
         }
         None => Ok(None),
     }
-}
-
-/// Adds a fault at a node of a statement, unless it is known.
-pub(crate) fn add_fault(
-    learned: &Learned,
-    site: Site,
-    kind: FaultKind,
-    node: u32,
-    news: &mut Vec<Fact>,
-) -> Result<(), AllocError>
-    ensures told { OnOk result (facts_view learned.now.instances.all.items news.new.items
-        ≡ facts_view learned.now.instances.all.items news.old.items ++ fault_news learned.now site (kind_view kind) node) }
-    ensures inside { OnOk result (StayInside learned.now.instances.all.items site.instance news.old.items news.new.items) }
-{
-    let fault = FaultFact {
-        kind,
-        at: site.at,
-        place: site.place(node),
-    };
-    if !learned.facts.faults.contains(&fault) {
-        news.push(Fact::Fault(fault))?;
-    }
-    Ok(())
 }

@@ -21,14 +21,14 @@ ghost use Rattle.ended_blocks.specs.Active.{Active, Candidate, goal_of};
 ghost use Rattle.opened_blocks.specs.Opened.{IsUnready, OffsetsApart};
 ghost use Rattle.whole_rounds.specs.Going.{StandsBetween};
 ghost use Rattle.whole_rounds.specs.Standing.{still_telling, HavePlaces, IsAfter};
-ghost use Rattle.whole_rounds.specs.Viewed.{facts_view};
+ghost use Rattle.path_faults.specs.Viewed.{facts_view};
 ghost use Rattle.syntax_trees.specs.Places.{place};
 ghost use Rattle.whole_facts.specs.Keeping.{past_of};
 ghost use Rattle.whole_facts.specs.Paths.{path_of};
 ghost use Rattle.whole_facts.specs.Sighted.{sight_of};
 ghost use Rattle.whole_facts.specs.declared.learned.Learned.{Learned};
 ghost use Rattle.whole_meaning.specs.News.{news};
-ghost use Rattle.whole_rounds.specs.declared.site.Site.{Site};
+ghost use Rattle.path_faults.specs.declared.site.Site.{Site};
 ghost use Rattle.whole_rounds.specs.Silence.{has_told, KnowsMore};
 ghost use Rattle.whole_rounds.specs.Told.{lies_at, site_news};
 

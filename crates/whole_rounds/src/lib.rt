@@ -8,7 +8,6 @@ mod adding;
 pub mod ending;
 pub mod laws;
 mod silence;
-pub mod site;
 pub mod state;
 mod telling;
 pub mod told;

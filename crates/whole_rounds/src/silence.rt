@@ -6,9 +6,9 @@ ghost use Rattle.syntax_trees.specs.Parts.{part_cells, outer_parts};
 ghost use Rattle.whole_facts.specs.Store.{value_at};
 ghost use Rattle.whole_rounds.specs.Silence.{all_known, has_told};
 
-use crate::site::Site;
 use flow::cell::{Outer, Part};
 use flow::statement::Action;
+use path_faults::site::Site;
 use std::alloc::Allocator;
 use whole_facts::learned::Learned;
 

@@ -12,10 +12,10 @@ ghost use Rattle.whole_rounds.specs.Made.{arrays_of, candidate_of, declares_here
 ghost use Rattle.whole_rounds.specs.Standing.{active_of, deed_view};
 
 use crate::ending::never_ends_in;
-use crate::site::Site;
 use flow::name::{Name, Owned};
 use flow::script::Flow;
 use flow::statement::{Action, Block, Header, Statement};
+use path_faults::site::Site;
 use std::alloc::{AllocError, Allocator, Global};
 use whole_facts::facts::Place;
 use whole_facts::learned::Learned;

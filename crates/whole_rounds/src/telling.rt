@@ -5,14 +5,16 @@ ghost use Rattle.syntax_trees.specs.Core as core;
 ghost use Rattle.syntax_trees.specs.Parts.{cells, outer_parts, part_calls, parts};
 ghost use Rattle.whole_meaning.specs.News.{comes_all, key_in, one_in, some_call, with_value};
 ghost use Rattle.held_facts.specs.Held.{StayInside};
-ghost use Rattle.whole_rounds.specs.Viewed.{facts_view};
-ghost use Rattle.whole_rounds.specs.Told.{sight_at, outers_news, cells_news, own_news, calls_news, element_news, elements_news, inserted_news, deep_news, branch_news, bounds_news, range_news, each_news, comes_at, range_outers};
+ghost use Rattle.path_faults.specs.Viewed.{facts_view};
+ghost use Rattle.path_faults.specs.Faults.{sight_at};
+ghost use Rattle.whole_rounds.specs.Told.{outers_news, cells_news, own_news, calls_news, element_news, elements_news, inserted_news, branch_news, bounds_news, range_news, comes_at, range_outers};
 
-use crate::adding::{add_fault, add_parts, comes};
-use crate::site::Site;
+use crate::adding::{add_parts, comes};
 use flow::cell::{Outer, Part};
 use flow::name::Name;
 use flow::statement::{Action, Range};
+use path_faults::faults::{add_deep, add_deep_items, add_fault};
+use path_faults::site::Site;
 use std::alloc::{AllocError, Allocator, Global};
 use values::key::Key;
 use values::map::Element;
@@ -311,41 +313,6 @@ fn add_bounds(
         ),
         _ => Ok(()),
     }
-}
-
-/// Adds that the path would be too long where it is as long as can be.
-fn add_deep(learned: &Learned, site: Site, news: &mut Vec<Fact>) -> Result<(), AllocError>
-    ensures told { OnOk result (facts_view learned.now.instances.all.items news.new.items
-        ≡ facts_view learned.now.instances.all.items news.old.items ++ deep_news learned.now site true) }
-    ensures inside { OnOk result (StayInside learned.now.instances.all.items site.instance news.old.items news.new.items) }
-{
-    if learned.instances.is_deep(site.instance) {
-        add_fault(learned, site, FaultKind::TooDeep, site.node, news)?;
-    }
-    Ok(())
-}
-
-/// Adds that the path would be too long where an array is closed and has an element.
-fn add_deep_items(
-    learned: &Learned,
-    alloc: Global,
-    site: Site,
-    array: Name,
-    news: &mut Vec<Fact>,
-) -> Result<(), AllocError>
-    ensures told { OnOk result (facts_view learned.now.instances.all.items news.new.items
-        ≡ facts_view learned.now.instances.all.items news.old.items
-        ++ each_news learned.now site ((sight_at learned.now site).closed (name_view array)) ((sight_at learned.now site).elements (name_view array))) }
-    ensures inside { OnOk result (StayInside learned.now.instances.all.items site.instance news.old.items news.new.items) }
-{
-    let place = learned.instances.place(site.instance, array);
-    if !learned.is_closed(place) || !learned.instances.is_deep(site.instance) {
-        return Ok(());
-    }
-    if learned.facts.elements(alloc, place)?.is_empty() {
-        return Ok(());
-    }
-    add_deep(learned, site, news)
 }
 
 /// Adds that the path would be too long where a statement has a call.

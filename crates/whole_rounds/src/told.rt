@@ -11,7 +11,7 @@ ghost use Rattle.syntax_trees.specs.Tree.{Tree};
 ghost use Rattle.syntax_trees.specs.Typing.{WellTyped};
 ghost use Rattle.held_facts.specs.Held.{AreAdded, AreInside, StayInside};
 ghost use Rattle.whole_rounds.specs.Standing.{active_news, active_of, active_told, actives_news, still_telling, HavePlaces, IsAfter};
-ghost use Rattle.whole_rounds.specs.Viewed.{facts_view};
+ghost use Rattle.path_faults.specs.Viewed.{facts_view};
 ghost use Rattle.whole_rounds.specs.Made.{arrays_of, tasks_of, telling_of, waiting_of};
 
 use crate::silence::has_told;

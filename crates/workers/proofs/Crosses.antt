@@ -27,7 +27,7 @@ use Rattle.work_queue.specs.contracts.queue.Queue as queue
 use Rattle.board_work.specs.contracts.work.Job as job
 use Rattle.board_work.specs.contracts.work.Work as work
 use Rattle.board_work.specs.contracts.work.Done as done
-use Rattle.board_work.proofs.answer.Answer.TheSendSync as answer
+use Rattle.entry_outcomes.proofs.answer.Answer.TheSendSync as answer
 use Rattle.board_code.specs.contracts.program.Program as program
 use Rattle.board_code.proofs.program.EntryTable.TheSendSync as entry_table
 use Rattle.board_code.proofs.program.BodyTable.TheSendSync as body_table

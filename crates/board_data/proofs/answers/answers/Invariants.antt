@@ -1,5 +1,5 @@
 use Rattle.std.proofs.Common.{◌≡◌, map, take}
-use Rattle.board_work.specs.View.{answers_view}
+use Rattle.entry_outcomes.specs.View.{answers_view}
 use Rattle.board_frames.specs.Names.{led_slot}
 use Rattle.board_frames.specs.View.{frames_view}
 use Rattle.board_data.specs.Answered.{wanted_answer}

@@ -3,7 +3,7 @@ use Rattle.std.proofs.lemmas.List.{take_all}
 use Rattle.flow.specs.declared.cell.Part.{Part}
 use Rattle.flow.specs.View.{part_view, parts_view}
 use Rattle.syntax_trees.specs.Parts.{part_cells}
-use Rattle.whole_rounds.specs.Viewed.{facts_view}
+use Rattle.path_faults.specs.Viewed.{facts_view}
 use Rattle.whole_rounds.specs.Told.{cells_news}
 use Rattle.whole_rounds.proofs.Steps.{parts_step}
 use Rattle.whole_rounds.proofs.adding.add_parts.Goals as goal

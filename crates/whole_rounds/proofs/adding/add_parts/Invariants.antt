@@ -2,7 +2,7 @@ use Rattle.std.proofs.Common.{◌≡◌, ◌++◌, take}
 use Rattle.flow.specs.View.{parts_view}
 use Rattle.syntax_trees.specs.Parts.{part_cells}
 use Rattle.held_facts.specs.Held.{StayInside}
-use Rattle.whole_rounds.specs.Viewed.{facts_view}
+use Rattle.path_faults.specs.Viewed.{facts_view}
 use Rattle.whole_rounds.specs.Told.{cells_news}
 use Rattle.whole_rounds.proofs.adding.add_parts.Given as goal
 

@@ -7,8 +7,9 @@ use Rattle.whole_facts.specs.Growing.{fact_view}
 use Rattle.whole_facts.specs.Kinds.{kind_view}
 use Rattle.whole_facts.specs.Store.{value_at}
 use Rattle.whole_meaning.specs.Environment.{outcome}
-use Rattle.whole_rounds.specs.Viewed.{facts_view}
-use Rattle.whole_rounds.specs.Told.{cell_news, past_at, path_at, sight_at}
+use Rattle.path_faults.specs.Viewed.{facts_view}
+use Rattle.path_faults.specs.Faults.{past_at, path_at, sight_at}
+use Rattle.whole_rounds.specs.Told.{cell_news}
 use Rattle.whole_rounds.proofs.Behind.{cell_bad, cell_known, cell_new, cell_open, told_none, told_one}
 use Rattle.whole_rounds.proofs.Inside.{value_added}
 use Rattle.whole_rounds.proofs.adding.cell_comes.Goals as goal

@@ -2,8 +2,9 @@ use Rattle.std.proofs.Common.{◌≡◌, ◌++◌}
 use Rattle.std.proofs.lemmas.Result.{on_ok_weaker}
 use Rattle.flow.specs.View.{cell_view, parts_view}
 use Rattle.held_facts.specs.Held.{StayInside}
-use Rattle.whole_rounds.specs.Viewed.{facts_view}
-use Rattle.whole_rounds.specs.Told.{sight_at, past_at, path_at, cell_news}
+use Rattle.path_faults.specs.Viewed.{facts_view}
+use Rattle.path_faults.specs.Faults.{sight_at, past_at, path_at}
+use Rattle.whole_rounds.specs.Told.{cell_news}
 use Rattle.whole_rounds.proofs.Behind.{outer_told}
 use Rattle.whole_rounds.proofs.adding.comes.Goals as goal
 

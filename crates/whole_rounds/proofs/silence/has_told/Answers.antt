@@ -2,7 +2,7 @@ use Rattle.std.proofs.Common.{◌≡◌, false, ap, ◌∙◌, rules}
 use Rattle.flow.specs.View.{action_view, call_view, parts_view}
 use Rattle.syntax_trees.specs.Parts.{part_cells}
 use Rattle.whole_rounds.specs.Silence.{all_known}
-use Rattle.whole_rounds.specs.Told.{past_at}
+use Rattle.path_faults.specs.Faults.{past_at}
 use Rattle.whole_rounds.proofs.Quiet.{call_has_told}
 use Rattle.whole_rounds.proofs.Views.{view_call}
 use Rattle.whole_rounds.proofs.silence.has_told.Goals as goal

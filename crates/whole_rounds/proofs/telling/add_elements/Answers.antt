@@ -1,7 +1,7 @@
 use Rattle.std.proofs.Common.{◌≡◌, ◌<◌, ◌++◌, length, get_or, ap, ◌∙◌, rules, arith}
 use Rattle.values.specs.declared.map.Element.{Element}
 use Rattle.flow.specs.View.{name_view}
-use Rattle.whole_rounds.specs.Viewed.{facts_view}
+use Rattle.path_faults.specs.Viewed.{facts_view}
 use Rattle.whole_rounds.specs.Told.{element_news}
 use Rattle.whole_rounds.proofs.Steps.{elements_step}
 use Rattle.whole_rounds.proofs.telling.add_elements.Goals as goal

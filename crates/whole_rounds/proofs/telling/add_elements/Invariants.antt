@@ -1,7 +1,7 @@
 use Rattle.std.proofs.Common.{◌≡◌, ◌++◌, take}
 use Rattle.flow.specs.View.{name_view}
 use Rattle.held_facts.specs.Held.{StayInside}
-use Rattle.whole_rounds.specs.Viewed.{facts_view}
+use Rattle.path_faults.specs.Viewed.{facts_view}
 use Rattle.whole_rounds.specs.Told.{elements_news}
 use Rattle.whole_rounds.proofs.telling.add_elements.Given as goal
 

@@ -4,7 +4,7 @@ use Rattle.flow.specs.View.{name_view, outer_view}
 use Rattle.whole_meaning.specs.News.{key_in, one_in}
 use Rattle.values.specs.declared.value.Value.{Value}
 use Rattle.std.specs.Prelude.{Option}
-use Rattle.whole_rounds.specs.Viewed.{facts_view}
+use Rattle.path_faults.specs.Viewed.{facts_view}
 use Rattle.whole_rounds.specs.Told.{comes_at, inserted_news}
 use Rattle.whole_rounds.proofs.Behind.{two_told}
 use Rattle.whole_rounds.proofs.telling.add_inserted.Goals as goal

@@ -2,7 +2,7 @@ use Rattle.std.proofs.Common.{◌≡◌, ◌++◌, ap, ◌∙◌}
 use Rattle.std.proofs.lemmas.Result.{on_ok_weaker}
 use Rattle.flow.specs.View.{action_view, call_view, parts_view}
 use Rattle.syntax_trees.specs.Parts.{part_cells}
-use Rattle.whole_rounds.specs.Viewed.{facts_view}
+use Rattle.path_faults.specs.Viewed.{facts_view}
 use Rattle.whole_rounds.specs.Told.{cells_news}
 use Rattle.whole_rounds.proofs.Behind.{call_told}
 use Rattle.whole_rounds.proofs.Views.{view_call}

@@ -2,7 +2,7 @@ use Rattle.std.proofs.Common.{◌≡◌, ◌++◌, [], Some}
 use Rattle.std.proofs.lemmas.Result.{on_ok_weaker}
 use Rattle.whole_meaning.specs.News.{with_value}
 use Rattle.held_facts.specs.Held.{StayInside}
-use Rattle.whole_rounds.specs.Viewed.{facts_view}
+use Rattle.path_faults.specs.Viewed.{facts_view}
 use Rattle.whole_rounds.specs.Told.{range_news}
 use Rattle.whole_rounds.proofs.Ranges.{range_stepped, range_between}
 use Rattle.whole_rounds.proofs.telling.add_range.Goals as goal

@@ -1,6 +1,6 @@
 use Rattle.std.proofs.Common.{◌≡◌, ◌<◌, ◌≤◌, ◌++◌, List, length, map, get_or, ap, ◌∙◌, sym, subst}
 use Rattle.whole_rounds.specs.declared.state.Task.{Task}
-use Rattle.whole_rounds.specs.Viewed.{facts_view}
+use Rattle.path_faults.specs.Viewed.{facts_view}
 use Rattle.whole_rounds.specs.Made.{tasks_of, telling_of}
 use Rattle.whole_rounds.specs.Standing.{active_news, active_of, actives_news}
 use Rattle.std.proofs.lemmas.List.{take_all}

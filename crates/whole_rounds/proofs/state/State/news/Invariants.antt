@@ -1,7 +1,7 @@
 use Rattle.std.proofs.Common.{◌≡◌, map, take}
 use Rattle.held_facts.specs.Held.{AreInside}
 use Rattle.whole_rounds.specs.Made.{telling_of}
-use Rattle.whole_rounds.specs.Viewed.{facts_view}
+use Rattle.path_faults.specs.Viewed.{facts_view}
 use Rattle.whole_rounds.specs.Standing.{active_of, actives_news, HavePlaces}
 use Rattle.whole_rounds.proofs.state.State.news.Given as goal
 

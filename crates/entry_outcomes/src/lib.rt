@@ -1,0 +1,7 @@
+//! What is worked out of an entry and of the answers to its needs.
+#![tactic(auto)]
+
+pub mod answer;
+pub mod evaluation;
+pub mod outcome;
+pub mod same;
