@@ -2,6 +2,7 @@
 ghost use Rattle.std.specs.Prelude.{◌≡◌};
 ghost use Rattle.board_code.specs.Program.{IsLeads};
 
+use crate::asserts::is_equal;
 use crate::worlds::FIRST;
 use board_code::key::copy_key;
 use board_code::places::places_among;
@@ -28,17 +29,18 @@ fn code_of(rt: &impl Abort, alloc: Global) -> Code {
 
 fn program_of(rt: &impl Abort, alloc: Global) -> Program {
     let program = Program::new(alloc, code_of(rt, alloc)).expect(rt, "memory");
-    assert_eq!(rt; program.code().entry_count(), 2);
+    is_equal(rt, program.code().entry_count(), 2);
     program
 }
 
 /// The assignment is a leaf that stores into the first slot.
 fn set_is_a_leaf(rt: &impl Abort, program: &Program) {
     let set = program.entry(0).expect(rt, "an entry");
-    assert_eq!(rt; (set.kind, set.priority), (Kind::Leaf, 0));
-    assert_eq!(rt;
+    is_equal(rt, (set.kind, set.priority), (Kind::Leaf, 0));
+    is_equal(
+        rt,
         (set.target, set.value, set.turn),
-        (Some(FIRST), None, None)
+        (Some(FIRST), None, None),
     );
 }
 
@@ -87,7 +89,7 @@ fn body_has_its_holds(rt: &impl Abort, program: &Program) {
     };
     assert!(rt; body.own.as_slice() == [own].as_slice());
     assert!(rt; body.outer.is_empty());
-    assert_eq!(rt; (body.controls, body.leaves), (0, 2));
+    is_equal(rt, (body.controls, body.leaves), (0, 2));
 }
 
 #[test]
@@ -101,15 +103,16 @@ fn a_block_has_its_holds(rt: HostRuntime) {
 fn leads_of(rt: &impl Abort, alloc: Global, code: &Code) -> Leads
     ensures { IsLeads code.now result }
 {
-    assert_eq!(rt; code.body_count(), 1);
+    is_equal(rt, code.body_count(), 1);
     Leads::new(alloc, code).expect(rt, "memory")
 }
 
 /// Both entries are of the body, and there is no third.
 fn entries_have_homes(rt: &impl Abort, leads: &Leads) {
-    assert_eq!(rt;
+    is_equal(
+        rt,
         (leads.home(0), leads.home(1), leads.home(2)),
-        (Some(0u32), Some(0), None)
+        (Some(0u32), Some(0), None),
     );
 }
 
@@ -121,9 +124,10 @@ fn names_have_slots(rt: &impl Abort, code: &Code, leads: &Leads)
         up: 0,
         owned: Owned::Local(OTHER),
     };
-    assert_eq!(rt;
+    is_equal(
+        rt,
         (leads.spot_in(code, 0, NAME), leads.spot_in(code, 0, lost)),
-        (Some(FIRST), None)
+        (Some(FIRST), None),
     );
 }
 
@@ -138,21 +142,22 @@ fn names_lead_to_their_slots(rt: HostRuntime) {
 /// The body has a place for its variable, by the variable and by its name.
 fn body_has_a_place(rt: &impl Abort, leads: &Leads) {
     let places = leads.places(0).expect(rt, "a body");
-    assert_eq!(rt; (places.of(X), places.of(OTHER)), (Some(0), None));
+    is_equal(rt, (places.of(X), places.of(OTHER)), (Some(0), None));
     let further = Name {
         up: 1,
         owned: Owned::Local(X),
     };
-    assert_eq!(rt;
+    is_equal(
+        rt,
         (places.of_name(NAME), places.of_name(further)),
-        (Some(0), None)
+        (Some(0), None),
     );
 }
 
 /// The first of equal variables has the place.
 fn first_has_the_place(rt: &impl Abort, alloc: Global) {
     let both = places_among(alloc, [OTHER, X, OTHER].as_slice()).expect(rt, "memory");
-    assert_eq!(rt; (both.of(OTHER), both.of(X)), (Some(0), Some(1)));
+    is_equal(rt, (both.of(OTHER), both.of(X)), (Some(0), Some(1)));
 }
 
 #[test]

@@ -1,5 +1,6 @@
 //! Data by what names stand for: values, elements, holds, what an item misses and is answered, and what items store.
 
+use crate::asserts::is_equal;
 use crate::worlds::{FIRST, Opened, opened_script};
 use board_code::program::{Hold, Own, Wanted};
 use board_data::answers::{answers, are_answers};
@@ -66,7 +67,7 @@ fn fill_array(rt: &impl Abort, alloc: Global, store: &mut Store) {
 
 /// The array has three elements, and one of them under 2.
 fn array_is_filled(rt: &impl Abort, store: &Store) {
-    assert_eq!(rt; data::size(store, 0), 3);
+    is_equal(rt, data::size(store, 0), 3);
     let found = data::element(store, 0, &Key::Number(2));
     assert!(rt; matches!(found, Some(Scalar::Number(3))));
 }
@@ -112,7 +113,7 @@ fn release_readers(rt: &impl Abort, store: &mut Store) {
     data::release(store, 0);
     data::release(store, 0);
     data::release(store, 0);
-    assert_eq!(rt; store.len(), 0);
+    is_equal(rt, store.len(), 0);
 }
 
 #[test]
@@ -134,7 +135,7 @@ fn hold_thrice(rt: &impl Abort, world: &mut World) {
         writes: 0,
     };
     hold_outer(&mut world.store, &world.instances, &[hold], 0, 3);
-    assert_eq!(rt; reads(&world.store), Some(7));
+    is_equal(rt, reads(&world.store), Some(7));
 }
 
 /// One read and one write of the first datum are given up, and it was no array that this closes.
@@ -148,7 +149,7 @@ fn give_up_once(rt: &impl Abort, alloc: Global, world: &mut World) {
         &[FIRST],
         &[FIRST],
     );
-    assert_eq!(rt; reads(&world.store), Some(6));
+    is_equal(rt, reads(&world.store), Some(6));
     assert!(rt; closed.is_empty());
 }
 
@@ -184,7 +185,7 @@ fn first_is_listed(rt: &impl Abort, alloc: Global, view: View<'_>) {
 
 /// The first datum has its value, which is not missed.
 fn first_is_known(rt: &impl Abort, view: View<'_>) {
-    assert_eq!(rt; view.datum(Some(FIRST)), Some(0));
+    is_equal(rt, view.datum(Some(FIRST)), Some(0));
     assert!(rt; matches!(view.scalar(Some(FIRST)), Some(Scalar::Truth(true))));
     assert!(rt; view.missing(&Wanted::Stored(Some(FIRST))).is_none());
     assert!(rt; !view.misses(&Wanted::Stored(Some(FIRST))));

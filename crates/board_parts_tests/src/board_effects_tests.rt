@@ -1,5 +1,6 @@
 //! What the items of `boolean x = true; assert(x, "");` do when they end.
 
+use crate::asserts::is_equal;
 use crate::worlds::{Opened, opened_script};
 use board_effects::effect::{Effect, Ended};
 use board_effects::script_effect;
@@ -28,7 +29,7 @@ fn effect(rt: &impl Abort, alloc: Global, world: &Opened, number: u32, outcome: 
 fn opens_one(rt: &impl Abort, effect: &Effect) {
     match effect {
         Effect::Opens(openings) => {
-            assert_eq!(rt; (openings.body, openings.list.len()), (0, 1));
+            is_equal(rt, (openings.body, openings.list.len()), (0, 1));
             assert!(rt; !openings.goes_on);
         }
         _ => assert!(rt; false),
@@ -71,7 +72,7 @@ fn fails_at_its_statement(rt: &impl Abort, effect: &Effect) {
     match effect {
         Effect::Fails(fault) => {
             let kind = FaultKind::OfEntry(EntryFault::InOperation(OpFault::AssertFailed));
-            assert_eq!(rt; (fault.kind, fault.statement.at), (kind, 18));
+            is_equal(rt, (fault.kind, fault.statement.at), (kind, 18));
             assert!(rt; fault.statement.path.is_empty());
         }
         _ => assert!(rt; false),

@@ -1,5 +1,6 @@
 //! Items and instances of a script that is opened: what its names stand for, paths, turns of loops, how instances come and go.
 
+use crate::asserts::is_equal;
 use crate::worlds::{ASSERT, FIRST, Opened, SET, opened_script};
 use board_code::spot::Spot;
 use board_frames::instance::{Slot, datum_at, enter, leave, path_of, slot_at};
@@ -36,12 +37,13 @@ fn way(key: i64) -> Step {
 fn names_have_data(rt: &impl Abort, world: &World) {
     let outside = Spot { levels: 1, slot: 0 };
     let instances = &world.instances;
-    assert_eq!(rt;
+    is_equal(
+        rt,
         (slot_at(instances, 0, FIRST), slot_at(instances, 0, outside)),
-        (Slot::Datum(0), Slot::Absent)
+        (Slot::Datum(0), Slot::Absent),
     );
-    assert_eq!(rt; datum_at(instances, 0, Some(FIRST)), Some(0));
-    assert_eq!(rt; datum_at(instances, 0, None), None);
+    is_equal(rt, datum_at(instances, 0, Some(FIRST)), Some(0));
+    is_equal(rt, datum_at(instances, 0, None), None);
 }
 
 /// How many steps the path of an instance has.
@@ -54,7 +56,7 @@ fn path_length(rt: &impl Abort, alloc: Global, world: &World, at: usize) -> usiz
 fn names_stand_for_data(rt: HostRuntime) {
     let world = open(&rt, rt.alloc());
     names_have_data(&rt, &world.world);
-    assert_eq!(rt; path_length(&rt, rt.alloc(), &world.world, 0), 0);
+    is_equal(&rt, path_length(&rt, rt.alloc(), &world.world, 0), 0);
 }
 
 /// The assignment's item waits under its number, and none has the number 0.
@@ -63,8 +65,8 @@ fn set_waits(rt: &impl Abort, rows: &[Item]) {
         job: SET,
         mark: Mark::Waiting,
     });
-    assert_eq!(rt; item_of(rows, 2), waiting);
-    assert_eq!(rt; item_of(rows, 0), None);
+    is_equal(rt, item_of(rows, 2), waiting);
+    is_equal(rt, item_of(rows, 0), None);
 }
 
 /// The item of what is asserted is ready under its number, which is the last.
@@ -73,8 +75,8 @@ fn assert_is_ready(rt: &impl Abort, rows: &[Item]) {
         job: ASSERT,
         mark: Mark::Ready,
     });
-    assert_eq!(rt; item_of(rows, 3), ready);
-    assert_eq!(rt; item_of(rows, 4), None);
+    is_equal(rt, item_of(rows, 3), ready);
+    is_equal(rt, item_of(rows, 4), None);
 }
 
 #[test]
@@ -91,9 +93,9 @@ fn leave_thrice(rt: &impl Abort, world: &mut World) {
     enter(instances, 0, 1);
     leave(instances, 0);
     leave(instances, 0);
-    assert_eq!(rt; instances.len(), 1);
+    is_equal(rt, instances.len(), 1);
     leave(instances, 0);
-    assert_eq!(rt; instances.len(), 0);
+    is_equal(rt, instances.len(), 0);
 }
 
 #[test]
@@ -106,15 +108,15 @@ fn an_instance_goes_with_its_last_item(rt: HostRuntime) {
 fn outermost_lies_in_none(rt: &impl Abort, alloc: Global, world: &Opened) {
     let body = world.program.code().body(0).expect(rt, "a body");
     let first = outermost(alloc, body).expect(rt, "memory");
-    assert_eq!(rt; (first.level, first.depth, first.live), (0, 0, 2));
+    is_equal(rt, (first.level, first.depth, first.live), (0, 0, 2));
 }
 
 /// An instance that lies in the script's, a step further.
 fn inner_lies_in_first(rt: &impl Abort, alloc: Global, world: &Opened) {
     let found = inner(alloc, around(world), 0, Some(way(7)), (0, &[]));
     let inside = found.expect(rt, "memory").expect(rt, "an instance");
-    assert_eq!(rt; (inside.level, inside.depth, inside.live), (1, 1, 2));
-    assert_eq!(rt; inside.parent, Some(0));
+    is_equal(rt, (inside.level, inside.depth, inside.live), (1, 1, 2));
+    is_equal(rt, inside.parent, Some(0));
 }
 
 /// There is no instance of a body that is not.
@@ -168,7 +170,7 @@ fn is_last_turn(rt: &impl Abort, last: &Opening) {
 fn loops_have_turns(rt: HostRuntime) {
     let world = open(&rt, rt.alloc());
     let list = turns(rt.alloc(), &world).expect(&rt, "memory");
-    assert_eq!(rt; list.len(), 4);
+    is_equal(&rt, list.len(), 4);
     is_last_turn(&rt, list.last().expect(&rt, "a turn"));
 }
 
@@ -189,8 +191,8 @@ fn counts(world: &Opened) -> (usize, usize) {
 fn instances_are_placed_with_their_items(rt: HostRuntime) {
     let mut world = open(&rt, rt.alloc());
     let last = place_turns(&rt, rt.alloc(), &mut world);
-    assert_eq!(rt; counts(&world), (5, 7));
-    assert_eq!(rt; path_length(&rt, rt.alloc(), &world.world, last), 1);
+    is_equal(&rt, counts(&world), (5, 7));
+    is_equal(&rt, path_length(&rt, rt.alloc(), &world.world, last), 1);
     go_on(&mut world.rows, 0, 1, 0).expect(&rt, "memory");
-    assert_eq!(rt; world.rows.len(), 8);
+    is_equal(&rt, world.rows.len(), 8);
 }

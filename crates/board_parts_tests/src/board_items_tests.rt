@@ -1,5 +1,6 @@
 //! The items of `boolean x = true; assert(x, "");`: which can begin, run or wait, and what wakes them.
 
+use crate::asserts::is_equal;
 use crate::worlds::{ASSERT, SET, open};
 use board_code::program::Program;
 use board_frames::item::Job;
@@ -28,22 +29,22 @@ fn kinds_are_counted(rt: HostRuntime) {
     counts.add(Kind::Control);
     counts.take(Kind::Leaf);
     counts.take(Kind::Leaf);
-    assert_eq!(rt; (counts.controls, counts.leaves), (1, 0));
+    is_equal(&rt, (counts.controls, counts.leaves), (1, 0));
 }
 
 #[test]
 fn entries_have_an_order(rt: HostRuntime) {
     let program = program_of(&rt, rt.alloc());
-    assert_eq!(rt; order_of(&program, Job::Script), (Kind::Control, 0));
-    assert_eq!(rt; order_of(&program, ASSERT), (Kind::Leaf, 0));
+    is_equal(&rt, order_of(&program, Job::Script), (Kind::Control, 0));
+    is_equal(&rt, order_of(&program, ASSERT), (Kind::Leaf, 0));
 }
 
 /// The first item begins, and is in the queue no more.
 fn first_begins(rt: &impl Abort, items: &mut Items) {
-    assert_eq!(rt; items.queue.first(Kind::Control), Some(1));
+    is_equal(rt, items.queue.first(Kind::Control), Some(1));
     items.begin(3, 1, (Kind::Control, 0));
     assert!(rt; !items.is_still() && items.running == 1);
-    assert_eq!(rt; items.queue.first(Kind::Control), None);
+    is_equal(rt, items.queue.first(Kind::Control), None);
 }
 
 /// The first item comes back, and is new.
@@ -105,8 +106,8 @@ fn settled(alloc: Global, program: &Program) -> Result<Items, AllocError> {
 /// The assignment can begin, and what is asserted waits.
 fn one_begins_and_one_waits(rt: &impl Abort, items: &Items) {
     assert!(rt; items.newly.as_slice() == [2u64].as_slice());
-    assert_eq!(rt; items.queue.first(Kind::Leaf), Some(2));
-    assert_eq!(rt; (items.rules.waiting(), items.rows.len()), (1, 3));
+    is_equal(rt, items.queue.first(Kind::Leaf), Some(2));
+    is_equal(rt, (items.rules.waiting(), items.rows.len()), (1, 3));
     assert!(rt; items.rows.last().is_some_and(|row| row.job == ASSERT));
 }
 
@@ -122,7 +123,7 @@ fn value_wakes_assert(rt: &impl Abort, items: &mut Items) {
     assert!(rt; items.reserve_to_wake(0).is_ok());
     items.tell(&Input::Whole(0));
     assert!(rt; items.woken.as_slice() == [3u64].as_slice());
-    assert_eq!(rt; items.rules.waiting(), 0);
+    is_equal(rt, items.rules.waiting(), 0);
 }
 
 #[test]
@@ -148,5 +149,5 @@ fn memory_is_taken_for_items_of_many_inputs(rt: HostRuntime) {
     let mut items = settled(rt.alloc(), &program).expect(&rt, "memory");
     let spare = list_of_three(rt.alloc()).expect(&rt, "memory");
     assert!(rt; items.reserve_to_wait(spare.as_slice()).is_ok());
-    assert_eq!(rt; (items.rules.waiting(), items.rows.len()), (1, 3));
+    is_equal(&rt, (items.rules.waiting(), items.rows.len()), (1, 3));
 }

@@ -1,5 +1,6 @@
 //! The ends of the items of `boolean x = true; assert(x, "");`, and what they do to instances and data.
 
+use crate::asserts::is_equal;
 use crate::worlds::{ASSERT, Opened, SET, end, opened_script};
 use board_code::program::Own;
 use board_data::data;
@@ -25,16 +26,16 @@ fn assert_is_last(rt: &impl Abort, opened: &Opened) {
         job: ASSERT,
         mark: Mark::Waiting,
     };
-    assert_eq!(rt; opened.rows.last(), Some(&new));
+    is_equal(rt, opened.rows.last(), Some(&new));
     assert!(rt; opened.known.is_empty());
 }
 
 #[test]
 fn the_script_is_opened(rt: HostRuntime) {
     let opened = opened_script(rt.alloc()).expect(&rt, "a world");
-    assert_eq!(rt; counts(&opened), (1, 1));
+    is_equal(&rt, counts(&opened), (1, 1));
     assert_is_last(&rt, &opened);
-    assert_eq!(rt; (home(Job::Script), home(SET)), (None, Some(0)));
+    is_equal(&rt, (home(Job::Script), home(SET)), (None, Some(0)));
 }
 
 /// Ends the item of a job in the world.
@@ -62,7 +63,7 @@ fn what_is_stored_becomes_known(rt: HostRuntime) {
     let mut opened = opened_script(rt.alloc()).expect(&rt, "a world");
     end_set(&rt, rt.alloc(), &mut opened);
     truth_is_known(&rt, &opened);
-    assert_eq!(rt; opened.world.instances.len(), 1);
+    is_equal(&rt, opened.world.instances.len(), 1);
 }
 
 #[test]
@@ -70,7 +71,7 @@ fn the_last_item_takes_all_with_it(rt: HostRuntime) {
     let mut opened = opened_script(rt.alloc()).expect(&rt, "a world");
     end_set(&rt, rt.alloc(), &mut opened);
     assert!(rt; end_in(rt.alloc(), &mut opened, ASSERT, Change::Nothing).is_ok());
-    assert_eq!(rt; counts(&opened), (0, 0));
+    is_equal(&rt, counts(&opened), (0, 0));
 }
 
 #[test]

@@ -2,6 +2,8 @@
 #![tactic(auto)]
 
 #[cfg(test)]
+mod asserts;
+#[cfg(test)]
 mod board_code_tests;
 #[cfg(test)]
 mod board_data_tests;

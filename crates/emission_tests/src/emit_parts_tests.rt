@@ -1,5 +1,6 @@
 //! Each call of `emit_parts` on a plain case.
 
+use crate::asserts::is_equal;
 use crate::flows::{array, call_part, computed, element, output, scalar, sum, two};
 use emit_parts::names::{named, own, small};
 use emit_parts::needs::{Wanted, listed, note, note_name, place_of};
@@ -77,23 +78,23 @@ fn are_six_and_second(operands: &[Placed]) -> bool {
 
 #[test]
 fn names_become_those_of_code(rt: HostRuntime) {
-    assert_eq!(rt; small(7), 7);
-    assert_eq!(rt; small(4_294_967_296), 4_294_967_295);
-    assert_eq!(rt; own(4), datum(4, false));
-    assert_eq!(rt; named(2, array(5), true), datum(5, true));
+    is_equal(&rt, small(7), 7);
+    is_equal(&rt, small(4_294_967_296), 4_294_967_295);
+    is_equal(&rt, own(4), datum(4, false));
+    is_equal(&rt, named(2, array(5), true), datum(5, true));
     let behind_two_inputs = Name {
         up: 1,
         owned: Owned::Parameter(2, false),
     };
-    assert_eq!(rt; named(2, output(), false), behind_two_inputs);
-    assert_eq!(rt; local_node(scalar(3)), Some(3));
-    assert_eq!(rt; local_node(output()), None);
+    is_equal(&rt, named(2, output(), false), behind_two_inputs);
+    is_equal(&rt, local_node(scalar(3)), Some(3));
+    is_equal(&rt, local_node(output()), None);
 }
 
 #[test]
 fn a_name_is_wanted_stored_or_closed(rt: HostRuntime) {
     let one = Wanted::new(datum(3, false));
-    assert_eq!(rt; one.name(), datum(3, false));
+    is_equal(&rt, one.name(), datum(3, false));
     assert!(rt; matches!(one.need(), Need::Stored(name) if name == datum(3, false)));
     let all = Wanted::new(datum(4, true));
     assert!(rt; matches!(all.need(), Need::Closed(name) if name == datum(4, true)));
@@ -102,8 +103,8 @@ fn a_name_is_wanted_stored_or_closed(rt: HostRuntime) {
 #[test]
 fn needs_are_listed_once_in_their_order(rt: HostRuntime) {
     let needs = needs_of(rt.alloc(), datum(8, false), datum(3, true)).expect(&rt, "memory");
-    assert_eq!(rt; place_of(&needs, datum(8, false)), 0);
-    assert_eq!(rt; place_of(&needs, datum(3, true)), 1);
+    is_equal(&rt, place_of(&needs, datum(8, false)), 0);
+    is_equal(&rt, place_of(&needs, datum(3, true)), 1);
     let found = listed(rt.alloc(), &needs).expect(&rt, "memory");
     assert!(rt; are_both(found.as_slice()));
 }
@@ -146,7 +147,7 @@ fn operators_are_those_of_code(rt: HostRuntime) {
 fn texts_are_those_of_code(rt: HostRuntime) {
     let bytes = Vec::from_slice(rt.alloc(), b"abc").expect(&rt, "memory");
     match text(rt.alloc(), &bytes).expect(&rt, "memory") {
-        Scalar::Text(found) => assert_eq!(rt; found.as_bytes(), b"abc".as_slice()),
+        Scalar::Text(found) => is_equal(&rt, found.as_bytes(), b"abc".as_slice()),
         _ => assert!(rt; false),
     }
 }
@@ -186,8 +187,8 @@ fn a_cell_is_seen_as_itself_or_as_what_it_is(rt: HostRuntime) {
     let plain = computed(7, Expr::Name(scalar(6)));
     let other = element();
     let needs = seen(rt.alloc(), &plain, &other).expect(&rt, "memory");
-    assert_eq!(rt; place_of(&needs, datum(6, false)), 0);
-    assert_eq!(rt; place_of(&needs, datum(4, false)), 1);
+    is_equal(&rt, place_of(&needs, datum(6, false)), 0);
+    is_equal(&rt, place_of(&needs, datum(4, false)), 1);
     let found = placed_seen(rt.alloc(), &needs, 0, &other, false).expect(&rt, "memory");
-    assert_eq!(rt; need(&found), Some(1));
+    is_equal(&rt, need(&found), Some(1));
 }

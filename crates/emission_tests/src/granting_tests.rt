@@ -6,6 +6,7 @@ ghost use Rattle.task_code.specs.declared.code.Body.{Body as Laid};
 ghost use Rattle.ref_counting.specs.Rights.{HasMarks};
 ghost use Rattle.granting.specs.Granted.{laid_code};
 
+use crate::asserts::is_equal;
 use granting::granted::granted;
 use std::alloc::{AllocError, Global};
 use task_code::code::{Body, Opener};
@@ -128,7 +129,7 @@ fn may(entry: Option<&Entry>, reads: &[Name], writes: &[Name]) -> bool {
 #[test]
 fn a_right_goes_to_what_leads_to_its_use(rt: HostRuntime) {
     let code = code(rt.alloc()).expect(&rt, "memory");
-    assert_eq!(rt; code.body_count(), 2);
+    is_equal(&rt, code.body_count(), 2);
     assert!(rt; may(code.entry(0), [].as_slice(), [x(0)].as_slice()));
     assert!(rt; may(code.entry(1), [x(0)].as_slice(), [].as_slice()));
     assert!(rt; may(code.entry(2), [x(1)].as_slice(), [].as_slice()));

@@ -2,6 +2,8 @@
 #![tactic(auto)]
 
 #[cfg(test)]
+mod asserts;
+#[cfg(test)]
 mod body_numbers_tests;
 #[cfg(test)]
 mod emit_parts_tests;

@@ -1,5 +1,6 @@
 //! Each call of `part_entries` on a plain case: `y = A[6] + f(A[6])` and its parts.
 
+use crate::asserts::is_equal;
 use crate::flows::{array, call, computed, element, element_parts, functions, scalar, sum};
 use flow::cell::{Call, Outer, Part};
 use flow::expression::Expr;
@@ -122,15 +123,23 @@ fn handed_number(passed: &IndexMap<u32, Argument>, node: u32) -> Result<Option<i
 #[test]
 fn literals_are_handed_over_for_themselves(rt: HostRuntime) {
     let passed = passed_five(rt.alloc()).expect(&rt, "memory");
-    assert_eq!(rt; handed_number(&passed, 9).expect(&rt, "memory"), Some(5));
-    assert_eq!(rt; handed_number(&passed, 2).expect(&rt, "memory"), None);
+    is_equal(
+        &rt,
+        handed_number(&passed, 9).expect(&rt, "memory"),
+        Some(5),
+    );
+    is_equal(&rt, handed_number(&passed, 2).expect(&rt, "memory"), None);
 }
 
 #[test]
 fn an_element_is_at_its_index(rt: HostRuntime) {
     let parts = element_parts(rt.alloc()).expect(&rt, "memory");
     let passed = passed_parts(rt.alloc(), &parts).expect(&rt, "memory");
-    assert_eq!(rt; handed_number(&passed, 3).expect(&rt, "memory"), Some(6));
+    is_equal(
+        &rt,
+        handed_number(&passed, 3).expect(&rt, "memory"),
+        Some(6),
+    );
     assert!(rt; is_sixth(&element_need(&passed, datum(1, true), 3)));
 }
 
@@ -138,10 +147,10 @@ fn an_element_is_at_its_index(rt: HostRuntime) {
 fn an_entry_stands_as_its_statement(rt: HostRuntime) {
     let shown = Shown { node: 4, mark: 14 };
     let made = entry(rt.alloc(), STANDING, shown, Vec::new(rt.alloc()), Act::Read);
-    assert_eq!(rt; made.node, 4);
-    assert_eq!(rt; made.at, 8);
-    assert_eq!(rt; made.mark, 14);
-    assert_eq!(rt; made.priority, 3);
+    is_equal(&rt, made.node, 4);
+    is_equal(&rt, made.at, 8);
+    is_equal(&rt, made.mark, 14);
+    is_equal(&rt, made.priority, 3);
 }
 
 /// An entry without needs.
@@ -219,7 +228,7 @@ fn is_fourth(inputs: &[Argument]) -> bool {
 fn an_entry_is_put_behind_the_others(rt: HostRuntime) {
     let entries = put_read(rt.alloc()).expect(&rt, "memory");
     let found = letters(rt.alloc(), entries.as_slice()).expect(&rt, "memory");
-    assert_eq!(rt; found.as_slice(), b"r".as_slice());
+    is_equal(&rt, found.as_slice(), b"r".as_slice());
 }
 
 #[test]
@@ -228,7 +237,7 @@ fn cells_and_calls_have_their_entries(rt: HostRuntime) {
     let outer = outer(rt.alloc()).expect(&rt, "memory");
     let entries = sum_entries(rt.alloc(), &functions, &outer).expect(&rt, "memory");
     let found = letters(rt.alloc(), entries.as_slice()).expect(&rt, "memory");
-    assert_eq!(rt; found.as_slice(), b"rfc".as_slice());
+    is_equal(&rt, found.as_slice(), b"rfc".as_slice());
     assert!(rt; entries.iter().all(is_right));
 }
 
@@ -239,7 +248,7 @@ fn parts_are_added_each_alone(rt: HostRuntime) {
     let call = call(rt.alloc()).expect(&rt, "memory");
     let entries = part_entries(rt.alloc(), &functions, &parts, &call).expect(&rt, "memory");
     let found = letters(rt.alloc(), entries.as_slice()).expect(&rt, "memory");
-    assert_eq!(rt; found.as_slice(), b"rrf".as_slice());
+    is_equal(&rt, found.as_slice(), b"rrf".as_slice());
 }
 
 #[test]
@@ -248,7 +257,7 @@ fn a_statement_works_out_its_own_sum(rt: HostRuntime) {
     let outer = outer(rt.alloc()).expect(&rt, "memory");
     let entries = own_entries(rt.alloc(), &functions, &outer).expect(&rt, "memory");
     let found = letters(rt.alloc(), entries.as_slice()).expect(&rt, "memory");
-    assert_eq!(rt; found.as_slice(), b"rf".as_slice());
+    is_equal(&rt, found.as_slice(), b"rf".as_slice());
 }
 
 #[test]
@@ -257,7 +266,7 @@ fn an_element_is_read_before_its_statement(rt: HostRuntime) {
     let outer = read(rt.alloc()).expect(&rt, "memory");
     let entries = own_entries(rt.alloc(), &functions, &outer).expect(&rt, "memory");
     let found = letters(rt.alloc(), entries.as_slice()).expect(&rt, "memory");
-    assert_eq!(rt; found.as_slice(), b"r".as_slice());
+    is_equal(&rt, found.as_slice(), b"r".as_slice());
 }
 
 /// The data of node 2 and of parts.

@@ -1,5 +1,6 @@
 //! Scripts that are singly assigned, and scripts that break each of the six rules, with the places.
 
+use crate::asserts::is_equal;
 use crate::rows::are_judged;
 use assign_check::fault::AssignFault;
 use lexer::token::Span;
@@ -51,9 +52,10 @@ fn accepted_scripts(rt: HostRuntime) {
 
 #[test]
 fn places_of_faults(rt: HostRuntime) {
-    assert_eq!(rt;
+    is_equal(
+        &rt,
         AssignFault::OuterInLoop(Span::at(3, 1)).span(),
-        Some(Span::at(3, 1))
+        Some(Span::at(3, 1)),
     );
-    assert_eq!(rt; AssignFault::Memory.span(), None);
+    is_equal(&rt, AssignFault::Memory.span(), None);
 }

@@ -1,5 +1,6 @@
 //! Texts with their tokens and their faults.
 
+use crate::asserts::is_equal;
 use lexer::fault::LexFault;
 use lexer::lexer::Lexer;
 use lexer::token::{Span, Token, TokenKind};
@@ -21,14 +22,14 @@ fn is_token(
     place: Span,
 ) {
     let token = item.expect(rt, "a token").ok().expect(rt, "no fault");
-    assert_eq!(rt; token.kind, kind);
-    assert_eq!(rt; token.span, place);
-    assert_eq!(rt; Some(token.text), text.get(place.from..place.to));
+    is_equal(rt, token.kind, kind);
+    is_equal(rt, token.span, place);
+    is_equal(rt, Some(token.text), text.get(place.from..place.to));
 }
 
 /// The item is this fault.
 fn is_fault(rt: &impl Abort, item: Option<Result<Token<'_>, LexFault>>, wanted: LexFault) {
-    assert_eq!(rt; item.expect(rt, "a fault").err(), Some(wanted));
+    is_equal(rt, item.expect(rt, "a fault").err(), Some(wanted));
 }
 
 /// The text has these tokens at these places, then this fault or its end, and no other fault.
@@ -194,8 +195,8 @@ fn goes_on_behind_a_token(rt: HostRuntime) {
 /// The fault of the first byte is told so.
 fn is_told(rt: &impl Abort, alloc: Global, fault: LexFault, wanted: &str) {
     let told = format!(in alloc; "{fault}").expect(rt, "memory");
-    assert_eq!(rt; told.as_str(), wanted);
-    assert_eq!(rt; fault.span(), Span::at(0, 1));
+    is_equal(rt, told.as_str(), wanted);
+    is_equal(rt, fault.span(), Span::at(0, 1));
 }
 
 #[test]
@@ -211,12 +212,13 @@ fn names_faults(rt: HostRuntime) {
 
 #[test]
 fn gives_values_of_numbers(rt: HostRuntime) {
-    assert_eq!(rt; number_value(b"0".as_slice()), Some(0));
-    assert_eq!(rt;
+    is_equal(&rt, number_value(b"0".as_slice()), Some(0));
+    is_equal(
+        &rt,
         number_value(b"9223372036854775807".as_slice()),
-        Some(9_223_372_036_854_775_807)
+        Some(9_223_372_036_854_775_807),
     );
-    assert_eq!(rt; number_value(b"9223372036854775808".as_slice()), None);
+    is_equal(&rt, number_value(b"9223372036854775808".as_slice()), None);
 }
 
 #[test]
@@ -226,5 +228,5 @@ fn gives_the_content_of_a_string(rt: HostRuntime) {
     let token = item.expect(&rt, "a token").ok().expect(&rt, "no fault");
     assert!(rt; token.kind == TokenKind::Text);
     let content = string_content(rt.alloc(), token.text).expect(&rt, "memory");
-    assert_eq!(rt; content.as_slice(), b"a\n\t\\\"b".as_slice());
+    is_equal(&rt, content.as_slice(), b"a\n\t\\\"b".as_slice());
 }

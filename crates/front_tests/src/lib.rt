@@ -2,6 +2,8 @@
 #![tactic(auto)]
 
 #[cfg(test)]
+mod asserts;
+#[cfg(test)]
 mod assign_check_tests;
 #[cfg(test)]
 mod flows;

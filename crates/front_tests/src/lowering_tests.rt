@@ -1,5 +1,6 @@
 //! A script lowered, with what its flow keeps for a listing alone.
 
+use crate::asserts::is_equal;
 use crate::flows::{flow, lowered};
 use bumpalo::Bump;
 use flow::script::{Flow, Function};
@@ -32,14 +33,14 @@ fn letters<A: Allocator>(machine: Global, block: &Block<A>) -> Result<Vec<u8>, A
 /// The statements of a block do this, in letters.
 fn does<A: Allocator>(rt: &impl Abort, machine: Global, block: &Block<A>, wanted: &[u8]) {
     let found = letters(machine, block).expect(rt, "memory");
-    assert_eq!(rt; found.as_slice(), wanted);
+    is_equal(rt, found.as_slice(), wanted);
 }
 
 /// A `wait` has one header and a `wait` in it.
 fn is_wait_in_wait<A: Allocator>(rt: &impl Abort, machine: Global, action: &Action<A>) {
     if let Action::Wait { inner, content, .. } = action {
         assert!(rt; inner.is_empty());
-        assert_eq!(rt; content.from, 48);
+        is_equal(rt, content.from, 48);
         does(rt, machine, content, b"w");
     }
 }
@@ -48,7 +49,7 @@ fn is_wait_in_wait<A: Allocator>(rt: &impl Abort, machine: Global, action: &Acti
 fn statements_stand_in_their_blocks(rt: HostRuntime) {
     let found = flow(rt.alloc(), TEXT).expect(&rt, "a flow");
     does(&rt, rt.alloc(), &found.body, b"daw");
-    assert_eq!(rt; found.body.from, 0);
+    is_equal(&rt, found.body.from, 0);
     for statement in &found.body.statements {
         is_wait_in_wait(&rt, rt.alloc(), &statement.action);
     }
@@ -56,14 +57,14 @@ fn statements_stand_in_their_blocks(rt: HostRuntime) {
 
 /// The name is this one.
 fn is_named(rt: &impl Abort, name: &[u8], wanted: &[u8]) {
-    assert_eq!(rt; name, wanted);
+    is_equal(rt, name, wanted);
 }
 
 /// The function is `f`, with its input and its body.
 fn is_f<A: Allocator>(rt: &impl Abort, machine: Global, function: &Function<A>) {
-    assert_eq!(rt; function.at, 8);
+    is_equal(rt, function.at, 8);
     is_named(rt, function.name.as_slice(), b"f");
-    assert_eq!(rt; function.body.from, 17);
+    is_equal(rt, function.body.from, 17);
     does(rt, machine, &function.body, b"a");
     for input in &function.inputs {
         is_named(rt, input.name.as_slice(), b"n");
@@ -72,7 +73,7 @@ fn is_f<A: Allocator>(rt: &impl Abort, machine: Global, function: &Function<A>) 
 
 /// The flow has that function alone.
 fn has_f<A: Allocator>(rt: &impl Abort, machine: Global, flow: &Flow<A>) {
-    assert_eq!(rt; flow.functions.len(), 1);
+    is_equal(rt, flow.functions.len(), 1);
     for function in &flow.functions {
         is_f(rt, machine, function);
     }

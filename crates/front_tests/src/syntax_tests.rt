@@ -1,5 +1,6 @@
 //! Texts that are accepted and refused, with the places of their faults.
 
+use crate::asserts::is_equal;
 use crate::rows::are_read;
 use bumpalo::Bump;
 use lexer::token::Span;
@@ -106,7 +107,7 @@ fn nests(
     let text = text.expect(rt, "memory");
     let fault = ParseFault::TooNested(place);
     let wanted = if deeper { Some(fault) } else { None };
-    assert_eq!(rt; fault_of(alloc, text.as_slice()), wanted);
+    is_equal(rt, fault_of(alloc, text.as_slice()), wanted);
 }
 
 #[test]
@@ -131,15 +132,15 @@ const LONG: ParseFault = ParseFault::TooLong(Span {
 fn lengths(rt: HostRuntime) {
     let alloc = rt.alloc();
     let mut text = repeated(alloc, b"", b" ", MAX_SOURCE, b"").expect(&rt, "memory");
-    assert_eq!(rt; fault_of(alloc, text.as_slice()), None);
+    is_equal(&rt, fault_of(alloc, text.as_slice()), None);
     text.push(b'#').expect(&rt, "memory");
-    assert_eq!(rt; fault_of(alloc, text.as_slice()), Some(LONG));
+    is_equal(&rt, fault_of(alloc, text.as_slice()), Some(LONG));
 }
 
 /// The fault is told so.
 fn is_told(rt: &impl Abort, alloc: Global, fault: ParseFault, wanted: &str) {
     let told = format!(in alloc; "{fault}").expect(rt, "memory");
-    assert_eq!(rt; told.as_str(), wanted);
+    is_equal(rt, told.as_str(), wanted);
 }
 
 #[test]
@@ -147,8 +148,8 @@ fn faults_of_bounds(rt: HostRuntime) {
     is_told(&rt, rt.alloc(), LONG, "P4 TooLong");
     let deep = ParseFault::TooNested(Span::at(2, 3));
     is_told(&rt, rt.alloc(), deep, "P3 TooNested");
-    assert_eq!(rt; deep.span(), Some(Span::at(2, 3)));
-    assert_eq!(rt; ParseFault::Memory.span(), None);
+    is_equal(&rt, deep.span(), Some(Span::at(2, 3)));
+    is_equal(&rt, ParseFault::Memory.span(), None);
 }
 
 /// The right side of a script that is one assignment.
@@ -163,7 +164,7 @@ fn assigned<'s, A: Allocator>(rt: &impl Abort, script: &'s Script<A>) -> &'s Exp
 
 /// The expression has this number, and stands here.
 fn stands<A: Allocator>(rt: &impl Abort, expr: &Expr<A>, number: u32, first: Span, to: usize) {
-    assert_eq!(rt; (expr.number, expr.first, expr.to), (number, first, to));
+    is_equal(rt, (expr.number, expr.first, expr.to), (number, first, to));
 }
 
 // The statement is number 1, x 2; behind the sum's 1, the expression y and its name stand before the last operand.
@@ -176,7 +177,7 @@ fn is_product<A: Allocator>(rt: &impl Abort, product: &Expr<A>) {
         panic!(rt; "two operands")
     };
     stands(rt, sum, 4, Span::at(5, 1), 10);
-    assert_eq!(rt; two.number, 8);
+    is_equal(rt, two.number, 8);
     assert!(rt; matches!(&two.kind, ExprKind::Number(2)));
 }
 

@@ -1,5 +1,6 @@
 //! Trees with their numbers and their copies.
 
+use crate::asserts::is_equal;
 use bumpalo::Bump;
 use lexer::token::{Span, TokenKind};
 use std::alloc::{AllocError, Global};
@@ -132,12 +133,16 @@ fn numbers_stand_in_reading_order(rt: HostRuntime) {
 
 #[test]
 fn comparisons_do_not_chain(rt: HostRuntime) {
-    assert_eq!(rt; Operator::AtMost.level(), Level::Order);
-    assert_eq!(rt; Operator::Remainder.level(), Level::Product);
+    is_equal(&rt, Operator::AtMost.level(), Level::Order);
+    is_equal(&rt, Operator::Remainder.level(), Level::Product);
     assert!(rt; !repeats(Level::Order));
     assert!(rt; repeats(Level::Sum));
-    assert_eq!(rt; operator_of_kind(TokenKind::AtMost), Some(Operator::AtMost));
-    assert_eq!(rt; operator_of_kind(TokenKind::Not), None);
-    assert_eq!(rt; base_of_kind(TokenKind::String), Some(Base::Text));
-    assert_eq!(rt; base_of_kind(TokenKind::Name), None);
+    is_equal(
+        &rt,
+        operator_of_kind(TokenKind::AtMost),
+        Some(Operator::AtMost),
+    );
+    is_equal(&rt, operator_of_kind(TokenKind::Not), None);
+    is_equal(&rt, base_of_kind(TokenKind::String), Some(Base::Text));
+    is_equal(&rt, base_of_kind(TokenKind::Name), None);
 }

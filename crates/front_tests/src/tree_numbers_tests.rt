@@ -4,6 +4,7 @@ ghost use Rattle.std.specs.Prelude.{◌≡◌, IfOk};
 ghost use Rattle.syntax_trees.specs.View.{part_of};
 ghost use Rattle.syntax_trees.specs.Numbered.{part_size};
 
+use crate::asserts::is_equal;
 use lexer::token::Span;
 use std::alloc::{AllocError, Global};
 use std::process::Abort;
@@ -37,7 +38,7 @@ fn a_part_takes_the_numbers_behind(rt: HostRuntime) -> Result<(), Fail> {
     let mut item = declaration(rt.alloc(), 9, 9)?;
     let next = part(&mut item, 5);
     let wanted = declaration(rt.alloc(), 5, 6)?;
-    assert_eq!(rt; next, 7);
+    is_equal(&rt, next, 7);
     assert!(rt; item == wanted);
     Ok(())
 }

@@ -1,5 +1,6 @@
 //! Scripts that are well typed, scripts that break each of the six rules, with the places, and what names are.
 
+use crate::asserts::is_equal;
 use crate::rows::are_judged;
 use lexer::token::Span;
 use std::alloc::Global;
@@ -73,12 +74,12 @@ fn names(rt: &impl Abort, alloc: Global) -> Typed {
 
 /// The variable's name at a node refers to this.
 fn refers(rt: &impl Abort, typed: &Typed, number: u32, wanted: Reference) {
-    assert_eq!(rt; typed.name(number), wanted);
+    is_equal(rt, typed.name(number), wanted);
 }
 
 /// The function's name at a node is this.
 fn calls(rt: &impl Abort, typed: &Typed, number: u32, wanted: Callee) {
-    assert_eq!(rt; typed.callee(number), wanted);
+    is_equal(rt, typed.callee(number), wanted);
 }
 
 #[test]
@@ -92,8 +93,8 @@ fn what_names_are(rt: HostRuntime) {
         what: Owned::Local(14),
     };
     refers(&rt, &typed, 26, outer);
-    assert_eq!(rt; typed.shape(10), Shape::Array);
-    assert_eq!(rt; typed.shape(26), Shape::Scalar);
+    is_equal(&rt, typed.shape(10), Shape::Array);
+    is_equal(&rt, typed.shape(26), Shape::Scalar);
 }
 
 #[test]
@@ -125,9 +126,10 @@ fn what_was_settled_last_holds(rt: HostRuntime) {
 
 #[test]
 fn places_of_faults(rt: HostRuntime) {
-    assert_eq!(rt; TypeFault::Memory.span(), None);
-    assert_eq!(rt;
+    is_equal(&rt, TypeFault::Memory.span(), None);
+    is_equal(
+        &rt,
         TypeFault::Unknown(Span::at(3, 1)).span(),
-        Some(Span::at(3, 1))
+        Some(Span::at(3, 1)),
     );
 }

@@ -1,5 +1,6 @@
 //! Waits one in another become one; one with two statements in it stays.
 
+use crate::asserts::is_equal;
 use crate::flows::flow;
 use flow::script::Flow;
 use flow::statement::Action;
@@ -23,11 +24,11 @@ fn merged(alloc: Global, text: &[u8]) -> Option<(usize, usize)> {
 #[test]
 fn waits_one_in_another_become_one(rt: HostRuntime) {
     let text = b"int x = 1; wait (x) { wait (x) { wait (x) { } } }";
-    assert_eq!(rt; merged(rt.alloc(), text), Some((2, 0)));
+    is_equal(&rt, merged(rt.alloc(), text), Some((2, 0)));
 }
 
 #[test]
 fn a_wait_with_something_beside_it_stays(rt: HostRuntime) {
     let text = b"int x = 1; wait (x) { wait (x) { } wait (x) { } }";
-    assert_eq!(rt; merged(rt.alloc(), text), Some((0, 2)));
+    is_equal(&rt, merged(rt.alloc(), text), Some((0, 2)));
 }

@@ -1,6 +1,7 @@
 //! Each call of `data_store` on a plain case.
 ghost use Rattle.data_store.specs.Stores.{IsArrayAt, IsScalarAt};
 
+use crate::asserts::is_equal;
 use data_store::refusal::Refusal;
 use data_store::store::{DatumNo, Shape, Store};
 use std::alloc::AllocError;
@@ -14,7 +15,7 @@ fn puts(rt: &impl Abort, store: &mut Store, d: DatumNo, n: i64, end: Result<(), 
     requires { IsScalarAt store.old d }
     ensures { IsScalarAt store.new d }
 {
-    assert_eq!(rt; store.put(d, Scalar::Number(n)), end);
+    is_equal(rt, store.put(d, Scalar::Number(n)), end);
 }
 
 /// An insert of this number under this key ends so.
@@ -29,7 +30,11 @@ fn inserts(
     requires { IsArrayAt store.old d }
     ensures { IsArrayAt store.new d }
 {
-    assert_eq!(rt; store.insert(d, Key::Number(key), Scalar::Number(n)), end);
+    is_equal(
+        rt,
+        store.insert(d, Key::Number(key), Scalar::Number(n)),
+        end,
+    );
 }
 
 fn number(scalar: Option<&Scalar>) -> Option<i64> {
@@ -91,10 +96,10 @@ fn close(store: &mut Store, d: DatumNo) {
 fn put_twice(rt: &impl Abort, store: &mut Store, d: DatumNo)
     requires { IsScalarAt store.old d }
 {
-    assert_eq!(rt; number(store.value(d)), None);
+    is_equal(rt, number(store.value(d)), None);
     puts(rt, store, d, 7, Ok(()));
     puts(rt, store, d, 8, Err(Refusal::AlreadySet));
-    assert_eq!(rt; number(store.value(d)), Some(7));
+    is_equal(rt, number(store.value(d)), Some(7));
 }
 
 #[test]
@@ -127,17 +132,17 @@ fn number_under(store: &Store, d: DatumNo, key: i64) -> Option<i64>
 fn has_three(rt: &impl Abort, store: &Store, d: DatumNo)
     requires { IsArrayAt store.now d }
 {
-    assert_eq!(rt; store.size(d), 3);
-    assert_eq!(rt; number_under(store, d, 5), Some(50));
-    assert_eq!(rt; number_under(store, d, 4), None);
+    is_equal(rt, store.size(d), 3);
+    is_equal(rt, number_under(store, d, 5), Some(50));
+    is_equal(rt, number_under(store, d, 4), None);
 }
 
 /// The three elements stand in their order, each time that they are asked for.
 fn whole_rises(rt: &impl Abort, store: &mut Store, d: DatumNo) -> Result<(), AllocError>
     requires { IsArrayAt store.old d }
 {
-    assert_eq!(rt; order_of_whole(store, d)?, 16);
-    assert_eq!(rt; order_of_whole(store, d)?, 16);
+    is_equal(rt, order_of_whole(store, d)?, 16);
+    is_equal(rt, order_of_whole(store, d)?, 16);
     Ok(())
 }
 
@@ -158,7 +163,7 @@ fn insert_into_closed(rt: &impl Abort, store: &mut Store, d: DatumNo) -> Result<
     assert!(rt; store.is_closed(d));
     inserts(rt, store, d, 1, 1, Err(Refusal::Closed));
     store.reserve(d, 4)?;
-    assert_eq!(rt; store.len(), 1);
+    is_equal(rt, store.len(), 1);
     Ok(())
 }
 
@@ -180,7 +185,7 @@ fn give_up_all(rt: &impl Abort, store: &mut Store, d: DatumNo) {
     assert!(rt; store.is_live(d) && store.is_closed(d));
     release(store, d);
     assert!(rt; !store.is_live(d));
-    assert_eq!(rt; store.len(), 0);
+    is_equal(rt, store.len(), 0);
 }
 
 #[test]
@@ -220,7 +225,7 @@ fn list_none(rt: &impl Abort, store: &Store, d: DatumNo) -> Result<(), AllocErro
     requires { IsArrayAt store.now d }
 {
     let map = store.listed(d)?;
-    assert_eq!(rt; map.elements().len(), 0);
+    is_equal(rt, map.elements().len(), 0);
     Ok(())
 }
 
@@ -231,9 +236,9 @@ fn list_two(rt: &impl Abort, store: &mut Store, d: DatumNo) -> Result<(), AllocE
 {
     inserts(rt, store, d, 5, 50, Ok(()));
     inserts(rt, store, d, -3, 30, Ok(()));
-    assert_eq!(rt; order_of_listed(store, d)?, 7);
-    assert_eq!(rt; order_of_whole(store, d)?, 7);
-    assert_eq!(rt; order_of_listed(store, d)?, 7);
+    is_equal(rt, order_of_listed(store, d)?, 7);
+    is_equal(rt, order_of_whole(store, d)?, 7);
+    is_equal(rt, order_of_listed(store, d)?, 7);
     Ok(())
 }
 
@@ -242,7 +247,7 @@ fn list_one_more(rt: &impl Abort, store: &mut Store, d: DatumNo) -> Result<(), A
     requires { IsArrayAt store.old d }
 {
     inserts(rt, store, d, 2, 20, Ok(()));
-    assert_eq!(rt; order_of_listed(store, d)?, 16);
+    is_equal(rt, order_of_listed(store, d)?, 16);
     Ok(())
 }
 

@@ -2,6 +2,8 @@
 #![tactic(auto)]
 
 #[cfg(test)]
+mod asserts;
+#[cfg(test)]
 mod data_store_tests;
 #[cfg(test)]
 mod offers_tests;

@@ -3,6 +3,7 @@
 ghost use Rattle.std.specs.Prelude.{◌≡◌, ◌+◌, ◌<◌, IfOk};
 ghost use Rattle.pool.specs.Seats.{IsSeatOf};
 
+use crate::asserts::is_equal;
 use offers::{Fresh, Offers};
 use pool::{Kind, Pool};
 use std::alloc::{AllocError, Global};
@@ -47,15 +48,16 @@ fn offer_and_draw(rt: &impl Abort, pool: &Pool, offers: &mut Offers)
     requires { IsSeatOf pool.now offers.old.seat }
 {
     offers.offer_all(pool);
-    assert_eq!(rt;
+    is_equal(
+        rt,
         (offers.offered, offers.full, offers.lost, offers.pending),
-        (2, 0, 1, 0)
+        (2, 0, 1, 0),
     );
-    assert_eq!(rt; offers.draw(pool, Kind::Control), None);
-    assert_eq!(rt; offers.draw(pool, Kind::Leaf), Some(6));
-    assert_eq!(rt; offers.draw(pool, Kind::Leaf), Some(5));
-    assert_eq!(rt; offers.draw(pool, Kind::Leaf), None);
-    assert_eq!(rt; offers.drawn, 2);
+    is_equal(rt, offers.draw(pool, Kind::Control), None);
+    is_equal(rt, offers.draw(pool, Kind::Leaf), Some(6));
+    is_equal(rt, offers.draw(pool, Kind::Leaf), Some(5));
+    is_equal(rt, offers.draw(pool, Kind::Leaf), None);
+    is_equal(rt, offers.drawn, 2);
 }
 
 #[test]

@@ -3,6 +3,7 @@
 ghost use Rattle.std.specs.Prelude.{◌≡◌, ◌<◌, All, IfOk, vec_len};
 ghost use Rattle.pool.specs.Seats.{IsSeatOf, seats_of};
 
+use crate::asserts::is_equal;
 use pool::{Kind, Left, Offer, Pool, PoolSeat};
 use std::alloc::{AllocError, Global};
 use std::process::Abort;
@@ -36,7 +37,11 @@ fn is_offered(rt: &impl Abort, pool: &Pool, seat: &mut PoolSeat, class: u8, numb
     requires number { 0 < number }
     ensures { IsSeatOf pool.now seat.new }
 {
-    assert_eq!(rt; pool.offer(seat, Kind::Leaf, class, number), Offer::Offered);
+    is_equal(
+        rt,
+        pool.offer(seat, Kind::Leaf, class, number),
+        Offer::Offered,
+    );
 }
 
 /// A take of this kind gives this number, or none.
@@ -44,7 +49,7 @@ fn gives(rt: &impl Abort, pool: &Pool, seat: &mut PoolSeat, kind: Kind, number: 
     requires { IsSeatOf pool.now seat.old }
     ensures { IsSeatOf pool.now seat.new }
 {
-    assert_eq!(rt; pool.take(seat, kind), number);
+    is_equal(rt, pool.take(seat, kind), number);
 }
 
 /// Whether nothing lies in a hole.
@@ -105,8 +110,8 @@ fn fill_past(rt: &impl Abort, pool: &Pool, seat: &mut PoolSeat)
     requires { IsSeatOf pool.now seat.old }
     ensures { IsSeatOf pool.now seat.new }
 {
-    assert_eq!(rt; fill(pool, seat), 16);
-    assert_eq!(rt; pool.offer(seat, Kind::Leaf, 1, 17), Offer::Full(17));
+    is_equal(rt, fill(pool, seat), 16);
+    is_equal(rt, pool.offer(seat, Kind::Leaf, 1, 17), Offer::Full(17));
 }
 
 /// The sixteen lie in the holes of their class, and nothing in another.
@@ -235,7 +240,7 @@ fn rises(numbers: &[u64]) -> bool {
 fn balances(rt: &impl Abort, offered: &[u64], taken: &[u64]) {
     assert!(rt; offered.len() >= 2000);
     assert!(rt; rises(offered));
-    assert_eq!(rt; offered, taken);
+    is_equal(rt, offered, taken);
 }
 
 /// Sorts both lists.

@@ -1,5 +1,6 @@
 //! Each call of `rules` on plain cases: inputs that become known one after another, elements, arrays that are closed.
 
+use crate::asserts::is_equal;
 use rules::input::Input;
 use rules::listing::Rules;
 use smallvec::SmallVec;
@@ -51,7 +52,7 @@ fn an_item_without_inputs_does_not_wait(rt: HostRuntime) -> Result<(), Fail> {
     let alloc = rt.alloc();
     let mut rules = Rules::new(alloc);
     assert!(rt; rules.add(SmallVec::new(alloc), 1)?);
-    assert_eq!(rt; rules.waiting(), 0);
+    is_equal(&rt, rules.waiting(), 0);
     Ok(())
 }
 
@@ -60,7 +61,7 @@ fn two_inputs(rt: &impl Abort, alloc: Global, rules: &mut Rules) -> Result<(), A
     let inputs = whole_up_to(alloc, 2)?;
     assert!(rt; !rules.add(inputs, 5)?);
     assert!(rt; wakes(alloc, rules, Input::Whole(1), &[])?);
-    assert_eq!(rt; rules.waiting(), 1);
+    is_equal(rt, rules.waiting(), 1);
     assert!(rt; wakes(alloc, rules, Input::Whole(2), &[5])?);
     Ok(())
 }
@@ -94,7 +95,7 @@ fn element_and_array(rt: &impl Abort, alloc: Global, rules: &mut Rules) -> Resul
     wait_for_elements(alloc, rules)?;
     assert!(rt; wakes(alloc, rules, element(3, 4), &[6])?);
     assert!(rt; wakes(alloc, rules, Input::Whole(3), &[7])?);
-    assert_eq!(rt; rules.waiting(), 1);
+    is_equal(rt, rules.waiting(), 1);
     Ok(())
 }
 
@@ -113,7 +114,7 @@ fn one_forgotten(rt: &impl Abort, alloc: Global, rules: &mut Rules) -> Result<()
     rules.forget(7);
     rules.forget(9);
     assert!(rt; wakes(alloc, rules, Input::Whole(1), &[8])?);
-    assert_eq!(rt; rules.waiting(), 0);
+    is_equal(rt, rules.waiting(), 0);
     Ok(())
 }
 
@@ -129,7 +130,7 @@ fn a_forgotten_item_is_not_woken(rt: HostRuntime) -> Result<(), Fail> {
 fn two_wait(rt: &impl Abort, alloc: Global, rules: &mut Rules) -> Result<(), AllocError> {
     assert!(rt; !wait_for(alloc, rules, Input::Whole(1), 7)?);
     assert!(rt; !wait_for(alloc, rules, Input::Whole(1), 8)?);
-    assert_eq!(rt; rules.waiting(), 2);
+    is_equal(rt, rules.waiting(), 2);
     Ok(())
 }
 
@@ -192,7 +193,7 @@ fn three_rounds(rt: &impl Abort, alloc: Global, rules: &mut Rules) -> Result<usi
     for round in 0..3u32 {
         half_of_a_thousand(rt, alloc, rules, round * 1000)?;
         woken_items = woken_by_arrays(alloc, rules)?.wrapping_add(woken_items);
-        assert_eq!(rt; rules.waiting(), 0);
+        is_equal(rt, rules.waiting(), 0);
     }
     Ok(woken_items)
 }
@@ -203,7 +204,7 @@ fn many_items_are_each_woken_once(rt: HostRuntime) -> Result<(), Fail> {
     let alloc = rt.alloc();
     let mut rules = Rules::new(alloc);
     let woken_items = three_rounds(&rt, alloc, &mut rules)?;
-    assert_eq!(rt; woken_items, 1500);
+    is_equal(&rt, woken_items, 1500);
     Ok(())
 }
 
@@ -212,7 +213,7 @@ fn three_inputs(rt: &impl Abort, alloc: Global, rules: &mut Rules) -> Result<(),
     rules.reserve_inputs(1, 3)?;
     let inputs = whole_up_to(alloc, 3)?;
     assert!(rt; !rules.add(inputs, 4)?);
-    assert_eq!(rt; rules.waiting(), 1);
+    is_equal(rt, rules.waiting(), 1);
     Ok(())
 }
 

@@ -1,5 +1,6 @@
 //! Numbers by priority, room that comes back, and what is listed.
 
+use crate::asserts::is_equal;
 use std::process::Abort;
 use work_queue::entry::Kind;
 use work_queue::queue::Queue;
@@ -14,10 +15,10 @@ fn put(rt: &impl Abort, queue: &mut Queue, kind: Kind, entries: &[(i32, u64)]) {
 /// The queue gives these numbers one after another, and then none of this kind.
 fn gives(rt: &impl Abort, queue: &mut Queue, kind: Kind, numbers: &[u64]) {
     for no in numbers {
-        assert_eq!(rt; queue.first(kind), Some(*no));
-        assert_eq!(rt; queue.take(kind), Some(*no));
+        is_equal(rt, queue.first(kind), Some(*no));
+        is_equal(rt, queue.take(kind), Some(*no));
     }
-    assert_eq!(rt; queue.take(kind), None);
+    is_equal(rt, queue.take(kind), None);
 }
 
 #[test]
@@ -91,11 +92,11 @@ fn room_comes_back(rt: HostRuntime) {
 fn put_again(rt: &impl Abort, queue: &mut Queue, priority: i32, no: u64) {
     let before = queue.first(Kind::Control);
     if queue.put(Kind::Control, priority, no).is_err() {
-        assert_eq!(rt; queue.first(Kind::Control), before);
+        is_equal(rt, queue.first(Kind::Control), before);
         assert!(rt; !removes(queue, Kind::Control, priority, no));
         put(rt, queue, Kind::Control, &[(priority, no)]);
     }
-    assert_eq!(rt; queue.first(Kind::Control), Some(no));
+    is_equal(rt, queue.first(Kind::Control), Some(no));
 }
 
 /// How many entries are listed, asked for again where memory was refused.
@@ -116,7 +117,7 @@ fn put_five(rt: &impl Abort, queue: &mut Queue) {
 /// Lays room by for three leaves, and where the memory is refused, sees that nothing changed and lays it by again.
 fn reserve_three(rt: &impl Abort, queue: &mut Queue) {
     if queue.reserve(Kind::Leaf, 3).is_err() {
-        assert_eq!(rt; queue.first(Kind::Leaf), None);
+        is_equal(rt, queue.first(Kind::Leaf), None);
         queue.reserve(Kind::Leaf, 3).expect(rt, "memory");
     }
 }
@@ -128,6 +129,6 @@ fn refused_calls_change_nothing(rt: HostRuntime) {
     let mut queue = Queue::new(rt.alloc());
     put_five(&rt, &mut queue);
     reserve_three(&rt, &mut queue);
-    assert_eq!(rt; listed(&rt, &queue), 5);
+    is_equal(&rt, listed(&rt, &queue), 5);
     gives(&rt, &mut queue, Kind::Control, &[5, 4, 3, 2, 1]);
 }

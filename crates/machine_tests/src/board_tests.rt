@@ -1,6 +1,7 @@
 //! Runs of small codes, call by call, and results that are handed in where they do not belong.
 ghost use Rattle.board.specs.Board.{IsWorker};
 
+use crate::asserts::is_equal;
 use board::board::Board;
 use board::refusal::Refusal;
 use board::{Done, Work};
@@ -64,7 +65,7 @@ fn own_on(board: &mut Board, worker: u8, item: u64) -> Result<(), Refusal>
 fn works(rt: &impl Abort, board: &mut Board, worker: u8, item: u64)
     requires { IsWorker worker }
 {
-    assert_eq!(rt; work_on(board, worker, item), Ok(()));
+    is_equal(rt, work_on(board, worker, item), Ok(()));
 }
 
 /// Whether the board has printed the one line `hello`.
@@ -79,16 +80,17 @@ fn prints_hello(board: &Board) -> bool {
 fn prints(rt: &impl Abort, board: &mut Board, worker: u8, done: Done)
     requires { IsWorker worker }
 {
-    assert_eq!(rt; end_on(board, worker, done), Ok(()));
+    is_equal(rt, end_on(board, worker, done), Ok(()));
     assert!(rt; prints_hello(board));
 }
 
 /// A new board has its code and its limit, and only the script can begin.
 fn is_new(rt: &impl Abort, board: &Board) {
-    assert_eq!(rt; (board.limit(), board.code().entry_count()), (100, 1));
-    assert_eq!(rt;
+    is_equal(rt, (board.limit(), board.code().entry_count()), (100, 1));
+    is_equal(
+        rt,
         (board.next(Kind::Control), board.next(Kind::Leaf)),
-        (Some(1), None)
+        (Some(1), None),
     );
 }
 
@@ -97,20 +99,20 @@ fn is_ready(rt: &impl Abort, board: &Board) {
     assert!(rt; board.is_going() && !board.is_quiet());
     let ready = board.ready_items().expect(rt, "memory");
     assert!(rt; ready.as_slice() == [2].as_slice());
-    assert_eq!(rt; board.kind(2), Some(Kind::Leaf));
+    is_equal(rt, board.kind(2), Some(Kind::Leaf));
 }
 
 /// One statement is not over.
 fn has_one_left(rt: &impl Abort, board: &Board) {
     let blocked = board.blocked().expect(rt, "memory");
-    assert_eq!(rt; blocked.len(), 1);
+    is_equal(rt, blocked.len(), 1);
 }
 
 /// The run is over, without a fault, and ended with that item.
 fn is_over(rt: &impl Abort, board: &Board) {
     assert!(rt; board.is_quiet() && board.fault().is_none() && prints_hello(board));
     let last = Event::End { worker: 2, item: 2 };
-    assert_eq!(rt; board.history().last(), Some(&last));
+    is_equal(rt, board.history().last(), Some(&last));
 }
 
 #[test]
@@ -131,29 +133,29 @@ fn has_opened(rt: &impl Abort, board: &Board) {
         Event::End { worker: 3, item: 1 },
     ];
     assert!(rt; board.history().as_slice() == events.as_slice());
-    assert_eq!(rt; (board.kind(1), board.kind(2)), (None, Some(Kind::Leaf)));
+    is_equal(rt, (board.kind(1), board.kind(2)), (None, Some(Kind::Leaf)));
 }
 
 /// An item that is ended as the worker's own has begun and ended in the history, once each, and is over.
 #[test]
 fn an_own_item_ends(rt: HostRuntime) {
     let mut board = hello_board(&rt, rt.alloc(), 100);
-    assert_eq!(rt; own_on(&mut board, 3, 1), Ok(()));
+    is_equal(&rt, own_on(&mut board, 3, 1), Ok(()));
     has_opened(&rt, &board);
 }
 
 /// The script runs on worker 1, which can have its work again; it does not begin again.
 fn runs_on_one(rt: &impl Abort, board: &mut Board) {
     let again = board.work(1, 1).expect(rt, "its work");
-    assert_eq!(rt; again.item(), 1);
-    assert_eq!(rt; begin_on(board, 1, 1), Err(Refusal::NotReady));
+    is_equal(rt, again.item(), 1);
+    is_equal(rt, begin_on(board, 1, 1), Err(Refusal::NotReady));
 }
 
 /// That worker alone gives it back, and once.
 fn is_given_back_once(rt: &impl Abort, board: &mut Board) {
-    assert_eq!(rt; board.back(2, 1), Err(Refusal::NotYours));
-    assert_eq!(rt; board.back(1, 1), Ok(()));
-    assert_eq!(rt; board.back(1, 1), Err(Refusal::NotYours));
+    is_equal(rt, board.back(2, 1), Err(Refusal::NotYours));
+    is_equal(rt, board.back(1, 1), Ok(()));
+    is_equal(rt, board.back(1, 1), Err(Refusal::NotYours));
 }
 
 #[test]
@@ -167,10 +169,10 @@ fn an_item_runs_on_one_worker(rt: HostRuntime) {
 /// No more events are accepted, the end of this work among them, and nothing is offered.
 fn is_ended(rt: &impl Abort, board: &mut Board, done: Done) {
     assert!(rt; !board.is_going());
-    assert_eq!(rt; board.back(0, 1), Err(Refusal::Ended));
-    assert_eq!(rt; end_on(board, 0, done), Err(Refusal::Ended));
-    assert_eq!(rt; begin_on(board, 0, 1), Err(Refusal::Ended));
-    assert_eq!(rt; board.next(Kind::Control), None);
+    is_equal(rt, board.back(0, 1), Err(Refusal::Ended));
+    is_equal(rt, end_on(board, 0, done), Err(Refusal::Ended));
+    is_equal(rt, begin_on(board, 0, 1), Err(Refusal::Ended));
+    is_equal(rt, board.next(Kind::Control), None);
 }
 
 #[test]
@@ -190,7 +192,7 @@ fn others_result(rt: &impl Abort, alloc: Global) -> Done {
 
 /// The result is refused to worker 1, and prints nothing.
 fn refuses(rt: &impl Abort, board: &mut Board, strange: Done) {
-    assert_eq!(rt; end_on(board, 1, strange), Err(Refusal::Stranger));
+    is_equal(rt, end_on(board, 1, strange), Err(Refusal::Stranger));
     assert!(rt; board.lines().is_empty());
 }
 
@@ -248,8 +250,8 @@ fn asserted_result(rt: &impl Abort, alloc: Global, holds: bool) -> Done {
 
 /// The one result is refused to worker 1, and with the other the run is over.
 fn takes(rt: &impl Abort, board: &mut Board, strange: Done, same: Done) {
-    assert_eq!(rt; end_on(board, 1, strange), Err(Refusal::Stranger));
-    assert_eq!(rt; end_on(board, 1, same), Ok(()));
+    is_equal(rt, end_on(board, 1, strange), Err(Refusal::Stranger));
+    is_equal(rt, end_on(board, 1, same), Ok(()));
     assert!(rt; board.is_quiet());
 }
 
@@ -266,7 +268,7 @@ fn other_inputs_are_strange(rt: HostRuntime) {
 /// The result comes too late for worker 4, and is handed back.
 fn comes_too_late(rt: &impl Abort, board: &mut Board, done: Done) -> Done {
     let (done, refused) = board.end(4, done).err().expect(rt, "refused");
-    assert_eq!(rt; refused, Refusal::NotYours);
+    is_equal(rt, refused, Refusal::NotYours);
     done
 }
 
@@ -276,7 +278,7 @@ fn a_result_given_back_is_another_workers(rt: HostRuntime) {
     let mut board = hello_board(&rt, rt.alloc(), 100);
     works(&rt, &mut board, 0, 1);
     let done = done_on(&mut board, 4, 2).expect(&rt, "done");
-    assert_eq!(rt; board.back(4, 2), Ok(()));
+    is_equal(&rt, board.back(4, 2), Ok(()));
     let done = comes_too_late(&rt, &mut board, done);
     begin_on(&mut board, 5, 2).expect(&rt, "begun");
     prints(&rt, &mut board, 5, done);

@@ -1,6 +1,7 @@
 //! Values and faults of expressions, and what items of each kind come to. The expected values are worked out by the rules
 //! of the language: `%/` cuts toward zero, a left operand's fault is met first, and every operator is strict.
 
+use crate::asserts::is_equal;
 use board_work::work::{Done, Job, Work};
 use entry_outcomes::answer::Answer;
 use entry_outcomes::evaluation::{evaluate, evaluate_literal};
@@ -184,7 +185,7 @@ fn a_literal_has_keys_from_0(rt: HostRuntime) {
     let answers = [five()];
     let result = evaluate_literal(rt.alloc(), &exprs, &answers).expect(&rt, "memory");
     let text = result_text(&rt, rt.alloc(), &result);
-    assert_eq!(rt; text.as_str(), "[0]=8[1]=6");
+    is_equal(&rt, text.as_str(), "[0]=8[1]=6");
 }
 
 /// The entry that does this.
@@ -217,7 +218,7 @@ fn job(rt: &impl Abort, alloc: Global, act: Act) -> Job {
 /// The outcome has this text.
 fn is_outcome(rt: &impl Abort, alloc: Global, outcome: &Outcome, wanted: &str) {
     let text = outcome_text(rt, alloc, outcome);
-    assert_eq!(rt; text.as_str(), wanted);
+    is_equal(rt, text.as_str(), wanted);
 }
 
 /// An entry that does this comes to what is wanted, asked for alone.
@@ -322,10 +323,14 @@ fn items_over_arrays(rt: HostRuntime) {
 fn the_script_is_opened(rt: HostRuntime) {
     let alloc = rt.alloc();
     let start = Work::new(7, Job::Script, Vec::new(alloc));
-    assert_eq!(rt; (start.item(), start.kind()), (7, Kind::Control));
+    is_equal(&rt, (start.item(), start.kind()), (7, Kind::Control));
     let done = done(&rt, Job::Script, Vec::new(alloc));
-    assert_eq!(rt; outcome_text(&rt, alloc, done.outcome()).as_str(), "opens");
-    assert_eq!(rt; (done.item(), done.is_script()), (7, true));
+    is_equal(
+        &rt,
+        outcome_text(&rt, alloc, done.outcome()).as_str(),
+        "opens",
+    );
+    is_equal(&rt, (done.item(), done.is_script()), (7, true));
     assert!(rt; done.result().is_none());
 }
 
@@ -373,7 +378,7 @@ fn what_is_done_is_of_its_own_entry(rt: HostRuntime) {
 fn what_is_done_has_a_result(rt: HostRuntime) {
     let done = stored(&rt, rt.alloc(), b"1x+");
     assert!(rt; matches!(done.result(), Some(Ok(Value::One(Scalar::Number(6))))));
-    assert_eq!(rt; done.answers().len(), 1);
+    is_equal(&rt, done.answers().len(), 1);
     assert!(rt; done.into_list().is_empty());
 }
 

@@ -4,6 +4,7 @@ ghost use Rattle.task_code.specs.Code.{Call};
 ghost use Rattle.task_code.specs.View.{argument_view, entry_view, name_view};
 ghost use Rattle.ref_counting.specs.Rights.{HasMarks};
 
+use crate::asserts::is_equal;
 use ref_counting::rights::rights;
 use ref_counting::uses::Right;
 use std::alloc::{AllocError, Global};
@@ -108,7 +109,7 @@ fn a_literal_is_no_datum_to_read(rt: HostRuntime) -> Result<(), Fail> {
     let alloc = rt.alloc();
     let code = calls_itself(alloc)?;
     let reads = rights(alloc, &code, Right::Read)?;
-    assert_eq!(rt; reads.at(0).len(), 0);
-    assert_eq!(rt; reads.at(1).len(), 0);
+    is_equal(&rt, reads.at(0).len(), 0);
+    is_equal(&rt, reads.at(1).len(), 0);
     Ok(())
 }

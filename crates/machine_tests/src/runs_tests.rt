@@ -1,5 +1,6 @@
 //! Runs of `printf("hello");`: whole ones, ones that the limit cuts, and a turn taken by hand.
 
+use crate::asserts::is_equal;
 use board::board::Board;
 use runs::one::run_one;
 use runs::report::{End, Report, last_report, report_of};
@@ -32,9 +33,9 @@ fn is_quiet(rt: &impl Abort, report: &Report) {
 
 /// The item of each of the two workers begins and ends.
 fn has_all_events(rt: &impl Abort, report: &Report) {
-    assert_eq!(rt; report.history.len(), 4);
+    is_equal(rt, report.history.len(), 4);
     let last = Event::End { worker: 1, item: 2 };
-    assert_eq!(rt; report.history.last(), Some(&last));
+    is_equal(rt, report.history.last(), Some(&last));
     assert!(rt; matches!(report.tallies.as_slice(), [2, 2, ..]));
 }
 
@@ -50,7 +51,7 @@ fn is_cut(rt: &impl Abort, report: &Report) {
     assert!(rt; matches!(report.end, End::Limit));
     assert!(rt; report.lines.is_empty());
     let last = Event::Begin { worker: 1, item: 2 };
-    assert_eq!(rt; report.history.last(), Some(&last));
+    is_equal(rt, report.history.last(), Some(&last));
 }
 
 #[test]
@@ -73,7 +74,7 @@ fn takes_a_turn(rt: &impl Abort, board: &mut Board) {
 
 /// The report of the board, which has no events left.
 fn report_at_limit(rt: &impl Abort, alloc: Global, board: &Board) -> Report {
-    assert_eq!(rt; (board.history().len(), board.is_going()), (2, false));
+    is_equal(rt, (board.history().len(), board.is_going()), (2, false));
     report_of(alloc, board).expect(rt, "memory")
 }
 
@@ -83,7 +84,7 @@ fn a_board_without_events_left_is_reported(rt: HostRuntime) {
     takes_a_turn(&rt, &mut board);
     let report = report_at_limit(&rt, rt.alloc(), &board);
     assert!(rt; matches!(report.end, End::Limit));
-    assert_eq!(rt; report.history.len(), 2);
+    is_equal(&rt, report.history.len(), 2);
 }
 
 #[test]
@@ -92,5 +93,5 @@ fn a_board_that_is_not_needed_any_more_is_reported(rt: HostRuntime) {
     takes_a_turn(&rt, &mut board);
     assert!(rt; !board.is_going());
     let report = last_report(rt.alloc(), board).expect(&rt, "memory");
-    assert_eq!(rt; report.history.len(), 2);
+    is_equal(&rt, report.history.len(), 2);
 }

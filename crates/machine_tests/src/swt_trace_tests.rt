@@ -2,6 +2,7 @@
 //! end, and sinks that fail.
 ghost use Rattle.std.specs.Prelude.{◌≡◌};
 
+use crate::asserts::is_equal;
 use board::{Fault, FaultKind, Statement, Step};
 use entry_outcomes::outcome::EntryFault;
 use runs::report::{End, Report};
@@ -43,7 +44,7 @@ fn is_read(rt: &impl Abort, alloc: Global, trace: &[u8], events: &[Event]) {
 /// The text has this line as its first that no trace has there.
 fn is_bad(rt: &impl Abort, alloc: Global, text: &[u8], line: u64) {
     let wanted = Some(TraceFault::BadLine(line));
-    assert_eq!(rt; read_trace(alloc, text).err(), wanted);
+    is_equal(rt, read_trace(alloc, text).err(), wanted);
 }
 
 #[test]
@@ -56,7 +57,7 @@ fn traces_are_read(rt: HostRuntime) {
 /// A beginning is read where it ends behind a line, and else its last line is bad.
 #[test]
 fn beginnings_are_read(rt: HostRuntime) {
-    assert_eq!(rt; HELLO.len(), 36);
+    is_equal(&rt, HELLO.len(), 36);
     for length in 0..36 {
         if length >= 12 && length % 6 == 0 {
             assert!(rt; read_trace(rt.alloc(), &HELLO[..length]).is_ok());
@@ -97,7 +98,7 @@ fn faults_have_texts(rt: HostRuntime) {
         WriteFault::Write,
     );
     let text = format!(in rt.alloc(); "{bad}, {stray}, {refused}").expect(&rt, "memory");
-    assert_eq!(rt; text.as_str(), "T1 BadLine 4, T2 NotARun 5, W1 Write");
+    is_equal(&rt, text.as_str(), "T1 BadLine 4, T2 NotARun 5, W1 Write");
 }
 
 /// A sink that takes at most `at_once` bytes a write, and refuses one write, by its number from 1.
@@ -181,8 +182,8 @@ fn limit_report(rt: &impl Abort, alloc: Global, events: &[Event]) -> Report {
 /// The report's trace is written, so many bytes at once.
 fn is_traced(rt: &impl Abort, alloc: Global, report: &Report, trace: &[u8], at_once: usize) {
     let mut sink = sink_of(alloc, at_once, 0);
-    assert_eq!(rt; write_trace(report, &mut sink).err(), None);
-    assert_eq!(rt; sink.taken.as_slice(), trace);
+    is_equal(rt, write_trace(report, &mut sink).err(), None);
+    is_equal(rt, sink.taken.as_slice(), trace);
 }
 
 /// The trace of these events is written, a few bytes at once or all.
@@ -202,8 +203,8 @@ fn traces_are_written(rt: HostRuntime) {
 /// A report is written as this text, so many bytes at once.
 fn is_text(rt: &impl Abort, alloc: Global, report: &Report, text: &[u8], at_once: usize) {
     let mut sink = sink_of(alloc, at_once, 0);
-    assert_eq!(rt; write_report(report, &mut sink).err(), None);
-    assert_eq!(rt; sink.taken.as_slice(), text);
+    is_equal(rt, write_report(report, &mut sink).err(), None);
+    is_equal(rt, sink.taken.as_slice(), text);
 }
 
 /// A report is written as this text, a few bytes at once or all.
@@ -276,14 +277,14 @@ fn limits_are_shown(rt: HostRuntime) {
 fn has_stopped(rt: &impl Abort, sink: &Failing, text: &[u8], refused: u8) {
     let before = refused.saturating_sub(1) as usize;
     assert!(rt; Some(sink.taken.as_slice()) == text.get(..before));
-    assert_eq!(rt; sink.failures, 1);
+    is_equal(rt, sink.failures, 1);
 }
 
 /// The report's trace is written until that write is refused.
 fn stops_writing(rt: &impl Abort, alloc: Global, report: &Report, refused: u8) {
     let mut sink = sink_of(alloc, 1, refused);
     let fault = write_trace(report, &mut sink).err();
-    assert_eq!(rt; fault, Some(WriteFault::Write));
+    is_equal(rt, fault, Some(WriteFault::Write));
     has_stopped(rt, &sink, HELLO, refused);
 }
 
@@ -300,7 +301,7 @@ fn writing_stops_at_a_refused_write(rt: HostRuntime) {
 fn stops_showing(rt: &impl Abort, alloc: Global, report: &Report, refused: u8) {
     let mut sink = sink_of(alloc, 1, refused);
     let fault = write_report(report, &mut sink).err();
-    assert_eq!(rt; fault, Some(WriteFault::Write));
+    is_equal(rt, fault, Some(WriteFault::Write));
     has_stopped(rt, &sink, b"a\n\nswt: limit 4\n", refused);
 }
 
@@ -325,7 +326,7 @@ fn hello_is_replayed(rt: HostRuntime) {
     let lines = "B 0 1\nE 0 1\nB 2 2\nE 2 2\n";
     let report = replayed(&rt, rt.alloc(), lines).expect(&rt, "a run");
     assert!(rt; matches!(report.end, End::Quiet));
-    assert_eq!(rt; (report.lines.len(), report.history.len()), (1, 4));
+    is_equal(&rt, (report.lines.len(), report.history.len()), (1, 4));
 }
 
 #[test]
@@ -337,7 +338,7 @@ fn a_trace_may_stop_in_the_midst(rt: HostRuntime) {
 #[test]
 fn bad_traces_are_not_replayed(rt: HostRuntime) {
     let bad = replayed(&rt, rt.alloc(), "B 0 1\nE 0\n").err();
-    assert_eq!(rt; bad, Some(ReplayFault::BadLine(3)));
+    is_equal(&rt, bad, Some(ReplayFault::BadLine(3)));
     let stranger = replayed(&rt, rt.alloc(), "B 0 1\nE 1 1\n").err();
-    assert_eq!(rt; stranger, Some(ReplayFault::NotARun(3)));
+    is_equal(&rt, stranger, Some(ReplayFault::NotARun(3)));
 }

@@ -1,5 +1,6 @@
 //! The codes of two scripts, built, read and copied: their entries stand as the listing of each script has them.
 
+use crate::asserts::is_equal;
 use std::alloc::Global;
 use std::process::Abort;
 use task_code::code::{Body, Code, Opener};
@@ -211,10 +212,10 @@ fn hello_copy(rt: &impl Abort, alloc: Global) -> Code {
 
 /// The code has the one entry, which prints, and the one body.
 fn prints_hello(rt: &impl Abort, code: &Code) {
-    assert_eq!(rt; (code.entry_count(), code.body_count()), (1, 1));
+    is_equal(rt, (code.entry_count(), code.body_count()), (1, 1));
     let letters = b"hello".map(|letter| Piece::Byte(letter));
     assert!(rt; printed(code, 0) == Some(letters.as_slice()));
-    assert_eq!(rt; code.kind(0), Kind::Leaf);
+    is_equal(rt, code.kind(0), Kind::Leaf);
 }
 
 #[test]
@@ -238,15 +239,15 @@ fn is_entry(rt: &impl Abort, code: &Draft, number: u32, letter: u8, mark: usize)
     } else {
         Kind::Leaf
     };
-    assert_eq!(rt; (code.kind(number), code.priority(number)), (kind, 0));
+    is_equal(rt, (code.kind(number), code.priority(number)), (kind, 0));
     assert_eq!(rt; shared_mark(rt, code, number), Some(mark), "at {number}");
 }
 
 /// The body of the second branch has its opener, and so many entries and variables.
 fn has_branch(rt: &impl Abort, code: &Draft) {
     let branch = code.body(3).expect(rt, "a body");
-    assert_eq!(rt; branch.opener, Opener::ByStep(3));
-    assert_eq!(rt; (branch.entries.len(), branch.makes.len()), (5, 4));
+    is_equal(rt, branch.opener, Opener::ByStep(3));
+    is_equal(rt, (branch.entries.len(), branch.makes.len()), (5, 4));
 }
 
 /// A copy of the code of the Fibonacci numbers.
@@ -258,7 +259,7 @@ fn fibonacci_copy(rt: &impl Abort, alloc: Global) -> Draft {
 #[test]
 fn fibonacci_is_read_and_copied(rt: HostRuntime) {
     let code = fibonacci_copy(&rt, rt.alloc());
-    assert_eq!(rt; (code.entry_count(), code.body_count()), (10, 4));
+    is_equal(&rt, (code.entry_count(), code.body_count()), (10, 4));
     let marks = [92, 79, 25, 21, 34, 58, 54, 69, 65, 50];
     for (number, (kind, mark)) in b"CLLCLLCLCL".iter().zip(marks.iter()).enumerate() {
         is_entry(&rt, &code, number as u32, *kind, *mark);
@@ -276,6 +277,6 @@ fn operators_are_those_of_values(rt: HostRuntime) {
 #[test]
 fn events_are_compared(rt: HostRuntime) {
     let begin = Event::Begin { worker: 1, item: 7 };
-    assert_eq!(rt; begin, begin);
+    is_equal(&rt, begin, begin);
     assert_ne!(rt; begin, Event::End { worker: 1, item: 7 });
 }

@@ -1,4 +1,5 @@
 //! Scripts that are accepted, with their code, and the first refusal of those that are not.
+use crate::asserts::is_equal;
 use compile::compile::compile;
 use compile::fault::CompileFault;
 use std::alloc::Global;
@@ -53,7 +54,7 @@ fn counts_entries_and_bodies(rt: HostRuntime) -> Result<(), Fail> {
         ),
     ];
     for (src, counts) in rows {
-        assert_eq!(rt; counts_of(alloc, src)?, counts);
+        is_equal(&rt, counts_of(alloc, src)?, counts);
     }
     Ok(())
 }
@@ -73,7 +74,7 @@ fn refuses(rt: HostRuntime) -> Result<(), Fail> {
         (b"(int r) f() { }", "S6 OutputUnassigned 5 6"),
     ];
     for (src, wanted) in rows {
-        assert_eq!(rt; refusal(alloc, src)?.as_str(), wanted);
+        is_equal(&rt, refusal(alloc, src)?.as_str(), wanted);
     }
     Ok(())
 }
@@ -144,7 +145,7 @@ fn has_placed_operands(rt: &impl Abort, code: &Code) {
     assert!(rt; is_body(code, 1, 2));
     assert!(rt; waits_for(code, 0, 0, &[]));
     assert!(rt; waits_for(code, 1, 11, &[0]));
-    assert_eq!(rt; (code.priority(0), code.priority(1)), (0, 3));
+    is_equal(rt, (code.priority(0), code.priority(1)), (0, 3));
     assert!(rt; prints_need_and_seven(code, 1));
 }
 

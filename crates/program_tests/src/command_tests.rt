@@ -1,4 +1,5 @@
 //! Commands on small scripts: what they print, what they say, the trace, and the status.
+use crate::asserts::is_equal;
 use crate::doing::{Small, WIDE, perform};
 use std::alloc::Global;
 use std::process::Abort;
@@ -34,7 +35,7 @@ fn does_so<R: Threads + Wait + Sync + Abort>(
     wanted: &str,
 ) -> Result<(), Fail> {
     let text = done_in(rt, alloc, line, &[Some(source)], WIDE)?;
-    assert_eq!(rt; text.as_str(), wanted);
+    is_equal(rt, text.as_str(), wanted);
     Ok(())
 }
 
@@ -245,7 +246,7 @@ fn replays<R: Threads + Wait + Sync + Abort>(
 ) -> Result<(), Fail> {
     let sources = [Some(HELLO), Some(trace)];
     let text = done_in(rt, alloc, "replay f t", &sources, WIDE)?;
-    assert_eq!(rt; text.as_str(), wanted);
+    is_equal(rt, text.as_str(), wanted);
     Ok(())
 }
 
@@ -329,7 +330,7 @@ fn lacks_memory(rt: HostRuntime) -> Result<(), Fail> {
     let alloc = rt.alloc();
     let mut err = Small::new(alloc, 1000);
     assert!(rt; tell(Trouble::Memory, "f", &mut err).is_ok());
-    assert_eq!(rt; err.bytes.as_slice(), b"swt: no memory\n".as_slice());
-    assert_eq!(rt; Trouble::Memory.status().number(), 6);
+    is_equal(&rt, err.bytes.as_slice(), b"swt: no memory\n".as_slice());
+    is_equal(&rt, Trouble::Memory.status().number(), 6);
     Ok(())
 }

@@ -1,4 +1,5 @@
 //! The status that a report of a run comes with, and its number.
+use crate::asserts::is_equal;
 use compile::compile::compile;
 use exit_status::status::{Status, status_of};
 use runs::one::run_one;
@@ -14,24 +15,26 @@ fn status_in(alloc: Global, script: &[u8]) -> Result<Status, Fail> {
 #[test]
 fn a_report_has_its_status(rt: HostRuntime) -> Result<(), Fail> {
     let alloc = rt.alloc();
-    assert_eq!(rt; status_in(alloc, b"printf(\"a\");")?, Status::Done);
-    assert_eq!(rt;
+    is_equal(&rt, status_in(alloc, b"printf(\"a\");")?, Status::Done);
+    is_equal(
+        &rt,
         status_in(
             alloc,
-            b"int x = 9223372036854775807 + 1; printf(\"%i\", x);"
+            b"int x = 9223372036854775807 + 1; printf(\"%i\", x);",
         )?,
-        Status::Fault
+        Status::Fault,
     );
-    assert_eq!(rt;
+    is_equal(
+        &rt,
         status_in(alloc, b"int x; int y; x = y; y = x; printf(\"%i\", x);")?,
-        Status::Blocked
+        Status::Blocked,
     );
     Ok(())
 }
 
 #[test]
 fn a_status_has_its_number(rt: HostRuntime) {
-    assert_eq!(rt; Status::Done.number(), 0);
-    assert_eq!(rt; Status::Fault.number(), 3);
-    assert_eq!(rt; Status::Failed.number(), 7);
+    is_equal(&rt, Status::Done.number(), 0);
+    is_equal(&rt, Status::Fault.number(), 3);
+    is_equal(&rt, Status::Failed.number(), 7);
 }

@@ -5,6 +5,8 @@
 #[cfg(test)]
 mod arena_tests;
 #[cfg(test)]
+mod asserts;
+#[cfg(test)]
 mod code_tests;
 #[cfg(test)]
 mod command_tests;

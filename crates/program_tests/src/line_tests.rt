@@ -1,4 +1,5 @@
 //! Each command on plain words, its defaults and ranges, and words that are no command.
+use crate::asserts::is_equal;
 use crate::doing::{request_of, words_of};
 use std::alloc::Global;
 use std::process::Abort;
@@ -116,7 +117,7 @@ fn shown(alloc: Global, line: &str) -> Result<String, Fail> {
 /// The words of a line are shown so.
 fn is_shown(rt: &impl Abort, alloc: Global, line: &str, text: &str) -> Result<(), Fail> {
     let found = shown(alloc, line)?;
-    assert_eq!(rt; found.as_str(), text);
+    is_equal(rt, found.as_str(), text);
     Ok(())
 }
 
@@ -269,7 +270,7 @@ fn names_of(alloc: Global, files: &[Word]) -> Result<String, Fail> {
 fn needs_files(rt: &impl Abort, alloc: Global, request: &Request, names: &str) -> Result<(), Fail> {
     let files = request.line.files(alloc)?;
     let found = names_of(alloc, files.as_slice())?;
-    assert_eq!(rt; found.as_str(), names);
+    is_equal(rt, found.as_str(), names);
     Ok(())
 }
 
@@ -295,17 +296,17 @@ fn files_to_be_read(rt: HostRuntime) -> Result<(), Fail> {
 #[test]
 fn single_words(rt: HostRuntime) -> Result<(), Fail> {
     let alloc = rt.alloc();
-    assert_eq!(rt; Command::of("replay"), Some(Command::Replay));
-    assert_eq!(rt; Command::of("replays"), None);
+    is_equal(&rt, Command::of("replay"), Some(Command::Replay));
+    is_equal(&rt, Command::of("replays"), None);
     let word = Word::new(String::from_str(alloc, "-x")?);
-    assert_eq!(rt; word.copy(alloc)?.as_str(), "-x");
+    is_equal(&rt, word.copy(alloc)?.as_str(), "-x");
     Ok(())
 }
 
 /// The complaint has this text.
 fn has_text(rt: &impl Abort, alloc: Global, wrong: Complaint<'_>, text: &str) -> Result<(), Fail> {
     let found = format!(in alloc; "{wrong}")?;
-    assert_eq!(rt; found.as_str(), text);
+    is_equal(rt, found.as_str(), text);
     Ok(())
 }
 
@@ -353,6 +354,6 @@ fn usage_has_a_text(rt: HostRuntime) -> Result<(), Fail> {
 #[test]
 fn lack_of_memory_has_a_text(rt: HostRuntime) -> Result<(), Fail> {
     let text = format!(in rt.alloc(); "{}", LineFault::Memory)?;
-    assert_eq!(rt; text.as_str(), "no memory");
+    is_equal(&rt, text.as_str(), "no memory");
     Ok(())
 }

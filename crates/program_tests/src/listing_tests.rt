@@ -1,4 +1,5 @@
 //! Listings of small scripts: each word of an entry, `else if`, merged waits, priorities, functions that are called before they stand, literals as arguments.
+use crate::asserts::is_equal;
 use compile::compile::{drawn, listed};
 use std::alloc::Global;
 use std::process::Abort;
@@ -64,7 +65,7 @@ const LOOPS: (&[u8], &str) = (
 /// The script has this listing.
 fn is_listed(rt: &impl Abort, alloc: Global, script: &[u8], wanted: &str) -> Result<(), Fail> {
     let text = listed(alloc, alloc, script)?;
-    assert_eq!(rt; text.as_slice(), wanted.as_bytes());
+    is_equal(rt, text.as_slice(), wanted.as_bytes());
     Ok(())
 }
 
@@ -115,6 +116,6 @@ const DRAWING: &str = "digraph code {
 fn draws_code(rt: HostRuntime) -> Result<(), Fail> {
     let alloc = rt.alloc();
     let text = drawn(alloc, alloc, b"boolean x=true;if (x) { printf(\"x\"); }")?;
-    assert_eq!(rt; text.as_slice(), DRAWING.as_bytes());
+    is_equal(&rt, text.as_slice(), DRAWING.as_bytes());
     Ok(())
 }

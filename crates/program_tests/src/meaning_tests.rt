@@ -1,4 +1,5 @@
 //! Rounds over small scripts.
+use crate::asserts::is_equal;
 use crate::doing::known_of;
 use compile::compile::read;
 use flow_sites::table::Sites;
@@ -17,8 +18,8 @@ const SWAPPED: &[u8] = b"int x; int y; x = y + 1; y = 2; printf(\"%i\", x);";
 /// It prints this line, and no other.
 fn prints_line(rt: &impl Abort, known: &Knowledge, line: &[u8]) -> Result<(), Fail> {
     let lines = known.lines_sorted()?;
-    assert_eq!(rt; lines.len(), 1);
-    assert_eq!(rt; lines[0].as_bytes(), line);
+    is_equal(rt, lines.len(), 1);
+    is_equal(rt, lines[0].as_bytes(), line);
     Ok(())
 }
 
@@ -33,7 +34,7 @@ fn ends_well(rt: &impl Abort, known: &Knowledge) -> Result<(), Fail> {
 fn is_known_in_three_rounds(rt: &impl Abort, known: &Knowledge) -> Result<(), Fail> {
     assert!(rt; known.finished());
     assert!(rt; known.is_clean());
-    assert_eq!(rt; known.rounds, 3);
+    is_equal(rt, known.rounds, 3);
     prints_line(rt, known, b"3")?;
     ends_well(rt, known)
 }
@@ -54,9 +55,9 @@ fn one_round_is_not_enough(rt: HostRuntime) -> Result<(), Fail> {
 /// Two statements are blocked, which stand at 14 and at 21.
 fn are_blocked(rt: &impl Abort, known: &Knowledge) -> Result<(), Fail> {
     let blocked = known.blocked()?;
-    assert_eq!(rt; blocked.len(), 2);
-    assert_eq!(rt; blocked[0].at, 14);
-    assert_eq!(rt; blocked[1].at, 21);
+    is_equal(rt, blocked.len(), 2);
+    is_equal(rt, blocked[0].at, 14);
+    is_equal(rt, blocked[1].at, 21);
     Ok(())
 }
 
@@ -69,9 +70,9 @@ fn statements_in_a_circle_are_blocked(rt: HostRuntime) -> Result<(), Fail> {
 
 /// The statement at 21 waits for one input.
 fn lacks_one(rt: &impl Abort, waiting: &Waiting<'_, '_, Global>) {
-    assert_eq!(rt; waiting.site.at(), 21);
-    assert_eq!(rt; waiting.instance, 0);
-    assert_eq!(rt; waiting.missing.len(), 1);
+    is_equal(rt, waiting.site.at(), 21);
+    is_equal(rt, waiting.instance, 0);
+    is_equal(rt, waiting.missing.len(), 1);
 }
 
 /// This statement waits for what is not known.
@@ -98,7 +99,7 @@ fn second_waits(
     known: &Knowledge,
 ) -> Result<(), Fail> {
     let blocked = known.blocked()?;
-    assert_eq!(rt; blocked.len(), 2);
+    is_equal(rt, blocked.len(), 2);
     waits(rt, alloc, sites, known, &blocked[1])
 }
 
@@ -115,8 +116,8 @@ fn a_blocked_statement_waits_for_what_is_not_known(rt: HostRuntime) -> Result<()
 /// It has one fault, of the turn of key 5 of a loop.
 fn has_fault_in_turn(rt: &impl Abort, known: &Knowledge) -> Result<(), Fail> {
     let faults = known.faults()?;
-    assert_eq!(rt; faults.len(), 1);
-    assert_eq!(rt; faults[0].statement.path.len(), 1);
+    is_equal(rt, faults.len(), 1);
+    is_equal(rt, faults[0].statement.path.len(), 1);
     assert!(rt; faults[0].statement.path[0].key.is_same(&Key::Number(5)));
     Ok(())
 }

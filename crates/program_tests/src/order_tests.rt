@@ -1,5 +1,6 @@
 //! Every order in which small scripts can run, each compared with what the script means, worked out by rounds, and with what is
 //! written here.
+use crate::asserts::is_equal;
 use crate::doing::known_of;
 use board::board::Board;
 use board::{Fault, Statement, Step};
@@ -322,7 +323,7 @@ fn has_orders(rt: &impl Abort, alloc: Global, script: &[u8], wanted: u32) -> Res
         known: &known,
         written: None,
     };
-    assert_eq!(rt; orders_of(alloc, script, 1000, &meant)?, Some(wanted));
+    is_equal(rt, orders_of(alloc, script, 1000, &meant)?, Some(wanted));
     Ok(())
 }
 
@@ -468,7 +469,7 @@ fn run_of(alloc: Global, script: &[u8], choices: &[u32]) -> Result<Report, Fail>
 /// The report says this.
 fn tells(rt: &impl Abort, alloc: Global, report: &Report, wanted: &[u8]) -> Result<(), Fail> {
     let out = told(alloc, report)?;
-    assert_eq!(rt; out.bytes(), wanted);
+    is_equal(rt, out.bytes(), wanted);
     Ok(())
 }
 
@@ -476,7 +477,7 @@ fn tells(rt: &impl Abort, alloc: Global, report: &Report, wanted: &[u8]) -> Resu
 fn has_events(rt: &impl Abort, alloc: Global, report: &Report, events: &[u8]) -> Result<(), Fail> {
     let mut trace = Buffer::new(alloc);
     write_trace(report, &mut trace)?;
-    assert_eq!(rt; trace.bytes(), events);
+    is_equal(rt, trace.bytes(), events);
     Ok(())
 }
 

@@ -1,5 +1,6 @@
 //! Faults that a round adds of a live statement, in the script's own instance and where the path is as long as can be.
 
+use crate::asserts::is_equal;
 use flow::name::{Name, Owned};
 use path_faults::faults::{add_deep, add_deep_items, add_fault};
 use path_faults::site::Site;
@@ -43,12 +44,12 @@ fn deepest(alloc: Global) -> Result<(Learned, usize), Fail> {
 
 /// It is one fault, of this kind, at a node of the statement.
 fn is_fault(rt: &impl Abort, news: &Vec<Fact>, kind: FaultKind, site: Site, node: u32) {
-    assert_eq!(rt; news.len(), 1);
+    is_equal(rt, news.len(), 1);
     match &news[0] {
         Fact::Fault(fault) => {
-            assert_eq!(rt; fault.kind, kind);
-            assert_eq!(rt; fault.at, site.at);
-            assert_eq!(rt; fault.place, site.place(node));
+            is_equal(rt, fault.kind, kind);
+            is_equal(rt, fault.at, site.at);
+            is_equal(rt, fault.place, site.place(node));
         }
         _ => assert!(rt; false),
     }

@@ -1,4 +1,5 @@
 //! The refusal of a text, and how it is shown.
+use crate::asserts::is_equal;
 use compile::fault::CompileFault;
 use refusals::refusal::Refusal;
 use refusals::verdict::verdict;
@@ -15,7 +16,7 @@ fn a_script_has_no_refusal(rt: HostRuntime) -> Result<(), Fail> {
 fn a_text_that_is_no_script_has_one(rt: HostRuntime) -> Result<(), Fail> {
     let alloc = rt.alloc();
     let refusal = verdict(alloc, alloc, b"int x = 1; x = 2;")?.expect(&rt, "a refusal");
-    assert_eq!(rt; refusal.text().as_str(), "S1 AssignedTwice 11 12");
+    is_equal(&rt, refusal.text().as_str(), "S1 AssignedTwice 11 12");
     Ok(())
 }
 

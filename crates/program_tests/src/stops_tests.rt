@@ -1,4 +1,5 @@
 //! Traces that are run again, and where a command stops at one.
+use crate::asserts::is_equal;
 use compile::compile::compile;
 use std::alloc::{AllocError, Global};
 use std::test::Fail;
@@ -19,22 +20,28 @@ fn events_of(alloc: Global, trace: &[u8]) -> Result<Result<usize, Stop>, Fail> {
 #[test]
 fn a_trace_is_run_again(rt: HostRuntime) -> Result<(), Fail> {
     let alloc = rt.alloc();
-    assert_eq!(rt; events_of(alloc, b"swt-trace 1\nB 0 1\nE 0 1\n")?, Ok(2));
+    is_equal(
+        &rt,
+        events_of(alloc, b"swt-trace 1\nB 0 1\nE 0 1\n")?,
+        Ok(2),
+    );
     let trouble = Trouble::NotARun(2);
-    assert_eq!(rt;
+    is_equal(
+        &rt,
         events_of(alloc, b"swt-trace 1\nE 0 1\n")?,
-        Err(Stop { place: 1, trouble })
+        Err(Stop { place: 1, trouble }),
     );
     let trouble = Trouble::BadLine(1);
-    assert_eq!(rt;
+    is_equal(
+        &rt,
         events_of(alloc, b"no trace\n")?,
-        Err(Stop { place: 1, trouble })
+        Err(Stop { place: 1, trouble }),
     );
     Ok(())
 }
 
 #[test]
 fn trouble_has_a_status(rt: HostRuntime) {
-    assert_eq!(rt; Trouble::NotARun(2).status().number(), 7);
-    assert_eq!(rt; Trouble::BadCount.status().number(), 2);
+    is_equal(&rt, Trouble::NotARun(2).status().number(), 7);
+    is_equal(&rt, Trouble::BadCount.status().number(), 2);
 }

@@ -1,4 +1,5 @@
 //! Scripts of the whole language: what a run prints, and its trace run again, which prints the same.
+use crate::asserts::is_equal;
 use crate::doing::{Done, WIDE, perform, sorted_text};
 use std::alloc::Global;
 use std::sync::Wait;
@@ -120,7 +121,7 @@ fn branches_waits_and_calls(rt: HostRuntime) -> Result<(), Fail> {
             4,
         ),
     ];
-    assert_eq!(rt; first_other(&rt, rt.alloc(), &rows)?, None);
+    is_equal(&rt, first_other(&rt, rt.alloc(), &rows)?, None);
     Ok(())
 }
 
@@ -175,7 +176,7 @@ fn arrays_and_loops(rt: HostRuntime) -> Result<(), Fail> {
             4,
         ),
     ];
-    assert_eq!(rt; first_other(&rt, rt.alloc(), &rows)?, None);
+    is_equal(&rt, first_other(&rt, rt.alloc(), &rows)?, None);
     Ok(())
 }
 
@@ -213,7 +214,7 @@ fn faults(rt: HostRuntime) -> Result<(), Fail> {
             3,
         ),
     ];
-    assert_eq!(rt; first_other(&rt, rt.alloc(), &rows)?, None);
+    is_equal(&rt, first_other(&rt, rt.alloc(), &rows)?, None);
     Ok(())
 }
 

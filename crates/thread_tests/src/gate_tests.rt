@@ -1,4 +1,5 @@
 //! Leaf items that run side by side, offers and draws, and what a gate learns of a run.
+use crate::asserts::is_equal;
 use crate::gates::{Held, Watched};
 use crate::threaded::{MANY, is_whole, run_of};
 use std::alloc::Global;
@@ -38,7 +39,7 @@ fn eight_leaves_run_side_by_side(rt: HostRuntime) -> Result<(), Fail> {
 
 /// Each item that came to be ready, in that loop, was offered or found no hole, and some were drawn.
 fn were_offered(rt: &impl Abort, count: &PoolCount) {
-    assert_eq!(rt; count.offered.saturating_add(count.full), 1016);
+    is_equal(rt, count.offered.saturating_add(count.full), 1016);
     assert!(rt; count.drawn > 0);
 }
 
@@ -48,7 +49,7 @@ fn what_a_loop_makes_ready_is_offered_and_drawn(rt: HostRuntime) -> Result<(), F
     let gate = Held::new(&rt, 1, 1, 3);
     let (report, count) = run_of(&rt, rt.alloc(), script, (1, 1), MANY, &gate)?;
     assert!(rt; !gate.ran_out());
-    assert_eq!(rt; report.history.len(), 2034);
+    is_equal(&rt, report.history.len(), 2034);
     were_offered(&rt, &count);
     is_whole(&rt, rt.alloc(), &report, 1000)
 }
@@ -59,8 +60,8 @@ fn a_gate_learns_how_far_the_run_is(rt: HostRuntime) -> Result<(), Fail> {
         b"int x; int y; x = y; foreach i in [1:100] { printf(\"%i\", i); } foreach i in [1:10] { printf(\"%i\", x); } y = 2 + x;";
     let gate = Watched::new();
     let (report, _count) = run_of(&rt, rt.alloc(), script, (1, 3), MANY, &gate)?;
-    assert_eq!(rt; report.lines.len(), 100);
+    is_equal(&rt, report.lines.len(), 100);
     let events = report.history.len() as u64;
-    assert_eq!(rt; gate.last(), (events, 100, 12));
+    is_equal(&rt, gate.last(), (events, 100, 12));
     Ok(())
 }

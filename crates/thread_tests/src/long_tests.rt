@@ -1,4 +1,5 @@
 //! A long run on as many threads as there may be.
+use crate::asserts::is_equal;
 use crate::threaded::{MANY, adds_up, run_of};
 use runs::report::{End, Report};
 use std::test::Fail;
@@ -18,8 +19,8 @@ fn ten_million_events_on_64_threads(rt: HostRuntime) -> Result<(), Fail> {
     let script = b"foreach i in [1:4000000] { int x = i + 1; int y = x * 2; }";
     let (report, count) = run_of(&rt, rt.alloc(), script, (8, 56), MANY, &Open)?;
     assert!(rt; matches!(report.end, End::Limit));
-    assert_eq!(rt; report.history.len(), 10_000_000);
-    assert_eq!(rt; told(&report), MANY);
+    is_equal(&rt, report.history.len(), 10_000_000);
+    is_equal(&rt, told(&report), MANY);
     adds_up(&rt, &count);
     Ok(())
 }
