@@ -1,5 +1,5 @@
 -- What a command owes for the files that its line names: what it prints, what it says of its failure, its trace and its status.
-use Rattle.std.specs.Prelude.{◌≡◌, ℕ, List, Result, Ok, Err, is_some}
+use Rattle.std.specs.Prelude.{◌≡◌, ℕ, Result, Ok, Err, is_some}
 use Rattle.swt_line.specs.declared.line.Line.{Line}
 use Rattle.swt_line.specs.declared.line.Line.TheVariants.{Check, Mean, Code, Run, Replay}
 use Rattle.swt_line.specs.Lines.{files_of}
