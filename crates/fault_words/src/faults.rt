@@ -8,7 +8,7 @@ use blocked_words::words::{add_mark, say, say_start};
 use explanation::position::line_begin;
 use flow::script::Flow;
 use script_meaning::knowledge::Knowledge;
-use script_meaning::rounds::rounds;
+use script_rounds::rounds;
 use std::alloc::{AllocError, Allocator, Global};
 use std::collections::HashMap;
 use unknown_inputs::blocking::instance_at;

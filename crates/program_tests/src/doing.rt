@@ -2,7 +2,7 @@
 use bumpalo::Bump;
 use compile::compile::read;
 use script_meaning::knowledge::Knowledge;
-use script_meaning::rounds::rounds;
+use script_rounds::rounds;
 use std::alloc::{AllocError, Global};
 use std::sync::Wait;
 use std::test::Fail;

@@ -5,12 +5,14 @@ use compile::compile::read;
 use flow_sites::table::Sites;
 use script_meaning::knowledge::Knowledge;
 use script_meaning::order::Statement;
-use script_meaning::rounds::rounds;
+use script_meaning::settle::settle;
+use script_rounds::rounds;
 use std::alloc::Global;
 use std::process::Abort;
 use std::test::Fail;
 use unknown_inputs::blocking::{Waiting, inputs_blocking};
 use values::key::Key;
+use whole_rounds::state::State;
 
 /// A script whose first assignment waits for its second.
 const SWAPPED: &[u8] = b"int x; int y; x = y + 1; y = 2; printf(\"%i\", x);";
@@ -43,6 +45,23 @@ fn is_known_in_three_rounds(rt: &impl Abort, known: &Knowledge) -> Result<(), Fa
 fn a_value_is_used_in_the_round_behind_it(rt: HostRuntime) -> Result<(), Fail> {
     let known = known_of(rt.alloc(), SWAPPED, 10)?;
     is_known_in_three_rounds(&rt, &known)
+}
+
+/// What is known of a script before its first round, where all that is ready is open and all that is finished is closed.
+fn known_at_first(alloc: Global, script: &[u8]) -> Result<Knowledge, Fail> {
+    let flow = read(alloc, alloc, script)?;
+    let mut state = State::new(alloc, &flow)?;
+    settle(&mut state, alloc)?;
+    Ok(Knowledge::of(alloc, state, 0, false)?)
+}
+
+#[test]
+fn an_array_without_writers_is_closed_at_first(rt: HostRuntime) -> Result<(), Fail> {
+    let known = known_at_first(rt.alloc(), b"int A[]; int B[]; B[0] = 1;")?;
+    assert_eq!(rt; known.rounds, 0);
+    assert!(rt; !known.finished());
+    assert_eq!(rt; known.learned.closed.len(), 1);
+    Ok(())
 }
 
 #[test]

@@ -29,7 +29,11 @@ pub struct Knowledge {
 
 impl Knowledge {
     /// The knowledge that a state has.
-    pub(crate) fn of<'a, A: Allocator>(
+    ///
+    /// # Errors
+    ///
+    /// `AllocError` where memory that was asked for was refused.
+    pub fn of<'a, A: Allocator>(
         alloc: Global,
         state: State<'a, A>,
         rounds: u32,

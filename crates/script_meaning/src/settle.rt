@@ -16,10 +16,11 @@ use whole_rounds::state::State;
 
 /// Makes live and closed what is so by the facts that are known: opens all that is ready and closes the arrays whose blocks are
 /// done, by turns until nothing more closes.
-pub(crate) fn settle<'a, A: Allocator>(
-    state: &mut State<'a, A>,
-    alloc: Global,
-) -> Result<(), AllocError>
+///
+/// # Errors
+///
+/// `AllocError` where memory that was asked for was refused, and behind so many turns as there are addresses.
+pub fn settle<'a, A: Allocator>(state: &mut State<'a, A>, alloc: Global) -> Result<(), AllocError>
     ensures so { OnOk result ((s : Core) (n : ℕ) → s ≡ core_of state.old.flow.now → WellFormed s → SinglyAssigned s → OffsetsApart s → IsBetween s n state.old
         → IsBetween s n state.new × IsAfter s n state.new.learned (tasks_of state.new) (telling_of state.new)) }
     ensures flow { state.new.flow.now ≡ state.old.flow.now }

@@ -11,7 +11,7 @@ use fault_words::limits::add_limit_of_rounds;
 use fault_words::printed::Printed;
 use flow::script::Flow;
 use script_meaning::knowledge::Knowledge;
-use script_meaning::rounds::rounds;
+use script_rounds::rounds;
 use std::alloc::{AllocError, Global};
 
 /// What is told of a script.

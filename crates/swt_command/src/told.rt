@@ -15,7 +15,7 @@ use bumpalo::Bump;
 use compile::compile::read;
 use flow::script::Flow;
 use script_meaning::order::{Fault as MeantFault, Statement as MeantStatement};
-use script_meaning::rounds::rounds;
+use script_rounds::rounds;
 use std::alloc::{AllocError, Global};
 use stops::stop::Stop;
 use stops::trouble::Trouble;

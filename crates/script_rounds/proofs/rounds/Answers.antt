@@ -10,7 +10,7 @@ use Rattle.whole_rounds.specs.Going.{IsBetween}
 use Rattle.whole_rounds.specs.Made.{tasks_of, telling_of}
 use Rattle.whole_rounds.proofs.Listed.{none_of_few, not_both}
 use Rattle.script_meaning.proofs.Knowing.{empty_so, finished_so, is_known, next_between, not_empty, starts_between, unfinished_so}
-use Rattle.script_meaning.proofs.rounds.rounds.Goals as goal
+use Rattle.script_rounds.proofs.rounds.Goals as goal
 
 pub loop-round-init : goal.loop-round-init
 loop-round-init g c =

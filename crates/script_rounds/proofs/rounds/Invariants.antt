@@ -7,7 +7,7 @@ use Rattle.syntax_trees.specs.Table.{Table}
 use Rattle.syntax_trees.specs.Tree.{Tree}
 use Rattle.syntax_trees.specs.Typing.{WellTyped}
 use Rattle.whole_rounds.specs.Going.{IsBetween}
-use Rattle.script_meaning.proofs.rounds.rounds.Given as goal
+use Rattle.script_rounds.proofs.rounds.Given as goal
 
 abbrev pub invariant-loop-round : goal.invariant-loop-round
 invariant-loop-round g l = record {

@@ -1,4 +1,6 @@
-//! The rounds: each adds what follows from what was known before.
+//! The rounds of a whole script: each adds what follows from what was known before.
+#![tactic(auto)]
+
 ghost use Rattle.std.specs.Prelude.{◌≡◌, ◌≤◌, ℕ, List, false, IfOk};
 ghost use Rattle.flow.specs.View.{core_of};
 ghost use Rattle.syntax_trees.specs.Reads.{Reads};
@@ -9,9 +11,9 @@ ghost use Rattle.syntax_trees.specs.Tree.{Tree};
 ghost use Rattle.syntax_trees.specs.Typing.{WellTyped};
 ghost use Rattle.script_meaning.specs.Known.{IsKnowledgeOf};
 
-use crate::knowledge::Knowledge;
-use crate::settle::settle;
 use flow::script::Flow;
+use script_meaning::knowledge::Knowledge;
+use script_meaning::settle::settle;
 use std::alloc::{AllocError, Allocator, Global};
 use whole_rounds::state::State;
 
