@@ -1,6 +1,6 @@
 //! What is said of a run when it is over.
 ghost use Rattle.std.specs.Prelude.{◌≡◌, IfOk, map};
-ghost use Rattle.runs.specs.Report.{AreBlockedAt, EndsAs, IsOver, Reports, Tells, line_bytes};
+ghost use Rattle.runs.specs.Report.{AreBlockedAt, AreTallies, EndsAs, IsOver, Reports, Tells, line_bytes};
 
 use crate::tally::tallies;
 use board::board::Board;
@@ -39,6 +39,57 @@ pub struct Report {
     pub tallies: [u32; 64],
 }
 
+/// What is said of a run but its events.
+#[derive(Drop)]
+struct Told {
+    code: Code,
+    lines: Vec<Text>,
+    end: End,
+    blocked: Vec<Statement>,
+    tallies: [u32; 64],
+}
+
+/// What is said of a board on which nothing is left to be done, but its events.
+fn told(alloc: Global, board: &Board) -> Result<Told, AllocError>
+    requires { IsOver board.now }
+    ensures code { IfOk result (λ told. told.code ≡ board.now.code) }
+    ensures lines { IfOk result (λ told. told.lines.items ≡ map line_bytes board.now.state.lines) }
+    ensures end { IfOk result (λ told. EndsAs board.now told.end) }
+    ensures blocked { IfOk result (λ told. AreBlockedAt board.now told.end told.blocked.items) }
+    ensures tallies { IfOk result (λ told. AreTallies board.now.history told.tallies) }
+{
+    let (end, blocked) = end_of(alloc, board)?;
+    Ok(Told {
+        code: board.code().copy()?,
+        lines: texts(alloc, board.lines())?,
+        end,
+        blocked,
+        tallies: tallies(board.history()),
+    })
+}
+
+/// What is said of a run, with its events.
+fn with_events(told: Told, history: Vec<Event>) -> Report
+    ensures told { (result.code ≡ told.code) × (result.lines ≡ told.lines) × (result.end ≡ told.end) × (result.blocked ≡ told.blocked) × (result.tallies ≡ told.tallies) }
+    ensures events { result.history ≡ history }
+{
+    let Told {
+        code,
+        lines,
+        end,
+        blocked,
+        tallies,
+    } = told;
+    Report {
+        code,
+        history,
+        lines,
+        end,
+        blocked,
+        tallies,
+    }
+}
+
 /// What is said of a board on which nothing is left to be done.
 ///
 /// # Errors
@@ -49,18 +100,12 @@ pub fn report_of(alloc: Global, board: &Board) -> Result<Report, AllocError>
     ensures tells { IfOk result (λ report. Tells board.now report) }
     ensures reports { IfOk result (λ report. Reports board.now.code board.now.limit report) }
 {
-    let (end, blocked) = end_of(alloc, board)?;
-    Ok(Report {
-        code: board.code().copy()?,
-        history: Vec::from_slice(alloc, board.history().as_slice())?,
-        lines: texts(alloc, board.lines())?,
-        end,
-        blocked,
-        tallies: tallies(board.history()),
-    })
+    let history = Vec::from_slice(alloc, board.history().as_slice())?;
+    let told = told(alloc, board)?;
+    Ok(with_events(told, history))
 }
 
-/// What `report_of` says, of a board that is not needed any more: its events are the report's.
+/// The same of a board that is not needed any more: its events are the report's.
 ///
 /// # Errors
 ///
@@ -70,18 +115,9 @@ pub fn last_report(alloc: Global, board: Board) -> Result<Report, AllocError>
     ensures tells { IfOk result (λ report. Tells board report) }
     ensures reports { IfOk result (λ report. Reports board.code board.limit report) }
 {
-    let (end, blocked) = end_of(alloc, &board)?;
-    let code = board.code().copy()?;
-    let lines = texts(alloc, board.lines())?;
-    let tallies = tallies(board.history());
-    Ok(Report {
-        code,
-        history: board.into_history(),
-        lines,
-        end,
-        blocked,
-        tallies,
-    })
+    let _shown = board.history();
+    let told = told(alloc, &board)?;
+    Ok(with_events(told, board.into_history()))
 }
 
 /// How a run ended, and the statements that are blocked where it ended quiet.
