@@ -41,7 +41,7 @@ pub struct Report {
 
 /// What is said of a run but its events.
 #[derive(Drop)]
-struct Told {
+struct Shown {
     code: Code,
     lines: Vec<Text>,
     end: End,
@@ -50,16 +50,16 @@ struct Told {
 }
 
 /// What is said of a board on which nothing is left to be done, but its events.
-fn told(alloc: Global, board: &Board) -> Result<Told, AllocError>
+fn shown_by(alloc: Global, board: &Board) -> Result<Shown, AllocError>
     requires { IsOver board.now }
-    ensures code { IfOk result (λ told. told.code ≡ board.now.code) }
-    ensures lines { IfOk result (λ told. told.lines.items ≡ map line_bytes board.now.state.lines) }
-    ensures end { IfOk result (λ told. EndsAs board.now told.end) }
-    ensures blocked { IfOk result (λ told. AreBlockedAt board.now told.end told.blocked.items) }
-    ensures tallies { IfOk result (λ told. AreTallies board.now.history told.tallies) }
+    ensures code { IfOk result (λ shown. shown.code ≡ board.now.code) }
+    ensures lines { IfOk result (λ shown. shown.lines.items ≡ map line_bytes board.now.state.lines) }
+    ensures end { IfOk result (λ shown. EndsAs board.now shown.end) }
+    ensures blocked { IfOk result (λ shown. AreBlockedAt board.now shown.end shown.blocked.items) }
+    ensures tallies { IfOk result (λ shown. AreTallies board.now.history shown.tallies) }
 {
     let (end, blocked) = end_of(alloc, board)?;
-    Ok(Told {
+    Ok(Shown {
         code: board.code().copy()?,
         lines: texts(alloc, board.lines())?,
         end,
@@ -69,17 +69,17 @@ fn told(alloc: Global, board: &Board) -> Result<Told, AllocError>
 }
 
 /// What is said of a run, with its events.
-fn with_events(told: Told, history: Vec<Event>) -> Report
-    ensures told { (result.code ≡ told.code) × (result.lines ≡ told.lines) × (result.end ≡ told.end) × (result.blocked ≡ told.blocked) × (result.tallies ≡ told.tallies) }
+fn with_events(shown: Shown, history: Vec<Event>) -> Report
+    ensures shown { (result.code ≡ shown.code) × (result.lines ≡ shown.lines) × (result.end ≡ shown.end) × (result.blocked ≡ shown.blocked) × (result.tallies ≡ shown.tallies) }
     ensures events { result.history ≡ history }
 {
-    let Told {
+    let Shown {
         code,
         lines,
         end,
         blocked,
         tallies,
-    } = told;
+    } = shown;
     Report {
         code,
         history,
@@ -101,8 +101,8 @@ pub fn report_of(alloc: Global, board: &Board) -> Result<Report, AllocError>
     ensures reports { IfOk result (λ report. Reports board.now.code board.now.limit report) }
 {
     let history = Vec::from_slice(alloc, board.history().as_slice())?;
-    let told = told(alloc, board)?;
-    Ok(with_events(told, history))
+    let shown = shown_by(alloc, board)?;
+    Ok(with_events(shown, history))
 }
 
 /// The same of a board that is not needed any more: its events are the report's.
@@ -115,9 +115,9 @@ pub fn last_report(alloc: Global, board: Board) -> Result<Report, AllocError>
     ensures tells { IfOk result (λ report. Tells board report) }
     ensures reports { IfOk result (λ report. Reports board.code board.limit report) }
 {
-    let _shown = board.history();
-    let told = told(alloc, &board)?;
-    Ok(with_events(told, board.into_history()))
+    let _run = board.history();
+    let shown = shown_by(alloc, &board)?;
+    Ok(with_events(shown, board.into_history()))
 }
 
 /// How a run ended, and the statements that are blocked where it ended quiet.
