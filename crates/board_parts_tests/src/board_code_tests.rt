@@ -103,7 +103,7 @@ fn a_block_has_its_holds(rt: HostRuntime) {
 fn leads_of(rt: &impl Abort, alloc: Global, code: &Code) -> Leads
     ensures { IsLeads code.now result }
 {
-    is_equal(rt, code.body_count(), 1);
+    assert_eq!(rt; code.body_count(), 1);
     Leads::new(alloc, code).expect(rt, "memory")
 }
 

@@ -74,7 +74,7 @@ fn takes_a_turn(rt: &impl Abort, board: &mut Board) {
 
 /// The report of the board, which has no events left.
 fn report_at_limit(rt: &impl Abort, alloc: Global, board: &Board) -> Report {
-    is_equal(rt, (board.history().len(), board.is_going()), (2, false));
+    assert_eq!(rt; (board.history().len(), board.is_going()), (2, false));
     report_of(alloc, board).expect(rt, "memory")
 }
 

@@ -57,7 +57,7 @@ fn traces_are_read(rt: HostRuntime) {
 /// A beginning is read where it ends behind a line, and else its last line is bad.
 #[test]
 fn beginnings_are_read(rt: HostRuntime) {
-    is_equal(&rt, HELLO.len(), 36);
+    assert_eq!(rt; HELLO.len(), 36);
     for length in 0..36 {
         if length >= 12 && length % 6 == 0 {
             assert!(rt; read_trace(rt.alloc(), &HELLO[..length]).is_ok());

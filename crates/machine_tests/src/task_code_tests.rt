@@ -212,7 +212,7 @@ fn hello_copy(rt: &impl Abort, alloc: Global) -> Code {
 
 /// The code has the one entry, which prints, and the one body.
 fn prints_hello(rt: &impl Abort, code: &Code) {
-    is_equal(rt, (code.entry_count(), code.body_count()), (1, 1));
+    assert_eq!(rt; (code.entry_count(), code.body_count()), (1, 1));
     let letters = b"hello".map(|letter| Piece::Byte(letter));
     assert!(rt; printed(code, 0) == Some(letters.as_slice()));
     is_equal(rt, code.kind(0), Kind::Leaf);
@@ -259,7 +259,7 @@ fn fibonacci_copy(rt: &impl Abort, alloc: Global) -> Draft {
 #[test]
 fn fibonacci_is_read_and_copied(rt: HostRuntime) {
     let code = fibonacci_copy(&rt, rt.alloc());
-    is_equal(&rt, (code.entry_count(), code.body_count()), (10, 4));
+    assert_eq!(rt; (code.entry_count(), code.body_count()), (10, 4));
     let marks = [92, 79, 25, 21, 34, 58, 54, 69, 65, 50];
     for (number, (kind, mark)) in b"CLLCLLCLCL".iter().zip(marks.iter()).enumerate() {
         is_entry(&rt, &code, number as u32, *kind, *mark);

@@ -118,7 +118,7 @@ fn second_waits(
     known: &Knowledge,
 ) -> Result<(), Fail> {
     let blocked = known.blocked()?;
-    is_equal(rt, blocked.len(), 2);
+    assert_eq!(rt; blocked.len(), 2);
     waits(rt, alloc, sites, known, &blocked[1])
 }
 

@@ -44,7 +44,7 @@ fn deepest(alloc: Global) -> Result<(Learned, usize), Fail> {
 
 /// It is one fault, of this kind, at a node of the statement.
 fn is_fault(rt: &impl Abort, news: &Vec<Fact>, kind: FaultKind, site: Site, node: u32) {
-    is_equal(rt, news.len(), 1);
+    assert_eq!(rt; news.len(), 1);
     match &news[0] {
         Fact::Fault(fault) => {
             is_equal(rt, fault.kind, kind);
