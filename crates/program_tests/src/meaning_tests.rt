@@ -20,7 +20,7 @@ const SWAPPED: &[u8] = b"int x; int y; x = y + 1; y = 2; printf(\"%i\", x);";
 /// It prints this line, and no other.
 fn prints_line(rt: &impl Abort, known: &Knowledge, line: &[u8]) -> Result<(), Fail> {
     let lines = known.lines_sorted()?;
-    is_equal(rt, lines.len(), 1);
+    assert_eq!(rt; lines.len(), 1);
     is_equal(rt, lines[0].as_bytes(), line);
     Ok(())
 }
@@ -74,7 +74,7 @@ fn one_round_is_not_enough(rt: HostRuntime) -> Result<(), Fail> {
 /// Two statements are blocked, which stand at 14 and at 21.
 fn are_blocked(rt: &impl Abort, known: &Knowledge) -> Result<(), Fail> {
     let blocked = known.blocked()?;
-    is_equal(rt, blocked.len(), 2);
+    assert_eq!(rt; blocked.len(), 2);
     is_equal(rt, blocked[0].at, 14);
     is_equal(rt, blocked[1].at, 21);
     Ok(())
@@ -135,8 +135,8 @@ fn a_blocked_statement_waits_for_what_is_not_known(rt: HostRuntime) -> Result<()
 /// It has one fault, of the turn of key 5 of a loop.
 fn has_fault_in_turn(rt: &impl Abort, known: &Knowledge) -> Result<(), Fail> {
     let faults = known.faults()?;
-    is_equal(rt, faults.len(), 1);
-    is_equal(rt, faults[0].statement.path.len(), 1);
+    assert_eq!(rt; faults.len(), 1);
+    assert_eq!(rt; faults[0].statement.path.len(), 1);
     assert!(rt; faults[0].statement.path[0].key.is_same(&Key::Number(5)));
     Ok(())
 }
