@@ -7,15 +7,21 @@ use board::refusal::Refusal;
 use board::{Done, Work};
 use std::alloc::Global;
 use std::process::Abort;
+use task_code::code::Code;
 use task_code::entry::Kind;
 use task_code::event::Event;
 use values::value::Scalar;
 use worked_codes::codes::{asserted, hello, printed};
 
+/// A board over the code, in a box, since a test that owns a board by itself takes long to prove.
+fn board_over(rt: &impl Abort, alloc: Global, code: Code, limit: u32) -> Box<Board> {
+    let board = Board::new(alloc, code, limit).expect(rt, "memory");
+    Box::new(alloc, board).expect(rt, "memory")
+}
+
 /// A board over `printf("hello");` with so many events at most.
-fn hello_board(rt: &impl Abort, alloc: Global, limit: u32) -> Board {
-    let code = hello(alloc).expect(rt, "a code");
-    Board::new(alloc, code, limit).expect(rt, "memory")
+fn hello_board(rt: &impl Abort, alloc: Global, limit: u32) -> Box<Board> {
+    board_over(rt, alloc, hello(alloc).expect(rt, "a code"), limit)
 }
 
 /// Begins the item, and lets its work go.
@@ -185,7 +191,7 @@ fn the_limit_ends_a_board(rt: HostRuntime) {
 /// What the item of `printf("other");` comes to, on a board of its own.
 fn others_result(rt: &impl Abort, alloc: Global) -> Done {
     let code = printed(alloc, b"other").expect(rt, "a code");
-    let mut board = Board::new(alloc, code, 100).expect(rt, "memory");
+    let mut board = board_over(rt, alloc, code, 100);
     works(rt, &mut board, 0, 1);
     done_on(&mut board, 1, 2).expect(rt, "done")
 }
@@ -207,9 +213,8 @@ fn another_entry_is_a_stranger(rt: HostRuntime) {
 }
 
 /// A board over `asserted`.
-fn asserted_board(rt: &impl Abort, alloc: Global, holds: bool) -> Board {
-    let code = asserted(alloc, holds).expect(rt, "a code");
-    Board::new(alloc, code, 100).expect(rt, "memory")
+fn asserted_board(rt: &impl Abort, alloc: Global, holds: bool) -> Box<Board> {
+    board_over(rt, alloc, asserted(alloc, holds).expect(rt, "a code"), 100)
 }
 
 /// What the other item of `asserted` comes to on worker 1, once the script and the assignment have ended.

@@ -341,9 +341,10 @@ fn stored(rt: &impl Abort, alloc: Global, text: &[u8]) -> Done {
     done(rt, job(rt, alloc, act), answers)
 }
 
-/// The entry that stores the expression's value.
-fn setting(rt: &impl Abort, alloc: Global, text: &[u8]) -> Entry {
-    entry(alloc, Act::Set(TARGET, expr(rt, alloc, text)))
+/// The entry that stores the expression's value. It lies in a box, since a test that owns an entry by itself takes long to prove.
+fn setting(rt: &impl Abort, alloc: Global, text: &[u8]) -> Box<Entry> {
+    let setting = entry(alloc, Act::Set(TARGET, expr(rt, alloc, text)));
+    Box::new(alloc, setting).expect(rt, "memory")
 }
 
 /// Whether the entries are the same that store these expressions' values.

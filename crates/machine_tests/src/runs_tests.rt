@@ -80,7 +80,7 @@ fn report_at_limit(rt: &impl Abort, alloc: Global, board: &Board) -> Report {
 
 #[test]
 fn a_board_without_events_left_is_reported(rt: HostRuntime) {
-    let mut board = board_of_two(&rt, rt.alloc());
+    let mut board = Box::new(rt.alloc(), board_of_two(&rt, rt.alloc())).expect(&rt, "memory");
     takes_a_turn(&rt, &mut board);
     let report = report_at_limit(&rt, rt.alloc(), &board);
     assert!(rt; matches!(report.end, End::Limit));
