@@ -27,8 +27,9 @@ fn code_of(rt: &impl Abort, alloc: Global) -> Code {
     asserted(alloc, true).expect(rt, "a code")
 }
 
-fn program_of(rt: &impl Abort, alloc: Global) -> Program {
+fn program_of(rt: &impl Abort, alloc: Global) -> Box<Program> {
     let program = Program::new(alloc, code_of(rt, alloc)).expect(rt, "memory");
+    let program = Box::new(alloc, program).expect(rt, "memory");
     is_equal(rt, program.code().entry_count(), 2);
     program
 }

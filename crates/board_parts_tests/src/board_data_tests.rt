@@ -123,8 +123,8 @@ fn holds_come_and_go(rt: HostRuntime) {
     release_readers(&rt, &mut store);
 }
 
-fn open(rt: &impl Abort, alloc: Global) -> Opened {
-    opened_script(alloc).expect(rt, "a world")
+fn open(rt: &impl Abort, alloc: Global) -> Box<Opened> {
+    opened_script(rt, alloc)
 }
 
 /// Three items hold the first datum twice each.

@@ -38,7 +38,7 @@ fn opens_one(rt: &impl Abort, effect: &Effect) {
 
 #[test]
 fn the_script_opens_its_block(rt: HostRuntime) {
-    let world = opened_script(rt.alloc()).expect(&rt, "a world");
+    let world = opened_script(&rt, rt.alloc());
     let opens = script_effect(rt.alloc(), &world.program).expect(&rt, "memory");
     opens_one(&rt, &opens);
 }
@@ -62,7 +62,7 @@ fn assert_passes(rt: &impl Abort, alloc: Global, world: &Opened) {
 
 #[test]
 fn an_assignment_stores(rt: HostRuntime) {
-    let world = opened_script(rt.alloc()).expect(&rt, "a world");
+    let world = opened_script(&rt, rt.alloc());
     set_stores(&rt, rt.alloc(), &world);
     assert_passes(&rt, rt.alloc(), &world);
 }
@@ -81,7 +81,7 @@ fn fails_at_its_statement(rt: &impl Abort, effect: &Effect) {
 
 #[test]
 fn a_fault_has_its_statement(rt: HostRuntime) {
-    let world = opened_script(rt.alloc()).expect(&rt, "a world");
+    let world = opened_script(&rt, rt.alloc());
     let failed = Outcome::Leaf(Err(OpFault::AssertFailed));
     let fails = effect(&rt, rt.alloc(), &world, 1, failed);
     fails_at_its_statement(&rt, &fails);

@@ -17,8 +17,8 @@ use values::map::Element;
 use values::range::Range;
 use values::value::Scalar;
 
-fn open(rt: &impl Abort, alloc: Global) -> Opened {
-    opened_script(alloc).expect(rt, "a world")
+fn open(rt: &impl Abort, alloc: Global) -> Box<Opened> {
+    opened_script(rt, alloc)
 }
 
 fn around(world: &Opened) -> Around<'_> {

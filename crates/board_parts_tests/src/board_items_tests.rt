@@ -15,9 +15,10 @@ use std::process::Abort;
 use work_queue::entry::Kind;
 use worked_codes::codes::asserted;
 
-fn program_of(rt: &impl Abort, alloc: Global) -> Program {
+fn program_of(rt: &impl Abort, alloc: Global) -> Box<Program> {
     let code = asserted(alloc, true).expect(rt, "a code");
-    Program::new(alloc, code).expect(rt, "memory")
+    let program = Program::new(alloc, code).expect(rt, "memory");
+    Box::new(alloc, program).expect(rt, "memory")
 }
 
 #[test]
@@ -95,12 +96,18 @@ fn open_script(alloc: Global, program: &Program, items: &mut Items) -> Result<()
     finish_script(alloc, program, &world, items)
 }
 
+/// Items without any.
+fn no_items(rt: &impl Abort, alloc: Global) -> Box<Items> {
+    let items = Items::new(alloc).expect(rt, "memory");
+    Box::new(alloc, items).expect(rt, "memory")
+}
+
 /// The items after the script's own has ended.
-fn settled(alloc: Global, program: &Program) -> Result<Items, AllocError> {
-    let mut items = Items::new(alloc)?;
-    begin_script(program, &mut items)?;
-    open_script(alloc, program, &mut items)?;
-    Ok(items)
+fn settled(rt: &impl Abort, alloc: Global, program: &Program) -> Box<Items> {
+    let mut items = no_items(rt, alloc);
+    begin_script(program, &mut items).expect(rt, "memory");
+    open_script(alloc, program, &mut items).expect(rt, "memory");
+    items
 }
 
 /// The assignment can begin, and what is asserted waits.
@@ -114,7 +121,7 @@ fn one_begins_and_one_waits(rt: &impl Abort, items: &Items) {
 #[test]
 fn new_items_can_begin_or_wait(rt: HostRuntime) {
     let program = program_of(&rt, rt.alloc());
-    let items = settled(rt.alloc(), &program).expect(&rt, "memory");
+    let items = settled(&rt, rt.alloc(), &program);
     one_begins_and_one_waits(&rt, &items);
 }
 
@@ -129,7 +136,7 @@ fn value_wakes_assert(rt: &impl Abort, items: &mut Items) {
 #[test]
 fn a_value_wakes_who_waits_for_it(rt: HostRuntime) {
     let program = program_of(&rt, rt.alloc());
-    let mut items = settled(rt.alloc(), &program).expect(&rt, "memory");
+    let mut items = settled(&rt, rt.alloc(), &program);
     items.begin(1, 2, order_of(&program, SET));
     value_wakes_assert(&rt, &mut items);
 }
@@ -146,7 +153,7 @@ fn list_of_three(alloc: Global) -> Result<Vec<Inputs>, AllocError> {
 #[test]
 fn memory_is_taken_for_items_of_many_inputs(rt: HostRuntime) {
     let program = program_of(&rt, rt.alloc());
-    let mut items = settled(rt.alloc(), &program).expect(&rt, "memory");
+    let mut items = settled(&rt, rt.alloc(), &program);
     let spare = list_of_three(rt.alloc()).expect(&rt, "memory");
     assert!(rt; items.reserve_to_wait(spare.as_slice()).is_ok());
     is_equal(&rt, (items.rules.waiting(), items.rows.len()), (1, 3));

@@ -32,7 +32,7 @@ fn assert_is_last(rt: &impl Abort, opened: &Opened) {
 
 #[test]
 fn the_script_is_opened(rt: HostRuntime) {
-    let opened = opened_script(rt.alloc()).expect(&rt, "a world");
+    let opened = opened_script(&rt, rt.alloc());
     is_equal(&rt, counts(&opened), (1, 1));
     assert_is_last(&rt, &opened);
     is_equal(&rt, (home(Job::Script), home(SET)), (None, Some(0)));
@@ -60,7 +60,7 @@ fn truth_is_known(rt: &impl Abort, opened: &Opened) {
 
 #[test]
 fn what_is_stored_becomes_known(rt: HostRuntime) {
-    let mut opened = opened_script(rt.alloc()).expect(&rt, "a world");
+    let mut opened = opened_script(&rt, rt.alloc());
     end_set(&rt, rt.alloc(), &mut opened);
     truth_is_known(&rt, &opened);
     is_equal(&rt, opened.world.instances.len(), 1);
@@ -68,7 +68,7 @@ fn what_is_stored_becomes_known(rt: HostRuntime) {
 
 #[test]
 fn the_last_item_takes_all_with_it(rt: HostRuntime) {
-    let mut opened = opened_script(rt.alloc()).expect(&rt, "a world");
+    let mut opened = opened_script(&rt, rt.alloc());
     end_set(&rt, rt.alloc(), &mut opened);
     assert!(rt; end_in(rt.alloc(), &mut opened, ASSERT, Change::Nothing).is_ok());
     is_equal(&rt, counts(&opened), (0, 0));
@@ -116,7 +116,7 @@ fn fill(rt: &impl Abort, store: &mut Store, list: &mut Vec<Opening>) {
 
 #[test]
 fn data_of_a_turn_are_made(rt: HostRuntime) {
-    let opened = opened_script(rt.alloc()).expect(&rt, "a world");
+    let opened = opened_script(&rt, rt.alloc());
     let mut list = turn(rt.alloc(), &opened).expect(&rt, "memory");
     let mut store = Store::new(rt.alloc());
     fill(&rt, &mut store, &mut list);

@@ -9,6 +9,7 @@ use board_frames::item::{Item, Job, Mark};
 use board_openings::world::{Change, World};
 use rules::input::Input;
 use std::alloc::{AllocError, Global};
+use std::process::Abort;
 use worked_codes::codes::asserted;
 
 /// Its variable stands in the first slot of the block.
@@ -90,8 +91,13 @@ fn unopened_script(alloc: Global) -> Result<Opened, AllocError> {
     })
 }
 
-/// The script, opened.
-pub fn opened_script(alloc: Global) -> Result<Opened, AllocError> {
+/// The script, opened, in a box, since a test that owns a board's parts by themselves takes long to prove.
+pub fn opened_script(rt: &impl Abort, alloc: Global) -> Box<Opened> {
+    let opened = open_world(alloc).expect(rt, "a world");
+    Box::new(alloc, opened).expect(rt, "memory")
+}
+
+fn open_world(alloc: Global) -> Result<Opened, AllocError> {
     let mut opened = unopened_script(alloc)?;
     let (rows, known) = (&mut opened.rows, &mut opened.known);
     open(alloc, &opened.program, &mut opened.world, rows, known)?;

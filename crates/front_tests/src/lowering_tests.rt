@@ -1,6 +1,6 @@
 //! A script lowered, with what its flow keeps for a listing alone.
 
-use crate::asserts::is_equal;
+use crate::asserts::{boxed, is_equal};
 use crate::flows::{flow, lowered};
 use bumpalo::Bump;
 use flow::script::{Flow, Function};
@@ -8,6 +8,7 @@ use flow::statement::{Action, Block};
 use std::alloc::{AllocError, Allocator, Global};
 use std::process::Abort;
 use syntax::parser::parse;
+use syntax_trees::tree::Script;
 
 const TEXT: &[u8] = b"(int r) f(int n) { r = n; } int x = 1; wait (x) { wait (x) { } }";
 
@@ -79,10 +80,30 @@ fn has_f<A: Allocator>(rt: &impl Abort, machine: Global, flow: &Flow<A>) {
     }
 }
 
+/// The script of the text.
+fn script<'a>(rt: &impl Abort, alloc: Global, arena: &'a Bump) -> Box<Script<&'a Bump>> {
+    let script = parse(arena, TEXT).expect(rt, "a script");
+    boxed(rt, alloc, script)
+}
+
+/// Its flow.
+fn flow_over<'a>(
+    rt: &impl Abort,
+    alloc: Global,
+    arena: &'a Bump,
+    script: &Script<&'a Bump>,
+) -> Box<Flow<&'a Bump>> {
+    let flow = lowered(alloc, arena, script).expect(rt, "a flow");
+    boxed(rt, alloc, flow)
+}
+
 #[test]
 fn functions_keep_their_names(rt: HostRuntime) {
     let arena = Bump::new(rt.alloc());
-    let script = parse(&arena, TEXT).expect(&rt, "a script");
-    let found = lowered(rt.alloc(), &arena, &script).expect(&rt, "a flow");
-    has_f(&rt, rt.alloc(), &found);
+    let script = script(&rt, rt.alloc(), &arena);
+    has_f(
+        &rt,
+        rt.alloc(),
+        &flow_over(&rt, rt.alloc(), &arena, &script),
+    );
 }

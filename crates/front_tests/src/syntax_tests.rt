@@ -1,6 +1,6 @@
 //! Texts that are accepted and refused, with the places of their faults.
 
-use crate::asserts::is_equal;
+use crate::asserts::{boxed, is_equal};
 use crate::rows::are_read;
 use bumpalo::Bump;
 use lexer::token::Span;
@@ -181,14 +181,14 @@ fn is_product<A: Allocator>(rt: &impl Abort, product: &Expr<A>) {
     assert!(rt; matches!(&two.kind, ExprKind::Number(2)));
 }
 
-/// Reads a product, and looks at its places and numbers.
-fn reads_product(rt: &impl Abort, arena: &Bump) {
+/// A product, read.
+fn product<'a>(rt: &impl Abort, alloc: Global, arena: &'a Bump) -> Box<Script<&'a Bump>> {
     let script = parse(arena, b"x = (1 + y) * (2);").expect(rt, "a script");
-    is_product(rt, assigned(rt, &script));
+    boxed(rt, alloc, script)
 }
 
 #[test]
 fn places_and_numbers(rt: HostRuntime) {
     let arena = Bump::new(rt.alloc());
-    reads_product(&rt, &arena);
+    is_product(&rt, assigned(&rt, &product(&rt, rt.alloc(), &arena)));
 }

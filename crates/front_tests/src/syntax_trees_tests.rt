@@ -47,7 +47,9 @@ fn copied_through(
     arena: &Bump,
     tree: &Script<Global>,
 ) -> Result<Script<Global>, AllocError> {
-    let copy = tree.copy_to(arena)?;
+    let Ok(copy) = Box::new(alloc, tree.copy_to(arena)?) else {
+        return Err(AllocError);
+    };
     copy.copy_to(alloc)
 }
 
