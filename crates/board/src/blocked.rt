@@ -226,10 +226,10 @@ impl Core {
     fn blocked_at(&self, program: &Program, item: Item) -> Option<(usize, usize)>
         ensures { option_map (λ (p : ℕ × ℕ). at_place p.1 (path_in (frames_view self.now.world.instances.slots) p.0)) result ≡ blocked_row program.now (frames_view self.now.world.instances.slots) (cells_view self.now.world.store.cells) (row_view item) }
     {
-        if item.mark == Mark::Over {
+        if item.mark() == Mark::Over {
             return None;
         }
-        match item.job {
+        match item.job() {
             Job::Script => None,
             Job::Does {
                 instance,

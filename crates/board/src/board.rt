@@ -340,10 +340,10 @@ impl Board {
         let Some(found) = item_of(self.core.items.rows.as_slice(), item) else {
             return None;
         };
-        match found.mark {
+        match found.mark() {
             Mark::Over => None,
             _ => {
-                let (kind, _) = order_of(&self.program, found.job);
+                let (kind, _) = order_of(&self.program, found.job());
                 Some(code_kind(kind))
             }
         }
@@ -367,7 +367,7 @@ impl Board {
     {
         match item_of(self.core.items.rows.as_slice(), item) {
             Some(found) => {
-                let (_, priority) = order_of(&self.program, found.job);
+                let (_, priority) = order_of(&self.program, found.job());
                 priority
             }
             None => 0,
@@ -421,7 +421,7 @@ impl Board {
         let Some(item) = item_of(self.core.items.rows.as_slice(), number) else {
             return None;
         };
-        let (kind, priority) = order_of(&self.program, item.job);
+        let (kind, priority) = order_of(&self.program, item.job());
         Some((code_kind(kind), priority, number))
     }
 

@@ -9,7 +9,7 @@ ghost use Rattle.board.specs.Rows.{IsReady, RunsOn};
 
 use board_code::program::Program;
 use board_data::wanted::View;
-use board_frames::item::{Item, Job, Mark, item_of};
+use board_frames::item::{Job, Mark, item_of};
 use board_frames::place::Fault;
 use board_items::items::{Items, order_of};
 use board_openings::world::World;
@@ -65,12 +65,7 @@ impl Core {
         ensures none { IfNone result ((j : PureJob) → ¬ IsReady (rows_view self.now.items.rows.items) number j) }
     {
         match item_of(self.items.rows.as_slice(), number) {
-            Some(
-                Item {
-                    job,
-                    mark: Mark::Ready,
-                },
-            ) => Some(job),
+            Some(found) if found.mark() == Mark::Ready => Some(found.job()),
             _ => None,
         }
     }
@@ -81,12 +76,7 @@ impl Core {
         ensures none { IfNone result ((j : PureJob) → ¬ RunsOn (rows_view self.now.items.rows.items) worker number j) }
     {
         match item_of(self.items.rows.as_slice(), number) {
-            Some(
-                Item {
-                    job,
-                    mark: Mark::Running(on),
-                },
-            ) if on == worker => Some(job),
+            Some(found) if found.mark() == Mark::Running(worker) => Some(found.job()),
             _ => None,
         }
     }

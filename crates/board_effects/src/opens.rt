@@ -25,7 +25,7 @@ use values::map::Map;
 use values::range::Range;
 
 /// How many steps a path has at most.
-const MOST_STEPS: usize = 512;
+const MOST_STEPS: u32 = 512;
 
 impl<'a> Ended<'a> {
     /// Whether it may open no block by one more step.

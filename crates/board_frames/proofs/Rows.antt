@@ -1,7 +1,7 @@
 -- Rows by number, and items by place.
-use Rattle.std.proofs.Common.{◌≡◌, ◌∙◌, refl, sym, ap, ℕ, zero, suc, ◌-◌, ◌<◌, ◌≤◌, List, [], ◌∷◌, length, Some, None, arith, slice_set}
+use Rattle.std.proofs.Common.{◌≡◌, ◌∙◌, refl, sym, ap, subst, ℕ, zero, suc, ◌-◌, ◌<◌, ◌≤◌, List, [], ◌∷◌, length, Some, None, arith, slice_set}
 use Rattle.std.specs.Prelude.{slice_index_or}
-use Rattle.replayed.specs.Fields.{row_of}
+use Rattle.replayed.specs.Fields.{Row, row_of}
 use Rattle.replayed.specs.Marking.{mark_at}
 use Rattle.board_frames.specs.View.{mark_view, row_view, rows_view}
 use Rattle.board_frames.specs.declared.item.Item.{Item}
@@ -53,13 +53,16 @@ pub mark_past : (xs : List Item) (n : ℕ) (m : Mark) → length xs ≤ n - 1 �
 mark_past xs zero m h = mark_none xs m
 mark_past xs (suc n) m h = mark_behind xs n m (omega (arith, h))
 
-mark_at_place : (xs : List Item) (n : ℕ) (m : Mark) (d : Item) → n < length xs → rows_view (slice_set xs n (record { job = (slice_index_or xs n d).job; mark = m })) ≡ mark_at (rows_view xs) (suc n) (mark_view m)
-mark_at_place [] n m d h = absurd (omega (arith, h))
-mark_at_place (x ∷ xs) zero m d h = refl
-mark_at_place (x ∷ xs) (suc n) m d h = ap (λ ys. row_view x ∷ ys) (mark_at_place xs n m d (omega (arith, h)))
+mark_at_place : (xs : List Item) (n : ℕ) (m : Mark) (d y : Item) → row_view y ≡ record { job = (row_view (slice_index_or xs n d)).job; mark = mark_view m } → n < length xs → rows_view (slice_set xs n y) ≡ mark_at (rows_view xs) (suc n) (mark_view m)
+mark_at_place [] n m d y e h = absurd (omega (arith, h))
+mark_at_place (x ∷ xs) zero m d y e h = ap (λ (r : Row). r ∷ rows_view xs) e
+mark_at_place (x ∷ xs) (suc n) m d y e h = ap (λ ys. row_view x ∷ ys) (mark_at_place xs n m d y e (omega (arith, h)))
+
+mark_behind_one : (xs : List Item) (n k : ℕ) (m : Mark) (d y : Item) → n ≡ k → row_view y ≡ record { job = (row_view (slice_index_or xs k d)).job; mark = mark_view m } → n < length xs → rows_view (slice_set xs k y) ≡ mark_at (rows_view xs) (suc n) (mark_view m)
+mark_behind_one xs n k m d y same e h =
+    ap (λ i. rows_view (slice_set xs i y)) (sym same) ∙ mark_at_place xs n m d y (subst (λ i. row_view y ≡ record { job = (row_view (slice_index_or xs i d)).job; mark = mark_view m }) (sym same) e) h
 
 -- the item of the number has the mark
-pub mark_there : (xs : List Item) (n : ℕ) (m : Mark) (d : Item) → 0 < n → n - 1 < length xs → rows_view (slice_set xs (n - 1) (record { job = (slice_index_or xs (n - 1) d).job; mark = m })) ≡ mark_at (rows_view xs) n (mark_view m)
-mark_there xs zero m d p h = absurd (omega (arith, p))
-mark_there xs (suc n) m d p h =
-    ap (λ k. rows_view (slice_set xs k (record { job = (slice_index_or xs k d).job; mark = m }))) (sym (before n)) ∙ mark_at_place xs n m d (omega (arith, h))
+pub mark_there : (xs : List Item) (n : ℕ) (m : Mark) (d y : Item) → row_view y ≡ record { job = (row_view (slice_index_or xs (n - 1) d)).job; mark = mark_view m } → 0 < n → n - 1 < length xs → rows_view (slice_set xs (n - 1) y) ≡ mark_at (rows_view xs) n (mark_view m)
+mark_there xs zero m d y e p h = absurd (omega (arith, p))
+mark_there xs (suc n) m d y e p h = mark_behind_one xs n (suc n - 1) m d y (before n) e (omega (arith, h))

@@ -7,6 +7,7 @@ use Rattle.board_frames.specs.declared.item.Mark.TheVariants as Marks
 use Rattle.board_frames.specs.declared.item.Job.{Job}
 use Rattle.board_frames.specs.declared.item.Job.TheVariants as Jobs
 use Rattle.board_frames.specs.declared.item.Item.{Item}
+use Rattle.board_frames.specs.declared.item.Item.TheVariants as Items
 use Rattle.board_frames.specs.declared.instance.Slot.{Slot}
 use Rattle.board_frames.specs.declared.instance.Slot.TheVariants as Slots
 use Rattle.board_frames.specs.declared.instance.Instance.{Instance}
@@ -25,14 +26,15 @@ job_view Jobs.Script = Pure.Script
 job_view (Jobs.Does e k c) = Pure.Does k e c
 
 abbrev pub row_view : Item → Pure.Row
-row_view i = record { job = job_view i.job; mark = mark_view i.mark }
+row_view (Items.Script m) = record { job = Pure.Script; mark = mark_view m }
+row_view (Items.Does m e k c) = record { job = Pure.Does k e c; mark = mark_view m }
 
 abbrev pub rows_view : List Item → List Pure.Row
 rows_view items = map row_view items
 
 -- the new item of an entry in an instance
 abbrev pub new_item : (instance entry : ℕ) → Item
-new_item k e = record { job = Jobs.Does e k 0; mark = Marks.Waiting }
+new_item k e = Items.Does Marks.Waiting e k 0
 
 -- instances
 abbrev pub step_view : Step → Places.Step

@@ -39,9 +39,9 @@ pub struct Instance {
     /// The instance around it.
     pub parent: Option<usize>,
     /// How many are around it.
-    pub level: usize,
+    pub level: u32,
     /// How many steps its path has.
-    pub depth: usize,
+    pub depth: u32,
     /// The last step of its path; the content of a `wait` adds none.
     pub way: Option<Step>,
     pub body: u32,
@@ -103,7 +103,7 @@ pub fn datum_at(instances: &Slab<Instance>, at: usize, spot: Option<Spot>) -> Op
 
 /// How many instances are around this one.
 #[tactic(auto, using(crate::proofs::Frames::frame_there))]
-fn level_of(instances: &Slab<Instance>, at: usize) -> usize
+fn level_of(instances: &Slab<Instance>, at: usize) -> u32
     ensures { result ≡ level_of (slot_of (frames_view instances.now.slots) at) }
 {
     match instances.get(at) {

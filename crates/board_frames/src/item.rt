@@ -2,7 +2,7 @@
 ghost use Rattle.std.specs.Prelude.{◌≡◌, map, option_map};
 ghost use Rattle.replayed.specs.Fields.{row_of};
 ghost use Rattle.replayed.specs.Marking.{mark_at};
-ghost use Rattle.board_frames.specs.View.{mark_view, row_view, rows_view};
+ghost use Rattle.board_frames.specs.View.{job_view, mark_view, row_view, rows_view};
 
 /// How far an item is.
 #[derive(Clone, Copy, PartialEq, Eq, Debug, Drop)]
@@ -24,11 +24,68 @@ pub enum Job {
     },
 }
 
-/// An item that was opened. The one of number n stands at place n - 1, for ever.
+/// An item that was opened. The one of number n stands at place n - 1, for ever. It is what a `Job` and a `Mark` are together, in three
+/// words.
 #[derive(Clone, Copy, PartialEq, Eq, Debug, Drop)]
-pub struct Item {
-    pub job: Job,
-    pub mark: Mark,
+pub enum Item {
+    Script(Mark),
+    Does {
+        mark: Mark,
+        entry: u32,
+        instance: usize,
+        chunk: usize,
+    },
+}
+
+impl Item {
+    /// The same item, when it is so far.
+    pub fn marked(self, mark: Mark) -> Item
+        ensures { row_view result ≡ record { job = (row_view self).job; mark = mark_view mark } }
+    {
+        match self {
+            Item::Script(_) => Item::Script(mark),
+            Item::Does {
+                mark: _,
+                entry,
+                instance,
+                chunk,
+            } => Item::Does {
+                mark,
+                entry,
+                instance,
+                chunk,
+            },
+        }
+    }
+
+    /// What it is for.
+    pub fn job(self) -> Job
+        ensures { job_view result ≡ (row_view self).job }
+    {
+        match self {
+            Item::Script(_) => Job::Script,
+            Item::Does {
+                mark: _,
+                entry,
+                instance,
+                chunk,
+            } => Job::Does {
+                entry,
+                instance,
+                chunk,
+            },
+        }
+    }
+
+    /// How far it is.
+    pub fn mark(self) -> Mark
+        ensures { mark_view result ≡ (row_view self).mark }
+    {
+        match self {
+            Item::Script(mark) => mark,
+            Item::Does { mark, .. } => mark,
+        }
+    }
 }
 
 /// The item of this number, where there is one.
@@ -51,6 +108,5 @@ pub fn mark_item(items: &mut [Item], number: u64, mark: Mark)
         return;
     }
     let place = (number - 1) as usize;
-    let job = items[place].job;
-    items[place] = Item { job, mark };
+    items[place] = items[place].marked(mark);
 }

@@ -105,7 +105,7 @@ pub fn outermost(alloc: Global, body: &Body) -> Result<Instance, AllocError>
 }
 
 /// One more. That many instances around one another are more than memory has room for.
-fn one_more(count: usize) -> Result<usize, AllocError>
+fn one_more(count: u32) -> Result<u32, AllocError>
     ensures { IfOk result (λ more. more ≡ count + 1) }
 {
     match count.checked_add(1) {
@@ -115,7 +115,7 @@ fn one_more(count: usize) -> Result<usize, AllocError>
 }
 
 /// How many steps a path has with this one.
-fn depth_of(depth: usize, way: &Option<Step>) -> Result<usize, AllocError>
+fn depth_of(depth: u32, way: &Option<Step>) -> Result<u32, AllocError>
     ensures { IfOk result (λ more. more ≡ depth + steps_in (option_map step_view way.now)) }
 {
     match way {

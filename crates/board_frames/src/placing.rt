@@ -7,7 +7,7 @@ ghost use Rattle.board_frames.specs.Openings.{ArePlaced, WithMore};
 ghost use Rattle.board_frames.specs.View.{frame_view, frames_view, new_item, opening_frame, rows_view};
 
 use crate::instance::{Instance, enter};
-use crate::item::{Item, Job, Mark};
+use crate::item::{Item, Mark};
 use crate::opening::Opening;
 use slab::Slab;
 use std::alloc::AllocError;
@@ -20,13 +20,11 @@ fn push_items(items: &mut Vec<Item>, instance: usize, entries: &[u32]) -> Result
     ensures succeeds { vec_len items.old + length entries.now ≤ vec_capacity items.old → IsOk result }
 {
     for entry in entries {
-        items.push(Item {
-            job: Job::Does {
-                instance,
-                entry: *entry,
-                chunk: 0,
-            },
+        items.push(Item::Does {
             mark: Mark::Waiting,
+            instance,
+            entry: *entry,
+            chunk: 0,
         })?;
     }
     Ok(())
@@ -126,13 +124,11 @@ pub fn go_on(
     ensures rows { chunk + 1 < 2 ^ 64 → OnOk result (rows_view items.new.items ≡ rows_view items.old.items ++ new_row (Does instance entry (chunk + 1)) ∷ []) }
     ensures succeeds { vec_len items.old < vec_capacity items.old → IsOk result }
 {
-    let next = Item {
-        job: Job::Does {
-            instance,
-            entry,
-            chunk: chunk.saturating_add(1),
-        },
+    let next = Item::Does {
         mark: Mark::Waiting,
+        instance,
+        entry,
+        chunk: chunk.saturating_add(1),
     };
     items.push(next)?;
     Ok(())

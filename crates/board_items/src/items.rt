@@ -108,10 +108,7 @@ impl Items {
             },
             running: 0,
         };
-        items.rows.push(Item {
-            job: Job::Script,
-            mark: Mark::Ready,
-        })?;
+        items.rows.push(Item::Script(Mark::Ready))?;
         items.queue.put(Kind::Control, 0, 1)?;
         items.newly.reserve(1)?;
         Ok(items)

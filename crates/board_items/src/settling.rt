@@ -254,12 +254,13 @@ impl Items {
         let Some(item) = item_of(self.rows.as_slice(), number) else {
             return Ok(());
         };
-        let order = order_of(outlook.program, item.job);
-        if outlook.has_inputs(item.job) {
+        let job = item.job();
+        let order = order_of(outlook.program, job);
+        if outlook.has_inputs(job) {
             self.settle_ready(number, order);
             return Ok(());
         }
-        let inputs = outlook.missed_next(item.job)?;
+        let inputs = outlook.missed_next(job)?;
         self.settle_with(number, order, inputs)
     }
 
@@ -279,7 +280,7 @@ impl Items {
         ensures rest { (r : Row) (jobs : List AJob) → row_of (rows_view self.old.rows.items) (place + 1) ≡ Some r → AreSpare outlook.entry.program.now (r.job ∷ jobs) (reverse spare.old.items) → AreSpare outlook.entry.program.now jobs (reverse spare.new.items) }
         ensures succeeds { (r : Row) (jobs : List AJob) → row_of (rows_view self.old.rows.items) (place + 1) ≡ Some r → AreSpare outlook.entry.program.now (r.job ∷ jobs) (reverse spare.old.items) → 0 < self.old.rules.room → IsOk result }
     {
-        let job = self.rows[place].job;
+        let job = self.rows[place].job();
         let number = place as u64 + 1;
         let order = order_of(outlook.program, job);
         if outlook.begins(job) {

@@ -1,6 +1,9 @@
-use Rattle.std.proofs.Common.{rules, ap, ◌∙◌, map}
+use Rattle.std.proofs.Common.{rules, ap, sym, ◌∙◌, map}
 use Rattle.task_code.specs.View.{event_view, kind_view}
+use Rattle.board_code.specs.Tables.{queue_kind}
 use Rattle.board_frames.specs.View.{mark_view, row_view}
+use Rattle.replayed.specs.Ending.{job_kind}
+use Rattle.replayed.specs.Fields.{Job}
 use Rattle.board.proofs.Showing.{live_mark, no_item, over_item, some_item}
 use Rattle.board.proofs.board.Board.kind.Goals as goal
 
@@ -10,11 +13,11 @@ returns-in_default-clause-none c =
 
 pub returns-in-Over-clause-none : goal.returns-in-Over-clause-none
 returns-in-Over-clause-none c =
-    rw (← c.self.view_is) (over_item c.self.inside.program c.self.invariant.whole (map event_view c.self.inside.history.items) c.self.inside.core c.self.invariant.stand c.args.item (row_view c.in-Some.found) (search rules) (ap mark_view c.in-Over.is))
+    rw (← c.self.view_is) (over_item c.self.inside.program c.self.invariant.whole (map event_view c.self.inside.history.items) c.self.inside.core c.self.invariant.stand c.args.item (row_view c.in-Some.found) (search rules) (sym c.mark.ensures ∙ ap mark_view c.in-Over.is))
 
 pub returns-in_default-mark : goal.returns-in_default-mark
 returns-in_default-mark c =
     record {
       none = tt;
-      some = rw (← c.self.view_is) (some_item c.self.inside.program c.self.invariant.whole (map event_view c.self.inside.history.items) c.self.inside.core c.self.invariant.stand c.args.item (row_view c.in-Some.found) (search rules) (live_mark c.in-Some.found.mark c.in_default-mark.not-Over) (kind_view c.code_kind.result) (c.code_kind.ensures ∙ c.order_of-kind.ensures.kind));
+      some = rw (← c.self.view_is) (some_item c.self.inside.program c.self.invariant.whole (map event_view c.self.inside.history.items) c.self.inside.core c.self.invariant.stand c.args.item (row_view c.in-Some.found) (search rules) (λ over. live_mark c.mark.result c.in_default-mark.not-Over (c.mark.ensures ∙ over)) (kind_view c.code_kind.result) (c.code_kind.ensures ∙ c.order_of-kind.ensures.kind ∙ ap (λ (j : Job). queue_kind (job_kind c.self.inside.program j)) c.job.ensures));
     }

@@ -1,6 +1,8 @@
-use Rattle.std.proofs.Common.{rules, ◌≡◌, Some, ◌∙◌, map}
+use Rattle.std.proofs.Common.{rules, ap, ◌≡◌, Some, ◌∙◌, map}
 use Rattle.std.specs.Prelude.{slice_get}
-use Rattle.replayed.specs.Fields.{row_of}
+use Rattle.board_code.specs.Tables.{queue_kind}
+use Rattle.replayed.specs.Ending.{job_kind}
+use Rattle.replayed.specs.Fields.{Job, row_of}
 use Rattle.task_code.specs.View.{event_view, kind_view}
 use Rattle.board_frames.specs.View.{row_view, rows_view}
 use Rattle.board.proofs.Own.{numbered}
@@ -22,5 +24,5 @@ returns-clause-some c =
     rw (← c.self.view_is) (
       got,
       some_ranked c.self.inside.program c.self.invariant.whole (map event_view c.self.inside.history.items) c.self.inside.core c.self.invariant.stand c.in-Some.number (row_view c.in-Some-item_of.item) there
-          (row_live c.self.inside c.self.invariant c.args.place c.in-Some.number got (row_view c.in-Some-item_of.item) there) (kind_view c.code_kind.result) (c.code_kind.ensures ∙ c.order_of-kind.ensures.kind) _ (search rules),
+          (row_live c.self.inside c.self.invariant c.args.place c.in-Some.number got (row_view c.in-Some-item_of.item) there) (kind_view c.code_kind.result) (c.code_kind.ensures ∙ c.order_of-kind.ensures.kind ∙ ap (λ (j : Job). queue_kind (job_kind c.self.inside.program j)) c.job.ensures) _ (search rules),
     )
