@@ -26,14 +26,51 @@ pub struct Stand {
 
 /// What was found in a script: the names of its variables by their nodes, and its blocks. The script's own block and its
 /// functions' come first, then inner ones, each behind those inside it.
-#[derive(Drop)]
 pub struct Found {
     pub names: IndexMap<u32, Vec<u8>>,
     pub roots: Vec<Stand>,
     pub inner: Vec<Stand>,
+    /// Whether memory was refused for a part of this.
+    lacks: bool,
+}
+
+// Written out, so that who owns one lets it go by one call.
+impl Drop for Found {
+    fn drop(self) {
+        let Found {
+            names: _,
+            roots: _,
+            inner: _,
+            lacks: _,
+        } = self;
+    }
 }
 
 impl Found {
+    /// Adds the script's own block or a function's.
+    fn add_root(&mut self, from: usize, what: What, function: u32) {
+        let stand = Stand {
+            from,
+            what,
+            function,
+        };
+        if self.roots.push(stand).is_err() {
+            self.lacks = true;
+        }
+    }
+
+    /// Adds an inner block.
+    fn add_inner(&mut self, from: usize, what: What, function: u32) {
+        let stand = Stand {
+            from,
+            what,
+            function,
+        };
+        if self.inner.push(stand).is_err() {
+            self.lacks = true;
+        }
+    }
+
     /// Where the body of a number stands.
     pub fn stand(&self, body: u32) -> Option<Stand> {
         let number = body as usize;
@@ -62,56 +99,38 @@ pub fn find<A: Allocator>(alloc: Global, flow: &Flow<A>) -> Result<Found, AllocE
         names: IndexMap::new(alloc),
         roots: Vec::new(alloc),
         inner: Vec::new(alloc),
+        lacks: false,
     };
-    find_script(alloc, &mut found, flow)?;
+    find_script(alloc, &mut found, flow);
+    if found.lacks {
+        return Err(AllocError);
+    }
     Ok(found)
 }
 
 /// Finds what a script shows.
-fn find_script<A: Allocator>(
-    alloc: Global,
-    found: &mut Found,
-    flow: &Flow<A>,
-) -> Result<(), AllocError> {
-    found.roots.push(Stand {
-        from: 0,
-        what: What::Script,
-        function: 0,
-    })?;
-    find_block(alloc, found, 0, &flow.body)?;
-    find_functions(alloc, found, &flow.functions)
+fn find_script<A: Allocator>(alloc: Global, found: &mut Found, flow: &Flow<A>) {
+    found.add_root(0, What::Script, 0);
+    find_block(alloc, found, 0, &flow.body);
+    find_functions(alloc, found, &flow.functions);
 }
 
 /// Finds what functions show.
-fn find_functions<A: Allocator>(
-    alloc: Global,
-    found: &mut Found,
-    functions: &Vec<Function<A>, A>,
-) -> Result<(), AllocError> {
+fn find_functions<A: Allocator>(alloc: Global, found: &mut Found, functions: &Vec<Function<A>, A>) {
     let mut number = 0;
     for function in functions {
         if number < u32::MAX {
             number += 1;
         }
-        found.roots.push(Stand {
-            from: function.body.from,
-            what: What::Function,
-            function: number,
-        })?;
-        find_block(alloc, found, number, &function.body)?;
+        found.add_root(function.body.from, What::Function, number);
+        find_block(alloc, found, number, &function.body);
     }
-    Ok(())
 }
 
 /// Finds what the statements of a block show.
 #[cycle(statement)]
-fn find_block<A: Allocator>(
-    alloc: Global,
-    found: &mut Found,
-    function: u32,
-    block: &Block<A>,
-) -> Result<(), AllocError> {
-    find_statements(alloc, found, function, &block.statements)
+fn find_block<A: Allocator>(alloc: Global, found: &mut Found, function: u32, block: &Block<A>) {
+    find_statements(alloc, found, function, &block.statements);
 }
 
 /// Finds what statements show.
@@ -121,11 +140,10 @@ fn find_statements<A: Allocator>(
     found: &mut Found,
     function: u32,
     statements: &Vec<Statement<A>, A>,
-) -> Result<(), AllocError> {
+) {
     for one in statements {
-        find_statement(alloc, found, function, one)?;
+        find_statement(alloc, found, function, one);
     }
-    Ok(())
 }
 
 /// Finds what a statement shows.
@@ -135,8 +153,8 @@ fn find_statement<A: Allocator>(
     found: &mut Found,
     function: u32,
     statement: &Statement<A>,
-) -> Result<(), AllocError> {
-    find_action(alloc, found, function, &statement.action)
+) {
+    find_action(alloc, found, function, &statement.action);
 }
 
 /// Finds what a block shows that a statement opens.
@@ -147,31 +165,22 @@ fn find_opened<A: Allocator>(
     function: u32,
     what: What,
     block: &Block<A>,
-) -> Result<(), AllocError> {
-    find_block(alloc, found, function, block)?;
-    found.inner.push(Stand {
-        from: block.from,
-        what,
-        function,
-    })?;
-    Ok(())
+) {
+    find_block(alloc, found, function, block);
+    found.add_inner(block.from, what, function);
 }
 
 /// Finds what the statement of an action shows.
 #[cycle(statement)]
-fn find_action<A: Allocator>(
-    alloc: Global,
-    found: &mut Found,
-    function: u32,
-    action: &Action<A>,
-) -> Result<(), AllocError> {
+fn find_action<A: Allocator>(alloc: Global, found: &mut Found, function: u32, action: &Action<A>) {
     match action {
-        Action::Declare(variable) => name(alloc, &mut found.names, variable),
+        Action::Declare(variable) => name(alloc, found, variable),
         Action::When { then, .. } => find_opened(alloc, found, function, What::Then, then),
         Action::Choose { then, other, .. } => {
-            find_block(alloc, found, function, then)?;
-            find_block(alloc, found, function, other)?;
-            add_branches(&mut found.inner, function, then.from, other.from)
+            find_block(alloc, found, function, then);
+            find_block(alloc, found, function, other);
+            found.add_inner(then.from, What::Then, function);
+            found.add_inner(other.from, What::Else, function);
         }
         Action::Range {
             value,
@@ -186,7 +195,7 @@ fn find_action<A: Allocator>(
             ..
         } => find_loop(alloc, found, function, value, key, body),
         Action::Wait { content, .. } => find_opened(alloc, found, function, What::Wait, content),
-        _ => Ok(()),
+        _ => {}
     }
 }
 
@@ -199,33 +208,23 @@ fn find_loop<A: Allocator>(
     value: &Variable<A>,
     turn: &Option<Variable<A>>,
     body: &Block<A>,
-) -> Result<(), AllocError> {
-    name_loop(alloc, &mut found.names, value, turn)?;
-    find_opened(alloc, found, function, What::Loop, body)
-}
-
-/// Adds the bodies of both branches of an `if`.
-fn add_branches(
-    inner: &mut Vec<Stand>,
-    function: u32,
-    then: usize,
-    other: usize,
-) -> Result<(), AllocError> {
-    inner.push(Stand {
-        from: then,
-        what: What::Then,
-        function,
-    })?;
-    inner.push(Stand {
-        from: other,
-        what: What::Else,
-        function,
-    })?;
-    Ok(())
+) {
+    name(alloc, found, value);
+    if let Some(variable) = turn {
+        name(alloc, found, variable);
+    }
+    find_opened(alloc, found, function, What::Loop, body);
 }
 
 /// Notes the name of a variable.
-fn name<A: Allocator>(
+fn name<A: Allocator>(alloc: Global, found: &mut Found, variable: &Variable<A>) {
+    if add_name(alloc, &mut found.names, variable).is_err() {
+        found.lacks = true;
+    }
+}
+
+/// The same, among these names.
+fn add_name<A: Allocator>(
     alloc: Global,
     names: &mut IndexMap<u32, Vec<u8>>,
     variable: &Variable<A>,
@@ -233,18 +232,4 @@ fn name<A: Allocator>(
     let text = Vec::from_slice(alloc, variable.name.as_slice())?;
     let _before = names.insert(variable.node, text)?;
     Ok(())
-}
-
-/// Notes the names of a loop's variables.
-fn name_loop<A: Allocator>(
-    alloc: Global,
-    names: &mut IndexMap<u32, Vec<u8>>,
-    value: &Variable<A>,
-    turn: &Option<Variable<A>>,
-) -> Result<(), AllocError> {
-    name(alloc, names, value)?;
-    match turn {
-        None => Ok(()),
-        Some(variable) => name(alloc, names, variable),
-    }
 }

@@ -6,7 +6,8 @@
 
 use crate::bodies::{Seat, in_order, places};
 use crate::found::{Found, Stand, What, find};
-use crate::needs::{Scope, counted, giver};
+use crate::needs::{Scope, giver};
+use crate::page::Page;
 use crate::text::{add_act, add_title};
 use flow::script::{Flow, Function};
 use flow::statement::Variable as Named;
@@ -53,90 +54,72 @@ fn draw<A: Allocator>(
         functions: &flow.functions,
         places: &places,
     };
-    let mut text = Vec::new(alloc);
-    add_bodies(&mut text, &drawing, seats)?;
-    Ok(text)
+    let mut page = Page::new(alloc);
+    add_bodies(&mut page, &drawing, seats);
+    page.finish()
 }
 
 /// Adds the bodies, between the first line and the last.
-fn add_bodies<A: Allocator>(
-    text: &mut Vec<u8>,
-    drawing: &Drawing<'_, A>,
-    seats: &Vec<Seat>,
-) -> Result<(), AllocError> {
-    text.extend_from_slice(b"digraph code {\n  node [shape=box];\n")?;
+fn add_bodies<A: Allocator>(page: &mut Page, drawing: &Drawing<'_, A>, seats: &Vec<Seat>) {
+    page.add(b"digraph code {\n  node [shape=box];\n");
     for place in 0..seats.len() {
-        add_body(text, drawing, seats[place].body, place)?;
+        add_body(page, drawing, seats[place].body, place);
     }
-    text.extend_from_slice(b"}\n")
+    page.add(b"}\n");
 }
 
 /// Adds a body and the edges of its entries.
-fn add_body<A: Allocator>(
-    text: &mut Vec<u8>,
-    drawing: &Drawing<'_, A>,
-    body: u32,
-    place: usize,
-) -> Result<(), AllocError> {
+fn add_body<A: Allocator>(page: &mut Page, drawing: &Drawing<'_, A>, body: u32, place: usize) {
     let Some(stand) = drawing.found.stand(body) else {
-        return Ok(());
+        return;
     };
     let Some(body) = drawing.code.body(body) else {
-        return Ok(());
+        return;
     };
-    add_opening(text, drawing, stand, place)?;
-    add_parameters(text, drawing, stand)?;
-    add_content(text, drawing, body, place)?;
+    add_opening(page, drawing, stand, place);
+    add_parameters(page, drawing, stand);
+    add_content(page, drawing, body, place);
     add_edges(
-        text,
+        page,
         drawing,
         stand.function,
         body.entries.as_slice(),
         place,
-    )
+    );
 }
 
 /// Adds the variables and boxes of a body, and its end.
-fn add_content<A: Allocator>(
-    text: &mut Vec<u8>,
-    drawing: &Drawing<'_, A>,
-    body: &Body,
-    place: usize,
-) -> Result<(), AllocError> {
-    add_variables(text, drawing, body.makes.as_slice())?;
-    add_boxes(text, drawing, body.entries.as_slice(), place)?;
-    text.extend_from_slice(b"  }\n")
+fn add_content<A: Allocator>(page: &mut Page, drawing: &Drawing<'_, A>, body: &Body, place: usize) {
+    add_variables(page, drawing, body.makes.as_slice());
+    add_boxes(page, drawing, body.entries.as_slice(), place);
+    page.add(b"  }\n");
 }
 
 /// Adds the first lines of a body: its title, and the point of its opening.
 fn add_opening<A: Allocator>(
-    text: &mut Vec<u8>,
+    page: &mut Page,
     drawing: &Drawing<'_, A>,
     stand: Stand,
     place: usize,
-) -> Result<(), AllocError> {
-    counted(text, b"  subgraph cluster_", place)?;
-    text.extend_from_slice(b" {\n    label=\"")?;
-    add_title(text, drawing.functions, stand, place)?;
-    counted(text, b"\";\n    b", place)?;
-    text.extend_from_slice(b" [shape=point];\n")
+) {
+    page.add_counted(b"  subgraph cluster_", place);
+    page.add(b" {\n    label=\"");
+    add_title(page, drawing.functions, stand, place);
+    page.add_counted(b"\";\n    b", place);
+    page.add(b" [shape=point];\n")
 }
 
 /// Adds the inputs and outputs of a function to its body.
-fn add_parameters<A: Allocator>(
-    text: &mut Vec<u8>,
-    drawing: &Drawing<'_, A>,
-    stand: Stand,
-) -> Result<(), AllocError> {
+fn add_parameters<A: Allocator>(page: &mut Page, drawing: &Drawing<'_, A>, stand: Stand) {
     if stand.what != What::Function || stand.function == 0 {
-        return Ok(());
+        return;
     }
     match drawing.functions.get(stand.function as usize - 1) {
-        None => Ok(()),
+        None => {}
         Some(function) => {
-            add_each(text, stand.function, 0, &function.inputs)?;
+            add_each(page, stand.function, 0, &function.inputs);
             add_each(
-                text,
+                page,
                 stand.function,
                 function.inputs.len(),
                 &function.outputs,
@@ -147,94 +130,87 @@ fn add_parameters<A: Allocator>(
 
 /// Adds inputs or outputs of a function, the first at this place.
 fn add_each<A: Allocator>(
-    text: &mut Vec<u8>,
+    page: &mut Page,
     function: u32,
     first: usize,
     variables: &Vec<Named<A>, A>,
-) -> Result<(), AllocError> {
+) {
     let mut place = first;
     for variable in variables {
-        text.extend_from_slice(b"    ")?;
-        add_parameter(text, function, place)?;
-        add_ellipse(text, variable.name.as_slice())?;
+        page.add(b"    ");
+        add_parameter(page, function, place);
+        add_ellipse(page, variable.name.as_slice());
         place = place.saturating_add(1);
     }
-    Ok(())
 }
 
 /// Adds the variables that a body makes and that have names.
-fn add_variables<A: Allocator>(
-    text: &mut Vec<u8>,
-    drawing: &Drawing<'_, A>,
-    variables: &[Variable],
-) -> Result<(), AllocError> {
+fn add_variables<A: Allocator>(page: &mut Page, drawing: &Drawing<'_, A>, variables: &[Variable]) {
     for variable in variables {
         match drawing.found.names.get(&variable.node) {
             None => {}
-            Some(name) => add_variable(text, variable.node, name.as_slice())?,
+            Some(name) => add_variable(page, variable.node, name.as_slice()),
         }
     }
-    Ok(())
 }
 
 /// Adds a variable with its name.
-fn add_variable(text: &mut Vec<u8>, node: u32, name: &[u8]) -> Result<(), AllocError> {
-    counted(text, b"    v", node as usize)?;
-    add_ellipse(text, name)
+fn add_variable(page: &mut Page, node: u32, name: &[u8]) {
+    page.add_counted(b"    v", node as usize);
+    add_ellipse(page, name);
 }
 
 /// Adds what a variable looks like, behind its point.
-fn add_ellipse(text: &mut Vec<u8>, name: &[u8]) -> Result<(), AllocError> {
-    text.extend_from_slice(b" [shape=ellipse, label=\"")?;
-    text.extend_from_slice(name)?;
-    text.extend_from_slice(b"\"];\n")
+fn add_ellipse(page: &mut Page, name: &[u8]) {
+    page.add(b" [shape=ellipse, label=\"");
+    page.add(name);
+    page.add(b"\"];\n")
 }
 
 /// Adds the boxes of entries.
 fn add_boxes<A: Allocator>(
-    text: &mut Vec<u8>,
+    page: &mut Page,
     drawing: &Drawing<'_, A>,
     entries: &[u32],
     place: usize,
-) -> Result<(), AllocError> {
+) {
     for k in 0..entries.len() {
         match drawing.code.entry(entries[k]) {
             None => {}
-            Some(entry) => add_box(text, entry, place, k + 1)?,
+            Some(entry) => add_box(page, entry, place, k + 1),
         }
     }
-    Ok(())
 }
 
 /// Adds the box of an entry.
-fn add_box(text: &mut Vec<u8>, entry: &Entry, place: usize, k: usize) -> Result<(), AllocError> {
-    text.extend_from_slice(b"    ")?;
-    add_entry(text, place, k)?;
-    counted(text, b" [label=\"", k)?;
-    add_act(text, entry)?;
-    text.extend_from_slice(b"\"];\n")
+fn add_box(page: &mut Page, entry: &Entry, place: usize, k: usize) {
+    page.add(b"    ");
+    add_entry(page, place, k);
+    page.add_counted(b" [label=\"", k);
+    add_act(page, entry);
+    page.add(b"\"];\n")
 }
 
 /// Adds the point of an entry.
-fn add_entry(text: &mut Vec<u8>, place: usize, k: usize) -> Result<(), AllocError> {
-    counted(text, b"e", place)?;
-    counted(text, b"_", k)
+fn add_entry(page: &mut Page, place: usize, k: usize) {
+    page.add_counted(b"e", place);
+    page.add_counted(b"_", k);
 }
 
 /// Adds the point of an input or output.
-fn add_parameter(text: &mut Vec<u8>, function: u32, place: usize) -> Result<(), AllocError> {
-    counted(text, b"p", function as usize)?;
-    counted(text, b"_", place)
+fn add_parameter(page: &mut Page, function: u32, place: usize) {
+    page.add_counted(b"p", function as usize);
+    page.add_counted(b"_", place);
 }
 
 /// Adds the edges of the entries of a body.
 fn add_edges<A: Allocator>(
-    text: &mut Vec<u8>,
+    page: &mut Page,
     drawing: &Drawing<'_, A>,
     function: u32,
     entries: &[u32],
     place: usize,
-) -> Result<(), AllocError> {
+) {
     for k in 0..entries.len() {
         match drawing.code.entry(entries[k]) {
             None => {}
@@ -246,76 +222,59 @@ fn add_edges<A: Allocator>(
                     function,
                     before: &entries[..k],
                 };
-                add_needs(text, &scope, place, entry)?;
-                add_stores(text, &scope, place, &entry.act)?;
-                add_opened(text, drawing.places, place, k + 1, &entry.act)?;
+                add_needs(page, &scope, place, entry);
+                add_stores(page, &scope, place, &entry.act);
+                add_opened(page, drawing.places, place, k + 1, &entry.act);
             }
         }
     }
-    Ok(())
 }
 
 /// Adds an edge from each thing that an entry waits for.
-fn add_needs<A: Allocator>(
-    text: &mut Vec<u8>,
-    scope: &Scope<'_, A>,
-    place: usize,
-    entry: &Entry,
-) -> Result<(), AllocError> {
+fn add_needs<A: Allocator>(page: &mut Page, scope: &Scope<'_, A>, place: usize, entry: &Entry) {
     for need in &entry.needs {
-        add_edge(text, scope, place, need)?;
+        add_edge(page, scope, place, need);
     }
-    Ok(())
 }
 
 /// Adds the edges from what is waited for.
-fn add_edge<A: Allocator>(
-    text: &mut Vec<u8>,
-    scope: &Scope<'_, A>,
-    place: usize,
-    need: &Need,
-) -> Result<(), AllocError> {
+fn add_edge<A: Allocator>(page: &mut Page, scope: &Scope<'_, A>, place: usize, need: &Need) {
     match need {
-        Need::Stored(scalar) => add_need(text, scope, place, scalar, b""),
-        Need::Closed(array) => add_need(text, scope, place, array, b" [label=\"[]\"]"),
+        Need::Stored(scalar) => add_need(page, scope, place, scalar, b""),
+        Need::Closed(array) => add_need(page, scope, place, array, b" [label=\"[]\"]"),
         Need::At(array, scalar) => {
-            add_need(text, scope, place, scalar, b"")?;
-            add_need(text, scope, place, array, b" [label=\"[*]\"]")
+            add_need(page, scope, place, scalar, b"");
+            add_need(page, scope, place, array, b" [label=\"[*]\"]");
         }
-        Need::AtKey(array, _) => add_need(text, scope, place, array, b" [label=\"[*]\"]"),
+        Need::AtKey(array, _) => add_need(page, scope, place, array, b" [label=\"[*]\"]"),
     }
 }
 
 /// Adds the edge from what a name stands for.
 fn add_need<A: Allocator>(
-    text: &mut Vec<u8>,
+    page: &mut Page,
     scope: &Scope<'_, A>,
     place: usize,
     name: &Name,
     label: &[u8],
-) -> Result<(), AllocError> {
-    text.extend_from_slice(b"  ")?;
-    add_point(text, scope, place, name)?;
-    text.extend_from_slice(b" -> ")?;
-    add_entry(text, place, scope.before.len() + 1)?;
-    text.extend_from_slice(label)?;
-    text.extend_from_slice(b";\n")
+) {
+    page.add(b"  ");
+    add_point(page, scope, place, name);
+    page.add(b" -> ");
+    add_entry(page, place, scope.before.len() + 1);
+    page.add(label);
+    page.add(b";\n")
 }
 
 /// Adds the point of what a name stands for: a variable, or the entry that gives the value.
-fn add_point<A: Allocator>(
-    text: &mut Vec<u8>,
-    scope: &Scope<'_, A>,
-    place: usize,
-    name: &Name,
-) -> Result<(), AllocError> {
+fn add_point<A: Allocator>(page: &mut Page, scope: &Scope<'_, A>, place: usize, name: &Name) {
     match name.owned {
-        Owned::Parameter(at, _) => add_parameter(text, scope.function, at),
+        Owned::Parameter(at, _) => add_parameter(page, scope.function, at),
         Owned::Local(variable) => {
             if has_name(scope, name) {
-                counted(text, b"v", variable.node as usize)
+                page.add_counted(b"v", variable.node as usize)
             } else {
-                add_entry(text, place, giver(scope.code, scope.before, variable.node))
+                add_entry(page, place, giver(scope.code, scope.before, variable.node))
             }
         }
     }
@@ -330,88 +289,65 @@ fn has_name<A: Allocator>(scope: &Scope<'_, A>, name: &Name) -> bool {
 }
 
 /// Adds an edge to each variable that an entry stores.
-fn add_stores<A: Allocator>(
-    text: &mut Vec<u8>,
-    scope: &Scope<'_, A>,
-    place: usize,
-    act: &Act,
-) -> Result<(), AllocError> {
+fn add_stores<A: Allocator>(page: &mut Page, scope: &Scope<'_, A>, place: usize, act: &Act) {
     match act {
         Act::Set(name, _) | Act::Fill(name, _) | Act::Copy(name) | Act::Put(name, _, _) => {
-            add_store(text, scope, place, name)
+            add_store(page, scope, place, name);
         }
-        Act::Call { outputs, .. } => add_outputs(text, scope, place, outputs),
-        _ => Ok(()),
+        Act::Call { outputs, .. } => add_outputs(page, scope, place, outputs),
+        _ => {}
     }
 }
 
 /// Adds an edge to each output of a call.
 fn add_outputs<A: Allocator>(
-    text: &mut Vec<u8>,
+    page: &mut Page,
     scope: &Scope<'_, A>,
     place: usize,
     outputs: &Vec<Name>,
-) -> Result<(), AllocError> {
+) {
     for output in outputs {
-        add_store(text, scope, place, output)?;
+        add_store(page, scope, place, output);
     }
-    Ok(())
 }
 
 /// Adds the edge to a variable, where it has a name.
-fn add_store<A: Allocator>(
-    text: &mut Vec<u8>,
-    scope: &Scope<'_, A>,
-    place: usize,
-    name: &Name,
-) -> Result<(), AllocError> {
+fn add_store<A: Allocator>(page: &mut Page, scope: &Scope<'_, A>, place: usize, name: &Name) {
     if !has_name(scope, name) {
-        return Ok(());
+        return;
     }
-    text.extend_from_slice(b"  ")?;
-    add_entry(text, place, scope.before.len() + 1)?;
-    text.extend_from_slice(b" -> ")?;
-    add_point(text, scope, place, name)?;
-    text.extend_from_slice(b" [arrowhead=empty];\n")
+    page.add(b"  ");
+    add_entry(page, place, scope.before.len() + 1);
+    page.add(b" -> ");
+    add_point(page, scope, place, name);
+    page.add(b" [arrowhead=empty];\n")
 }
 
 /// Adds an edge to each body that an entry opens.
-fn add_opened(
-    text: &mut Vec<u8>,
-    places: &Vec<usize>,
-    place: usize,
-    k: usize,
-    act: &Act,
-) -> Result<(), AllocError> {
+fn add_opened(page: &mut Page, places: &Vec<usize>, place: usize, k: usize, act: &Act) {
     match act {
-        Act::Call { body, .. } => add_body_edge(text, places, place, k, *body),
-        Act::If(_, then, None) => add_body_edge(text, places, place, k, *then),
+        Act::Call { body, .. } => add_body_edge(page, places, place, k, *body),
+        Act::If(_, then, None) => add_body_edge(page, places, place, k, *then),
         Act::If(_, then, Some(other)) => {
-            add_body_edge(text, places, place, k, *then)?;
-            add_body_edge(text, places, place, k, *other)
+            add_body_edge(page, places, place, k, *then);
+            add_body_edge(page, places, place, k, *other);
         }
-        Act::Range(_, _, _, turns) => add_body_edge(text, places, place, k, turns.body),
-        Act::Each(turns) => add_body_edge(text, places, place, k, turns.body),
-        Act::Wait(_, body) => add_body_edge(text, places, place, k, *body),
-        _ => Ok(()),
+        Act::Range(_, _, _, turns) => add_body_edge(page, places, place, k, turns.body),
+        Act::Each(turns) => add_body_edge(page, places, place, k, turns.body),
+        Act::Wait(_, body) => add_body_edge(page, places, place, k, *body),
+        _ => {}
     }
 }
 
 /// Adds the edge to a body.
-fn add_body_edge(
-    text: &mut Vec<u8>,
-    places: &Vec<usize>,
-    place: usize,
-    k: usize,
-    body: u32,
-) -> Result<(), AllocError> {
+fn add_body_edge(page: &mut Page, places: &Vec<usize>, place: usize, k: usize, body: u32) {
     match places.get(body as usize) {
-        None => Ok(()),
+        None => {}
         Some(opened) => {
-            text.extend_from_slice(b"  ")?;
-            add_entry(text, place, k)?;
-            counted(text, b" -> b", *opened)?;
-            text.extend_from_slice(b" [style=dashed];\n")
+            page.add(b"  ");
+            add_entry(page, place, k);
+            page.add_counted(b" -> b", *opened);
+            page.add(b" [style=dashed];\n")
         }
     }
 }

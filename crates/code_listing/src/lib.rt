@@ -5,4 +5,5 @@ pub mod bodies;
 pub mod found;
 pub mod graph;
 pub mod needs;
+mod page;
 pub mod text;

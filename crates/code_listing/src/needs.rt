@@ -1,24 +1,11 @@
 //! What an entry waits for, as a listing shows it.
 
 use crate::found::Found;
+use crate::page::Page;
 use flow::script::Function;
-use itoa::Buffer;
-use std::alloc::{AllocError, Allocator};
+use std::alloc::Allocator;
 use task_code::code::Code;
 use task_code::entry::{Act, Entry, Name, Need, Owned};
-
-/// Adds a number.
-pub fn number(text: &mut Vec<u8>, number: usize) -> Result<(), AllocError> {
-    let mut buffer = Buffer::new();
-    text.extend_from_slice(buffer.format(number).as_bytes())?;
-    Ok(())
-}
-
-/// Adds words with a number behind them.
-pub fn counted(text: &mut Vec<u8>, words: &[u8], count: usize) -> Result<(), AllocError> {
-    text.extend_from_slice(words)?;
-    number(text, count)
-}
 
 /// Where the names of an entry are looked up: in the script, in the function of this number, and among the entries of its
 /// body before it.
@@ -32,97 +19,67 @@ pub struct Scope<'a, A: Allocator> {
 }
 
 /// Adds what an entry waits for, each behind a space.
-pub fn needs<A: Allocator>(
-    text: &mut Vec<u8>,
-    scope: &Scope<'_, A>,
-    entry: &Entry,
-) -> Result<(), AllocError> {
+pub fn needs<A: Allocator>(page: &mut Page, scope: &Scope<'_, A>, entry: &Entry) {
     for need in &entry.needs {
-        add_need(text, scope, need)?;
+        add_need(page, scope, need);
     }
-    Ok(())
 }
 
 /// Adds what is waited for.
-fn add_need<A: Allocator>(
-    text: &mut Vec<u8>,
-    scope: &Scope<'_, A>,
-    need: &Need,
-) -> Result<(), AllocError> {
+fn add_need<A: Allocator>(page: &mut Page, scope: &Scope<'_, A>, need: &Need) {
     match need {
-        Need::Stored(scalar) => add_name(text, scope, scalar),
-        Need::Closed(array) => add_array(text, scope, array, b"[]"),
+        Need::Stored(scalar) => add_name(page, scope, scalar),
+        Need::Closed(array) => add_array(page, scope, array, b"[]"),
         Need::At(array, scalar) => {
-            add_name(text, scope, scalar)?;
-            add_array(text, scope, array, b"[*]")
+            add_name(page, scope, scalar);
+            add_array(page, scope, array, b"[*]");
         }
-        Need::AtKey(array, _) => add_array(text, scope, array, b"[*]"),
+        Need::AtKey(array, _) => add_array(page, scope, array, b"[*]"),
     }
 }
 
 /// Adds the name of an array behind a space, and what of the array is waited for.
-fn add_array<A: Allocator>(
-    text: &mut Vec<u8>,
-    scope: &Scope<'_, A>,
-    array: &Name,
-    part: &[u8],
-) -> Result<(), AllocError> {
-    add_name(text, scope, array)?;
-    text.extend_from_slice(part)
+fn add_array<A: Allocator>(page: &mut Page, scope: &Scope<'_, A>, array: &Name, part: &[u8]) {
+    add_name(page, scope, array);
+    page.add(part);
 }
 
 /// Adds a name behind a space.
-fn add_name<A: Allocator>(
-    text: &mut Vec<u8>,
-    scope: &Scope<'_, A>,
-    name: &Name,
-) -> Result<(), AllocError> {
-    text.extend_from_slice(b" ")?;
+fn add_name<A: Allocator>(page: &mut Page, scope: &Scope<'_, A>, name: &Name) {
+    page.add(b" ");
     match name.owned {
-        Owned::Parameter(place, _) => add_parameter(text, scope, place),
-        Owned::Local(variable) => add_local(text, scope, variable.node),
+        Owned::Parameter(place, _) => add_parameter(page, scope, place),
+        Owned::Local(variable) => add_local(page, scope, variable.node),
     }
 }
 
 /// Adds the name of an input or output.
-fn add_parameter<A: Allocator>(
-    text: &mut Vec<u8>,
-    scope: &Scope<'_, A>,
-    place: usize,
-) -> Result<(), AllocError> {
+fn add_parameter<A: Allocator>(page: &mut Page, scope: &Scope<'_, A>, place: usize) {
     if scope.function == 0 {
-        return Ok(());
+        return;
     }
     match scope.functions.get(scope.function as usize - 1) {
-        None => Ok(()),
-        Some(function) => add_parameter_of(text, function, place),
+        None => {}
+        Some(function) => add_parameter_of(page, function, place),
     }
 }
 
 /// Adds the name of a function's input or output.
-fn add_parameter_of<A: Allocator>(
-    text: &mut Vec<u8>,
-    function: &Function<A>,
-    place: usize,
-) -> Result<(), AllocError> {
+fn add_parameter_of<A: Allocator>(page: &mut Page, function: &Function<A>, place: usize) {
     if place < function.inputs.len() {
-        return text.extend_from_slice(function.inputs[place].name.as_slice());
+        return page.add(function.inputs[place].name.as_slice());
     }
     match function.outputs.get(place - function.inputs.len()) {
-        None => Ok(()),
-        Some(variable) => text.extend_from_slice(variable.name.as_slice()),
+        None => {}
+        Some(variable) => page.add(variable.name.as_slice()),
     }
 }
 
 /// Adds the name of a variable, or `#` with the number of the entry that gives the value.
-fn add_local<A: Allocator>(
-    text: &mut Vec<u8>,
-    scope: &Scope<'_, A>,
-    node: u32,
-) -> Result<(), AllocError> {
+fn add_local<A: Allocator>(page: &mut Page, scope: &Scope<'_, A>, node: u32) {
     match scope.found.names.get(&node) {
-        Some(name) => text.extend_from_slice(name.as_slice()),
-        None => counted(text, b"#", giver(scope.code, scope.before, node)),
+        Some(name) => page.add(name.as_slice()),
+        None => page.add_counted(b"#", giver(scope.code, scope.before, node)),
     }
 }
 

@@ -2,9 +2,9 @@
 
 use crate::bodies::{Seat, in_order, places};
 use crate::found::{Found, Stand, What, find};
-use crate::needs::{Scope, counted, needs, number};
+use crate::needs::{Scope, needs};
+use crate::page::Page;
 use flow::script::{Flow, Function};
-use itoa::Buffer;
 use std::alloc::{AllocError, Allocator, Global};
 use task_code::code::Code;
 use task_code::entry::{Act, Entry, Kind};
@@ -33,66 +33,65 @@ fn list<A: Allocator>(
     seats: &Vec<Seat>,
 ) -> Result<Vec<u8>, AllocError> {
     let places = places(alloc, seats)?;
-    let mut text = Vec::new(alloc);
+    let mut page = Page::new(alloc);
     for place in 0..seats.len() {
         add_body(
-            &mut text,
+            &mut page,
             flow,
             code,
             found,
             &places,
             seats[place].body,
             place,
-        )?;
+        );
     }
-    Ok(text)
+    page.finish()
 }
 
 /// Adds a body and its entries.
 fn add_body<A: Allocator>(
-    text: &mut Vec<u8>,
+    page: &mut Page,
     flow: &Flow<A>,
     code: &Code,
     found: &Found,
     places: &Vec<usize>,
     body: u32,
     place: usize,
-) -> Result<(), AllocError> {
+) {
     let Some(stand) = found.stand(body) else {
-        return Ok(());
+        return;
     };
     let Some(body) = code.body(body) else {
-        return Ok(());
+        return;
     };
-    add_title(text, &flow.functions, stand, place)?;
-    text.extend_from_slice(b"\n")?;
+    add_title(page, &flow.functions, stand, place);
+    page.add(b"\n");
     add_entries(
-        text,
+        page,
         flow,
         code,
         found,
         places,
         stand.function,
         body.entries.as_slice(),
-    )
+    );
 }
 
 /// Adds the title of a body.
 pub fn add_title<A: Allocator>(
-    text: &mut Vec<u8>,
+    page: &mut Page,
     functions: &Vec<Function<A>, A>,
     stand: Stand,
     place: usize,
-) -> Result<(), AllocError> {
-    counted(text, b"body ", place)?;
-    text.extend_from_slice(what_text(stand.what).as_bytes())?;
+) {
+    page.add_counted(b"body ", place);
+    page.add(what_text(stand.what).as_bytes());
     if stand.what == What::Function && stand.function > 0 {
         match functions.get(stand.function as usize - 1) {
-            Some(function) => text.extend_from_slice(function.name.as_slice())?,
+            Some(function) => page.add(function.name.as_slice()),
             None => {}
         }
     }
-    Ok(())
 }
 
 /// The word for what a body is, behind a space.
@@ -109,14 +108,14 @@ fn what_text(what: What) -> &'static str {
 
 /// Adds the entries of a body.
 fn add_entries<A: Allocator>(
-    text: &mut Vec<u8>,
+    page: &mut Page,
     flow: &Flow<A>,
     code: &Code,
     found: &Found,
     places: &Vec<usize>,
     function: u32,
     entries: &[u32],
-) -> Result<(), AllocError> {
+) {
     for k in 0..entries.len() {
         match code.entry(entries[k]) {
             None => {}
@@ -128,39 +127,32 @@ fn add_entries<A: Allocator>(
                     function,
                     before: &entries[..k],
                 };
-                add_entry(text, &scope, places, entry)?;
+                add_entry(page, &scope, places, entry);
             }
         }
     }
-    Ok(())
 }
 
 /// Adds an entry's line.
 fn add_entry<A: Allocator>(
-    text: &mut Vec<u8>,
+    page: &mut Page,
     scope: &Scope<'_, A>,
     places: &Vec<usize>,
     entry: &Entry,
-) -> Result<(), AllocError> {
-    counted(text, b"  ", scope.before.len() + 1)?;
-    add_act(text, entry)?;
-    needs(text, scope, entry)?;
-    add_opened(text, places, &entry.act)?;
-    text.extend_from_slice(b"\n")
+) {
+    page.add_counted(b"  ", scope.before.len() + 1);
+    add_act(page, entry);
+    needs(page, scope, entry);
+    add_opened(page, places, &entry.act);
+    page.add(b"\n");
 }
 
 /// Adds who runs an entry, what it does, where it stands in the script, and its priority.
-pub fn add_act(text: &mut Vec<u8>, entry: &Entry) -> Result<(), AllocError> {
-    text.extend_from_slice(kind_text(entry.act.kind()).as_bytes())?;
-    counted(text, act_text(&entry.act).as_bytes(), entry.mark)?;
-    text.extend_from_slice(b" ")?;
-    add_priority(text, entry.priority)
-}
-
-/// Adds a priority.
-pub fn add_priority(text: &mut Vec<u8>, priority: i32) -> Result<(), AllocError> {
-    let mut buffer = Buffer::new();
-    text.extend_from_slice(buffer.format(priority).as_bytes())
+pub fn add_act(page: &mut Page, entry: &Entry) {
+    page.add(kind_text(entry.act.kind()).as_bytes());
+    page.add_counted(act_text(&entry.act).as_bytes(), entry.mark);
+    page.add(b" ");
+    page.add_priority(entry.priority);
 }
 
 /// The word for who runs an entry, behind a space.
@@ -191,32 +183,32 @@ pub fn act_text(act: &Act) -> &'static str {
 }
 
 /// Adds the bodies that an entry opens.
-fn add_opened(text: &mut Vec<u8>, places: &Vec<usize>, act: &Act) -> Result<(), AllocError> {
+fn add_opened(page: &mut Page, places: &Vec<usize>, act: &Act) {
     match act {
-        Act::Call { body, .. } => add_first(text, places, *body),
-        Act::If(_, then, None) => add_first(text, places, *then),
+        Act::Call { body, .. } => add_first(page, places, *body),
+        Act::If(_, then, None) => add_first(page, places, *then),
         Act::If(_, then, Some(other)) => {
-            add_first(text, places, *then)?;
-            add_place(text, places, *other)
+            add_first(page, places, *then);
+            add_place(page, places, *other);
         }
-        Act::Range(_, _, _, turns) => add_first(text, places, turns.body),
-        Act::Each(turns) => add_first(text, places, turns.body),
-        Act::Wait(_, body) => add_first(text, places, *body),
-        _ => Ok(()),
+        Act::Range(_, _, _, turns) => add_first(page, places, turns.body),
+        Act::Each(turns) => add_first(page, places, turns.body),
+        Act::Wait(_, body) => add_first(page, places, *body),
+        _ => {}
     }
 }
 
 /// Adds the first body that an entry opens.
-fn add_first(text: &mut Vec<u8>, places: &Vec<usize>, body: u32) -> Result<(), AllocError> {
-    text.extend_from_slice(b" >")?;
-    add_place(text, places, body)
+fn add_first(page: &mut Page, places: &Vec<usize>, body: u32) {
+    page.add(b" >");
+    add_place(page, places, body);
 }
 
 /// Adds the number of a body in the listing, behind a space.
-fn add_place(text: &mut Vec<u8>, places: &Vec<usize>, body: u32) -> Result<(), AllocError> {
-    text.extend_from_slice(b" ")?;
+fn add_place(page: &mut Page, places: &Vec<usize>, body: u32) {
+    page.add(b" ");
     match places.get(body as usize) {
-        Some(place) => number(text, *place),
-        None => Ok(()),
+        Some(place) => page.add_number(*place),
+        None => {}
     }
 }
