@@ -35,7 +35,6 @@ use values::value::Scalar;
 
 /// The machine's state over some code, with the events that led to it. At most `limit` events are accepted, each by one of the
 /// workers 0 to 63.
-#[derive(Drop)]
 pub struct Board {
     program: Program,
     most_names: usize,
@@ -46,6 +45,21 @@ pub struct Board {
     known: Vec<Input>,
     /// The list of the answers of work that has ended, for those of the next. It means nothing.
     answers: Vec<Answer>,
+}
+
+// Written out, so that who owns a board lets it go by one call.
+impl Drop for Board {
+    fn drop(self) {
+        let Board {
+            program: _,
+            most_names: _,
+            limit: _,
+            core: _,
+            history: _,
+            known: _,
+            answers: _,
+        } = self;
+    }
 }
 
 impl Model for Board {
@@ -280,7 +294,15 @@ impl Board {
     pub fn into_history(self) -> Vec<Event>
         ensures { map event_view result.items ≡ self.history }
     {
-        let Board { history, .. } = self;
+        let Board {
+            program: _,
+            most_names: _,
+            limit: _,
+            core: _,
+            history,
+            known: _,
+            answers: _,
+        } = self;
         history
     }
 

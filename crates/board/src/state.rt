@@ -17,13 +17,25 @@ use std::alloc::{AllocError, Global};
 use values::value::Scalar;
 
 /// The state of the machine, so kept that no call looks at all of it.
-#[derive(Drop)]
 pub struct Core {
     pub world: World,
     pub items: Items,
     pub lines: Vec<Scalar>,
     pub fault: Option<Fault>,
     pub alloc: Global,
+}
+
+// Written out, so that who owns one lets it go by one call.
+impl Drop for Core {
+    fn drop(self) {
+        let Core {
+            world: _,
+            items: _,
+            lines: _,
+            fault: _,
+            alloc: _,
+        } = self;
+    }
 }
 
 impl Core {

@@ -24,7 +24,6 @@ pub enum End {
 }
 
 /// A run of code that is over.
-#[derive(Drop)]
 pub struct Report {
     pub code: Code,
     /// The events, in the order in which they happened.
@@ -37,6 +36,20 @@ pub struct Report {
     pub blocked: Vec<Statement>,
     /// The number of events of each worker, by its number.
     pub tallies: [u32; 64],
+}
+
+// Written out, so that who owns a report lets it go by one call.
+impl Drop for Report {
+    fn drop(self) {
+        let Report {
+            code: _,
+            history: _,
+            lines: _,
+            end: _,
+            blocked: _,
+            tallies: _,
+        } = self;
+    }
 }
 
 /// What is said of a run but its events.
