@@ -1,14 +1,34 @@
 //! Each call of `data_store` on a plain case.
 ghost use Rattle.data_store.specs.Stores.{IsArrayAt, IsScalarAt};
 
-use crate::asserts::is_equal;
+use crate::asserts::{boxed, holds, is_equal};
 use data_store::refusal::Refusal;
 use data_store::store::{DatumNo, Shape, Store};
-use std::alloc::AllocError;
+use std::alloc::Global;
 use std::process::Abort;
-use std::test::Fail;
 use values::key::Key;
 use values::value::Scalar;
+
+/// A store without data.
+fn no_data(rt: &impl Abort, alloc: Global) -> Box<Store> {
+    boxed(rt, alloc, Store::new(alloc))
+}
+
+/// A scalar with one read and this many writes to come.
+fn scalar(rt: &impl Abort, store: &mut Store, writes: u64) -> DatumNo
+    ensures { IsScalarAt store.new result }
+{
+    store
+        .new_cell(Shape::Single, 1, writes)
+        .expect(rt, "memory")
+}
+
+/// An array with one read and this many writes to come.
+fn array(rt: &impl Abort, store: &mut Store, writes: u64) -> DatumNo
+    ensures { IsArrayAt store.new result }
+{
+    store.new_cell(Shape::Keyed, 1, writes).expect(rt, "memory")
+}
 
 /// A put of this number ends so.
 fn puts(rt: &impl Abort, store: &mut Store, d: DatumNo, n: i64, end: Result<(), Refusal>)
@@ -57,21 +77,21 @@ fn order_of(map: &values::map::Map) -> i64 {
     sum
 }
 
-/// The order of the elements of the list that is kept.
-fn order_of_whole(store: &mut Store, d: DatumNo) -> Result<i64, AllocError>
+/// The list that is kept has its elements in this order.
+fn whole_has_order(rt: &impl Abort, store: &mut Store, d: DatumNo, order: i64)
     requires { IsArrayAt store.old d }
     ensures { IsArrayAt store.new d }
 {
-    let map = store.whole(d)?;
-    Ok(order_of(&map))
+    let map = store.whole(d).expect(rt, "memory");
+    is_equal(rt, order_of(&map), order);
 }
 
-/// The order of the elements of a list made for this call.
-fn order_of_listed(store: &Store, d: DatumNo) -> Result<i64, AllocError>
+/// A list made for this call has its elements in this order.
+fn listed_has_order(rt: &impl Abort, store: &Store, d: DatumNo, order: i64)
     requires { IsArrayAt store.now d }
 {
-    let map = store.listed(d)?;
-    Ok(order_of(&map))
+    let map = store.listed(d).expect(rt, "memory");
+    is_equal(rt, order_of(&map), order);
 }
 
 fn hold(store: &mut Store, d: DatumNo) {
@@ -103,11 +123,10 @@ fn put_twice(rt: &impl Abort, store: &mut Store, d: DatumNo)
 }
 
 #[test]
-fn a_scalar_is_written_once(rt: HostRuntime) -> Result<(), Fail> {
-    let mut store = Store::new(rt.alloc());
-    let d = store.new_cell(Shape::Single, 1, 1)?;
+fn a_scalar_is_written_once(rt: HostRuntime) {
+    let mut store = no_data(&rt, rt.alloc());
+    let d = scalar(&rt, &mut store, 1);
     put_twice(&rt, &mut store, d);
-    Ok(())
 }
 
 /// Elements under three keys, which do not rise, and one more under a key that has one.
@@ -138,41 +157,42 @@ fn has_three(rt: &impl Abort, store: &Store, d: DatumNo)
 }
 
 /// The three elements stand in their order, each time that they are asked for.
-fn whole_rises(rt: &impl Abort, store: &mut Store, d: DatumNo) -> Result<(), AllocError>
+fn whole_rises(rt: &impl Abort, store: &mut Store, d: DatumNo)
     requires { IsArrayAt store.old d }
 {
-    is_equal(rt, order_of_whole(store, d)?, 16);
-    is_equal(rt, order_of_whole(store, d)?, 16);
-    Ok(())
+    whole_has_order(rt, store, d, 16);
+    whole_has_order(rt, store, d, 16);
 }
 
 #[test]
-fn elements_come_by_rising_key(rt: HostRuntime) -> Result<(), Fail> {
-    let mut store = Store::new(rt.alloc());
-    let d = store.new_cell(Shape::Keyed, 1, 1)?;
+fn elements_come_by_rising_key(rt: HostRuntime) {
+    let mut store = no_data(&rt, rt.alloc());
+    let d = array(&rt, &mut store, 1);
     insert_four(&rt, &mut store, d);
     has_three(&rt, &store, d);
-    whole_rises(&rt, &mut store, d)?;
-    Ok(())
+    whole_rises(&rt, &mut store, d);
 }
 
 /// A closed array refuses an element, and room may be laid by in it.
-fn insert_into_closed(rt: &impl Abort, store: &mut Store, d: DatumNo) -> Result<(), AllocError>
+fn insert_into_closed(rt: &impl Abort, store: &mut Store, d: DatumNo)
     requires { IsArrayAt store.old d }
 {
-    assert!(rt; store.is_closed(d));
+    holds(rt, store.is_closed(d));
     inserts(rt, store, d, 1, 1, Err(Refusal::Closed));
-    store.reserve(d, 4)?;
+    store.reserve(d, 4).expect(rt, "memory");
     is_equal(rt, store.len(), 1);
-    Ok(())
 }
 
 #[test]
-fn no_element_comes_when_closed(rt: HostRuntime) -> Result<(), Fail> {
-    let mut store = Store::new(rt.alloc());
-    let d = store.new_cell(Shape::Keyed, 1, 0)?;
-    insert_into_closed(&rt, &mut store, d)?;
-    Ok(())
+fn no_element_comes_when_closed(rt: HostRuntime) {
+    let mut store = no_data(&rt, rt.alloc());
+    let d = array(&rt, &mut store, 0);
+    insert_into_closed(&rt, &mut store, d);
+}
+
+/// The datum is alive, and closed or not.
+fn is_alive(rt: &impl Abort, store: &Store, d: DatumNo, closed: bool) {
+    holds(rt, store.is_live(d) && store.is_closed(d) == closed);
 }
 
 /// The array lives until the last read and write are given up.
@@ -180,84 +200,86 @@ fn give_up_all(rt: &impl Abort, store: &mut Store, d: DatumNo) {
     hold(store, d);
     close(store, d);
     release(store, d);
-    assert!(rt; store.is_live(d) && !store.is_closed(d));
+    is_alive(rt, store, d, false);
     close(store, d);
-    assert!(rt; store.is_live(d) && store.is_closed(d));
+    is_alive(rt, store, d, true);
     release(store, d);
-    assert!(rt; !store.is_live(d));
-    is_equal(rt, store.len(), 0);
+    is_equal(rt, (store.is_live(d), store.len()), (false, 0));
 }
 
 #[test]
-fn the_last_hold_frees(rt: HostRuntime) -> Result<(), Fail> {
-    let mut store = Store::new(rt.alloc());
-    store.reserve_cells(2)?;
-    let d = store.new_cell(Shape::Keyed, 1, 1)?;
+fn the_last_hold_frees(rt: HostRuntime) {
+    let mut store = no_data(&rt, rt.alloc());
+    store.reserve_cells(2).expect(&rt, "memory");
+    let d = array(&rt, &mut store, 1);
     give_up_all(&rt, &mut store, d);
-    Ok(())
+}
+
+/// The letter of the shape that a number tells, if it tells one.
+fn letter(store: &Store, d: DatumNo) -> Option<u8> {
+    match store.shape(d) {
+        Some(Shape::Single) => Some(b's'),
+        Some(Shape::Keyed) => Some(b'k'),
+        None => None,
+    }
 }
 
 /// A cell of each shape tells it.
 fn both_tell(rt: &impl Abort, store: &Store, scalar: DatumNo, array: DatumNo) {
-    assert!(rt; matches!(store.shape(scalar), Some(Shape::Single)));
-    assert!(rt; matches!(store.shape(array), Some(Shape::Keyed)));
+    is_equal(rt, letter(store, scalar), Some(b's'));
+    is_equal(rt, letter(store, array), Some(b'k'));
 }
 
 /// Neither a scalar that is given up nor a number that was never handed out tells a shape.
 fn none_tells(rt: &impl Abort, store: &mut Store, scalar: DatumNo) {
     release(store, scalar);
-    assert!(rt; store.shape(scalar).is_none());
-    assert!(rt; store.shape(77).is_none());
+    is_equal(rt, letter(store, scalar), None);
+    is_equal(rt, letter(store, 77), None);
 }
 
 #[test]
-fn a_number_tells_its_shape(rt: HostRuntime) -> Result<(), Fail> {
-    let mut store = Store::new(rt.alloc());
-    let scalar = store.new_cell(Shape::Single, 1, 0)?;
-    let array = store.new_cell(Shape::Keyed, 1, 1)?;
-    both_tell(&rt, &store, scalar, array);
-    none_tells(&rt, &mut store, scalar);
-    Ok(())
+fn a_number_tells_its_shape(rt: HostRuntime) {
+    let mut store = no_data(&rt, rt.alloc());
+    let single = scalar(&rt, &mut store, 0);
+    let keyed = array(&rt, &mut store, 1);
+    both_tell(&rt, &store, single, keyed);
+    none_tells(&rt, &mut store, single);
 }
 
 /// An array that nothing was put into is listed empty.
-fn list_none(rt: &impl Abort, store: &Store, d: DatumNo) -> Result<(), AllocError>
+fn list_none(rt: &impl Abort, store: &Store, d: DatumNo)
     requires { IsArrayAt store.now d }
 {
-    let map = store.listed(d)?;
+    let map = store.listed(d).expect(rt, "memory");
     is_equal(rt, map.elements().len(), 0);
-    Ok(())
 }
 
 /// Two elements, listed before `whole` has made a list, as that list and with it.
-fn list_two(rt: &impl Abort, store: &mut Store, d: DatumNo) -> Result<(), AllocError>
+fn list_two(rt: &impl Abort, store: &mut Store, d: DatumNo)
     requires { IsArrayAt store.old d }
     ensures { IsArrayAt store.new d }
 {
     inserts(rt, store, d, 5, 50, Ok(()));
     inserts(rt, store, d, -3, 30, Ok(()));
-    is_equal(rt, order_of_listed(store, d)?, 7);
-    is_equal(rt, order_of_whole(store, d)?, 7);
-    is_equal(rt, order_of_listed(store, d)?, 7);
-    Ok(())
+    listed_has_order(rt, store, d, 7);
+    whole_has_order(rt, store, d, 7);
+    listed_has_order(rt, store, d, 7);
 }
 
 /// One element more is listed too.
-fn list_one_more(rt: &impl Abort, store: &mut Store, d: DatumNo) -> Result<(), AllocError>
+fn list_one_more(rt: &impl Abort, store: &mut Store, d: DatumNo)
     requires { IsArrayAt store.old d }
 {
     inserts(rt, store, d, 2, 20, Ok(()));
-    is_equal(rt, order_of_listed(store, d)?, 16);
-    Ok(())
+    listed_has_order(rt, store, d, 16);
 }
 
 // Before `whole` has made a list, with that list, and after the next insert.
 #[test]
-fn elements_are_listed_by_rising_key(rt: HostRuntime) -> Result<(), Fail> {
-    let mut store = Store::new(rt.alloc());
-    let d = store.new_cell(Shape::Keyed, 1, 1)?;
-    list_none(&rt, &store, d)?;
-    list_two(&rt, &mut store, d)?;
-    list_one_more(&rt, &mut store, d)?;
-    Ok(())
+fn elements_are_listed_by_rising_key(rt: HostRuntime) {
+    let mut store = no_data(&rt, rt.alloc());
+    let d = array(&rt, &mut store, 1);
+    list_none(&rt, &store, d);
+    list_two(&rt, &mut store, d);
+    list_one_more(&rt, &mut store, d);
 }

@@ -8,7 +8,6 @@ use offers::{Fresh, Offers};
 use pool::{Kind, Pool};
 use std::alloc::{AllocError, Global};
 use std::process::Abort;
-use std::test::Fail;
 
 /// A pool with one seat, and what is offered and drawn by it.
 fn alone(alloc: Global) -> Result<(Pool, Offers), AllocError>
@@ -61,9 +60,8 @@ fn offer_and_draw(rt: &impl Abort, pool: &Pool, offers: &mut Offers)
 }
 
 #[test]
-fn offers_what_is_listed(rt: HostRuntime) -> Result<(), Fail> {
-    let (pool, mut offers) = alone(rt.alloc())?;
-    list_two(&mut offers)?;
+fn offers_what_is_listed(rt: HostRuntime) {
+    let (pool, mut offers) = alone(rt.alloc()).expect(&rt, "memory");
+    list_two(&mut offers).expect(&rt, "memory");
     offer_and_draw(&rt, &pool, &mut offers);
-    Ok(())
 }

@@ -3,11 +3,10 @@
 ghost use Rattle.std.specs.Prelude.{◌≡◌, ◌<◌, All, IfOk, vec_len};
 ghost use Rattle.pool.specs.Seats.{IsSeatOf, seats_of};
 
-use crate::asserts::is_equal;
+use crate::asserts::{holds, is_equal};
 use pool::{Kind, Left, Offer, Pool, PoolSeat};
 use std::alloc::{AllocError, Global};
 use std::process::Abort;
-use std::test::Fail;
 use std::thread;
 
 /// A pool with one seat.
@@ -82,13 +81,12 @@ fn take_four(rt: &impl Abort, pool: &Pool, seat: &mut PoolSeat)
 }
 
 #[test]
-fn takes_the_highest_class_first(rt: HostRuntime) -> Result<(), Fail> {
-    let (pool, mut seat) = alone(rt.alloc())?;
+fn takes_the_highest_class_first(rt: HostRuntime) {
+    let (pool, mut seat) = alone(rt.alloc()).expect(&rt, "memory");
     offer_four(&rt, &pool, &mut seat);
     take_four(&rt, &pool, &mut seat);
-    let left = close_alone(rt.alloc(), pool, seat)?;
-    assert!(rt; is_empty(&left));
-    Ok(())
+    let left = close_alone(rt.alloc(), pool, seat).expect(&rt, "memory");
+    holds(&rt, is_empty(&left));
 }
 
 /// Offers 1 to 16, and says how many were taken in.
@@ -114,25 +112,28 @@ fn fill_past(rt: &impl Abort, pool: &Pool, seat: &mut PoolSeat)
     is_equal(rt, pool.offer(seat, Kind::Leaf, 1, 17), Offer::Full(17));
 }
 
+/// What lies in a hole where one class is full.
+fn wanted_in(place: usize) -> u64 {
+    if 64 <= place && place < 80 {
+        place as u64 - 63
+    } else {
+        0
+    }
+}
+
 /// The sixteen lie in the holes of their class, and nothing in another.
 fn has_sixteen(rt: &impl Abort, left: &Left) {
     for (place, number) in left.holes.iter().enumerate() {
-        let want = if 64 <= place && place < 80 {
-            place - 63
-        } else {
-            0
-        };
-        assert_eq!(rt; *number, want as u64, "in hole {place}");
+        is_equal(rt, (place, *number), (place, wanted_in(place)));
     }
 }
 
 #[test]
-fn hands_the_seventeenth_back(rt: HostRuntime) -> Result<(), Fail> {
-    let (pool, mut seat) = alone(rt.alloc())?;
+fn hands_the_seventeenth_back(rt: HostRuntime) {
+    let (pool, mut seat) = alone(rt.alloc()).expect(&rt, "memory");
     fill_past(&rt, &pool, &mut seat);
-    let left = close_alone(rt.alloc(), pool, seat)?;
+    let left = close_alone(rt.alloc(), pool, seat).expect(&rt, "memory");
     has_sixteen(&rt, &left);
-    Ok(())
 }
 
 /// What one thread has: its seat, where its own numbers begin, and its numbers that were taken in, and those that it
@@ -194,6 +195,12 @@ fn add_numbers(all: &mut Vec<u64>, numbers: &[u64]) -> Result<(), AllocError> {
     Ok(())
 }
 
+/// Adds what a hand offered and took to the lists.
+fn add_hand(hand: &Hand, offered: &mut Vec<u64>, taken: &mut Vec<u64>) -> Result<(), AllocError> {
+    add_numbers(offered, hand.offered.as_slice())?;
+    add_numbers(taken, hand.taken.as_slice())
+}
+
 /// The seats of the hands, whose numbers are added to the lists.
 fn seats_back(
     alloc: Global,
@@ -208,8 +215,7 @@ fn seats_back(
 {
     let mut seats = Vec::new(alloc);
     while let Some(hand) = hands.pop() {
-        add_numbers(offered, hand.offered.as_slice())?;
-        add_numbers(taken, hand.taken.as_slice())?;
+        add_hand(&hand, offered, taken)?;
         seats.push(hand.seat)?;
     }
     Ok(seats)
@@ -238,8 +244,8 @@ fn rises(numbers: &[u64]) -> bool {
 
 /// At least 2,000 numbers were taken in, none twice, and each came out once.
 fn balances(rt: &impl Abort, offered: &[u64], taken: &[u64]) {
-    assert!(rt; offered.len() >= 2000);
-    assert!(rt; rises(offered));
+    holds(rt, offered.len() >= 2000);
+    holds(rt, rises(offered));
     is_equal(rt, offered, taken);
 }
 
@@ -249,15 +255,22 @@ fn sort_both(offered: &mut Vec<u64>, taken: &mut Vec<u64>) -> Result<(), AllocEr
     taken.sort()
 }
 
+/// What the hands offered came out of the pool once.
+fn is_balanced(rt: &impl Abort, alloc: Global, pool: Pool, hands: Vec<Hand>)
+    requires each { All (λ h. IsSeatOf pool h.seat) hands.items }
+    requires all { vec_len hands ≡ seats_of pool }
+{
+    let mut offered = Vec::new(alloc);
+    let mut taken = Vec::new(alloc);
+    add_all(alloc, pool, hands, &mut offered, &mut taken).expect(rt, "memory");
+    sort_both(&mut offered, &mut taken).expect(rt, "memory");
+    balances(rt, offered.as_slice(), taken.as_slice());
+}
+
 #[test]
-fn balances_four_threads(rt: HostRuntime) -> Result<(), Fail> {
-    let (pool, seats) = Pool::new(rt.alloc(), 4)?;
-    let mut hands = hands_of(rt.alloc(), &pool, seats)?;
+fn balances_four_threads(rt: HostRuntime) {
+    let (pool, seats) = Pool::new(rt.alloc(), 4).expect(&rt, "memory");
+    let mut hands = hands_of(rt.alloc(), &pool, seats).expect(&rt, "memory");
     thread::for_each_mut(&rt, hands.as_mut_slice(), 4, &|_, hand| work(&pool, hand));
-    let mut offered = Vec::new(rt.alloc());
-    let mut taken = Vec::new(rt.alloc());
-    add_all(rt.alloc(), pool, hands, &mut offered, &mut taken)?;
-    sort_both(&mut offered, &mut taken)?;
-    balances(&rt, offered.as_slice(), taken.as_slice());
-    Ok(())
+    is_balanced(&rt, rt.alloc(), pool, hands);
 }
