@@ -1,7 +1,8 @@
 //! Each call of `emit_parts` on a plain case.
 
-use crate::asserts::is_equal;
-use crate::flows::{array, call_part, computed, element, output, scalar, sum, two};
+use crate::asserts::{boxed, holds, is_equal};
+use crate::flows::{array, call_part, computed, element, output, scalar, sum};
+use crate::lists::two;
 use emit_parts::names::{named, own, small};
 use emit_parts::needs::{Wanted, listed, note, note_name, place_of};
 use emit_parts::operators::{operator, text};
@@ -11,7 +12,8 @@ use emit_parts::seen::{note_seen, placed_seen};
 use flow::cell::{Cell, Form, Outer};
 use flow::expression::{Expr, Operation};
 use indexmap::IndexSet;
-use std::alloc::{AllocError, Global};
+use std::alloc::Global;
+use std::process::Abort;
 use task_code::entry::{Name, Need, Owned, Variable};
 use task_code::expr::{Expr as Placed, Operator};
 use values::op::Sign;
@@ -25,21 +27,29 @@ fn datum(node: u32, array: bool) -> Name {
     }
 }
 
+/// No needs, in a box.
+fn no_needs(rt: &impl Abort, alloc: Global) -> Box<IndexSet<Wanted>> {
+    boxed(rt, alloc, IndexSet::new(alloc))
+}
+
+/// Notes a name.
+fn notes(rt: &impl Abort, needs: &mut IndexSet<Wanted>, name: Name) {
+    note_name(needs, name).expect(rt, "memory");
+}
+
 /// The needs of two names, each once.
-fn needs_of(alloc: Global, first: Name, second: Name) -> Result<IndexSet<Wanted>, AllocError> {
-    let mut needs = IndexSet::new(alloc);
-    note_name(&mut needs, first)?;
-    note_name(&mut needs, second)?;
-    note_name(&mut needs, first)?;
-    Ok(needs)
+fn needs_of(rt: &impl Abort, alloc: Global, first: Name, second: Name) -> Box<IndexSet<Wanted>> {
+    let mut needs = no_needs(rt, alloc);
+    notes(rt, &mut needs, first);
+    notes(rt, &mut needs, second);
+    notes(rt, &mut needs, first);
+    needs
 }
 
 /// Whether these are the scalar of node 8 and the array of node 3.
 fn are_both(needs: &[Need]) -> bool {
     match needs {
-        [Need::Stored(first), Need::Closed(second)] => {
-            *first == datum(8, false) && *second == datum(3, true)
-        }
+        [first, second] => is_stored(first, datum(8, false)) && is_closed(second, datum(3, true)),
         _ => false,
     }
 }
@@ -91,104 +101,198 @@ fn names_become_those_of_code(rt: HostRuntime) {
     is_equal(&rt, local_node(output()), None);
 }
 
+/// Whether the datum is needed once it is stored.
+fn is_stored(need: &Need, datum: Name) -> bool {
+    match need {
+        Need::Stored(name) => *name == datum,
+        _ => false,
+    }
+}
+
+/// Whether the datum is needed once it is closed.
+fn is_closed(need: &Need, datum: Name) -> bool {
+    match need {
+        Need::Closed(name) => *name == datum,
+        _ => false,
+    }
+}
+
 #[test]
 fn a_name_is_wanted_stored_or_closed(rt: HostRuntime) {
     let one = Wanted::new(datum(3, false));
     is_equal(&rt, one.name(), datum(3, false));
-    assert!(rt; matches!(one.need(), Need::Stored(name) if name == datum(3, false)));
+    holds(&rt, is_stored(&one.need(), datum(3, false)));
     let all = Wanted::new(datum(4, true));
-    assert!(rt; matches!(all.need(), Need::Closed(name) if name == datum(4, true)));
+    holds(&rt, is_closed(&all.need(), datum(4, true)));
 }
 
 #[test]
 fn needs_are_listed_once_in_their_order(rt: HostRuntime) {
-    let needs = needs_of(rt.alloc(), datum(8, false), datum(3, true)).expect(&rt, "memory");
+    let needs = needs_of(&rt, rt.alloc(), datum(8, false), datum(3, true));
     is_equal(&rt, place_of(&needs, datum(8, false)), 0);
     is_equal(&rt, place_of(&needs, datum(3, true)), 1);
     let found = listed(rt.alloc(), &needs).expect(&rt, "memory");
-    assert!(rt; are_both(found.as_slice()));
+    holds(&rt, are_both(found.as_slice()));
+}
+
+/// `6 + x`, of which `x` is the scalar of node 8.
+fn six_and_eighth(rt: &impl Abort, alloc: Global) -> Box<Expr<Global>> {
+    let expr = sum(alloc, Expr::Number(6), Expr::Name(scalar(8))).expect(rt, "memory");
+    boxed(rt, alloc, expr)
 }
 
 /// The scalar of node 3, and then what the expression waits for.
-fn needs_behind(alloc: Global, expr: &Expr<Global>) -> Result<IndexSet<Wanted>, AllocError> {
-    let mut needs = IndexSet::new(alloc);
-    note_name(&mut needs, datum(3, false))?;
-    note(&mut needs, 0, expr)?;
-    Ok(needs)
+fn needs_behind(rt: &impl Abort, alloc: Global, expr: &Expr<Global>) -> Box<IndexSet<Wanted>> {
+    let mut needs = no_needs(rt, alloc);
+    notes(rt, &mut needs, datum(3, false));
+    note(&mut needs, 0, expr).expect(rt, "memory");
+    needs
+}
+
+/// The expression over these needs.
+fn over(
+    rt: &impl Abort,
+    alloc: Global,
+    needs: &IndexSet<Wanted>,
+    expr: &Expr<Global>,
+) -> Box<Placed> {
+    let found = placed(alloc, needs, 0, expr).expect(rt, "memory");
+    boxed(rt, alloc, found)
+}
+
+/// Whether this is the sum of the number 6 and the second need.
+fn is_six_and_second(placed: &Placed) -> bool {
+    match placed {
+        Placed::Operation(operator, operands) => {
+            is_one_plus(operator) && are_six_and_second(operands.as_slice())
+        }
+        _ => false,
+    }
 }
 
 #[test]
 fn an_expression_stands_over_its_needs(rt: HostRuntime) {
-    let expr = sum(rt.alloc(), Expr::Number(6), Expr::Name(scalar(8))).expect(&rt, "memory");
-    let needs = needs_behind(rt.alloc(), &expr).expect(&rt, "memory");
-    match placed(rt.alloc(), &needs, 0, &expr).expect(&rt, "memory") {
-        Placed::Operation(operator, operands) => {
-            assert!(rt; is_one_plus(&operator) && are_six_and_second(operands.as_slice()));
-        }
-        _ => assert!(rt; false),
-    }
+    let expr = six_and_eighth(&rt, rt.alloc());
+    let needs = needs_behind(&rt, rt.alloc(), &expr);
+    let found = over(&rt, rt.alloc(), &needs, &expr);
+    holds(&rt, is_six_and_second(&found));
+}
+
+/// Expressions over these needs.
+fn all_over(
+    rt: &impl Abort,
+    alloc: Global,
+    needs: &IndexSet<Wanted>,
+    exprs: &Vec<Expr<Global>>,
+) -> Vec<Placed> {
+    all_placed(alloc, needs, 0, exprs).expect(rt, "memory")
 }
 
 #[test]
 fn expressions_stand_in_their_order(rt: HostRuntime) {
     let both = two(rt.alloc(), Expr::Number(6), Expr::Name(scalar(8))).expect(&rt, "memory");
-    let needs = needs_of(rt.alloc(), datum(3, false), datum(8, false)).expect(&rt, "memory");
-    let all = all_placed(rt.alloc(), &needs, 0, &both).expect(&rt, "memory");
-    assert!(rt; are_six_and_second(all.as_slice()));
+    let needs = needs_of(&rt, rt.alloc(), datum(3, false), datum(8, false));
+    let all = all_over(&rt, rt.alloc(), &needs, &both);
+    holds(&rt, are_six_and_second(all.as_slice()));
+}
+
+/// The operator of an operation, in a box.
+fn operator_of(rt: &impl Abort, alloc: Global, operation: &Operation<Global>) -> Box<Operator> {
+    let found = operator(alloc, operation).expect(rt, "memory");
+    boxed(rt, alloc, found)
+}
+
+/// Whether this is `!`.
+fn is_not(operator: &Operator) -> bool {
+    matches!(operator, Operator::Not)
 }
 
 #[test]
 fn operators_are_those_of_code(rt: HostRuntime) {
-    let not = operator::<Global>(rt.alloc(), &Operation::Not).expect(&rt, "memory");
-    assert!(rt; matches!(not, Operator::Not));
+    let not = operator_of(&rt, rt.alloc(), &Operation::Not);
+    holds(&rt, is_not(&not));
+}
+
+/// Whether this is the text.
+fn is_text(scalar: &Scalar, bytes: &[u8]) -> bool {
+    match scalar {
+        Scalar::Text(found) => found.as_bytes() == bytes,
+        _ => false,
+    }
 }
 
 #[test]
 fn texts_are_those_of_code(rt: HostRuntime) {
     let bytes = Vec::from_slice(rt.alloc(), b"abc").expect(&rt, "memory");
-    match text(rt.alloc(), &bytes).expect(&rt, "memory") {
-        Scalar::Text(found) => is_equal(&rt, found.as_bytes(), b"abc".as_slice()),
-        _ => assert!(rt; false),
-    }
+    let found = text(rt.alloc(), &bytes).expect(&rt, "memory");
+    holds(&rt, is_text(&found, b"abc"));
+}
+
+/// A form in a box.
+fn form(rt: &impl Abort, alloc: Global, expr: Expr<Global>) -> Box<Form<Global>> {
+    boxed(rt, alloc, Form::Compute(expr))
+}
+
+/// Whether this is plain before any part.
+fn is_plain_alone(alloc: Global, form: &Form<Global>) -> bool {
+    is_plain(&Vec::new(alloc), 0, form)
 }
 
 #[test]
 fn literals_and_names_are_plain(rt: HostRuntime) {
-    let none = Vec::new(rt.alloc());
-    assert!(rt; is_plain(&none, 0, &Form::Compute(Expr::Number(6))));
-    assert!(rt; !is_plain(&none, 0, &element().form));
+    let six = form(&rt, rt.alloc(), Expr::Number(6));
+    holds(&rt, is_plain_alone(rt.alloc(), &six));
+    let element = boxed(&rt, rt.alloc(), element());
+    is_equal(&rt, is_plain_alone(rt.alloc(), &element.form), false);
+}
+
+/// A call, and the cell of the scalar of node 6 behind it.
+fn outer_behind_call(rt: &impl Abort, alloc: Global) -> Box<Outer<Global>> {
+    let outer = Outer {
+        parts: call_part(alloc).expect(rt, "memory"),
+        cell: computed(7, Expr::Name(scalar(6))),
+    };
+    boxed(rt, alloc, outer)
 }
 
 #[test]
 fn what_a_call_gives_is_not_plain_behind_it(rt: HostRuntime) {
-    let parts = call_part(rt.alloc()).expect(&rt, "memory");
-    assert!(rt; !is_plain(&parts, 1, &Form::Compute(Expr::Name(scalar(5)))));
-    let outer = Outer {
-        parts,
-        cell: computed(7, Expr::Name(scalar(6))),
-    };
-    assert!(rt; is_outer_plain(&outer));
+    let outer = outer_behind_call(&rt, rt.alloc());
+    let given = form(&rt, rt.alloc(), Expr::Name(scalar(5)));
+    is_equal(&rt, is_plain(&outer.parts, 1, &given), false);
+    holds(&rt, is_outer_plain(&outer));
 }
 
 /// What is seen of a plain cell and of another one.
 fn seen(
+    rt: &impl Abort,
     alloc: Global,
     plain: &Cell<Global>,
     other: &Cell<Global>,
-) -> Result<IndexSet<Wanted>, AllocError> {
-    let mut needs = IndexSet::new(alloc);
-    note_seen(&mut needs, 0, plain, true)?;
-    note_seen(&mut needs, 0, other, false)?;
-    Ok(needs)
+) -> Box<IndexSet<Wanted>> {
+    let mut needs = no_needs(rt, alloc);
+    note_seen(&mut needs, 0, plain, true).expect(rt, "memory");
+    note_seen(&mut needs, 0, other, false).expect(rt, "memory");
+    needs
+}
+
+/// Which need another cell is seen as.
+fn need_seen(
+    rt: &impl Abort,
+    alloc: Global,
+    needs: &IndexSet<Wanted>,
+    other: &Cell<Global>,
+) -> Option<u32> {
+    let found = placed_seen(alloc, needs, 0, other, false).expect(rt, "memory");
+    need(&found)
 }
 
 #[test]
 fn a_cell_is_seen_as_itself_or_as_what_it_is(rt: HostRuntime) {
-    let plain = computed(7, Expr::Name(scalar(6)));
-    let other = element();
-    let needs = seen(rt.alloc(), &plain, &other).expect(&rt, "memory");
+    let plain = boxed(&rt, rt.alloc(), computed(7, Expr::Name(scalar(6))));
+    let other = boxed(&rt, rt.alloc(), element());
+    let needs = seen(&rt, rt.alloc(), &plain, &other);
     is_equal(&rt, place_of(&needs, datum(6, false)), 0);
     is_equal(&rt, place_of(&needs, datum(4, false)), 1);
-    let found = placed_seen(rt.alloc(), &needs, 0, &other, false).expect(&rt, "memory");
-    is_equal(&rt, need(&found), Some(1));
+    is_equal(&rt, need_seen(&rt, rt.alloc(), &needs, &other), Some(1));
 }

@@ -1,5 +1,6 @@
 //! Names, expressions and cells that several tests take.
 
+use crate::lists::{one, two};
 use flow::cell::{Call, Cell, Form, Part};
 use flow::expression::{Expr, Operation};
 use flow::name::{Name, Owned};
@@ -36,25 +37,14 @@ pub fn output() -> Name {
     }
 }
 
-/// A list of two.
-pub fn two<T>(alloc: Global, first: T, second: T) -> Result<Vec<T>, AllocError>
-where
-    T: Drop,
-{
-    let mut both = Vec::new(alloc);
-    both.push(first)?;
-    both.push(second)?;
-    Ok(both)
-}
-
 /// `left + right`
 pub fn sum(
     alloc: Global,
     left: Expr<Global>,
     right: Expr<Global>,
 ) -> Result<Expr<Global>, AllocError> {
-    let signs = Vec::from_array(alloc, [Sign::Plus])?;
     let operands = two(alloc, left, right)?;
+    let signs = Vec::from_array(alloc, [Sign::Plus])?;
     Ok(Expr::Operation(Operation::Sum(signs), operands))
 }
 
@@ -88,17 +78,10 @@ pub fn element_parts(alloc: Global) -> Result<Vec<Part<Global>>, AllocError> {
     )
 }
 
-/// A list of one scalar.
-fn scalars(alloc: Global, node: u32) -> Result<Vec<Name>, AllocError> {
-    let mut names = Vec::new(alloc);
-    names.push(scalar(node))?;
-    Ok(names)
-}
-
 /// A call of the first function: the cell of node 4 goes in, and the scalar of node 5 comes out.
 pub fn call(alloc: Global) -> Result<Call<Global>, AllocError> {
-    let inputs = scalars(alloc, 4)?;
-    let outputs = scalars(alloc, 5)?;
+    let inputs = one(alloc, scalar(4))?;
+    let outputs = one(alloc, scalar(5))?;
     Ok(Call {
         at: 9,
         function: 0,
@@ -109,20 +92,18 @@ pub fn call(alloc: Global) -> Result<Call<Global>, AllocError> {
 
 /// That call alone.
 pub fn call_part(alloc: Global) -> Result<Vec<Part<Global>>, AllocError> {
-    let mut parts = Vec::new(alloc);
-    parts.push(Part::Calls(call(alloc)?))?;
-    Ok(parts)
+    let call = call(alloc)?;
+    one(alloc, Part::Calls(call))
 }
 
 /// A list of one variable, a scalar without a name.
 fn variables(alloc: Global, node: u32) -> Result<Vec<Variable<Global>>, AllocError> {
-    let mut all = Vec::new(alloc);
-    all.push(Variable {
+    let variable = Variable {
         node,
         shape: Shape::Scalar,
         name: Vec::new(alloc),
-    })?;
-    Ok(all)
+    };
+    one(alloc, variable)
 }
 
 /// A block of these statements.
@@ -148,7 +129,6 @@ fn function(alloc: Global) -> Result<Function<Global>, AllocError> {
 
 /// That function alone.
 pub fn functions(alloc: Global) -> Result<Vec<Function<Global>>, AllocError> {
-    let mut all = Vec::new(alloc);
-    all.push(function(alloc)?)?;
-    Ok(all)
+    let function = function(alloc)?;
+    one(alloc, function)
 }

@@ -6,7 +6,8 @@ ghost use Rattle.task_code.specs.declared.code.Body.{Body as Laid};
 ghost use Rattle.ref_counting.specs.Rights.{HasMarks};
 ghost use Rattle.granting.specs.Granted.{laid_code};
 
-use crate::asserts::is_equal;
+use crate::asserts::{holds, is_equal};
+use crate::lists::{put, two};
 use granting::granted::granted;
 use std::alloc::{AllocError, Global};
 use task_code::code::{Body, Opener};
@@ -85,9 +86,10 @@ fn entries(alloc: Global) -> Result<Vec<Entry>, AllocError>
     ensures few { IfOk result (λ es. length es.items < 2 ^ 32) }
 {
     let mut all = Vec::new(alloc);
-    all.push(set(alloc))?;
-    all.push(branch(alloc))?;
-    all.push(assert(alloc)?)?;
+    put(&mut all, set(alloc))?;
+    put(&mut all, branch(alloc))?;
+    let last = assert(alloc)?;
+    put(&mut all, last)?;
     Ok(all)
 }
 
@@ -95,20 +97,12 @@ fn entries(alloc: Global) -> Result<Vec<Entry>, AllocError>
 fn bodies(alloc: Global) -> Result<Vec<Body>, AllocError>
     ensures few { IfOk result (λ bs. length bs.items < 2 ^ 32) }
 {
-    let main = body(
-        Opener::ByMain,
-        Vec::from_array(alloc, [X])?,
-        Vec::from_array(alloc, [0, 1])?,
-    );
-    let inner = body(
-        Opener::ByStep(1),
-        Vec::new(alloc),
-        Vec::from_array(alloc, [2])?,
-    );
-    let mut all = Vec::new(alloc);
-    all.push(main)?;
-    all.push(inner)?;
-    Ok(all)
+    let makes = Vec::from_array(alloc, [X])?;
+    let entries = Vec::from_array(alloc, [0, 1])?;
+    let inner_entries = Vec::from_array(alloc, [2])?;
+    let main = body(Opener::ByMain, makes, entries);
+    let inner = body(Opener::ByStep(1), Vec::new(alloc), inner_entries);
+    two(alloc, main, inner)
 }
 
 /// The code with its rights.
@@ -130,7 +124,7 @@ fn may(entry: Option<&Entry>, reads: &[Name], writes: &[Name]) -> bool {
 fn a_right_goes_to_what_leads_to_its_use(rt: HostRuntime) {
     let code = code(rt.alloc()).expect(&rt, "memory");
     is_equal(&rt, code.body_count(), 2);
-    assert!(rt; may(code.entry(0), [].as_slice(), [x(0)].as_slice()));
-    assert!(rt; may(code.entry(1), [x(0)].as_slice(), [].as_slice()));
-    assert!(rt; may(code.entry(2), [x(1)].as_slice(), [].as_slice()));
+    holds(&rt, may(code.entry(0), &[], &[x(0)]));
+    holds(&rt, may(code.entry(1), &[x(0)], &[]));
+    holds(&rt, may(code.entry(2), &[x(1)], &[]));
 }

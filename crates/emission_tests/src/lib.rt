@@ -12,4 +12,6 @@ mod flows;
 #[cfg(test)]
 mod granting_tests;
 #[cfg(test)]
+mod lists;
+#[cfg(test)]
 mod part_entries_tests;

@@ -1,8 +1,9 @@
 //! Each call of `part_entries` on a plain case: `y = A[6] + f(A[6])` and its parts.
 
-use crate::asserts::is_equal;
+use crate::asserts::{boxed, holds, is_equal};
 use crate::flows::{array, call, computed, element, element_parts, functions, scalar, sum};
-use flow::cell::{Call, Outer, Part};
+use crate::lists::{one, put as put_behind};
+use flow::cell::{Call, Cell, Outer, Part};
 use flow::expression::Expr;
 use flow::script::Function;
 use indexmap::{IndexMap, IndexSet};
@@ -14,6 +15,7 @@ use part_entries::outers::{add_outer, pass_outer};
 use part_entries::owns::{add_outer_data, add_own_data, add_own_outer};
 use part_entries::parts::{add_call, add_cell};
 use std::alloc::{AllocError, Global};
+use std::process::Abort;
 use task_code::entry::{Act, Argument, Entry, Name, Need, Owned, Variable};
 use values::key::Key;
 use values::value::Scalar;
@@ -23,6 +25,9 @@ const STANDING: Standing = Standing {
     priority: 3,
     inputs: 0,
 };
+
+/// What is handed over, by the nodes of cells.
+type Passed = IndexMap<u32, Argument>;
 
 /// A datum of the block itself.
 fn datum(node: u32, array: bool) -> Name {
@@ -54,27 +59,39 @@ fn letters(alloc: Global, entries: &[Entry]) -> Result<Vec<u8>, AllocError> {
 /// `A[6] + f(A[6])`, but for the sum itself
 fn parts(alloc: Global) -> Result<Vec<Part<Global>>, AllocError> {
     let mut parts = element_parts(alloc)?;
-    parts.push(Part::Calls(call(alloc)?))?;
+    let call = call(alloc)?;
+    put_behind(&mut parts, Part::Calls(call))?;
     Ok(parts)
 }
 
+/// An outermost cell with the parts inside it, in a box.
+fn outer_of(
+    rt: &impl Abort,
+    alloc: Global,
+    parts: Vec<Part<Global>>,
+    cell: Cell<Global>,
+) -> Box<Outer<Global>> {
+    boxed(rt, alloc, Outer { parts, cell })
+}
+
 /// `A[6] + f(A[6])`
-fn outer(alloc: Global) -> Result<Outer<Global>, AllocError> {
-    let expr = sum(alloc, Expr::Name(scalar(4)), Expr::Name(scalar(5)))?;
-    Ok(Outer {
-        parts: parts(alloc)?,
-        cell: computed(7, expr),
-    })
+fn outer(rt: &impl Abort, alloc: Global) -> Box<Outer<Global>> {
+    let parts = parts(alloc).expect(rt, "memory");
+    let expr = sum(alloc, Expr::Name(scalar(4)), Expr::Name(scalar(5))).expect(rt, "memory");
+    outer_of(rt, alloc, parts, computed(7, expr))
 }
 
 /// `A[6]`
-fn read(alloc: Global) -> Result<Outer<Global>, AllocError> {
-    let mut parts = Vec::new(alloc);
-    parts.push(Part::Inner(computed(3, Expr::Number(6))))?;
-    Ok(Outer {
-        parts,
-        cell: element(),
-    })
+fn read(rt: &impl Abort, alloc: Global) -> Box<Outer<Global>> {
+    let index = Part::Inner(computed(3, Expr::Number(6)));
+    let parts = one(alloc, index).expect(rt, "memory");
+    outer_of(rt, alloc, parts, element())
+}
+
+/// A call in a box.
+fn own_call(rt: &impl Abort, alloc: Global) -> Box<Call<Global>> {
+    let call = call(alloc).expect(rt, "memory");
+    boxed(rt, alloc, call)
 }
 
 /// Whether this is the element of the array of node 1 at the key 6.
@@ -85,72 +102,77 @@ fn is_sixth(need: &Need) -> bool {
     }
 }
 
+/// Nothing is handed over.
+fn none_passed(rt: &impl Abort, alloc: Global) -> Box<Passed> {
+    boxed(rt, alloc, IndexMap::new(alloc))
+}
+
 /// What is handed over for the parts.
-fn passed_parts(
-    alloc: Global,
-    parts: &Vec<Part<Global>>,
-) -> Result<IndexMap<u32, Argument>, AllocError> {
-    let mut passed = IndexMap::new(alloc);
-    pass_parts(alloc, &mut passed, 0, parts)?;
-    Ok(passed)
+fn passed_parts(rt: &impl Abort, alloc: Global, parts: &Vec<Part<Global>>) -> Box<Passed> {
+    let mut passed = none_passed(rt, alloc);
+    pass_parts(alloc, &mut passed, 0, parts).expect(rt, "memory");
+    passed
 }
 
 /// What is handed over for an outermost cell and its parts.
-fn passed_outer(
-    alloc: Global,
-    outer: &Outer<Global>,
-) -> Result<IndexMap<u32, Argument>, AllocError> {
-    let mut passed = IndexMap::new(alloc);
-    pass_outer(alloc, &mut passed, 0, outer)?;
-    Ok(passed)
+fn passed_outer(rt: &impl Abort, alloc: Global, outer: &Outer<Global>) -> Box<Passed> {
+    let mut passed = none_passed(rt, alloc);
+    pass_outer(alloc, &mut passed, 0, outer).expect(rt, "memory");
+    passed
 }
 
 /// What is handed over for the cell of node 9, the number 5.
-fn passed_five(alloc: Global) -> Result<IndexMap<u32, Argument>, AllocError> {
-    let mut passed = IndexMap::new(alloc);
-    pass_cell(alloc, &mut passed, 0, &computed(9, Expr::Number(5)), true)?;
-    Ok(passed)
+fn passed_five(rt: &impl Abort, alloc: Global) -> Box<Passed> {
+    let cell = boxed(rt, alloc, computed(9, Expr::Number(5)));
+    let mut passed = none_passed(rt, alloc);
+    pass_cell(alloc, &mut passed, 0, &cell, true).expect(rt, "memory");
+    passed
+}
+
+/// Which number it is, if it is one.
+fn number(argument: &Option<Argument>) -> Option<i64> {
+    match argument {
+        Some(Argument::Fixed(Scalar::Number(n))) => Some(*n),
+        _ => None,
+    }
 }
 
 /// Which number is handed over for the cell of a node, if one is.
-fn handed_number(passed: &IndexMap<u32, Argument>, node: u32) -> Result<Option<i64>, AllocError> {
-    match handed(passed, node)? {
-        Some(Argument::Fixed(Scalar::Number(n))) => Ok(Some(n)),
-        _ => Ok(None),
-    }
+fn handed_number(rt: &impl Abort, passed: &Passed, node: u32) -> Option<i64> {
+    let found = handed(passed, node).expect(rt, "memory");
+    number(&found)
 }
 
 #[test]
 fn literals_are_handed_over_for_themselves(rt: HostRuntime) {
-    let passed = passed_five(rt.alloc()).expect(&rt, "memory");
-    is_equal(
-        &rt,
-        handed_number(&passed, 9).expect(&rt, "memory"),
-        Some(5),
-    );
-    is_equal(&rt, handed_number(&passed, 2).expect(&rt, "memory"), None);
+    let passed = passed_five(&rt, rt.alloc());
+    is_equal(&rt, handed_number(&rt, &passed, 9), Some(5));
+    is_equal(&rt, handed_number(&rt, &passed, 2), None);
 }
 
 #[test]
 fn an_element_is_at_its_index(rt: HostRuntime) {
     let parts = element_parts(rt.alloc()).expect(&rt, "memory");
-    let passed = passed_parts(rt.alloc(), &parts).expect(&rt, "memory");
-    is_equal(
-        &rt,
-        handed_number(&passed, 3).expect(&rt, "memory"),
-        Some(6),
-    );
-    assert!(rt; is_sixth(&element_need(&passed, datum(1, true), 3)));
+    let passed = passed_parts(&rt, rt.alloc(), &parts);
+    is_equal(&rt, handed_number(&rt, &passed, 3), Some(6));
+    holds(&rt, is_sixth(&element_need(&passed, datum(1, true), 3)));
+}
+
+/// The entry of an element, in a box.
+fn element_entry(rt: &impl Abort, alloc: Global) -> Box<Entry> {
+    let shown = Shown { node: 4, mark: 14 };
+    let made = entry(alloc, STANDING, shown, Vec::new(alloc), Act::Read);
+    boxed(rt, alloc, made)
 }
 
 #[test]
 fn an_entry_stands_as_its_statement(rt: HostRuntime) {
-    let shown = Shown { node: 4, mark: 14 };
-    let made = entry(rt.alloc(), STANDING, shown, Vec::new(rt.alloc()), Act::Read);
-    is_equal(&rt, made.node, 4);
-    is_equal(&rt, made.at, 8);
-    is_equal(&rt, made.mark, 14);
-    is_equal(&rt, made.priority, 3);
+    let made = element_entry(&rt, rt.alloc());
+    is_equal(
+        &rt,
+        (made.node, made.at, made.mark, made.priority),
+        (4, 8, 14, 3),
+    );
 }
 
 /// An entry without needs.
@@ -164,41 +186,49 @@ fn put_read(alloc: Global) -> Result<Vec<Entry>, AllocError> {
 
 /// The entries of the sum and its parts.
 fn sum_entries(
+    rt: &impl Abort,
     alloc: Global,
     functions: &Vec<Function<Global>>,
     outer: &Outer<Global>,
-) -> Result<Vec<Entry>, AllocError> {
-    let passed = passed_outer(alloc, outer)?;
+) -> Vec<Entry> {
+    let passed = passed_outer(rt, alloc, outer);
     let mut entries = Vec::new(alloc);
-    add_outer(alloc, &mut entries, functions, STANDING, &passed, outer)?;
-    Ok(entries)
+    add_outer(alloc, &mut entries, functions, STANDING, &passed, outer).expect(rt, "memory");
+    entries
 }
 
 /// The entries of what a statement does not work out itself.
 fn own_entries(
+    rt: &impl Abort,
     alloc: Global,
     functions: &Vec<Function<Global>>,
     outer: &Outer<Global>,
-) -> Result<Vec<Entry>, AllocError> {
-    let passed = passed_outer(alloc, outer)?;
+) -> Vec<Entry> {
+    let passed = passed_outer(rt, alloc, outer);
     let mut entries = Vec::new(alloc);
-    add_own_outer(alloc, &mut entries, functions, STANDING, &passed, outer)?;
-    Ok(entries)
+    add_own_outer(alloc, &mut entries, functions, STANDING, &passed, outer).expect(rt, "memory");
+    entries
+}
+
+/// Adds the entry of an element.
+fn add_element(alloc: Global, entries: &mut Vec<Entry>, passed: &Passed) -> Result<(), AllocError> {
+    add_cell(alloc, entries, STANDING, passed, &element())
 }
 
 /// The entries of an element and its index, of the element again, and of a call.
 fn part_entries(
+    rt: &impl Abort,
     alloc: Global,
     functions: &Vec<Function<Global>>,
     parts: &Vec<Part<Global>>,
     call: &Call<Global>,
-) -> Result<Vec<Entry>, AllocError> {
-    let passed = passed_parts(alloc, parts)?;
+) -> Vec<Entry> {
+    let passed = passed_parts(rt, alloc, parts);
     let mut entries = Vec::new(alloc);
-    add_parts(alloc, &mut entries, functions, STANDING, &passed, parts)?;
-    add_cell(alloc, &mut entries, STANDING, &passed, &element())?;
-    add_call(alloc, &mut entries, functions, STANDING, &passed, call)?;
-    Ok(entries)
+    add_parts(alloc, &mut entries, functions, STANDING, &passed, parts).expect(rt, "memory");
+    add_element(alloc, &mut entries, &passed).expect(rt, "memory");
+    add_call(alloc, &mut entries, functions, STANDING, &passed, call).expect(rt, "memory");
+    entries
 }
 
 /// Whether the entry reads the sixth element, or calls the function as it is to.
@@ -224,49 +254,50 @@ fn is_fourth(inputs: &[Argument]) -> bool {
     }
 }
 
+/// The entries do this, in letters.
+fn do_these(rt: &impl Abort, alloc: Global, entries: &[Entry], wanted: &[u8]) {
+    let found = letters(alloc, entries).expect(rt, "memory");
+    is_equal(rt, found.as_slice(), wanted);
+}
+
 #[test]
 fn an_entry_is_put_behind_the_others(rt: HostRuntime) {
     let entries = put_read(rt.alloc()).expect(&rt, "memory");
-    let found = letters(rt.alloc(), entries.as_slice()).expect(&rt, "memory");
-    is_equal(&rt, found.as_slice(), b"r".as_slice());
+    do_these(&rt, rt.alloc(), entries.as_slice(), b"r");
 }
 
 #[test]
 fn cells_and_calls_have_their_entries(rt: HostRuntime) {
     let functions = functions(rt.alloc()).expect(&rt, "memory");
-    let outer = outer(rt.alloc()).expect(&rt, "memory");
-    let entries = sum_entries(rt.alloc(), &functions, &outer).expect(&rt, "memory");
-    let found = letters(rt.alloc(), entries.as_slice()).expect(&rt, "memory");
-    is_equal(&rt, found.as_slice(), b"rfc".as_slice());
-    assert!(rt; entries.iter().all(is_right));
+    let outer = outer(&rt, rt.alloc());
+    let entries = sum_entries(&rt, rt.alloc(), &functions, &outer);
+    do_these(&rt, rt.alloc(), entries.as_slice(), b"rfc");
+    holds(&rt, entries.iter().all(is_right));
 }
 
 #[test]
 fn parts_are_added_each_alone(rt: HostRuntime) {
     let functions = functions(rt.alloc()).expect(&rt, "memory");
     let parts = element_parts(rt.alloc()).expect(&rt, "memory");
-    let call = call(rt.alloc()).expect(&rt, "memory");
-    let entries = part_entries(rt.alloc(), &functions, &parts, &call).expect(&rt, "memory");
-    let found = letters(rt.alloc(), entries.as_slice()).expect(&rt, "memory");
-    is_equal(&rt, found.as_slice(), b"rrf".as_slice());
+    let call = own_call(&rt, rt.alloc());
+    let entries = part_entries(&rt, rt.alloc(), &functions, &parts, &call);
+    do_these(&rt, rt.alloc(), entries.as_slice(), b"rrf");
 }
 
 #[test]
 fn a_statement_works_out_its_own_sum(rt: HostRuntime) {
     let functions = functions(rt.alloc()).expect(&rt, "memory");
-    let outer = outer(rt.alloc()).expect(&rt, "memory");
-    let entries = own_entries(rt.alloc(), &functions, &outer).expect(&rt, "memory");
-    let found = letters(rt.alloc(), entries.as_slice()).expect(&rt, "memory");
-    is_equal(&rt, found.as_slice(), b"rf".as_slice());
+    let outer = outer(&rt, rt.alloc());
+    let entries = own_entries(&rt, rt.alloc(), &functions, &outer);
+    do_these(&rt, rt.alloc(), entries.as_slice(), b"rf");
 }
 
 #[test]
 fn an_element_is_read_before_its_statement(rt: HostRuntime) {
     let functions = functions(rt.alloc()).expect(&rt, "memory");
-    let outer = read(rt.alloc()).expect(&rt, "memory");
-    let entries = own_entries(rt.alloc(), &functions, &outer).expect(&rt, "memory");
-    let found = letters(rt.alloc(), entries.as_slice()).expect(&rt, "memory");
-    is_equal(&rt, found.as_slice(), b"r".as_slice());
+    let outer = read(&rt, rt.alloc());
+    let entries = own_entries(&rt, rt.alloc(), &functions, &outer);
+    do_these(&rt, rt.alloc(), entries.as_slice(), b"r");
 }
 
 /// The data of node 2 and of parts.
@@ -298,12 +329,12 @@ fn are_scalars(makes: &[Variable], nodes: &[u32]) -> bool {
 fn parts_that_are_not_plain_have_data(rt: HostRuntime) {
     let parts = element_parts(rt.alloc()).expect(&rt, "memory");
     let makes = part_data(rt.alloc(), &parts).expect(&rt, "memory");
-    assert!(rt; are_scalars(makes.as_slice(), [2, 4].as_slice()));
+    holds(&rt, are_scalars(makes.as_slice(), &[2, 4]));
 }
 
 #[test]
 fn a_sum_has_its_datum_where_an_entry_works_it_out(rt: HostRuntime) {
-    let outer = outer(rt.alloc()).expect(&rt, "memory");
+    let outer = outer(&rt, rt.alloc());
     let makes = outer_data(rt.alloc(), &outer).expect(&rt, "memory");
-    assert!(rt; are_scalars(makes.as_slice(), [4, 5, 7, 4, 5].as_slice()));
+    holds(&rt, are_scalars(makes.as_slice(), &[4, 5, 7, 4, 5]));
 }
