@@ -61,21 +61,16 @@ fn names_stand_for_data(rt: HostRuntime) {
 
 /// The assignment's item waits under its number, and none has the number 0.
 fn set_waits(rt: &impl Abort, rows: &[Item]) {
-    let waiting = Some(Item {
-        job: SET,
-        mark: Mark::Waiting,
-    });
-    is_equal(rt, item_of(rows, 2), waiting);
+    let set = item_of(rows, 2).expect(rt, "an item");
+    is_equal(rt, (set.job(), set.mark()), (SET, Mark::Waiting));
     is_equal(rt, item_of(rows, 0), None);
 }
 
 /// The item of what is asserted is ready under its number, which is the last.
 fn assert_is_ready(rt: &impl Abort, rows: &[Item]) {
-    let ready = Some(Item {
-        job: ASSERT,
-        mark: Mark::Ready,
-    });
-    is_equal(rt, item_of(rows, 3), ready);
+    let found = item_of(rows, 3).expect(rt, "an item");
+    is_equal(rt, (found.job(), found.mark()), (ASSERT, Mark::Ready));
+    is_equal(rt, found.marked(Mark::Over).job(), ASSERT);
     is_equal(rt, item_of(rows, 4), None);
 }
 

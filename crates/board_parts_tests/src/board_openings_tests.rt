@@ -4,7 +4,7 @@ use crate::asserts::is_equal;
 use crate::worlds::{ASSERT, Opened, SET, end, opened_script};
 use board_code::program::Own;
 use board_data::data;
-use board_frames::item::{Item, Job, Mark};
+use board_frames::item::{Job, Mark};
 use board_frames::opening::{Opening, outermost};
 use board_openings::filling::{TurnSlots, fill_all};
 use board_openings::opening::{go_on_if, home};
@@ -22,11 +22,8 @@ fn counts(opened: &Opened) -> (usize, usize) {
 
 /// The item of what is asserted is the last, and nothing has become known.
 fn assert_is_last(rt: &impl Abort, opened: &Opened) {
-    let new = Item {
-        job: ASSERT,
-        mark: Mark::Waiting,
-    };
-    is_equal(rt, opened.rows.last(), Some(&new));
+    let last = opened.rows.last().expect(rt, "an item");
+    is_equal(rt, (last.job(), last.mark()), (ASSERT, Mark::Waiting));
     assert!(rt; opened.known.is_empty());
 }
 
@@ -84,7 +81,7 @@ fn a_loop_goes_on_with_one_item(rt: HostRuntime) {
         entry: 0,
         chunk: 1,
     };
-    assert!(rt; rows.last().is_some_and(|row| row.job == rest));
+    assert!(rt; rows.last().is_some_and(|row| row.job() == rest));
 }
 
 /// An instance whose first variable is a turn's.

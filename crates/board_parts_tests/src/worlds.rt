@@ -72,10 +72,7 @@ pub fn end(
 /// The script's item, which runs.
 fn script_row(alloc: Global) -> Result<Vec<Item>, AllocError> {
     let mut rows = Vec::new(alloc);
-    rows.push(Item {
-        job: Job::Script,
-        mark: Mark::Running(0),
-    })?;
+    rows.push(Item::Script(Mark::Running(0)))?;
     Ok(rows)
 }
 
