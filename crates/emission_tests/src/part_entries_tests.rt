@@ -5,7 +5,6 @@ use crate::flows::{array, call, computed, element, element_parts, functions, sca
 use crate::lists::{one, put as put_behind};
 use flow::cell::{Call, Cell, Outer, Part};
 use flow::expression::Expr;
-use flow::script::Function;
 use indexmap::{IndexMap, IndexSet};
 use part_entries::cells::{element as element_need, handed, pass_cell, pass_parts};
 use part_entries::data::{add_data, add_scalar};
@@ -185,28 +184,20 @@ fn put_read(alloc: Global) -> Result<Vec<Entry>, AllocError> {
 }
 
 /// The entries of the sum and its parts.
-fn sum_entries(
-    rt: &impl Abort,
-    alloc: Global,
-    functions: &Vec<Function<Global>>,
-    outer: &Outer<Global>,
-) -> Vec<Entry> {
+fn sum_entries(rt: &impl Abort, alloc: Global, outer: &Outer<Global>) -> Vec<Entry> {
+    let functions = functions(alloc).expect(rt, "memory");
     let passed = passed_outer(rt, alloc, outer);
     let mut entries = Vec::new(alloc);
-    add_outer(alloc, &mut entries, functions, STANDING, &passed, outer).expect(rt, "memory");
+    add_outer(alloc, &mut entries, &functions, STANDING, &passed, outer).expect(rt, "memory");
     entries
 }
 
 /// The entries of what a statement does not work out itself.
-fn own_entries(
-    rt: &impl Abort,
-    alloc: Global,
-    functions: &Vec<Function<Global>>,
-    outer: &Outer<Global>,
-) -> Vec<Entry> {
+fn own_entries(rt: &impl Abort, alloc: Global, outer: &Outer<Global>) -> Vec<Entry> {
+    let functions = functions(alloc).expect(rt, "memory");
     let passed = passed_outer(rt, alloc, outer);
     let mut entries = Vec::new(alloc);
-    add_own_outer(alloc, &mut entries, functions, STANDING, &passed, outer).expect(rt, "memory");
+    add_own_outer(alloc, &mut entries, &functions, STANDING, &passed, outer).expect(rt, "memory");
     entries
 }
 
@@ -219,15 +210,15 @@ fn add_element(alloc: Global, entries: &mut Vec<Entry>, passed: &Passed) -> Resu
 fn part_entries(
     rt: &impl Abort,
     alloc: Global,
-    functions: &Vec<Function<Global>>,
     parts: &Vec<Part<Global>>,
     call: &Call<Global>,
 ) -> Vec<Entry> {
+    let functions = functions(alloc).expect(rt, "memory");
     let passed = passed_parts(rt, alloc, parts);
     let mut entries = Vec::new(alloc);
-    add_parts(alloc, &mut entries, functions, STANDING, &passed, parts).expect(rt, "memory");
+    add_parts(alloc, &mut entries, &functions, STANDING, &passed, parts).expect(rt, "memory");
     add_element(alloc, &mut entries, &passed).expect(rt, "memory");
-    add_call(alloc, &mut entries, functions, STANDING, &passed, call).expect(rt, "memory");
+    add_call(alloc, &mut entries, &functions, STANDING, &passed, call).expect(rt, "memory");
     entries
 }
 
@@ -244,6 +235,11 @@ fn is_right(entry: &Entry) -> bool {
             && outputs.as_slice() == [datum(5, false)].as_slice(),
         _ => true,
     }
+}
+
+/// Whether each of the entries does.
+fn are_right(entries: &[Entry]) -> bool {
+    entries.iter().all(is_right)
 }
 
 /// Whether this is the scalar of node 4 alone.
@@ -268,35 +264,36 @@ fn an_entry_is_put_behind_the_others(rt: HostRuntime) {
 
 #[test]
 fn cells_and_calls_have_their_entries(rt: HostRuntime) {
-    let functions = functions(rt.alloc()).expect(&rt, "memory");
     let outer = outer(&rt, rt.alloc());
-    let entries = sum_entries(&rt, rt.alloc(), &functions, &outer);
+    let entries = sum_entries(&rt, rt.alloc(), &outer);
     do_these(&rt, rt.alloc(), entries.as_slice(), b"rfc");
-    holds(&rt, entries.iter().all(is_right));
+    holds(&rt, are_right(entries.as_slice()));
+}
+
+/// The entries of parts and of a call, each added alone.
+fn entries_alone(rt: &impl Abort, alloc: Global) -> Vec<Entry> {
+    let parts = element_parts(alloc).expect(rt, "memory");
+    let call = own_call(rt, alloc);
+    part_entries(rt, alloc, &parts, &call)
 }
 
 #[test]
 fn parts_are_added_each_alone(rt: HostRuntime) {
-    let functions = functions(rt.alloc()).expect(&rt, "memory");
-    let parts = element_parts(rt.alloc()).expect(&rt, "memory");
-    let call = own_call(&rt, rt.alloc());
-    let entries = part_entries(&rt, rt.alloc(), &functions, &parts, &call);
+    let entries = entries_alone(&rt, rt.alloc());
     do_these(&rt, rt.alloc(), entries.as_slice(), b"rrf");
 }
 
 #[test]
 fn a_statement_works_out_its_own_sum(rt: HostRuntime) {
-    let functions = functions(rt.alloc()).expect(&rt, "memory");
     let outer = outer(&rt, rt.alloc());
-    let entries = own_entries(&rt, rt.alloc(), &functions, &outer);
+    let entries = own_entries(&rt, rt.alloc(), &outer);
     do_these(&rt, rt.alloc(), entries.as_slice(), b"rf");
 }
 
 #[test]
 fn an_element_is_read_before_its_statement(rt: HostRuntime) {
-    let functions = functions(rt.alloc()).expect(&rt, "memory");
     let outer = read(&rt, rt.alloc());
-    let entries = own_entries(&rt, rt.alloc(), &functions, &outer);
+    let entries = own_entries(&rt, rt.alloc(), &outer);
     do_these(&rt, rt.alloc(), entries.as_slice(), b"r");
 }
 
