@@ -26,6 +26,23 @@ fn count_taken(pool: &Pool, seat: &mut PoolSeat, class: u8) -> u64
     count
 }
 
+/// Prints the time of one offer with one take of a class.
+fn time_class(
+    rt: &(impl Clock + Print),
+    pool: &Pool,
+    seat: &mut PoolSeat,
+    class: u8,
+) -> io::Result<()>
+    requires seat { IsSeatOf pool.now seat.old }
+    requires class { class < 3 }
+    ensures { IsSeatOf pool.now seat.new }
+{
+    let start = Instant::now(rt)?;
+    let taken = count_taken(pool, seat, class);
+    let nanos = start.elapsed(rt)?.as_nanos() / u128::from(ROUNDS);
+    println!(rt; "class {class}: {taken} taken, {nanos} nanoseconds each")
+}
+
 /// Prints the time of one offer with one take, on one thread, for each class from the highest on.
 pub fn time(rt: &(impl Clock + Print), alloc: Global) -> io::Result<()> {
     let (pool, mut seats) = Pool::new(alloc, 1)?;
@@ -33,10 +50,7 @@ pub fn time(rt: &(impl Clock + Print), alloc: Global) -> io::Result<()> {
         unreachable!()
     };
     for class in (0..3u8).rev() {
-        let start = Instant::now(rt)?;
-        let taken = count_taken(&pool, &mut seat, class);
-        let nanos = start.elapsed(rt)?.as_nanos() / u128::from(ROUNDS);
-        println!(rt; "class {class}: {taken} taken, {nanos} nanoseconds each")?;
+        time_class(rt, &pool, &mut seat, class)?;
     }
     Ok(())
 }
