@@ -1,18 +1,18 @@
 -- What statements of a flow declare, one after another.
-use Rattle.std.proofs.Common.{rules, ◌≡◌, ℕ, Bool, List, [], ◌∷◌, ◌++◌, map, Option, refl, sym, ap, ◌∙◌, append_assoc}
-use Rattle.std.specs.Prelude.{Vec, Box}
+use Rattle.std.proofs.Common.{rules, ◌≡◌, List, [], ◌∷◌, ◌++◌, map, Option, refl, sym, ap, ◌∙◌, append_assoc}
+use Rattle.std.specs.Prelude.{Box}
 use Rattle.std.proofs.lemmas.List.{map-append, append-nil}
-use Rattle.syntax_trees.specs.Scopes.{Signature, signatures}
-use Rattle.syntax_trees.specs.Tree.{Declaration, Statement, statement, statements_of, Command, Body, body, Tree, Part, import, function, single}
-use Rattle.well_formed.specs.Types.{statement_declarations, statements_declarations, body_declarations, command_declarations}
-use Rattle.flow.specs.declared.statement.Statement.{Statement as Found, out-Statement, Statement-F}
+use Rattle.syntax_trees.specs.Scopes.{signatures}
+use Rattle.syntax_trees.specs.Tree.{Declaration, Statement, Tree, Part, import, function, single}
+use Rattle.well_formed.specs.Types.{statement_declarations, body_declarations}
+use Rattle.flow.specs.declared.statement.Statement.{Statement as Found}
 use Rattle.flow.specs.declared.statement.Block.{Block}
 use Rattle.flow.specs.declared.statement.Range.{Range}
 use Rattle.flow.specs.declared.statement.Variable.{Variable}
-use Rattle.flow.specs.declared.statement.Action.{Range as RangeOf, the_lemmas}
+use Rattle.flow.specs.declared.name.Name.{Name}
+use Rattle.flow.specs.declared.statement.Action.{Each, Range as RangeOf, the_lemmas}
 use Rattle.flow.specs.declared.script.Function.{Function}
-use Rattle.flow.specs.Shapes.{is_array, functions_declared, kinds_of_function}
-use Rattle.syntax_trees.specs.declared.tree.Shape.{Shape}
+use Rattle.flow.specs.Shapes.{is_array, functions_declared}
 use Rattle.syntax_trees.specs.Scopes.{declared_type}
 use Rattle.lowering.specs.View as seen
 use Rattle.flow.specs.Shapes.{Declared, together, statement_declared, action_declared, block_declared}
@@ -75,3 +75,6 @@ same_shapes {A} vs ds e = shapes vs ∙ ap (map (λ (d : seen.Declared). is_arra
 
 pub range_declared : {A : Type 0} → (r : Box (Range A) A) (v : Variable A) (k : Option (Variable A)) (b : Box (Block A) A) → action_declared (RangeOf r v k b) ≡ block_declared b.value
 range_declared r v k b = search (rules, the_lemmas)
+
+pub each_declared : {A : Type 0} → (a : Name) (v : Variable A) (k : Option (Variable A)) (b : Box (Block A) A) → action_declared (Each a v k b) ≡ block_declared b.value
+each_declared a v k b = search (rules, the_lemmas)

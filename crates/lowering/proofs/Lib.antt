@@ -1,4 +1,5 @@
 pub mod Actions
+pub mod Forms
 pub mod Loops
 pub mod Operands
 pub mod Signs

@@ -9,7 +9,7 @@ use Rattle.syntax_trees.specs.declared.tree.StmtKind.{Declare, AssignAll, Call, 
 use Rattle.syntax_trees.specs.Tree as T
 use Rattle.syntax_trees.specs.Tree.{Word, Expression, Over, statement}
 use Rattle.syntax_trees.specs.Table.{Table}
-use Rattle.syntax_trees.specs.Resolved.{outer, loop_action}
+use Rattle.syntax_trees.specs.Resolved.{outer, loop_action, refers}
 use Rattle.syntax_trees.specs.View.{words_view, declaration_of, right_of, calling_of, statement_view, command_view}
 use Rattle.syntax_trees.specs.Core as core
 use Rattle.flow.specs.declared.name.Name.{Name}
@@ -17,8 +17,8 @@ use Rattle.flow.specs.declared.statement.Variable.{Variable}
 use Rattle.flow.specs.declared.statement.Header.{Header}
 use Rattle.flow.specs.declared.statement.Range.{Range as Ranged}
 use Rattle.flow.specs.declared.statement.Block.{Block}
-use Rattle.flow.specs.declared.statement.Action.{Declare as Declares, Range, Wait, the_lemmas as action_lemmas}
-use Rattle.flow.specs.View.{action_view, block_view, outer_view, awaited_view, waits_around}
+use Rattle.flow.specs.declared.statement.Action.{Declare as Declares, Each, Range, Wait, the_lemmas as action_lemmas}
+use Rattle.flow.specs.View.{action_view, block_view, name_view, outer_view, awaited_view, waits_around}
 
 pub view_stmt : (A : Type 0) → (s : Stmt A)
     → statement_view s ≡ statement (record { number = (out-Stmt A s).number; first = (out-Stmt A s).first; to = (out-Stmt A s).to }) (command_view (out-Stmt A s).kind)
@@ -37,6 +37,10 @@ pub view_range : {A : Type 0} → (r : Box (Ranged A) A) (v : Variable A) (k : O
     → action_view (Range r v k b)
     ≡ core.range (outer_view r.value.low) (outer_view r.value.high) (option_map outer_view r.value.step) v.node (option_map (λ x. x.node) k) (block_view b.value)
 view_range r v k b = search (rules, action_lemmas)
+
+pub view_each : {A : Type 0} → (a : Name) (v : Variable A) (k : Option (Variable A)) (b : Box (Block A) A)
+    → action_view (Each a v k b) ≡ core.each (name_view a) v.node (option_map (λ x. x.node) k) (block_view b.value)
+view_each a v k b = search (rules, action_lemmas)
 
 pub view_declare : {A : Type 0} → (v : Variable A) → action_view (Declares v) ≡ core.declare v.node
 view_declare v = search (rules, action_lemmas)
@@ -64,4 +68,16 @@ range_found t w key o low high step inside r v k b is at_low at_high at_step val
     view_range r v k b
     ∙ same_range (outer_view r.value.low) (outer t low) (outer_view r.value.high) (outer t high) (option_map outer_view r.value.step) (option_map (outer t) step)
     v.node w.number (option_map (λ x. x.node) k) (option_map (λ x. x.number) key) (block_view b.value) inside at_low at_high at_step value turn content
+    ∙ ap (λ (p : Over). loop_action t w key p inside) (sym is)
+
+same_each : (a a' : core.Name) (v v' : ℕ) (k k' : Option ℕ) (b b' : core.Block) → a ≡ a' → v ≡ v' → k ≡ k' → b ≡ b' → core.each a v k b ≡ core.each a' v' k' b'
+same_each a a' v v' k k' b b' array value key content = cc
+
+-- a loop over an array
+pub each_found : {A : Type 0} → (t : Table) (w : Word) (key : Option Word) (o : Over) (x : Word) (inside : core.Block) (a : Name) (v : Variable A) (k : Option (Variable A)) (b : Box (Block A) A)
+    → o ≡ T.array x → name_view a ≡ refers t x → v.node ≡ w.number → option_map (λ (y : Variable A). y.node) k ≡ option_map (λ (y : Word). y.number) key → block_view b.value ≡ inside
+    → action_view (Each a v k b) ≡ loop_action t w key o inside
+each_found t w key o x inside a v k b is array value turn content =
+    view_each a v k b
+    ∙ same_each (name_view a) (refers t x) v.node w.number (option_map (λ y. y.node) k) (option_map (λ y. y.number) key) (block_view b.value) inside array value turn content
     ∙ ap (λ (p : Over). loop_action t w key p inside) (sym is)

@@ -1,5 +1,5 @@
 //! Statements and the blocks inside them: what each does, behind the statements before it.
-ghost use Rattle.std.specs.Prelude.{◌≡◌, ℕ, ◌++◌, ◌∷◌, [], IfOk, OnOk, map, option_map};
+ghost use Rattle.std.specs.Prelude.{◌≡◌, ℕ, ◌++◌, ◌∷◌, [], IfOk, IsOkAnd, OnOk, map, option_map};
 ghost use Rattle.syntax_trees.specs.Core as core;
 ghost use Rattle.syntax_trees.specs.Tree as trees;
 ghost use Rattle.syntax_trees.specs.Resolved as rules;
@@ -34,6 +34,22 @@ fn add<A: Allocator>(
 {
     found.push(Statement { at, node, action })?;
     Ok(())
+}
+
+/// Adds a statement, where what it does was made.
+fn add_made<A: Allocator>(
+    found: &mut Vec<Statement<A>, A>,
+    node: u32,
+    at: usize,
+    action: Result<Action<A>, AllocError>,
+) -> Result<(), AllocError>
+    ensures core { OnOk result (IsOkAnd action (λ a. statements_view found.new.items ≡ statements_view found.old.items ++ core.stmt at node (action_view a) ∷ [])) }
+    ensures declared { OnOk result (IsOkAnd action (λ a. declared_by found.new.items ≡ declared_by found.old.items ++ action_declared a)) }
+{
+    match action {
+        Ok(action) => add(found, node, at, action),
+        Err(refusal) => Err(refusal),
+    }
 }
 
 // DECLARATIONS
@@ -77,7 +93,7 @@ fn declaration<A: Allocator + Clone>(
 // ELEMENTS AND RANGES
 
 /// An array gets an element.
-fn insertion<A: Allocator + Clone>(
+fn insert<A: Allocator + Clone>(
     alloc: &A,
     typed: &Typed,
     name: &tree::Name<A>,
@@ -126,6 +142,103 @@ fn range<A: Allocator + Clone>(
     Ok(Range { low, high, step })
 }
 
+/// A range in a box.
+fn boxed_range<A: Allocator + Clone>(
+    alloc: &A,
+    typed: &Typed,
+    over: &tree::Range<A>,
+) -> Result<Box<Range<A>, A>, AllocError>
+    ensures low { IfOk result (λ r. outer_view r.value.low ≡ rules.outer (table_of typed.now) (expression_view over.now.low)) }
+    ensures high { IfOk result (λ r. outer_view r.value.high ≡ rules.outer (table_of typed.now) (expression_view over.now.high)) }
+    ensures step { IfOk result (λ r. option_map outer_view r.value.step ≡ option_map (rules.outer (table_of typed.now)) (option_map expression_view over.now.step)) }
+{
+    Ok(Box::new(alloc.clone()?, range(alloc, typed, over)?)?)
+}
+
+// WHAT STATEMENTS WITH BLOCKS DO
+
+/// An `if` without `else`, with its block.
+fn choice<A: Allocator + Clone>(
+    alloc: &A,
+    typed: &Typed,
+    test: &Expr<A>,
+    then: Box<Block<A>, A>,
+) -> Result<Action<A>, AllocError>
+    ensures core { IfOk result (λ a. action_view a ≡ core.when (rules.outer (table_of typed.now) (expression_view test.now)) (block_view then.value)) }
+    ensures declared { IfOk result (λ a. action_declared a ≡ block_declared then.value) }
+{
+    let condition = boxed_outer(alloc, typed, test)?;
+    Ok(Action::When { condition, then })
+}
+
+/// An `if` with `else`, with its blocks.
+fn choice_else<A: Allocator + Clone>(
+    alloc: &A,
+    typed: &Typed,
+    test: &Expr<A>,
+    then: Box<Block<A>, A>,
+    other: Box<Block<A>, A>,
+) -> Result<Action<A>, AllocError>
+    ensures core { IfOk result (λ a. action_view a ≡ core.choose (rules.outer (table_of typed.now) (expression_view test.now)) (block_view then.value) (block_view other.value)) }
+    ensures declared { IfOk result (λ a. action_declared a ≡ block_declared then.value ++ block_declared other.value) }
+{
+    let condition = boxed_outer(alloc, typed, test)?;
+    Ok(Action::Choose {
+        condition,
+        then,
+        other,
+    })
+}
+
+/// A `foreach`, with its block.
+fn repeated<A: Allocator + Clone>(
+    alloc: &A,
+    typed: &Typed,
+    header: &Header<A>,
+    body: Box<Block<A>, A>,
+) -> Result<Action<A>, AllocError>
+    ensures core { IfOk result (λ a. action_view a ≡ rules.loop_action (table_of typed.now) (word_of header.now.value) (option_map word_of header.now.key) (over_of header.now.source) (block_view body.value)) }
+    ensures declared { IfOk result (λ a. action_declared a ≡ block_declared body.value) }
+{
+    let value = variable(alloc, &header.value, Shape::Scalar)?;
+    let key = optional(alloc, &header.key)?;
+    match &header.source {
+        Source::Array(name) => Ok(Action::Each {
+            array: refer(typed, name),
+            value,
+            key,
+            body,
+        }),
+        Source::Range(over) => {
+            let range = boxed_range(alloc, typed, over)?;
+            Ok(Action::Range {
+                range,
+                value,
+                turn: key,
+                body,
+            })
+        }
+    }
+}
+
+/// A `wait`, with its content. Those right inside of it stay statements of its block.
+fn waiting<A: Allocator + Clone>(
+    alloc: &A,
+    typed: &Typed,
+    names: &Vec<tree::Name<A>, A>,
+    content: Box<Block<A>, A>,
+) -> Result<Action<A>, AllocError>
+    ensures core { IfOk result (λ a. action_view a ≡ core.wait (map (rules.awaited (table_of typed.now)) (words_view names.now)) (block_view content.value)) }
+    ensures declared { IfOk result (λ a. action_declared a ≡ block_declared content.value) }
+{
+    let names = all(alloc, typed, names)?;
+    Ok(Action::Wait {
+        names,
+        inner: Vec::new(alloc.clone()?),
+        content,
+    })
+}
+
 // STATEMENTS AND BLOCKS
 
 /// Adds a statement of the script.
@@ -155,134 +268,45 @@ fn command<A: Allocator + Clone>(
     ensures core { OnOk result ((to : ℕ) → statements_view found.new.items ≡ statements_view found.old.items ++ command_alone (table_of typed.now) (record { number = number; first = first; to = to }) (command_view kind.now)) }
     ensures declared { OnOk result (declared_by found.new.items ≡ declared_by found.old.items ++ flagged (command_declarations (command_view kind.now))) }
 {
+    let at = first.from;
     match kind {
         StmtKind::Declare(decl, right) => {
             declaration(alloc, typed, number, first, decl, right, found)
         }
         StmtKind::Assign(name, right) => {
-            let action = assignment(alloc, typed, refer(typed, name), right)?;
-            add(found, number, first.from, action)
+            let target = refer(typed, name);
+            add_made(found, number, at, assignment(alloc, typed, target, right))
         }
         StmtKind::Write(name, index, value) => {
-            let action = insertion(alloc, typed, name, index, value)?;
-            add(found, number, first.from, action)
+            add_made(found, number, at, insert(alloc, typed, name, index, value))
         }
         StmtKind::AssignAll(names, call) => {
-            let action = several(alloc, typed, names, call)?;
-            add(found, number, first.from, action)
+            add_made(found, number, at, several(alloc, typed, names, call))
         }
         StmtKind::Call(priority, call) => {
-            let action = statement_call(alloc, typed, *priority, call)?;
-            add(found, number, first.from, action)
+            let action = statement_call(alloc, typed, *priority, call);
+            add_made(found, number, at, action)
         }
-        StmtKind::If(test, then, None) => {
-            let action = branch(alloc, typed, test, then)?;
-            add(found, number, first.from, action)
-        }
-        StmtKind::If(test, then, Some(other)) => {
-            let action = branches(alloc, typed, test, then, other)?;
-            add(found, number, first.from, action)
+        StmtKind::If(test, then, other) => {
+            let then = boxed_block(alloc, typed, then)?;
+            match other {
+                None => add_made(found, number, at, choice(alloc, typed, test, then)),
+                Some(other) => {
+                    let other = boxed_block(alloc, typed, other)?;
+                    let action = choice_else(alloc, typed, test, then, other);
+                    add_made(found, number, at, action)
+                }
+            }
         }
         StmtKind::Foreach(header, body) => {
-            let action = repeated(alloc, typed, header, body)?;
-            add(found, number, first.from, action)
+            let body = boxed_block(alloc, typed, body)?;
+            add_made(found, number, at, repeated(alloc, typed, header, body))
         }
         StmtKind::Wait(names, body) => {
-            let action = waiting(alloc, typed, names, body)?;
-            add(found, number, first.from, action)
+            let body = boxed_block(alloc, typed, body)?;
+            add_made(found, number, at, waiting(alloc, typed, names, body))
         }
     }
-}
-
-/// An `if` without `else`.
-#[cycle(statement)]
-fn branch<A: Allocator + Clone>(
-    alloc: &A,
-    typed: &Typed,
-    test: &Expr<A>,
-    then: &tree::Block<A>,
-) -> Result<Action<A>, AllocError>
-    ensures core { IfOk result (λ a. let t = table_of typed.now in action_view a ≡ core.when (rules.outer t (expression_view test.now)) (rules.block_of t (body_view then.now))) }
-    ensures declared { IfOk result (λ a. action_declared a ≡ flagged (body_declarations (body_view then.now))) }
-{
-    let condition = boxed_outer(alloc, typed, test)?;
-    let then = boxed_block(alloc, typed, then)?;
-    Ok(Action::When { condition, then })
-}
-
-/// An `if` with `else`.
-#[cycle(statement)]
-fn branches<A: Allocator + Clone>(
-    alloc: &A,
-    typed: &Typed,
-    test: &Expr<A>,
-    then: &tree::Block<A>,
-    other: &tree::Block<A>,
-) -> Result<Action<A>, AllocError>
-    ensures core { IfOk result (λ a. let t = table_of typed.now in action_view a ≡ core.choose (rules.outer t (expression_view test.now)) (rules.block_of t (body_view then.now)) (rules.block_of t (body_view other.now))) }
-    ensures declared { IfOk result (λ a. action_declared a ≡ flagged (body_declarations (body_view then.now)) ++ flagged (body_declarations (body_view other.now))) }
-{
-    let condition = boxed_outer(alloc, typed, test)?;
-    let then = boxed_block(alloc, typed, then)?;
-    let other = boxed_block(alloc, typed, other)?;
-    Ok(Action::Choose {
-        condition,
-        then,
-        other,
-    })
-}
-
-/// A `foreach`.
-#[cycle(statement)]
-fn repeated<A: Allocator + Clone>(
-    alloc: &A,
-    typed: &Typed,
-    header: &Header<A>,
-    body: &tree::Block<A>,
-) -> Result<Action<A>, AllocError>
-    ensures core { IfOk result (λ a. let t = table_of typed.now in action_view a ≡ rules.loop_action t (word_of header.now.value) (option_map word_of header.now.key) (over_of header.now.source) (rules.block_of t (body_view body.now))) }
-    ensures declared { IfOk result (λ a. action_declared a ≡ flagged (body_declarations (body_view body.now))) }
-{
-    let value = variable(alloc, &header.value, Shape::Scalar)?;
-    let key = optional(alloc, &header.key)?;
-    let body = boxed_block(alloc, typed, body)?;
-    match &header.source {
-        Source::Array(name) => Ok(Action::Each {
-            array: refer(typed, name),
-            value,
-            key,
-            body,
-        }),
-        Source::Range(over) => {
-            let range = Box::new(alloc.clone()?, range(alloc, typed, over)?)?;
-            Ok(Action::Range {
-                range,
-                value,
-                turn: key,
-                body,
-            })
-        }
-    }
-}
-
-/// A `wait`. Those right inside of it stay statements of its block.
-#[cycle(statement)]
-fn waiting<A: Allocator + Clone>(
-    alloc: &A,
-    typed: &Typed,
-    names: &Vec<tree::Name<A>, A>,
-    content: &tree::Block<A>,
-) -> Result<Action<A>, AllocError>
-    ensures core { IfOk result (λ a. let t = table_of typed.now in action_view a ≡ core.wait (map (rules.awaited t) (words_view names.now)) (rules.block_of t (body_view content.now))) }
-    ensures declared { IfOk result (λ a. action_declared a ≡ flagged (body_declarations (body_view content.now))) }
-{
-    let names = all(alloc, typed, names)?;
-    let content = boxed_block(alloc, typed, content)?;
-    Ok(Action::Wait {
-        names,
-        inner: Vec::new(alloc.clone()?),
-        content,
-    })
 }
 
 /// A block in a box.
@@ -295,22 +319,9 @@ fn boxed_block<A: Allocator + Clone>(
     ensures core { IfOk result (λ b. block_view b.value ≡ rules.block_of (table_of typed.now) (body_view body.now)) }
     ensures declared { IfOk result (λ b. block_declared b.value ≡ flagged (body_declarations (body_view body.now))) }
 {
-    Ok(Box::new(alloc.clone()?, block(alloc, typed, body)?)?)
-}
-
-/// A block.
-#[cycle(statement)]
-pub fn block<A: Allocator + Clone>(
-    alloc: &A,
-    typed: &Typed,
-    body: &tree::Block<A>,
-) -> Result<Block<A>, AllocError>
-    ensures core { IfOk result (λ b. block_view b ≡ rules.block_of (table_of typed.now) (body_view body.now)) }
-    ensures declared { IfOk result (λ b. block_declared b ≡ flagged (body_declarations (body_view body.now))) }
-{
     let mut statements = Vec::new(alloc.clone()?);
     each(alloc, typed, &body.statements, &mut statements)?;
-    Ok(block_at(body.from, statements))
+    boxed_at(alloc, body.from, statements)
 }
 
 /// Adds statements, one after another.
@@ -328,6 +339,32 @@ fn each<A: Allocator + Clone>(
         statement(alloc, typed, stmt, found)?;
     }
     Ok(())
+}
+
+/// A block.
+pub fn block<A: Allocator + Clone>(
+    alloc: &A,
+    typed: &Typed,
+    body: &tree::Block<A>,
+) -> Result<Block<A>, AllocError>
+    ensures core { IfOk result (λ b. block_view b ≡ rules.block_of (table_of typed.now) (body_view body.now)) }
+    ensures declared { IfOk result (λ b. block_declared b ≡ flagged (body_declarations (body_view body.now))) }
+{
+    let mut statements = Vec::new(alloc.clone()?);
+    each(alloc, typed, &body.statements, &mut statements)?;
+    Ok(block_at(body.from, statements))
+}
+
+/// A block with statements in a box.
+fn boxed_at<A: Allocator + Clone>(
+    alloc: &A,
+    from: usize,
+    statements: Vec<Statement<A>, A>,
+) -> Result<Box<Block<A>, A>, AllocError>
+    ensures core { IfOk result (λ b. block_view b.value ≡ seen.block_of (statements_view statements.items)) }
+    ensures declared { IfOk result (λ b. block_declared b.value ≡ declared_by statements.items) }
+{
+    Ok(Box::new(alloc.clone()?, block_at(from, statements))?)
 }
 
 /// A block with statements, whose brace, or whose inner `if`, stands at an offset.

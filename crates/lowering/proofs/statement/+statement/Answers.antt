@@ -1,29 +1,30 @@
-use Rattle.std.proofs.Common.{rules, to_z, of_z, w32, ℤ, ◌≡◌, ◌++◌, ◌≤◌, List, map, option_map, refl, ap, sym, ◌∙◌, arith}
+use Rattle.std.proofs.Common.{rules, to_z, of_z, w32, ℤ, ◌≡◌, ◌++◌, ◌≤◌, [], List, map, option_map, refl, ap, ap₂, sym, ◌∙◌, arith}
+use Rattle.std.specs.Prelude.{Box}
 use Rattle.std.proofs.lemmas.Grind.{common_steps}
-use Rattle.std.proofs.lemmas.Result.{on_ok_weaker}
+use Rattle.std.proofs.lemmas.Result.{on_ok_weaker, IfOk-weaker}
 use Rattle.std.specs.List.{sum_by}
 use Rattle.syntax_trees.specs.declared.tree.Stmt.{out-Stmt}
 use Rattle.syntax_trees.specs.declared.tree.Block.{out-Block}
 use Rattle.syntax_trees.specs.declared.tree.Header.{Header}
-use Rattle.syntax_trees.specs.declared.tree.Range.{Range}
-use Rattle.syntax_trees.specs.View.{word_of, words_view, expression_view, calling_of, over_of, statement_view, command_view, body_view}
+use Rattle.syntax_trees.specs.View.{word_of, words_view, expression_view, right_of, calling_of, over_of, statement_view, command_view, body_view, choice_of}
 use Rattle.syntax_trees.specs.Numbered.{statement_size}
 use Rattle.syntax_trees.specs.Core as core
 use Rattle.syntax_trees.specs.Tree as trees
 use Rattle.syntax_trees.specs.Tree.{Calling, Command, Statement, expressions_of}
 use Rattle.syntax_trees.specs.Resolved as rules_of
-use Rattle.syntax_trees.proofs.Views.{size_of_element, block-size, view-Block, view-Foreach}
+use Rattle.syntax_trees.proofs.Views.{size_of_element, block-size, view-Block, view-Foreach, view-Wait}
 use Rattle.types.specs.Typed.{table_of}
-use Rattle.flow.specs.declared.statement.Range.{Range as Found}
+use Rattle.flow.specs.declared.statement.Block.{Block as Made}
 use Rattle.flow.specs.declared.statement.Statement.{Statement as Added}
-use Rattle.flow.specs.View.{action_view, outer_view, statements_view}
+use Rattle.flow.specs.View.{block_of, block_view, statements_view}
 use Rattle.lowering.specs.View.{command_alone, statement_alone, statements_among}
-use Rattle.lowering.proofs.Loops.{view_stmt, view_declaration, view_assign_all, view_calls, range_found}
-use Rattle.lowering.proofs.Statements.{statement_first, one_form, block_found}
-use Rattle.well_formed.specs.Types.{statement_declarations, command_declarations, body_declarations}
-use Rattle.flow.specs.Shapes.{action_declared}
+use Rattle.lowering.proofs.Loops.{view_stmt, view_declaration, view_assign_all, view_calls}
+use Rattle.lowering.proofs.Forms.{view_assign, view_write, view_if, adds_form, declares_form, same_choice}
+use Rattle.lowering.proofs.Statements.{statement_first, block_found}
+use Rattle.well_formed.specs.Types.{statement_declarations, body_declarations}
+use Rattle.flow.specs.Shapes.{block_declared}
 use Rattle.lowering.specs.Shapes.{among, declared_by, flagged}
-use Rattle.lowering.proofs.Declaring.{range_declared, statement_next}
+use Rattle.lowering.proofs.Declaring.{flagged_append, statement_next}
 use Rattle.lowering.proofs.Walks.{walked_more, walked_all}
 use Rattle.lowering.proofs.statement.+statement.Goals as goal
 
@@ -33,8 +34,8 @@ each-statement-requires g t c =
     size_of_element (statement_view {A = g.row.A.Denot}) statement_size c.args.statements.now.items c.loop-stmt.stmt-index c.stmt-item.result (grind (arith, common_steps)) (grind (arith, common_steps)) in
     search rules
 
-pub block-each-requires : goal.block-each-requires
-block-each-requires g t c κs within =
+pub boxed_block-each-requires : goal.boxed_block-each-requires
+boxed_block-each-requires g t c κs within =
     let e = block-size g.row.A.Denot c.args.body.now in
     search rules
 
@@ -64,13 +65,15 @@ statement-returns-clause-core g t c =
     let s = out-Stmt A c.args.stmt.now in
     on_ok_weaker c.command.result (λ adds. adds s.to ∙ ap (λ (x : Statement). statements_view c.args.found.now.items ++ statement_alone (table_of c.args.typed.now) x) (sym (view_stmt A c.args.stmt.now))) c.command.ensures.core
 
-pub block-returns-clause-core : goal.block-returns-clause-core
-block-returns-clause-core g t c =
+pub boxed_block-returns-clause-core : goal.boxed_block-returns-clause-core
+boxed_block-returns-clause-core g t c =
     let A = g.row.A.Denot in
     let b = out-Block A c.args.body.now in
-    c.block_at.ensures.core
-    ∙ block_found (table_of c.args.typed.now) b.from (map (statement_view {A = A}) b.statements.items) (body_view {A = A} c.args.body.now) (statements_view c.new-statements.result.items)
-    (statements_view c.each.new.found.items) (ap (statements_view {A = A}) c.new-statements.ensures.items) c.in_ok-each.ensures.core (view-Block A c.args.body.now)
+    let told : Box (Made A) A → Type 0 = λ x. block_view x.value ≡ block_of (statements_view c.each.new.found.items) in
+    let wanted : Box (Made A) A → Type 0 = λ x. block_view x.value ≡ rules_of.block_of (table_of c.args.typed.now) (body_view {A = A} c.args.body.now) in
+    IfOk-weaker c.boxed_at.result told wanted
+    (λ x is. is ∙ block_found (table_of c.args.typed.now) b.from (map (statement_view {A = A}) b.statements.items) (body_view {A = A} c.args.body.now) (statements_view c.new-statements.result.items)
+    (statements_view c.each.new.found.items) (ap (statements_view {A = A}) c.new-statements.ensures.items) c.in_ok-each.ensures.core (view-Block A c.args.body.now)) c.boxed_at.ensures.core
 
 pub command-returns-in-Declare-clause-core : goal.command-returns-in-Declare-clause-core
 command-returns-in-Declare-clause-core g t c =
@@ -81,66 +84,202 @@ command-returns-in-Declare-clause-core g t c =
     (sym (ap command_view c.in-Declare.is ∙ view_declaration c.in-Declare.decl c.in-Declare.right)))
     c.declaration.ensures.core
 
-pub command-returns-in_ok-action-in-AssignAll-clause-core : goal.command-returns-in_ok-action-in-AssignAll-clause-core
-command-returns-in_ok-action-in-AssignAll-clause-core g t c =
+pub command-returns-in-Assign-clause-core : goal.command-returns-in-Assign-clause-core
+command-returns-in-Assign-clause-core g t c =
+    let A = g.row.A.Denot in
+    let tb = table_of c.args.typed.now in
+    let w = word_of {A = A} c.in-Assign.name in
+    let r = right_of {A = A} c.in-Assign.right in
+    on_ok_weaker c.add_made.result
+    (λ adds. λ to. adds_form c.assignment.result tb (record { number = c.args.number; first = c.args.first; to = to }) (command_view {A = A} c.args.kind.now) (trees.assign w r)
+    (statements_view c.args.found.now.items) (statements_view c.add_made.new.found.items) _ _
+    (ap command_view c.in-Assign.is ∙ view_assign c.in-Assign.name c.in-Assign.right) refl c.assignment.ensures.core
+    (ap₂ (λ x a. rules_of.right_of tb x a r) c.refer-target.ensures.name c.refer-target.ensures.shape) adds)
+    c.add_made.ensures.core
+
+pub command-returns-in-Assign-clause-declared : goal.command-returns-in-Assign-clause-declared
+command-returns-in-Assign-clause-declared g t c =
+    let A = g.row.A.Denot in
+    on_ok_weaker c.add_made.result
+    (λ adds. declares_form c.assignment.result (command_view {A = A} c.args.kind.now) (trees.assign (word_of {A = A} c.in-Assign.name) (right_of {A = A} c.in-Assign.right))
+    (declared_by c.args.found.now.items) (declared_by c.add_made.new.found.items) []
+    (ap command_view c.in-Assign.is ∙ view_assign c.in-Assign.name c.in-Assign.right) c.assignment.ensures.declared refl adds)
+    c.add_made.ensures.declared
+
+pub command-returns-in-Write-clause-core : goal.command-returns-in-Write-clause-core
+command-returns-in-Write-clause-core g t c =
+    let A = g.row.A.Denot in
+    let tb = table_of c.args.typed.now in
+    let w = word_of {A = A} c.in-Write.name in
+    on_ok_weaker c.add_made-in-Write.result
+    (λ adds. λ to. adds_form c.insert.result tb (record { number = c.args.number; first = c.args.first; to = to }) (command_view {A = A} c.args.kind.now)
+    (trees.write w (expression_view {A = A} c.in-Write.index.value) (expression_view {A = A} c.in-Write.value.value))
+    (statements_view c.args.found.now.items) (statements_view c.add_made-in-Write.new.found.items) _ _
+    (ap command_view c.in-Write.is ∙ view_write c.in-Write.name c.in-Write.index c.in-Write.value) refl c.insert.ensures.core
+    (ap₂ (λ i e. core.insert (rules_of.refers tb w) (rules_of.outer tb (expression_view {A = A} i)) (rules_of.outer tb (expression_view {A = A} e))) c.deref.ensures c.deref-in-Write.ensures) adds)
+    c.add_made-in-Write.ensures.core
+
+pub command-returns-in-Write-clause-declared : goal.command-returns-in-Write-clause-declared
+command-returns-in-Write-clause-declared g t c =
+    let A = g.row.A.Denot in
+    on_ok_weaker c.add_made-in-Write.result
+    (λ adds. declares_form c.insert.result (command_view {A = A} c.args.kind.now)
+    (trees.write (word_of {A = A} c.in-Write.name) (expression_view {A = A} c.in-Write.index.value) (expression_view {A = A} c.in-Write.value.value))
+    (declared_by c.args.found.now.items) (declared_by c.add_made-in-Write.new.found.items) []
+    (ap command_view c.in-Write.is ∙ view_write c.in-Write.name c.in-Write.index c.in-Write.value) c.insert.ensures.declared refl adds)
+    c.add_made-in-Write.ensures.declared
+
+pub command-returns-in-AssignAll-clause-core : goal.command-returns-in-AssignAll-clause-core
+command-returns-in-AssignAll-clause-core g t c =
     let A = g.row.A.Denot in
     let tb = table_of c.args.typed.now in
     let ws = words_view {A = A} c.in-AssignAll.names in
     let called = calling_of {A = A} c.in-AssignAll.call.value in
     let F : Calling → core.Action = λ k. rules_of.several tb k.node.number k.name (expressions_of k.arguments) (map (rules_of.refers tb) ws) (tb.callee_of k.name.number) in
-    on_ok_weaker c.add-in-AssignAll.result
-    (λ adds. λ to. one_form tb (record { number = c.args.number; first = c.args.first; to = to }) (command_view {A = A} c.args.kind.now) (trees.assign_all ws called)
-    (statements_view c.args.found.now.items) (statements_view c.add-in-AssignAll.new.found.items) (action_view c.in_ok-action-in-AssignAll.action) (F called)
-    (ap command_view c.in-AssignAll.is ∙ view_assign_all c.in-AssignAll.names c.in-AssignAll.call) refl adds
-    (c.in_ok-action-in-AssignAll.ensures.core ∙ ap F (ap (calling_of {A = A}) c.deref-in-AssignAll.ensures)))
-    c.add-in-AssignAll.ensures.core
+    on_ok_weaker c.add_made-in-AssignAll.result
+    (λ adds. λ to. adds_form c.several.result tb (record { number = c.args.number; first = c.args.first; to = to }) (command_view {A = A} c.args.kind.now) (trees.assign_all ws called)
+    (statements_view c.args.found.now.items) (statements_view c.add_made-in-AssignAll.new.found.items) _ (F called)
+    (ap command_view c.in-AssignAll.is ∙ view_assign_all c.in-AssignAll.names c.in-AssignAll.call) refl c.several.ensures.core
+    (ap F (ap (calling_of {A = A}) c.deref-in-AssignAll.ensures)) adds)
+    c.add_made-in-AssignAll.ensures.core
 
-pub command-returns-in_ok-action-in-Call-clause-core : goal.command-returns-in_ok-action-in-Call-clause-core
-command-returns-in_ok-action-in-Call-clause-core g t c =
+pub command-returns-in-AssignAll-clause-declared : goal.command-returns-in-AssignAll-clause-declared
+command-returns-in-AssignAll-clause-declared g t c =
+    let A = g.row.A.Denot in
+    on_ok_weaker c.add_made-in-AssignAll.result
+    (λ adds. declares_form c.several.result (command_view {A = A} c.args.kind.now) (trees.assign_all (words_view {A = A} c.in-AssignAll.names) (calling_of {A = A} c.in-AssignAll.call.value))
+    (declared_by c.args.found.now.items) (declared_by c.add_made-in-AssignAll.new.found.items) []
+    (ap command_view c.in-AssignAll.is ∙ view_assign_all c.in-AssignAll.names c.in-AssignAll.call) c.several.ensures.declared refl adds)
+    c.add_made-in-AssignAll.ensures.declared
+
+pub command-returns-in-Call-clause-core : goal.command-returns-in-Call-clause-core
+command-returns-in-Call-clause-core g t c =
     let A = g.row.A.Denot in
     let tb = table_of c.args.typed.now in
     let called = calling_of {A = A} c.in-Call.call.value in
     let F : ℤ → Calling → core.Action = λ p k. rules_of.call_action tb p k.node.number k.name (expressions_of k.arguments) (tb.callee_of k.name.number) in
     let same : to_z w32 (of_z w32 c.in-Call.priority) ≡ c.in-Call.priority = grind (arith, common_steps) in
-    on_ok_weaker c.add-in-Call.result
-    (λ adds. λ to. one_form tb (record { number = c.args.number; first = c.args.first; to = to }) (command_view {A = A} c.args.kind.now) (trees.calls c.in-Call.priority called)
-    (statements_view c.args.found.now.items) (statements_view c.add-in-Call.new.found.items) (action_view c.in_ok-action-in-Call.action) (F c.in-Call.priority called)
-    (ap command_view c.in-Call.is ∙ view_calls c.in-Call.priority c.in-Call.call) refl adds
-    (c.in_ok-action-in-Call.ensures.core ∙ ap (F (to_z w32 (of_z w32 c.in-Call.priority))) (ap (calling_of {A = A}) c.deref-in-Call.ensures) ∙ ap (λ (p : ℤ). F p called) same))
-    c.add-in-Call.ensures.core
+    on_ok_weaker c.add_made-in-Call.result
+    (λ adds. λ to. adds_form c.statement_call-action.result tb (record { number = c.args.number; first = c.args.first; to = to }) (command_view {A = A} c.args.kind.now) (trees.calls c.in-Call.priority called)
+    (statements_view c.args.found.now.items) (statements_view c.add_made-in-Call.new.found.items) _ (F c.in-Call.priority called)
+    (ap command_view c.in-Call.is ∙ view_calls c.in-Call.priority c.in-Call.call) refl c.statement_call-action.ensures.core
+    (ap (F (to_z w32 (of_z w32 c.in-Call.priority))) (ap (calling_of {A = A}) c.deref-in-Call.ensures) ∙ ap (λ (p : ℤ). F p called) same) adds)
+    c.add_made-in-Call.ensures.core
 
-pub command-returns-in_ok-action-in-Foreach-clause-core : goal.command-returns-in_ok-action-in-Foreach-clause-core
-command-returns-in_ok-action-in-Foreach-clause-core g t c =
+pub command-returns-in-Call-clause-declared : goal.command-returns-in-Call-clause-declared
+command-returns-in-Call-clause-declared g t c =
+    let A = g.row.A.Denot in
+    on_ok_weaker c.add_made-in-Call.result
+    (λ adds. declares_form c.statement_call-action.result (command_view {A = A} c.args.kind.now) (trees.calls c.in-Call.priority (calling_of {A = A} c.in-Call.call.value))
+    (declared_by c.args.found.now.items) (declared_by c.add_made-in-Call.new.found.items) []
+    (ap command_view c.in-Call.is ∙ view_calls c.in-Call.priority c.in-Call.call) c.statement_call-action.ensures.declared refl adds)
+    c.add_made-in-Call.ensures.declared
+
+pub command-returns-in-None-clause-core : goal.command-returns-in-None-clause-core
+command-returns-in-None-clause-core g t c =
+    let A = g.row.A.Denot in
+    let tb = table_of c.args.typed.now in
+    let e = expression_view {A = A} c.in-If.test.value in
+    let b = body_view {A = A} c.in-If.then.value in
+    on_ok_weaker c.add_made-in-None.result
+    (λ adds. λ to. adds_form c.choice.result tb (record { number = c.args.number; first = c.args.first; to = to }) (command_view {A = A} c.args.kind.now) (trees.choice e b)
+    (statements_view c.args.found.now.items) (statements_view c.add_made-in-None.new.found.items) _ _
+    (ap command_view c.in-If.is ∙ view_if c.in-If.test c.in-If.then c.in-If.other ∙ ap (λ o. choice_of e b (option_map (λ it. body_view {A = A} it.value) o)) c.in-None.is) refl c.choice.ensures.core
+    (ap₂ (λ x y. core.when (rules_of.outer tb x) y) (ap (expression_view {A = A}) c.deref-in-None.ensures)
+    (c.in_ok-then-in-If.ensures.core ∙ ap (λ x. rules_of.block_of tb (body_view {A = A} x)) c.deref-in-If.ensures)) adds)
+    c.add_made-in-None.ensures.core
+
+pub command-returns-in-None-clause-declared : goal.command-returns-in-None-clause-declared
+command-returns-in-None-clause-declared g t c =
+    let A = g.row.A.Denot in
+    let e = expression_view {A = A} c.in-If.test.value in
+    let b = body_view {A = A} c.in-If.then.value in
+    on_ok_weaker c.add_made-in-None.result
+    (λ adds. declares_form c.choice.result (command_view {A = A} c.args.kind.now) (trees.choice e b)
+    (declared_by c.args.found.now.items) (declared_by c.add_made-in-None.new.found.items) _
+    (ap command_view c.in-If.is ∙ view_if c.in-If.test c.in-If.then c.in-If.other ∙ ap (λ o. choice_of e b (option_map (λ it. body_view {A = A} it.value) o)) c.in-None.is) c.choice.ensures.declared
+    (c.in_ok-then-in-If.ensures.declared ∙ ap (λ x. flagged (body_declarations (body_view {A = A} x))) c.deref-in-If.ensures) adds)
+    c.add_made-in-None.ensures.declared
+
+pub command-returns-in_ok-other-in-Some-clause-core : goal.command-returns-in_ok-other-in-Some-clause-core
+command-returns-in_ok-other-in-Some-clause-core g t c =
+    let A = g.row.A.Denot in
+    let tb = table_of c.args.typed.now in
+    let e = expression_view {A = A} c.in-If.test.value in
+    let b = body_view {A = A} c.in-If.then.value in
+    let o = body_view {A = A} c.in-Some.other.value in
+    on_ok_weaker c.add_made-in-Some.result
+    (λ adds. λ to. adds_form c.choice_else-action.result tb (record { number = c.args.number; first = c.args.first; to = to }) (command_view {A = A} c.args.kind.now) (trees.choice_else e b o)
+    (statements_view c.args.found.now.items) (statements_view c.add_made-in-Some.new.found.items) _ (core.choose (rules_of.outer tb e) (rules_of.block_of tb b) (rules_of.block_of tb o))
+    (ap command_view c.in-If.is ∙ view_if c.in-If.test c.in-If.then c.in-If.other ∙ ap (λ x. choice_of e b (option_map (λ it. body_view {A = A} it.value) x)) c.in-Some.is) refl c.choice_else-action.ensures.core
+    (same_choice (ap (λ x. rules_of.outer tb (expression_view {A = A} x)) c.deref-in-Some-2.ensures)
+    (c.in_ok-then-in-If.ensures.core ∙ ap (λ x. rules_of.block_of tb (body_view {A = A} x)) c.deref-in-If.ensures)
+    (c.in_ok-other-in-Some.ensures.core ∙ ap (λ x. rules_of.block_of tb (body_view {A = A} x)) c.deref-in-Some.ensures)) adds)
+    c.add_made-in-Some.ensures.core
+
+pub command-returns-in_ok-other-in-Some-clause-declared : goal.command-returns-in_ok-other-in-Some-clause-declared
+command-returns-in_ok-other-in-Some-clause-declared g t c =
+    let A = g.row.A.Denot in
+    let e = expression_view {A = A} c.in-If.test.value in
+    let b = body_view {A = A} c.in-If.then.value in
+    let o = body_view {A = A} c.in-Some.other.value in
+    on_ok_weaker c.add_made-in-Some.result
+    (λ adds. declares_form c.choice_else-action.result (command_view {A = A} c.args.kind.now) (trees.choice_else e b o)
+    (declared_by c.args.found.now.items) (declared_by c.add_made-in-Some.new.found.items) _
+    (ap command_view c.in-If.is ∙ view_if c.in-If.test c.in-If.then c.in-If.other ∙ ap (λ x. choice_of e b (option_map (λ it. body_view {A = A} it.value) x)) c.in-Some.is) c.choice_else-action.ensures.declared
+    (ap₂ (λ x y. x ++ y) (c.in_ok-then-in-If.ensures.declared ∙ ap (λ x. flagged (body_declarations (body_view {A = A} x))) c.deref-in-If.ensures)
+    (c.in_ok-other-in-Some.ensures.declared ∙ ap (λ x. flagged (body_declarations (body_view {A = A} x))) c.deref-in-Some.ensures)
+    ∙ sym (flagged_append (body_declarations b) (body_declarations o))) adds)
+    c.add_made-in-Some.ensures.declared
+
+pub command-returns-in_ok-body-in-Foreach-clause-core : goal.command-returns-in_ok-body-in-Foreach-clause-core
+command-returns-in_ok-body-in-Foreach-clause-core g t c =
     let A = g.row.A.Denot in
     let tb = table_of c.args.typed.now in
     let w = word_of {A = A} c.in-Foreach.header.value.value in
     let k = option_map (word_of {A = A}) c.in-Foreach.header.value.key in
     let o = over_of {A = A} c.in-Foreach.header.value.source in
-    let F : trees.Body → core.Action = λ b. rules_of.loop_action tb w k o (rules_of.block_of tb b) in
-    on_ok_weaker c.add-in-Foreach.result
-    (λ adds. λ to. one_form tb (record { number = c.args.number; first = c.args.first; to = to }) (command_view {A = A} c.args.kind.now)
+    on_ok_weaker c.add_made-in-Foreach.result
+    (λ adds. λ to. adds_form c.repeated.result tb (record { number = c.args.number; first = c.args.first; to = to }) (command_view {A = A} c.args.kind.now)
     (trees.loop w k o (body_view {A = A} c.in-Foreach.body.value))
-    (statements_view c.args.found.now.items) (statements_view c.add-in-Foreach.new.found.items) (action_view c.in_ok-action-in-Foreach.action) (F (body_view {A = A} c.in-Foreach.body.value))
-    (ap command_view c.in-Foreach.is ∙ view-Foreach c.in-Foreach.header c.in-Foreach.body) refl adds
-    (c.in_ok-action-in-Foreach.ensures.core
-    ∙ ap (λ (h : Header A). rules_of.loop_action tb (word_of {A = A} h.value) (option_map (word_of {A = A}) h.key) (over_of {A = A} h.source) (rules_of.block_of tb (body_view {A = A} c.deref-in-Foreach-2.result.now))) c.deref-in-Foreach.ensures
-    ∙ ap F (ap (body_view {A = A}) c.deref-in-Foreach-2.ensures)))
-    c.add-in-Foreach.ensures.core
+    (statements_view c.args.found.now.items) (statements_view c.add_made-in-Foreach.new.found.items) _ _
+    (ap command_view c.in-Foreach.is ∙ view-Foreach c.in-Foreach.header c.in-Foreach.body) refl c.repeated.ensures.core
+    (ap₂ (λ (h : Header A) b. rules_of.loop_action tb (word_of {A = A} h.value) (option_map (word_of {A = A}) h.key) (over_of {A = A} h.source) b) c.deref-in-Foreach-2.ensures
+    (c.in_ok-body-in-Foreach.ensures.core ∙ ap (λ x. rules_of.block_of tb (body_view {A = A} x)) c.deref-in-Foreach.ensures)) adds)
+    c.add_made-in-Foreach.ensures.core
 
-pub repeated-returns-in_ok-range-in-Range-2-clause-core : goal.repeated-returns-in_ok-range-in-Range-2-clause-core
-repeated-returns-in_ok-range-in-Range-2-clause-core g t c =
+pub command-returns-in_ok-body-in-Foreach-clause-declared : goal.command-returns-in_ok-body-in-Foreach-clause-declared
+command-returns-in_ok-body-in-Foreach-clause-declared g t c =
+    let A = g.row.A.Denot in
+    on_ok_weaker c.add_made-in-Foreach.result
+    (λ adds. declares_form c.repeated.result (command_view {A = A} c.args.kind.now)
+    (trees.loop (word_of {A = A} c.in-Foreach.header.value.value) (option_map (word_of {A = A}) c.in-Foreach.header.value.key) (over_of {A = A} c.in-Foreach.header.value.source) (body_view {A = A} c.in-Foreach.body.value))
+    (declared_by c.args.found.now.items) (declared_by c.add_made-in-Foreach.new.found.items) _
+    (ap command_view c.in-Foreach.is ∙ view-Foreach c.in-Foreach.header c.in-Foreach.body) c.repeated.ensures.declared
+    (c.in_ok-body-in-Foreach.ensures.declared ∙ ap (λ x. flagged (body_declarations (body_view {A = A} x))) c.deref-in-Foreach.ensures) adds)
+    c.add_made-in-Foreach.ensures.declared
+
+pub command-returns-in_ok-body-in-Wait-clause-core : goal.command-returns-in_ok-body-in-Wait-clause-core
+command-returns-in_ok-body-in-Wait-clause-core g t c =
     let A = g.row.A.Denot in
     let tb = table_of c.args.typed.now in
-    let over = c.in-Range.over.value in
-    let boxed : c.in_ok-range-in-Range-2.range.value ≡ c.in_ok-range-in-Range.field-0 = grind (arith, common_steps) in
-    range_found tb (word_of {A = A} c.args.header.now.value) (option_map (word_of {A = A}) c.args.header.now.key) (over_of {A = A} c.args.header.now.source)
-    (expression_view {A = A} over.low) (expression_view {A = A} over.high) (option_map (expression_view {A = A}) over.step) (rules_of.block_of tb (body_view {A = A} c.args.body.now))
-    c.in_ok-range-in-Range-2.range c.in_ok-value.value c.in_ok-key.key c.in_ok-body.body
-    (ap (over_of {A = A}) c.in-Range.is)
-    (ap (λ (r : Found A). outer_view r.low) boxed ∙ c.in_ok-range-in-Range.ensures.low ∙ ap (λ (r : Range A). rules_of.outer tb (expression_view r.low)) c.deref.ensures)
-    (ap (λ (r : Found A). outer_view r.high) boxed ∙ c.in_ok-range-in-Range.ensures.high ∙ ap (λ (r : Range A). rules_of.outer tb (expression_view r.high)) c.deref.ensures)
-    (ap (λ (r : Found A). option_map outer_view r.step) boxed ∙ c.in_ok-range-in-Range.ensures.step ∙ ap (λ (r : Range A). option_map (rules_of.outer tb) (option_map expression_view r.step)) c.deref.ensures)
-    c.in_ok-value.ensures.node c.in_ok-key.ensures.node c.in_ok-body.ensures.core
+    let ws = words_view {A = A} c.in-Wait.names in
+    on_ok_weaker c.add_made-in-Wait.result
+    (λ adds. λ to. adds_form c.waiting.result tb (record { number = c.args.number; first = c.args.first; to = to }) (command_view {A = A} c.args.kind.now) (trees.waits ws (body_view {A = A} c.in-Wait.body.value))
+    (statements_view c.args.found.now.items) (statements_view c.add_made-in-Wait.new.found.items) _ _
+    (ap command_view c.in-Wait.is ∙ view-Wait c.in-Wait.names c.in-Wait.body) refl c.waiting.ensures.core
+    (ap (core.wait (map (rules_of.awaited tb) ws)) (c.in_ok-body-in-Wait.ensures.core ∙ ap (λ x. rules_of.block_of tb (body_view {A = A} x)) c.deref-in-Wait.ensures)) adds)
+    c.add_made-in-Wait.ensures.core
+
+pub command-returns-in_ok-body-in-Wait-clause-declared : goal.command-returns-in_ok-body-in-Wait-clause-declared
+command-returns-in_ok-body-in-Wait-clause-declared g t c =
+    let A = g.row.A.Denot in
+    on_ok_weaker c.add_made-in-Wait.result
+    (λ adds. declares_form c.waiting.result (command_view {A = A} c.args.kind.now) (trees.waits (words_view {A = A} c.in-Wait.names) (body_view {A = A} c.in-Wait.body.value))
+    (declared_by c.args.found.now.items) (declared_by c.add_made-in-Wait.new.found.items) _
+    (ap command_view c.in-Wait.is ∙ view-Wait c.in-Wait.names c.in-Wait.body) c.waiting.ensures.declared
+    (c.in_ok-body-in-Wait.ensures.declared ∙ ap (λ x. flagged (body_declarations (body_view {A = A} x))) c.deref-in-Wait.ensures) adds)
+    c.add_made-in-Wait.ensures.declared
 
 pub each-returns-clause-declared : goal.each-returns-clause-declared
 each-returns-clause-declared g t c =
@@ -148,23 +287,13 @@ each-returns-clause-declared g t c =
     (declared_by c.args.found.now.items ++ flagged (among (map (statement_view {A = g.row.A.Denot}) c.args.statements.now.items)))
     (declared_by c.loop-stmt.found.items) c.args.statements.now.items c.loop-stmt.stmt-index c.loop-stmt.invariant.1 (grind (arith, common_steps))
 
-pub block-returns-clause-declared : goal.block-returns-clause-declared
-block-returns-clause-declared g t c =
+pub boxed_block-returns-clause-declared : goal.boxed_block-returns-clause-declared
+boxed_block-returns-clause-declared g t c =
     let A = g.row.A.Denot in
     let b = out-Block A c.args.body.now in
-    c.block_at.ensures.declared
-    ∙ c.in_ok-each.ensures.declared
+    let told : Box (Made A) A → Type 0 = λ x. block_declared x.value ≡ declared_by c.each.new.found.items in
+    let wanted : Box (Made A) A → Type 0 = λ x. block_declared x.value ≡ flagged (body_declarations (body_view {A = A} c.args.body.now)) in
+    IfOk-weaker c.boxed_at.result told wanted
+    (λ x is. is ∙ c.in_ok-each.ensures.declared
     ∙ ap (λ (xs : List (Added A)). declared_by xs ++ flagged (among (map (statement_view {A = A}) b.statements.items))) c.new-statements.ensures.items
-    ∙ ap (λ (x : trees.Body). flagged (body_declarations x)) (sym (view-Block A c.args.body.now))
-
-pub command-returns-in_ok-action-in-Foreach-clause-declared : goal.command-returns-in_ok-action-in-Foreach-clause-declared
-command-returns-in_ok-action-in-Foreach-clause-declared g t c =
-    let A = g.row.A.Denot in
-    let old = declared_by c.args.found.now.items in
-    let inside = ap (λ (b : _). flagged (body_declarations (body_view {A = A} b))) c.deref-in-Foreach-2.ensures in
-    let is = ap (λ (k : Command). flagged (command_declarations k)) (ap (command_view {A = A}) c.in-Foreach.is ∙ view-Foreach c.in-Foreach.header c.in-Foreach.body) in
-    on_ok_weaker c.add-in-Foreach.result (λ adds. adds ∙ ap (λ ds. old ++ ds) (c.in_ok-action-in-Foreach.ensures.declared ∙ inside ∙ sym is)) c.add-in-Foreach.ensures.declared
-
-pub repeated-returns-in_ok-range-in-Range-2-clause-declared : goal.repeated-returns-in_ok-range-in-Range-2-clause-declared
-repeated-returns-in_ok-range-in-Range-2-clause-declared g t c =
-    range_declared c.in_ok-range-in-Range-2.range c.in_ok-value.value c.in_ok-key.key c.in_ok-body.body ∙ c.in_ok-body.ensures.declared
+    ∙ ap (λ (x : trees.Body). flagged (body_declarations x)) (sym (view-Block A c.args.body.now))) c.boxed_at.ensures.declared

@@ -14,23 +14,8 @@ decreases-statement g l = 6 * statement_size (statement_view l.stmt.now)
 abbrev pub decreases-command : goal.decreases-command
 decreases-command g l = 6 * command_size (command_view l.kind.now) + 5
 
-abbrev pub decreases-branch : goal.decreases-branch
-decreases-branch g l = 6 * body_size (body_view l.then.now) + 4
-
-abbrev pub decreases-branches : goal.decreases-branches
-decreases-branches g l = 6 * (body_size (body_view l.then.now) + body_size (body_view l.other.now)) + 4
-
-abbrev pub decreases-repeated : goal.decreases-repeated
-decreases-repeated g l = 6 * body_size (body_view l.body.now) + 4
-
-abbrev pub decreases-waiting : goal.decreases-waiting
-decreases-waiting g l = 6 * body_size (body_view l.content.now) + 4
-
 abbrev pub decreases-boxed_block : goal.decreases-boxed_block
 decreases-boxed_block g l = 6 * body_size (body_view l.body.now) + 3
-
-abbrev pub decreases-block : goal.decreases-block
-decreases-block g l = 6 * body_size (body_view l.body.now) + 2
 
 abbrev pub decreases-each : goal.decreases-each
 decreases-each g l = 6 * sum_by statement_size (map statement_view l.statements.now.items) + 1

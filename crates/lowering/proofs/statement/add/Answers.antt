@@ -1,6 +1,5 @@
-use Rattle.std.proofs.Common.{rules, ◌≡◌, ◌++◌, ap, ◌∙◌}
+use Rattle.std.proofs.Common.{rules, ◌++◌, ap, ◌∙◌}
 use Rattle.flow.specs.declared.statement.Statement.{the_lemmas}
-use Rattle.flow.specs.Shapes.{action_declared}
 use Rattle.lowering.specs.Shapes.{declared_by}
 use Rattle.lowering.proofs.Declaring.{one_more}
 use Rattle.lowering.proofs.statement.add.Goals as goal
