@@ -1,11 +1,11 @@
 -- The view of each variant, and lists that are viewed one by one.
-use Rattle.std.proofs.Common.{◌≡◌, ℕ, ◌<◌, ◌≤◌, ◌+◌, List, [], ◌∷◌, Option, map, length, get_or, rules, ap, subst, refl, sym, ◌∙◌, Vec, Box}
+use Rattle.std.proofs.Common.{◌≡◌, ℕ, ◌<◌, ◌≤◌, ◌+◌, List, [], ◌∷◌, Option, Some, None, map, length, get_or, rules, ap, subst, refl, sym, ◌∙◌, Vec, Box}
 use Rattle.std.proofs.lemmas.List.{length-map, get_or-map}
 use Rattle.std.proofs.lemmas.List.Sums.{get_or-le-sum_by, sum_by-cons}
 use Rattle.std.specs.List.{sum_by}
 use Rattle.std.specs.Prelude.{option_map}
-use Rattle.syntax_trees.specs.Tree.{call, chain, element, prefixed, expressions_of, Word, Over, Statement, statements_of, Body, body, loop, waits}
-use Rattle.syntax_trees.specs.View.{word_of, expression_view, form_view, words_view, over_of, statement_view, command_view, body_view}
+use Rattle.syntax_trees.specs.Tree.{call, chain, element, prefixed, expressions_of, Word, Over, Statement, statements_of, Body, body, choice_else, loop, waits, Expression}
+use Rattle.syntax_trees.specs.View.{word_of, expression_view, form_view, words_view, over_of, statement_view, command_view, body_view, choice_of}
 use Rattle.syntax_trees.specs.Numbered.{statements_size, statement_size, body_size}
 use Rattle.syntax_trees.specs.declared.tree.Name.{Name}
 use Rattle.syntax_trees.specs.declared.tree.Operator.{Operator}
@@ -14,7 +14,7 @@ use Rattle.syntax_trees.specs.declared.tree.Expr.{Expr}
 use Rattle.syntax_trees.specs.declared.tree.ExprKind.{Call, Chain, Element, Prefixed, the_lemmas}
 use Rattle.syntax_trees.specs.declared.tree.Header.{Header}
 use Rattle.syntax_trees.specs.declared.tree.Block.{Block, out-Block}
-use Rattle.syntax_trees.specs.declared.tree.StmtKind.{Foreach, Wait, the_lemmas as statement_lemmas}
+use Rattle.syntax_trees.specs.declared.tree.StmtKind.{If, Foreach, Wait, the_lemmas as statement_lemmas}
 
 pub view-Call : {A : Type 0} → (n : Box (Name A) A) (v : Vec (Expr A) A) → form_view (Call n v) ≡ call (word_of n.value) (expressions_of (map expression_view v.items))
 view-Call n v = search (rules, the_lemmas)
@@ -47,6 +47,11 @@ view-Block A b = search (rules, statement_lemmas)
 pub block-size : (A : Type 0) → (b : Block A) → body_size (body_view b) ≡ sum_by statement_size (map statement_view (out-Block A b).statements.items)
 block-size A b = ap body_size (view-Block A b) ∙ size-statements_of (map statement_view (out-Block A b).statements.items)
 
+pub view-If : {A : Type 0} → (e : Box (Expr A) A) (b : Box (Block A) A) (o : Option (Box (Block A) A))
+    → command_view (If e b o) ≡ choice_of (expression_view e.value) (body_view b.value) (option_map (λ it. body_view it.value) o)
+view-If e b None = search (rules, statement_lemmas)
+view-If e b (Some d) = search (rules, statement_lemmas)
+
 pub view-Foreach : {A : Type 0} → (h : Box (Header A) A) (b : Box (Block A) A) → command_view (Foreach h b) ≡ loop (word_of h.value.value) (option_map word_of h.value.key) (over_of h.value.source) (body_view b.value)
 view-Foreach h b = search (rules, statement_lemmas)
 
@@ -55,3 +60,6 @@ view-Wait v b = search (rules, statement_lemmas)
 
 pub same_loop : {v v' : Word} {k k' : Option Word} {o o' : Over} {b b' : Body} → v ≡ v' → k ≡ k' → o ≡ o' → b ≡ b' → loop v k o b ≡ loop v' k' o' b'
 same_loop value key source content = cc
+
+pub same_choice : {e e' : Expression} {b b' d d' : Body} → e ≡ e' → b ≡ b' → d ≡ d' → choice_else e b d ≡ choice_else e' b' d'
+same_choice test then other = cc

@@ -1,12 +1,12 @@
 //! The same tree in other memory.
 
 ghost use Rattle.std.specs.Prelude.{◌≡◌, IfOk, map, option_map};
-ghost use Rattle.syntax_trees.specs.Tree.{declare, assign, write, assign_all};
+ghost use Rattle.syntax_trees.specs.Tree.{expressions_of, element, call, chain, declare, assign, write, assign_all, choice, choice_else, loop, waits, body, statements_of};
 ghost use Rattle.syntax_trees.specs.View.{word_of, expression_view, form_view, expressions_view, words_view, declaration_of, declarations_view, list_of, right_of, calling_of, range_of, over_of, statement_view, command_view, body_view, composite_of, part_of, tree_of};
 
 use crate::tree::{
-    Block, Call, Decl, Expr, ExprKind, Function, Header, Item, ListOf, Name, Range, Right, Script,
-    Source, Stmt, StmtKind,
+    Block, Call, Decl, Expr, ExprKind, Function, Header, Item, ListOf, Name, Operator, Range,
+    Right, Script, Source, Stmt, StmtKind,
 };
 use std::alloc::{AllocError, Allocator};
 
@@ -50,7 +50,52 @@ fn copy_names<A: Allocator, B: Allocator + Clone>(
     Ok(copies)
 }
 
+fn copy_boxed_name<A: Allocator, B: Allocator + Clone>(
+    name: &Name<A>,
+    alloc: &B,
+) -> Result<Box<Name<B>, B>, AllocError>
+    ensures { IfOk result (λ n. word_of n.value ≡ word_of name.now) }
+{
+    Ok(Box::new(alloc.clone()?, copy_name(name, alloc)?)?)
+}
+
 // EXPRESSIONS
+
+/// An element of an array, whose index is copied.
+fn copy_element<A: Allocator, B: Allocator + Clone>(
+    name: &Name<A>,
+    index: Box<Expr<B>, B>,
+    alloc: &B,
+) -> Result<ExprKind<B>, AllocError>
+    ensures { IfOk result (λ k. form_view k ≡ element (word_of name.now) (expression_view index.value)) }
+{
+    let name = copy_boxed_name(name, alloc)?;
+    Ok(ExprKind::Element(name, index))
+}
+
+/// A function with its arguments, which are copied.
+fn copy_application<A: Allocator, B: Allocator + Clone>(
+    name: &Name<A>,
+    arguments: Vec<Expr<B>, B>,
+    alloc: &B,
+) -> Result<ExprKind<B>, AllocError>
+    ensures { IfOk result (λ k. form_view k ≡ call (word_of name.now) (expressions_of (map expression_view arguments.items))) }
+{
+    let name = copy_boxed_name(name, alloc)?;
+    Ok(ExprKind::Call(name, arguments))
+}
+
+/// A chain, whose operands are copied.
+fn copy_chain<B: Allocator + Clone>(
+    operators: &[Operator],
+    operands: Vec<Expr<B>, B>,
+    alloc: &B,
+) -> Result<ExprKind<B>, AllocError>
+    ensures { IfOk result (λ k. form_view k ≡ chain operators.now (expressions_of (map expression_view operands.items))) }
+{
+    let operators = Vec::from_slice(alloc.clone()?, operators)?;
+    Ok(ExprKind::Chain(operators, operands))
+}
 
 #[cycle(copy)]
 fn copy_expr<A: Allocator, B: Allocator + Clone>(
@@ -82,21 +127,21 @@ fn copy_kind<A: Allocator, B: Allocator + Clone>(
         )?)),
         ExprKind::Truth(b) => Ok(ExprKind::Truth(*b)),
         ExprKind::Variable(name) => Ok(ExprKind::Variable(copy_name(name, alloc)?)),
-        ExprKind::Element(name, index) => Ok(ExprKind::Element(
-            Box::new(alloc.clone()?, copy_name(name, alloc)?)?,
-            copy_boxed(index, alloc)?,
-        )),
-        ExprKind::Call(name, arguments) => Ok(ExprKind::Call(
-            Box::new(alloc.clone()?, copy_name(name, alloc)?)?,
-            copy_exprs(arguments, alloc)?,
-        )),
+        ExprKind::Element(name, index) => {
+            let index = copy_boxed(index, alloc)?;
+            copy_element(name, index, alloc)
+        }
+        ExprKind::Call(name, arguments) => {
+            let arguments = copy_exprs(arguments, alloc)?;
+            copy_application(name, arguments, alloc)
+        }
         ExprKind::Prefixed(sign, operand) => {
             Ok(ExprKind::Prefixed(*sign, copy_boxed(operand, alloc)?))
         }
-        ExprKind::Chain(operators, operands) => Ok(ExprKind::Chain(
-            Vec::from_slice(alloc.clone()?, operators.as_slice())?,
-            copy_exprs(operands, alloc)?,
-        )),
+        ExprKind::Chain(operators, operands) => {
+            let operands = copy_exprs(operands, alloc)?;
+            copy_chain(operators.as_slice(), operands, alloc)
+        }
     }
 }
 
@@ -324,6 +369,55 @@ fn copy_assign_all<A: Allocator, B: Allocator + Clone>(
     Ok(StmtKind::AssignAll(names, copy_call(call, alloc)?))
 }
 
+/// An `if` without `else`, whose block is copied.
+fn copy_choice<A: Allocator, B: Allocator + Clone>(
+    test: &Expr<A>,
+    then: Box<Block<B>, B>,
+    alloc: &B,
+) -> Result<StmtKind<B>, AllocError>
+    ensures { IfOk result (λ k. command_view k ≡ choice (expression_view test.now) (body_view then.value)) }
+{
+    let test = copy_boxed(test, alloc)?;
+    Ok(StmtKind::If(test, then, None))
+}
+
+/// An `if` with `else`, whose blocks are copied.
+fn copy_choice_else<A: Allocator, B: Allocator + Clone>(
+    test: &Expr<A>,
+    then: Box<Block<B>, B>,
+    other: Box<Block<B>, B>,
+    alloc: &B,
+) -> Result<StmtKind<B>, AllocError>
+    ensures { IfOk result (λ k. command_view k ≡ choice_else (expression_view test.now) (body_view then.value) (body_view other.value)) }
+{
+    let test = copy_boxed(test, alloc)?;
+    Ok(StmtKind::If(test, then, Some(other)))
+}
+
+/// A loop, whose block is copied.
+fn copy_loop<A: Allocator, B: Allocator + Clone>(
+    header: &Header<A>,
+    body: Box<Block<B>, B>,
+    alloc: &B,
+) -> Result<StmtKind<B>, AllocError>
+    ensures { IfOk result (λ k. command_view k ≡ loop (word_of header.now.value) (option_map word_of header.now.key) (over_of header.now.source) (body_view body.value)) }
+{
+    let header = copy_header(header, alloc)?;
+    Ok(StmtKind::Foreach(header, body))
+}
+
+/// A `wait`, whose block is copied.
+fn copy_wait<A: Allocator, B: Allocator + Clone>(
+    names: &Vec<Name<A>, A>,
+    body: Box<Block<B>, B>,
+    alloc: &B,
+) -> Result<StmtKind<B>, AllocError>
+    ensures { IfOk result (λ k. command_view k ≡ waits (words_view names.now) (body_view body.value)) }
+{
+    let names = copy_names(names, alloc)?;
+    Ok(StmtKind::Wait(names, body))
+}
+
 #[cycle(copy_stmt)]
 fn copy_stmt<A: Allocator, B: Allocator + Clone>(
     stmt: &Stmt<A>,
@@ -352,24 +446,24 @@ fn copy_command<A: Allocator, B: Allocator + Clone>(
         StmtKind::Write(name, index, value) => copy_write(name, index, value, alloc),
         StmtKind::AssignAll(names, call) => copy_assign_all(names, call, alloc),
         StmtKind::Call(priority, call) => Ok(StmtKind::Call(*priority, copy_call(call, alloc)?)),
-        StmtKind::If(test, then, None) => Ok(StmtKind::If(
-            copy_boxed(test, alloc)?,
-            copy_block(then, alloc)?,
-            None,
-        )),
-        StmtKind::If(test, then, Some(other)) => Ok(StmtKind::If(
-            copy_boxed(test, alloc)?,
-            copy_block(then, alloc)?,
-            Some(copy_block(other, alloc)?),
-        )),
-        StmtKind::Foreach(header, body) => Ok(StmtKind::Foreach(
-            copy_header(header, alloc)?,
-            copy_block(body, alloc)?,
-        )),
-        StmtKind::Wait(names, body) => Ok(StmtKind::Wait(
-            copy_names(names, alloc)?,
-            copy_block(body, alloc)?,
-        )),
+        StmtKind::If(test, then, other) => {
+            let then = copy_block(then, alloc)?;
+            match other {
+                None => copy_choice(test, then, alloc),
+                Some(other) => {
+                    let other = copy_block(other, alloc)?;
+                    copy_choice_else(test, then, other, alloc)
+                }
+            }
+        }
+        StmtKind::Foreach(header, body) => {
+            let body = copy_block(body, alloc)?;
+            copy_loop(header, body, alloc)
+        }
+        StmtKind::Wait(names, body) => {
+            let body = copy_block(body, alloc)?;
+            copy_wait(names, body, alloc)
+        }
     }
 }
 
@@ -380,18 +474,8 @@ fn copy_block<A: Allocator, B: Allocator + Clone>(
 ) -> Result<Box<Block<B>, B>, AllocError>
     ensures { IfOk result (λ b. body_view b.value ≡ body_view block.now) }
 {
-    Ok(Box::new(alloc.clone()?, copy_body(block, alloc)?)?)
-}
-
-#[cycle(copy_stmt)]
-fn copy_body<A: Allocator, B: Allocator + Clone>(
-    block: &Block<A>,
-    alloc: &B,
-) -> Result<Block<B>, AllocError>
-    ensures { IfOk result (λ b. body_view b ≡ body_view block.now) }
-{
     let statements = copy_stmts(&block.statements, alloc)?;
-    Ok(crate::block(block.from, statements))
+    boxed_block(block.from, statements, alloc)
 }
 
 #[cycle(copy_stmt)]
@@ -406,6 +490,26 @@ fn copy_stmts<A: Allocator, B: Allocator + Clone>(
         copies.push(copy_stmt(stmt, alloc)?)?;
     }
     Ok(copies)
+}
+
+fn boxed_block<B: Allocator + Clone>(
+    from: usize,
+    statements: Vec<Stmt<B>, B>,
+    alloc: &B,
+) -> Result<Box<Block<B>, B>, AllocError>
+    ensures { IfOk result (λ b. body_view b.value ≡ body from (statements_of (map statement_view statements.items))) }
+{
+    Ok(Box::new(alloc.clone()?, crate::block(from, statements))?)
+}
+
+fn copy_body<A: Allocator, B: Allocator + Clone>(
+    block: &Block<A>,
+    alloc: &B,
+) -> Result<Block<B>, AllocError>
+    ensures { IfOk result (λ b. body_view b ≡ body_view block.now) }
+{
+    let statements = copy_stmts(&block.statements, alloc)?;
+    Ok(crate::block(block.from, statements))
 }
 
 // SCRIPTS

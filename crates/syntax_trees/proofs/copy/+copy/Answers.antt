@@ -1,6 +1,8 @@
 use Rattle.std.proofs.Common.{rules, ◌≡◌, ◌≤◌, ◌++◌, ◌∷◌, [], map, ap, ap₂, sym, ◌∙◌, arith}
 use Rattle.std.proofs.lemmas.Grind.{common_steps}
+use Rattle.std.proofs.lemmas.Result.{IfOk-weaker}
 use Rattle.std.specs.List.{sum_by}
+use Rattle.syntax_trees.specs.declared.tree.ExprKind.{ExprKind}
 use Rattle.syntax_trees.specs.Tree.{call, chain, expressions_of}
 use Rattle.syntax_trees.specs.View.{word_of, expression_view, form_view}
 use Rattle.syntax_trees.specs.Numbered.{expression_size, form_size}
@@ -33,16 +35,22 @@ copy_kind-copy_exprs-requires-in-Chain g t c κs within =
     let size = ap (λ k. form_size (form_view {A = g.row.A.Denot} k)) c.in-Chain.is ∙ size-Chain g.row.A.Denot c.in-Chain.operators c.in-Chain.operands in
     search rules
 
-pub copy_kind-returns-in_ok-copy_exprs-in-Call : goal.copy_kind-returns-in_ok-copy_exprs-in-Call
-copy_kind-returns-in_ok-copy_exprs-in-Call g t c =
-    let boxed : c.in_ok-new-in-Call.field-0.value ≡ c.in_ok-copy_name-in-Call.field-0 = grind (arith, common_steps) in
-    view-Call c.in_ok-new-in-Call.field-0 c.in_ok-copy_exprs-in-Call.field-0
-    ∙ ap₂ call (ap word_of boxed ∙ c.in_ok-copy_name-in-Call.ensures ∙ ap (word_of {A = g.row.A.Denot}) c.deref-in-Call.ensures) (ap expressions_of c.in_ok-copy_exprs-in-Call.ensures)
-    ∙ sym (ap (form_view {A = g.row.A.Denot}) c.in-Call.is ∙ view-Call c.in-Call.name c.in-Call.arguments)
+pub copy_kind-returns-in_ok-arguments-in-Call : goal.copy_kind-returns-in_ok-arguments-in-Call
+copy_kind-returns-in_ok-arguments-in-Call g t c =
+    let A = g.row.A.Denot in
+    let B = g.row.B.Denot in
+    let told : ExprKind B → Type 0 = λ k. form_view k ≡ call (word_of {A = A} c.deref-in-Call.result.now) (expressions_of (map (expression_view {A = B}) c.in_ok-arguments-in-Call.arguments.items)) in
+    let wanted : ExprKind B → Type 0 = λ k. form_view k ≡ form_view {A = A} c.args.kind.now in
+    IfOk-weaker c.copy_application.result told wanted
+    (λ k is. is ∙ ap₂ call (ap (word_of {A = A}) c.deref-in-Call.ensures) (ap expressions_of c.in_ok-arguments-in-Call.ensures)
+    ∙ sym (ap (form_view {A = A}) c.in-Call.is ∙ view-Call c.in-Call.name c.in-Call.arguments)) c.copy_application.ensures
 
-pub copy_kind-returns-in_ok-copy_exprs-in-Chain : goal.copy_kind-returns-in_ok-copy_exprs-in-Chain
-copy_kind-returns-in_ok-copy_exprs-in-Chain g t c =
-    let operators : c.in_ok-from_slice-in-Chain.field-0.items ≡ c.in-Chain.operators.items = grind (arith, common_steps) in
-    view-Chain c.in_ok-from_slice-in-Chain.field-0 c.in_ok-copy_exprs-in-Chain.field-0
-    ∙ ap₂ chain operators (ap expressions_of c.in_ok-copy_exprs-in-Chain.ensures)
-    ∙ sym (ap (form_view {A = g.row.A.Denot}) c.in-Chain.is ∙ view-Chain c.in-Chain.operators c.in-Chain.operands)
+pub copy_kind-returns-in_ok-operands-in-Chain : goal.copy_kind-returns-in_ok-operands-in-Chain
+copy_kind-returns-in_ok-operands-in-Chain g t c =
+    let A = g.row.A.Denot in
+    let B = g.row.B.Denot in
+    let told : ExprKind B → Type 0 = λ k. form_view k ≡ chain c.as_slice-in-Chain.result.now (expressions_of (map (expression_view {A = B}) c.in_ok-operands-in-Chain.operands.items)) in
+    let wanted : ExprKind B → Type 0 = λ k. form_view k ≡ form_view {A = A} c.args.kind.now in
+    IfOk-weaker c.copy_chain.result told wanted
+    (λ k is. is ∙ ap₂ chain c.as_slice-in-Chain.ensures.value (ap expressions_of c.in_ok-operands-in-Chain.ensures)
+    ∙ sym (ap (form_view {A = A}) c.in-Chain.is ∙ view-Chain c.in-Chain.operators c.in-Chain.operands)) c.copy_chain.ensures

@@ -13,9 +13,6 @@ decreases-copy_command g l = 5 * command_size (command_view l.kind.now) + 4
 abbrev pub decreases-copy_block : goal.decreases-copy_block
 decreases-copy_block g l = 5 * body_size (body_view l.block.now) + 3
 
-abbrev pub decreases-copy_body : goal.decreases-copy_body
-decreases-copy_body g l = 5 * body_size (body_view l.block.now) + 2
-
 abbrev pub decreases-copy_stmts : goal.decreases-copy_stmts
 decreases-copy_stmts g l = 5 * sum_by statement_size (map statement_view l.stmts.now.items) + 1
 
