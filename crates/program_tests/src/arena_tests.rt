@@ -1,30 +1,64 @@
 //! Scripts over the machine's memory and over an arena: the same trees, refusals and listings.
+use crate::asserts::{boxed, holds, is_equal};
 use bumpalo::Bump;
 use compile::compile::listed;
-use std::alloc::Global;
+use std::alloc::{Allocator, Global};
 use std::process::Abort;
-use std::test::Fail;
 use syntax::error::ParseFault;
 use syntax::parser::parse;
 use syntax_trees::tree::Script;
 
+/// What a text is read to over an allocator, in a box. The functions that take any allocator are proved much faster than over the
+/// arena alone.
+fn read<A: Allocator + Clone>(
+    rt: &impl Abort,
+    machine: Global,
+    alloc: A,
+    text: &[u8],
+) -> Box<Result<Script<A>, ParseFault>> {
+    boxed(rt, machine, parse(alloc, text))
+}
+
 /// Whether a text has the same tree over both, or is refused alike.
-fn is_read_alike(alloc: Global, arena: &Bump, text: &[u8]) -> Result<bool, Fail> {
-    let one = parse(alloc, text);
-    match parse(arena, text) {
-        Ok(other) => is_copied(alloc, &one, &other),
-        Err(fault) => Ok(is_refused(&one, fault)),
+fn is_read_alike<A: Allocator + Clone>(
+    rt: &impl Abort,
+    alloc: Global,
+    arena: A,
+    text: &[u8],
+) -> bool {
+    let one = read(rt, alloc, alloc, text);
+    let other = read(rt, alloc, arena, text);
+    is_same(rt, alloc, &one, &other)
+}
+
+/// Whether the same tree was read over both, or the text was refused alike.
+fn is_same<A: Allocator>(
+    rt: &impl Abort,
+    alloc: Global,
+    one: &Result<Script<Global>, ParseFault>,
+    other: &Result<Script<A>, ParseFault>,
+) -> bool {
+    match other {
+        Ok(other) => is_copied(rt, alloc, one, other),
+        Err(fault) => is_refused(one, *fault),
     }
 }
 
+/// A tree over another allocator, copied to the machine's memory, in a box.
+fn copy_of<A: Allocator>(rt: &impl Abort, alloc: Global, tree: &Script<A>) -> Box<Script<Global>> {
+    let copy = tree.copy_to(alloc).expect(rt, "memory");
+    boxed(rt, alloc, copy)
+}
+
 /// Whether a text that has this tree over an arena has the same over the machine's memory.
-fn is_copied(
+fn is_copied<A: Allocator>(
+    rt: &impl Abort,
     alloc: Global,
     one: &Result<Script<Global>, ParseFault>,
-    other: &Script<&Bump>,
-) -> Result<bool, Fail> {
-    let copy = other.copy_to(alloc)?;
-    Ok(has_tree(one, &copy))
+    other: &Script<A>,
+) -> bool {
+    let copy = copy_of(rt, alloc, other);
+    has_tree(one, &copy)
 }
 
 /// Whether this tree was read.
@@ -48,24 +82,31 @@ fn is_listed_alike(alloc: Global, arena: &Bump, text: &[u8]) -> bool {
     listed(alloc, alloc, text) == listed(alloc, arena, text)
 }
 
+/// A beginning of a text is the same over both. It is shown by its length where it is not.
+fn is_alike(rt: &impl Abort, alloc: Global, arena: &Bump, part: &[u8]) {
+    let is_read = is_read_alike(rt, alloc, arena, part);
+    let is_listed = is_listed_alike(alloc, arena, part);
+    is_equal(
+        rt,
+        (part.len(), is_read, is_listed),
+        (part.len(), true, true),
+    );
+}
+
 /// Each beginning of a text is the same over both, and nothing of it is left in the arena.
-fn are_alike(rt: &impl Abort, alloc: Global, arena: &mut Bump, text: &[u8]) -> Result<(), Fail> {
+fn are_alike(rt: &impl Abort, alloc: Global, arena: &mut Bump, text: &[u8]) {
     for n in 0..text.len() + 1 {
-        let part = &text[..n];
-        assert!(rt; is_read_alike(alloc, arena, part)?, "at {n}");
-        assert!(rt; is_listed_alike(alloc, arena, part), "at {n}");
-        assert!(rt; arena.reset().is_ok());
+        is_alike(rt, alloc, arena, &text[..n]);
+        holds(rt, arena.reset().is_ok());
     }
-    Ok(())
 }
 
 #[test]
-fn an_arena_changes_nothing(rt: HostRuntime) -> Result<(), Fail> {
+fn an_arena_changes_nothing(rt: HostRuntime) {
     let mut arena = Bump::new(rt.alloc());
     for line in SCRIPTS.lines() {
-        are_alike(&rt, rt.alloc(), &mut arena, line.as_bytes())?;
+        are_alike(&rt, rt.alloc(), &mut arena, line.as_bytes());
     }
-    Ok(())
 }
 
 /// A script a line.

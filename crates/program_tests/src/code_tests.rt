@@ -1,10 +1,10 @@
 //! Scripts that are accepted, with their code, and the first refusal of those that are not.
-use crate::asserts::is_equal;
+use crate::asserts::{holds, is_equal};
+use crate::doing::code_of;
 use compile::compile::compile;
 use compile::fault::CompileFault;
-use std::alloc::Global;
+use std::alloc::{AllocError, Global};
 use std::process::Abort;
-use std::test::Fail;
 use task_code::code::{Code, Opener};
 use task_code::entry::{Act, Name, Need, Owned, Variable};
 use task_code::expr::Expr as Placed;
@@ -16,30 +16,35 @@ fn fault_of(alloc: Global, src: &[u8]) -> Option<CompileFault> {
 }
 
 /// A fault in one text, with its place.
-fn fault_text(alloc: Global, fault: CompileFault) -> Result<String, Fail> {
+fn fault_text(alloc: Global, fault: CompileFault) -> Result<String, AllocError> {
     match fault.span() {
-        Some(span) => Ok(format!(in alloc; "{fault} {} {}", span.from, span.to)?),
-        None => Ok(format!(in alloc; "{fault}")?),
+        Some(span) => format!(in alloc; "{fault} {} {}", span.from, span.to),
+        None => format!(in alloc; "{fault}"),
     }
 }
 
 /// A script's refusal in one text.
-fn refusal(alloc: Global, src: &[u8]) -> Result<String, Fail> {
+fn refusal(alloc: Global, src: &[u8]) -> Result<String, AllocError> {
     match fault_of(alloc, src) {
         Some(fault) => fault_text(alloc, fault),
-        None => Ok(String::from_str(alloc, "accepted")?),
+        None => String::from_str(alloc, "accepted"),
     }
 }
 
-/// How many entries and bodies a script's code has.
-fn counts_of(alloc: Global, src: &[u8]) -> Result<(usize, usize), Fail> {
-    let code = compile(alloc, alloc, src)?;
-    Ok((code.entry_count(), code.body_count()))
+/// The script has this refusal.
+fn is_refused(rt: &impl Abort, alloc: Global, src: &[u8], wanted: &str) {
+    let text = refusal(alloc, src).expect(rt, "memory");
+    is_equal(rt, text.as_str(), wanted);
+}
+
+/// The script's code has so many entries and bodies.
+fn has_counts(rt: &impl Abort, alloc: Global, src: &[u8], counts: (usize, usize)) {
+    let code = code_of(rt, alloc, src);
+    is_equal(rt, (code.entry_count(), code.body_count()), counts);
 }
 
 #[test]
-fn counts_entries_and_bodies(rt: HostRuntime) -> Result<(), Fail> {
-    let alloc = rt.alloc();
+fn counts_entries_and_bodies(rt: HostRuntime) {
     let rows: [(&[u8], (usize, usize)); 5] = [
         (b"int x = 5; printf(\"%i %d%%\", x, 7);", (2, 1)),
         (b"", (0, 1)),
@@ -54,29 +59,27 @@ fn counts_entries_and_bodies(rt: HostRuntime) -> Result<(), Fail> {
         ),
     ];
     for (src, counts) in rows {
-        is_equal(&rt, counts_of(alloc, src)?, counts);
+        has_counts(&rt, rt.alloc(), src, counts);
     }
-    Ok(())
 }
 
+/// What is refused: the answer, and the script.
+const REFUSED: &str = r#"L1 BadByte 0 1 | #
+P2 Unexpected 7 10 | import mpe;
+Y1 Unknown 13 14 | printf("%i", y);
+Y2 Declared 15 16 | int x = 1; int x = 2;
+Y5 BadFormat 7 11 | printf("%q");
+P2 Unexpected 18 18 | if (true) { } else
+S1 AssignedTwice 11 12 | int x = 1; x = 2;
+S3 NeverAssigned 4 5 | int x; printf("%i", x);
+S6 OutputUnassigned 5 6 | (int r) f() { }"#;
+
 #[test]
-fn refuses(rt: HostRuntime) -> Result<(), Fail> {
-    let alloc = rt.alloc();
-    let rows: [(&[u8], &str); 9] = [
-        (b"#", "L1 BadByte 0 1"),
-        (b"import mpe;", "P2 Unexpected 7 10"),
-        (b"printf(\"%i\", y);", "Y1 Unknown 13 14"),
-        (b"int x = 1; int x = 2;", "Y2 Declared 15 16"),
-        (b"printf(\"%q\");", "Y5 BadFormat 7 11"),
-        (b"if (true) { } else", "P2 Unexpected 18 18"),
-        (b"int x = 1; x = 2;", "S1 AssignedTwice 11 12"),
-        (b"int x; printf(\"%i\", x);", "S3 NeverAssigned 4 5"),
-        (b"(int r) f() { }", "S6 OutputUnassigned 5 6"),
-    ];
-    for (src, wanted) in rows {
-        is_equal(&rt, refusal(alloc, src)?.as_str(), wanted);
+fn refuses(rt: HostRuntime) {
+    for row in REFUSED.lines() {
+        let (wanted, src) = row.split_once(" | ").expect(&rt, "a row has two parts");
+        is_refused(&rt, rt.alloc(), src.as_bytes(), wanted);
     }
-    Ok(())
 }
 
 /// The scalar that the script's body makes at a place, as its entries name it.
@@ -142,23 +145,18 @@ fn prints_need_and_seven(code: &Code, number: u32) -> bool {
 
 /// The code of an assignment, and of a print behind it that has a priority.
 fn has_placed_operands(rt: &impl Abort, code: &Code) {
-    assert!(rt; is_body(code, 1, 2));
-    assert!(rt; waits_for(code, 0, 0, &[]));
-    assert!(rt; waits_for(code, 1, 11, &[0]));
+    holds(rt, is_body(code, 1, 2));
+    holds(rt, waits_for(code, 0, 0, &[]));
+    holds(rt, waits_for(code, 1, 11, &[0]));
     is_equal(rt, (code.priority(0), code.priority(1)), (0, 3));
-    assert!(rt; prints_need_and_seven(code, 1));
+    holds(rt, prints_need_and_seven(code, 1));
 }
 
 #[test]
-fn operands_are_placed(rt: HostRuntime) -> Result<(), Fail> {
-    let alloc = rt.alloc();
-    let code = compile(
-        alloc,
-        alloc,
-        b"int x = 5; @prio=3 printf(\"%i %d%%\", x, 7);",
-    )?;
+fn operands_are_placed(rt: HostRuntime) {
+    let script = b"int x = 5; @prio=3 printf(\"%i %d%%\", x, 7);";
+    let code = code_of(&rt, rt.alloc(), script);
     has_placed_operands(&rt, &code);
-    Ok(())
 }
 
 /// Whether the entry of this number writes the scalar of this place alone.
@@ -169,25 +167,28 @@ fn writes(code: &Code, number: u32, place: usize) -> bool {
     }
 }
 
+/// Whether the entry of this number writes nothing.
+fn writes_nothing(code: &Code, number: u32) -> bool {
+    match code.entry(number) {
+        Some(entry) => entry.writes.is_empty(),
+        None => false,
+    }
+}
+
 /// The code of two assignments, the first of which waits for the second, and of a print of the first.
 fn waits_before_assignments(rt: &impl Abort, code: &Code) {
-    assert!(rt; is_body(code, 2, 3));
-    assert!(rt; waits_for(code, 0, 14, &[1]));
-    assert!(rt; waits_for(code, 1, 25, &[]));
-    assert!(rt; waits_for(code, 2, 32, &[0]));
-    assert!(rt; writes(code, 0, 0));
-    assert!(rt; writes(code, 1, 1));
-    assert!(rt; code.entry(2).is_some_and(|entry| entry.writes.is_empty()));
+    holds(rt, is_body(code, 2, 3));
+    holds(rt, waits_for(code, 0, 14, &[1]));
+    holds(rt, waits_for(code, 1, 25, &[]));
+    holds(rt, waits_for(code, 2, 32, &[0]));
+    holds(rt, writes(code, 0, 0));
+    holds(rt, writes(code, 1, 1));
+    holds(rt, writes_nothing(code, 2));
 }
 
 #[test]
-fn a_scalar_is_waited_for_before_its_assignment(rt: HostRuntime) -> Result<(), Fail> {
-    let alloc = rt.alloc();
-    let code = compile(
-        alloc,
-        alloc,
-        b"int x; int y; x = y + 1; y = 2; printf(\"%i\", x);",
-    )?;
+fn a_scalar_is_waited_for_before_its_assignment(rt: HostRuntime) {
+    let script = b"int x; int y; x = y + 1; y = 2; printf(\"%i\", x);";
+    let code = code_of(&rt, rt.alloc(), script);
     waits_before_assignments(&rt, &code);
-    Ok(())
 }

@@ -1,17 +1,23 @@
-//! What several tests do: commands over files in memory, with sinks that take one byte a write, and rounds over a script.
+//! What several tests do: commands over files in memory, with sinks that take one byte a write, and the code, the runs and the
+//! rounds of a script.
+use crate::asserts::boxed;
 use bumpalo::Bump;
-use compile::compile::read;
+use compile::compile::{compile, read};
+use flow::script::Flow;
+use runs::one::run_one;
+use runs::report::Report;
 use script_meaning::knowledge::Knowledge;
 use script_rounds::rounds;
 use std::alloc::{AllocError, Global};
+use std::process::Abort;
 use std::sync::Wait;
-use std::test::Fail;
 use std::thread::Threads;
 use swt_command::command::command;
 use swt_line::fault::LineFault;
 use swt_line::line::Line;
 use swt_line::request::Request;
 use swt_line::word::Word;
+use task_code::code::Code;
 use values::sink::{Sink, SinkFault};
 use workers::job::Open;
 
@@ -68,27 +74,27 @@ pub(crate) struct Done {
 
 impl Done {
     /// All of it in one text.
-    pub(crate) fn text(&self, alloc: Global) -> Result<String, Fail> {
+    pub(crate) fn text(&self, rt: &impl Abort, alloc: Global) -> String {
         let mut text = String::new(alloc);
-        self.add_to(alloc, &mut text)?;
-        Ok(text)
-    }
-
-    /// Adds all of it to a text.
-    fn add_to(&self, alloc: Global, text: &mut String) -> Result<(), Fail> {
-        add_part(text, self.out.as_slice())?;
-        add_part(text, self.err.as_slice())?;
-        add_part(text, self.trace.as_slice())?;
-        text.push_str(format!(in alloc; "{}", self.status)?.as_str())?;
-        Ok(())
+        add_part(rt, &mut text, self.out.as_slice());
+        add_part(rt, &mut text, self.err.as_slice());
+        add_part(rt, &mut text, self.trace.as_slice());
+        add_status(rt, alloc, &mut text, self.status);
+        text
     }
 }
 
 /// Adds a part, with its end, to a text.
-fn add_part(text: &mut String, part: &[u8]) -> Result<(), Fail> {
-    text.push_str(std::str::from_utf8(part)?)?;
-    text.push_str("|")?;
-    Ok(())
+fn add_part(rt: &impl Abort, text: &mut String, part: &[u8]) {
+    let part = std::str::from_utf8(part).expect(rt, "a text");
+    text.push_str(part).expect(rt, "memory");
+    text.push_str("|").expect(rt, "memory");
+}
+
+/// Adds a status to a text.
+fn add_status(rt: &impl Abort, alloc: Global, text: &mut String, status: u8) {
+    let shown = format!(in alloc; "{status}").expect(rt, "memory");
+    text.push_str(shown.as_str()).expect(rt, "memory");
 }
 
 /// The words of a line, with a space between any two.
@@ -101,9 +107,24 @@ pub(crate) fn words_of(alloc: Global, line: &str) -> Result<Vec<Word>, AllocErro
 }
 
 /// What the words of a line ask for.
-pub(crate) fn request_of(alloc: Global, line: &str) -> Result<Request, LineFault> {
+fn request_in(alloc: Global, line: &str) -> Result<Request, LineFault> {
     let words = words_of(alloc, line)?;
     Request::read(alloc, words.as_slice())
+}
+
+/// What the words of a line ask for, or why they are no command.
+pub(crate) fn request_of(
+    rt: &impl Abort,
+    alloc: Global,
+    line: &str,
+) -> Box<Result<Request, LineFault>> {
+    boxed(rt, alloc, request_in(alloc, line))
+}
+
+/// What the words of a command ask for.
+pub(crate) fn command_of(rt: &impl Abort, alloc: Global, line: &str) -> Box<Request> {
+    let request = request_in(alloc, line).expect(rt, "a command");
+    boxed(rt, alloc, request)
 }
 
 /// A file in memory, or `None` for one that cannot be read.
@@ -124,16 +145,17 @@ fn files_of(alloc: Global, sources: &[Option<&[u8]>]) -> Result<Vec<Option<Vec<u
 }
 
 /// Does a command. `None` is a file that cannot be read; the first room is for what is printed, the second for the trace.
-pub(crate) fn perform<R: Threads + Wait + Sync>(
+pub(crate) fn perform<R: Threads + Wait + Sync + Abort>(
     rt: &R,
     alloc: Global,
     line: &str,
     sources: &[Option<&[u8]>],
     rooms: (usize, usize),
-) -> Result<Done, Fail> {
-    let files = files_of(alloc, sources)?;
-    let request = request_of(alloc, line)?;
-    Ok(done_by(rt, alloc, &request.line, files.as_slice(), rooms))
+) -> Box<Done> {
+    let files = files_of(alloc, sources).expect(rt, "memory");
+    let request = command_of(rt, alloc, line);
+    let done = done_by(rt, alloc, &request.line, files.as_slice(), rooms);
+    boxed(rt, alloc, done)
 }
 
 /// What the command of a line does with these files.
@@ -167,7 +189,7 @@ fn done_by<R: Threads + Wait + Sync>(
 }
 
 /// The lines of a text, sorted by bytes.
-fn sorted_lines(alloc: Global, text: &[u8]) -> Result<Vec<&[u8]>, Fail> {
+fn sorted_lines(alloc: Global, text: &[u8]) -> Result<Vec<&[u8]>, AllocError> {
     let mut lines = Vec::new(alloc);
     for line in text.split(|byte| *byte == b'\n') {
         lines.push(line)?;
@@ -177,14 +199,14 @@ fn sorted_lines(alloc: Global, text: &[u8]) -> Result<Vec<&[u8]>, Fail> {
 }
 
 /// Adds a line to a text.
-fn add_line(text: &mut Vec<u8>, line: &[u8]) -> Result<(), Fail> {
+fn add_line(text: &mut Vec<u8>, line: &[u8]) -> Result<(), AllocError> {
     text.extend_from_slice(line)?;
     text.push(b'\n')?;
     Ok(())
 }
 
 /// A text of these lines.
-fn text_of(alloc: Global, lines: &[&[u8]]) -> Result<Vec<u8>, Fail> {
+fn text_of(alloc: Global, lines: &[&[u8]]) -> Result<Vec<u8>, AllocError> {
     let mut text = Vec::new(alloc);
     for line in lines {
         add_line(&mut text, line)?;
@@ -193,13 +215,38 @@ fn text_of(alloc: Global, lines: &[&[u8]]) -> Result<Vec<u8>, Fail> {
 }
 
 /// A text with its lines sorted by bytes: a run on threads prints them in any order.
-pub(crate) fn sorted_text(alloc: Global, text: &[u8]) -> Result<Vec<u8>, Fail> {
+pub(crate) fn sorted_text(alloc: Global, text: &[u8]) -> Result<Vec<u8>, AllocError> {
     let lines = sorted_lines(alloc, text)?;
     text_of(alloc, lines.as_slice())
 }
 
+/// The statements of a script.
+pub(crate) fn flow_of(rt: &impl Abort, alloc: Global, script: &[u8]) -> Box<Flow<Global>> {
+    let flow = read(alloc, alloc, script).expect(rt, "a script");
+    boxed(rt, alloc, flow)
+}
+
 /// What is known of a script after so many rounds at most.
-pub(crate) fn known_of(alloc: Global, script: &[u8], most: u32) -> Result<Knowledge, Fail> {
-    let flow = read(alloc, alloc, script)?;
-    Ok(rounds(alloc, &flow, most)?)
+pub(crate) fn known_of(rt: &impl Abort, alloc: Global, script: &[u8], most: u32) -> Box<Knowledge> {
+    let flow = flow_of(rt, alloc, script);
+    let known = rounds(alloc, &flow, most).expect(rt, "memory");
+    boxed(rt, alloc, known)
+}
+
+/// The code of a script.
+pub(crate) fn code_of(rt: &impl Abort, alloc: Global, script: &[u8]) -> Box<Code> {
+    let code = compile(alloc, alloc, script).expect(rt, "a script");
+    boxed(rt, alloc, code)
+}
+
+/// The report of a run of the code by these choices, with so many events at most.
+pub(crate) fn report_of(
+    rt: &impl Abort,
+    alloc: Global,
+    code: &Code,
+    choices: &[u32],
+    limit: u32,
+) -> Box<Report> {
+    let report = run_one(alloc, code, choices, limit).expect(rt, "memory");
+    boxed(rt, alloc, report)
 }

@@ -1,35 +1,25 @@
 //! The status that a report of a run comes with, and its number.
 use crate::asserts::is_equal;
-use compile::compile::compile;
+use crate::doing::{code_of, report_of};
 use exit_status::status::{Status, status_of};
-use runs::one::run_one;
 use std::alloc::Global;
-use std::test::Fail;
+use std::process::Abort;
 
-/// The status that a run of the script comes with.
-fn status_in(alloc: Global, script: &[u8]) -> Result<Status, Fail> {
-    let code = compile(alloc, alloc, script)?;
-    Ok(status_of(&run_one(alloc, &code, &[], 100)?))
+/// A run of the script comes with this status.
+fn ends_with(rt: &impl Abort, alloc: Global, script: &[u8], status: Status) {
+    let code = code_of(rt, alloc, script);
+    let report = report_of(rt, alloc, &code, &[], 100);
+    is_equal(rt, status_of(&report), status);
 }
 
 #[test]
-fn a_report_has_its_status(rt: HostRuntime) -> Result<(), Fail> {
+fn a_report_has_its_status(rt: HostRuntime) {
     let alloc = rt.alloc();
-    is_equal(&rt, status_in(alloc, b"printf(\"a\");")?, Status::Done);
-    is_equal(
-        &rt,
-        status_in(
-            alloc,
-            b"int x = 9223372036854775807 + 1; printf(\"%i\", x);",
-        )?,
-        Status::Fault,
-    );
-    is_equal(
-        &rt,
-        status_in(alloc, b"int x; int y; x = y; y = x; printf(\"%i\", x);")?,
-        Status::Blocked,
-    );
-    Ok(())
+    ends_with(&rt, alloc, b"printf(\"a\");", Status::Done);
+    let overflow = b"int x = 9223372036854775807 + 1; printf(\"%i\", x);";
+    ends_with(&rt, alloc, overflow, Status::Fault);
+    let circle = b"int x; int y; x = y; y = x; printf(\"%i\", x);";
+    ends_with(&rt, alloc, circle, Status::Blocked);
 }
 
 #[test]

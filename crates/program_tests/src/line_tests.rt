@@ -1,9 +1,8 @@
 //! Each command on plain words, its defaults and ranges, and words that are no command.
-use crate::asserts::is_equal;
-use crate::doing::{request_of, words_of};
-use std::alloc::Global;
+use crate::asserts::{boxed, holds, is_equal};
+use crate::doing::{command_of, request_of, words_of};
+use std::alloc::{AllocError, Global};
 use std::process::Abort;
-use std::test::Fail;
 use swt_line::command::Command;
 use swt_line::complaint::{Complaint, first_wrong};
 use swt_line::fault::LineFault;
@@ -11,28 +10,34 @@ use swt_line::line::Line;
 use swt_line::request::Request;
 use swt_line::word::Word;
 
-/// The words are no request.
-fn is_usage(alloc: Global, line: &str) -> bool {
-    matches!(request_of(alloc, line), Err(LineFault::Usage))
+/// The words of a line are no request.
+fn is_usage(rt: &impl Abort, alloc: Global, line: &str) -> bool {
+    let read = request_of(rt, alloc, line);
+    matches!(&*read, Err(LineFault::Usage))
 }
 
-/// Something is wrong with the words.
-fn has_wrong(alloc: Global, line: &str) -> Result<bool, Fail> {
-    let words = words_of(alloc, line)?;
-    Ok(first_wrong(words.as_slice()).is_some())
+/// Something is wrong with the words of a line.
+fn has_wrong(rt: &impl Abort, alloc: Global, line: &str) -> bool {
+    let words = words_of(alloc, line).expect(rt, "memory");
+    first_wrong(words.as_slice()).is_some()
+}
+
+/// The line is no command, and something is wrong with its words.
+fn is_no_command(rt: &impl Abort, alloc: Global, line: &str) {
+    let is_usage = is_usage(rt, alloc, line);
+    let has_wrong = has_wrong(rt, alloc, line);
+    is_equal(rt, (line, is_usage, has_wrong), (line, true, true));
 }
 
 /// Each of these lines is no command, and something is wrong with its words.
-fn are_no_commands(rt: &impl Abort, alloc: Global, lines: &str) -> Result<(), Fail> {
+fn are_no_commands(rt: &impl Abort, alloc: Global, lines: &str) {
     for line in lines.lines() {
-        assert!(rt; is_usage(alloc, line), "{line}");
-        assert!(rt; has_wrong(alloc, line)?, "{line}");
+        is_no_command(rt, alloc, line);
     }
-    Ok(())
 }
 
 /// The names of the files of a check in one text.
-fn checked(alloc: Global, files: &[Word]) -> Result<String, Fail> {
+fn checked(alloc: Global, files: &[Word]) -> Result<String, AllocError> {
     let mut text = String::from_str(alloc, "check")?;
     for file in files {
         text.push_str(" ")?;
@@ -47,25 +52,23 @@ fn shown_run(
     file: &str,
     counts: (u8, u8, u32),
     trace: &Option<Word>,
-) -> Result<String, Fail> {
+) -> Result<String, AllocError> {
     let trace = match trace {
         Some(name) => name.as_str(),
         None => "none",
     };
     let (engines, workers, steps) = counts;
-    Ok(format!(in alloc; "run {file} {engines} {workers} {steps} {trace}")?)
+    format!(in alloc; "run {file} {engines} {workers} {steps} {trace}")
 }
 
 /// What a line asks for, in one text.
-fn shown_line(alloc: Global, line: &Line) -> Result<String, Fail> {
+fn shown_line(alloc: Global, line: &Line) -> Result<String, AllocError> {
     match line {
         Line::Check { files } => checked(alloc, files.as_slice()),
-        Line::Mean { file, rounds } => {
-            Ok(format!(in alloc; "mean {} {}", file.as_str(), rounds)?)
-        }
+        Line::Mean { file, rounds } => { format!(in alloc; "mean {} {}", file.as_str(), rounds) }
         Line::Code { file, dot } => {
             let form = if *dot { " dot" } else { "" };
-            Ok(format!(in alloc; "code {}{}", file.as_str(), form)?)
+            format!(in alloc; "code {}{}", file.as_str(), form)
         }
         Line::Run {
             file,
@@ -75,13 +78,13 @@ fn shown_line(alloc: Global, line: &Line) -> Result<String, Fail> {
             trace,
         } => shown_run(alloc, file.as_str(), (*engines, *workers, *steps), trace),
         Line::Replay { file, trace } => {
-            Ok(format!(in alloc; "replay {} {}", file.as_str(), trace.as_str())?)
+            format!(in alloc; "replay {} {}", file.as_str(), trace.as_str())
         }
     }
 }
 
 /// Adds the options that several commands have.
-fn add_options(text: &mut String, explain: bool, progress: bool) -> Result<(), Fail> {
+fn add_options(text: &mut String, explain: bool, progress: bool) -> Result<(), AllocError> {
     if explain {
         text.push_str(" explain")?;
     }
@@ -92,7 +95,7 @@ fn add_options(text: &mut String, explain: bool, progress: bool) -> Result<(), F
 }
 
 /// A request in one text.
-fn shown_request(alloc: Global, request: &Request) -> Result<String, Fail> {
+fn shown_request(alloc: Global, request: &Request) -> Result<String, AllocError> {
     let mut text = shown_line(alloc, &request.line)?;
     add_options(&mut text, request.explain, request.progress)?;
     Ok(text)
@@ -106,19 +109,19 @@ fn fault_word(fault: &LineFault) -> &'static str {
     }
 }
 
-/// A line in one text, to compare.
-fn shown(alloc: Global, line: &str) -> Result<String, Fail> {
-    match request_of(alloc, line) {
-        Ok(request) => shown_request(alloc, &request),
-        Err(fault) => Ok(String::from_str(alloc, fault_word(&fault))?),
+/// What was read of a line in one text, to compare.
+fn shown(alloc: Global, read: &Result<Request, LineFault>) -> Result<String, AllocError> {
+    match read {
+        Ok(request) => shown_request(alloc, request),
+        Err(fault) => String::from_str(alloc, fault_word(fault)),
     }
 }
 
 /// The words of a line are shown so.
-fn is_shown(rt: &impl Abort, alloc: Global, line: &str, text: &str) -> Result<(), Fail> {
-    let found = shown(alloc, line)?;
+fn is_shown(rt: &impl Abort, alloc: Global, line: &str, text: &str) {
+    let read = request_of(rt, alloc, line);
+    let found = shown(alloc, &read).expect(rt, "memory");
     is_equal(rt, found.as_str(), text);
-    Ok(())
 }
 
 /// What a row wants, and its line.
@@ -127,12 +130,11 @@ fn parts<'a>(rt: &impl Abort, row: &'a str) -> (&'a str, &'a str) {
 }
 
 /// The line of each row is shown as the row says in front of it.
-fn are_shown(rt: &impl Abort, alloc: Global, rows: &str) -> Result<(), Fail> {
+fn are_shown(rt: &impl Abort, alloc: Global, rows: &str) {
     for row in rows.lines() {
         let (text, line) = parts(rt, row);
-        is_shown(rt, alloc, line, text)?;
+        is_shown(rt, alloc, line, text);
     }
-    Ok(())
 }
 
 const COMMANDS: &str = "\
@@ -154,8 +156,8 @@ run a 1 3 10000000 none explain progress | run --progress a --explain
 replay a t explain | replay --explain a t";
 
 #[test]
-fn commands(rt: HostRuntime) -> Result<(), Fail> {
-    are_shown(&rt, rt.alloc(), COMMANDS)
+fn commands(rt: HostRuntime) {
+    are_shown(&rt, rt.alloc(), COMMANDS);
 }
 
 // The first is a word without bytes.
@@ -198,16 +200,16 @@ replay a
 replay a t u";
 
 #[test]
-fn no_commands(rt: HostRuntime) -> Result<(), Fail> {
-    are_no_commands(&rt, rt.alloc(), NO_COMMANDS)
+fn no_commands(rt: HostRuntime) {
+    are_no_commands(&rt, rt.alloc(), NO_COMMANDS);
 }
 
 #[test]
-fn no_words(rt: HostRuntime) -> Result<(), Fail> {
-    let read = Request::read(rt.alloc(), &[]);
-    assert!(rt; matches!(read, Err(LineFault::Usage)));
+fn no_words(rt: HostRuntime) {
+    let read = boxed(&rt, rt.alloc(), Request::read(rt.alloc(), &[]));
+    holds(&rt, matches!(&*read, Err(LineFault::Usage)));
     let wrong = first_wrong(&[]).expect(&rt, "something is wrong");
-    has_text(&rt, rt.alloc(), wrong, "swt: no command is given")
+    has_text(&rt, rt.alloc(), wrong, "swt: no command is given");
 }
 
 /// Words that a reader of command lines often takes in other ways.
@@ -228,8 +230,8 @@ run a --trace t --trace t
 help run";
 
 #[test]
-fn other_forms(rt: HostRuntime) -> Result<(), Fail> {
-    are_no_commands(&rt, rt.alloc(), OTHER_FORMS)
+fn other_forms(rt: HostRuntime) {
+    are_no_commands(&rt, rt.alloc(), OTHER_FORMS);
 }
 
 /// Words that look like others, and are names and numbers. In the first row one has no bytes.
@@ -240,8 +242,8 @@ mean ./-a 7 | mean --rounds 007 ./-a
 run a 1 3 4294967295 none | run a --steps 4294967295";
 
 #[test]
-fn other_names(rt: HostRuntime) -> Result<(), Fail> {
-    are_shown(&rt, rt.alloc(), OTHER_NAMES)
+fn other_names(rt: HostRuntime) {
+    are_shown(&rt, rt.alloc(), OTHER_NAMES);
 }
 
 /// Numbers of steps that are none. The last has no bytes.
@@ -252,12 +254,12 @@ run a --steps ten
 run a --steps ";
 
 #[test]
-fn steps_range(rt: HostRuntime) -> Result<(), Fail> {
-    are_no_commands(&rt, rt.alloc(), NO_STEPS)
+fn steps_range(rt: HostRuntime) {
+    are_no_commands(&rt, rt.alloc(), NO_STEPS);
 }
 
-/// The names of files in one text.
-fn names_of(alloc: Global, files: &[Word]) -> Result<String, Fail> {
+/// The names of files in one text, with a space behind each.
+fn names_of(alloc: Global, files: &[Word]) -> Result<String, AllocError> {
     let mut text = String::new(alloc);
     for file in files {
         text.push_str(file.as_str())?;
@@ -266,12 +268,17 @@ fn names_of(alloc: Global, files: &[Word]) -> Result<String, Fail> {
     Ok(text)
 }
 
-/// The files that a request needs have these names, with a space behind each.
-fn needs_files(rt: &impl Abort, alloc: Global, request: &Request, names: &str) -> Result<(), Fail> {
-    let files = request.line.files(alloc)?;
-    let found = names_of(alloc, files.as_slice())?;
+/// The files that a line needs have these names.
+fn needs_files(rt: &impl Abort, alloc: Global, line: &Line, names: &str) {
+    let files = line.files(alloc).expect(rt, "memory");
+    let found = names_of(alloc, files.as_slice()).expect(rt, "memory");
     is_equal(rt, found.as_str(), names);
-    Ok(())
+}
+
+/// The files that a command needs have these names.
+fn are_needed(rt: &impl Abort, alloc: Global, line: &str, names: &str) {
+    let request = command_of(rt, alloc, line);
+    needs_files(rt, alloc, &request.line, names);
 }
 
 // The names, with a space behind each, and the line that needs them.
@@ -283,38 +290,38 @@ a  | run a --trace t
 a t  | replay a t";
 
 #[test]
-fn files_to_be_read(rt: HostRuntime) -> Result<(), Fail> {
-    let alloc = rt.alloc();
+fn files_to_be_read(rt: HostRuntime) {
     for row in NEEDED.lines() {
         let (names, line) = parts(&rt, row);
-        let request = request_of(alloc, line)?;
-        needs_files(&rt, alloc, &request, names)?;
+        are_needed(&rt, rt.alloc(), line, names);
     }
-    Ok(())
+}
+
+/// A word is equal to its copy.
+fn is_copied(rt: &impl Abort, alloc: Global, text: &str) {
+    let word = Word::new(String::from_str(alloc, text).expect(rt, "memory"));
+    let copy = word.copy(alloc).expect(rt, "memory");
+    is_equal(rt, copy.as_str(), text);
 }
 
 #[test]
-fn single_words(rt: HostRuntime) -> Result<(), Fail> {
-    let alloc = rt.alloc();
+fn single_words(rt: HostRuntime) {
     is_equal(&rt, Command::of("replay"), Some(Command::Replay));
     is_equal(&rt, Command::of("replays"), None);
-    let word = Word::new(String::from_str(alloc, "-x")?);
-    is_equal(&rt, word.copy(alloc)?.as_str(), "-x");
-    Ok(())
+    is_copied(&rt, rt.alloc(), "-x");
 }
 
 /// The complaint has this text.
-fn has_text(rt: &impl Abort, alloc: Global, wrong: Complaint<'_>, text: &str) -> Result<(), Fail> {
-    let found = format!(in alloc; "{wrong}")?;
+fn has_text(rt: &impl Abort, alloc: Global, wrong: Complaint<'_>, text: &str) {
+    let found = format!(in alloc; "{wrong}").expect(rt, "memory");
     is_equal(rt, found.as_str(), text);
-    Ok(())
 }
 
 /// What is wrong with the words has this text.
-fn is_complained(rt: &impl Abort, alloc: Global, line: &str, text: &str) -> Result<(), Fail> {
-    let words = words_of(alloc, line)?;
+fn is_complained(rt: &impl Abort, alloc: Global, line: &str, text: &str) {
+    let words = words_of(alloc, line).expect(rt, "memory");
     let wrong = first_wrong(words.as_slice()).expect(rt, "something is wrong");
-    has_text(rt, alloc, wrong, text)
+    has_text(rt, alloc, wrong, text);
 }
 
 const COMPLAINTS: &str = "\
@@ -330,30 +337,28 @@ swt: check wants one file or more | check
 swt: replay wants a file and its trace | replay a";
 
 #[test]
-fn complaints(rt: HostRuntime) -> Result<(), Fail> {
-    let alloc = rt.alloc();
+fn complaints(rt: HostRuntime) {
     for row in COMPLAINTS.lines() {
         let (text, line) = parts(&rt, row);
-        is_complained(&rt, alloc, line, text)?;
+        is_complained(&rt, rt.alloc(), line, text);
     }
-    assert!(rt; !has_wrong(alloc, "run a --trace t")?);
-    Ok(())
+    is_equal(&rt, has_wrong(&rt, rt.alloc(), "run a --trace t"), false);
+}
+
+/// A fault in one text.
+fn fault_text(rt: &impl Abort, alloc: Global, fault: LineFault) -> String {
+    format!(in alloc; "{fault}").expect(rt, "memory")
 }
 
 #[test]
-fn usage_has_a_text(rt: HostRuntime) -> Result<(), Fail> {
-    let usage = format!(in rt.alloc(); "{}", LineFault::Usage)?;
-    assert!(rt;
-        usage
-            .as_str()
-            .starts_with("usage: swt check FILE.. [--explain]\n")
-    );
-    Ok(())
+fn usage_has_a_text(rt: HostRuntime) {
+    let usage = fault_text(&rt, rt.alloc(), LineFault::Usage);
+    let first = "usage: swt check FILE.. [--explain]\n";
+    holds(&rt, usage.as_str().starts_with(first));
 }
 
 #[test]
-fn lack_of_memory_has_a_text(rt: HostRuntime) -> Result<(), Fail> {
-    let text = format!(in rt.alloc(); "{}", LineFault::Memory)?;
+fn lack_of_memory_has_a_text(rt: HostRuntime) {
+    let text = fault_text(&rt, rt.alloc(), LineFault::Memory);
     is_equal(&rt, text.as_str(), "no memory");
-    Ok(())
 }

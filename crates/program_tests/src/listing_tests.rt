@@ -3,7 +3,6 @@ use crate::asserts::is_equal;
 use compile::compile::{drawn, listed};
 use std::alloc::Global;
 use std::process::Abort;
-use std::test::Fail;
 
 const NOTHING: (&[u8], &str) = (b"", "body 0 script\n");
 
@@ -63,33 +62,24 @@ const LOOPS: (&[u8], &str) = (
 );
 
 /// The script has this listing.
-fn is_listed(rt: &impl Abort, alloc: Global, script: &[u8], wanted: &str) -> Result<(), Fail> {
-    let text = listed(alloc, alloc, script)?;
+fn is_listed(rt: &impl Abort, alloc: Global, script: &[u8], wanted: &str) {
+    let text = listed(alloc, alloc, script).expect(rt, "a script");
     is_equal(rt, text.as_slice(), wanted.as_bytes());
-    Ok(())
+}
+
+/// Each of these scripts has its listing.
+fn are_listed(rt: &impl Abort, alloc: Global, rows: &[(&[u8], &str)]) {
+    for (script, wanted) in rows {
+        is_listed(rt, alloc, script, wanted);
+    }
 }
 
 #[test]
-fn lists_code(rt: HostRuntime) -> Result<(), Fail> {
-    let alloc = rt.alloc();
-    let rows = [
-        NOTHING,
-        SCALARS,
-        FIBONACCI,
-        MERGED_WAITS,
-        FOLDED,
-        ASSERTS,
-        RANGES,
-        FILLS,
-        READS,
-        ELSE_IF,
-        COPIES,
-        LOOPS,
-    ];
-    for (script, wanted) in rows {
-        is_listed(&rt, alloc, script, wanted)?;
-    }
-    Ok(())
+fn lists_code(rt: HostRuntime) {
+    are_listed(&rt, rt.alloc(), &[NOTHING, SCALARS, FIBONACCI]);
+    are_listed(&rt, rt.alloc(), &[MERGED_WAITS, FOLDED, ASSERTS]);
+    are_listed(&rt, rt.alloc(), &[RANGES, FILLS, READS]);
+    are_listed(&rt, rt.alloc(), &[ELSE_IF, COPIES, LOOPS]);
 }
 
 const DRAWING: &str = "digraph code {
@@ -113,9 +103,8 @@ const DRAWING: &str = "digraph code {
 ";
 
 #[test]
-fn draws_code(rt: HostRuntime) -> Result<(), Fail> {
-    let alloc = rt.alloc();
-    let text = drawn(alloc, alloc, b"boolean x=true;if (x) { printf(\"x\"); }")?;
+fn draws_code(rt: HostRuntime) {
+    let script = b"boolean x=true;if (x) { printf(\"x\"); }";
+    let text = drawn(rt.alloc(), rt.alloc(), script).expect(&rt, "a script");
     is_equal(&rt, text.as_slice(), DRAWING.as_bytes());
-    Ok(())
 }

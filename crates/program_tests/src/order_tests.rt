@@ -1,18 +1,15 @@
 //! Every order in which small scripts can run, each compared with what the script means, worked out by rounds, and with what is
 //! written here.
-use crate::asserts::is_equal;
-use crate::doing::known_of;
+use crate::asserts::{boxed, holds, is_equal};
+use crate::doing::{code_of, known_of, report_of};
 use board::board::Board;
 use board::{Fault, Statement, Step};
-use compile::compile::compile;
-use runs::one::run_one;
 use runs::report::{End, Report};
 use runs::turn::finish;
 use script_meaning::knowledge::Knowledge;
 use script_meaning::order::Statement as MeantStatement;
-use std::alloc::Global;
+use std::alloc::{AllocError, Global};
 use std::process::Abort;
-use std::test::Fail;
 use swt_command::buffer::Buffer;
 use swt_trace::report::write_report;
 use swt_trace::write::write_trace;
@@ -21,7 +18,7 @@ use values::text::Text;
 use whole_facts::instances::Step as MeantStep;
 
 /// The printed lines of a report, sorted by bytes.
-fn sorted_lines<'a>(alloc: Global, report: &'a Report) -> Result<Vec<&'a [u8]>, Fail> {
+fn sorted_lines<'a>(alloc: Global, report: &'a Report) -> Result<Vec<&'a [u8]>, AllocError> {
     let mut printed: Vec<&'a [u8]> = Vec::new(alloc);
     for line in &report.lines {
         printed.push(line.as_bytes())?;
@@ -40,10 +37,10 @@ struct Worked {
 }
 
 /// All that the report says.
-fn told(alloc: Global, report: &Report) -> Result<Buffer, Fail> {
+fn told(rt: &impl Abort, alloc: Global, report: &Report) -> Box<Buffer> {
     let mut out = Buffer::new(alloc);
-    write_report(report, &mut out)?;
-    Ok(out)
+    write_report(report, &mut out).expect(rt, "memory");
+    boxed(rt, alloc, out)
 }
 
 /// Where the text of these lines ends.
@@ -58,30 +55,30 @@ fn end_of_lines(lines: &[Text]) -> usize {
 }
 
 /// What the report says behind its lines is one of these.
-fn has_end(alloc: Global, report: &Report, ends: &[&[u8]]) -> Result<bool, Fail> {
-    let out = told(alloc, report)?;
+fn has_end(rt: &impl Abort, alloc: Global, report: &Report, ends: &[&[u8]]) -> bool {
+    let out = told(rt, alloc, report);
     let end = out
         .bytes()
         .get(end_of_lines(report.lines.as_slice())..)
         .unwrap_or(b"");
-    Ok(ends.contains(&end))
+    ends.contains(&end)
 }
 
-/// The report has the lines that were worked out for the script, or some of them where it has faults.
-fn has_lines(alloc: Global, report: &Report, worked: &Worked) -> Result<bool, Fail> {
-    let printed = sorted_lines(alloc, report)?;
-    Ok(match &report.end {
-        End::Quiet => !worked.has_faults && printed.as_slice() == worked.lines,
-        End::Fault(_) => worked.has_faults
-            && printed.iter().all(|line| worked.lines.contains(line)),
+/// The lines are those that were worked out for the script, or some of them where the report has a fault.
+fn are_worked(end: &End, printed: &[&[u8]], worked: &Worked) -> bool {
+    match end {
+        End::Quiet => !worked.has_faults && printed == worked.lines,
+        End::Fault(_) => {
+            worked.has_faults && printed.iter().all(|line| worked.lines.contains(line))
+        }
         End::Limit => false,
-    })
+    }
 }
 
 /// The report has what was worked out for the script.
-fn is_worked(alloc: Global, report: &Report, worked: &Worked) -> Result<bool, Fail> {
-    let has_end = has_end(alloc, report, worked.ends)?;
-    Ok(has_lines(alloc, report, worked)? && has_end)
+fn is_worked(rt: &impl Abort, alloc: Global, report: &Report, worked: &Worked) -> bool {
+    let printed = sorted_lines(alloc, report).expect(rt, "memory");
+    are_worked(&report.end, printed.as_slice(), worked) && has_end(rt, alloc, report, worked.ends)
 }
 
 /// These are the same step.
@@ -109,68 +106,80 @@ fn same_lines(printed: &Vec<&[u8]>, lines: &Vec<Text>) -> bool {
             .all(|(a, b)| *a == b.as_bytes())
 }
 
+/// The known lines, sorted by bytes.
+fn lines_of(rt: &impl Abort, known: &Knowledge) -> Vec<Text> {
+    known.lines_sorted().expect(rt, "memory")
+}
+
 /// The report has all known lines, and no other.
-fn has_known_lines(alloc: Global, report: &Report, known: &Knowledge) -> Result<bool, Fail> {
-    let printed = sorted_lines(alloc, report)?;
-    let lines = known.lines_sorted()?;
-    Ok(same_lines(&printed, &lines))
+fn has_known_lines(rt: &impl Abort, alloc: Global, report: &Report, known: &Knowledge) -> bool {
+    let printed = sorted_lines(alloc, report).expect(rt, "memory");
+    same_lines(&printed, &lines_of(rt, known))
+}
+
+/// Each of these is a known line.
+fn are_some(printed: &Vec<&[u8]>, lines: &Vec<Text>) -> bool {
+    printed
+        .iter()
+        .all(|line| lines.iter().any(|l| l.as_bytes() == *line))
 }
 
 /// The report has no line but known ones.
-fn has_some_known_lines(alloc: Global, report: &Report, known: &Knowledge) -> Result<bool, Fail> {
-    let printed = sorted_lines(alloc, report)?;
-    let lines = known.lines_sorted()?;
-    Ok(
-        printed
+fn has_some_known_lines(
+    rt: &impl Abort,
+    alloc: Global,
+    report: &Report,
+    known: &Knowledge,
+) -> bool {
+    let printed = sorted_lines(alloc, report).expect(rt, "memory");
+    are_some(&printed, &lines_of(rt, known))
+}
+
+/// These are the same statements, and as many.
+fn same_statements(meant: &Vec<MeantStatement>, blocked: &[Statement]) -> bool {
+    meant.len() == blocked.len()
+        && meant
             .iter()
-            .all(|line| lines.iter().any(|l| l.as_bytes() == *line)),
-    )
+            .zip(blocked.iter())
+            .all(|(a, b)| is_statement(a, b))
 }
 
 /// These are all known blocked statements, and no other.
-fn are_known_blocked(blocked: &[Statement], known: &Knowledge) -> Result<bool, Fail> {
-    let meant = known.blocked()?;
-    Ok(
-        meant.len() == blocked.len()
-            && meant
-                .iter()
-                .zip(blocked.iter())
-                .all(|(a, b)| is_statement(a, b)),
-    )
+fn are_known_blocked(rt: &impl Abort, blocked: &[Statement], known: &Knowledge) -> bool {
+    let meant = known.blocked().expect(rt, "memory");
+    same_statements(&meant, blocked)
 }
 
 /// No fault is known.
-fn knows_no_fault(known: &Knowledge) -> Result<bool, Fail> {
-    Ok(known.faults()?.is_empty())
+fn knows_no_fault(rt: &impl Abort, known: &Knowledge) -> bool {
+    known.faults().expect(rt, "memory").is_empty()
 }
 
 /// The fault is a known one.
-fn is_known_fault(fault: &Fault, known: &Knowledge) -> Result<bool, Fail> {
-    let faults = known.faults()?;
-    Ok(
-        faults
-            .iter()
-            .any(|f| is_statement(&f.statement, &fault.statement)),
-    )
+fn is_known_fault(rt: &impl Abort, fault: &Fault, known: &Knowledge) -> bool {
+    let faults = known.faults().expect(rt, "memory");
+    faults
+        .iter()
+        .any(|f| is_statement(&f.statement, &fault.statement))
 }
 
 /// The quiet report has all that is known of the script.
-fn is_known_quiet(alloc: Global, report: &Report, known: &Knowledge) -> Result<bool, Fail> {
-    let has_lines = has_known_lines(alloc, report, known)?;
-    let has_blocked = are_known_blocked(report.blocked.as_slice(), known)?;
-    Ok(knows_no_fault(known)? && has_lines && has_blocked)
+fn is_known_quiet(rt: &impl Abort, alloc: Global, report: &Report, known: &Knowledge) -> bool {
+    knows_no_fault(rt, known)
+        && has_known_lines(rt, alloc, report, known)
+        && are_known_blocked(rt, report.blocked.as_slice(), known)
 }
 
 /// The report has what is known of the script: all of it where it is quiet; one of the faults, and some of the lines, where it
 /// ends with a fault. A script that writes a key twice may print before what it does not mean.
-fn is_known(alloc: Global, report: &Report, known: &Knowledge) -> Result<bool, Fail> {
+fn is_known(rt: &impl Abort, alloc: Global, report: &Report, known: &Knowledge) -> bool {
     match &report.end {
-        End::Quiet => is_known_quiet(alloc, report, known),
+        End::Quiet => is_known_quiet(rt, alloc, report, known),
         End::Fault(fault) => {
-            let has_lines = has_some_known_lines(alloc, report, known)?;
-            Ok(is_known_fault(fault, known)? && (!known.is_clean() || has_lines))
+            is_known_fault(rt, fault, known)
+                && (!known.is_clean() || has_some_known_lines(rt, alloc, report, known))
         }
-        End::Limit => Ok(false),
+        End::Limit => false,
     }
 }
 
@@ -183,11 +192,11 @@ struct Meant<'a> {
 
 impl Meant<'_> {
     /// A run of the script may have this report.
-    fn allows(&self, alloc: Global, report: &Report) -> Result<bool, Fail> {
-        let is_known = is_known(alloc, report, self.known)?;
+    fn allows(&self, rt: &impl Abort, alloc: Global, report: &Report) -> bool {
+        let is_known = is_known(rt, alloc, report, self.known);
         match self.written {
-            Some(worked) => Ok(is_known && is_worked(alloc, report, worked)?),
-            None => Ok(is_known),
+            Some(worked) => is_known && is_worked(rt, alloc, report, worked),
+            None => is_known,
         }
     }
 }
@@ -200,63 +209,79 @@ fn choice_at(choices: &[u32], turn: usize) -> u32 {
     }
 }
 
+/// The items that can begin, none where the board has ended.
+fn ready_on(rt: &impl Abort, board: &Board) -> Vec<u64> {
+    let ready = board.ready_items().expect(rt, "memory");
+    if board.is_going() {
+        ready
+    } else {
+        Vec::new(*ready.allocator())
+    }
+}
+
 /// The item that is chosen at a turn; how many could begin is added. None where none can, or the board has ended.
 fn chosen_item(
+    rt: &impl Abort,
     board: &Board,
     choices: &[u32],
     turn: usize,
     widths: &mut Vec<usize>,
-) -> Result<Option<u64>, Fail> {
-    let ready = board.ready_items()?;
-    if ready.is_empty() || !board.is_going() {
-        return Ok(None);
+) -> Option<u64> {
+    let ready = ready_on(rt, board);
+    if ready.is_empty() {
+        return None;
     }
-    widths.push(ready.len())?;
+    widths.push(ready.len()).expect(rt, "memory");
     let place = choice_at(choices, turn) as usize % ready.len();
-    Ok(Some(ready[place]))
+    Some(ready[place])
+}
+
+/// Runs an item. False where it cannot begin.
+fn run_item(rt: &impl Abort, board: &mut Board, item: u64) -> bool {
+    match board.begin(0, item) {
+        Ok(work) => {
+            finish(board, 0, work).expect(rt, "memory");
+            true
+        }
+        Err(_) => false,
+    }
 }
 
 /// Runs the item that is chosen at a turn, and adds how many could begin. False where none can, or the board has ended.
 fn take_turn(
+    rt: &impl Abort,
     board: &mut Board,
     choices: &[u32],
     turn: usize,
     widths: &mut Vec<usize>,
-) -> Result<bool, Fail> {
-    let Some(item) = chosen_item(board, choices, turn, widths)? else {
-        return Ok(false);
-    };
-    let Ok(work) = board.begin(0, item) else {
-        return Ok(false);
-    };
-    finish(board, 0, work)?;
-    Ok(true)
+) -> bool {
+    match chosen_item(rt, board, choices, turn, widths) {
+        Some(item) => run_item(rt, board, item),
+        None => false,
+    }
 }
 
 /// A board of the code.
-fn board_of(alloc: Global, code: &Code) -> Result<Board, Fail> {
-    Ok(Board::new(alloc, code.copy()?, 1000)?)
-}
-
-/// How many items can begin at each turn on the board, by these choices and then by 0.
-fn widths_on(board: &mut Board, alloc: Global, choices: &[u32]) -> Result<Vec<usize>, Fail> {
-    let mut widths = Vec::new(alloc);
-    for turn in 0..1000usize {
-        if !take_turn(board, choices, turn, &mut widths)? {
-            break;
-        }
-    }
-    Ok(widths)
+fn board_of(rt: &impl Abort, alloc: Global, code: &Code) -> Box<Board> {
+    let code = code.copy().expect(rt, "memory");
+    let board = Board::new(alloc, code, 1000).expect(rt, "memory");
+    boxed(rt, alloc, board)
 }
 
 /// How many items can begin at each turn, by these choices and then by 0.
-fn widths(alloc: Global, code: &Code, choices: &[u32]) -> Result<Vec<usize>, Fail> {
-    let mut board = board_of(alloc, code)?;
-    widths_on(&mut board, alloc, choices)
+fn widths(rt: &impl Abort, alloc: Global, code: &Code, choices: &[u32]) -> Vec<usize> {
+    let mut board = board_of(rt, alloc, code);
+    let mut widths = Vec::new(alloc);
+    for turn in 0..1000usize {
+        if !take_turn(rt, &mut board, choices, turn, &mut widths) {
+            break;
+        }
+    }
+    widths
 }
 
 /// The first of the choices, up to this place, where the one is greater by one.
-fn raised(alloc: Global, choices: &[u32], place: usize) -> Result<Vec<u32>, Fail> {
+fn raised(alloc: Global, choices: &[u32], place: usize) -> Result<Vec<u32>, AllocError> {
     let mut next = Vec::new(alloc);
     for turn in 0..place {
         next.push(choice_at(choices, turn))?;
@@ -265,71 +290,79 @@ fn raised(alloc: Global, choices: &[u32], place: usize) -> Result<Vec<u32>, Fail
     Ok(next)
 }
 
-/// The choices behind these, where so many items can begin at each turn: the last that can be greater is greater by one.
-fn next_choices(
-    alloc: Global,
-    choices: &[u32],
-    widths: &[usize],
-) -> Result<Option<Vec<u32>>, Fail> {
+/// The last place where the choice can be greater, where so many items can begin at each turn.
+fn last_to_raise(choices: &[u32], widths: &[usize]) -> Option<usize> {
     for back in 0..widths.len() {
         let place = widths.len() - 1 - back;
         let here = choice_at(choices, place);
         if (here as usize) < widths[place].saturating_sub(1) {
-            return Ok(Some(raised(alloc, choices, place)?));
+            return Some(place);
         }
     }
-    Ok(None)
+    None
 }
 
 /// Whether a run by these choices comes to what the script means.
-fn comes_to(alloc: Global, code: &Code, choices: &[u32], meant: &Meant) -> Result<bool, Fail> {
-    let report = run_one(alloc, code, choices, 1000)?;
-    meant.allows(alloc, &report)
+fn comes_to(rt: &impl Abort, alloc: Global, code: &Code, choices: &[u32], meant: &Meant) -> bool {
+    let report = report_of(rt, alloc, code, choices, 1000);
+    meant.allows(rt, alloc, &report)
 }
 
-/// The choices behind these.
-fn choices_behind(alloc: Global, code: &Code, choices: &[u32]) -> Result<Option<Vec<u32>>, Fail> {
-    let widths = widths(alloc, code, choices)?;
-    next_choices(alloc, choices, widths.as_slice())
+/// The choices behind these: the last that can be greater is greater by one.
+fn choices_behind(
+    rt: &impl Abort,
+    alloc: Global,
+    code: &Code,
+    choices: &[u32],
+) -> Option<Vec<u32>> {
+    let widths = widths(rt, alloc, code, choices);
+    match last_to_raise(choices, widths.as_slice()) {
+        Some(place) => Some(raised(alloc, choices, place).expect(rt, "memory")),
+        None => None,
+    }
 }
 
 /// In how many orders one thread can run a script, where each comes to what the script means. None where one does not, or
 /// where there are so many or more.
-fn orders(alloc: Global, code: &Code, most: u32, meant: &Meant) -> Result<Option<u32>, Fail> {
+fn orders(rt: &impl Abort, alloc: Global, code: &Code, most: u32, meant: &Meant) -> Option<u32> {
     let mut choices = Vec::new(alloc);
     for count in 1..most {
-        if !comes_to(alloc, code, choices.as_slice(), meant)? {
-            return Ok(None);
+        if !comes_to(rt, alloc, code, choices.as_slice(), meant) {
+            return None;
         }
-        match choices_behind(alloc, code, choices.as_slice())? {
+        match choices_behind(rt, alloc, code, choices.as_slice()) {
             Some(next) => choices = next,
-            None => return Ok(Some(count)),
+            None => return Some(count),
         }
     }
-    Ok(None)
+    None
 }
 
 /// In how many orders one thread can run the script, where each comes to what is known and what is written.
-fn orders_of(alloc: Global, script: &[u8], most: u32, meant: &Meant) -> Result<Option<u32>, Fail> {
-    let code = compile(alloc, alloc, script)?;
-    orders(alloc, &code, most, meant)
+fn orders_of(
+    rt: &impl Abort,
+    alloc: Global,
+    script: &[u8],
+    most: u32,
+    meant: &Meant,
+) -> Option<u32> {
+    let code = code_of(rt, alloc, script);
+    orders(rt, alloc, &code, most, meant)
 }
 
 /// The script can be run in so many orders, and each comes to what it means.
-fn has_orders(rt: &impl Abort, alloc: Global, script: &[u8], wanted: u32) -> Result<(), Fail> {
-    let known = known_of(alloc, script, 100)?;
-    assert!(rt; known.finished());
+fn has_orders(rt: &impl Abort, alloc: Global, script: &[u8], wanted: u32) {
+    let known = known_of(rt, alloc, script, 100);
+    holds(rt, known.finished());
     let meant = Meant {
         known: &known,
         written: None,
     };
-    is_equal(rt, orders_of(alloc, script, 1000, &meant)?, Some(wanted));
-    Ok(())
+    is_equal(rt, orders_of(rt, alloc, script, 1000, &meant), Some(wanted));
 }
 
 #[test]
-fn every_order_of_scalars(rt: HostRuntime) -> Result<(), Fail> {
-    let alloc = rt.alloc();
+fn every_order_of_scalars(rt: HostRuntime) {
     let scripts: [(&[u8], u32); 5] = [
         (
             b"printf(\"a\"); printf(\"b\"); printf(\"c\"); printf(\"d\");",
@@ -353,24 +386,23 @@ fn every_order_of_scalars(rt: HostRuntime) -> Result<(), Fail> {
         ),
     ];
     for (script, wanted) in scripts {
-        has_orders(&rt, alloc, script, wanted)?;
+        has_orders(&rt, rt.alloc(), script, wanted);
     }
-    Ok(())
 }
 
-/// Whether every order of the script comes to this and to what it means, and there is more than one order.
-fn always(alloc: Global, script: &[u8], worked: &Worked) -> Result<bool, Fail> {
-    let known = known_of(alloc, script, 100)?;
+/// Every order of the script comes to this and to what it means, and there is more than one order.
+fn always(rt: &impl Abort, alloc: Global, script: &[u8], worked: &Worked) {
+    let known = known_of(rt, alloc, script, 100);
     let meant = Meant {
         known: &known,
         written: Some(worked),
     };
-    let count = orders_of(alloc, script, 20000, &meant)?;
-    Ok(count.is_some_and(|n| n > 1))
+    let count = orders_of(rt, alloc, script, 20000, &meant);
+    holds(rt, count.expect(rt, "each order comes to this") > 1);
 }
 
 #[test]
-fn every_order_of_branches(rt: HostRuntime) -> Result<(), Fail> {
+fn every_order_of_branches(rt: HostRuntime) {
     let quiet = Worked {
         lines: &[b"e", b"s"],
         ends: &[b""],
@@ -378,7 +410,7 @@ fn every_order_of_branches(rt: HostRuntime) -> Result<(), Fail> {
     };
     let script =
         b"boolean b; if (b) { printf(\"t\"); } else { printf(\"e\"); } b = 2 < 1; printf(\"s\");";
-    assert!(rt; always(rt.alloc(), script, &quiet)?);
+    always(&rt, rt.alloc(), script, &quiet);
     let blocked = Worked {
         lines: &[b"in"],
         ends: &[b"swt: blocked 14 /\nswt: blocked 21 /\nswt: blocked 40 /28.0\n"],
@@ -386,19 +418,18 @@ fn every_order_of_branches(rt: HostRuntime) -> Result<(), Fail> {
     };
     let script =
         b"int y; int z; y = z; z = y; if (true) { printf(\"%i\", y); printf(\"in\"); } int a = 1;";
-    assert!(rt; always(rt.alloc(), script, &blocked)?);
-    Ok(())
+    always(&rt, rt.alloc(), script, &blocked);
 }
 
 #[test]
-fn every_order_of_waits_and_calls(rt: HostRuntime) -> Result<(), Fail> {
+fn every_order_of_waits_and_calls(rt: HostRuntime) {
     let waits = Worked {
         lines: &[b"p", b"w1"],
         ends: &[b""],
         has_faults: false,
     };
     let script = b"int x; int y; wait (x, y) { printf(\"w%i\", x); } x = 1; y = 2; printf(\"p\");";
-    assert!(rt; always(rt.alloc(), script, &waits)?);
+    always(&rt, rt.alloc(), script, &waits);
     let calls = Worked {
         lines: &[b"3", b"f"],
         ends: &[b""],
@@ -406,12 +437,11 @@ fn every_order_of_waits_and_calls(rt: HostRuntime) -> Result<(), Fail> {
     };
     let script =
         b"(int r) f(int n) { printf(\"f\"); r = n + 1; } int y; int x = f(y); y = 2; printf(\"%i\", x);";
-    assert!(rt; always(rt.alloc(), script, &calls)?);
-    Ok(())
+    always(&rt, rt.alloc(), script, &calls);
 }
 
 #[test]
-fn every_order_of_arrays(rt: HostRuntime) -> Result<(), Fail> {
+fn every_order_of_arrays(rt: HostRuntime) {
     let sizes = Worked {
         lines: &[b"0 1", b"1 2", b"2"],
         ends: &[b""],
@@ -419,7 +449,7 @@ fn every_order_of_arrays(rt: HostRuntime) -> Result<(), Fail> {
     };
     let script =
         b"int A[]; foreach i in [0:1] { A[i] = i + 1; } printf(\"%i\", size(A)); foreach v, k in A { printf(\"%i %i\", k, v); }";
-    assert!(rt; always(rt.alloc(), script, &sizes)?);
+    always(&rt, rt.alloc(), script, &sizes);
     let closes = Worked {
         lines: &[b"1", b"7"],
         ends: &[b""],
@@ -427,19 +457,18 @@ fn every_order_of_arrays(rt: HostRuntime) -> Result<(), Fail> {
     };
     let script =
         b"int A[]; int n; if (n == 2) { A[n] = 7; } n = 2; printf(\"%i\", A[2]); printf(\"%i\", size(A));";
-    assert!(rt; always(rt.alloc(), script, &closes)?);
-    Ok(())
+    always(&rt, rt.alloc(), script, &closes);
 }
 
 #[test]
-fn every_order_of_faults(rt: HostRuntime) -> Result<(), Fail> {
+fn every_order_of_faults(rt: HostRuntime) {
     let lacks = Worked {
         lines: &[b"b"],
         ends: &[b"swt: fault F3 NoElement 19 /\n"],
         has_faults: true,
     };
     let script = b"int A[]; A[0] = 1; printf(\"%i\", A[3]); printf(\"b\");";
-    assert!(rt; always(rt.alloc(), script, &lacks)?);
+    always(&rt, rt.alloc(), script, &lacks);
     let twice = Worked {
         lines: &[b"1", b"2"],
         ends: &[
@@ -449,45 +478,35 @@ fn every_order_of_faults(rt: HostRuntime) -> Result<(), Fail> {
         has_faults: true,
     };
     let script = b"int A[]; A[0] = 1; A[0] = 2; printf(\"%i\", A[0]);";
-    assert!(rt; always(rt.alloc(), script, &twice)?);
+    always(&rt, rt.alloc(), script, &twice);
     let in_a_turn = Worked {
         lines: &[b"0"],
         ends: &[b"swt: fault F2 DivideByZero 24 /0.1\n"],
         has_faults: true,
     };
     let script = b"foreach v, k in [0:1] { printf(\"%i\", v %/ (1 - k)); }";
-    assert!(rt; always(rt.alloc(), script, &in_a_turn)?);
-    Ok(())
-}
-
-/// A run of the script by these choices.
-fn run_of(alloc: Global, script: &[u8], choices: &[u32]) -> Result<Report, Fail> {
-    let code = compile(alloc, alloc, script)?;
-    Ok(run_one(alloc, &code, choices, 100)?)
+    always(&rt, rt.alloc(), script, &in_a_turn);
 }
 
 /// The report says this.
-fn tells(rt: &impl Abort, alloc: Global, report: &Report, wanted: &[u8]) -> Result<(), Fail> {
-    let out = told(alloc, report)?;
-    is_equal(rt, out.bytes(), wanted);
-    Ok(())
+fn tells(rt: &impl Abort, alloc: Global, report: &Report, wanted: &[u8]) {
+    is_equal(rt, told(rt, alloc, report).bytes(), wanted);
 }
 
 /// The report has this trace.
-fn has_events(rt: &impl Abort, alloc: Global, report: &Report, events: &[u8]) -> Result<(), Fail> {
+fn has_events(rt: &impl Abort, alloc: Global, report: &Report, events: &[u8]) {
     let mut trace = Buffer::new(alloc);
-    write_trace(report, &mut trace)?;
+    write_trace(report, &mut trace).expect(rt, "memory");
     is_equal(rt, trace.bytes(), events);
-    Ok(())
 }
 
 /// A choice picks among the items that can begin, counted round.
 #[test]
-fn chosen_order(rt: HostRuntime) -> Result<(), Fail> {
-    let alloc = rt.alloc();
+fn chosen_order(rt: HostRuntime) {
     let script = b"int x = 1; printf(\"a\"); printf(\"%i\", x);";
-    let report = run_of(alloc, script, &[7, 1])?;
-    tells(&rt, alloc, &report, b"a\n1\n")?;
+    let code = code_of(&rt, rt.alloc(), script);
+    let report = report_of(&rt, rt.alloc(), &code, &[7, 1], 100);
+    tells(&rt, rt.alloc(), &report, b"a\n1\n");
     let events = b"swt-trace 1\nB 0 1\nE 0 1\nB 1 3\nE 1 3\nB 1 2\nE 1 2\nB 1 4\nE 1 4\n";
-    has_events(&rt, alloc, &report, events)
+    has_events(&rt, rt.alloc(), &report, events);
 }
