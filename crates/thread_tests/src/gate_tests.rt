@@ -1,11 +1,10 @@
 //! Leaf items that run side by side, offers and draws, and what a gate learns of a run.
-use crate::asserts::is_equal;
+use crate::asserts::{holds, is_equal};
 use crate::gates::{Held, Watched};
 use crate::threaded::{MANY, is_whole, run_of};
 use std::alloc::Global;
 use std::process::Abort;
 use std::sync::Wait;
-use std::test::Fail;
 use std::thread::Threads;
 use workers::run::PoolCount;
 
@@ -16,52 +15,50 @@ fn run_side_by_side<R: Threads + Wait + Sync + Abort>(
     script: &[u8],
     leaves: u8,
     gate: &Held<'_>,
-) -> Result<(), Fail> {
-    let (report, _count) = run_of(rt, alloc, script, (1, leaves), MANY, gate)?;
-    assert!(rt; !gate.ran_out());
-    is_whole(rt, alloc, &report, leaves as usize)
+) {
+    let ran = run_of(rt, alloc, script, (1, leaves), MANY, gate);
+    is_equal(rt, gate.ran_out(), false);
+    is_whole(rt, alloc, &ran.0, leaves as usize);
 }
 
 #[test]
-fn two_leaves_run_side_by_side(rt: HostRuntime) -> Result<(), Fail> {
+fn two_leaves_run_side_by_side(rt: HostRuntime) {
     let script = b"printf(\"a\"); printf(\"b\");";
     let gate = Held::new(&rt, 1, 2, 0);
-    run_side_by_side(&rt, rt.alloc(), script, 2, &gate)
+    run_side_by_side(&rt, rt.alloc(), script, 2, &gate);
 }
 
 #[test]
-fn eight_leaves_run_side_by_side(rt: HostRuntime) -> Result<(), Fail> {
+fn eight_leaves_run_side_by_side(rt: HostRuntime) {
     let script =
         b"printf(\"a\"); printf(\"b\"); printf(\"c\"); printf(\"d\"); printf(\"e\"); printf(\"f\"); printf(\"g\"); printf(\"h\");";
     let gate = Held::new(&rt, 1, 8, 0);
-    run_side_by_side(&rt, rt.alloc(), script, 8, &gate)
+    run_side_by_side(&rt, rt.alloc(), script, 8, &gate);
 }
 
 /// Each item that came to be ready, in that loop, was offered or found no hole, and some were drawn.
 fn were_offered(rt: &impl Abort, count: &PoolCount) {
     is_equal(rt, count.offered.saturating_add(count.full), 1016);
-    assert!(rt; count.drawn > 0);
+    holds(rt, count.drawn > 0);
 }
 
 #[test]
-fn what_a_loop_makes_ready_is_offered_and_drawn(rt: HostRuntime) -> Result<(), Fail> {
+fn what_a_loop_makes_ready_is_offered_and_drawn(rt: HostRuntime) {
     let script = b"foreach i in [1:1000] { printf(\"%i\", i); }";
     let gate = Held::new(&rt, 1, 1, 3);
-    let (report, count) = run_of(&rt, rt.alloc(), script, (1, 1), MANY, &gate)?;
-    assert!(rt; !gate.ran_out());
-    is_equal(&rt, report.history.len(), 2034);
-    were_offered(&rt, &count);
-    is_whole(&rt, rt.alloc(), &report, 1000)
+    let ran = run_of(&rt, rt.alloc(), script, (1, 1), MANY, &gate);
+    is_equal(&rt, (gate.ran_out(), ran.0.history.len()), (false, 2034));
+    were_offered(&rt, &ran.1);
+    is_whole(&rt, rt.alloc(), &ran.0, 1000);
 }
 
 #[test]
-fn a_gate_learns_how_far_the_run_is(rt: HostRuntime) -> Result<(), Fail> {
+fn a_gate_learns_how_far_the_run_is(rt: HostRuntime) {
     let script =
         b"int x; int y; x = y; foreach i in [1:100] { printf(\"%i\", i); } foreach i in [1:10] { printf(\"%i\", x); } y = 2 + x;";
     let gate = Watched::new();
-    let (report, _count) = run_of(&rt, rt.alloc(), script, (1, 3), MANY, &gate)?;
-    is_equal(&rt, report.lines.len(), 100);
-    let events = report.history.len() as u64;
+    let ran = run_of(&rt, rt.alloc(), script, (1, 3), MANY, &gate);
+    is_equal(&rt, ran.0.lines.len(), 100);
+    let events = ran.0.history.len() as u64;
     is_equal(&rt, gate.last(), (events, 100, 12));
-    Ok(())
 }
