@@ -80,21 +80,21 @@ fn has_f<A: Allocator>(rt: &impl Abort, machine: Global, flow: &Flow<A>) {
     }
 }
 
-/// The script of the text.
-fn script<'a>(rt: &impl Abort, alloc: Global, arena: &'a Bump) -> Box<Script<&'a Bump>> {
-    let script = parse(arena, TEXT).expect(rt, "a script");
-    boxed(rt, alloc, script)
+/// The script of the text, over any allocator: over an arena alone it takes far longer to prove.
+fn script<A: Allocator + Clone>(rt: &impl Abort, machine: Global, alloc: A) -> Box<Script<A>> {
+    let script = parse(alloc, TEXT).expect(rt, "a script");
+    boxed(rt, machine, script)
 }
 
 /// Its flow.
-fn flow_over<'a>(
+fn flow_over<A: Allocator + Clone>(
     rt: &impl Abort,
-    alloc: Global,
-    arena: &'a Bump,
-    script: &Script<&'a Bump>,
-) -> Box<Flow<&'a Bump>> {
-    let flow = lowered(alloc, arena, script).expect(rt, "a flow");
-    boxed(rt, alloc, flow)
+    machine: Global,
+    alloc: A,
+    script: &Script<A>,
+) -> Box<Flow<A>> {
+    let flow = lowered(machine, alloc, script).expect(rt, "a flow");
+    boxed(rt, machine, flow)
 }
 
 #[test]

@@ -181,10 +181,10 @@ fn is_product<A: Allocator>(rt: &impl Abort, product: &Expr<A>) {
     assert!(rt; matches!(&two.kind, ExprKind::Number(2)));
 }
 
-/// A product, read.
-fn product<'a>(rt: &impl Abort, alloc: Global, arena: &'a Bump) -> Box<Script<&'a Bump>> {
-    let script = parse(arena, b"x = (1 + y) * (2);").expect(rt, "a script");
-    boxed(rt, alloc, script)
+/// A product, read over any allocator.
+fn product<A: Allocator + Clone>(rt: &impl Abort, machine: Global, alloc: A) -> Box<Script<A>> {
+    let script = parse(alloc, b"x = (1 + y) * (2);").expect(rt, "a script");
+    boxed(rt, machine, script)
 }
 
 #[test]

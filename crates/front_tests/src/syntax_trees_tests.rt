@@ -3,7 +3,7 @@
 use crate::asserts::is_equal;
 use bumpalo::Bump;
 use lexer::token::{Span, TokenKind};
-use std::alloc::{AllocError, Global};
+use std::alloc::{AllocError, Allocator, Global};
 use syntax::parser::parse;
 use syntax_trees::tree::{
     Base, Expr, ExprKind, Item, Level, Name, Operator, Right, Script, Stmt, StmtKind,
@@ -42,15 +42,23 @@ fn copied(alloc: Global, tree: &Script<Global>) -> Result<Script<Global>, AllocE
     copied_through(alloc, &arena, tree)
 }
 
-fn copied_through(
-    alloc: Global,
-    arena: &Bump,
+/// The tree, copied to other memory, in a box.
+fn copy_in<A: Allocator + Clone>(
+    machine: Global,
+    alloc: A,
+    tree: &Script<Global>,
+) -> Result<Box<Script<A>>, AllocError> {
+    Ok(Box::new(machine, tree.copy_to(alloc)?)?)
+}
+
+/// The tree, copied to other memory and back.
+fn copied_through<A: Allocator + Clone>(
+    machine: Global,
+    alloc: A,
     tree: &Script<Global>,
 ) -> Result<Script<Global>, AllocError> {
-    let Ok(copy) = Box::new(alloc, tree.copy_to(arena)?) else {
-        return Err(AllocError);
-    };
-    copy.copy_to(alloc)
+    let copy = copy_in(machine, alloc, tree)?;
+    copy.copy_to(machine)
 }
 
 /// The text's tree is equal to its copy, if there is memory for both.
