@@ -54,12 +54,21 @@ fn words(rt: &HostRuntime) -> Result<Vec<Word>, LineFault> {
 /// Does what the words ask for. The answer is the status of the process.
 fn obey<R: Threads + Wait + Sync>(rt: &HostRuntime, threads: &R, words: &[Word]) -> u8 {
     match Request::read(rt.alloc(), words) {
-        Ok(request) => match in_turn(rt, threads, &request) {
-            Ok(status) => status,
-            Err(AllocError) => say(rt, Status::Memory),
-        },
+        Ok(request) => {
+            let status = status_of(rt, in_turn(rt, threads, &request));
+            drop(request);
+            status
+        }
         Err(LineFault::Usage) => say_usage(rt, words),
         Err(LineFault::Memory) => say(rt, Status::Memory),
+    }
+}
+
+/// The status that a command ended with. Where memory was refused that is said.
+fn status_of(rt: &HostRuntime, ended: Result<u8, AllocError>) -> u8 {
+    match ended {
+        Ok(status) => status,
+        Err(AllocError) => say(rt, Status::Memory),
     }
 }
 
@@ -76,16 +85,31 @@ fn in_turn<R: Threads + Wait + Sync>(
     };
     let mut status = Status::Done.number();
     for file in files.as_slice() {
-        let Ok(one) = check_of(rt, file, request.explain) else {
-            return Err(AllocError);
-        };
-        let number = perform(rt, threads, &mut arena, &one)?;
+        let number = check_one(rt, threads, &mut arena, file, request.explain)?;
         if number > Status::Refused.number() {
             return Ok(number);
         }
         status = status.max(number);
     }
     Ok(status)
+}
+
+/// Checks this file alone. The answer is the status of that.
+fn check_one<R: Threads + Wait + Sync>(
+    rt: &HostRuntime,
+    threads: &R,
+    arena: &mut Bump,
+    file: &Word,
+    explain: bool,
+) -> Result<u8, AllocError> {
+    match check_of(rt, file, explain) {
+        Ok(request) => {
+            let status = perform(rt, threads, arena, &request);
+            drop(request);
+            status
+        }
+        Err(_) => Err(AllocError),
+    }
 }
 
 /// The request to check this file alone. `Memory` where memory was refused, and nothing else.
@@ -113,10 +137,10 @@ fn perform<R: Threads + Wait + Sync>(
     if writes_what_it_reads(rt, line)? {
         return Ok(say(rt, Status::Failed));
     }
+    let files = read_files(rt, line)?;
     let mut out = Buffer::new(alloc);
     let mut err = Buffer::new(alloc);
     let mut trace = Buffer::new(alloc);
-    let files = read_files(rt, line)?;
     let teller = Teller::new(rt, request.progress, most_steps(line));
     let status = command(
         threads,
@@ -256,13 +280,26 @@ fn explain_refusals(
         Line::Check { .. } => names.len(),
         _ => 1,
     };
-    for (name, file) in names.iter().zip(files).take(scripts) {
-        let Some(bytes) = file else { break };
-        if let Some(refusal) = explained(alloc, name.as_str(), bytes.as_slice())? {
-            text.extend_from_slice(refusal.as_slice())?;
-        }
+    for place in 0..scripts {
+        let (Some(name), Some(Some(bytes))) = (names.as_slice().get(place), files.get(place)) else {
+            break;
+        };
+        explain_refusal(alloc, name.as_str(), bytes.as_slice(), text)?;
     }
     Ok(())
+}
+
+/// Adds what is to be said of a script, where it is refused.
+fn explain_refusal(
+    alloc: Global,
+    name: &str,
+    bytes: &[u8],
+    text: &mut Vec<u8>,
+) -> Result<(), AllocError> {
+    match explained(alloc, name, bytes)? {
+        Some(refusal) => text.extend_from_slice(refusal.as_slice()),
+        None => Ok(()),
+    }
 }
 
 /// Whether the trace would be written into the script, by whatever name the line has for it.
