@@ -28,6 +28,7 @@ use Rattle.board_work.specs.contracts.work.Job as job
 use Rattle.board_work.specs.contracts.work.Work as work
 use Rattle.board_work.specs.contracts.work.Done as done
 use Rattle.entry_outcomes.proofs.answer.Answer.TheSendSync as answer
+use Rattle.entry_outcomes.proofs.outcome.Outcome.TheSendSync as outcome
 use Rattle.board_code.specs.contracts.program.Program as program
 use Rattle.board_code.proofs.program.EntryTable.TheSendSync as entry_table
 use Rattle.board_code.proofs.program.BodyTable.TheSendSync as body_table
@@ -51,7 +52,7 @@ pub work_send : IsSend (work.the_field).row
 work_send = search (job_send, answer.the_send, crosses, sendable) depth 60 fits 4000
 
 pub done_send : IsSend (done.the_field).row
-done_send = search (job_send, answer.the_send, crosses, sendable) depth 60 fits 4000
+done_send = search (job_send, answer.the_send, outcome.the_send, crosses, sendable) depth 60 fits 4000
 
 pub program_send : IsSend (program.the_field).row
 program_send = search (code_send, entry_table.the_send, body_table.the_send, crosses, sendable) depth 60 fits 4000
@@ -76,7 +77,7 @@ core_send : IsSend (core.the_field).row
 core_send = search (items_send, world.the_field_send, option.the_field_send, scalar.the_send, fault.the_send, crosses, sendable) depth 60 fits 4000
 
 pub board_send : IsSend (board.the_field).row
-board_send = search (program_send, core_send, event.the_send, crosses, sendable) depth 60 fits 4000
+board_send = search (program_send, core_send, event.the_send, answer.the_send, crosses, sendable) depth 60 fits 4000
 
 module _ (J E N : RattleType) (g : jobs.Ghosts J.Denot) (h : ledger.Ghosts E.Denot) (k : ledger.Ghosts N.Denot) where
   desk_send : IsSend (desk.the_row J E N g h k)
