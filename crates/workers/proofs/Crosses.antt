@@ -52,7 +52,7 @@ pub work_send : IsSend (work.the_field).row
 work_send = search (job_send, answer.the_send, crosses, sendable) depth 60 fits 4000
 
 pub done_send : IsSend (done.the_field).row
-done_send = search (job_send, answer.the_send, outcome.the_send, crosses, sendable) depth 60 fits 4000
+done_send = search (job_send, answer.the_send, outcome.the_field_send, crosses, sendable) depth 60 fits 4000
 
 pub program_send : IsSend (program.the_field).row
 program_send = search (code_send, entry_table.the_send, body_table.the_send, crosses, sendable) depth 60 fits 4000
