@@ -1,18 +1,19 @@
 -- Variables found by their numbers, and names counted at the places of their variables.
 use Rattle.std.proofs.Common.{◌≡◌, ◌∙◌, refl, sym, ap, subst, ℕ, zero, suc, ◌+◌, ◌*◌, ◌<◌, ◌≤◌, List, [], ◌∷◌, ◌++◌, length, map, take, drop, Option, Some, None, Bool, true, false, arith}
 use Rattle.std.specs.Prelude.{is_some, nat_eq, replicate, set, slice_index_or, if◌then◌else◌}
-use Rattle.replayed.specs.Static.{name_times}
+use Rattle.replayed.specs.Static.{name_times, names_in}
 use Rattle.task_code.proofs.Equal.{nat_same, nat_sound, name_sound, true_and, variable_same, variable_sound}
 use Rattle.task_code.specs.Check.{is_declared}
-use Rattle.task_code.specs.Code.{body, Code, Entry, entry, here, Local, Name, Owned, Parameter, scalar, Variable}
+use Rattle.task_code.specs.Code.{Body, body, Code, Entry, entry, here, Local, Name, Owned, Parameter, scalar, Variable}
 use Rattle.task_code.specs.Places.{name_eq, variable_eq}
-use Rattle.task_code.specs.View.{entry_view, name_view, variable_view}
+use Rattle.task_code.specs.View.{body_view, entry_view, name_view, variable_view}
+use Rattle.task_code.specs.declared.code.Body.{Body as BodyValue}
 use Rattle.task_code.specs.declared.entry.Entry.{Entry as EntryValue}
 use Rattle.task_code.specs.declared.entry.Name.{Name as NameValue}
 use Rattle.task_code.specs.declared.entry.Variable.{Variable as VariableValue}
 use Rattle.board_code.proofs.Counts.{blank_there, place_told, times_append}
-use Rattle.board_code.proofs.Holds.{map_more, taken, whole}
-use Rattle.board_code.proofs.Homes.{cut, emptied, next}
+use Rattle.board_code.proofs.Holds.{map_more}
+use Rattle.board_code.proofs.Homes.{cut, emptied, next, taken, whole}
 use Rattle.board_code.specs.Places.{CountsMore, CountsOf, FindsPlaces, NotesPlace, counts_from, number_of, own_place, place_at, place_in, with_counts}
 use Rattle.board_code.specs.Spots.{place_from}
 use Rattle.board_code.specs.Tables.{first_count, is_place, names_of, own_from, shape_of}
@@ -281,7 +282,7 @@ module _ (m : Places) where
     all_entries rights js i cs l f = subst (λ l. CountsOf m many (names_of C rights l) cs) (whole js i l) f
 
   -- variables with their counts
-  pub own_counted : (xs : List VariableValue) (rs ws : List Name) (cs ds : List ℕ) → FindsPlaces (map variable_view xs) m → CountsOf m (length xs) rs cs → CountsOf m (length xs) ws ds → with_counts 0 cs ds (map variable_view xs) ≡ own_from (map variable_view xs) rs ws 0 (map variable_view xs)
+  own_counted : (xs : List VariableValue) (rs ws : List Name) (cs ds : List ℕ) → FindsPlaces (map variable_view xs) m → CountsOf m (length xs) rs cs → CountsOf m (length xs) ws ds → with_counts 0 cs ds (map variable_view xs) ≡ own_from (map variable_view xs) rs ws 0 (map variable_view xs)
   own_counted xs rs ws cs ds f g h =
       let ms = map variable_view xs in
       ap (λ l. with_counts 0 l ds ms) (g.counts ms f (mapped xs))
@@ -322,6 +323,11 @@ module _ (m : Places) where
             where
               sums : (n j : ℕ) → n + suc j ≡ suc n + j
               sums n j = omega arith
+
+  pub own_told : (C : Code) (b : ℕ) (v : BodyValue) (cs ds : List ℕ) → body_view v ≡ body C b → FindsPlaces (body_view v).makes m → CountsOf m (length v.makes.items) (names_of C (λ e. e.reads) v.entries.items) cs → CountsOf m (length v.makes.items) (names_of C (λ e. e.writes) v.entries.items) ds → with_counts 0 cs ds (map variable_view v.makes.items) ≡ own_from (body C b).makes (names_in C (λ e. e.reads) b) (names_in C (λ e. e.writes) b) 0 (body C b).makes
+  own_told C b v cs ds h f g k =
+      own_counted v.makes.items (names_of C (λ e. e.reads) v.entries.items) (names_of C (λ e. e.writes) v.entries.items) cs ds f g k
+      ∙ ap (λ (t : Body). own_from t.makes (names_of C (λ e. e.reads) t.entries) (names_of C (λ e. e.writes) t.entries) 0 t.makes) h
 
   -- a name that is found so is one that the body declares
   told : (C : Code) (b : ℕ) (r : Name) → FindsPlaces (body C b).makes m → is_some (own_place m r) ≡ is_declared C b r

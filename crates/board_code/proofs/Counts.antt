@@ -1,5 +1,5 @@
 -- Names and entries counted one after the other.
-use Rattle.std.proofs.Common.{◌≡◌, ◌∙◌, refl, sym, ap, subst, ℕ, zero, suc, ◌+◌, ◌-◌, ◌<◌, ◌≤◌, List, [], ◌∷◌, ◌++◌, length, drop, Some, None, Bool, true, false, ◌||◌, arith}
+use Rattle.std.proofs.Common.{◌≡◌, ◌∙◌, refl, sym, ap, subst, ℕ, zero, suc, ◌+◌, ◌-◌, ◌<◌, ◌≤◌, List, [], ◌∷◌, ◌++◌, length, take, Some, None, Bool, true, false, ◌||◌, arith}
 use Rattle.std.specs.Prelude.{is_some, slice_index_or, if◌then◌else◌}
 use Rattle.std.specs.List.{filter}
 use Rattle.replayed.specs.Static.{name_times}
@@ -7,7 +7,9 @@ use Rattle.task_code.proofs.Equal.{variable_same, variable_sound}
 use Rattle.task_code.specs.Check.{variable_in}
 use Rattle.task_code.specs.Code.{blank_entry, Body, body, Code, Control, Entry, entry, Kind, kind_of, Leaf, Name, nth, Variable}
 use Rattle.task_code.specs.Places.{variable_eq}
-use Rattle.board_code.proofs.Homes.{cut, emptied, next, plus}
+use Rattle.task_code.specs.View.{entry_view}
+use Rattle.task_code.specs.declared.entry.Entry.{Entry as EntryValue}
+use Rattle.board_code.proofs.Homes.{plus, taken, whole}
 use Rattle.board_code.proofs.Spots.{blank}
 use Rattle.board_code.specs.Spots.{place_from}
 use Rattle.board_code.specs.Tables.{is_kind, run_as, runs_as}
@@ -52,20 +54,38 @@ counted true x xs = omega arith
 counted false x xs = omega arith
 
 module _ (C : Code) where
-  run_cut : (k : Kind) (js : List ℕ) (i d : ℕ) → i < length js → run_as C k (drop i js) ≡ (if runs_as C k (slice_index_or js i d) then 1 else 0) + run_as C k (drop (i + 1) js)
-  run_cut k js i d h =
-      ap (run_as C k) (cut js i d h)
-      ∙ counted (runs_as C k (slice_index_or js i d)) (slice_index_or js i d) (filter (runs_as C k) (drop (suc i) js))
-      ∙ ap (λ n. (if runs_as C k (slice_index_or js i d) then 1 else 0) + run_as C k (drop n js)) (next i)
+  one_last : (js : List ℕ) (j : ℕ) → run_as C Control (js ++ j ∷ []) ≡ run_as C Control js + (if runs_as C Control j then 1 else 0)
+  one_last [] j = alone (runs_as C Control j)
+    where
+      alone : (b : Bool) → length (if b then j ∷ [] else []) ≡ 0 + (if b then 1 else 0)
+      alone true = refl
+      alone false = refl
+  one_last (i ∷ js) j =
+      counted (runs_as C Control i) i (filter (runs_as C Control) (js ++ j ∷ []))
+      ∙ past (if runs_as C Control i then 1 else 0) (run_as C Control js) (if runs_as C Control j then 1 else 0) _ (one_last js j)
+      ∙ sym (ap (λ n. n + (if runs_as C Control j then 1 else 0)) (counted (runs_as C Control i) i (filter (runs_as C Control) js)))
+    where
+      past : (x y z n : ℕ) → n ≡ y + z → x + n ≡ (x + y) + z
+      past x y z n h = omega (arith, h)
 
-  pub control_next : (js : List ℕ) (i d : ℕ) → i < length js → kind_of (entry C (slice_index_or js i d)).act ≡ Control → run_as C Control (drop i js) ≡ 1 + run_as C Control (drop (i + 1) js)
-  control_next js i d h e = run_cut Control js i d h ∙ ap (λ k. (if is_kind Control k then 1 else 0) + run_as C Control (drop (i + 1) js)) e
+  pub control_next : (js : List ℕ) (i d : ℕ) (e : EntryValue) → i < length js → entry_view e ≡ entry C (slice_index_or js i d) → run_as C Control (take (i + 1) js) ≡ run_as C Control (take i js) + (if is_kind Control (kind_of (entry_view e).act) then 1 else 0)
+  control_next js i d e h q =
+      ap (run_as C Control) (taken js i d h)
+      ∙ one_last (take i js) (slice_index_or js i d)
+      ∙ sym (ap (λ (t : Entry). run_as C Control (take i js) + (if is_kind Control (kind_of t.act) then 1 else 0)) q)
 
-  pub leaf_next : (js : List ℕ) (i d : ℕ) → i < length js → kind_of (entry C (slice_index_or js i d)).act ≡ Leaf → run_as C Control (drop i js) ≡ run_as C Control (drop (i + 1) js)
-  leaf_next js i d h e = run_cut Control js i d h ∙ ap (λ k. (if is_kind Control k then 1 else 0) + run_as C Control (drop (i + 1) js)) e ∙ plus _
+  pub control_past : (js : List ℕ) (i d : ℕ) → i < length js → length C.entries ≤ slice_index_or js i d → run_as C Control (take (i + 1) js) ≡ run_as C Control (take i js)
+  control_past js i d h q =
+      ap (run_as C Control) (taken js i d h)
+      ∙ one_last (take i js) (slice_index_or js i d)
+      ∙ ap (λ (t : Entry). run_as C Control (take i js) + (if is_kind Control (kind_of t.act) then 1 else 0)) (blank_there C.entries (slice_index_or js i d) q)
+      ∙ none (run_as C Control (take i js))
+    where
+      none : (n : ℕ) → n + 0 ≡ n
+      none n = omega arith
 
-  pub run_end : (js : List ℕ) (i : ℕ) → length js ≤ i → run_as C Control (drop i js) ≡ 0
-  run_end js i h = ap (run_as C Control) (emptied js i h)
+  pub control_all : (js : List ℕ) (i : ℕ) → length js ≤ i → run_as C Control (take i js) ≡ run_as C Control js
+  control_all js i h = ap (run_as C Control) (whole js i h)
 
   either : (k : Kind) (x y z : ℕ) → x + y ≡ z → ((if is_kind Control k then 1 else 0) + x) + ((if is_kind Leaf k then 1 else 0) + y) ≡ suc z
   either Control x y z h = omega (arith, h)

@@ -13,27 +13,13 @@ use Rattle.task_code.specs.View.{entry_view, name_view}
 use Rattle.task_code.specs.declared.entry.Entry.{Entry as EntryValue}
 use Rattle.task_code.specs.declared.entry.Name.{Name as NameValue}
 use Rattle.board_code.proofs.Counts.{blank_there}
-use Rattle.board_code.proofs.Homes.{plus}
+use Rattle.board_code.proofs.Homes.{plus, taken, whole}
 use Rattle.board_code.specs.Spots.{spot_in}
-use Rattle.board_code.specs.Tables.{GainsHold, GainsNames, HoldsOf, at_name, at_spot, hold_times, named_by, names_of, outside}
+use Rattle.board_code.specs.Tables.{GainsHold, GainsNames, GainsRights, HoldsOf, at_name, at_spot, hold_times, named_by, names_of, outside}
 use Rattle.board_code.specs.declared.program.Hold.{Hold}
 use Rattle.board_code.specs.declared.spot.Spot.{Spot}
 
--- lists to a place
-pub taken : {X : Type 0} (xs : List X) (i : ℕ) (d : X) → i < length xs → take (i + 1) xs ≡ take i xs ++ slice_index_or xs i d ∷ []
-taken [] i d h = absurd (omega (arith, h))
-taken (x ∷ xs) zero d h = refl
-taken (x ∷ xs) (suc i) d h = ap (λ n. take n (x ∷ xs)) (later i) ∙ ap (λ l. x ∷ l) (taken xs i d (omega (arith, h)))
-  where
-    later : (i : ℕ) → suc i + 1 ≡ suc (i + 1)
-    later i = omega arith
-
-pub whole : {X : Type 0} (xs : List X) (i : ℕ) → length xs ≤ i → take i xs ≡ xs
-whole [] zero h = refl
-whole [] (suc i) h = refl
-whole (x ∷ xs) zero h = absurd (omega (arith, h))
-whole (x ∷ xs) (suc i) h = ap (λ l. x ∷ l) (whole xs i (omega (arith, h)))
-
+-- lists one behind another
 pub map_more : {X Y : Type 0} (g : X → Y) (xs ys : List X) → map g (xs ++ ys) ≡ map g xs ++ map g ys
 map_more g [] ys = refl
 map_more g (x ∷ xs) ys = ap (λ l. g x ∷ l) (map_more g xs ys)
@@ -188,21 +174,30 @@ module _ (C : Code) (b : ℕ) where
   pub holds_none : HoldsOf C b [] []
   holds_none = record { reads = λ f d. refl; writes = λ f d. refl }
 
-  pub holds_next : (js : List ℕ) (i n : ℕ) (e : EntryValue) (hs ms gs : List Hold) → HoldsOf C b (take i js) hs → i < length js → entry_view e ≡ entry C (slice_index_or js i n) → GainsNames C b 1 0 (map name_view e.reads.items) hs ms → GainsNames C b 0 1 (map name_view e.writes.items) ms gs → HoldsOf C b (take (i + 1) js) gs
-  holds_next js i n e hs ms gs x h q y z =
+  -- what an entry may read, and then what it may write
+  pub gains_rights : (e : EntryValue) (hs ms gs : List Hold) → GainsNames C b 1 0 (map name_view e.reads.items) hs ms → GainsNames C b 0 1 (map name_view e.writes.items) ms gs → GainsRights C b (entry_view e) hs gs
+  gains_rights e hs ms gs y z = record {
+    reads_are = λ f d. first _ _ _ _ (y.reads_are f d) (z.reads_are f d ∙ ap (λ m. hold_times f (λ x. x.reads) d ms + m) (by_none (at_name C b f) d (outside C b (map name_view e.writes.items))));
+    writes_are = λ f d. second _ _ _ _ (y.writes_are f d ∙ ap (λ m. hold_times f (λ x. x.writes) d hs + m) (by_none (at_name C b f) d (outside C b (map name_view e.reads.items)))) (z.writes_are f d);
+  }
+    where
+      first : (h m r g : ℕ) → m ≡ h + r → g ≡ m + 0 → g ≡ h + r
+      first h m r g p q = omega (arith, p, q)
+
+      second : (h m r g : ℕ) → m ≡ h + 0 → g ≡ m + r → g ≡ h + r
+      second h m r g p q = omega (arith, p, q)
+
+  pub holds_next : (js : List ℕ) (i n : ℕ) (e : EntryValue) (hs gs : List Hold) → HoldsOf C b (take i js) hs → i < length js → entry_view e ≡ entry C (slice_index_or js i n) → GainsRights C b (entry_view e) hs gs → HoldsOf C b (take (i + 1) js) gs
+  holds_next js i n e hs gs x h q y =
       let j = slice_index_or js i n in
       subst (λ is. HoldsOf C b is gs) (sym (taken js i n h)) (record {
-        reads = λ f d. joined _ _ _ _ _ (x.reads f d) (y.reads_are f d) (z.reads_are f d ∙ ap (λ m. hold_times f (λ x. x.reads) d ms + m) (by_none (at_name C b f) d (outside C b (map name_view e.writes.items))))
+        reads = λ f d. y.reads_are f d
+            ∙ ap (λ m. m + named_by 1 (at_name C b f) d (outside C b (entry_view e).reads)) (x.reads f d)
             ∙ sym (one_more (λ e. e.reads) (at_name C b f) d (take i js) j ∙ ap (λ (t : Entry). named_by 1 (at_name C b f) d (outside C b (names_of C (λ e. e.reads) (take i js))) + named_by 1 (at_name C b f) d (outside C b t.reads)) (sym q));
-        writes = λ f d. joined' _ _ _ _ _ (x.writes f d) (y.writes_are f d ∙ ap (λ m. hold_times f (λ x. x.writes) d hs + m) (by_none (at_name C b f) d (outside C b (map name_view e.reads.items)))) (z.writes_are f d)
+        writes = λ f d. y.writes_are f d
+            ∙ ap (λ m. m + named_by 1 (at_name C b f) d (outside C b (entry_view e).writes)) (x.writes f d)
             ∙ sym (one_more (λ e. e.writes) (at_name C b f) d (take i js) j ∙ ap (λ (t : Entry). named_by 1 (at_name C b f) d (outside C b (names_of C (λ e. e.writes) (take i js))) + named_by 1 (at_name C b f) d (outside C b t.writes)) (sym q));
       })
-    where
-      joined : (h a m r g : ℕ) → h ≡ a → m ≡ h + r → g ≡ m + 0 → g ≡ a + r
-      joined h a m r g p q s = omega (arith, p, q, s)
-
-      joined' : (h a m r g : ℕ) → h ≡ a → m ≡ h + 0 → g ≡ m + r → g ≡ a + r
-      joined' h a m r g p q s = omega (arith, p, q, s)
 
   pub holds_past : (js : List ℕ) (i n : ℕ) (hs : List Hold) → HoldsOf C b (take i js) hs → i < length js → length C.entries ≤ slice_index_or js i n → HoldsOf C b (take (i + 1) js) hs
   holds_past js i n hs x h q =

@@ -1,5 +1,5 @@
 -- The bodies that have the entries, one after the other.
-use Rattle.std.proofs.Common.{◌≡◌, ◌∙◌, refl, ap, ℕ, zero, suc, ◌+◌, ◌<◌, ◌≤◌, List, [], ◌∷◌, ◌++◌, length, drop, Option, Some, None, arith}
+use Rattle.std.proofs.Common.{◌≡◌, ◌∙◌, refl, ap, ℕ, zero, suc, ◌+◌, ◌<◌, ◌≤◌, List, [], ◌∷◌, ◌++◌, length, take, drop, Option, Some, None, arith}
 use Rattle.std.specs.Prelude.{replicate, set, slice_index_or}
 use Rattle.task_code.specs.Code.{blank_body, Body, nth}
 use Rattle.board_code.specs.Spots.{note, noted}
@@ -23,6 +23,21 @@ emptied [] zero h = refl
 emptied [] (suc i) h = refl
 emptied (x ∷ xs) zero h = absurd (omega (arith, h))
 emptied (x ∷ xs) (suc i) h = emptied xs i (omega (arith, h))
+
+-- lists to a place
+pub taken : {X : Type 0} (xs : List X) (i : ℕ) (d : X) → i < length xs → take (i + 1) xs ≡ take i xs ++ slice_index_or xs i d ∷ []
+taken [] i d h = absurd (omega (arith, h))
+taken (x ∷ xs) zero d h = refl
+taken (x ∷ xs) (suc i) d h = ap (λ n. take n (x ∷ xs)) (later i) ∙ ap (λ l. x ∷ l) (taken xs i d (omega (arith, h)))
+  where
+    later : (i : ℕ) → suc i + 1 ≡ suc (i + 1)
+    later i = omega arith
+
+pub whole : {X : Type 0} (xs : List X) (i : ℕ) → length xs ≤ i → take i xs ≡ xs
+whole [] zero h = refl
+whole [] (suc i) h = refl
+whole (x ∷ xs) zero h = absurd (omega (arith, h))
+whole (x ∷ xs) (suc i) h = ap (λ l. x ∷ l) (whole xs i (omega (arith, h)))
 
 -- one entry more
 pub note_next : (b : ℕ) (is : List ℕ) (i d : ℕ) (hs : List (Option ℕ)) → i < length is → note b (drop i is) hs ≡ note b (drop (i + 1) is) (set hs (slice_index_or is i d) (Some b))

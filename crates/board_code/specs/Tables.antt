@@ -154,6 +154,11 @@ module _ (C : Code) where
     pub reads_are : (f : Spot → Slot) (d : ℕ) → hold_times f (λ x. x.reads) d new ≡ hold_times f (λ x. x.reads) d old + named_by reads (at_name b f) d (outside b rs)
     pub writes_are : (f : Spot → Slot) (d : ℕ) → hold_times f (λ x. x.writes) d new ≡ hold_times f (λ x. x.writes) d old + named_by writes (at_name b f) d (outside b rs)
 
+  -- holds to which one is added for each of an entry's rights that is not the body's own
+  pub record GainsRights (b : ℕ) (e : Entry) (old new : List Hold) : Type 0 where
+    pub reads_are : (f : Spot → Slot) (d : ℕ) → hold_times f (λ x. x.reads) d new ≡ hold_times f (λ x. x.reads) d old + named_by 1 (at_name b f) d (outside b e.reads)
+    pub writes_are : (f : Spot → Slot) (d : ℕ) → hold_times f (λ x. x.writes) d new ≡ hold_times f (λ x. x.writes) d old + named_by 1 (at_name b f) d (outside b e.writes)
+
   -- holds of the names that some entries have among their rights
   abbrev pub names_of : (Entry → List Name) → List ℕ → List Name
   names_of rights js = flat_map (λ j. rights (entry C j)) js

@@ -1,11 +1,11 @@
 //! What an instance of a body begins with: the counts of its own data, and what it adds to those outside.
-ghost use Rattle.std.specs.Prelude.{◌≡◌, ◌+◌, ◌<◌, ◌∷◌, [], length, map, replicate, slice_index_or, IfOk, OnOk};
+ghost use Rattle.std.specs.Prelude.{◌≡◌, ◌+◌, ◌<◌, ◌≤◌, ◌∷◌, [], map, replicate, slice_index_or, if◌then◌else◌, IfOk, OnOk};
 ghost use Rattle.std.specs.Bool.{OnTrue};
-ghost use Rattle.task_code.specs.Code.{Control, body as body_at};
-ghost use Rattle.task_code.specs.View.{body_view, name_view, variable_view};
+ghost use Rattle.task_code.specs.Code.{Control, body as body_at, kind_of};
+ghost use Rattle.task_code.specs.View.{body_view, entry_view, name_view, variable_view};
 ghost use Rattle.board_code.specs.Places.{CountsMore, CountsOf, FindsPlaces, with_counts};
 ghost use Rattle.board_code.specs.Program.{IsLeads};
-ghost use Rattle.board_code.specs.Tables.{GainsHold, GainsNames, HoldsOf, IsBodyTable, names_of, own_from, run_as, shape_of};
+ghost use Rattle.board_code.specs.Tables.{GainsHold, GainsNames, GainsRights, HoldsOf, IsBodyTable, is_kind, names_of, run_as, shape_of};
 
 use crate::places::Places;
 use crate::program::{BodyTable, Hold, Own};
@@ -13,7 +13,7 @@ use crate::spot::{Leads, Spot};
 use data_store::store::Shape;
 use std::alloc::{AllocError, Global};
 use task_code::code::{Body, Code};
-use task_code::entry::{Kind, Name, Owned, Variable};
+use task_code::entry::{Entry, Kind, Name, Variable};
 
 /// One more, or want of memory where 64 bits do not tell it.
 fn one_more(count: u64) -> Result<u64, AllocError>
@@ -55,49 +55,9 @@ fn count_names(counts: &mut Vec<u64>, places: &Places, names: &[Name]) -> Result
 fn no_counts(alloc: Global, many: usize) -> Result<Vec<u64>, AllocError>
     ensures { IfOk result (λ counts. counts.items ≡ replicate many 0) }
 {
-    let mut counts = Vec::new(alloc);
+    let mut counts = Vec::with_capacity(alloc, many)?;
     for _ in 0..many {
         counts.push(0)?;
-    }
-    Ok(counts)
-}
-
-/// How many of the names that entries may read are each of the variables.
-#[tactic(auto, using(crate::proofs::Counted::all_none, crate::proofs::Counted::reads_next, crate::proofs::Counted::reads_past, crate::proofs::Counted::all_entries))]
-fn count_reads(
-    alloc: Global,
-    code: &Code,
-    entries: &[u32],
-    places: &Places,
-    many: usize,
-) -> Result<Vec<u64>, AllocError>
-    ensures { IfOk result (λ counts. CountsOf places.now many (names_of code.now (λ e. e.reads) entries.now) counts.items) }
-{
-    let mut counts = no_counts(alloc, many)?;
-    for at in 0..entries.len() {
-        if let Some(entry) = code.entry(entries[at]) {
-            count_names(&mut counts, places, entry.reads.as_slice())?;
-        }
-    }
-    Ok(counts)
-}
-
-/// How many of those that they may write.
-#[tactic(auto, using(crate::proofs::Counted::all_none, crate::proofs::Counted::writes_next, crate::proofs::Counted::writes_past, crate::proofs::Counted::all_entries))]
-fn count_writes(
-    alloc: Global,
-    code: &Code,
-    entries: &[u32],
-    places: &Places,
-    many: usize,
-) -> Result<Vec<u64>, AllocError>
-    ensures { IfOk result (λ counts. CountsOf places.now many (names_of code.now (λ e. e.writes) entries.now) counts.items) }
-{
-    let mut counts = no_counts(alloc, many)?;
-    for at in 0..entries.len() {
-        if let Some(entry) = code.entry(entries[at]) {
-            count_names(&mut counts, places, entry.writes.as_slice())?;
-        }
     }
     Ok(counts)
 }
@@ -130,7 +90,7 @@ fn with_counts(
 ) -> Result<Vec<Own>, AllocError>
     ensures { IfOk result (λ own. own.items ≡ with_counts 0 reads.now writes.now (map variable_view makes.now)) }
 {
-    let mut own = Vec::new(alloc);
+    let mut own = Vec::with_capacity(alloc, makes.len())?;
     for at in 0..makes.len() {
         own.push(Own {
             shape: shape_of(makes[at].array),
@@ -138,24 +98,6 @@ fn with_counts(
             writes: count_at(writes, at),
         })?;
     }
-    Ok(own)
-}
-
-/// A body's own data, by the places of its variables.
-#[tactic(auto, using(crate::proofs::Counted::own_counted))]
-fn own_data(
-    alloc: Global,
-    code: &Code,
-    makes: &[Variable],
-    entries: &[u32],
-    places: &Places,
-) -> Result<Vec<Own>, AllocError>
-    requires { FindsPlaces (map variable_view makes.now) places.now }
-    ensures { IfOk result (λ own. own.items ≡ own_from (map variable_view makes.now) (names_of code.now (λ e. e.reads) entries.now) (names_of code.now (λ e. e.writes) entries.now) 0 (map variable_view makes.now)) }
-{
-    let reads = count_reads(alloc, code, entries, places, makes.len())?;
-    let writes = count_writes(alloc, code, entries, places, makes.len())?;
-    let own = with_counts(alloc, makes, reads.as_slice(), writes.as_slice())?;
     Ok(own)
 }
 
@@ -250,49 +192,88 @@ fn hold_names(
     Ok(())
 }
 
-/// What an instance of the body adds to data that it does not declare.
-#[tactic(auto, using(crate::proofs::Holds::holds_none, crate::proofs::Holds::holds_next, crate::proofs::Holds::holds_past, crate::proofs::Holds::holds_all))]
-fn outer_holds(
+/// Holds what an entry may read once for reads, and what it may write once for writes, unless the body declares it.
+#[tactic(auto, using(crate::proofs::Holds::gains_rights))]
+fn hold_rights(
+    code: &Code,
+    leads: &Leads,
+    places: &Places,
+    body: u32,
+    entry: &Entry,
+    outer: &mut Vec<Hold>,
+) -> Result<(), AllocError>
+    requires leads { IsLeads code.now leads.now }
+    requires places { FindsPlaces (body_at code.now body).makes places.now }
+    ensures { OnOk result (GainsRights code.now body (entry_view entry.now) outer.old.items outer.new.items) }
+{
+    let reads = entry.reads.as_slice();
+    hold_names(code, leads, places, body, reads, 1, 0, outer)?;
+    let writes = entry.writes.as_slice();
+    hold_names(code, leads, places, body, writes, 0, 1, outer)?;
+    Ok(())
+}
+
+/// 1 for a control entry, and 0 for any other.
+fn control_count(entry: &Entry) -> usize
+    ensures count { result ≡ (if is_kind Control (kind_of (entry_view entry.now).act) then 1 else 0) }
+    ensures most { result ≤ 1 }
+{
+    match entry.act.kind() {
+        Kind::Control => 1,
+        Kind::Leaf => 0,
+    }
+}
+
+/// What the rights of a body's entries come to: how many of the names are each of its own variables, the holds on data that it does
+/// not declare, and how many of the entries are control entries.
+#[derive(Drop)]
+struct Rights {
+    reads: Vec<u64>,
+    writes: Vec<u64>,
+    outer: Vec<Hold>,
+    controls: usize,
+}
+
+/// What the rights of these entries come to, in one pass over them.
+#[tactic(auto, using(crate::proofs::Counted::all_none, crate::proofs::Holds::holds_none, crate::proofs::Counted::reads_next, crate::proofs::Counted::writes_next, crate::proofs::Holds::holds_next, crate::proofs::Counts::control_next, crate::proofs::Counted::reads_past, crate::proofs::Counted::writes_past, crate::proofs::Holds::holds_past, crate::proofs::Counts::control_past, crate::proofs::Counted::all_entries, crate::proofs::Holds::holds_all, crate::proofs::Counts::control_all))]
+fn rights_of(
     alloc: Global,
     code: &Code,
     leads: &Leads,
     places: &Places,
     body: u32,
     entries: &[u32],
-) -> Result<Vec<Hold>, AllocError>
+    many: usize,
+) -> Result<Rights, AllocError>
     requires leads { IsLeads code.now leads.now }
     requires places { FindsPlaces (body_at code.now body).makes places.now }
-    ensures { IfOk result (λ holds. HoldsOf code.now body entries.now holds.items) }
+    ensures reads { IfOk result (λ rights. CountsOf places.now many (names_of code.now (λ e. e.reads) entries.now) rights.reads.items) }
+    ensures writes { IfOk result (λ rights. CountsOf places.now many (names_of code.now (λ e. e.writes) entries.now) rights.writes.items) }
+    ensures outer { IfOk result (λ rights. HoldsOf code.now body entries.now rights.outer.items) }
+    ensures controls { IfOk result (λ rights. rights.controls ≡ run_as code.now Control entries.now) }
 {
+    let mut reads = no_counts(alloc, many)?;
+    let mut writes = no_counts(alloc, many)?;
     let mut outer = Vec::new(alloc);
+    let mut controls = 0;
     for at in 0..entries.len() {
         if let Some(entry) = code.entry(entries[at]) {
-            let reads = entry.reads.as_slice();
-            hold_names(code, leads, places, body, reads, 1, 0, &mut outer)?;
-            let writes = entry.writes.as_slice();
-            hold_names(code, leads, places, body, writes, 0, 1, &mut outer)?;
+            count_names(&mut reads, places, entry.reads.as_slice())?;
+            count_names(&mut writes, places, entry.writes.as_slice())?;
+            hold_rights(code, leads, places, body, entry, &mut outer)?;
+            controls += control_count(entry);
         }
     }
-    Ok(outer)
-}
-
-/// How many of the entries are control entries.
-#[tactic(auto, using(crate::proofs::Counts::control_next, crate::proofs::Counts::leaf_next, crate::proofs::Counts::run_end))]
-fn controls(code: &Code, entries: &[u32]) -> usize
-    ensures { result ≡ run_as code.now Control entries.now }
-{
-    let mut count = 0;
-    for at in 0..entries.len() {
-        match code.kind(entries[at]) {
-            Kind::Control => count += 1,
-            Kind::Leaf => {}
-        }
-    }
-    count
+    Ok(Rights {
+        reads,
+        writes,
+        outer,
+        controls,
+    })
 }
 
 /// What is worked out of a body.
-#[tactic(auto, using(crate::proofs::Holds::body_reads, crate::proofs::Holds::body_writes, crate::proofs::Counts::leaves_left))]
+#[tactic(auto, using(crate::proofs::Counted::own_told, crate::proofs::Holds::body_reads, crate::proofs::Holds::body_writes, crate::proofs::Counts::leaves_left))]
 pub fn body_table(
     alloc: Global,
     code: &Code,
@@ -307,11 +288,16 @@ pub fn body_table(
     ensures { IfOk result (λ table. IsBodyTable code.now number table) }
 {
     let entries = body.entries.as_slice();
-    let controls = controls(code, entries);
     let makes = body.makes.as_slice();
+    let Rights {
+        reads,
+        writes,
+        outer,
+        controls,
+    } = rights_of(alloc, code, leads, places, number, entries, makes.len())?;
     Ok(BodyTable {
-        own: own_data(alloc, code, makes, entries, places)?,
-        outer: outer_holds(alloc, code, leads, places, number, entries)?,
+        own: with_counts(alloc, makes, reads.as_slice(), writes.as_slice())?,
+        outer,
         controls,
         leaves: entries.len().saturating_sub(controls),
     })

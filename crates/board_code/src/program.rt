@@ -11,6 +11,7 @@ ghost use Rattle.board_code.specs.Tables.{AllFrom, IsBodyTable, IsEntryTable, bo
 use crate::bodies::body_table;
 use crate::spot::{Leads, Spot};
 use data_store::store::Shape;
+use smallvec::SmallVec;
 use std::alloc::{AllocError, Global};
 use std::marker::Model;
 use task_code::code::Code;
@@ -27,6 +28,15 @@ pub enum Wanted {
     AtKey(Option<Spot>, Key),
 }
 
+impl Default for Wanted {
+    fn default() -> Wanted {
+        Wanted::Stored(None)
+    }
+}
+
+/// The places that names lead to. An entry mostly has one or two.
+pub type Spots = SmallVec<Spot, 2>;
+
 /// What a call hands over: what a name stands for, or the literal at its place among the arguments.
 #[derive(Clone, Copy, PartialEq, Eq, Debug, Drop)]
 pub enum Passed {
@@ -39,9 +49,9 @@ pub enum Passed {
 pub struct EntryTable {
     pub kind: Kind,
     pub priority: i32,
-    pub needs: Vec<Wanted>,
-    pub reads: Vec<Spot>,
-    pub writes: Vec<Spot>,
+    pub needs: SmallVec<Wanted, 1>,
+    pub reads: Spots,
+    pub writes: Spots,
     /// What it stores into.
     pub target: Option<Spot>,
     /// What it hands over, if it is a call.
@@ -121,11 +131,11 @@ fn needs_of(
     leads: &Leads,
     body: u32,
     needs: &[Need],
-) -> Result<Vec<Wanted>, AllocError>
+) -> Result<SmallVec<Wanted, 1>, AllocError>
     requires { IsLeads code.now leads.now }
     ensures { IfOk result (λ wanted. wanted.items ≡ map (wanted_in code.now body) (map need_view needs.now)) }
 {
-    let mut wanted = Vec::new(alloc);
+    let mut wanted = SmallVec::with_capacity(alloc, needs.len())?;
     for need in needs {
         wanted.push(wanted_of(code, leads, body, need))?;
     }
@@ -140,11 +150,11 @@ fn spots_of(
     leads: &Leads,
     body: u32,
     names: &[Name],
-) -> Result<Vec<Spot>, AllocError>
+) -> Result<Spots, AllocError>
     requires { IsLeads code.now leads.now }
     ensures { IfOk result (λ spots. spots.items ≡ spots_in code.now body (map name_view names.now)) }
 {
-    let mut spots = Vec::new(alloc);
+    let mut spots = SmallVec::with_capacity(alloc, names.len())?;
     for at in 0..names.len() {
         if let Some(spot) = leads.spot_in(code, body, names[at]) {
             spots.push(spot)?;
@@ -246,6 +256,7 @@ fn arguments_of(
         outputs,
     } = act
     {
+        passed.reserve(inputs.len().saturating_add(outputs.len()))?;
         push_inputs(&mut passed, code, leads, body, inputs.as_slice())?;
         push_outputs(&mut passed, code, leads, body, outputs.as_slice())?;
     }
@@ -338,7 +349,7 @@ fn entry_tables(alloc: Global, code: &Code, leads: &Leads) -> Result<Vec<EntryTa
     ensures each { IfOk result (λ tables. AllFrom (λ i t. IsEntryTable code.now (body_of code.now i) i t) 0 tables.items) }
     ensures all { IfOk result (λ tables. length tables.items ≡ length code.now.entries) }
 {
-    let mut tables = Vec::new(alloc);
+    let mut tables = Vec::with_capacity(alloc, code.entry_count())?;
     for number in 0..code.entry_count() {
         let number = number as u32;
         let Some(entry) = code.entry(number) else {
@@ -357,7 +368,7 @@ fn body_tables(alloc: Global, code: &Code, leads: &Leads) -> Result<Vec<BodyTabl
     ensures each { IfOk result (λ tables. AllFrom (λ b t. IsBodyTable code.now b t) 0 tables.items) }
     ensures all { IfOk result (λ tables. length tables.items ≡ length code.now.bodies) }
 {
-    let mut tables = Vec::new(alloc);
+    let mut tables = Vec::with_capacity(alloc, code.body_count())?;
     for number in 0..code.body_count() {
         let number = number as u32;
         let (Some(body), Some(places)) = (code.body(number), leads.places(number)) else {
@@ -408,6 +419,19 @@ impl Program {
         ensures { result.now ≡ self.now }
     {
         &self.code
+    }
+
+    /// The code alone.
+    pub fn into_code(self) -> Code
+        ensures { result ≡ self }
+    {
+        let Program {
+            code,
+            leads: _,
+            entries: _,
+            bodies: _,
+        } = self;
+        code
     }
 
     /// What is worked out of the entry of this number, where there is one.

@@ -19,6 +19,12 @@ pub struct Spot {
     pub slot: usize,
 }
 
+impl Default for Spot {
+    fn default() -> Spot {
+        Spot { levels: 0, slot: 0 }
+    }
+}
+
 /// Notes the body for each of its entries.
 #[tactic(auto, using(crate::proofs::Homes::note_next, crate::proofs::Homes::note_past, crate::proofs::Homes::note_end))]
 fn note_home(homes: &mut Vec<Option<u32>>, body: &Body, number: u32)
@@ -37,7 +43,7 @@ fn note_home(homes: &mut Vec<Option<u32>>, body: &Body, number: u32)
 fn no_homes(alloc: Global, count: usize) -> Result<Vec<Option<u32>>, AllocError>
     ensures { IfOk result (λ homes. homes.items ≡ replicate count None) }
 {
-    let mut homes = Vec::new(alloc);
+    let mut homes = Vec::with_capacity(alloc, count)?;
     for _ in 0..count {
         homes.push(None)?;
     }
@@ -114,7 +120,7 @@ fn all_places(alloc: Global, code: &Code) -> Result<Vec<Places>, AllocError>
     ensures each { IfOk result (λ all. AllFrom (λ b m. FindsPlaces (body_at code.now b).makes m) 0 all.items) }
     ensures all { IfOk result (λ all. length all.items ≡ length code.now.bodies) }
 {
-    let mut all = Vec::new(alloc);
+    let mut all = Vec::with_capacity(alloc, code.body_count())?;
     for number in 0..code.body_count() {
         let number = number as u32;
         let Some(body) = code.body(number) else {

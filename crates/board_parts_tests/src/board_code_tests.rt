@@ -34,6 +34,12 @@ fn program_of(rt: &impl Abort, alloc: Global) -> Box<Program> {
     program
 }
 
+#[test]
+fn a_program_gives_its_code_back(rt: HostRuntime) {
+    let program = Program::new(rt.alloc(), code_of(&rt, rt.alloc())).expect(&rt, "memory");
+    is_equal(&rt, program.into_code().entry_count(), 2);
+}
+
 /// The assignment is a leaf that stores into the first slot.
 fn set_is_a_leaf(rt: &impl Abort, program: &Program) {
     let set = program.entry(0).expect(rt, "an entry");

@@ -8,7 +8,7 @@ pub returns-in_default-entry-clause-none : goal.returns-in_default-entry-clause-
 returns-in_default-entry-clause-none c = λ few seen. missed_past _ _ (cells_view c.args.self.store.now.cells) c.in-Does.instance c.in-Does.entry c.in-Does.chunk (job_view c.args.job) (ap job_view c.in-Does.is) seen c.in_default-entry.ensures
 
 pub returns-clause-none : goal.returns-clause-none
-returns-clause-none c = λ few seen. true_none c.has_all.result _ _ c.has_all.ensures (listed_there _ _ (cells_view c.args.self.store.now.cells) c.as_slice.result.now c.in-Does.instance c.in-Does.entry c.in-Does.chunk (job_view c.args.job) (ap job_view c.in-Does.is) few seen (c.as_slice.ensures.value ∙ c.in-Some.ensures.1.needs))
+returns-clause-none c = λ few seen. true_none c.has_all.result _ _ c.has_all.ensures (listed_there _ _ (cells_view c.args.self.store.now.cells) c.as_slice.result.now c.in-Does.instance c.in-Does.entry c.in-Does.chunk (job_view c.args.job) (ap job_view c.in-Does.is) few seen (c.as_slice.ensures ∙ c.in-Some.ensures.1.needs))
 
 pub returns-clause-some : goal.returns-clause-some
-returns-clause-some c = λ few seen none. none_true c.has_all.result _ _ c.has_all.ensures (listed_there _ _ (cells_view c.args.self.store.now.cells) c.as_slice.result.now c.in-Does.instance c.in-Does.entry c.in-Does.chunk (job_view c.args.job) (ap job_view c.in-Does.is) few seen (c.as_slice.ensures.value ∙ c.in-Some.ensures.1.needs)) none
+returns-clause-some c = λ few seen none. none_true c.has_all.result _ _ c.has_all.ensures (listed_there _ _ (cells_view c.args.self.store.now.cells) c.as_slice.result.now c.in-Does.instance c.in-Does.entry c.in-Does.chunk (job_view c.args.job) (ap job_view c.in-Does.is) few seen (c.as_slice.ensures ∙ c.in-Some.ensures.1.needs)) none

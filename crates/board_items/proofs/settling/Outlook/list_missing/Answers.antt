@@ -9,4 +9,4 @@ pub returns-in_default-entry-clause-listed : goal.returns-in_default-entry-claus
 returns-in_default-entry-clause-listed c = λ few seen. listed_past _ _ (cells_view c.args.self.store.now.cells) (map want_view c.args.inputs.now.items) c.in-Does.instance c.in-Does.entry c.in-Does.chunk (job_view c.args.job) (ap job_view c.in-Does.is) seen c.in_default-entry.ensures
 
 pub returns-clause-listed : goal.returns-clause-listed
-returns-clause-listed c = on_ok_weaker c.list_missing.result (λ h. λ few seen. h ∙ ap (λ ys. map want_view c.args.inputs.now.items ++ ys) (listed_there _ _ (cells_view c.args.self.store.now.cells) c.as_slice.result.now c.in-Does.instance c.in-Does.entry c.in-Does.chunk (job_view c.args.job) (ap job_view c.in-Does.is) few seen (c.as_slice.ensures.value ∙ c.in-Some.ensures.1.needs))) c.list_missing.ensures.listed
+returns-clause-listed c = on_ok_weaker c.list_missing.result (λ h. λ few seen. h ∙ ap (λ ys. map want_view c.args.inputs.now.items ++ ys) (listed_there _ _ (cells_view c.args.self.store.now.cells) c.as_slice.result.now c.in-Does.instance c.in-Does.entry c.in-Does.chunk (job_view c.args.job) (ap job_view c.in-Does.is) few seen (c.as_slice.ensures ∙ c.in-Some.ensures.1.needs))) c.list_missing.ensures.listed
