@@ -121,6 +121,14 @@ pub err_from : {X E : Type 0} {A : Type 0} (r : Result X E) → ((IsOk r → ⊥
 err_from (Ok x) f = tt
 err_from (Err x) f = f (λ h. absurd (cc))
 
+pub on_ok : {X E : Type 0} {A B : Type 0} (r : Result X E) → (A → B) → OnOk r A → OnOk r B
+on_ok (Ok x) f h = f h
+on_ok (Err x) f h = tt
+
+pub on_err : {X E : Type 0} {A B : Type 0} (r : Result X E) → (A → B) → OnErr r A → OnErr r B
+on_err (Ok x) f h = tt
+on_err (Err x) f h = f h
+
 pub ok_take : {X E : Type 0} {A : Type 0} (r : Result X E) → IsOk r → OnOk r A → A
 ok_take (Ok x) h a = a
 ok_take (Err x) h a = absurd (cc)

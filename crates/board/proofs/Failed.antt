@@ -31,6 +31,8 @@ use Rattle.board_effects.specs.Effects.{IsAtWork}
 use Rattle.board_code.specs.Tables.{IsEntryTable, body_of}
 use Rattle.board_code.specs.declared.program.EntryTable.{EntryTable}
 use Rattle.board_work.specs.Assigned as Work
+use Rattle.entry_outcomes.specs.Outcome.{control_in, result_in}
+use Rattle.entry_outcomes.specs.declared.outcome.Outcome.{Outcome}
 use Rattle.task_code.specs.Code.{Entry as PureEntry, entry as entry_of}
 use Rattle.task_code.specs.Compute.{compute}
 use Rattle.board.proofs.OwnWork.{running_live}
@@ -187,6 +189,12 @@ entry_result C core k e c j is done x same table tabled (Err a) told = search ru
 pub script_result : {X : Type 0} (C : Code) (core : Core) (j : Job) (is : j ≡ Script) (done : Assigned) (r : Result Effect X) → ((fs : List (Option Frame)) (cs : List (Option Counted)) (y : Computed) → IfOk r (λ a. IsEffect C fs cs Script y a)) → IfOk r (IsEffectOf C core j done)
 script_result C core j is done (Ok a) told = script_effect_of C core j is done a told
 script_result C core j is done (Err a) told = search rules
+
+-- what is told of each work is told of all
+pub told_of_all : {X : Type 0} (C : Code) (core : Core) (j : Job) (o : Outcome) (r : Result Effect X) → ((done : Assigned) → result_in o ≡ Work.job_result done.job done.answers → control_in o ≡ Work.job_control done.job done.answers → IfOk r (IsEffectOf C core j done))
+    → IfOk r (λ e. (done : Assigned) → result_in o ≡ Work.job_result done.job done.answers → control_in o ≡ Work.job_control done.job done.answers → IsEffectOf C core j done e)
+told_of_all C core j o (Ok e) told = told
+told_of_all C core j o (Err e) told = search rules
 
 pub stays_if : (C : Code) (n : ℕ) (j : Job) (done : Assigned) (old new : Core) (e : Effect) → is_fault e ≡ false → StaysBy C n j e old new → IsEffectOf C old j done e → StaysIf C n j done old new
 stays_if C n j done old new e good stays effect es w I s free runs own = stays es w I s free runs own.inputs own.known (effect es w n I s runs own) good

@@ -10,7 +10,7 @@ use Rattle.board_work.specs.Assigned.{Assigned, runs}
 use Rattle.dataflow.specs.System.{Answer}
 use Rattle.values.specs.declared.key.Key.{Key}
 use Rattle.values.specs.declared.value.Scalar.{Scalar}
-use Rattle.board.specs.Working.{IsWorkAt}
+use Rattle.board.specs.Working.{IsWorkAt, answers_at}
 
 module _ (C : Code) (fs : List (Option Frame)) (cs : List (Option Counted)) (k e c : ℕ) (j : Job) (work : Assigned) (t : EntryTable) (is : j ≡ Does k e c) (table : IsEntryTable C (body_of C e) e t) where
   pub work_at : (x : Entry) → work.job ≡ runs x → x ≡ entry C e → work.answers ≡ map (wanted_answer C cs (led_slot fs k)) t.needs.items → IsWorkAt C fs cs j work
@@ -28,3 +28,6 @@ module _ (C : Code) (fs : List (Option Frame)) (cs : List (Option Counted)) (k e
   -- and whether it is that, told by a comparison of the answers
   pub work_told : (x : Entry) → work.job ≡ runs x → x ≡ entry C e → (b : Bool) (xs ys : List (Answer Key Scalar)) → (IsTrue b ↔ (xs ≡ ys)) → xs ≡ work.answers → ys ≡ map (wanted_answer C cs (led_slot fs k)) t.needs.items → IsTrue b ↔ IsWorkAt C fs cs j work
   work_told x job same b xs ys told mine theirs = (λ h. work_at x job same (sym mine ∙ told.0 h ∙ theirs), λ a. told.1 (mine ∙ (at_work a).1 ∙ sym theirs))
+
+  pub answers_told : (xs : List (Answer Key Scalar)) → xs ≡ map (wanted_answer C cs (led_slot fs k)) t.needs.items → xs ≡ answers_at C fs cs j
+  answers_told xs h = subst (λ (i : Job). xs ≡ answers_at C fs cs i) (sym is) (h ∙ ap (map (wanted_answer C cs (led_slot fs k))) table.needs)

@@ -1,5 +1,5 @@
 //! The board: begin, end and give back items.
-ghost use Rattle.std.specs.Prelude.{ℕ, ℤ, ◌≡◌, ◌⊎◌, ◌<◌, ◌≤◌, ◌^◌, ◌∷◌, [], map, length, vec_len, IfOk, IfErr, IfSome, IfNone, OnOk, OnErr, IsTrue, ◌↔◌, None, Some, int_lt, slice_get, true};
+ghost use Rattle.std.specs.Prelude.{ℕ, ℤ, ◌≡◌, ◌⊎◌, ◌<◌, ◌≤◌, ◌^◌, ◌∷◌, [], map, length, vec_len, MatchBool, IfOk, IfErr, IfSome, IfNone, OnOk, OnErr, IsTrue, ◌↔◌, None, Some, int_lt, slice_get, true};
 ghost use Rattle.dataflow.specs.Machine.{start};
 ghost use Rattle.dataflow.specs.Machine as Machine;
 ghost use Rattle.task_code.specs.Machine.{CodeItem, DataAreExact, Quiet, Run, run_log};
@@ -8,7 +8,10 @@ ghost use Rattle.task_code.specs.View.{event_view, kind_view};
 ghost use Rattle.task_code.specs.Whole.{IsCode};
 ghost use Rattle.work_queue.specs.declared.entry.Kind.{Kind as QueueKind};
 ghost use Rattle.board_code.specs.Tables.{queue_kind};
-ghost use Rattle.board.specs.Board.{AreByWorkers, IsWorker, IsGoing, Accepts, IsOwn, RefusesBegin, RefusesEnd, RefusesBack, RefusesWork};
+ghost use Rattle.board_work.specs.Assigned.{Assigned};
+ghost use Rattle.entry_outcomes.specs.View.{answers_view};
+ghost use Rattle.board.specs.Board.{Seen, AreByWorkers, IsWorker, IsGoing, Accepts, IsOwn, RefusesBegin, RefusesEnd, RefusesBack, RefusesWork};
+ghost use Rattle.board.specs.declared.refusal.Refusal.TheVariants.{Memory};
 ghost use Rattle.board.specs.Numbers.{AreNumbered};
 ghost use Rattle.board.specs.Stored.{AreSoMany};
 ghost use Rattle.board.specs.Ready.{AreReady, IsFirst, IsNext, IsReady, Precedes};
@@ -78,6 +81,16 @@ impl Model for Board {
     ghost invariant = { IsSound };
 }
 
+/// What a board leaves.
+#[derive(Drop)]
+pub struct Remains {
+    pub code: Code,
+    /// The events, from the first on.
+    pub history: Vec<Event>,
+    /// The lines that were printed, in their order.
+    pub lines: Vec<Scalar>,
+}
+
 /// The kind as the queue has it.
 fn queue_kind(kind: Kind) -> work_queue::entry::Kind
     ensures { result ≡ queue_kind (kind_view kind) }
@@ -96,6 +109,15 @@ fn code_kind(kind: work_queue::entry::Kind) -> Kind
         work_queue::entry::Kind::Control => Kind::Control,
         work_queue::entry::Kind::Leaf => Kind::Leaf,
     }
+}
+
+/// The list, emptied, with the room that it has.
+fn emptied(list: Vec<Answer>) -> Vec<Answer>
+    ensures { result.items ≡ [] }
+{
+    let mut list = list;
+    list.clear();
+    list
 }
 
 impl Board {
@@ -229,6 +251,87 @@ impl Board {
         Ok(())
     }
 
+    /// Begins the item on the worker as `begin` does, and hands out the answers to its needs alone.
+    fn start(&mut self, worker: u8, item: u64) -> Result<Vec<Answer>, Refusal>
+        requires { IsWorker worker }
+        ensures accepted { OnOk result (Accepts self.old (Machine.Begin worker item) self.new) }
+        ensures own { IfOk result (λ answers. (work : Assigned) × (work.item ≡ item) × (work.answers ≡ answers_view answers.items) × IsOwn self.new worker work) }
+        ensures refused { IfErr result (λ e. RefusesBegin self.old item e) }
+        ensures unchanged { OnErr result (self.new ≡ self.old) }
+    {
+        if !self.is_going() {
+            return Err(Refusal::Ended);
+        }
+        let Some(job) = self.core.ready_job(item) else {
+            return Err(Refusal::NotReady);
+        };
+        let Ok(()) = self.core.sort_arrays(&self.program, job) else {
+            return Err(Refusal::Memory);
+        };
+        let list = replace(&mut self.answers, Vec::new(self.core.alloc));
+        let Ok(answers) = self.core.answers_of(&self.program, job, list) else {
+            return Err(Refusal::Memory);
+        };
+        // Room for this event, and for the next one of each item that runs.
+        let Ok(()) = self
+            .history
+            .reserve(self.core.items.running.saturating_add(2))
+        else {
+            return Err(Refusal::Memory);
+        };
+        self.core.begin(&self.program, worker, item, job);
+        self.history.push_reserved(Event::Begin { worker, item });
+        Ok(answers)
+    }
+
+    /// Computes the item from the answers to its needs, and ends it on the worker, where it runs. It says whether the board took the
+    /// end, which it refuses where it has ended.
+    fn finish(&mut self, worker: u8, item: u64, answers: Vec<Answer>) -> Result<bool, AllocError>
+        requires worker { IsWorker worker }
+        requires own { (work : Assigned) × (work.item ≡ item) × (work.answers ≡ answers_view answers.items) × IsOwn self.old worker work }
+        ensures ends { IfOk result (λ taken. MatchBool taken (Accepts self.old (Machine.End worker item) self.new) ((self.new ≡ self.old) × ¬ IsGoing self.old)) }
+        ensures unchanged { OnErr result (self.new ≡ self.old) }
+    {
+        if !self.is_going() {
+            return Ok(false);
+        }
+        let Some(job) = self.core.running_job(worker, item) else {
+            unreachable!();
+        };
+        let Ok(()) = self.core.end_from(
+            &self.program,
+            self.most_names,
+            item,
+            job,
+            answers.as_slice(),
+            &mut self.known,
+        )
+        else {
+            return Err(AllocError);
+        };
+        self.history.push_reserved(Event::End { worker, item });
+        self.answers = emptied(answers);
+        Ok(true)
+    }
+
+    /// Begins the item on the worker, computes it and ends it: as `begin`, `Work::compute` and `end` do, where nobody else looks at
+    /// the work. Answers whether it has ended: where the limit was reached between the two events, it has begun alone.
+    ///
+    /// # Errors
+    ///
+    /// As `begin`; and `Memory`, once the item has begun, where memory was refused to its computing or its end. It still runs then.
+    pub fn perform(&mut self, worker: u8, item: u64) -> Result<bool, Refusal>
+        requires { IsWorker worker }
+        ensures performed { IfOk result (λ ended. MatchBool ended ((mid : Seen) × Accepts self.old (Machine.Begin worker item) mid × Accepts mid (Machine.End worker item) self.new) (Accepts self.old (Machine.Begin worker item) self.new × ¬ IsGoing self.new)) }
+        ensures refused { IfErr result (λ e. ((self.new ≡ self.old) × RefusesBegin self.old item e) ⊎ (Accepts self.old (Machine.Begin worker item) self.new × (e ≡ Memory))) }
+    {
+        let answers = self.start(worker, item)?;
+        match self.finish(worker, item, answers) {
+            Ok(ended) => Ok(ended),
+            Err(_) => Err(Refusal::Memory),
+        }
+    }
+
     /// Gives the item back: it runs no more. Takes no memory.
     ///
     /// # Errors
@@ -290,20 +393,26 @@ impl Board {
         &self.history
     }
 
-    /// The events, from the first on, once the board is not needed any more. Takes no memory.
-    pub fn into_history(self) -> Vec<Event>
-        ensures { map event_view result.items ≡ self.history }
+    /// What is left of it once it is not needed any more. Takes no memory.
+    pub fn into_remains(self) -> Remains
+        ensures code { result.code ≡ self.code }
+        ensures history { map event_view result.history.items ≡ self.history }
+        ensures lines { result.lines.items ≡ self.state.lines }
     {
         let Board {
-            program: _,
+            program,
             most_names: _,
             limit: _,
-            core: _,
+            core,
             history,
             known: _,
             answers: _,
         } = self;
-        history
+        Remains {
+            code: program.into_code(),
+            history,
+            lines: core.into_lines(),
+        }
     }
 
     /// The lines that were printed so far, in their order: a text each, where the code prints texts alone.

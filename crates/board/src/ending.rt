@@ -2,9 +2,12 @@
 
 ghost use Rattle.std.specs.Prelude.{◌≡◌, IfOk, OnErr, OnOk};
 ghost use Rattle.board_frames.specs.View.{job_view};
+ghost use Rattle.board_work.specs.Assigned.{Assigned, job_control, job_result};
+ghost use Rattle.entry_outcomes.specs.Outcome.{control_in, result_in};
+ghost use Rattle.entry_outcomes.specs.View.{answers_view};
 ghost use Rattle.board.specs.Counted.{AreAtMost};
 ghost use Rattle.board.specs.Ending.{HasEnded, HasFailed, HasPassed, IsEffectOf, StaysBy, StaysIf};
-ghost use Rattle.board.specs.Working.{IsThere};
+ghost use Rattle.board.specs.Working.{IsThere, work_of};
 
 use crate::changing::change_of;
 use crate::state::Core;
@@ -16,14 +19,45 @@ use board_frames::item::Job;
 use board_frames::place::Fault;
 use board_items::settling::Outlook;
 use board_work::work::Done;
+use entry_outcomes::answer::Answer;
+use entry_outcomes::outcome::{Computed, Outcome, outcome_of};
 use rules::input::Input;
-use std::alloc::AllocError;
+use std::alloc::{AllocError, Global};
+
+/// What the item of a job comes to, whose needs have these answers.
+fn outcome_for(
+    alloc: Global,
+    program: &Program,
+    job: Job,
+    answers: &[Answer],
+) -> Result<Outcome, AllocError>
+    requires { IsThere program.now (job_view job) }
+    ensures leaf { IfOk result (λ o. result_in o ≡ job_result (work_of program.now (job_view job)) (answers_view answers.now)) }
+    ensures control { IfOk result (λ o. control_in o ≡ job_control (work_of program.now (job_view job)) (answers_view answers.now)) }
+{
+    if let Job::Does {
+        instance: _,
+        entry,
+        chunk: _,
+    } = job
+    {
+        if let Some(found) = program.code().entry(entry) {
+            return outcome_of(alloc, &found.act, answers);
+        }
+    }
+    Ok(Outcome::Control(Computed::Opens))
+}
 
 impl Core {
-    /// What the item of a job does, which ends with this work.
-    fn effect_of(&self, program: &Program, job: Job, done: &Done) -> Result<Effect, AllocError>
+    /// What the item of a job does, which comes to this.
+    fn effect_of(
+        &self,
+        program: &Program,
+        job: Job,
+        outcome: &Outcome,
+    ) -> Result<Effect, AllocError>
         requires { IsThere program.now (job_view job) }
-        ensures { IfOk result (IsEffectOf program.now self.now (job_view job) done.now) }
+        ensures { IfOk result (λ e. (done : Assigned) → result_in outcome.now ≡ job_result done.job done.answers → control_in outcome.now ≡ job_control done.job done.answers → IsEffectOf program.now self.now (job_view job) done e) }
     {
         match job {
             Job::Script => return script_effect(self.alloc, program),
@@ -46,7 +80,7 @@ impl Core {
                         table,
                         chunk,
                     };
-                    return ended.effect(done.outcome());
+                    return ended.effect(outcome);
                 }
                 _ => Ok(Effect::Passes),
             },
@@ -93,6 +127,32 @@ impl Core {
         self.items.finish(outlook, number, job, first, spare)
     }
 
+    /// The item, which runs, ends with this effect, by way of the list as `pass` does. No entry reads or writes more names than `most`.
+    fn end_by(
+        &mut self,
+        program: &Program,
+        most: usize,
+        number: u64,
+        job: Job,
+        effect: Effect,
+        known: &mut Vec<Input>,
+    ) -> Result<(), AllocError>
+        requires { AreAtMost program.now most }
+        ensures ended { OnOk result ((done : Assigned) → IsEffectOf program.now self.old (job_view job) done effect → HasEnded program.now number (job_view job) done self.old self.new) }
+        ensures same { OnErr result ((done : Assigned) → IsEffectOf program.now self.old (job_view job) done effect → StaysIf program.now number (job_view job) done self.old self.new) }
+    {
+        match effect {
+            Effect::Fails(fault) => {
+                self.fail(fault);
+                Ok(())
+            }
+            passed => match self.pass(program, most, number, job, passed, known) {
+                Ok(()) => Ok(()),
+                Err(refused) => Err(refused),
+            },
+        }
+    }
+
     /// The item, which runs, ends with what was done for it, by way of the list as `pass` does. No entry reads or writes more names
     /// than `most`.
     pub fn end(
@@ -109,15 +169,27 @@ impl Core {
         ensures ended { OnOk result (HasEnded program.now number (job_view job) done.now self.old self.new) }
         ensures same { OnErr result (StaysIf program.now number (job_view job) done.now self.old self.new) }
     {
-        match self.effect_of(program, job, done)? {
-            Effect::Fails(fault) => {
-                self.fail(fault);
-                Ok(())
-            }
-            passed => match self.pass(program, most, number, job, passed, known) {
-                Ok(()) => Ok(()),
-                Err(refused) => Err(refused),
-            },
-        }
+        let effect = self.effect_of(program, job, done.outcome())?;
+        self.end_by(program, most, number, job, effect, known)
+    }
+
+    /// As `end`, from the answers to the item's needs: what it comes to is computed here.
+    pub fn end_from(
+        &mut self,
+        program: &Program,
+        most: usize,
+        number: u64,
+        job: Job,
+        answers: &[Answer],
+        known: &mut Vec<Input>,
+    ) -> Result<(), AllocError>
+        requires there { IsThere program.now (job_view job) }
+        requires names { AreAtMost program.now most }
+        ensures ended { OnOk result ((done : Assigned) → done.job ≡ work_of program.now (job_view job) → done.answers ≡ answers_view answers.now → HasEnded program.now number (job_view job) done self.old self.new) }
+        ensures same { OnErr result ((done : Assigned) → done.job ≡ work_of program.now (job_view job) → done.answers ≡ answers_view answers.now → StaysIf program.now number (job_view job) done self.old self.new) }
+    {
+        let outcome = outcome_for(self.alloc, program, job, answers)?;
+        let effect = self.effect_of(program, job, &outcome)?;
+        self.end_by(program, most, number, job, effect, known)
     }
 }

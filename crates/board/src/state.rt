@@ -56,6 +56,20 @@ impl Core {
         })
     }
 
+    /// The lines alone.
+    pub fn into_lines(self) -> Vec<Scalar>
+        ensures { result ≡ self.lines }
+    {
+        let Core {
+            world: _,
+            items: _,
+            lines,
+            fault: _,
+            alloc: _,
+        } = self;
+        lines
+    }
+
     /// What an instance sees.
     pub fn view<'a>(&'a self, program: &'a Program, at: usize) -> View<'a>
         ensures program { result.program.now ≡ program.now }

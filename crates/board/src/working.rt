@@ -5,7 +5,8 @@ ghost use Rattle.task_code.specs.Code.{Code};
 ghost use Rattle.board_data.specs.View.{cells_view};
 ghost use Rattle.board_frames.specs.View.{frames_view, job_view};
 ghost use Rattle.board_data.specs.Data.{AreRising};
-ghost use Rattle.board.specs.Working.{IsThere, IsWorkAt};
+ghost use Rattle.entry_outcomes.specs.View.{answers_view};
+ghost use Rattle.board.specs.Working.{IsThere, IsWorkAt, answers_at};
 
 use crate::state::Core;
 use board_code::program::{Program, Wanted};
@@ -29,7 +30,7 @@ impl Core {
         } = job
         {
             if let Some(table) = program.entry(entry) {
-                for wanted in &table.needs {
+                for wanted in table.needs.as_slice() {
                     if let Wanted::Closed(spot) = wanted {
                         let d = datum_at(&self.world.instances, instance, *spot);
                         data::sort(&mut self.world.store, d)?;
@@ -38,6 +39,29 @@ impl Core {
             }
         }
         Ok(())
+    }
+
+    /// The answers to the needs of an item of this job, in the list, whatever was in it.
+    pub fn answers_of(
+        &self,
+        program: &Program,
+        job: Job,
+        list: Vec<Answer>,
+    ) -> Result<Vec<Answer>, AllocError>
+        requires { IsThere program.now (job_view job) }
+        ensures { IfOk result (λ found. answers_view found.items ≡ answers_at program.now (frames_view self.now.world.instances.slots) (cells_view self.now.world.store.cells) (job_view job)) }
+    {
+        if let Job::Does {
+            instance,
+            entry,
+            chunk: _,
+        } = job
+        {
+            if let Some(table) = program.entry(entry) {
+                return answers(list, self.view(program, instance), table.needs.as_slice());
+            }
+        }
+        Ok(Vec::new(self.alloc))
     }
 
     /// The work of the item of a number, which has this job, with the answers in the list, whatever was in it.

@@ -2,7 +2,7 @@
 ghost use Rattle.board.specs.Board.{IsWorker};
 
 use crate::asserts::is_equal;
-use board::board::Board;
+use board::board::{Board, Remains};
 use board::refusal::Refusal;
 use board::{Done, Work};
 use std::alloc::Global;
@@ -148,6 +148,41 @@ fn an_own_item_ends(rt: HostRuntime) {
     let mut board = hello_board(&rt, rt.alloc(), 100);
     is_equal(&rt, own_on(&mut board, 3, 1), Ok(()));
     has_opened(&rt, &board);
+}
+
+/// An item is performed by one call as by three, and once.
+#[test]
+fn an_item_is_performed(rt: HostRuntime) {
+    let mut board = hello_board(&rt, rt.alloc(), 100);
+    is_equal(&rt, board.perform(3, 1), Ok(true));
+    has_opened(&rt, &board);
+    is_equal(&rt, board.perform(3, 1), Err(Refusal::NotReady));
+    is_equal(&rt, board.perform(2, 2), Ok(true));
+    is_over(&rt, &board);
+}
+
+/// An item that is performed where the limit leaves room for one event has begun alone.
+#[test]
+fn the_limit_cuts_an_item(rt: HostRuntime) {
+    let mut board = hello_board(&rt, rt.alloc(), 1);
+    is_equal(&rt, board.perform(0, 1), Ok(false));
+    is_equal(&rt, board.history().len(), 1);
+}
+
+/// The code, the events and the line are left.
+fn are_left(rt: &impl Abort, left: &Remains) {
+    is_equal(rt, (left.code.entry_count(), left.history.len()), (1, 4));
+    is_equal(rt, left.lines.len(), 1);
+}
+
+#[test]
+fn a_board_leaves_what_it_has(rt: HostRuntime) {
+    let mut board = Board::new(rt.alloc(), hello(rt.alloc()).expect(&rt, "a code"), 100).expect(
+        &rt, "memory",
+    );
+    works(&rt, &mut board, 0, 1);
+    works(&rt, &mut board, 2, 2);
+    are_left(&rt, &board.into_remains());
 }
 
 /// The script runs on worker 1, which can have its work again; it does not begin again.

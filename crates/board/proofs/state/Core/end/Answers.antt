@@ -1,25 +1,10 @@
-use Rattle.std.proofs.Common.{subst}
-use Rattle.board_frames.specs.View.{job_view}
-use Rattle.board.proofs.Failed.{failed_ended, not_fault, passed_ended, stays_if}
-use Rattle.board.specs.Ending.{IsEffectOf}
-use Rattle.board_effects.specs.declared.effect.Effect.{Effect}
+use Rattle.board.proofs.Ends.{on_err, on_ok}
 use Rattle.board.proofs.state.Core.end.Goals as goal
 
-pub returns-in-Fails-clause-ended : goal.returns-in-Fails-clause-ended
-returns-in-Fails-clause-ended c =
-    failed_ended c.args.program.now c.args.number (job_view c.args.job) c.args.done.now c.args.self.now c.fail.new.self c.in-Fails.fault c.fail.ensures
-    (subst (λ (e : Effect). IsEffectOf c.args.program.now c.args.self.now (job_view c.args.job) c.args.done.now e) c.in-Fails.is c.in_ok-passed.ensures)
+pub returns-clause-ended : goal.returns-clause-ended
+returns-clause-ended c =
+    on_ok c.end_by.result (λ ended. ended c.args.done.now (c.in_ok-effect.ensures c.args.done.now c.outcome.ensures.leaf c.outcome.ensures.control)) c.end_by.ensures.ended
 
-pub returns-in-Ok : goal.returns-in-Ok
-returns-in-Ok c =
-    record {
-      ended = passed_ended c.args.program.now c.args.number (job_view c.args.job) c.args.done.now c.args.self.now c.pass.new.self c.in_ok-passed.passed (not_fault c.in_ok-passed.passed c.in_default.not-Fails) c.in-Ok.ensures.passed c.in_ok-passed.ensures;
-      same = tt;
-    }
-
-pub returns-in-Err : goal.returns-in-Err
-returns-in-Err c =
-    record {
-      ended = tt;
-      same = stays_if c.args.program.now c.args.number (job_view c.args.job) c.args.done.now c.args.self.now c.pass.new.self c.in_ok-passed.passed (not_fault c.in_ok-passed.passed c.in_default.not-Fails) c.in-Err.ensures.same c.in_ok-passed.ensures;
-    }
+pub returns-clause-same : goal.returns-clause-same
+returns-clause-same c =
+    on_err c.end_by.result (λ same. same c.args.done.now (c.in_ok-effect.ensures c.args.done.now c.outcome.ensures.leaf c.outcome.ensures.control)) c.end_by.ensures.same

@@ -1,0 +1,83 @@
+use Rattle.std.proofs.Common.{rules, ap, arith, refl, sym, ◌∙◌, subst, map}
+use Rattle.std.proofs.lemmas.Grind.{common_steps}
+use Rattle.replayed.specs.Fields.{Running}
+use Rattle.task_code.specs.View.{event_view}
+use Rattle.task_code.specs.declared.event.Event.TheVariants as Events
+use Rattle.board_data.specs.View.{cells_view}
+use Rattle.board_frames.specs.View.{frames_view, job_view, rows_view}
+use Rattle.entry_outcomes.specs.View.{answers_view}
+use Rattle.board.specs.Board.{IsGoing, IsOwn, Seen}
+use Rattle.board.specs.Inside.{seen_of}
+use Rattle.board.specs.Working.{IsWorkAt}
+use Rattle.board.proofs.Own.{accepts_on, free_core, not_theirs, numbered, same_on, same_seen, some_run, sound_on}
+use Rattle.board.proofs.OwnWork.{job_there, running_live, seen_own, work_own}
+use Rattle.board.proofs.board.Board.finish.Goals as goal
+
+pub unreachable-requires : goal.unreachable-requires
+unreachable-requires c =
+    let own : IsOwn (seen_of c.self.inside) c.args.worker c.requires.own.0 = subst (λ (b : Seen). IsOwn b c.args.worker c.requires.own.0) (sym c.self.view_is) c.requires.own.3 in
+    not_theirs c.self.inside.program c.self.invariant.whole (map event_view c.self.inside.history.items) c.self.inside.core c.self.invariant.stand c.args.worker c.args.item c.in_default.ensures.none
+    (record { item = own.item; there = own.there; number_is = own.number_is ∙ c.requires.own.1; runs = own.runs })
+
+pub push_reserved-requires : goal.push_reserved-requires
+push_reserved-requires c =
+    let going : IsGoing c.args.self.now = search rules in
+    let here : IsGoing (seen_of c.self.inside) = subst (λ (b : Seen). IsGoing b) (sym c.self.view_is) going in
+    let none = free_core c.self.inside.program c.self.invariant.whole (map event_view c.self.inside.history.items) c.self.inside.core c.self.invariant.stand here.0 in
+    let some = some_run c.self.inside.program c.self.invariant.whole (map event_view c.self.inside.history.items) c.self.inside.core c.self.invariant.stand c.args.worker c.args.item (job_view c.in-Some.job) c.in-Some.ensures.some in
+    grind (arith, common_steps, c.self.invariant.room none, some)
+
+pub invariant_of-self-2 : goal.invariant_of-self-2
+invariant_of-self-2 c =
+    let going : IsGoing c.args.self.now = search rules in
+    let here : IsGoing (seen_of c.self.inside) = subst (λ (b : Seen). IsGoing b) (sym c.self.view_is) going in
+    let none = free_core c.self.inside.program c.self.invariant.whole (map event_view c.self.inside.history.items) c.self.inside.core c.self.invariant.stand here.0 in
+    let own : IsOwn (seen_of c.self.inside) c.args.worker c.requires.own.0 = subst (λ (b : Seen). IsOwn b c.args.worker c.requires.own.0) (sym c.self.view_is) c.requires.own.3 in
+    let at : IsWorkAt c.self.inside.program (frames_view c.self.inside.core.world.instances.slots) (cells_view c.self.inside.core.world.store.cells) (job_view c.in-Some.job) c.requires.own.0 = seen_own c.self.inside c.self.invariant none c.args.worker c.args.item (job_view c.in-Some.job) c.in-Some.ensures.some c.requires.own.0 c.requires.own.1 own in
+    sound_on c.self.inside c.self.invariant (record { program = c.self.inside.program; most_names = c.self.inside.most_names; limit = c.self.inside.limit; core = c.end_from.new.self; history = c.push_reserved.new.self; known = c.end_from.new.known; answers = c.emptied.result }) (Events.End c.args.worker c.args.item) refl refl refl (search rules)
+    ((c.in-Ok.ensures.ended c.requires.own.0 at.job (c.requires.own.2 ∙ ap answers_view (sym c.as_slice.ensures.value))).stand (map event_view c.self.inside.history.items) c.args.worker c.self.invariant.whole c.self.invariant.stand none c.in-Some.ensures.some
+    (work_own c.self.inside.program c.self.invariant.whole (map event_view c.self.inside.history.items) c.self.inside.core c.self.invariant.stand none c.args.worker c.args.item (job_view c.in-Some.job) c.in-Some.ensures.some c.requires.own.0 at))
+    (λ h. grind (arith, common_steps, c.self.invariant.room none, (c.in-Ok.ensures.ended c.requires.own.0 at.job (c.requires.own.2 ∙ ap answers_view (sym c.as_slice.ensures.value))).running (map event_view c.self.inside.history.items) c.args.worker c.self.invariant.whole c.self.invariant.stand c.in-Some.ensures.some h))
+    (grind (arith, common_steps, here.1))
+    c.requires.worker
+    (numbered (rows_view c.self.inside.core.items.rows.items) c.args.item _ c.in-Some.ensures.some, search rules)
+
+pub returns-clause-ends : goal.returns-clause-ends
+returns-clause-ends c =
+    let going : IsGoing c.args.self.now = search rules in
+    let here : IsGoing (seen_of c.self.inside) = subst (λ (b : Seen). IsGoing b) (sym c.self.view_is) going in
+    let none = free_core c.self.inside.program c.self.invariant.whole (map event_view c.self.inside.history.items) c.self.inside.core c.self.invariant.stand here.0 in
+    let own : IsOwn (seen_of c.self.inside) c.args.worker c.requires.own.0 = subst (λ (b : Seen). IsOwn b c.args.worker c.requires.own.0) (sym c.self.view_is) c.requires.own.3 in
+    let at : IsWorkAt c.self.inside.program (frames_view c.self.inside.core.world.instances.slots) (cells_view c.self.inside.core.world.store.cells) (job_view c.in-Some.job) c.requires.own.0 = seen_own c.self.inside c.self.invariant none c.args.worker c.args.item (job_view c.in-Some.job) c.in-Some.ensures.some c.requires.own.0 c.requires.own.1 own in
+    rw (← c.self.view_is) (accepts_on c.self.inside c.self.invariant (record { program = c.self.inside.program; most_names = c.self.inside.most_names; limit = c.self.inside.limit; core = c.end_from.new.self; history = c.push_reserved.new.self; known = c.end_from.new.known; answers = c.emptied.result }) (Events.End c.args.worker c.args.item) refl refl (search rules)
+    ((c.in-Ok.ensures.ended c.requires.own.0 at.job (c.requires.own.2 ∙ ap answers_view (sym c.as_slice.ensures.value))).stand (map event_view c.self.inside.history.items) c.args.worker c.self.invariant.whole c.self.invariant.stand none c.in-Some.ensures.some
+    (work_own c.self.inside.program c.self.invariant.whole (map event_view c.self.inside.history.items) c.self.inside.core c.self.invariant.stand none c.args.worker c.args.item (job_view c.in-Some.job) c.in-Some.ensures.some c.requires.own.0 at)) here)
+
+pub end_from-requires-clause-names : goal.end_from-requires-clause-names
+end_from-requires-clause-names c = c.self.invariant.names
+
+pub end_from-requires-clause-there : goal.end_from-requires-clause-there
+end_from-requires-clause-there c =
+    job_there c.self.inside.program c.self.invariant.whole (map event_view c.self.inside.history.items) c.self.inside.core c.self.invariant.stand c.args.item (job_view c.in-Some.job) (Running c.args.worker) c.in-Some.ensures.some (running_live c.args.worker)
+
+pub invariant_of-self : goal.invariant_of-self
+invariant_of-self c =
+    let going : IsGoing c.args.self.now = search rules in
+    let here : IsGoing (seen_of c.self.inside) = subst (λ (b : Seen). IsGoing b) (sym c.self.view_is) going in
+    let none = free_core c.self.inside.program c.self.invariant.whole (map event_view c.self.inside.history.items) c.self.inside.core c.self.invariant.stand here.0 in
+    let own : IsOwn (seen_of c.self.inside) c.args.worker c.requires.own.0 = subst (λ (b : Seen). IsOwn b c.args.worker c.requires.own.0) (sym c.self.view_is) c.requires.own.3 in
+    let at : IsWorkAt c.self.inside.program (frames_view c.self.inside.core.world.instances.slots) (cells_view c.self.inside.core.world.store.cells) (job_view c.in-Some.job) c.requires.own.0 = seen_own c.self.inside c.self.invariant none c.args.worker c.args.item (job_view c.in-Some.job) c.in-Some.ensures.some c.requires.own.0 c.requires.own.1 own in
+    let same = c.in_default-end_from.ensures.same c.requires.own.0 at.job (c.requires.own.2 ∙ ap answers_view (sym c.as_slice.ensures.value)) (map event_view c.self.inside.history.items) c.args.worker c.self.invariant.whole c.self.invariant.stand none c.in-Some.ensures.some
+    (work_own c.self.inside.program c.self.invariant.whole (map event_view c.self.inside.history.items) c.self.inside.core c.self.invariant.stand none c.args.worker c.args.item (job_view c.in-Some.job) c.in-Some.ensures.some c.requires.own.0 at) in
+    same_on c.self.inside c.self.invariant c.end_from.new.self c.end_from.new.known c.self.inside.answers same
+
+pub returns-in_default-end_from-clause-unchanged : goal.returns-in_default-end_from-clause-unchanged
+returns-in_default-end_from-clause-unchanged c =
+    let going : IsGoing c.args.self.now = search rules in
+    let here : IsGoing (seen_of c.self.inside) = subst (λ (b : Seen). IsGoing b) (sym c.self.view_is) going in
+    let none = free_core c.self.inside.program c.self.invariant.whole (map event_view c.self.inside.history.items) c.self.inside.core c.self.invariant.stand here.0 in
+    let own : IsOwn (seen_of c.self.inside) c.args.worker c.requires.own.0 = subst (λ (b : Seen). IsOwn b c.args.worker c.requires.own.0) (sym c.self.view_is) c.requires.own.3 in
+    let at : IsWorkAt c.self.inside.program (frames_view c.self.inside.core.world.instances.slots) (cells_view c.self.inside.core.world.store.cells) (job_view c.in-Some.job) c.requires.own.0 = seen_own c.self.inside c.self.invariant none c.args.worker c.args.item (job_view c.in-Some.job) c.in-Some.ensures.some c.requires.own.0 c.requires.own.1 own in
+    let same = c.in_default-end_from.ensures.same c.requires.own.0 at.job (c.requires.own.2 ∙ ap answers_view (sym c.as_slice.ensures.value)) (map event_view c.self.inside.history.items) c.args.worker c.self.invariant.whole c.self.invariant.stand none c.in-Some.ensures.some
+    (work_own c.self.inside.program c.self.invariant.whole (map event_view c.self.inside.history.items) c.self.inside.core c.self.invariant.stand none c.args.worker c.args.item (job_view c.in-Some.job) c.in-Some.ensures.some c.requires.own.0 at) in
+    same_seen c.self.inside c.end_from.new.self c.end_from.new.known c.self.inside.answers same.newly ∙ c.self.view_is
