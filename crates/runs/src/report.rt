@@ -3,7 +3,7 @@ ghost use Rattle.std.specs.Prelude.{◌≡◌, IfOk, map};
 ghost use Rattle.runs.specs.Report.{AreBlockedAt, AreTallies, EndsAs, IsOver, Reports, Tells, line_bytes};
 
 use crate::tally::tallies;
-use board::board::Board;
+use board::board::{Board, Remains};
 use board::{Fault, Statement, Step};
 use std::alloc::{AllocError, Global};
 use task_code::code::Code;
@@ -52,43 +52,35 @@ impl Drop for Report {
     }
 }
 
-/// What is said of a run but its events.
+/// How a run ended, and what is counted of it.
 #[derive(Drop)]
 struct Shown {
-    code: Code,
-    lines: Vec<Text>,
     end: End,
     blocked: Vec<Statement>,
     tallies: [u32; 64],
 }
 
-/// What is said of a board on which nothing is left to be done, but its events.
+/// How a board ended on which nothing is left to be done, and what is counted of its events.
 fn shown_by(alloc: Global, board: &Board) -> Result<Shown, AllocError>
     requires { IsOver board.now }
-    ensures code { IfOk result (λ shown. shown.code ≡ board.now.code) }
-    ensures lines { IfOk result (λ shown. shown.lines.items ≡ map line_bytes board.now.state.lines) }
     ensures end { IfOk result (λ shown. EndsAs board.now shown.end) }
     ensures blocked { IfOk result (λ shown. AreBlockedAt board.now shown.end shown.blocked.items) }
     ensures tallies { IfOk result (λ shown. AreTallies board.now.history shown.tallies) }
 {
     let (end, blocked) = end_of(alloc, board)?;
     Ok(Shown {
-        code: board.code().copy()?,
-        lines: texts(alloc, board.lines())?,
         end,
         blocked,
         tallies: tallies(board.history()),
     })
 }
 
-/// What is said of a run, with its events.
-fn with_events(shown: Shown, history: Vec<Event>) -> Report
-    ensures shown { (result.code ≡ shown.code) × (result.lines ≡ shown.lines) × (result.end ≡ shown.end) × (result.blocked ≡ shown.blocked) × (result.tallies ≡ shown.tallies) }
-    ensures events { result.history ≡ history }
+/// What is said of a run of this code, with its events and lines.
+fn reported(shown: Shown, code: Code, history: Vec<Event>, lines: Vec<Text>) -> Report
+    ensures shown { (result.end ≡ shown.end) × (result.blocked ≡ shown.blocked) × (result.tallies ≡ shown.tallies) }
+    ensures rest { (result.code ≡ code) × (result.history ≡ history) × (result.lines ≡ lines) }
 {
     let Shown {
-        code,
-        lines,
         end,
         blocked,
         tallies,
@@ -114,11 +106,13 @@ pub fn report_of(alloc: Global, board: &Board) -> Result<Report, AllocError>
     ensures reports { IfOk result (λ report. Reports board.now.code board.now.limit report) }
 {
     let history = Vec::from_slice(alloc, board.history().as_slice())?;
+    let lines = texts(alloc, board.lines())?;
+    let code = board.code().copy()?;
     let shown = shown_by(alloc, board)?;
-    Ok(with_events(shown, history))
+    Ok(reported(shown, code, history, lines))
 }
 
-/// The same of a board that is not needed any more: its events are the report's.
+/// The same of a board that is not needed any more: its code, events and texts are the report's.
 ///
 /// # Errors
 ///
@@ -130,7 +124,13 @@ pub fn last_report(alloc: Global, board: Board) -> Result<Report, AllocError>
 {
     let _run = board.history();
     let shown = shown_by(alloc, &board)?;
-    Ok(with_events(shown, board.into_history()))
+    let Remains {
+        code,
+        history,
+        lines,
+    } = board.into_remains();
+    let lines = own_texts(alloc, lines)?;
+    Ok(reported(shown, code, history, lines))
 }
 
 /// How a run ended, and the statements that are blocked where it ended quiet.
@@ -191,11 +191,32 @@ fn same_key(key: &Key) -> Key
 fn texts(alloc: Global, lines: &Vec<Scalar>) -> Result<Vec<Text>, AllocError>
     ensures { IfOk result (λ texts. texts.items ≡ map line_bytes lines.now.items) }
 {
-    let mut texts = Vec::new(alloc);
+    let mut texts = Vec::with_capacity(alloc, lines.len())?;
     for line in lines {
         texts.push(text_of(alloc, line)?)?;
     }
     Ok(texts)
+}
+
+/// The texts of lines that nobody else needs.
+fn own_texts(alloc: Global, lines: Vec<Scalar>) -> Result<Vec<Text>, AllocError>
+    ensures { IfOk result (λ texts. texts.items ≡ map line_bytes lines.items) }
+{
+    let mut texts = Vec::with_capacity(alloc, lines.len())?;
+    for line in lines {
+        texts.push(own_text(alloc, line)?)?;
+    }
+    Ok(texts)
+}
+
+/// The text of a line that nobody else needs. Code of a script prints texts alone.
+fn own_text(alloc: Global, line: Scalar) -> Result<Text, AllocError>
+    ensures { IfOk result (λ text. text ≡ line_bytes line) }
+{
+    match line {
+        Scalar::Text(text) => Ok(text),
+        other => text_of(alloc, &other),
+    }
 }
 
 /// The text of a line. Code of a script prints texts alone, which are shared.

@@ -2,7 +2,7 @@
 ghost use Rattle.std.specs.Prelude.{◌≡◌, ◌<◌, ◌%◌, length, slice_index, IfNone, IfOk, IfSome, OnErr, OnOk, MatchBool};
 ghost use Rattle.dataflow.specs.Machine.{Begin, End};
 ghost use Rattle.task_code.specs.View.{kind_view};
-ghost use Rattle.board.specs.Board.{Accepts, IsGoing, IsOwn, IsWorker, MayBegin};
+ghost use Rattle.board.specs.Board.{Accepts, IsGoing, IsOwn, IsWorker, MayBegin, Seen};
 ghost use Rattle.runs.specs.Turns.{IsChosen, IsNamed, NoneReady, TurnsTo, worker_for};
 
 use board::board::Board;
@@ -36,8 +36,7 @@ pub(crate) fn make_turn(board: &mut Board, choice: Option<u32>) -> Result<Turn, 
         unreachable!();
     };
     let worker = worker_of(kind);
-    let work = begin(board, worker, item)?;
-    if finish(board, worker, work)? {
+    if perform(board, worker, item)? {
         Ok(Turn::Whole)
     } else {
         Ok(Turn::Half)
@@ -87,17 +86,15 @@ fn worker_of(kind: Kind) -> u8
     }
 }
 
-/// Begins an item that can begin.
-fn begin(board: &mut Board, worker: u8, item: u64) -> Result<Work, AllocError>
+/// Begins an item that can begin, computes it and ends it. False where the limit was reached between the two.
+fn perform(board: &mut Board, worker: u8, item: u64) -> Result<bool, AllocError>
     requires worker { IsWorker worker }
     requires going { IsGoing board.old }
     requires can { MayBegin board.old item }
-    ensures accepted { OnOk result (Accepts board.old (Begin worker item) board.new) }
-    ensures own { IfOk result (λ work. IsOwn board.new worker work) }
-    ensures number { IfOk result (λ work. work.item ≡ item) }
+    ensures { IfOk result (λ ended. MatchBool ended ((mid : Seen) × Accepts board.old (Begin worker item) mid × Accepts mid (End worker item) board.new) (Accepts board.old (Begin worker item) board.new × ¬ IsGoing board.new)) }
 {
-    match board.begin(worker, item) {
-        Ok(work) => Ok(work),
+    match board.perform(worker, item) {
+        Ok(ended) => Ok(ended),
         Err(Refusal::Memory) => Err(AllocError),
         Err(_) => unreachable!(),
     }

@@ -10,7 +10,7 @@ unreachable-requires c =
     let can : MayBegin c.args.board.now c.in-Some.item = named_can_begin c.args.board.now c.args.choice c.in-Some.item named in
     c.in_default-kind.ensures.none can.item can.there can.number_is
 
-pub begin-requires-clause-can : goal.begin-requires-clause-can
-begin-requires-clause-can c =
+pub perform-requires-clause-can : goal.perform-requires-clause-can
+perform-requires-clause-can c =
     let named : IsNamed c.args.board.now c.args.choice c.in-Some.item = search rules in
     named_can_begin c.args.board.now c.args.choice c.in-Some.item named
