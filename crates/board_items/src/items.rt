@@ -253,7 +253,7 @@ impl Items {
         if spare.is_empty() {
             return Ok(());
         }
-        self.rules.reserve_inputs(spare.len(), inputs_in(spare))
+        self.rules.reserve_inputs(inputs_in(spare))
     }
 }
 

@@ -209,7 +209,7 @@ fn many_items_are_each_woken_once(rt: HostRuntime) {
 
 fn three_inputs(rt: &impl Abort, alloc: Global, rules: &mut Rules) {
     reserve(rt, rules, 1);
-    rules.reserve_inputs(1, 3).expect(rt, "memory");
+    rules.reserve_inputs(3).expect(rt, "memory");
     waits_up_to(rt, alloc, rules, 3, 4);
     is_equal(rt, rules.waiting(), 1);
 }

@@ -53,29 +53,15 @@ input_noted i notes k first second a h =
       | inr e ↦ subst (λ m. IsAt notes m k) (nat_sound (datum i) a e) second
     ]
 
--- an item is noted at its number
-pub item_noted : (x k : ℕ) (notes : List Note) → IsAt notes x k → (a : ℕ) → ((x == a) || false) ≡ true → IsAt notes a k
-item_noted x k notes here a h =
-    elim (or_cases (x == a) false h) [
-      | inl e ↦ subst (λ m. IsAt notes m k) (nat_sound x a e) here
-      | inr e ↦ absurd (true_false (sym e))
-    ]
-
 -- one input more of an item is noted
-pub note_more : (old new : Noted) (item : ℕ) (is : List Input) (k x : ℕ) (d : Input) → k < length is → Grows old new
-    → ((a : ℕ) → ((item == a) || list_any (is_at a) (take k is)) ≡ true → IsAt old.notes a x)
+pub note_more : (old new : Noted) (is : List Input) (k x : ℕ) (d : Input) → k < length is → Grows old new
+    → ((a : ℕ) → list_any (is_at a) (take k is) ≡ true → IsAt old.notes a x)
     → ((a : ℕ) → is_at a (get_or is k d) ≡ true → IsAt new.notes a x)
-    → (a : ℕ) → ((item == a) || list_any (is_at a) (take (k + 1) is)) ≡ true → IsAt new.notes a x
-note_more old new item is k x d below g was now a h =
-    let first : Bool = item == a in
-    let earlier : Bool = list_any (is_at a) (take k is) in
-    let parts : (first || (earlier || is_at a (get_or is k d))) ≡ true = subst (λ l. (first || l) ≡ true) (list_any_more (is_at a) is k d below) h in
-    elim (or_cases first (earlier || is_at a (get_or is k d)) parts) [
-      | inl e ↦ g.notes a x (was a (or_first first earlier e))
-      | inr rest ↦ elim (or_cases earlier (is_at a (get_or is k d)) rest) [
-        | inl e ↦ g.notes a x (was a (or_second first earlier e))
-        | inr e ↦ now a e
-      ]
+    → (a : ℕ) → list_any (is_at a) (take (k + 1) is) ≡ true → IsAt new.notes a x
+note_more old new is k x d below g was now a h =
+    elim (or_cases (list_any (is_at a) (take k is)) (is_at a (get_or is k d)) (sym (list_any_more (is_at a) is k d below) ∙ h)) [
+      | inl e ↦ g.notes a x (was a e)
+      | inr e ↦ now a e
     ]
 
 -- nothing is to be found in a vacant slot
@@ -165,8 +151,7 @@ kept_all i (j ∷ js) h =
 untouched : (i : Input) (o : Option Waiting) → is_idle o ≡ false → slot_needs (address i) o ≡ false → after_slot i o ≡ o
 untouched i None busy h = refl
 untouched i (Some w) busy h =
-    let parts = or_false (w.item == address i) (list_any (is_at (address i)) w.missing) h in
-    let same : with_known i w ≡ w = ap (λ js. record { item = w.item; missing = js }) (kept_all i w.missing parts.1) in
+    let same : with_known i w ≡ w = ap (λ js. record { item = w.item; missing = js }) (kept_all i w.missing h) in
     ap (λ v. cond (is_ready v) None (Some v)) same ∙ ap (λ b. cond b None (Some w)) busy
 
 -- each item is a stray, or noted at the input's address, or learns nothing
@@ -178,22 +163,6 @@ found i places slots k are busy =
       | inr noted ↦ inr (elim (cases_Bool (slot_needs (address i) (get_or slots k None))) as (λ _. IsAt places.notes (address i) k ⊎ IsSettled (after_slot i) slots k) [
         | inl hit ↦ inl (noted (address i) hit)
         | inr lacks ↦ inr (untouched i (get_or slots k None) (busy k) lacks)
-      ])
-    ]
-
-elsewhere : (x : ℕ) (o : Option Waiting) → slot_needs x o ≡ false → unless_item x o ≡ o
-elsewhere x None h = refl
-elsewhere x (Some w) h =
-    ap (λ b. cond b None (Some w)) (or_false (w.item == x) (list_any (is_at x) w.missing) h).0
-
-pub found_item : (x : ℕ) (places : Noted) (slots : List (Option Waiting)) (k : ℕ) → IsNoted places slots
-    → Contains places.strays k ⊎ (IsAt places.notes x k ⊎ IsSettled (unless_item x) slots k)
-found_item x places slots k are =
-    elim (are k) [
-      | inl stray ↦ inl stray
-      | inr noted ↦ inr (elim (cases_Bool (slot_needs x (get_or slots k None))) as (λ _. IsAt places.notes x k ⊎ IsSettled (unless_item x) slots k) [
-        | inl hit ↦ inl (noted x hit)
-        | inr lacks ↦ inr (elsewhere x (get_or slots k None) lacks)
       ])
     ]
 
@@ -214,10 +183,7 @@ needs_after i a None h = h
 needs_after i a (Some w) h =
     elim (is_ready (with_known i w)) as (λ r. slot_needs a (cond r None (Some (with_known i w))) ≡ true → needs a w ≡ true) [
       | true ↦ λ e. absurd (true_false (sym e))
-      | false ↦ λ e. elim (or_cases (w.item == a) (list_any (is_at a) (filter (λ j. not (covers i j)) w.missing)) e) [
-        | inl here ↦ or_first (w.item == a) (list_any (is_at a) w.missing) here
-        | inr later ↦ or_second (w.item == a) (list_any (is_at a) w.missing) (any_filter (is_at a) (λ j. not (covers i j)) w.missing later)
-      ]
+      | false ↦ λ e. any_filter (is_at a) (λ j. not (covers i j)) w.missing e
     ] h
 
 pub needs_unless : (x a : ℕ) (o : Option Waiting) → slot_needs a (unless_item x o) ≡ true → slot_needs a o ≡ true

@@ -31,7 +31,7 @@ is_at a i = (address i == a) || (datum i == a)
 
 -- the item is to be noted at this address
 abbrev pub needs : ℕ → Waiting → Bool
-needs a w = (w.item == a) || list_any (is_at a) w.missing
+needs a w = list_any (is_at a) w.missing
 
 -- the item in the slot, if any, is to be noted at this address
 abbrev pub slot_needs : ℕ → Option Waiting → Bool

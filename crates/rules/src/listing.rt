@@ -2,12 +2,12 @@
 ghost use Rattle.std.specs.Prelude.{◌≡◌, ◌==◌, ℕ, ◌+◌, ◌<◌, ◌≤◌, ◌∷◌, false, length, OnOk, OnErr, IfOk, IsOk, IsPermutation, Some, slice_index_or, None, vec_len, vec_capacity};
 ghost use Rattle.slab.specs.Slab.{slab_len, HasRoomFor};
 ghost use Rattle.rules.specs.Waiting.{empty, with_room, IsAdded, IsListed, GivesRoomBack, EachMisses, still_waiting, woken, without_item};
-ghost use Rattle.rules.specs.Slots.{after_slot, unless_item, present, is_idle, IsSettled, Shrinks, Learnt, AllBusy};
+ghost use Rattle.rules.specs.Slots.{after_slot, present, is_idle, IsSettled, Shrinks, Learnt, AllBusy};
 ghost use Rattle.rules.specs.Places.{IsNoted};
 
 use crate::input::Input;
-use crate::places::{Places, heavy, notes_of_all};
-use crate::visit::{leave_listed, leave_noted, visit_listed, visit_noted};
+use crate::places::{Places, heavy, notes_of};
+use crate::visit::{leave_all, visit_listed, visit_noted};
 use crate::waiter::Waiter;
 use slab::Slab;
 use smallvec::SmallVec;
@@ -34,23 +34,6 @@ fn wake(waiters: &mut Slab<Waiter>, places: &mut Places, input: &Input, out: &mu
 {
     let passed = visit_noted(waiters, places, input, out);
     visit_listed(waiters, places.strays(), input, out);
-    places.hear(waiters, passed);
-}
-
-// Takes an item out.
-fn let_go(waiters: &mut Slab<Waiter>, places: &mut Places, item: u64)
-    requires noted { IsNoted places.old waiters.old.slots }
-    requires place { slab_len waiters.old ≤ places.old.place }
-    ensures others { without_item item (present waiters.new.slots) ≡ without_item item (present waiters.old.slots) }
-    ensures settled { (k : ℕ) → IsSettled (unless_item item) waiters.new.slots k }
-    ensures shrinks { Shrinks (unless_item item) waiters.old.slots waiters.new.slots }
-    ensures fewer { slab_len waiters.new ≤ slab_len waiters.old }
-    ensures capacity { waiters.new.capacity ≡ waiters.old.capacity }
-    ensures noted { IsNoted places.new waiters.new.slots }
-    ensures place { places.new.place ≡ places.old.place }
-{
-    let passed = leave_noted(waiters, places, item);
-    leave_listed(waiters, places.strays(), item);
     places.hear(waiters, passed);
 }
 
@@ -200,17 +183,17 @@ impl Rules {
         Ok(())
     }
 
-    /// Takes memory for finding so many items that are added next and wait for more than two inputs, with so many
-    /// inputs between them. Where there was none, and it is refused to the `add` of such an item, each call looks at that
+    /// Takes memory for finding items that are added next and wait for more than two inputs, with so many inputs
+    /// between them. Where there was none, and it is refused to the `add` of such an item, each `known` looks at that
     /// item until there is memory again. `add` works the same in any case.
     ///
     /// # Errors
     ///
     /// `AllocError` where there was less and memory is refused.
-    pub fn reserve_inputs(&mut self, items: usize, inputs: usize) -> Result<(), AllocError>
+    pub fn reserve_inputs(&mut self, inputs: usize) -> Result<(), AllocError>
         ensures { self.new ≡ self.old }
     {
-        let more = notes_of_all(items, inputs);
+        let more = notes_of(inputs);
         self.places.reserve_notes(self.alloc, &self.waiters, more)
     }
 
@@ -250,11 +233,11 @@ impl Rules {
         wake(&mut self.waiters, &mut self.places, input, out);
     }
 
-    /// Takes an item out, if it waits. Takes no memory.
+    /// Takes an item out, if it waits. Takes no memory, and looks at every slot.
     pub fn forget(&mut self, item: u64)
         ensures waiting { self.new.waiting ≡ without_item item self.old.waiting }
         ensures room { GivesRoomBack self.old self.new }
     {
-        let_go(&mut self.waiters, &mut self.places, item);
+        leave_all(&mut self.waiters, item);
     }
 }

@@ -10,7 +10,7 @@ use std::alloc::{AllocError, Global};
 use std::marker::Model;
 
 // The most notes that an item of two inputs has.
-const PLAIN: usize = 5;
+const PLAIN: usize = 4;
 
 // Notes of other addresses that a call may walk past without more ado.
 const FEW: usize = 64;
@@ -27,11 +27,11 @@ pub struct Note {
     pub earlier: usize,
 }
 
-/// Notes, each in the list of its address. The slot of an item that waits is noted at its number, and at the
-/// addresses of what it misses. A note that is no longer needed is taken out of its list by the next walk past it, and
-/// its memory is free again once all are made anew. Addresses may share a list: where calls have walked past many notes of
-/// others, all are made anew in another number of lists, in which those addresses lie apart. A slot for whose notes there
-/// is no place is a stray: it is looked at for each input.
+/// Notes, each in the list of its address. The slot of an item that waits is noted at the address of each input that it
+/// misses, and at the number of that input's datum. A note that is no longer needed is taken out of its list by the next
+/// walk past it, and its memory is free again once all are made anew. Addresses may share a list: where calls have walked
+/// past many notes of others, all are made anew in another number of lists, in which those addresses lie apart. A slot for
+/// whose notes there is no place is a stray: it is looked at for each input.
 #[derive(Drop)]
 pub struct Places {
     // For each list one more than the number of its last note, or 0 where it has none.
@@ -243,9 +243,6 @@ impl Places {
         ensures strays { self.new.strays ≡ self.old.strays }
         ensures noted { result ≡ true → (a : ℕ) → needs a waiter.now ≡ true → IsAt self.new.notes a slot }
     {
-        if !self.put(waiter.item(), slot) {
-            return false;
-        }
         for input in waiter.missing() {
             if !self.note_input(input, slot) {
                 return false;
@@ -447,14 +444,9 @@ impl Places {
     }
 }
 
-// The most notes that an item of so many inputs has: two for each, and one for its number.
-fn notes_of(inputs: usize) -> usize {
-    notes_of_all(1, inputs)
-}
-
-/// The most notes that so many items with so many inputs between them have.
-pub fn notes_of_all(items: usize, inputs: usize) -> usize {
-    inputs.saturating_mul(2).saturating_add(items)
+/// The most notes that items with so many inputs between them have: two for each input.
+pub fn notes_of(inputs: usize) -> usize {
+    inputs.saturating_mul(2)
 }
 
 // So many notes, if an item of two inputs has fewer.

@@ -100,48 +100,15 @@ pub fn leave(waiters: &mut Slab<Waiter>, slot: usize, item: u64)
     }
 }
 
-/// Takes the item out of each of these slots.
-pub fn leave_listed(waiters: &mut Slab<Waiter>, slots: &[usize], item: u64)
+/// Takes the item out of each slot that it lies in.
+pub fn leave_all(waiters: &mut Slab<Waiter>, item: u64)
     ensures others { without_item item (present waiters.new.slots) ≡ without_item item (present waiters.old.slots) }
-    ensures settled { (k : ℕ) → Contains slots.now k ⊎ IsSettled (unless_item item) waiters.old.slots k
-        → IsSettled (unless_item item) waiters.new.slots k }
+    ensures settled { (k : ℕ) → IsSettled (unless_item item) waiters.new.slots k }
     ensures shrinks { Shrinks (unless_item item) waiters.old.slots waiters.new.slots }
     ensures fewer { slab_len waiters.new ≤ slab_len waiters.old }
     ensures capacity { waiters.new.capacity ≡ waiters.old.capacity }
 {
-    for slot in slots {
-        leave(waiters, *slot, item);
+    for slot in 0..waiters.capacity() {
+        leave(waiters, slot, item);
     }
-}
-
-/// Takes the item out of each slot that is noted at its number, and those notes out of its list that are no longer needed. The
-/// answer tells how many notes of other addresses were passed.
-pub fn leave_noted(waiters: &mut Slab<Waiter>, places: &mut Places, item: u64) -> usize
-    requires noted { IsNoted places.old waiters.old.slots }
-    ensures others { without_item item (present waiters.new.slots) ≡ without_item item (present waiters.old.slots) }
-    ensures settled { (k : ℕ) → IsAt places.old.notes item k ⊎ IsSettled (unless_item item) waiters.old.slots k
-        → IsSettled (unless_item item) waiters.new.slots k }
-    ensures shrinks { Shrinks (unless_item item) waiters.old.slots waiters.new.slots }
-    ensures fewer { slab_len waiters.new ≤ slab_len waiters.old }
-    ensures capacity { waiters.new.capacity ≡ waiters.old.capacity }
-    ensures noted { IsNoted places.new waiters.new.slots }
-    ensures strays { places.new.strays ≡ places.old.strays }
-    ensures place { places.new.place ≡ places.old.place }
-{
-    let mut passed = 0_usize;
-    let mut holder = 0;
-    let mut next = places.last(item);
-    while next > 0 {
-        let number = next - 1;
-        let note = places.note(number);
-        next = note.earlier;
-        if note.address != item {
-            passed = passed.saturating_add(1);
-            holder = places.tidy(waiters, holder, number);
-            continue;
-        }
-        leave(waiters, note.slot, item);
-        holder = places.tidy(waiters, holder, number);
-    }
-    passed
 }

@@ -47,7 +47,7 @@ impl Waiter {
     pub fn needs(&self, address: u64) -> bool
         ensures { result ≡ needs address self.now }
     {
-        self.item == address || is_any_at(self.missing(), address)
+        is_any_at(self.missing(), address)
     }
 
     /// Whether nothing is missing any more.

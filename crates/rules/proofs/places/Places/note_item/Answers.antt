@@ -9,5 +9,5 @@ loop-input-preserved c =
     let done : c.note_input.result ≡ true = search rules in (
       grows_on _ _ _ c.loop-input.invariant.0 step.grows,
       step.strays ∙ c.loop-input.invariant.1,
-      note_more c.loop-input.self c.note_input.new.self c.args.waiter.now.item c.args.waiter.now.missing c.loop-input.input-index c.args.slot (Whole 0) (rw (← c.missing-input-items.ensures) c.loop-input-test.true) step.grows c.loop-input.invariant.2 (rw (← c.missing-input-items.ensures) (step.noted done)),
+      note_more c.loop-input.self c.note_input.new.self c.args.waiter.now.missing c.loop-input.input-index c.args.slot (Whole 0) (rw (← c.missing-input-items.ensures) c.loop-input-test.true) step.grows c.loop-input.invariant.2 (rw (← c.missing-input-items.ensures) (step.noted done)),
     )
