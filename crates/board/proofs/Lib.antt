@@ -17,7 +17,6 @@ pub mod GoingKind
 pub mod HoldsFit
 pub mod Kept
 pub mod Marked
-pub mod Most
 pub mod Moves
 pub mod NoMore
 pub mod OpensWell

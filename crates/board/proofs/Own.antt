@@ -25,7 +25,7 @@ use Rattle.task_code.specs.Compute.{EntryFault}
 use Rattle.task_code.specs.Effects.{Item, Main, Task}
 use Rattle.task_code.specs.Places.{Step}
 use Rattle.board.specs.Blocked.{IsFaultOf}
-use Rattle.board.specs.Counted.{AreAtMost}
+use Rattle.board_code.specs.Program.{AreAtMost}
 use Rattle.board.specs.Board.{Accepts, AreByWorkers, IsGoing, IsWorker, Seen}
 use Rattle.board.specs.Ending.{IsUnchanged}
 use Rattle.board.specs.History.{state_of}

@@ -1,10 +1,10 @@
 -- Room is kept for items that wait or run.
-use Rattle.std.proofs.Common.{◌≡◌, ℕ, zero, suc, ◌+◌, ◌-◌, ◌<◌, ◌≤◌, Bool, true, false, ◌&&◌, List, [], ◌∷◌, refl, sym, ap, ◌∙◌, subst, length, arith}
+use Rattle.std.proofs.Common.{◌≡◌, ℕ, ◌+◌, ◌-◌, ◌<◌, ◌≤◌, Bool, true, false, ◌&&◌, List, [], ◌∷◌, refl, sym, ap, ◌∙◌, subst, length, arith}
 use Rattle.std.specs.Prelude.{◌^◌, vec_capacity}
 use Rattle.replayed.specs.Ending.{job_kind}
 use Rattle.replayed.specs.Fields.{Job, Ready, Row, Running}
 use Rattle.replayed.specs.Marking.{kind_eq, mark_at}
-use Rattle.task_code.specs.Code.{Code, Control, Kind, Leaf, blank_entry, entry, nth}
+use Rattle.task_code.specs.Code.{Code, Control, Kind, Leaf, entry}
 use Rattle.work_queue.specs.Both.{Both, of, with_changed}
 use Rattle.work_queue.specs.Waiting.{with_put, without}
 use Rattle.work_queue.specs.declared.entry.Entry.{Entry as Queued}
@@ -17,14 +17,6 @@ use Rattle.board_items.proofs.Progress.{Fits, counted_of, fits_of, less_roomy, o
 use Rattle.board.specs.Rows.{IsReady, RunsOn}
 use Rattle.board_items.specs.declared.items.Counts.{Counts}
 use Rattle.board_items.specs.declared.items.Items.{Items}
-
-nth_past : {X : Type 0} (d : X) (xs : List X) (n : ℕ) → length xs ≤ n → nth d xs n ≡ d
-nth_past d [] n h = refl
-nth_past d (x ∷ xs) zero h = absurd (omega (arith, h))
-nth_past d (x ∷ xs) (suc n) h = nth_past d xs n (omega (arith, h))
-
-pub entry_past : (C : Code) (n : ℕ) → length C.entries ≤ n → entry C n ≡ blank_entry
-entry_past C n h = nth_past blank_entry C.entries n h
 
 one_most : (b : Bool) → one_if b ≤ 1
 one_most true = omega arith

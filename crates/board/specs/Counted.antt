@@ -2,7 +2,8 @@
 use Rattle.std.specs.Prelude.{◌≡◌, ◌+◌, ◌*◌, ◌<◌, ◌≤◌, ◌^◌, ℕ, List, Option, Some, length, slice_get}
 use Rattle.replayed.specs.Ending.{home}
 use Rattle.replayed.specs.Fields.{Frame, Job}
-use Rattle.task_code.specs.Code.{Code, body, entry}
+use Rattle.task_code.specs.Code.{Code, body}
+use Rattle.board_code.specs.Program.{AreAtMost}
 use Rattle.board_frames.specs.Made.{FitsAround}
 use Rattle.board_frames.specs.declared.opening.Opening.{Opening}
 use Rattle.board_frames.specs.declared.opening.Openings.{Openings}
@@ -10,11 +11,6 @@ use Rattle.board_openings.specs.Opened.{CanGoOn}
 use Rattle.board_openings.specs.World.{goes_on}
 use Rattle.board_openings.specs.declared.world.Change.{Change}
 use Rattle.board_openings.specs.declared.world.Change.TheVariants as Changes
-
--- no entry reads or writes more names than so many
-pub record AreAtMost (C : Code) (most : ℕ) : Type 0 where
-  pub reads : (i : ℕ) → length (entry C i).reads ≤ most
-  pub writes : (i : ℕ) → length (entry C i).writes ≤ most
 
 module _ (C : Code) (fs : List (Option Frame)) (rows : ℕ) (j : Job) where
   -- the instances around the item, the slots of the first instance, and the names of all items, with so many rows before

@@ -17,7 +17,7 @@ use Rattle.board_frames.specs.declared.place.Fault.{Fault}
 use Rattle.board_frames.specs.declared.place.Statement.{Statement}
 use Rattle.board.specs.declared.board.Board.TheInside.{Inside}
 use Rattle.board.specs.Blocked.{path_of}
-use Rattle.board.specs.Counted.{AreAtMost}
+use Rattle.board_code.specs.Program.{AreAtMost}
 use Rattle.board.specs.Board.{AreByWorkers, Rises, Seen}
 use Rattle.board.specs.History.{state_of}
 use Rattle.board.specs.Numbers.{AreNumbered}

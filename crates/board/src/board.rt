@@ -18,7 +18,6 @@ ghost use Rattle.board.specs.Ready.{AreReady, IsFirst, IsNext, IsReady, Precedes
 ghost use Rattle.board.specs.Blocked.{AreBlocked, IsFaultOf};
 ghost use Rattle.dataflow.specs.System.{In};
 
-use crate::naming::most_names;
 use crate::refusal::Refusal;
 use crate::state::Core;
 use board_code::program::Program;
@@ -84,7 +83,7 @@ impl Model for Board {
 /// What a board leaves.
 #[derive(Drop)]
 pub struct Remains {
-    pub code: Code,
+    pub program: Program,
     /// The events, from the first on.
     pub history: Vec<Event>,
     /// The lines that were printed, in their order.
@@ -121,18 +120,16 @@ fn emptied(list: Vec<Answer>) -> Vec<Answer>
 }
 
 impl Board {
-    /// A board over the code, before any event. Code that needs more than 64 bits for a number or a count is refused as want
-    /// of memory.
+    /// A board over the program, before any event.
     ///
     /// # Errors
     ///
     /// `AllocError` where memory that was asked for was refused.
-    pub fn new(alloc: Global, code: Code, limit: u32) -> Result<Board, AllocError>
-        ensures { IfOk result (λ b. b ≡ record { code = code; limit = limit; state = start (code_system code); history = []; newly = [] }) }
+    pub fn new(alloc: Global, program: Program, limit: u32) -> Result<Board, AllocError>
+        ensures { IfOk result (λ b. b ≡ record { code = program; limit = limit; state = start (code_system program); history = []; newly = [] }) }
     {
-        let program = Program::new(alloc, code)?;
         Ok(Board {
-            most_names: most_names(&program),
+            most_names: program.most_names(),
             program,
             limit,
             core: Core::new(alloc)?,
@@ -395,7 +392,7 @@ impl Board {
 
     /// What is left of it once it is not needed any more. Takes no memory.
     pub fn into_remains(self) -> Remains
-        ensures code { result.code ≡ self.code }
+        ensures program { result.program ≡ self.code }
         ensures history { map event_view result.history.items ≡ self.history }
         ensures lines { result.lines.items ≡ self.state.lines }
     {
@@ -409,7 +406,7 @@ impl Board {
             answers: _,
         } = self;
         Remains {
-            code: program.into_code(),
+            program,
             history,
             lines: core.into_lines(),
         }
@@ -427,6 +424,13 @@ impl Board {
         ensures { result.now ≡ self.now.code }
     {
         self.program.code()
+    }
+
+    /// The same with what is worked out of it.
+    pub fn program(&self) -> &Program
+        ensures { result.now ≡ self.now.code }
+    {
+        &self.program
     }
 
     /// How many events are accepted at most.

@@ -2,7 +2,8 @@
 
 ghost use Rattle.std.specs.Prelude.{IsTrue, length};
 ghost use Rattle.board_frames.specs.View.{frames_view, job_view};
-ghost use Rattle.board.specs.Counted.{AreAtMost, CanChange, CanOpen};
+ghost use Rattle.board_code.specs.Program.{AreAtMost};
+ghost use Rattle.board.specs.Counted.{CanChange, CanOpen};
 
 use crate::chunk::has_next_chunk;
 use crate::fitting::{fits_around, names_after};

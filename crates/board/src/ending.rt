@@ -5,7 +5,7 @@ ghost use Rattle.board_frames.specs.View.{job_view};
 ghost use Rattle.board_work.specs.Assigned.{Assigned, job_control, job_result};
 ghost use Rattle.entry_outcomes.specs.Outcome.{control_in, result_in};
 ghost use Rattle.entry_outcomes.specs.View.{answers_view};
-ghost use Rattle.board.specs.Counted.{AreAtMost};
+ghost use Rattle.board_code.specs.Program.{AreAtMost};
 ghost use Rattle.board.specs.Ending.{HasEnded, HasFailed, HasPassed, IsEffectOf, StaysBy, StaysIf};
 ghost use Rattle.board.specs.Working.{IsThere, work_of};
 

@@ -10,7 +10,6 @@ mod ending;
 mod fitting;
 pub mod laws;
 mod making;
-mod naming;
 mod opened;
 pub mod refusal;
 mod room;

@@ -4,6 +4,7 @@ pub mod Found
 pub mod Holds
 pub mod Homes
 pub mod Laid
+pub mod Most
 pub mod Noted
 pub mod Slots
 pub mod Spots

@@ -1,12 +1,11 @@
 -- What is worked out of code, as a program keeps it.
-use Rattle.std.specs.Prelude.{◌≡◌, ◌<◌, ◌^◌, List, length}
-use Rattle.task_code.specs.Code.{Code, body}
+use Rattle.std.specs.Prelude.{◌≡◌, ◌<◌, ◌≤◌, ◌^◌, ℕ, List, length}
+use Rattle.task_code.specs.Code.{Code, body, entry}
 use Rattle.board_code.specs.Places.{FindsPlaces}
 use Rattle.board_code.specs.Spots.{homes_of}
 use Rattle.board_code.specs.Tables.{AllFrom, IsBodyTable, IsEntryTable, body_of}
-use Rattle.board_code.specs.declared.program.BodyTable.{BodyTable}
-use Rattle.board_code.specs.declared.program.EntryTable.{EntryTable}
 use Rattle.board_code.specs.declared.spot.Leads.{Leads}
+use Rattle.board_code.specs.declared.program.Laid.{Laid}
 
 -- where the names of code lead: the body that has each entry, and the places of what each body declares
 pub record IsLeads (C : Code) (l : Leads) : Type 0 where
@@ -14,12 +13,18 @@ pub record IsLeads (C : Code) (l : Leads) : Type 0 where
   pub places : AllFrom (λ b m. FindsPlaces (body C b).makes m) 0 l.places.items
   pub all : length l.places.items ≡ length C.bodies
 
--- that, and the tables of the code
-pub record IsProgram (C : Code) (leads : Leads) (entries : List EntryTable) (bodies : List BodyTable) : Type 0 where
-  pub leads_are : IsLeads C leads
-  pub few_bodies : length C.bodies < 2 ^ 32
-  pub few_entries : length C.entries < 2 ^ 32
-  pub each_entry : AllFrom (λ i t. IsEntryTable C (body_of C i) i t) 0 entries
-  pub all_entries : length entries ≡ length C.entries
-  pub each_body : AllFrom (λ b t. IsBodyTable C b t) 0 bodies
-  pub all_bodies : length bodies ≡ length C.bodies
+-- no entry reads or writes more names than so many
+pub record AreAtMost (C : Code) (most : ℕ) : Type 0 where
+  pub reads : (i : ℕ) → length (entry C i).reads ≤ most
+  pub writes : (i : ℕ) → length (entry C i).writes ≤ most
+
+-- all that is worked out of the code
+pub record IsProgram (p : Laid) : Type 0 where
+  pub leads_are : IsLeads p.code p.leads
+  pub few_bodies : length p.code.bodies < 2 ^ 32
+  pub few_entries : length p.code.entries < 2 ^ 32
+  pub each_entry : AllFrom (λ i t. IsEntryTable p.code (body_of p.code i) i t) 0 p.entries.items
+  pub all_entries : length p.entries.items ≡ length p.code.entries
+  pub each_body : AllFrom (λ b t. IsBodyTable p.code b t) 0 p.bodies.items
+  pub all_bodies : length p.bodies.items ≡ length p.code.bodies
+  pub names : AreAtMost p.code p.most_names

@@ -4,6 +4,7 @@
 mod bodies;
 pub mod key;
 pub mod laws;
+mod naming;
 pub mod places;
 pub mod program;
 pub mod spot;

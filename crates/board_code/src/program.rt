@@ -4,16 +4,19 @@ ghost use Rattle.std.specs.Prelude.{◌≡◌, ◌<◌, ◌≤◌, ◌^◌, ◌+
 ghost use Rattle.std.specs.Option.{option_to_list};
 ghost use Rattle.task_code.specs.Code.{Code, Named, arguments, body as body_at, entry as entry_at, kind_of, loop_of, scalar, stored_of};
 ghost use Rattle.task_code.specs.View.{act_view, argument_view, entry_view, loop_view, name_view, need_view};
-ghost use Rattle.board_code.specs.Program.{IsLeads};
+ghost use Rattle.task_code.specs.Whole.{IsCode};
+ghost use Rattle.board_code.specs.Program.{AreAtMost, IsLeads, IsProgram};
 ghost use Rattle.board_code.specs.Spots.{home_of, place_from};
 ghost use Rattle.board_code.specs.Tables.{AllFrom, IsBodyTable, IsEntryTable, body_of, body_or_script, first_spot, passed_in, queue_kind, spots_in, turn_slot, value_slot, wanted_in};
 
 use crate::bodies::body_table;
+use crate::naming::most_names;
 use crate::spot::{Leads, Spot};
 use data_store::store::Shape;
 use smallvec::SmallVec;
 use std::alloc::{AllocError, Global};
 use std::marker::Model;
+use std::sync::Arc;
 use task_code::code::Code;
 use task_code::entry::{Act, Argument, Entry, Loop, Name, Need, Owned, Variable};
 use values::key::Key;
@@ -89,11 +92,19 @@ pub struct BodyTable {
 
 /// Code with what is worked out of it.
 #[derive(Drop)]
-pub struct Program {
-    pub code: Code,
+pub struct Laid {
+    code: Code,
     leads: Leads,
     entries: Vec<EntryTable>,
     bodies: Vec<BodyTable>,
+    /// No entry reads or writes more names.
+    most_names: usize,
+}
+
+/// Code with what a board works out of it once. Its copies share all of that, whichever threads they are on.
+#[derive(Drop)]
+pub struct Program {
+    laid: Arc<Laid>,
 }
 
 /// Who runs the entry of this number.
@@ -379,6 +390,27 @@ fn body_tables(alloc: Global, code: &Code, leads: &Leads) -> Result<Vec<BodyTabl
     Ok(tables)
 }
 
+/// Works out of the code all that there is to be worked out.
+fn lay(alloc: Global, code: Code) -> Result<Laid, AllocError>
+    ensures laid { IfOk result IsProgram }
+    ensures code { IfOk result (λ laid. laid.code ≡ code) }
+{
+    if code.body_count() > u32::MAX as usize {
+        return Err(AllocError);
+    }
+    let leads = Leads::new(alloc, &code)?;
+    let entries = entry_tables(alloc, &code, &leads)?;
+    let bodies = body_tables(alloc, &code, &leads)?;
+    let most_names = most_names(&code);
+    Ok(Laid {
+        code,
+        leads,
+        entries,
+        bodies,
+        most_names,
+    })
+}
+
 impl Model for Program {
     ghost use Rattle.task_code.specs.Code.{Code as PureCode};
     ghost use Rattle.board_code.specs.Program.{IsProgram};
@@ -389,9 +421,11 @@ impl Model for Program {
 
     ghost coded = { Prim.hlevel (codes, expr_code (Prim.hlevel codes), exprs_code (Prim.hlevel codes)) };
 
-    ghost view = { λ p. p.code };
+    ghost use Rattle.std.specs.Arc.{arc_value};
 
-    ghost invariant = { λ p. IsProgram p.code p.leads p.entries.items p.bodies.items };
+    ghost view = { λ p. (arc_value p.laid).code };
+
+    ghost invariant = { λ p. IsProgram (arc_value p.laid) };
 }
 
 impl Program {
@@ -400,17 +434,21 @@ impl Program {
     pub fn new(alloc: Global, code: Code) -> Result<Program, AllocError>
         ensures { IfOk result (λ program. program ≡ code) }
     {
-        if code.body_count() > u32::MAX as usize {
-            return Err(AllocError);
-        }
-        let leads = Leads::new(alloc, &code)?;
-        let entries = entry_tables(alloc, &code, &leads)?;
-        let bodies = body_tables(alloc, &code, &leads)?;
         Ok(Program {
-            code,
-            leads,
-            entries,
-            bodies,
+            laid: Arc::new(alloc, lay(alloc, code)?)?,
+        })
+    }
+
+    /// The same program, which nothing is worked out or copied for.
+    ///
+    /// # Errors
+    ///
+    /// `AllocError` where there are too many copies to count.
+    pub fn share(&self) -> Result<Program, AllocError>
+        ensures { IfOk result (λ program. program ≡ self.now) }
+    {
+        Ok(Program {
+            laid: self.laid.clone()?,
         })
     }
 
@@ -418,20 +456,16 @@ impl Program {
     pub fn code(&self) -> &Code
         ensures { result.now ≡ self.now }
     {
-        &self.code
+        &self.laid.code
     }
 
-    /// The code alone.
-    pub fn into_code(self) -> Code
-        ensures { result ≡ self }
+    /// So many names that no entry reads or writes more.
+    pub fn most_names(&self) -> usize
+        ensures names { AreAtMost self.now result }
+        ensures whole { IsCode self.now }
     {
-        let Program {
-            code,
-            leads: _,
-            entries: _,
-            bodies: _,
-        } = self;
-        code
+        let _count = self.laid.code.entry_count();
+        self.laid.most_names
     }
 
     /// What is worked out of the entry of this number, where there is one.
@@ -439,10 +473,10 @@ impl Program {
     pub fn entry(&self, number: u32) -> Option<&EntryTable>
         ensures { MatchOption result (length self.now.entries ≤ number) (λ table. (number < length self.now.entries) × IsEntryTable self.now (body_of self.now number) number table.now) }
     {
-        if number as usize >= self.entries.len() {
+        if number as usize >= self.laid.entries.len() {
             return None;
         }
-        Some(&self.entries[number as usize])
+        Some(&self.laid.entries[number as usize])
     }
 
     /// What is worked out of the body of this number, where there is one.
@@ -450,16 +484,16 @@ impl Program {
     pub fn body(&self, number: u32) -> Option<&BodyTable>
         ensures { MatchOption result (length self.now.bodies ≤ number) (λ table. (number < length self.now.bodies) × IsBodyTable self.now number table.now) }
     {
-        if number as usize >= self.bodies.len() {
+        if number as usize >= self.laid.bodies.len() {
             return None;
         }
-        Some(&self.bodies[number as usize])
+        Some(&self.laid.bodies[number as usize])
     }
 
     /// What the need comes to, seen from the body.
     pub fn wanted(&self, body: u32, need: &Need) -> Wanted
         ensures { result ≡ wanted_in self.now body (need_view need.now) }
     {
-        wanted_of(&self.code, &self.leads, body, need)
+        wanted_of(&self.laid.code, &self.laid.leads, body, need)
     }
 }

@@ -35,9 +35,14 @@ fn program_of(rt: &impl Abort, alloc: Global) -> Box<Program> {
 }
 
 #[test]
-fn a_program_gives_its_code_back(rt: HostRuntime) {
-    let program = Program::new(rt.alloc(), code_of(&rt, rt.alloc())).expect(&rt, "memory");
-    is_equal(&rt, program.into_code().entry_count(), 2);
+fn a_program_is_shared(rt: HostRuntime) {
+    let program = program_of(&rt, rt.alloc());
+    let other = program.share().expect(&rt, "memory");
+    is_equal(
+        &rt,
+        (other.code().entry_count(), other.most_names()),
+        (2, 1),
+    );
 }
 
 /// The assignment is a leaf that stores into the first slot.

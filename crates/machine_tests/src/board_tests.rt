@@ -5,6 +5,7 @@ use crate::asserts::is_equal;
 use board::board::{Board, Remains};
 use board::refusal::Refusal;
 use board::{Done, Work};
+use board_code::program::Program;
 use std::alloc::Global;
 use std::process::Abort;
 use task_code::code::Code;
@@ -15,7 +16,8 @@ use worked_codes::codes::{asserted, hello, printed};
 
 /// A board over the code, in a box, since a test that owns a board by itself takes long to prove.
 fn board_over(rt: &impl Abort, alloc: Global, code: Code, limit: u32) -> Box<Board> {
-    let board = Board::new(alloc, code, limit).expect(rt, "memory");
+    let program = Program::new(alloc, code).expect(rt, "memory");
+    let board = Board::new(alloc, program, limit).expect(rt, "memory");
     Box::new(alloc, board).expect(rt, "memory")
 }
 
@@ -93,6 +95,7 @@ fn prints(rt: &impl Abort, board: &mut Board, worker: u8, done: Done)
 /// A new board has its code and its limit, and only the script can begin.
 fn is_new(rt: &impl Abort, board: &Board) {
     is_equal(rt, (board.limit(), board.code().entry_count()), (100, 1));
+    is_equal(rt, board.program().most_names(), 0);
     is_equal(
         rt,
         (board.next(Kind::Control), board.next(Kind::Leaf)),
@@ -169,17 +172,18 @@ fn the_limit_cuts_an_item(rt: HostRuntime) {
     is_equal(&rt, board.history().len(), 1);
 }
 
-/// The code, the events and the line are left.
+/// The program, the events and the line are left.
 fn are_left(rt: &impl Abort, left: &Remains) {
-    is_equal(rt, (left.code.entry_count(), left.history.len()), (1, 4));
+    let code = left.program.code();
+    is_equal(rt, (code.entry_count(), left.history.len()), (1, 4));
     is_equal(rt, left.lines.len(), 1);
 }
 
 #[test]
 fn a_board_leaves_what_it_has(rt: HostRuntime) {
-    let mut board = Board::new(rt.alloc(), hello(rt.alloc()).expect(&rt, "a code"), 100).expect(
-        &rt, "memory",
-    );
+    let code = hello(rt.alloc()).expect(&rt, "a code");
+    let program = Program::new(rt.alloc(), code).expect(&rt, "memory");
+    let mut board = Board::new(rt.alloc(), program, 100).expect(&rt, "memory");
     works(&rt, &mut board, 0, 1);
     works(&rt, &mut board, 2, 2);
     are_left(&rt, &board.into_remains());

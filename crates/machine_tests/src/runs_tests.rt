@@ -2,6 +2,7 @@
 
 use crate::asserts::is_equal;
 use board::board::Board;
+use board_code::program::Program;
 use runs::one::run_one;
 use runs::report::{End, Report, last_report, report_of};
 use runs::turn::finish;
@@ -10,10 +11,16 @@ use std::process::Abort;
 use task_code::event::Event;
 use worked_codes::codes::hello;
 
+/// The program that prints `hello`.
+fn program_of(rt: &impl Abort, alloc: Global) -> Program {
+    let code = hello(alloc).expect(rt, "a code");
+    Program::new(alloc, code).expect(rt, "memory")
+}
+
 /// The report of a run with these choices, and so many events at most.
 fn run_of(rt: &impl Abort, alloc: Global, choices: &[u32], limit: u32) -> Report {
-    let code = hello(alloc).expect(rt, "a code");
-    run_one(alloc, &code, choices, limit).expect(rt, "memory")
+    let program = program_of(rt, alloc);
+    run_one(alloc, &program, choices, limit).expect(rt, "memory")
 }
 
 /// Whether a report shows the one line `hello`.
@@ -62,8 +69,7 @@ fn the_limit_cuts_a_run(rt: HostRuntime) {
 
 /// A board with room for two events.
 fn board_of_two(rt: &impl Abort, alloc: Global) -> Board {
-    let code = hello(alloc).expect(rt, "a code");
-    Board::new(alloc, code, 2).expect(rt, "memory")
+    Board::new(alloc, program_of(rt, alloc), 2).expect(rt, "memory")
 }
 
 /// The script runs on worker 0 and ends.

@@ -1,6 +1,7 @@
 //! What several tests do: commands over files in memory, with sinks that take one byte a write, and the code, the runs and the
 //! rounds of a script.
 use crate::asserts::boxed;
+use board_code::program::Program;
 use bumpalo::Bump;
 use compile::compile::{compile, read};
 use flow::script::Flow;
@@ -239,6 +240,12 @@ pub(crate) fn code_of(rt: &impl Abort, alloc: Global, script: &[u8]) -> Box<Code
     boxed(rt, alloc, code)
 }
 
+/// The code with all that is worked out of it.
+pub(crate) fn program_of(rt: &impl Abort, alloc: Global, code: &Code) -> Program {
+    let code = code.copy().expect(rt, "memory");
+    Program::new(alloc, code).expect(rt, "memory")
+}
+
 /// The report of a run of the code by these choices, with so many events at most.
 pub(crate) fn report_of(
     rt: &impl Abort,
@@ -247,6 +254,7 @@ pub(crate) fn report_of(
     choices: &[u32],
     limit: u32,
 ) -> Box<Report> {
-    let report = run_one(alloc, code, choices, limit).expect(rt, "memory");
+    let program = program_of(rt, alloc, code);
+    let report = run_one(alloc, &program, choices, limit).expect(rt, "memory");
     boxed(rt, alloc, report)
 }

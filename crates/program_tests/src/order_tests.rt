@@ -1,7 +1,7 @@
 //! Every order in which small scripts can run, each compared with what the script means, worked out by rounds, and with what is
 //! written here.
 use crate::asserts::{boxed, holds, is_equal};
-use crate::doing::{code_of, known_of, report_of};
+use crate::doing::{code_of, known_of, program_of, report_of};
 use board::board::Board;
 use board::{Fault, Statement, Step};
 use runs::report::{End, Report};
@@ -263,8 +263,7 @@ fn take_turn(
 
 /// A board of the code.
 fn board_of(rt: &impl Abort, alloc: Global, code: &Code) -> Box<Board> {
-    let code = code.copy().expect(rt, "memory");
-    let board = Board::new(alloc, code, 1000).expect(rt, "memory");
+    let board = Board::new(alloc, program_of(rt, alloc, code), 1000).expect(rt, "memory");
     boxed(rt, alloc, board)
 }
 

@@ -1,6 +1,7 @@
 //! How long whole scripts take: compiled, and run on one thread, on two and on four.
 
 use crate::scripts::{SCRIPTS, Script};
+use board_code::program::Program;
 use compile::compile::compile;
 use runs::one::run_one;
 use std::alloc::Global;
@@ -8,16 +9,15 @@ use std::io;
 use std::sync::Wait;
 use std::thread::Threads;
 use std::time::{Clock, Instant};
-use task_code::code::Code;
 use workers::job::Open;
 use workers::run::run_threads;
 
 /// How many engines and workers there are. Where there are none, one thread does it all, without a lock.
 const CREWS: [(u8, u8); 4] = [(0, 0), (1, 1), (1, 3), (2, 2)];
 
-/// Runs the code on one thread, and counts the events.
-fn run_alone(alloc: Global, code: &Code) -> usize {
-    match run_one(alloc, code, &[], u32::MAX) {
+/// Runs the program on one thread, and counts the events.
+fn run_alone(alloc: Global, program: &Program) -> usize {
+    match run_one(alloc, program, &[], u32::MAX) {
         Ok(report) => report.history.len(),
         Err(_) => 0,
     }
@@ -27,11 +27,11 @@ fn run_alone(alloc: Global, code: &Code) -> usize {
 fn run_by_crew<R: Threads + Wait + Sync>(
     rt: &R,
     alloc: Global,
-    code: &Code,
+    program: &Program,
     engines: u8,
     workers: u8,
 ) -> usize {
-    match run_threads(rt, alloc, code, engines, workers, u32::MAX, &Open) {
+    match run_threads(rt, alloc, program, engines, workers, u32::MAX, &Open) {
         Ok((report, _)) => report.history.len(),
         Err(_) => 0,
     }
@@ -41,15 +41,15 @@ fn run_by_crew<R: Threads + Wait + Sync>(
 fn items_and_nanos<R: Clock + Threads + Wait + Sync>(
     rt: &R,
     alloc: Global,
-    code: &Code,
+    program: &Program,
     engines: u8,
     workers: u8,
 ) -> io::Result<(u128, u128)> {
     let start = Instant::now(rt)?;
     let events = if engines == 0 {
-        run_alone(alloc, code)
+        run_alone(alloc, program)
     } else {
-        run_by_crew(rt, alloc, code, engines, workers)
+        run_by_crew(rt, alloc, program, engines, workers)
     };
     let nanos = start.elapsed(rt)?.as_nanos();
     let items = events as u128 / 2;
@@ -57,19 +57,36 @@ fn items_and_nanos<R: Clock + Threads + Wait + Sync>(
 }
 
 /// Prints the time of an item on one thread, on two and on four.
-fn time_code<R: Clock + Print + Threads + Wait + Sync>(
+fn time_program<R: Clock + Print + Threads + Wait + Sync>(
     rt: &R,
     alloc: Global,
-    code: &Code,
+    program: &Program,
 ) -> io::Result<()> {
     for (engines, workers) in CREWS {
-        let (items, nanos) = items_and_nanos(rt, alloc, code, engines, workers)?;
+        let (items, nanos) = items_and_nanos(rt, alloc, program, engines, workers)?;
         println!(rt; "  {engines} + {workers}: {items} items, {nanos} nanoseconds each")?;
     }
     Ok(())
 }
 
-/// Prints the time in which the script with the number is compiled, and those of its items.
+/// The program of a script. None where the script is refused.
+fn program_of<R: Clock + Print>(rt: &R, alloc: Global, text: &[u8]) -> io::Result<Option<Program>> {
+    let start = Instant::now(rt)?;
+    let answer = compile(alloc, alloc, text);
+    let compiled = start.elapsed(rt)?.as_micros();
+    let Ok(code) = answer else {
+        return Ok(None);
+    };
+    let program = Program::new(alloc, code)?;
+    let both = start.elapsed(rt)?.as_micros();
+    println!(rt;
+        "  compiled in {compiled} microseconds, its tables in {}",
+        both - compiled
+    )?;
+    Ok(Some(program))
+}
+
+/// Prints the time in which the script with the number is compiled and its tables are made, and those of its items.
 fn time_script<R: Clock + Print + Threads + Wait + Sync>(
     rt: &R,
     alloc: Global,
@@ -77,14 +94,11 @@ fn time_script<R: Clock + Print + Threads + Wait + Sync>(
     number: u32,
 ) -> io::Result<()> {
     let text = script.text(alloc, number)?;
-    let start = Instant::now(rt)?;
-    let answer = compile(alloc, alloc, text.as_bytes());
-    let micros = start.elapsed(rt)?.as_micros();
     let (name, len) = (script.name, text.len());
-    println!(rt; "{name} {number}: {len} bytes, compiled in {micros} microseconds")?;
-    match answer {
-        Ok(code) => time_code(rt, alloc, &code),
-        Err(_) => println!(rt; "  refused"),
+    println!(rt; "{name} {number}: {len} bytes")?;
+    match program_of(rt, alloc, text.as_bytes())? {
+        Some(program) => time_program(rt, alloc, &program),
+        None => println!(rt; "  refused"),
     }
 }
 

@@ -46,7 +46,7 @@ line_bytes (Truth false) = codes "false"
 
 -- the report tells what a board shows
 pub record Tells (b : Seen) (r : Report) : Type 0 where
-  pub code : r.code ≡ b.code
+  pub code : r.program ≡ b.code
   pub history : map event_view r.history.items ≡ b.history
   pub workers : AreByWorkers b.history
   pub numbers : AreNumbered b.history

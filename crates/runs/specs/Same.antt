@@ -20,7 +20,7 @@ SameEnd _ _ = ⊥
 
 -- all that they tell is the same
 pub record SameReport (r s : Report) : Type 0 where
-  pub code : r.code ≡ s.code
+  pub code : r.program ≡ s.program
   pub history : r.history.items ≡ s.history.items
   pub lines : r.lines.items ≡ s.lines.items
   pub end : SameEnd r.end s.end

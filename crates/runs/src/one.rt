@@ -7,10 +7,10 @@ ghost use Rattle.runs.specs.Turns.{RanTo, starts};
 use crate::report::{Report, last_report};
 use crate::turn::{Turn, make_turn};
 use board::board::Board;
+use board_code::program::Program;
 use std::alloc::{AllocError, Global};
-use task_code::code::Code;
 
-/// Runs the code in one thread, up to its end or to so many events.
+/// Runs the program in one thread, up to its end or to so many events.
 ///
 /// At each turn the items that can begin are listed by greatest priority and then by smallest number. The next choice is
 /// counted round this list, and names the item that is begun, computed and ended; once the choices have run out, it is
@@ -22,14 +22,14 @@ use task_code::code::Code;
 /// `AllocError` where memory that was asked for was refused.
 pub fn run_one(
     alloc: Global,
-    code: &Code,
+    program: &Program,
     choices: &[u32],
     limit: u32,
 ) -> Result<Report, AllocError>
-    ensures turns { IfOk result (λ report. (board : Seen) × RanTo choices.now (starts code.now limit) board × Tells board report) }
-    ensures reports { IfOk result (Reports code.now limit) }
+    ensures turns { IfOk result (λ report. (board : Seen) × RanTo choices.now (starts program.now limit) board × Tells board report) }
+    ensures reports { IfOk result (Reports program.now limit) }
 {
-    let mut board = Board::new(alloc, code.copy()?, limit)?;
+    let mut board = Board::new(alloc, program.share()?, limit)?;
     run_by(&mut board, choices)?;
     last_report(alloc, board)
 }

@@ -5,8 +5,8 @@ ghost use Rattle.runs.specs.Report.{AreBlockedAt, AreTallies, EndsAs, IsOver, Re
 use crate::tally::tallies;
 use board::board::{Board, Remains};
 use board::{Fault, Statement, Step};
+use board_code::program::Program;
 use std::alloc::{AllocError, Global};
-use task_code::code::Code;
 use task_code::event::Event;
 use values::key::Key;
 use values::text::Text;
@@ -23,9 +23,9 @@ pub enum End {
     Limit,
 }
 
-/// A run of code that is over.
+/// A run of a program that is over.
 pub struct Report {
-    pub code: Code,
+    pub program: Program,
     /// The events, in the order in which they happened.
     pub history: Vec<Event>,
     /// The lines, in the order in which they were printed.
@@ -42,7 +42,7 @@ pub struct Report {
 impl Drop for Report {
     fn drop(self) {
         let Report {
-            code: _,
+            program: _,
             history: _,
             lines: _,
             end: _,
@@ -75,10 +75,10 @@ fn shown_by(alloc: Global, board: &Board) -> Result<Shown, AllocError>
     })
 }
 
-/// What is said of a run of this code, with its events and lines.
-fn reported(shown: Shown, code: Code, history: Vec<Event>, lines: Vec<Text>) -> Report
+/// What is said of a run of this program, with its events and lines.
+fn reported(shown: Shown, program: Program, history: Vec<Event>, lines: Vec<Text>) -> Report
     ensures shown { (result.end ≡ shown.end) × (result.blocked ≡ shown.blocked) × (result.tallies ≡ shown.tallies) }
-    ensures rest { (result.code ≡ code) × (result.history ≡ history) × (result.lines ≡ lines) }
+    ensures rest { (result.program ≡ program) × (result.history ≡ history) × (result.lines ≡ lines) }
 {
     let Shown {
         end,
@@ -86,7 +86,7 @@ fn reported(shown: Shown, code: Code, history: Vec<Event>, lines: Vec<Text>) -> 
         tallies,
     } = shown;
     Report {
-        code,
+        program,
         history,
         lines,
         end,
@@ -107,12 +107,12 @@ pub fn report_of(alloc: Global, board: &Board) -> Result<Report, AllocError>
 {
     let history = Vec::from_slice(alloc, board.history().as_slice())?;
     let lines = texts(alloc, board.lines())?;
-    let code = board.code().copy()?;
+    let program = board.program().share()?;
     let shown = shown_by(alloc, board)?;
-    Ok(reported(shown, code, history, lines))
+    Ok(reported(shown, program, history, lines))
 }
 
-/// The same of a board that is not needed any more: its code, events and texts are the report's.
+/// The same of a board that is not needed any more: its program, events and texts are the report's.
 ///
 /// # Errors
 ///
@@ -125,12 +125,12 @@ pub fn last_report(alloc: Global, board: Board) -> Result<Report, AllocError>
     let _run = board.history();
     let shown = shown_by(alloc, &board)?;
     let Remains {
-        code,
+        program,
         history,
         lines,
     } = board.into_remains();
     let lines = own_texts(alloc, lines)?;
-    Ok(reported(shown, code, history, lines))
+    Ok(reported(shown, program, history, lines))
 }
 
 /// How a run ended, and the statements that are blocked where it ended quiet.

@@ -2,6 +2,7 @@
 
 use board::board::Board;
 use board::refusal::Refusal;
+use board_code::program::Program;
 use compile::compile::compile;
 use compile::fault::CompileFault;
 use runs::turn::finish;
@@ -25,7 +26,7 @@ pub fn left_behind(alloc: Global, text: &[u8], trace: &[u8]) -> Result<Option<Le
         Err(CompileFault::Memory) => return Err(AllocError),
         Err(_) => return Ok(None),
     };
-    let mut board = Board::new(alloc, code, u32::MAX)?;
+    let mut board = Board::new(alloc, Program::new(alloc, code)?, u32::MAX)?;
     left_on(alloc, &mut board, trace)
 }
 

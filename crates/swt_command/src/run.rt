@@ -8,7 +8,7 @@ ghost use Rattle.swt_command.specs.Sinks.{Lost, held};
 ghost use Rattle.swt_command.specs.Troubles.{run_trouble};
 
 use crate::arena::empty;
-use crate::scripts::{code_of, source};
+use crate::scripts::{code_of, program_of, source};
 use bumpalo::Bump;
 use exit_status::status::{Status, status_of};
 use runs::report::Report;
@@ -96,9 +96,9 @@ fn ran<R: Threads + Wait + Sync, G: Gate>(
     ensures { MatchResult result (Ran (contents files.now) engines workers steps)
         (λ stop. (stop.place ≡ 0) × StopsBeforeRun (contents files.now) engines workers stop.trouble) }
 {
-    let code = code_of(alloc, arena, files)?;
+    let program = program_of(alloc, arena, files)?;
     empty(alloc, arena);
-    match run_threads(rt, alloc, &code, engines, workers, steps, gate) {
+    match run_threads(rt, alloc, &program, engines, workers, steps, gate) {
         Ok((report, _count)) => Ok(report),
         Err(fault) => Err(Stop {
             place: 0,

@@ -5,6 +5,7 @@ ghost use Rattle.swt_command.specs.Listings.{IsAcceptedAt};
 ghost use Rattle.swt_command.specs.Files.{HasCode, StopsAt, contents, source_of};
 ghost use Rattle.swt_command.specs.Troubles.{trouble_of};
 
+use board_code::program::Program;
 use bumpalo::Bump;
 use compile::compile::{compile, drawn, listed};
 use compile::fault::CompileFault;
@@ -45,6 +46,25 @@ pub fn code_of(alloc: Global, arena: &Bump, files: &[Option<Vec<u8>>]) -> Result
     match compile(alloc, arena, source) {
         Ok(code) => Ok(code),
         Err(fault) => Err(at_script(fault)),
+    }
+}
+
+/// The same with all that is worked out of it once.
+///
+/// # Errors
+///
+/// `Unread`, `Refused` or `Memory`.
+pub fn program_of(alloc: Global, arena: &Bump, files: &[Option<Vec<u8>>]) -> Result<Program, Stop>
+    ensures { MatchResult result (HasCode (contents files.now) 0)
+        (λ stop. (stop.place ≡ 0) × StopsAt (contents files.now) 0 stop.trouble) }
+{
+    let code = code_of(alloc, arena, files)?;
+    match Program::new(alloc, code) {
+        Ok(program) => Ok(program),
+        Err(_refused) => Err(Stop {
+            place: 0,
+            trouble: Trouble::Memory,
+        }),
     }
 }
 

@@ -12,6 +12,7 @@ use crate::fault::ReplayFault;
 use crate::read::read_trace;
 use board::board::Board;
 use board::refusal::Refusal;
+use board_code::program::Program;
 use runs::report::{Report, report_of};
 use runs::turn::finish;
 use std::alloc::{AllocError, Global};
@@ -37,7 +38,8 @@ pub fn replay(alloc: Global, code: &Code, trace: &[u8]) -> Result<Report, Replay
 {
     let _whole = code.entry_count();
     let events = read_trace(alloc, trace)?;
-    let mut board = Board::new(alloc, code.copy()?, events.len() as u32)?;
+    let program = Program::new(alloc, code.copy()?)?;
+    let mut board = Board::new(alloc, program, events.len() as u32)?;
     report_behind(alloc, &mut board, events.as_slice())
 }
 

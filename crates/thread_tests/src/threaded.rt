@@ -2,6 +2,7 @@
 ghost use Rattle.std.specs.Prelude.{◌≡◌};
 
 use crate::asserts::{boxed, holds, is_equal};
+use board_code::program::Program;
 use compile::compile::compile;
 use runs::report::{End, Report};
 use std::alloc::Global;
@@ -52,6 +53,12 @@ pub(crate) fn code_of(rt: &impl Abort, alloc: Global, script: &[u8]) -> Box<Code
     boxed(rt, alloc, code)
 }
 
+/// The code with all that is worked out of it.
+fn program_of(rt: &impl Abort, alloc: Global, code: &Code) -> Program {
+    let code = code.copy().expect(rt, "memory");
+    Program::new(alloc, code).expect(rt, "memory")
+}
+
 /// A run of the code on so many engines and workers, or why there is none.
 pub(crate) fn tried<R: Threads + Wait + Sync + Abort, G: Gate>(
     rt: &R,
@@ -61,7 +68,8 @@ pub(crate) fn tried<R: Threads + Wait + Sync + Abort, G: Gate>(
     limit: u32,
     gate: &G,
 ) -> Box<Result<Ran, RunFault>> {
-    let answer = run_threads(rt, alloc, code, engines, workers, limit, gate);
+    let program = program_of(rt, alloc, code);
+    let answer = run_threads(rt, alloc, &program, engines, workers, limit, gate);
     boxed(rt, alloc, answer)
 }
 
@@ -75,7 +83,8 @@ pub(crate) fn run_of<R: Threads + Wait + Sync + Abort, G: Gate>(
     gate: &G,
 ) -> Box<Ran> {
     let code = code_of(rt, alloc, script);
-    let ran = run_threads(rt, alloc, &code, engines, workers, limit, gate).expect(rt, "a run");
+    let program = program_of(rt, alloc, &code);
+    let ran = run_threads(rt, alloc, &program, engines, workers, limit, gate).expect(rt, "a run");
     boxed(rt, alloc, ran)
 }
 
@@ -88,7 +97,7 @@ fn is_replayed(rt: &impl Abort, alloc: Global, report: &Report) -> bool {
 /// What the report's trace, run again, gives.
 fn again(rt: &impl Abort, alloc: Global, report: &Report) -> Box<Report> {
     let trace = trace_of(rt, alloc, report);
-    let again = replay(alloc, &report.code, trace.bytes.as_slice()).expect(rt, "a trace");
+    let again = replay(alloc, report.program.code(), trace.bytes.as_slice()).expect(rt, "a trace");
     boxed(rt, alloc, again)
 }
 

@@ -150,7 +150,7 @@ impl Pile {
         ensures first { result ≡ first_of self.now.entries }
         ensures foremost { IfSome result (λ e. IsForemost e self.now.entries) }
     {
-        let (of_tree, of_run) = (self.tree.first(), self.run.first());
+        let (of_tree, of_run) = (first_in(&self.tree, self.len), self.run.first());
         if leads(&of_tree, &of_run) {
             of_tree
         } else {
@@ -180,7 +180,7 @@ impl Pile {
         ensures foremost { IfSome result (λ e. IsForemost e self.old.entries) }
         ensures rest { self.new ≡ without_first self.old }
     {
-        let (of_tree, of_run) = (self.tree.first(), self.run.first());
+        let (of_tree, of_run) = (first_in(&self.tree, self.len), self.run.first());
         if !leads(&of_tree, &of_run) {
             return self.run.take();
         }
@@ -208,6 +208,17 @@ impl Pile {
             }
         }
     }
+}
+
+// The first entry of a tree of so many, which mostly has none.
+fn first_in(tree: &Tree, len: usize) -> Option<Entry>
+    requires { len ≡ length tree.now }
+    ensures { result ≡ first_of tree.now }
+{
+    if len == 0 {
+        return None;
+    }
+    tree.first()
 }
 
 // Whether there is the one, and it is taken before the other or there is no other.

@@ -94,6 +94,9 @@ impl Run {
         ensures found { result ≡ holds entry.now self.old }
         ensures entries { self.new ≡ erased entry.now self.old }
     {
+        if self.first() == Some(*entry) {
+            return self.take().is_some();
+        }
         if !rest(&mut self.slots, entry) {
             return false;
         }

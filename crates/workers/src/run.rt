@@ -17,6 +17,7 @@ use crate::job::{Gate, Job};
 use crate::sums::Sums;
 use crate::work::crew;
 use board::board::Board;
+use board_code::program::Program;
 use pool::{Pool, PoolSeat};
 use runs::report::{Report, report_of};
 use std::alloc::{AllocError, Global};
@@ -24,7 +25,6 @@ use std::marker::Brand;
 use std::sync::ledger::{Blank, Ledger, Share};
 use std::sync::{Mutex, Wait};
 use std::thread::Threads;
-use task_code::code::Code;
 use task_code::entry::Kind;
 
 /// Of the items that came to be ready: how many were offered to the pool, and how many found no hole there; how many numbers were
@@ -311,8 +311,8 @@ fn run<
     )
 }
 
-/// Runs the code on threads: engines, with the numbers from 0 on, run control items, and workers, which follow, leaf items. At most
-/// `limit` events happen. What an item does is computed by the gate, outside of the lock. The report is that of a run of the code.
+/// Runs the program on threads: engines, with the numbers from 0 on, run control items, and workers, which follow, leaf items. At most
+/// `limit` events happen. What an item does is computed by the gate, outside of the lock. The report is that of a run of its code.
 ///
 /// # Errors
 ///
@@ -322,22 +322,22 @@ fn run<
 pub fn run_threads<R: Threads + Wait + Sync, G: Gate>(
     rt: &R,
     alloc: Global,
-    code: &Code,
+    program: &Program,
     engines: u8,
     workers: u8,
     limit: u32,
     gate: &G,
 ) -> Result<(Report, PoolCount), RunFault>
-    ensures report { IfOk result (λ r. IsReport code.now limit engines workers r.0 r.1) }
+    ensures report { IfOk result (λ r. IsReport program.now limit engines workers r.0 r.1) }
     ensures count { (result ≡ Err RunFault.BadCount) ↔ ((engines ≡ 0) ⊎ ((workers ≡ 0) ⊎ (64 < engines + workers))) }
 {
     let count = engines as usize + workers as usize;
     if engines == 0 || workers == 0 || count > 64 {
         return Err(RunFault::BadCount);
     }
-    let _whole = code.entry_count();
+    let _whole = program.code().entry_count();
     let (pool, seats) = Pool::new(alloc, count)?;
-    let board = Board::new(alloc, code.copy()?, limit)?;
+    let board = Board::new(alloc, program.share()?, limit)?;
     let events = Blank::new(count as u64);
     let news = Blank::new(count as u64);
     run::<Brand, Brand, Brand, R, G>(

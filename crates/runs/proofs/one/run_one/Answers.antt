@@ -11,13 +11,13 @@ use Rattle.runs.proofs.one.run_one.Goals as goal
 
 pub last_report-requires : goal.last_report-requires
 last_report-requires c =
-    let is : c.in_ok-board.board ≡ starts c.args.code.now c.args.limit = c.in_ok-board.ensures ∙ ap (λ (C : Code). starts C c.args.limit) c.in_ok-copy.ensures in
-    let idle : AllIdle c.in_ok-board.board.state.items = subst (λ (b : Seen). AllIdle b.state.items) (sym is) (starts_idle c.args.code.now c.args.limit) in
+    let is : c.in_ok-board.board ≡ starts c.args.program.now c.args.limit = c.in_ok-board.ensures ∙ ap (λ (C : Code). starts C c.args.limit) c.in_ok-share.ensures in
+    let idle : AllIdle c.in_ok-board.board.state.items = subst (λ (b : Seen). AllIdle b.state.items) (sym is) (starts_idle c.args.program.now c.args.limit) in
     run_is_over c.args.choices.now c.in_ok-board.board c.run_by.new.board idle c.in_ok-run_by.ensures
 
 pub returns-clause-reports : goal.returns-clause-reports
 returns-clause-reports c =
-    let is : c.in_ok-board.board ≡ starts c.args.code.now c.args.limit = c.in_ok-board.ensures ∙ ap (λ (C : Code). starts C c.args.limit) c.in_ok-copy.ensures in
+    let is : c.in_ok-board.board ≡ starts c.args.program.now c.args.limit = c.in_ok-board.ensures ∙ ap (λ (C : Code). starts C c.args.limit) c.in_ok-share.ensures in
     let kept = run_keeps c.args.choices.now c.in_ok-board.board c.run_by.new.board c.in_ok-run_by.ensures in
     subst (λ (C : Code). IfOk c.last_report.result (λ r. Reports C c.args.limit r)) (kept.0 ∙ ap (λ (b : Seen). b.code) is)
     (subst (λ (n : ℕ). IfOk c.last_report.result (λ r. Reports c.run_by.new.board.code n r)) (kept.1 ∙ ap (λ (b : Seen). b.limit) is) c.last_report.ensures.reports)
@@ -29,6 +29,6 @@ told (Err e) choices from to ran tells = tt
 
 pub returns-clause-turns : goal.returns-clause-turns
 returns-clause-turns c =
-    let is : c.in_ok-board.board ≡ starts c.args.code.now c.args.limit = c.in_ok-board.ensures ∙ ap (λ (C : Code). starts C c.args.limit) c.in_ok-copy.ensures in
-    let ran : RanTo c.args.choices.now (starts c.args.code.now c.args.limit) c.run_by.new.board = subst (λ (b : Seen). RanTo c.args.choices.now b c.run_by.new.board) is c.in_ok-run_by.ensures in
-    told c.last_report.result c.args.choices.now (starts c.args.code.now c.args.limit) c.run_by.new.board ran c.last_report.ensures.tells
+    let is : c.in_ok-board.board ≡ starts c.args.program.now c.args.limit = c.in_ok-board.ensures ∙ ap (λ (C : Code). starts C c.args.limit) c.in_ok-share.ensures in
+    let ran : RanTo c.args.choices.now (starts c.args.program.now c.args.limit) c.run_by.new.board = subst (λ (b : Seen). RanTo c.args.choices.now b c.run_by.new.board) is c.in_ok-run_by.ensures in
+    told c.last_report.result c.args.choices.now (starts c.args.program.now c.args.limit) c.run_by.new.board ran c.last_report.ensures.tells

@@ -9,6 +9,6 @@ pub returns : goal.returns
 returns g c = (
   refl,
   subst (λ (t : Trouble). StopsBeforeRun (contents c.args.files.now) c.args.engines c.args.workers t) (sym c.trouble_of.ensures)
-      (no_report (contents c.args.files.now) c.args.engines c.args.workers c.in_ok-code.code c.in-Err.fault c.in_ok-code.ensures
+      (no_report (contents c.args.files.now) c.args.engines c.args.workers c.in_ok-program.program c.in-Err.fault c.in_ok-program.ensures
       (λ bad. c.in-Err.ensures.count.0 (ap Err bad))),
 )

@@ -14,7 +14,7 @@ report_behind-requires-clause-trace c =
 
 pub returns-clause-report : goal.returns-clause-report
 returns-clause-report c =
-    let code = ap (λ (b : Seen). b.code) c.in_ok-board.ensures ∙ c.in_ok-copy.ensures in
+    let code = ap (λ (b : Seen). b.code) c.in_ok-board.ensures ∙ c.in_ok-program.ensures ∙ c.in_ok-copy.ensures in
     let trace = subst (λ (es : List Event). IsTrace c.args.trace.now es) (sym c.as_slice.ensures.value) c.in_ok-events.ensures.ok in
     of_report c.report_behind.result _ (ReplaysTo c.args.code.now c.args.trace.now)
     (λ r h. subst (λ (C : Code). ReplaysTo C c.args.trace.now r) code (h c.args.trace.now trace)) c.report_behind.ensures.report
@@ -24,7 +24,7 @@ returns-clause-bad c = of_fault c.report_behind.result _ _ _ (λ f h k n e. absu
 
 pub returns-clause-no_step : goal.returns-clause-no_step
 returns-clause-no_step c =
-    let code = ap (λ (b : Seen). b.code) c.in_ok-board.ensures ∙ c.in_ok-copy.ensures in
+    let code = ap (λ (b : Seen). b.code) c.in_ok-board.ensures ∙ c.in_ok-program.ensures ∙ c.in_ok-copy.ensures in
     let trace = subst (λ (es : List Event). IsTrace c.args.trace.now es) (sym c.as_slice.ensures.value) c.in_ok-events.ensures.ok in
     of_fault c.report_behind.result _ _ _
     (λ f h k n e. subst (λ (C : Code). IsFirstNoStep C c.args.trace.now n) code (k n e c.args.trace.now trace)) c.report_behind.ensures.bad c.report_behind.ensures.no_step
@@ -37,7 +37,7 @@ pub returns-clause-only_memory : goal.returns-clause-only_memory
 returns-clause-only_memory c = λ r t.
     of_fault c.report_behind.result _ _ _
     (λ f line event. no_other f line (λ n e. not_refused c.args.code.now c.args.trace.now r c.entry_count-whole.ensures.whole t n
-    (subst (λ (C : Code). IsFirstNoStep C c.args.trace.now n) (ap (λ (b : Seen). b.code) c.in_ok-board.ensures ∙ c.in_ok-copy.ensures)
+    (subst (λ (C : Code). IsFirstNoStep C c.args.trace.now n) (ap (λ (b : Seen). b.code) c.in_ok-board.ensures ∙ c.in_ok-program.ensures ∙ c.in_ok-copy.ensures)
     (event n e c.args.trace.now (subst (λ (es : List Event). IsTrace c.args.trace.now es) (sym c.as_slice.ensures.value) c.in_ok-events.ensures.ok)))))
     c.report_behind.ensures.bad c.report_behind.ensures.no_step
 

@@ -9,7 +9,7 @@ returns-clause-report g c =
     let b : Seen = c.in_ok-board.board in
     let e = c.args.engines in
     let w = c.args.workers in
-    let code : b.code ≡ c.args.code.now = ap (λ (x : Seen). x.code) c.in_ok-board.ensures ∙ c.in_ok-copy.ensures in
+    let code : b.code ≡ c.args.program.now = ap (λ (x : Seen). x.code) c.in_ok-board.ensures ∙ c.in_ok-share.ensures in
     let limit : b.limit ≡ c.args.limit = ap (λ (x : Seen). x.limit) c.in_ok-board.ensures in
     let others : (e + w) - e ≡ w = omega arith in
     subst (λ (C : Code). IfOk c.run.result (λ r. IsReport C c.args.limit e w r.0 r.1)) code

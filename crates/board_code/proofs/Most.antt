@@ -1,29 +1,24 @@
 -- How many names entries have at most.
-use Rattle.std.proofs.Common.{◌≡◌, ℕ, suc, ◌+◌, ◌<◌, ◌≤◌, true, false, Bool, List, [], ◌∷◌, map, length, refl, sym, ap, subst, arith}
+use Rattle.std.proofs.Common.{◌≡◌, ℕ, zero, suc, ◌+◌, ◌<◌, ◌≤◌, true, false, Bool, List, [], ◌∷◌, length, refl, sym, subst, arith}
 use Rattle.std.specs.Prelude.{nat_lt}
 use Rattle.std.proofs.lemmas.Bool.Decides.{nat_tests}
-use Rattle.task_code.specs.Code.{Code, Entry, entry}
-use Rattle.task_code.specs.View.{entry_view, name_view}
-use Rattle.task_code.specs.declared.entry.Entry.{Entry as Kept}
-use Rattle.board.proofs.Rooms.{entry_past}
+use Rattle.task_code.specs.Code.{Code, Entry, blank_entry, entry, nth}
 
-map_length : {X Y : Type 0} (f : X → Y) (xs : List X) → length (map f xs) ≡ length xs
-map_length f [] = refl
-map_length f (x ∷ xs) = ap suc (map_length f xs)
+nth_past : {X : Type 0} (d : X) (xs : List X) (n : ℕ) → length xs ≤ n → nth d xs n ≡ d
+nth_past d [] n h = refl
+nth_past d (x ∷ xs) zero h = absurd (omega (arith, h))
+nth_past d (x ∷ xs) (suc n) h = nth_past d xs n (omega (arith, h))
 
--- one that is not there has none
+-- one that is not there
+pub entry_past : (C : Code) (n : ℕ) → length C.entries ≤ n → entry C n ≡ blank_entry
+entry_past C n h = nth_past blank_entry C.entries n h
+
+-- it has no names
 pub reads_past : (C : Code) (n most : ℕ) → length C.entries ≤ n → length (entry C n).reads ≤ most
 reads_past C n most h = subst (λ (e : Entry). length e.reads ≤ most) (sym (entry_past C n h)) (omega arith)
 
 pub writes_past : (C : Code) (n most : ℕ) → length C.entries ≤ n → length (entry C n).writes ≤ most
 writes_past C n most h = subst (λ (e : Entry). length e.writes ≤ most) (sym (entry_past C n h)) (omega arith)
-
--- one that is there has as many as its lists
-pub reads_listed : (C : Code) (n most : ℕ) (e : Kept) → entry_view e ≡ entry C n → length e.reads.items ≤ most → length (entry C n).reads ≤ most
-reads_listed C n most e q h = subst (λ (y : Entry). length y.reads ≤ most) q (subst (λ k. k ≤ most) (sym (map_length name_view e.reads.items)) h)
-
-pub writes_listed : (C : Code) (n most : ℕ) (e : Kept) → entry_view e ≡ entry C n → length e.writes.items ≤ most → length (entry C n).writes ≤ most
-writes_listed C n most e q h = subst (λ (y : Entry). length y.writes ≤ most) q (subst (λ k. k ≤ most) (sym (map_length name_view e.writes.items)) h)
 
 -- one more is looked at
 pub one_wider : (f : ℕ → ℕ) (n most : ℕ) → ((i : ℕ) → i < n → f i ≤ most) → (k : ℕ) → most ≤ k → f n ≤ k → (i : ℕ) → i < n + 1 → f i ≤ k
