@@ -7,13 +7,12 @@ ghost use Rattle.board_frames.specs.Names.{datum_of, led_slot, slot_in, spot_slo
 ghost use Rattle.board_frames.specs.Nested.{IsNested};
 ghost use Rattle.board_frames.specs.View.{frame_view, frames_view, slot_view, step_view};
 
+use crate::outer::{Outer, Way};
 use crate::place::Step;
-use board_code::key::copy_key;
 use board_code::spot::Spot;
 use slab::Slab;
 use smallvec::SmallVec;
 use std::alloc::{AllocError, Global};
-use values::key::Key;
 
 /// What a name of a block stands for in an instance.
 #[derive(Clone, Copy, PartialEq, Eq, Debug, Drop)]
@@ -37,14 +36,14 @@ pub type Slots = SmallVec<Slot, 4>;
 #[derive(Drop)]
 pub struct Instance {
     /// The instance around it.
-    pub parent: Option<usize>,
+    pub parent: Outer,
     /// How many are around it.
     pub level: u32,
     /// How many steps its path has.
     pub depth: u32,
-    /// The last step of its path; the content of a `wait` adds none.
-    pub way: Option<Step>,
     pub body: u32,
+    /// The last step of its path; the content of a `wait` adds none.
+    pub way: Way,
     /// How many items that have not ended and how many instances it has.
     pub live: usize,
     pub slots: Slots,
@@ -59,7 +58,7 @@ fn further_out(instances: &Slab<Instance>, at: usize, levels: usize) -> Option<&
     for step in 0..levels {
         match instances.get(key) {
             None => return None,
-            Some(instance) => match instance.parent {
+            Some(instance) => match instance.parent.key() {
                 None => return None,
                 Some(outer) => key = outer,
             },
@@ -123,13 +122,10 @@ fn push_step(
     let Some(instance) = instances.get(at) else {
         return Ok(None);
     };
-    if let Some(step) = &instance.way {
-        steps.push(Step {
-            offset: step.offset,
-            key: copy_key(&step.key),
-        })?;
+    if let Some(step) = instance.way.step() {
+        steps.push(step)?;
     }
-    Ok(instance.parent)
+    Ok(instance.parent.key())
 }
 
 /// The steps of an instance's path, the last one first.
@@ -181,7 +177,7 @@ fn leave_one(instances: &mut Slab<Instance>, at: usize) -> Option<usize>
         return None;
     }
     let gone = instances.try_remove(at)?;
-    gone.parent
+    gone.parent.key()
 }
 
 /// One item or instance less is in the instance; where it was the last, the instance goes, and so on outwards.

@@ -5,6 +5,7 @@ pub mod instance;
 pub mod item;
 pub mod laws;
 pub mod opening;
+pub mod outer;
 pub mod place;
 pub mod placing;
 pub mod turns;

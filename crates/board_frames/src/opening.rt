@@ -6,6 +6,7 @@ ghost use Rattle.board_frames.specs.Openings.{IsInner, passed_from, passed_slot,
 ghost use Rattle.board_frames.specs.View.{frame_view, frames_view, slot_view, step_view};
 
 use crate::instance::{Instance, Slot, Slots, slot_at};
+use crate::outer::{Outer, Way};
 use crate::place::Step;
 use board_code::program::{Passed, Program};
 use rules::input::Input;
@@ -94,11 +95,11 @@ pub fn outermost(alloc: Global, body: &Body) -> Result<Instance, AllocError>
     ensures { IfOk result (λ instance. frame_view instance ≡ unfilled None 0 0 None 0 (body_view body.now) []) }
 {
     Ok(Instance {
-        parent: None,
+        parent: Outer::none(),
         level: 0,
         depth: 0,
-        way: None,
         body: 0,
+        way: Way::none(),
         live: body.entries.len(),
         slots: empty_slots(alloc, body.makes.len(), 0)?,
     })
@@ -151,11 +152,11 @@ pub fn inner(
     push_parameters(&mut slots, around, call, passed)?;
     let depth = depth_of(outer.depth, &way)?;
     Ok(Some(Instance {
-        parent: Some(around.at),
+        parent: Outer::of(around.at)?,
         level: one_more(outer.level)?,
         depth,
-        way,
         body: number,
+        way: Way::of(way)?,
         live: body.entries.len(),
         slots,
     }))

@@ -157,7 +157,7 @@ fn turns(alloc: Global, world: &Opened) -> Result<Vec<Opening>, AllocError> {
 fn is_last_turn(rt: &impl Abort, last: &Opening) {
     assert!(rt; matches!(&last.value, Some(Scalar::Number(9))));
     assert!(rt; matches!(&last.turn, Some(Scalar::Number(2))));
-    let way = last.instance.way.as_ref().expect(rt, "a step");
+    let way = last.instance.way.step().expect(rt, "a step");
     assert!(rt; way.offset == 40 && matches!(way.key, Key::Number(2)));
 }
 
