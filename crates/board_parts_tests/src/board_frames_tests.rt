@@ -6,6 +6,7 @@ use board_code::spot::Spot;
 use board_frames::instance::{Slot, datum_at, enter, leave, path_of, slot_at};
 use board_frames::item::{Item, Mark, item_of, mark_item};
 use board_frames::opening::{Around, Opening, inner, outermost};
+use board_frames::outer::{Outer, Way};
 use board_frames::place::Step;
 use board_frames::placing::{go_on, place_all};
 use board_frames::turns::{Site, push_block, push_elements, push_range};
@@ -111,7 +112,7 @@ fn inner_lies_in_first(rt: &impl Abort, alloc: Global, world: &Opened) {
     let found = inner(alloc, around(world), 0, Some(way(7)), (0, &[]));
     let inside = found.expect(rt, "memory").expect(rt, "an instance");
     is_equal(rt, (inside.level, inside.depth, inside.live), (1, 1, 2));
-    is_equal(rt, inside.parent, Some(0));
+    is_equal(rt, inside.parent.key(), Some(0));
 }
 
 /// There is no instance of a body that is not.
@@ -151,6 +152,26 @@ fn turns(alloc: Global, world: &Opened) -> Result<Vec<Opening>, AllocError> {
         push_range(site(world, alloc), &mut list, &range, 1, 7)?;
     }
     Ok(list)
+}
+
+/// The key of the one around is kept, and that there is none.
+fn keeps_the_outer(rt: &impl Abort) {
+    let outer = Outer::of(7).expect(rt, "a key");
+    is_equal(rt, (outer.key(), Outer::none().key()), (Some(7), None));
+}
+
+/// A step is kept, and that there is none.
+fn keeps_the_step(rt: &impl Abort) {
+    let kept = Way::of(Some(way(3))).expect(rt, "an offset");
+    let step = kept.step().expect(rt, "a step");
+    assert!(rt; step.offset == 40 && matches!(step.key, Key::Number(3)));
+    assert!(rt; Way::none().step().is_none());
+}
+
+#[test]
+fn an_instance_keeps_what_is_around_it(rt: HostRuntime) {
+    keeps_the_outer(&rt);
+    keeps_the_step(&rt);
 }
 
 /// The last turn has the range's last number and its place, and a step by that place.

@@ -78,11 +78,8 @@ fn program_of<R: Clock + Print>(rt: &R, alloc: Global, text: &[u8]) -> io::Resul
         return Ok(None);
     };
     let program = Program::new(alloc, code)?;
-    let both = start.elapsed(rt)?.as_micros();
-    println!(rt;
-        "  compiled in {compiled} microseconds, its tables in {}",
-        both - compiled
-    )?;
+    let tables = start.elapsed(rt)?.as_micros().saturating_sub(compiled);
+    println!(rt; "  compiled in {compiled} microseconds, its tables in {tables}")?;
     Ok(Some(program))
 }
 
