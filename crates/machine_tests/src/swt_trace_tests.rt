@@ -4,6 +4,7 @@ ghost use Rattle.std.specs.Prelude.{◌≡◌};
 
 use crate::asserts::is_equal;
 use board::{Fault, FaultKind, Statement, Step};
+use board_code::program::Program;
 use entry_outcomes::outcome::EntryFault;
 use runs::report::{End, Report};
 use std::alloc::Global;
@@ -165,7 +166,7 @@ fn report_with(
 ) -> Report {
     let history = Vec::from_slice(alloc, events).expect(rt, "memory");
     Report {
-        code: empty(alloc),
+        program: Program::new(alloc, empty(alloc)).expect(rt, "memory"),
         history,
         lines: two_lines(rt, alloc),
         end,

@@ -3,7 +3,7 @@ use mathlib.Core.List.{List, [], ◌∷◌}
 use denote.RattleType.{RattleType}
 use denote.Exit.{no}
 use denote.Param.{arg, layout, param}
-use denote.Param.Send.{AllSend, IsSend, arg_send, param_send, sendable}
+use denote.Param.Send.{AllSend, IsSend, IsSync, arg_send, param_send, sendable}
 use denote.Param.SendFields.{FieldsHave, as_row_send, declared_send}
 use denote.Struct.Field.{row_field}
 use denote.Struct.Tuple.{TupleAt, parts, type_at}
@@ -13,7 +13,7 @@ use Rattle.std.specs.declared.sync.ledger.Ledger as ledger
 use Rattle.std.proofs.Crossing.{crosses, Box-send}
 use Rattle.std.proofs.option.Option.TheSendSync as option
 use Rattle.values.proofs.value.Scalar.TheSendSync as scalar
-use Rattle.task_code.proofs.Crosses.{code_send, entry_send, entry_sync}
+use Rattle.task_code.proofs.Crosses.{code_send, code_sync, entry_send, entry_sync}
 use Rattle.task_code.proofs.event.Event.TheSendSync as event
 use Rattle.task_code.proofs.entry.Kind.TheSendSync as kinds
 use Rattle.rules.proofs.listing.Rules.TheSendSync as rules
@@ -29,6 +29,7 @@ use Rattle.board_work.specs.contracts.work.Work as work
 use Rattle.board_work.specs.contracts.work.Done as done
 use Rattle.entry_outcomes.proofs.answer.Answer.TheSendSync as answer
 use Rattle.entry_outcomes.proofs.outcome.Outcome.TheSendSync as outcome
+use Rattle.board_code.specs.contracts.program.Laid as laid
 use Rattle.board_code.specs.contracts.program.Program as program
 use Rattle.board_code.proofs.program.EntryTable.TheSendSync as entry_table
 use Rattle.board_code.proofs.program.BodyTable.TheSendSync as body_table
@@ -54,8 +55,15 @@ work_send = search (job_send, answer.the_send, crosses, sendable) depth 60 fits 
 pub done_send : IsSend (done.the_field).row
 done_send = search (job_send, answer.the_send, outcome.the_field_send, crosses, sendable) depth 60 fits 4000
 
+-- what a program shares may be looked at on another thread too
+laid_send : IsSend (laid.the_field).row
+laid_send = search (code_send, entry_table.the_send, body_table.the_send, crosses, sendable) depth 60 fits 4000
+
+laid_sync : IsSync (laid.the_field).row
+laid_sync = search (code_sync, entry_table.the_sync, body_table.the_sync, crosses, sendable) depth 60 fits 4000
+
 pub program_send : IsSend (program.the_field).row
-program_send = search (code_send, entry_table.the_send, body_table.the_send, crosses, sendable) depth 60 fits 4000
+program_send = search (laid_send, laid_sync, crosses, sendable) depth 60 fits 4000
 
 -- The queue's tree is part of itself, so nothing above it has a fact of its own yet.
 tree_send : IsSend (tree.the_field).row
