@@ -126,13 +126,13 @@ equal_at a b e = subst (λ m. nat_eq m a ≡ true) e (nat_itself a)
 
 -- who misses what an input covers is noted at that input's address
 covers_at : (i j : Input) → covers i j ≡ true → is_at (address i) j ≡ true
-covers_at (Whole a) (Whole b) h = or_first _ _ (equal_at a b (nat_sound a b h))
-covers_at (Whole a) (Element b k) h = or_second _ _ (equal_at a b (nat_sound a b h))
+covers_at (Whole a) (Whole b) h = or_first _ _ (equal_at (a % 2 ^ 32) (b % 2 ^ 32) (ap (λ d. d % 2 ^ 32) (nat_sound a b h)))
+covers_at (Whole a) (Element b k) h = or_second _ _ (equal_at (a % 2 ^ 32) (b % 2 ^ 32) (ap (λ d. d % 2 ^ 32) (nat_sound a b h)))
 covers_at (Element a k) (Whole b) h = absurd (true_false (sym h))
 covers_at (Element a k) (Element b l) h =
     let parts = and_parts (nat_eq a b) (same_key k l) h in
     or_first _ _ (equal_at (address (Element a k)) (address (Element b l))
-    (ap (λ d. (d * 11400714819323198485 % 2 ^ 64 + key_bits k) % 2 ^ 64) (nat_sound a b parts.0) ∙ ap (λ m. (b * 11400714819323198485 % 2 ^ 64 + m) % 2 ^ 64) (same_bits k l parts.1)))
+    (ap (λ d. (d * 11400714819323198485 % 2 ^ 64 + key_bits k) % 2 ^ 64 % 2 ^ 32) (nat_sound a b parts.0) ∙ ap (λ m. (b * 11400714819323198485 % 2 ^ 64 + m) % 2 ^ 64 % 2 ^ 32) (same_bits k l parts.1)))
 
 or_false : (x y : Bool) → (x || y) ≡ false → (x ≡ false) × (y ≡ false)
 or_false true y h = absurd (true_false h)

@@ -15,15 +15,15 @@ use Rattle.rules.specs.Waiting.{Waiting}
 abbrev pub key_bits : Key → ℕ
 key_bits (Number n) = cast_unsigned w64 n
 
--- the datum of an input
+-- the low 32 bits of the datum of an input
 abbrev pub datum : Input → ℕ
-datum (Whole d) = d
-datum (Element d k) = d
+datum (Whole d) = d % 2 ^ 32
+datum (Element d k) = d % 2 ^ 32
 
 -- the number under which those that wait for an input are noted
 abbrev pub address : Input → ℕ
-address (Whole d) = d
-address (Element d k) = (d * 11400714819323198485 % 2 ^ 64 + key_bits k) % 2 ^ 64
+address (Whole d) = d % 2 ^ 32
+address (Element d k) = (d * 11400714819323198485 % 2 ^ 64 + key_bits k) % 2 ^ 64 % 2 ^ 32
 
 -- who misses the input is noted at this address
 abbrev pub is_at : ℕ → Input → Bool
@@ -48,7 +48,7 @@ note_at notes i = slice_index_or notes i blank
 
 -- the slot of a note that is in no list any more
 abbrev pub no_slot : ℕ
-no_slot = 18446744073709551615
+no_slot = 4294967295
 
 -- the slot is noted at the address
 pub record IsAt (notes : List Note) (a k : ℕ) : Type 0 where

@@ -1,5 +1,5 @@
 //! What an item waits for.
-ghost use Rattle.std.specs.Prelude.{◌≡◌};
+ghost use Rattle.std.specs.Prelude.{◌≡◌, ◌%◌, ◌^◌};
 ghost use Rattle.rules.specs.Inputs.{covers};
 ghost use Rattle.rules.specs.Places.{address, datum, is_at};
 
@@ -36,31 +36,39 @@ impl Input {
         }
     }
 
-    /// The number in whose list those that wait for it are noted.
-    pub(crate) fn address(&self) -> u64
+    /// The number in whose list those that wait for it are noted. It has 32 bits: inputs may share it.
+    pub(crate) fn address(&self) -> u32
         ensures { result ≡ address self.now }
     {
         match self {
-            Input::Whole(datum) => *datum,
+            Input::Whole(datum) => low(*datum),
             Input::Element(datum, Key::Number(n)) => {
-                datum.wrapping_mul(SPREAD).wrapping_add(n.cast_unsigned())
+                low(datum.wrapping_mul(SPREAD).wrapping_add(n.cast_unsigned()))
             }
         }
     }
 
-    pub(crate) fn datum(&self) -> u64
+    /// The low 32 bits of the number of its datum.
+    pub(crate) fn datum(&self) -> u32
         ensures { result ≡ datum self.now }
     {
         match self {
-            Input::Whole(datum) => *datum,
-            Input::Element(datum, _) => *datum,
+            Input::Whole(datum) => low(*datum),
+            Input::Element(datum, _) => low(*datum),
         }
     }
 
     /// Whether those that wait for it are noted at this address.
-    pub(crate) fn is_at(&self, address: u64) -> bool
+    pub(crate) fn is_at(&self, address: u32) -> bool
         ensures { result ≡ is_at address self.now }
     {
         self.address() == address || self.datum() == address
     }
+}
+
+// The low 32 bits.
+fn low(n: u64) -> u32
+    ensures { result ≡ n % 2 ^ 32 }
+{
+    (n % 4_294_967_296) as u32
 }

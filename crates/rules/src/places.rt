@@ -16,26 +16,29 @@ const PLAIN: usize = 4;
 const FEW: usize = 64;
 
 // The slot of a note that is in no list any more.
-const NO_SLOT: usize = 18_446_744_073_709_551_615;
+const NO_SLOT: u32 = 4_294_967_295;
+
+// There are no more notes than this, and slots from this on have none, since both are told in 32 bits.
+const MOST: usize = 4_294_967_295;
 
 /// That what lies in a slot is looked for at an address.
 #[derive(Clone, Copy, Debug, PartialEq, Eq)]
 pub struct Note {
-    pub address: u64,
-    pub slot: usize,
+    pub address: u32,
+    pub slot: u32,
     /// One more than the number of the note before it in the same list, or 0 where it is the first.
-    pub earlier: usize,
+    pub earlier: u32,
 }
 
 /// Notes, each in the list of its address. The slot of an item that waits is noted at the address of each input that it
-/// misses, and at the number of that input's datum. A note that is no longer needed is taken out of its list by the next
-/// walk past it, and its memory is free again once all are made anew. Addresses may share a list: where calls have walked
-/// past many notes of others, all are made anew in another number of lists, in which those addresses lie apart. A slot for
-/// whose notes there is no place is a stray: it is looked at for each input.
+/// misses, and at the low bits of the number of that input's datum. A note that is no longer needed is taken out of its list
+/// by the next walk past it, and its memory is free again once all are made anew. Addresses may share a list: where calls
+/// have walked past many notes of others, all are made anew in another number of lists, in which those addresses lie apart.
+/// A slot for whose notes there is no place is a stray: it is looked at for each input.
 #[derive(Drop)]
 pub struct Places {
     // For each list one more than the number of its last note, or 0 where it has none.
-    heads: Vec<usize>,
+    heads: Vec<u32>,
     notes: Vec<Note>,
     strays: Vec<usize>,
     // At least so many notes as those items have that wait for more than two inputs.
@@ -100,14 +103,14 @@ impl Places {
     }
 
     /// One more than the number of the last note in the list of an address, or 0 where there is none.
-    pub fn last(&self, address: u64) -> usize
+    pub fn last(&self, address: u32) -> usize
         ensures { IsLast self.now.lists self.now.notes (address % self.now.lists) result (length self.now.notes) }
     {
         if self.heads.is_empty() {
             return 0;
         }
-        let list = (address % self.heads.len() as u64) as usize;
-        self.heads[list]
+        let list = address as usize % self.heads.len();
+        self.heads[list] as usize
     }
 
     /// The note of this number.
@@ -143,8 +146,8 @@ impl Places {
             return;
         }
         let note = self.notes[number];
-        let list = (note.address % self.heads.len() as u64) as usize;
-        if self.heads[list] == number + 1 {
+        let list = note.address as usize % self.heads.len();
+        if self.heads[list] as usize == number + 1 {
             self.heads[list] = note.earlier;
         }
     }
@@ -158,7 +161,7 @@ impl Places {
     {
         let note = self.notes[number];
         let holder = self.notes[later];
-        if holder.earlier == number + 1 {
+        if holder.earlier as usize == number + 1 {
             self.notes[later] = Note {
                 address: holder.address,
                 slot: holder.slot,
@@ -193,7 +196,7 @@ impl Places {
         ensures holder { result ≤ length self.new.notes }
     {
         let note = self.notes[number];
-        if is_needed(waiters, note.address, note.slot) {
+        if is_needed(waiters, note.address, note.slot as usize) {
             return number + 1;
         }
         self.take_out(holder, number);
@@ -202,22 +205,27 @@ impl Places {
 
     // Notes a slot at an address, where there is place.
     #[tactic(auto, using(crate::proofs::Linking::at_before, crate::proofs::Linking::at_last))]
-    fn put(&mut self, address: u64, slot: usize) -> bool
+    fn put(&mut self, address: u32, slot: usize) -> bool
         ensures grows { Grows self.old self.new }
         ensures strays { self.new.strays ≡ self.old.strays }
         ensures noted { result ≡ true → IsAt self.new.notes address slot }
     {
-        if self.heads.is_empty() || self.notes.len() == self.notes.capacity() || slot == NO_SLOT {
+        let number = self.notes.len();
+        if self.heads.is_empty()
+            || number == self.notes.capacity()
+            || number >= MOST
+            || slot >= MOST
+        {
             return false;
         }
-        let list = (address % self.heads.len() as u64) as usize;
+        let list = address as usize % self.heads.len();
         let note = Note {
             address,
-            slot,
+            slot: slot as u32,
             earlier: self.heads[list],
         };
         self.notes.push_reserved(note);
-        self.heads[list] = self.notes.len();
+        self.heads[list] = number as u32 + 1;
         true
     }
 
@@ -485,7 +493,7 @@ pub fn heavy(waiters: &Slab<Waiter>) -> usize {
 }
 
 // Whether what lies in the slot is to be noted at this address.
-fn is_needed(waiters: &Slab<Waiter>, address: u64, slot: usize) -> bool
+fn is_needed(waiters: &Slab<Waiter>, address: u32, slot: usize) -> bool
     ensures { result ≡ slot_needs address (get waiters.now slot) }
 {
     match waiters.get(slot) {

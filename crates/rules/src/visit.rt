@@ -74,13 +74,13 @@ pub fn visit_noted(
     while next > 0 {
         let number = next - 1;
         let note = places.note(number);
-        next = note.earlier;
+        next = note.earlier as usize;
         if note.address != address {
             passed = passed.saturating_add(1);
             holder = places.tidy(waiters, holder, number);
             continue;
         }
-        visit(waiters, note.slot, input, out);
+        visit(waiters, note.slot as usize, input, out);
         holder = places.tidy(waiters, holder, number);
     }
     passed

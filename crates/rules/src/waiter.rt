@@ -44,7 +44,7 @@ impl Waiter {
     }
 
     /// Whether it is to be noted at this address.
-    pub fn needs(&self, address: u64) -> bool
+    pub fn needs(&self, address: u32) -> bool
         ensures { result ≡ needs address self.now }
     {
         is_any_at(self.missing(), address)
@@ -66,7 +66,7 @@ impl Waiter {
 }
 
 // Whether those that wait for one of the inputs are noted at this address.
-fn is_any_at(inputs: &[Input], address: u64) -> bool
+fn is_any_at(inputs: &[Input], address: u32) -> bool
     ensures { result ≡ list_any (is_at address) inputs.now }
 {
     inputs.iter().any(|input| input.is_at(address))
