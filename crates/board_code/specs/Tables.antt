@@ -1,14 +1,15 @@
 -- What is worked out of an entry and of a body, as it follows from the code.
 use Rattle.std.specs.Prelude.{◌≡◌, nat_eq, not, ℕ, suc, ◌+◌, Bool, true, false, List, [], ◌∷◌, map, length, Option, Some, None, if◌then◌else◌}
-use Rattle.std.specs.List.{filter, filter_map, flat_map}
+use Rattle.std.specs.List.{filter, filter_map, flat_map, list_all, list_any}
 use Rattle.data_store.specs.declared.datum.Shape.{Shape}
 use Rattle.data_store.specs.declared.datum.Shape.TheVariants.{Single, Keyed}
 use Rattle.replayed.specs.Ending.{held_times, slot_is}
 use Rattle.replayed.specs.Fields.{Absent, Slot}
 use Rattle.replayed.specs.Static.{name_times, names_in, outer_holds}
 use Rattle.task_code.specs.Check.{is_declared}
-use Rattle.task_code.specs.Code.{Argument, Code, Control, Entry, Fixed, Kind, Leaf, Local, Loop, Name, Named, Need, Variable, arguments, body, entry, here, kind_of, loop_of, scalar, stored_of}
+use Rattle.task_code.specs.Code.{Argument, At, AtKey, Closed, Code, Control, Entry, Fixed, Kind, Leaf, Local, Loop, Name, Named, Need, Stored, Variable, arguments, body, entry, here, kind_of, loop_of, scalar, stored_of}
 use Rattle.task_code.specs.Code as Pure
+use Rattle.task_code.specs.Shape.{is_plain}
 use Rattle.work_queue.specs.declared.entry.Kind.{Kind as QueueKind}
 use Rattle.work_queue.specs.declared.entry.Kind.TheVariants as Runs
 use Rattle.board_code.specs.Spots.{home_of, homes_of, place_from, spot_in}
@@ -88,6 +89,13 @@ pub record GainsHold (old new : List Hold) (h : Hold) : Type 0 where
   pub reads : (f : Spot → Slot) (d : ℕ) → hold_times f (λ x. x.reads) d new ≡ hold_times f (λ x. x.reads) d old + (if slot_is d (f h.spot) then h.reads else 0)
   pub writes : (f : Spot → Slot) (d : ℕ) → hold_times f (λ x. x.writes) d new ≡ hold_times f (λ x. x.writes) d old + (if slot_is d (f h.spot) then h.writes else 0)
 
+-- a closed array is waited for
+abbrev pub is_closed : Need → Bool
+is_closed (Stored r) = false
+is_closed (Closed r) = true
+is_closed (At a r) = false
+is_closed (AtKey a k) = false
+
 module _ (C : Code) where
   -- what a need waits for, by where its names lead
   abbrev pub wanted_in : ℕ → Need → Wanted
@@ -128,6 +136,8 @@ module _ (C : Code) where
     pub kind : t.kind ≡ queue_kind (kind_of (entry C i).act)
     pub priority : t.priority ≡ (entry C i).priority
     pub needs : t.needs.items ≡ map (wanted_in b) (entry C i).needs
+    pub plain : t.plain ≡ list_all is_plain (entry C i).needs
+    pub closed : t.closed ≡ list_any is_closed (entry C i).needs
     pub reads : t.reads.items ≡ spots_in b (entry C i).reads
     pub writes : t.writes.items ≡ spots_in b (entry C i).writes
     pub target : t.target ≡ first_spot b (stored_of (entry C i).node (entry C i).act)

@@ -1,13 +1,15 @@
 //! Code with what is worked out once from it: where its names lead, and how an instance of each body changes the counts of data.
 
 ghost use Rattle.std.specs.Prelude.{◌≡◌, ◌<◌, ◌≤◌, ◌^◌, ◌++◌, length, map, option_map, IfOk, MatchOption, OnOk};
+ghost use Rattle.std.specs.List.{list_all, list_any};
 ghost use Rattle.std.specs.Option.{option_to_list};
+ghost use Rattle.task_code.specs.Shape.{is_plain};
 ghost use Rattle.task_code.specs.Code.{Code, Named, arguments, body as body_at, entry as entry_at, kind_of, loop_of, scalar, stored_of};
 ghost use Rattle.task_code.specs.View.{act_view, argument_view, entry_view, loop_view, name_view, need_view};
 ghost use Rattle.task_code.specs.Whole.{IsCode};
 ghost use Rattle.board_code.specs.Program.{AreAtMost, IsLeads, IsProgram};
 ghost use Rattle.board_code.specs.Spots.{home_of, place_from};
-ghost use Rattle.board_code.specs.Tables.{AllFrom, IsBodyTable, IsEntryTable, body_of, body_or_script, first_spot, passed_in, queue_kind, spots_in, turn_slot, value_slot, wanted_in};
+ghost use Rattle.board_code.specs.Tables.{AllFrom, IsBodyTable, IsEntryTable, body_of, body_or_script, first_spot, is_closed, passed_in, queue_kind, spots_in, turn_slot, value_slot, wanted_in};
 
 use crate::bodies::body_table;
 use crate::naming::most_names;
@@ -53,6 +55,10 @@ pub struct EntryTable {
     pub kind: Kind,
     pub priority: i32,
     pub needs: SmallVec<Wanted, 1>,
+    /// Whether it waits for scalars and closed arrays alone, and so for no element.
+    pub plain: bool,
+    /// Whether it waits for a closed array.
+    pub closed: bool,
     pub reads: Spots,
     pub writes: Spots,
     /// What it stores into.
@@ -134,6 +140,50 @@ fn wanted_of(code: &Code, leads: &Leads, body: u32, need: &Need) -> Wanted
             crate::key::copy_key(key),
         ),
     }
+}
+
+/// Whether it is no element that is waited for.
+fn is_plain(need: &Need) -> bool
+    ensures { result ≡ is_plain (need_view need.now) }
+{
+    match need {
+        Need::Stored(_) | Need::Closed(_) => true,
+        Need::At(_, _) | Need::AtKey(_, _) => false,
+    }
+}
+
+/// Whether it is a closed array that is waited for.
+fn is_closed(need: &Need) -> bool
+    ensures { result ≡ is_closed (need_view need.now) }
+{
+    match need {
+        Need::Closed(_) => true,
+        Need::Stored(_) | Need::At(_, _) | Need::AtKey(_, _) => false,
+    }
+}
+
+/// Whether all of them are.
+fn are_plain(needs: &[Need]) -> bool
+    ensures { result ≡ list_all is_plain (map need_view needs.now) }
+{
+    for need in needs {
+        if !is_plain(need) {
+            return false;
+        }
+    }
+    true
+}
+
+/// Whether one of them is.
+fn has_closed(needs: &[Need]) -> bool
+    ensures { result ≡ list_any is_closed (map need_view needs.now) }
+{
+    for need in needs {
+        if is_closed(need) {
+            return true;
+        }
+    }
+    false
 }
 
 fn needs_of(
@@ -335,6 +385,8 @@ fn entry_table(
         kind: kind_of(code, number),
         priority: entry.priority,
         needs: needs_of(alloc, code, leads, body, entry.needs.as_slice())?,
+        plain: are_plain(entry.needs.as_slice()),
+        closed: has_closed(entry.needs.as_slice()),
         reads: spots_of(alloc, code, leads, body, entry.reads.as_slice())?,
         writes: spots_of(alloc, code, leads, body, entry.writes.as_slice())?,
         target: target_spot(code, leads, body, entry),

@@ -1,7 +1,7 @@
 //! A queue of the items that wait for a worker.
 ghost use Rattle.std.specs.Prelude.{◌≡◌, ◌<◌, ◌≤◌, ◌↔◌, ◌++◌, map, OnOk, OnErr, IfOk, IfSome, IsOk, IsTrue, Contains, IsPermutation};
 ghost use Rattle.std.specs.Bool.{OnTrue, OnFalse};
-ghost use Rattle.work_queue.specs.Entries.{IsTakenFirst, IsListedInOrder, first_number, listed};
+ghost use Rattle.work_queue.specs.Entries.{IsForemost, IsTakenFirst, IsListedInOrder, first_number, first_of, listed};
 ghost use Rattle.work_queue.specs.Waiting.{with_put, with_room, without_first, without};
 ghost use Rattle.work_queue.specs.Both.{of, with_changed, empty};
 
@@ -59,16 +59,23 @@ impl Queue {
         }
     }
 
+    /// The entry that `take` would take. Takes no memory.
+    pub fn first_entry(&self, kind: Kind) -> Option<Entry>
+        ensures first { result ≡ first_of (of kind self.now).entries }
+        ensures foremost { IfSome result (λ e. IsForemost e (of kind self.now).entries) }
+    {
+        match kind {
+            Kind::Control => self.control.first(),
+            Kind::Leaf => self.leaf.first(),
+        }
+    }
+
     /// The number that `take` would give. Takes no memory.
     pub fn first(&self, kind: Kind) -> Option<u64>
         ensures first { result ≡ first_number (of kind self.now).entries }
         ensures foremost { IfSome result (λ no. IsTakenFirst no (of kind self.now).entries) }
     {
-        let entry = match kind {
-            Kind::Control => self.control.first(),
-            Kind::Leaf => self.leaf.first(),
-        };
-        Some(entry?.no)
+        Some(self.first_entry(kind)?.no)
     }
 
     /// Takes out the item of the greatest priority, and of those the one of the smallest number.
