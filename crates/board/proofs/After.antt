@@ -177,7 +177,7 @@ module _ (C : Code) (I : IsCode C) (es : List Event) (F : Fields) (s : Stands C 
   same_missed Script = refl
   same_missed (Does k e c) = refl
 
-  -- an item that was woken misses nothing, or may wait for two inputs at most
+  -- an item that was woken misses nothing, or waits for an element, and for two inputs at most
   pub woken_short : AreShort C gs ds (all_rows C F row.job x gs ds a) (length F.rows) woken
   woken_short m r h q =
       let v = served_was a.known F.waiting m (in_back (served a.known F.waiting) woken m learnt.noted h) in

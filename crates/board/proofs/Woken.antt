@@ -1,5 +1,5 @@
--- Items that learn of their last input: one that may wait for more than two misses nothing any more.
-use Rattle.std.proofs.Common.{◌≡◌, ◌⊎◌, inl, inr, ℕ, suc, ◌≤◌, List, [], ◌++◌, length, map, refl, sym, ap, ◌∙◌, subst, Option, None, Some, arith}
+-- Items that learn of their last input: one that waits for no element misses nothing any more.
+use Rattle.std.proofs.Common.{◌≡◌, ◌⊎◌, inl, inr, false, ℕ, suc, ◌≤◌, List, [], ◌++◌, length, map, refl, sym, ap, ◌∙◌, subst, Option, None, Some, arith}
 use Rattle.std.specs.List.{flat_map, list_all}
 use Rattle.dataflow.specs.System.{In}
 use Rattle.dataflow.specs.Machine.{Event, Free}
@@ -24,10 +24,10 @@ use Rattle.task_code.specs.Code.{Code, Name, Need, Variable, body, entry}
 use Rattle.task_code.specs.Effects.{Item, Task}
 use Rattle.task_code.specs.Machine.{CodeItem, CodeState}
 use Rattle.task_code.specs.Places.{Datum, Place, Step, place_at}
-use Rattle.task_code.specs.Shape.{fits_kinds}
+use Rattle.task_code.specs.Shape.{fits_kinds, is_plain}
 use Rattle.task_code.specs.System.{code_system, inputs_at, task_reads}
 use Rattle.task_code.specs.Whole.{IsCode}
-use Rattle.board_items.specs.Ended.{needs_of}
+use Rattle.board_items.specs.Ended.{is_plain_job, needs_of}
 
 module _ (C : Code) (I : IsCode C) (L : Layout) (es : List Event) (F : Fields) (w n : ℕ) (t : CodeState) (G : Fields) (P : Ending C L es F w n t G) where
   abbrev names : List (ℕ × Place)
@@ -51,16 +51,16 @@ module _ (C : Code) (I : IsCode C) (L : Layout) (es : List Event) (F : Fields) (
     plain_none : AllPlain (entry C e).needs → (vs : List (Want ℕ)) → AllStand names vs (rest s (entry C e).needs) → still_missed known vs ≡ [] → rest t (entry C e).needs ≡ []
     plain_none pl vs h z = none_left later (rest t (entry C e).needs) (subst (λ (l : List (Want ℕ)). AllStand later l (rest t (entry C e).needs)) z (plain_still C I L es F w n t G P e p f res nf (entry C e).needs (λ m i. i) pl vs h))
 
-    pub short_needs : (vs : List (Want ℕ)) → AllStand names vs (rest s (entry C e).needs) → still_missed known vs ≡ [] → (length (entry C e).needs ≤ 2) ⊎ (rest t (entry C e).needs ≡ [])
+    pub short_needs : (vs : List (Want ℕ)) → AllStand names vs (rest s (entry C e).needs) → still_missed known vs ≡ [] → ((length (entry C e).needs ≤ 2) × (list_all is_plain (entry C e).needs ≡ false)) ⊎ (rest t (entry C e).needs ≡ [])
     short_needs vs h z = by (shapes (entry C e).act (entry C e).needs (true_and (list_all fits_kinds (entry C e).needs) _ (I.shape e)).1)
       where
         few : (ns : List Need) → length ns ≡ 1 → length ns ≤ 2
         few ns q = omega arith
 
-        by : AllPlain (entry C e).needs ⊎ OneElement (entry C e).needs → (length (entry C e).needs ≤ 2) ⊎ (rest t (entry C e).needs ≡ [])
+        by : AllPlain (entry C e).needs ⊎ OneElement (entry C e).needs → ((length (entry C e).needs ≤ 2) × (list_all is_plain (entry C e).needs ≡ false)) ⊎ (rest t (entry C e).needs ≡ [])
         by (inl pl) = inr (plain_none pl vs h z)
-        by (inr (at_name a r q)) = inl (few (entry C e).needs (ap length q))
-        by (inr (at_key a k q)) = inl (few (entry C e).needs (ap length q))
+        by (inr (at_name a r q)) = inl (few (entry C e).needs (ap length q), ap (list_all is_plain) q)
+        by (inr (at_key a k q)) = inl (few (entry C e).needs (ap length q), ap (list_all is_plain) q)
 
   abbrev fs : List (Option Frame)
   fs = F.frames
@@ -119,22 +119,22 @@ module _ (C : Code) (I : IsCode C) (L : Layout) (es : List Event) (F : Fields) (
           subst (λ (l : List (Want ℕ)). AllStand later l (wants C t (Item e (path_of gs k) c))) (sym (ap (λ (x : Option Frame). elim x [ None ↦ [] | Some f ↦ flat_map (missed C G.cells (slot_for L gs k f.body)) (entry C e).needs ]) frame_later.1))
           (needs_stand C I L es F w n t G P e (path_of gs k) (slot_for L gs k frame_later.0.body) res_later (entry C e).needs (λ m g. g))
 
-      short_entry : (vs : List (Want ℕ)) → AllStand names vs (wants C s i.task) → still_missed known vs ≡ [] → (length (entry C e).needs ≤ 2) ⊎ (job_missed C L G (Does k e c) ≡ [])
+      short_entry : (vs : List (Want ℕ)) → AllStand names vs (wants C s i.task) → still_missed known vs ≡ [] → ((length (entry C e).needs ≤ 2) × (list_all is_plain (entry C e).needs ≡ false)) ⊎ (job_missed C L G (Does k e c) ≡ [])
       short_entry vs st z =
           elim (short_needs e (path_of fs k) (slot_for L fs k frame.0.body) res nf vs (subst (λ (l : List (Want Place)). AllStand names vs l) (ap (wants C s) old_task) st) z) [
             | inl g ↦ inl g
             | inr g ↦ inr (left_none later (job_missed C L G (Does k e c)) (subst (λ (l : List (Want Place)). AllStand later (job_missed C L G (Does k e c)) l) (ap (λ (p : List Step). wants C t (Item e p c)) path_later ∙ g) job_stand))
           ]
 
-    short_job : (vs : List (Want ℕ)) → AllStand names vs (wants C s i.task) → still_missed known vs ≡ [] → (needs_of C r.row.job ≤ 2) ⊎ (job_missed C L G r.row.job ≡ [])
+    short_job : (vs : List (Want ℕ)) → AllStand names vs (wants C s i.task) → still_missed known vs ≡ [] → ((needs_of C r.row.job ≤ 2) × (is_plain_job C r.row.job ≡ false)) ⊎ (job_missed C L G r.row.job ≡ [])
     short_job vs st z = by r.row.job refl
       where
-        by : (b : Job) → r.row.job ≡ b → (needs_of C r.row.job ≤ 2) ⊎ (job_missed C L G r.row.job ≡ [])
+        by : (b : Job) → r.row.job ≡ b → ((needs_of C r.row.job ≤ 2) × (is_plain_job C r.row.job ≡ false)) ⊎ (job_missed C L G r.row.job ≡ [])
         by Script q = inr (ap (job_missed C L G) q)
-        by (Does k e c) q = subst (λ (j : Job). (needs_of C j ≤ 2) ⊎ (job_missed C L G j ≡ [])) (sym q) (short_entry k e c q vs st z)
+        by (Does k e c) q = subst (λ (j : Job). ((needs_of C j ≤ 2) × (is_plain_job C j ≡ false)) ⊎ (job_missed C L G j ≡ [])) (sym q) (short_entry k e c q vs st z)
 
   -- an item for which all that it missed has become known
-  pub short_waiter : (v : Waiter) → In v F.waiting → still_missed known v.missing ≡ [] → (q : Row) → row_of (Waits.rows C I L es F w n t G P) v.item ≡ Some q → (needs_of C q.job ≤ 2) ⊎ (job_missed C L G q.job ≡ [])
+  pub short_waiter : (v : Waiter) → In v F.waiting → still_missed known v.missing ≡ [] → (q : Row) → row_of (Waits.rows C I L es F w n t G P) v.item ≡ Some q → ((needs_of C q.job ≤ 2) × (is_plain_job C q.job ≡ false)) ⊎ (job_missed C L G q.job ≡ [])
   short_waiter v iv z q there =
       elim (in_seam m.0 (o C I L es F w n t G P).item (o C I L es F w n t G P).before (o C I L es F w n t G P).after (subst (λ (is : List CodeItem). In m.0 is) (o C I L es F w n t G P).there m.1)) [
         | inl g ↦ of m.0 g m.2 m.4
@@ -144,6 +144,6 @@ module _ (C : Code) (I : IsCode C) (L : Layout) (es : List Event) (F : Fields) (
       m : (i : CodeItem) × In i s.items × (i.number ≡ v.item) × (v.missing ≡ [] → ⊥) × AllStand names v.missing (wants C s i.task)
       m = P.x.waits.missing v iv
 
-      of : (i : CodeItem) → In i others → i.number ≡ v.item → AllStand names v.missing (wants C s i.task) → (needs_of C q.job ≤ 2) ⊎ (job_missed C L G q.job ≡ [])
+      of : (i : CodeItem) → In i others → i.number ≡ v.item → AllStand names v.missing (wants C s i.task) → ((needs_of C q.job ≤ 2) × (is_plain_job C q.job ≡ false)) ⊎ (job_missed C L G q.job ≡ [])
       of i g e st =
-          subst (λ (y : Row). (needs_of C y.job ≤ 2) ⊎ (job_missed C L G y.job ≡ [])) (some_same (sym (ap (row_of (Waits.rows C I L es F w n t G P)) (sym (number_at i g ∙ e)) ∙ row_kept F.rows _ (suc (r i g).at) (r i g).row (r i g).there) ∙ there)) (short_job i g v.missing st z)
+          subst (λ (y : Row). ((needs_of C y.job ≤ 2) × (is_plain_job C y.job ≡ false)) ⊎ (job_missed C L G y.job ≡ [])) (some_same (sym (ap (row_of (Waits.rows C I L es F w n t G P)) (sym (number_at i g ∙ e)) ∙ row_kept F.rows _ (suc (r i g).at) (r i g).row (r i g).there) ∙ there)) (short_job i g v.missing st z)

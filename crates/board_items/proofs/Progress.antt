@@ -22,7 +22,7 @@ use Rattle.work_queue.specs.Both.{Both, of, with_changed}
 use Rattle.work_queue.specs.Waiting.{with_put}
 use Rattle.work_queue.specs.declared.entry.Entry.{Entry}
 use Rattle.board_data.specs.Wanted.{FewSlots}
-use Rattle.board_items.specs.Ended.{AreSettled, AreShort, AreToSettle, IsSeen, can_begin, missed_at, misses, misses_first, needs_of, numbers_behind, row_misses, runs_so}
+use Rattle.board_items.specs.Ended.{AreSettled, AreShort, AreToSettle, IsSeen, IsShort, can_begin, missed_at, misses, misses_first, numbers_behind, row_misses, runs_so}
 use Rattle.board_items.specs.Progress.{AreOld, CanFinish, Progress, jobs_behind}
 use Rattle.board_items.specs.Room.{AreSpare, IsRoomy, apart_in, is_apart}
 use Rattle.board_items.specs.Settled.{IsWaiting, Settles, one_less}
@@ -273,18 +273,18 @@ module _ (C : Code) (fs : List (Option Frame)) (cs : List (Option Counted)) (row
     fresh : In m (take i woken) → ⊥
     fresh h = not_before woken i m within can.once (subst (λ (k : ℕ). In k (take i woken)) is h)
 
-    pub woken_ok : (B : Type 0) → AreShort C fs cs rows first woken → ((r : Row) → row_of (rows_view old.rows.items) m ≡ Some r → FewSlots fs → IsSeen C fs r.job → (needs_of C r.job ≤ 2) ⊎ (misses C fs cs r.job ≡ []) → 0 < old.rules.room → B) → B
+    pub woken_ok : (B : Type 0) → AreShort C fs cs rows first woken → ((r : Row) → row_of (rows_view old.rows.items) m ≡ Some r → FewSlots fs → IsSeen C fs r.job → IsShort C fs cs r.job → 0 < old.rules.room → B) → B
     woken_ok B short f =
         let g = far.room.rules_fit in
         f (remarked old m w.0) (row_now (take i woken) ((length woken - i) + left) old m w.0 far w.1) few (can.seen_job m w.0 there w.1) (short m w.0 there w.1) (omega arith)
 
-    pub woken_step : (new : Items) → ((r : Row) → row_of (rows_view old.rows.items) m ≡ Some r → FewSlots fs → IsSeen C fs r.job → Settles m (misses C fs cs r.job) (queue_kind (job_kind C r.job)) (job_priority C r.job) old new) → Far (take (i + 1) woken) ((length woken - (i + 1)) + left) new
-    woken_step new s =
+    pub woken_step : (new : Items) → AreShort C fs cs rows first woken → ((r : Row) → row_of (rows_view old.rows.items) m ≡ Some r → FewSlots fs → IsSeen C fs r.job → IsShort C fs cs r.job → Settles m (misses C fs cs r.job) (queue_kind (job_kind C r.job)) (job_priority C r.job) old new) → Far (take (i + 1) woken) ((length woken - (i + 1)) + left) new
+    woken_step new short s =
         let e : (length woken - i) + left ≡ suc ((length woken - (i + 1)) + left) = omega arith in
         subst (λ (l : List ℕ). Far l ((length woken - (i + 1)) + left) new) (sym (take_more woken i m within ∙ ap (λ (k : ℕ). take i woken ++ k ∷ []) (sym is)))
         (progress_more (take i woken) ((length woken - (i + 1)) + left) old new m w.0 (subst (λ (n : ℕ). Far (take i woken) n old) e far) w.1 w.2 (can.others m there) fresh
         (subst (λ (us : List (Want ℕ)). Settles m us (queue_kind (job_kind C w.0.job)) (job_priority C w.0.job) old new) (sym (missed_old m w.0 w.1 (aged m there)))
-        (s (remarked old m w.0) (row_now (take i woken) ((length woken - i) + left) old m w.0 far w.1) few (can.seen_job m w.0 there w.1))))
+        (s (remarked old m w.0) (row_now (take i woken) ((length woken - i) + left) old m w.0 far w.1) few (can.seen_job m w.0 there w.1) (short m w.0 there w.1))))
 
   -- the next one that is new
   module _ (few : FewSlots fs) (start : List ℕ) (count : ℕ) (can : AreToSettle C fs cs rows first number (numbers_behind first count)) (early : AreOld first start) (left k : ℕ) (old : Items) (m : ℕ) (within : k < count) (is : m ≡ first + suc k) (far : Far (start ++ numbers_behind first k) ((count - k) + left) old) where

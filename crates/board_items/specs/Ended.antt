@@ -1,4 +1,5 @@
 -- What the end of an item makes of the other items.
+use Rattle.std.specs.List.{list_all}
 use Rattle.std.specs.Ordering.{int_eq}
 use Rattle.std.specs.Prelude.{◌≡◌, ◌⊎◌, ℕ, zero, suc, ℤ, ◌+◌, ◌≤◌, Bool, true, false, not, ◌&&◌, List, [], ◌∷◌, ◌++◌, map, length, filter, Option, Some, None, nat_lt, if◌then◌else◌, IsPermutation}
 use Rattle.dataflow.specs.System.{Distinct, In}
@@ -7,6 +8,7 @@ use Rattle.replayed.specs.Fields.{Counted, Does, Fields, Frame, Job, Ready, Row,
 use Rattle.replayed.specs.Marking.{kind_eq}
 use Rattle.replayed.specs.Needs.{job_missed}
 use Rattle.task_code.specs.Code.{Code, Kind, entry}
+use Rattle.task_code.specs.Shape.{is_plain}
 use Rattle.board_code.specs.Spots.{layout_of}
 use Rattle.board_code.specs.Tables.{body_of}
 use Rattle.board_data.specs.Wanted.{is_nil}
@@ -49,6 +51,11 @@ module _ (C : Code) where
   needs_of Script = 0
   needs_of (Does k e c) = length (entry C e).needs
 
+  -- it waits for scalars and closed arrays alone
+  abbrev pub is_plain_job : Job → Bool
+  is_plain_job Script = true
+  is_plain_job (Does k e c) = list_all is_plain (entry C e).needs
+
   -- a new one: one that goes on with a loop waits for nothing
   abbrev pub first_needs : Job → ℕ
   first_needs Script = 0
@@ -67,6 +74,10 @@ module _ (C : Code) where
 
     abbrev pub misses_first : Job → List (Want ℕ)
     misses_first j = missed_first C (layout_of C) (seen fs cs) j
+
+    -- an item that was woken misses nothing, or it waits for an element, and for two inputs at most
+    abbrev pub IsShort : Job → Type 0
+    IsShort j = ((needs_of j ≤ 2) × (is_plain_job j ≡ false)) ⊎ (misses j ≡ [])
 
     module _ (rows : List Row) (first : ℕ) where
       -- what the item of a row misses: one of the first was there before, the others are new
@@ -97,9 +108,9 @@ module _ (C : Code) where
         pub others : (m : ℕ) → In m ms → m ≡ number → ⊥
         pub once : Distinct ms
 
-      -- an item that was woken misses nothing, or waits for two inputs at most
+      -- those of these numbers were woken
       abbrev pub AreShort : List ℕ → Type 0
-      AreShort ms = (m : ℕ) (r : Row) → In m ms → row_of rows m ≡ Some r → (needs_of r.job ≤ 2) ⊎ (misses r.job ≡ [])
+      AreShort ms = (m : ℕ) (r : Row) → In m ms → row_of rows m ≡ Some r → IsShort r.job
 
 -- rows, waiters and a queue that fit: just the items wait that are marked so, once, and just those can begin that are in the queue
 pub record ItemsFit (F : Fields) : Type 0 where

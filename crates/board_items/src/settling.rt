@@ -11,7 +11,7 @@ ghost use Rattle.board_code.specs.Tables.{queue_kind};
 ghost use Rattle.board_data.specs.View.{cells_view, want_view};
 ghost use Rattle.board_data.specs.Wanted.{FewSlots};
 ghost use Rattle.board_frames.specs.View.{frames_view, job_view, rows_view};
-ghost use Rattle.board_items.specs.Ended.{AreSettled, AreShort, AreToSettle, IsSeen, first_needs, goes_on_with, misses, misses_first, needs_of, numbers_behind};
+ghost use Rattle.board_items.specs.Ended.{AreSettled, AreShort, AreToSettle, IsSeen, IsShort, first_needs, goes_on_with, is_plain_job, misses, misses_first, needs_of, numbers_behind};
 ghost use Rattle.board_items.specs.Progress.{AreOld, CanFinish, Progress, all_to_settle, jobs_behind};
 ghost use Rattle.board_items.specs.Room.{AreSpare, IsRoomy};
 ghost use Rattle.board_items.specs.View.{queue_view, waiters_view};
@@ -107,6 +107,35 @@ impl<'a> Outlook<'a> {
             at: instance,
         };
         has_all(view, table.needs.as_slice())
+    }
+
+    /// Whether the item of a job waits for scalars and closed arrays alone.
+    fn is_plain(self, job: Job) -> bool
+        ensures { OnTrue result (is_plain_job self.entry.program.now (job_view job) ≡ true) }
+    {
+        let Job::Does {
+            instance: _,
+            entry,
+            chunk: _,
+        } = job
+        else {
+            return true;
+        };
+        match self.program.entry(entry) {
+            Some(table) => table.plain,
+            None => false,
+        }
+    }
+
+    /// Whether an item that was woken misses nothing. One that waits for no element has just learnt of all that it waits for, so what it
+    /// reads is not looked at.
+    fn has_learnt(self, job: Job) -> bool
+        ensures none { IsShort self.entry.program.now (frames_view self.entry.instances.now.slots) (cells_view self.entry.store.now.cells) (job_view job) → FewSlots (frames_view self.entry.instances.now.slots) → IsSeen self.entry.program.now (frames_view self.entry.instances.now.slots) (job_view job) →
+            OnTrue result (misses self.entry.program.now (frames_view self.entry.instances.now.slots) (cells_view self.entry.store.now.cells) (job_view job) ≡ []) }
+        ensures some { FewSlots (frames_view self.entry.instances.now.slots) → IsSeen self.entry.program.now (frames_view self.entry.instances.now.slots) (job_view job) →
+            misses self.entry.program.now (frames_view self.entry.instances.now.slots) (cells_view self.entry.store.now.cells) (job_view job) ≡ [] → IsTrue result }
+    {
+        self.is_plain(job) || self.has_inputs(job)
     }
 
     /// Whether a new item misses nothing that may wait for two inputs at most.
@@ -243,20 +272,20 @@ impl Items {
 
     /// An item that has learnt of its last input waits for what it misses next, or can begin.
     fn wake_one(&mut self, outlook: Outlook<'_>, number: u64) -> Result<(), AllocError>
-        ensures settles { OnOk result ((r : Row) → row_of (rows_view self.old.rows.items) number ≡ Some r → FewSlots (frames_view outlook.entry.instances.now.slots) → IsSeen outlook.entry.program.now (frames_view outlook.entry.instances.now.slots) r.job →
+        ensures settles { OnOk result ((r : Row) → row_of (rows_view self.old.rows.items) number ≡ Some r → FewSlots (frames_view outlook.entry.instances.now.slots) → IsSeen outlook.entry.program.now (frames_view outlook.entry.instances.now.slots) r.job → IsShort outlook.entry.program.now (frames_view outlook.entry.instances.now.slots) (cells_view outlook.entry.store.now.cells) r.job →
             Settles number (misses outlook.entry.program.now (frames_view outlook.entry.instances.now.slots) (cells_view outlook.entry.store.now.cells) r.job) (queue_kind (job_kind outlook.entry.program.now r.job)) (job_priority outlook.entry.program.now r.job) self.old self.new) }
         ensures woken { self.new.woken ≡ self.old.woken }
         ensures running { self.new.running ≡ self.old.running }
         ensures len { vec_len self.new.rows ≡ vec_len self.old.rows }
         ensures succeeds { (r : Row) → row_of (rows_view self.old.rows.items) number ≡ Some r → FewSlots (frames_view outlook.entry.instances.now.slots) → IsSeen outlook.entry.program.now (frames_view outlook.entry.instances.now.slots) r.job →
-            (needs_of outlook.entry.program.now r.job ≤ 2) ⊎ (misses outlook.entry.program.now (frames_view outlook.entry.instances.now.slots) (cells_view outlook.entry.store.now.cells) r.job ≡ []) → 0 < self.old.rules.room → IsOk result }
+            IsShort outlook.entry.program.now (frames_view outlook.entry.instances.now.slots) (cells_view outlook.entry.store.now.cells) r.job → 0 < self.old.rules.room → IsOk result }
     {
         let Some(item) = item_of(self.rows.as_slice(), number) else {
             return Ok(());
         };
         let job = item.job();
         let order = order_of(outlook.program, job);
-        if outlook.has_inputs(job) {
+        if outlook.has_learnt(job) {
             self.settle_ready(number, order);
             return Ok(());
         }
@@ -296,6 +325,7 @@ impl Items {
         ensures progress { OnOk result ((rows : List Row) (first number : ℕ) (before : List Waiter) (queued : AKind → ℤ → List ℕ) (left : ℕ) →
             FewSlots (frames_view outlook.entry.instances.now.slots) → AreToSettle outlook.entry.program.now (frames_view outlook.entry.instances.now.slots) (cells_view outlook.entry.store.now.cells) rows first number self.old.woken.items → AreOld first self.old.woken.items →
             Progress outlook.entry.program.now (frames_view outlook.entry.instances.now.slots) (cells_view outlook.entry.store.now.cells) rows first number before queued [] (length self.old.woken.items + left) self.old →
+            AreShort outlook.entry.program.now (frames_view outlook.entry.instances.now.slots) (cells_view outlook.entry.store.now.cells) rows first self.old.woken.items →
             Progress outlook.entry.program.now (frames_view outlook.entry.instances.now.slots) (cells_view outlook.entry.store.now.cells) rows first number before queued self.old.woken.items left self.new) }
         ensures len { vec_len self.new.rows ≡ vec_len self.old.rows }
         ensures running { self.new.running ≡ self.old.running }
@@ -372,9 +402,12 @@ impl Items {
         spare: Vec<Inputs>,
     ) -> Result<(), AllocError>
         ensures settled { CanFinish outlook.entry.program.now (frames_view outlook.entry.instances.now.slots) (cells_view outlook.entry.store.now.cells) number (job_view job) first self.old →
+            AreShort outlook.entry.program.now (frames_view outlook.entry.instances.now.slots) (cells_view outlook.entry.store.now.cells) (rows_view self.old.rows.items) first self.old.woken.items →
             OnOk result (AreSettled outlook.entry.program.now (frames_view outlook.entry.instances.now.slots) (cells_view outlook.entry.store.now.cells) (rows_view self.old.rows.items) first number (waiters_view self.old.rules.waiting) (queue_view self.old.queue) (all_to_settle first self.old)
             (rows_view self.new.rows.items) (waiters_view self.new.rules.waiting) (queue_view self.new.queue) self.new.newly.items) }
-        ensures roomy { CanFinish outlook.entry.program.now (frames_view outlook.entry.instances.now.slots) (cells_view outlook.entry.store.now.cells) number (job_view job) first self.old → OnOk result (IsRoomy outlook.entry.program.now self.new) }
+        ensures roomy { CanFinish outlook.entry.program.now (frames_view outlook.entry.instances.now.slots) (cells_view outlook.entry.store.now.cells) number (job_view job) first self.old →
+            AreShort outlook.entry.program.now (frames_view outlook.entry.instances.now.slots) (cells_view outlook.entry.store.now.cells) (rows_view self.old.rows.items) first self.old.woken.items →
+            OnOk result (IsRoomy outlook.entry.program.now self.new) }
         ensures running { OnOk result (self.new.running ≡ self.old.running - 1) }
         ensures woken { OnOk result (self.new.woken.items ≡ []) }
         ensures rising { OnOk result (IsSorted nat_cmp self.new.newly.items) }

@@ -25,7 +25,8 @@ returns-clause-passed c =
       stand = λ es w I s free runs xs sees e good.
           let m = pack c.args.program.now c.args.number (job_view c.args.job) c.args.effect c.args.self.now c.make_room.new.self c.make.new.self c.len-first.result c.change_of-change.result.0 c.change_of-change.result.1 c.change_of-change.ensures.change c.change_of-change.ensures.line c.in_ok-make_room.ensures.same c.in_ok-make_room.ensures.items c.in_ok-make_room.ensures.takes c.in_ok-make_room.ensures.rows c.in_ok-make_room.ensures.frames c.in_ok-make_room.ensures.cells (c.can_change.ensures (search rules)) (c.in_ok-spare.ensures.made (c.in_ok-make_room.ensures.known ∙ c.clear.ensures.items)) (search rules) in
           let fine = can c.args.program.now I es c.args.self.now c.make_room.new.self c.make.new.self s free w c.args.number (job_view c.args.job) runs xs sees c.args.effect e good c.len-first.result m in
-          ended c.args.program.now I es c.args.self.now c.make_room.new.self c.make.new.self s free w c.args.number (job_view c.args.job) runs xs sees c.args.effect e good c.len-first.result m (record { world = c.make.new.self.world; items = c.finish.new.self; lines = c.make.new.self.lines; fault = c.make.new.self.fault; alloc = c.make.new.self.alloc }) refl refl refl (ok_take c.finish.result ok (c.finish.ensures.settled fine)) (ok_take c.finish.result ok (c.finish.ensures.roomy fine)) (ok_take c.finish.result ok c.finish.ensures.running) (ok_take c.finish.result ok c.finish.ensures.rising);
+          let brief = short c.args.program.now I es c.args.self.now c.make_room.new.self c.make.new.self s free w c.args.number (job_view c.args.job) runs xs sees c.args.effect e good c.len-first.result m in
+          ended c.args.program.now I es c.args.self.now c.make_room.new.self c.make.new.self s free w c.args.number (job_view c.args.job) runs xs sees c.args.effect e good c.len-first.result m (record { world = c.make.new.self.world; items = c.finish.new.self; lines = c.make.new.self.lines; fault = c.make.new.self.fault; alloc = c.make.new.self.alloc }) refl refl refl (ok_take c.finish.result ok (c.finish.ensures.settled fine brief)) (ok_take c.finish.result ok (c.finish.ensures.roomy fine brief)) (ok_take c.finish.result ok c.finish.ensures.running) (ok_take c.finish.result ok c.finish.ensures.rising);
       running = λ es w I s runs. one_less c.finish.new.self.running c.make.new.self.items.running c.make_room.new.self.items.running c.args.self.now.items.running (ok_take c.finish.result ok c.finish.ensures.running) (c.in_ok-spare.ensures.made (c.in_ok-make_room.ensures.known ∙ c.clear.ensures.items)).running c.in_ok-make_room.ensures.same.running (some_run c.args.program.now I es c.args.self.now s w c.args.number (job_view c.args.job) runs);
     })
 

@@ -24,33 +24,33 @@ returns-in_err-settle_new-clause-succeeds c = λ can short spare.
     let job = job_view c.args.job in
     let far = first_far C fs cs c.args.number job c.args.first c.args.self.now can c.close.new.self c.close.ensures.woken c.order_of-kind.result.0 c.order_of-kind.ensures.kind c.close.ensures.rows c.close.ensures.rules c.close.ensures.queue c.close.ensures.newly c.close.ensures.capacity c.close.ensures.apart in
     let old = first_old C fs cs c.args.number job c.args.first c.args.self.now can c.close.new.self c.close.ensures.woken in
-    let far1 = c.in_ok-wake.ensures.progress _ c.args.first c.args.number _ _ _ can.few (first_can C fs cs c.args.number job c.args.first c.args.self.now can c.close.new.self c.close.ensures.woken) old far in
+    let far1 = c.in_ok-wake.ensures.progress _ c.args.first c.args.number _ _ _ can.few (first_can C fs cs c.args.number job c.args.first c.args.self.now can c.close.new.self c.close.ensures.woken) old far (first_short C fs cs c.args.number job c.args.first c.args.self.now can c.close.new.self c.close.ensures.woken short) in
     let len = c.wake.ensures.len ∙ c.close.ensures.len in
     no_ok (c.in_err-settle_new.ensures.succeeds _ c.args.number _ _ _ _ can.few (next_can C fs cs c.args.number job c.args.first c.args.self.now can c.close.new.self c.close.ensures.woken c.wake.new.self len) old (next_far C fs cs c.args.number job c.args.first c.args.self.now can c.close.new.self c.close.ensures.woken c.wake.new.self len far1) (spare_back C (jobs_behind c.args.first (rows_view c.args.self.now.rows.items)) c.args.spare.items c.reverse.new.self.items c.reverse.ensures.items spare))
 
 pub returns-clause-settled : goal.returns-clause-settled
-returns-clause-settled c = λ can.
+returns-clause-settled c = λ can short.
     let C = c.args.outlook.program.now in
     let fs = frames_view c.args.outlook.instances.now.slots in
     let cs = cells_view c.args.outlook.store.now.cells in
     let job = job_view c.args.job in
     let far = first_far C fs cs c.args.number job c.args.first c.args.self.now can c.close.new.self c.close.ensures.woken c.order_of-kind.result.0 c.order_of-kind.ensures.kind c.close.ensures.rows c.close.ensures.rules c.close.ensures.queue c.close.ensures.newly c.close.ensures.capacity c.close.ensures.apart in
     let old = first_old C fs cs c.args.number job c.args.first c.args.self.now can c.close.new.self c.close.ensures.woken in
-    let far1 = c.in_ok-wake.ensures.progress _ c.args.first c.args.number _ _ _ can.few (first_can C fs cs c.args.number job c.args.first c.args.self.now can c.close.new.self c.close.ensures.woken) old far in
+    let far1 = c.in_ok-wake.ensures.progress _ c.args.first c.args.number _ _ _ can.few (first_can C fs cs c.args.number job c.args.first c.args.self.now can c.close.new.self c.close.ensures.woken) old far (first_short C fs cs c.args.number job c.args.first c.args.self.now can c.close.new.self c.close.ensures.woken short) in
     let len = c.wake.ensures.len ∙ c.close.ensures.len in
     let far2 = c.in_ok-settle_new.ensures.progress _ c.args.number _ _ _ _ can.few (next_can C fs cs c.args.number job c.args.first c.args.self.now can c.close.new.self c.close.ensures.woken c.wake.new.self len) old (next_far C fs cs c.args.number job c.args.first c.args.self.now can c.close.new.self c.close.ensures.woken c.wake.new.self len far1) in
     let far3 = last_far C fs cs c.args.number job c.args.first c.args.self.now can c.close.new.self c.close.ensures.woken c.wake.new.self len c.settle_new.new.self far2 in
     settled_moved C fs cs (rows_view c.args.self.now.rows.items) c.args.first c.args.number (waiters_view c.args.self.now.rules.waiting) (queue_view c.args.self.now.queue) _ _ _ _ _ far3.settled 0 c.sort_unstable.new.self.items c.sort_unstable.ensures.permutation
 
 pub returns-clause-roomy : goal.returns-clause-roomy
-returns-clause-roomy c = λ can.
+returns-clause-roomy c = λ can short.
     let C = c.args.outlook.program.now in
     let fs = frames_view c.args.outlook.instances.now.slots in
     let cs = cells_view c.args.outlook.store.now.cells in
     let job = job_view c.args.job in
     let far = first_far C fs cs c.args.number job c.args.first c.args.self.now can c.close.new.self c.close.ensures.woken c.order_of-kind.result.0 c.order_of-kind.ensures.kind c.close.ensures.rows c.close.ensures.rules c.close.ensures.queue c.close.ensures.newly c.close.ensures.capacity c.close.ensures.apart in
     let old = first_old C fs cs c.args.number job c.args.first c.args.self.now can c.close.new.self c.close.ensures.woken in
-    let far1 = c.in_ok-wake.ensures.progress _ c.args.first c.args.number _ _ _ can.few (first_can C fs cs c.args.number job c.args.first c.args.self.now can c.close.new.self c.close.ensures.woken) old far in
+    let far1 = c.in_ok-wake.ensures.progress _ c.args.first c.args.number _ _ _ can.few (first_can C fs cs c.args.number job c.args.first c.args.self.now can c.close.new.self c.close.ensures.woken) old far (first_short C fs cs c.args.number job c.args.first c.args.self.now can c.close.new.self c.close.ensures.woken short) in
     let len = c.wake.ensures.len ∙ c.close.ensures.len in
     let far2 = c.in_ok-settle_new.ensures.progress _ c.args.number _ _ _ _ can.few (next_can C fs cs c.args.number job c.args.first c.args.self.now can c.close.new.self c.close.ensures.woken c.wake.new.self len) old (next_far C fs cs c.args.number job c.args.first c.args.self.now can c.close.new.self c.close.ensures.woken c.wake.new.self len far1) in
     let r = far2.room.roomy in

@@ -5,7 +5,7 @@ use Rattle.board_data.specs.Wanted.{FewSlots}
 use Rattle.board_frames.specs.View.{frames_view}
 use Rattle.replayed.specs.Fields.{Row, Waiter}
 use Rattle.task_code.specs.Code.{Kind}
-use Rattle.board_items.specs.Ended.{AreToSettle}
+use Rattle.board_items.specs.Ended.{AreShort, AreToSettle}
 use Rattle.board_items.specs.Progress.{AreOld, Progress}
 use Rattle.board_items.proofs.items.Items.wake.Given as goal
 
@@ -16,5 +16,6 @@ invariant-loop-at l =
     × ((rows : List Row) (first number : ℕ) (before : List Waiter) (queued : Kind → ℤ → List ℕ) (left : ℕ) →
     FewSlots (frames_view l.outlook.instances.now.slots) → AreToSettle l.outlook.program.now (frames_view l.outlook.instances.now.slots) (cells_view l.outlook.store.now.cells) rows first number l.initial.self.woken.items → AreOld first l.initial.self.woken.items →
     Progress l.outlook.program.now (frames_view l.outlook.instances.now.slots) (cells_view l.outlook.store.now.cells) rows first number before queued [] (length l.initial.self.woken.items + left) l.initial.self →
+    AreShort l.outlook.program.now (frames_view l.outlook.instances.now.slots) (cells_view l.outlook.store.now.cells) rows first l.initial.self.woken.items →
     Progress l.outlook.program.now (frames_view l.outlook.instances.now.slots) (cells_view l.outlook.store.now.cells) rows first number before queued (take l.at l.initial.self.woken.items) ((length l.initial.self.woken.items - l.at) + left) l.self)
     × (l.self.running ≡ l.initial.self.running)
