@@ -1,46 +1,22 @@
 -- The first of all items that can begin: of the first of each kind, the one that comes before the other.
-use Rattle.std.proofs.Common.{◌≡◌, ◌⊎◌, inl, inr, ℕ, suc, ◌<◌, Bool, true, false, refl, sym, ap, ◌∙◌, subst, Option, None, Some, arith}
-use Rattle.std.specs.Prelude.{ℤ, IfNone, IfSome, int_lt, map}
+use Rattle.std.proofs.Common.{◌≡◌, ◌⊎◌, inl, inr, ℕ, suc, ◌<◌, Bool, true, false, refl, sym, ap, ◌∙◌, None, arith}
+use Rattle.std.specs.Prelude.{ℤ, int_lt}
 use Rattle.std.proofs.Math.Nat.{lt_of_not-le}
 use Rattle.std.proofs.lemmas.Int.{ints}
-use Rattle.dataflow.specs.System.{In}
-use Rattle.replayed.specs.Ending.{job_priority}
-use Rattle.replayed.specs.Fields.{Row, row_of}
-use Rattle.replayed.proofs.Marking.{RowIs}
-use Rattle.replayed.proofs.Tests.{none_some, some_same}
 use Rattle.task_code.specs.Code.{Control, Kind, Leaf}
 use Rattle.task_code.specs.Machine.{CodeItem}
 use Rattle.task_code.specs.System.{task_kind, task_priority}
-use Rattle.task_code.specs.View.{event_view}
-use Rattle.board_frames.specs.View.{frames_view, rows_view}
+use Rattle.work_queue.specs.Both.{of}
+use Rattle.work_queue.specs.Entries.{IsForemost, first_of}
+use Rattle.work_queue.specs.Order.{precedes}
+use Rattle.work_queue.specs.declared.entry.Entry.{Entry}
+use Rattle.work_queue.proofs.OrderLaws.{no_later, precedes_order}
+use Rattle.board_code.specs.Tables.{queue_kind}
 use Rattle.board.specs.Board.{IsGoing, Seen}
 use Rattle.board.specs.Inside.{IsSound, seen_of}
 use Rattle.board.specs.Ready.{IsFirst, IsNext, IsReady, Precedes}
 use Rattle.board.specs.declared.board.Board.TheInside.{Inside}
-use Rattle.board.proofs.Moves.{priority_of_job}
-use Rattle.board.proofs.Showing.{there}
-
--- the row of an item that can begin has its priority
-module _ (a : Inside) (s : IsSound a) (i : CodeItem) (ready : IsReady (seen_of a) i) where
-  row_here : RowIs (frames_view a.core.world.instances.slots) (rows_view a.core.items.rows.items) 1 i
-  row_here = there a.program s.whole (map event_view a.history.items) a.core s.stand i ready.there
-
-  row_at : (n : ℕ) → i.number ≡ n → row_of (rows_view a.core.items.rows.items) n ≡ Some row_here.row
-  row_at n e =
-      let f = row_here in
-      let q = f.number_is in
-      let place : n ≡ suc f.at = omega arith in
-      ap (λ (k : ℕ). row_of (rows_view a.core.items.rows.items) k) place ∙ f.there
-
-  pub no_priority : (n : ℕ) → i.number ≡ n → row_of (rows_view a.core.items.rows.items) n ≡ None → ⊥
-  no_priority n e h = none_some (sym h ∙ row_at n e)
-
-  pub priority_at : (n : ℕ) → i.number ≡ n → (r : Row) → row_of (rows_view a.core.items.rows.items) n ≡ Some r → job_priority a.program r.job ≡ task_priority a.program i.task
-  priority_at n e r h =
-      let f = row_here in
-      ap (λ (x : Row). job_priority a.program x.job) (some_same (sym h ∙ row_at n e))
-      ∙ sym (priority_of_job a.program (frames_view a.core.world.instances.slots) f.row.job)
-      ∙ ap (λ t. task_priority a.program t) (sym f.task_is)
+use Rattle.board.proofs.Firsts.{contains_in, is_before, next_none, next_some, no_number, not_before, one_item, stood}
 
 -- the order of items is that of their priorities and numbers
 pub precedes_by : (b : Seen) (i j : CodeItem) (y z : ℤ) (n m : ℕ) → y ≡ task_priority b.code i.task → z ≡ task_priority b.code j.task → i.number ≡ n → j.number ≡ m
@@ -153,3 +129,62 @@ none_first_of b c l i ready = by (task_kind b.code i.task) refl
     by : (k : Kind) → task_kind b.code i.task ≡ k → ⊥
     by Control e = c i ready e
     by Leaf e = l i ready e
+
+-- an entry that is the foremost of its kind is of the next item of that kind
+module _ (a : Inside) (s : IsSound a) (going : IsGoing (seen_of a)) where
+  record Foremost (k : Kind) (e : Entry) : Type 0 where
+    next : IsNext (seen_of a) k e.no
+    priority_is : task_priority a.program next.item.task ≡ e.priority
+
+  foremost : (k : Kind) (e : Entry) → IsForemost e (of (queue_kind k) a.core.items.queue).entries → Foremost k e
+  foremost k e f =
+      let n = next_some a s k e.no (e, refl, f) going in
+      let t = stood a s k e (contains_in (of (queue_kind k) a.core.items.queue).entries e f.0) in
+      record {
+        next = n;
+        priority_is = ap (λ (i : CodeItem). task_priority a.program i.task) (one_item a s n.item t.item n.ready t.ready (n.number_is ∙ sym t.number_is)) ∙ t.priority_is;
+      }
+
+  kinds_differ : Control ≡ Leaf → ⊥
+  kinds_differ e = absurd (cc)
+
+  -- of the foremost of both kinds, the one that is taken first is of the first item of all
+  module _ (x y : Entry) (fx : IsForemost x a.core.items.queue.control.entries) (fy : IsForemost y a.core.items.queue.leaf.entries) where
+    control : Foremost Control x
+    control = foremost Control x fx
+
+    leaf : Foremost Leaf y
+    leaf = foremost Leaf y fy
+
+    apart : y.no ≡ x.no → ⊥
+    apart e =
+        let c = control.next in
+        let l = leaf.next in
+        kinds_differ (sym c.kind_is ∙ ap (λ (i : CodeItem). task_kind a.program i.task) (one_item a s c.item l.item c.ready l.ready (c.number_is ∙ sym e ∙ sym l.number_is)) ∙ l.kind_is)
+
+    pub leaf_is_first : precedes y x ≡ true → IsFirst (seen_of a) y.no
+    leaf_is_first h =
+        leaf_first (seen_of a) x.no y.no control.next leaf.next
+        (precedes_by (seen_of a) leaf.next.item control.next.item y.priority x.priority y.no x.no (sym leaf.priority_is) (sym control.priority_is) leaf.next.number_is control.next.number_is
+        (is_before y.priority x.priority y.no x.no (no_later y x (precedes_order.one_way y x h)) apart))
+
+    pub control_is_first : precedes y x ≡ false → IsFirst (seen_of a) x.no
+    control_is_first h =
+        control_first (seen_of a) x.no y.no control.next leaf.next
+        (λ p. not_before x.priority y.priority x.no y.no (no_later x y h)
+        (by_precedes (seen_of a) leaf.next.item control.next.item y.priority x.priority y.no x.no (sym leaf.priority_is) (sym control.priority_is) leaf.next.number_is control.next.number_is p))
+
+  pub control_is_alone : (x : Entry) → IsForemost x a.core.items.queue.control.entries → first_of a.core.items.queue.leaf.entries ≡ None → IsFirst (seen_of a) x.no
+  control_is_alone x f h =
+      control_alone (seen_of a) x.no (foremost Control x f).next (λ i r e. next_none a s Leaf (no_number a.core.items.queue.leaf.entries h) i r e)
+
+  pub leaf_is_alone : (y : Entry) → IsForemost y a.core.items.queue.leaf.entries → first_of a.core.items.queue.control.entries ≡ None → IsFirst (seen_of a) y.no
+  leaf_is_alone y f h =
+      leaf_alone (seen_of a) y.no (foremost Leaf y f).next (λ i r e. next_none a s Control (no_number a.core.items.queue.control.entries h) i r e)
+
+-- nothing waits, so nothing can begin
+pub nothing_ready : (a : Inside) (s : IsSound a) → first_of a.core.items.queue.control.entries ≡ None → first_of a.core.items.queue.leaf.entries ≡ None → (i : CodeItem) → IsReady (seen_of a) i → ⊥
+nothing_ready a s c l =
+    none_first_of (seen_of a)
+    (λ i r e. next_none a s Control (no_number a.core.items.queue.control.entries c) i r e)
+    (λ i r e. next_none a s Leaf (no_number a.core.items.queue.leaf.entries l) i r e)

@@ -14,7 +14,7 @@ use Rattle.task_code.specs.Machine.{CodeItem, CodeState, Enabled, Quiet}
 use Rattle.task_code.specs.System.{task_kind, task_priority}
 use Rattle.task_code.specs.View.{event_view}
 use Rattle.work_queue.specs.Both.{of}
-use Rattle.work_queue.specs.Entries.{ComesNoLater, IsTakenFirst, first_number}
+use Rattle.work_queue.specs.Entries.{ComesNoLater, IsTakenFirst, first_number, first_of}
 use Rattle.work_queue.specs.declared.entry.Entry.{Entry}
 use Rattle.board_code.specs.Spots.{layout_of}
 use Rattle.board_code.specs.Tables.{queue_kind}
@@ -41,7 +41,7 @@ in_contains [] x h = absurd h
 in_contains (y ∷ xs) x (inl e) = (0, omega arith, sym e)
 in_contains (y ∷ xs) x (inr h) = let c = in_contains xs x h in let l = c.1 in (suc c.0, omega arith, c.2)
 
-contains_in : {X : Type 0} (xs : List X) (x : X) → Contains xs x → In x xs
+pub contains_in : {X : Type 0} (xs : List X) (x : X) → Contains xs x → In x xs
 contains_in [] x c = let l = c.1 in absurd (omega arith)
 contains_in (y ∷ xs) x (zero, l, e) = inl (sym e)
 contains_in (y ∷ xs) x (suc k, l, e) = inr (contains_in xs x (k, omega arith, e))
@@ -89,12 +89,16 @@ not_again y ys d e h n p =
     (λ b c. c.0 (subst (λ (k : ℕ). In k (numbers_at y.priority ys)) n (subst (λ (z : ℤ). In e.no (numbers_at z ys)) p (listed_at e ys h))))
     (λ b c. yes_no (int_same y.priority y.priority refl) b) d
 
+pub no_number : (ys : List Entry) → first_of ys ≡ None → first_number ys ≡ None
+no_number [] h = refl
+no_number (y ∷ ys) h = none_some (sym h)
+
 pub none_first : (ys : List Entry) → first_number ys ≡ None → ys ≡ []
 none_first [] h = refl
 none_first (y ∷ ys) h = none_some (sym h)
 
 -- of two orders that say the same one rules the other out
-not_before : (z w : ℤ) (n m : ℕ) → (w <ℤ z) ⊎ ((z ≡ w) × (n ≤ m)) → (int_lt z w ≡ true) ⊎ ((w ≡ z) × (m < n)) → ⊥
+pub not_before : (z w : ℤ) (n m : ℕ) → (w <ℤ z) ⊎ ((z ≡ w) × (n ≤ m)) → (int_lt z w ≡ true) ⊎ ((w ≡ z) × (m < n)) → ⊥
 not_before z w n m (inl a) (inl b) = grind (arith, ints)
 not_before z w n m (inl a) (inr b) = let e = b.0 in grind (arith, ints)
 not_before z w n m (inr a) (inl b) = let e = a.0 in grind (arith, ints)

@@ -1,5 +1,5 @@
 //! The board: begin, end and give back items.
-ghost use Rattle.std.specs.Prelude.{ℕ, ℤ, ◌≡◌, ◌⊎◌, ◌<◌, ◌≤◌, ◌^◌, ◌∷◌, [], map, length, vec_len, MatchBool, IfOk, IfErr, IfSome, IfNone, OnOk, OnErr, IsTrue, ◌↔◌, None, Some, int_lt, slice_get, true};
+ghost use Rattle.std.specs.Prelude.{ℕ, ℤ, ◌≡◌, ◌⊎◌, ◌<◌, ◌≤◌, ◌^◌, ◌∷◌, [], map, length, vec_len, MatchBool, IfOk, IfErr, IfSome, IfNone, OnOk, OnErr, IsTrue, ◌↔◌, None, Some, slice_get};
 ghost use Rattle.dataflow.specs.Machine.{start};
 ghost use Rattle.dataflow.specs.Machine as Machine;
 ghost use Rattle.task_code.specs.Machine.{CodeItem, DataAreExact, Quiet, Run, run_log};
@@ -14,7 +14,7 @@ ghost use Rattle.board.specs.Board.{Seen, AreByWorkers, IsWorker, IsGoing, Accep
 ghost use Rattle.board.specs.declared.refusal.Refusal.TheVariants.{Memory};
 ghost use Rattle.board.specs.Numbers.{AreNumbered};
 ghost use Rattle.board.specs.Stored.{AreSoMany};
-ghost use Rattle.board.specs.Ready.{AreReady, IsFirst, IsNext, IsReady, Precedes};
+ghost use Rattle.board.specs.Ready.{AreReady, IsFirst, IsNext, IsReady};
 ghost use Rattle.board.specs.Blocked.{AreBlocked, IsFaultOf};
 ghost use Rattle.dataflow.specs.System.{In};
 
@@ -496,42 +496,29 @@ impl Board {
         self.core.items.queue.first(queue_kind(kind))
     }
 
-    /// The priority of the item of this number, if it can begin.
-    fn priority(&self, item: u64) -> i32
-        ensures { (i : CodeItem) → IsReady self.now i → i.number ≡ item → result ≡ task_priority self.now.code i.task }
-    {
-        match item_of(self.core.items.rows.as_slice(), item) {
-            Some(found) => {
-                let (_, priority) = order_of(&self.program, found.job());
-                priority
-            }
-            None => 0,
-        }
-    }
-
-    /// Whether an item that can begin comes before another: of a greater priority, or of the same and a smaller number.
-    fn comes_before(&self, one: u64, other: u64) -> bool
-        ensures { (i j : CodeItem) → IsReady self.now i → IsReady self.now j → i.number ≡ one → j.number ≡ other → IsTrue result ↔ Precedes self.now i j }
-    {
-        is_before(self.priority(one), one, self.priority(other), other)
-    }
-
     /// The first item that can begin, of either kind: of the greatest priority, and then of the smallest number. None after a
     /// fault or at the limit. Takes no memory.
     pub fn first(&self) -> Option<u64>
         ensures none { IfNone result (IsGoing self.now → (i : CodeItem) → IsReady self.now i → ⊥) }
         ensures some { IfSome result (λ number. IsFirst self.now number) }
     {
-        match (self.next(Kind::Control), self.next(Kind::Leaf)) {
+        if !self.is_going() {
+            return None;
+        }
+        let queue = &self.core.items.queue;
+        let control = queue.first_entry(work_queue::entry::Kind::Control);
+        let leaf = queue.first_entry(work_queue::entry::Kind::Leaf);
+        match (control, leaf) {
             (Some(control), Some(leaf)) => {
-                if self.comes_before(leaf, control) {
-                    Some(leaf)
+                if leaf.precedes(&control) {
+                    Some(leaf.no)
                 } else {
-                    Some(control)
+                    Some(control.no)
                 }
             }
-            (Some(control), None) => Some(control),
-            (None, leaf) => leaf,
+            (Some(control), None) => Some(control.no),
+            (None, Some(leaf)) => Some(leaf.no),
+            (None, None) => None,
         }
     }
 
@@ -582,13 +569,6 @@ impl Board {
     {
         self.core.blocked(&self.program)
     }
-}
-
-/// Whether the first is of a greater priority, or of the same and a smaller number.
-fn is_before(one: i32, one_number: u64, other: i32, other_number: u64) -> bool
-    ensures { IsTrue result ↔ ((int_lt other one ≡ true) ⊎ ((one ≡ other) × (one_number < other_number))) }
-{
-    other < one || (one == other && one_number < other_number)
 }
 
 /// The number at a place.

@@ -19,6 +19,19 @@ use entry_outcomes::answer::Answer;
 use std::alloc::AllocError;
 
 impl Core {
+    /// Lays the elements of each array that is waited for whole by rising key, as the instance sees it.
+    fn sort_each(&mut self, instance: usize, needs: &[Wanted]) -> Result<(), AllocError>
+        ensures { self.new ≡ self.old }
+    {
+        for wanted in needs {
+            if let Wanted::Closed(spot) = wanted {
+                let d = datum_at(&self.world.instances, instance, *spot);
+                data::sort(&mut self.world.store, d)?;
+            }
+        }
+        Ok(())
+    }
+
     /// Lays the elements of the arrays that the item waited for by rising key, once for all who ask for them.
     pub fn sort_arrays(&mut self, program: &Program, job: Job) -> Result<(), AllocError>
         ensures { self.new ≡ self.old }
@@ -29,13 +42,12 @@ impl Core {
             chunk: _,
         } = job
         {
-            if let Some(table) = program.entry(entry) {
-                for wanted in table.needs.as_slice() {
-                    if let Wanted::Closed(spot) = wanted {
-                        let d = datum_at(&self.world.instances, instance, *spot);
-                        data::sort(&mut self.world.store, d)?;
-                    }
-                }
+            match program.entry(entry) {
+                Some(table) if table.closed => return self.sort_each(
+                    instance,
+                    table.needs.as_slice(),
+                ),
+                _ => {}
             }
         }
         Ok(())

@@ -38,6 +38,25 @@ fn greatest_priority_then_smallest_number(rt: HostRuntime) {
     gives(&rt, &mut queue, Kind::Control, &[1]);
 }
 
+/// The first entry is this one, with its priority, and stays where it is.
+fn shows_first(rt: &impl Abort, queue: &Queue, kind: Kind, wanted: Option<(i32, u64)>) {
+    let shown = match queue.first_entry(kind) {
+        Some(entry) => Some((entry.priority, entry.no)),
+        None => None,
+    };
+    is_equal(rt, shown, wanted);
+}
+
+#[test]
+fn the_first_entry_is_shown_with_its_priority(rt: HostRuntime) {
+    let mut queue = no_entries(&rt, rt.alloc());
+    put(&rt, &mut queue, Kind::Leaf, &[(0, 4), (5, 9), (5, 7)]);
+    shows_first(&rt, &queue, Kind::Leaf, Some((5, 7)));
+    shows_first(&rt, &queue, Kind::Control, None);
+    gives(&rt, &mut queue, Kind::Leaf, &[7, 9, 4]);
+    shows_first(&rt, &queue, Kind::Leaf, None);
+}
+
 /// Whether the queue lists these.
 fn is_list(rt: &impl Abort, queue: &Queue, wanted: &[(Kind, i32, u64)]) -> bool {
     let list = queue.list().expect(rt, "memory");

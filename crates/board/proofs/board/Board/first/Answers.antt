@@ -1,24 +1,40 @@
-use Rattle.std.proofs.Common.{rules, ◌≡◌, ℕ, Option, None, subst}
-use Rattle.std.specs.Prelude.{IfNone}
-use Rattle.task_code.specs.Code.{Control, Leaf}
-use Rattle.task_code.specs.Machine.{CodeItem}
-use Rattle.task_code.specs.System.{task_kind}
-use Rattle.board.specs.Board.{IsGoing}
-use Rattle.board.specs.Ready.{IsReady}
-use Rattle.board.proofs.FirstOfAll.{control_first, none_first_of}
-use Rattle.board.proofs.Firsts.{if_none}
-use Rattle.board.proofs.Own.{not_true}
+use Rattle.std.proofs.Common.{rules, sym, ◌∙◌, subst, IfSome, Option}
+use Rattle.work_queue.specs.Entries.{IsForemost}
+use Rattle.work_queue.specs.declared.entry.Entry.{Entry}
+use Rattle.board.specs.Board.{IsGoing, Seen}
+use Rattle.board.proofs.FirstOfAll.{control_is_alone, control_is_first, leaf_is_alone, leaf_is_first, nothing_ready}
 use Rattle.board.proofs.board.Board.first.Goals as goal
 
-pub returns-else-comes_before-clause-some : goal.returns-else-comes_before-clause-some
-returns-else-comes_before-clause-some c =
-    let control = c.in-Some-Some.ensures.some in
-    let leaf = c.in-Some-Some.ensures'.some in
-    control_first c.args.self.now c.in-Some-Some.control c.in-Some-Some.leaf control leaf (λ h. not_true c.comes_before.result (search rules) ((c.comes_before.ensures leaf.item control.item leaf.ready control.ready leaf.number_is control.number_is).1 h))
+pub returns-then-precedes-clause-some : goal.returns-then-precedes-clause-some
+returns-then-precedes-clause-some c =
+    let going : IsGoing c.args.self.now = search rules in
+    let here = subst (λ (b : Seen). IsGoing b) (sym c.self.view_is) going in
+    let control = subst (λ (o : Option Entry). IfSome o (λ e. IsForemost e c.self.inside.core.items.queue.control.entries)) c.in-Some-Some.is-0 c.first_entry-control.ensures.foremost in
+    let leaf = subst (λ (o : Option Entry). IfSome o (λ e. IsForemost e c.self.inside.core.items.queue.leaf.entries)) c.in-Some-Some.is-1 c.first_entry-leaf.ensures.foremost in
+    rw (← c.self.view_is) (leaf_is_first c.self.inside c.self.invariant here c.in-Some-Some.control c.in-Some-Some.leaf control leaf (search rules))
 
-pub returns-in-None-default-clause-none : goal.returns-in-None-default-clause-none
-returns-in-None-default-clause-none c =
-    if_none c.next-2.result (λ e going.
-    none_first_of c.args.self.now
-    (subst (λ (o : Option ℕ). IfNone o (IsGoing c.args.self.now → (i : CodeItem) → IsReady c.args.self.now i → task_kind c.args.self.now.code i.task ≡ Control → ⊥)) c.in-None-default.is-0 c.next.ensures.none going)
-    (subst (λ (o : Option ℕ). IfNone o (IsGoing c.args.self.now → (i : CodeItem) → IsReady c.args.self.now i → task_kind c.args.self.now.code i.task ≡ Leaf → ⊥)) e c.next-2.ensures.none going))
+pub returns-else-precedes-clause-some : goal.returns-else-precedes-clause-some
+returns-else-precedes-clause-some c =
+    let going : IsGoing c.args.self.now = search rules in
+    let here = subst (λ (b : Seen). IsGoing b) (sym c.self.view_is) going in
+    let control = subst (λ (o : Option Entry). IfSome o (λ e. IsForemost e c.self.inside.core.items.queue.control.entries)) c.in-Some-Some.is-0 c.first_entry-control.ensures.foremost in
+    let leaf = subst (λ (o : Option Entry). IfSome o (λ e. IsForemost e c.self.inside.core.items.queue.leaf.entries)) c.in-Some-Some.is-1 c.first_entry-leaf.ensures.foremost in
+    rw (← c.self.view_is) (control_is_first c.self.inside c.self.invariant here c.in-Some-Some.control c.in-Some-Some.leaf control leaf (search rules))
+
+pub returns-in-Some-None-clause-some : goal.returns-in-Some-None-clause-some
+returns-in-Some-None-clause-some c =
+    let going : IsGoing c.args.self.now = search rules in
+    let here = subst (λ (b : Seen). IsGoing b) (sym c.self.view_is) going in
+    let control = subst (λ (o : Option Entry). IfSome o (λ e. IsForemost e c.self.inside.core.items.queue.control.entries)) c.in-Some-None.is-0 c.first_entry-control.ensures.foremost in
+    rw (← c.self.view_is) (control_is_alone c.self.inside c.self.invariant here c.in-Some-None.control control (sym c.first_entry-leaf.ensures.first ∙ c.in-Some-None.is-1))
+
+pub returns-in-None-Some-clause-some : goal.returns-in-None-Some-clause-some
+returns-in-None-Some-clause-some c =
+    let going : IsGoing c.args.self.now = search rules in
+    let here = subst (λ (b : Seen). IsGoing b) (sym c.self.view_is) going in
+    let leaf = subst (λ (o : Option Entry). IfSome o (λ e. IsForemost e c.self.inside.core.items.queue.leaf.entries)) c.in-None-Some.is-1 c.first_entry-leaf.ensures.foremost in
+    rw (← c.self.view_is) (leaf_is_alone c.self.inside c.self.invariant here c.in-None-Some.leaf leaf (sym c.first_entry-control.ensures.first ∙ c.in-None-Some.is-0))
+
+pub returns-in-None-None-clause-none : goal.returns-in-None-None-clause-none
+returns-in-None-None-clause-none c =
+    rw (← c.self.view_is) (λ going. nothing_ready c.self.inside c.self.invariant (sym c.first_entry-control.ensures.first ∙ c.in-None-None.is-0) (sym c.first_entry-leaf.ensures.first ∙ c.in-None-None.is-1))
