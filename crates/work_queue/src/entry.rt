@@ -55,6 +55,6 @@ impl Entry {
     pub fn precedes(&self, other: &Entry) -> bool
         ensures { result ≡ precedes self.now other.now }
     {
-        self.cmp(other).is_lt()
+        self.priority > other.priority || self.priority == other.priority && self.no < other.no
     }
 }
