@@ -1,5 +1,5 @@
 -- What is worked out of an entry and of a body, as it follows from the code.
-use Rattle.std.specs.Prelude.{◌≡◌, nat_eq, not, ℕ, suc, ◌+◌, Bool, true, false, List, [], ◌∷◌, map, length, Option, Some, None, if◌then◌else◌}
+use Rattle.std.specs.Prelude.{◌≡◌, nat_eq, nat_lt, not, ℕ, suc, ◌+◌, Bool, true, false, List, [], ◌∷◌, map, length, Option, Some, None, if◌then◌else◌}
 use Rattle.std.specs.List.{filter, filter_map, flat_map, list_all, list_any}
 use Rattle.data_store.specs.declared.datum.Shape.{Shape}
 use Rattle.data_store.specs.declared.datum.Shape.TheVariants.{Single, Keyed}
@@ -177,6 +177,10 @@ module _ (C : Code) where
     pub reads : (f : Spot → Slot) (d : ℕ) → hold_times f (λ x. x.reads) d hs ≡ named_by 1 (at_name b f) d (outside b (names_of (λ e. e.reads) js))
     pub writes : (f : Spot → Slot) (d : ℕ) → hold_times f (λ x. x.writes) d hs ≡ named_by 1 (at_name b f) d (outside b (names_of (λ e. e.writes) js))
 
+  -- an entry waits for more than two inputs
+  abbrev pub waits_long : ℕ → Bool
+  waits_long i = nat_lt 2 (length (entry C i).needs)
+
   -- what is worked out of a body
   pub record IsBodyTable (b : ℕ) (t : BodyTable) : Type 0 where
     pub own : t.own.items ≡ own_from (body C b).makes (names_in C (λ e. e.reads) b) (names_in C (λ e. e.writes) b) 0 (body C b).makes
@@ -184,6 +188,7 @@ module _ (C : Code) where
     pub writes : (f : Spot → Slot) (d : ℕ) → hold_times f (λ x. x.writes) d t.outer.items ≡ held_times (at_name b f) d (outer_holds C (λ e. e.writes) b)
     pub controls : t.controls ≡ run_as Control (body C b).entries
     pub leaves : t.leaves ≡ run_as Leaf (body C b).entries
+    pub long : t.long ≡ list_any waits_long (body C b).entries
 
 -- each member fits its place, counted from a number on
 abbrev pub AllFrom : {X : Type 0} → (ℕ → X → Type 0) → ℕ → List X → Type 0

@@ -1,11 +1,12 @@
 //! What an instance of a body begins with: the counts of its own data, and what it adds to those outside.
 ghost use Rattle.std.specs.Prelude.{◌≡◌, ◌+◌, ◌<◌, ◌≤◌, ◌∷◌, [], map, replicate, slice_index_or, if◌then◌else◌, IfOk, OnOk};
 ghost use Rattle.std.specs.Bool.{OnTrue};
+ghost use Rattle.std.specs.List.{list_any};
 ghost use Rattle.task_code.specs.Code.{Control, body as body_at, kind_of};
 ghost use Rattle.task_code.specs.View.{body_view, entry_view, name_view, variable_view};
 ghost use Rattle.board_code.specs.Places.{CountsMore, CountsOf, FindsPlaces, with_counts};
 ghost use Rattle.board_code.specs.Program.{IsLeads};
-ghost use Rattle.board_code.specs.Tables.{GainsHold, GainsNames, GainsRights, HoldsOf, IsBodyTable, is_kind, names_of, run_as, shape_of};
+ghost use Rattle.board_code.specs.Tables.{GainsHold, GainsNames, GainsRights, HoldsOf, IsBodyTable, is_kind, names_of, run_as, shape_of, waits_long};
 
 use crate::places::Places;
 use crate::program::{BodyTable, Hold, Own};
@@ -272,6 +273,29 @@ fn rights_of(
     })
 }
 
+/// Whether the entry of this number waits for more than two inputs. One that is not there waits for none.
+#[tactic(auto, using(crate::proofs::Counts::blank_there))]
+fn is_long(code: &Code, number: u32) -> bool
+    ensures { result ≡ waits_long code.now number }
+{
+    match code.entry(number) {
+        Some(entry) => entry.needs.len() > 2,
+        None => false,
+    }
+}
+
+/// Whether one of these entries does.
+fn has_long(code: &Code, entries: &[u32]) -> bool
+    ensures { result ≡ list_any (waits_long code.now) entries.now }
+{
+    for number in entries {
+        if is_long(code, *number) {
+            return true;
+        }
+    }
+    false
+}
+
 /// What is worked out of a body.
 #[tactic(auto, using(crate::proofs::Counted::own_told, crate::proofs::Holds::body_reads, crate::proofs::Holds::body_writes, crate::proofs::Counts::leaves_left))]
 pub fn body_table(
@@ -300,5 +324,6 @@ pub fn body_table(
         outer,
         controls,
         leaves: entries.len().saturating_sub(controls),
+        long: has_long(code, entries),
     })
 }

@@ -94,6 +94,8 @@ pub struct BodyTable {
     /// How many of its entries are control entries, and how many leaf entries.
     pub controls: usize,
     pub leaves: usize,
+    /// Whether one of its entries waits for more than two inputs.
+    pub long: bool,
 }
 
 /// Code with what is worked out of it.

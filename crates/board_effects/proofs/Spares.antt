@@ -1,11 +1,12 @@
 -- Lists for what new items miss.
-use Rattle.std.proofs.Common.{◌≡◌, ◌∙◌, refl, sym, ap, subst, ℕ, zero, suc, ◌+◌, ◌≤◌, ◌<◌, max, Bool, true, false, nat_lt, List, [], ◌∷◌, ◌++◌, map, take, get_or, length, arith, rules}
+use Rattle.std.proofs.Common.{◌≡◌, ◌∙◌, refl, sym, ap, subst, ℕ, zero, suc, ◌+◌, ◌≤◌, ◌<◌, max, Bool, true, false, ◌||◌, nat_lt, List, [], ◌∷◌, ◌++◌, map, take, get_or, length, arith, rules}
 use Rattle.std.specs.Prelude.{if◌then◌else◌}
-use Rattle.std.specs.List.{AllZip, filter, flat_map}
+use Rattle.std.specs.List.{AllZip, filter, flat_map, list_any}
 use Rattle.std.proofs.lemmas.List.{append_assoc, append-nil, map-append, take_more, take_all}
 use Rattle.rules.specs.declared.input.Input.{Input}
 use Rattle.smallvec.specs.SmallVec.{SmallVec}
 use Rattle.task_code.specs.Code.{Body, Code, Entry, blank_body, blank_entry, body, entry, nth}
+use Rattle.board_code.specs.Tables.{waits_long}
 use Rattle.board_frames.specs.declared.opening.Opening.{Opening}
 use Rattle.board_effects.specs.Ended.{long_need, needs_of, spare_list}
 use Rattle.board_effects.specs.Openings.{IsSpare, long_needs}
@@ -26,6 +27,18 @@ no_entry C n xs h = sym (append-nil xs) ∙ ap (λ (e : Entry). xs ++ map spare_
 
 pub no_body : (C : Code) (n : ℕ) (xs : List (SmallVec Input)) → length C.bodies ≤ n → xs ≡ xs ++ map spare_list (long_needs C n)
 no_body C n xs h = sym (append-nil xs) ∙ ap (λ (b : Body). xs ++ map spare_list (filter (nat_lt 2) (map (λ e. length (entry C e).needs) b.entries))) (sym (body_past C.bodies n h))
+
+-- there is no list for a body none of whose entries waits for more than two inputs
+none_kept : (C : Code) (es : List ℕ) → list_any (waits_long C) es ≡ false → filter (nat_lt 2) (map (λ e. length (entry C e).needs) es) ≡ []
+none_kept C [] h = refl
+none_kept C (e ∷ es) h = by (waits_long C e) (length (entry C e).needs) _ _ (none_kept C es) h
+  where
+    by : (b : Bool) (n : ℕ) (any : Bool) (xs : List ℕ) → (any ≡ false → xs ≡ []) → (b || any) ≡ false → (if b then n ∷ xs else xs) ≡ []
+    by true n any xs f h = absurd (cc)
+    by false n any xs f h = f h
+
+pub none_long : (C : Code) (n : ℕ) (xs : List (SmallVec Input)) → list_any (waits_long C) (body C n).entries ≡ false → xs ≡ xs ++ map spare_list (long_needs C n)
+none_long C n xs h = sym (append-nil xs) ∙ ap (λ l. xs ++ map spare_list l) (sym (none_kept C (body C n).entries h))
 
 flat_more : {X Y : Type 0} (f : X → List Y) (xs ys : List X) → flat_map f (xs ++ ys) ≡ flat_map f xs ++ flat_map f ys
 flat_more f [] ys = refl

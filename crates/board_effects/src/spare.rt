@@ -35,6 +35,12 @@ fn push_spare(
 ) -> Result<(), AllocError>
     ensures { OnOk result (spare.new.items ≡ spare.old.items ++ map spare_list (long_needs program.now number)) }
 {
+    let Some(table) = program.body(number) else {
+        return Ok(());
+    };
+    if !table.long {
+        return Ok(());
+    }
     let Some(body) = program.code().body(number) else {
         return Ok(());
     };
