@@ -29,8 +29,11 @@ impl Default for Slot {
     }
 }
 
+/// So many slots lie in an instance itself.
+pub(crate) const INLINE_SLOTS: usize = 4;
+
 /// What the names of an instance stand for: first the variables of its block, then the parameters of its function.
-pub type Slots = SmallVec<Slot, 4>;
+pub type Slots = SmallVec<Slot, INLINE_SLOTS>;
 
 /// An instance of a block.
 #[derive(Drop)]

@@ -5,7 +5,7 @@ ghost use Rattle.task_code.specs.View.{body_view};
 ghost use Rattle.board_frames.specs.Openings.{IsInner, passed_from, passed_slot, steps_in, unfilled};
 ghost use Rattle.board_frames.specs.View.{frame_view, frames_view, slot_view, step_view};
 
-use crate::instance::{Instance, Slot, Slots, slot_at};
+use crate::instance::{INLINE_SLOTS, Instance, Slot, Slots, slot_at};
 use crate::outer::{Outer, Way};
 use crate::place::Step;
 use board_code::program::{Passed, Program};
@@ -79,7 +79,11 @@ fn push_parameters(
 fn empty_slots(alloc: Global, own: usize, more: usize) -> Result<Slots, AllocError>
     ensures { IfOk result (λ slots. map slot_view slots.items ≡ replicate own AbsentSlot) }
 {
-    let mut slots = SmallVec::with_capacity(alloc, own.saturating_add(more))?;
+    let all = own.saturating_add(more);
+    let mut slots = SmallVec::new(alloc);
+    if all > INLINE_SLOTS {
+        slots.reserve_exact(all)?;
+    }
     for place in 0..own {
         slots.push(Slot::Absent)?;
     }
