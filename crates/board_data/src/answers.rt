@@ -1,6 +1,6 @@
 //! The answers to what items waited for.
 
-ghost use Rattle.std.specs.Prelude.{◌≡◌, ◌↔◌, ℕ, map, option_copied, IfOk, IsTrue, Some};
+ghost use Rattle.std.specs.Prelude.{◌≡◌, ◌↔◌, ℕ, map, option_copied, IfOk, OnOk, IsTrue, Some};
 ghost use Rattle.std.specs.List.{list_all};
 ghost use Rattle.data_store.specs.Stores.{array_at, at};
 ghost use Rattle.values.specs.Maps.{found, rising};
@@ -62,20 +62,15 @@ fn answer(view: View<'_>, wanted: &Wanted) -> Result<Answer, AllocError>
 /// # Errors
 ///
 /// `AllocError` where memory that was asked for was refused. None is asked for where the list has room.
-pub fn answers(
-    list: Vec<Answer>,
-    view: View<'_>,
-    needs: &[Wanted],
-) -> Result<Vec<Answer>, AllocError>
-    ensures { IfOk result (λ answers. answers_view answers.items ≡ map (wanted_answer view.entry.program.now (cells_view view.entry.store.now.cells) (led_slot (frames_view view.entry.instances.now.slots) view.entry.at)) needs.now) }
+pub fn answers(list: &mut Vec<Answer>, view: View<'_>, needs: &[Wanted]) -> Result<(), AllocError>
+    ensures { OnOk result (answers_view list.new.items ≡ map (wanted_answer view.entry.program.now (cells_view view.entry.store.now.cells) (led_slot (frames_view view.entry.instances.now.slots) view.entry.at)) needs.now) }
 {
-    let mut answers = list;
-    answers.clear();
-    answers.reserve_exact(needs.len())?;
+    list.clear();
+    list.reserve_exact(needs.len())?;
     for wanted in needs {
-        answers.push(answer(view, wanted)?)?;
+        list.push(answer(view, wanted)?)?;
     }
-    Ok(answers)
+    Ok(())
 }
 
 /// Whether both are the same scalar.

@@ -208,8 +208,8 @@ fn are_found(found: &[Answer]) -> bool {
 
 /// Two needs have their answers, in a list that had another, and no other list has.
 fn two_are_answered(rt: &impl Abort, alloc: Global, view: View<'_>, needs: &[Wanted]) {
-    let list = Vec::from_array(alloc, [Answer::Missing]).expect(rt, "memory");
-    let found = answers(list, view, needs).expect(rt, "memory");
+    let mut found = Vec::from_array(alloc, [Answer::Missing]).expect(rt, "memory");
+    answers(&mut found, view, needs).expect(rt, "memory");
     assert!(rt; are_found(found.as_slice()));
     assert!(rt; are_answers(view, needs, found.as_slice()));
     assert!(rt; !are_answers(view, needs, &[]));

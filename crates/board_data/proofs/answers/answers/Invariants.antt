@@ -8,5 +8,5 @@ use Rattle.board_data.proofs.answers.answers.Given as goal
 
 abbrev pub invariant-loop-wanted : goal.invariant-loop-wanted
 invariant-loop-wanted l =
-    answers_view l.answers.items
+    answers_view l.list.items
     ≡ map (wanted_answer l.view.program.now (cells_view l.view.store.now.cells) (led_slot (frames_view l.view.instances.now.slots) l.view.at)) (take l.wanted-index l.needs)
