@@ -14,7 +14,7 @@ use Rattle.work_queue.proofs.OrderLaws.{no_later, precedes_order}
 use Rattle.board_code.specs.Tables.{queue_kind}
 use Rattle.board.specs.Board.{IsGoing, Seen}
 use Rattle.board.specs.Inside.{IsSound, seen_of}
-use Rattle.board.specs.Ready.{IsFirst, IsNext, IsReady, Precedes}
+use Rattle.board.specs.Ready.{HasKind, IsFirst, IsNext, IsReady, Precedes}
 use Rattle.board.specs.declared.board.Board.TheInside.{Inside}
 use Rattle.board.proofs.Firsts.{contains_in, is_before, next_none, next_some, no_number, not_before, one_item, stood}
 
@@ -144,6 +144,9 @@ module _ (a : Inside) (s : IsSound a) (going : IsGoing (seen_of a)) where
         next = n;
         priority_is = ap (λ (i : CodeItem). task_priority a.program i.task) (one_item a s n.item t.item n.ready t.ready (n.number_is ∙ sym t.number_is)) ∙ t.priority_is;
       }
+
+  pub kind_of_foremost : (k : Kind) (e : Entry) → IsForemost e (of (queue_kind k) a.core.items.queue).entries → HasKind (seen_of a) e.no k
+  kind_of_foremost k e f = let n = (foremost k e f).next in (n.item, n.ready.there, n.number_is, sym n.kind_is)
 
   kinds_differ : Control ≡ Leaf → ⊥
   kinds_differ e = absurd (cc)

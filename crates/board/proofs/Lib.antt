@@ -2,6 +2,7 @@ pub mod After
 pub mod Answering
 pub mod Apart
 pub mod Assembled
+pub mod Begun
 pub mod BlockedBy
 pub mod Changes
 pub mod Counting

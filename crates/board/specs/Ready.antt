@@ -27,6 +27,10 @@ pub record IsNext (b : Seen) (kind : Kind) (number : ℕ) : Type 0 where
   pub number_is : item.number ≡ number
   pub first : (other : CodeItem) → IsReady b other → task_kind b.code other.task ≡ kind → ¬ Precedes b other item
 
+-- an item of this number is there, and is of this kind
+abbrev pub HasKind : Seen → (number : ℕ) → Kind → Type 0
+HasKind b number kind = (item : CodeItem) × In item b.state.items × (item.number ≡ number) × (kind ≡ task_kind b.code item.task)
+
 -- the item of this number is the first of all that can begin
 pub record IsFirst (b : Seen) (number : ℕ) : Type 0 where
   pub going : IsGoing b

@@ -14,7 +14,7 @@ ghost use Rattle.board.specs.Board.{Seen, AreByWorkers, IsWorker, IsGoing, Accep
 ghost use Rattle.board.specs.declared.refusal.Refusal.TheVariants.{Memory};
 ghost use Rattle.board.specs.Numbers.{AreNumbered};
 ghost use Rattle.board.specs.Stored.{AreSoMany};
-ghost use Rattle.board.specs.Ready.{AreReady, IsFirst, IsNext, IsReady};
+ghost use Rattle.board.specs.Ready.{AreReady, HasKind, IsFirst, IsNext, IsReady};
 ghost use Rattle.board.specs.Blocked.{AreBlocked, IsFaultOf};
 ghost use Rattle.dataflow.specs.System.{In};
 
@@ -108,15 +108,6 @@ fn code_kind(kind: work_queue::entry::Kind) -> Kind
         work_queue::entry::Kind::Control => Kind::Control,
         work_queue::entry::Kind::Leaf => Kind::Leaf,
     }
-}
-
-/// The list, emptied, with the room that it has.
-fn emptied(list: Vec<Answer>) -> Vec<Answer>
-    ensures { result.items ≡ [] }
-{
-    let mut list = list;
-    list.clear();
-    list
 }
 
 impl Board {
@@ -248,69 +239,6 @@ impl Board {
         Ok(())
     }
 
-    /// Begins the item on the worker as `begin` does, and hands out the answers to its needs alone.
-    fn start(&mut self, worker: u8, item: u64) -> Result<Vec<Answer>, Refusal>
-        requires { IsWorker worker }
-        ensures accepted { OnOk result (Accepts self.old (Machine.Begin worker item) self.new) }
-        ensures own { IfOk result (λ answers. (work : Assigned) × (work.item ≡ item) × (work.answers ≡ answers_view answers.items) × IsOwn self.new worker work) }
-        ensures refused { IfErr result (λ e. RefusesBegin self.old item e) }
-        ensures unchanged { OnErr result (self.new ≡ self.old) }
-    {
-        if !self.is_going() {
-            return Err(Refusal::Ended);
-        }
-        let Some(job) = self.core.ready_job(item) else {
-            return Err(Refusal::NotReady);
-        };
-        let Ok(()) = self.core.sort_arrays(&self.program, job) else {
-            return Err(Refusal::Memory);
-        };
-        let list = replace(&mut self.answers, Vec::new(self.core.alloc));
-        let Ok(answers) = self.core.answers_of(&self.program, job, list) else {
-            return Err(Refusal::Memory);
-        };
-        // Room for this event, and for the next one of each item that runs.
-        let Ok(()) = self
-            .history
-            .reserve(self.core.items.running.saturating_add(2))
-        else {
-            return Err(Refusal::Memory);
-        };
-        self.core.begin(&self.program, worker, item, job);
-        self.history.push_reserved(Event::Begin { worker, item });
-        Ok(answers)
-    }
-
-    /// Computes the item from the answers to its needs, and ends it on the worker, where it runs. It says whether the board took the
-    /// end, which it refuses where it has ended.
-    fn finish(&mut self, worker: u8, item: u64, answers: Vec<Answer>) -> Result<bool, AllocError>
-        requires worker { IsWorker worker }
-        requires own { (work : Assigned) × (work.item ≡ item) × (work.answers ≡ answers_view answers.items) × IsOwn self.old worker work }
-        ensures ends { IfOk result (λ taken. MatchBool taken (Accepts self.old (Machine.End worker item) self.new) ((self.new ≡ self.old) × ¬ IsGoing self.old)) }
-        ensures unchanged { OnErr result (self.new ≡ self.old) }
-    {
-        if !self.is_going() {
-            return Ok(false);
-        }
-        let Some(job) = self.core.running_job(worker, item) else {
-            unreachable!();
-        };
-        let Ok(()) = self.core.end_from(
-            &self.program,
-            self.most_names,
-            item,
-            job,
-            answers.as_slice(),
-            &mut self.known,
-        )
-        else {
-            return Err(AllocError);
-        };
-        self.history.push_reserved(Event::End { worker, item });
-        self.answers = emptied(answers);
-        Ok(true)
-    }
-
     /// Begins the item on the worker, computes it and ends it: as `begin`, `Work::compute` and `end` do, where nobody else looks at
     /// the work. Answers whether it has ended: where the limit was reached between the two events, it has begun alone.
     ///
@@ -322,11 +250,40 @@ impl Board {
         ensures performed { IfOk result (λ ended. MatchBool ended ((mid : Seen) × Accepts self.old (Machine.Begin worker item) mid × Accepts mid (Machine.End worker item) self.new) (Accepts self.old (Machine.Begin worker item) self.new × ¬ IsGoing self.new)) }
         ensures refused { IfErr result (λ e. ((self.new ≡ self.old) × RefusesBegin self.old item e) ⊎ (Accepts self.old (Machine.Begin worker item) self.new × (e ≡ Memory))) }
     {
-        let answers = self.start(worker, item)?;
-        match self.finish(worker, item, answers) {
-            Ok(ended) => Ok(ended),
-            Err(_) => Err(Refusal::Memory),
+        if !self.is_going() {
+            return Err(Refusal::Ended);
         }
+        let Some(job) = self.core.ready_job(item) else {
+            return Err(Refusal::NotReady);
+        };
+        let Ok(()) = self.core.answer(&self.program, job, &mut self.answers) else {
+            return Err(Refusal::Memory);
+        };
+        // Room for this event, and for the next one of each item that runs.
+        let Ok(()) = self
+            .history
+            .reserve(self.core.items.running.saturating_add(2))
+        else {
+            return Err(Refusal::Memory);
+        };
+        self.core.begin(&self.program, worker, item, job);
+        self.history.push_reserved(Event::Begin { worker, item });
+        if !self.is_going() {
+            return Ok(false);
+        }
+        let Ok(()) = self.core.end_from(
+            &self.program,
+            self.most_names,
+            item,
+            job,
+            self.answers.as_slice(),
+            &mut self.known,
+        )
+        else {
+            return Err(Refusal::Memory);
+        };
+        self.history.push_reserved(Event::End { worker, item });
+        Ok(true)
     }
 
     /// Gives the item back: it runs no more. Takes no memory.
@@ -470,7 +427,7 @@ impl Board {
     /// Who runs the item of this number, where there is one that has not ended.
     pub fn kind(&self, item: u64) -> Option<Kind>
         ensures none { IfNone result ((i : CodeItem) → In i self.now.state.items → i.number ≡ item → ⊥) }
-        ensures some { IfSome result (λ kind. (i : CodeItem) × In i self.now.state.items × (i.number ≡ item) × (kind_view kind ≡ task_kind self.now.code i.task)) }
+        ensures some { IfSome result (λ kind. HasKind self.now item (kind_view kind)) }
     {
         let Some(found) = item_of(self.core.items.rows.as_slice(), item) else {
             return None;
@@ -496,11 +453,12 @@ impl Board {
         self.core.items.queue.first(queue_kind(kind))
     }
 
-    /// The first item that can begin, of either kind: of the greatest priority, and then of the smallest number. None after a
+    /// The first item that can begin, with who runs it: of the greatest priority, and then of the smallest number. None after a
     /// fault or at the limit. Takes no memory.
-    pub fn first(&self) -> Option<u64>
+    pub fn first(&self) -> Option<(Kind, u64)>
         ensures none { IfNone result (IsGoing self.now → (i : CodeItem) → IsReady self.now i → ⊥) }
-        ensures some { IfSome result (λ number. IsFirst self.now number) }
+        ensures some { IfSome result (λ found. IsFirst self.now found.1) }
+        ensures kind { IfSome result (λ found. HasKind self.now found.1 (kind_view found.0)) }
     {
         if !self.is_going() {
             return None;
@@ -511,13 +469,13 @@ impl Board {
         match (control, leaf) {
             (Some(control), Some(leaf)) => {
                 if leaf.precedes(&control) {
-                    Some(leaf.no)
+                    Some((Kind::Leaf, leaf.no))
                 } else {
-                    Some(control.no)
+                    Some((Kind::Control, control.no))
                 }
             }
-            (Some(control), None) => Some(control.no),
-            (None, Some(leaf)) => Some(leaf.no),
+            (Some(control), None) => Some((Kind::Control, control.no)),
+            (None, Some(leaf)) => Some((Kind::Leaf, leaf.no)),
             (None, None) => None,
         }
     }

@@ -1,5 +1,5 @@
 //! The work of an item, and whether work was done for it.
-ghost use Rattle.std.specs.Prelude.{◌≡◌, ◌<◌, ◌↔◌, IfOk, IsTrue, length};
+ghost use Rattle.std.specs.Prelude.{◌≡◌, ◌<◌, ◌↔◌, IfOk, OnOk, IsTrue, length};
 ghost use Rattle.replayed.specs.Fields.{Job as PureJob};
 ghost use Rattle.task_code.specs.Code.{Code};
 ghost use Rattle.board_data.specs.View.{cells_view};
@@ -53,15 +53,17 @@ impl Core {
         Ok(())
     }
 
-    /// The answers to the needs of an item of this job, in the list, whatever was in it.
-    pub fn answers_of(
-        &self,
+    /// The answers to the needs of an item of this job, in the list, whatever was in it. Arrays that it waited for are laid first, as
+    /// `sort_arrays` does.
+    pub fn answer(
+        &mut self,
         program: &Program,
         job: Job,
-        list: Vec<Answer>,
-    ) -> Result<Vec<Answer>, AllocError>
+        list: &mut Vec<Answer>,
+    ) -> Result<(), AllocError>
         requires { IsThere program.now (job_view job) }
-        ensures { IfOk result (λ found. answers_view found.items ≡ answers_at program.now (frames_view self.now.world.instances.slots) (cells_view self.now.world.store.cells) (job_view job)) }
+        ensures same { self.new ≡ self.old }
+        ensures answers { OnOk result (answers_view list.new.items ≡ answers_at program.now (frames_view self.old.world.instances.slots) (cells_view self.old.world.store.cells) (job_view job)) }
     {
         if let Job::Does {
             instance,
@@ -70,10 +72,15 @@ impl Core {
         } = job
         {
             if let Some(table) = program.entry(entry) {
-                return answers(list, self.view(program, instance), table.needs.as_slice());
+                let needs = table.needs.as_slice();
+                if table.closed {
+                    self.sort_each(instance, needs)?;
+                }
+                return answers(list, self.view(program, instance), needs);
             }
         }
-        Ok(Vec::new(self.alloc))
+        list.clear();
+        Ok(())
     }
 
     /// The work of the item of a number, which has this job, with the answers in the list, whatever was in it.
@@ -99,7 +106,8 @@ impl Core {
                 program.entry(entry),
             ) {
                 let view = self.view(program, instance);
-                let found = answers(list, view, table.needs.as_slice())?;
+                let mut found = list;
+                answers(&mut found, view, table.needs.as_slice())?;
                 return Ok(Work::new(number, Task::Entry(shared), found));
             }
         }

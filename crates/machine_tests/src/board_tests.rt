@@ -153,11 +153,13 @@ fn an_own_item_ends(rt: HostRuntime) {
     has_opened(&rt, &board);
 }
 
-/// An item is performed by one call as by three, and once.
+/// An item is performed by one call as by three, and once. The first that can begin is shown with who runs it.
 #[test]
 fn an_item_is_performed(rt: HostRuntime) {
     let mut board = hello_board(&rt, rt.alloc(), 100);
+    is_equal(&rt, board.first(), Some((Kind::Control, 1)));
     is_equal(&rt, board.perform(3, 1), Ok(true));
+    is_equal(&rt, board.first(), Some((Kind::Leaf, 2)));
     has_opened(&rt, &board);
     is_equal(&rt, board.perform(3, 1), Err(Refusal::NotReady));
     is_equal(&rt, board.perform(2, 2), Ok(true));

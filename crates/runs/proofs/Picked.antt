@@ -53,6 +53,6 @@ none_listed b [] ready e = λ i is. not_listed ready.items i ready.numbers_are (
 none_listed b (n ∷ numbers) ready e = absurd (cc (e))
 
 -- where the first is looked for and there is none, none can begin
-pub none_first : (b : Seen) (found : Option ℕ) → IsGoing b → IfNone found (IsGoing b → NoneReady b) → IfNone found (NoneReady b)
+pub none_first : {A : Type 0} (b : Seen) (found : Option A) → IsGoing b → IfNone found (IsGoing b → NoneReady b) → IfNone found (NoneReady b)
 none_first b None going none = none going
-none_first b (Some number) going none = tt
+none_first b (Some item) going none = tt

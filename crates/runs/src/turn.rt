@@ -3,6 +3,7 @@ ghost use Rattle.std.specs.Prelude.{◌≡◌, ◌<◌, ◌%◌, length, slice_i
 ghost use Rattle.dataflow.specs.Machine.{Begin, End};
 ghost use Rattle.task_code.specs.View.{kind_view};
 ghost use Rattle.board.specs.Board.{Accepts, IsGoing, IsOwn, IsWorker, MayBegin, Seen};
+ghost use Rattle.board.specs.Ready.{HasKind};
 ghost use Rattle.runs.specs.Turns.{IsChosen, IsNamed, NoneReady, TurnsTo, worker_for};
 
 use board::board::Board;
@@ -29,11 +30,8 @@ pub(crate) fn make_turn(board: &mut Board, choice: Option<u32>) -> Result<Turn, 
     if !board.is_going() {
         return Ok(Turn::Nothing);
     }
-    let Some(item) = named(board, choice)? else {
+    let Some((kind, item)) = named(board, choice)? else {
         return Ok(Turn::Nothing);
-    };
-    let Some(kind) = board.kind(item) else {
-        unreachable!();
     };
     let worker = worker_of(kind);
     if perform(board, worker, item)? {
@@ -43,10 +41,11 @@ pub(crate) fn make_turn(board: &mut Board, choice: Option<u32>) -> Result<Turn, 
     }
 }
 
-/// The item that the choice names, of a board that has not ended.
-fn named(board: &Board, choice: Option<u32>) -> Result<Option<u64>, AllocError>
+/// The item that the choice names, of a board that has not ended, with who runs it.
+fn named(board: &Board, choice: Option<u32>) -> Result<Option<(Kind, u64)>, AllocError>
     requires going { IsGoing board.now }
-    ensures some { IfOk result (λ found. IfSome found (IsNamed board.now choice)) }
+    ensures some { IfOk result (λ found. IfSome found (λ item. IsNamed board.now choice item.1)) }
+    ensures kind { IfOk result (λ found. IfSome found (λ item. HasKind board.now item.1 (kind_view item.0))) }
     ensures none { IfOk result (λ found. IfNone found (NoneReady board.now)) }
 {
     match choice {
@@ -55,16 +54,21 @@ fn named(board: &Board, choice: Option<u32>) -> Result<Option<u64>, AllocError>
     }
 }
 
-/// The item at the place that the choice names, counted round those that can begin.
-fn chosen(board: &Board, choice: u32) -> Result<Option<u64>, AllocError>
-    ensures some { IfOk result (λ found. IfSome found (IsChosen board.now choice)) }
+/// The item at the place that the choice names, counted round those that can begin, with who runs it.
+fn chosen(board: &Board, choice: u32) -> Result<Option<(Kind, u64)>, AllocError>
+    ensures some { IfOk result (λ found. IfSome found (λ item. IsChosen board.now choice item.1)) }
+    ensures kind { IfOk result (λ found. IfSome found (λ item. HasKind board.now item.1 (kind_view item.0))) }
     ensures none { IfOk result (λ found. IfNone found (NoneReady board.now)) }
 {
     let ready = board.ready_items()?;
     if ready.is_empty() {
         return Ok(None);
     }
-    Ok(Some(pick(&ready, choice)))
+    let item = pick(&ready, choice);
+    match board.kind(item) {
+        Some(kind) => Ok(Some((kind, item))),
+        None => unreachable!(),
+    }
 }
 
 /// The number at that place, counted round.

@@ -1,14 +1,7 @@
 use Rattle.std.proofs.Common.{rules}
-use Rattle.board.specs.Board.{MayBegin}
 use Rattle.runs.specs.Turns.{IsNamed}
 use Rattle.runs.proofs.Picked.{named_can_begin}
 use Rattle.runs.proofs.turn.make_turn.Goals as goal
-
-pub unreachable-requires : goal.unreachable-requires
-unreachable-requires c =
-    let named : IsNamed c.args.board.now c.args.choice c.in-Some.item = search rules in
-    let can : MayBegin c.args.board.now c.in-Some.item = named_can_begin c.args.board.now c.args.choice c.in-Some.item named in
-    c.in_default-kind.ensures.none can.item can.there can.number_is
 
 pub perform-requires-clause-can : goal.perform-requires-clause-can
 perform-requires-clause-can c =
