@@ -10,6 +10,7 @@ ghost use Rattle.entry_outcomes.specs.View.{answers_view};
 ghost use Rattle.entry_outcomes.specs.Outcome.{in_front};
 
 use crate::answer::{Answer, value_at};
+use crate::numbers::value_of_numbers;
 use std::alloc::{AllocError, Global};
 use task_code::expr::Expr;
 use values::fault::OpFault;
@@ -28,6 +29,9 @@ pub fn evaluate(
 ) -> Result<Result<Value, OpFault>, AllocError>
     ensures { IfOk result (λ outcome. outcome ≡ eval (answers_view answers.now) (expr_view expr.now)) }
 {
+    if let Some(value) = value_of_numbers(expr, answers) {
+        return Ok(Ok(value));
+    }
     apart_from_memory(value_of(alloc, expr, answers))
 }
 

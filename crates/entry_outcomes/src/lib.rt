@@ -3,5 +3,6 @@
 
 pub mod answer;
 pub mod evaluation;
+mod numbers;
 pub mod outcome;
 pub mod same;
