@@ -29,7 +29,7 @@ use Rattle.board.specs.declared.state.Core.{Core}
 use Rattle.board.proofs.Queues.{queue_kept}
 
 none_rising : (s : Store) → s.cells ≡ [] → AreRising s
-none_rising s e d = subst (λ (cs : List (Option Datum)). rising (array_at (record { cells = cs; room = s.room }) d).elements ≡ true) (sym e) refl
+none_rising s e d = subst (λ (cs : List (Option Datum)). rising (array_at (record { cells = cs; room = s.room; bound = s.bound }) d).elements ≡ true) (sym e) refl
 
 none_few : FewSlots (frames_view [])
 none_few k f h = none_some h

@@ -1,5 +1,5 @@
 -- Data that are made for the variables of an instance.
-use Rattle.std.proofs.Common.{◌≡◌, ◌∙◌, refl, sym, ap, subst, ℕ, ◌≤◌, ◌+◌, ◌-◌, option_map, Some, None, arith}
+use Rattle.std.proofs.Common.{◌≡◌, ◌∙◌, refl, sym, ap, subst, Bool, true, false, ℕ, ◌≤◌, ◌+◌, ◌-◌, option_map, Some, None, arith}
 use Rattle.std.specs.Prelude.{if◌then◌else◌}
 use Rattle.data_store.specs.Arrays as arrays
 use Rattle.data_store.specs.Data.{nothing, with_value}
@@ -37,6 +37,14 @@ made_given old mid d r w v a = subst (λ s. Makes old (record { content = OfScal
       others = λ e n. set_elsewhere mid d e (option_map (with_value v) (at mid d)) n ∙ a.others e n;
       room = subst (λ n. old.room ≤ n + 1) (sym a.room) (less old.room);
     }
+
+-- the bound stays
+pub bound_given : (d : ℕ) (v : Scalar) (s : Store) → (given d v s).bound ≡ s.bound
+bound_given d v s = by (is_unset (at s d))
+  where
+    by : (b : Bool) → (if b then changed d (with_value v) s else s).bound ≡ s.bound
+    by true = refl
+    by false = refl
 
 nothing_yet : (k : Shape) → nothing k ≡ started k None
 nothing_yet Single = refl

@@ -1,12 +1,13 @@
 //! Data that are made for the variables of an instance.
 
-ghost use Rattle.std.specs.Prelude.{◌≡◌, ◌≢◌, ◌<◌, ◌≤◌, ◌+◌, ℕ, length, IfOk, IsOk, OnErr, OnOk};
+ghost use Rattle.std.specs.Prelude.{◌≡◌, ◌≢◌, ◌<◌, ◌≤◌, ◌+◌, ◌^◌, ℕ, length, IfOk, IsOk, OnOk};
 ghost use Rattle.board_data.specs.Data.{AreRising};
 ghost use Rattle.board_data.specs.Made.{DataMade, Makes, new_datum, slot_in, start_at};
+ghost use Rattle.board_frames.specs.declared.instance.Slot.TheVariants.{Absent};
 
 use crate::data;
 use board_code::program::Own;
-use board_frames::instance::Slot;
+use board_frames::packed::PackedSlot;
 use data_store::store::Store;
 use std::alloc::AllocError;
 use values::value::Scalar;
@@ -37,26 +38,26 @@ impl Starts {
 }
 
 /// A new datum, with a value if there is one, unless nobody may read or write it.
-#[tactic(auto, using(crate::proofs::Made::made_with, crate::proofs::Made::made_without))]
-fn make_datum(store: &mut Store, own: Own, value: Option<Scalar>) -> Result<Slot, AllocError>
-    ensures absent { own.reads + own.writes ≡ 0 → IfOk result (λ slot. slot ≡ Slot.Absent) }
+#[tactic(auto, using(crate::proofs::Made::bound_given, crate::proofs::Made::made_with, crate::proofs::Made::made_without))]
+fn make_datum(store: &mut Store, own: Own, value: Option<Scalar>) -> Result<PackedSlot, AllocError>
+    ensures absent { own.reads + own.writes ≡ 0 → IfOk result (λ slot. slot ≡ Absent) }
     ensures same { own.reads + own.writes ≡ 0 → store.new ≡ store.old }
     ensures made { 0 < own.reads + own.writes → IfOk result (λ slot. Makes store.old (new_datum own value) slot store.new) }
-    ensures succeeds { 0 < store.old.room → IsOk result }
-    ensures err { OnErr result (store.new ≡ store.old) }
+    ensures bound { 0 < store.old.room → store.new.bound ≡ store.old.bound }
+    ensures succeeds { 0 < store.old.room → store.old.bound ≤ 2 ^ 32 → IsOk result }
 {
     if own.reads == 0 && own.writes == 0 {
-        return Ok(Slot::Absent);
+        return Ok(PackedSlot::absent());
     }
     let d = store.new_cell(own.shape, own.reads, own.writes)?;
     if let Some(value) = value {
         data::put(store, d, value);
     }
-    Ok(Slot::Datum(d))
+    PackedSlot::datum(d)
 }
 
 /// Makes the data of an instance's own variables, and puts them into its first slots. Makes no refusal where there is room for
-/// as many data as variables.
+/// as many data as variables, and their numbers are of 32 bits.
 ///
 /// # Errors
 ///
@@ -65,12 +66,13 @@ fn make_datum(store: &mut Store, own: Own, value: Option<Scalar>) -> Result<Slot
 pub fn make_data(
     store: &mut Store,
     own: &[Own],
-    slots: &mut [Slot],
+    slots: &mut [PackedSlot],
     starts: Starts,
 ) -> Result<(), AllocError>
     ensures made { length own.now ≤ length slots.old → OnOk result (DataMade own.now (start_at starts) (length own.now) store.old slots.new store.new) }
     ensures others { (i : ℕ) → length own.now ≤ i → slot_in slots.new i ≡ slot_in slots.old i }
-    ensures succeeds { length own.now ≤ store.old.room → IsOk result }
+    ensures bound { OnOk result (length own.now ≤ store.old.room → store.new.bound ≡ store.old.bound) }
+    ensures succeeds { length own.now ≤ store.old.room → store.old.bound ≤ 2 ^ 32 → IsOk result }
     ensures rising { OnOk result (AreRising store.old → AreRising store.new) }
 {
     let mut starts = starts;

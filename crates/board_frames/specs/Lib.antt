@@ -3,6 +3,7 @@ pub mod Names
 pub mod Nested
 pub mod Openings
 pub mod Outer
+pub mod Packed
 pub mod Passing
 pub mod Turns
 pub mod View

@@ -8,6 +8,7 @@ ghost use Rattle.board_frames.specs.Nested.{IsNested};
 ghost use Rattle.board_frames.specs.View.{frame_view, frames_view, slot_view, step_view};
 
 use crate::outer::{Outer, Way};
+use crate::packed::PackedSlot;
 use crate::place::Step;
 use board_code::spot::Spot;
 use slab::Slab;
@@ -23,17 +24,11 @@ pub enum Slot {
     Literal(u32, usize),
 }
 
-impl Default for Slot {
-    fn default() -> Slot {
-        Slot::Absent
-    }
-}
-
 /// So many slots lie in an instance itself.
-pub(crate) const INLINE_SLOTS: usize = 4;
+pub(crate) const INLINE_SLOTS: usize = 6;
 
 /// What the names of an instance stand for: first the variables of its block, then the parameters of its function.
-pub type Slots = SmallVec<Slot, INLINE_SLOTS>;
+pub type Slots = SmallVec<PackedSlot, INLINE_SLOTS>;
 
 /// An instance of a block.
 #[derive(Drop)]
@@ -77,7 +72,7 @@ fn slot_in(instance: &Instance, slot: usize) -> Slot
 {
     let slots = instance.slots.as_slice();
     if slot < slots.len() {
-        slots[slot]
+        slots[slot].slot()
     } else {
         Slot::Absent
     }

@@ -6,6 +6,7 @@ pub mod item;
 pub mod laws;
 pub mod opening;
 pub mod outer;
+pub mod packed;
 pub mod place;
 pub mod placing;
 pub mod turns;

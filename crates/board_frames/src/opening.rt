@@ -7,6 +7,7 @@ ghost use Rattle.board_frames.specs.View.{frame_view, frames_view, slot_view, st
 
 use crate::instance::{INLINE_SLOTS, Instance, Slot, Slots, slot_at};
 use crate::outer::{Outer, Way};
+use crate::packed::PackedSlot;
 use crate::place::Step;
 use board_code::program::{Passed, Program};
 use rules::input::Input;
@@ -70,7 +71,8 @@ fn push_parameters(
     ensures { OnOk result (map slot_view slots.new.items ≡ map slot_view slots.old.items ++ passed_from (frames_view around.entry.instances.now.slots) around.entry.at call 0 arguments.now) }
 {
     for place in 0..arguments.len() {
-        slots.push(handed(around, call, place, arguments[place]))?;
+        let slot = handed(around, call, place, arguments[place]);
+        slots.push(PackedSlot::of(slot)?)?;
     }
     Ok(())
 }
@@ -85,7 +87,7 @@ fn empty_slots(alloc: Global, own: usize, more: usize) -> Result<Slots, AllocErr
         slots.reserve_exact(all)?;
     }
     for place in 0..own {
-        slots.push(Slot::Absent)?;
+        slots.push(PackedSlot::absent())?;
     }
     Ok(slots)
 }

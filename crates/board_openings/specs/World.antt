@@ -1,5 +1,5 @@
 -- What an End does to instances and data, step by step.
-use Rattle.std.specs.Prelude.{◌≡◌, ◌≤◌, ◌+◌, ◌*◌, vec_len, vec_capacity, ℕ, Bool, true, false, List, [], ◌∷◌, ◌++◌, length, map, Option, Some, None, IsSome}
+use Rattle.std.specs.Prelude.{◌≡◌, ◌≤◌, ◌+◌, ◌*◌, ◌^◌, vec_len, vec_capacity, ℕ, Bool, true, false, List, [], ◌∷◌, ◌++◌, length, map, Option, Some, None, IsSome}
 use Rattle.std.proofs.Common.{Vec, Global}
 use Rattle.dataflow.specs.System.{In}
 use Rattle.data_store.specs.Stores.{Store}
@@ -96,6 +96,7 @@ module _ (C : Code) where
   pub record HasRoom (j : Job) (o : Openings) (instances : Slab Instance) (s : Store) (rows : Vec Item Global) : Type 0 where
     pub slots : (x : OneOpening) → In x o.list.items → HasSlots (length (own_of C o.body)) x
     pub data_room : vec_len o.list * length (own_of C o.body) ≤ s.room
+    pub data_numbers : s.bound ≤ 2 ^ 32
     pub instances_room : HasRoomFor instances (vec_len o.list)
     pub rows_room : vec_len rows + (vec_len o.list * length (body C o.body).entries + more_of o.goes_on) ≤ vec_capacity rows
     pub goes : CanGoOn j o.goes_on

@@ -1,5 +1,5 @@
 //! The data of instances that are still to be placed.
-ghost use Rattle.std.specs.Prelude.{◌≡◌, ◌+◌, ◌*◌, ◌≤◌, ℕ, length, vec_len, IsOk, OnOk};
+ghost use Rattle.std.specs.Prelude.{◌≡◌, ◌+◌, ◌*◌, ◌≤◌, ◌^◌, ℕ, length, vec_len, IsOk, OnOk};
 ghost use Rattle.dataflow.specs.System.{In};
 ghost use Rattle.board_data.specs.Data.{AreRising};
 ghost use Rattle.board_frames.specs.declared.opening.Opening.{Opening as AnOpening};
@@ -28,7 +28,8 @@ fn fill(
     ensures filled { OnOk result (Fills own.now slots opening.old store.old opening.new store.new) }
     ensures room { OnOk result (HasSlots (length own.now) opening.old → store.old.room ≤ store.new.room + length own.now) }
     ensures rising { OnOk result (AreRising store.old → AreRising store.new) }
-    ensures succeeds { length own.now ≤ store.old.room → IsOk result }
+    ensures bound { OnOk result (length own.now ≤ store.old.room → store.new.bound ≡ store.old.bound) }
+    ensures succeeds { length own.now ≤ store.old.room → store.old.bound ≤ 2 ^ 32 → IsOk result }
 {
     let starts = Starts {
         value_at: slots.value,
@@ -39,7 +40,8 @@ fn fill(
     make_data(store, own, opening.instance.slots.as_mut_slice(), starts)
 }
 
-/// Makes the data of all these instances, one after the other. Makes no refusal where there is room for so many data.
+/// Makes the data of all these instances, one after the other. Makes no refusal where there is room for so many data and their numbers
+/// are of 32 bits.
 ///
 /// # Errors
 ///
@@ -53,7 +55,7 @@ pub fn fill_all(
     ensures filled { OnOk result (AreFilled own.now slots list.old.items store.old list.new.items store.new) }
     ensures len { vec_len list.new ≡ vec_len list.old }
     ensures rising { OnOk result (AreRising store.old → AreRising store.new) }
-    ensures succeeds { ((o : AnOpening) → In o list.old.items → HasSlots (length own.now) o) → vec_len list.old * length own.now ≤ store.old.room → IsOk result }
+    ensures succeeds { ((o : AnOpening) → In o list.old.items → HasSlots (length own.now) o) → vec_len list.old * length own.now ≤ store.old.room → store.old.bound ≤ 2 ^ 32 → IsOk result }
 {
     for at in 0..list.len() {
         if let Some(opening) = list.get_mut(at) {

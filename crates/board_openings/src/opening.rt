@@ -113,6 +113,7 @@ pub fn open_all(
     ensures capacity { vec_capacity rows.old ≤ vec_capacity rows.new }
     ensures succeeds { ((o : AnOpening) → In o openings.list.items → HasSlots (length (own_of program.now openings.body)) o) →
         vec_len openings.list * length (own_of program.now openings.body) ≤ store.old.room →
+        store.old.bound ≤ 2 ^ 32 →
         HasRoomFor instances.old (vec_len openings.list) →
         vec_len rows.old + vec_len openings.list * length (body_at program.now openings.body).entries ≤ vec_capacity rows.old → IsOk result }
 {

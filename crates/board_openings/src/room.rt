@@ -14,6 +14,9 @@ use board_frames::opening::Openings;
 use rules::input::Input;
 use std::alloc::AllocError;
 
+/// So many data have numbers of 32 bits. More than that are more than memory has room for.
+const MOST_DATA: usize = 4_294_967_296;
+
 impl Change {
     /// How much of what it stores becomes known.
     fn told(&self) -> usize
@@ -78,6 +81,9 @@ impl World {
             .ok_or(AllocError)?;
         let more = items.checked_add(1).ok_or(AllocError)?;
         self.store.reserve_cells(data)?;
+        if self.store.bound() > MOST_DATA {
+            return Err(AllocError);
+        }
         self.instances.reserve(count)?;
         rows.reserve(more)
     }

@@ -10,6 +10,7 @@ use board_data::making::{Starts, make_data};
 use board_data::storing::{store_all, store_element, store_value};
 use board_data::wanted::View;
 use board_frames::instance::Slot;
+use board_frames::packed::PackedSlot;
 use board_openings::world::World;
 use data_store::store::{Shape, Store};
 use entry_outcomes::answer::Answer;
@@ -233,7 +234,7 @@ fn own(reads: u64) -> Own {
 }
 
 /// Makes the data of three variables, the third of which is a turn's.
-fn make_three(rt: &impl Abort, store: &mut Store, slots: &mut [Slot]) {
+fn make_three(rt: &impl Abort, store: &mut Store, slots: &mut [PackedSlot]) {
     let starts = Starts {
         value_at: None,
         value: None,
@@ -248,9 +249,14 @@ fn make_three(rt: &impl Abort, store: &mut Store, slots: &mut [Slot]) {
 #[test]
 fn data_are_made_for_variables(rt: HostRuntime) {
     let mut store = Store::new(rt.alloc());
-    let mut slots = [Slot::Absent, Slot::Absent, Slot::Absent];
+    let mut slots = [
+        PackedSlot::absent(),
+        PackedSlot::absent(),
+        PackedSlot::absent(),
+    ];
     make_three(&rt, &mut store, &mut slots);
+    let made = [slots[0].slot(), slots[1].slot(), slots[2].slot()];
     let wanted = [Slot::Datum(0), Slot::Absent, Slot::Datum(1)];
-    assert!(rt; slots.as_slice() == wanted.as_slice());
+    assert!(rt; made.as_slice() == wanted.as_slice());
     assert!(rt; matches!(data::value(&store, 1), Some(Scalar::Number(8))));
 }

@@ -7,6 +7,7 @@ use board_frames::instance::{Slot, datum_at, enter, leave, path_of, slot_at};
 use board_frames::item::{Item, Mark, item_of, mark_item};
 use board_frames::opening::{Around, Opening, inner, outermost};
 use board_frames::outer::{Outer, Way};
+use board_frames::packed::PackedSlot;
 use board_frames::place::Step;
 use board_frames::placing::{go_on, place_all};
 use board_frames::turns::{Site, push_block, push_elements, push_range};
@@ -45,6 +46,30 @@ fn names_have_data(rt: &impl Abort, world: &World) {
     );
     is_equal(rt, datum_at(instances, 0, Some(FIRST)), Some(0));
     is_equal(rt, datum_at(instances, 0, None), None);
+}
+
+/// What a slot stands for that was packed, if there is memory for so great numbers.
+fn repacked(slot: Slot) -> Option<Slot> {
+    match PackedSlot::of(slot) {
+        Ok(packed) => Some(packed.slot()),
+        Err(_) => None,
+    }
+}
+
+#[test]
+fn a_slot_is_packed(rt: HostRuntime) {
+    let slots = [
+        Slot::Absent,
+        Slot::Datum(4_294_967_295),
+        Slot::Literal(7, 2),
+    ];
+    for slot in slots {
+        is_equal(&rt, repacked(slot), Some(slot));
+    }
+    is_equal(&rt, repacked(Slot::Datum(4_294_967_296)), None);
+    is_equal(&rt, repacked(Slot::Literal(7, 4_294_967_294)), None);
+    assert!(rt; PackedSlot::datum(4_294_967_296).is_err());
+    is_equal(&rt, PackedSlot::absent().slot(), Slot::Absent);
 }
 
 /// How many steps the path of an instance has.

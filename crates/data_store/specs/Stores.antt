@@ -7,14 +7,15 @@ use Rattle.data_store.specs.declared.datum.Datum.{Datum}
 use Rattle.data_store.specs.declared.datum.Shape.{Shape}
 use Rattle.data_store.specs.Data.{shape_of, IsScalar, IsArray, array_in, value_of, nothing, kept}
 
--- the datum under each number from 0 on, or nothing, and how many further data are sure to find memory
+-- the datum under each number from 0 on, or nothing, how many further data are sure to find memory, and what their numbers are below
 pub record Store : Type 0 where
   pub cells : List (Option Datum)
   pub room : ℕ
+  pub bound : ℕ
 
 -- no data, and no room is promised
 abbrev pub empty : Store
-empty = record { cells = []; room = 0 }
+empty = record { cells = []; room = 0; bound = 0 }
 
 -- the datum under a number
 abbrev pub at : Store → ℕ → Option Datum
@@ -77,6 +78,10 @@ given_up d change s = record s { cells = slice_set s.cells d (kept_after change 
 -- the same data, with room for n or more
 abbrev pub with_room : ℕ → Store → Store
 with_room n s = record s { room = max s.room n }
+
+-- the same data, with another bound
+abbrev pub with_bound : ℕ → Store → Store
+with_bound b s = record s { bound = b }
 
 -- a number that had no datum has this one, and nothing else has changed, but for the room that it took
 pub record Adds (old : Store) (d : ℕ) (x : Datum) (new : Store) : Type 0 where

@@ -4,7 +4,7 @@ ghost use Rattle.values.specs.Maps.{found};
 ghost use Rattle.data_store.specs.Arrays as arrays;
 ghost use Rattle.data_store.specs.Arrays.{with_element};
 ghost use Rattle.data_store.specs.Data.{with_value, with_array, with_holds, without_read, without_write, RefusesPut, RefusesInsert};
-ghost use Rattle.data_store.specs.Stores.{empty, live, shape_at, IsLive, IsScalarAt, IsArrayAt, datum, value_at, array_at, fresh, changed, given_up, with_room, Adds};
+ghost use Rattle.data_store.specs.Stores.{empty, live, shape_at, IsLive, IsScalarAt, IsArrayAt, datum, value_at, array_at, fresh, changed, given_up, with_bound, with_room, Adds};
 
 pub use crate::datum::Shape;
 use crate::datum::{Content, Datum};
@@ -32,7 +32,7 @@ impl Model for Store {
 
     ghost Value = { Store };
 
-    ghost view = { λ s. record { cells = s.cells.slots; room = s.room } };
+    ghost view = { λ s. record { cells = s.cells.slots; room = s.room; bound = s.cells.capacity } };
 
     ghost invariant = { λ s. HasRoom s.cells.slots s.cells.capacity s.room };
 }
@@ -50,9 +50,10 @@ impl Store {
 
     /// Makes the next `n` calls of `new_cell` succeed, whatever lies between them.
     pub fn reserve_cells(&mut self, n: usize) -> Result<(), AllocError>
-        ensures ok { OnOk result (self.new ≡ with_room n self.old) }
+        ensures ok { OnOk result (self.new ≡ with_bound self.new.bound (with_room n self.old)) }
         ensures succeeds { n ≤ self.old.room → IsOk result }
-        ensures err { OnErr result (self.new ≡ self.old) }
+        ensures kept { n ≤ self.old.room → self.new.bound ≡ self.old.bound }
+        ensures err { OnErr result (self.new ≡ with_bound self.new.bound self.old) }
     {
         if self.room < n {
             self.cells.reserve(n)?;
@@ -61,12 +62,21 @@ impl Store {
         Ok(())
     }
 
+    /// What the numbers of the data are below that take the room of `reserve_cells`.
+    pub fn bound(&self) -> usize
+        ensures { result ≡ self.now.bound }
+    {
+        self.cells.capacity()
+    }
+
     /// A new datum without content, under a number that has none.
     pub fn new_cell(&mut self, shape: Shape, reads: u64, writes: u64) -> Result<DatumNo, AllocError>
         requires { 0 < reads + writes }
         ensures ok { IfOk result (λ d. Adds self.old d (fresh shape reads writes) self.new) }
+        ensures below { 0 < self.old.room → IfOk result (λ d. d < self.old.bound) }
+        ensures kept { 0 < self.old.room → self.new.bound ≡ self.old.bound }
         ensures succeeds { 0 < self.old.room → IsOk result }
-        ensures err { OnErr result (self.new ≡ self.old) }
+        ensures err { OnErr result (self.new ≡ with_bound self.new.bound self.old) }
     {
         self.cells.reserve(1)?;
         let content = Content::new(shape);

@@ -212,6 +212,7 @@ fn the_last_hold_frees(rt: HostRuntime) {
     let mut store = no_data(&rt, rt.alloc());
     store.reserve_cells(2).expect(&rt, "memory");
     let d = array(&rt, &mut store, 1);
+    assert!(rt; d < store.bound());
     give_up_all(&rt, &mut store, d);
 }
 

@@ -19,4 +19,5 @@ loop-at-preserved c = (
   (λ i h. c.take-first.ensures.others i (λ e. omega (arith, e, h)) ∙ c.loop-at.invariant.2 i (omega (arith, h))),
   (λ h. room_next _ c.loop-at.store c.make_datum.new.store c.loop-at.at _ c.take-first.result c.in_ok-slot.slot (c.loop-at.invariant.3 h) c.in_ok-slot.ensures.same c.in_ok-slot.ensures.made),
   (λ r. made_rises c.loop-at.store c.make_datum.new.store _ c.take-first.result c.in_ok-slot.slot c.in_ok-slot.ensures.same c.in_ok-slot.ensures.made (c.loop-at.invariant.4 r)),
+  (λ h. c.make_datum.ensures.bound (omega (arith, c.loop-at-test.true, c.loop-at.invariant.3 h)) ∙ c.loop-at.invariant.5 h),
 )

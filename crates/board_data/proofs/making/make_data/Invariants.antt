@@ -10,3 +10,4 @@ invariant-loop-at l =
     × ((i : ℕ) → l.at ≤ i → start_at l.starts i ≡ start_at l.initial.starts i)
     × (length l.own ≤ l.initial.store.room → length l.own ≤ l.store.room + l.at)
     × (AreRising l.initial.store → AreRising l.store)
+    × (length l.own ≤ l.initial.store.room → l.store.bound ≡ l.initial.store.bound)

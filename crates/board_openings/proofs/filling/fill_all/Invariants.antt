@@ -12,3 +12,4 @@ invariant-loop-at l =
     × (vec_len l.list ≡ vec_len l.initial.list)
     × (((o : Opening) → In o l.initial.list.items → HasSlots (length l.own) o) → l.initial.store.room ≤ l.store.room + l.at * length l.own)
     × (AreRising l.initial.store → AreRising l.store)
+    × (((o : Opening) → In o l.initial.list.items → HasSlots (length l.own) o) → vec_len l.initial.list * length l.own ≤ l.initial.store.room → l.store.bound ≡ l.initial.store.bound)
