@@ -139,7 +139,9 @@ impl Pile {
         ensures succeeds { 0 < self.old.room → IsOk result }
         ensures err { OnErr result (self.new ≡ self.old) }
     {
-        self.reserve(1)?;
+        if self.room() == 0 {
+            self.reserve(1)?;
+        }
         if !self.run.put(&entry) {
             self.put_aside(entry);
         }
@@ -150,7 +152,10 @@ impl Pile {
         ensures first { result ≡ first_of self.now.entries }
         ensures foremost { IfSome result (λ e. IsForemost e self.now.entries) }
     {
-        let (of_tree, of_run) = (first_in(&self.tree, self.len), self.run.first());
+        if self.len == 0 {
+            return self.run.first();
+        }
+        let (of_tree, of_run) = (self.tree.first(), self.run.first());
         if leads(&of_tree, &of_run) {
             of_tree
         } else {

@@ -5,8 +5,8 @@ use Rattle.work_queue.proofs.pile.Pile.first.Goals as goal
 
 pub returns-then-leads-clause-first : goal.returns-then-leads-clause-first
 returns-then-leads-clause-first c =
-    let ahead = rw (c.first_in-of_tree.ensures, c.first-of_run.ensures) at c.if-leads.ensures.ahead in
-    rw (← c.self.view_is) (c.first_in-of_tree.ensures ∙ sym (first_of_first _ _ c.self.invariant.kept.in_order c.self.invariant.in_order ahead))
+    let ahead = rw (c.first-of_tree.ensures, c.first-of_run.ensures) at c.if-leads.ensures.ahead in
+    rw (← c.self.view_is) (c.first-of_tree.ensures ∙ sym (first_of_first _ _ c.self.invariant.kept.in_order c.self.invariant.in_order ahead))
 
 pub returns-then-leads-clause-foremost : goal.returns-then-leads-clause-foremost
 returns-then-leads-clause-foremost c =
@@ -15,7 +15,7 @@ returns-then-leads-clause-foremost c =
 
 pub returns-else-leads-clause-first : goal.returns-else-leads-clause-first
 returns-else-leads-clause-first c =
-    let behind = rw (c.first_in-of_tree.ensures, c.first-of_run.ensures) at c.if-leads.ensures.behind in
+    let behind = rw (c.first-of_tree.ensures, c.first-of_run.ensures) at c.if-leads.ensures.behind in
     rw (← c.self.view_is) (c.first-of_run.ensures ∙ sym (first_of_second _ _ c.self.invariant.kept.in_order c.self.invariant.in_order behind))
 
 pub returns-else-leads-clause-foremost : goal.returns-else-leads-clause-foremost
