@@ -99,17 +99,32 @@ fn time_script<R: Clock + Print + Threads + Wait + Sync>(
     }
 }
 
-/// Prints the times of the script of this name with each of its numbers, or of `all` scripts.
+/// Prints the times of the script with this number, or with each of its own.
+fn time_numbers<R: Clock + Print + Threads + Wait + Sync>(
+    rt: &R,
+    alloc: Global,
+    script: Script,
+    number: Option<u32>,
+) -> io::Result<()> {
+    if let Some(number) = number {
+        return time_script(rt, alloc, script, number);
+    }
+    for number in script.numbers {
+        time_script(rt, alloc, script, number)?;
+    }
+    Ok(())
+}
+
+/// Prints the times of the script of this name, or of `all` scripts, with this number, or with each of their own.
 pub fn time<R: Clock + Print + Threads + Wait + Sync>(
     rt: &R,
     alloc: Global,
     name: &str,
+    number: Option<u32>,
 ) -> io::Result<()> {
     for script in SCRIPTS {
         if name == "all" || name == script.name {
-            for number in script.numbers {
-                time_script(rt, alloc, script, number)?;
-            }
+            time_numbers(rt, alloc, script, number)?;
         }
     }
     Ok(())
