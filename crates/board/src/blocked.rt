@@ -251,7 +251,7 @@ impl Core {
     {
         let mut statements = Vec::new(self.alloc);
         for item in &self.items.rows {
-            if let Some((instance, at)) = self.blocked_at(program, *item) {
+            if let Some((instance, at)) = self.blocked_at(program, item.item()) {
                 statements.push(Statement {
                     at,
                     path: path_of(self.alloc, &self.world.instances, instance)?,

@@ -81,8 +81,19 @@ frames_more v frames left rest whole x e h = append_assoc frames (v x ∷ []) (m
 pub room_more : {X : Type 0} (before left : List X) (x : X) (len now cap then : ℕ) → before ≡ x ∷ left → len + length before ≤ cap → now ≡ len + 1 → cap ≤ then → now + length left ≤ then
 room_more before left x len now cap then e a b c = (let l : length before ≡ suc (length left) = ap length e in omega (arith, l, a, b, c))
 
-pub items_more : {X : Type 0} (before left : List X) (x : X) (n len now cap then : ℕ) → before ≡ x ∷ left → len + length before * n ≤ cap → now ≡ len + n → cap ≤ then → now + length left * n ≤ then
-items_more before left x n len now cap then e a b c = (let l : length before * n ≡ n + length left * n = ap (λ k. k * n) (ap length e) ∙ one (length left) n in omega (arith, l, a, b, c))
+-- the items of all of these are those of one and of the others
+all_items : {X : Type 0} (before left : List X) (x : X) (n : ℕ) → before ≡ x ∷ left → length before * n ≡ n + length left * n
+all_items before left x n e = ap (λ k. k * n) (ap length e) ∙ one (length left) n
   where
     one : (k n : ℕ) → suc k * n ≡ n + k * n
     one k n = grind arith
+
+pub items_more : {X : Type 0} (before left : List X) (x : X) (n len now cap then : ℕ) → before ≡ x ∷ left → len + length before * n ≤ cap → now ≡ len + n → cap ≤ then → now + length left * n ≤ then
+items_more before left x n len now cap then e a b c = (let l : length before * n ≡ n + length left * n = all_items before left x n e in omega (arith, l, a, b, c))
+
+-- there is room for the first of them
+pub room_one : {X : Type 0} (before left : List X) (x : X) (len cap : ℕ) → before ≡ x ∷ left → len + length before ≤ cap → len + 1 ≤ cap
+room_one before left x len cap e a = (let l : length before ≡ suc (length left) = ap length e in omega (arith, l, a))
+
+pub items_one : {X : Type 0} (before left : List X) (x : X) (n len cap : ℕ) → before ≡ x ∷ left → len + length before * n ≤ cap → len + n ≤ cap
+items_one before left x n len cap e a = (let l : length before * n ≡ n + length left * n = all_items before left x n e in omega (arith, l, a))

@@ -7,25 +7,24 @@ ghost use Rattle.board_frames.specs.Openings.{ArePlaced, WithMore};
 ghost use Rattle.board_frames.specs.View.{frame_view, frames_view, new_item, opening_frame, rows_view};
 
 use crate::instance::{Instance, enter};
-use crate::item::{Item, Mark};
+use crate::item::PackedItem;
 use crate::opening::Opening;
 use slab::Slab;
 use std::alloc::AllocError;
 
 /// Puts a new item of each entry behind the others.
-fn push_items(items: &mut Vec<Item>, instance: usize, entries: &[u32]) -> Result<(), AllocError>
+fn push_items(
+    items: &mut Vec<PackedItem>,
+    instance: usize,
+    entries: &[u32],
+) -> Result<(), AllocError>
     ensures items { OnOk result (items.new.items ≡ items.old.items ++ map (new_item instance) entries.now) }
     ensures len { OnOk result (vec_len items.new ≡ vec_len items.old + length entries.now) }
     ensures capacity { vec_capacity items.old ≤ vec_capacity items.new }
-    ensures succeeds { vec_len items.old + length entries.now ≤ vec_capacity items.old → IsOk result }
+    ensures succeeds { instance < 2 ^ 32 → vec_len items.old + length entries.now ≤ vec_capacity items.old → IsOk result }
 {
     for entry in entries {
-        items.push(Item::Does {
-            mark: Mark::Waiting,
-            instance,
-            entry: *entry,
-            chunk: 0,
-        })?;
+        items.push(PackedItem::waiting(*entry, instance, 0)?)?;
     }
     Ok(())
 }
@@ -33,7 +32,7 @@ fn push_items(items: &mut Vec<Item>, instance: usize, entries: &[u32]) -> Result
 /// Puts an instance among the others, with its items. Answers with its key.
 fn place(
     instances: &mut Slab<Instance>,
-    items: &mut Vec<Item>,
+    items: &mut Vec<PackedItem>,
     entries: &[u32],
     instance: Instance,
 ) -> Result<usize, AllocError>
@@ -43,7 +42,8 @@ fn place(
     ensures len { OnOk result (slab_len instances.new ≡ slab_len instances.old + 1) }
     ensures lens { OnOk result (vec_len items.new ≡ vec_len items.old + length entries.now) }
     ensures capacity { (instances.old.capacity ≤ instances.new.capacity) × (vec_capacity items.old ≤ vec_capacity items.new) }
-    ensures succeeds { HasRoomFor instances.old 1 → vec_len items.old + length entries.now ≤ vec_capacity items.old → IsOk result }
+    ensures room_kept { HasRoomFor instances.old 1 → instances.new.capacity ≡ instances.old.capacity }
+    ensures succeeds { HasRoomFor instances.old 1 → instances.old.capacity ≤ 2 ^ 32 → vec_len items.old + length entries.now ≤ vec_capacity items.old → IsOk result }
 {
     let key = instances.insert(instance)?;
     push_items(items, key, entries)?;
@@ -53,7 +53,7 @@ fn place(
 /// The same for one whose data are made.
 fn place_opening(
     instances: &mut Slab<Instance>,
-    items: &mut Vec<Item>,
+    items: &mut Vec<PackedItem>,
     entries: &[u32],
     opening: Opening,
 ) -> Result<usize, AllocError>
@@ -63,7 +63,8 @@ fn place_opening(
     ensures len { OnOk result (slab_len instances.new ≡ slab_len instances.old + 1) }
     ensures lens { OnOk result (vec_len items.new ≡ vec_len items.old + length entries.now) }
     ensures capacity { (instances.old.capacity ≤ instances.new.capacity) × (vec_capacity items.old ≤ vec_capacity items.new) }
-    ensures succeeds { HasRoomFor instances.old 1 → vec_len items.old + length entries.now ≤ vec_capacity items.old → IsOk result }
+    ensures room_kept { HasRoomFor instances.old 1 → instances.new.capacity ≡ instances.old.capacity }
+    ensures succeeds { HasRoomFor instances.old 1 → instances.old.capacity ≤ 2 ^ 32 → vec_len items.old + length entries.now ≤ vec_capacity items.old → IsOk result }
 {
     place(instances, items, entries, opening.instance)
 }
@@ -71,13 +72,13 @@ fn place_opening(
 /// Puts these instances among the others, with their items. Answers with the key of the last one.
 fn place_each(
     instances: &mut Slab<Instance>,
-    items: &mut Vec<Item>,
+    items: &mut Vec<PackedItem>,
     entries: &[u32],
     list: Vec<Opening>,
 ) -> Result<Option<usize>, AllocError>
     ensures placed { IfOk result (λ last. ArePlaced (map opening_frame list.items) entries.now (frames_view instances.old.slots) (frames_view instances.new.slots) (rows_view items.old.items) (rows_view items.new.items) last) }
     ensures capacity { vec_capacity items.old ≤ vec_capacity items.new }
-    ensures succeeds { HasRoomFor instances.old (vec_len list) → vec_len items.old + vec_len list * length entries.now ≤ vec_capacity items.old → IsOk result }
+    ensures succeeds { HasRoomFor instances.old (vec_len list) → instances.old.capacity ≤ 2 ^ 32 → vec_len items.old + vec_len list * length entries.now ≤ vec_capacity items.old → IsOk result }
 {
     let mut last = None;
     for opening in list {
@@ -94,14 +95,14 @@ fn place_each(
 /// `AllocError` where memory that was asked for was refused. Some of the instances may be there then.
 pub fn place_all(
     instances: &mut Slab<Instance>,
-    items: &mut Vec<Item>,
+    items: &mut Vec<PackedItem>,
     around: Option<usize>,
     entries: &[u32],
     list: Vec<Opening>,
 ) -> Result<Option<usize>, AllocError>
     ensures placed { IfOk result (λ last. (middle : List (Option Frame)) × WithMore (frames_view instances.old.slots) around (vec_len list) middle × ArePlaced (map opening_frame list.items) entries.now middle (frames_view instances.new.slots) (rows_view items.old.items) (rows_view items.new.items) last) }
     ensures capacity { vec_capacity items.old ≤ vec_capacity items.new }
-    ensures succeeds { HasRoomFor instances.old (vec_len list) → vec_len items.old + vec_len list * length entries.now ≤ vec_capacity items.old → IsOk result }
+    ensures succeeds { HasRoomFor instances.old (vec_len list) → instances.old.capacity ≤ 2 ^ 32 → vec_len items.old + vec_len list * length entries.now ≤ vec_capacity items.old → IsOk result }
 {
     if let Some(outer) = around {
         enter(instances, outer, list.len());
@@ -116,20 +117,15 @@ pub fn place_all(
 ///
 /// `AllocError` where memory that was asked for was refused.
 pub fn go_on(
-    items: &mut Vec<Item>,
+    items: &mut Vec<PackedItem>,
     instance: usize,
     entry: u32,
     chunk: usize,
 ) -> Result<(), AllocError>
     ensures rows { chunk + 1 < 2 ^ 64 → OnOk result (rows_view items.new.items ≡ rows_view items.old.items ++ new_row (Does instance entry (chunk + 1)) ∷ []) }
-    ensures succeeds { vec_len items.old < vec_capacity items.old → IsOk result }
+    ensures succeeds { instance < 2 ^ 32 → chunk + 1 < 2 ^ 32 → vec_len items.old < vec_capacity items.old → IsOk result }
 {
-    let next = Item::Does {
-        mark: Mark::Waiting,
-        instance,
-        entry,
-        chunk: chunk.saturating_add(1),
-    };
+    let next = PackedItem::waiting(entry, instance, chunk.saturating_add(1))?;
     items.push(next)?;
     Ok(())
 }

@@ -17,7 +17,7 @@ ghost use Rattle.task_code.specs.Code.{Code};
 ghost use Rattle.board_items.specs.Settled.{AreFirst, one_more, IsTold, StaysButRoom, one_less, StaysButOrder, StaysButWaits};
 
 use board_code::program::Program;
-use board_frames::item::{Item, Job, Mark, mark_item};
+use board_frames::item::{Job, Mark, PackedItem, mark_item};
 use board_frames::opening::Inputs;
 use rules::input::Input;
 use rules::listing::Rules;
@@ -35,7 +35,7 @@ pub struct Counts {
 /// The items of a board, so kept that no call looks at all of them.
 #[derive(Drop)]
 pub struct Items {
-    pub rows: Vec<Item>,
+    pub rows: Vec<PackedItem>,
     pub rules: Rules,
     pub queue: Queue,
     /// The items that can begin, and could not before the last event, by rising number.
@@ -108,7 +108,7 @@ impl Items {
             },
             running: 0,
         };
-        items.rows.push(Item::Script(Mark::Ready))?;
+        items.rows.push(PackedItem::script(Mark::Ready))?;
         items.queue.put(Kind::Control, 0, 1)?;
         items.newly.reserve(1)?;
         Ok(items)

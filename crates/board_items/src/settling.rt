@@ -309,7 +309,7 @@ impl Items {
         ensures rest { (r : Row) (jobs : List AJob) → row_of (rows_view self.old.rows.items) (place + 1) ≡ Some r → AreSpare outlook.entry.program.now (r.job ∷ jobs) (reverse spare.old.items) → AreSpare outlook.entry.program.now jobs (reverse spare.new.items) }
         ensures succeeds { (r : Row) (jobs : List AJob) → row_of (rows_view self.old.rows.items) (place + 1) ≡ Some r → AreSpare outlook.entry.program.now (r.job ∷ jobs) (reverse spare.old.items) → 0 < self.old.rules.room → IsOk result }
     {
-        let job = self.rows[place].job();
+        let job = self.rows[place].item().job();
         let number = place as u64 + 1;
         let order = order_of(outlook.program, job);
         if outlook.begins(job) {

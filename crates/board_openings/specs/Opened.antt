@@ -59,6 +59,12 @@ CanGoOn Script b = Unit {0}
 CanGoOn (Does k e c) true = c + 1 < 2 ^ 64
 CanGoOn (Does k e c) false = Unit {0}
 
+-- its instance and its next chunk are told in numbers of 32 bits
+abbrev pub IsShort : Job → Bool → Type 0
+IsShort Script b = Unit {0}
+IsShort (Does k e c) true = (k < 2 ^ 32) × (c + 1 < 2 ^ 32)
+IsShort (Does k e c) false = Unit {0}
+
 -- so many more items go on
 abbrev pub more_of : Bool → ℕ
 more_of true = 1

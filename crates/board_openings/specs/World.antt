@@ -23,7 +23,7 @@ use Rattle.board_data.specs.Stored.{IsScalarTarget, StoresIn, Takes}
 use Rattle.board_frames.specs.Names.{spot_slot}
 use Rattle.board_frames.specs.Nested.{IsNested}
 use Rattle.board_frames.specs.declared.opening.Openings.{Openings}
-use Rattle.board_openings.specs.Opened.{AreOpened, CanGoOn, going, more_of, own_of}
+use Rattle.board_openings.specs.Opened.{AreOpened, CanGoOn, IsShort, going, more_of, own_of}
 use Rattle.board_openings.specs.declared.world.Change.{Change}
 use Rattle.board_openings.specs.declared.world.World.{World}
 use Rattle.board_openings.specs.declared.world.Change.TheVariants as Changes
@@ -98,8 +98,10 @@ module _ (C : Code) where
     pub data_room : vec_len o.list * length (own_of C o.body) ≤ s.room
     pub data_numbers : s.bound ≤ 2 ^ 32
     pub instances_room : HasRoomFor instances (vec_len o.list)
+    pub instances_numbers : instances.capacity ≤ 2 ^ 32
     pub rows_room : vec_len rows + (vec_len o.list * length (body C o.body).entries + more_of o.goes_on) ≤ vec_capacity rows
     pub goes : CanGoOn j o.goes_on
+    pub short : IsShort j o.goes_on
 
   -- the same of a change, which may open nothing
   abbrev pub CanOpen : Job → Change → Slab Instance → Store → Vec Item Global → Type 0

@@ -13,13 +13,13 @@ ghost use Rattle.board_data.specs.Data.{AreRising};
 ghost use Rattle.board_frames.specs.View.{frames_view, job_view, rows_view};
 ghost use Rattle.board_frames.specs.declared.opening.Opening.{Opening as AnOpening};
 ghost use Rattle.board_openings.specs.Filled.{HasSlots};
-ghost use Rattle.board_openings.specs.Opened.{AddsOuter, AreOpened, CanGoOn, going, more_of, own_of};
+ghost use Rattle.board_openings.specs.Opened.{AddsOuter, AreOpened, CanGoOn, IsShort, going, more_of, own_of};
 
 use crate::filling::{TurnSlots, fill_all};
 use board_code::program::{Hold, Own, Program};
 use board_data::holding::hold_outer;
 use board_frames::instance::Instance;
-use board_frames::item::{Item, Job};
+use board_frames::item::{Job, PackedItem};
 use board_frames::opening::Openings;
 use board_frames::placing::{go_on, place_all};
 use data_store::store::Store;
@@ -102,7 +102,7 @@ fn hold_all(
 pub fn open_all(
     instances: &mut Slab<Instance>,
     store: &mut Store,
-    rows: &mut Vec<Item>,
+    rows: &mut Vec<PackedItem>,
     program: &Program,
     job: Job,
     openings: Openings,
@@ -114,7 +114,7 @@ pub fn open_all(
     ensures succeeds { ((o : AnOpening) → In o openings.list.items → HasSlots (length (own_of program.now openings.body)) o) →
         vec_len openings.list * length (own_of program.now openings.body) ≤ store.old.room →
         store.old.bound ≤ 2 ^ 32 →
-        HasRoomFor instances.old (vec_len openings.list) →
+        HasRoomFor instances.old (vec_len openings.list) → instances.old.capacity ≤ 2 ^ 32 →
         vec_len rows.old + vec_len openings.list * length (body_at program.now openings.body).entries ≤ vec_capacity rows.old → IsOk result }
 {
     let Openings {
@@ -148,9 +148,9 @@ pub fn open_all(
 /// # Errors
 ///
 /// `AllocError` where memory that was asked for was refused, and where the chunks are more than numbers.
-pub fn go_on_if(rows: &mut Vec<Item>, job: Job, goes_on: bool) -> Result<(), AllocError>
+pub fn go_on_if(rows: &mut Vec<PackedItem>, job: Job, goes_on: bool) -> Result<(), AllocError>
     ensures rows { OnOk result (rows_view rows.new.items ≡ rows_view rows.old.items ++ map new_row (going (job_view job) goes_on)) }
-    ensures succeeds { CanGoOn (job_view job) goes_on → vec_len rows.old + more_of goes_on ≤ vec_capacity rows.old → IsOk result }
+    ensures succeeds { CanGoOn (job_view job) goes_on → IsShort (job_view job) goes_on → vec_len rows.old + more_of goes_on ≤ vec_capacity rows.old → IsOk result }
 {
     if let Job::Does {
         instance,

@@ -1,6 +1,8 @@
 //! Room for what the end of an item does, which is made before anything is changed.
 ghost use Rattle.std.specs.Prelude.{◌≡◌, ◌+◌, ◌≤◌, vec_len, vec_capacity, OnErr, OnOk};
 ghost use Rattle.board_frames.specs.View.{job_view};
+ghost use Rattle.std.specs.Bool.{OnTrue};
+ghost use Rattle.board_openings.specs.Opened.{IsShort};
 ghost use Rattle.board_openings.specs.Room.{OnlyRoom, OpensWell, TakesMore};
 ghost use Rattle.board_openings.specs.World.{CanOpen, HasRoomToEnd, closes_of, goes_on, holds_of, told_by};
 ghost use Rattle.board_openings.specs.declared.world.Change.TheVariants.{Opens as OpensAll};
@@ -9,13 +11,13 @@ use crate::opening::{entries_of, own_of};
 use crate::world::{Change, World, writes_of};
 use board_code::program::Program;
 use board_data::data;
-use board_frames::item::{Item, Job};
+use board_frames::item::{Job, PackedItem};
 use board_frames::opening::Openings;
 use rules::input::Input;
 use std::alloc::AllocError;
 
-/// So many data have numbers of 32 bits. More than that are more than memory has room for.
-const MOST_DATA: usize = 4_294_967_296;
+/// So many data, or instances, have numbers of 32 bits. More than that are more than memory has room for.
+const MOST: usize = 4_294_967_296;
 
 impl Change {
     /// How much of what it stores becomes known.
@@ -46,6 +48,20 @@ fn held_by(program: &Program, job: Job) -> usize
     }
 }
 
+/// Whether the item that goes on with a loop, if one does, is told in numbers of 32 bits.
+fn is_short(job: Job, goes_on: bool) -> bool
+    ensures { OnTrue result (IsShort (job_view job) goes_on) }
+{
+    match job {
+        Job::Script => true,
+        Job::Does {
+            instance,
+            entry: _,
+            chunk,
+        } => !goes_on || instance < MOST && chunk < MOST - 1,
+    }
+}
+
 /// So many arrays an item closes at most that makes this change.
 fn closed_by(program: &Program, job: Job, change: &Change) -> usize
     ensures { result ≡ closes_of program.now (job_view job) (goes_on change.now) }
@@ -61,7 +77,7 @@ impl World {
     /// Room for instances that are opened, with their data and items.
     fn room_to_open(
         &mut self,
-        rows: &mut Vec<Item>,
+        rows: &mut Vec<PackedItem>,
         program: &Program,
         job: Job,
         openings: &Openings,
@@ -71,7 +87,6 @@ impl World {
         ensures closed { self.new.closed ≡ self.old.closed }
         ensures rows { rows.new.items ≡ rows.old.items }
     {
-        let _job = job;
         let count = openings.list.len();
         let data = count
             .checked_mul(own_of(program, openings.body).len())
@@ -81,17 +96,20 @@ impl World {
             .ok_or(AllocError)?;
         let more = items.checked_add(1).ok_or(AllocError)?;
         self.store.reserve_cells(data)?;
-        if self.store.bound() > MOST_DATA {
+        self.instances.reserve(count)?;
+        if self.store.bound() > MOST || self.instances.capacity() > MOST {
             return Err(AllocError);
         }
-        self.instances.reserve(count)?;
+        if !is_short(job, openings.goes_on) {
+            return Err(AllocError);
+        }
         rows.reserve(more)
     }
 
     /// Room for elements in an array, or for what is opened.
     fn room_to_change(
         &mut self,
-        rows: &mut Vec<Item>,
+        rows: &mut Vec<PackedItem>,
         program: &Program,
         job: Job,
         change: &Change,
@@ -139,7 +157,7 @@ impl World {
     /// `AllocError` where memory that was asked for was refused.
     pub fn make_room(
         &mut self,
-        rows: &mut Vec<Item>,
+        rows: &mut Vec<PackedItem>,
         known: &mut Vec<Input>,
         program: &Program,
         job: Job,

@@ -30,7 +30,7 @@ use board_code::program::Program;
 use board_code::spot::Spot;
 use board_data::{holding, storing};
 use board_frames::instance::{Instance, leave};
-use board_frames::item::{Item, Job};
+use board_frames::item::{Job, PackedItem};
 use board_frames::opening::{Inputs, Openings};
 use data_store::store::Store;
 use rules::input::Input;
@@ -218,7 +218,7 @@ impl World {
     fn open(
         &mut self,
         alloc: Global,
-        rows: &mut Vec<Item>,
+        rows: &mut Vec<PackedItem>,
         program: &Program,
         job: Job,
         openings: Openings,
@@ -303,7 +303,7 @@ impl World {
     fn make(
         &mut self,
         alloc: Global,
-        rows: &mut Vec<Item>,
+        rows: &mut Vec<PackedItem>,
         known: &mut Vec<Input>,
         program: &Program,
         job: Job,
@@ -338,7 +338,7 @@ impl World {
     pub fn end(
         &mut self,
         alloc: Global,
-        rows: &mut Vec<Item>,
+        rows: &mut Vec<PackedItem>,
         known: &mut Vec<Input>,
         program: &Program,
         job: Job,

@@ -4,7 +4,7 @@ use crate::asserts::is_equal;
 use crate::worlds::{ASSERT, FIRST, Opened, SET, opened_script};
 use board_code::spot::Spot;
 use board_frames::instance::{Slot, datum_at, enter, leave, path_of, slot_at};
-use board_frames::item::{Item, Mark, item_of, mark_item};
+use board_frames::item::{Mark, PackedItem, item_of, mark_item};
 use board_frames::opening::{Around, Opening, inner, outermost};
 use board_frames::outer::{Outer, Way};
 use board_frames::packed::PackedSlot;
@@ -86,17 +86,23 @@ fn names_stand_for_data(rt: HostRuntime) {
 }
 
 /// The assignment's item waits under its number, and none has the number 0.
-fn set_waits(rt: &impl Abort, rows: &[Item]) {
+fn set_waits(rt: &impl Abort, rows: &[PackedItem]) {
     let set = item_of(rows, 2).expect(rt, "an item");
     is_equal(rt, (set.job(), set.mark()), (SET, Mark::Waiting));
     is_equal(rt, item_of(rows, 0), None);
 }
 
+/// An item of an entry is packed, unless its numbers are too great.
+fn items_are_packed(rt: &impl Abort) {
+    let packed = PackedItem::waiting(1, 0, 0).expect(rt, "memory");
+    is_equal(rt, packed.item().job(), ASSERT);
+    assert!(rt; PackedItem::waiting(1, 4_294_967_296, 0).is_err());
+}
+
 /// The item of what is asserted is ready under its number, which is the last.
-fn assert_is_ready(rt: &impl Abort, rows: &[Item]) {
+fn assert_is_ready(rt: &impl Abort, rows: &[PackedItem]) {
     let found = item_of(rows, 3).expect(rt, "an item");
     is_equal(rt, (found.job(), found.mark()), (ASSERT, Mark::Ready));
-    is_equal(rt, found.marked(Mark::Over).job(), ASSERT);
     is_equal(rt, item_of(rows, 4), None);
 }
 
@@ -106,6 +112,7 @@ fn items_have_numbers(rt: HostRuntime) {
     set_waits(&rt, world.rows.as_slice());
     mark_item(world.rows.as_mut_slice(), 3, Mark::Ready);
     assert_is_ready(&rt, world.rows.as_slice());
+    items_are_packed(&rt);
 }
 
 /// One item more enters the instance, and all three leave it.

@@ -115,7 +115,12 @@ fn one_begins_and_one_waits(rt: &impl Abort, items: &Items) {
     assert!(rt; items.newly.as_slice() == [2u64].as_slice());
     is_equal(rt, items.queue.first(Kind::Leaf), Some(2));
     is_equal(rt, (items.rules.waiting(), items.rows.len()), (1, 3));
-    assert!(rt; items.rows.last().is_some_and(|row| row.job() == ASSERT));
+    assert!(rt;
+        items
+            .rows
+            .last()
+            .is_some_and(|row| row.item().job() == ASSERT)
+    );
 }
 
 #[test]

@@ -23,7 +23,11 @@ fn counts(opened: &Opened) -> (usize, usize) {
 /// The item of what is asserted is the last, and nothing has become known.
 fn assert_is_last(rt: &impl Abort, opened: &Opened) {
     let last = opened.rows.last().expect(rt, "an item");
-    is_equal(rt, (last.job(), last.mark()), (ASSERT, Mark::Waiting));
+    is_equal(
+        rt,
+        (last.item().job(), last.item().mark()),
+        (ASSERT, Mark::Waiting),
+    );
     assert!(rt; opened.known.is_empty());
 }
 
@@ -81,7 +85,7 @@ fn a_loop_goes_on_with_one_item(rt: HostRuntime) {
         entry: 0,
         chunk: 1,
     };
-    assert!(rt; rows.last().is_some_and(|row| row.job() == rest));
+    assert!(rt; rows.last().is_some_and(|row| row.item().job() == rest));
 }
 
 /// An instance whose first variable is a turn's.

@@ -5,7 +5,7 @@ use board_code::spot::Spot;
 use board_data::wanted::View;
 use board_effects::effect::Effect;
 use board_effects::script_effect;
-use board_frames::item::{Item, Job, Mark};
+use board_frames::item::{Job, Mark, PackedItem};
 use board_openings::world::{Change, World};
 use rules::input::Input;
 use std::alloc::{AllocError, Global};
@@ -34,7 +34,7 @@ pub const ASSERT: Job = Job::Does {
 pub struct Opened {
     pub program: Program,
     pub world: World,
-    pub rows: Vec<Item>,
+    pub rows: Vec<PackedItem>,
     pub known: Vec<Input>,
 }
 
@@ -43,7 +43,7 @@ pub fn open(
     alloc: Global,
     program: &Program,
     world: &mut World,
-    rows: &mut Vec<Item>,
+    rows: &mut Vec<PackedItem>,
     known: &mut Vec<Input>,
 ) -> Result<(), AllocError> {
     let change = match script_effect(alloc, program)? {
@@ -58,7 +58,7 @@ pub fn end(
     alloc: Global,
     program: &Program,
     world: &mut World,
-    rows: &mut Vec<Item>,
+    rows: &mut Vec<PackedItem>,
     known: &mut Vec<Input>,
     ended: (Job, Change),
 ) -> Result<(), AllocError> {
@@ -70,9 +70,9 @@ pub fn end(
 }
 
 /// The script's item, which runs.
-fn script_row(alloc: Global) -> Result<Vec<Item>, AllocError> {
+fn script_row(alloc: Global) -> Result<Vec<PackedItem>, AllocError> {
     let mut rows = Vec::new(alloc);
-    rows.push(Item::Script(Mark::Running(0)))?;
+    rows.push(PackedItem::script(Mark::Running(0)))?;
     Ok(rows)
 }
 
