@@ -108,6 +108,7 @@ impl Core {
     }
 
     /// The item, which can begin and has this job, runs on the worker. Takes no memory.
+    #[inline(always)]
     pub fn begin(&mut self, program: &Program, worker: u8, number: u64, job: Job)
         ensures { HasBegun program.now worker number (job_view job) self.old self.new }
     {

@@ -45,6 +45,7 @@ fn content(store: &Store, d: usize) -> Result<Answer, AllocError>
 }
 
 /// The answer to what is waited for.
+#[inline(always)]
 fn answer(view: View<'_>, wanted: &Wanted) -> Result<Answer, AllocError>
     ensures { IfOk result (λ answer. answer_view answer ≡ wanted_answer view.entry.program.now (cells_view view.entry.store.now.cells) (led_slot (frames_view view.entry.instances.now.slots) view.entry.at) wanted.now) }
 {
@@ -62,6 +63,7 @@ fn answer(view: View<'_>, wanted: &Wanted) -> Result<Answer, AllocError>
 /// # Errors
 ///
 /// `AllocError` where memory that was asked for was refused. None is asked for where the list has room.
+#[inline(always)]
 pub fn answers(list: &mut Vec<Answer>, view: View<'_>, needs: &[Wanted]) -> Result<(), AllocError>
     ensures { OnOk result (answers_view list.new.items ≡ map (wanted_answer view.entry.program.now (cells_view view.entry.store.now.cells) (led_slot (frames_view view.entry.instances.now.slots) view.entry.at)) needs.now) }
 {

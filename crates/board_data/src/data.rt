@@ -61,6 +61,7 @@ pub fn is_closed(store: &Store, d: usize) -> bool
 }
 
 /// Gives a scalar its value.
+#[inline(always)]
 pub fn put(store: &mut Store, d: usize, value: Scalar)
     ensures { store.new ≡ given d value store.old }
 {

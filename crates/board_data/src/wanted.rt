@@ -189,6 +189,7 @@ impl<'a> View<'a> {
 
     /// The scalar that a name stands for, once it is known.
     #[tactic(auto, using(crate::proofs::Cells::value_there))]
+    #[inline(always)]
     pub fn scalar(self, spot: Option<Spot>) -> Option<&'a Scalar>
         ensures { option_copied result ≡ scalar_in self.entry.program.now (cells_view self.entry.store.now.cells) (led_slot (frames_view self.entry.instances.now.slots) self.entry.at spot) }
     {
@@ -201,6 +202,7 @@ impl<'a> View<'a> {
 
     /// The element that is waited for, where there is one.
     #[tactic(auto, using(crate::proofs::Cells::element_there))]
+    #[inline(always)]
     pub fn found(self, wanted: &Wanted) -> Option<&'a Scalar>
         ensures { option_copied result ≡ wanted_found self.entry.program.now (cells_view self.entry.store.now.cells) (led_slot (frames_view self.entry.instances.now.slots) self.entry.at) wanted.now }
     {
@@ -216,6 +218,7 @@ impl<'a> View<'a> {
     }
 
     /// What is missing now: an element whose index is not known waits for the index first.
+    #[inline(always)]
     pub fn missing(self, wanted: &Wanted) -> Option<Input>
         ensures { wants_in result ≡ wanted_missed self.entry.program.now (cells_view self.entry.store.now.cells) (led_slot (frames_view self.entry.instances.now.slots) self.entry.at) wanted.now }
     {
@@ -263,6 +266,7 @@ impl<'a> View<'a> {
     /// `AllocError` where memory that was asked for was refused; none is asked for where there is room for as many inputs as
     /// there are needs.
     #[tactic(auto, using(crate::proofs::Missed::missed_end))]
+    #[inline(always)]
     pub fn list_missing(self, needs: &[Wanted], inputs: &mut Inputs) -> Result<(), AllocError>
         ensures listed { OnOk result (map want_view inputs.new.items ≡ map want_view inputs.old.items ++ flat_map (wanted_missed self.entry.program.now (cells_view self.entry.store.now.cells) (led_slot (frames_view self.entry.instances.now.slots) self.entry.at)) needs.now) }
         ensures succeeds { HasRoomFor inputs.old (length needs.now) → IsOk result }

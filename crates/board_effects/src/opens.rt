@@ -56,6 +56,7 @@ impl<'a> Ended<'a> {
     }
 
     /// It opens these instances of a body.
+    #[inline(always)]
     fn opens_list(self, body: u32, list: Vec<Opening>, goes_on: bool) -> Result<Effect, AllocError>
         ensures { IfOk result (OpensList self.entry body list.items goes_on) }
     {

@@ -27,6 +27,7 @@ fn push_for(
 }
 
 /// Adds a list for each item of a body that may wait for more than two inputs.
+#[inline(always)]
 fn push_spare(
     alloc: Global,
     spare: &mut Vec<Inputs>,
@@ -51,6 +52,7 @@ fn push_spare(
 }
 
 /// Lists for all items of these instances that may wait for more than two inputs, in order.
+#[inline(always)]
 pub(crate) fn spare_lists(
     alloc: Global,
     program: &Program,

@@ -78,6 +78,7 @@ fn push_parameters(
 }
 
 /// Slots for so many data that are still to be made.
+#[inline(always)]
 fn empty_slots(alloc: Global, own: usize, more: usize) -> Result<Slots, AllocError>
     ensures { IfOk result (λ slots. map slot_view slots.items ≡ replicate own AbsentSlot) }
 {

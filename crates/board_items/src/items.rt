@@ -157,6 +157,7 @@ impl Items {
     }
 
     /// The item can begin from now on. There is room for it.
+    #[inline(always)]
     pub(crate) fn make_ready(&mut self, number: u64, order: (Kind, i32))
         ensures apart { self.new.apart ≡ one_less order.0 self.old.apart }
         ensures len { vec_len self.new.rows ≡ vec_len self.old.rows }

@@ -44,6 +44,7 @@ pub struct Outlook<'a> {
 
 /// Whether nothing is missed of what is waited for.
 #[tactic(auto, using(crate::proofs::Jobs::any_none, crate::proofs::Jobs::any_some))]
+#[inline(always)]
 fn has_all(view: View<'_>, needs: &[Wanted]) -> bool
     ensures { result ≡ is_nil (flat_map (wanted_missed view.entry.program.now (cells_view view.entry.store.now.cells) (led_slot (frames_view view.entry.instances.now.slots) view.entry.at)) needs.now) }
 {
@@ -57,6 +58,7 @@ fn has_all(view: View<'_>, needs: &[Wanted]) -> bool
 
 impl<'a> Outlook<'a> {
     /// Puts what the item of a job misses behind the inputs.
+    #[inline(always)]
     fn list_missing(self, job: Job, inputs: &mut Inputs) -> Result<(), AllocError>
         ensures listed { OnOk result (FewSlots (frames_view self.entry.instances.now.slots) → IsSeen self.entry.program.now (frames_view self.entry.instances.now.slots) (job_view job) →
             map want_view inputs.new.items ≡ map want_view inputs.old.items ++ misses self.entry.program.now (frames_view self.entry.instances.now.slots) (cells_view self.entry.store.now.cells) (job_view job)) }
@@ -83,6 +85,7 @@ impl<'a> Outlook<'a> {
     }
 
     /// Whether the item of a job misses nothing.
+    #[inline(always)]
     fn has_inputs(self, job: Job) -> bool
         ensures none { FewSlots (frames_view self.entry.instances.now.slots) → IsSeen self.entry.program.now (frames_view self.entry.instances.now.slots) (job_view job) →
             OnTrue result (misses self.entry.program.now (frames_view self.entry.instances.now.slots) (cells_view self.entry.store.now.cells) (job_view job) ≡ []) }
@@ -241,6 +244,7 @@ fn first_needs(program: &Program, job: Job) -> usize
 
 impl Items {
     /// The item waits for these inputs, or can begin where there are none.
+    #[inline(always)]
     fn settle_with(
         &mut self,
         number: u64,
@@ -261,6 +265,7 @@ impl Items {
     }
 
     /// The item, which misses nothing, can begin.
+    #[inline(always)]
     fn settle_ready(&mut self, number: u64, order: (Kind, i32))
         ensures settles { Settles number [] order.0 order.1 self.old self.new }
         ensures woken { self.new.woken ≡ self.old.woken }

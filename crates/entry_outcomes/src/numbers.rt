@@ -72,6 +72,7 @@ fn operated(operator: &Operator, x: i64, y: i64) -> Option<Value>
 
 /// The value of an expression that is made of numbers by sums, products and comparisons of two. None of any other, and where
 /// there is a fault.
+#[inline(always)]
 pub(crate) fn value_of_numbers(expr: &Expr, answers: &[Answer]) -> Option<Value>
     ensures { IfSome result (λ v. eval (answers_view answers.now) (expr_view expr.now) ≡ Ok v) }
 {

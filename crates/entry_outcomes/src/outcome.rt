@@ -60,6 +60,7 @@ pub enum Outcome {
 /// # Errors
 ///
 /// `AllocError` where memory that was asked for was refused.
+#[inline(always)]
 pub fn outcome_of(alloc: Global, act: &Act, answers: &[Answer]) -> Result<Outcome, AllocError>
     ensures leaf { IfOk result (λ o. result_in o ≡ leaf_result (act_view act.now) (answers_view answers.now)) }
     ensures control { IfOk result (λ o. control_in o ≡ control_result (act_view act.now) (answers_view answers.now)) }

@@ -203,6 +203,7 @@ impl Rules {
     /// # Errors
     ///
     /// `AllocError` where there was no room and memory is refused.
+    #[inline(always)]
     pub fn add(&mut self, inputs: SmallVec<Input, 2>, item: u64) -> Result<bool, AllocError>
         ensures answer { IfOk result (λ ready. ready ≡ (length inputs.items == 0)) }
         ensures ready { length inputs.items ≡ 0 → self.new ≡ self.old }

@@ -288,6 +288,7 @@ impl Places {
 
     /// Lets what lies in the slot be found: by its notes, if there is place, and if there are then no more than so many or
     /// they are few, and else as a stray. False where there is no place for either.
+    #[inline(always)]
     pub fn keep_slot(&mut self, waiters: &Slab<Waiter>, slot: usize, most: usize) -> bool
         ensures grows { Grows self.old self.new }
         ensures more { length self.new.strays ≤ length self.old.strays + cond (is_some (get waiters.now slot)) 1 0 }

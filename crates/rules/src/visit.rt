@@ -11,6 +11,7 @@ use crate::waiter::Waiter;
 use slab::Slab;
 
 /// Lets the item of a slot learn what is known, if there is one. Where nothing is missing any more it leaves.
+#[inline(always)]
 pub fn visit(waiters: &mut Slab<Waiter>, slot: usize, input: &Input, out: &mut Vec<u64>)
     requires { slab_len waiters.old + vec_len out.old ≤ vec_capacity out.old }
     ensures slots { waiters.new.slots ≡ slice_set waiters.old.slots slot (after_slot input.now (get waiters.old slot)) }

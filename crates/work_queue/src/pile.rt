@@ -83,6 +83,7 @@ impl Pile {
     }
 
     /// Lays by what `n` further entries need.
+    #[inline(always)]
     pub fn reserve(&mut self, n: usize) -> Result<(), AllocError>
         ensures ok { OnOk result (self.new ≡ with_room n self.old) }
         ensures succeeds { n ≤ self.old.room → IsOk result }
@@ -134,6 +135,7 @@ impl Pile {
         self.put_in_tree(entry);
     }
 
+    #[inline(always)]
     pub fn put(&mut self, entry: Entry) -> Result<(), AllocError>
         ensures ok { OnOk result (self.new ≡ with_put entry self.old) }
         ensures succeeds { 0 < self.old.room → IsOk result }
@@ -196,6 +198,7 @@ impl Pile {
         Some(entry)
     }
 
+    #[inline(always)]
     pub fn remove(&mut self, entry: Entry) -> bool
         ensures found { IsTrue result ↔ Contains self.old.entries entry }
         ensures removed { OnTrue result (self.new ≡ without entry self.old) }

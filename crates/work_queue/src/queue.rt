@@ -47,6 +47,7 @@ impl Queue {
     /// # Errors
     ///
     /// `AllocError` where there was no room and memory is refused.
+    #[inline(always)]
     pub fn put(&mut self, kind: Kind, priority: i32, no: u64) -> Result<(), AllocError>
         ensures ok { OnOk result (self.new ≡ with_changed kind (with_put (record { priority = priority; no = no })) self.old) }
         ensures succeeds { 0 < (of kind self.old).room → IsOk result }

@@ -58,6 +58,7 @@ impl Run {
     }
 
     /// Adds an entry, if there is place for it.
+    #[inline(always)]
     pub fn put(&mut self, entry: &Entry) -> bool
         ensures added { OnTrue result (self.new ≡ inserted entry.now self.old) }
         ensures left { OnFalse result (self.new ≡ self.old) }
@@ -90,6 +91,7 @@ impl Run {
     }
 
     /// Takes out an entry, if it is there.
+    #[inline(always)]
     pub fn remove(&mut self, entry: &Entry) -> bool
         ensures found { result ≡ holds entry.now self.old }
         ensures entries { self.new ≡ erased entry.now self.old }

@@ -154,6 +154,7 @@ pub fn add_first(slots: &mut VecDeque<Slot>, entry: Entry) -> bool
 }
 
 /// Adds an entry behind the others, in front of them, or in a slot that has it and whose entry has left.
+#[inline(always)]
 pub fn put(slots: &mut VecDeque<Slot>, entry: &Entry) -> bool
     requires { IsRun slots.old.items }
     ensures run { IsRun slots.new.items }
