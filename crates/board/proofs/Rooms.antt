@@ -4,7 +4,7 @@ use Rattle.std.specs.Prelude.{◌^◌, vec_capacity}
 use Rattle.replayed.specs.Ending.{job_kind}
 use Rattle.replayed.specs.Fields.{Job, Ready, Row, Running}
 use Rattle.replayed.specs.Marking.{kind_eq, mark_at}
-use Rattle.task_code.specs.Code.{Code, Control, Kind, Leaf, entry}
+use Rattle.task_code.specs.Code.{Code, Control, Kind, Leaf}
 use Rattle.work_queue.specs.Both.{Both, of, with_changed}
 use Rattle.work_queue.specs.Waiting.{with_put, without}
 use Rattle.work_queue.specs.declared.entry.Entry.{Entry as Queued}

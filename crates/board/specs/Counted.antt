@@ -1,5 +1,5 @@
 -- Whether what an item opens can be counted.
-use Rattle.std.specs.Prelude.{◌≡◌, ◌+◌, ◌*◌, ◌<◌, ◌≤◌, ◌^◌, ℕ, List, Option, Some, length, slice_get}
+use Rattle.std.specs.Prelude.{◌≡◌, ◌+◌, ◌*◌, ◌<◌, ◌^◌, ℕ, List, Option, Some, length, slice_get}
 use Rattle.replayed.specs.Ending.{home}
 use Rattle.replayed.specs.Fields.{Frame, Job}
 use Rattle.task_code.specs.Code.{Code, body}

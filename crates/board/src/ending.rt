@@ -50,14 +50,9 @@ fn outcome_for(
 
 impl Core {
     /// What the item of a job does, which comes to this.
-    fn effect_of(
-        &self,
-        program: &Program,
-        job: Job,
-        outcome: &Outcome,
-    ) -> Result<Effect, AllocError>
+    fn effect_of(&self, program: &Program, job: Job, outcome: Outcome) -> Result<Effect, AllocError>
         requires { IsThere program.now (job_view job) }
-        ensures { IfOk result (λ e. (done : Assigned) → result_in outcome.now ≡ job_result done.job done.answers → control_in outcome.now ≡ job_control done.job done.answers → IsEffectOf program.now self.now (job_view job) done e) }
+        ensures { IfOk result (λ e. (done : Assigned) → result_in outcome ≡ job_result done.job done.answers → control_in outcome ≡ job_control done.job done.answers → IsEffectOf program.now self.now (job_view job) done e) }
     {
         match job {
             Job::Script => return script_effect(self.alloc, program),
@@ -169,7 +164,7 @@ impl Core {
         ensures ended { OnOk result (HasEnded program.now number (job_view job) done.now self.old self.new) }
         ensures same { OnErr result (StaysIf program.now number (job_view job) done.now self.old self.new) }
     {
-        let effect = self.effect_of(program, job, done.outcome())?;
+        let effect = self.effect_of(program, job, done.outcome().share()?)?;
         self.end_by(program, most, number, job, effect, known)
     }
 
@@ -189,7 +184,7 @@ impl Core {
         ensures same { OnErr result ((done : Assigned) → done.job ≡ work_of program.now (job_view job) → done.answers ≡ answers_view answers.now → StaysIf program.now number (job_view job) done self.old self.new) }
     {
         let outcome = outcome_for(self.alloc, program, job, answers)?;
-        let effect = self.effect_of(program, job, &outcome)?;
+        let effect = self.effect_of(program, job, outcome)?;
         self.end_by(program, most, number, job, effect, known)
     }
 }

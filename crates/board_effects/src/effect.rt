@@ -15,13 +15,12 @@ ghost use Rattle.board_effects.specs.Ended.{act_of, frames_of, Ends, FailsWith, 
 ghost use Rattle.board_effects.specs.Fits.{fits, gives_elements, gives_scalar};
 
 use crate::present::{copied, has_any, has_key};
-use board_code::key::copy_key;
 use board_code::program::EntryTable;
 use board_data::wanted::View;
 use board_frames::instance::path_of;
 use board_frames::opening::Openings;
 use board_frames::place::{Fault, FaultKind, Statement};
-use entry_outcomes::outcome::{Computed, EntryFault, Outcome};
+use entry_outcomes::outcome::{Computed, EntryFault, Outcome, into_scalar};
 use std::alloc::{AllocError, Global};
 use task_code::entry::{Act, Entry};
 use values::key::Key;
@@ -67,6 +66,7 @@ impl<'a> Ended<'a> {
     }
 
     /// What it stores into.
+    #[inline(always)]
     fn target(self) -> Option<usize>
         ensures { result ≡ datum_of (led_slot (frames_of self.entry) self.entry.view.at self.entry.table.now.target) }
     {
@@ -74,6 +74,7 @@ impl<'a> Ended<'a> {
     }
 
     /// It stores a scalar.
+    #[inline(always)]
     fn stores(self, value: Scalar) -> Effect
         ensures { IsEnded self.entry → gives_scalar (act_of self.entry) ≡ true → Ends self.entry (Gives value) result }
     {
@@ -94,21 +95,22 @@ impl<'a> Ended<'a> {
     }
 
     /// It inserts one element, if its key is not there.
-    fn puts(self, key: &Key, value: &Scalar) -> Result<Effect, AllocError>
-        ensures { IsEnded self.entry → gives_elements (act_of self.entry) ≡ true → IfOk result (Ends self.entry (InsertsAll ((key.now, value.now) ∷ []))) }
+    #[inline(always)]
+    fn puts(self, key: Key, value: Scalar) -> Result<Effect, AllocError>
+        ensures { IsEnded self.entry → gives_elements (act_of self.entry) ≡ true → IfOk result (Ends self.entry (InsertsAll ((key, value) ∷ []))) }
     {
         let target = self.target();
         if let Some(d) = target {
-            if has_key(self.view.store, d, key) {
+            if has_key(self.view.store, d, &key) {
                 return self.fails(FaultKind::ElementTwice);
             }
         }
-        Ok(Effect::Puts(target, copy_key(key), value.share()?))
+        Ok(Effect::Puts(target, key, value))
     }
 
     /// It inserts the elements of a value, if that is an array.
-    fn fills(self, value: &Value) -> Result<Effect, AllocError>
-        ensures { IsEnded self.entry → gives_elements (act_of self.entry) ≡ true → IfOk result (Ends self.entry (InsertsAll (pairs (elements_of value.now)))) }
+    fn fills(self, value: Value) -> Result<Effect, AllocError>
+        ensures { IsEnded self.entry → gives_elements (act_of self.entry) ≡ true → IfOk result (Ends self.entry (InsertsAll (pairs (elements_of value)))) }
     {
         match value {
             Value::Many(map) => self.inserts(map.elements()),
@@ -117,33 +119,35 @@ impl<'a> Ended<'a> {
     }
 
     /// What it does with its value.
-    fn takes_value(self, value: &Value) -> Result<Effect, AllocError>
-        ensures { IsEnded self.entry → kind_of (act_of self.entry) ≡ Leaf → IfOk result (Ends self.entry (of_leaf (act_of self.entry) (Ok value.now))) }
+    #[inline(always)]
+    fn takes_value(self, value: Value) -> Result<Effect, AllocError>
+        ensures { IsEnded self.entry → kind_of (act_of self.entry) ≡ Leaf → IfOk result (Ends self.entry (of_leaf (act_of self.entry) (Ok value))) }
     {
         match &self.entry.act {
             Act::Fill(_, _) => self.fills(value),
-            Act::Print(_) => Ok(Effect::Prints(value.scalar()?)),
-            Act::Cell(_) | Act::Set(_, _) => Ok(self.stores(value.scalar()?)),
+            Act::Print(_) => Ok(Effect::Prints(into_scalar(value))),
+            Act::Cell(_) | Act::Set(_, _) => Ok(self.stores(into_scalar(value))),
             _ => Ok(Effect::Passes),
         }
     }
 
     /// What it does with what it computed.
-    fn takes_computed(self, computed: &Computed) -> Result<Effect, AllocError>
-        ensures { IsEnded self.entry → kind_of (act_of self.entry) ≡ Control → fits (act_of self.entry) (computed_view computed.now) ≡ true → IfOk result (Ends self.entry (computed_view computed.now)) }
+    #[inline(always)]
+    fn takes_computed(self, computed: Computed) -> Result<Effect, AllocError>
+        ensures { IsEnded self.entry → kind_of (act_of self.entry) ≡ Control → fits (act_of self.entry) (computed_view computed) ≡ true → IfOk result (Ends self.entry (computed_view computed)) }
     {
         match computed {
-            Computed::Fails(fault) => self.fails(FaultKind::OfEntry(*fault)),
-            Computed::Gives(scalar) => Ok(self.stores(scalar.share()?)),
+            Computed::Fails(fault) => self.fails(FaultKind::OfEntry(fault)),
+            Computed::Gives(scalar) => Ok(self.stores(scalar)),
             Computed::Inserts(map) => self.inserts(map.elements()),
             Computed::Puts(key, value) => self.puts(key, value),
-            Computed::Takes(truth) => self.branches(*truth),
+            Computed::Takes(truth) => self.branches(truth),
             Computed::Counts(range) => match self.body() {
-                Some(body) => self.counts(body, range),
+                Some(body) => self.counts(body, &range),
                 None => Ok(Effect::Passes),
             },
             Computed::Goes(map) => match self.body() {
-                Some(body) => self.goes_over(body, map),
+                Some(body) => self.goes_over(body, &map),
                 None => Ok(Effect::Passes),
             },
             Computed::Opens => self.enters(),
@@ -155,14 +159,14 @@ impl<'a> Ended<'a> {
     /// # Errors
     ///
     /// `AllocError` where memory that was asked for was refused.
-    pub fn effect(self, outcome: &Outcome) -> Result<Effect, AllocError>
-        ensures { IsEnded self.entry → (answers : List (Answer Key Scalar)) → result_in outcome.now ≡ leaf_result (act_of self.entry) answers → control_in outcome.now ≡ control_result (act_of self.entry) answers →
+    pub fn effect(self, outcome: Outcome) -> Result<Effect, AllocError>
+        ensures { IsEnded self.entry → (answers : List (Answer Key Scalar)) → result_in outcome ≡ leaf_result (act_of self.entry) answers → control_in outcome ≡ control_result (act_of self.entry) answers →
             IfOk result (Ends self.entry (compute (act_of self.entry) answers)) }
     {
         match outcome {
             Outcome::Leaf(Ok(value)) => self.takes_value(value),
             Outcome::Leaf(Err(fault)) => {
-                self.fails(FaultKind::OfEntry(EntryFault::InOperation(*fault)))
+                self.fails(FaultKind::OfEntry(EntryFault::InOperation(fault)))
             }
             Outcome::Control(computed) => self.takes_computed(computed),
         }

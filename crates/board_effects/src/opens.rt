@@ -29,6 +29,7 @@ const MOST_STEPS: u32 = 512;
 
 impl<'a> Ended<'a> {
     /// Whether it may open no block by one more step.
+    #[inline(always)]
     fn is_too_deep(self) -> bool
         ensures { IsEnded self.entry → result ≡ nat_le 512 (length (path_of (frames_of self.entry) self.entry.view.at)) }
     {
@@ -46,6 +47,7 @@ impl<'a> Ended<'a> {
     }
 
     /// The step to a block that it opens.
+    #[inline(always)]
     fn step(self, key: Key) -> Option<Step>
         ensures { option_map step_view result ≡ Some (record { offset = self.entry.entry.now.mark; key = key }) }
     {
@@ -72,6 +74,7 @@ impl<'a> Ended<'a> {
     }
 
     /// It opens one block, where it is not one that goes on.
+    #[inline(always)]
     fn opens(self, body: u32, way: Option<Step>) -> Result<Effect, AllocError>
         ensures { IsEnded self.entry → (x : Computed) → OpensBlock self.entry x body (option_map step_view way) → IfOk result (Ends self.entry x) }
     {

@@ -22,7 +22,7 @@ fn effect(rt: &impl Abort, alloc: Global, world: &Opened, number: u32, outcome: 
         table: program.entry(number).expect(rt, "an entry"),
         chunk: 0,
     };
-    ended.effect(&outcome).expect(rt, "memory")
+    ended.effect(outcome).expect(rt, "memory")
 }
 
 /// It opens one instance of the script's block, and goes on with no loop.

@@ -48,11 +48,42 @@ pub enum Computed {
     Opens,
 }
 
+impl Computed {
+    /// The same. Texts and maps are shared.
+    fn share(&self) -> Result<Computed, AllocError>
+        ensures { IfOk result (λ computed. computed ≡ self.now) }
+    {
+        match self {
+            Computed::Fails(fault) => Ok(Computed::Fails(*fault)),
+            Computed::Gives(scalar) => Ok(Computed::Gives(scalar.share()?)),
+            Computed::Inserts(map) => Ok(Computed::Inserts(map.share()?)),
+            Computed::Puts(key, value) => Ok(Computed::Puts(key.share()?, value.share()?)),
+            Computed::Takes(truth) => Ok(Computed::Takes(*truth)),
+            Computed::Counts(range) => Ok(Computed::Counts(*range)),
+            Computed::Goes(map) => Ok(Computed::Goes(map.share()?)),
+            Computed::Opens => Ok(Computed::Opens),
+        }
+    }
+}
+
 /// What an entry computes: a leaf one a value or a fault, a control one what its end needs.
 #[derive(Drop)]
 pub enum Outcome {
     Leaf(Result<Value, OpFault>),
     Control(Computed),
+}
+
+impl Outcome {
+    /// The same outcome. Texts and maps are shared.
+    pub fn share(&self) -> Result<Outcome, AllocError>
+        ensures { IfOk result (λ outcome. outcome ≡ self.now) }
+    {
+        match self {
+            Outcome::Leaf(Ok(value)) => Ok(Outcome::Leaf(Ok(value.share()?))),
+            Outcome::Leaf(Err(fault)) => Ok(Outcome::Leaf(Err(*fault))),
+            Outcome::Control(computed) => Ok(Outcome::Control(computed.share()?)),
+        }
+    }
 }
 
 /// What an entry computes that does this.
@@ -147,7 +178,7 @@ fn written(
         Err(fault) => return Ok(fails(fault)),
     };
     match evaluate(alloc, right, answers)? {
-        Ok(right) => Ok(Computed::Puts(key_of(&index), right.scalar()?)),
+        Ok(right) => Ok(Computed::Puts(key_of(&index), into_scalar(right))),
         Err(fault) => Ok(fails(fault)),
     }
 }
@@ -157,6 +188,16 @@ fn key_of(value: &Value) -> Key
     ensures { result ≡ key_spelled (scalar_of value.now) }
 {
     Key::Number(value.number())
+}
+
+/// The scalar that a value is, else 0. A text is not counted anew.
+pub fn into_scalar(value: Value) -> Scalar
+    ensures { result ≡ scalar_of value }
+{
+    match value {
+        Value::One(scalar) => scalar,
+        Value::Many(_) => Scalar::Number(0),
+    }
 }
 
 /// The branch to be taken.

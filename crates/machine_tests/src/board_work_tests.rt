@@ -5,7 +5,7 @@ use crate::asserts::is_equal;
 use board_work::work::{Done, Job, Work};
 use entry_outcomes::answer::Answer;
 use entry_outcomes::evaluation::{evaluate, evaluate_literal};
-use entry_outcomes::outcome::{Computed, EntryFault, Outcome, outcome_of};
+use entry_outcomes::outcome::{Computed, EntryFault, Outcome, into_scalar, outcome_of};
 use entry_outcomes::same::is_same_entry;
 use std::alloc::Global;
 use std::process::Abort;
@@ -413,4 +413,37 @@ fn answers_are_shared(rt: HostRuntime) {
 fn answers_are_compared(rt: HostRuntime) {
     assert!(rt; five().is_found(&Scalar::Number(5)));
     assert!(rt; Answer::Missing.is_missing());
+}
+
+/// The shared outcome has this text, also where the first one is gone.
+fn is_shared(rt: &impl Abort, alloc: Global, outcome: Outcome, wanted: &str) {
+    let shared = outcome.share().expect(rt, "memory");
+    drop(outcome);
+    is_outcome(rt, alloc, &shared, wanted);
+}
+
+#[test]
+fn outcomes_are_shared(rt: HostRuntime) {
+    let alloc = rt.alloc();
+    let text = Text::from_slice(alloc, b"all").expect(&rt, "memory");
+    is_shared(&rt, alloc, Outcome::Leaf(Ok(Value::from_text(text))), "all");
+    is_shared(
+        &rt,
+        alloc,
+        Outcome::Leaf(Err(OpFault::Overflow)),
+        "F1 Overflow",
+    );
+    let over = Computed::Goes(array(&rt, alloc, 1, 2));
+    is_shared(&rt, alloc, Outcome::Control(over), "[4]=1[5]=2");
+    let put = Computed::Puts(Key::Number(5), Scalar::Number(4));
+    is_shared(&rt, alloc, Outcome::Control(put), "[5]=4");
+    is_shared(&rt, alloc, Outcome::Control(Computed::Opens), "opens");
+}
+
+#[test]
+fn a_value_gives_its_scalar(rt: HostRuntime) {
+    let number = into_scalar(Value::from_number(7));
+    assert!(rt; matches!(number, Scalar::Number(7)));
+    let none = into_scalar(Value::Many(array(&rt, rt.alloc(), 1, 2)));
+    assert!(rt; matches!(none, Scalar::Number(0)));
 }
