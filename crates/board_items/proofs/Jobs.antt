@@ -12,16 +12,16 @@ use Rattle.board_data.specs.Wanted.{FewSlots, is_nil, wanted_missed}
 use Rattle.board_data.proofs.Named.{all_missed}
 use Rattle.board_frames.specs.Names.{led_slot}
 use Rattle.replayed.specs.Ending.{job_kind, job_priority}
-use Rattle.replayed.specs.Fields.{Counted, Does, Frame, Job, Script, Want, slot_at, slot_for}
+use Rattle.replayed.specs.Fields.{Counted, Does, Frame, Job, Want, slot_at, slot_for}
 use Rattle.replayed.specs.Needs.{missed}
 use Rattle.task_code.specs.Code.{Code, Entry, blank_entry, body, entry, kind_of, nth}
 use Rattle.work_queue.specs.declared.entry.Kind.TheVariants.{Leaf}
 use Rattle.std.specs.Prelude.{filter, if◌then◌else◌, nat_lt, not, pos}
 use Rattle.std.specs.Bool.{OnTrue}
 use Rattle.rules.specs.declared.input.Input.{Input}
-use Rattle.smallvec.specs.SmallVec.{HasRoomFor, SmallVec}
-use Rattle.board_items.specs.Room.{AreSpare}
-use Rattle.board_items.specs.Ended.{IsSeen, first_needs, goes_on_with, misses, misses_first, needs_of}
+use Rattle.smallvec.specs.SmallVec.{SmallVec}
+use Rattle.board_items.specs.Room.{AreListsFor, AreSpare}
+use Rattle.board_items.specs.Ended.{IsSeen, first_needs, misses, misses_first}
 
 nth_past : (xs : List Entry) (i : ℕ) → length xs ≤ i → nth blank_entry xs i ≡ blank_entry
 nth_past [] i h = refl
@@ -87,32 +87,23 @@ first_past C k e c j q h = by c ∙ sym (ap (first_needs C) q)
     by zero = sym (ap (λ (x : Entry). length x.needs) (nth_past C.entries e h))
     by (suc c) = refl
 
-pub room_first : (C : Code) (j : Job) (v : SmallVec Input) → v.items ≡ [] → first_needs C j ≤ v.capacity → goes_on_with j ≡ false → HasRoomFor v (needs_of C j)
-room_first C j v e h g = by j h g
-  where
-    none : length v.items ≡ 0
-    none = ap length e
-
-    by : (j : Job) → first_needs C j ≤ v.capacity → goes_on_with j ≡ false → HasRoomFor v (needs_of C j)
-    by Script h g = let z = none in omega arith
-    by (Does k e zero) h g = let z = none in omega arith
-    by (Does k e (suc c)) h g = absurd (cc (g))
-
 -- what a new item misses
 module _ (C : Code) (fs : List (Option Frame)) (cs : List (Option Counted)) where
-  pub goes_none : (j : Job) → goes_on_with j ≡ true → misses_first C fs cs j ≡ []
-  goes_none Script h = refl
-  goes_none (Does k e zero) h = absurd (cc (h))
-  goes_none (Does k e (suc c)) h = refl
+  pub new_past : (k e c : ℕ) (j : Job) → j ≡ Does k e c → IsSeen C fs j → length C.entries ≤ e → [] ≡ misses_first C fs cs j
+  new_past k e zero j q x h = sym (ap (misses_first C fs cs) q ∙ misses_past C fs cs k e zero (subst (IsSeen C fs) q x) h)
+  new_past k e (suc c) j q x h = sym (ap (misses_first C fs cs) q)
 
-  pub first_same : (j : Job) → goes_on_with j ≡ false → misses_first C fs cs j ≡ misses C fs cs j
-  first_same Script h = refl
-  first_same (Does k e zero) h = refl
-  first_same (Does k e (suc c)) h = absurd (cc (h))
+  pub new_there : (k e c : ℕ) (j : Job) (ws : List Wanted) → j ≡ Does k e c → c ≡ 0 → FewSlots fs → IsSeen C fs j → ws ≡ map (wanted_in C (body_of C e)) (entry C e).needs → flat_map (wanted_missed C cs (led_slot fs k)) ws ≡ misses_first C fs cs j
+  new_there k e zero j ws q z few x t = misses_listed C fs cs k e zero ws few (subst (IsSeen C fs) q x) t ∙ sym (ap (misses_first C fs cs) q)
+  new_there k e (suc c) j ws q z few x t = absurd (cc (z))
 
--- the lists for new items behind one that needs none
-pub spare_rest : (C : Code) (j : Job) (js : List Job) (ls : List (SmallVec Input)) → first_needs C j ≤ 2 → AreSpare C (j ∷ js) ls → AreSpare C js ls
-spare_rest C j js ls h s = subst (λ (b : Bool). AllZip (λ n (l : SmallVec Input). n ≤ l.capacity) (if b then first_needs C j ∷ filter (nat_lt 2) (map (first_needs C) js) else filter (nat_lt 2) (map (first_needs C) js)) ls) (few (first_needs C j) h) s
+-- the lists for a new item and those behind it
+pub spare_for : (C : Code) (j j' : Job) (js : List Job) (ls : List (SmallVec Input)) (n : ℕ) → j ≡ j' → n ≡ first_needs C j → AreSpare C (j' ∷ js) ls → AreListsFor (n ∷ map (first_needs C) js) ls
+spare_for C j j' js ls n q e s = subst (λ (m : ℕ). AreListsFor (m ∷ map (first_needs C) js) ls) (sym (e ∙ ap (first_needs C) q)) s
+
+-- the lists for those behind one that needs none
+pub lists_behind : (n : ℕ) (ns : List ℕ) (ls : List (SmallVec Input)) → n ≤ 2 → AreListsFor (n ∷ ns) ls → AreListsFor ns ls
+lists_behind n ns ls h s = subst (λ (b : Bool). AllZip (λ n (l : SmallVec Input). n ≤ l.capacity) (if b then n ∷ filter (nat_lt 2) ns else filter (nat_lt 2) ns) ls) (few n h) s
   where
     few : (n : ℕ) → n ≤ 2 → nat_lt 2 n ≡ false
     few n h = grind (arith, nat_tests)

@@ -34,12 +34,6 @@ abbrev pub numbers_behind : (first count : ℕ) → List ℕ
 numbers_behind first zero = []
 numbers_behind first (suc n) = numbers_behind first n ++ (first + suc n) ∷ []
 
--- it goes on with a loop
-abbrev pub goes_on_with : Job → Bool
-goes_on_with Script = false
-goes_on_with (Does k e zero) = false
-goes_on_with (Does k e (suc c)) = true
-
 module _ (C : Code) where
   -- the instance of the job's entry is there, and of the body that has the entry
   abbrev pub IsSeen : List (Option Frame) → Job → Type 0

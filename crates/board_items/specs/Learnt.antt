@@ -1,5 +1,5 @@
 -- What items that wait have learnt once inputs have become known, one after the other.
-use Rattle.std.specs.Prelude.{◌≡◌, ℕ, Bool, true, false, List, [], ◌∷◌, if◌then◌else◌, IsPermutation}
+use Rattle.std.specs.Prelude.{◌≡◌, ℕ, List, [], ◌∷◌, if◌then◌else◌, IsPermutation}
 use Rattle.replayed.specs.Fields.{Waiter, Want}
 use Rattle.replayed.specs.Needs.{still_missed}
 use Rattle.rules.specs.Waiting.{Waiting}

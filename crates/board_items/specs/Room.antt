@@ -18,6 +18,10 @@ is_apart (Running w) = true
 is_apart Ready = false
 is_apart Over = false
 
+-- lists with room for so many inputs each, where those are more than two
+abbrev pub AreListsFor : List ℕ → List (SmallVec Input) → Type 0
+AreListsFor ns ls = AllZip (λ n (l : SmallVec Input). n ≤ l.capacity) (filter (nat_lt 2) ns) ls
+
 module _ (C : Code) where
   -- how many items of a kind wait or run
   abbrev pub apart_in : Kind → List Row → ℕ

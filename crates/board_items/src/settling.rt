@@ -1,9 +1,9 @@
 //! Items wait for what they miss, or can begin.
-ghost use Rattle.std.specs.Bool.{OnFalse, OnTrue};
+ghost use Rattle.std.specs.Bool.{OnTrue};
 ghost use Rattle.std.specs.List.{flat_map};
 ghost use Rattle.board_data.specs.Wanted.{is_nil, wanted_missed};
 ghost use Rattle.board_frames.specs.Names.{led_slot};
-ghost use Rattle.std.specs.Prelude.{◌≡◌, ◌⊎◌, ◌<◌, ◌≤◌, ◌+◌, ◌-◌, ◌++◌, ◌∷◌, [], ℕ, ℤ, List, Some, length, map, reverse, true, false, IfOk, IsOk, IsTrue, OnErr, OnOk, vec_len, vec_capacity};
+ghost use Rattle.std.specs.Prelude.{◌≡◌, ◌⊎◌, ◌<◌, ◌≤◌, ◌+◌, ◌-◌, ◌++◌, ◌∷◌, [], ℕ, ℤ, List, Some, drop, length, map, reverse, true, false, IfOk, IsOk, MatchOption, IsTrue, OnErr, OnOk, vec_len, vec_capacity};
 ghost use Rattle.smallvec.specs.SmallVec.{HasRoomFor};
 ghost use Rattle.replayed.specs.Ending.{job_kind, job_priority};
 ghost use Rattle.replayed.specs.Fields.{Job as AJob, Over as over_mark, Row, Waiter, Want, row_of};
@@ -11,9 +11,9 @@ ghost use Rattle.board_code.specs.Tables.{queue_kind};
 ghost use Rattle.board_data.specs.View.{cells_view, want_view};
 ghost use Rattle.board_data.specs.Wanted.{FewSlots};
 ghost use Rattle.board_frames.specs.View.{frames_view, job_view, rows_view};
-ghost use Rattle.board_items.specs.Ended.{AreSettled, AreShort, AreToSettle, IsSeen, IsShort, first_needs, goes_on_with, is_plain_job, misses, misses_first, needs_of, numbers_behind};
+ghost use Rattle.board_items.specs.Ended.{AreSettled, AreShort, AreToSettle, IsSeen, IsShort, first_needs, is_plain_job, misses, misses_first, needs_of, numbers_behind};
 ghost use Rattle.board_items.specs.Progress.{AreOld, CanFinish, Progress, all_to_settle, jobs_behind};
-ghost use Rattle.board_items.specs.Room.{AreSpare, IsRoomy};
+ghost use Rattle.board_items.specs.Room.{AreListsFor, AreSpare, IsRoomy};
 ghost use Rattle.board_items.specs.View.{queue_view, waiters_view};
 ghost use Rattle.replayed.specs.Marking.{mark_at};
 ghost use Rattle.std.specs.List.Sorted.{IsSorted};
@@ -28,6 +28,7 @@ use board_frames::instance::Instance;
 use board_frames::item::{Job, Mark, item_of, mark_item};
 use board_frames::opening::Inputs;
 use data_store::store::Store;
+use rules::input::Input;
 use slab::Slab;
 use smallvec::SmallVec;
 use std::alloc::{AllocError, Global};
@@ -141,21 +142,6 @@ impl<'a> Outlook<'a> {
         self.is_plain(job) || self.has_inputs(job)
     }
 
-    /// Whether a new item misses nothing that may wait for two inputs at most.
-    fn begins(self, job: Job) -> bool
-        ensures none { FewSlots (frames_view self.entry.instances.now.slots) → IsSeen self.entry.program.now (frames_view self.entry.instances.now.slots) (job_view job) →
-            OnTrue result (misses_first self.entry.program.now (frames_view self.entry.instances.now.slots) (cells_view self.entry.store.now.cells) (job_view job) ≡ []) }
-        ensures few { OnTrue result (first_needs self.entry.program.now (job_view job) ≤ 2) }
-    {
-        if first_needs(self.program, job) > 2 {
-            return false;
-        }
-        if goes_on(job) {
-            return true;
-        }
-        self.has_inputs(job)
-    }
-
     /// What an item that was woken misses next.
     ///
     /// # Errors
@@ -171,75 +157,82 @@ impl<'a> Outlook<'a> {
         Ok(inputs)
     }
 
-    /// A list for what a new item misses: the last of the spare ones, where it may wait for more than two inputs.
-    fn list_for(self, job: Job, spare: &mut Vec<Inputs>) -> Inputs
-        ensures empty { result.items ≡ [] }
-        ensures room { (jobs : List AJob) → AreSpare self.entry.program.now (job_view job ∷ jobs) (reverse spare.old.items) → first_needs self.entry.program.now (job_view job) ≤ result.capacity }
-        ensures rest { (jobs : List AJob) → AreSpare self.entry.program.now (job_view job ∷ jobs) (reverse spare.old.items) → AreSpare self.entry.program.now jobs (reverse spare.new.items) }
+    /// Who runs a new item, with its priority, and what it waits for in which instance: one that goes on with a loop waits for nothing.
+    #[inline(always)]
+    fn look(self, job: Job) -> ((Kind, i32), usize, &'a [Wanted])
+        ensures kind { result.0.0 ≡ queue_kind (job_kind self.entry.program.now (job_view job)) }
+        ensures priority { result.0.1 ≡ job_priority self.entry.program.now (job_view job) }
+        ensures count { length result.2.now ≡ first_needs self.entry.program.now (job_view job) }
+        ensures listed { FewSlots (frames_view self.entry.instances.now.slots) → IsSeen self.entry.program.now (frames_view self.entry.instances.now.slots) (job_view job) →
+            flat_map (wanted_missed self.entry.program.now (cells_view self.entry.store.now.cells) (led_slot (frames_view self.entry.instances.now.slots) result.1)) result.2.now ≡ misses_first self.entry.program.now (frames_view self.entry.instances.now.slots) (cells_view self.entry.store.now.cells) (job_view job) }
     {
-        if first_needs(self.program, job) > 2 {
-            if let Some(mut inputs) = spare.pop() {
-                inputs.clear();
-                return inputs;
+        let Job::Does {
+            instance,
+            entry,
+            chunk,
+        } = job
+        else {
+            return ((Kind::Control, 0), 0, &[]);
+        };
+        let Some(table) = self.program.entry(entry) else {
+            return ((Kind::Leaf, 0), instance, &[]);
+        };
+        let order = (table.kind, table.priority);
+        if chunk > 0 {
+            return (order, instance, &[]);
+        }
+        (order, instance, table.needs.as_slice())
+    }
+
+    /// The place of the first of these that the instance misses, and the input that it waits for there.
+    #[inline(always)]
+    fn first_missing(self, at: usize, needs: &[Wanted]) -> Option<(usize, Input)>
+        ensures { MatchOption result (flat_map (wanted_missed self.entry.program.now (cells_view self.entry.store.now.cells) (led_slot (frames_view self.entry.instances.now.slots) at)) needs.now ≡ [])
+            (λ first. (first.0 < length needs.now) × (flat_map (wanted_missed self.entry.program.now (cells_view self.entry.store.now.cells) (led_slot (frames_view self.entry.instances.now.slots) at)) needs.now ≡ want_view first.1 ∷ flat_map (wanted_missed self.entry.program.now (cells_view self.entry.store.now.cells) (led_slot (frames_view self.entry.instances.now.slots) at)) (drop (first.0 + 1) needs.now))) }
+    {
+        let view = View {
+            program: self.program,
+            instances: self.instances,
+            store: self.store,
+            at,
+        };
+        for place in 0..needs.len() {
+            if let Some(input) = view.missing(&needs[place]) {
+                return Some((place, input));
             }
         }
-        SmallVec::new(self.alloc)
+        None
     }
 
-    /// What a new item misses first. One that goes on with a loop misses nothing.
-    ///
-    /// # Errors
-    ///
-    /// `AllocError` where memory is refused; none is asked for where the last spare list has room, if the item may wait for more than
-    /// two inputs.
-    fn missed_first(self, job: Job, spare: &mut Vec<Inputs>) -> Result<Inputs, AllocError>
-        ensures listed { FewSlots (frames_view self.entry.instances.now.slots) → IsSeen self.entry.program.now (frames_view self.entry.instances.now.slots) (job_view job) →
-            IfOk result (λ inputs. map want_view inputs.items ≡ misses_first self.entry.program.now (frames_view self.entry.instances.now.slots) (cells_view self.entry.store.now.cells) (job_view job)) }
-        ensures rest { (jobs : List AJob) → AreSpare self.entry.program.now (job_view job ∷ jobs) (reverse spare.old.items) → AreSpare self.entry.program.now jobs (reverse spare.new.items) }
-        ensures succeeds { (jobs : List AJob) → AreSpare self.entry.program.now (job_view job ∷ jobs) (reverse spare.old.items) → IsOk result }
+    /// Puts what the instance misses of these behind the inputs.
+    #[inline(always)]
+    fn list(self, at: usize, needs: &[Wanted], inputs: &mut Inputs) -> Result<(), AllocError>
+        ensures listed { OnOk result (map want_view inputs.new.items ≡ map want_view inputs.old.items ++ flat_map (wanted_missed self.entry.program.now (cells_view self.entry.store.now.cells) (led_slot (frames_view self.entry.instances.now.slots) at)) needs.now) }
+        ensures succeeds { HasRoomFor inputs.old (length needs.now) → IsOk result }
     {
-        let mut inputs = self.list_for(job, spare);
-        if !goes_on(job) {
-            self.list_missing(job, &mut inputs)?;
+        let view = View {
+            program: self.program,
+            instances: self.instances,
+            store: self.store,
+            at,
+        };
+        view.list_missing(needs, inputs)
+    }
+}
+
+/// A list for what a new item misses that may wait for so many inputs: the last of the spare ones, where those are more than two.
+fn list_for(alloc: Global, needs: usize, spare: &mut Vec<Inputs>) -> Inputs
+    ensures empty { result.items ≡ [] }
+    ensures room { (rest : List ℕ) → AreListsFor (needs ∷ rest) (reverse spare.old.items) → needs ≤ result.capacity }
+    ensures rest { (rest : List ℕ) → AreListsFor (needs ∷ rest) (reverse spare.old.items) → AreListsFor rest (reverse spare.new.items) }
+{
+    if needs > 2 {
+        if let Some(mut inputs) = spare.pop() {
+            inputs.clear();
+            return inputs;
         }
-        Ok(inputs)
     }
-}
-
-/// Whether it goes on with a loop.
-fn goes_on(job: Job) -> bool
-    ensures on { OnTrue result (goes_on_with (job_view job) ≡ true) }
-    ensures off { OnFalse result (goes_on_with (job_view job) ≡ false) }
-{
-    match job {
-        Job::Script => false,
-        Job::Does {
-            instance: _,
-            entry: _,
-            chunk,
-        } => chunk > 0,
-    }
-}
-
-/// How many inputs a new item may wait for.
-fn first_needs(program: &Program, job: Job) -> usize
-    ensures { result ≡ first_needs program.now (job_view job) }
-{
-    if goes_on(job) {
-        return 0;
-    }
-    let Job::Does {
-        instance: _,
-        entry,
-        chunk: _,
-    } = job
-    else {
-        return 0;
-    };
-    match program.entry(entry) {
-        Some(table) => table.needs.len(),
-        None => 0,
-    }
+    SmallVec::new(alloc)
 }
 
 impl Items {
@@ -298,6 +291,83 @@ impl Items {
         self.settle_with(number, order, inputs)
     }
 
+    /// The new item waits for an input and for what its instance misses of the rest.
+    ///
+    /// # Errors
+    ///
+    /// `AllocError` where memory is refused; none is asked for where the rest is one at most, and there is room for an item that waits.
+    #[inline(always)]
+    fn settle_from(
+        &mut self,
+        outlook: Outlook<'_>,
+        at: usize,
+        input: Input,
+        rest: &[Wanted],
+        number: u64,
+        order: (Kind, i32),
+    ) -> Result<(), AllocError>
+        ensures settles { OnOk result (Settles number (want_view input ∷ flat_map (wanted_missed outlook.entry.program.now (cells_view outlook.entry.store.now.cells) (led_slot (frames_view outlook.entry.instances.now.slots) at)) rest.now) order.0 order.1 self.old self.new) }
+        ensures woken { self.new.woken ≡ self.old.woken }
+        ensures running { self.new.running ≡ self.old.running }
+        ensures len { vec_len self.new.rows ≡ vec_len self.old.rows }
+        ensures succeeds { length rest.now ≤ 1 → 0 < self.old.rules.room → IsOk result }
+    {
+        let mut inputs = SmallVec::new(outlook.alloc);
+        inputs.push(input)?;
+        outlook.list(at, rest, &mut inputs)?;
+        self.settle_with(number, order, inputs)
+    }
+
+    /// The new item waits for what its instance misses of these, or can begin where that is nothing.
+    ///
+    /// # Errors
+    ///
+    /// `AllocError` where memory is refused; none is asked for where they are two at most, and there is room for an item that waits.
+    #[inline(always)]
+    fn settle_few(
+        &mut self,
+        outlook: Outlook<'_>,
+        at: usize,
+        needs: &[Wanted],
+        number: u64,
+        order: (Kind, i32),
+    ) -> Result<(), AllocError>
+        ensures settles { OnOk result (Settles number (flat_map (wanted_missed outlook.entry.program.now (cells_view outlook.entry.store.now.cells) (led_slot (frames_view outlook.entry.instances.now.slots) at)) needs.now) order.0 order.1 self.old self.new) }
+        ensures woken { self.new.woken ≡ self.old.woken }
+        ensures running { self.new.running ≡ self.old.running }
+        ensures len { vec_len self.new.rows ≡ vec_len self.old.rows }
+        ensures succeeds { length needs.now ≤ 2 → 0 < self.old.rules.room → IsOk result }
+    {
+        let Some((place, input)) = outlook.first_missing(at, needs) else {
+            self.settle_ready(number, order);
+            return Ok(());
+        };
+        self.settle_from(outlook, at, input, &needs[place + 1..], number, order)
+    }
+
+    /// The same where they may be more than two: the last of the spare lists is for what is missed.
+    #[inline(never)]
+    fn settle_long(
+        &mut self,
+        outlook: Outlook<'_>,
+        at: usize,
+        needs: &[Wanted],
+        number: u64,
+        order: (Kind, i32),
+        spare: &mut Vec<Inputs>,
+    ) -> Result<(), AllocError>
+        ensures settles { OnOk result (Settles number (flat_map (wanted_missed outlook.entry.program.now (cells_view outlook.entry.store.now.cells) (led_slot (frames_view outlook.entry.instances.now.slots) at)) needs.now) order.0 order.1 self.old self.new) }
+        ensures woken { self.new.woken ≡ self.old.woken }
+        ensures running { self.new.running ≡ self.old.running }
+        ensures len { vec_len self.new.rows ≡ vec_len self.old.rows }
+        ensures rest { (rest : List ℕ) → AreListsFor (length needs.now ∷ rest) (reverse spare.old.items) → AreListsFor rest (reverse spare.new.items) }
+        ensures succeeds { (rest : List ℕ) → AreListsFor (length needs.now ∷ rest) (reverse spare.old.items) → 0 < self.old.rules.room → IsOk result }
+    {
+        let mut inputs = list_for(outlook.alloc, needs.len(), spare);
+        outlook.list(at, needs, &mut inputs)?;
+        self.settle_with(number, order, inputs)
+    }
+
     /// The new item at this place waits for what it misses first, or can begin.
     fn settle_one(
         &mut self,
@@ -316,13 +386,11 @@ impl Items {
     {
         let job = self.rows[place].item().job();
         let number = place as u64 + 1;
-        let order = order_of(outlook.program, job);
-        if outlook.begins(job) {
-            self.settle_ready(number, order);
-            return Ok(());
+        let (order, at, needs) = outlook.look(job);
+        if needs.len() > 2 {
+            return self.settle_long(outlook, at, needs, number, order, spare);
         }
-        let inputs = outlook.missed_first(job, spare)?;
-        self.settle_with(number, order, inputs)
+        self.settle_few(outlook, at, needs, number, order)
     }
 
     /// Those that have learnt of their last input wait for what they miss next, or can begin.
