@@ -4,6 +4,7 @@ use crate::scripts::{SCRIPTS, Script};
 use board_code::program::Program;
 use compile::compile::compile;
 use runs::one::run_one;
+use runs::report::Report;
 use std::alloc::Global;
 use std::io;
 use std::sync::Wait;
@@ -15,29 +16,24 @@ use workers::run::run_threads;
 /// How many engines and workers there are. Where there are none, one thread does it all, without a lock.
 const CREWS: [(u8, u8); 4] = [(0, 0), (1, 1), (1, 3), (2, 2)];
 
-/// Runs the program on one thread, and counts the events.
-fn run_alone(alloc: Global, program: &Program) -> usize {
-    match run_one(alloc, program, &[], u32::MAX) {
-        Ok(report) => report.history.len(),
-        Err(_) => 0,
-    }
-}
-
-/// The same on so many engines and workers.
-fn run_by_crew<R: Threads + Wait + Sync>(
+/// What a run of the program leaves, on one thread or, where there are engines, on so many engines and workers.
+fn run<R: Threads + Wait + Sync>(
     rt: &R,
     alloc: Global,
     program: &Program,
     engines: u8,
     workers: u8,
-) -> usize {
+) -> Option<Report> {
+    if engines == 0 {
+        return run_one(alloc, program, &[], u32::MAX).ok();
+    }
     match run_threads(rt, alloc, program, engines, workers, u32::MAX, &Open) {
-        Ok((report, _)) => report.history.len(),
-        Err(_) => 0,
+        Ok((report, _)) => Some(report),
+        Err(_) => None,
     }
 }
 
-/// How many items a run has, and the nanoseconds of each, from the board's making to the report's end.
+/// How many items a run has, and the nanoseconds of each, from the board's making to the report's. The report is let go after that.
 fn items_and_nanos<R: Clock + Threads + Wait + Sync>(
     rt: &R,
     alloc: Global,
@@ -46,13 +42,12 @@ fn items_and_nanos<R: Clock + Threads + Wait + Sync>(
     workers: u8,
 ) -> io::Result<(u128, u128)> {
     let start = Instant::now(rt)?;
-    let events = if engines == 0 {
-        run_alone(alloc, program)
-    } else {
-        run_by_crew(rt, alloc, program, engines, workers)
-    };
+    let report = run(rt, alloc, program, engines, workers);
     let nanos = start.elapsed(rt)?.as_nanos();
-    let items = events as u128 / 2;
+    let items = match report {
+        Some(report) => report.history.len() as u128 / 2,
+        None => 0,
+    };
     Ok((items, nanos / items.max(1)))
 }
 

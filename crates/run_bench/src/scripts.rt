@@ -19,9 +19,10 @@ enum Body {
     Chain,
 }
 
-/// A loop of prints, Fibonacci by calls, a chain of scalars, an array of which each element is from the one before, nested loops with an
-/// `if` that fill an array, and many small calls. The longest chain is one that 1 MiB holds.
-pub const SCRIPTS: [Script; 6] = [
+/// A loop of prints, Fibonacci by calls, a chain of scalars, an array of which each element is from the one before, calls that lie 501
+/// steps deep in one another, nested loops with an `if` that fill an array, and many small calls. The longest chain is one that 1 MiB
+/// holds.
+pub const SCRIPTS: [Script; 7] = [
     Script {
         name: "flat",
         body: Body::Between("foreach i in [1:", "] { printf(\"%i\", i); }"),
@@ -47,6 +48,14 @@ pub const SCRIPTS: [Script; 6] = [
             "] { A[i] = A[i-1] + 1; }",
         ),
         numbers: [1_000, 10_000, 100_000, 1_000_000],
+    },
+    Script {
+        name: "deep",
+        body: Body::Between(
+            "(int o) f(int n) { if (n == 0) { o = 0; } else { o = f(n-1); } } foreach i in [1:",
+            "] { int r = f(250); }",
+        ),
+        numbers: [1, 10, 100, 1_000],
     },
     Script {
         name: "nested",
