@@ -1,4 +1,5 @@
 pub mod Inputs
+pub mod Missing
 pub mod Places
 pub mod Slots
 pub mod Waiting

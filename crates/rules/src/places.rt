@@ -1,9 +1,11 @@
 //! Where the items that wait for an input are found.
 ghost use Rattle.std.specs.Prelude.{◌≡◌, ◌⊎◌, ℕ, ◌+◌, ◌<◌, ◌≤◌, ◌%◌, [], true, cond, is_some, None, Some, length, Contains, IfOk};
+ghost use Rattle.std.specs.List.{list_any};
 ghost use Rattle.slab.specs.Slab.{get, slab_len};
 ghost use Rattle.rules.specs.Places.{IsAt, IsAllBut, IsLast, no_slot, note_at, Grows, IsFound, IsNoted, is_at, needs, slot_needs};
 
 use crate::input::Input;
+use crate::missing::Listed;
 use crate::waiter::Waiter;
 use slab::Slab;
 use std::alloc::{AllocError, Global};
@@ -245,18 +247,34 @@ impl Places {
         self.put(input.datum(), slot)
     }
 
+    // Notes a slot where those that wait for one of the inputs are found.
+    fn note_all(&mut self, inputs: &[Input], slot: usize) -> bool
+        ensures grows { Grows self.old self.new }
+        ensures strays { self.new.strays ≡ self.old.strays }
+        ensures noted { result ≡ true → (a : ℕ) → list_any (is_at a) inputs.now ≡ true → IsAt self.new.notes a slot }
+    {
+        for input in inputs {
+            if !self.note_input(input, slot) {
+                return false;
+            }
+        }
+        true
+    }
+
     // Notes the slot of an item wherever it is to be, where there is place.
     fn note_item(&mut self, waiter: &Waiter, slot: usize) -> bool
         ensures grows { Grows self.old self.new }
         ensures strays { self.new.strays ≡ self.old.strays }
         ensures noted { result ≡ true → (a : ℕ) → needs a waiter.now ≡ true → IsAt self.new.notes a slot }
     {
-        for input in waiter.missing() {
-            if !self.note_input(input, slot) {
-                return false;
+        match waiter.missing() {
+            Listed::Nothing => true,
+            Listed::One(only) => self.note_input(&only, slot),
+            Listed::Two(first, second) => {
+                self.note_input(&first, slot) && self.note_input(&second, slot)
             }
+            Listed::More(inputs) => self.note_all(inputs, slot),
         }
-        true
     }
 
     // Notes an item, if it has few notes, or there are no more than so many then.
@@ -265,7 +283,7 @@ impl Places {
         ensures strays { self.new.strays ≡ self.old.strays }
         ensures noted { result ≡ true → (a : ℕ) → needs a waiter.now ≡ true → IsAt self.new.notes a slot }
     {
-        let weight = notes_of(waiter.missing().len());
+        let weight = notes_of(waiter.count());
         if weight > PLAIN && self.notes.len().saturating_add(weight) > most {
             return false;
         }
@@ -486,7 +504,7 @@ pub fn heavy(waiters: &Slab<Waiter>) -> usize {
     let mut sum = 0_usize;
     for slot in 0..waiters.capacity() {
         if let Some(waiter) = waiters.get(slot) {
-            let weight = notes_of(waiter.missing().len());
+            let weight = notes_of(waiter.count());
             sum = sum.saturating_add(heavy_part(weight));
         }
     }

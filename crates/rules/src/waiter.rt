@@ -1,10 +1,12 @@
 //! An item that waits.
 ghost use Rattle.std.specs.Prelude.{◌≡◌, ◌==◌, length};
 ghost use Rattle.std.specs.List.{list_any};
+ghost use Rattle.rules.specs.Missing.{inputs_of};
 ghost use Rattle.rules.specs.Waiting.{with_known};
 ghost use Rattle.rules.specs.Places.{needs, is_at};
 
 use crate::input::Input;
+use crate::missing::{Listed, Missing};
 use smallvec::SmallVec;
 use std::marker::Model;
 
@@ -12,22 +14,26 @@ use std::marker::Model;
 #[derive(Drop)]
 pub struct Waiter {
     item: u64,
-    missing: SmallVec<Input, 2>,
+    missing: Missing,
 }
 
 impl Model for Waiter {
+    ghost use Rattle.rules.specs.Missing.{inputs_in};
     ghost use Rattle.rules.specs.Waiting.{Waiting};
 
     ghost Value = { Waiting };
 
-    ghost view = { λ a. record { item = a.item; missing = a.missing.items } };
+    ghost view = { λ a. record { item = a.item; missing = inputs_in a.missing } };
 }
 
 impl Waiter {
     pub fn new(item: u64, missing: SmallVec<Input, 2>) -> Waiter
         ensures { result ≡ record { item = item; missing = missing.items } }
     {
-        Waiter { item, missing }
+        Waiter {
+            item,
+            missing: Missing::of(missing),
+        }
     }
 
     pub fn item(&self) -> u64
@@ -36,32 +42,45 @@ impl Waiter {
         self.item
     }
 
-    /// What it waits for.
-    pub fn missing(&self) -> &[Input]
-        ensures { result.now ≡ self.now.missing }
+    /// How many inputs it waits for.
+    pub fn count(&self) -> usize
+        ensures { result ≡ length self.now.missing }
     {
-        self.missing.as_slice()
+        self.missing.len()
+    }
+
+    /// What it waits for.
+    #[inline(always)]
+    pub fn missing(&self) -> Listed<'_>
+        ensures { inputs_of result ≡ self.now.missing }
+    {
+        self.missing.listed()
     }
 
     /// Whether it is to be noted at this address.
     pub fn needs(&self, address: u32) -> bool
         ensures { result ≡ needs address self.now }
     {
-        is_any_at(self.missing(), address)
+        match self.missing() {
+            Listed::Nothing => false,
+            Listed::One(only) => only.is_at(address),
+            Listed::Two(first, second) => first.is_at(address) || second.is_at(address),
+            Listed::More(inputs) => is_any_at(inputs, address),
+        }
     }
 
     /// Whether nothing is missing any more.
     pub fn is_ready(&self) -> bool
         ensures { result ≡ (length self.now.missing == 0) }
     {
-        self.missing.is_empty()
+        self.missing.is_nothing()
     }
 
     /// Takes out what is known with this input.
     pub fn learn(&mut self, input: &Input)
         ensures { self.new ≡ with_known input.now self.old }
     {
-        self.missing.retain(|missed| !input.covers(missed));
+        self.missing.learn(input);
     }
 }
 

@@ -1,0 +1,27 @@
+-- What a waiter keeps of its inputs.
+use Rattle.std.specs.Prelude.{List, [], ◌∷◌}
+use Rattle.values.specs.declared.key.Key.TheVariants.{Number}
+use Rattle.rules.specs.declared.input.Input.{Input}
+use Rattle.rules.specs.declared.input.Input.TheVariants.{Whole, Element}
+use Rattle.rules.specs.declared.missing.Missing.{Missing}
+use Rattle.rules.specs.declared.missing.Missing.TheVariants.{Nothing, OneWhole, OneElement, TwoWholes, WholeAndElement, ElementAndWhole, TwoElements, More}
+use Rattle.rules.specs.declared.missing.Listed.{Listed}
+use Rattle.rules.specs.declared.missing.Listed.TheVariants as Lists
+
+-- the inputs, in their order
+abbrev pub inputs_in : Missing → List Input
+inputs_in Nothing = []
+inputs_in (OneWhole a) = Whole a ∷ []
+inputs_in (OneElement a k) = Element a (Number k) ∷ []
+inputs_in (TwoWholes a b) = Whole a ∷ Whole b ∷ []
+inputs_in (WholeAndElement a b l) = Whole a ∷ Element b (Number l) ∷ []
+inputs_in (ElementAndWhole a k b) = Element a (Number k) ∷ Whole b ∷ []
+inputs_in (TwoElements a k b l) = Element a (Number k) ∷ Element b (Number l) ∷ []
+inputs_in (More list) = list.items
+
+-- the inputs, in their order
+abbrev pub inputs_of : Listed → List Input
+inputs_of Lists.Nothing = []
+inputs_of (Lists.One i) = i ∷ []
+inputs_of (Lists.Two i j) = i ∷ j ∷ []
+inputs_of (Lists.More list) = list.now
