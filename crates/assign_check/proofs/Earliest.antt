@@ -2,7 +2,7 @@
 use Rattle.std.proofs.Common.{◌≡◌, ◌⊎◌, inl, inr, ℕ, ◌<◌, ◌≤◌, Bool, true, false, List, [], ◌∷◌, refl, sym, ◌∙◌, subst, arith}
 use Rattle.std.specs.Prelude.{nat_lt, nat_eq, cond, Option, Some, None}
 use Rattle.std.proofs.lemmas.Bool.{ltb-true, eqb-true}
-use Rattle.syntax_trees.specs.Members.{◌∈◌, first, later}
+use Rattle.language.specs.Members.{◌∈◌, first, later}
 use Rattle.assign_check.specs.declared.fault.AssignFault.{AssignFault}
 use Rattle.assign_check.specs.Faults.{place, code, precedes, earlier, first_among, first_fault}
 

@@ -1,11 +1,11 @@
 -- The law of single assignment, put together from its claims.
 use Rattle.std.proofs.Common.{◌≡◌, ℕ, []}
-use Rattle.syntax_trees.specs.Numbered.{numbered}
-use Rattle.syntax_trees.specs.Resolved.{core}
-use Rattle.syntax_trees.specs.Single.{SinglyAssigned}
-use Rattle.syntax_trees.specs.Table.{Table}
-use Rattle.syntax_trees.specs.Tree.{Tree}
-use Rattle.syntax_trees.specs.Typing.{WellTyped}
+use Rattle.language.specs.Numbered.{numbered}
+use Rattle.language.specs.Resolved.{core}
+use Rattle.language.specs.Single.{SinglyAssigned}
+use Rattle.language.specs.Table.{Table}
+use Rattle.language.specs.Tree.{Tree}
+use Rattle.language.specs.Typing.{WellTyped}
 use Rattle.assign_check.specs.Outline.{outlines}
 use Rattle.assign_check.specs.Faults.{faults_of, faults}
 use Rattle.assign_check.proofs.clauses.Claims.{ByOutlines, ToOutlines, AllScoped, NoFault, NotSingle}

@@ -2,12 +2,12 @@
 use Rattle.std.proofs.Common.{◌≡◌, inl, inr, ℕ, [], ◌++◌}
 use Rattle.std.specs.Prelude.{None}
 use Rattle.std.specs.List.{flat_map}
-use Rattle.syntax_trees.specs.Members.{◌∈◌}
-use Rattle.syntax_trees.specs.Numbered.{numbered}
-use Rattle.syntax_trees.specs.Table.{Table}
-use Rattle.syntax_trees.specs.Tree.{Tree}
-use Rattle.syntax_trees.specs.Typing.{WellTyped}
-use Rattle.syntax_trees.proofs.Members.{either}
+use Rattle.language.specs.Members.{◌∈◌}
+use Rattle.language.specs.Numbered.{numbered}
+use Rattle.language.specs.Table.{Table}
+use Rattle.language.specs.Tree.{Tree}
+use Rattle.language.specs.Typing.{WellTyped}
+use Rattle.language.proofs.Members.{either}
 use Rattle.assign_check.specs.declared.fault.AssignFault.{AssignFault}
 use Rattle.assign_check.specs.Outline.{Outline, outlines}
 use Rattle.assign_check.specs.Faults.{way_faults, split_faults, variable_faults, uses_in, declared_in, faults_of, faults}

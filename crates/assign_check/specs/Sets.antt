@@ -1,8 +1,8 @@
 -- Sets of numbers, and how often parts of a block assign a variable.
 use Rattle.std.specs.Prelude.{◌≡◌, ℕ, ◌+◌, Bool, false, ◌&&◌, ◌||◌, cond, nat_eq, List, [], ◌∷◌, map, Option, Some, None, Vec, slice_get, get_or}
 use Rattle.std.specs.Global.{Global}
-use Rattle.syntax_trees.specs.Core.{Owned, local, input, output}
-use Rattle.syntax_trees.specs.Members.{◌∈◌}
+use Rattle.language.specs.Core.{Owned, local, input, output}
+use Rattle.language.specs.Members.{◌∈◌}
 use Rattle.types.specs.Typed.{owned_name}
 use Rattle.assign_check.specs.declared.count.Branches.{Branches}
 use Rattle.assign_check.specs.declared.count.Part.{Part}

@@ -1,6 +1,6 @@
 -- The value that a table has for a variable.
 use Rattle.std.specs.Prelude.{Option, Some, None, slice_get}
-use Rattle.syntax_trees.specs.Core.{Owned, local, input, output}
+use Rattle.language.specs.Core.{Owned, local, input, output}
 use Rattle.assign_check.specs.declared.table.Table.{Table}
 
 abbrev pub or_empty : {T : Type 0} → T → Option T → T

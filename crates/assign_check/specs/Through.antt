@@ -1,7 +1,7 @@
 -- Blocks inside an outline, and the ways through it: an `if` takes one branch, a loop counts by its own rule. States docs/LANGUAGE.md: Single assignment.
 use Rattle.std.specs.Prelude.{◌≡◌, ℕ, ◌+◌, false}
 use Rattle.lexer.specs.declared.token.Span.{Span}
-use Rattle.syntax_trees.specs.Core.{Owned}
+use Rattle.language.specs.Core.{Owned}
 use Rattle.assign_check.specs.Outline.{named, Use, given, Declared, Outline, nothing, followed, Step, declares, uses, splits, repeats, encloses}
 use Rattle.assign_check.specs.Faults.{is_before}
 

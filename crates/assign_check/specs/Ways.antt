@@ -1,6 +1,6 @@
 -- The variables on a way of the program.
 use Rattle.std.specs.Prelude.{List, map}
-use Rattle.syntax_trees.specs.Core.{Owned}
+use Rattle.language.specs.Core.{Owned}
 use Rattle.types.specs.Typed.{owned_name}
 use Rattle.assign_check.specs.declared.way.Way.{Way}
 

@@ -1,7 +1,8 @@
 //! From statements to the steps that single assignment sees.
 ghost use Rattle.std.specs.Prelude.{◌≡◌, ◌++◌, ◌∷◌, [], ℕ, OnOk, IfOk, map, option_map};
-ghost use Rattle.syntax_trees.specs.View.{word_of, words_view, expression_view, declaration_of, right_of, calling_of, over_of, choice_of, statement_view, command_view, body_view};
-ghost use Rattle.syntax_trees.specs.Tree as trees;
+ghost use Rattle.syntax_trees.specs.View.{word_of, words_view, expression_view, declaration_of, right_of, calling_of, over_of, statement_view, command_view, body_view};
+ghost use Rattle.language.specs.Tree.{choice_of};
+ghost use Rattle.language.specs.Tree as trees;
 ghost use Rattle.types.specs.Typed.{table_of, owned_name};
 ghost use Rattle.assign_check.specs.Outline as outline;
 ghost use Rattle.assign_check.specs.View.{steps_view, role_of, kind_of};

@@ -1,7 +1,7 @@
 //! The faults of branches: how often the ways through each of them assign a variable.
 ghost use Rattle.std.specs.Prelude.{◌≡◌, ◌++◌, ◌∷◌, [], OnOk, IfOk, false, cond, ◌||◌};
 ghost use Rattle.std.specs.List.{list_any};
-ghost use Rattle.syntax_trees.specs.Core as core;
+ghost use Rattle.language.specs.Core as core;
 ghost use Rattle.types.specs.Typed.{owned_name};
 ghost use Rattle.assign_check.specs.Faults as faults;
 ghost use Rattle.assign_check.specs.Sets.{Same, numbers, set_at, are_empty, names, part_sums, is_apart, parts_apart};

@@ -1,12 +1,12 @@
 //! What the faults of a script say of it.
 ghost use Rattle.std.specs.Prelude.{◌≡◌, ℕ, [], Some, false};
-ghost use Rattle.syntax_trees.specs.Members.{◌∈◌};
-ghost use Rattle.syntax_trees.specs.Numbered.{numbered};
-ghost use Rattle.syntax_trees.specs.Resolved.{core};
-ghost use Rattle.syntax_trees.specs.Single.{SinglyAssigned};
-ghost use Rattle.syntax_trees.specs.Table.{Table};
-ghost use Rattle.syntax_trees.specs.Tree.{Tree};
-ghost use Rattle.syntax_trees.specs.Typing.{WellTyped};
+ghost use Rattle.language.specs.Members.{◌∈◌};
+ghost use Rattle.language.specs.Numbered.{numbered};
+ghost use Rattle.language.specs.Resolved.{core};
+ghost use Rattle.language.specs.Single.{SinglyAssigned};
+ghost use Rattle.language.specs.Table.{Table};
+ghost use Rattle.language.specs.Tree.{Tree};
+ghost use Rattle.language.specs.Typing.{WellTyped};
 ghost use Rattle.assign_check.specs.declared.fault.AssignFault.{AssignFault};
 ghost use Rattle.assign_check.specs.Breaks.{Breaks};
 ghost use Rattle.assign_check.specs.Faults.{faults, first_fault, precedes};

@@ -1,7 +1,7 @@
 //! What single assignment sees of a block: declarations, uses of variables, and the statements with blocks inside them.
 
+use language::tree::Shape;
 use lexer::token::Span;
-use syntax_trees::tree::Shape;
 use types::typed::Owned;
 
 /// How a variable is used.

@@ -1,6 +1,6 @@
 //! The outlines of a script: its own block's, and those of its functions' bodies.
 ghost use Rattle.std.specs.Prelude.{◌≡◌, ◌++◌, ◌∷◌, [], OnOk, IfOk, map};
-ghost use Rattle.syntax_trees.specs.Core.{input, output};
+ghost use Rattle.language.specs.Core.{input, output};
 ghost use Rattle.syntax_trees.specs.View.{declarations_view, composite_of, part_of};
 ghost use Rattle.types.specs.Typed.{table_of};
 ghost use Rattle.assign_check.specs.Outline as outline;

@@ -1,7 +1,7 @@
 //! The scalars that expressions read.
 ghost use Rattle.std.specs.Prelude.{◌≡◌, ◌++◌, ◌∷◌, [], OnOk, map, option_map};
 ghost use Rattle.syntax_trees.specs.View.{word_of, words_view, expression_view, form_view, right_of, calling_of, range_of, over_of};
-ghost use Rattle.syntax_trees.specs.Tree.{expressions_of};
+ghost use Rattle.language.specs.Tree.{expressions_of};
 ghost use Rattle.types.specs.Typed.{table_of};
 ghost use Rattle.assign_check.specs.Outline as outline;
 ghost use Rattle.assign_check.specs.View.{steps_view, kind_of};

@@ -1,9 +1,9 @@
 //! Whether a script is singly assigned.
 ghost use Rattle.std.specs.Prelude.{◌≡◌, ◌≢◌, ◌∷◌, [], OnOk, IfOk, IfErr, Some, false};
 ghost use Rattle.std.specs.List.{flat_map};
-ghost use Rattle.syntax_trees.specs.Core as core;
-ghost use Rattle.syntax_trees.specs.Resolved as resolved;
-ghost use Rattle.syntax_trees.specs.Single.{SinglyAssigned};
+ghost use Rattle.language.specs.Core as core;
+ghost use Rattle.language.specs.Resolved as resolved;
+ghost use Rattle.language.specs.Single.{SinglyAssigned};
 ghost use Rattle.syntax_trees.specs.View.{part_of, tree_of};
 ghost use Rattle.types.specs.Typed.{table_of};
 ghost use Rattle.assign_check.specs.Breaks.{Breaks, IsTyped};

@@ -1,7 +1,7 @@
 //! A value for each variable.
 ghost use Rattle.std.specs.Prelude.{◌≡◌, ◌≢◌, ℕ, OnOk, OnErr, slice_get, cond, nat_eq};
 ghost use Rattle.types.specs.Typed.{owned_name};
-ghost use Rattle.syntax_trees.specs.Core as core;
+ghost use Rattle.language.specs.Core as core;
 ghost use Rattle.assign_check.specs.Faults as faults;
 ghost use Rattle.assign_check.specs.Tables.{at, or_empty};
 

@@ -1,7 +1,7 @@
 //! How each variable is used.
 ghost use Rattle.std.specs.Prelude.{◌≡◌, ◌++◌, [], OnOk, map};
 ghost use Rattle.std.specs.List.{flat_map};
-ghost use Rattle.syntax_trees.specs.Core as core;
+ghost use Rattle.language.specs.Core as core;
 ghost use Rattle.types.specs.Typed.{owned_name};
 ghost use Rattle.assign_check.specs.Faults as faults;
 ghost use Rattle.assign_check.specs.Tables.{at};
@@ -12,9 +12,9 @@ use crate::best::note;
 use crate::fault::AssignFault;
 use crate::outline::{Declared, Kind, Role, Step, Use};
 use crate::table::Table;
+use language::tree::Shape;
 use lexer::token::Span;
 use std::alloc::AllocError;
-use syntax_trees::tree::Shape;
 
 /// How a variable is used.
 #[derive(Clone, Copy)]

@@ -1,6 +1,6 @@
 //! The variables that some way assigns.
 ghost use Rattle.std.specs.Prelude.{◌≡◌, map};
-ghost use Rattle.syntax_trees.specs.Core as core;
+ghost use Rattle.language.specs.Core as core;
 ghost use Rattle.types.specs.Typed.{owned_name};
 ghost use Rattle.assign_check.specs.Faults as faults;
 ghost use Rattle.assign_check.specs.Tables.{at};

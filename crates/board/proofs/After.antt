@@ -6,19 +6,19 @@ use Rattle.std.proofs.lemmas.Bool.Decides.{nat_tests}
 use Rattle.std.proofs.lemmas.List.Sorted.{IsPermutation-refl}
 use Rattle.dataflow.specs.System.{Answer, In}
 use Rattle.dataflow.specs.Machine.{End, Event, SeesAll}
-use Rattle.replayed.specs.CodeReplay.{replayed}
-use Rattle.replayed.specs.Ending.{AreMade, BecomesKnown, CellsAfter, EndsTo, FramesOpen, Instance, NamesLead, TakenOff, TurnsAfter, home, is_one, job_stores, jobs_after, leaving, mark_after, marked_by, new_row, printed, turns_of_new}
-use Rattle.replayed.specs.Fields.{Counted, Does, Fields, Frame, Job, Layout, Over, Ready, Row, Script, Waiting, Want, row_of, task_of}
-use Rattle.replayed.specs.Needs.{job_missed}
-use Rattle.replayed.specs.Stands.{Stands}
-use Rattle.replayed.specs.Static.{computed_by, rests}
-use Rattle.replayed.proofs.EndedBase.{Ending}
-use Rattle.replayed.proofs.EndedFrames.{row_frame}
-use Rattle.replayed.proofs.EndedItems.{row_below}
-use Rattle.replayed.proofs.EndedRows.{row_kept, row_to}
-use Rattle.replayed.proofs.Next.{nat_sound}
-use Rattle.replayed.proofs.Rows.{no_row}
-use Rattle.replayed.proofs.Tests.{choose, some_same}
+use Rattle.board_history.specs.CodeReplay.{replayed}
+use Rattle.board_history.specs.Ending.{AreMade, BecomesKnown, CellsAfter, EndsTo, FramesOpen, Instance, NamesLead, TakenOff, TurnsAfter, home, is_one, job_stores, jobs_after, leaving, mark_after, marked_by, new_row, printed, turns_of_new}
+use Rattle.board_history.specs.Fields.{Counted, Does, Fields, Frame, Job, Layout, Over, Ready, Row, Script, Waiting, Want, row_of, task_of}
+use Rattle.board_history.specs.Needs.{job_missed}
+use Rattle.board_history.specs.Stands.{Stands}
+use Rattle.board_history.specs.Static.{computed_by, rests}
+use Rattle.board_history.proofs.EndedBase.{Ending}
+use Rattle.board_history.proofs.EndedFrames.{row_frame}
+use Rattle.board_history.proofs.EndedItems.{row_below}
+use Rattle.board_history.proofs.EndedRows.{row_kept, row_to}
+use Rattle.board_history.proofs.Next.{nat_sound}
+use Rattle.board_history.proofs.Rows.{no_row}
+use Rattle.board_history.proofs.Tests.{choose, some_same}
 use Rattle.rules.specs.Waiting as Rules
 use Rattle.task_code.specs.Code.{Code}
 use Rattle.task_code.specs.Compute.{Computed, Elements}
@@ -27,7 +27,7 @@ use Rattle.task_code.specs.System.{code_system, task_inputs}
 use Rattle.task_code.specs.Whole.{IsCode}
 use Rattle.values.specs.declared.key.Key.{Key}
 use Rattle.values.specs.declared.value.Scalar.{Scalar}
-use Rattle.board_code.specs.Spots.{layout_of}
+use Rattle.board_program.specs.Spots.{layout_of}
 use Rattle.board_items.specs.Ended.{AreSettled, AreShort, AreToSettle, IsSeen, ItemsFit, can_begin, misses, numbers_behind, runs_so, waiter_at}
 use Rattle.board_items.specs.Learnt.{HaveLearnt, served}
 use Rattle.board_items.specs.View.{waiters_view}

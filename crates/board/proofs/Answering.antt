@@ -5,13 +5,13 @@ use Rattle.dataflow.specs.System.{Answer, ClosedArray, ElementAt, ElementOf, Fou
 use Rattle.dataflow.specs.Machine.{Event, Holds, IsElementKnown, IsKnown, Sees, SeesAll, SeesElement}
 use Rattle.dataflow.proofs.Known.{one_value}
 use Rattle.dataflow.proofs.Lists.{in_left, in_right}
-use Rattle.replayed.specs.Fields as Fields
-use Rattle.replayed.specs.Fields.{Counted, DatumOf, Layout, LiteralOf, Mapping, Slot, literal, slot_at}
-use Rattle.replayed.specs.Needs.{cell_element}
-use Rattle.replayed.specs.Stands.{Stands}
-use Rattle.replayed.proofs.EndedNames.{Resolved, to_datum, to_literal}
-use Rattle.replayed.proofs.EndedWants.{not_false, scalar_place}
-use Rattle.replayed.proofs.Tests.{none_some, yes_no}
+use Rattle.board_history.specs.Fields as Fields
+use Rattle.board_history.specs.Fields.{Counted, DatumOf, Layout, LiteralOf, Mapping, Slot, literal, slot_at}
+use Rattle.board_history.specs.Needs.{cell_element}
+use Rattle.board_history.specs.Stands.{Stands}
+use Rattle.board_history.proofs.EndedNames.{Resolved, to_datum, to_literal}
+use Rattle.board_history.proofs.EndedWants.{not_false, scalar_place}
+use Rattle.board_history.proofs.Tests.{none_some, yes_no}
 use Rattle.task_code.proofs.Equal.{every_in, true_and}
 use Rattle.task_code.proofs.Kept.{code_laws}
 use Rattle.task_code.proofs.Places.{argued, argument_kind}

@@ -3,14 +3,14 @@ use Rattle.std.proofs.Common.{◌≡◌, ℕ, ◌+◌, ◌*◌, ◌≤◌, Bool,
 use Rattle.std.specs.List.{filter}
 use Rattle.std.proofs.Math.Nat.{mul-suc}
 use Rattle.dataflow.proofs.Lists.{map_append}
-use Rattle.replayed.specs.Ending.{job_kind, new_row}
-use Rattle.replayed.specs.Fields.{Does, Job, Row, Script}
-use Rattle.replayed.specs.Marking.{kind_eq}
+use Rattle.board_history.specs.Ending.{job_kind, new_row}
+use Rattle.board_history.specs.Fields.{Does, Job, Row, Script}
+use Rattle.board_history.specs.Marking.{kind_eq}
 use Rattle.task_code.specs.Code.{Code, Control, Kind, Leaf, entry, kind_of}
-use Rattle.board_code.specs.Tables.{is_kind, run_as, runs_as}
-use Rattle.board_frames.specs.Openings.{Put, put_jobs}
+use Rattle.board_program.specs.Tables.{is_kind, run_as, runs_as}
+use Rattle.board_instances.specs.Openings.{Put, put_jobs}
 use Rattle.board_items.specs.Room.{apart_in}
-use Rattle.board_openings.specs.Opened.{going as going_jobs}
+use Rattle.board_changes.specs.Opened.{going as going_jobs}
 use Rattle.board.specs.Room.{going}
 
 kinds_same : (k l : Kind) → kind_eq k l ≡ is_kind k l

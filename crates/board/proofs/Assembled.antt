@@ -3,9 +3,9 @@ use Rattle.std.proofs.Common.{◌≡◌, ◌∙◌, ℕ, zero, suc, ◌<◌, ◌
 use Rattle.std.specs.List.Sorted.{IsNonDecreasing}
 use Rattle.dataflow.specs.System.{Answer, Distinct, In}
 use Rattle.dataflow.specs.Machine.{Event, SeesAll}
-use Rattle.replayed.specs.Ending.{job_kind}
-use Rattle.replayed.specs.Fields.{Counted, Frame, Job, task_of}
-use Rattle.replayed.specs.Static.{computed_by}
+use Rattle.board_history.specs.Ending.{job_kind}
+use Rattle.board_history.specs.Fields.{Counted, Frame, Job, task_of}
+use Rattle.board_history.specs.Static.{computed_by}
 use Rattle.task_code.specs.Code.{Code, Control}
 use Rattle.task_code.specs.Compute.{Computed}
 use Rattle.task_code.specs.Machine.{CodeState}
@@ -17,15 +17,15 @@ use Rattle.board_data.specs.View.{cells_view}
 use Rattle.board_effects.specs.Effects.{GoesWell, IsEffect}
 use Rattle.board_effects.specs.declared.effect.Effect.{Effect}
 use Rattle.board_effects.specs.declared.effect.Effect.TheVariants as To
-use Rattle.board_frames.specs.View.{frames_view, rows_view}
-use Rattle.board_frames.specs.declared.opening.Openings.{Openings}
-use Rattle.board_frames.specs.declared.item.Item.{Item}
-use Rattle.board_openings.proofs.Bridge.{are_blocks}
-use Rattle.board_openings.specs.Blocks.{AreBlocks}
-use Rattle.board_openings.specs.Room.{OpensWell}
-use Rattle.board_openings.specs.World.{goes_on}
-use Rattle.board_openings.specs.declared.world.Change.{Change}
-use Rattle.board_openings.specs.declared.world.Change.TheVariants as Changes
+use Rattle.board_instances.specs.View.{frames_view, rows_view}
+use Rattle.board_instances.specs.declared.opening.Openings.{Openings}
+use Rattle.board_instances.specs.declared.item.Item.{Item}
+use Rattle.board_changes.proofs.Bridge.{are_blocks}
+use Rattle.board_changes.specs.Blocks.{AreBlocks}
+use Rattle.board_changes.specs.Room.{OpensWell}
+use Rattle.board_changes.specs.World.{goes_on}
+use Rattle.board_changes.specs.declared.world.Change.{Change}
+use Rattle.board_changes.specs.declared.world.Change.TheVariants as Changes
 use Rattle.board.proofs.GoingKind.{going_kind}
 use Rattle.board.proofs.Moves.{state_is}
 use Rattle.board.proofs.OpensWell.{opens_well}

@@ -2,16 +2,16 @@
 use Rattle.std.proofs.Common.{arith, ap, ◌≡◌, ◌+◌, ◌<◌, ◌≤◌, ◌++◌, ◌∷◌, [], ℕ, List, Vec, Global, length, map, refl, subst, sym, ◌∙◌, None}
 use Rattle.std.specs.Prelude.{◌^◌, vec_capacity, vec_len}
 use Rattle.std.proofs.lemmas.List.{length-map, length_push}
-use Rattle.replayed.specs.Fields.{Job, task_of}
+use Rattle.board_history.specs.Fields.{Job, task_of}
 use Rattle.task_code.specs.View.{event_view}
 use Rattle.task_code.specs.declared.event.Event.{Event}
 use Rattle.task_code.specs.declared.event.Event.TheVariants as Events
 use Rattle.rules.specs.declared.input.Input.{Input}
-use Rattle.entry_outcomes.specs.View.{answers_view}
-use Rattle.entry_outcomes.specs.declared.answer.Answer.{Answer}
+use Rattle.board_compute.specs.View.{answers_view}
+use Rattle.board_compute.specs.declared.answer.Answer.{Answer}
 use Rattle.board_data.specs.View.{cells_view}
-use Rattle.board_frames.specs.View.{frames_view, rows_view}
-use Rattle.board_openings.specs.declared.world.World.{World}
+use Rattle.board_instances.specs.View.{frames_view, rows_view}
+use Rattle.board_changes.specs.declared.world.World.{World}
 use Rattle.board_work.specs.Assigned.{Assigned}
 use Rattle.board.specs.Board.{Accepts, IsGoing, IsWorkOf, IsWorker, Seen}
 use Rattle.board.specs.Ending.{HasEnded, IsUnchanged, StaysIf}

@@ -6,20 +6,20 @@ use Rattle.std.specs.List.{cons_option, filter_map, list_all, list_any}
 use Rattle.dataflow.specs.System.{In}
 use Rattle.dataflow.specs.Machine.{Event, IsKnown}
 use Rattle.dataflow.proofs.Lists.{in_map, in_unmap}
-use Rattle.board_code.specs.Spots.{layout_of, spot_in}
-use Rattle.board_code.specs.Tables.{wanted_in}
+use Rattle.board_program.specs.Spots.{layout_of, spot_in}
+use Rattle.board_program.specs.Tables.{wanted_in}
 use Rattle.board_data.proofs.Named.{slot_by}
 use Rattle.board_data.specs.View.{cells_view}
 use Rattle.board_data.specs.Wanted.{wanted_missed}
-use Rattle.board_frames.specs.Names.{led_slot}
-use Rattle.board_frames.specs.View.{frames_view, rows_view}
-use Rattle.board_frames.specs.declared.place.Statement.{Statement}
-use Rattle.replayed.specs.Fields as Fields
-use Rattle.replayed.specs.Fields.{Counted, Does, Frame, Job, Over, Row, Script, Slot, is_over, row_of, slot_at, slot_for, task_of}
-use Rattle.replayed.specs.Needs.{missed}
-use Rattle.replayed.proofs.EndedNames.{Resolved}
-use Rattle.replayed.proofs.Marking.{RowIs, mark_is}
-use Rattle.replayed.proofs.Tests.{none_some, some_same}
+use Rattle.board_instances.specs.Names.{led_slot}
+use Rattle.board_instances.specs.View.{frames_view, rows_view}
+use Rattle.board_instances.specs.declared.place.Statement.{Statement}
+use Rattle.board_history.specs.Fields as Fields
+use Rattle.board_history.specs.Fields.{Counted, Does, Frame, Job, Over, Row, Script, Slot, is_over, row_of, slot_at, slot_for, task_of}
+use Rattle.board_history.specs.Needs.{missed}
+use Rattle.board_history.proofs.EndedNames.{Resolved}
+use Rattle.board_history.proofs.Marking.{RowIs, mark_is}
+use Rattle.board_history.proofs.Tests.{none_some, some_same}
 use Rattle.task_code.proofs.Equal.{every_in, name_sound, true_and}
 use Rattle.task_code.specs.Code.{Act, Assert, At, AtKey, Call, Cell, Closed, Code, Copy, Each, Fill, Header, If, Name, Need, Print, Put, Range, Read, Set, Stored, Wait, body, entry}
 use Rattle.task_code.specs.Effects.{Item, Main}

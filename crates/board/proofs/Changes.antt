@@ -3,12 +3,12 @@ use Rattle.std.proofs.Common.{◌≡◌, ℕ, suc, ◌+◌, ◌-◌, ◌<◌, �
 use Rattle.std.specs.Prelude.{ℤ, ◌^◌, vec_capacity}
 use Rattle.dataflow.specs.System.{In}
 use Rattle.dataflow.specs.Machine.{Back, Begin, Event, Fault}
-use Rattle.replayed.specs.Ending.{job_kind, job_priority}
-use Rattle.replayed.specs.Fields.{Fields, Job, Layout, Ready, Row, Running, row_of, task_of}
-use Rattle.replayed.specs.Marking.{begun_fields, mark_at, returned_fields}
-use Rattle.replayed.specs.Stands.{Stands}
-use Rattle.replayed.proofs.Marking.{item}
-use Rattle.replayed.proofs.Tests.{none_some, some_same}
+use Rattle.board_history.specs.Ending.{job_kind, job_priority}
+use Rattle.board_history.specs.Fields.{Fields, Job, Layout, Ready, Row, Running, row_of, task_of}
+use Rattle.board_history.specs.Marking.{begun_fields, mark_at, returned_fields}
+use Rattle.board_history.specs.Stands.{Stands}
+use Rattle.board_history.proofs.Marking.{item}
+use Rattle.board_history.proofs.Tests.{none_some, some_same}
 use Rattle.task_code.specs.Code.{Code, Control, Kind, Leaf}
 use Rattle.task_code.specs.Compute.{EntryFault}
 use Rattle.task_code.specs.Effects.{Task}
@@ -17,10 +17,10 @@ use Rattle.task_code.specs.Whole.{IsCode}
 use Rattle.work_queue.specs.Both.{Both, of, with_changed}
 use Rattle.work_queue.specs.Waiting as Waits
 use Rattle.work_queue.proofs.InOrder.{holds_exactly}
-use Rattle.board_code.specs.Spots.{layout_of}
-use Rattle.board_code.specs.Tables.{queue_kind}
-use Rattle.board_frames.specs.View.{frames_view, rows_view}
-use Rattle.board_frames.specs.declared.place.Fault.{Fault as Noted}
+use Rattle.board_program.specs.Spots.{layout_of}
+use Rattle.board_program.specs.Tables.{queue_kind}
+use Rattle.board_instances.specs.View.{frames_view, rows_view}
+use Rattle.board_instances.specs.declared.place.Fault.{Fault as Noted}
 use Rattle.board_data.specs.Wanted.{FewSlots}
 use Rattle.board.specs.Board.{Rises}
 use Rattle.board_data.specs.Data.{AreRising}
@@ -31,7 +31,7 @@ use Rattle.board.specs.Queues.{SameNumbers, with_queue}
 use Rattle.board.specs.Rows.{IsReady, RunsOn}
 use Rattle.board.specs.View.{fields_view}
 use Rattle.board.specs.declared.state.Core.{Core}
-use Rattle.board_openings.specs.declared.world.World.{World}
+use Rattle.board_changes.specs.declared.world.World.{World}
 use Rattle.board.proofs.Entries.{number_held}
 use Rattle.board.proofs.Moves.{begun, idle_ready, item_there, kind_of_job, priority_of_job, ready_item, returned, row_there}
 use Rattle.board.proofs.Orders.{IsAlone, begun_order, returned_order}

@@ -8,8 +8,8 @@ use Rattle.std.specs.declared.result.Result.TheVariants.{Ok, Err}
 use Rattle.std.proofs.lemmas.List.Sorted.{IsNonDecreasingBy-from_sort}
 use Rattle.dataflow.specs.System.{Answer}
 use Rattle.dataflow.specs.Machine.{End, Event, SeesAll}
-use Rattle.replayed.specs.Fields.{Job, task_of}
-use Rattle.replayed.specs.Static.{computed_by}
+use Rattle.board_history.specs.Fields.{Job, task_of}
+use Rattle.board_history.specs.Static.{computed_by}
 use Rattle.task_code.specs.Code.{Code}
 use Rattle.task_code.specs.System.{code_system, task_inputs}
 use Rattle.task_code.specs.Whole.{IsCode}
@@ -18,15 +18,15 @@ use Rattle.values.specs.declared.value.Scalar.{Scalar}
 use Rattle.board_data.specs.View.{cells_view}
 use Rattle.board_effects.specs.Effects.{IsEffect}
 use Rattle.board_effects.specs.declared.effect.Effect.{Effect}
-use Rattle.board_frames.specs.View.{frames_view, rows_view}
+use Rattle.board_instances.specs.View.{frames_view, rows_view}
 use Rattle.board_items.proofs.Lists.{distinct_kept, distinct_moved}
 use Rattle.board_items.specs.Ended.{AreSettled, AreShort}
 use Rattle.board_items.specs.Progress.{CanFinish, all_to_settle, jobs_behind}
 use Rattle.board_items.specs.Room.{AreSpare, IsRoomy}
 use Rattle.board_items.specs.View.{queue_view, waiters_view}
-use Rattle.board_openings.specs.Room.{TakesMore}
-use Rattle.board_openings.specs.World.{spare_of}
-use Rattle.board_openings.specs.declared.world.Change.{Change}
+use Rattle.board_changes.specs.Room.{TakesMore}
+use Rattle.board_changes.specs.World.{spare_of}
+use Rattle.board_changes.specs.declared.world.Change.{Change}
 use Rattle.board.proofs.Assembled as A
 use Rattle.board.proofs.Finishing.{are_short_from, can_finish, finished}
 use Rattle.board.proofs.RoomAfter.{new_count, roomy_then}

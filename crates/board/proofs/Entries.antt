@@ -4,7 +4,7 @@ use Rattle.std.specs.Prelude.{ℤ}
 use Rattle.std.specs.Ordering.{int_eq}
 use Rattle.std.proofs.lemmas.Int.{ints}
 use Rattle.dataflow.specs.System.{Distinct, In}
-use Rattle.replayed.proofs.Tests.{choose, yes_no}
+use Rattle.board_history.proofs.Tests.{choose, yes_no}
 use Rattle.work_queue.specs.declared.entry.Entry.{Entry}
 use Rattle.work_queue.specs.Entries.{erased, holds, inserted}
 use Rattle.work_queue.specs.Order.{precedes, same}

@@ -4,14 +4,14 @@ use Rattle.std.specs.Prelude.{false, Result, Ok, Err, IfOk}
 use Rattle.std.proofs.lemmas.List.{reverse-reverse}
 use Rattle.dataflow.specs.System.{Answer, In}
 use Rattle.dataflow.specs.Machine.{End, Event, Fault, SeesAll}
-use Rattle.replayed.specs.CodeReplay.{replayed}
-use Rattle.replayed.specs.Fields as Fields
-use Rattle.replayed.specs.Fields.{Counted, Does, Frame, Job, Row, Running, Script, path_of, task_of}
-use Rattle.replayed.specs.Marking.{faulted_fields}
-use Rattle.replayed.specs.Stands.{Stands}
-use Rattle.replayed.specs.Static.{computed_by}
-use Rattle.replayed.proofs.Faulted.{fault_stands}
-use Rattle.replayed.proofs.Tests.{none_some, some_same}
+use Rattle.board_history.specs.CodeReplay.{replayed}
+use Rattle.board_history.specs.Fields as Fields
+use Rattle.board_history.specs.Fields.{Counted, Does, Frame, Job, Row, Running, Script, path_of, task_of}
+use Rattle.board_history.specs.Marking.{faulted_fields}
+use Rattle.board_history.specs.Stands.{Stands}
+use Rattle.board_history.specs.Static.{computed_by}
+use Rattle.board_history.proofs.Faulted.{fault_stands}
+use Rattle.board_history.proofs.Tests.{none_some, some_same}
 use Rattle.task_code.specs.Code.{Code}
 use Rattle.task_code.specs.Compute.{Computed, EntryFault}
 use Rattle.task_code.specs.Effects.{Task}
@@ -20,7 +20,7 @@ use Rattle.task_code.specs.System.{code_system, task_inputs}
 use Rattle.task_code.specs.Whole.{IsCode}
 use Rattle.values.specs.declared.key.Key.{Key}
 use Rattle.values.specs.declared.value.Scalar.{Scalar}
-use Rattle.board_code.specs.Spots.{layout_of}
+use Rattle.board_program.specs.Spots.{layout_of}
 use Rattle.board_data.specs.View.{cells_view}
 use Rattle.board_data.specs.Wanted.{FewSlots}
 use Rattle.board_effects.specs.Effects.{IsEffect, IsStatementOf as IsStatementAt, kind_view}
@@ -28,22 +28,22 @@ use Rattle.board_effects.specs.declared.effect.Effect.TheVariants.{Fails}
 use Rattle.board_effects.specs.declared.effect.Effect.TheVariants as Effects
 use Rattle.board_effects.proofs.AtWork.{at_work}
 use Rattle.board_effects.specs.Effects.{IsAtWork}
-use Rattle.board_code.specs.Tables.{IsEntryTable, body_of}
-use Rattle.board_code.specs.declared.program.EntryTable.{EntryTable}
+use Rattle.board_program.specs.Tables.{IsEntryTable, body_of}
+use Rattle.board_program.specs.declared.program.EntryTable.{EntryTable}
 use Rattle.board_work.specs.Assigned as Work
-use Rattle.entry_outcomes.specs.Outcome.{control_in, result_in}
-use Rattle.entry_outcomes.specs.declared.outcome.Outcome.{Outcome}
+use Rattle.board_compute.specs.Outcome.{control_in, result_in}
+use Rattle.board_compute.specs.declared.outcome.Outcome.{Outcome}
 use Rattle.task_code.specs.Code.{Entry as PureEntry, entry as entry_of}
 use Rattle.task_code.specs.Compute.{compute}
 use Rattle.board.proofs.OwnWork.{running_live}
 use Rattle.board_effects.proofs.Tells.{tells}
-use Rattle.board_frames.specs.View.{frames_view, rows_view}
-use Rattle.board_frames.specs.declared.place.Fault.{Fault as Noted}
-use Rattle.board_frames.specs.declared.place.FaultKind.{FaultKind}
-use Rattle.board_frames.specs.declared.place.FaultKind.TheVariants as Kinds
-use Rattle.board_frames.specs.declared.place.Statement.{Statement}
+use Rattle.board_instances.specs.View.{frames_view, rows_view}
+use Rattle.board_instances.specs.declared.place.Fault.{Fault as Noted}
+use Rattle.board_instances.specs.declared.place.FaultKind.{FaultKind}
+use Rattle.board_instances.specs.declared.place.FaultKind.TheVariants as Kinds
+use Rattle.board_instances.specs.declared.place.Statement.{Statement}
 use Rattle.board_items.specs.Room.{IsRoomy}
-use Rattle.board_openings.specs.declared.world.World.{World}
+use Rattle.board_changes.specs.declared.world.World.{World}
 use Rattle.board.specs.Board.{IsWorkOf, Rises, answers_to}
 use Rattle.board.specs.Ending.{HasEnded, HasFailed, HasPassed, IsEffectOf, StaysBy, StaysIf, is_fault}
 use Rattle.board.specs.History.{state_of}

@@ -3,23 +3,23 @@ use Rattle.std.proofs.Common.{◌≡◌, ◌∙◌, ℕ, suc, ◌+◌, ◌-◌, 
 use Rattle.std.specs.Prelude.{◌*◌, ◌^◌, vec_capacity}
 use Rattle.dataflow.specs.System.{Answer}
 use Rattle.dataflow.specs.Machine.{End, Event, SeesAll}
-use Rattle.replayed.specs.Fields.{Counted, Fields, Frame, Job, Over, Row, Running, row_of, task_of}
-use Rattle.replayed.specs.Static.{computed_by}
-use Rattle.replayed.proofs.EndedRows.{row_kept}
+use Rattle.board_history.specs.Fields.{Counted, Fields, Frame, Job, Over, Row, Running, row_of, task_of}
+use Rattle.board_history.specs.Static.{computed_by}
+use Rattle.board_history.proofs.EndedRows.{row_kept}
 use Rattle.task_code.specs.Code.{Code, body}
 use Rattle.task_code.specs.Compute.{Computed}
-use Rattle.replayed.specs.CodeReplay.{replayed}
+use Rattle.board_history.specs.CodeReplay.{replayed}
 use Rattle.task_code.specs.Machine.{CodeState}
 use Rattle.task_code.specs.System.{code_system, task_inputs}
 use Rattle.task_code.specs.Whole.{IsCode}
 use Rattle.values.specs.declared.key.Key.{Key}
 use Rattle.values.specs.declared.value.Scalar.{Scalar}
-use Rattle.board_code.specs.Spots.{layout_of}
+use Rattle.board_program.specs.Spots.{layout_of}
 use Rattle.board_data.specs.View.{cells_view}
 use Rattle.board_effects.specs.Effects.{GoesWell, IsEffect}
 use Rattle.board_effects.specs.declared.effect.Effect.{Effect}
 use Rattle.board_effects.specs.declared.effect.Effect.TheVariants as To
-use Rattle.board_frames.specs.View.{frames_view, row_view, rows_view}
+use Rattle.board_instances.specs.View.{frames_view, row_view, rows_view}
 use Rattle.board_items.proofs.Fits.{items_fit}
 use Rattle.board_items.proofs.Learnt.{nothing_learnt}
 use Rattle.board_items.specs.Ended.{AreSettled, AreShort, AreToSettle, numbers_behind}
@@ -27,12 +27,12 @@ use Rattle.board_items.specs.Learnt.{HaveLearnt}
 use Rattle.board_items.specs.Progress.{AreOld, CanFinish, all_to_settle}
 use Rattle.board_items.specs.Room.{IsRoomy}
 use Rattle.board_items.specs.View.{queue_view, waiters_view}
-use Rattle.board_openings.specs.declared.world.World.{World}
+use Rattle.board_changes.specs.declared.world.World.{World}
 use Rattle.board_data.specs.Wanted.{FewSlots}
 use Rattle.work_queue.specs.Both.{Both}
-use Rattle.board_openings.proofs.Bridge.{are_blocks}
-use Rattle.board_openings.specs.Room.{TakesMore}
-use Rattle.board_openings.specs.World.{CanStore}
+use Rattle.board_changes.proofs.Bridge.{are_blocks}
+use Rattle.board_changes.specs.Room.{TakesMore}
+use Rattle.board_changes.specs.World.{CanStore}
 use Rattle.board.proofs.HoldsFit.{holds_fit}
 use Rattle.board.proofs.Parts.{change_opens, change_prints, change_stores, goes_well}
 use Rattle.board.proofs.Passed.{good_end, passed_core}

@@ -5,17 +5,17 @@ use Rattle.std.specs.Ordering.{int_eq}
 use Rattle.dataflow.specs.System.{Distinct, In}
 use Rattle.data_store.specs.Stores.{Store, array_at}
 use Rattle.data_store.specs.declared.datum.Datum.{Datum}
-use Rattle.replayed.specs.Fields.{Fields, Ready, Row, Script}
-use Rattle.replayed.specs.Stands.{Stands, first_fields, first_queue}
-use Rattle.replayed.proofs.Standing.{first_stands}
-use Rattle.replayed.proofs.Tests.{choose, none_some}
+use Rattle.board_history.specs.Fields.{Fields, Ready, Row, Script}
+use Rattle.board_history.specs.Stands.{Stands, first_fields, first_queue}
+use Rattle.board_history.proofs.Standing.{first_stands}
+use Rattle.board_history.proofs.Tests.{choose, none_some}
 use Rattle.task_code.specs.Code.{Code, Control, Kind, Leaf}
 use Rattle.values.specs.Maps.{rising}
-use Rattle.board_code.specs.Spots.{layout_of}
+use Rattle.board_program.specs.Spots.{layout_of}
 use Rattle.board_data.specs.Wanted.{FewSlots}
-use Rattle.board_frames.specs.View.{frames_view, rows_view}
-use Rattle.board_frames.specs.declared.instance.Instance.{Instance}
-use Rattle.board_frames.specs.declared.place.Fault.{Fault}
+use Rattle.board_instances.specs.View.{frames_view, rows_view}
+use Rattle.board_instances.specs.declared.instance.Instance.{Instance}
+use Rattle.board_instances.specs.declared.place.Fault.{Fault}
 use Rattle.board.specs.Board.{Rises}
 use Rattle.board_data.specs.Data.{AreRising}
 use Rattle.board.specs.Inside.{IsNoted, Stand}

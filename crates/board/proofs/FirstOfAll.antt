@@ -11,7 +11,7 @@ use Rattle.work_queue.specs.Entries.{IsForemost, first_of}
 use Rattle.work_queue.specs.Order.{precedes}
 use Rattle.work_queue.specs.declared.entry.Entry.{Entry}
 use Rattle.work_queue.proofs.OrderLaws.{no_later, precedes_order}
-use Rattle.board_code.specs.Tables.{queue_kind}
+use Rattle.board_program.specs.Tables.{queue_kind}
 use Rattle.board.specs.Board.{IsGoing, Seen}
 use Rattle.board.specs.Inside.{IsSound, seen_of}
 use Rattle.board.specs.Ready.{HasKind, IsFirst, IsNext, IsReady, Precedes}

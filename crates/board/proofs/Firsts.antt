@@ -5,10 +5,10 @@ use Rattle.std.specs.Ordering.{int_eq}
 use Rattle.std.proofs.lemmas.Int.{ints}
 use Rattle.std.proofs.lemmas.List.Elements.{All-contains}
 use Rattle.dataflow.specs.System.{Distinct, In}
-use Rattle.replayed.specs.Fields.{Job, Mark, Over, Ready, Row, Running, Waiting, is_running, row_of, running_in, task_of}
-use Rattle.replayed.specs.Stands.{Stands}
-use Rattle.replayed.proofs.Marking.{RowIs}
-use Rattle.replayed.proofs.Tests.{choose, none_some, some_same, yes_no}
+use Rattle.board_history.specs.Fields.{Job, Mark, Over, Ready, Row, Running, Waiting, is_running, row_of, running_in, task_of}
+use Rattle.board_history.specs.Stands.{Stands}
+use Rattle.board_history.proofs.Marking.{RowIs}
+use Rattle.board_history.proofs.Tests.{choose, none_some, some_same, yes_no}
 use Rattle.task_code.specs.Code.{Control, Kind, Leaf}
 use Rattle.task_code.specs.Machine.{CodeItem, CodeState, Enabled, Quiet}
 use Rattle.task_code.specs.System.{task_kind, task_priority}
@@ -16,9 +16,9 @@ use Rattle.task_code.specs.View.{event_view}
 use Rattle.work_queue.specs.Both.{of}
 use Rattle.work_queue.specs.Entries.{ComesNoLater, IsTakenFirst, first_number, first_of}
 use Rattle.work_queue.specs.declared.entry.Entry.{Entry}
-use Rattle.board_code.specs.Spots.{layout_of}
-use Rattle.board_code.specs.Tables.{queue_kind}
-use Rattle.board_frames.specs.View.{frames_view, rows_view}
+use Rattle.board_program.specs.Spots.{layout_of}
+use Rattle.board_program.specs.Tables.{queue_kind}
+use Rattle.board_instances.specs.View.{frames_view, rows_view}
 use Rattle.board_items.specs.View.{numbers_at, queue_view}
 use Rattle.board.specs.Board.{IsGoing}
 use Rattle.board.specs.History.{state_of}

@@ -1,8 +1,8 @@
 -- An item that goes on is one of a loop.
 use Rattle.std.proofs.Common.{◌≡◌, refl, true, false, List, Option}
-use Rattle.replayed.specs.Ending.{job_kind}
-use Rattle.replayed.specs.Fields.{Does, Frame, Job, Script, path_of, task_of}
-use Rattle.replayed.specs.Static.{rests}
+use Rattle.board_history.specs.Ending.{job_kind}
+use Rattle.board_history.specs.Fields.{Does, Frame, Job, Script, path_of, task_of}
+use Rattle.board_history.specs.Static.{rests}
 use Rattle.task_code.specs.Code.{Act, Assert, Call, Cell, Code, Control, Copy, Each, Fill, If, Print, Put, Range, Read, Set, Wait, entry, kind_of, loop_of}
 use Rattle.task_code.specs.Compute.{Computed}
 use Rattle.task_code.specs.Effects.{is_some_list, rest}

@@ -8,13 +8,13 @@ use Rattle.dataflow.specs.Promises.{tasks_in_items}
 use Rattle.dataflow.proofs.Lists.{in_unmap}
 use Rattle.data_store.specs.Stores.{Store, at}
 use Rattle.data_store.specs.declared.datum.Datum.{Datum as Cell}
-use Rattle.replayed.specs.Counts.{holds, readers, times, writers}
-use Rattle.replayed.specs.Elements.{code_tests}
-use Rattle.replayed.specs.Ending.{Instance, IsOwn, added_times, held_times, home, slot_is}
-use Rattle.replayed.specs.Fields.{Counted, DatumOf, Fields, Frame, Job, Mark, Over, Ready, Row, Running, Slot, Waiting, item_before, items_from, slot_at, slot_for, task_of}
-use Rattle.replayed.specs.Stands.{Stands}
-use Rattle.replayed.specs.Static.{Hold, add_hold, counted_names, name_times, names_in, outer_holds, own_count}
-use Rattle.replayed.proofs.Tests.{choose, none_some, some_same}
+use Rattle.board_history.specs.Counts.{holds, readers, times, writers}
+use Rattle.board_history.specs.Elements.{code_tests}
+use Rattle.board_history.specs.Ending.{Instance, IsOwn, added_times, held_times, home, slot_is}
+use Rattle.board_history.specs.Fields.{Counted, DatumOf, Fields, Frame, Job, Mark, Over, Ready, Row, Running, Slot, Waiting, item_before, items_from, slot_at, slot_for, task_of}
+use Rattle.board_history.specs.Stands.{Stands}
+use Rattle.board_history.specs.Static.{Hold, add_hold, counted_names, name_times, names_in, outer_holds, own_count}
+use Rattle.board_history.proofs.Tests.{choose, none_some, some_same}
 use Rattle.task_code.specs.Check.{is_declared}
 use Rattle.task_code.specs.Code.{Code, Entry, Name, Variable, body, entry, here}
 use Rattle.task_code.specs.Compute.{Computed}
@@ -23,17 +23,17 @@ use Rattle.task_code.specs.Machine.{CodeItem}
 use Rattle.task_code.specs.Places.{Constant, Datum, Nowhere, Place, name_eq, place_at}
 use Rattle.task_code.specs.System.{code_system, data_among, task_reads, task_writes}
 use Rattle.task_code.specs.Whole.{IsCode}
-use Rattle.board_code.specs.Spots.{layout_of}
+use Rattle.board_program.specs.Spots.{layout_of}
 use Rattle.board_data.specs.Holds.{Fit}
 use Rattle.board_data.specs.View.{cell_view, cells_view}
 use Rattle.board_data.proofs.Cells.{cell_there}
-use Rattle.board_frames.specs.Made.{made_as}
-use Rattle.board_frames.specs.Openings.{Put}
-use Rattle.board_frames.specs.declared.opening.Openings.{Openings}
-use Rattle.board_openings.proofs.Frames.{count}
-use Rattle.board_openings.proofs.MadeData.{body_is, makes_data}
-use Rattle.board_openings.specs.Blocks.{AreBlocks}
-use Rattle.board_openings.specs.Data.{MakesData}
+use Rattle.board_instances.specs.Made.{made_as}
+use Rattle.board_instances.specs.Openings.{Put}
+use Rattle.board_instances.specs.declared.opening.Openings.{Openings}
+use Rattle.board_changes.proofs.Frames.{count}
+use Rattle.board_changes.proofs.MadeData.{body_is, makes_data}
+use Rattle.board_changes.specs.Blocks.{AreBlocks}
+use Rattle.board_changes.specs.Data.{MakesData}
 use Rattle.board.proofs.WorldEnded.{HoldsFit}
 
 -- sums

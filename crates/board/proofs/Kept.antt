@@ -2,22 +2,22 @@
 use Rattle.std.proofs.Common.{◌≡◌, ℕ, ◌<◌, ◌≤◌, List, sym, ap, ◌∙◌, subst, Option, arith}
 use Rattle.std.specs.Global.{Global}
 use Rattle.std.specs.Prelude.{ℤ, Vec, vec_capacity}
-use Rattle.replayed.specs.Fields.{Fields, Frame}
-use Rattle.replayed.specs.Stands.{Stands}
+use Rattle.board_history.specs.Fields.{Fields, Frame}
+use Rattle.board_history.specs.Stands.{Stands}
 use Rattle.task_code.specs.Code.{Code, Control, Kind, Leaf}
-use Rattle.board_code.specs.Spots.{layout_of}
+use Rattle.board_program.specs.Spots.{layout_of}
 use Rattle.board_data.specs.View.{cells_view}
 use Rattle.board_data.specs.Wanted.{FewSlots}
-use Rattle.board_frames.specs.View.{frames_view, rows_view}
-use Rattle.board_frames.specs.declared.place.Fault.{Fault}
+use Rattle.board_instances.specs.View.{frames_view, rows_view}
+use Rattle.board_instances.specs.declared.place.Fault.{Fault}
 use Rattle.rules.specs.Waiting.{Listing}
-use Rattle.board_openings.specs.Room.{OnlyRoom}
+use Rattle.board_changes.specs.Room.{OnlyRoom}
 use Rattle.values.specs.declared.value.Scalar.{Scalar}
 use Rattle.board_items.specs.Room.{IsRoomy, apart_in}
 use Rattle.board_items.specs.Settled.{StaysButRoom}
 use Rattle.board_items.specs.declared.items.Items.{Items}
 use Rattle.board_items.specs.declared.items.Counts.{Counts}
-use Rattle.board_frames.specs.declared.item.Item.{Item}
+use Rattle.board_instances.specs.declared.item.Item.{Item}
 use Rattle.data_store.specs.Stores.{Store}
 use Rattle.work_queue.specs.Both.{Both}
 use Rattle.board_items.specs.View.{numbers_at, queue_view, waiters_view}

@@ -2,17 +2,17 @@
 use Rattle.std.proofs.Common.{◌≡◌, ℕ, zero, suc, List, Some, ◌+◌, ◌-◌, ◌<◌, ◌≤◌, [], ◌∷◌, sym, ap, ◌∙◌, subst, length, Contains, arith}
 use Rattle.std.specs.Prelude.{ℤ, ◌^◌, vec_capacity}
 use Rattle.std.proofs.lemmas.List.{length-map}
-use Rattle.replayed.specs.Ending.{job_kind, job_priority}
-use Rattle.replayed.specs.Fields.{Job, Mark, Ready, Row, Running, row_of}
-use Rattle.replayed.specs.Marking.{mark_at}
-use Rattle.replayed.proofs.Tests.{none_some, some_same}
+use Rattle.board_history.specs.Ending.{job_kind, job_priority}
+use Rattle.board_history.specs.Fields.{Job, Mark, Ready, Row, Running, row_of}
+use Rattle.board_history.specs.Marking.{mark_at}
+use Rattle.board_history.proofs.Tests.{none_some, some_same}
 use Rattle.task_code.specs.Code.{Code}
 use Rattle.work_queue.specs.Both.{of, with_changed}
 use Rattle.work_queue.specs.Waiting.{with_put, without}
 use Rattle.work_queue.specs.declared.entry.Entry.{Entry}
 use Rattle.work_queue.specs.declared.entry.Kind.{Kind}
-use Rattle.board_code.specs.Tables.{queue_kind}
-use Rattle.board_frames.specs.View.{row_view, rows_view}
+use Rattle.board_program.specs.Tables.{queue_kind}
+use Rattle.board_instances.specs.View.{row_view, rows_view}
 use Rattle.board.specs.Marked.{HasBegun, HasReturned}
 use Rattle.board_items.specs.Settled.{StaysButOrder, one_more, one_less}
 use Rattle.board.specs.declared.state.Core.{Core}

@@ -9,18 +9,18 @@ use Rattle.dataflow.proofs.Headline.{goes_on}
 use Rattle.dataflow.proofs.Numbers.{run_numbered}
 use Rattle.dataflow.proofs.Possible.{has_steps}
 use Rattle.dataflow.proofs.Steps.{run_follows}
-use Rattle.replayed.specs.CodeReplay.{and_then, next_state, replayed}
-use Rattle.replayed.specs.Elements.{code_tests}
-use Rattle.replayed.specs.Fields.{Does, Fields, Frame, Job, Layout, Mark, Over, Ready, Row, Running, Script, Waiting, row_of, item_before, task_of}
-use Rattle.replayed.specs.Stands.{Stands}
-use Rattle.replayed.proofs.Elements.{code_told}
-use Rattle.replayed.specs.Marking.{begun_fields, returned_fields}
-use Rattle.replayed.specs.Ending.{job_kind, job_priority}
-use Rattle.replayed.proofs.Begun.{begun_stands, returned_stands}
-use Rattle.replayed.proofs.Marking.{IsItem, RowIs, first_of, item, row_found}
-use Rattle.replayed.proofs.Replays.{replayed_then, run_next, run_replayed, run_some}
-use Rattle.replayed.proofs.Rows.{no_row, row_item}
-use Rattle.replayed.proofs.Tests.{none_some, some_same}
+use Rattle.board_history.specs.CodeReplay.{and_then, next_state, replayed}
+use Rattle.board_history.specs.Elements.{code_tests}
+use Rattle.board_history.specs.Fields.{Does, Fields, Frame, Job, Layout, Mark, Over, Ready, Row, Running, Script, Waiting, row_of, item_before, task_of}
+use Rattle.board_history.specs.Stands.{Stands}
+use Rattle.board_history.proofs.Elements.{code_told}
+use Rattle.board_history.specs.Marking.{begun_fields, returned_fields}
+use Rattle.board_history.specs.Ending.{job_kind, job_priority}
+use Rattle.board_history.proofs.Begun.{begun_stands, returned_stands}
+use Rattle.board_history.proofs.Marking.{IsItem, RowIs, first_of, item, row_found}
+use Rattle.board_history.proofs.Replays.{replayed_then, run_next, run_replayed, run_some}
+use Rattle.board_history.proofs.Rows.{no_row, row_item}
+use Rattle.board_history.proofs.Tests.{none_some, some_same}
 use Rattle.task_code.proofs.Kept.{code_laws}
 use Rattle.task_code.specs.Code.{Code, Kind}
 use Rattle.task_code.specs.Effects.{Main, Task}

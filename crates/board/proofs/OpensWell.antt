@@ -1,20 +1,20 @@
 -- What an effect opens has slots for its data, and a next chunk where a loop goes on.
 use Rattle.std.proofs.Common.{◌≡◌, ℕ, zero, suc, ◌≤◌, ◌++◌, ap, refl, sym, subst, List, [], ◌∷◌, length, map, replicate, Option, arith}
-use Rattle.replayed.specs.Fields.{Absent, Frame, Job, Slot}
+use Rattle.board_history.specs.Fields.{Absent, Frame, Job, Slot}
 use Rattle.task_code.specs.Code.{Code, body}
-use Rattle.board_frames.specs.View.{opening_frame, slot_view}
-use Rattle.board_frames.specs.declared.instance.Slot.{Slot as ASlot}
-use Rattle.board_frames.specs.declared.opening.Opening.{Opening}
+use Rattle.board_instances.specs.View.{opening_frame, slot_view}
+use Rattle.board_instances.specs.declared.instance.Slot.{Slot as ASlot}
+use Rattle.board_instances.specs.declared.opening.Opening.{Opening}
 use Rattle.task_code.specs.Compute.{Computed}
 use Rattle.board_effects.specs.declared.effect.Effect.{Effect}
 use Rattle.board_effects.specs.declared.effect.Effect.TheVariants as To
-use Rattle.board_frames.specs.declared.opening.Openings.{Openings}
-use Rattle.board_openings.proofs.Cells.{own_count_of}
-use Rattle.board_openings.specs.Blocks.{AreBlocks, handed}
-use Rattle.board_openings.specs.Filled.{HasSlots}
-use Rattle.board_openings.specs.Opened.{CanGoOn}
-use Rattle.board_openings.specs.Room.{OpensWell}
-use Rattle.board_openings.specs.World.{goes_on}
+use Rattle.board_instances.specs.declared.opening.Openings.{Openings}
+use Rattle.board_changes.proofs.Cells.{own_count_of}
+use Rattle.board_changes.specs.Blocks.{AreBlocks, handed}
+use Rattle.board_changes.specs.Filled.{HasSlots}
+use Rattle.board_changes.specs.Opened.{CanGoOn}
+use Rattle.board_changes.specs.Room.{OpensWell}
+use Rattle.board_changes.specs.World.{goes_on}
 use Rattle.board.specs.Changing.{change_of}
 
 long_slots : (n : ℕ) (zs : List Slot) (one : Opening) → (opening_frame one).slots ≡ replicate n Absent ++ zs → HasSlots n one

@@ -3,15 +3,15 @@ use Rattle.std.proofs.Common.{◌≡◌, ◌⊎◌, inl, inr, ℕ, ◌&&◌, Lis
 use Rattle.std.specs.Prelude.{ℤ}
 use Rattle.std.specs.Ordering.{int_eq}
 use Rattle.dataflow.specs.System.{Distinct, In}
-use Rattle.replayed.specs.Marking.{kind_eq, without}
-use Rattle.replayed.proofs.Marking.{in_without, without_in}
-use Rattle.replayed.proofs.Tests.{choose, yes_no}
+use Rattle.board_history.specs.Marking.{kind_eq, without}
+use Rattle.board_history.proofs.Marking.{in_without, without_in}
+use Rattle.board_history.proofs.Tests.{choose, yes_no}
 use Rattle.task_code.specs.Code.{Control, Kind, Leaf}
 use Rattle.work_queue.specs.Both.{Both, with_changed}
 use Rattle.work_queue.specs.Entries.{erased, inserted}
 use Rattle.work_queue.specs.Waiting as Changes
 use Rattle.work_queue.specs.declared.entry.Entry.{Entry}
-use Rattle.board_code.specs.Tables.{queue_kind}
+use Rattle.board_program.specs.Tables.{queue_kind}
 use Rattle.board_items.specs.View.{numbers_at, queue_view}
 use Rattle.board.specs.Queues.{SameNumbers}
 use Rattle.board.proofs.Entries.{erased_gone, erased_old, erased_once, erased_only, inserted_new, inserted_old, inserted_once, inserted_only, int_same, int_sound, number_held}

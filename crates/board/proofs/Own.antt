@@ -5,10 +5,10 @@ use Rattle.dataflow.specs.System.{In}
 use Rattle.dataflow.specs.Events.{NewlyAt, worker_of}
 use Rattle.dataflow.specs.Machine.{Back, Begin, End, Event, start}
 use Rattle.dataflow.proofs.Lists.{in_split, map_append}
-use Rattle.replayed.specs.Fields as Pure
-use Rattle.replayed.specs.Stands.{Stands}
-use Rattle.replayed.proofs.Marking.{running_marked}
-use Rattle.replayed.proofs.Rows.{no_row}
+use Rattle.board_history.specs.Fields as Pure
+use Rattle.board_history.specs.Stands.{Stands}
+use Rattle.board_history.proofs.Marking.{running_marked}
+use Rattle.board_history.proofs.Rows.{no_row}
 use Rattle.task_code.specs.Code.{Code}
 use Rattle.task_code.specs.Machine.{CanBegin, CodeState, CodeStep, RunsOn, Run}
 use Rattle.task_code.specs.System.{code_system}
@@ -16,16 +16,16 @@ use Rattle.task_code.specs.View.{event_view}
 use Rattle.task_code.specs.Whole.{IsCode}
 use Rattle.task_code.specs.declared.event.Event.{Event as BoardEvent}
 use Rattle.rules.specs.declared.input.Input.{Input}
-use Rattle.entry_outcomes.specs.declared.answer.Answer.{Answer}
-use Rattle.board_code.specs.Spots.{layout_of}
-use Rattle.board_frames.specs.View.{rows_view}
-use Rattle.board_frames.specs.declared.place.Fault.{Fault}
+use Rattle.board_compute.specs.declared.answer.Answer.{Answer}
+use Rattle.board_program.specs.Spots.{layout_of}
+use Rattle.board_instances.specs.View.{rows_view}
+use Rattle.board_instances.specs.declared.place.Fault.{Fault}
 use Rattle.dataflow.specs.Machine as Machine
 use Rattle.task_code.specs.Compute.{EntryFault}
 use Rattle.task_code.specs.Effects.{Item, Main, Task}
 use Rattle.task_code.specs.Places.{Step}
 use Rattle.board.specs.Blocked.{IsFaultOf}
-use Rattle.board_code.specs.Program.{AreAtMost}
+use Rattle.board_program.specs.Program.{AreAtMost}
 use Rattle.board.specs.Board.{Accepts, AreByWorkers, IsGoing, IsWorker, Seen}
 use Rattle.board.specs.Ending.{IsUnchanged}
 use Rattle.board.specs.History.{state_of}
@@ -38,9 +38,9 @@ use Rattle.board.specs.declared.state.Core.{Core}
 use Rattle.std.proofs.Common.{Vec, Global}
 use Rattle.board.proofs.Changes.{unmet, untold}
 use Rattle.board.proofs.Moves.{begins_ready, ready_begins, row_runs, runs_row, state_is, stepped}
-use Rattle.replayed.proofs.Replays.{run_replayed}
-use Rattle.replayed.proofs.Elements.{code_told}
-use Rattle.replayed.specs.Elements.{code_tests}
+use Rattle.board_history.proofs.Replays.{run_replayed}
+use Rattle.board_history.proofs.Elements.{code_told}
+use Rattle.board_history.specs.Elements.{code_tests}
 use Rattle.task_code.proofs.Kept.{code_laws}
 
 pub none_of : {A : Type 0} (o : Option A) → is_none o ≡ true → o ≡ None

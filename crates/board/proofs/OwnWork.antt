@@ -11,14 +11,14 @@ use Rattle.data_store.specs.Stores.{Store, or_none}
 use Rattle.data_store.specs.declared.datum.Content.{Content as Stored}
 use Rattle.data_store.specs.declared.datum.Content.TheVariants.{OfArray, OfScalar}
 use Rattle.data_store.specs.declared.datum.Datum.{Datum as Kept}
-use Rattle.replayed.specs.Fields as Fields
-use Rattle.replayed.specs.Fields.{Counted, Does, Frame, Job, Mapping, Over, Row, Running, Script, path_of, row_of, slot_at, slot_for, task_of}
-use Rattle.replayed.specs.Elements.{code_tests}
-use Rattle.replayed.specs.Stands.{Stands}
-use Rattle.replayed.proofs.Elements.{code_told}
-use Rattle.replayed.proofs.Marking.{item}
-use Rattle.replayed.proofs.Seen.{all_known}
-use Rattle.replayed.proofs.Tests.{none_some, some_same}
+use Rattle.board_history.specs.Fields as Fields
+use Rattle.board_history.specs.Fields.{Counted, Does, Frame, Job, Mapping, Over, Row, Running, Script, path_of, row_of, slot_at, slot_for, task_of}
+use Rattle.board_history.specs.Elements.{code_tests}
+use Rattle.board_history.specs.Stands.{Stands}
+use Rattle.board_history.proofs.Elements.{code_told}
+use Rattle.board_history.proofs.Marking.{item}
+use Rattle.board_history.proofs.Seen.{all_known}
+use Rattle.board_history.proofs.Tests.{none_some, some_same}
 use Rattle.task_code.proofs.Kept.{code_laws}
 use Rattle.task_code.specs.Code.{At, AtKey, Closed, Code, Name, Need, body, entry}
 use Rattle.task_code.specs.Code as Needs
@@ -31,16 +31,16 @@ use Rattle.values.specs.Maps.{rising}
 use Rattle.values.specs.declared.key.Key.{Key}
 use Rattle.values.specs.declared.map.Element.{Element}
 use Rattle.values.specs.declared.value.Scalar.{Scalar}
-use Rattle.board_code.specs.Spots.{layout_of, spot_in}
-use Rattle.board_code.specs.Tables.{body_or_script, wanted_in}
-use Rattle.board_code.proofs.Found.{home_found}
+use Rattle.board_program.specs.Spots.{layout_of, spot_in}
+use Rattle.board_program.specs.Tables.{body_or_script, wanted_in}
+use Rattle.board_program.proofs.Found.{home_found}
 use Rattle.board_data.specs.Answered.{array_answer, scalar_answer, wanted_answer}
 use Rattle.board_data.specs.View.{cell_view, cells_view, content_view}
 use Rattle.board_data.specs.Wanted.{FewSlots, element_by, element_in, scalar_in}
 use Rattle.board_data.proofs.Cells.{cell_there}
 use Rattle.board_data.proofs.Named.{slot_by}
-use Rattle.board_frames.specs.Names.{led_slot}
-use Rattle.board_frames.specs.View.{frames_view, rows_view}
+use Rattle.board_instances.specs.Names.{led_slot}
+use Rattle.board_instances.specs.View.{frames_view, rows_view}
 use Rattle.board_work.specs.Assigned.{Assigned}
 use Rattle.task_code.specs.View.{event_view}
 use Rattle.board.specs.Board.{IsOwn, IsWorkOf, answers_to, job_of}

@@ -2,18 +2,18 @@
 use Rattle.std.proofs.Common.{◌≡◌, ℕ, ◌≤◌, false, List, [], length, refl, Option, Some}
 use Rattle.std.specs.Prelude.{if◌then◌else◌}
 use Rattle.data_store.specs.Stores.{Store, array_at}
-use Rattle.replayed.specs.Ending.{job_stores, printed}
-use Rattle.replayed.specs.Fields.{Counted, Frame, Job}
-use Rattle.replayed.proofs.Tests.{yes_no}
+use Rattle.board_history.specs.Ending.{job_stores, printed}
+use Rattle.board_history.specs.Fields.{Counted, Frame, Job}
+use Rattle.board_history.proofs.Tests.{yes_no}
 use Rattle.task_code.specs.Code.{Code}
 use Rattle.task_code.specs.Compute.{Computed}
-use Rattle.board_code.specs.Spots.{layout_of}
-use Rattle.board_code.specs.Tables.{is_place}
+use Rattle.board_program.specs.Spots.{layout_of}
+use Rattle.board_program.specs.Tables.{is_place}
 use Rattle.board_effects.specs.Effects as Effects
 use Rattle.board_effects.specs.Effects.{GoesWell, IsEffect, lines_in}
 use Rattle.board_effects.specs.declared.effect.Effect.{Effect}
 use Rattle.board_effects.specs.declared.effect.Effect.TheVariants.{Fails, Inserts, Opens, Passes, Prints, Puts, Stores}
-use Rattle.board_openings.specs.World.{CanStore, target_of, values_of}
+use Rattle.board_changes.specs.World.{CanStore, target_of, values_of}
 use Rattle.board.specs.Changing.{change_of, line_list, line_of}
 use Rattle.board.specs.Ending.{is_fault}
 use Rattle.board.proofs.WorldEnded.{OpensAs}

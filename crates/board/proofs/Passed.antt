@@ -2,11 +2,11 @@
 use Rattle.std.proofs.Common.{◌≡◌, ℕ, false, List, [], ◌∷◌, ◌++◌, refl, sym, ◌∙◌, Option, None, Some}
 use Rattle.dataflow.specs.System.{Answer}
 use Rattle.dataflow.specs.Machine.{End, Event, Fault, SeesAll}
-use Rattle.replayed.specs.CodeReplay.{replayed}
-use Rattle.replayed.specs.Ending.{EndsTo}
-use Rattle.replayed.specs.Fields.{Job, Running, task_of}
-use Rattle.replayed.specs.Static.{computed_by}
-use Rattle.replayed.proofs.EndedFields.{end_stands}
+use Rattle.board_history.specs.CodeReplay.{replayed}
+use Rattle.board_history.specs.Ending.{EndsTo}
+use Rattle.board_history.specs.Fields.{Job, Running, task_of}
+use Rattle.board_history.specs.Static.{computed_by}
+use Rattle.board_history.proofs.EndedFields.{end_stands}
 use Rattle.task_code.specs.Code.{Code}
 use Rattle.task_code.specs.Compute.{EntryFault}
 use Rattle.task_code.specs.Effects.{Task}
@@ -15,14 +15,14 @@ use Rattle.task_code.specs.System.{code_system, task_inputs}
 use Rattle.task_code.specs.Whole.{IsCode}
 use Rattle.values.specs.declared.key.Key.{Key}
 use Rattle.values.specs.declared.value.Scalar.{Scalar}
-use Rattle.board_code.specs.Spots.{layout_of}
+use Rattle.board_program.specs.Spots.{layout_of}
 use Rattle.board_data.specs.View.{cells_view}
 use Rattle.board_effects.specs.Effects.{IsEffect, fault_of}
 use Rattle.board_effects.specs.declared.effect.Effect.{Effect}
 use Rattle.board_effects.specs.declared.effect.Effect.TheVariants as Effects
 use Rattle.board_effects.proofs.Tells.{tells}
-use Rattle.board_frames.specs.View.{frames_view, rows_view}
-use Rattle.board_frames.specs.declared.place.Fault.{Fault as Noted}
+use Rattle.board_instances.specs.View.{frames_view, rows_view}
+use Rattle.board_instances.specs.declared.place.Fault.{Fault as Noted}
 use Rattle.board.specs.Ending.{is_fault}
 use Rattle.board.specs.Inside.{IsKept, IsNoted, Stand}
 use Rattle.board.specs.Rows.{RunsOn}
@@ -30,7 +30,7 @@ use Rattle.board.specs.View.{Told, fields_view}
 use Rattle.board.specs.declared.state.Core.{Core}
 use Rattle.board.proofs.Changes.{untold}
 use Rattle.board.proofs.Moves.{ends}
-use Rattle.replayed.proofs.Tests.{none_some, yes_no}
+use Rattle.board_history.proofs.Tests.{none_some, yes_no}
 
 -- no fault, no fault noted
 faultless : (u : Task) (e : Effect) → is_fault e ≡ false → fault_of u e ≡ None

@@ -4,14 +4,14 @@ use Rattle.std.specs.Prelude.{if◌then◌else◌, nat_lt}
 use Rattle.std.proofs.lemmas.Bool.Decides.{nat_tests}
 use Rattle.dataflow.specs.System.{Answer}
 use Rattle.dataflow.specs.Machine.{End, Event, SeesAll}
-use Rattle.replayed.specs.CodeReplay.{replayed}
-use Rattle.replayed.specs.Ending.{EndsTo, TurnsAfter, new_row, printed, turns_of_new}
-use Rattle.replayed.specs.Fields.{Counted, Fields, Frame, Job, Row, Running, Waiting, Want, row_of, task_of}
-use Rattle.replayed.specs.Stands.{Stands}
-use Rattle.replayed.specs.Static.{computed_by}
-use Rattle.replayed.proofs.EndedFields.{end_stands}
-use Rattle.replayed.proofs.EndedItems.{row_below}
-use Rattle.replayed.proofs.Rows.{no_row}
+use Rattle.board_history.specs.CodeReplay.{replayed}
+use Rattle.board_history.specs.Ending.{EndsTo, TurnsAfter, new_row, printed, turns_of_new}
+use Rattle.board_history.specs.Fields.{Counted, Fields, Frame, Job, Row, Running, Waiting, Want, row_of, task_of}
+use Rattle.board_history.specs.Stands.{Stands}
+use Rattle.board_history.specs.Static.{computed_by}
+use Rattle.board_history.proofs.EndedFields.{end_stands}
+use Rattle.board_history.proofs.EndedItems.{row_below}
+use Rattle.board_history.proofs.Rows.{no_row}
 use Rattle.rules.specs.Waiting as Rules
 use Rattle.task_code.specs.Code.{Code}
 use Rattle.task_code.specs.Compute.{Computed, Elements}
@@ -20,7 +20,7 @@ use Rattle.task_code.specs.System.{code_system, task_inputs}
 use Rattle.task_code.specs.Whole.{IsCode}
 use Rattle.values.specs.declared.key.Key.{Key}
 use Rattle.values.specs.declared.value.Scalar.{Scalar}
-use Rattle.board_code.specs.Spots.{layout_of}
+use Rattle.board_program.specs.Spots.{layout_of}
 use Rattle.board_items.specs.Ended.{AreSettled, AreShort, AreToSettle, numbers_behind}
 use Rattle.board_items.specs.Learnt.{HaveLearnt}
 use Rattle.board_items.specs.Progress.{AreOld}

@@ -2,8 +2,8 @@
 use Rattle.std.proofs.Common.{ℕ, List}
 use Rattle.std.specs.Prelude.{ℤ}
 use Rattle.dataflow.specs.Machine.{Event}
-use Rattle.replayed.specs.Fields.{Fields, Layout}
-use Rattle.replayed.specs.Stands.{Stands}
+use Rattle.board_history.specs.Fields.{Fields, Layout}
+use Rattle.board_history.specs.Stands.{Stands}
 use Rattle.task_code.specs.Code.{Code, Kind}
 use Rattle.board.specs.Queues.{SameNumbers, with_queue}
 

@@ -5,13 +5,13 @@ use Rattle.std.specs.Cmp.{IsStrictWeakOrder}
 use Rattle.std.specs.List.Sorted.{IsPermutation, IsSortedBy}
 use Rattle.dataflow.specs.System.{In}
 use Rattle.dataflow.proofs.Lists.{in_left, in_map, in_right, in_split, in_unmap}
-use Rattle.board_frames.specs.declared.place.Statement.{Statement}
-use Rattle.board_frames.specs.declared.place.Step.{Step}
+use Rattle.board_instances.specs.declared.place.Statement.{Statement}
+use Rattle.board_instances.specs.declared.place.Step.{Step}
 use Rattle.task_code.proofs.Equal.{both_true, nat_same, nat_sound, true_and}
 use Rattle.values.proofs.Keys.{key_below-irreflexive, key_below-other, key_below-trans, same_key-eq, same_key-refl}
 use Rattle.values.specs.Keys.{key_below, same_key}
 use Rattle.board_items.proofs.Lists.{in_back, in_moved}
-use Rattle.replayed.proofs.Tests.{none_some, some_same}
+use Rattle.board_history.proofs.Tests.{none_some, some_same}
 use Rattle.board.specs.Blocked.{InTextOrder, comes_before, path_below, same_step, step_below}
 use Rattle.board.specs.Stuck.{Place, is_before, is_same_statement, place_of, same_path}
 use Rattle.board.specs.Sorting.{each_once, is_last}

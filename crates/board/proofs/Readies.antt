@@ -14,7 +14,7 @@ use Rattle.work_queue.specs.declared.entry.Entry.{Entry}
 use Rattle.work_queue.specs.declared.entry.Kind.{Kind as QueueKind}
 use Rattle.work_queue.specs.declared.entry.Kind.TheVariants as Queues
 use Rattle.work_queue.proofs.OrderLaws.{no_later, precedes_order}
-use Rattle.board_code.specs.Tables.{queue_kind}
+use Rattle.board_program.specs.Tables.{queue_kind}
 use Rattle.board_items.specs.View.{numbers_at}
 use Rattle.board_items.proofs.Lists.{distinct_moved, in_back, in_moved}
 use Rattle.board.specs.Inside.{IsSound, seen_of}

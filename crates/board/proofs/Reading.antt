@@ -10,19 +10,19 @@ use Rattle.dataflow.proofs.Lists.{in_map, in_split, in_unmap}
 use Rattle.dataflow.proofs.Runs.{run_settled}
 use Rattle.dataflow.proofs.Settled.{Settled, can_of_comes}
 use Rattle.dataflow.proofs.Steps.{run_follows}
-use Rattle.replayed.specs.Elements.{code_tests}
-use Rattle.replayed.specs.Fields as Fields
-use Rattle.replayed.specs.Fields.{Counted, DatumOf, Does, Frame, Holding, Layout, LiteralOf, Mapping, Over, Row, Slot, Unset, path_of, row_of, slot_at, slot_for, task_of}
-use Rattle.replayed.specs.Needs.{cell_element, cell_value, elements_in, found}
-use Rattle.replayed.specs.Stands.{CellStands, ContentStands, SlotStands, Stands}
-use Rattle.replayed.specs.Static.{opened, rests}
-use Rattle.replayed.proofs.Counts.{made_to_read}
-use Rattle.replayed.proofs.Elements.{code_told}
-use Rattle.replayed.proofs.Ended.{opens_is}
-use Rattle.replayed.proofs.EndedBase.{rests_none}
-use Rattle.replayed.proofs.EndedNames.{Resolved, in_data, to_datum, to_literal}
-use Rattle.replayed.proofs.Replays.{run_replayed}
-use Rattle.replayed.proofs.Tests.{choose, none_some, some_same, yes_no}
+use Rattle.board_history.specs.Elements.{code_tests}
+use Rattle.board_history.specs.Fields as Fields
+use Rattle.board_history.specs.Fields.{Counted, DatumOf, Does, Frame, Holding, Layout, LiteralOf, Mapping, Over, Row, Slot, Unset, path_of, row_of, slot_at, slot_for, task_of}
+use Rattle.board_history.specs.Needs.{cell_element, cell_value, elements_in, found}
+use Rattle.board_history.specs.Stands.{CellStands, ContentStands, SlotStands, Stands}
+use Rattle.board_history.specs.Static.{opened, rests}
+use Rattle.board_history.proofs.Counts.{made_to_read}
+use Rattle.board_history.proofs.Elements.{code_told}
+use Rattle.board_history.proofs.Ended.{opens_is}
+use Rattle.board_history.proofs.EndedBase.{rests_none}
+use Rattle.board_history.proofs.EndedNames.{Resolved, in_data, to_datum, to_literal}
+use Rattle.board_history.proofs.Replays.{run_replayed}
+use Rattle.board_history.proofs.Tests.{choose, none_some, some_same, yes_no}
 use Rattle.task_code.proofs.Kept.{code_laws}
 use Rattle.task_code.specs.Code.{Code, Name, body, entry}
 use Rattle.task_code.specs.Compute.{Elements, in_key_order}
@@ -128,7 +128,7 @@ module _ (C : Code) (I : IsCode C) (L : Layout) (es : List Event) (F : Fields.Fi
     pub scalar_seen : v.array ≡ false → IsKnown (code_system C) x.state (StoredScalar (Datum q v)) → (u : Scalar) × (cell_value (slot_at F.cells d) ≡ Some u) × Holds (code_system C) x.state (Datum q v) only u
     scalar_seen na known = by cell.0.content v.array na cell.2.content (ap cell_value cell.1)
       where
-        by : (c : Fields.Content) (b : Bool) → b ≡ false → ContentStands C x.state (Datum q v) b c → cell_value (slot_at F.cells d) ≡ Rattle.replayed.specs.Needs.value_in c → (u : Scalar) × (cell_value (slot_at F.cells d) ≡ Some u) × Holds (code_system C) x.state (Datum q v) only u
+        by : (c : Fields.Content) (b : Bool) → b ≡ false → ContentStands C x.state (Datum q v) b c → cell_value (slot_at F.cells d) ≡ Rattle.board_history.specs.Needs.value_in c → (u : Scalar) × (cell_value (slot_at F.cells d) ≡ Some u) × Holds (code_system C) x.state (Datum q v) only u
         by Unset false e st g = absurd (st known.0 known.1)
         by Unset true e st g = absurd st
         by (Holding u) false e st g = (u, g, st)

@@ -3,25 +3,25 @@ use Rattle.std.proofs.Common.{◌≡◌, ◌∙◌, refl, sym, ap, ℕ, suc, ◌
 use Rattle.std.proofs.lemmas.List.{length-append, length-map}
 use Rattle.dataflow.proofs.Lists.{map_append}
 use Rattle.data_store.specs.Stores.{Store}
-use Rattle.replayed.specs.Ending.{job_kind, new_row}
-use Rattle.replayed.specs.Fields.{Frame, Job, Row, Want}
-use Rattle.replayed.specs.Marking.{kind_eq}
+use Rattle.board_history.specs.Ending.{job_kind, new_row}
+use Rattle.board_history.specs.Fields.{Frame, Job, Row, Want}
+use Rattle.board_history.specs.Marking.{kind_eq}
 use Rattle.task_code.specs.Code.{Code, Control, Kind, Leaf, body}
-use Rattle.board_code.specs.Tables.{run_as}
-use Rattle.board_code.specs.declared.program.Own.{Own}
-use Rattle.board_frames.specs.Openings.{Put, put_jobs}
-use Rattle.board_frames.specs.View.{opening_frame, rows_view}
-use Rattle.board_frames.specs.declared.opening.Opening.{Opening}
-use Rattle.board_frames.specs.declared.opening.Openings.{Openings}
+use Rattle.board_program.specs.Tables.{run_as}
+use Rattle.board_program.specs.declared.program.Own.{Own}
+use Rattle.board_instances.specs.Openings.{Put, put_jobs}
+use Rattle.board_instances.specs.View.{opening_frame, rows_view}
+use Rattle.board_instances.specs.declared.opening.Opening.{Opening}
+use Rattle.board_instances.specs.declared.opening.Openings.{Openings}
 use Rattle.board_items.proofs.Apart.{placed_roomy}
 use Rattle.board_items.specs.Room.{IsRoomy, IsRoomyFor, apart_in}
 use Rattle.board_items.specs.declared.items.Items.{Items}
-use Rattle.board_openings.specs.Filled.{AreFilled}
-use Rattle.board_openings.specs.Opened.{AreOpened, going as going_jobs}
-use Rattle.board_openings.specs.World.{Opening as Opened, Opens, WorldEnds, goes_on}
-use Rattle.board_openings.specs.declared.filling.TurnSlots.{TurnSlots}
-use Rattle.board_openings.specs.declared.world.Change.{Change}
-use Rattle.board_openings.specs.declared.world.Change.TheVariants as Changes
+use Rattle.board_changes.specs.Filled.{AreFilled}
+use Rattle.board_changes.specs.Opened.{AreOpened, going as going_jobs}
+use Rattle.board_changes.specs.World.{Opening as Opened, Opens, WorldEnds, goes_on}
+use Rattle.board_changes.specs.declared.filling.TurnSlots.{TurnSlots}
+use Rattle.board_changes.specs.declared.world.Change.{Change}
+use Rattle.board_changes.specs.declared.world.Change.TheVariants as Changes
 use Rattle.board.specs.Room.{going, new_controls, new_leaves}
 use Rattle.board.proofs.Apart.{apart_both, apart_control, apart_leaf}
 

@@ -1,15 +1,15 @@
 -- Room is kept for items that wait or run.
 use Rattle.std.proofs.Common.{◌≡◌, ℕ, ◌+◌, ◌-◌, ◌<◌, ◌≤◌, Bool, true, false, ◌&&◌, List, [], ◌∷◌, refl, sym, ap, ◌∙◌, subst, length, arith}
 use Rattle.std.specs.Prelude.{◌^◌, vec_capacity}
-use Rattle.replayed.specs.Ending.{job_kind}
-use Rattle.replayed.specs.Fields.{Job, Ready, Row, Running}
-use Rattle.replayed.specs.Marking.{kind_eq, mark_at}
+use Rattle.board_history.specs.Ending.{job_kind}
+use Rattle.board_history.specs.Fields.{Job, Ready, Row, Running}
+use Rattle.board_history.specs.Marking.{kind_eq, mark_at}
 use Rattle.task_code.specs.Code.{Code, Control, Kind, Leaf}
 use Rattle.work_queue.specs.Both.{Both, of, with_changed}
 use Rattle.work_queue.specs.Waiting.{with_put, without}
 use Rattle.work_queue.specs.declared.entry.Entry.{Entry as Queued}
-use Rattle.board_code.specs.Tables.{queue_kind}
-use Rattle.board_frames.specs.View.{rows_view}
+use Rattle.board_program.specs.Tables.{queue_kind}
+use Rattle.board_instances.specs.View.{rows_view}
 use Rattle.board_items.specs.Settled.{one_more, one_less}
 use Rattle.board_items.specs.Room.{IsRoomy, apart_in, is_apart}
 use Rattle.board_items.proofs.Apart.{marked_at}

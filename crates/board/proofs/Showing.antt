@@ -3,20 +3,20 @@ use Rattle.std.proofs.Common.{◌≡◌, inl, inr, ℕ, zero, suc, List, [], ◌
 use Rattle.std.specs.Prelude.{ℤ, map, slice_get}
 use Rattle.dataflow.specs.System.{In}
 use Rattle.dataflow.specs.Machine.{Event}
-use Rattle.replayed.specs.Ending.{job_kind, job_priority}
-use Rattle.replayed.specs.Fields.{Over, Ready, Row, row_of, task_of}
-use Rattle.replayed.proofs.Marking.{RowIs, item, mark_is}
-use Rattle.replayed.proofs.Tests.{none_some, some_same}
+use Rattle.board_history.specs.Ending.{job_kind, job_priority}
+use Rattle.board_history.specs.Fields.{Over, Ready, Row, row_of, task_of}
+use Rattle.board_history.proofs.Marking.{RowIs, item, mark_is}
+use Rattle.board_history.proofs.Tests.{none_some, some_same}
 use Rattle.task_code.specs.Code.{Code, Control, Kind, Leaf}
 use Rattle.task_code.specs.Machine.{CanBegin, CodeItem, CodeState}
 use Rattle.task_code.specs.View.{event_view}
 use Rattle.task_code.specs.System.{task_kind, task_priority}
 use Rattle.task_code.specs.Whole.{IsCode}
-use Rattle.board_code.specs.Spots.{layout_of}
-use Rattle.board_code.specs.Tables.{queue_kind}
-use Rattle.board_frames.specs.View.{frames_view, mark_view, rows_view}
-use Rattle.board_frames.specs.declared.item.Mark.{Mark}
-use Rattle.board_frames.specs.declared.item.Mark.TheVariants as Marks
+use Rattle.board_program.specs.Spots.{layout_of}
+use Rattle.board_program.specs.Tables.{queue_kind}
+use Rattle.board_instances.specs.View.{frames_view, mark_view, rows_view}
+use Rattle.board_instances.specs.declared.item.Mark.{Mark}
+use Rattle.board_instances.specs.declared.item.Mark.TheVariants as Marks
 use Rattle.board.specs.History.{state_of}
 use Rattle.board.specs.Inside.{IsSound, Stand}
 use Rattle.board.specs.declared.board.Board.TheInside.{Inside}

@@ -4,23 +4,23 @@ use Rattle.std.specs.Prelude.{◌^◌, nat_eq, slice_get}
 use Rattle.dataflow.specs.System.{In}
 use Rattle.dataflow.proofs.Lists.{in_unmap}
 use Rattle.data_store.specs.Stores.{Store}
-use Rattle.replayed.specs.Ending.{FramesOpen, Instance, TakenOff, goes, home, outside, stays}
-use Rattle.replayed.specs.Fields.{Frame, Job, Row, slot_at}
-use Rattle.replayed.proofs.Next.{nat_same, nat_sound}
-use Rattle.replayed.proofs.Tests.{none_some, some_same, yes_no}
+use Rattle.board_history.specs.Ending.{FramesOpen, Instance, TakenOff, goes, home, outside, stays}
+use Rattle.board_history.specs.Fields.{Frame, Job, Row, slot_at}
+use Rattle.board_history.proofs.Next.{nat_same, nat_sound}
+use Rattle.board_history.proofs.Tests.{none_some, some_same, yes_no}
 use Rattle.task_code.specs.Code.{Code}
 use Rattle.task_code.specs.Compute.{Computed}
 use Rattle.task_code.specs.Whole.{IsCode}
 use Rattle.board_data.specs.Wanted.{FewSlots}
-use Rattle.board_frames.specs.Made.{FitsAround, made_as}
-use Rattle.board_frames.specs.Openings.{Put}
-use Rattle.board_frames.specs.View.{opening_frame, slot_view}
-use Rattle.board_frames.specs.declared.opening.Opening.{Opening}
-use Rattle.board_frames.specs.declared.opening.Openings.{Openings}
-use Rattle.board_openings.proofs.Frames.{frames_open}
-use Rattle.board_openings.proofs.MadeData.{one_of}
-use Rattle.board_openings.specs.Blocks.{AreBlocks}
-use Rattle.board_openings.specs.Opened.{AreOpened}
+use Rattle.board_instances.specs.Made.{FitsAround, made_as}
+use Rattle.board_instances.specs.Openings.{Put}
+use Rattle.board_instances.specs.View.{opening_frame, slot_view}
+use Rattle.board_instances.specs.declared.opening.Opening.{Opening}
+use Rattle.board_instances.specs.declared.opening.Openings.{Openings}
+use Rattle.board_changes.proofs.Frames.{frames_open}
+use Rattle.board_changes.proofs.MadeData.{one_of}
+use Rattle.board_changes.specs.Blocks.{AreBlocks}
+use Rattle.board_changes.specs.Opened.{AreOpened}
 
 -- two numbers are the same or not
 same_or : (a b : ℕ) → (a ≡ b) ⊎ (a ≡ b → ⊥)

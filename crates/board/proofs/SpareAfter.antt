@@ -7,23 +7,23 @@ use Rattle.std.proofs.lemmas.List.Elements.{filter-append}
 use Rattle.dataflow.specs.System.{In}
 use Rattle.dataflow.proofs.Lists.{map_append}
 use Rattle.data_store.specs.Stores.{Store}
-use Rattle.replayed.specs.Ending.{new_row}
-use Rattle.replayed.specs.Fields.{Does, Frame, Job, Row, Script, Want}
+use Rattle.board_history.specs.Ending.{new_row}
+use Rattle.board_history.specs.Fields.{Does, Frame, Job, Row, Script, Want}
 use Rattle.rules.specs.declared.input.Input.{Input}
 use Rattle.smallvec.specs.SmallVec.{SmallVec}
 use Rattle.task_code.specs.Code.{Code, body, entry}
 use Rattle.board_effects.specs.Openings.{IsSpare, long_needs}
-use Rattle.board_frames.specs.Openings.{Put, put_jobs}
-use Rattle.board_frames.specs.View.{opening_frame}
-use Rattle.board_frames.specs.declared.opening.Opening.{Opening}
-use Rattle.board_frames.specs.declared.opening.Openings.{Openings}
+use Rattle.board_instances.specs.Openings.{Put, put_jobs}
+use Rattle.board_instances.specs.View.{opening_frame}
+use Rattle.board_instances.specs.declared.opening.Opening.{Opening}
+use Rattle.board_instances.specs.declared.opening.Openings.{Openings}
 use Rattle.board_items.specs.Ended.{first_needs}
 use Rattle.board_items.specs.Progress.{jobs_behind}
 use Rattle.board_items.specs.Room.{AreSpare}
-use Rattle.board_openings.specs.Opened.{going as going_jobs}
-use Rattle.board_openings.specs.World.{Opening as Opened, WorldEnds, spare_of}
-use Rattle.board_openings.specs.declared.world.Change.{Change}
-use Rattle.board_openings.specs.declared.world.Change.TheVariants as Changes
+use Rattle.board_changes.specs.Opened.{going as going_jobs}
+use Rattle.board_changes.specs.World.{Opening as Opened, WorldEnds, spare_of}
+use Rattle.board_changes.specs.declared.world.Change.{Change}
+use Rattle.board_changes.specs.declared.world.Change.TheVariants as Changes
 use Rattle.board.proofs.RoomAfter.{filled_len, opened_rows}
 
 jobs_are : (js : List Job) → map (λ (r : Row). r.job) (map new_row js) ≡ js

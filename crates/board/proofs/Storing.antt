@@ -5,19 +5,19 @@ use Rattle.std.proofs.lemmas.List.Sums.{sum_by-cons}
 use Rattle.dataflow.specs.Machine.{Event}
 use Rattle.dataflow.specs.System.{Distinct, In}
 use Rattle.data_store.specs.declared.datum.Datum.{Datum as Kept}
-use Rattle.replayed.specs.Elements.{code_tests}
-use Rattle.replayed.proofs.Elements.{code_told}
+use Rattle.board_history.specs.Elements.{code_tests}
+use Rattle.board_history.proofs.Elements.{code_told}
 use Rattle.task_code.proofs.Kept.{code_laws}
-use Rattle.replayed.specs.Fields.{Counted, slot_at}
-use Rattle.replayed.specs.Stands.{Stands}
-use Rattle.replayed.proofs.Replays.{replayed_exact}
-use Rattle.replayed.proofs.Tests.{none_some}
+use Rattle.board_history.specs.Fields.{Counted, slot_at}
+use Rattle.board_history.specs.Stands.{Stands}
+use Rattle.board_history.proofs.Replays.{replayed_exact}
+use Rattle.board_history.proofs.Tests.{none_some}
 use Rattle.task_code.specs.Code.{Code}
 use Rattle.task_code.specs.Machine.{CodeState, DataAreExact, Run, run_log}
 use Rattle.task_code.specs.Places.{Place}
 use Rattle.task_code.specs.System.{code_system}
 use Rattle.task_code.specs.Whole.{IsCode}
-use Rattle.board_code.specs.Spots.{layout_of}
+use Rattle.board_program.specs.Spots.{layout_of}
 use Rattle.board_data.specs.View.{cell_view, cells_view}
 use Rattle.board.specs.History.{state_of}
 use Rattle.board.specs.Inside.{Stand}

@@ -4,16 +4,16 @@ use Rattle.std.specs.Prelude.{if◌then◌else◌}
 use Rattle.std.specs.List.{list_all}
 use Rattle.dataflow.specs.System.{ClosedArray, In, Input, StoredScalar}
 use Rattle.dataflow.specs.Machine.{Event, IsKnown}
-use Rattle.replayed.specs.Elements.{code_tests}
-use Rattle.replayed.specs.Fields as Fields
-use Rattle.replayed.specs.Fields.{Counted, DatumOf, Frame, Holding, Layout, LiteralOf, Mapping, Slot, Unset, Want, slot_at}
-use Rattle.replayed.specs.Needs.{cell_value, is_shut, missed, value_in}
-use Rattle.replayed.specs.Stands.{CellStands, ContentStands, Stands, array_wanted, scalar_wanted}
-use Rattle.replayed.proofs.Counts.{closed_counts, counts_closed}
-use Rattle.replayed.proofs.Elements.{code_told}
-use Rattle.replayed.proofs.EndedNames.{Resolved, to_datum, to_literal}
-use Rattle.replayed.proofs.EndedWants.{not_false, scalar_place}
-use Rattle.replayed.proofs.Tests.{none_some, some_same, yes_no}
+use Rattle.board_history.specs.Elements.{code_tests}
+use Rattle.board_history.specs.Fields as Fields
+use Rattle.board_history.specs.Fields.{Counted, DatumOf, Frame, Holding, Layout, LiteralOf, Mapping, Slot, Unset, Want, slot_at}
+use Rattle.board_history.specs.Needs.{cell_value, is_shut, missed, value_in}
+use Rattle.board_history.specs.Stands.{CellStands, ContentStands, Stands, array_wanted, scalar_wanted}
+use Rattle.board_history.proofs.Counts.{closed_counts, counts_closed}
+use Rattle.board_history.proofs.Elements.{code_told}
+use Rattle.board_history.proofs.EndedNames.{Resolved, to_datum, to_literal}
+use Rattle.board_history.proofs.EndedWants.{not_false, scalar_place}
+use Rattle.board_history.proofs.Tests.{none_some, some_same, yes_no}
 use Rattle.task_code.proofs.Equal.{every_in, in_every, nat_sound, true_and}
 use Rattle.task_code.specs.Code.{At, AtKey, Closed, Code, Header, Name, Need, Stored, Variable, entry, is_array_name}
 use Rattle.task_code.specs.Places.{Datum, Place, Step, place_at}

@@ -1,11 +1,11 @@
 -- The work of a job by the tables of its entry.
 use Rattle.std.proofs.Common.{◌≡◌, ◌↔◌, ℕ, Bool, IsTrue, List, map, sym, ap, ◌∙◌, subst, Option}
-use Rattle.replayed.specs.Fields.{Counted, Does, Frame, Job}
+use Rattle.board_history.specs.Fields.{Counted, Does, Frame, Job}
 use Rattle.task_code.specs.Code.{Code, Entry, entry}
-use Rattle.board_code.specs.Tables.{IsEntryTable, body_of}
-use Rattle.board_code.specs.declared.program.EntryTable.{EntryTable}
+use Rattle.board_program.specs.Tables.{IsEntryTable, body_of}
+use Rattle.board_program.specs.declared.program.EntryTable.{EntryTable}
 use Rattle.board_data.specs.Answered.{wanted_answer}
-use Rattle.board_frames.specs.Names.{led_slot}
+use Rattle.board_instances.specs.Names.{led_slot}
 use Rattle.board_work.specs.Assigned.{Assigned, runs}
 use Rattle.dataflow.specs.System.{Answer}
 use Rattle.values.specs.declared.key.Key.{Key}

@@ -8,10 +8,10 @@ use Rattle.data_store.specs.Stores.{IsArrayAt, Store, at}
 use Rattle.data_store.specs.declared.datum.Content.{Content}
 use Rattle.data_store.specs.declared.datum.Content.TheVariants.{OfArray, OfScalar}
 use Rattle.data_store.specs.declared.datum.Datum.{Datum}
-use Rattle.replayed.specs.CodeReplay.{replayed}
-use Rattle.replayed.specs.Fields.{Does, Fields, Job, Row, Script, row_of, task_of}
-use Rattle.replayed.specs.Stands.{Stands}
-use Rattle.replayed.specs.Static.{computed_by}
+use Rattle.board_history.specs.CodeReplay.{replayed}
+use Rattle.board_history.specs.Fields.{Does, Fields, Job, Row, Script, row_of, task_of}
+use Rattle.board_history.specs.Stands.{Stands}
+use Rattle.board_history.specs.Static.{computed_by}
 use Rattle.task_code.specs.Code.{Code}
 use Rattle.task_code.specs.Compute.{Elements, Inserts, pairs}
 use Rattle.task_code.specs.Machine.{CodeState}
@@ -19,15 +19,15 @@ use Rattle.task_code.specs.System.{code_system, task_inputs}
 use Rattle.task_code.specs.Whole.{IsCode}
 use Rattle.values.specs.declared.key.Key.{Key}
 use Rattle.values.specs.declared.value.Scalar.{Scalar}
-use Rattle.board_code.specs.Spots.{layout_of}
+use Rattle.board_program.specs.Spots.{layout_of}
 use Rattle.board_data.specs.Data.{is_keyed}
 use Rattle.board_data.specs.View.{cells_view}
 use Rattle.board_effects.proofs.Takes.{array_there, can_store}
 use Rattle.board_effects.specs.Effects.{GoesWell, IsEffect, target_in}
 use Rattle.board_effects.specs.declared.effect.Effect.{Effect}
 use Rattle.board_effects.specs.declared.effect.Effect.TheVariants as To
-use Rattle.board_openings.specs.Room.{TakesMore}
-use Rattle.board_openings.specs.World.{CanStore}
+use Rattle.board_changes.specs.Room.{TakesMore}
+use Rattle.board_changes.specs.World.{CanStore}
 use Rattle.board.specs.Changing.{change_of}
 
 is_array : (s : Store) (d : ℕ) → IsArrayAt s d → is_keyed (at s d) ≡ true

@@ -4,21 +4,21 @@ use Rattle.std.specs.List.{flat_map, list_all}
 use Rattle.dataflow.specs.System.{In}
 use Rattle.dataflow.specs.Machine.{Event, Free}
 use Rattle.dataflow.proofs.Lists.{in_map, in_seam}
-use Rattle.replayed.specs.Fields.{Does, Fields, Frame, Job, Layout, Row, Script, Slot, Waiter, Want, path_of, row_of, slot_at, slot_for, task_of}
-use Rattle.replayed.specs.Needs.{job_missed, missed, still_missed}
-use Rattle.replayed.specs.Stands.{AllStand, wanted, wants}
-use Rattle.replayed.proofs.EndedBase.{Ending, o, row_there}
-use Rattle.replayed.proofs.EndedCells.{names_after}
-use Rattle.replayed.proofs.EndedFrames.{frame_stays, old_path}
-use Rattle.replayed.proofs.EndedKnown.{stays_later}
-use Rattle.replayed.proofs.EndedNames.{Resolved, in_data, resolved_at, row_reads, to_datum, to_literal}
-use Rattle.replayed.proofs.EndedRows.{row_kept}
-use Rattle.replayed.proofs.EndedSlots.{old_slot}
-use Rattle.replayed.proofs.EndedStill.{AllPlain, OneElement, at_name, at_key, plain_still, shapes}
-use Rattle.replayed.proofs.EndedWaits as Waits
-use Rattle.replayed.proofs.EndedWants.{needs_stand, left_none, none_left}
-use Rattle.replayed.proofs.Marking.{RowIs, live_mark}
-use Rattle.replayed.proofs.Tests.{some_same}
+use Rattle.board_history.specs.Fields.{Does, Fields, Frame, Job, Layout, Row, Script, Slot, Waiter, Want, path_of, row_of, slot_at, slot_for, task_of}
+use Rattle.board_history.specs.Needs.{job_missed, missed, still_missed}
+use Rattle.board_history.specs.Stands.{AllStand, wanted, wants}
+use Rattle.board_history.proofs.EndedBase.{Ending, o, row_there}
+use Rattle.board_history.proofs.EndedCells.{names_after}
+use Rattle.board_history.proofs.EndedFrames.{frame_stays, old_path}
+use Rattle.board_history.proofs.EndedKnown.{stays_later}
+use Rattle.board_history.proofs.EndedNames.{Resolved, in_data, resolved_at, row_reads, to_datum, to_literal}
+use Rattle.board_history.proofs.EndedRows.{row_kept}
+use Rattle.board_history.proofs.EndedSlots.{old_slot}
+use Rattle.board_history.proofs.EndedStill.{AllPlain, OneElement, at_name, at_key, plain_still, shapes}
+use Rattle.board_history.proofs.EndedWaits as Waits
+use Rattle.board_history.proofs.EndedWants.{needs_stand, left_none, none_left}
+use Rattle.board_history.proofs.Marking.{RowIs, live_mark}
+use Rattle.board_history.proofs.Tests.{some_same}
 use Rattle.task_code.proofs.Equal.{true_and}
 use Rattle.task_code.specs.Code.{Code, Name, Need, Variable, body, entry}
 use Rattle.task_code.specs.Effects.{Item, Task}

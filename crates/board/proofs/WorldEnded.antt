@@ -5,18 +5,18 @@ use Rattle.dataflow.specs.System.{Opening}
 use Rattle.dataflow.proofs.Lists.{map_append}
 use Rattle.dataflow.specs.Machine.{Event}
 use Rattle.data_store.specs.Stores.{Store, at}
-use Rattle.replayed.specs.Ending.{BecomesKnown, CellsAfter, NamesLead, TakenOff, added_times, given_times, home, job_stores, made_jobs, new_row, rest_jobs}
-use Rattle.replayed.specs.Fields.{Counted, Does, Fields, Frame, Job, Over, Row, Script, Want, Whole, row_of, task_of}
-use Rattle.replayed.specs.Stands.{Stands}
-use Rattle.replayed.specs.Static.{rests}
-use Rattle.replayed.proofs.EndedFrames.{one_rest}
+use Rattle.board_history.specs.Ending.{BecomesKnown, CellsAfter, NamesLead, TakenOff, added_times, given_times, home, job_stores, made_jobs, new_row, rest_jobs}
+use Rattle.board_history.specs.Fields.{Counted, Does, Fields, Frame, Job, Over, Row, Script, Want, Whole, row_of, task_of}
+use Rattle.board_history.specs.Stands.{Stands}
+use Rattle.board_history.specs.Static.{rests}
+use Rattle.board_history.proofs.EndedFrames.{one_rest}
 use Rattle.task_code.specs.Code.{Code}
 use Rattle.task_code.specs.Compute.{Computed}
 use Rattle.task_code.specs.Effects.{Task, is_some_list}
 use Rattle.task_code.specs.Places.{Place}
 use Rattle.task_code.specs.Whole.{IsCode}
-use Rattle.board_code.specs.Spots.{layout_of}
-use Rattle.board_code.specs.Tables.{is_place}
+use Rattle.board_program.specs.Spots.{layout_of}
+use Rattle.board_program.specs.Tables.{is_place}
 use Rattle.board_data.specs.Ended.{Covers}
 use Rattle.board_data.specs.Holds.{Fit}
 use Rattle.board_data.specs.Stored.{StoresIn}
@@ -24,28 +24,28 @@ use Rattle.board_data.specs.View.{cells_view}
 use Rattle.board_data.specs.Wanted.{FewSlots}
 use Rattle.board_effects.specs.Effects.{OpensNothing}
 use Rattle.board_effects.specs.Openings.{AreOpenings}
-use Rattle.board_frames.proofs.Opened.{stands_nested}
-use Rattle.board_frames.specs.Made.{FitsAround, made_as}
-use Rattle.board_frames.specs.declared.opening.Opening.{Opening as OneOpening}
-use Rattle.board_frames.specs.declared.opening.Openings.{Openings}
-use Rattle.board_openings.proofs.After.{cells_after}
-use Rattle.board_openings.proofs.Becomes.{becomes}
-use Rattle.board_openings.proofs.Bridge.{are_blocks}
-use Rattle.board_openings.proofs.EntryOpens.{entry_opens, opens_become}
-use Rattle.board_openings.proofs.EntryStores.{entry_stores, frames_same, makes_none, stores_become}
-use Rattle.board_openings.proofs.Frames.{are_made, frames_open, rows_are}
-use Rattle.board_openings.proofs.Known.{given}
-use Rattle.board_openings.proofs.Leads.{all_lead}
-use Rattle.board_openings.proofs.Rights.{covers}
-use Rattle.board_openings.proofs.ScriptOpens.{script_opens}
-use Rattle.board_openings.proofs.Steps.{with_none}
-use Rattle.board_openings.proofs.Told.{told_sound}
-use Rattle.board_openings.specs.Blocks.{AreBlocks}
-use Rattle.board_openings.specs.Data.{MakesData}
-use Rattle.board_openings.specs.Opened.{AreOpened, going}
-use Rattle.board_openings.specs.World.{CanStore, Goes, IsSame, LetsGo, Opens, WorldEnds, target_of, told_of, values_of}
-use Rattle.board_openings.specs.declared.world.Change.{Change}
-use Rattle.board_openings.specs.declared.world.Change.TheVariants as Changes
+use Rattle.board_instances.proofs.Opened.{stands_nested}
+use Rattle.board_instances.specs.Made.{FitsAround, made_as}
+use Rattle.board_instances.specs.declared.opening.Opening.{Opening as OneOpening}
+use Rattle.board_instances.specs.declared.opening.Openings.{Openings}
+use Rattle.board_changes.proofs.After.{cells_after}
+use Rattle.board_changes.proofs.Becomes.{becomes}
+use Rattle.board_changes.proofs.Bridge.{are_blocks}
+use Rattle.board_changes.proofs.EntryOpens.{entry_opens, opens_become}
+use Rattle.board_changes.proofs.EntryStores.{entry_stores, frames_same, makes_none, stores_become}
+use Rattle.board_changes.proofs.Frames.{are_made, frames_open, rows_are}
+use Rattle.board_changes.proofs.Known.{given}
+use Rattle.board_changes.proofs.Leads.{all_lead}
+use Rattle.board_changes.proofs.Rights.{covers}
+use Rattle.board_changes.proofs.ScriptOpens.{script_opens}
+use Rattle.board_changes.proofs.Steps.{with_none}
+use Rattle.board_changes.proofs.Told.{told_sound}
+use Rattle.board_changes.specs.Blocks.{AreBlocks}
+use Rattle.board_changes.specs.Data.{MakesData}
+use Rattle.board_changes.specs.Opened.{AreOpened, going}
+use Rattle.board_changes.specs.World.{CanStore, Goes, IsSame, LetsGo, Opens, WorldEnds, target_of, told_of, values_of}
+use Rattle.board_changes.specs.declared.world.Change.{Change}
+use Rattle.board_changes.specs.declared.world.Change.TheVariants as Changes
 use Rattle.board.proofs.After.{WorldAfter, new_jobs}
 use Rattle.board.proofs.Slots.{few_left, few_opened, few_put}
 

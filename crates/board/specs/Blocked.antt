@@ -6,9 +6,9 @@ use Rattle.task_code.specs.Code.{Code}
 use Rattle.task_code.specs.Machine.{CodeState}
 use Rattle.task_code.specs.Places as Places
 use Rattle.task_code.specs.Runs.{Blocked, FaultAt}
-use Rattle.board_frames.specs.declared.place.Fault.{Fault}
-use Rattle.board_frames.specs.declared.place.Statement.{Statement}
-use Rattle.board_frames.specs.declared.place.Step.{Step}
+use Rattle.board_instances.specs.declared.place.Fault.{Fault}
+use Rattle.board_instances.specs.declared.place.Statement.{Statement}
+use Rattle.board_instances.specs.declared.place.Step.{Step}
 use Rattle.board.specs.View.{kind_of_fault, path_view}
 
 -- a path is written from its outermost step on, and a place has its last step first

@@ -1,16 +1,16 @@
 -- Whether what an item opens can be counted.
 use Rattle.std.specs.Prelude.{◌≡◌, ◌+◌, ◌*◌, ◌<◌, ◌^◌, ℕ, List, Option, Some, length, slice_get}
-use Rattle.replayed.specs.Ending.{home}
-use Rattle.replayed.specs.Fields.{Frame, Job}
+use Rattle.board_history.specs.Ending.{home}
+use Rattle.board_history.specs.Fields.{Frame, Job}
 use Rattle.task_code.specs.Code.{Code, body}
-use Rattle.board_code.specs.Program.{AreAtMost}
-use Rattle.board_frames.specs.Made.{FitsAround}
-use Rattle.board_frames.specs.declared.opening.Opening.{Opening}
-use Rattle.board_frames.specs.declared.opening.Openings.{Openings}
-use Rattle.board_openings.specs.Opened.{CanGoOn}
-use Rattle.board_openings.specs.World.{goes_on}
-use Rattle.board_openings.specs.declared.world.Change.{Change}
-use Rattle.board_openings.specs.declared.world.Change.TheVariants as Changes
+use Rattle.board_program.specs.Program.{AreAtMost}
+use Rattle.board_instances.specs.Made.{FitsAround}
+use Rattle.board_instances.specs.declared.opening.Opening.{Opening}
+use Rattle.board_instances.specs.declared.opening.Openings.{Openings}
+use Rattle.board_changes.specs.Opened.{CanGoOn}
+use Rattle.board_changes.specs.World.{goes_on}
+use Rattle.board_changes.specs.declared.world.Change.{Change}
+use Rattle.board_changes.specs.declared.world.Change.TheVariants as Changes
 
 module _ (C : Code) (fs : List (Option Frame)) (rows : ℕ) (j : Job) where
   -- the instances around the item, the slots of the first instance, and the names of all items, with so many rows before

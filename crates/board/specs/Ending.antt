@@ -1,21 +1,21 @@
 -- What the end of an item leaves.
 use Rattle.std.specs.Prelude.{◌≡◌, ◌+◌, ℕ, Bool, true, false, List, [], ◌∷◌, ◌++◌, None, Some, vec_capacity}
-use Rattle.replayed.specs.Static.{computed_by}
+use Rattle.board_history.specs.Static.{computed_by}
 use Rattle.board_data.specs.View.{cells_view}
 use Rattle.board_effects.specs.Effects.{IsEffect}
 use Rattle.board_effects.specs.declared.effect.Effect.{Effect}
 use Rattle.board_effects.specs.declared.effect.Effect.TheVariants.{Fails}
-use Rattle.board_frames.specs.declared.place.Fault.{Fault}
+use Rattle.board_instances.specs.declared.place.Fault.{Fault}
 use Rattle.dataflow.specs.Machine.{End, Event, SeesAll}
 use Rattle.dataflow.specs.System.{Answer}
-use Rattle.replayed.specs.Fields as Pure
-use Rattle.replayed.specs.Fields.{task_of}
+use Rattle.board_history.specs.Fields as Pure
+use Rattle.board_history.specs.Fields.{task_of}
 use Rattle.task_code.specs.Code.{Code}
 use Rattle.task_code.specs.System.{code_system, task_inputs}
 use Rattle.task_code.specs.Whole.{IsCode}
 use Rattle.values.specs.declared.key.Key.{Key}
 use Rattle.values.specs.declared.value.Scalar.{Scalar}
-use Rattle.board_frames.specs.View.{frames_view, rows_view}
+use Rattle.board_instances.specs.View.{frames_view, rows_view}
 use Rattle.board_work.specs.Assigned.{Assigned}
 use Rattle.board.specs.Board.{IsWorkOf}
 use Rattle.board.specs.History.{state_of}

@@ -1,7 +1,7 @@
 -- The state that a history leads to.
 use Rattle.std.specs.Prelude.{List, Option, Some, None}
 use Rattle.dataflow.specs.Machine.{Event, start}
-use Rattle.replayed.specs.CodeReplay.{replayed}
+use Rattle.board_history.specs.CodeReplay.{replayed}
 use Rattle.task_code.specs.Code.{Code}
 use Rattle.task_code.specs.Machine.{CodeState}
 use Rattle.task_code.specs.System.{code_system}

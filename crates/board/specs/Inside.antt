@@ -2,7 +2,7 @@
 use Rattle.std.specs.Prelude.{◌≡◌, ◌+◌, ◌≤◌, ℕ, List, Option, Some, None, map, vec_capacity, vec_len}
 use Rattle.dataflow.specs.Machine as Machine
 use Rattle.dataflow.specs.System.{In}
-use Rattle.replayed.specs.Stands.{Stands}
+use Rattle.board_history.specs.Stands.{Stands}
 use Rattle.task_code.specs.Code.{Code, entry}
 use Rattle.task_code.specs.Compute.{EntryFault}
 use Rattle.task_code.specs.Effects.{Item, Main, Task}
@@ -10,14 +10,14 @@ use Rattle.task_code.specs.Machine.{CanBegin}
 use Rattle.task_code.specs.View.{event_view}
 use Rattle.task_code.specs.Whole.{IsCode}
 use Rattle.board_data.specs.Data.{AreRising}
-use Rattle.board_code.specs.Spots.{layout_of}
+use Rattle.board_program.specs.Spots.{layout_of}
 use Rattle.board_data.specs.Wanted.{FewSlots}
-use Rattle.board_frames.specs.View.{frames_view}
-use Rattle.board_frames.specs.declared.place.Fault.{Fault}
-use Rattle.board_frames.specs.declared.place.Statement.{Statement}
+use Rattle.board_instances.specs.View.{frames_view}
+use Rattle.board_instances.specs.declared.place.Fault.{Fault}
+use Rattle.board_instances.specs.declared.place.Statement.{Statement}
 use Rattle.board.specs.declared.board.Board.TheInside.{Inside}
 use Rattle.board.specs.Blocked.{path_of}
-use Rattle.board_code.specs.Program.{AreAtMost}
+use Rattle.board_program.specs.Program.{AreAtMost}
 use Rattle.board.specs.Board.{AreByWorkers, Rises, Seen}
 use Rattle.board.specs.History.{state_of}
 use Rattle.board.specs.Numbers.{AreNumbered}

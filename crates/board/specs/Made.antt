@@ -1,13 +1,13 @@
 -- What an item that ends has done to instances, data and those who wait, before items are settled.
 use Rattle.std.specs.Prelude.{◌≡◌, ◌+◌, ◌≤◌, ℕ, List, [], ◌++◌, Option, length, vec_capacity, vec_len}
-use Rattle.replayed.specs.Fields.{Job, Waiter, Want}
+use Rattle.board_history.specs.Fields.{Job, Waiter, Want}
 use Rattle.task_code.specs.Code.{Code}
 use Rattle.values.specs.declared.value.Scalar.{Scalar}
 use Rattle.board_data.specs.Data.{AreRising}
-use Rattle.board_frames.specs.View.{frames_view, rows_view}
+use Rattle.board_instances.specs.View.{frames_view, rows_view}
 use Rattle.board_items.specs.Learnt.{HaveLearnt}
-use Rattle.board_openings.specs.World.{WorldEnds}
-use Rattle.board_openings.specs.declared.world.Change.{Change}
+use Rattle.board_changes.specs.World.{WorldEnds}
+use Rattle.board_changes.specs.declared.world.Change.{Change}
 use Rattle.rules.specs.Waiting.{GivesRoomBack}
 use Rattle.board.specs.Changing.{line_list}
 use Rattle.board.specs.declared.state.Core.{Core}

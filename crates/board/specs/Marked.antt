@@ -1,10 +1,10 @@
 -- What it leaves that an item begins, or is given back.
 use Rattle.std.specs.Prelude.{◌≡◌, ◌+◌, ◌-◌, ◌<◌, ◌^◌, ◌∷◌, ◌++◌, [], ℕ, List, None, vec_capacity}
 use Rattle.dataflow.specs.Machine.{Back, Begin, Event}
-use Rattle.replayed.specs.Fields as Pure
+use Rattle.board_history.specs.Fields as Pure
 use Rattle.task_code.specs.Code.{Code}
 use Rattle.task_code.specs.Whole.{IsCode}
-use Rattle.board_frames.specs.View.{rows_view}
+use Rattle.board_instances.specs.View.{rows_view}
 use Rattle.board.specs.Inside.{Stand}
 use Rattle.board.specs.Rows.{IsReady, RunsOn}
 use Rattle.board.specs.declared.state.Core.{Core}

@@ -1,7 +1,7 @@
 -- The same fields with the queue in another order.
 use Rattle.std.specs.Prelude.{ℕ, ℤ, List}
 use Rattle.dataflow.specs.System.{Distinct, In}
-use Rattle.replayed.specs.Fields.{Fields}
+use Rattle.board_history.specs.Fields.{Fields}
 use Rattle.task_code.specs.Code.{Kind}
 
 -- of each kind and priority the same numbers, each once

@@ -1,10 +1,10 @@
 -- Room for all that the end of an item makes of items and lines.
 use Rattle.std.specs.Prelude.{◌+◌, ◌*◌, ◌≤◌, ℕ, Bool, true, false, length, vec_capacity, vec_len}
 use Rattle.task_code.specs.Code.{Code, Control, Leaf, body}
-use Rattle.board_code.specs.Tables.{run_as}
+use Rattle.board_program.specs.Tables.{run_as}
 use Rattle.board_items.specs.Room.{IsRoomy, IsRoomyFor}
-use Rattle.board_openings.specs.declared.world.Change.{Change}
-use Rattle.board_openings.specs.declared.world.Change.TheVariants as Changes
+use Rattle.board_changes.specs.declared.world.Change.{Change}
+use Rattle.board_changes.specs.declared.world.Change.TheVariants as Changes
 use Rattle.board.specs.declared.state.Core.{Core}
 
 -- one more item goes on with a loop

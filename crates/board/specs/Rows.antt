@@ -1,7 +1,7 @@
 -- Which items can begin, and which run, by their rows.
 use Rattle.std.specs.Prelude.{◌≡◌, ℕ, List, Some}
-use Rattle.replayed.specs.Fields as Pure
-use Rattle.replayed.specs.Fields.{row_of}
+use Rattle.board_history.specs.Fields as Pure
+use Rattle.board_history.specs.Fields.{row_of}
 
 -- the item of the number can begin, or runs on the worker, and has this job
 abbrev pub IsReady : List Pure.Row → ℕ → Pure.Job → Type 0

@@ -1,6 +1,6 @@
 -- Statements in a list where the same ones stand together, each once.
 use Rattle.std.specs.Prelude.{◌-◌, Bool, false, List, [], ◌∷◌, ◌++◌, None, Some, length, slice_get, if◌then◌else◌}
-use Rattle.board_frames.specs.declared.place.Statement.{Statement}
+use Rattle.board_instances.specs.declared.place.Statement.{Statement}
 use Rattle.board.specs.Stuck.{is_same_statement}
 
 -- the statement is the last of these

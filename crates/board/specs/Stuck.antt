@@ -1,15 +1,15 @@
 -- Where the statement of an item is blocked, told by the fields of a board.
 use Rattle.std.specs.Prelude.{ℕ, length, nat_eq, nat_lt, Bool, true, false, ◌&&◌, ◌||◌, List, [], ◌∷◌, Option, Some, None, option_map, if◌then◌else◌}
 use Rattle.std.specs.List.{list_all}
-use Rattle.board_code.specs.Tables.{wanted_in}
+use Rattle.board_program.specs.Tables.{wanted_in}
 use Rattle.board_data.specs.Wanted.{wanted_missed}
-use Rattle.board_frames.specs.Names.{led_slot}
-use Rattle.replayed.specs.Fields.{Counted, Does, Frame, Job, Row, Script, Want, is_over, path_of as path_in, slot_at}
+use Rattle.board_instances.specs.Names.{led_slot}
+use Rattle.board_history.specs.Fields.{Counted, Does, Frame, Job, Row, Script, Want, is_over, path_of as path_in, slot_at}
 use Rattle.task_code.specs.Code.{Act, Code, Header, Need, Wait, entry}
 use Rattle.task_code.specs.Places as Places
 use Rattle.task_code.specs.Runs.{counts}
-use Rattle.board_frames.specs.declared.place.Statement.{Statement}
-use Rattle.board_frames.specs.declared.place.Step.{Step}
+use Rattle.board_instances.specs.declared.place.Statement.{Statement}
+use Rattle.board_instances.specs.declared.place.Step.{Step}
 use Rattle.board.specs.Blocked.{path_below, path_of, same_step}
 
 -- a statement: its offset, and the path of its instance

@@ -1,6 +1,6 @@
 -- What it leaves that inputs have become known.
 use Rattle.std.specs.Prelude.{◌≡◌, ◌+◌, ◌≤◌, List, ◌++◌, map, length, vec_capacity, vec_len}
-use Rattle.replayed.specs.Fields.{Waiter, Want}
+use Rattle.board_history.specs.Fields.{Waiter, Want}
 use Rattle.std.specs.Prelude.{ℕ}
 use Rattle.rules.specs.Waiting.{GivesRoomBack}
 use Rattle.rules.specs.declared.input.Input.{Input}

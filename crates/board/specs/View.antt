@@ -1,16 +1,16 @@
 -- What the fields of a board stand for.
 use Rattle.std.specs.Prelude.{ℕ, List, Option, None, Some, map}
 use Rattle.dataflow.specs.Machine as Machine
-use Rattle.replayed.specs.Fields as Pure
+use Rattle.board_history.specs.Fields as Pure
 use Rattle.task_code.specs.Compute.{Elements, EntryFault}
 use Rattle.task_code.specs.Effects.{Task}
 use Rattle.task_code.specs.Places as Places
-use Rattle.entry_outcomes.specs.View.{fault_view}
+use Rattle.board_compute.specs.View.{fault_view}
 use Rattle.board_data.specs.View.{cells_view}
-use Rattle.board_frames.specs.View.{frames_view, rows_view, step_view}
-use Rattle.board_frames.specs.declared.place.FaultKind.{FaultKind}
-use Rattle.board_frames.specs.declared.place.FaultKind.TheVariants as Kind
-use Rattle.board_frames.specs.declared.place.Step.{Step}
+use Rattle.board_instances.specs.View.{frames_view, rows_view, step_view}
+use Rattle.board_instances.specs.declared.place.FaultKind.{FaultKind}
+use Rattle.board_instances.specs.declared.place.FaultKind.TheVariants as Kind
+use Rattle.board_instances.specs.declared.place.Step.{Step}
 use Rattle.board_items.specs.View.{queue_view, waiters_view}
 use Rattle.board.specs.declared.state.Core.{Core}
 

@@ -1,14 +1,14 @@
 -- The work of an item, told by the fields.
 use Rattle.std.specs.Prelude.{◌≡◌, ◌<◌, List, [], Option, length, map}
 use Rattle.dataflow.specs.System.{Answer}
-use Rattle.replayed.specs.Fields as Pure
-use Rattle.replayed.specs.Fields.{Counted, Does, Frame, Script}
+use Rattle.board_history.specs.Fields as Pure
+use Rattle.board_history.specs.Fields.{Counted, Does, Frame, Script}
 use Rattle.task_code.specs.Code.{Code, entry}
 use Rattle.values.specs.declared.key.Key.{Key}
 use Rattle.values.specs.declared.value.Scalar.{Scalar}
-use Rattle.board_code.specs.Tables.{body_of, wanted_in}
+use Rattle.board_program.specs.Tables.{body_of, wanted_in}
 use Rattle.board_data.specs.Answered.{wanted_answer}
-use Rattle.board_frames.specs.Names.{led_slot}
+use Rattle.board_instances.specs.Names.{led_slot}
 use Rattle.board_work.specs.Assigned as Work
 use Rattle.board_work.specs.Assigned.{Assigned}
 

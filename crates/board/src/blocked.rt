@@ -2,12 +2,12 @@
 ghost use Rattle.std.specs.Prelude.{◌≡◌, ◌↔◌, [], ℕ, None, Some, map, option_map, IfOk};
 ghost use Rattle.std.specs.List.{filter_map, list_all};
 ghost use Rattle.std.specs.Ordering.{is_lt};
-ghost use Rattle.board_code.specs.Tables.{wanted_in};
+ghost use Rattle.board_program.specs.Tables.{wanted_in};
 ghost use Rattle.board_data.specs.View.{cells_view};
 ghost use Rattle.board_data.specs.Wanted.{wanted_missed};
-ghost use Rattle.board_frames.specs.Names.{led_slot};
-ghost use Rattle.board_frames.specs.View.{frames_view, row_view, rows_view};
-ghost use Rattle.replayed.specs.Fields.{Frame, path_of as path_in, slot_at};
+ghost use Rattle.board_instances.specs.Names.{led_slot};
+ghost use Rattle.board_instances.specs.View.{frames_view, row_view, rows_view};
+ghost use Rattle.board_history.specs.Fields.{Frame, path_of as path_in, slot_at};
 ghost use Rattle.task_code.specs.Runs.{counts};
 ghost use Rattle.task_code.specs.View.{act_view, header_view, need_view};
 ghost use Rattle.dataflow.specs.System.{In};
@@ -16,10 +16,10 @@ ghost use Rattle.board.specs.Stuck.{Place, is_before, is_same_statement, same_pa
 ghost use Rattle.board.specs.Sorting.{each_once, is_last};
 
 use crate::state::Core;
-use board_code::program::Program;
-use board_frames::instance::{Instance, path_of};
-use board_frames::item::{Item, Job, Mark};
-use board_frames::place::{Statement, Step};
+use board_instances::instance::{Instance, path_of};
+use board_instances::item::{Item, Job, Mark};
+use board_instances::place::{Statement, Step};
+use board_program::program::Program;
 use slab::Slab;
 use std::alloc::{AllocError, Global};
 use std::cmp::Ordering;
@@ -42,7 +42,7 @@ fn counts(act: &Act) -> bool
 }
 
 /// The body of an instance.
-#[tactic(auto, using(board_frames::proofs::Frames::frame_there))]
+#[tactic(auto, using(board_instances::proofs::Frames::frame_there))]
 fn body_at(instances: &Slab<Instance>, at: usize) -> Option<u32>
     ensures { result ≡ option_map (λ (f : Frame). f.body) (slot_at (frames_view instances.now.slots) at) }
 {

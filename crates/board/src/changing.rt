@@ -3,8 +3,8 @@
 ghost use Rattle.std.specs.Prelude.{◌≡◌};
 ghost use Rattle.board.specs.Changing.{change_of, line_of};
 
+use board_changes::world::Change;
 use board_effects::effect::Effect;
-use board_openings::world::Change;
 use values::value::Scalar;
 
 /// What it does to instances and data, and the line that it prints.

@@ -1,11 +1,11 @@
 //! Whether a loop that goes on has a next chunk.
 ghost use Rattle.std.specs.Prelude.{◌≡◌, IsTrue};
-ghost use Rattle.board_frames.specs.View.{job_view};
-ghost use Rattle.board_openings.specs.Opened.{CanGoOn};
-ghost use Rattle.board_openings.specs.World.{goes_on};
+ghost use Rattle.board_instances.specs.View.{job_view};
+ghost use Rattle.board_changes.specs.Opened.{CanGoOn};
+ghost use Rattle.board_changes.specs.World.{goes_on};
 
-use board_frames::item::Job;
-use board_openings::world::Change;
+use board_changes::world::Change;
+use board_instances::item::Job;
 
 /// Whether another item goes on with its loop.
 fn goes_on(change: &Change) -> bool

@@ -1,18 +1,18 @@
 //! Whether what an item opens can be counted.
 
 ghost use Rattle.std.specs.Prelude.{IsTrue, length};
-ghost use Rattle.board_frames.specs.View.{frames_view, job_view};
-ghost use Rattle.board_code.specs.Program.{AreAtMost};
+ghost use Rattle.board_instances.specs.View.{frames_view, job_view};
+ghost use Rattle.board_program.specs.Program.{AreAtMost};
 ghost use Rattle.board.specs.Counted.{CanChange, CanOpen};
 
 use crate::chunk::has_next_chunk;
 use crate::fitting::{fits_around, names_after};
 use crate::opened::slots_of;
 use crate::state::Core;
-use board_code::program::Program;
-use board_frames::item::Job;
-use board_frames::opening::Openings;
-use board_openings::world::Change;
+use board_changes::world::Change;
+use board_instances::item::Job;
+use board_instances::opening::Openings;
+use board_program::program::Program;
 
 impl Core {
     /// Whether what is opened can be counted: the instances around the item, and the names of all items.

@@ -1,26 +1,26 @@
 //! An item ends.
 
 ghost use Rattle.std.specs.Prelude.{◌≡◌, IfOk, OnErr, OnOk};
-ghost use Rattle.board_frames.specs.View.{job_view};
+ghost use Rattle.board_instances.specs.View.{job_view};
 ghost use Rattle.board_work.specs.Assigned.{Assigned, job_control, job_result};
-ghost use Rattle.entry_outcomes.specs.Outcome.{control_in, result_in};
-ghost use Rattle.entry_outcomes.specs.View.{answers_view};
-ghost use Rattle.board_code.specs.Program.{AreAtMost};
+ghost use Rattle.board_compute.specs.Outcome.{control_in, result_in};
+ghost use Rattle.board_compute.specs.View.{answers_view};
+ghost use Rattle.board_program.specs.Program.{AreAtMost};
 ghost use Rattle.board.specs.Ending.{HasEnded, HasFailed, HasPassed, IsEffectOf, StaysBy, StaysIf};
 ghost use Rattle.board.specs.Working.{IsThere, work_of};
 
 use crate::changing::change_of;
 use crate::state::Core;
-use board_code::program::Program;
+use board_compute::answer::Answer;
+use board_compute::outcome::{Computed, Outcome, outcome_of};
 use board_data::wanted::View;
 use board_effects::effect::{Effect, Ended};
 use board_effects::script_effect;
-use board_frames::item::Job;
-use board_frames::place::Fault;
+use board_instances::item::Job;
+use board_instances::place::Fault;
 use board_items::settling::Outlook;
+use board_program::program::Program;
 use board_work::work::Done;
-use entry_outcomes::answer::Answer;
-use entry_outcomes::outcome::{Computed, Outcome, outcome_of};
 use rules::input::Input;
 use std::alloc::{AllocError, Global};
 

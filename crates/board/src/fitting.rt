@@ -1,13 +1,13 @@
 //! Whether the counts still fit once an item has opened its instances.
 
 ghost use Rattle.std.specs.Prelude.{◌≡◌, ◌+◌, ◌*◌, ◌<◌, ◌^◌, Some, IfSome, IsTrue};
-ghost use Rattle.replayed.specs.Ending.{home};
-ghost use Rattle.replayed.specs.Fields.{Frame, slot_at};
-ghost use Rattle.board_frames.specs.Made.{FitsAround};
-ghost use Rattle.board_frames.specs.View.{frames_view, job_view};
+ghost use Rattle.board_history.specs.Ending.{home};
+ghost use Rattle.board_history.specs.Fields.{Frame, slot_at};
+ghost use Rattle.board_instances.specs.Made.{FitsAround};
+ghost use Rattle.board_instances.specs.View.{frames_view, job_view};
 
-use board_frames::instance::Instance;
-use board_frames::item::Job;
+use board_instances::instance::Instance;
+use board_instances::item::Job;
 use slab::Slab;
 
 /// Whether so many more can be counted in an instance that is there.

@@ -2,8 +2,8 @@
 
 ghost use Rattle.std.specs.Prelude.{ℕ, ℤ, List};
 ghost use Rattle.dataflow.specs.Machine.{Event};
-ghost use Rattle.replayed.specs.Fields.{Fields, Layout};
-ghost use Rattle.replayed.specs.Stands.{Stands};
+ghost use Rattle.board_history.specs.Fields.{Fields, Layout};
+ghost use Rattle.board_history.specs.Stands.{Stands};
 ghost use Rattle.task_code.specs.Code.{Code, Kind};
 ghost use Rattle.board.specs.Queues.{SameNumbers, with_queue};
 

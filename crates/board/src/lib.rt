@@ -17,7 +17,7 @@ mod state;
 mod telling;
 mod working;
 
-pub use board_frames::place::{Fault, FaultKind, Statement, Step};
+pub use board_compute::answer::Answer;
+pub use board_compute::outcome::EntryFault;
+pub use board_instances::place::{Fault, FaultKind, Statement, Step};
 pub use board_work::work::{Done, Work};
-pub use entry_outcomes::answer::Answer;
-pub use entry_outcomes::outcome::EntryFault;

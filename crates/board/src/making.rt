@@ -1,17 +1,17 @@
 //! An item ends without fault: what it stores and opens, and what becomes known by that.
 
 ghost use Rattle.std.specs.Prelude.{◌≡◌, ◌+◌, ◌++◌, ◌≤◌, [], IsOk, IfOk, OnOk, vec_capacity, vec_len};
-ghost use Rattle.board_frames.specs.View.{job_view};
-ghost use Rattle.board_openings.specs.World.{HasRoomToEnd, spare_of};
+ghost use Rattle.board_instances.specs.View.{job_view};
+ghost use Rattle.board_changes.specs.World.{HasRoomToEnd, spare_of};
 ghost use Rattle.board.specs.Changing.{line_list};
 ghost use Rattle.board.specs.Made.{HasMade};
 
 use crate::state::Core;
 use crate::telling::tell_all;
-use board_code::program::Program;
-use board_frames::item::Job;
-use board_frames::opening::Inputs;
-use board_openings::world::Change;
+use board_changes::world::Change;
+use board_instances::item::Job;
+use board_instances::opening::Inputs;
+use board_program::program::Program;
 use rules::input::Input;
 use std::alloc::AllocError;
 use values::value::Scalar;

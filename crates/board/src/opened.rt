@@ -1,9 +1,9 @@
 //! How many slots the instances have that an item opens.
 
 ghost use Rattle.std.specs.Prelude.{◌≡◌, ◌<◌, ◌^◌, length, slice_get, Some};
-ghost use Rattle.board_frames.specs.declared.opening.Opening.{Opening as OneOpening};
+ghost use Rattle.board_instances.specs.declared.opening.Opening.{Opening as OneOpening};
 
-use board_frames::opening::Openings;
+use board_instances::opening::Openings;
 
 /// How many the first of them has: all are of one body.
 pub fn slots_of(openings: &Openings) -> usize

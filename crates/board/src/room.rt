@@ -3,19 +3,19 @@
 ghost use Rattle.std.specs.Prelude.{◌≡◌, ◌+◌, ◌≤◌, IfSome, OnOk, length, vec_capacity, vec_len};
 ghost use Rattle.board.specs.Ending.{StaysSo};
 ghost use Rattle.board_data.specs.View.{cells_view};
-ghost use Rattle.board_frames.specs.View.{job_view};
-ghost use Rattle.board_openings.specs.Room.{OpensWell, TakesMore};
-ghost use Rattle.board_openings.specs.World.{HasRoomToEnd};
+ghost use Rattle.board_instances.specs.View.{job_view};
+ghost use Rattle.board_changes.specs.Room.{OpensWell, TakesMore};
+ghost use Rattle.board_changes.specs.World.{HasRoomToEnd};
 ghost use Rattle.task_code.specs.Code.{Code};
 ghost use Rattle.board_items.specs.Room.{IsRoomy, IsRoomyFor};
 ghost use Rattle.board_items.specs.Settled.{StaysButRoom};
 ghost use Rattle.board.specs.Room.{HasRoomForItems, new_controls, new_leaves};
 
 use crate::state::Core;
-use board_code::program::Program;
-use board_frames::item::Job;
+use board_changes::world::Change;
+use board_instances::item::Job;
 use board_items::items::{Counts, Items};
-use board_openings::world::Change;
+use board_program::program::Program;
 use rules::input::Input;
 use std::alloc::AllocError;
 

@@ -1,18 +1,18 @@
 //! The fields of a board's state.
 ghost use Rattle.std.specs.Prelude.{◌≡◌, [], IfOk, IfNone, IfSome, None};
-ghost use Rattle.replayed.specs.Fields.{Job as PureJob};
+ghost use Rattle.board_history.specs.Fields.{Job as PureJob};
 ghost use Rattle.task_code.specs.Code.{Code};
-ghost use Rattle.board_frames.specs.View.{job_view, rows_view};
+ghost use Rattle.board_instances.specs.View.{job_view, rows_view};
 ghost use Rattle.board.specs.Inside.{Stand};
 ghost use Rattle.board.specs.Marked.{HasBegun, HasReturned};
 ghost use Rattle.board.specs.Rows.{IsReady, RunsOn};
 
-use board_code::program::Program;
+use board_changes::world::World;
 use board_data::wanted::View;
-use board_frames::item::{Job, Mark, item_of};
-use board_frames::place::Fault;
+use board_instances::item::{Job, Mark, item_of};
+use board_instances::place::Fault;
 use board_items::items::{Items, order_of};
-use board_openings::world::World;
+use board_program::program::Program;
 use std::alloc::{AllocError, Global};
 use values::value::Scalar;
 

@@ -1,21 +1,21 @@
 //! The work of an item, and whether work was done for it.
 ghost use Rattle.std.specs.Prelude.{◌≡◌, ◌<◌, ◌↔◌, IfOk, OnOk, IsTrue, length};
-ghost use Rattle.replayed.specs.Fields.{Job as PureJob};
+ghost use Rattle.board_history.specs.Fields.{Job as PureJob};
 ghost use Rattle.task_code.specs.Code.{Code};
 ghost use Rattle.board_data.specs.View.{cells_view};
-ghost use Rattle.board_frames.specs.View.{frames_view, job_view};
+ghost use Rattle.board_instances.specs.View.{frames_view, job_view};
 ghost use Rattle.board_data.specs.Data.{AreRising};
-ghost use Rattle.entry_outcomes.specs.View.{answers_view};
+ghost use Rattle.board_compute.specs.View.{answers_view};
 ghost use Rattle.board.specs.Working.{IsThere, IsWorkAt, answers_at};
 
 use crate::state::Core;
-use board_code::program::{Program, Wanted};
+use board_compute::answer::Answer;
 use board_data::answers::{answers, are_answers};
 use board_data::data;
-use board_frames::instance::datum_at;
-use board_frames::item::Job;
+use board_instances::instance::datum_at;
+use board_instances::item::Job;
+use board_program::program::{Program, Wanted};
 use board_work::work::{Done, Job as Task, Work};
-use entry_outcomes::answer::Answer;
 use std::alloc::AllocError;
 
 impl Core {

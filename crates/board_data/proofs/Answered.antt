@@ -7,7 +7,7 @@ use Rattle.data_store.specs.declared.datum.Content.{Content}
 use Rattle.data_store.specs.declared.datum.Content.TheVariants.{OfArray, OfScalar}
 use Rattle.data_store.specs.declared.datum.Datum.{Datum}
 use Rattle.dataflow.specs.System as flow
-use Rattle.replayed.specs.Fields.{slot_at}
+use Rattle.board_history.specs.Fields.{slot_at}
 use Rattle.task_code.specs.Compute.{pairs}
 use Rattle.values.specs.declared.key.Key.{Key}
 use Rattle.values.specs.declared.map.Element.{Element}

@@ -6,9 +6,9 @@ use Rattle.data_store.specs.Stores.{array_at, at, or_none, Store, value_at}
 use Rattle.data_store.specs.declared.datum.Content.{Content}
 use Rattle.data_store.specs.declared.datum.Content.TheVariants.{OfArray, OfScalar}
 use Rattle.data_store.specs.declared.datum.Datum.{Datum}
-use Rattle.replayed.specs.Fields.{slot_at}
-use Rattle.replayed.specs.Needs as needs
-use Rattle.replayed.specs.Needs.{cell_element, cell_value, is_shut, value_in, elements_in}
+use Rattle.board_history.specs.Fields.{slot_at}
+use Rattle.board_history.specs.Needs as needs
+use Rattle.board_history.specs.Needs.{cell_element, cell_value, is_shut, value_in, elements_in}
 use Rattle.task_code.specs.Compute.{pairs}
 use Rattle.values.specs.Keys.{same_key}
 use Rattle.std.proofs.lemmas.Bool.{cases_Bool}

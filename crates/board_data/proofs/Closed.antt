@@ -2,18 +2,18 @@
 use Rattle.std.proofs.Common.{◌≡◌, ◌≢◌, ◌∙◌, refl, sym, ap, subst, inl, inr, ℕ, suc, ◌<◌, ◌≤◌, ◌+◌, ◌-◌, List, [], ◌∷◌, ◌++◌, length, drop, drop-cons, get_or, add-one, append_assoc, append-nil, Option, Some, None, Bool, true, false, ◌==◌, ◌&&◌, arith}
 use Rattle.std.specs.Prelude.{if◌then◌else◌}
 use Rattle.std.proofs.lemmas.Bool.{cases_eq, cases_Bool, eqb-true, eq-eqb}
-use Rattle.board_code.specs.declared.spot.Spot.{Spot}
-use Rattle.board_frames.specs.Names.{datum_of}
+use Rattle.board_program.specs.declared.spot.Spot.{Spot}
+use Rattle.board_instances.specs.Names.{datum_of}
 use Rattle.dataflow.specs.System.{In}
 use Rattle.dataflow.proofs.Lists.{in_left, in_right, in_split}
 use Rattle.data_store.specs.Data.{is_spent, kept, without_write}
 use Rattle.data_store.specs.Stores.{Store, at}
 use Rattle.data_store.specs.declared.datum.Datum.{Datum}
-use Rattle.replayed.specs.Ending.{slot_is}
-use Rattle.replayed.specs.Fields.{Absent, DatumOf, LiteralOf, Slot}
+use Rattle.board_history.specs.Ending.{slot_is}
+use Rattle.board_history.specs.Fields.{Absent, DatumOf, LiteralOf, Slot}
 use Rattle.board_data.specs.Data.{closes, is_keyed}
 use Rattle.board_data.specs.Holds.{Closes, closing}
-use Rattle.board_code.specs.Tables.{led_times}
+use Rattle.board_program.specs.Tables.{led_times}
 use Rattle.board_data.proofs.Given.{give_step, kept_gone, kept_there, led_not, led_once, slot_elsewhere, slot_here, slot_nowhere, slot_stays, spent_zero}
 use Rattle.board_data.proofs.Steps.{past}
 

@@ -3,12 +3,12 @@ use Rattle.std.proofs.Common.{◌≡◌, ◌∙◌, ◌↔◌, refl, sym, ap, su
 use Rattle.std.specs.Prelude.{IsTrue, if◌then◌else◌}
 use Rattle.std.specs.List.{list_all}
 use Rattle.std.proofs.lemmas.Bool.{cases_Bool}
-use Rattle.entry_outcomes.proofs.Comparisons.{same_answers}
-use Rattle.entry_outcomes.specs.Same.{answer_eq, option_eq, scalar_eq}
+use Rattle.board_compute.proofs.Comparisons.{same_answers}
+use Rattle.board_compute.specs.Same.{answer_eq, option_eq, scalar_eq}
 use Rattle.data_store.specs.Stores.{Store, array_at, at}
 use Rattle.dataflow.specs.System as flow
-use Rattle.replayed.specs.Fields.{slot_at}
-use Rattle.replayed.proofs.Tests.{some_same}
+use Rattle.board_history.specs.Fields.{slot_at}
+use Rattle.board_history.proofs.Tests.{some_same}
 use Rattle.task_code.proofs.Equal.{both_true, true_and}
 use Rattle.task_code.specs.Compute.{elements, pairs}
 use Rattle.values.proofs.Keys.{below_differs, same_key-refl}

@@ -7,14 +7,14 @@ use Rattle.data_store.specs.Stores.{Store, at}
 use Rattle.data_store.specs.declared.datum.Content.{Content}
 use Rattle.data_store.specs.declared.datum.Datum.{Datum}
 use Rattle.dataflow.specs.System.{Opening}
-use Rattle.replayed.specs.Ending.{CellAfter, ContentAfter, Instance, added_times, given_times, kept_cell}
-use Rattle.replayed.specs.Fields.{Counted, Frame, Job, Layout, slot_at}
+use Rattle.board_history.specs.Ending.{CellAfter, ContentAfter, Instance, added_times, given_times, kept_cell}
+use Rattle.board_history.specs.Fields.{Counted, Frame, Job, Layout, slot_at}
 use Rattle.task_code.specs.Code.{Code}
 use Rattle.task_code.specs.Compute.{Computed, Elements}
 use Rattle.task_code.specs.Effects.{Task}
 use Rattle.task_code.specs.Places.{Place}
 use Rattle.board_data.specs.Ended.{Changes, Covers, JobChanges}
-use Rattle.board_code.specs.Tables.{is_place}
+use Rattle.board_program.specs.Tables.{is_place}
 use Rattle.board_data.specs.View.{cell_view, cells_view, content_view}
 use Rattle.board_data.proofs.Cells.{cell_there}
 use Rattle.board_data.proofs.Given.{kept_gone, kept_there, spent_zero}

@@ -2,15 +2,15 @@
 use Rattle.std.proofs.Common.{◌≡◌, ◌≢◌, ◌∙◌, refl, sym, ap, subst, inl, inr, ℕ, zero, suc, ◌<◌, ◌≤◌, ◌+◌, ◌-◌, List, [], ◌∷◌, Option, Some, None, Bool, true, false, ◌==◌, ◌&&◌, zero-add, arith}
 use Rattle.std.specs.Prelude.{if◌then◌else◌, nat_eq}
 use Rattle.std.proofs.lemmas.Bool.{cases_eq, cases_Bool, eqb-true, eq-eqb}
-use Rattle.board_code.specs.declared.spot.Spot.{Spot}
-use Rattle.board_frames.specs.Names.{datum_of}
+use Rattle.board_program.specs.declared.spot.Spot.{Spot}
+use Rattle.board_instances.specs.Names.{datum_of}
 use Rattle.data_store.specs.Data.{is_spent, kept, without_read, without_write}
 use Rattle.data_store.specs.Stores.{Store, at, datum, given_up, kept_after, or_none}
 use Rattle.data_store.specs.declared.datum.Datum.{Datum}
-use Rattle.replayed.specs.Ending.{slot_is}
-use Rattle.replayed.specs.Fields.{Absent, DatumOf, LiteralOf, Slot}
+use Rattle.board_history.specs.Ending.{slot_is}
+use Rattle.board_history.specs.Fields.{Absent, DatumOf, LiteralOf, Slot}
 use Rattle.board_data.specs.Holds.{GivesUp, fewer}
-use Rattle.board_code.specs.Tables.{led_times}
+use Rattle.board_program.specs.Tables.{led_times}
 use Rattle.board_data.proofs.Changes.{set_elsewhere, set_here, set_nowhere}
 use Rattle.board_data.proofs.Steps.{one_by_one}
 

@@ -2,16 +2,16 @@
 use Rattle.std.proofs.Common.{◌≡◌, ◌≢◌, ◌∙◌, refl, sym, ap, subst, inl, inr, ℕ, ◌+◌, ◌*◌, List, [], ◌∷◌, option_map, Option, Some, None, Bool, true, false, add_assoc, arith}
 use Rattle.std.specs.Prelude.{if◌then◌else◌, nat_eq}
 use Rattle.std.proofs.lemmas.Bool.{cases_eq, eqb-true, eq-eqb}
-use Rattle.board_code.specs.declared.program.Hold.{Hold}
-use Rattle.board_code.specs.declared.spot.Spot.{Spot}
-use Rattle.board_frames.specs.Names.{datum_of}
+use Rattle.board_program.specs.declared.program.Hold.{Hold}
+use Rattle.board_program.specs.declared.spot.Spot.{Spot}
+use Rattle.board_instances.specs.Names.{datum_of}
 use Rattle.data_store.specs.Data.{with_holds}
 use Rattle.data_store.specs.Stores.{Store, at, changed}
 use Rattle.data_store.specs.declared.datum.Datum.{Datum}
-use Rattle.replayed.specs.Ending.{slot_is}
-use Rattle.replayed.specs.Fields.{Absent, DatumOf, LiteralOf, Slot}
+use Rattle.board_history.specs.Ending.{slot_is}
+use Rattle.board_history.specs.Fields.{Absent, DatumOf, LiteralOf, Slot}
 use Rattle.board_data.specs.Data.{fits, held}
-use Rattle.board_code.specs.Tables.{hold_times}
+use Rattle.board_program.specs.Tables.{hold_times}
 use Rattle.board_data.specs.Holds.{Fit, held_at}
 use Rattle.board_data.proofs.Changes.{set_elsewhere, set_here}
 use Rattle.board_data.proofs.Steps.{one_by_one}

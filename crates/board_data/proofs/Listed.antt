@@ -2,7 +2,7 @@
 use Rattle.std.proofs.Common.{◌≡◌, ◌∙◌, refl, sym, ap, subst, inl, inr, ◌≤◌, true, false, List, [], ◌∷◌, length, Some, None, arith}
 use Rattle.std.specs.Prelude.{if◌then◌else◌}
 use Rattle.std.proofs.lemmas.Bool.{cases_Bool}
-use Rattle.replayed.proofs.Tests.{none_some, some_same}
+use Rattle.board_history.proofs.Tests.{none_some, some_same}
 use Rattle.task_code.proofs.Equal.{true_and}
 use Rattle.values.proofs.Keys.{above_differs, below_differs, key_below-other, key_below-trans, same_key-eq, same_key-other}
 use Rattle.values.specs.Keys.{key_below, same_key}

@@ -1,7 +1,7 @@
 -- Literals that a call hands over.
 use Rattle.std.proofs.Common.{◌≡◌, ◌∙◌, refl, sym, ap, ℕ, zero, suc, ◌<◌, ◌≤◌, List, [], ◌∷◌, ◌++◌, length, map, Option, Some, None, arith}
 use Rattle.std.specs.Prelude.{slice_index_or}
-use Rattle.replayed.specs.Fields.{fixed_in, literal}
+use Rattle.board_history.specs.Fields.{fixed_in, literal}
 use Rattle.task_code.specs.Code.{arguments, blank_entry, Code, Entry, entry, Name, nth}
 use Rattle.task_code.specs.Code as Pure
 use Rattle.task_code.specs.View.{argument_view}

@@ -8,8 +8,8 @@ use Rattle.data_store.specs.declared.datum.Content.TheVariants.{OfArray, OfScala
 use Rattle.data_store.specs.declared.datum.Datum.{Datum}
 use Rattle.data_store.specs.declared.datum.Shape.{Shape}
 use Rattle.data_store.specs.declared.datum.Shape.TheVariants.{Single, Keyed}
-use Rattle.board_code.specs.declared.program.Own.{Own}
-use Rattle.board_frames.specs.declared.instance.Slot.TheVariants as Slots
+use Rattle.board_program.specs.declared.program.Own.{Own}
+use Rattle.board_instances.specs.declared.instance.Slot.TheVariants as Slots
 use Rattle.board_data.specs.Data.{given, is_unset}
 use Rattle.board_data.specs.Made.{Makes, new_datum, started}
 use Rattle.board_data.proofs.Changes.{set_elsewhere, set_here}

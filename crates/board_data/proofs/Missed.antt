@@ -3,9 +3,9 @@ use Rattle.std.proofs.Common.{◌≡◌, ◌∙◌, refl, sym, ap, ℕ, zero, su
 use Rattle.std.specs.Prelude.{Option}
 use Rattle.std.specs.List.{flat_map}
 use Rattle.board_data.specs.Wanted.{value_missed}
-use Rattle.board_frames.specs.Names.{datum_of}
-use Rattle.replayed.specs.Fields.{Absent, Counted, DatumOf, LiteralOf, Slot}
-use Rattle.replayed.specs.Needs.{scalar_missed}
+use Rattle.board_instances.specs.Names.{datum_of}
+use Rattle.board_history.specs.Fields.{Absent, Counted, DatumOf, LiteralOf, Slot}
+use Rattle.board_history.specs.Needs.{scalar_missed}
 
 -- a slot misses the value of its datum
 pub value_of_slot : (cs : List (Option Counted)) (s : Slot) → value_missed cs (datum_of s) ≡ scalar_missed cs s

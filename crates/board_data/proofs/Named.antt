@@ -2,16 +2,16 @@
 use Rattle.std.proofs.Common.{◌≡◌, ◌∙◌, refl, sym, ap, ℕ, zero, suc, ◌≤◌, ◌+◌, ◌^◌, List, [], ◌∷◌, ◌++◌, length, map, Option, Some, None, arith}
 use Rattle.std.specs.Prelude.{if◌then◌else◌}
 use Rattle.std.specs.List.{filter_map, flat_map}
-use Rattle.board_code.specs.Spots.{layout_of, levels_of, slot_of, spot_in}
-use Rattle.board_code.specs.Tables.{at_spot, spots_in, wanted_in}
-use Rattle.board_code.specs.declared.spot.Spot.{Spot}
-use Rattle.board_frames.specs.Names.{led_slot, slot_in, spot_slot}
-use Rattle.replayed.specs.Ending.{held_times, named_times, slot_is}
-use Rattle.replayed.specs.Fields.{Absent, Counted, Does, Fields, Frame, Slot, frame_up, slot_at, slot_for}
-use Rattle.replayed.specs.Needs.{array_missed, at_missed, element_missed, job_missed, missed, scalar_missed}
-use Rattle.replayed.specs.Static.{Hold}
+use Rattle.board_program.specs.Spots.{layout_of, levels_of, slot_of, spot_in}
+use Rattle.board_program.specs.Tables.{at_spot, spots_in, wanted_in}
+use Rattle.board_program.specs.declared.spot.Spot.{Spot}
+use Rattle.board_instances.specs.Names.{led_slot, slot_in, spot_slot}
+use Rattle.board_history.specs.Ending.{held_times, named_times, slot_is}
+use Rattle.board_history.specs.Fields.{Absent, Counted, Does, Fields, Frame, Slot, frame_up, slot_at, slot_for}
+use Rattle.board_history.specs.Needs.{array_missed, at_missed, element_missed, job_missed, missed, scalar_missed}
+use Rattle.board_history.specs.Static.{Hold}
 use Rattle.task_code.specs.Code.{At, AtKey, Closed, Code, Name, Need, Stored, entry, nth}
-use Rattle.board_code.specs.Tables.{led_times}
+use Rattle.board_program.specs.Tables.{led_times}
 use Rattle.board_data.specs.Wanted.{FewSlots, wanted_missed}
 
 past : (xs : List Slot) (n : ℕ) → length xs ≤ n → nth Absent xs n ≡ Absent

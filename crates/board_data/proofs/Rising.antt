@@ -8,12 +8,12 @@ use Rattle.data_store.specs.Stores.{IsArrayAt, Store, array_at, at, changed, dat
 use Rattle.data_store.specs.declared.datum.Datum.{Datum}
 use Rattle.data_store.specs.declared.datum.Shape.{Shape}
 use Rattle.data_store.specs.declared.datum.Shape.TheVariants.{Keyed, Single}
-use Rattle.board_code.specs.declared.program.Hold.{Hold}
-use Rattle.board_code.specs.declared.program.Own.{Own}
-use Rattle.board_code.specs.declared.spot.Spot.{Spot}
-use Rattle.replayed.specs.Fields.{Slot as ASlot}
-use Rattle.board_frames.specs.Names.{datum_of}
-use Rattle.board_frames.specs.declared.instance.Slot.{Slot}
+use Rattle.board_program.specs.declared.program.Hold.{Hold}
+use Rattle.board_program.specs.declared.program.Own.{Own}
+use Rattle.board_program.specs.declared.spot.Spot.{Spot}
+use Rattle.board_history.specs.Fields.{Slot as ASlot}
+use Rattle.board_instances.specs.Names.{datum_of}
+use Rattle.board_instances.specs.declared.instance.Slot.{Slot}
 use Rattle.values.specs.Maps.{found, rising}
 use Rattle.values.specs.declared.key.Key.{Key}
 use Rattle.values.specs.declared.value.Scalar.{Scalar}

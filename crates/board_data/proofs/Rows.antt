@@ -7,9 +7,9 @@ use Rattle.std.proofs.lemmas.List.{get_or-set_same, get_or-set_other}
 use Rattle.std.proofs.lemmas.Option.{slice_get-get_or}
 use Rattle.data_store.specs.Stores.{Store, at}
 use Rattle.data_store.specs.declared.datum.Datum.{Datum}
-use Rattle.board_code.specs.declared.program.Own.{Own}
-use Rattle.board_frames.specs.declared.instance.Slot.{Slot}
-use Rattle.board_frames.specs.declared.instance.Slot.TheVariants as Slots
+use Rattle.board_program.specs.declared.program.Own.{Own}
+use Rattle.board_instances.specs.declared.instance.Slot.{Slot}
+use Rattle.board_instances.specs.declared.instance.Slot.TheVariants as Slots
 use Rattle.board_data.specs.Made.{DataMade, Makes, NewAt, new_datum, slot_in}
 use Rattle.values.specs.declared.value.Scalar.{Scalar}
 

@@ -9,7 +9,7 @@ use Rattle.data_store.specs.Stores.{IsArrayAt, Store, array_at, at, changed, dat
 use Rattle.data_store.specs.declared.datum.Content.{Content}
 use Rattle.data_store.specs.declared.datum.Content.TheVariants.{OfArray, OfScalar}
 use Rattle.data_store.specs.declared.datum.Datum.{Datum}
-use Rattle.replayed.specs.Ending.{ContentAfter}
+use Rattle.board_history.specs.Ending.{ContentAfter}
 use Rattle.task_code.specs.Compute.{Elements, pairs}
 use Rattle.task_code.specs.Effects.{only}
 use Rattle.values.specs.Keys.{key_below, same_key}

@@ -1,11 +1,11 @@
 -- The answers to what is waited for.
 use Rattle.std.specs.Prelude.{List, Option, Some, None}
-use Rattle.board_code.specs.declared.program.Wanted.{Wanted}
-use Rattle.board_code.specs.declared.program.Wanted.TheVariants as Waits
-use Rattle.board_code.specs.declared.spot.Spot.{Spot}
+use Rattle.board_program.specs.declared.program.Wanted.{Wanted}
+use Rattle.board_program.specs.declared.program.Wanted.TheVariants as Waits
+use Rattle.board_program.specs.declared.spot.Spot.{Spot}
 use Rattle.dataflow.specs.System.{Answer, Found, Missing, Content}
-use Rattle.replayed.specs.Fields.{Absent, Counted, DatumOf, LiteralOf, Slot, slot_at}
-use Rattle.replayed.specs.Fields as fields
+use Rattle.board_history.specs.Fields.{Absent, Counted, DatumOf, LiteralOf, Slot, slot_at}
+use Rattle.board_history.specs.Fields as fields
 use Rattle.task_code.specs.Code.{Code}
 use Rattle.values.specs.declared.key.Key.{Key}
 use Rattle.values.specs.declared.value.Scalar.{Scalar}

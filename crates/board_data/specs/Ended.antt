@@ -4,14 +4,14 @@ use Rattle.data_store.specs.Data.{is_spent, with_holds}
 use Rattle.data_store.specs.Stores.{Store, at}
 use Rattle.data_store.specs.declared.datum.Datum.{Datum}
 use Rattle.dataflow.specs.System.{Opening}
-use Rattle.replayed.specs.Ending.{Instance, added_times, given_times, job_stores}
-use Rattle.replayed.specs.Fields.{Frame, Job, Layout}
+use Rattle.board_history.specs.Ending.{Instance, added_times, given_times, job_stores}
+use Rattle.board_history.specs.Fields.{Frame, Job, Layout}
 use Rattle.task_code.specs.Code.{Code}
 use Rattle.task_code.specs.Compute.{Computed, Elements}
 use Rattle.task_code.specs.Effects.{Task}
 use Rattle.task_code.specs.Places.{Place}
 use Rattle.board_data.specs.Holds.{GivesUp}
-use Rattle.board_code.specs.Tables.{is_place}
+use Rattle.board_program.specs.Tables.{is_place}
 use Rattle.board_data.specs.Stored.{StoresIn}
 
 -- it stores, makes data, adds the holds of new instances, and gives up its own

@@ -8,10 +8,10 @@ use Rattle.data_store.specs.declared.datum.Content.TheVariants.{OfArray, OfScala
 use Rattle.data_store.specs.declared.datum.Datum.{Datum}
 use Rattle.data_store.specs.declared.datum.Shape.{Shape}
 use Rattle.data_store.specs.declared.datum.Shape.TheVariants.{Single, Keyed}
-use Rattle.board_code.specs.Tables.{is_place}
-use Rattle.board_code.specs.declared.program.Own.{Own}
-use Rattle.board_frames.specs.declared.instance.Slot.{Slot}
-use Rattle.board_frames.specs.declared.instance.Slot.TheVariants as Slots
+use Rattle.board_program.specs.Tables.{is_place}
+use Rattle.board_program.specs.declared.program.Own.{Own}
+use Rattle.board_instances.specs.declared.instance.Slot.{Slot}
+use Rattle.board_instances.specs.declared.instance.Slot.TheVariants as Slots
 use Rattle.board_data.specs.declared.making.Starts.{Starts}
 use Rattle.values.specs.declared.value.Scalar.{Scalar}
 

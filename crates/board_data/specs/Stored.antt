@@ -4,12 +4,12 @@ use Rattle.dataflow.specs.System.{In}
 use Rattle.data_store.specs.Stores.{IsArrayAt, Store, array_at, at, datum}
 use Rattle.data_store.specs.declared.datum.Content.{Content}
 use Rattle.data_store.specs.declared.datum.Datum.{Datum}
-use Rattle.replayed.specs.Ending.{ContentAfter}
+use Rattle.board_history.specs.Ending.{ContentAfter}
 use Rattle.task_code.specs.Compute.{Elements}
 use Rattle.values.specs.Maps.{found, rising}
 use Rattle.values.specs.declared.map.Element.{Element}
 use Rattle.board_data.specs.Data.{is_keyed}
-use Rattle.board_code.specs.Tables.{is_place}
+use Rattle.board_program.specs.Tables.{is_place}
 use Rattle.board_data.specs.View.{content_view}
 
 -- this is stored in the datum, and nothing in another

@@ -6,7 +6,7 @@ use Rattle.data_store.specs.declared.datum.Datum.{Datum}
 use Rattle.rules.specs.declared.input.Input.{Input}
 use Rattle.rules.specs.declared.input.Input.TheVariants as Inputs
 use Rattle.task_code.specs.Compute.{pairs}
-use Rattle.replayed.specs.Fields as Pure
+use Rattle.board_history.specs.Fields as Pure
 
 -- data
 abbrev pub content_view : Content → Pure.Content

@@ -1,11 +1,11 @@
 -- What is found and missed where names lead.
 use Rattle.std.specs.Prelude.{◌≡◌, ◌≤◌, ◌^◌, length, ℕ, Bool, true, false, List, [], ◌∷◌, Option, Some, None}
-use Rattle.board_code.specs.declared.program.Wanted.{Wanted}
-use Rattle.board_code.specs.declared.program.Wanted.TheVariants as Waits
-use Rattle.board_code.specs.declared.spot.Spot.{Spot}
-use Rattle.replayed.specs.Fields.{Absent, Counted, DatumOf, Frame, LiteralOf, Slot, Want, literal, slot_at}
-use Rattle.replayed.specs.Needs.{array_missed, at_missed, cell_element, cell_value, element_missed, scalar_missed}
-use Rattle.replayed.specs.Stands.{scalar_wanted}
+use Rattle.board_program.specs.declared.program.Wanted.{Wanted}
+use Rattle.board_program.specs.declared.program.Wanted.TheVariants as Waits
+use Rattle.board_program.specs.declared.spot.Spot.{Spot}
+use Rattle.board_history.specs.Fields.{Absent, Counted, DatumOf, Frame, LiteralOf, Slot, Want, literal, slot_at}
+use Rattle.board_history.specs.Needs.{array_missed, at_missed, cell_element, cell_value, element_missed, scalar_missed}
+use Rattle.board_history.specs.Stands.{scalar_wanted}
 use Rattle.task_code.specs.Code.{Code}
 use Rattle.task_code.specs.Compute.{key_of}
 use Rattle.values.specs.declared.key.Key.{Key}

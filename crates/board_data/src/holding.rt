@@ -1,18 +1,18 @@
 //! Holds that new instances add to data outside of them, and holds that an item gives up.
 
 ghost use Rattle.std.specs.Prelude.{◌≡◌, ◌*◌, ◌+◌, ◌++◌, ◌≤◌, ◌<◌, ℕ, List, length, option_map, vec_capacity, vec_len};
-ghost use Rattle.board_frames.specs.Names.{datum_of, spot_slot};
-ghost use Rattle.board_frames.specs.View.{frames_view};
+ghost use Rattle.board_instances.specs.Names.{datum_of, spot_slot};
+ghost use Rattle.board_instances.specs.View.{frames_view};
 ghost use Rattle.data_store.specs.Data.{with_holds};
 ghost use Rattle.data_store.specs.Stores.{at as cell};
 ghost use Rattle.board_data.specs.Data.{AreRising, held};
 ghost use Rattle.board_data.specs.Holds.{Closes, Fit, GivesUp, closed_at, closing, held_at, released_at};
-ghost use Rattle.board_code.specs.Tables.{hold_times, led_times};
+ghost use Rattle.board_program.specs.Tables.{hold_times, led_times};
 
 use crate::data;
-use board_code::program::Hold;
-use board_code::spot::Spot;
-use board_frames::instance::{Instance, datum_at};
+use board_instances::instance::{Instance, datum_at};
+use board_program::program::Hold;
+use board_program::spot::Spot;
 use data_store::store::Store;
 use slab::Slab;
 

@@ -2,17 +2,17 @@
 
 ghost use Rattle.std.specs.Prelude.{◌≡◌, ℕ, List, Option, Some, None, map, false};
 ghost use Rattle.std.specs.List.{flat_map};
-ghost use Rattle.board_code.specs.Spots.{layout_of, spot_in};
-ghost use Rattle.board_code.specs.Tables.{at_spot, led_times, spots_in, wanted_in};
-ghost use Rattle.board_frames.specs.Names.{led_slot, spot_slot};
+ghost use Rattle.board_program.specs.Spots.{layout_of, spot_in};
+ghost use Rattle.board_program.specs.Tables.{at_spot, led_times, spots_in, wanted_in};
+ghost use Rattle.board_instances.specs.Names.{led_slot, spot_slot};
 ghost use Rattle.data_store.specs.Data.{is_spent};
 ghost use Rattle.data_store.specs.Stores.{Store, at};
 ghost use Rattle.data_store.specs.declared.datum.Datum.{Datum};
 ghost use Rattle.dataflow.specs.System.{Opening};
-ghost use Rattle.replayed.specs.Ending.{CellAfter, Instance, held_times, named_times};
-ghost use Rattle.replayed.specs.Needs.{job_missed};
-ghost use Rattle.replayed.specs.Static.{Hold};
-ghost use Rattle.replayed.specs.Fields.{Counted, Does, Fields, Frame, Job, Layout, slot_at, slot_for};
+ghost use Rattle.board_history.specs.Ending.{CellAfter, Instance, held_times, named_times};
+ghost use Rattle.board_history.specs.Needs.{job_missed};
+ghost use Rattle.board_history.specs.Static.{Hold};
+ghost use Rattle.board_history.specs.Fields.{Counted, Does, Fields, Frame, Job, Layout, slot_at, slot_for};
 ghost use Rattle.task_code.specs.Code.{Code, Name, entry};
 ghost use Rattle.task_code.specs.Compute.{Computed, Elements};
 ghost use Rattle.task_code.specs.Effects.{Task};

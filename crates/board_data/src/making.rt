@@ -3,11 +3,11 @@
 ghost use Rattle.std.specs.Prelude.{◌≡◌, ◌≢◌, ◌<◌, ◌≤◌, ◌+◌, ◌^◌, ℕ, length, IfOk, IsOk, OnOk};
 ghost use Rattle.board_data.specs.Data.{AreRising};
 ghost use Rattle.board_data.specs.Made.{DataMade, Makes, new_datum, slot_in, start_at};
-ghost use Rattle.board_frames.specs.declared.instance.Slot.TheVariants.{Absent};
+ghost use Rattle.board_instances.specs.declared.instance.Slot.TheVariants.{Absent};
 
 use crate::data;
-use board_code::program::Own;
-use board_frames::packed::PackedSlot;
+use board_instances::packed::PackedSlot;
+use board_program::program::Own;
 use data_store::store::Store;
 use std::alloc::AllocError;
 use values::value::Scalar;

@@ -1,14 +1,14 @@
 -- The instance of an item is there, with what is worked out of its entry.
 use Rattle.std.proofs.Common.{◌≡◌, ap, subst, ℕ, List, Some}
 use Rattle.dataflow.specs.Machine.{Event}
-use Rattle.replayed.specs.Fields.{Does, Fields, Over, Row, row_of}
-use Rattle.replayed.specs.Stands.{Stands}
+use Rattle.board_history.specs.Fields.{Does, Fields, Over, Row, row_of}
+use Rattle.board_history.specs.Stands.{Stands}
 use Rattle.task_code.specs.Code.{Code, Entry, entry}
 use Rattle.task_code.specs.Whole.{IsCode}
-use Rattle.board_code.proofs.Found.{home_found}
-use Rattle.board_code.specs.Spots.{layout_of}
-use Rattle.board_code.specs.Tables.{IsEntryTable, body_of, body_or_script}
-use Rattle.board_code.specs.declared.program.EntryTable.{EntryTable}
+use Rattle.board_program.proofs.Found.{home_found}
+use Rattle.board_program.specs.Spots.{layout_of}
+use Rattle.board_program.specs.Tables.{IsEntryTable, body_of, body_or_script}
+use Rattle.board_program.specs.declared.program.EntryTable.{EntryTable}
 use Rattle.board_data.specs.Wanted.{FewSlots}
 use Rattle.board_effects.specs.Effects.{IsAtWork}
 

@@ -4,21 +4,21 @@ use Rattle.std.specs.Prelude.{if◌then◌else◌, is_some, nat_le}
 use Rattle.std.specs.List.{AllZip, filter}
 use Rattle.dataflow.specs.Machine.{OfTask}
 use Rattle.dataflow.specs.System.{In}
-use Rattle.replayed.specs.Ending.{has_entries, job_stores}
-use Rattle.replayed.proofs.Tests.{none_some}
-use Rattle.replayed.specs.Fields.{Frame, path_of, slot_at, step_before}
+use Rattle.board_history.specs.Ending.{has_entries, job_stores}
+use Rattle.board_history.proofs.Tests.{none_some}
+use Rattle.board_history.specs.Fields.{Frame, path_of, slot_at, step_before}
 use Rattle.task_code.specs.View.{entry_view}
 use Rattle.task_code.specs.Code.{Act, Entry, Expr, If, arguments, body, entry, loop_of, stored_of}
 use Rattle.task_code.specs.Compute.{Computed, Elements, Inserts, Takes, TooDeep}
 use Rattle.task_code.specs.Effects.{at_first, effect_at, instances, is_some_list, is_too_deep, prints, rest, steps_on}
 use Rattle.task_code.specs.Places.{Step}
-use Rattle.board_code.specs.Spots.{layout_of}
-use Rattle.board_code.specs.Tables.{is_place, passed_in}
-use Rattle.board_frames.specs.Made.{block_of}
-use Rattle.board_frames.specs.Openings.{passed_from}
-use Rattle.board_frames.specs.Turns.{IsOpening}
-use Rattle.board_frames.specs.View.{opening_frame}
-use Rattle.board_frames.specs.declared.opening.Opening.{Opening}
+use Rattle.board_program.specs.Spots.{layout_of}
+use Rattle.board_program.specs.Tables.{is_place, passed_in}
+use Rattle.board_instances.specs.Made.{block_of}
+use Rattle.board_instances.specs.Openings.{passed_from}
+use Rattle.board_instances.specs.Turns.{IsOpening}
+use Rattle.board_instances.specs.View.{opening_frame}
+use Rattle.board_instances.specs.declared.opening.Opening.{Opening}
 use Rattle.board_effects.specs.Effects.{GoesWell, GoesWrong}
 use Rattle.board_effects.specs.Ended.{Ends, IsEnded, OpensBlock, OpensList, act_of, cells_of, code_of, frames_of, job_of, needs_of}
 use Rattle.board_effects.specs.Fits.{is_fault}

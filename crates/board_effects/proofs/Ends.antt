@@ -6,23 +6,23 @@ use Rattle.std.proofs.lemmas.Bool.{cases_Bool}
 use Rattle.std.proofs.lemmas.List.{append-nil}
 use Rattle.dataflow.specs.Machine.{ElementTwice}
 use Rattle.dataflow.specs.System.{In}
-use Rattle.replayed.proofs.Next.{nat_same, nat_sound}
-use Rattle.replayed.specs.Ending.{has_entries, job_stores, stored_by, stored_values}
-use Rattle.replayed.specs.Ending.{slot_is}
-use Rattle.replayed.proofs.Tests.{none_some, some_same}
-use Rattle.replayed.specs.Fields.{Absent, Counted, DatumOf, Does, Frame, LiteralOf, Slot, path_of, slot_at, slot_for}
-use Rattle.replayed.specs.Needs.{cell_element, has}
+use Rattle.board_history.proofs.Next.{nat_same, nat_sound}
+use Rattle.board_history.specs.Ending.{has_entries, job_stores, stored_by, stored_values}
+use Rattle.board_history.specs.Ending.{slot_is}
+use Rattle.board_history.proofs.Tests.{none_some, some_same}
+use Rattle.board_history.specs.Fields.{Absent, Counted, DatumOf, Does, Frame, LiteralOf, Slot, path_of, slot_at, slot_for}
+use Rattle.board_history.specs.Needs.{cell_element, has}
 use Rattle.task_code.specs.Code.{Assert, Code, Entry, Name, Print, entry, stored_of}
 use Rattle.task_code.specs.Compute.{Computed, Elements, Gives, Inserts, in_key_order}
 use Rattle.task_code.specs.Effects.{effect_at, prints, rest, steps_on}
 use Rattle.values.specs.declared.key.Key.{Key}
 use Rattle.values.specs.declared.value.Scalar.{Scalar}
-use Rattle.board_code.specs.Spots.{layout_of, spot_in}
-use Rattle.board_code.specs.Tables.{first_spot, is_place}
-use Rattle.board_code.specs.declared.program.EntryTable.{EntryTable}
+use Rattle.board_program.specs.Spots.{layout_of, spot_in}
+use Rattle.board_program.specs.Tables.{first_spot, is_place}
+use Rattle.board_program.specs.declared.program.EntryTable.{EntryTable}
 use Rattle.board_data.proofs.Named.{slot_by}
 use Rattle.board_data.specs.Wanted.{FewSlots}
-use Rattle.board_frames.specs.Names.{datum_of, led_slot}
+use Rattle.board_instances.specs.Names.{datum_of, led_slot}
 use Rattle.board_effects.specs.Effects.{GoesWell, GoesWrong, IsAtWork, IsStored, IsTarget, OpensBy, OpensNothing, lines_in, target_in, values_in}
 use Rattle.board_effects.specs.Fits.{gives_elements, gives_scalar}
 use Rattle.board_effects.specs.declared.effect.Effect.{Effect}

@@ -5,9 +5,9 @@ use Rattle.std.specs.List.{AllZip, filter}
 use Rattle.std.proofs.lemmas.Bool.{and_left, and_right, cases_Bool}
 use Rattle.dataflow.specs.Machine.{OfTask}
 use Rattle.dataflow.specs.System.{In}
-use Rattle.replayed.specs.Ending.{has_entries}
-use Rattle.replayed.proofs.Tests.{none_some}
-use Rattle.replayed.specs.Fields.{Frame, path_of, slot_at}
+use Rattle.board_history.specs.Ending.{has_entries}
+use Rattle.board_history.proofs.Tests.{none_some}
+use Rattle.board_history.specs.Fields.{Frame, path_of, slot_at}
 use Rattle.task_code.specs.View.{entry_view}
 use Rattle.task_code.specs.Code.{Code, Entry, Loop, body, entry, loop_of}
 use Rattle.task_code.specs.Compute.{Elements, TooDeep, Turns}
@@ -15,11 +15,11 @@ use Rattle.task_code.specs.Effects.{chunk, effect_at, instances, is_some_list, l
 use Rattle.task_code.specs.Places.{Step}
 use Rattle.values.specs.declared.key.Key.{Key}
 use Rattle.values.specs.declared.value.Scalar.{Scalar}
-use Rattle.board_frames.specs.Made.{block_of}
-use Rattle.board_frames.specs.Turns.{AddsTurns, IsTurn}
-use Rattle.board_frames.specs.View.{opening_frame}
-use Rattle.board_frames.specs.declared.opening.Opening.{Opening}
-use Rattle.board_frames.proofs.Turned.{turns_blocks}
+use Rattle.board_instances.specs.Made.{block_of}
+use Rattle.board_instances.specs.Turns.{AddsTurns, IsTurn}
+use Rattle.board_instances.specs.View.{opening_frame}
+use Rattle.board_instances.specs.declared.opening.Opening.{Opening}
+use Rattle.board_instances.proofs.Turned.{turns_blocks}
 use Rattle.board_effects.specs.Effects.{GoesWell, GoesWrong}
 use Rattle.board_effects.specs.Ended.{Ends, FailsWith, IsEnded, IsLoop, OpensList, act_of, cells_of, code_of, frames_of, job_of, needs_of}
 use Rattle.board_effects.specs.Openings.{IsOpened, IsOpenedBy, IsSpare}

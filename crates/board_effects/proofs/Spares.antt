@@ -6,8 +6,8 @@ use Rattle.std.proofs.lemmas.List.{append_assoc, append-nil, map-append, take_mo
 use Rattle.rules.specs.declared.input.Input.{Input}
 use Rattle.smallvec.specs.SmallVec.{SmallVec}
 use Rattle.task_code.specs.Code.{Body, Code, Entry, blank_body, blank_entry, body, entry, nth}
-use Rattle.board_code.specs.Tables.{waits_long}
-use Rattle.board_frames.specs.declared.opening.Opening.{Opening}
+use Rattle.board_program.specs.Tables.{waits_long}
+use Rattle.board_instances.specs.declared.opening.Opening.{Opening}
 use Rattle.board_effects.specs.Ended.{long_need, needs_of, spare_list}
 use Rattle.board_effects.specs.Openings.{IsSpare, long_needs}
 

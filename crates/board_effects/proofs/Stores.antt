@@ -3,8 +3,8 @@ use Rattle.std.proofs.Common.{◌≡◌, ◌∙◌, refl, sym, ap, subst, inl, �
 use Rattle.std.specs.Prelude.{IsTrue}
 use Rattle.std.specs.List.{list_any}
 use Rattle.dataflow.specs.Machine.{ElementTwice}
-use Rattle.replayed.specs.Fields.{slot_at}
-use Rattle.replayed.specs.Needs.{cell_element, has}
+use Rattle.board_history.specs.Fields.{slot_at}
+use Rattle.board_history.specs.Needs.{cell_element, has}
 use Rattle.task_code.specs.Code as Pure
 use Rattle.task_code.specs.Code.{Leaf, kind_of}
 use Rattle.task_code.specs.Compute.{Computed, Gives, Inserts, pairs}
@@ -19,8 +19,8 @@ use Rattle.values.specs.declared.key.Key.{Key}
 use Rattle.values.specs.declared.map.Element.{Element}
 use Rattle.values.specs.declared.value.Scalar.{Scalar}
 use Rattle.values.specs.declared.value.Value.{Value}
-use Rattle.board_frames.specs.Names.{datum_of, led_slot}
-use Rattle.entry_outcomes.specs.Outcome.{of_leaf}
+use Rattle.board_instances.specs.Names.{datum_of, led_slot}
+use Rattle.board_compute.specs.Outcome.{of_leaf}
 use Rattle.board_effects.specs.Effects.{GoesWell, IsStored, OpensBy, OpensNothing, lines_in, target_in, values_in}
 use Rattle.board_effects.specs.Ended.{Ends, FailsWith, IsEnded, act_of, cells_of, code_of, frames_of, job_of}
 use Rattle.board_effects.specs.Fits.{gives_elements, gives_scalar}

@@ -8,15 +8,15 @@ use Rattle.data_store.specs.Stores.{IsArrayAt, Store, array_at, at, datum, or_no
 use Rattle.data_store.specs.declared.datum.Content.{Content}
 use Rattle.data_store.specs.declared.datum.Content.TheVariants.{OfArray, OfScalar}
 use Rattle.data_store.specs.declared.datum.Datum.{Datum}
-use Rattle.replayed.specs.CodeReplay.{replayed}
-use Rattle.replayed.specs.Ending.{job_slot}
-use Rattle.replayed.specs.Fields.{Counted, DatumOf, Does, Fields, Job, Row, Script, path_of, row_of, slot_at, task_of}
-use Rattle.replayed.specs.Needs.{cell_element}
-use Rattle.replayed.specs.Stands.{ContentStands, Stands}
-use Rattle.replayed.specs.Static.{computed_by}
-use Rattle.replayed.proofs.Next.{nat_same}
-use Rattle.replayed.proofs.Standing.{writes_told}
-use Rattle.replayed.proofs.Tests.{none_some, some_same}
+use Rattle.board_history.specs.CodeReplay.{replayed}
+use Rattle.board_history.specs.Ending.{job_slot}
+use Rattle.board_history.specs.Fields.{Counted, DatumOf, Does, Fields, Job, Row, Script, path_of, row_of, slot_at, task_of}
+use Rattle.board_history.specs.Needs.{cell_element}
+use Rattle.board_history.specs.Stands.{ContentStands, Stands}
+use Rattle.board_history.specs.Static.{computed_by}
+use Rattle.board_history.proofs.Next.{nat_same}
+use Rattle.board_history.proofs.Standing.{writes_told}
+use Rattle.board_history.proofs.Tests.{none_some, some_same}
 use Rattle.task_code.proofs.Equal.{true_and}
 use Rattle.task_code.proofs.Places.{argument_kind, spot_variable}
 use Rattle.task_code.specs.Code.{Act, Argument, Assert, Call, Cell, Code, Copy, Each, Fill, Fixed, If, Local, Name, Named, Need, Owned, Parameter, Print, Put, Range, Read, Set, Variable, Wait, argument, arguments, call_at, entry, is_array_name, is_array_owned, stored_of}
@@ -32,8 +32,8 @@ use Rattle.values.specs.declared.key.Key.{Key}
 use Rattle.values.specs.declared.map.Element.{Element}
 use Rattle.values.specs.declared.value.Scalar.{Scalar}
 use Rattle.values.specs.declared.value.Value.{Value}
-use Rattle.board_code.specs.Spots.{layout_of}
-use Rattle.board_code.specs.Tables.{is_place}
+use Rattle.board_program.specs.Spots.{layout_of}
+use Rattle.board_program.specs.Tables.{is_place}
 use Rattle.board_data.proofs.Cells.{cell_there, element_there}
 use Rattle.board_data.specs.Data.{is_keyed}
 use Rattle.board_data.specs.Stored.{IsScalarTarget, Takes}

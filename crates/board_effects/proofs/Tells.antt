@@ -13,23 +13,23 @@ use Rattle.dataflow.proofs.Lists.{in_map, in_split, in_unmap, seam_here}
 use Rattle.dataflow.proofs.Runs.{run_settled}
 use Rattle.dataflow.proofs.Settled.{Settled, can_of_comes}
 use Rattle.dataflow.proofs.Steps.{run_follows}
-use Rattle.replayed.specs.CodeReplay.{and_then, next_state, replayed}
-use Rattle.replayed.specs.Elements.{code_tests}
-use Rattle.replayed.specs.Ending.{job_slot, slot_is, stored_values}
-use Rattle.replayed.specs.Fields.{Absent, Content as Contents, DatumOf, Does, Fields, Frame, Holding, Job, Mapping, Over, Row, Script, Unset, path_of, row_of, slot_at, slot_for, task_of}
-use Rattle.replayed.specs.Needs.{cell_element, elements_in, found}
-use Rattle.replayed.specs.Stands.{ContentStands, SlotStands, Stands}
-use Rattle.replayed.specs.Static.{computed_by, opened, rests}
-use Rattle.replayed.proofs.Counts.{made_to_write}
-use Rattle.replayed.proofs.Elements.{code_told}
-use Rattle.replayed.proofs.Ended.{opens_is, outcome_is}
-use Rattle.replayed.proofs.EndedBase.{rests_none}
-use Rattle.replayed.proofs.EndedNames.{in_flat, flat_in}
-use Rattle.replayed.proofs.EndedStores.{Stored, binds, bound_is, into, stores_told, target_stored}
-use Rattle.replayed.proofs.Marking.{RowIs, row_found}
-use Rattle.replayed.proofs.Next.{nat_same, nat_sound}
-use Rattle.replayed.proofs.Replays.{replayed_then, run_next, run_replayed}
-use Rattle.replayed.proofs.Tests.{none_some, some_same}
+use Rattle.board_history.specs.CodeReplay.{and_then, next_state, replayed}
+use Rattle.board_history.specs.Elements.{code_tests}
+use Rattle.board_history.specs.Ending.{job_slot, slot_is, stored_values}
+use Rattle.board_history.specs.Fields.{Absent, Content as Contents, DatumOf, Does, Fields, Frame, Holding, Job, Mapping, Over, Row, Script, Unset, path_of, row_of, slot_at, slot_for, task_of}
+use Rattle.board_history.specs.Needs.{cell_element, elements_in, found}
+use Rattle.board_history.specs.Stands.{ContentStands, SlotStands, Stands}
+use Rattle.board_history.specs.Static.{computed_by, opened, rests}
+use Rattle.board_history.proofs.Counts.{made_to_write}
+use Rattle.board_history.proofs.Elements.{code_told}
+use Rattle.board_history.proofs.Ended.{opens_is, outcome_is}
+use Rattle.board_history.proofs.EndedBase.{rests_none}
+use Rattle.board_history.proofs.EndedNames.{in_flat, flat_in}
+use Rattle.board_history.proofs.EndedStores.{Stored, binds, bound_is, into, stores_told, target_stored}
+use Rattle.board_history.proofs.Marking.{RowIs, row_found}
+use Rattle.board_history.proofs.Next.{nat_same, nat_sound}
+use Rattle.board_history.proofs.Replays.{replayed_then, run_next, run_replayed}
+use Rattle.board_history.proofs.Tests.{none_some, some_same}
 use Rattle.task_code.proofs.Kept.{code_laws}
 use Rattle.task_code.proofs.Rights.{stored_target}
 use Rattle.task_code.specs.Code.{Act, Argument, Assert, Call, Cell, Code, Copy, Each, Fill, Fixed, If, Local, Need, Print, Put, Range, Read, Set, Wait, Name, Named, Owned, Parameter, argument, arguments, body, call_at, entry, is_array_name, is_array_owned, stored_of}
@@ -45,7 +45,7 @@ use Rattle.task_code.specs.System.{answered, code_system, task_effect, task_inpu
 use Rattle.task_code.specs.Whole.{IsCode}
 use Rattle.values.specs.declared.key.Key.{Key}
 use Rattle.values.specs.declared.value.Scalar.{Scalar}
-use Rattle.board_code.specs.Spots.{layout_of}
+use Rattle.board_program.specs.Spots.{layout_of}
 use Rattle.task_code.proofs.Equal.{true_and}
 use Rattle.task_code.specs.Shape.{has_shape}
 use Rattle.values.specs.Operators.{evaluated, literal}

@@ -4,8 +4,8 @@ use Rattle.std.specs.List.{list_any}
 use Rattle.std.proofs.lemmas.Bool.{cases_Bool, or_parts}
 use Rattle.dataflow.specs.Machine.{Fault}
 use Rattle.dataflow.specs.System.{In}
-use Rattle.replayed.specs.Fields.{Counted, slot_at}
-use Rattle.replayed.specs.Needs.{cell_element, has}
+use Rattle.board_history.specs.Fields.{Counted, slot_at}
+use Rattle.board_history.specs.Needs.{cell_element, has}
 use Rattle.task_code.specs.Compute.{Computed, EntryFault, elements, in_key_order, pairs}
 use Rattle.values.specs.Maps.{rising}
 use Rattle.values.specs.declared.key.Key.{Key}

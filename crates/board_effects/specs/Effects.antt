@@ -3,28 +3,28 @@ use Rattle.std.specs.Prelude.{◌≡◌, ◌≤◌, ℕ, true, List, [], ◌∷�
 use Rattle.std.specs.List.{filter}
 use Rattle.dataflow.specs.Machine.{ElementTwice, Fault, OfTask}
 use Rattle.dataflow.specs.System.{Bad, Effect as PureEffect, Good, In, Outcome}
-use Rattle.replayed.specs.Ending.{has_entries, job_slot, job_stores, printed}
-use Rattle.replayed.specs.Fields.{Counted, DatumOf, Does, Frame, Job, Script, path_of, slot_at, task_of}
-use Rattle.replayed.specs.Needs.{cell_element}
-use Rattle.replayed.specs.Static.{opened, rests}
+use Rattle.board_history.specs.Ending.{has_entries, job_slot, job_stores, printed}
+use Rattle.board_history.specs.Fields.{Counted, DatumOf, Does, Frame, Job, Script, path_of, slot_at, task_of}
+use Rattle.board_history.specs.Needs.{cell_element}
+use Rattle.board_history.specs.Static.{opened, rests}
 use Rattle.task_code.specs.Code.{Code, Entry, Name, entry, stored_of}
 use Rattle.task_code.specs.Compute.{Computed, Elements, EntryFault, Gives, Inserts as InsertsAll, in_key_order, pairs}
 use Rattle.task_code.specs.Effects.{Item, Main, Task, block, effect_at, instances, is_too_deep, only, outcome_of}
 use Rattle.task_code.specs.Places.{Place}
 use Rattle.values.specs.declared.key.Key.{Key}
 use Rattle.values.specs.declared.value.Scalar.{Scalar}
-use Rattle.board_code.specs.Spots.{layout_of}
-use Rattle.board_code.specs.Tables.{IsEntryTable, is_place}
-use Rattle.board_code.specs.declared.program.EntryTable.{EntryTable}
-use Rattle.entry_outcomes.specs.View.{fault_view}
+use Rattle.board_program.specs.Spots.{layout_of}
+use Rattle.board_program.specs.Tables.{IsEntryTable, is_place}
+use Rattle.board_program.specs.declared.program.EntryTable.{EntryTable}
+use Rattle.board_compute.specs.View.{fault_view}
 use Rattle.data_store.specs.Stores.{Store, array_at}
 use Rattle.values.specs.Maps.{element}
 use Rattle.board_data.specs.Stored.{IsScalarTarget, Takes}
 use Rattle.board_data.specs.Wanted.{FewSlots}
-use Rattle.board_frames.specs.View.{step_view}
-use Rattle.board_frames.specs.declared.place.FaultKind.{FaultKind}
-use Rattle.board_frames.specs.declared.place.FaultKind.TheVariants as Kind
-use Rattle.board_frames.specs.declared.place.Statement.{Statement}
+use Rattle.board_instances.specs.View.{step_view}
+use Rattle.board_instances.specs.declared.place.FaultKind.{FaultKind}
+use Rattle.board_instances.specs.declared.place.FaultKind.TheVariants as Kind
+use Rattle.board_instances.specs.declared.place.Statement.{Statement}
 use Rattle.board_effects.specs.Openings.{AreOpenings}
 use Rattle.board_effects.specs.declared.effect.Effect.{Effect}
 use Rattle.board_effects.specs.declared.effect.Effect.TheVariants.{Fails, Inserts, Opens, Prints, Puts, Stores}

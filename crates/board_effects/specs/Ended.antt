@@ -4,17 +4,17 @@ use Rattle.std.specs.List.{AllZip, filter, flat_map}
 use Rattle.dataflow.specs.Machine.{Fault as PureFault}
 use Rattle.rules.specs.declared.input.Input.{Input}
 use Rattle.smallvec.specs.SmallVec.{SmallVec}
-use Rattle.replayed.specs.Fields.{Counted, Does, Frame, Job, step_before}
+use Rattle.board_history.specs.Fields.{Counted, Does, Frame, Job, step_before}
 use Rattle.task_code.specs.Code.{Act, Code, Loop, body, entry, loop_of, stored_of}
 use Rattle.task_code.specs.Compute.{Computed, Elements, EntryFault, Inserts}
 use Rattle.task_code.specs.Effects.{instances, prints, steps_on}
 use Rattle.task_code.specs.Places.{Step}
 use Rattle.task_code.specs.View.{entry_view}
 use Rattle.board_data.specs.View.{cells_view}
-use Rattle.board_frames.specs.View.{frames_view, opening_frame}
-use Rattle.board_frames.specs.declared.opening.Opening.{Opening}
-use Rattle.board_frames.specs.declared.opening.Openings.{Openings}
-use Rattle.board_frames.specs.declared.place.Fault.{Fault}
+use Rattle.board_instances.specs.View.{frames_view, opening_frame}
+use Rattle.board_instances.specs.declared.opening.Opening.{Opening}
+use Rattle.board_instances.specs.declared.opening.Openings.{Openings}
+use Rattle.board_instances.specs.declared.place.Fault.{Fault}
 use Rattle.board_effects.specs.Effects.{IsAtWork, IsEffect, IsStatementOf, kind_view}
 use Rattle.board_effects.specs.Openings.{IsScript, IsSpare, long_needs}
 use Rattle.board_effects.specs.Fits.{is_fault}

@@ -4,22 +4,22 @@ use Rattle.std.specs.List.{AllZip, filter, flat_map}
 use Rattle.dataflow.specs.System.{In}
 use Rattle.smallvec.specs.SmallVec.{HasRoomFor, SmallVec}
 use Rattle.rules.specs.declared.input.Input.{Input}
-use Rattle.replayed.specs.Ending.{has_entries, home}
-use Rattle.replayed.specs.Fields.{Does, Frame, Job, Script, Slot, slot_at, task_of}
-use Rattle.replayed.specs.Static.{opened, rests}
+use Rattle.board_history.specs.Ending.{has_entries, home}
+use Rattle.board_history.specs.Fields.{Does, Frame, Job, Script, Slot, slot_at, task_of}
+use Rattle.board_history.specs.Static.{opened, rests}
 use Rattle.task_code.specs.Code.{Code, Loop, arguments, body, entry, loop_of}
 use Rattle.task_code.specs.Compute.{Computed}
 use Rattle.task_code.specs.Effects.{chunk, is_some_list, turns_of}
 use Rattle.task_code.specs.Places.{Step}
 use Rattle.values.specs.declared.key.Key.{Key}
 use Rattle.values.specs.declared.value.Scalar.{Scalar}
-use Rattle.board_code.specs.Tables.{passed_in, turn_slot, value_slot}
-use Rattle.board_frames.specs.Made.{block_of}
-use Rattle.board_frames.specs.Openings.{passed_from, unfilled}
-use Rattle.board_frames.specs.Turns.{IsOpening, IsTurn}
-use Rattle.board_frames.specs.View.{opening_frame}
-use Rattle.board_frames.specs.declared.opening.Opening.{Opening}
-use Rattle.board_frames.specs.declared.opening.Openings.{Openings}
+use Rattle.board_program.specs.Tables.{passed_in, turn_slot, value_slot}
+use Rattle.board_instances.specs.Made.{block_of}
+use Rattle.board_instances.specs.Openings.{passed_from, unfilled}
+use Rattle.board_instances.specs.Turns.{IsOpening, IsTurn}
+use Rattle.board_instances.specs.View.{opening_frame}
+use Rattle.board_instances.specs.declared.opening.Opening.{Opening}
+use Rattle.board_instances.specs.declared.opening.Openings.{Openings}
 
 -- an empty list with room for so many inputs
 pub record IsSpare (n : ℕ) (inputs : SmallVec Input) : Type 0 where

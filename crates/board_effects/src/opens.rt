@@ -1,10 +1,10 @@
 //! The blocks that an item opens when it ends.
 ghost use Rattle.std.specs.Prelude.{◌≡◌, ◌+◌, ◌*◌, ◌^◌, ◌<◌, ◌≤◌, [], ℕ, List, Option, Some, None, true, nat_le, length, min, option_map, IfOk};
-ghost use Rattle.replayed.specs.Fields.{path_of, slot_at, Script, Counted, Frame};
+ghost use Rattle.board_history.specs.Fields.{path_of, slot_at, Script, Counted, Frame};
 ghost use Rattle.task_code.specs.Code.{Loop as PureLoop, loop_of};
 ghost use Rattle.task_code.specs.Compute.{Computed, Opens as OpensOne, TooDeep, Takes, Turns, pairs, range_turns};
 ghost use Rattle.task_code.specs.Places.{Step as PureStep};
-ghost use Rattle.board_frames.specs.View.{step_view};
+ghost use Rattle.board_instances.specs.View.{step_view};
 ghost use Rattle.board_effects.specs.Effects.{IsEffect};
 ghost use Rattle.board_effects.specs.Ended.{act_of, code_of, frames_of, Ends, IsEnded, FailsWith, IsLoop, IsScriptList, OpensBlock, OpensList};
 ghost use Rattle.dataflow.specs.Machine.{OfTask};
@@ -12,12 +12,12 @@ ghost use Rattle.board_effects.specs.Fits.{enters_block, takes_branch};
 
 use crate::effect::{Effect, Ended};
 use crate::spare::spare_lists;
-use board_code::program::Program;
-use board_frames::opening::{Around, Opening, Openings, outermost};
-use board_frames::place::{FaultKind, Step};
-use board_frames::turns::{Site, push_block, push_elements, push_range};
-use entry_outcomes::outcome::EntryFault;
-use loop_chunks::{are_left, chunk_of};
+use board_chunks::{are_left, chunk_of};
+use board_compute::outcome::EntryFault;
+use board_instances::opening::{Around, Opening, Openings, outermost};
+use board_instances::place::{FaultKind, Step};
+use board_instances::turns::{Site, push_block, push_elements, push_range};
+use board_program::program::Program;
 use std::alloc::{AllocError, Global};
 use task_code::entry::Act;
 use values::key::Key;

@@ -1,13 +1,13 @@
 //! Elements of an array that are there, and elements that are to come.
 ghost use Rattle.std.specs.Prelude.{◌≡◌, IfOk};
 ghost use Rattle.std.specs.List.{list_any};
-ghost use Rattle.replayed.specs.Fields.{slot_at};
-ghost use Rattle.replayed.specs.Needs.{cell_element, has};
+ghost use Rattle.board_history.specs.Fields.{slot_at};
+ghost use Rattle.board_history.specs.Needs.{cell_element, has};
 ghost use Rattle.values.specs.declared.map.Element.{Element as AnElement};
 ghost use Rattle.board_data.specs.View.{cells_view};
 
-use board_code::key::copy_key;
 use board_data::data::element;
+use board_program::key::copy_key;
 use data_store::store::Store;
 use std::alloc::{AllocError, Global};
 use values::key::Key;

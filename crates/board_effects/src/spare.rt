@@ -4,8 +4,8 @@ ghost use Rattle.std.specs.List.{AllZip};
 ghost use Rattle.board_effects.specs.Ended.{long_need, needs_of, spare_list};
 ghost use Rattle.board_effects.specs.Openings.{IsSpare, long_needs};
 
-use board_code::program::Program;
-use board_frames::opening::{Inputs, Opening};
+use board_instances::opening::{Inputs, Opening};
+use board_program::program::Program;
 use smallvec::SmallVec;
 use std::alloc::{AllocError, Global};
 

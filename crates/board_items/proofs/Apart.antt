@@ -1,14 +1,14 @@
 -- Counts of items that wait or run, where a mark is changed.
 use Rattle.std.proofs.Common.{◌≡◌, ◌∙◌, ℕ, zero, suc, ◌+◌, ◌≤◌, Bool, true, false, ◌&&◌, List, [], ◌∷◌, ◌++◌, refl, ap, subst, arith, Some}
 use Rattle.std.specs.Prelude.{if◌then◌else◌}
-use Rattle.replayed.specs.Ending.{job_kind}
-use Rattle.replayed.specs.Fields.{Mark, Row, row_of}
-use Rattle.replayed.specs.Marking.{kind_eq, mark_at}
-use Rattle.replayed.proofs.Rows.{no_row}
-use Rattle.replayed.proofs.Tests.{none_some, some_same}
+use Rattle.board_history.specs.Ending.{job_kind}
+use Rattle.board_history.specs.Fields.{Mark, Row, row_of}
+use Rattle.board_history.specs.Marking.{kind_eq, mark_at}
+use Rattle.board_history.proofs.Rows.{no_row}
+use Rattle.board_history.proofs.Tests.{none_some, some_same}
 use Rattle.task_code.specs.Code.{Code, Control, Kind, Leaf}
 use Rattle.std.specs.Prelude.{vec_capacity}
-use Rattle.board_frames.specs.View.{rows_view}
+use Rattle.board_instances.specs.View.{rows_view}
 use Rattle.work_queue.specs.Both.{Both}
 use Rattle.board_items.specs.Room.{IsRoomy, IsRoomyFor, apart_in, is_apart}
 use Rattle.board_items.specs.declared.items.Counts.{Counts}

@@ -5,12 +5,12 @@ use Rattle.smallvec.specs.SmallVec.{SmallVec}
 use Rattle.board_items.specs.Room.{AreSpare}
 use Rattle.std.proofs.Common.{◌≡◌, false, true, reverse, ◌∙◌, ℕ, ◌+◌, ◌-◌, List, [], ◌++◌, length, sym, ap, subst, arith, Option}
 use Rattle.std.specs.Prelude.{vec_capacity, vec_len}
-use Rattle.replayed.specs.Ending.{job_kind}
-use Rattle.replayed.specs.Fields.{Counted, Frame, Job, Over}
-use Rattle.replayed.specs.Marking.{mark_at}
+use Rattle.board_history.specs.Ending.{job_kind}
+use Rattle.board_history.specs.Fields.{Counted, Frame, Job, Over}
+use Rattle.board_history.specs.Marking.{mark_at}
 use Rattle.task_code.specs.Code.{Code}
-use Rattle.board_code.specs.Tables.{queue_kind}
-use Rattle.board_frames.specs.View.{rows_view}
+use Rattle.board_program.specs.Tables.{queue_kind}
+use Rattle.board_instances.specs.View.{rows_view}
 use Rattle.work_queue.specs.declared.entry.Kind.{Kind}
 use Rattle.board_items.specs.Ended.{AreShort, AreToSettle, numbers_behind}
 use Rattle.board_items.specs.Progress.{AreOld, CanFinish, Progress, all_to_settle}

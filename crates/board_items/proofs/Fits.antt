@@ -7,17 +7,17 @@ use Rattle.dataflow.specs.History.{log_of}
 use Rattle.dataflow.proofs.Follows.{Follows, sees_enabled}
 use Rattle.dataflow.proofs.Known.{sees_only}
 use Rattle.dataflow.proofs.Steps.{run_follows}
-use Rattle.replayed.specs.Elements.{code_tests}
-use Rattle.replayed.specs.Fields.{Fields, Layout, Mark, Over, Ready, Row, Running, Waiter, Waiting, row_of, task_of}
-use Rattle.replayed.specs.Stands.{Stands}
-use Rattle.replayed.proofs.Elements.{code_told}
-use Rattle.replayed.proofs.Marking.{IsItem, RowIs, item, mark_is, row_found}
-use Rattle.replayed.proofs.Next.{nat_same, nat_sound}
-use Rattle.replayed.proofs.Remarked.{runs_of}
-use Rattle.replayed.proofs.Replays.{run_replayed}
-use Rattle.replayed.proofs.Rows.{no_row, row_item}
-use Rattle.replayed.proofs.Standing.{missing_told}
-use Rattle.replayed.proofs.Tests.{none_some, yes_no}
+use Rattle.board_history.specs.Elements.{code_tests}
+use Rattle.board_history.specs.Fields.{Fields, Layout, Mark, Over, Ready, Row, Running, Waiter, Waiting, row_of, task_of}
+use Rattle.board_history.specs.Stands.{Stands}
+use Rattle.board_history.proofs.Elements.{code_told}
+use Rattle.board_history.proofs.Marking.{IsItem, RowIs, item, mark_is, row_found}
+use Rattle.board_history.proofs.Next.{nat_same, nat_sound}
+use Rattle.board_history.proofs.Remarked.{runs_of}
+use Rattle.board_history.proofs.Replays.{run_replayed}
+use Rattle.board_history.proofs.Rows.{no_row, row_item}
+use Rattle.board_history.proofs.Standing.{missing_told}
+use Rattle.board_history.proofs.Tests.{none_some, yes_no}
 use Rattle.task_code.proofs.Kept.{code_laws}
 use Rattle.task_code.specs.Code.{Code, Kind}
 use Rattle.task_code.specs.Effects.{Task}

@@ -2,18 +2,18 @@
 use Rattle.std.proofs.lemmas.Bool.Decides.{nat_tests}
 use Rattle.std.proofs.Common.{◌≡◌, ◌∙◌, ℕ, zero, suc, ◌≤◌, Bool, true, false, IsTrue, List, [], ◌∷◌, ◌++◌, map, length, refl, sym, ap, subst, arith, append-nil, Option, Some, None}
 use Rattle.std.specs.List.{AllZip, flat_map}
-use Rattle.board_code.specs.Spots.{layout_of}
-use Rattle.board_code.proofs.Found.{home_found}
+use Rattle.board_program.specs.Spots.{layout_of}
+use Rattle.board_program.proofs.Found.{home_found}
 use Rattle.dataflow.specs.System.{In}
 use Rattle.task_code.specs.Whole.{IsCode}
-use Rattle.board_code.specs.Tables.{body_of, body_or_script, queue_kind, wanted_in}
-use Rattle.board_code.specs.declared.program.Wanted.{Wanted}
+use Rattle.board_program.specs.Tables.{body_of, body_or_script, queue_kind, wanted_in}
+use Rattle.board_program.specs.declared.program.Wanted.{Wanted}
 use Rattle.board_data.specs.Wanted.{FewSlots, is_nil, wanted_missed}
 use Rattle.board_data.proofs.Named.{all_missed}
-use Rattle.board_frames.specs.Names.{led_slot}
-use Rattle.replayed.specs.Ending.{job_kind, job_priority}
-use Rattle.replayed.specs.Fields.{Counted, Does, Frame, Job, Want, slot_at, slot_for}
-use Rattle.replayed.specs.Needs.{missed}
+use Rattle.board_instances.specs.Names.{led_slot}
+use Rattle.board_history.specs.Ending.{job_kind, job_priority}
+use Rattle.board_history.specs.Fields.{Counted, Does, Frame, Job, Want, slot_at, slot_for}
+use Rattle.board_history.specs.Needs.{missed}
 use Rattle.task_code.specs.Code.{Code, Entry, blank_entry, body, entry, kind_of, nth}
 use Rattle.work_queue.specs.declared.entry.Kind.TheVariants.{Leaf}
 use Rattle.std.specs.Prelude.{filter, if◌then◌else◌, nat_lt, not, pos}

@@ -5,9 +5,9 @@ use Rattle.std.specs.List.{cons_option, filter}
 use Rattle.std.proofs.lemmas.Bool.Decides.{nat_tests}
 use Rattle.std.proofs.lemmas.List.Sorted.{IsPermutation-append, IsPermutation-cons, IsPermutation-middle, IsPermutation-refl, IsPermutation-sym, IsPermutation-trans, length_permutation}
 use Rattle.dataflow.specs.System.{In}
-use Rattle.replayed.specs.Fields.{Waiter, Want}
-use Rattle.replayed.specs.Needs.{is_covered, still_missed}
-use Rattle.replayed.specs.Needs as needs
+use Rattle.board_history.specs.Fields.{Waiter, Want}
+use Rattle.board_history.specs.Needs.{is_covered, still_missed}
+use Rattle.board_history.specs.Needs as needs
 use Rattle.rules.specs.Inputs.{covers}
 use Rattle.rules.specs.Waiting.{IsListed, Waiting, is_ready, still_waiting, with_known, woken}
 use Rattle.rules.specs.declared.input.Input.{Input}

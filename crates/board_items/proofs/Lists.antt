@@ -5,8 +5,8 @@ use Rattle.std.specs.List.{filter, sum_by}
 use Rattle.std.proofs.lemmas.List.Sorted.{Contains-permutation, IsPermutation-sym, sum_by-IsPermutation}
 use Rattle.std.proofs.lemmas.List.Sums.{sum_by-cons}
 use Rattle.dataflow.specs.System.{Distinct, In}
-use Rattle.replayed.proofs.Next.{nat_same, nat_sound}
-use Rattle.replayed.proofs.Tests.{choose, in_kept, yes_no}
+use Rattle.board_history.proofs.Next.{nat_same, nat_sound}
+use Rattle.board_history.proofs.Tests.{choose, in_kept, yes_no}
 
 in_contains : {X : Type 0} (xs : List X) (x : X) → In x xs → Contains xs x
 in_contains [] x h = absurd h

@@ -3,8 +3,8 @@ use Rattle.std.proofs.Common.{◌≡◌, ◌⊎◌, inl, inr, ◌∙◌, ℕ, ze
 use Rattle.std.specs.Prelude.{if◌then◌else◌}
 use Rattle.dataflow.specs.System.{Distinct, In}
 use Rattle.dataflow.proofs.Lists.{distinct_append, in_left, in_map, in_right, in_split}
-use Rattle.replayed.proofs.Tests.{choose}
-use Rattle.replayed.specs.Fields.{Waiter, Want}
+use Rattle.board_history.proofs.Tests.{choose}
+use Rattle.board_history.specs.Fields.{Waiter, Want}
 use Rattle.board_items.specs.Ended.{numbers_behind}
 use Rattle.board_data.specs.Wanted.{is_nil}
 use Rattle.board_items.specs.Learnt.{left_to, served, waiting_on}

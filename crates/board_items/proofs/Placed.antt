@@ -1,14 +1,14 @@
 -- Items that are settled, told by their rows.
 use Rattle.std.proofs.Common.{◌≡◌, ◌∙◌, ℕ, ◌+◌, ◌-◌, ◌<◌, List, length, sym, ap, subst, arith, Option, Some}
 use Rattle.std.specs.Prelude.{ℤ, slice_index_or}
-use Rattle.board_code.specs.Tables.{queue_kind}
-use Rattle.board_frames.proofs.Rows.{row_there}
-use Rattle.board_frames.specs.View.{job_view, row_view, rows_view}
-use Rattle.board_frames.specs.declared.item.Item.{Item}
-use Rattle.board_frames.specs.declared.item.Job.{Job as AJob}
-use Rattle.replayed.specs.Ending.{job_kind, job_priority}
-use Rattle.replayed.specs.Fields.{Frame, Job, Row, Want, row_of}
-use Rattle.replayed.proofs.Tests.{some_same}
+use Rattle.board_program.specs.Tables.{queue_kind}
+use Rattle.board_instances.proofs.Rows.{row_there}
+use Rattle.board_instances.specs.View.{job_view, row_view, rows_view}
+use Rattle.board_instances.specs.declared.item.Item.{Item}
+use Rattle.board_instances.specs.declared.item.Job.{Job as AJob}
+use Rattle.board_history.specs.Ending.{job_kind, job_priority}
+use Rattle.board_history.specs.Fields.{Frame, Job, Row, Want, row_of}
+use Rattle.board_history.proofs.Tests.{some_same}
 use Rattle.task_code.specs.Code.{Code}
 use Rattle.work_queue.specs.declared.entry.Kind.{Kind}
 use Rattle.board_items.specs.Ended.{IsSeen}

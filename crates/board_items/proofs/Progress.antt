@@ -6,18 +6,18 @@ use Rattle.std.proofs.lemmas.List.Sorted.{IsPermutation-map}
 use Rattle.std.proofs.lemmas.Bool.Decides.{nat_tests}
 use Rattle.std.proofs.lemmas.List.{take_more}
 use Rattle.dataflow.specs.System.{Distinct, In}
-use Rattle.replayed.specs.Ending.{is_one, job_kind, job_priority, mark_after, marked_by}
-use Rattle.replayed.specs.Fields.{Counted, Frame, Job, Mark, Over, Ready, Row, Waiter, Waiting, Want, row_of}
-use Rattle.replayed.specs.Marking.{kind_eq, mark_at}
-use Rattle.replayed.proofs.EndedItems.{one_in}
-use Rattle.replayed.proofs.EndedRows.{row_to}
-use Rattle.replayed.proofs.Next.{nat_sound}
-use Rattle.replayed.proofs.Rows.{no_row}
-use Rattle.replayed.proofs.Tests.{choose, in_kept, none_some, some_same}
+use Rattle.board_history.specs.Ending.{is_one, job_kind, job_priority, mark_after, marked_by}
+use Rattle.board_history.specs.Fields.{Counted, Frame, Job, Mark, Over, Ready, Row, Waiter, Waiting, Want, row_of}
+use Rattle.board_history.specs.Marking.{kind_eq, mark_at}
+use Rattle.board_history.proofs.EndedItems.{one_in}
+use Rattle.board_history.proofs.EndedRows.{row_to}
+use Rattle.board_history.proofs.Next.{nat_sound}
+use Rattle.board_history.proofs.Rows.{no_row}
+use Rattle.board_history.proofs.Tests.{choose, in_kept, none_some, some_same}
 use Rattle.std.specs.Prelude.{nat_eq, nat_lt}
 use Rattle.task_code.specs.Code.{Code, Control, Kind, Leaf}
-use Rattle.board_code.specs.Tables.{queue_kind}
-use Rattle.board_frames.specs.View.{rows_view}
+use Rattle.board_program.specs.Tables.{queue_kind}
+use Rattle.board_instances.specs.View.{rows_view}
 use Rattle.work_queue.specs.Both.{Both, of, with_changed}
 use Rattle.work_queue.specs.Waiting.{with_put}
 use Rattle.work_queue.specs.declared.entry.Entry.{Entry}

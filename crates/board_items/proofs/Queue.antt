@@ -3,9 +3,9 @@ use Rattle.std.proofs.Common.{ℕ, Bool, true, false, ◌&&◌, List, [], ◌∷
 use Rattle.std.specs.Ordering.{int_eq}
 use Rattle.std.specs.Prelude.{ℤ, if◌then◌else◌, IsPermutation}
 use Rattle.std.proofs.lemmas.List.Sorted.{IsPermutation-append_comm, IsPermutation-cons, IsPermutation-refl}
-use Rattle.replayed.specs.Marking.{kind_eq}
+use Rattle.board_history.specs.Marking.{kind_eq}
 use Rattle.task_code.specs.Code.{Control, Kind, Leaf}
-use Rattle.board_code.specs.Tables.{queue_kind}
+use Rattle.board_program.specs.Tables.{queue_kind}
 use Rattle.work_queue.specs.Both.{Both, with_changed}
 use Rattle.work_queue.specs.Entries.{inserted}
 use Rattle.work_queue.specs.Order.{precedes}

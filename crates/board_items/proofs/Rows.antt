@@ -1,13 +1,13 @@
 -- Rows whose marks are changed one after the other.
 use Rattle.std.proofs.Common.{◌≡◌, ◌∙◌, ℕ, zero, suc, ◌+◌, ◌≤◌, Bool, true, false, ◌||◌, List, [], ◌∷◌, ◌++◌, refl, sym, ap, subst, Some, arith}
 use Rattle.std.specs.Prelude.{nat_eq, if◌then◌else◌, IsPermutation}
-use Rattle.replayed.proofs.EndedItems.{in_one, one_in}
-use Rattle.replayed.proofs.Next.{nat_same, nat_sound}
-use Rattle.replayed.proofs.Rows.{no_row}
-use Rattle.replayed.proofs.Tests.{choose, yes_no}
-use Rattle.replayed.specs.Ending.{is_one, mark_after, marked_by}
-use Rattle.replayed.specs.Fields.{Mark, Over, Ready, Row, row_of}
-use Rattle.replayed.specs.Marking.{mark_at}
+use Rattle.board_history.proofs.EndedItems.{in_one, one_in}
+use Rattle.board_history.proofs.Next.{nat_same, nat_sound}
+use Rattle.board_history.proofs.Rows.{no_row}
+use Rattle.board_history.proofs.Tests.{choose, yes_no}
+use Rattle.board_history.specs.Ending.{is_one, mark_after, marked_by}
+use Rattle.board_history.specs.Fields.{Mark, Over, Ready, Row, row_of}
+use Rattle.board_history.specs.Marking.{mark_at}
 use Rattle.board_items.proofs.Lists.{in_back, in_moved}
 
 marked_same : (f g : ℕ → Mark → Mark) (k : ℕ) (rows : List Row) → ((i : ℕ) (m : Mark) → k ≤ i → f i m ≡ g i m) → marked_by f k rows ≡ marked_by g k rows

@@ -5,8 +5,8 @@ use Rattle.std.specs.Prelude.{nat_lt}
 use Rattle.std.proofs.lemmas.List.Elements.{filter-append}
 use Rattle.dataflow.specs.System.{Opening}
 use Rattle.dataflow.proofs.Lists.{map_append}
-use Rattle.replayed.specs.Ending.{Instance, jobs_after, made_jobs, new_row, rest_jobs}
-use Rattle.replayed.specs.Fields.{Does, Job, Row, Script}
+use Rattle.board_history.specs.Ending.{Instance, jobs_after, made_jobs, new_row, rest_jobs}
+use Rattle.board_history.specs.Fields.{Does, Job, Row, Script}
 use Rattle.rules.specs.declared.input.Input.{Input}
 use Rattle.smallvec.specs.SmallVec.{SmallVec}
 use Rattle.task_code.specs.Code.{Code, body, entry}

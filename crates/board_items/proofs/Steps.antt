@@ -5,8 +5,8 @@ use Rattle.std.specs.List.{filter}
 use Rattle.std.proofs.lemmas.List.Elements.{filter-append}
 use Rattle.std.proofs.lemmas.List.Sorted.{IsPermutation-append_comm, IsPermutation-append_left, IsPermutation-refl, IsPermutation-trans}
 use Rattle.dataflow.proofs.Lists.{map_append}
-use Rattle.replayed.specs.Fields.{Counted, Frame, Over, Ready, Row, Waiter, row_of}
-use Rattle.replayed.specs.Marking.{mark_at}
+use Rattle.board_history.specs.Fields.{Counted, Frame, Over, Ready, Row, Waiter, row_of}
+use Rattle.board_history.specs.Marking.{mark_at}
 use Rattle.task_code.specs.Code.{Code, Kind}
 use Rattle.board_items.specs.Ended.{AreSettled, can_begin, missed_at, runs_so, waiter_at}
 use Rattle.board_data.specs.Wanted.{is_nil}

@@ -8,17 +8,17 @@ use Rattle.std.proofs.lemmas.Int.{ints}
 use Rattle.std.proofs.lemmas.List.Sorted.{IsPermutation-map}
 use Rattle.dataflow.specs.System.{Distinct, In}
 use Rattle.dataflow.proofs.Lists.{distinct_append, in_left, in_map, in_right, in_split, in_unmap, map_append}
-use Rattle.replayed.specs.Ending.{NewlyAfter, QueueAfter, WaitsAfter, ended_rows, job_kind, job_priority, mark_after, missed_again, missed_first, new_row, or_else}
-use Rattle.replayed.specs.Fields.{Does, Counted, Fields, Frame, Job, Layout, Ready, Row, Script, Waiter, Waiting, Want, row_of}
-use Rattle.replayed.specs.Marking.{kind_eq}
-use Rattle.replayed.specs.Needs.{job_missed}
-use Rattle.replayed.proofs.EndedItems.{row_below}
-use Rattle.replayed.proofs.EndedRows.{row_kept, row_of_new, row_split_at, row_to}
-use Rattle.replayed.proofs.Rows.{no_row, row_by}
-use Rattle.replayed.proofs.Tests.{and_true, both_true, in_kept, kept_in, none_some, not_true, some_same, yes_no}
+use Rattle.board_history.specs.Ending.{NewlyAfter, QueueAfter, WaitsAfter, ended_rows, job_kind, job_priority, mark_after, missed_again, missed_first, new_row, or_else}
+use Rattle.board_history.specs.Fields.{Does, Counted, Fields, Frame, Job, Layout, Ready, Row, Script, Waiter, Waiting, Want, row_of}
+use Rattle.board_history.specs.Marking.{kind_eq}
+use Rattle.board_history.specs.Needs.{job_missed}
+use Rattle.board_history.proofs.EndedItems.{row_below}
+use Rattle.board_history.proofs.EndedRows.{row_kept, row_of_new, row_split_at, row_to}
+use Rattle.board_history.proofs.Rows.{no_row, row_by}
+use Rattle.board_history.proofs.Tests.{and_true, both_true, in_kept, kept_in, none_some, not_true, some_same, yes_no}
 use Rattle.rules.specs.Waiting as Rules
 use Rattle.task_code.specs.Code.{Code, Control, Kind, Leaf}
-use Rattle.board_code.specs.Spots.{layout_of}
+use Rattle.board_program.specs.Spots.{layout_of}
 use Rattle.board_items.specs.Progress.{AreOld}
 use Rattle.board_items.specs.Ended.{AreSettled, AreToSettle, IsSeen, ItemsFit, can_begin, missed_at, misses, misses_first, numbers_behind, row_misses, runs_so, waiter_at}
 use Rattle.board_data.specs.Wanted.{is_nil}

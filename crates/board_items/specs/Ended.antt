@@ -3,14 +3,14 @@ use Rattle.std.specs.List.{list_all}
 use Rattle.std.specs.Ordering.{int_eq}
 use Rattle.std.specs.Prelude.{◌≡◌, ◌⊎◌, ℕ, zero, suc, ℤ, ◌+◌, ◌≤◌, Bool, true, false, not, ◌&&◌, List, [], ◌∷◌, ◌++◌, map, length, filter, Option, Some, None, nat_lt, if◌then◌else◌, IsPermutation}
 use Rattle.dataflow.specs.System.{Distinct, In}
-use Rattle.replayed.specs.Ending.{job_kind, job_priority, mark_after, marked_by, missed_first}
-use Rattle.replayed.specs.Fields.{Counted, Does, Fields, Frame, Job, Ready, Row, Script, Waiter, Waiting, Want, row_of, slot_at}
-use Rattle.replayed.specs.Marking.{kind_eq}
-use Rattle.replayed.specs.Needs.{job_missed}
+use Rattle.board_history.specs.Ending.{job_kind, job_priority, mark_after, marked_by, missed_first}
+use Rattle.board_history.specs.Fields.{Counted, Does, Fields, Frame, Job, Ready, Row, Script, Waiter, Waiting, Want, row_of, slot_at}
+use Rattle.board_history.specs.Marking.{kind_eq}
+use Rattle.board_history.specs.Needs.{job_missed}
 use Rattle.task_code.specs.Code.{Code, Kind, entry}
 use Rattle.task_code.specs.Shape.{is_plain}
-use Rattle.board_code.specs.Spots.{layout_of}
-use Rattle.board_code.specs.Tables.{body_of}
+use Rattle.board_program.specs.Spots.{layout_of}
+use Rattle.board_program.specs.Tables.{body_of}
 use Rattle.board_data.specs.Wanted.{is_nil}
 
 -- fields with these instances and data, and nothing else

@@ -1,7 +1,7 @@
 -- What items that wait have learnt once inputs have become known, one after the other.
 use Rattle.std.specs.Prelude.{◌≡◌, ℕ, List, [], ◌∷◌, if◌then◌else◌, IsPermutation}
-use Rattle.replayed.specs.Fields.{Waiter, Want}
-use Rattle.replayed.specs.Needs.{still_missed}
+use Rattle.board_history.specs.Fields.{Waiter, Want}
+use Rattle.board_history.specs.Needs.{still_missed}
 use Rattle.rules.specs.Waiting.{Waiting}
 use Rattle.board_data.specs.Wanted.{is_nil}
 use Rattle.board_items.specs.View.{waiters_view}

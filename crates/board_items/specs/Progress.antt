@@ -2,9 +2,9 @@
 use Rattle.std.specs.Prelude.{◌≡◌, ◌+◌, ◌-◌, ◌≤◌, ◌++◌, true, drop, length, map, vec_capacity}
 use Rattle.dataflow.specs.System.{In}
 use Rattle.std.specs.Prelude.{ℕ, ℤ, List, Option, Some}
-use Rattle.replayed.specs.Fields.{Counted, Frame, Job, Row, Waiter, row_of}
+use Rattle.board_history.specs.Fields.{Counted, Frame, Job, Row, Waiter, row_of}
 use Rattle.task_code.specs.Code.{Code, Kind}
-use Rattle.board_frames.specs.View.{rows_view}
+use Rattle.board_instances.specs.View.{rows_view}
 use Rattle.board_data.specs.Wanted.{FewSlots}
 use Rattle.board_items.specs.Ended.{AreSettled, AreToSettle, numbers_behind}
 use Rattle.board_items.specs.Room.{HasRoom, IsRoomy, is_apart}

@@ -3,11 +3,11 @@ use Rattle.std.specs.Prelude.{ℕ, ◌+◌, ◌<◌, ◌≤◌, Bool, true, fals
 use Rattle.std.specs.List.{AllZip}
 use Rattle.smallvec.specs.SmallVec.{SmallVec}
 use Rattle.rules.specs.declared.input.Input.{Input}
-use Rattle.replayed.specs.Ending.{job_kind}
-use Rattle.replayed.specs.Fields.{Job, Mark, Over, Ready, Row, Running, Waiting}
-use Rattle.replayed.specs.Marking.{kind_eq}
+use Rattle.board_history.specs.Ending.{job_kind}
+use Rattle.board_history.specs.Fields.{Job, Mark, Over, Ready, Row, Running, Waiting}
+use Rattle.board_history.specs.Marking.{kind_eq}
 use Rattle.task_code.specs.Code.{Code, Control, Kind, Leaf}
-use Rattle.board_frames.specs.View.{rows_view}
+use Rattle.board_instances.specs.View.{rows_view}
 use Rattle.board_items.specs.Ended.{first_needs}
 use Rattle.board_items.specs.declared.items.Items.{Items}
 

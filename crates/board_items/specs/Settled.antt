@@ -1,12 +1,12 @@
 -- What it leaves that an item waits, or can begin.
 use Rattle.std.specs.Prelude.{◌≡◌, ◌+◌, ◌^◌, min, ◌-◌, ◌<◌, ◌≤◌, ◌++◌, ◌∷◌, [], ℕ, ℤ, List, map, pos, vec_capacity, vec_len}
-use Rattle.replayed.specs.Fields as Pure
-use Rattle.replayed.specs.Marking.{mark_at}
+use Rattle.board_history.specs.Fields as Pure
+use Rattle.board_history.specs.Marking.{mark_at}
 use Rattle.rules.specs.Waiting.{GivesRoomBack, IsAdded, IsListed, still_waiting, woken}
 use Rattle.rules.specs.declared.input.Input.{Input}
-use Rattle.replayed.specs.Fields.{Want, row_of}
+use Rattle.board_history.specs.Fields.{Want, row_of}
 use Rattle.board_data.specs.View.{want_view}
-use Rattle.board_frames.specs.View.{rows_view}
+use Rattle.board_instances.specs.View.{rows_view}
 use Rattle.work_queue.specs.Both.{of, with_changed}
 use Rattle.work_queue.specs.Waiting.{with_put}
 use Rattle.work_queue.specs.declared.entry.Kind.{Kind}

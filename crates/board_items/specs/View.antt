@@ -1,7 +1,7 @@
 -- What items that wait, and the queue of those that can begin, stand for.
 use Rattle.std.specs.Ordering.{int_eq}
 use Rattle.std.specs.Prelude.{ℕ, ℤ, List, [], ◌∷◌, map, if◌then◌else◌}
-use Rattle.replayed.specs.Fields as Pure
+use Rattle.board_history.specs.Fields as Pure
 use Rattle.task_code.specs.Code.{Control, Kind, Leaf}
 use Rattle.rules.specs.Waiting as Rules
 use Rattle.work_queue.specs.Both.{Both}

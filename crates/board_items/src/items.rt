@@ -1,24 +1,24 @@
 //! Items that wait, can begin, or run.
 ghost use Rattle.std.specs.Prelude.{◌≡◌, ◌<◌, ◌≤◌, ◌+◌, ◌-◌, ◌++◌, ◌∷◌, ◌^◌, [], ℕ, List, Contains, IsOk, IfOk, IsTrue, None, ◌↔◌, OnOk, length, vec_len, vec_capacity};
 ghost use Rattle.work_queue.specs.Entries.{first_number};
-ghost use Rattle.replayed.specs.Ending.{job_kind, job_priority};
-ghost use Rattle.replayed.specs.Fields.{Ready as ready_mark, Running as running_mark};
-ghost use Rattle.replayed.specs.Fields.{Waiter, Want};
-ghost use Rattle.replayed.specs.Marking.{mark_at};
+ghost use Rattle.board_history.specs.Ending.{job_kind, job_priority};
+ghost use Rattle.board_history.specs.Fields.{Ready as ready_mark, Running as running_mark};
+ghost use Rattle.board_history.specs.Fields.{Waiter, Want};
+ghost use Rattle.board_history.specs.Marking.{mark_at};
 ghost use Rattle.rules.specs.Waiting.{GivesRoomBack};
 ghost use Rattle.work_queue.specs.Both.{of, with_changed};
 ghost use Rattle.work_queue.specs.Waiting.{with_put, without};
-ghost use Rattle.board_code.specs.Tables.{queue_kind};
+ghost use Rattle.board_program.specs.Tables.{queue_kind};
 ghost use Rattle.board_data.specs.View.{want_view};
-ghost use Rattle.board_frames.specs.View.{job_view, rows_view};
+ghost use Rattle.board_instances.specs.View.{job_view, rows_view};
 ghost use Rattle.board_items.specs.Learnt.{HaveLearnt};
 ghost use Rattle.board_items.specs.Room.{IsRoomy, IsRoomyFor};
 ghost use Rattle.task_code.specs.Code.{Code};
 ghost use Rattle.board_items.specs.Settled.{AreFirst, one_more, IsTold, StaysButRoom, one_less, StaysButOrder, StaysButWaits};
 
-use board_code::program::Program;
-use board_frames::item::{Job, Mark, PackedItem, mark_item};
-use board_frames::opening::Inputs;
+use board_instances::item::{Job, Mark, PackedItem, mark_item};
+use board_instances::opening::Inputs;
+use board_program::program::Program;
 use rules::input::Input;
 use rules::listing::Rules;
 use std::alloc::{AllocError, Global};

@@ -11,10 +11,10 @@ use Rattle.task_code.specs.Compute as Pure
 use Rattle.task_code.specs.View.{entry_view}
 use Rattle.board_work.specs.declared.work.Job.{Job}
 use Rattle.board_work.specs.declared.work.Job.TheVariants as Does
-use Rattle.entry_outcomes.specs.declared.outcome.Outcome.{Outcome}
-use Rattle.entry_outcomes.specs.declared.outcome.Outcome.TheVariants as Of
-use Rattle.entry_outcomes.specs.Outcome.{computed_in, control_result}
-use Rattle.entry_outcomes.specs.View.{computed_view}
+use Rattle.board_compute.specs.declared.outcome.Outcome.{Outcome}
+use Rattle.board_compute.specs.declared.outcome.Outcome.TheVariants as Of
+use Rattle.board_compute.specs.Outcome.{computed_in, control_result}
+use Rattle.board_compute.specs.View.{computed_view}
 
 -- what an item is for: it opens the script, or it is an entry's
 pub data Task : Type 0 where

@@ -2,13 +2,13 @@
 ghost use Rattle.std.specs.Prelude.{◌≡◌, ◌↔◌, [], IfOk, IfErr, IsTrue};
 ghost use Rattle.std.specs.Option.{option_copied};
 ghost use Rattle.task_code.specs.View.{entry_view, kind_view};
-ghost use Rattle.entry_outcomes.specs.View.{answers_view};
-ghost use Rattle.entry_outcomes.specs.Outcome.{result_in, control_in};
+ghost use Rattle.board_compute.specs.View.{answers_view};
+ghost use Rattle.board_compute.specs.Outcome.{result_in, control_in};
 ghost use Rattle.board_work.specs.Assigned.{opens_script, runs, job_view, job_kind, job_result, job_control, job_computed, meaning};
 
-use entry_outcomes::answer::Answer;
-use entry_outcomes::outcome::{Computed, Outcome, outcome_of};
-use entry_outcomes::same::is_same_entry;
+use board_compute::answer::Answer;
+use board_compute::outcome::{Computed, Outcome, outcome_of};
+use board_compute::same::is_same_entry;
 use std::alloc::{AllocError, Global};
 use std::marker::Model;
 use std::sync::Arc;
@@ -34,7 +34,7 @@ pub struct Work {
 impl Model for Work {
     ghost use Rattle.std.specs.Coded.{codes};
     ghost use Rattle.task_code.specs.Tokens.{expr_code, exprs_code};
-    ghost use Rattle.entry_outcomes.specs.View.{answers_view};
+    ghost use Rattle.board_compute.specs.View.{answers_view};
     ghost use Rattle.board_work.specs.Assigned.{Assigned, job_view};
 
     ghost Value = { Assigned };
@@ -57,8 +57,8 @@ impl Model for Done {
     ghost use Rattle.std.specs.Prelude.{◌≡◌};
     ghost use Rattle.std.specs.Coded.{codes};
     ghost use Rattle.task_code.specs.Tokens.{expr_code, exprs_code};
-    ghost use Rattle.entry_outcomes.specs.View.{answers_view};
-    ghost use Rattle.entry_outcomes.specs.Outcome.{result_in, control_in};
+    ghost use Rattle.board_compute.specs.View.{answers_view};
+    ghost use Rattle.board_compute.specs.Outcome.{result_in, control_in};
     ghost use Rattle.board_work.specs.Assigned.{Assigned, job_view, job_result, job_control};
 
     ghost Value = { Assigned };

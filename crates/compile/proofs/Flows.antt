@@ -1,21 +1,21 @@
 -- A flow that is lowered and merged is that of its tree.
 use Rattle.std.proofs.Common.{◌≡◌, inl, inr, ℕ, Bool, List, [], ◌∷◌, ◌++◌, map, refl, sym, ap, subst, ◌∙◌}
-use Rattle.syntax_trees.specs.declared.tree.Shape.{Shape}
-use Rattle.syntax_trees.specs.Members.{◌∈◌, first, later}
-use Rattle.syntax_trees.proofs.Members.{split_in, to_left, to_right, either}
-use Rattle.syntax_trees.specs.Resolved.{core}
-use Rattle.syntax_trees.specs.Scopes.{Typ, Signature, signatures}
-use Rattle.syntax_trees.specs.Table.{Table}
-use Rattle.syntax_trees.specs.Tree.{Declaration, Tree, import, function, single}
-use Rattle.well_formed.specs.Types.{statement_declarations, body_declarations, tree_declarations}
+use Rattle.language.specs.declared.tree.Shape.{Shape}
+use Rattle.language.specs.Members.{◌∈◌, first, later}
+use Rattle.language.proofs.Members.{split_in, to_left, to_right, either}
+use Rattle.language.specs.Resolved.{core}
+use Rattle.language.specs.Scopes.{Typ, Signature, signatures}
+use Rattle.language.specs.Table.{Table}
+use Rattle.language.specs.Tree.{Declaration, Tree, import, function, single}
+use Rattle.language_accepted.specs.Types.{statement_declarations, body_declarations, tree_declarations}
 use Rattle.flow.specs.Shapes.{Declared, is_array, declared_of, kinds_of}
 use Rattle.flow.specs.View.{core_of}
 use Rattle.flow.specs.declared.script.Flow.{Flow}
 use Rattle.lowering.specs.Shapes.{flagged, function_declarations, own_declarations}
 use Rattle.lowering.specs.Shapes as found
 use Rattle.wait_merge.specs.Merged.{IsMerged}
-use Rattle.whole_code.specs.Described.{DeclaredIn, KindsOf, is_array_shape}
-use Rattle.whole_code.specs.Described as wanted
+use Rattle.code_whole.specs.Described.{DeclaredIn, KindsOf, is_array_shape}
+use Rattle.code_whole.specs.Described as wanted
 use Rattle.compile.specs.Compiled.{IsFlowFor}
 
 same_shape : (s : Shape) → is_array s ≡ is_array_shape s

@@ -1,3 +1,4 @@
+pub mod Whole
 pub mod Flows
 pub mod Runs
 pub mod Scripts

@@ -9,19 +9,19 @@ use Rattle.dataflow.proofs.Numbers.{run_numbered}
 use Rattle.dataflow.proofs.Possible.{has_steps}
 use Rattle.dataflow.proofs.Steps.{run_follows}
 use Rattle.dataflow.proofs.Swept.{step_tidy}
-use Rattle.syntax_trees.specs.Core.{Core}
-use Rattle.syntax_trees.specs.Members.{◌∈◌}
-use Rattle.syntax_trees.specs.Outcomes.{Clean}
-use Rattle.syntax_trees.specs.Resolved.{core}
-use Rattle.syntax_trees.specs.Scopes.{Signature}
-use Rattle.syntax_trees.specs.Single.{SinglyAssigned}
-use Rattle.syntax_trees.specs.Table.{Table}
-use Rattle.syntax_trees.specs.Tree.{Declaration, Tree}
-use Rattle.syntax_trees.specs.Typing.{WellTyped}
-use Rattle.well_formed.proofs.Accepted.{placed_formed, values_meant}
-use Rattle.well_formed.specs.Placed.{IsPlaced}
-use Rattle.well_formed.proofs.Apart.{read_placed}
-use Rattle.well_formed.proofs.Formed.{scoped}
+use Rattle.language.specs.Core.{Core}
+use Rattle.language.specs.Members.{◌∈◌}
+use Rattle.language.specs.Outcomes.{Clean}
+use Rattle.language.specs.Resolved.{core}
+use Rattle.language.specs.Scopes.{Signature}
+use Rattle.language.specs.Single.{SinglyAssigned}
+use Rattle.language.specs.Table.{Table}
+use Rattle.language.specs.Tree.{Declaration, Tree}
+use Rattle.language.specs.Typing.{WellTyped}
+use Rattle.language_accepted.proofs.Accepted.{placed_formed, values_meant}
+use Rattle.language_accepted.specs.Placed.{IsPlaced}
+use Rattle.language_accepted.proofs.Apart.{read_placed}
+use Rattle.language_accepted.proofs.Formed.{scoped}
 use Rattle.flow.specs.Shapes.{declared_of, kinds_of}
 use Rattle.flow.specs.View.{core_of}
 use Rattle.flow.specs.declared.script.Flow.{Flow}
@@ -29,22 +29,22 @@ use Rattle.task_code.specs.Code.{Code}
 use Rattle.task_code.specs.System.{code_system}
 use Rattle.task_code.specs.Whole.{IsCode}
 use Rattle.task_code.proofs.Kept.{code_laws}
-use Rattle.agreement.specs.Emitted.{CallsOnce, CellsOnce, IsEmitted, ReadsStand, size_of}
-use Rattle.agreement.specs.Headline.{Headline}
-use Rattle.agreement.specs.IsCodeOf.{IsCodeOf}
-use Rattle.agreement.specs.Laying.{Kinds}
-use Rattle.agreement.specs.Room.{CoreRoom}
-use Rattle.correspondence.proofs.Meant.{meaning_knows}
-use Rattle.laid_code.proofs.Accepted.{accepted_cells, accepted_code, accepted_nodes}
-use Rattle.laid_code.proofs.IndexParts.{reads_stand}
-use Rattle.laid_code.proofs.Small.{laid_small}
-use Rattle.whole_code.proofs.Offsets.{accepted_calls}
-use Rattle.emitted_code.proofs.Whole.{exact_rights, headline_emitted, whole_emitted}
-use Rattle.whole_code.specs.Described.{DeclaredIn, KindsOf, is_array_shape, kinds_of_signature}
-use Rattle.same_meaning.specs.Same.{SameCore}
-use Rattle.same_meaning.proofs.Turned.{turned_core}
-use Rattle.same_meaning.proofs.Views.{headline_too, same_clean}
-use Rattle.bounded_runs.proofs.Bounds.{run_bound, run_live}
+use Rattle.code_rules.specs.Emitted.{CallsOnce, CellsOnce, IsEmitted, ReadsStand, size_of}
+use Rattle.code_rules.specs.Headline.{Headline}
+use Rattle.code_rules.specs.IsCodeOf.{IsCodeOf}
+use Rattle.code_rules.specs.Laying.{Kinds}
+use Rattle.code_rules.specs.Room.{CoreRoom}
+use Rattle.headline.proofs.Meant.{meaning_knows}
+use Rattle.code_layout.proofs.Accepted.{accepted_cells, accepted_code, accepted_nodes}
+use Rattle.code_layout.proofs.IndexParts.{reads_stand}
+use Rattle.code_layout.proofs.Small.{laid_small}
+use Rattle.code_whole.proofs.Offsets.{accepted_calls}
+use Rattle.compile.proofs.Whole.{exact_rights, headline_emitted, whole_emitted}
+use Rattle.code_whole.specs.Described.{DeclaredIn, KindsOf, is_array_shape, kinds_of_signature}
+use Rattle.fold_laws.specs.Same.{SameCore}
+use Rattle.fold_laws.proofs.Turned.{turned_core}
+use Rattle.fold_laws.proofs.Views.{headline_too, same_clean}
+use Rattle.headline_bound.proofs.Bounds.{run_bound, run_live}
 use Rattle.constant_fold.specs.Folded.{folded_tree}
 use Rattle.constant_fold.proofs.Declared.{tree_declares}
 use Rattle.constant_fold.proofs.Placed.{folded_placed}

@@ -1,13 +1,13 @@
 -- What is known of a text that was read as a tree, and checked.
 use Rattle.std.proofs.Common.{◌≡◌, ℕ, List, [], Some, None, subst, sym, ap, ◌∙◌}
 use Rattle.std.specs.Prelude.{◌≢◌}
-use Rattle.syntax_trees.specs.Core.{Core}
-use Rattle.syntax_trees.specs.Numbered.{numbered}
-use Rattle.syntax_trees.specs.Reads.{Reads}
-use Rattle.syntax_trees.specs.Resolved.{core}
-use Rattle.syntax_trees.specs.Table.{Table}
-use Rattle.syntax_trees.specs.Tree.{Tree}
-use Rattle.syntax_trees.specs.Typing.{WellTyped}
+use Rattle.language.specs.Core.{Core}
+use Rattle.language.specs.Numbered.{numbered}
+use Rattle.language.specs.Reads.{Reads}
+use Rattle.language.specs.Resolved.{core}
+use Rattle.language.specs.Table.{Table}
+use Rattle.language.specs.Tree.{Tree}
+use Rattle.language.specs.Typing.{WellTyped}
 use Rattle.types.specs.declared.fault.TypeFault.{TypeFault}
 use Rattle.types.specs.declared.fault.TypeFault.TheVariants as Typing
 use Rattle.types.specs.Breaks as typing

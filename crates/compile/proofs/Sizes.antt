@@ -2,18 +2,18 @@
 use Rattle.std.proofs.Common.{◌≡◌, ℕ, ◌+◌, ◌*◌, ◌≤◌, List, [], ◌∷◌, refl, ap, sym, ◌∙◌, Option, Some, None, arith}
 use Rattle.std.specs.Prelude.{option_map, sum_by, ◌<◌, ◌^◌}
 use Rattle.std.proofs.lemmas.List.Sums.{sum_by-cons}
-use Rattle.syntax_trees.specs.Tree.{Expression, expression, Form, number, text, truth, variable, element, call, prefixed, chain, Expressions, no_expressions, and_expression, RightSide, value, list, Calling, Over, array, range, Statement, statement, Statements, no_statements, and_statement, Command, declare, assign, write, assign_all, calls, choice, choice_else, loop, waits, Body, body, Composite, Part, import, function, single, Tree}
-use Rattle.syntax_trees.specs.Numbered.{expression_size, form_size, expressions_size, word_size, declaration_size, right_size, calling_size, option_size, over_size, statement_size, command_size, body_size, statements_size, composite_size, part_size, tree_size, numbered_word, numbered_each, numbered_expression, numbered_form, numbered_expressions, numbered_declaration, numbered_right, numbered_calling, numbered_over, numbered_statement, numbered_command, numbered_body, numbered_statements, numbered_composite, numbered_part, numbered}
-use Rattle.syntax_trees.specs.Reads.{Reads}
-use Rattle.syntax_trees.specs.Resolved.{core}
-use Rattle.syntax_trees.specs.Table.{Table}
-use Rattle.syntax_trees.specs.Typing.{WellTyped}
+use Rattle.language.specs.Tree.{Expression, expression, Form, number, text, truth, variable, element, call, prefixed, chain, Expressions, no_expressions, and_expression, RightSide, value, list, Calling, Over, array, range, Statement, statement, Statements, no_statements, and_statement, Command, declare, assign, write, assign_all, calls, choice, choice_else, loop, waits, Body, body, Composite, Part, import, function, single, Tree}
+use Rattle.language.specs.Numbered.{expression_size, form_size, expressions_size, word_size, declaration_size, right_size, calling_size, option_size, over_size, statement_size, command_size, body_size, statements_size, composite_size, part_size, tree_size, numbered_word, numbered_each, numbered_expression, numbered_form, numbered_expressions, numbered_declaration, numbered_right, numbered_calling, numbered_over, numbered_statement, numbered_command, numbered_body, numbered_statements, numbered_composite, numbered_part, numbered}
+use Rattle.language.specs.Reads.{Reads}
+use Rattle.language.specs.Resolved.{core}
+use Rattle.language.specs.Table.{Table}
+use Rattle.language.specs.Typing.{WellTyped}
 use Rattle.syntax.proofs.Sizes.{script_fits, tokens_fit}
-use Rattle.agreement.specs.Emitted.{size_of}
-use Rattle.agreement.specs.Room.{CoreRoom}
-use Rattle.well_formed.proofs.Apart.{read_placed}
-use Rattle.script_sizes.proofs.Room.{room_in}
-use Rattle.script_sizes.proofs.Sizes.{size_within}
+use Rattle.code_rules.specs.Emitted.{size_of}
+use Rattle.code_rules.specs.Room.{CoreRoom}
+use Rattle.language_accepted.proofs.Apart.{read_placed}
+use Rattle.code_sizes.proofs.Room.{room_in}
+use Rattle.code_sizes.proofs.Sizes.{size_within}
 use Rattle.constant_fold.specs.Folded.{folded_tree}
 use Rattle.constant_fold.proofs.Placed.{folded_placed}
 use Rattle.constant_fold.proofs.Smaller.{tree_small}

@@ -1,12 +1,12 @@
 -- What it means that a text is a script, of this core, and that it is refused.
 use Rattle.std.specs.Prelude.{◌≡◌, ℕ, List, Some}
-use Rattle.syntax_trees.specs.Core.{Core}
-use Rattle.syntax_trees.specs.Reads.{Reads}
-use Rattle.syntax_trees.specs.Resolved.{core}
-use Rattle.syntax_trees.specs.Single.{SinglyAssigned}
-use Rattle.syntax_trees.specs.Table.{Table}
-use Rattle.syntax_trees.specs.Tree.{Tree}
-use Rattle.syntax_trees.specs.Typing.{WellTyped}
+use Rattle.language.specs.Core.{Core}
+use Rattle.language.specs.Reads.{Reads}
+use Rattle.language.specs.Resolved.{core}
+use Rattle.language.specs.Single.{SinglyAssigned}
+use Rattle.language.specs.Table.{Table}
+use Rattle.language.specs.Tree.{Tree}
+use Rattle.language.specs.Typing.{WellTyped}
 use Rattle.syntax.specs.Refusals.{Refuses}
 use Rattle.types.specs.declared.fault.TypeFault.{TypeFault}
 use Rattle.types.specs.declared.fault.TypeFault.TheVariants as Typing

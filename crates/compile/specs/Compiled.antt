@@ -3,11 +3,11 @@ use Rattle.std.specs.Prelude.{◌≡◌, ◌⊎◌, ℕ, Bool, ◌+◌, ◌*◌,
 use Rattle.dataflow.specs.Events.{backs}
 use Rattle.dataflow.specs.Machine.{Event}
 use Rattle.dataflow.specs.System.{In}
-use Rattle.syntax_trees.specs.Core.{Core}
-use Rattle.syntax_trees.specs.Outcomes.{Clean}
-use Rattle.syntax_trees.specs.Resolved.{core}
-use Rattle.syntax_trees.specs.Table.{Table}
-use Rattle.syntax_trees.specs.Tree.{Tree}
+use Rattle.language.specs.Core.{Core}
+use Rattle.language.specs.Outcomes.{Clean}
+use Rattle.language.specs.Resolved.{core}
+use Rattle.language.specs.Table.{Table}
+use Rattle.language.specs.Tree.{Tree}
 use Rattle.flow.specs.Shapes.{declared_of, kinds_of}
 use Rattle.flow.specs.View.{core_of}
 use Rattle.flow.specs.declared.script.Flow.{Flow}
@@ -19,13 +19,13 @@ use Rattle.task_code.specs.Exact.{IsExact}
 use Rattle.task_code.specs.Machine.{CodeItem, CodeState, CodeStep, DataAreExact, DataAreKept, GoesOn, HasSteps, IsTidy, LeadsTo, Quiet, Run, SameEnd, run_log}
 use Rattle.task_code.specs.Places.{Step}
 use Rattle.task_code.specs.Whole.{IsCode}
-use Rattle.agreement.specs.Emitted.{IsEmitted}
-use Rattle.agreement.specs.Headline.{Headline}
-use Rattle.agreement.specs.IsCodeOf.{IsCodeOf, Layout}
-use Rattle.agreement.specs.Laying.{Kinds}
-use Rattle.agreement.specs.NodesOnce.{NodesOnce}
-use Rattle.whole_code.specs.Described.{DeclaredIn, KindsOf}
-use Rattle.bounded_runs.specs.Live.{HasLiveBodies, HasLiveLoops, IsLiveItem}
+use Rattle.code_rules.specs.Emitted.{IsEmitted}
+use Rattle.code_rules.specs.Headline.{Headline}
+use Rattle.code_rules.specs.IsCodeOf.{IsCodeOf, Layout}
+use Rattle.code_rules.specs.Laying.{Kinds}
+use Rattle.code_rules.specs.NodesOnce.{NodesOnce}
+use Rattle.code_whole.specs.Described.{DeclaredIn, KindsOf}
+use Rattle.headline_bound.specs.Live.{HasLiveBodies, HasLiveLoops, IsLiveItem}
 use Rattle.constant_fold.specs.Folded.{folded_tree}
 use Rattle.compile.specs.Accepted.{IsAccepted}
 

@@ -1,15 +1,15 @@
 //! What is emitted for a script. Nothing here runs: the function has an empty body, and its contract is a law.
-ghost use Rattle.agreement.specs.Emitted.{IsEmitted};
-ghost use Rattle.agreement.specs.Laying.{Kinds};
+ghost use Rattle.code_rules.specs.Emitted.{IsEmitted};
+ghost use Rattle.code_rules.specs.Laying.{Kinds};
 ghost use Rattle.compile.specs.Compiled.{IsCompiled};
 ghost use Rattle.compile.specs.Accepted.{IsAccepted};
 ghost use Rattle.constant_fold.specs.Folded.{folded_tree};
 ghost use Rattle.std.specs.Prelude.{ℕ, Bool, List};
-ghost use Rattle.syntax_trees.specs.Resolved.{core};
-ghost use Rattle.syntax_trees.specs.Table.{Table};
-ghost use Rattle.syntax_trees.specs.Tree.{Tree};
+ghost use Rattle.language.specs.Resolved.{core};
+ghost use Rattle.language.specs.Table.{Table};
+ghost use Rattle.language.specs.Tree.{Tree};
 ghost use Rattle.task_code.specs.Code.{Code};
-ghost use Rattle.whole_code.specs.Described.{DeclaredIn, KindsOf};
+ghost use Rattle.code_whole.specs.Described.{DeclaredIn, KindsOf};
 
 /// Code that is laid by the rules for the core of the fold of a script that a text reads as, with the rights that its entries lead to and no
 /// others, is the text's code: every run of it owes to the script what the headline says, and keeps all that `IsCompiled` says.

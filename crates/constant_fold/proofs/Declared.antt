@@ -1,8 +1,8 @@
 -- The fold of a tree declares the variables of the tree.
 use Rattle.std.specs.Prelude.{◌≡◌, List, [], ◌∷◌, ◌++◌, refl}
 use Rattle.std.proofs.Common.{ap, ◌∙◌}
-use Rattle.syntax_trees.specs.Tree.{Statement, statement, Statements, no_statements, and_statement, Command, declare, assign, write, assign_all, calls, choice, choice_else, loop, waits, Body, body, Tree, import, function, single}
-use Rattle.well_formed.specs.Types.{statement_declarations, command_declarations, body_declarations, statements_declarations, tree_declarations}
+use Rattle.language.specs.Tree.{Statement, statement, Statements, no_statements, and_statement, Command, declare, assign, write, assign_all, calls, choice, choice_else, loop, waits, Body, body, Tree, import, function, single}
+use Rattle.language_accepted.specs.Types.{statement_declarations, command_declarations, body_declarations, statements_declarations, tree_declarations}
 use Rattle.constant_fold.specs.Folded.{folded_statement, folded_command, folded_body, folded_statements, folded_tree}
 
 both : {X : Type 0} {a b c d : List X} → a ≡ b → c ≡ d → a ++ c ≡ b ++ d

@@ -7,22 +7,22 @@ use Rattle.values.specs.declared.value.Scalar.{Scalar}
 use Rattle.values.specs.declared.value.Scalar.TheVariants.{Number, Truth, Text}
 use Rattle.values.specs.Operators as op
 use Rattle.values.specs.Operators.{Operation}
-use Rattle.syntax_trees.specs.declared.tree.Base.{Base}
-use Rattle.syntax_trees.specs.declared.tree.Operator.{Operator}
-use Rattle.syntax_trees.specs.declared.tree.Prefix.{Prefix}
-use Rattle.syntax_trees.specs.declared.tree.Shape.{Shape}
-use Rattle.syntax_trees.specs.Core as C
-use Rattle.syntax_trees.specs.Core.{Name, assign, here, Expr, Exprs, none, also, compute, read, name, Part, inner, calls}
-use Rattle.syntax_trees.specs.Resolved.{Formed, Arguments, as_operand, one_operand, with_operand, as_argument, computes, call_to, call_form, call_right, composite_call, right_of, form_in, operands_of, arguments_of, chain_operation, prefix_operation}
-use Rattle.syntax_trees.specs.Scopes.{Typ, Scope, Signature, IsBuiltinName}
-use Rattle.syntax_trees.specs.Table as table
-use Rattle.syntax_trees.specs.Table.{Table, Builtin, builtin_text, Callee, composite, built_in}
-use Rattle.syntax_trees.specs.Tree.{Word, Node, value, Expression, expression, variable, element, call, prefixed, chain, Expressions, no_expressions, and_expression}
-use Rattle.syntax_trees.specs.Typing.{HasType, of_number, of_text, of_truth, of_variable, of_element, of_prefixed, of_chain, of_call, of_builtin, RestType, last_operand, next_operand, ArgumentTypes, no_argument, scalar_argument, array_argument, of_strcat, of_fromint, of_toint, of_size, AllHaveType, none_left, one_more}
-use Rattle.same_meaning.specs.Same.{AllComeTo, no_operand, operand, same_none, same_also, Pairwise, no_pair, a_pair, same_compute, same_read, same_name, SamePart, same_call, SameAction, same_call_alone}
-use Rattle.same_meaning.proofs.Listed.{pairs_both}
+use Rattle.language.specs.declared.tree.Base.{Base}
+use Rattle.language.specs.declared.tree.Operator.{Operator}
+use Rattle.language.specs.declared.tree.Prefix.{Prefix}
+use Rattle.language.specs.declared.tree.Shape.{Shape}
+use Rattle.language.specs.Core as C
+use Rattle.language.specs.Core.{Name, assign, here, Expr, Exprs, none, also, compute, read, name, Part, inner, calls}
+use Rattle.language.specs.Resolved.{Formed, Arguments, as_operand, one_operand, with_operand, as_argument, computes, call_to, call_form, call_right, composite_call, right_of, form_in, operands_of, arguments_of, chain_operation, prefix_operation}
+use Rattle.language.specs.Scopes.{Typ, Scope, Signature, IsBuiltinName}
+use Rattle.language.specs.Table as table
+use Rattle.language.specs.Table.{Table, Builtin, builtin_text, Callee, composite, built_in}
+use Rattle.language.specs.Tree.{Word, Node, value, Expression, expression, variable, element, call, prefixed, chain, Expressions, no_expressions, and_expression}
+use Rattle.language.specs.Typing.{HasType, of_number, of_text, of_truth, of_variable, of_element, of_prefixed, of_chain, of_call, of_builtin, RestType, last_operand, next_operand, ArgumentTypes, no_argument, scalar_argument, array_argument, of_strcat, of_fromint, of_toint, of_size, AllHaveType, none_left, one_more}
+use Rattle.fold_laws.specs.Same.{AllComeTo, no_operand, operand, same_none, same_also, Pairwise, no_pair, a_pair, same_compute, same_read, same_name, SamePart, same_call, SameAction, same_call_alone}
+use Rattle.fold_laws.proofs.Listed.{pairs_both}
 use Rattle.constant_fold.specs.Folded.{also_scalar, scalars_of, called_operation, called, folded, folded_form, folded_all}
-use Rattle.literals.specs.Literals.{scalar_in}
+use Rattle.fold_literals.specs.Literals.{scalar_in}
 use Rattle.constant_fold.proofs.Forms.{parts_itself, SameFormed, formed_itself, same_as_cell, SameOperand, same_as_operand, Folds, FoldsExpression, FoldsAll, IsConstant, cell_argument, assigned_same, IsAssigned, itself, literal_itself, becomes, not_called}
 
 pub record Both (x : Option Scalar) (y : Option (List Scalar)) (vs : List Scalar) : Type 0 where

@@ -10,19 +10,19 @@ use Rattle.values.specs.declared.value.Value.{Value}
 use Rattle.values.specs.declared.value.Value.TheVariants.{One, Many}
 use Rattle.values.specs.Operators as op
 use Rattle.values.specs.Operators.{Operation, evaluated}
-use Rattle.syntax_trees.specs.declared.tree.Shape.{Shape}
-use Rattle.syntax_trees.specs.Core as C
-use Rattle.syntax_trees.specs.Core.{Name, assign, here, Expr, literal, name, operator, Exprs, none, also, Form, compute, read, Part, inner, calls}
-use Rattle.syntax_trees.specs.Resolved.{Formed, as_cell, as_operand, as_argument, computes, form_in, operands_of, arguments_of, outer, right_of}
-use Rattle.syntax_trees.specs.Scopes.{IsBuiltinName}
-use Rattle.syntax_trees.specs.Table as table
-use Rattle.syntax_trees.specs.Table.{Table, Builtin, builtin_text, Callee, composite, built_in}
-use Rattle.syntax_trees.specs.Tree as T
-use Rattle.syntax_trees.specs.Tree.{Word, Node, value, Expression, expression, number, text, truth, variable, element, call, prefixed, chain, Expressions, no_expressions, and_expression}
-use Rattle.same_meaning.specs.Same.{ComesTo, a_literal, an_operator, AllComeTo, SameExpr, same_literal, same_name, same_whole, same_operator, same_constant, SameExprs, same_none, same_also, Pairwise, no_pair, a_pair, SameForm, same_compute, same_read, SamePart, same_inner, same_call, SameAction, same_assign}
-use Rattle.same_meaning.proofs.Listed.{pairs_both}
+use Rattle.language.specs.declared.tree.Shape.{Shape}
+use Rattle.language.specs.Core as C
+use Rattle.language.specs.Core.{Name, assign, here, Expr, literal, name, operator, Exprs, none, also, Form, compute, read, Part, inner, calls}
+use Rattle.language.specs.Resolved.{Formed, as_cell, as_operand, as_argument, computes, form_in, operands_of, arguments_of, outer, right_of}
+use Rattle.language.specs.Scopes.{IsBuiltinName}
+use Rattle.language.specs.Table as table
+use Rattle.language.specs.Table.{Table, Builtin, builtin_text, Callee, composite, built_in}
+use Rattle.language.specs.Tree as T
+use Rattle.language.specs.Tree.{Word, Node, value, Expression, expression, number, text, truth, variable, element, call, prefixed, chain, Expressions, no_expressions, and_expression}
+use Rattle.fold_laws.specs.Same.{ComesTo, a_literal, an_operator, AllComeTo, SameExpr, same_literal, same_name, same_whole, same_operator, same_constant, SameExprs, same_none, same_also, Pairwise, no_pair, a_pair, SameForm, same_compute, same_read, SamePart, same_inner, same_call, SameAction, same_assign}
+use Rattle.fold_laws.proofs.Listed.{pairs_both}
 use Rattle.constant_fold.specs.Folded.{scalars_of, collapsed, called_operation, folded_form}
-use Rattle.literals.specs.Literals.{scalar_in, literal_of, literal_or}
+use Rattle.fold_literals.specs.Literals.{scalar_in, literal_of, literal_or}
 
 -- WHAT IS THE SAME AS ITSELF
 

@@ -5,9 +5,9 @@ use Rattle.values.specs.declared.fault.OpFault.{OpFault}
 use Rattle.values.specs.declared.value.Scalar.{Scalar}
 use Rattle.values.specs.declared.value.Value.{Value}
 use Rattle.values.specs.declared.value.Value.TheVariants.{One}
-use Rattle.syntax_trees.specs.Tree.{Expression, expressions_of}
+use Rattle.language.specs.Tree.{Expression, expressions_of}
 use Rattle.constant_fold.specs.Folded.{also_scalar, scalars_of}
-use Rattle.literals.specs.Literals.{scalar_of}
+use Rattle.fold_literals.specs.Literals.{scalar_of}
 use Rattle.constant_fold.specs.Made.{operands}
 
 -- the operands that are there, and those of literals behind them

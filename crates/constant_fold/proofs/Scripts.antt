@@ -4,17 +4,17 @@ use Rattle.std.proofs.Common.{sym, ap, subst, ◌∙◌}
 use Rattle.std.proofs.lemmas.Option.{none-some, same_Some}
 use Rattle.values.specs.Operators as op
 use Rattle.values.specs.Operators.{Operation}
-use Rattle.syntax_trees.specs.declared.tree.Base.{Base}
-use Rattle.syntax_trees.specs.declared.tree.Shape.{Shape}
-use Rattle.syntax_trees.specs.Core.{Name, here, Outer, Block}
-use Rattle.syntax_trees.specs.Resolved.{refers, computes, call_right, composite_call, outer, outer_of, right_of, call_action, several, loop_action, block_of, block_in, with_statement, script_block, functions_of, core, operands_of, arguments_of, format_of}
-use Rattle.syntax_trees.specs.Scopes.{Typ, Scope, Signature, signature_of, signatures, Calls, CallsBuiltin, IsBuiltinName}
-use Rattle.syntax_trees.specs.Table as table
-use Rattle.syntax_trees.specs.Table.{Table, Builtin, Callee, composite, built_in}
-use Rattle.syntax_trees.specs.Tree.{Word, Node, Expression, expression, text, call, Expressions, no_expressions, and_expression, expressions_of, RightSide, value, list, Calling, Over, Statement, Body, Statements, Tree}
-use Rattle.syntax_trees.specs.Typing.{HasType, ArgumentTypes, BuiltinType, of_strcat, of_fromint, of_toint, of_size, AllHaveType, RightType, of_scalar, of_copy, of_list, of_array_call, StepType, no_step, a_step, SourceType, of_elements, of_range, CallTyped, function_called, printf_called, assert_called, StatementTyped, declaration, definition, assignment, element_write, several as several_functions, several_builtin, call_statement, if_statement, if_else_statement, loop_statement, wait_statement, StatementsTyped, no_more_statements, next_statement, BodyTyped, in_braces, function_typed, PartsTyped, no_parts, an_import, a_function, a_statement, WellTyped}
-use Rattle.same_meaning.specs.Same.{Pairwise, no_pair, a_pair, SameForm, same_compute, same_operator, SamePart, SameOuter, SameStep, SameStmt, same_stmt, SameAction, same_declare, same_assign, same_fill, same_insert, same_print, same_assert, same_when, same_choose, same_range, same_each, same_wait, SameBlock, same_end, same_next, SameFunction, SameCore}
-use Rattle.same_meaning.specs.Same as same
+use Rattle.language.specs.declared.tree.Base.{Base}
+use Rattle.language.specs.declared.tree.Shape.{Shape}
+use Rattle.language.specs.Core.{Name, here, Outer, Block}
+use Rattle.language.specs.Resolved.{refers, computes, call_right, composite_call, outer, outer_of, right_of, call_action, several, loop_action, block_of, block_in, with_statement, script_block, functions_of, core, operands_of, arguments_of, format_of}
+use Rattle.language.specs.Scopes.{Typ, Scope, Signature, signature_of, signatures, Calls, CallsBuiltin, IsBuiltinName}
+use Rattle.language.specs.Table as table
+use Rattle.language.specs.Table.{Table, Builtin, Callee, composite, built_in}
+use Rattle.language.specs.Tree.{Word, Node, Expression, expression, text, call, Expressions, no_expressions, and_expression, expressions_of, RightSide, value, list, Calling, Over, Statement, Body, Statements, Tree}
+use Rattle.language.specs.Typing.{HasType, ArgumentTypes, BuiltinType, of_strcat, of_fromint, of_toint, of_size, AllHaveType, RightType, of_scalar, of_copy, of_list, of_array_call, StepType, no_step, a_step, SourceType, of_elements, of_range, CallTyped, function_called, printf_called, assert_called, StatementTyped, declaration, definition, assignment, element_write, several as several_functions, several_builtin, call_statement, if_statement, if_else_statement, loop_statement, wait_statement, StatementsTyped, no_more_statements, next_statement, BodyTyped, in_braces, function_typed, PartsTyped, no_parts, an_import, a_function, a_statement, WellTyped}
+use Rattle.fold_laws.specs.Same.{Pairwise, no_pair, a_pair, SameForm, same_compute, same_operator, SamePart, SameOuter, SameStep, SameStmt, same_stmt, SameAction, same_declare, same_assign, same_fill, same_insert, same_print, same_assert, same_when, same_choose, same_range, same_each, same_wait, SameBlock, same_end, same_next, SameFunction, SameCore}
+use Rattle.fold_laws.specs.Same as same
 use Rattle.constant_fold.specs.Folded.{called, scalars_of, folded, folded_form, folded_all, folded_right, folded_over, folded_statement, folded_body, folded_statements, folded_tree}
 use Rattle.constant_fold.proofs.Forms.{form_itself, parts_itself, FoldsExpression, FoldsAll, not_called}
 use Rattle.constant_fold.proofs.Expressions.{folds, argument_folds, all_folds, same_composite, also_folds, none_fold}

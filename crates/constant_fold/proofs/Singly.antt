@@ -2,13 +2,13 @@
 use Rattle.std.specs.Prelude.{◌≡◌, ◌⊎◌, ℕ, ◌<◌, List, Option, Some, refl}
 use Rattle.std.proofs.Common.{inl, inr, subst}
 use Rattle.values.specs.declared.value.Scalar.{Scalar}
-use Rattle.syntax_trees.specs.Core.{Owned, local, output, Name, Expr, Exprs, compute, Form, Outer, Awaited, scalar, Stmt, stmt, Action, declare, when, choose, range, each, wait, Block, Function, Core}
-use Rattle.syntax_trees.specs.Members.{◌∈◌}
-use Rattle.syntax_trees.specs.Parts.{block_list, blocks_below, blocks_in, blocks_inside, function_blocks, script_blocks, script_stmts, stmts_among, stmts_within, cells, stmt_action, by_name, by_element}
-use Rattle.syntax_trees.specs.Single.{Way, way_end, way_on, StmtWay, simple, taken, skipped, then_way, else_way, range_way, each_way, wait_way, IsNamed, IsWritten, Reads, an_operand, ReadsSome, the_first, a_later, IsRead, in_cell, in_wait, Owns, declared_here, an_output, Given, an_input, range_value, range_turn, each_value, each_key, LoopBody, of_range, of_each, SinglyAssigned}
-use Rattle.same_meaning.specs.Same.{ComesTo, a_literal, an_operator, AllComeTo, no_operand, operand, SameExpr, same_literal, same_name, same_whole, same_operator, same_constant, SameExprs, same_none, same_also, Pairwise, no_pair, a_pair, SameForm, same_compute, SameStmt, same_stmt, SameAction, same_declare, same_call_alone, same_assign, same_fill, same_insert, same_print, same_assert, same_when, same_choose, same_range, same_each, same_wait, SameBlock, same_end, same_next, SameFunction, SameCore}
-use Rattle.same_meaning.proofs.Listed.{pairs_both, like_of, same_cells, same_list, same_script_stmts}
-use Rattle.same_meaning.proofs.Turned.{turned_block, turned_core}
+use Rattle.language.specs.Core.{Owned, local, output, Name, Expr, Exprs, compute, Form, Outer, Awaited, scalar, Stmt, stmt, Action, declare, when, choose, range, each, wait, Block, Function, Core}
+use Rattle.language.specs.Members.{◌∈◌}
+use Rattle.language.specs.Parts.{block_list, blocks_below, blocks_in, blocks_inside, function_blocks, script_blocks, script_stmts, stmts_among, stmts_within, cells, stmt_action, by_name, by_element}
+use Rattle.language.specs.Single.{Way, way_end, way_on, StmtWay, simple, taken, skipped, then_way, else_way, range_way, each_way, wait_way, IsNamed, IsWritten, Reads, an_operand, ReadsSome, the_first, a_later, IsRead, in_cell, in_wait, Owns, declared_here, an_output, Given, an_input, range_value, range_turn, each_value, each_key, LoopBody, of_range, of_each, SinglyAssigned}
+use Rattle.fold_laws.specs.Same.{ComesTo, a_literal, an_operator, AllComeTo, no_operand, operand, SameExpr, same_literal, same_name, same_whole, same_operator, same_constant, SameExprs, same_none, same_also, Pairwise, no_pair, a_pair, SameForm, same_compute, SameStmt, same_stmt, SameAction, same_declare, same_call_alone, same_assign, same_fill, same_insert, same_print, same_assert, same_when, same_choose, same_range, same_each, same_wait, SameBlock, same_end, same_next, SameFunction, SameCore}
+use Rattle.fold_laws.proofs.Listed.{pairs_both, like_of, same_cells, same_list, same_script_stmts}
+use Rattle.fold_laws.proofs.Turned.{turned_block, turned_core}
 
 -- BLOCKS
 

@@ -2,11 +2,11 @@
 use Rattle.std.specs.Prelude.{◌≡◌, ℕ, ◌≤◌, ◌<◌, true, List, [], ◌∷◌, ◌++◌, map, Option, Some, None, option_map}
 use Rattle.std.proofs.Common.{arith}
 use Rattle.std.specs.List.{flat_map}
-use Rattle.syntax_trees.specs.Numbers.{option_numbers}
-use Rattle.syntax_trees.proofs.Tested.{distinct}
-use Rattle.syntax_trees.proofs.TreeNumbers.{times, few_distinct, distinct_few}
-use Rattle.meaning_laws.proofs.TreeNodes.{maybe_numbers}
-use Rattle.well_formed.specs.Placed.{Rise}
+use Rattle.language.specs.Numbers.{option_numbers}
+use Rattle.language.proofs.Tested.{distinct}
+use Rattle.language.proofs.TreeNumbers.{times, few_distinct, distinct_few}
+use Rattle.language_laws.proofs.TreeNodes.{maybe_numbers}
+use Rattle.language_accepted.specs.Placed.{Rise}
 
 -- the members of one list, in their order, with some taken out
 pub data Sub {X : Type 0} : List X → List X → Type 0 where

@@ -9,16 +9,16 @@ use Rattle.values.specs.declared.value.Value.{Value}
 use Rattle.values.specs.declared.value.Value.TheVariants.{One, Many}
 use Rattle.values.specs.Operators as op
 use Rattle.values.specs.Operators.{Operation, all_values, applied, evaluated, on_all, whole, with_value}
-use Rattle.syntax_trees.specs.declared.tree.Base.{Base}
-use Rattle.syntax_trees.specs.declared.tree.Operator.{Operator}
-use Rattle.syntax_trees.specs.declared.tree.Prefix.{Prefix}
-use Rattle.syntax_trees.specs.Resolved.{chain_operation, prefix_operation}
-use Rattle.syntax_trees.specs.Scopes.{Typ, Scope, Signature, signature_of, signatures, Calls, CallsBuiltin, IsBuiltinName}
-use Rattle.syntax_trees.specs.Table.{Table, Builtin}
-use Rattle.syntax_trees.specs.Tree.{Word, Node, Form, Expression, expression, text, variable, call, prefixed, chain, Expressions, no_expressions, and_expression, expressions_of, RightSide, Over, Statement, Body, Statements, Tree, import, function, single}
-use Rattle.syntax_trees.specs.Typing.{Operates, sum_of_numbers, sum_of_texts, difference, product, quotient, remainder, less, at_most, greater, at_least, equal, unequal, conjunction, disjunction, Prefixes, negative, inverted, HasType, of_number, of_text, of_truth, of_variable, of_element, of_prefixed, of_chain, of_call, of_builtin, RestType, last_operand, next_operand, ArgumentTypes, no_argument, scalar_argument, array_argument, BuiltinType, of_strcat, of_fromint, of_toint, of_size, AllHaveType, none_left, one_more, RightType, of_scalar, of_copy, of_list, of_array_call, StepType, no_step, a_step, SourceType, of_elements, of_range, CallTyped, function_called, printf_called, assert_called, StatementTyped, declaration, definition, assignment, element_write, several, several_builtin, call_statement, if_statement, if_else_statement, loop_statement, wait_statement, StatementsTyped, no_more_statements, next_statement, BodyTyped, in_braces, function_typed, PartsTyped, no_parts, an_import, a_function, a_statement, WellTyped}
+use Rattle.language.specs.declared.tree.Base.{Base}
+use Rattle.language.specs.declared.tree.Operator.{Operator}
+use Rattle.language.specs.declared.tree.Prefix.{Prefix}
+use Rattle.language.specs.Resolved.{chain_operation, prefix_operation}
+use Rattle.language.specs.Scopes.{Typ, Scope, Signature, signature_of, signatures, Calls, CallsBuiltin, IsBuiltinName}
+use Rattle.language.specs.Table.{Table, Builtin}
+use Rattle.language.specs.Tree.{Word, Node, Form, Expression, expression, text, variable, call, prefixed, chain, Expressions, no_expressions, and_expression, expressions_of, RightSide, Over, Statement, Body, Statements, Tree, import, function, single}
+use Rattle.language.specs.Typing.{Operates, sum_of_numbers, sum_of_texts, difference, product, quotient, remainder, less, at_most, greater, at_least, equal, unequal, conjunction, disjunction, Prefixes, negative, inverted, HasType, of_number, of_text, of_truth, of_variable, of_element, of_prefixed, of_chain, of_call, of_builtin, RestType, last_operand, next_operand, ArgumentTypes, no_argument, scalar_argument, array_argument, BuiltinType, of_strcat, of_fromint, of_toint, of_size, AllHaveType, none_left, one_more, RightType, of_scalar, of_copy, of_list, of_array_call, StepType, no_step, a_step, SourceType, of_elements, of_range, CallTyped, function_called, printf_called, assert_called, StatementTyped, declaration, definition, assignment, element_write, several, several_builtin, call_statement, if_statement, if_else_statement, loop_statement, wait_statement, StatementsTyped, no_more_statements, next_statement, BodyTyped, in_braces, function_typed, PartsTyped, no_parts, an_import, a_function, a_statement, WellTyped}
 use Rattle.constant_fold.specs.Folded.{scalars_of, collapsed, called, called_operation, folded, folded_all, folded_right, folded_over, folded_statement, folded_body, folded_statements, folded_tree}
-use Rattle.literals.specs.Literals.{literal_of, scalar_of, literal_or}
+use Rattle.fold_literals.specs.Literals.{literal_of, scalar_of, literal_or}
 use Rattle.constant_fold.proofs.Expressions.{Both, both}
 use Rattle.constant_fold.proofs.Forms.{not_called}
 use Rattle.constant_fold.proofs.Scripts.{all_of, unnamed_in}
@@ -184,7 +184,7 @@ module _ (fs : List Signature) (t : Table) where
     right_typed (of_copy r) = of_copy r
     right_typed (of_list {es} h) = of_list (list_typed es h)
     right_typed {g} {τ} (of_array_call {nd} {w} {es} c h o) =
-        subst (λ x. RightType fs t g (Rattle.syntax_trees.specs.Tree.value (expression nd (called x (scalars_of (folded_all es)) (call w (folded_all es))))) τ) (sym (not_folded c)) (of_array_call c (arguments_typed h) o)
+        subst (λ x. RightType fs t g (Rattle.language.specs.Tree.value (expression nd (called x (scalars_of (folded_all es)) (call w (folded_all es))))) τ) (sym (not_folded c)) (of_array_call c (arguments_typed h) o)
 
     call_typed : {g : Scope} {w : Word} {es : List Expression} → CallTyped fs t g w es → CallTyped fs t g w (map folded es)
     call_typed {es} (function_called c o h) = function_called c o (call_arguments_typed es h)

@@ -1,15 +1,15 @@
 -- The fold of each form of expression and of statement, part by part.
 use Rattle.std.proofs.Common.{◌≡◌, ℕ, ◌∷◌, [], List, map, rules, refl, ap, sym, ◌∙◌, Vec, Box}
 use Rattle.syntax_trees.specs.declared.tree.Name.{Name}
-use Rattle.syntax_trees.specs.declared.tree.Operator.{Operator}
-use Rattle.syntax_trees.specs.declared.tree.Prefix.{Prefix}
+use Rattle.language.specs.declared.tree.Operator.{Operator}
+use Rattle.language.specs.declared.tree.Prefix.{Prefix}
 use Rattle.syntax_trees.specs.declared.tree.Expr.{Expr, out-Expr, roll-Expr}
 use Rattle.syntax_trees.specs.declared.tree.ExprKind.{ExprKind, Element, Call, Prefixed, Chain, the_lemmas}
 use Rattle.syntax_trees.specs.declared.tree.Stmt.{Stmt, out-Stmt, roll-Stmt}
 use Rattle.syntax_trees.specs.declared.tree.Block.{Block, out-Block, roll-Block}
 use Rattle.syntax_trees.specs.declared.tree.StmtKind.{StmtKind, the_lemmas as statement_lemmas}
-use Rattle.syntax_trees.specs.Resolved.{chain_operation, prefix_operation}
-use Rattle.syntax_trees.specs.Tree.{Form, Expression, expression, expressions_of, number, text, truth, variable, element, call, prefixed, chain, Statement, statement, and_statement, statements_of, body}
+use Rattle.language.specs.Resolved.{chain_operation, prefix_operation}
+use Rattle.language.specs.Tree.{Form, Expression, expression, expressions_of, number, text, truth, variable, element, call, prefixed, chain, Statement, statement, and_statement, statements_of, body}
 use Rattle.syntax_trees.specs.View.{word_of, expression_view, form_view, statement_view, command_view, body_view}
 use Rattle.constant_fold.specs.Folded.{scalars_of, called, called_operation, collapsed, folded, folded_form, folded_all, folded_statement, folded_command, folded_body, folded_statements}
 use Rattle.constant_fold.specs.Made.{settled, with_folded_parts}

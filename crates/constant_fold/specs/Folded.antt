@@ -7,10 +7,10 @@ use Rattle.values.specs.declared.value.Value.{Value}
 use Rattle.values.specs.declared.value.Value.TheVariants.{One, Many}
 use Rattle.values.specs.Operators as op
 use Rattle.values.specs.Operators.{Operation, evaluated}
-use Rattle.literals.specs.Literals.{scalar_of, literal_or}
-use Rattle.syntax_trees.specs.Resolved.{chain_operation, prefix_operation}
-use Rattle.syntax_trees.specs.Table.{builtin_text, strcat, fromint, toint}
-use Rattle.syntax_trees.specs.Tree.{Expression, expression, Form, number, text, truth, variable, element, call, prefixed, chain, Expressions, no_expressions, and_expression, RightSide, value, list, Calling, Over, array, range, Statement, statement, Command, declare, assign, write, assign_all, calls, choice, choice_else, loop, waits, Body, body, Statements, no_statements, and_statement, Composite, Part, import, function, single, Tree}
+use Rattle.fold_literals.specs.Literals.{scalar_of, literal_or}
+use Rattle.language.specs.Resolved.{chain_operation, prefix_operation}
+use Rattle.language.specs.Table.{builtin_text, strcat, fromint, toint}
+use Rattle.language.specs.Tree.{Expression, expression, Form, number, text, truth, variable, element, call, prefixed, chain, Expressions, no_expressions, and_expression, RightSide, value, list, Calling, Over, array, range, Statement, statement, Command, declare, assign, write, assign_all, calls, choice, choice_else, loop, waits, Body, body, Statements, no_statements, and_statement, Composite, Part, import, function, single, Tree}
 
 -- the scalars of literals, where all are literals
 abbrev pub also_scalar : Option Scalar → Option (List Scalar) → Option (List Scalar)

@@ -4,8 +4,8 @@ use Rattle.values.specs.declared.fault.OpFault.{OpFault}
 use Rattle.values.specs.declared.value.Scalar.{Scalar}
 use Rattle.values.specs.declared.value.Value.{Value}
 use Rattle.values.specs.declared.value.Value.TheVariants.{One}
-use Rattle.syntax_trees.specs.Resolved.{chain_operation, prefix_operation}
-use Rattle.syntax_trees.specs.Tree.{Form, number, text, truth, variable, element, call, prefixed, chain, no_expressions, and_expression}
+use Rattle.language.specs.Resolved.{chain_operation, prefix_operation}
+use Rattle.language.specs.Tree.{Form, number, text, truth, variable, element, call, prefixed, chain, no_expressions, and_expression}
 use Rattle.syntax_trees.specs.View.{form_view}
 use Rattle.syntax_trees.specs.declared.tree.ExprKind.{ExprKind}
 use Rattle.constant_fold.specs.Folded.{called, called_operation, collapsed, folded, folded_all, scalars_of}

@@ -1,15 +1,15 @@
 //! What operations on literals come to.
 ghost use Rattle.std.specs.Prelude.{◌≡◌, ◌∷◌, [], IfOk, map, option_map};
 ghost use Rattle.values.specs.Op.{operation_of};
-ghost use Rattle.syntax_trees.specs.Resolved as rules;
-ghost use Rattle.syntax_trees.specs.Tree.{Form, expressions_of};
+ghost use Rattle.language.specs.Resolved as rules;
+ghost use Rattle.language.specs.Tree.{Form, expressions_of};
 ghost use Rattle.syntax_trees.specs.View.{expression_view, form_view};
 ghost use Rattle.values.specs.Operators.{evaluated, product_of, sum_of};
 ghost use Rattle.constant_fold.specs.Folded.{collapsed, scalars_of, called, called_operation};
-ghost use Rattle.literals.specs.Literals.{literal_of, literal_or, scalar_of, in_place};
+ghost use Rattle.fold_literals.specs.Literals.{literal_of, literal_or, scalar_of, in_place};
 ghost use Rattle.constant_fold.specs.Made.{operands};
 
-use literals::{outcome, scalar};
+use fold_literals::{outcome, scalar};
 use std::alloc::{AllocError, Allocator, Global};
 use syntax_trees::tree::{Expr, ExprKind, Operator, Prefix};
 use values::fault::OpFault;

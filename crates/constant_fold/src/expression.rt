@@ -1,10 +1,10 @@
 //! Expressions.
 ghost use Rattle.std.specs.Prelude.{◌≡◌, IfOk, OnOk, map};
-ghost use Rattle.syntax_trees.specs.Tree.{Form};
+ghost use Rattle.language.specs.Tree.{Form};
 ghost use Rattle.syntax_trees.specs.View.{expression_view, form_view};
 ghost use Rattle.constant_fold.specs.Folded.{folded, folded_form};
 ghost use Rattle.constant_fold.specs.Made.{settled, with_folded_parts};
-ghost use Rattle.literals.specs.Literals.{in_place};
+ghost use Rattle.fold_literals.specs.Literals.{in_place};
 
 use crate::evaluation::{call, chain, prefixed};
 use std::alloc::{AllocError, Allocator, Global};

@@ -1,17 +1,17 @@
 //! Folding changes nothing that a script means, and nothing that makes it one. Nothing here runs: each function has an empty body, and its contract is a law.
 ghost use Rattle.std.specs.Prelude.{◌≡◌, ◌≤◌};
 ghost use Rattle.constant_fold.specs.Folded.{folded_tree};
-ghost use Rattle.same_meaning.specs.Same.{SameCore};
-ghost use Rattle.syntax_trees.specs.Core.{Core};
-ghost use Rattle.syntax_trees.specs.Numbered.{tree_size};
-ghost use Rattle.syntax_trees.specs.Resolved.{core};
-ghost use Rattle.syntax_trees.specs.Scopes.{signatures};
-ghost use Rattle.syntax_trees.specs.Single.{SinglyAssigned};
-ghost use Rattle.syntax_trees.specs.Table.{Table};
-ghost use Rattle.syntax_trees.specs.Tree.{Tree};
-ghost use Rattle.syntax_trees.specs.Typing.{WellTyped};
-ghost use Rattle.well_formed.specs.Placed.{IsPlaced};
-ghost use Rattle.well_formed.specs.Types.{tree_declarations};
+ghost use Rattle.fold_laws.specs.Same.{SameCore};
+ghost use Rattle.language.specs.Core.{Core};
+ghost use Rattle.language.specs.Numbered.{tree_size};
+ghost use Rattle.language.specs.Resolved.{core};
+ghost use Rattle.language.specs.Scopes.{signatures};
+ghost use Rattle.language.specs.Single.{SinglyAssigned};
+ghost use Rattle.language.specs.Table.{Table};
+ghost use Rattle.language.specs.Tree.{Tree};
+ghost use Rattle.language.specs.Typing.{WellTyped};
+ghost use Rattle.language_accepted.specs.Placed.{IsPlaced};
+ghost use Rattle.language_accepted.specs.Types.{tree_declarations};
 
 /// The core of the fold of a well typed script is that of the script, but that expressions of literals stand as the values that they come to. So it means the
 /// same (`same_meaning`): each node that stays has the same facts, round by round.

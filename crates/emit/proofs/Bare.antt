@@ -2,11 +2,11 @@
 use Rattle.std.proofs.Common.{◌≡◌, inl, inr, ℕ, zero, suc, ℤ, Bool, List, [], ◌∷◌, ◌++◌, map, length, refl, sym, ap, ap₂, ◌∙◌, subst}
 use Rattle.std.proofs.lemmas.List.{length-map, map-append}
 use Rattle.dataflow.specs.System.{In}
-use Rattle.syntax_trees.specs.Core.{Name, Part, Block, Stmt, Function}
+use Rattle.language.specs.Core.{Name, Part, Block, Stmt, Function}
 use Rattle.task_code.specs.Code as code
 use Rattle.task_code.specs.Code.{Act, Argument, Body, ByStep, ByWait, Code, Entry, If, Need, Opener, Variable, blank_entry, entry, nth}
-use Rattle.agreement.specs.IsCodeOf.{Layout, IsEntry, InputAs, of_literal, of_name, of_datum, of_array, InputsAs, no_input, one_input, OutputsAs, no_output, one_output, IndexAs, at_literal, at_name, at_datum, PartAs, plain_literal, plain_name, a_cell, a_read, a_call, PartsAs, no_part, one_part}
-use Rattle.agreement.specs.Laying.{CallsFit, Kinds, Laying, LaysBlock, LaysFunctions, LaysParts, LaysStmt, array_loop, bare, branch, branches, calls_alone, counted, declares, no_function, no_statement, one_function, one_statement, range_loop, simple, waits, with_bodies, with_entry}
+use Rattle.code_rules.specs.IsCodeOf.{Layout, IsEntry, InputAs, of_literal, of_name, of_datum, of_array, InputsAs, no_input, one_input, OutputsAs, no_output, one_output, IndexAs, at_literal, at_name, at_datum, PartAs, plain_literal, plain_name, a_cell, a_read, a_call, PartsAs, no_part, one_part}
+use Rattle.code_rules.specs.Laying.{CallsFit, Kinds, Laying, LaysBlock, LaysFunctions, LaysParts, LaysStmt, array_loop, bare, branch, branches, calls_alone, counted, declares, no_function, no_statement, one_function, one_statement, range_loop, simple, waits, with_bodies, with_entry}
 
 abbrev pub bared : Laying → Laying
 bared s = record { entries = map bare s.entries; bodies = s.bodies }

@@ -2,21 +2,21 @@
 use Rattle.std.proofs.Common.{◌≡◌, ℕ, suc, ◌+◌, ◌≤◌, ◌<◌, ◌^◌, Bool, List, [], ◌∷◌, ◌++◌, map, length, refl, sym, ap, ap₂, ◌∙◌, subst, arith, Some, None}
 use Rattle.std.specs.Prelude.{pos}
 use Rattle.std.proofs.lemmas.List.{length-map}
-use Rattle.syntax_trees.specs.Core.{Outer, stmt, when, choose, Block}
-use Rattle.syntax_trees.specs.Members.{first, later}
-use Rattle.syntax_trees.specs.Parts.{outer_parts, stmts_within}
+use Rattle.language.specs.Core.{Outer, stmt, when, choose, Block}
+use Rattle.language.specs.Members.{first, later}
+use Rattle.language.specs.Parts.{outer_parts, stmts_within}
 use Rattle.task_code.specs.Code as code
 use Rattle.task_code.specs.Code.{ByStep, Entry, If, Variable}
 use Rattle.task_code.specs.View.{body_view, entry_view, variable_view}
 use Rattle.task_code.specs.declared.entry.Entry.{Entry as Made}
 use Rattle.task_code.specs.declared.code.Body.{Body as Opened}
-use Rattle.agreement.specs.CodeNames.{over}
-use Rattle.agreement.specs.IsCodeOf.{Layout, own_needs, seen}
-use Rattle.agreement.specs.Laying.{IndexesStand, IsOwnEntry, Kinds, LaysBlock, PlainAs, branch, branches, data_in, next_body}
-use Rattle.agreement.specs.Room.{OuterRoom}
-use Rattle.statement_entries.specs.Into.{laying}
-use Rattle.statement_entries.specs.declared.filling.Filling.{Filling}
-use Rattle.block_entries.specs.Blocks.{Numbered, OwnAddedAs, PartsInto}
+use Rattle.code_rules.specs.CodeNames.{over}
+use Rattle.code_rules.specs.IsCodeOf.{Layout, own_needs, seen}
+use Rattle.code_rules.specs.Laying.{IndexesStand, IsOwnEntry, Kinds, LaysBlock, PlainAs, branch, branches, data_in, next_body}
+use Rattle.code_rules.specs.Room.{OuterRoom}
+use Rattle.emit_statements.specs.Into.{laying}
+use Rattle.emit_statements.specs.declared.filling.Filling.{Filling}
+use Rattle.emit_statements.specs.Blocks.{Numbered, OwnAddedAs, PartsInto}
 use Rattle.emit.specs.Emits.{EmitsBlock, EmitsStmt, Lays, state}
 use Rattle.emit.proofs.Fitting.{fits-part, left-in, right-in, size-both}
 use Rattle.emit.proofs.Opening.{one-more-long, body-is, own-number, own-listed, own-data, two-added}

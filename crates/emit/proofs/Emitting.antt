@@ -2,10 +2,10 @@
 use Rattle.std.proofs.Common.{◌≡◌, ℕ, suc, ◌+◌, ◌≤◌, ◌<◌, ◌^◌, ℤ, Bool, List, [], ◌∷◌, ◌++◌, map, drop, get_or, length, refl, sym, ap, ◌∙◌, subst, arith, append_assoc, append-nil}
 use Rattle.std.specs.Prelude.{OnOk, Result, Ok, Err}
 use Rattle.std.proofs.lemmas.List.{length-map, drop_more, drop_all}
-use Rattle.syntax_trees.specs.Core.{Stmt, stmt, Action, declare, Block, no_stmts, stmts}
-use Rattle.syntax_trees.specs.Members.{first}
-use Rattle.syntax_trees.specs.Parts.{parts, stmts_within}
-use Rattle.meaning_laws.specs.TypedValues.{own_parts}
+use Rattle.language.specs.Core.{Stmt, stmt, Action, declare, Block, no_stmts, stmts}
+use Rattle.language.specs.Members.{first}
+use Rattle.language.specs.Parts.{parts, stmts_within}
+use Rattle.language_laws.specs.TypedValues.{own_parts}
 use Rattle.flow.specs.declared.statement.Statement.{Statement}
 use Rattle.flow.specs.Shapes.{statement_declared, together}
 use Rattle.flow.specs.View.{block_of, statement_view}
@@ -14,12 +14,12 @@ use Rattle.task_code.specs.Code.{Variable}
 use Rattle.task_code.specs.View.{body_view, entry_view, variable_view}
 use Rattle.task_code.specs.declared.entry.Entry.{Entry as Made}
 use Rattle.task_code.specs.declared.code.Body.{Body as Opened}
-use Rattle.agreement.specs.IsCodeOf.{Layout}
-use Rattle.agreement.specs.Laying.{IndexesStand, Kinds, LaysBlock, LaysStmt, Suits, declares, one_statement, no_statement}
-use Rattle.agreement.specs.Room.{ActionRoom}
-use Rattle.statement_entries.specs.Into.{LaysInto, laying}
-use Rattle.statement_entries.specs.declared.own.Statement.{Statement as Own}
-use Rattle.statement_entries.specs.declared.filling.Filling.{Filling}
+use Rattle.code_rules.specs.IsCodeOf.{Layout}
+use Rattle.code_rules.specs.Laying.{IndexesStand, Kinds, LaysBlock, LaysStmt, Suits, declares, one_statement, no_statement}
+use Rattle.code_rules.specs.Room.{ActionRoom}
+use Rattle.emit_statements.specs.Into.{LaysInto, laying}
+use Rattle.emit_statements.specs.declared.own.Statement.{Statement as Own}
+use Rattle.emit_statements.specs.declared.filling.Filling.{Filling}
 use Rattle.emit.specs.Emits.{EmitsBlock, EmitsStmt, Lays, State, state, with_inner}
 use Rattle.emit.proofs.Fitting.{first-in, fits-part, others-in, size-first}
 

@@ -1,15 +1,15 @@
 -- Where statements fit, those among them fit too.
 use Rattle.std.proofs.Common.{◌≡◌, inl, inr, ℕ, ◌+◌, ◌*◌, ◌≤◌, List, [], ◌∷◌, ◌++◌, length, sym, ap, ◌∙◌, subst, arith}
-use Rattle.syntax_trees.specs.Core.{Stmt, stmt, Block, no_stmts, stmts}
-use Rattle.syntax_trees.specs.Members.{◌∈◌, first, later}
-use Rattle.syntax_trees.specs.Parts.{block_list, blocks_below, blocks_in, stmts_among, stmts_within}
-use Rattle.syntax_trees.proofs.Members.{either, to_left, to_right}
-use Rattle.agreement.specs.IsCodeOf.{Layout}
-use Rattle.agreement.specs.Laying.{Headers, one_header, more_headers, Laying}
-use Rattle.agreement.specs.Emitted.{stmts_size}
-use Rattle.agreement.specs.Room.{BlockRoom, StmtRoom}
+use Rattle.language.specs.Core.{Stmt, stmt, Block, no_stmts, stmts}
+use Rattle.language.specs.Members.{◌∈◌, first, later}
+use Rattle.language.specs.Parts.{block_list, blocks_below, blocks_in, stmts_among, stmts_within}
+use Rattle.language.proofs.Members.{either, to_left, to_right}
+use Rattle.code_rules.specs.IsCodeOf.{Layout}
+use Rattle.code_rules.specs.Laying.{Headers, one_header, more_headers, Laying}
+use Rattle.code_rules.specs.Emitted.{stmts_size}
+use Rattle.code_rules.specs.Room.{BlockRoom, StmtRoom}
 use Rattle.task_code.specs.Code.{Header}
-use Rattle.laid_code.proofs.Adding.{among-append}
+use Rattle.code_layout.proofs.Adding.{among-append}
 use Rattle.emit.specs.Emits.{Fits, with_inner}
 
 -- SIZES AND MEMBERS

@@ -2,21 +2,21 @@
 use Rattle.std.proofs.Common.{◌≡◌, ℕ, suc, ◌+◌, ◌≤◌, ◌<◌, ◌^◌, Bool, List, [], ◌∷◌, ◌++◌, map, length, refl, sym, ap, ap₂, ◌∙◌, subst, arith, Option, None}
 use Rattle.std.specs.Prelude.{pos, option_to_list}
 use Rattle.std.proofs.lemmas.List.{length-map}
-use Rattle.syntax_trees.specs.Core.{Name, Outer, stmt, range, each, Block}
-use Rattle.syntax_trees.specs.Members.{first, later}
-use Rattle.syntax_trees.specs.Parts.{outer_parts, stmts_within}
+use Rattle.language.specs.Core.{Name, Outer, stmt, range, each, Block}
+use Rattle.language.specs.Members.{first, later}
+use Rattle.language.specs.Parts.{outer_parts, stmts_within}
 use Rattle.task_code.specs.Code as code
 use Rattle.task_code.specs.Code.{ByStep, Each, Entry, Loop, Range, Variable, loop_variables}
 use Rattle.task_code.specs.View.{body_view, entry_view, variable_view}
 use Rattle.task_code.specs.declared.entry.Entry.{Entry as Made}
 use Rattle.task_code.specs.declared.code.Body.{Body as Opened}
-use Rattle.agreement.specs.CodeNames.{over}
-use Rattle.agreement.specs.IsCodeOf.{Layout, own_needs, seen, step_expr}
-use Rattle.agreement.specs.Laying.{IndexesStand, IsOwnEntry, Kinds, Laying, LaysBlock, PlainAs, array_loop, data_in, next_body, range_loop}
-use Rattle.agreement.specs.Room.{NameRoom, OuterRoom, StepRoom}
-use Rattle.statement_entries.specs.Into.{laying}
-use Rattle.statement_entries.specs.declared.filling.Filling.{Filling}
-use Rattle.block_entries.specs.Blocks.{Numbered, OwnAddedAs, PartsInto}
+use Rattle.code_rules.specs.CodeNames.{over}
+use Rattle.code_rules.specs.IsCodeOf.{Layout, own_needs, seen, step_expr}
+use Rattle.code_rules.specs.Laying.{IndexesStand, IsOwnEntry, Kinds, Laying, LaysBlock, PlainAs, array_loop, data_in, next_body, range_loop}
+use Rattle.code_rules.specs.Room.{NameRoom, OuterRoom, StepRoom}
+use Rattle.emit_statements.specs.Into.{laying}
+use Rattle.emit_statements.specs.declared.filling.Filling.{Filling}
+use Rattle.emit_statements.specs.Blocks.{Numbered, OwnAddedAs, PartsInto}
 use Rattle.emit.specs.Emits.{EmitsBlock, EmitsStmt, Lays, state}
 use Rattle.emit.proofs.Fitting.{fits-part}
 use Rattle.emit.proofs.Opening.{one-more-long, body-is, own-number, own-listed, own-data, own-first, own-none}

@@ -7,12 +7,12 @@ use Rattle.task_code.specs.Code.{Entry, Opener, Variable}
 use Rattle.task_code.specs.View.{body_view, entry_view, variable_view}
 use Rattle.task_code.specs.declared.entry.Entry.{Entry as Made}
 use Rattle.task_code.specs.declared.code.Body.{Body as Opened}
-use Rattle.statement_entries.specs.declared.filling.Filling.{Filling}
-use Rattle.syntax_trees.specs.Core.{Part}
-use Rattle.agreement.specs.Laying.{Kinds}
-use Rattle.part_entries.specs.declared.entries.Standing.{Standing}
-use Rattle.statement_entries.specs.Into.{laying}
-use Rattle.block_entries.specs.Blocks.{Numbered, PartsInto}
+use Rattle.emit_statements.specs.declared.filling.Filling.{Filling}
+use Rattle.language.specs.Core.{Part}
+use Rattle.code_rules.specs.Laying.{Kinds}
+use Rattle.emit_cells.specs.declared.entries.Standing.{Standing}
+use Rattle.emit_statements.specs.Into.{laying}
+use Rattle.emit_statements.specs.Blocks.{Numbered, PartsInto}
 
 pub one-more-long : {X Y : Type 0} (f : X → Y) (xs ys : List X) (y : Y) → map f ys ≡ map f xs ++ y ∷ [] → length ys ≡ suc (length xs)
 one-more-long f xs ys y is =

@@ -1,8 +1,8 @@
 -- Functions, one after another, and whole scripts.
 use Rattle.std.proofs.Common.{◌≡◌, ℕ, suc, ◌+◌, ◌≤◌, ◌<◌, ◌^◌, Bool, List, [], ◌∷◌, ◌++◌, map, drop, get_or, length, refl, sym, ap, ap₂, ◌∙◌, subst, arith, append_assoc, append-nil}
 use Rattle.std.proofs.lemmas.List.{drop_more, drop_all}
-use Rattle.syntax_trees.specs.Core.{Block, Function, Core}
-use Rattle.syntax_trees.specs.Parts.{blocks_of, function_blocks, script_stmts, stmts_among, stmts_within}
+use Rattle.language.specs.Core.{Block, Function, Core}
+use Rattle.language.specs.Parts.{blocks_of, function_blocks, script_stmts, stmts_among, stmts_within}
 use Rattle.flow.specs.declared.script.Function.{Function as Found}
 use Rattle.flow.specs.Shapes.{block_declared, functions_declared}
 use Rattle.flow.specs.View.{function_view}
@@ -11,11 +11,11 @@ use Rattle.task_code.specs.Code.{ByCalls, ByMain, Opener, Variable}
 use Rattle.task_code.specs.View.{body_view, variable_view}
 use Rattle.task_code.specs.declared.entry.Entry.{Entry as Made}
 use Rattle.task_code.specs.declared.code.Body.{Body as Opened}
-use Rattle.agreement.specs.Laying.{Kinds, Laying, LaysBlock, LaysScript, no_function, one_function}
-use Rattle.granting.specs.Granted.{laid_code}
-use Rattle.laid_code.proofs.Layouts.{layout_of, layout_suits}
-use Rattle.statement_entries.specs.Into.{laying}
-use Rattle.statement_entries.specs.declared.filling.Filling.{Filling}
+use Rattle.code_rules.specs.Laying.{Kinds, Laying, LaysBlock, LaysScript, no_function, one_function}
+use Rattle.emit_rights.specs.Granted.{laid_code}
+use Rattle.code_layout.proofs.Layouts.{layout_of, layout_suits}
+use Rattle.emit_statements.specs.Into.{laying}
+use Rattle.emit_statements.specs.declared.filling.Filling.{Filling}
 use Rattle.emit.specs.Emits.{CanBeEmitted, EmitsBlock, EmitsBody, EmitsFirst, EmitsFunctions, Fits, Lays, LaysBodies, LaysFirst, state}
 use Rattle.emit.proofs.Bare.{bared, block-bare, functions-bare}
 use Rattle.emit.proofs.Fitting.{among-left, among-right, fits-part, size-among}

@@ -1,6 +1,6 @@
 -- How the statements and blocks of a flow are seen, and what they declare.
 use Rattle.std.proofs.Common.{rules, ◌≡◌, ℕ, ℤ, Bool, List, [], ◌∷◌, ◌++◌, Option, map, option_map, Vec, Box}
-use Rattle.syntax_trees.specs.Core as core
+use Rattle.language.specs.Core as core
 use Rattle.flow.specs.declared.name.Name.{Name}
 use Rattle.flow.specs.declared.cell.Outer.{Outer}
 use Rattle.flow.specs.declared.cell.Part.{Part}

@@ -3,21 +3,21 @@ use Rattle.std.proofs.Common.{◌≡◌, ℕ, ◌+◌, ◌<◌, ◌^◌, Bool, L
 use Rattle.std.specs.Prelude.{pos}
 use Rattle.std.specs.List.{flat_map}
 use Rattle.std.proofs.lemmas.List.{length-map}
-use Rattle.syntax_trees.specs.Core.{Awaited, stmt, wait, Block}
-use Rattle.syntax_trees.specs.Members.{later}
-use Rattle.syntax_trees.specs.Parts.{stmts_within}
+use Rattle.language.specs.Core.{Awaited, stmt, wait, Block}
+use Rattle.language.specs.Members.{later}
+use Rattle.language.specs.Parts.{stmts_within}
 use Rattle.task_code.specs.Code as code
 use Rattle.task_code.specs.Code.{ByWait, Entry, Wait}
 use Rattle.task_code.specs.View.{body_view, entry_view, variable_view}
 use Rattle.task_code.specs.declared.entry.Entry.{Entry as Made}
 use Rattle.task_code.specs.declared.code.Body.{Body as Opened}
-use Rattle.agreement.specs.CodeNames.{each_once}
-use Rattle.agreement.specs.IsCodeOf.{IsEntry}
-use Rattle.agreement.specs.Laying.{Kinds, LaysBlock, next_body, waits}
-use Rattle.agreement.specs.Room.{ActionRoom}
-use Rattle.statement_entries.specs.Into.{laying}
-use Rattle.statement_entries.specs.declared.filling.Filling.{Filling}
-use Rattle.block_entries.specs.Blocks.{Numbered, WaitAddedAs}
+use Rattle.code_rules.specs.CodeNames.{each_once}
+use Rattle.code_rules.specs.IsCodeOf.{IsEntry}
+use Rattle.code_rules.specs.Laying.{Kinds, LaysBlock, next_body, waits}
+use Rattle.code_rules.specs.Room.{ActionRoom}
+use Rattle.emit_statements.specs.Into.{laying}
+use Rattle.emit_statements.specs.declared.filling.Filling.{Filling}
+use Rattle.emit_statements.specs.Blocks.{Numbered, WaitAddedAs}
 use Rattle.emit.specs.Emits.{EmitsBlock, EmitsStmt, Lays, state}
 use Rattle.emit.proofs.Fitting.{fits-part, inside-in, inside-room, size-inside}
 use Rattle.emit.proofs.Opening.{one-more-long, body-is, own-number, own-first, own-none}

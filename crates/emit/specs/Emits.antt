@@ -1,20 +1,20 @@
 -- What laying a statement or a block into the block around it owes.
 use Rattle.std.specs.Prelude.{◌≡◌, ℕ, ◌+◌, ◌*◌, ◌^◌, ◌≤◌, ◌<◌, Bool, List, [], ◌∷◌, ◌++◌, map, length}
-use Rattle.syntax_trees.specs.Core.{Stmt, stmt, Action, Block, Function, Core}
-use Rattle.syntax_trees.specs.Members.{◌∈◌}
-use Rattle.syntax_trees.specs.Parts.{blocks_in, function_blocks, stmts_among, stmts_within}
-use Rattle.meaning_laws.specs.TypedValues.{own_parts}
+use Rattle.language.specs.Core.{Stmt, stmt, Action, Block, Function, Core}
+use Rattle.language.specs.Members.{◌∈◌}
+use Rattle.language.specs.Parts.{blocks_in, function_blocks, stmts_among, stmts_within}
+use Rattle.language_laws.specs.TypedValues.{own_parts}
 use Rattle.task_code.specs.Code as code
 use Rattle.task_code.specs.Code.{ByCalls, Opener, Variable}
 use Rattle.task_code.specs.View.{variable_view, body_view}
 use Rattle.task_code.specs.declared.entry.Entry.{Entry}
 use Rattle.task_code.specs.declared.code.Body.{Body}
-use Rattle.agreement.specs.IsCodeOf.{Layout}
-use Rattle.agreement.specs.Laying.{IndexesStand, Kinds, Laying, LaysBlock, LaysFunctions, LaysStmt, Suits, next_body}
-use Rattle.agreement.specs.Emitted.{CallsOnce, CellsOnce, ReadsStand, size_of, stmts_size}
-use Rattle.agreement.specs.Room.{BlockRoom, CoreRoom, StmtRoom, Each, FunctionRoom}
-use Rattle.statement_entries.specs.Into.{laying}
-use Rattle.statement_entries.specs.declared.filling.Filling.{Filling}
+use Rattle.code_rules.specs.IsCodeOf.{Layout}
+use Rattle.code_rules.specs.Laying.{IndexesStand, Kinds, Laying, LaysBlock, LaysFunctions, LaysStmt, Suits, next_body}
+use Rattle.code_rules.specs.Emitted.{CallsOnce, CellsOnce, ReadsStand, size_of, stmts_size}
+use Rattle.code_rules.specs.Room.{BlockRoom, CoreRoom, StmtRoom, Each, FunctionRoom}
+use Rattle.emit_statements.specs.Into.{laying}
+use Rattle.emit_statements.specs.declared.filling.Filling.{Filling}
 
 -- what is laid so far, with the numbers and the data that the block around has
 pub record State : Type 0 where

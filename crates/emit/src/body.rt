@@ -2,7 +2,7 @@
 ghost use Rattle.std.specs.Prelude.{◌≡◌, ◌∷◌, ◌++◌, [], map, OnOk};
 ghost use Rattle.task_code.specs.View.{body_view, opener_view, variable_view};
 
-use statement_entries::filling::Filling;
+use emit_statements::filling::Filling;
 use std::alloc::{AllocError, Global};
 use task_code::code::{Body, Opener};
 

@@ -3,19 +3,19 @@ ghost use Rattle.std.specs.Prelude.{◌≡◌, ◌≤◌, ◌∷◌, ◌++◌, [
 ghost use Rattle.flow.specs.Shapes.{block_declared, declared_of, functions_declared, kinds_of, kinds_of_function};
 ghost use Rattle.flow.specs.View.{block_view, core_of, function_view};
 ghost use Rattle.task_code.specs.View.{body_view, opener_view};
-ghost use Rattle.agreement.specs.Emitted.{CallsOnce, CellsOnce, IsEmitted, ReadsStand, size_of};
-ghost use Rattle.agreement.specs.Laying.{LaysScript};
-ghost use Rattle.agreement.specs.Room.{CoreRoom};
-ghost use Rattle.granting.specs.Granted.{laid_code};
-ghost use Rattle.statement_entries.specs.Into.{laying};
+ghost use Rattle.code_rules.specs.Emitted.{CallsOnce, CellsOnce, IsEmitted, ReadsStand, size_of};
+ghost use Rattle.code_rules.specs.Laying.{LaysScript};
+ghost use Rattle.code_rules.specs.Room.{CoreRoom};
+ghost use Rattle.emit_rights.specs.Granted.{laid_code};
+ghost use Rattle.emit_statements.specs.Into.{laying};
 ghost use Rattle.emit.specs.Emits.{CanBeEmitted, EmitsBody, EmitsFirst, EmitsFunctions};
 
 use crate::body::{body, empty};
 use crate::statement::block;
-use body_numbers::behind;
+use emit_numbers::behind;
+use emit_rights::granted::granted;
 use flow::script::{Flow, Function};
 use flow::statement::Block;
-use granting::granted::granted;
 use std::alloc::{AllocError, Allocator, Global};
 use task_code::code::{Body, Opener};
 use task_code::draft::Draft;

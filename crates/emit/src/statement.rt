@@ -1,28 +1,28 @@
 //! Statements and blocks.
 ghost use Rattle.std.specs.Prelude.{◌≡◌, ◌∷◌, ◌++◌, [], pos, map, option_map, OnOk};
-ghost use Rattle.syntax_trees.specs.Core as core;
+ghost use Rattle.language.specs.Core as core;
 ghost use Rattle.flow.specs.Shapes.{action_declared, block_declared, is_array, kinds_of_function, statement_declared, together};
 ghost use Rattle.flow.specs.View.{action_view, awaited_view, block_of, block_view, name_view, outer_view, statement_view, statements_view, waits_around};
 ghost use Rattle.task_code.specs.View.{variable_view};
 ghost use Rattle.emit.specs.Emits.{EmitsBlock, EmitsStmt, state};
 
 use crate::body::{add_body, empty};
-use block_entries::branches::add_branch;
-use block_entries::loops::{add_each, add_range, loop_filling, loop_of};
-use block_entries::parts::{condition_parts, range_parts};
-use block_entries::waits::add_wait;
-use body_numbers::{next, next_number};
+use emit_cells::entries::Standing;
+use emit_numbers::{next, next_number};
+use emit_statements::branches::add_branch;
+use emit_statements::calls::call_alone;
+use emit_statements::filling::Filling;
+use emit_statements::insert::insert;
+use emit_statements::loops::{add_each, add_range, loop_filling, loop_of};
+use emit_statements::own::{Statement as Own, Use, own};
+use emit_statements::parts::{condition_parts, range_parts};
+use emit_statements::waits::add_wait;
 use flow::cell::Outer;
 use flow::name::Name;
 use flow::script::Function;
 use flow::statement::{Action, Block, Header, Range, Statement, Variable};
-use part_entries::entries::Standing;
-use statement_entries::calls::call_alone;
-use statement_entries::filling::Filling;
-use statement_entries::insert::insert;
-use statement_entries::own::{Statement as Own, Use, own};
+use language::tree::Shape;
 use std::alloc::{AllocError, Allocator, Global};
-use syntax_trees::tree::Shape;
 use task_code::code::{Body, Opener};
 use task_code::entry::{Entry, Variable as Made};
 

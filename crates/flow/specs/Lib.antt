@@ -1,2 +1,6 @@
 pub mod View
 pub mod Shapes
+pub mod Names
+pub mod Whole
+pub mod Tests
+pub mod Viewed

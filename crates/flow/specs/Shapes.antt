@@ -1,7 +1,7 @@
 -- Which variables, inputs and outputs of a flow are arrays.
 use Rattle.std.specs.Prelude.{ℕ, Bool, true, false, List, [], ◌∷◌, ◌++◌, map}
 use Rattle.std.specs.List.{flat_map}
-use Rattle.syntax_trees.specs.declared.tree.Shape.{Shape}
+use Rattle.language.specs.declared.tree.Shape.{Shape}
 use Rattle.flow.specs.declared.statement.Variable.{Variable}
 use Rattle.flow.specs.declared.statement.Action.{Action, Action-F, fold-Action}
 use Rattle.flow.specs.declared.statement.Action.TheOpen as Does

@@ -3,9 +3,9 @@ use Rattle.std.specs.Prelude.{List, [], ◌∷◌, map, length, option_map, fals
 use Rattle.values.specs.declared.value.Scalar.TheVariants as Scalar
 use Rattle.values.specs.Formats.{pieces}
 use Rattle.values.specs.Operators as op
-use Rattle.syntax_trees.specs.Core as core
-use Rattle.syntax_trees.specs.Core.{Core, Stmt, stmt, stmts, no_stmts}
-use Rattle.syntax_trees.specs.Resolved.{pieces_or_none, awaited_as}
+use Rattle.language.specs.Core as core
+use Rattle.language.specs.Core.{Core, Stmt, stmt, stmts, no_stmts}
+use Rattle.language.specs.Resolved.{pieces_or_none, awaited_as}
 use Rattle.flow.specs.declared.name.Owned.{Owned}
 use Rattle.flow.specs.declared.name.Owned.TheVariants as Own
 use Rattle.flow.specs.declared.name.Name.{Name}

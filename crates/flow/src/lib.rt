@@ -6,7 +6,13 @@
 #![tactic(auto)]
 
 pub mod cell;
+mod declaring;
 pub mod expression;
 pub mod name;
+mod naming;
+mod scopes;
 pub mod script;
 pub mod statement;
+pub mod whole;
+
+pub use whole::is_whole;

@@ -1,6 +1,6 @@
 //! Names of a flow.
 
-use syntax_trees::tree::Shape;
+use language::tree::Shape;
 
 /// What a name is in the block that owns it.
 #[derive(Clone, Copy, Debug, PartialEq, Eq)]

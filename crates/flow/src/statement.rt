@@ -2,8 +2,8 @@
 
 use crate::cell::{Call, Outer, Part};
 use crate::name::Name;
+use language::tree::Shape;
 use std::alloc::Allocator;
-use syntax_trees::tree::Shape;
 
 /// A variable where it is declared: its node, whether it is an array, and the bytes of its name. Also an input, an output, and
 /// a loop's variable.

@@ -1,12 +1,12 @@
 -- What statements do.
 use Rattle.std.proofs.Common.{rules, ◌≡◌, ℕ, ℤ, ◌++◌, List, [], ◌∷◌, refl, sym, ap, ap₂, ◌∙◌}
 use Rattle.std.specs.Prelude.{Vec, Box, pos}
-use Rattle.syntax_trees.specs.declared.tree.Shape.{Shape}
-use Rattle.syntax_trees.specs.Tree.{Word, Node, Form, Expression, expression, Expressions, call, value}
-use Rattle.syntax_trees.specs.Table.{Table, composite}
-use Rattle.syntax_trees.specs.Core as core
-use Rattle.syntax_trees.specs.Core.{Name}
-use Rattle.syntax_trees.specs.Resolved.{Formed, Arguments, outer_of, composite_call, call_to, call_right, right_of, arguments_of}
+use Rattle.language.specs.declared.tree.Shape.{Shape}
+use Rattle.language.specs.Tree.{Word, Node, Form, Expression, expression, Expressions, call, value}
+use Rattle.language.specs.Table.{Table, composite}
+use Rattle.language.specs.Core as core
+use Rattle.language.specs.Core.{Name}
+use Rattle.language.specs.Resolved.{Formed, Arguments, outer_of, composite_call, call_to, call_right, right_of, arguments_of}
 use Rattle.flow.specs.declared.cell.Part.{Part}
 use Rattle.flow.specs.declared.cell.Call.{Call as Found}
 use Rattle.flow.specs.declared.cell.Form.{Form as FoundForm}

@@ -2,9 +2,9 @@
 use Rattle.std.proofs.Common.{rules, ◌≡◌, List, [], ◌∷◌, ◌++◌, map, Option, refl, sym, ap, ◌∙◌, append_assoc}
 use Rattle.std.specs.Prelude.{Box}
 use Rattle.std.proofs.lemmas.List.{map-append, append-nil}
-use Rattle.syntax_trees.specs.Scopes.{signatures}
-use Rattle.syntax_trees.specs.Tree.{Declaration, Statement, Tree, Part, import, function, single}
-use Rattle.well_formed.specs.Types.{statement_declarations, body_declarations}
+use Rattle.language.specs.Scopes.{signatures}
+use Rattle.language.specs.Tree.{Declaration, Statement, Tree, Part, import, function, single}
+use Rattle.language_accepted.specs.Types.{statement_declarations, body_declarations}
 use Rattle.flow.specs.declared.statement.Statement.{Statement as Found}
 use Rattle.flow.specs.declared.statement.Block.{Block}
 use Rattle.flow.specs.declared.statement.Range.{Range}
@@ -13,7 +13,7 @@ use Rattle.flow.specs.declared.name.Name.{Name}
 use Rattle.flow.specs.declared.statement.Action.{Each, Range as RangeOf, the_lemmas}
 use Rattle.flow.specs.declared.script.Function.{Function}
 use Rattle.flow.specs.Shapes.{is_array, functions_declared}
-use Rattle.syntax_trees.specs.Scopes.{declared_type}
+use Rattle.language.specs.Scopes.{declared_type}
 use Rattle.lowering.specs.View as seen
 use Rattle.flow.specs.Shapes.{Declared, together, statement_declared, action_declared, block_declared}
 use Rattle.lowering.specs.Shapes.{flagged, declared_by, among, own_declarations, function_declarations, kinds_of_signature}

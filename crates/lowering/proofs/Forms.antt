@@ -6,13 +6,14 @@ use Rattle.syntax_trees.specs.declared.tree.Right.{Right}
 use Rattle.syntax_trees.specs.declared.tree.Expr.{Expr}
 use Rattle.syntax_trees.specs.declared.tree.Block.{Block}
 use Rattle.syntax_trees.specs.declared.tree.StmtKind.{Assign, Write, If, the_lemmas}
-use Rattle.syntax_trees.specs.Tree as T
-use Rattle.syntax_trees.specs.Tree.{Node, Command}
-use Rattle.syntax_trees.specs.Table.{Table}
-use Rattle.syntax_trees.specs.View.{word_of, expression_view, right_of, command_view, body_view, choice_of}
-use Rattle.syntax_trees.specs.Core as core
-use Rattle.syntax_trees.specs.Core.{Stmt, stmt}
-use Rattle.well_formed.specs.Types.{command_declarations}
+use Rattle.language.specs.Tree as T
+use Rattle.language.specs.Tree.{Node, Command}
+use Rattle.language.specs.Table.{Table}
+use Rattle.syntax_trees.specs.View.{word_of, expression_view, right_of, command_view, body_view}
+use Rattle.language.specs.Tree.{choice_of}
+use Rattle.language.specs.Core as core
+use Rattle.language.specs.Core.{Stmt, stmt}
+use Rattle.language_accepted.specs.Types.{command_declarations}
 use Rattle.flow.specs.declared.statement.Action.{Action}
 use Rattle.flow.specs.View.{action_view}
 use Rattle.flow.specs.Shapes.{Declared, action_declared}

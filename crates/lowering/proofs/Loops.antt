@@ -6,12 +6,12 @@ use Rattle.syntax_trees.specs.declared.tree.Decl.{Decl}
 use Rattle.syntax_trees.specs.declared.tree.Right.{Right}
 use Rattle.syntax_trees.specs.declared.tree.Call.{Call as Called}
 use Rattle.syntax_trees.specs.declared.tree.StmtKind.{Declare, AssignAll, Call, the_lemmas}
-use Rattle.syntax_trees.specs.Tree as T
-use Rattle.syntax_trees.specs.Tree.{Word, Expression, Over, statement}
-use Rattle.syntax_trees.specs.Table.{Table}
-use Rattle.syntax_trees.specs.Resolved.{outer, loop_action, refers}
+use Rattle.language.specs.Tree as T
+use Rattle.language.specs.Tree.{Word, Expression, Over, statement}
+use Rattle.language.specs.Table.{Table}
+use Rattle.language.specs.Resolved.{outer, loop_action, refers}
 use Rattle.syntax_trees.specs.View.{words_view, declaration_of, right_of, calling_of, statement_view, command_view}
-use Rattle.syntax_trees.specs.Core as core
+use Rattle.language.specs.Core as core
 use Rattle.flow.specs.declared.name.Name.{Name}
 use Rattle.flow.specs.declared.statement.Variable.{Variable}
 use Rattle.flow.specs.declared.statement.Header.{Header}

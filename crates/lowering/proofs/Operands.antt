@@ -1,11 +1,11 @@
 -- Operands and arguments, one after another.
 use Rattle.std.proofs.Common.{◌≡◌, ℕ, ◌+◌, ◌<◌, ◌≤◌, List, [], ◌∷◌, ◌++◌, map, drop, length, get_or, refl, sym, ap, ◌∙◌, append_assoc}
 use Rattle.std.proofs.lemmas.List.{drop_more, drop_all, map-append, append-nil}
-use Rattle.syntax_trees.specs.Tree.{Expression, Expressions, no_expressions, and_expression, expressions_of}
-use Rattle.syntax_trees.specs.Table.{Table}
-use Rattle.syntax_trees.specs.Core as core
-use Rattle.syntax_trees.specs.Core.{none, also}
-use Rattle.syntax_trees.specs.Resolved.{Operands, Arguments, form_of, operands_of, arguments_of, with_operand, with_argument, as_operand, as_argument, number_of}
+use Rattle.language.specs.Tree.{Expression, Expressions, no_expressions, and_expression, expressions_of}
+use Rattle.language.specs.Table.{Table}
+use Rattle.language.specs.Core as core
+use Rattle.language.specs.Core.{none, also}
+use Rattle.language.specs.Resolved.{Operands, Arguments, form_of, operands_of, arguments_of, with_operand, with_argument, as_operand, as_argument, number_of}
 use Rattle.flow.specs.declared.cell.Part.{Part}
 use Rattle.flow.specs.declared.expression.Expr.{Expr}
 use Rattle.flow.specs.declared.name.Name.{Name}

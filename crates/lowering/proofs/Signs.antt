@@ -1,8 +1,8 @@
 -- The signs of a chain are those of its operators one by one, and so are the factors.
 use Rattle.std.proofs.Common.{◌≡◌, List, [], ◌∷◌, map, refl, ap}
-use Rattle.syntax_trees.specs.declared.tree.Operator.{Operator}
-use Rattle.syntax_trees.specs.declared.tree.Operator.TheVariants.{Minus, Quotient, Remainder}
-use Rattle.syntax_trees.specs.Resolved.{signs, factors}
+use Rattle.language.specs.declared.tree.Operator.{Operator}
+use Rattle.language.specs.declared.tree.Operator.TheVariants.{Minus, Quotient, Remainder}
+use Rattle.language.specs.Resolved.{signs, factors}
 use Rattle.lowering.specs.View.{sign_of, factor_of}
 
 signs_more : (o : Operator) (os : List Operator) → signs (o ∷ os) ≡ sign_of o ∷ signs os

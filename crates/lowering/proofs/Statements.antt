@@ -1,13 +1,13 @@
 -- Statements of a core, one after another.
 use Rattle.std.proofs.Common.{◌≡◌, ℕ, List, [], ◌∷◌, ◌++◌, map, length, Option, Some, None, refl, sym, ap, ap₂, ◌∙◌, append_assoc}
 use Rattle.std.proofs.lemmas.List.{length-map}
-use Rattle.syntax_trees.specs.declared.tree.Shape.{Shape}
-use Rattle.syntax_trees.specs.Tree as T
-use Rattle.syntax_trees.specs.Tree.{Node, Declaration, RightSide, Command, Statement, statement, statements_of, choice, choice_else, loop, waits, Body, body, Part, import, function, single, Tree}
-use Rattle.syntax_trees.specs.Table.{Table}
-use Rattle.syntax_trees.specs.Core.{Name, here, Action, declare, Stmt, stmt, Block, no_stmts, stmts, Function}
-use Rattle.syntax_trees.specs.Parts.{block_list}
-use Rattle.syntax_trees.specs.Resolved.{with_command, right_of, block_of, block_in, functions_of}
+use Rattle.language.specs.declared.tree.Shape.{Shape}
+use Rattle.language.specs.Tree as T
+use Rattle.language.specs.Tree.{Node, Declaration, RightSide, Command, Statement, statement, statements_of, choice, choice_else, loop, waits, Body, body, Part, import, function, single, Tree}
+use Rattle.language.specs.Table.{Table}
+use Rattle.language.specs.Core.{Name, here, Action, declare, Stmt, stmt, Block, no_stmts, stmts, Function}
+use Rattle.language.specs.Parts.{block_list}
+use Rattle.language.specs.Resolved.{with_command, right_of, block_of, block_in, functions_of}
 use Rattle.flow.specs.View as seen
 use Rattle.lowering.specs.View.{command_alone, statement_alone, statements_among, own_statements}
 

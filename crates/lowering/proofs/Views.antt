@@ -1,16 +1,16 @@
 -- How parts of a tree and of a flow are seen.
 use Rattle.std.proofs.Common.{rules, arith, ◌≡◌, ◌<◌, ◌++◌, List, [], ◌∷◌, map, length, get_or, Some, None, refl, sym, ap, ◌∙◌}
 use Rattle.std.specs.Prelude.{Option, Vec}
-use Rattle.syntax_trees.specs.declared.tree.Prefix.{Prefix}
+use Rattle.language.specs.declared.tree.Prefix.{Prefix}
 use Rattle.syntax_trees.specs.declared.tree.Expr.{Expr, out-Expr}
 use Rattle.syntax_trees.specs.declared.tree.ExprKind.{the_lemmas}
-use Rattle.syntax_trees.specs.Tree as T
-use Rattle.syntax_trees.specs.Tree.{Node, Expression, Expressions, expression, and_expression, expressions_of}
+use Rattle.language.specs.Tree as T
+use Rattle.language.specs.Tree.{Node, Expression, Expressions, expression, and_expression, expressions_of}
 use Rattle.syntax_trees.specs.View.{expression_view, form_view}
-use Rattle.syntax_trees.specs.Table.{Table}
-use Rattle.syntax_trees.specs.Core as core
-use Rattle.syntax_trees.specs.Core.{none, also}
-use Rattle.syntax_trees.specs.Resolved.{as_operand, computes, one_operand, form_in, form_of, number_of, prefix_operation, sized}
+use Rattle.language.specs.Table.{Table}
+use Rattle.language.specs.Core as core
+use Rattle.language.specs.Core.{none, also}
+use Rattle.language.specs.Resolved.{as_operand, computes, one_operand, form_in, form_of, number_of, prefix_operation, sized}
 use Rattle.values.specs.Operators as op
 use Rattle.flow.specs.declared.name.Name.{Name as Resolved}
 use Rattle.flow.specs.declared.cell.Part.{Part}

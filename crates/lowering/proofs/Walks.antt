@@ -2,7 +2,7 @@
 use Rattle.std.proofs.Common.{◌≡◌, ℕ, ◌<◌, ◌+◌, List, [], ◌∷◌, ◌++◌, map, take, length, get_or, ap, ap₂, sym, ◌∙◌}
 use Rattle.std.proofs.lemmas.List.{map_push}
 use Rattle.syntax_trees.proofs.Numbering.{viewed_more}
-pub use Rattle.syntax_trees.proofs.Walks.{walked_more, walked_all}
+pub use Rattle.language.proofs.Walks.{walked_more, walked_all}
 
 -- one more, where what is found of each is something of what it is seen as
 pub found_more : {X Y V Z : Type 0} (v : X → V) (h : V → Z) (f : Y → Z) (xs : List X) (ys : List Y) (i : ℕ) (x : X) (y : Y)

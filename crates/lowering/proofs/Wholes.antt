@@ -1,7 +1,7 @@
 -- Whole arrays.
 use Rattle.std.proofs.Common.{◌≡◌, ℕ, List, [], ap, ap₂}
-use Rattle.syntax_trees.specs.Core as core
-use Rattle.syntax_trees.specs.Resolved.{outer_of}
+use Rattle.language.specs.Core as core
+use Rattle.language.specs.Resolved.{outer_of}
 use Rattle.flow.specs.declared.cell.Part.{Part}
 use Rattle.flow.specs.declared.name.Name.{Name}
 use Rattle.flow.specs.declared.expression.Expr.{Whole}

@@ -1,8 +1,8 @@
 -- Which variables of a flow are arrays, by the declarations of its script.
 use Rattle.std.specs.Prelude.{ℕ, Bool, List, [], ◌∷◌, ◌++◌, map}
-use Rattle.syntax_trees.specs.Scopes.{Typ, Signature}
-use Rattle.syntax_trees.specs.Tree.{Declaration, Statement, statements_of, Tree, import, function, single}
-use Rattle.well_formed.specs.Types.{statement_declarations, statements_declarations, body_declarations}
+use Rattle.language.specs.Scopes.{Typ, Signature}
+use Rattle.language.specs.Tree.{Declaration, Statement, statements_of, Tree, import, function, single}
+use Rattle.language_accepted.specs.Types.{statement_declarations, statements_declarations, body_declarations}
 use Rattle.flow.specs.declared.statement.Statement.{Statement as Found}
 use Rattle.flow.specs.Shapes.{Declared, is_array, together, statement_declared}
 

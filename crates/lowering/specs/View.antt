@@ -6,15 +6,15 @@ use Rattle.values.specs.declared.op.Sign.TheVariants as Signs
 use Rattle.values.specs.declared.op.Factor.{Factor}
 use Rattle.values.specs.declared.op.Factor.TheVariants as Factors
 use Rattle.values.specs.Formats.{pieces}
-use Rattle.syntax_trees.specs.declared.tree.Operator.{Operator}
-use Rattle.syntax_trees.specs.declared.tree.Operator.TheVariants.{Minus, Quotient, Remainder}
-use Rattle.syntax_trees.specs.declared.tree.Shape.{Shape}
-use Rattle.syntax_trees.specs.Core as core
-use Rattle.syntax_trees.specs.Core.{Name, Stmt, no_stmts}
-use Rattle.syntax_trees.specs.Parts.{block_list}
-use Rattle.syntax_trees.specs.Tree.{Word, Node, Declaration, Form, variable, Command, Statement, statements_of, Composite, Tree}
-use Rattle.syntax_trees.specs.Table.{Table}
-use Rattle.syntax_trees.specs.Resolved.{Arguments, call_to, pieces_or_none, refers, with_command, with_statement, block_of, block_in, script_block}
+use Rattle.language.specs.declared.tree.Operator.{Operator}
+use Rattle.language.specs.declared.tree.Operator.TheVariants.{Minus, Quotient, Remainder}
+use Rattle.language.specs.declared.tree.Shape.{Shape}
+use Rattle.language.specs.Core as core
+use Rattle.language.specs.Core.{Name, Stmt, no_stmts}
+use Rattle.language.specs.Parts.{block_list}
+use Rattle.language.specs.Tree.{Word, Node, Declaration, Form, variable, Command, Statement, statements_of, Composite, Tree}
+use Rattle.language.specs.Table.{Table}
+use Rattle.language.specs.Resolved.{Arguments, call_to, pieces_or_none, refers, with_command, with_statement, block_of, block_in, script_block}
 use Rattle.flow.specs.declared.cell.Part.{Part}
 use Rattle.flow.specs.declared.statement.Variable.{Variable}
 use Rattle.flow.specs.View.{parts_view}

@@ -1,10 +1,10 @@
 //! Expressions: their cells and calls behind those before, and what is left of them.
 ghost use Rattle.std.specs.Prelude.{◌≡◌, ◌++◌, ◌∷◌, [], IfOk, OnOk, map, drop, option_map};
-ghost use Rattle.syntax_trees.specs.Core as core;
-ghost use Rattle.syntax_trees.specs.Tree as pure;
-ghost use Rattle.syntax_trees.specs.Tree.{expressions_of};
-ghost use Rattle.syntax_trees.specs.Table.{built_in};
-ghost use Rattle.syntax_trees.specs.Resolved as rules;
+ghost use Rattle.language.specs.Core as core;
+ghost use Rattle.language.specs.Tree as pure;
+ghost use Rattle.language.specs.Tree.{expressions_of};
+ghost use Rattle.language.specs.Table.{built_in};
+ghost use Rattle.language.specs.Resolved as rules;
 ghost use Rattle.syntax_trees.specs.View.{word_of, expression_view, form_view};
 ghost use Rattle.types.specs.Typed.{table_of, builtin_name};
 ghost use Rattle.flow.specs.View as seen;

@@ -1,7 +1,7 @@
 //! What the check of the types says of names.
 ghost use Rattle.std.specs.Prelude.{◌≡◌, IfOk, map, option_map};
-ghost use Rattle.syntax_trees.specs.Core as core;
-ghost use Rattle.syntax_trees.specs.Resolved as rules;
+ghost use Rattle.language.specs.Core as core;
+ghost use Rattle.language.specs.Resolved as rules;
 ghost use Rattle.syntax_trees.specs.View.{word_of, words_view, declarations_view};
 ghost use Rattle.types.specs.Typed.{table_of};
 ghost use Rattle.flow.specs.View.{name_view, names_view, awaited_view};

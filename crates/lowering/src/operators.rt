@@ -1,7 +1,7 @@
 //! The operation of a chain of operators, of a prefix and of a built-in function.
 ghost use Rattle.std.specs.Prelude.{◌≡◌, IfOk, map};
-ghost use Rattle.syntax_trees.specs.Resolved as rules;
-ghost use Rattle.syntax_trees.specs.Tree.{expressions_of};
+ghost use Rattle.language.specs.Resolved as rules;
+ghost use Rattle.language.specs.Tree.{expressions_of};
 ghost use Rattle.syntax_trees.specs.View.{expression_view};
 ghost use Rattle.types.specs.Typed.{builtin_name};
 ghost use Rattle.flow.specs.View.{operation_view};

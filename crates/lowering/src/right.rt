@@ -1,9 +1,9 @@
 //! Right sides and calls that are statements.
 ghost use Rattle.std.specs.Prelude.{◌≡◌, ◌∷◌, [], IfOk, map, drop, pos};
-ghost use Rattle.syntax_trees.specs.Core as core;
-ghost use Rattle.syntax_trees.specs.Table as table;
-ghost use Rattle.syntax_trees.specs.Tree.{expressions_of, value};
-ghost use Rattle.syntax_trees.specs.Resolved as rules;
+ghost use Rattle.language.specs.Core as core;
+ghost use Rattle.language.specs.Table as table;
+ghost use Rattle.language.specs.Tree.{expressions_of, value};
+ghost use Rattle.language.specs.Resolved as rules;
 ghost use Rattle.syntax_trees.specs.View.{word_of, words_view, expression_view, right_of, calling_of};
 ghost use Rattle.types.specs.Typed.{table_of, builtin_name};
 ghost use Rattle.flow.specs.Shapes.{action_declared};

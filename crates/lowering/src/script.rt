@@ -1,14 +1,14 @@
 //! Whole scripts.
 ghost use Rattle.std.specs.Prelude.{◌≡◌, ◌++◌, ◌∷◌, [], IfOk, OnOk, map, length};
-ghost use Rattle.syntax_trees.specs.Core as core;
-ghost use Rattle.syntax_trees.specs.Resolved as rules;
+ghost use Rattle.language.specs.Core as core;
+ghost use Rattle.language.specs.Resolved as rules;
 ghost use Rattle.syntax_trees.specs.View.{composite_of, part_of, tree_of};
 ghost use Rattle.types.specs.Typed.{table_of};
 ghost use Rattle.flow.specs.View.{block_view, core_of, function_view, statements_view};
 ghost use Rattle.lowering.specs.View.{own_statements, function_core};
 ghost use Rattle.flow.specs.Shapes.{block_declared, declared_of, functions_declared, kinds_of, kinds_of_function};
-ghost use Rattle.syntax_trees.specs.Scopes.{signature_of, signatures};
-ghost use Rattle.well_formed.specs.Types.{body_declarations};
+ghost use Rattle.language.specs.Scopes.{signature_of, signatures};
+ghost use Rattle.language_accepted.specs.Types.{body_declarations};
 ghost use Rattle.lowering.specs.Shapes.{declared_by, flagged, function_declarations, kinds_of_signature, own_declarations};
 
 use crate::names::variables;

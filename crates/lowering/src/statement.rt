@@ -1,15 +1,15 @@
 //! Statements and the blocks inside them: what each does, behind the statements before it.
 ghost use Rattle.std.specs.Prelude.{◌≡◌, ℕ, ◌++◌, ◌∷◌, [], IfOk, IsOkAnd, OnOk, map, option_map};
-ghost use Rattle.syntax_trees.specs.Core as core;
-ghost use Rattle.syntax_trees.specs.Tree as trees;
-ghost use Rattle.syntax_trees.specs.Resolved as rules;
+ghost use Rattle.language.specs.Core as core;
+ghost use Rattle.language.specs.Tree as trees;
+ghost use Rattle.language.specs.Resolved as rules;
 ghost use Rattle.syntax_trees.specs.View.{word_of, words_view, expression_view, declaration_of, right_of, over_of, statement_view, command_view, body_view};
 ghost use Rattle.types.specs.Typed.{table_of};
 ghost use Rattle.flow.specs.View as seen;
 ghost use Rattle.flow.specs.View.{action_view, block_view, name_view, outer_view, statements_view};
 ghost use Rattle.lowering.specs.View.{statement_alone, command_alone, statements_among};
 ghost use Rattle.flow.specs.Shapes.{action_declared, block_declared, is_array};
-ghost use Rattle.well_formed.specs.Types.{statement_declarations, command_declarations, body_declarations};
+ghost use Rattle.language_accepted.specs.Types.{statement_declarations, command_declarations, body_declarations};
 ghost use Rattle.lowering.specs.Shapes.{among, declared_by, flagged};
 
 use crate::names::{all, optional, refer, variable};

@@ -1,17 +1,17 @@
 //! What is said of blocked statements and faults, and of an end at a limit, where that is wanted.
 
-use blocked_words::blocked::add_all_blocked;
-use blocked_words::index::Index;
-use blocked_words::scene::Scene;
-use blocked_words::writers::Writers;
 use compile::compile::read;
 use compile::fault::CompileFault;
-use fault_words::faults::{add_all_faults, add_printed_fault, known_for};
-use fault_words::limits::add_limit_of_rounds;
-use fault_words::printed::Printed;
+use explain_blocked::blocked::add_all_blocked;
+use explain_blocked::index::Index;
+use explain_blocked::scene::Scene;
+use explain_blocked::writers::Writers;
+use explain_faults::faults::{add_all_faults, add_printed_fault, known_for};
+use explain_faults::limits::add_limit_of_rounds;
+use explain_faults::printed::Printed;
 use flow::script::Flow;
-use script_meaning::knowledge::Knowledge;
-use script_rounds::rounds;
+use meaning::rounds;
+use meaning_outcomes::knowledge::Knowledge;
 use std::alloc::{AllocError, Global};
 
 /// What is told of a script.

@@ -2,10 +2,10 @@
 
 use board::board::Board;
 use board::refusal::Refusal;
-use board_code::program::Program;
+use board_program::program::Program;
+use board_runs::turn::finish;
 use compile::compile::compile;
 use compile::fault::CompileFault;
-use runs::turn::finish;
 use std::alloc::{AllocError, Global};
 use swt_trace::fault::TraceFault;
 use swt_trace::read::read_trace;

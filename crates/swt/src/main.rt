@@ -9,9 +9,8 @@ use crate::explain::{explain_blocked, explain_fault, explain_meaning};
 use crate::left::left_behind;
 use crate::progress::Teller;
 use bumpalo::Bump;
-use exit_status::status::Status;
-use explanation::refusal::explained;
-use fault_words::limits::add_limit_of_steps;
+use explain_faults::limits::add_limit_of_steps;
+use explain_refusals::refusal::explained;
 use std::alloc::{AllocError, Global};
 use std::io::{self, Write};
 use std::os::unix::fs::MetadataExt;
@@ -19,13 +18,14 @@ use std::process::ExitCode;
 use std::sync::Wait;
 use std::thread::Threads;
 use std::{env, fs};
+use swt_arguments::complaint::first_wrong;
+use swt_arguments::fault::LineFault;
+use swt_arguments::line::Line;
+use swt_arguments::request::Request;
+use swt_arguments::word::Word;
 use swt_command::buffer::Buffer;
 use swt_command::command::command;
-use swt_line::complaint::first_wrong;
-use swt_line::fault::LineFault;
-use swt_line::line::Line;
-use swt_line::request::Request;
-use swt_line::word::Word;
+use swt_status::status::Status;
 
 fn main(rt: HostRuntime) -> ExitCode {
     let status = match words(&rt) {

@@ -1,11 +1,11 @@
 -- Files that are checked one after another.
 use Rattle.std.proofs.Common.{◌≡◌, ◌∙◌, sym, ap, refl, inl, inr, subst, ◌⊎◌, ℕ, zero, suc, ◌+◌, ◌<◌, List, [], ◌∷◌, ◌++◌, length, get_or, arith, append-nil, append_assoc, length-append, Option, Some, None, Ok, Err}
 use Rattle.std.specs.Prelude.{slice_get}
-use Rattle.refusals.specs.declared.refusal.Refusal.{Refusal}
-use Rattle.refusals.specs.Verdicts.{Verdict}
-use Rattle.exit_status.specs.declared.status.Status.{Status}
-use Rattle.exit_status.specs.declared.status.Status.TheVariants as Ends
-use Rattle.stops.specs.declared.trouble.Trouble.{Trouble}
+use Rattle.swt_status.specs.declared.refusal.Refusal.{Refusal}
+use Rattle.swt_status.specs.Verdicts.{Verdict}
+use Rattle.swt_status.specs.declared.status.Status.{Status}
+use Rattle.swt_status.specs.declared.status.Status.TheVariants as Ends
+use Rattle.swt_status.specs.declared.trouble.Trouble.{Trouble}
 use Rattle.swt_command.specs.Checks.{AreVerdicts, Checks, HasVerdict, IsSaid, Judged, StopsBy, after, check_status, verdict_line, verdict_lines}
 use Rattle.swt_command.specs.Files.{Files, name_at, source_of}
 use Rattle.swt_command.specs.Sinks.{Held, Took}

@@ -3,20 +3,20 @@ use Rattle.std.proofs.Common.{◌≡◌, ◌∙◌, sym, ap, refl, subst, inl, i
 use Rattle.std.proofs.lemmas.Option.{slice_get-get_or}
 use Rattle.std.specs.Prelude.{slice_get}
 use Rattle.dataflow.specs.System.{In}
-use Rattle.board_frames.specs.declared.place.Fault.{Fault}
-use Rattle.board_frames.specs.declared.place.Statement.{Statement}
-use Rattle.runs.specs.declared.report.End.{End}
-use Rattle.runs.specs.declared.report.End.TheVariants as Was
-use Rattle.runs.specs.declared.report.Report.{Report}
-use Rattle.swt_line.specs.declared.line.Line.{Line}
-use Rattle.swt_line.specs.declared.line.Line.TheVariants as Lines
-use Rattle.refusals.specs.Verdicts.{Verdict}
-use Rattle.exit_status.specs.declared.status.Status.{Status}
-use Rattle.exit_status.specs.Statuses.{end_status, number_of, report_status}
-use Rattle.stops.specs.declared.stop.Stop.{Stop}
-use Rattle.stops.specs.Troubles.{trouble_status}
-use Rattle.stops.specs.declared.trouble.Trouble.{Trouble}
-use Rattle.stops.specs.declared.trouble.Trouble.TheVariants as Is
+use Rattle.board_instances.specs.declared.place.Fault.{Fault}
+use Rattle.board_instances.specs.declared.place.Statement.{Statement}
+use Rattle.board_runs.specs.declared.report.End.{End}
+use Rattle.board_runs.specs.declared.report.End.TheVariants as Was
+use Rattle.board_runs.specs.declared.report.Report.{Report}
+use Rattle.swt_arguments.specs.declared.line.Line.{Line}
+use Rattle.swt_arguments.specs.declared.line.Line.TheVariants as Lines
+use Rattle.swt_status.specs.Verdicts.{Verdict}
+use Rattle.swt_status.specs.declared.status.Status.{Status}
+use Rattle.swt_status.specs.Statuses.{end_status, number_of, report_status}
+use Rattle.swt_status.specs.declared.stop.Stop.{Stop}
+use Rattle.swt_status.specs.Troubles.{trouble_status}
+use Rattle.swt_status.specs.declared.trouble.Trouble.{Trouble}
+use Rattle.swt_status.specs.declared.trouble.Trouble.TheVariants as Is
 use Rattle.swt_command.specs.declared.told.Told.{Told}
 use Rattle.swt_command.specs.Causes.{Accepted, AtLimit, Informed, IsDone, LeftBlocked, MetFault, Reported}
 use Rattle.swt_command.specs.Checks.{HasVerdict, Judged, check_status}

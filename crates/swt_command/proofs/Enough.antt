@@ -5,14 +5,14 @@ use Rattle.dataflow.proofs.Ever.{either_way}
 use Rattle.values.specs.declared.key.Key.{Key}
 use Rattle.values.specs.declared.value.Scalar.{Scalar}
 use Rattle.values.specs.declared.value.Value.{Value}
-use Rattle.syntax_trees.specs.Core.{Form, Cell, Core, Action, declare, call_alone, assign, fill, insert, print, assert, when, choose, range, each, wait}
-use Rattle.syntax_trees.specs.Facts.{Fault, Fact, Knowledge, OneWrite}
-use Rattle.syntax_trees.specs.Meaning.{Gives, computed, faulty, found, missing, Comes, before, now, ComeAll, none_comes, next_comes, New, cell_value, cell_fault, assigned, filled, inserted, printed, bad_range, too_deep_header, too_deep_call, written_twice, Known, Meaning, IsFinished}
-use Rattle.syntax_trees.specs.Outcomes.{Blocked, Faults, Lines, OwnFact}
-use Rattle.syntax_trees.specs.Places.{Path, Place}
-use Rattle.meaning_laws.proofs.Growth.{Grows, keeps_closed, keeps_ready, keeps_stmt}
-use Rattle.meaning_laws.proofs.OneValue.{keeps_answer}
-use Rattle.meaning_laws.proofs.Rounds.{known_later}
+use Rattle.language.specs.Core.{Form, Cell, Core, Action, declare, call_alone, assign, fill, insert, print, assert, when, choose, range, each, wait}
+use Rattle.language.specs.Facts.{Fault, Fact, Knowledge, OneWrite}
+use Rattle.language.specs.Meaning.{Gives, computed, faulty, found, missing, Comes, before, now, ComeAll, none_comes, next_comes, New, cell_value, cell_fault, assigned, filled, inserted, printed, bad_range, too_deep_header, too_deep_call, written_twice, Known, Meaning, IsFinished}
+use Rattle.language.specs.Outcomes.{Blocked, Faults, Lines, OwnFact}
+use Rattle.language.specs.Places.{Path, Place}
+use Rattle.language_laws.proofs.Growth.{Grows, keeps_closed, keeps_ready, keeps_stmt}
+use Rattle.language_laws.proofs.OneValue.{keeps_answer}
+use Rattle.language_laws.proofs.Rounds.{known_later}
 
 -- THE SAME KNOWLEDGE
 

@@ -3,25 +3,25 @@ use Rattle.std.proofs.Common.{◌≡◌, ◌∙◌, sym, ap, refl, subst, inl, i
 use Rattle.std.proofs.lemmas.Option.{slice_get-get_or}
 use Rattle.std.specs.Prelude.{is_some}
 use Rattle.task_code.specs.Code.{Code as ScriptCode}
-use Rattle.board_frames.specs.declared.place.Fault.{Fault}
-use Rattle.board_frames.specs.declared.place.Statement.{Statement}
-use Rattle.runs.specs.declared.report.End.{End}
-use Rattle.runs.specs.declared.report.End.TheVariants as Was
-use Rattle.runs.specs.declared.report.Report.{Report}
-use Rattle.swt_line.specs.Lines.{files_of}
-use Rattle.swt_line.specs.declared.line.Line.{Line}
-use Rattle.swt_line.specs.declared.line.Line.TheVariants as Lines
+use Rattle.board_instances.specs.declared.place.Fault.{Fault}
+use Rattle.board_instances.specs.declared.place.Statement.{Statement}
+use Rattle.board_runs.specs.declared.report.End.{End}
+use Rattle.board_runs.specs.declared.report.End.TheVariants as Was
+use Rattle.board_runs.specs.declared.report.Report.{Report}
+use Rattle.swt_arguments.specs.Lines.{files_of}
+use Rattle.swt_arguments.specs.declared.line.Line.{Line}
+use Rattle.swt_arguments.specs.declared.line.Line.TheVariants as Lines
 use Rattle.swt_trace.specs.Replay.{IsFirstNoStep}
 use Rattle.swt_trace.specs.Trace.{IsFirstBad}
-use Rattle.refusals.specs.declared.refusal.Refusal.{Refusal}
-use Rattle.refusals.specs.Verdicts.{Verdict}
-use Rattle.exit_status.specs.declared.status.Status.{Status}
-use Rattle.exit_status.specs.Statuses.{end_status, number_of}
-use Rattle.stops.specs.declared.stop.Stop.{Stop}
-use Rattle.stops.specs.declared.trouble.Trouble.{Trouble}
-use Rattle.stops.specs.declared.trouble.Trouble.TheVariants as Is
-use Rattle.stops.specs.Troubles.{trouble_status}
-use Rattle.stops.specs.Traces.{StopsAtTrace}
+use Rattle.swt_status.specs.declared.refusal.Refusal.{Refusal}
+use Rattle.swt_status.specs.Verdicts.{Verdict}
+use Rattle.swt_status.specs.declared.status.Status.{Status}
+use Rattle.swt_status.specs.Statuses.{end_status, number_of}
+use Rattle.swt_status.specs.declared.stop.Stop.{Stop}
+use Rattle.swt_status.specs.declared.trouble.Trouble.{Trouble}
+use Rattle.swt_status.specs.declared.trouble.Trouble.TheVariants as Is
+use Rattle.swt_status.specs.Troubles.{trouble_status}
+use Rattle.swt_status.specs.Traces.{StopsAtTrace}
 use Rattle.swt_command.specs.Causes.{HasFailed, IsReplay, IsRun, LacksMemory, PrintedBefore, no_run, no_thread, no_trace, stranger, unprinted, unread, untraced}
 use Rattle.swt_command.specs.Checks.{Judged, StopsBy, check_status}
 use Rattle.swt_command.specs.Files.{Files, HasCode, StopsAt, name_at, source_of}

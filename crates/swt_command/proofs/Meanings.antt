@@ -1,14 +1,14 @@
 -- What `mean` prints where its rounds were enough.
 use Rattle.std.proofs.Common.{◌≡◌, subst, inl, inr, ◌⊎◌, ℕ, Bool, true, List}
-use Rattle.syntax_trees.specs.Core.{Core}
-use Rattle.syntax_trees.specs.Facts.{Knowledge}
-use Rattle.syntax_trees.specs.Meaning.{Known, Meaning}
-use Rattle.agreement.specs.Headline.{script_fault, script_path}
+use Rattle.language.specs.Core.{Core}
+use Rattle.language.specs.Facts.{Knowledge}
+use Rattle.language.specs.Meaning.{Known, Meaning}
+use Rattle.code_rules.specs.Headline.{script_fault, script_path}
 use Rattle.board.specs.Blocked.{path_of}
 use Rattle.board.specs.View.{kind_of_fault}
-use Rattle.board_frames.specs.declared.place.Fault.{Fault}
-use Rattle.board_frames.specs.declared.place.Statement.{Statement}
-use Rattle.swt_line.specs.declared.line.Line.TheVariants.{Mean}
+use Rattle.board_instances.specs.declared.place.Fault.{Fault}
+use Rattle.board_instances.specs.declared.place.Statement.{Statement}
+use Rattle.swt_arguments.specs.declared.line.Line.TheVariants.{Mean}
 use Rattle.swt_command.specs.declared.told.Told.{Told}
 use Rattle.swt_command.specs.Causes.{Informed, IsDone, LeftBlocked, MetFault}
 use Rattle.swt_command.specs.Files.{Files}

@@ -6,41 +6,41 @@ use Rattle.std.specs.Ordering.{nat_cmp}
 use Rattle.dataflow.specs.System.{In}
 use Rattle.values.specs.declared.key.Key.{Key}
 use Rattle.values.specs.Keys.{key_below, same_key}
-use Rattle.syntax_trees.specs.Core.{Core}
-use Rattle.syntax_trees.specs.Facts as Facts
-use Rattle.syntax_trees.specs.Meaning.{Known}
-use Rattle.syntax_trees.specs.Members.{◌∈◌}
-use Rattle.syntax_trees.specs.Outcomes.{Blocked, Faults, Lines}
-use Rattle.syntax_trees.specs.Places.{Path}
+use Rattle.language.specs.Core.{Core}
+use Rattle.language.specs.Facts as Facts
+use Rattle.language.specs.Meaning.{Known}
+use Rattle.language.specs.Members.{◌∈◌}
+use Rattle.language.specs.Outcomes.{Blocked, Faults, Lines}
+use Rattle.language.specs.Places.{Path}
 use Rattle.task_code.specs.Places as Places
 use Rattle.task_code.proofs.Checked.{or_true, true_or}
 use Rattle.task_code.proofs.Equal.{both_true, nat_same, nat_sound, true_and}
-use Rattle.agreement.specs.Headline.{script_fault, script_path}
-use Rattle.agreement.proofs.Members.{from_in, to_in}
+use Rattle.code_rules.specs.Headline.{script_fault, script_path}
+use Rattle.code_rules.proofs.Members.{from_in, to_in}
 use Rattle.board.specs.Blocked.{InTextOrder, comes_before, path_below, path_of}
 use Rattle.board.specs.View.{kind_of_fault, path_view}
-use Rattle.board_frames.specs.View.{step_view}
-use Rattle.board_frames.specs.declared.place.Fault.{Fault}
-use Rattle.board_frames.specs.declared.place.FaultKind.{FaultKind}
-use Rattle.board_frames.specs.declared.place.Statement.{Statement}
-use Rattle.board_frames.specs.declared.place.Step.{Step}
-use Rattle.whole_facts.specs.declared.facts.FaultKind.{FaultKind as MeantKind}
-use Rattle.whole_facts.specs.declared.facts.FaultKind.TheVariants as Kind
-use Rattle.whole_facts.specs.declared.instances.Step.{Step as MeantStep}
-use Rattle.whole_facts.specs.Kinds.{kind_view}
-use Rattle.whole_facts.specs.Paths as meant
-use Rattle.script_meaning.specs.declared.knowledge.Knowledge.{Knowledge}
-use Rattle.script_meaning.specs.declared.order.Fault.{Fault as MeantFault}
-use Rattle.script_meaning.specs.declared.order.Statement.{Statement as MeantStatement}
-use Rattle.script_meaning.specs.Known.{IsKnowledgeOf}
-use Rattle.script_meaning.specs.Lists.{IsInOrder}
-use Rattle.script_meaning.specs.Order.{fault_below, fault_number, same_path, same_statement, statement_below}
-use Rattle.script_meaning.specs.Order as order
-use Rattle.script_meaning.specs.Read.{AreBlocked, AreFaults}
-use Rattle.script_meaning.specs.Read as read
-use Rattle.script_meaning.proofs.Orders.{path_order}
-use Rattle.script_meaning.proofs.Steps.{turned}
-use Rattle.runs.specs.Same.{place_view}
+use Rattle.board_instances.specs.View.{step_view}
+use Rattle.board_instances.specs.declared.place.Fault.{Fault}
+use Rattle.board_instances.specs.declared.place.FaultKind.{FaultKind}
+use Rattle.board_instances.specs.declared.place.Statement.{Statement}
+use Rattle.board_instances.specs.declared.place.Step.{Step}
+use Rattle.meaning_facts.specs.declared.facts.FaultKind.{FaultKind as MeantKind}
+use Rattle.meaning_facts.specs.declared.facts.FaultKind.TheVariants as Kind
+use Rattle.meaning_facts.specs.declared.instances.Step.{Step as MeantStep}
+use Rattle.meaning_facts.specs.Kinds.{kind_view}
+use Rattle.meaning_facts.specs.Paths as meant
+use Rattle.meaning_outcomes.specs.declared.knowledge.Knowledge.{Knowledge}
+use Rattle.meaning_outcomes.specs.declared.order.Fault.{Fault as MeantFault}
+use Rattle.meaning_outcomes.specs.declared.order.Statement.{Statement as MeantStatement}
+use Rattle.meaning_outcomes.specs.Known.{IsKnowledgeOf}
+use Rattle.meaning_outcomes.specs.Lists.{IsInOrder}
+use Rattle.meaning_outcomes.specs.Order.{fault_below, fault_number, same_path, same_statement, statement_below}
+use Rattle.meaning_outcomes.specs.Order as order
+use Rattle.meaning_outcomes.specs.Read.{AreBlocked, AreFaults}
+use Rattle.meaning_outcomes.specs.Read as read
+use Rattle.meaning_outcomes.proofs.Orders.{path_order}
+use Rattle.meaning_outcomes.proofs.Steps.{turned}
+use Rattle.board_runs.specs.Same.{place_view}
 use Rattle.swt_command.specs.declared.told.Told.{Told}
 use Rattle.swt_command.specs.Means.{AreEnough, AreKnown, InFaultOrder, IsTold, behind_it, fault_before, kind_number}
 use Rattle.swt_command.specs.Plain.{meant_fault, meant_kind, meant_path, meant_place, meant_step, told_fault}

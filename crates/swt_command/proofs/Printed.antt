@@ -1,22 +1,22 @@
 -- What a run prints, against the script.
 use Rattle.std.proofs.Common.{◌≡◌, ◌∙◌, sym, ap, refl, inl, inr, ◌⊎◌, ℕ, List, [], ◌∷◌, arith, Option, Result, Ok, Err}
 use Rattle.std.specs.Prelude.{Bool, is_some}
-use Rattle.syntax_trees.specs.Resolved.{core}
+use Rattle.language.specs.Resolved.{core}
 use Rattle.task_code.specs.Code.{Code}
-use Rattle.board_frames.specs.declared.place.Statement.{Statement}
-use Rattle.runs.specs.declared.report.End.{End}
-use Rattle.runs.specs.declared.report.End.TheVariants as Was
-use Rattle.runs.specs.declared.report.Report.{Report}
+use Rattle.board_instances.specs.declared.place.Statement.{Statement}
+use Rattle.board_runs.specs.declared.report.End.{End}
+use Rattle.board_runs.specs.declared.report.End.TheVariants as Was
+use Rattle.board_runs.specs.declared.report.Report.{Report}
 use Rattle.swt_trace.specs.Report.{ReportText}
-use Rattle.swt_line.specs.declared.line.Line.{Line}
-use Rattle.swt_line.specs.declared.line.Line.TheVariants as Lines
-use Rattle.swt_line.specs.declared.line.Line.TheVariants.{Run, Replay}
-use Rattle.exit_status.specs.declared.status.Status.{Status}
-use Rattle.exit_status.specs.Statuses.{end_status, number_of}
-use Rattle.stops.specs.declared.stop.Stop.{Stop}
-use Rattle.stops.specs.declared.trouble.Trouble.{Trouble}
-use Rattle.stops.specs.declared.trouble.Trouble.TheVariants as Is
-use Rattle.stops.specs.Troubles.{trouble_status}
+use Rattle.swt_arguments.specs.declared.line.Line.{Line}
+use Rattle.swt_arguments.specs.declared.line.Line.TheVariants as Lines
+use Rattle.swt_arguments.specs.declared.line.Line.TheVariants.{Run, Replay}
+use Rattle.swt_status.specs.declared.status.Status.{Status}
+use Rattle.swt_status.specs.Statuses.{end_status, number_of}
+use Rattle.swt_status.specs.declared.stop.Stop.{Stop}
+use Rattle.swt_status.specs.declared.trouble.Trouble.{Trouble}
+use Rattle.swt_status.specs.declared.trouble.Trouble.TheVariants as Is
+use Rattle.swt_status.specs.Troubles.{trouble_status}
 use Rattle.swt_command.specs.Causes.{Reported}
 use Rattle.swt_command.specs.Files.{Files, HasCode}
 use Rattle.swt_command.specs.OneThread.{IsMeantBy, PrintsWhole}

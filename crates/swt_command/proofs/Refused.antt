@@ -2,10 +2,10 @@
 use Rattle.std.proofs.Common.{◌≡◌, refl, sym, subst, ℕ, List, Option, Some, None}
 use Rattle.compile.specs.declared.fault.CompileFault.{CompileFault}
 use Rattle.compile.specs.Accepted.{IsUnfit}
-use Rattle.refusals.specs.declared.refusal.Refusal.{Refusal}
-use Rattle.refusals.specs.Names.{refusal_of}
-use Rattle.refusals.proofs.Refused.{is_unfit}
-use Rattle.stops.specs.declared.trouble.Trouble.{Trouble}
+use Rattle.swt_status.specs.declared.refusal.Refusal.{Refusal}
+use Rattle.swt_status.specs.Names.{refusal_of}
+use Rattle.swt_status.proofs.Refused.{is_unfit}
+use Rattle.swt_status.specs.declared.trouble.Trouble.{Trouble}
 use Rattle.swt_command.specs.Files.{Files, StopsAt, source_of}
 use Rattle.swt_command.specs.Troubles.{trouble_of}
 

@@ -1,23 +1,23 @@
 -- A report of a run of a script's code, against the script.
 use Rattle.std.proofs.Common.{◌≡◌, ℕ, ◌+◌, List, [], ◌∷◌, ◌++◌, refl, sym, subst}
 use Rattle.dataflow.specs.Machine.{Event, Begin, End as Over, Back, Steps, start}
-use Rattle.syntax_trees.specs.Core.{Core}
-use Rattle.syntax_trees.specs.Meaning.{Meaning}
-use Rattle.syntax_trees.specs.Outcomes.{Clean, Lines, Faults}
-use Rattle.syntax_trees.specs.Resolved.{core}
+use Rattle.language.specs.Core.{Core}
+use Rattle.language.specs.Meaning.{Meaning}
+use Rattle.language.specs.Outcomes.{Clean, Lines, Faults}
+use Rattle.language.specs.Resolved.{core}
 use Rattle.task_code.specs.Code.{Code}
 use Rattle.task_code.specs.Machine.{CodeState, CodeStep, Run, Quiet}
 use Rattle.task_code.specs.System.{code_system}
-use Rattle.agreement.specs.Headline.{Headline, Agrees, PartOfLines, script_path, script_fault}
-use Rattle.board_frames.specs.declared.place.Fault.{Fault}
+use Rattle.code_rules.specs.Headline.{Headline, Agrees, PartOfLines, script_path, script_fault}
+use Rattle.board_instances.specs.declared.place.Fault.{Fault}
 use Rattle.board.specs.Blocked.{AreBlocked, IsFaultOf, path_of}
 use Rattle.board.specs.Board.{Seen}
 use Rattle.board.specs.View.{kind_of_fault}
-use Rattle.runs.specs.declared.report.End.{End}
-use Rattle.runs.specs.declared.report.End.TheVariants as Ends
-use Rattle.runs.specs.declared.report.Report.{Report}
-use Rattle.runs.specs.Report.{AreBlockedAt, EndsAs, Reports, Tells}
-use Rattle.runs.proofs.Printed.{texts_told}
+use Rattle.board_runs.specs.declared.report.End.{End}
+use Rattle.board_runs.specs.declared.report.End.TheVariants as Ends
+use Rattle.board_runs.specs.declared.report.Report.{Report}
+use Rattle.board_runs.specs.Report.{AreBlockedAt, EndsAs, Reports, Tells}
+use Rattle.board_runs.proofs.Printed.{texts_told}
 use Rattle.workers.specs.declared.run.PoolCount.{PoolCount}
 use Rattle.workers.specs.Reports.{IsReport}
 use Rattle.workers.specs.Threads.{RunsTo, nothing, begins, ends, gives_back}

@@ -1,15 +1,15 @@
 -- Where commands stop.
 use Rattle.std.proofs.Common.{◌≡◌, refl, sym, subst, ℕ, zero, suc, Bool, true, List, Option, Some, None, Result, Ok, Err}
 use Rattle.std.specs.Prelude.{IsErrAnd, MatchResult}
-use Rattle.runs.specs.declared.report.Report.{Report}
+use Rattle.board_runs.specs.declared.report.Report.{Report}
 use Rattle.swt_trace.specs.Report.{ReportText}
 use Rattle.task_code.specs.Code.{Code}
-use Rattle.exit_status.specs.declared.status.Status.{Status}
-use Rattle.exit_status.specs.Statuses.{report_status}
-use Rattle.stops.specs.declared.stop.Stop.{Stop}
-use Rattle.stops.specs.declared.trouble.Trouble.{Trouble}
-use Rattle.stops.specs.declared.trouble.Trouble.TheVariants as Is
-use Rattle.stops.specs.Traces.{StopsAtTrace}
+use Rattle.swt_status.specs.declared.status.Status.{Status}
+use Rattle.swt_status.specs.Statuses.{report_status}
+use Rattle.swt_status.specs.declared.stop.Stop.{Stop}
+use Rattle.swt_status.specs.declared.trouble.Trouble.{Trouble}
+use Rattle.swt_status.specs.declared.trouble.Trouble.TheVariants as Is
+use Rattle.swt_status.specs.Traces.{StopsAtTrace}
 use Rattle.swt_command.specs.Files.{Files, HasCode, StopsAt, source_of}
 use Rattle.swt_command.specs.Listings.{StopsListing}
 use Rattle.swt_command.specs.Means.{StopsMean}

@@ -2,20 +2,20 @@
 use Rattle.std.specs.Prelude.{◌≡◌, ◌⊎◌, ℕ, ◌<◌, true, false, List, [], length, Some, None}
 use Rattle.dataflow.specs.System.{In}
 use Rattle.task_code.specs.Code.{Code as ScriptCode}
-use Rattle.board_frames.specs.declared.place.Fault.{Fault}
-use Rattle.board_frames.specs.declared.place.Statement.{Statement}
-use Rattle.runs.specs.declared.report.End.TheVariants as Was
-use Rattle.runs.specs.declared.report.Report.{Report}
-use Rattle.swt_line.specs.Lines.{files_of}
-use Rattle.swt_line.specs.declared.line.Line.{Line}
-use Rattle.swt_line.specs.declared.line.Line.TheVariants.{Check, Mean, Code, Run, Replay}
+use Rattle.board_instances.specs.declared.place.Fault.{Fault}
+use Rattle.board_instances.specs.declared.place.Statement.{Statement}
+use Rattle.board_runs.specs.declared.report.End.TheVariants as Was
+use Rattle.board_runs.specs.declared.report.Report.{Report}
+use Rattle.swt_arguments.specs.Lines.{files_of}
+use Rattle.swt_arguments.specs.declared.line.Line.{Line}
+use Rattle.swt_arguments.specs.declared.line.Line.TheVariants.{Check, Mean, Code, Run, Replay}
 use Rattle.swt_trace.specs.Replay.{IsFirstNoStep}
 use Rattle.swt_trace.specs.Report.{ReportText}
 use Rattle.swt_trace.specs.Trace.{IsFirstBad}
-use Rattle.refusals.specs.declared.refusal.Refusal.{Refusal}
-use Rattle.refusals.specs.Verdicts.{IsRefusal, Verdict}
-use Rattle.stops.specs.declared.trouble.Trouble.{Trouble}
-use Rattle.stops.specs.declared.trouble.Trouble.TheVariants as Is
+use Rattle.swt_status.specs.declared.refusal.Refusal.{Refusal}
+use Rattle.swt_status.specs.Verdicts.{IsRefusal, Verdict}
+use Rattle.swt_status.specs.declared.trouble.Trouble.{Trouble}
+use Rattle.swt_status.specs.declared.trouble.Trouble.TheVariants as Is
 use Rattle.swt_command.specs.declared.told.Told.{Told}
 use Rattle.swt_command.specs.Checks.{Judged}
 use Rattle.swt_command.specs.Files.{Files, HasCode, source_of}

@@ -1,13 +1,13 @@
 -- What `check` owes: a line for each file, up to one that ends it.
 use Rattle.std.specs.Prelude.{◌≡◌, ℕ, ◌<◌, List, [], ◌∷◌, ◌++◌, length, Result, Ok, Err, Option, Some, None, slice_get, codes}
 use Rattle.swt_trace.specs.Report.{text_line}
-use Rattle.refusals.specs.Names.{refusal_text}
-use Rattle.refusals.specs.Verdicts.{IsVerdict, Verdict}
-use Rattle.exit_status.specs.declared.status.Status.{Status}
-use Rattle.exit_status.specs.declared.status.Status.TheVariants as Ends
-use Rattle.stops.specs.declared.stop.Stop.{Stop}
-use Rattle.stops.specs.declared.trouble.Trouble.{Trouble}
-use Rattle.stops.specs.declared.trouble.Trouble.TheVariants as Is
+use Rattle.swt_status.specs.Names.{refusal_text}
+use Rattle.swt_status.specs.Verdicts.{IsVerdict, Verdict}
+use Rattle.swt_status.specs.declared.status.Status.{Status}
+use Rattle.swt_status.specs.declared.status.Status.TheVariants as Ends
+use Rattle.swt_status.specs.declared.stop.Stop.{Stop}
+use Rattle.swt_status.specs.declared.trouble.Trouble.{Trouble}
+use Rattle.swt_status.specs.declared.trouble.Trouble.TheVariants as Is
 use Rattle.swt_command.specs.Files.{Files, source_of, name_at}
 use Rattle.swt_command.specs.Sinks.{Held, Kept, Took, Lost}
 

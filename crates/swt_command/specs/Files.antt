@@ -2,12 +2,12 @@
 use Rattle.std.specs.Prelude.{◌≡◌, ℕ, List, [], map, Option, Some, None, option_map, unwrap_or, slice_get, Vec}
 use Rattle.std.specs.Option.{option_flatten}
 use Rattle.task_code.specs.Code.{Code}
-use Rattle.syntax_trees.specs.Core.{Core}
+use Rattle.language.specs.Core.{Core}
 use Rattle.compile.specs.Accepted.{IsScriptOf}
 use Rattle.compile.specs.Compiled.{IsCompiled}
-use Rattle.refusals.specs.Verdicts.{IsRefusal}
-use Rattle.stops.specs.declared.trouble.Trouble.{Trouble}
-use Rattle.stops.specs.declared.trouble.Trouble.TheVariants.{Unread, Refused, Memory}
+use Rattle.swt_status.specs.Verdicts.{IsRefusal}
+use Rattle.swt_status.specs.declared.trouble.Trouble.{Trouble}
+use Rattle.swt_status.specs.declared.trouble.Trouble.TheVariants.{Unread, Refused, Memory}
 
 -- the bytes of each file, and none where it cannot be read
 abbrev pub Files : Type 0

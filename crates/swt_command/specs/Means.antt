@@ -6,26 +6,26 @@ use Rattle.std.specs.Ordering.{nat_cmp}
 use Rattle.dataflow.specs.System.{In}
 use Rattle.values.specs.declared.fault.OpFault.{OpFault}
 use Rattle.values.specs.declared.fault.OpFault.TheVariants as Of
-use Rattle.syntax_trees.specs.Core.{Core}
-use Rattle.syntax_trees.specs.Facts as Facts
-use Rattle.syntax_trees.specs.Facts.{Knowledge}
-use Rattle.syntax_trees.specs.Meaning.{IsFinished, Known, Meaning}
-use Rattle.syntax_trees.specs.Outcomes.{Blocked, Faults, Lines}
-use Rattle.syntax_trees.specs.Places.{Path}
-use Rattle.agreement.specs.Headline.{script_fault, script_path}
+use Rattle.language.specs.Core.{Core}
+use Rattle.language.specs.Facts as Facts
+use Rattle.language.specs.Facts.{Knowledge}
+use Rattle.language.specs.Meaning.{IsFinished, Known, Meaning}
+use Rattle.language.specs.Outcomes.{Blocked, Faults, Lines}
+use Rattle.language.specs.Places.{Path}
+use Rattle.code_rules.specs.Headline.{script_fault, script_path}
 use Rattle.board.specs.Blocked.{InTextOrder, path_below, path_of}
 use Rattle.board.specs.View.{kind_of_fault}
-use Rattle.board_frames.specs.declared.place.Fault.{Fault}
-use Rattle.board_frames.specs.declared.place.FaultKind.{FaultKind}
-use Rattle.board_frames.specs.declared.place.FaultKind.TheVariants.{OfEntry, ElementTwice}
-use Rattle.board_frames.specs.declared.place.Statement.{Statement}
-use Rattle.entry_outcomes.specs.declared.outcome.EntryFault.TheVariants.{InOperation, NoElement, TooDeep}
+use Rattle.board_instances.specs.declared.place.Fault.{Fault}
+use Rattle.board_instances.specs.declared.place.FaultKind.{FaultKind}
+use Rattle.board_instances.specs.declared.place.FaultKind.TheVariants.{OfEntry, ElementTwice}
+use Rattle.board_instances.specs.declared.place.Statement.{Statement}
+use Rattle.board_compute.specs.declared.outcome.EntryFault.TheVariants.{InOperation, NoElement, TooDeep}
 use Rattle.swt_trace.specs.Report.{blocked_line, fault_line, limit_line, text_line}
-use Rattle.exit_status.specs.declared.status.Status.{Status}
-use Rattle.exit_status.specs.declared.status.Status.TheVariants as Ends
-use Rattle.stops.specs.declared.stop.Stop.{Stop}
-use Rattle.stops.specs.declared.trouble.Trouble.{Trouble}
-use Rattle.stops.specs.declared.trouble.Trouble.TheVariants.{Unprinted}
+use Rattle.swt_status.specs.declared.status.Status.{Status}
+use Rattle.swt_status.specs.declared.status.Status.TheVariants as Ends
+use Rattle.swt_status.specs.declared.stop.Stop.{Stop}
+use Rattle.swt_status.specs.declared.trouble.Trouble.{Trouble}
+use Rattle.swt_status.specs.declared.trouble.Trouble.TheVariants.{Unprinted}
 use Rattle.swt_command.specs.declared.told.Told.{Told}
 use Rattle.swt_command.specs.Files.{Files, HasScript, StopsAt}
 use Rattle.swt_command.specs.Sinks.{Held, Kept, Took, Lost}

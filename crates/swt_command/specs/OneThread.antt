@@ -1,19 +1,19 @@
 -- What the report of a run, and what is printed of it, owe to the script.
 use Rattle.std.specs.Prelude.{◌≡◌, ℕ, List}
 use Rattle.dataflow.specs.System.{In}
-use Rattle.syntax_trees.specs.Core.{Core}
-use Rattle.syntax_trees.specs.Facts as Facts
-use Rattle.syntax_trees.specs.Meaning.{Meaning}
-use Rattle.syntax_trees.specs.Outcomes.{Blocked, Clean, Faults, Lines}
-use Rattle.syntax_trees.specs.Places.{Path}
+use Rattle.language.specs.Core.{Core}
+use Rattle.language.specs.Facts as Facts
+use Rattle.language.specs.Meaning.{Meaning}
+use Rattle.language.specs.Outcomes.{Blocked, Clean, Faults, Lines}
+use Rattle.language.specs.Places.{Path}
 use Rattle.task_code.specs.Places.{Step}
-use Rattle.agreement.specs.Headline.{PartOfLines, script_path, script_fault}
-use Rattle.board_frames.specs.declared.place.Fault.{Fault}
-use Rattle.board_frames.specs.declared.place.Statement.{Statement}
+use Rattle.code_rules.specs.Headline.{PartOfLines, script_path, script_fault}
+use Rattle.board_instances.specs.declared.place.Fault.{Fault}
+use Rattle.board_instances.specs.declared.place.Statement.{Statement}
 use Rattle.board.specs.Blocked.{InTextOrder, path_of}
 use Rattle.board.specs.View.{kind_of_fault}
-use Rattle.runs.specs.declared.report.End.TheVariants as Was
-use Rattle.runs.specs.declared.report.Report.{Report}
+use Rattle.board_runs.specs.declared.report.End.TheVariants as Was
+use Rattle.board_runs.specs.declared.report.Report.{Report}
 use Rattle.swt_trace.specs.Report.{ReportText}
 use Rattle.swt_command.specs.Files.{Files, HasScript}
 use Rattle.swt_command.specs.Sinks.{Held, Took}

@@ -1,12 +1,12 @@
 -- What a command owes for the files that its line names: what it prints, what it says of its failure, its trace and its status.
 use Rattle.std.specs.Prelude.{◌≡◌, ℕ, Result, Ok, Err, is_some}
-use Rattle.swt_line.specs.declared.line.Line.{Line}
-use Rattle.swt_line.specs.declared.line.Line.TheVariants.{Check, Mean, Code, Run, Replay}
-use Rattle.swt_line.specs.Lines.{files_of}
-use Rattle.exit_status.specs.declared.status.Status.{Status}
-use Rattle.exit_status.specs.Statuses.{number_of}
-use Rattle.stops.specs.declared.stop.Stop.{Stop}
-use Rattle.stops.specs.Troubles.{trouble_status}
+use Rattle.swt_arguments.specs.declared.line.Line.{Line}
+use Rattle.swt_arguments.specs.declared.line.Line.TheVariants.{Check, Mean, Code, Run, Replay}
+use Rattle.swt_arguments.specs.Lines.{files_of}
+use Rattle.swt_status.specs.declared.status.Status.{Status}
+use Rattle.swt_status.specs.Statuses.{number_of}
+use Rattle.swt_status.specs.declared.stop.Stop.{Stop}
+use Rattle.swt_status.specs.Troubles.{trouble_status}
 use Rattle.swt_command.specs.Checks.{Checks}
 use Rattle.swt_command.specs.Files.{Files, name_at}
 use Rattle.swt_command.specs.Listings.{Lists}

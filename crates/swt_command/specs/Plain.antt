@@ -3,15 +3,15 @@ use Rattle.std.specs.Prelude.{ℕ, List, map}
 use Rattle.task_code.specs.Places.{Step}
 use Rattle.values.specs.declared.fault.OpFault.TheVariants as Of
 use Rattle.board.specs.View.{path_view}
-use Rattle.board_frames.specs.declared.place.Fault.{Fault}
-use Rattle.board_frames.specs.declared.place.FaultKind.{FaultKind}
-use Rattle.board_frames.specs.declared.place.FaultKind.TheVariants.{ElementTwice, OfEntry}
-use Rattle.entry_outcomes.specs.declared.outcome.EntryFault.TheVariants.{InOperation, NoElement, TooDeep}
-use Rattle.whole_facts.specs.declared.facts.FaultKind.{FaultKind as MeantKind}
-use Rattle.whole_facts.specs.declared.facts.FaultKind.TheVariants as Kind
-use Rattle.whole_facts.specs.declared.instances.Step.{Step as MeantStep}
-use Rattle.script_meaning.specs.declared.order.Fault.{Fault as MeantFault}
-use Rattle.script_meaning.specs.declared.order.Statement.{Statement as MeantStatement}
+use Rattle.board_instances.specs.declared.place.Fault.{Fault}
+use Rattle.board_instances.specs.declared.place.FaultKind.{FaultKind}
+use Rattle.board_instances.specs.declared.place.FaultKind.TheVariants.{ElementTwice, OfEntry}
+use Rattle.board_compute.specs.declared.outcome.EntryFault.TheVariants.{InOperation, NoElement, TooDeep}
+use Rattle.meaning_facts.specs.declared.facts.FaultKind.{FaultKind as MeantKind}
+use Rattle.meaning_facts.specs.declared.facts.FaultKind.TheVariants as Kind
+use Rattle.meaning_facts.specs.declared.instances.Step.{Step as MeantStep}
+use Rattle.meaning_outcomes.specs.declared.order.Fault.{Fault as MeantFault}
+use Rattle.meaning_outcomes.specs.declared.order.Statement.{Statement as MeantStatement}
 
 abbrev pub meant_step : MeantStep → Step
 meant_step s = record { offset = s.at; key = s.key }

@@ -1,18 +1,18 @@
 -- What `run` and `replay` owe: the report of a run of the script.
 use Rattle.std.specs.Prelude.{◌≡◌, ◌⊎◌, ℕ, zero, suc, ◌+◌, ◌<◌, Bool, true, false, List, Result, Ok, Err, Some}
 use Rattle.task_code.specs.Code.{Code}
-use Rattle.runs.specs.declared.report.Report.{Report}
+use Rattle.board_runs.specs.declared.report.Report.{Report}
 use Rattle.swt_trace.specs.Replay.{ReplaysTo}
 use Rattle.swt_trace.specs.Report.{ReportText}
 use Rattle.swt_trace.specs.Trace.{TraceText}
 use Rattle.workers.specs.declared.run.PoolCount.{PoolCount}
 use Rattle.workers.specs.Reports.{IsReport}
-use Rattle.exit_status.specs.declared.status.Status.{Status}
-use Rattle.exit_status.specs.Statuses.{report_status}
-use Rattle.stops.specs.declared.stop.Stop.{Stop}
-use Rattle.stops.specs.declared.trouble.Trouble.{Trouble}
-use Rattle.stops.specs.declared.trouble.Trouble.TheVariants as Is
-use Rattle.stops.specs.Traces.{StopsAtTrace}
+use Rattle.swt_status.specs.declared.status.Status.{Status}
+use Rattle.swt_status.specs.Statuses.{report_status}
+use Rattle.swt_status.specs.declared.stop.Stop.{Stop}
+use Rattle.swt_status.specs.declared.trouble.Trouble.{Trouble}
+use Rattle.swt_status.specs.declared.trouble.Trouble.TheVariants as Is
+use Rattle.swt_status.specs.Traces.{StopsAtTrace}
 use Rattle.swt_command.specs.Files.{Files, source_of, HasCode, StopsAt}
 use Rattle.swt_command.specs.Sinks.{Held, Kept, Took, Lost}
 

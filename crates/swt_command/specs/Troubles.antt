@@ -4,10 +4,10 @@ use Rattle.std.specs.Fmt.{decimal}
 use Rattle.swt_trace.specs.Report.{text_line}
 use Rattle.workers.specs.declared.fault.RunFault.{RunFault}
 use Rattle.workers.specs.declared.fault.RunFault.TheVariants as Run
-use Rattle.refusals.specs.declared.refusal.Refusal.{Refusal}
-use Rattle.refusals.specs.Names.{refusal_text}
-use Rattle.stops.specs.declared.trouble.Trouble.{Trouble}
-use Rattle.stops.specs.declared.trouble.Trouble.TheVariants as Is
+use Rattle.swt_status.specs.declared.refusal.Refusal.{Refusal}
+use Rattle.swt_status.specs.Names.{refusal_text}
+use Rattle.swt_status.specs.declared.trouble.Trouble.{Trouble}
+use Rattle.swt_status.specs.declared.trouble.Trouble.TheVariants as Is
 
 -- the line, where the trouble is with a file of this name
 abbrev pub trouble_line : Trouble → List ℕ → List ℕ

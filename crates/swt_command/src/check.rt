@@ -9,13 +9,13 @@ use crate::parts::write_parts;
 use crate::scripts::source;
 use arrayvec::ArrayString;
 use bumpalo::Bump;
-use exit_status::status::Status;
-use refusals::refusal::Refusal;
-use refusals::verdict::verdict;
 use std::alloc::Global;
-use stops::stop::Stop;
-use stops::trouble::Trouble;
-use swt_line::word::Word;
+use swt_arguments::word::Word;
+use swt_status::refusal::Refusal;
+use swt_status::status::Status;
+use swt_status::stop::Stop;
+use swt_status::trouble::Trouble;
+use swt_status::verdict::verdict;
 use values::sink::{Sink, SinkFault};
 
 /// The most bytes of what is said of a file behind its name: `: refused ` and a refusal.

@@ -6,10 +6,10 @@ ghost use Rattle.swt_command.specs.Sinks.{held};
 
 use crate::scripts::{drawing_of, listing_of};
 use bumpalo::Bump;
-use exit_status::status::Status;
 use std::alloc::Global;
-use stops::stop::Stop;
-use stops::trouble::Trouble;
+use swt_status::status::Status;
+use swt_status::stop::Stop;
+use swt_status::trouble::Trouble;
 use values::sink::{Sink, SinkFault, write_all};
 
 /// Prints the listing of the code of the first file's script, or, where `dot` holds, the same drawn, as text for `dot`.

@@ -1,6 +1,6 @@
 //! The commands.
 ghost use Rattle.std.specs.Prelude.{◌≡◌, ◌<◌, ◌∷◌, []};
-ghost use Rattle.swt_line.specs.Lines.{files_of};
+ghost use Rattle.swt_arguments.specs.Lines.{files_of};
 ghost use Rattle.swt_command.specs.Files.{contents, name_at};
 ghost use Rattle.swt_command.specs.Owes.{Does, Owes};
 ghost use Rattle.swt_command.specs.Sinks.{held};
@@ -11,13 +11,13 @@ use crate::mean::mean;
 use crate::run::{replay, run};
 use crate::trouble::tell;
 use bumpalo::Bump;
-use exit_status::status::Status;
 use std::alloc::Global;
 use std::sync::Wait;
 use std::thread::Threads;
-use stops::stop::Stop;
-use swt_line::line::Line;
-use swt_line::word::Word;
+use swt_arguments::line::Line;
+use swt_arguments::word::Word;
+use swt_status::status::Status;
+use swt_status::stop::Stop;
 use values::sink::Sink;
 use workers::job::Gate;
 

@@ -10,10 +10,10 @@ ghost use Rattle.swt_command.specs.Sinks.{Writes, held};
 use crate::told::{Told, worked_out};
 use board::Fault;
 use bumpalo::Bump;
-use exit_status::status::Status;
 use std::alloc::Global;
-use stops::stop::Stop;
-use stops::trouble::Trouble;
+use swt_status::status::Status;
+use swt_status::stop::Stop;
+use swt_status::trouble::Trouble;
 use swt_trace::report::{write_blocked, write_fault, write_limit, write_lines};
 use values::sink::{Sink, SinkFault};
 

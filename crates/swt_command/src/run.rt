@@ -1,7 +1,7 @@
 //! Runs of scripts.
 ghost use Rattle.std.specs.Prelude.{◌≡◌, ◌<◌, true, MatchResult};
 ghost use Rattle.swt_trace.specs.Trace.{TraceText};
-ghost use Rattle.exit_status.specs.Statuses.{report_status};
+ghost use Rattle.swt_status.specs.Statuses.{report_status};
 ghost use Rattle.swt_command.specs.Files.{contents};
 ghost use Rattle.swt_command.specs.Runs.{Ran, Replayed, Replays, Runs, StopsBeforeReplay, StopsBeforeRun, Traces};
 ghost use Rattle.swt_command.specs.Sinks.{Lost, held};
@@ -9,15 +9,15 @@ ghost use Rattle.swt_command.specs.Troubles.{run_trouble};
 
 use crate::arena::empty;
 use crate::scripts::{code_of, program_of, source};
+use board_runs::report::Report;
 use bumpalo::Bump;
-use exit_status::status::{Status, status_of};
-use runs::report::Report;
 use std::alloc::Global;
 use std::sync::Wait;
 use std::thread::Threads;
-use stops::stop::Stop;
-use stops::trace::report_of_trace;
-use stops::trouble::Trouble;
+use swt_status::status::{Status, status_of};
+use swt_status::stop::Stop;
+use swt_status::trace::report_of_trace;
+use swt_status::trouble::Trouble;
 use swt_trace::report::write_report;
 use swt_trace::write::write_trace;
 use values::sink::Sink;

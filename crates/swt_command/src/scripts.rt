@@ -1,18 +1,18 @@
 //! The files and the scripts that a command reads.
 ghost use Rattle.std.specs.Prelude.{◌≡◌, Some, None, MatchResult};
-ghost use Rattle.refusals.specs.Names.{refusal_of};
+ghost use Rattle.swt_status.specs.Names.{refusal_of};
 ghost use Rattle.swt_command.specs.Listings.{IsAcceptedAt};
 ghost use Rattle.swt_command.specs.Files.{HasCode, StopsAt, contents, source_of};
 ghost use Rattle.swt_command.specs.Troubles.{trouble_of};
 
-use board_code::program::Program;
+use board_program::program::Program;
 use bumpalo::Bump;
 use compile::compile::{compile, drawn, listed};
 use compile::fault::CompileFault;
-use refusals::refusal::Refusal;
 use std::alloc::Global;
-use stops::stop::Stop;
-use stops::trouble::Trouble;
+use swt_status::refusal::Refusal;
+use swt_status::stop::Stop;
+use swt_status::trouble::Trouble;
 use task_code::code::Code;
 
 /// The bytes of the file of a place.

@@ -3,8 +3,8 @@ ghost use Rattle.std.specs.Prelude.{◌≡◌, List, ℕ, map, IfOk, MatchResult
 ghost use Rattle.compile.specs.Accepted.{IsScriptOf};
 ghost use Rattle.flow.specs.View.{core_of};
 ghost use Rattle.board.specs.View.{path_view};
-ghost use Rattle.board_frames.specs.View.{step_view};
-ghost use Rattle.runs.specs.Same.{place_view};
+ghost use Rattle.board_instances.specs.View.{step_view};
+ghost use Rattle.board_runs.specs.Same.{place_view};
 ghost use Rattle.swt_command.specs.Files.{HasScript, StopsAt, contents};
 ghost use Rattle.swt_command.specs.Means.{IsTold, ToldOf};
 ghost use Rattle.swt_command.specs.Plain.{meant_fault, meant_kind, meant_place, meant_step, told_fault};
@@ -14,15 +14,15 @@ use board::{EntryFault, Fault, FaultKind, Statement, Step};
 use bumpalo::Bump;
 use compile::compile::read;
 use flow::script::Flow;
-use script_meaning::order::{Fault as MeantFault, Statement as MeantStatement};
-use script_rounds::rounds;
+use meaning::rounds;
+use meaning_facts::facts::FaultKind as MeantKind;
+use meaning_facts::instances::Step as MeantStep;
+use meaning_outcomes::order::{Fault as MeantFault, Statement as MeantStatement};
 use std::alloc::{AllocError, Global};
-use stops::stop::Stop;
-use stops::trouble::Trouble;
+use swt_status::stop::Stop;
+use swt_status::trouble::Trouble;
 use values::fault::OpFault;
 use values::text::Text;
-use whole_facts::facts::FaultKind as MeantKind;
-use whole_facts::instances::Step as MeantStep;
 
 /// What is known of a script after some rounds.
 #[derive(Drop)]

@@ -5,7 +5,7 @@ ghost use Rattle.swt_command.specs.Troubles.{trouble_line};
 
 use crate::parts::write_parts;
 use itoa::Buffer;
-use stops::trouble::Trouble;
+use swt_status::trouble::Trouble;
 use values::sink::{Sink, SinkFault};
 
 /// Says what ended the command, of the file of this name.

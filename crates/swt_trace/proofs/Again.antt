@@ -13,11 +13,11 @@ use Rattle.task_code.specs.System.{code_system}
 use Rattle.task_code.specs.View.{event_view}
 use Rattle.task_code.specs.Whole.{IsCode}
 use Rattle.board.specs.Numbers.{number_in}
-use Rattle.runs.specs.declared.report.Report.{Report}
-use Rattle.runs.specs.Report.{Reports}
-use Rattle.runs.specs.Same.{SameReport}
-use Rattle.runs.proofs.Alike.{step_too}
-use Rattle.runs.proofs.Told.{told}
+use Rattle.board_runs.specs.declared.report.Report.{Report}
+use Rattle.board_runs.specs.Report.{Reports}
+use Rattle.board_runs.specs.Same.{SameReport}
+use Rattle.board_runs.proofs.Alike.{step_too}
+use Rattle.board_runs.proofs.Told.{told}
 use Rattle.swt_trace.specs.declared.fault.TraceFault.{TraceFault}
 use Rattle.swt_trace.specs.declared.fault.TraceFault.TheVariants as Read
 use Rattle.swt_trace.specs.declared.fault.ReplayFault.TheVariants as Replay

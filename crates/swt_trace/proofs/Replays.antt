@@ -7,8 +7,8 @@ use Rattle.task_code.specs.Code.{Code}
 use Rattle.task_code.specs.Machine.{Run}
 use Rattle.task_code.specs.View.{event_view}
 use Rattle.board.specs.Board.{IsWorker, Seen}
-use Rattle.runs.specs.declared.report.Report.{Report}
-use Rattle.runs.specs.Report.{Reports, Tells}
+use Rattle.board_runs.specs.declared.report.Report.{Report}
+use Rattle.board_runs.specs.Report.{Reports, Tells}
 use Rattle.swt_trace.specs.declared.fault.ReplayFault.{ReplayFault}
 use Rattle.swt_trace.specs.declared.fault.ReplayFault.TheVariants.{BadLine, Memory, NotARun}
 use Rattle.swt_trace.specs.Replay.{IsFirstNoStep, IsNoStep, ReplaysTo, Takes}

@@ -6,8 +6,8 @@ use Rattle.task_code.specs.Code.{Code}
 use Rattle.task_code.specs.Machine.{CodeState, CodeStep, Run}
 use Rattle.task_code.specs.View.{event_view}
 use Rattle.board.specs.Board.{Accepts, Seen}
-use Rattle.runs.specs.declared.report.Report.{Report}
-use Rattle.runs.specs.Report.{Reports}
+use Rattle.board_runs.specs.declared.report.Report.{Report}
+use Rattle.board_runs.specs.Report.{Reports}
 use Rattle.swt_trace.specs.Trace.{IsTrace, TraceText, most_events}
 
 -- the event is no step from the state

@@ -2,16 +2,16 @@
 use Rattle.std.specs.Prelude.{ℕ, List, [], ◌∷◌, ◌++◌, length, codes}
 use Rattle.std.specs.List.{flat_map}
 use Rattle.std.specs.Fmt.{decimal, signed_decimal}
-use Rattle.board_frames.specs.declared.place.Fault.{Fault}
-use Rattle.board_frames.specs.declared.place.FaultKind.{FaultKind}
-use Rattle.board_frames.specs.declared.place.FaultKind.TheVariants.{OfEntry, ElementTwice}
-use Rattle.board_frames.specs.declared.place.Statement.{Statement}
-use Rattle.board_frames.specs.declared.place.Step.{Step}
-use Rattle.entry_outcomes.specs.declared.outcome.EntryFault.{EntryFault}
-use Rattle.entry_outcomes.specs.declared.outcome.EntryFault.TheVariants.{InOperation, NoElement, TooDeep}
-use Rattle.runs.specs.declared.report.End.{End}
-use Rattle.runs.specs.declared.report.End.TheVariants as Ends
-use Rattle.runs.specs.declared.report.Report.{Report}
+use Rattle.board_instances.specs.declared.place.Fault.{Fault}
+use Rattle.board_instances.specs.declared.place.FaultKind.{FaultKind}
+use Rattle.board_instances.specs.declared.place.FaultKind.TheVariants.{OfEntry, ElementTwice}
+use Rattle.board_instances.specs.declared.place.Statement.{Statement}
+use Rattle.board_instances.specs.declared.place.Step.{Step}
+use Rattle.board_compute.specs.declared.outcome.EntryFault.{EntryFault}
+use Rattle.board_compute.specs.declared.outcome.EntryFault.TheVariants.{InOperation, NoElement, TooDeep}
+use Rattle.board_runs.specs.declared.report.End.{End}
+use Rattle.board_runs.specs.declared.report.End.TheVariants as Ends
+use Rattle.board_runs.specs.declared.report.Report.{Report}
 use Rattle.values.specs.declared.fault.OpFault.{OpFault}
 use Rattle.values.specs.declared.fault.OpFault.TheVariants as Of
 use Rattle.values.specs.declared.key.Key.{Key}

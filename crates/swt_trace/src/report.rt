@@ -11,9 +11,9 @@ ghost use Rattle.swt_trace.specs.Report.{ReportText, text_line, key_text, step_t
 use crate::fault::WriteFault;
 use arrayvec::ArrayString;
 use board::{Fault, FaultKind, Statement, Step};
-use entry_outcomes::outcome::EntryFault;
+use board_compute::outcome::EntryFault;
+use board_runs::report::{End, Report};
 use itoa::Buffer;
-use runs::report::{End, Report};
 use values::fault::OpFault;
 use values::key::Key;
 use values::sink::{Sink, SinkFault, write_all};

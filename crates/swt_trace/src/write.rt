@@ -5,8 +5,8 @@ ghost use Rattle.swt_trace.specs.Trace.{TraceText, event_line, first_line};
 
 use crate::fault::WriteFault;
 use arrayvec::ArrayString;
+use board_runs::report::Report;
 use itoa::Buffer;
-use runs::report::Report;
 use task_code::event::Event;
 use values::sink::{Sink, SinkFault, write_all};
 

@@ -3,21 +3,21 @@ use Rattle.std.specs.Prelude.{◌*◌, Ok, map, sum_by}
 use Rattle.std.proofs.Common.{◌≡◌, ℕ, zero, suc, ◌+◌, ◌≤◌, length, List, [], ◌∷◌, Option, Some, None, Bool, true, false, refl, ap, sym, ◌∙◌, arith}
 use Rattle.std.proofs.lemmas.List.{length-map}
 use Rattle.std.proofs.lemmas.List.Sums.{sum_by-cons}
-use Rattle.syntax_trees.specs.declared.tree.Level.{Level}
-use Rattle.syntax_trees.specs.declared.tree.Operator.{Operator}
-use Rattle.syntax_trees.specs.Tree.{Expression, expressions_of, RightSide, Over, range, Statement, statements_of, Body, body, Part, Tree}
-use Rattle.syntax_trees.specs.View.{choice_of}
+use Rattle.language.specs.declared.tree.Level.{Level}
+use Rattle.language.specs.declared.tree.Operator.{Operator}
+use Rattle.language.specs.Tree.{Expression, expressions_of, RightSide, Over, range, Statement, statements_of, Body, body, Part, Tree}
+use Rattle.language.specs.Tree.{choice_of}
 use Rattle.lexer.specs.Items.{Lexeme, Item, place, SpansRise, ends_at}
 use Rattle.lexer.specs.Reading.{items_from}
 use Rattle.lexer.specs.Tokens.{Tokens}
 use Rattle.lexer.proofs.Items.{only_tokens, spans_rise}
 use Rattle.lexer.specs.declared.token.TokenKind.{TokenKind}
 use Rattle.lexer.specs.declared.token.TokenKind.TheVariants as Kind
-use Rattle.syntax_trees.specs.Kinds.{repeats}
-use Rattle.syntax_trees.specs.Rules.{Place, Rule, The, ◌⋆◌, ◌▹◌, ◌◃◌, Nothing, Never, Many, Maybe, AtMostOne, Perhaps, Made, cons, Commas, Round, Square, Deeper}
-use Rattle.syntax_trees.specs.Grammar.{first_of, node, word, chained, shape_of, signed, IsName, IsOperator, Repeated, IsChain, IsExprOver, AreArguments, IsUnaryOver, a_not, a_negative, a_number, a_string, a_true, a_false, a_name, an_element, a_call, a_parenthesis, IsUnary, IsExpr, IsType, IsDecl, AreParameters, AreNames, IsCall, IsRight, a_value, a_list, IsRange, IsSource, an_array, a_range}
-use Rattle.syntax_trees.specs.Grammar.{IsPrio, IsSmall, IsPriority, IsElse, a_block, IsStmtOver, a_declaration, an_assignment, a_write, many_assigned, an_if, a_foreach, a_wait, IsBlockOver, IsStmt, IsModule, io, assert, string, IsPart, an_import, a_function, a_statement, IsScript}
-use Rattle.syntax_trees.specs.Numbered.{expression_size, expressions_size, word_size, declaration_size, right_size, calling_size, option_size, over_size, statement_size, command_size, body_size, statements_size, part_size, tree_size}
+use Rattle.language.specs.Kinds.{repeats}
+use Rattle.language.specs.Rules.{Place, Rule, The, ◌⋆◌, ◌▹◌, ◌◃◌, Nothing, Never, Many, Maybe, AtMostOne, Perhaps, Made, cons, Commas, Round, Square, Deeper}
+use Rattle.language.specs.Grammar.{first_of, node, word, chained, shape_of, signed, IsName, IsOperator, Repeated, IsChain, IsExprOver, AreArguments, IsUnaryOver, a_not, a_negative, a_number, a_string, a_true, a_false, a_name, an_element, a_call, a_parenthesis, IsUnary, IsExpr, IsType, IsDecl, AreParameters, AreNames, IsCall, IsRight, a_value, a_list, IsRange, IsSource, an_array, a_range}
+use Rattle.language.specs.Grammar.{IsPrio, IsSmall, IsPriority, IsElse, a_block, IsStmtOver, a_declaration, an_assignment, a_write, many_assigned, an_if, a_foreach, a_wait, IsBlockOver, IsStmt, IsModule, io, assert, string, IsPart, an_import, a_function, a_statement, IsScript}
+use Rattle.language.specs.Numbered.{expression_size, expressions_size, word_size, declaration_size, right_size, calling_size, option_size, over_size, statement_size, command_size, body_size, statements_size, part_size, tree_size}
 
 -- where the tokens end that are left at a place
 abbrev pub last_end : Place → ℕ

@@ -2,12 +2,12 @@
 use Rattle.std.specs.Prelude.{◌≡◌, ℕ, List, ◌++◌, map, Result, Ok, Err, Option, Some, None, option_map, Vec, Box}
 use Rattle.syntax_trees.specs.declared.tree.Stmt.{Stmt}
 use Rattle.syntax_trees.specs.declared.tree.Block.{Block}
-use Rattle.syntax_trees.specs.Tree.{Body, Statement, Tree}
-use Rattle.syntax_trees.specs.Numbered.{numbered}
+use Rattle.language.specs.Tree.{Body, Statement, Tree}
+use Rattle.language.specs.Numbered.{numbered}
 use Rattle.syntax_trees.specs.View.{body_view, statement_view}
 use Rattle.syntax.specs.declared.stop.Stop.{Stop}
 use Rattle.syntax.specs.declared.stop.Stop.TheVariants.{AtEnd, Unexpected, TooNested, Memory}
-use Rattle.syntax_trees.specs.Rules.{Place}
+use Rattle.language.specs.Rules.{Place}
 use Rattle.lexer.specs.declared.fault.LexFault.{LexFault}
 use Rattle.syntax.specs.declared.error.ParseFault.{ParseFault}
 use Rattle.syntax.specs.declared.error.ParseFault.TheVariants as Fault

@@ -5,7 +5,7 @@ use Rattle.lexer.specs.declared.fault.LexFault.{LexFault}
 use Rattle.lexer.specs.Given.{lexeme_of}
 use Rattle.lexer.specs.Items.{Item, Lexeme}
 use Rattle.lexer.specs.Tokens.{Tokens}
-use Rattle.syntax_trees.specs.Rules.{Place}
+use Rattle.language.specs.Rules.{Place}
 use Rattle.syntax.specs.Endings.{ending}
 use Rattle.syntax.specs.Formed.{has_form}
 use Rattle.syntax.specs.Readers.{start}

@@ -4,9 +4,9 @@ use Rattle.lexer.specs.Items.{Lexeme, span_of}
 use Rattle.lexer.specs.declared.token.Span.{Span}
 use Rattle.lexer.specs.Tokens.{Tokens}
 use Rattle.lexer.specs.declared.fault.LexFault.{LexFault}
-use Rattle.syntax_trees.specs.Tree.{Tree}
-use Rattle.syntax_trees.specs.Reads.{Reads}
-use Rattle.syntax_trees.specs.Grammar.{IsScript}
+use Rattle.language.specs.Tree.{Tree}
+use Rattle.language.specs.Reads.{Reads}
+use Rattle.language.specs.Grammar.{IsScript}
 use Rattle.syntax.specs.declared.stop.Stop.{Stop}
 use Rattle.syntax.specs.declared.stop.Stop.TheVariants.{AtEnd}
 use Rattle.syntax.specs.Endings.{ending}

@@ -1,8 +1,8 @@
 -- Tokens with which scripts begin, and where a text stops being one.
 use Rattle.std.specs.Prelude.{◌≡◌, ℕ, List, [], ◌∷◌, ◌++◌}
 use Rattle.lexer.specs.Items.{Lexeme}
-use Rattle.syntax_trees.specs.Tree.{Tree}
-use Rattle.syntax_trees.specs.Grammar.{IsScript}
+use Rattle.language.specs.Tree.{Tree}
+use Rattle.language.specs.Grammar.{IsScript}
 use Rattle.syntax.specs.declared.stop.Stop.{Stop}
 use Rattle.syntax.specs.declared.stop.Stop.TheVariants.{AtEnd, Unexpected, TooNested, Memory}
 

@@ -5,7 +5,7 @@ ghost use Rattle.lexer.specs.Items.{Lexeme};
 ghost use Rattle.lexer.specs.Tokens.{Tokens};
 ghost use Rattle.lexer.specs.declared.fault.LexFault.{LexFault};
 ghost use Rattle.syntax_trees.specs.View.{tree_of};
-ghost use Rattle.syntax_trees.specs.Reads.{Reads};
+ghost use Rattle.language.specs.Reads.{Reads};
 ghost use Rattle.syntax.specs.Answers.{answer_of};
 ghost use Rattle.syntax.specs.Endings.{ending};
 ghost use Rattle.syntax.specs.Refusals.{Refuses};

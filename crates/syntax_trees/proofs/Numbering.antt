@@ -3,11 +3,11 @@ use Rattle.std.proofs.Common.{◌≡◌, ℕ, ◌<◌, ◌≤◌, ◌+◌, List,
 use Rattle.std.proofs.lemmas.List.{map_push, map_more, take_all}
 use Rattle.std.proofs.lemmas.List.Sums.{sum_by-cons}
 use Rattle.std.specs.List.{sum_by}
-use Rattle.syntax_trees.specs.Tree.{Expression, expressions_of, and_expression, call, chain, Statement, statements_of, and_statement, body}
+use Rattle.language.specs.Tree.{Expression, expressions_of, and_expression, call, chain, Statement, statements_of, and_statement, body}
 use Rattle.syntax_trees.specs.View.{word_of, expression_view, form_view, statement_view, body_view}
-use Rattle.syntax_trees.specs.Numbered.{expression_size, expressions_size, form_size, statement_size, numbered_word, numbered_each, numbered_expression, numbered_expressions, numbered_form, numbered_statement, numbered_statements, numbered_body}
+use Rattle.language.specs.Numbered.{expression_size, expressions_size, form_size, statement_size, numbered_word, numbered_each, numbered_expression, numbered_expressions, numbered_form, numbered_statement, numbered_statements, numbered_body}
 use Rattle.syntax_trees.specs.declared.tree.Name.{Name}
-use Rattle.syntax_trees.specs.declared.tree.Operator.{Operator}
+use Rattle.language.specs.declared.tree.Operator.{Operator}
 use Rattle.syntax_trees.specs.declared.tree.Expr.{Expr}
 use Rattle.syntax_trees.specs.declared.tree.ExprKind.{Call, Chain}
 use Rattle.syntax_trees.specs.declared.tree.Block.{Block, out-Block}

@@ -4,12 +4,13 @@ use Rattle.std.proofs.lemmas.List.{length-map, get_or-map}
 use Rattle.std.proofs.lemmas.List.Sums.{get_or-le-sum_by, sum_by-cons}
 use Rattle.std.specs.List.{sum_by}
 use Rattle.std.specs.Prelude.{option_map}
-use Rattle.syntax_trees.specs.Tree.{call, chain, element, prefixed, expressions_of, Word, Over, Statement, statements_of, Body, body, choice_else, loop, waits, Expression}
-use Rattle.syntax_trees.specs.View.{word_of, expression_view, form_view, words_view, over_of, statement_view, command_view, body_view, choice_of}
-use Rattle.syntax_trees.specs.Numbered.{statements_size, statement_size, body_size}
+use Rattle.language.specs.Tree.{call, chain, element, prefixed, expressions_of, Word, Over, Statement, statements_of, Body, body, choice_else, loop, waits, Expression}
+use Rattle.syntax_trees.specs.View.{word_of, expression_view, form_view, words_view, over_of, statement_view, command_view, body_view}
+use Rattle.language.specs.Tree.{choice_of}
+use Rattle.language.specs.Numbered.{statements_size, statement_size, body_size}
 use Rattle.syntax_trees.specs.declared.tree.Name.{Name}
-use Rattle.syntax_trees.specs.declared.tree.Operator.{Operator}
-use Rattle.syntax_trees.specs.declared.tree.Prefix.{Prefix}
+use Rattle.language.specs.declared.tree.Operator.{Operator}
+use Rattle.language.specs.declared.tree.Prefix.{Prefix}
 use Rattle.syntax_trees.specs.declared.tree.Expr.{Expr}
 use Rattle.syntax_trees.specs.declared.tree.ExprKind.{Call, Chain, Element, Prefixed, the_lemmas}
 use Rattle.syntax_trees.specs.declared.tree.Header.{Header}

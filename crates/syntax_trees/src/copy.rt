@@ -1,7 +1,7 @@
 //! The same tree in other memory.
 
 ghost use Rattle.std.specs.Prelude.{◌≡◌, IfOk, map, option_map};
-ghost use Rattle.syntax_trees.specs.Tree.{expressions_of, element, call, chain, declare, assign, write, assign_all, choice, choice_else, loop, waits, body, statements_of};
+ghost use Rattle.language.specs.Tree.{expressions_of, element, call, chain, declare, assign, write, assign_all, choice, choice_else, loop, waits, body, statements_of};
 ghost use Rattle.syntax_trees.specs.View.{word_of, expression_view, form_view, expressions_view, words_view, declaration_of, declarations_view, list_of, right_of, calling_of, range_of, over_of, statement_view, command_view, body_view, composite_of, part_of, tree_of};
 
 use crate::tree::{

@@ -3,20 +3,20 @@ use Rattle.std.specs.Prelude.{◌≡◌, ◌≢◌, ℕ, List, [], ◌∷◌, le
 use Rattle.lexer.specs.declared.token.Span.{Span}
 use Rattle.types.specs.declared.typed.Settled.{Settled}
 use Rattle.types.specs.declared.typed.Builtin.{Builtin}
-use Rattle.syntax_trees.specs.declared.tree.Base.{Base}
-use Rattle.syntax_trees.specs.declared.tree.Shape.{Shape}
-use Rattle.syntax_trees.specs.declared.tree.Shape.TheVariants.{Scalar, Array}
-use Rattle.syntax_trees.specs.Tree.{Word, Expression, expression, Form, number, text, truth, variable, element, call, prefixed, chain, Expressions, Tree}
-use Rattle.syntax_trees.specs.Table.{Table}
-use Rattle.syntax_trees.specs.Scopes.{Typ, many_of, Scope, Signature, Refers, Calls}
-use Rattle.syntax_trees.specs.Typing.{HasType, ArgumentTypes, BuiltinType, AllHaveType, WellTyped}
+use Rattle.language.specs.declared.tree.Base.{Base}
+use Rattle.language.specs.declared.tree.Shape.{Shape}
+use Rattle.language.specs.declared.tree.Shape.TheVariants.{Scalar, Array}
+use Rattle.language.specs.Tree.{Word, Expression, expression, Form, number, text, truth, variable, element, call, prefixed, chain, Expressions, Tree}
+use Rattle.language.specs.Table.{Table}
+use Rattle.language.specs.Scopes.{Typ, many_of, Scope, Signature, Refers, Calls}
+use Rattle.language.specs.Typing.{HasType, ArgumentTypes, BuiltinType, AllHaveType, WellTyped}
 use Rattle.types.specs.Known.{Around}
 use Rattle.types.specs.declared.fault.TypeFault.{TypeFault}
 use Rattle.types.specs.declared.fault.TypeFault.TheVariants.{Memory}
 use Rattle.types.specs.Outcomes.{refused, got}
 use Rattle.types.specs.declared.typed.Typed as typed
 use Rattle.types.specs.declared.typed.Meaning.TheVariants.{Nothing}
-use Rattle.syntax_trees.specs.Numbered.{numbered}
+use Rattle.language.specs.Numbered.{numbered}
 use Rattle.types.specs.Typed.{builtin_name, table_of, meaning_at, settled_at}
 use Rattle.types.specs.Agrees.{Agrees, scope_of}
 use Rattle.types.specs.Scripts.{checked}

@@ -3,18 +3,18 @@ use Rattle.std.specs.Prelude.{◌≡◌, ℕ, ◌-◌, List, [], ◌∷◌}
 use Rattle.types.specs.declared.typed.Settled.{Settled}
 use Rattle.types.specs.declared.typed.Meaning.{Meaning}
 use Rattle.types.specs.declared.typed.Meaning.TheVariants.{Nothing, Variable, Called}
-use Rattle.syntax_trees.specs.Tree.{Word}
-use Rattle.syntax_trees.specs.Table.{Table}
-use Rattle.syntax_trees.specs.Scopes.{Typ, Visible, Scope, Signature, Refers, Calls}
+use Rattle.language.specs.Tree.{Word}
+use Rattle.language.specs.Table.{Table}
+use Rattle.language.specs.Scopes.{Typ, Visible, Scope, Signature, Refers, Calls}
 use Rattle.types.specs.Known.{Seen, Around}
 use Rattle.types.specs.Typed.{owned_name, reference_name, callee_name}
 use Rattle.types.specs.Outcomes.{got}
 use Rattle.types.specs.Names.{refer, function_called}
 use Rattle.std.specs.Prelude.{Some}
-use Rattle.syntax_trees.specs.declared.tree.Base.{Base}
-use Rattle.syntax_trees.specs.declared.tree.Operator.{Operator}
-use Rattle.syntax_trees.specs.declared.tree.Prefix.{Prefix}
-use Rattle.syntax_trees.specs.Typing.{Operates, Prefixes}
+use Rattle.language.specs.declared.tree.Base.{Base}
+use Rattle.language.specs.declared.tree.Operator.{Operator}
+use Rattle.language.specs.declared.tree.Prefix.{Prefix}
+use Rattle.language.specs.Typing.{Operates, Prefixes}
 use Rattle.types.specs.Expressions.{gives, base_of}
 
 -- the table says what a number means

@@ -5,18 +5,18 @@ use Rattle.values.specs.declared.format.Piece.{Piece}
 use Rattle.values.specs.Formats.{pieces}
 use Rattle.types.specs.declared.fault.TypeFault.{TypeFault}
 use Rattle.types.specs.declared.fault.TypeFault.TheVariants.{Unknown, Declared, Mismatch, WrongCount, BadFormat, NotAFunction}
-use Rattle.syntax_trees.specs.declared.tree.Base.{Base}
-use Rattle.syntax_trees.specs.declared.tree.Base.TheVariants.{Int, Boolean}
-use Rattle.syntax_trees.specs.declared.tree.Shape.TheVariants.{Scalar}
-use Rattle.syntax_trees.specs.declared.tree.Operator.{Operator}
-use Rattle.syntax_trees.specs.declared.tree.Prefix.{Prefix}
-use Rattle.syntax_trees.specs.Core.{Owned, input, output}
-use Rattle.syntax_trees.specs.Members.{◌∈◌}
-use Rattle.syntax_trees.specs.Table.{Table, Builtin, builtin_text, strcat, fromint, toint, size, printf, assert}
-use Rattle.syntax_trees.specs.Tree as tree
-use Rattle.syntax_trees.specs.Tree.{Word, Node, Declaration, Expression, expression, text, variable, element, prefixed, chain, Expressions, no_expressions, and_expression, expressions_of, RightSide, value, list, Calling, Over, array, range, Statement, statement, Command, declare, assign, write, assign_all, choice, choice_else, loop, waits, Body, body, Statements, no_statements, and_statement, Composite, Tree, import, function, single}
-use Rattle.syntax_trees.specs.Scopes.{Typ, one_of, many_of, declared_type, Visible, Scope, deeper, own, IsVisible, Signature, signatures, IsBuiltinName}
-use Rattle.syntax_trees.specs.Typing.{Operates, Prefixes, wanted, WellTyped}
+use Rattle.language.specs.declared.tree.Base.{Base}
+use Rattle.language.specs.declared.tree.Base.TheVariants.{Int, Boolean}
+use Rattle.language.specs.declared.tree.Shape.TheVariants.{Scalar}
+use Rattle.language.specs.declared.tree.Operator.{Operator}
+use Rattle.language.specs.declared.tree.Prefix.{Prefix}
+use Rattle.language.specs.Core.{Owned, input, output}
+use Rattle.language.specs.Members.{◌∈◌}
+use Rattle.language.specs.Table.{Table, Builtin, builtin_text, strcat, fromint, toint, size, printf, assert}
+use Rattle.language.specs.Tree as tree
+use Rattle.language.specs.Tree.{Word, Node, Declaration, Expression, expression, text, variable, element, prefixed, chain, Expressions, no_expressions, and_expression, expressions_of, RightSide, value, list, Calling, Over, array, range, Statement, statement, Command, declare, assign, write, assign_all, choice, choice_else, loop, waits, Body, body, Statements, no_statements, and_statement, Composite, Tree, import, function, single}
+use Rattle.language.specs.Scopes.{Typ, one_of, many_of, declared_type, Visible, Scope, deeper, own, IsVisible, Signature, signatures, IsBuiltinName}
+use Rattle.language.specs.Typing.{Operates, Prefixes, wanted, WellTyped}
 use Rattle.types.specs.Outcomes.{refused}
 use Rattle.types.specs.Expressions.{first_of, count}
 use Rattle.types.specs.Scripts.{checked}

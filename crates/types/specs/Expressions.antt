@@ -5,16 +5,16 @@ use Rattle.types.specs.declared.fault.TypeFault.TheVariants.{Mismatch, WrongCoun
 use Rattle.types.specs.declared.typed.Callee.TheVariants.{BuiltIn}
 use Rattle.types.specs.declared.typed.Builtin.{Builtin}
 use Rattle.types.specs.declared.typed.Builtin.TheVariants as Named
-use Rattle.syntax_trees.specs.declared.tree.Base.{Base}
-use Rattle.syntax_trees.specs.declared.tree.Base.TheVariants.{Int, Text, Boolean}
-use Rattle.syntax_trees.specs.declared.tree.Shape.{Shape}
-use Rattle.syntax_trees.specs.declared.tree.Shape.TheVariants.{Scalar, Array}
-use Rattle.syntax_trees.specs.declared.tree.Operator.{Operator}
-use Rattle.syntax_trees.specs.declared.tree.Operator.TheVariants as Sign
-use Rattle.syntax_trees.specs.declared.tree.Prefix.{Prefix}
-use Rattle.syntax_trees.specs.declared.tree.Prefix.TheVariants as Before
-use Rattle.syntax_trees.specs.Tree.{Expression, expression, Form, number, text, truth, variable, element, call, prefixed, chain, Expressions, no_expressions, and_expression}
-use Rattle.syntax_trees.specs.Scopes.{Typ, one_of, Signature}
+use Rattle.language.specs.declared.tree.Base.{Base}
+use Rattle.language.specs.declared.tree.Base.TheVariants.{Int, Text, Boolean}
+use Rattle.language.specs.declared.tree.Shape.{Shape}
+use Rattle.language.specs.declared.tree.Shape.TheVariants.{Scalar, Array}
+use Rattle.language.specs.declared.tree.Operator.{Operator}
+use Rattle.language.specs.declared.tree.Operator.TheVariants as Sign
+use Rattle.language.specs.declared.tree.Prefix.{Prefix}
+use Rattle.language.specs.declared.tree.Prefix.TheVariants as Before
+use Rattle.language.specs.Tree.{Expression, expression, Form, number, text, truth, variable, element, call, prefixed, chain, Expressions, no_expressions, and_expression}
+use Rattle.language.specs.Scopes.{Typ, one_of, Signature}
 use Rattle.types.specs.Known.{Around}
 use Rattle.types.specs.Outcomes.{refused, got, Check, ◌>>=◌}
 use Rattle.types.specs.Names.{refer, builtin_of, called, function_called}

@@ -1,7 +1,7 @@
 -- The functions of a script, as a list.
 use Rattle.std.specs.Prelude.{List, map}
 use Rattle.types.specs.declared.signatures.Functions.{Functions}
-use Rattle.syntax_trees.specs.Scopes.{Signature}
+use Rattle.language.specs.Scopes.{Signature}
 use Rattle.types.specs.Known.{signature_of}
 
 abbrev pub signatures_of : Functions → List Signature

@@ -5,7 +5,7 @@ use Rattle.types.specs.declared.typed.VariableType.{VariableType}
 use Rattle.types.specs.declared.scope.Known.{Known}
 use Rattle.types.specs.declared.scope.Scope as scopes
 use Rattle.types.specs.declared.signatures.Signature as signatures
-use Rattle.syntax_trees.specs.Scopes.{Typ, Signature}
+use Rattle.language.specs.Scopes.{Typ, Signature}
 
 abbrev pub type_of : VariableType → Typ
 type_of t = record { base = t.base; shape = t.shape }

@@ -10,8 +10,8 @@ use Rattle.types.specs.declared.typed.Callee.{Callee}
 use Rattle.types.specs.declared.typed.Callee.TheVariants.{Function}
 use Rattle.types.specs.declared.typed.Builtin.{Builtin}
 use Rattle.types.specs.declared.typed.Builtin.TheVariants as Named
-use Rattle.syntax_trees.specs.Tree.{Word}
-use Rattle.syntax_trees.specs.Scopes.{Typ, Signature}
+use Rattle.language.specs.Tree.{Word}
+use Rattle.language.specs.Scopes.{Typ, Signature}
 use Rattle.types.specs.Known.{Seen, Around}
 use Rattle.types.specs.Outcomes.{refused, got, Check}
 

@@ -4,8 +4,8 @@ use Rattle.types.specs.declared.fault.TypeFault.TheVariants.{Declared}
 use Rattle.types.specs.declared.typed.Owned.{Owned}
 use Rattle.types.specs.declared.typed.Owned.TheVariants.{Input, Output}
 use Rattle.types.specs.declared.typed.Builtin.{Builtin}
-use Rattle.syntax_trees.specs.Tree.{Word, Declaration, Composite, import, function, single, Tree}
-use Rattle.syntax_trees.specs.Scopes.{declared_type, Signature, signatures}
+use Rattle.language.specs.Tree.{Word, Declaration, Composite, import, function, single, Tree}
+use Rattle.language.specs.Scopes.{declared_type, Signature, signatures}
 use Rattle.types.specs.Known.{Around, nowhere}
 use Rattle.types.specs.Outcomes.{Outcome, refused, got, Check, ◌>>=◌}
 use Rattle.types.specs.Names.{fresh, added, builtin_of, Found, missing, found, find}

@@ -9,13 +9,13 @@ use Rattle.types.specs.declared.typed.Owned.TheVariants.{Local}
 use Rattle.types.specs.declared.typed.Callee.TheVariants.{BuiltIn}
 use Rattle.types.specs.declared.typed.Builtin.{Builtin}
 use Rattle.types.specs.declared.typed.Builtin.TheVariants as Named
-use Rattle.syntax_trees.specs.declared.tree.Base.{Base}
-use Rattle.syntax_trees.specs.declared.tree.Base.TheVariants.{Int, Text, Boolean}
-use Rattle.syntax_trees.specs.declared.tree.Shape.{Shape}
-use Rattle.syntax_trees.specs.declared.tree.Shape.TheVariants.{Scalar, Array}
-use Rattle.syntax_trees.specs.Tree.{Word, Node, Expression, expression, Form, number, text, truth, variable, element, call, prefixed, chain, expressions_of, RightSide, value, list, Calling, Over, array, range, Statement, statement, Command, declare, assign, write, assign_all, calls, choice, choice_else, loop, waits, Body, body, Statements, no_statements, and_statement}
-use Rattle.syntax_trees.specs.Scopes.{Typ, one_of, declared_type, Signature}
-use Rattle.syntax_trees.specs.Typing.{wanted}
+use Rattle.language.specs.declared.tree.Base.{Base}
+use Rattle.language.specs.declared.tree.Base.TheVariants.{Int, Text, Boolean}
+use Rattle.language.specs.declared.tree.Shape.{Shape}
+use Rattle.language.specs.declared.tree.Shape.TheVariants.{Scalar, Array}
+use Rattle.language.specs.Tree.{Word, Node, Expression, expression, Form, number, text, truth, variable, element, call, prefixed, chain, expressions_of, RightSide, value, list, Calling, Over, array, range, Statement, statement, Command, declare, assign, write, assign_all, calls, choice, choice_else, loop, waits, Body, body, Statements, no_statements, and_statement}
+use Rattle.language.specs.Scopes.{Typ, one_of, declared_type, Signature}
+use Rattle.language.specs.Typing.{wanted}
 use Rattle.types.specs.Known.{Around}
 use Rattle.types.specs.Outcomes.{refused, got, Check, ◌>>=◌}
 use Rattle.types.specs.Names.{refer, fresh, added, builtin_of, called, function_called}

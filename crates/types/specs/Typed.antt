@@ -11,12 +11,12 @@ use Rattle.types.specs.declared.typed.Callee.{Callee}
 use Rattle.types.specs.declared.typed.Callee.TheVariants.{Function, BuiltIn}
 use Rattle.types.specs.declared.typed.Builtin.{Builtin}
 use Rattle.types.specs.declared.typed.Builtin.TheVariants as Named
-use Rattle.syntax_trees.specs.declared.tree.Shape.{Shape}
-use Rattle.syntax_trees.specs.declared.tree.Shape.TheVariants.{Scalar}
-use Rattle.syntax_trees.specs.Core.{Name, local, input, output, here}
-use Rattle.syntax_trees.specs.Core as core
-use Rattle.syntax_trees.specs.Table.{Table, composite, built_in, strcat, fromint, toint, size, printf, assert}
-use Rattle.syntax_trees.specs.Table as table
+use Rattle.language.specs.declared.tree.Shape.{Shape}
+use Rattle.language.specs.declared.tree.Shape.TheVariants.{Scalar}
+use Rattle.language.specs.Core.{Name, local, input, output, here}
+use Rattle.language.specs.Core as core
+use Rattle.language.specs.Table.{Table, composite, built_in, strcat, fromint, toint, size, printf, assert}
+use Rattle.language.specs.Table as table
 
 -- what a variable is, a name refers to and a callee is, apart from the program's types
 abbrev pub owned_name : Owned → core.Owned

@@ -1,14 +1,14 @@
 //! The built-in functions, and the types of operators.
 
 ghost use Rattle.std.specs.Prelude.{◌≡◌};
-ghost use Rattle.syntax_trees.specs.Scopes as scopes;
+ghost use Rattle.language.specs.Scopes as scopes;
 ghost use Rattle.types.specs.Known.{type_of};
 ghost use Rattle.types.specs.Names as names;
 ghost use Rattle.types.specs.Expressions as checks;
 
 use crate::scope::same_text;
 use crate::typed::{Builtin, VariableType};
-use syntax_trees::tree::{Base, Operator, Prefix, Shape};
+use language::tree::{Base, Operator, Prefix, Shape};
 
 /// The built-in function of a name.
 pub fn builtin_of(text: &[u8]) -> Option<Builtin>

@@ -1,8 +1,8 @@
 //! The types of expressions.
 ghost use Rattle.std.specs.Prelude.{map, drop};
 ghost use Rattle.syntax_trees.specs.View.{word_of, expression_view, form_view};
-ghost use Rattle.syntax_trees.specs.Tree.{expressions_of};
-ghost use Rattle.syntax_trees.specs.Tree as trees;
+ghost use Rattle.language.specs.Tree.{expressions_of};
+ghost use Rattle.language.specs.Tree as trees;
 ghost use Rattle.types.specs.Known.{type_of, around_of};
 ghost use Rattle.types.specs.Functions.{signatures_of};
 ghost use Rattle.types.specs.Expressions as checks;

@@ -3,7 +3,7 @@ ghost use Rattle.std.specs.Prelude.{◌≡◌, ℕ, List, IfOk, MatchOption, OnO
 ghost use Rattle.std.specs.Str.{bytes_eq};
 ghost use Rattle.indexmap.specs.IndexMap.{get_by};
 ghost use Rattle.syntax_trees.specs.View.{word_of, part_of, composite_of, declaration_of};
-ghost use Rattle.syntax_trees.specs.Scopes as scopes;
+ghost use Rattle.language.specs.Scopes as scopes;
 ghost use Rattle.types.specs.Known.{type_of, signature_of};
 ghost use Rattle.types.specs.Functions.{signatures_of};
 ghost use Rattle.types.specs.Names as checks;

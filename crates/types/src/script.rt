@@ -1,10 +1,10 @@
 //! Scripts, part by part.
 ghost use Rattle.std.specs.Prelude.{◌≡◌, ◌≢◌, ◌+◌, ◌^◌, ◌<◌, ◌∷◌, ℕ, MatchResult, IfOk, IfErr, map};
 ghost use Rattle.syntax_trees.specs.View.{word_of, declaration_of, composite_of, part_of, tree_of};
-ghost use Rattle.syntax_trees.specs.Tree.{Tree};
-ghost use Rattle.syntax_trees.specs.Numbered.{numbered};
-ghost use Rattle.syntax_trees.specs.Table.{Table};
-ghost use Rattle.syntax_trees.specs.Typing.{WellTyped};
+ghost use Rattle.language.specs.Tree.{Tree};
+ghost use Rattle.language.specs.Numbered.{numbered};
+ghost use Rattle.language.specs.Table.{Table};
+ghost use Rattle.language.specs.Typing.{WellTyped};
 ghost use Rattle.types.specs.Known.{around_of, nowhere};
 ghost use Rattle.types.specs.Functions.{signatures_of};
 ghost use Rattle.types.specs.Names as names;

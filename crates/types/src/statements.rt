@@ -1,10 +1,11 @@
 //! Statements, each with the scope that it leaves to those behind it.
 ghost use Rattle.std.specs.Prelude.{◌≡◌, IfOk, List, OnOk, map, option_map};
-ghost use Rattle.syntax_trees.specs.View.{word_of, expression_view, calling_of, right_of, list_of, range_of, over_of, words_view, declaration_of, choice_of, statement_view, command_view, body_view};
-ghost use Rattle.syntax_trees.specs.Tree as trees;
-ghost use Rattle.syntax_trees.specs.Tree.{statements_of};
-ghost use Rattle.syntax_trees.specs.Scopes as scopes;
-ghost use Rattle.syntax_trees.specs.Typing as typing;
+ghost use Rattle.syntax_trees.specs.View.{word_of, expression_view, calling_of, right_of, list_of, range_of, over_of, words_view, declaration_of, statement_view, command_view, body_view};
+ghost use Rattle.language.specs.Tree.{choice_of};
+ghost use Rattle.language.specs.Tree as trees;
+ghost use Rattle.language.specs.Tree.{statements_of};
+ghost use Rattle.language.specs.Scopes as scopes;
+ghost use Rattle.language.specs.Typing as typing;
 ghost use Rattle.types.specs.Known.{type_of, around_of};
 ghost use Rattle.types.specs.Functions.{signatures_of};
 ghost use Rattle.types.specs.Statements as steps;

@@ -2,8 +2,8 @@
 ghost use Rattle.std.specs.Prelude.{◌≡◌, ℕ, IfOk, OnOk, cond, nat_eq, slice_get};
 ghost use Rattle.types.specs.Typed.{table_of, reference_name, callee_name, or_nothing, meaning_at, settled_at};
 
+use language::tree::{Base, Shape};
 use std::alloc::{AllocError, Global};
-use syntax_trees::tree::{Base, Shape};
 
 /// The functions that are there without a definition.
 #[derive(Clone, Copy, Debug, PartialEq, Eq)]

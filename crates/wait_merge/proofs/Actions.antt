@@ -10,7 +10,7 @@ use Rattle.flow.specs.declared.statement.Statement.{Statement, out-Statement, ro
 use Rattle.flow.specs.declared.statement.Action.{Action, When, Choose, Range, Each, Wait, the_lemmas}
 use Rattle.flow.specs.View.{action_view, awaited_view, block_view, statement_view, waits_around}
 use Rattle.flow.specs.Shapes.{Declared, action_declared, block_declared, statement_declared}
-use Rattle.syntax_trees.specs.Core as core
+use Rattle.language.specs.Core as core
 use Rattle.wait_merge.specs.Merged.{action_seen, block_seen, statement_seen}
 
 module _ {A : Type 0} where

@@ -6,7 +6,7 @@ use Rattle.flow.specs.declared.statement.Block.{Block, out-Block}
 use Rattle.flow.specs.declared.statement.Action.{the_lemmas}
 use Rattle.flow.specs.View.{block_view, block_of, statement_view}
 use Rattle.flow.specs.Shapes.{block_declared, statement_declared, together}
-use Rattle.syntax_trees.specs.Core as core
+use Rattle.language.specs.Core as core
 use Rattle.wait_merge.specs.Merged.{Seen, alone, all_merged, block_seen, statement_seen}
 
 view_block : (A : Type 0) (b : Block A) → block_view b ≡ block_of (map statement_view (out-Block A b).statements.items)

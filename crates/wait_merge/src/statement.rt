@@ -2,7 +2,7 @@
 ghost use Rattle.std.specs.Prelude.{◌≡◌, ◌∷◌, [], IsTrue, IsFalse, OnOk, map, true, false};
 ghost use Rattle.flow.specs.View.{action_view, awaited_view, block_view, statement_view, statements_view, waits_around};
 ghost use Rattle.flow.specs.Shapes.{action_declared, block_declared, statement_declared};
-ghost use Rattle.syntax_trees.specs.Core as core;
+ghost use Rattle.language.specs.Core as core;
 ghost use Rattle.wait_merge.specs.Merged.{action_seen, all_merged, block_seen, statement_seen};
 
 use flow::statement::{Action, Block, Header, Statement};

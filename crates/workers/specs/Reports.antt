@@ -3,8 +3,8 @@ use Rattle.std.specs.Prelude.{◌≡◌, ◌≤◌, ℕ, ◌+◌, length}
 use Rattle.dataflow.specs.Events.{backs}
 use Rattle.task_code.specs.Code.{Code}
 use Rattle.board.specs.Board.{Seen}
-use Rattle.runs.specs.Report.{Tells}
-use Rattle.runs.specs.declared.report.Report.{Report}
+use Rattle.board_runs.specs.Report.{Tells}
+use Rattle.board_runs.specs.declared.report.Report.{Report}
 use Rattle.workers.specs.declared.run.PoolCount.{PoolCount}
 use Rattle.workers.specs.Threads.{RunsTo}
 

@@ -12,7 +12,7 @@ use crate::job::Job;
 use board::board::Board;
 use board::refusal::Refusal;
 use board_work::work::{Done, Work};
-use offers::Fresh;
+use pool_offers::Fresh;
 use std::marker::{Model, PhantomData};
 use std::sync::ledger::{Book, Ledger, Share};
 use task_code::entry::Kind;

@@ -3,8 +3,8 @@ ghost use Rattle.std.specs.Prelude.{◌≡◌, ◌<◌, ◌≤◌, ◌+◌, ◌^
 
 use crate::crowd::Crowds;
 use board::board::Board;
-use offers::Fresh;
 use pool::Kind as Side;
+use pool_offers::Fresh;
 use task_code::entry::Kind;
 
 /// Who runs an item, as the pool has it.

@@ -2,16 +2,16 @@
 use Rattle.std.specs.Prelude.{◌≡◌, ◌⊎◌, ℕ, ◌<◌, ◌≤◌, List, [], Option, refl}
 use Rattle.std.proofs.Common.{inl, inr, sym, subst}
 use Rattle.lexer.specs.declared.token.Span.{Span}
-use Rattle.syntax_trees.specs.Core.{Owned, local, output, Stmt, stmt, Action, Outer, when, choose, range, each, Block, Function}
-use Rattle.syntax_trees.specs.Members.{◌∈◌, first}
-use Rattle.syntax_trees.specs.Numbered.{numbered}
-use Rattle.syntax_trees.specs.Parts.{stmts_within}
-use Rattle.syntax_trees.specs.Resolved.{core}
-use Rattle.syntax_trees.specs.Single as single
-use Rattle.syntax_trees.specs.Single.{Way, IsNamed, IsWritten, IsRead, Given, declared_here, an_output, LoopBody, of_range, of_each, SinglyAssigned}
-use Rattle.syntax_trees.specs.Table.{Table}
-use Rattle.syntax_trees.specs.Tree.{Tree}
-use Rattle.syntax_trees.specs.Typing.{WellTyped}
+use Rattle.language.specs.Core.{Owned, local, output, Stmt, stmt, Action, Outer, when, choose, range, each, Block, Function}
+use Rattle.language.specs.Members.{◌∈◌, first}
+use Rattle.language.specs.Numbered.{numbered}
+use Rattle.language.specs.Parts.{stmts_within}
+use Rattle.language.specs.Resolved.{core}
+use Rattle.language.specs.Single as single
+use Rattle.language.specs.Single.{Way, IsNamed, IsWritten, IsRead, Given, declared_here, an_output, LoopBody, of_range, of_each, SinglyAssigned}
+use Rattle.language.specs.Table.{Table}
+use Rattle.language.specs.Tree.{Tree}
+use Rattle.language.specs.Typing.{WellTyped}
 use Rattle.assign_check.specs.Outline as outline
 use Rattle.assign_check.specs.Outline.{Role, result, given, Declared, Outline, nothing, Step, splits, repeats, outlines}
 use Rattle.assign_check.specs.Through.{OnWay, at_end, Within}

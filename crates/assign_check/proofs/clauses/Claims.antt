@@ -1,12 +1,12 @@
 -- The three claims that the law of single assignment is put together from.
 use Rattle.std.specs.Prelude.{◌≡◌, ℕ, []}
-use Rattle.syntax_trees.specs.Members.{◌∈◌}
-use Rattle.syntax_trees.specs.Numbered.{numbered}
-use Rattle.syntax_trees.specs.Resolved.{core}
-use Rattle.syntax_trees.specs.Single.{SinglyAssigned}
-use Rattle.syntax_trees.specs.Table.{Table}
-use Rattle.syntax_trees.specs.Tree.{Tree}
-use Rattle.syntax_trees.specs.Typing.{WellTyped}
+use Rattle.language.specs.Members.{◌∈◌}
+use Rattle.language.specs.Numbered.{numbered}
+use Rattle.language.specs.Resolved.{core}
+use Rattle.language.specs.Single.{SinglyAssigned}
+use Rattle.language.specs.Table.{Table}
+use Rattle.language.specs.Tree.{Tree}
+use Rattle.language.specs.Typing.{WellTyped}
 use Rattle.assign_check.specs.Outline.{Outline, outlines}
 use Rattle.assign_check.specs.Faults.{faults_of}
 use Rattle.assign_check.proofs.clauses.SingleOutline.{Single}

@@ -1,8 +1,8 @@
 -- What single assignment asks of one outline: the definition's clauses, said of outlines in place of blocks.
 use Rattle.std.specs.Prelude.{◌≡◌, ◌⊎◌, ℕ, ◌≤◌}
 use Rattle.lexer.specs.declared.token.Span.{Span}
-use Rattle.syntax_trees.specs.Core.{Owned}
-use Rattle.syntax_trees.specs.Members.{◌∈◌}
+use Rattle.language.specs.Core.{Owned}
+use Rattle.language.specs.Members.{◌∈◌}
 use Rattle.assign_check.specs.Outline.{Kind, named, written, read, Use, result, given, Declared, Outline, declares, splits, repeats}
 use Rattle.assign_check.specs.Through.{HasStep, BlockIn, Within, OnWay}
 use Rattle.assign_check.specs.Faults.{uses_in}

@@ -3,9 +3,9 @@ use Rattle.std.specs.Prelude.{◌≡◌, ◌⊎◌, ◌+◌, ◌≤◌, Bool, tr
 use Rattle.std.specs.List.{list_any, flat_map}
 use Rattle.std.proofs.Common.{inl, inr, sym, ap, ◌∙◌, subst, arith}
 use Rattle.std.proofs.lemmas.Bool.{eqb-true, eq-eqb}
-use Rattle.syntax_trees.specs.Core.{Owned, local, input, output}
-use Rattle.syntax_trees.specs.Members.{◌∈◌, first, later}
-use Rattle.syntax_trees.proofs.Members.{split_in}
+use Rattle.language.specs.Core.{Owned, local, input, output}
+use Rattle.language.specs.Members.{◌∈◌, first, later}
+use Rattle.language.proofs.Members.{split_in}
 use Rattle.assign_check.specs.Outline.{Kind, named, written, read}
 use Rattle.assign_check.specs.Faults.{same, one_if, times, is_among, is_kind}
 

@@ -3,9 +3,9 @@ use Rattle.std.specs.Prelude.{◌≡◌, ◌⊎◌, ℕ, Bool, true, false, ◌&
 use Rattle.std.specs.List.{list_any}
 use Rattle.std.proofs.Common.{inl, inr, sym, ap, ◌∙◌, subst}
 use Rattle.lexer.specs.declared.token.Span.{Span}
-use Rattle.syntax_trees.specs.Core.{Owned}
-use Rattle.syntax_trees.specs.Members.{◌∈◌, first, later}
-use Rattle.syntax_trees.proofs.Members.{split_in, to_left, to_right}
+use Rattle.language.specs.Core.{Owned}
+use Rattle.language.specs.Members.{◌∈◌, first, later}
+use Rattle.language.proofs.Members.{split_in, to_left, to_right}
 use Rattle.assign_check.specs.declared.fault.AssignFault.TheVariants.{PartlyAssigned}
 use Rattle.assign_check.specs.Outline.{Outline}
 use Rattle.assign_check.specs.Faults.{is_before, is_outer, way, counts, has_more, is_uneven, branch_faults}

@@ -4,9 +4,9 @@ use Rattle.std.specs.List.{list_any}
 use Rattle.std.proofs.Common.{zero, suc, inl, inr, sym, ap, ap₂, ◌∙◌, arith}
 use Rattle.std.proofs.lemmas.List.{drop_more}
 use Rattle.lexer.specs.declared.token.Span.{Span}
-use Rattle.syntax_trees.specs.Core.{Owned}
-use Rattle.syntax_trees.specs.Members.{◌∈◌}
-use Rattle.syntax_trees.proofs.Members.{to_left, to_right}
+use Rattle.language.specs.Core.{Owned}
+use Rattle.language.specs.Members.{◌∈◌}
+use Rattle.language.proofs.Members.{to_left, to_right}
 use Rattle.types.specs.Typed.{owned_name}
 use Rattle.assign_check.specs.declared.count.Part.{Part}
 use Rattle.assign_check.specs.declared.fault.AssignFault.{AssignFault}

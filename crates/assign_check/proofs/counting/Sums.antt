@@ -5,8 +5,8 @@ use Rattle.std.proofs.Math.Seq.{get_or-append_seam}
 use Rattle.std.proofs.lemmas.List.{get_or_append_left, length-append}
 use mathlib.Core.Bool.{beq}
 use Rattle.std.proofs.lemmas.Bool.{eqb-true, eq-eqb}
-use Rattle.syntax_trees.specs.Members.{◌∈◌, first, later}
-use Rattle.syntax_trees.proofs.Members.{split_in, to_left, to_right, either}
+use Rattle.language.specs.Members.{◌∈◌, first, later}
+use Rattle.language.proofs.Members.{split_in, to_left, to_right, either}
 use Rattle.assign_check.specs.Faults.{sums, is_in, has_more}
 use Rattle.assign_check.specs.Sets.{has, numbers_from, numbers, Same, differ}
 use Rattle.assign_check.proofs.counting.Even.{false_unless}

@@ -4,7 +4,7 @@ use Rattle.std.specs.Prelude.{Option}
 use Rattle.std.proofs.Math.Seq.{take-append_seam}
 use Rattle.std.proofs.lemmas.List.{drop_more, append-nil}
 use Rattle.lexer.specs.declared.token.Span.{Span}
-use Rattle.syntax_trees.specs.Core.{Owned}
+use Rattle.language.specs.Core.{Owned}
 use Rattle.assign_check.specs.declared.outline.Step.{Declares, Splits, Repeats, Encloses, the_lemmas}
 use Rattle.assign_check.specs.declared.outline.Declared.{Declared}
 use Rattle.assign_check.specs.declared.outline.Step.{Step as Code}

@@ -3,14 +3,14 @@ use Rattle.std.specs.Prelude.{◌≡◌, ℕ, false, [], ◌++◌, Some, None, r
 use Rattle.std.specs.List.{flat_map}
 use Rattle.std.proofs.Common.{inl, subst, sym, ap, ◌∙◌}
 use Rattle.lexer.specs.declared.token.Span.{Span}
-use Rattle.syntax_trees.specs.Members.{◌∈◌}
-use Rattle.syntax_trees.specs.Numbered.{numbered}
-use Rattle.syntax_trees.specs.Resolved.{core}
-use Rattle.syntax_trees.specs.Single.{SinglyAssigned}
-use Rattle.syntax_trees.specs.Table.{Table}
-use Rattle.syntax_trees.specs.Tree.{Tree}
-use Rattle.syntax_trees.specs.Typing.{WellTyped}
-use Rattle.syntax_trees.proofs.Members.{to_left, to_right}
+use Rattle.language.specs.Members.{◌∈◌}
+use Rattle.language.specs.Numbered.{numbered}
+use Rattle.language.specs.Resolved.{core}
+use Rattle.language.specs.Single.{SinglyAssigned}
+use Rattle.language.specs.Table.{Table}
+use Rattle.language.specs.Tree.{Tree}
+use Rattle.language.specs.Typing.{WellTyped}
+use Rattle.language.proofs.Members.{to_left, to_right}
 use Rattle.assign_check.specs.declared.fault.AssignFault.{AssignFault}
 use Rattle.assign_check.specs.declared.fault.AssignFault.TheVariants.{AssignedTwice, PartlyAssigned, NeverAssigned, OuterInLoop, WholeAndElements, OutputUnassigned, Memory}
 use Rattle.assign_check.specs.Outline.{Outline, outlines}

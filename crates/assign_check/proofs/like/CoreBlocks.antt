@@ -1,13 +1,13 @@
 -- Blocks of the core inside others, one step at a time; blocks of outlines inside others, and the uses there.
 use Rattle.std.specs.Prelude.{◌⊎◌, ℕ, List, [], ◌∷◌}
 use Rattle.std.proofs.Common.{inl, inr, subst, sym}
-use Rattle.syntax_trees.specs.Core.{Stmt, stmt, Action, declare, call_alone, assign, fill, insert, print, assert, when, choose, range, each, wait, Block, no_stmts, stmts, Function, Core}
-use Rattle.syntax_trees.specs.Members.{◌∈◌, first, later}
-use Rattle.syntax_trees.specs.Parts.{block_list, blocks_below, blocks_inside, blocks_of, function_blocks, script_blocks, stmts_within}
-use Rattle.syntax_trees.specs.Single.{IsSimple}
-use Rattle.syntax_trees.proofs.Blocks.{inner_blocks, inner_below, below_below, among, inner_block}
-use Rattle.syntax_trees.proofs.Members.{split_in, to_left, to_right, either}
-use Rattle.syntax_trees.proofs.Tested.{among_split}
+use Rattle.language.specs.Core.{Stmt, stmt, Action, declare, call_alone, assign, fill, insert, print, assert, when, choose, range, each, wait, Block, no_stmts, stmts, Function, Core}
+use Rattle.language.specs.Members.{◌∈◌, first, later}
+use Rattle.language.specs.Parts.{block_list, blocks_below, blocks_inside, blocks_of, function_blocks, script_blocks, stmts_within}
+use Rattle.language.specs.Single.{IsSimple}
+use Rattle.language.proofs.Blocks.{inner_blocks, inner_below, below_below, among, inner_block}
+use Rattle.language.proofs.Members.{split_in, to_left, to_right, either}
+use Rattle.language.proofs.Tested.{among_split}
 use Rattle.assign_check.specs.Outline.{Use, Outline, nothing, followed, Step, declares, uses, splits, repeats, encloses}
 use Rattle.assign_check.specs.Faults.{uses_in, uses_at}
 use Rattle.assign_check.proofs.faults.Bodies.{uses_up}

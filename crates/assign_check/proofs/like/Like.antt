@@ -2,11 +2,11 @@
 use Rattle.std.specs.Prelude.{◌≡◌, ◌⊎◌, ℕ, List, [], ◌∷◌, Option, Some, None}
 use Rattle.std.proofs.Common.{inl, inr}
 use Rattle.lexer.specs.declared.token.Span.{Span}
-use Rattle.syntax_trees.specs.Core.{local, Name, Outer, Awaited, Stmt, stmt, Action, when, choose, range, each, wait, Block, no_stmts, stmts}
-use Rattle.syntax_trees.specs.Members.{◌∈◌, first, later}
-use Rattle.syntax_trees.specs.Parts.{by_name, by_element}
-use Rattle.syntax_trees.specs.Single.{IsSimple}
-use Rattle.syntax_trees.proofs.Tested.{declared_of}
+use Rattle.language.specs.Core.{local, Name, Outer, Awaited, Stmt, stmt, Action, when, choose, range, each, wait, Block, no_stmts, stmts}
+use Rattle.language.specs.Members.{◌∈◌, first, later}
+use Rattle.language.specs.Parts.{by_name, by_element}
+use Rattle.language.specs.Single.{IsSimple}
+use Rattle.language.proofs.Tested.{declared_of}
 use Rattle.assign_check.specs.Outline.{named, written, read, Use, Role, own, result, given, Declared, Outline, nothing, followed, Step, declares, uses, splits, repeats, encloses}
 use Rattle.assign_check.specs.Through.{HasStep, first_step, later_step, BlockOf}
 

@@ -1,10 +1,10 @@
 -- What an outline reads is what the block reads that it stands for.
 use Rattle.std.specs.Prelude.{◌≡◌, ℕ, List, [], ◌∷◌}
 use Rattle.std.proofs.Common.{inl, inr, subst}
-use Rattle.syntax_trees.specs.Core.{Owned, Expr, compute, Cell, Part, inner, calls, Stmt, stmt, Action, declare, call_alone, assign, fill, insert, print, assert, when, choose, range, each, wait, Block}
-use Rattle.syntax_trees.specs.Members.{◌∈◌, first, later}
-use Rattle.syntax_trees.specs.Parts.{block_list, stmts_within, parts, part_cells, cells}
-use Rattle.syntax_trees.specs.Single.{Reads, IsRead, in_cell, in_wait}
+use Rattle.language.specs.Core.{Owned, Expr, compute, Cell, Part, inner, calls, Stmt, stmt, Action, declare, call_alone, assign, fill, insert, print, assert, when, choose, range, each, wait, Block}
+use Rattle.language.specs.Members.{◌∈◌, first, later}
+use Rattle.language.specs.Parts.{block_list, stmts_within, parts, part_cells, cells}
+use Rattle.language.specs.Single.{Reads, IsRead, in_cell, in_wait}
 use Rattle.assign_check.specs.Outline as outline
 use Rattle.assign_check.specs.Outline.{Use, Declared, Outline, uses}
 use Rattle.assign_check.proofs.clauses.SingleOutline.{HasUse}

@@ -1,12 +1,12 @@
 -- Where steps of an outline stand for statements of a block, in the block or inside it.
 use Rattle.std.specs.Prelude.{◌≡◌, ◌⊎◌, ℕ, List, [], ◌∷◌, Option}
 use Rattle.std.proofs.Common.{inl, inr}
-use Rattle.syntax_trees.specs.Core.{Stmt, stmt, Action, Block, stmts}
-use Rattle.syntax_trees.specs.Members.{◌∈◌, first, later}
-use Rattle.syntax_trees.specs.Parts.{block_list, by_name, by_element}
-use Rattle.syntax_trees.specs.Single.{IsSimple}
-use Rattle.syntax_trees.proofs.Blocks.{inner_blocks}
-use Rattle.syntax_trees.proofs.Tested.{declared_of}
+use Rattle.language.specs.Core.{Stmt, stmt, Action, Block, stmts}
+use Rattle.language.specs.Members.{◌∈◌, first, later}
+use Rattle.language.specs.Parts.{block_list, by_name, by_element}
+use Rattle.language.specs.Single.{IsSimple}
+use Rattle.language.proofs.Blocks.{inner_blocks}
+use Rattle.language.proofs.Tested.{declared_of}
 use Rattle.assign_check.specs.Outline.{own, Declared, Outline, followed, Step, declares}
 use Rattle.assign_check.specs.Through.{HasStep, first_step, later_step, BlockIn, the_block, in_a_step, BlockOf, in_first, in_other, in_loop, in_wait}
 use Rattle.assign_check.proofs.like.Like.{Plain, IsLoop, a_range, an_each, Turns, Like, like_end, like_front, like_simple, like_block, StepLike, like_when, like_choose, like_loop, like_wait, in_before, before_left, before_right, plain_has_no_block}

@@ -1,11 +1,11 @@
 -- What an outline assigns, writes and loops over is what the block does that it stands for.
 use Rattle.std.specs.Prelude.{◌≡◌, ◌⊎◌, ℕ, List, Option, refl}
 use Rattle.std.proofs.Common.{inl, inr, sym, ◌∙◌, subst}
-use Rattle.syntax_trees.specs.Core.{Owned, local, Name, Stmt, stmt, Action, declare, call_alone, assign, fill, insert, print, assert, when, choose, range, each, wait, Block}
-use Rattle.syntax_trees.specs.Members.{◌∈◌, first, later}
-use Rattle.syntax_trees.specs.Parts.{block_list, stmts_within, stmt_action, by_name, by_element}
-use Rattle.syntax_trees.specs.Single.{IsSimple, IsNamed, IsWritten, LoopBody, of_range, of_each}
-use Rattle.syntax_trees.proofs.Tested.{declared_of}
+use Rattle.language.specs.Core.{Owned, local, Name, Stmt, stmt, Action, declare, call_alone, assign, fill, insert, print, assert, when, choose, range, each, wait, Block}
+use Rattle.language.specs.Members.{◌∈◌, first, later}
+use Rattle.language.specs.Parts.{block_list, stmts_within, stmt_action, by_name, by_element}
+use Rattle.language.specs.Single.{IsSimple, IsNamed, IsWritten, LoopBody, of_range, of_each}
+use Rattle.language.proofs.Tested.{declared_of}
 use Rattle.assign_check.specs.Outline.{named, written, Use, own, Declared, Outline, Step, declares, uses}
 use Rattle.assign_check.specs.Through.{HasStep, Within}
 use Rattle.assign_check.proofs.clauses.SingleOutline.{HasUse}

@@ -1,9 +1,9 @@
 -- The ways through an outline are those through the block that it stands for.
 use Rattle.std.specs.Prelude.{◌≡◌, ℕ, suc, ◌+◌, List, [], ◌∷◌, refl}
 use Rattle.std.proofs.Common.{sym, ◌∙◌, subst, arith}
-use Rattle.syntax_trees.specs.Core.{Owned, Name, Stmt, stmt, Action, Block, stmts}
-use Rattle.syntax_trees.specs.Parts.{by_name}
-use Rattle.syntax_trees.specs.Single.{IsSimple, Times, nowhere, here_too, not_here, Way, way_end, way_on, StmtWay, simple, taken, skipped, then_way, else_way, range_way, each_way, wait_way}
+use Rattle.language.specs.Core.{Owned, Name, Stmt, stmt, Action, Block, stmts}
+use Rattle.language.specs.Parts.{by_name}
+use Rattle.language.specs.Single.{IsSimple, Times, nowhere, here_too, not_here, Way, way_end, way_on, StmtWay, simple, taken, skipped, then_way, else_way, range_way, each_way, wait_way}
 use Rattle.assign_check.specs.Outline.{named, Use, Declared, Outline, followed, Step, uses, repeats}
 use Rattle.assign_check.specs.Through.{OnWay, at_end, and_then, OnStep, a_declaration, a_target, of_another, no_name, first_branch, other_branch, a_loop, a_wait}
 use Rattle.assign_check.proofs.like.Like.{before, Plain, no_step, own_step, named_step, written_step, read_step, IsLoop, a_range, an_each, Like, like_end, like_front, like_simple, like_block, StepLike, like_when, like_choose, like_loop, like_wait, named_is_not_written, named_is_not_read}

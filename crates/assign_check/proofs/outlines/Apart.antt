@@ -3,15 +3,15 @@ use Rattle.std.specs.Prelude.{◌≡◌, ℕ, zero, suc, ◌+◌, ◌≤◌, Boo
 use Rattle.std.specs.List.{flat_map}
 use Rattle.std.proofs.Common.{inl, inr, ap, ◌∙◌, arith}
 use Rattle.std.proofs.lemmas.Bool.{eqb-true}
-use Rattle.syntax_trees.specs.Members.{◌∈◌, first, later}
-use Rattle.syntax_trees.specs.Numbered.{numbered, tree_size}
-use Rattle.syntax_trees.specs.Numbers.{word_numbers, expression_numbers, calling_numbers, option_numbers, over_numbers, statement_numbers, command_numbers, body_numbers, statements_numbers, declaration_numbers, part_numbers, numbers, numbers_from}
-use Rattle.syntax_trees.specs.Tree as T
-use Rattle.syntax_trees.specs.Tree.{Statement, statement, Command, assign, write, assign_all, calls, choice, choice_else, loop, waits, Body, body, Statements, no_statements, and_statement, Composite, import, function, Tree}
-use Rattle.syntax_trees.proofs.Numbers.{numbers-numbered}
-use Rattle.syntax_trees.proofs.Rows.{row_distinct}
-use Rattle.syntax_trees.proofs.TreeNumbers.{times, times-append, in_times, distinct_few}
-use Rattle.syntax_trees.proofs.Tested.{has, distinct, either_true}
+use Rattle.language.specs.Members.{◌∈◌, first, later}
+use Rattle.language.specs.Numbered.{numbered, tree_size}
+use Rattle.language.specs.Numbers.{word_numbers, expression_numbers, calling_numbers, option_numbers, over_numbers, statement_numbers, command_numbers, body_numbers, statements_numbers, declaration_numbers, part_numbers, numbers, numbers_from}
+use Rattle.language.specs.Tree as T
+use Rattle.language.specs.Tree.{Statement, statement, Command, assign, write, assign_all, calls, choice, choice_else, loop, waits, Body, body, Statements, no_statements, and_statement, Composite, import, function, Tree}
+use Rattle.language.proofs.Numbers.{numbers-numbered}
+use Rattle.language.proofs.Rows.{row_distinct}
+use Rattle.language.proofs.TreeNumbers.{times, times-append, in_times, distinct_few}
+use Rattle.language.proofs.Tested.{has, distinct, either_true}
 use Rattle.assign_check.proofs.outlines.Built.{inner_statement, inner_command, inner_body, inner_statements, own_statement, own_command, own_body, own_statements}
 use Rattle.assign_check.proofs.outlines.Pairs.{inner_tree, own_tree}
 

@@ -1,17 +1,17 @@
 -- The outline of statements stands for the block that the core has of them.
 use Rattle.std.specs.Prelude.{◌≡◌, ℕ, List, [], ◌∷◌, ◌++◌, map, Some, None, refl}
 use Rattle.std.proofs.Common.{inl, inr, sym, ap, subst}
-use Rattle.syntax_trees.specs.Core.{Name, here, Stmt, stmt, Action, declare, insert, when, choose, Block, stmts}
-use Rattle.syntax_trees.specs.Members.{◌∈◌, later}
-use Rattle.syntax_trees.specs.Numbers.{expression_numbers, right_numbers, calling_numbers, over_numbers, option_numbers}
-use Rattle.syntax_trees.specs.Resolved.{number_of, form_of, refers, outer, block_of, block_in, with_statement}
-use Rattle.syntax_trees.specs.Scopes.{Scope, Signature}
-use Rattle.syntax_trees.specs.Table.{Table}
-use Rattle.syntax_trees.specs.Tree as T
-use Rattle.syntax_trees.specs.Tree.{Statement, statement, Command, assign, write, assign_all, calls, choice, choice_else, loop, waits, Body, body, Statements, no_statements, and_statement}
-use Rattle.syntax_trees.specs.Typing.{StatementTyped, declaration, definition, assignment, element_write, several as several_typed, several_builtin, call_statement, if_statement, if_else_statement, loop_statement, wait_statement, StatementsTyped, no_more_statements, next_statement, BodyTyped, in_braces, value_only, with_key as key_too}
-use Rattle.syntax_trees.proofs.Members.{to_left, to_right}
-use Rattle.syntax_trees.proofs.Tested.{declared_of}
+use Rattle.language.specs.Core.{Name, here, Stmt, stmt, Action, declare, insert, when, choose, Block, stmts}
+use Rattle.language.specs.Members.{◌∈◌, later}
+use Rattle.language.specs.Numbers.{expression_numbers, right_numbers, calling_numbers, over_numbers, option_numbers}
+use Rattle.language.specs.Resolved.{number_of, form_of, refers, outer, block_of, block_in, with_statement}
+use Rattle.language.specs.Scopes.{Scope, Signature}
+use Rattle.language.specs.Table.{Table}
+use Rattle.language.specs.Tree as T
+use Rattle.language.specs.Tree.{Statement, statement, Command, assign, write, assign_all, calls, choice, choice_else, loop, waits, Body, body, Statements, no_statements, and_statement}
+use Rattle.language.specs.Typing.{StatementTyped, declaration, definition, assignment, element_write, several as several_typed, several_builtin, call_statement, if_statement, if_else_statement, loop_statement, wait_statement, StatementsTyped, no_more_statements, next_statement, BodyTyped, in_braces, value_only, with_key as key_too}
+use Rattle.language.proofs.Members.{to_left, to_right}
+use Rattle.language.proofs.Tested.{declared_of}
 use Rattle.assign_check.specs.Outline as outline
 use Rattle.assign_check.specs.Outline.{Declared, Outline, followed, Step, uses, outlined, steps_of, body_steps, all_steps}
 use Rattle.assign_check.proofs.like.Like.{before, no_step, own_step, written_step, a_range, an_each, value_alone, with_key, Like, like_end, like_front, like_simple, like_block, StepLike, like_when, like_choose, like_loop, like_wait, named_is_not_read, written_is_not_read, given_is_not_own}

@@ -3,9 +3,9 @@ use Rattle.std.proofs.Common.{◌≡◌, ℕ, ◌+◌, ◌<◌, List, [], ◌∷
 use Rattle.std.specs.Prelude.{Option, Some, None}
 use Rattle.std.specs.List.{flat_map}
 use Rattle.std.proofs.lemmas.List.{drop_more, append-nil}
-use Rattle.syntax_trees.specs.Core.{Owned}
-use Rattle.syntax_trees.specs.Table.{Table}
-use Rattle.syntax_trees.specs.Tree.{Part, import, function, single}
+use Rattle.language.specs.Core.{Owned}
+use Rattle.language.specs.Table.{Table}
+use Rattle.language.specs.Tree.{Part, import, function, single}
 use Rattle.assign_check.specs.declared.fault.AssignFault.{AssignFault}
 use Rattle.assign_check.specs.declared.tally.Tally.{Tally}
 use Rattle.assign_check.specs.Outline.{Outline, Step, outlined, Use, Declared, function_outlines, function_steps}

@@ -1,18 +1,18 @@
 -- The variables of a script's core and the declarations of its outlines, with their blocks.
 use Rattle.std.specs.Prelude.{◌≡◌, ◌⊎◌, ℕ, ◌+◌, ◌<◌, List, [], ◌++◌, Option, Some, refl}
 use Rattle.std.proofs.Common.{inl, inr, sym, ap, ◌∙◌, subst, arith}
-use Rattle.syntax_trees.specs.Core.{Owned, local, input, output, Stmt, stmt, Action, Block, Function, Core}
-use Rattle.syntax_trees.specs.Members.{◌∈◌, first, later}
-use Rattle.syntax_trees.specs.Parts.{block_list, script_blocks, script_stmts}
-use Rattle.syntax_trees.specs.Resolved.{block_of, script_block, functions_of, core}
-use Rattle.syntax_trees.specs.Scopes.{signatures}
-use Rattle.syntax_trees.specs.Single as single
-use Rattle.syntax_trees.specs.Single.{declared_here, an_output, Given, an_input, range_value, range_turn, each_value, each_key}
-use Rattle.syntax_trees.specs.Table.{Table}
-use Rattle.syntax_trees.specs.Tree.{Composite, Tree}
-use Rattle.syntax_trees.specs.Typing.{WellTyped}
-use Rattle.syntax_trees.proofs.Members.{split_in, to_left, to_right, either}
-use Rattle.syntax_trees.proofs.Tested.{among_split}
+use Rattle.language.specs.Core.{Owned, local, input, output, Stmt, stmt, Action, Block, Function, Core}
+use Rattle.language.specs.Members.{◌∈◌, first, later}
+use Rattle.language.specs.Parts.{block_list, script_blocks, script_stmts}
+use Rattle.language.specs.Resolved.{block_of, script_block, functions_of, core}
+use Rattle.language.specs.Scopes.{signatures}
+use Rattle.language.specs.Single as single
+use Rattle.language.specs.Single.{declared_here, an_output, Given, an_input, range_value, range_turn, each_value, each_key}
+use Rattle.language.specs.Table.{Table}
+use Rattle.language.specs.Tree.{Composite, Tree}
+use Rattle.language.specs.Typing.{WellTyped}
+use Rattle.language.proofs.Members.{split_in, to_left, to_right, either}
+use Rattle.language.proofs.Tested.{among_split}
 use Rattle.assign_check.specs.Outline.{Role, own, result, given, Declared, Outline, Step, declares, outlined, script_steps, function_outlines, outlines}
 use Rattle.assign_check.specs.Through.{HasStep, the_block, in_a_step, BlockOf, in_loop}
 use Rattle.assign_check.proofs.clauses.SingleOutline.{Owns}

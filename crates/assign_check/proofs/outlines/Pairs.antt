@@ -1,17 +1,17 @@
 -- The outlines of a script and the blocks of its core, in pairs that stand for the same statements, with what each declares.
 use Rattle.std.specs.Prelude.{◌≡◌, ℕ, zero, suc, ◌+◌, ◌<◌, List, [], ◌∷◌, ◌++◌, Option, length, refl}
 use Rattle.std.proofs.Common.{sym, ap, ◌∙◌, subst, arith}
-use Rattle.syntax_trees.specs.Core.{Owned, input, output, Stmt, stmt, Action, Block, Function, Core}
-use Rattle.syntax_trees.specs.Members.{◌∈◌, first, later}
-use Rattle.syntax_trees.specs.Parts.{block_list, script_blocks}
-use Rattle.syntax_trees.specs.Resolved.{block_of, script_block, functions_of, with_statement}
-use Rattle.syntax_trees.specs.Scopes.{Scope, Signature}
-use Rattle.syntax_trees.specs.Single.{Given, range_value, range_turn, each_value, each_key}
-use Rattle.syntax_trees.specs.Table.{Table}
-use Rattle.syntax_trees.specs.Tree as T
-use Rattle.syntax_trees.specs.Tree.{Declaration, Composite, import, function, Tree}
-use Rattle.syntax_trees.specs.Typing.{FunctionTyped, function_typed, PartsTyped, no_parts, an_import, a_function, a_statement}
-use Rattle.syntax_trees.proofs.Blocks.{among_script}
+use Rattle.language.specs.Core.{Owned, input, output, Stmt, stmt, Action, Block, Function, Core}
+use Rattle.language.specs.Members.{◌∈◌, first, later}
+use Rattle.language.specs.Parts.{block_list, script_blocks}
+use Rattle.language.specs.Resolved.{block_of, script_block, functions_of, with_statement}
+use Rattle.language.specs.Scopes.{Scope, Signature}
+use Rattle.language.specs.Single.{Given, range_value, range_turn, each_value, each_key}
+use Rattle.language.specs.Table.{Table}
+use Rattle.language.specs.Tree as T
+use Rattle.language.specs.Tree.{Declaration, Composite, import, function, Tree}
+use Rattle.language.specs.Typing.{FunctionTyped, function_typed, PartsTyped, no_parts, an_import, a_function, a_statement}
+use Rattle.language.proofs.Blocks.{among_script}
 use Rattle.assign_check.specs.Outline.{Role, own, result, given, Declared, Outline, Step, outlined, parameters, steps_of, body_steps, function_steps, script_steps, function_outlines}
 use Rattle.assign_check.specs.Through.{HasStep, BlockIn}
 use Rattle.assign_check.proofs.like.Like.{IsLoop, a_range, an_each, Turns, value_alone, with_key, Like, like_end, like_front, result_is_not_own, given_is_not_own}

@@ -1,8 +1,8 @@
 -- Outputs and inputs, one after another.
 use Rattle.std.proofs.Common.{◌≡◌, ℕ, ◌+◌, ◌<◌, List, [], ◌∷◌, ◌++◌, map, drop, length, get_or, append_assoc, ap, sym, ◌∙◌}
 use Rattle.std.proofs.lemmas.List.{drop_more}
-use Rattle.syntax_trees.specs.Core.{Owned}
-use Rattle.syntax_trees.specs.Tree.{Declaration}
+use Rattle.language.specs.Core.{Owned}
+use Rattle.language.specs.Tree.{Declaration}
 use Rattle.assign_check.specs.Outline.{Role, Step, declared_as, parameters}
 
 -- one more of them

@@ -1,10 +1,10 @@
 -- Outlines whose uses are of visible variables, and whose declarations and statements have numbers in reading order.
 use Rattle.std.specs.Prelude.{◌≡◌, ℕ, suc, ◌≤◌, List, [], ◌∷◌}
 use Rattle.lexer.specs.declared.token.Span.{Span}
-use Rattle.syntax_trees.specs.declared.tree.Shape.{Shape}
-use Rattle.syntax_trees.specs.declared.tree.Shape.TheVariants.{Array}
-use Rattle.syntax_trees.specs.Core.{Owned, local}
-use Rattle.syntax_trees.specs.Members.{◌∈◌}
+use Rattle.language.specs.declared.tree.Shape.{Shape}
+use Rattle.language.specs.declared.tree.Shape.TheVariants.{Array}
+use Rattle.language.specs.Core.{Owned, local}
+use Rattle.language.specs.Members.{◌∈◌}
 use Rattle.assign_check.specs.Outline.{read, Use, own, result, Declared, Outline, nothing, followed, declares, uses, splits, repeats, encloses}
 
 -- a variable that is visible here: what it is, and whether it is a scalar or an array

@@ -3,18 +3,18 @@ use Rattle.std.proofs.Common.{◌≡◌, ℕ, ◌+◌, ◌≤◌, List, [], ◌�
 use Rattle.std.specs.Prelude.{suc, map, Option, Some, None, option_map, sum_by}
 use Rattle.std.proofs.lemmas.List.{append_assoc}
 use Rattle.lexer.specs.declared.token.Span.{Span}
-use Rattle.syntax_trees.specs.declared.tree.Base.{Base}
-use Rattle.syntax_trees.specs.declared.tree.Base.TheVariants.{Int, Boolean}
-use Rattle.syntax_trees.specs.declared.tree.Shape.{Shape}
-use Rattle.syntax_trees.specs.declared.tree.Shape.TheVariants.{Scalar}
-use Rattle.syntax_trees.specs.Core.{Owned, local, input, output}
-use Rattle.syntax_trees.specs.Members.{◌∈◌, first, later}
-use Rattle.syntax_trees.specs.Table.{Table}
-use Rattle.syntax_trees.specs.Tree.{Word, Node, Declaration, expressions_of, Calling, Statement, statement, declare, assign, write, assign_all, calls, choice, choice_else, loop, waits, Body, body, Statements, no_statements, and_statement, Composite, import, function, single, Tree}
-use Rattle.syntax_trees.specs.Numbered.{expression_size, word_size, option_size, over_size, statement_size, body_size, statements_size, composite_size, part_size, declaration_size, numbered_word, numbered_node, numbered_each, numbered_expression, numbered_declaration, numbered_right, numbered_calling, numbered_over, numbered_statement, numbered_body, numbered_statements, numbered_composite, numbered}
-use Rattle.syntax_trees.specs.Scopes.{one_of, many_of, declared_type, Visible, Scope, deeper, own, Signature, signatures}
-use Rattle.syntax_trees.specs.Typing as rules
-use Rattle.syntax_trees.specs.Typing.{Declares, LoopScope, StatementTyped, StatementsTyped, BodyTyped, Parameters, FunctionTyped, PartsTyped, WellTyped}
+use Rattle.language.specs.declared.tree.Base.{Base}
+use Rattle.language.specs.declared.tree.Base.TheVariants.{Int, Boolean}
+use Rattle.language.specs.declared.tree.Shape.{Shape}
+use Rattle.language.specs.declared.tree.Shape.TheVariants.{Scalar}
+use Rattle.language.specs.Core.{Owned, local, input, output}
+use Rattle.language.specs.Members.{◌∈◌, first, later}
+use Rattle.language.specs.Table.{Table}
+use Rattle.language.specs.Tree.{Word, Node, Declaration, expressions_of, Calling, Statement, statement, declare, assign, write, assign_all, calls, choice, choice_else, loop, waits, Body, body, Statements, no_statements, and_statement, Composite, import, function, single, Tree}
+use Rattle.language.specs.Numbered.{expression_size, word_size, option_size, over_size, statement_size, body_size, statements_size, composite_size, part_size, declaration_size, numbered_word, numbered_node, numbered_each, numbered_expression, numbered_declaration, numbered_right, numbered_calling, numbered_over, numbered_statement, numbered_body, numbered_statements, numbered_composite, numbered}
+use Rattle.language.specs.Scopes.{one_of, many_of, declared_type, Visible, Scope, deeper, own, Signature, signatures}
+use Rattle.language.specs.Typing as rules
+use Rattle.language.specs.Typing.{Declares, LoopScope, StatementTyped, StatementsTyped, BodyTyped, Parameters, FunctionTyped, PartsTyped, WellTyped}
 use Rattle.assign_check.specs.Outline as outline
 use Rattle.assign_check.specs.Outline.{Kind, named, written, read, Use, Role, result, given, Declared, Outline, nothing, followed, Step, declares, uses, splits, repeats, encloses, outlined, use_of, read_in, read_all, read_right, read_over, read_names, read_calling, declared_as, declaration_steps, loop_variable, key_variable, steps_of, command_steps, body_steps, all_steps, parameters, function_steps, script_steps, function_outlines, outlines}
 use Rattle.assign_check.proofs.like.Like.{result_is_not_given, own_is_not_result}

@@ -2,8 +2,8 @@
 use Rattle.std.proofs.Common.{◌≡◌, List, [], ◌∷◌, ◌++◌, ℤ, rules, ap, sym, ◌∙◌, append_assoc}
 use Rattle.std.specs.Prelude.{Option, option_map, Box, Vec}
 use Rattle.std.proofs.lemmas.List.{map-append}
-use Rattle.syntax_trees.specs.Table.{Table}
-use Rattle.syntax_trees.specs.Tree.{Node, Command, declare, assign, write, assign_all, calls, waits, statement}
+use Rattle.language.specs.Table.{Table}
+use Rattle.language.specs.Tree.{Node, Command, declare, assign, write, assign_all, calls, waits, statement}
 use Rattle.syntax_trees.specs.View.{word_of, words_view, expression_view, declaration_of, right_of, calling_of, statement_view, command_view, body_view}
 use Rattle.syntax_trees.specs.declared.tree.Block.{Block}
 use Rattle.syntax_trees.specs.declared.tree.Call.{Call as Called}

@@ -3,9 +3,9 @@ use Rattle.std.proofs.Common.{◌≡◌, ◌⊎◌, inl, inr, ℕ, suc, ◌≤�
 use Rattle.std.specs.Prelude.{◌||◌, cond, Option, Some, None}
 use Rattle.std.specs.List.{list_any}
 use Rattle.lexer.specs.declared.token.Span.{Span}
-use Rattle.syntax_trees.specs.Core.{Owned}
-use Rattle.syntax_trees.specs.Members.{◌∈◌, first, later}
-use Rattle.syntax_trees.proofs.Members.{to_left, to_right, either}
+use Rattle.language.specs.Core.{Owned}
+use Rattle.language.specs.Members.{◌∈◌, first, later}
+use Rattle.language.proofs.Members.{to_left, to_right, either}
 use Rattle.assign_check.specs.declared.fault.AssignFault.{AssignFault}
 use Rattle.assign_check.specs.declared.fault.AssignFault.TheVariants.{AssignedTwice, PartlyAssigned, OuterInLoop}
 use Rattle.assign_check.specs.Outline.{Kind, named, written, read, Use, given, Declared, Outline, followed, Step, declares, uses, splits, repeats, encloses}

@@ -2,9 +2,9 @@
 use Rattle.std.specs.Prelude.{◌≡◌, ◌⊎◌, ℕ, suc, ◌≤◌, Bool, true, false, cond, List, [], ◌∷◌, ◌++◌, Option, Some, None, refl}
 use Rattle.std.proofs.Common.{inl, inr, sym, ap, ◌∙◌, subst, arith}
 use Rattle.lexer.specs.declared.token.Span.{Span}
-use Rattle.syntax_trees.specs.Core.{Owned}
-use Rattle.syntax_trees.specs.Members.{◌∈◌, first}
-use Rattle.syntax_trees.proofs.Members.{split_in, to_left, to_right, either}
+use Rattle.language.specs.Core.{Owned}
+use Rattle.language.specs.Members.{◌∈◌, first}
+use Rattle.language.proofs.Members.{split_in, to_left, to_right, either}
 use Rattle.assign_check.specs.declared.fault.AssignFault.TheVariants.{AssignedTwice, OuterInLoop}
 use Rattle.assign_check.specs.Outline.{Kind, named, Use, given, Declared, Outline, followed, Step, declares, splits, repeats}
 use Rattle.assign_check.specs.Faults.{is_among, is_outer, given_by, step_way, target_faults, branch_faults, way_faults, step_faults, split_faults, split_step, uses_in, uses_at}

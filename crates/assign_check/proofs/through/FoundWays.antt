@@ -3,9 +3,9 @@ use Rattle.std.specs.Prelude.{◌≡◌, ◌⊎◌, ℕ, suc, ◌≤◌, Bool, t
 use Rattle.std.specs.List.{list_any}
 use Rattle.std.proofs.Common.{inl, inr, sym, ap, ◌∙◌, subst, arith}
 use Rattle.lexer.specs.declared.token.Span.{Span}
-use Rattle.syntax_trees.specs.Core.{Owned}
-use Rattle.syntax_trees.specs.Members.{◌∈◌, first}
-use Rattle.syntax_trees.proofs.Members.{split_in, to_left, to_right, either}
+use Rattle.language.specs.Core.{Owned}
+use Rattle.language.specs.Members.{◌∈◌, first}
+use Rattle.language.proofs.Members.{split_in, to_left, to_right, either}
 use Rattle.assign_check.specs.declared.fault.AssignFault.{AssignFault}
 use Rattle.assign_check.specs.declared.fault.AssignFault.TheVariants.{AssignedTwice, PartlyAssigned, OuterInLoop}
 use Rattle.assign_check.specs.Outline.{Kind, named, Use, Outline, Step, repeats}

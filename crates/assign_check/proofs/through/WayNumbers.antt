@@ -3,9 +3,9 @@ use Rattle.std.specs.Prelude.{◌≡◌, ◌⊎◌, ℕ, ◌+◌, Bool, true, fa
 use Rattle.std.specs.List.{list_any}
 use Rattle.std.proofs.Common.{inl, inr, sym, ap, ◌∙◌, subst}
 use Rattle.std.proofs.lemmas.Bool.{eqb-true, eq-eqb}
-use Rattle.syntax_trees.specs.Core.{Owned}
-use Rattle.syntax_trees.specs.Members.{◌∈◌, first, later}
-use Rattle.syntax_trees.proofs.Members.{split_in, to_left, to_right, either}
+use Rattle.language.specs.Core.{Owned}
+use Rattle.language.specs.Members.{◌∈◌, first, later}
+use Rattle.language.proofs.Members.{split_in, to_left, to_right, either}
 use Rattle.assign_check.specs.Outline.{Outline, nothing, followed, Step, declares, uses, splits, repeats, encloses}
 use Rattle.assign_check.specs.Faults.{times, is_outer, named_by, sums, counts, step_counts, is_in, has_more}
 use Rattle.assign_check.specs.Through.{OnWay, at_end, and_then, OnStep, a_declaration, a_target, of_another, no_name, first_branch, other_branch, a_loop, a_wait}

@@ -3,23 +3,23 @@ use Rattle.std.specs.Prelude.{◌≡◌, ◌⊎◌, ℕ, ℤ, pos, List, [], ◌
 use Rattle.std.specs.List.{flat_map}
 use Rattle.std.proofs.Common.{inl, inr, sym, ap, subst}
 use Rattle.values.specs.Operators as op
-use Rattle.syntax_trees.specs.declared.tree.Base.{Base}
-use Rattle.syntax_trees.specs.declared.tree.Shape.{Shape}
-use Rattle.syntax_trees.specs.declared.tree.Shape.TheVariants.{Scalar, Array}
-use Rattle.syntax_trees.specs.Core.{Owned, Name, Awaited, scalar, Stmt, Action, assign, print, assert, wait, Block}
-use Rattle.syntax_trees.specs.Members.{◌∈◌, first, later}
-use Rattle.syntax_trees.specs.Numbers.{expression_numbers, expressions_numbers, over_numbers, option_numbers}
-use Rattle.syntax_trees.specs.Parts.{outer_parts, by_name, by_element}
-use Rattle.syntax_trees.specs.Resolved.{Formed, Operands, Arguments, computes, call_form, form_of, operands_of, arguments_of, number_of, refers, outer, outer_of, composite_call, call_action, several, format_of, awaited, awaited_as, loop_action}
-use Rattle.syntax_trees.specs.Scopes.{Scope, Signature, Calls, CallsBuiltin}
-use Rattle.syntax_trees.specs.Single.{IsSimple}
-use Rattle.syntax_trees.specs.Table as table
-use Rattle.syntax_trees.specs.Table.{Table, Builtin, Callee, built_in}
-use Rattle.syntax_trees.specs.Tree as T
-use Rattle.syntax_trees.specs.Tree.{Word, Expression, expression, text, Expressions, and_expression, expressions_of, Over}
-use Rattle.syntax_trees.specs.Typing.{ArgumentTypes, no_argument, scalar_argument, BuiltinType, StepType, no_step, a_step, SourceType, of_elements, of_range, CallTyped, function_called, printf_called, assert_called}
-use Rattle.syntax_trees.proofs.Members.{to_left, to_right, either}
-use Rattle.syntax_trees.proofs.Tested.{declared_of}
+use Rattle.language.specs.declared.tree.Base.{Base}
+use Rattle.language.specs.declared.tree.Shape.{Shape}
+use Rattle.language.specs.declared.tree.Shape.TheVariants.{Scalar, Array}
+use Rattle.language.specs.Core.{Owned, Name, Awaited, scalar, Stmt, Action, assign, print, assert, wait, Block}
+use Rattle.language.specs.Members.{◌∈◌, first, later}
+use Rattle.language.specs.Numbers.{expression_numbers, expressions_numbers, over_numbers, option_numbers}
+use Rattle.language.specs.Parts.{outer_parts, by_name, by_element}
+use Rattle.language.specs.Resolved.{Formed, Operands, Arguments, computes, call_form, form_of, operands_of, arguments_of, number_of, refers, outer, outer_of, composite_call, call_action, several, format_of, awaited, awaited_as, loop_action}
+use Rattle.language.specs.Scopes.{Scope, Signature, Calls, CallsBuiltin}
+use Rattle.language.specs.Single.{IsSimple}
+use Rattle.language.specs.Table as table
+use Rattle.language.specs.Table.{Table, Builtin, Callee, built_in}
+use Rattle.language.specs.Tree as T
+use Rattle.language.specs.Tree.{Word, Expression, expression, text, Expressions, and_expression, expressions_of, Over}
+use Rattle.language.specs.Typing.{ArgumentTypes, no_argument, scalar_argument, BuiltinType, StepType, no_step, a_step, SourceType, of_elements, of_range, CallTyped, function_called, printf_called, assert_called}
+use Rattle.language.proofs.Members.{to_left, to_right, either}
+use Rattle.language.proofs.Tested.{declared_of}
 use Rattle.assign_check.specs.Outline as outline
 use Rattle.assign_check.specs.Outline.{Step, reading, read_in, read_all, read_step, read_over, read_names, use_of}
 use Rattle.assign_check.proofs.like.Like.{Plain, named_step, named_is_not_read, IsLoop, a_range, an_each}

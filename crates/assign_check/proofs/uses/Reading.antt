@@ -3,20 +3,20 @@ use Rattle.std.specs.Prelude.{◌≡◌, ◌⊎◌, ℕ, List, [], ◌∷◌, �
 use Rattle.std.proofs.Common.{inl, inr, sym, ap, subst}
 use Rattle.values.specs.Operators.{Operation}
 use Rattle.values.specs.declared.format.Piece.{Piece}
-use Rattle.syntax_trees.specs.declared.tree.Base.{Base}
-use Rattle.syntax_trees.specs.declared.tree.Operator.{Operator}
-use Rattle.syntax_trees.specs.declared.tree.Shape.{Shape}
-use Rattle.syntax_trees.specs.declared.tree.Shape.TheVariants.{Scalar, Array}
-use Rattle.syntax_trees.specs.Core.{Owned, local, Name, here, Expr, name, whole, operator, none, also, Form, compute, read, Call, Part, inner, calls}
-use Rattle.syntax_trees.specs.Members.{◌∈◌, first, later}
-use Rattle.syntax_trees.specs.Numbers.{expression_numbers, expressions_numbers}
-use Rattle.syntax_trees.specs.Resolved.{Formed, Operands, Arguments, as_cell, as_operand, as_argument, with_operand, with_argument, one_operand, computes, call_form, form_of, operands_of, arguments_of, number_of, refers, call_to, variable_or_cell}
-use Rattle.syntax_trees.specs.Scopes.{Typ, Scope, Signature}
-use Rattle.syntax_trees.specs.Single.{Reads, the_name, an_operand, ReadsSome, the_first, a_later}
-use Rattle.syntax_trees.specs.Table.{Table, Builtin, Callee, composite, built_in}
-use Rattle.syntax_trees.specs.Tree.{Word, Node, Expression, expression, variable, Expressions, no_expressions, and_expression}
-use Rattle.syntax_trees.specs.Typing.{HasType, of_number, of_text, of_truth, of_variable, of_element, of_prefixed, of_chain, of_call, of_builtin, RestType, last_operand, next_operand, ArgumentTypes, no_argument, scalar_argument, array_argument, BuiltinType, of_strcat, of_fromint, of_toint, of_size, AllHaveType, none_left, one_more, wanted}
-use Rattle.syntax_trees.proofs.Members.{split_in, to_left, to_right, either}
+use Rattle.language.specs.declared.tree.Base.{Base}
+use Rattle.language.specs.declared.tree.Operator.{Operator}
+use Rattle.language.specs.declared.tree.Shape.{Shape}
+use Rattle.language.specs.declared.tree.Shape.TheVariants.{Scalar, Array}
+use Rattle.language.specs.Core.{Owned, local, Name, here, Expr, name, whole, operator, none, also, Form, compute, read, Call, Part, inner, calls}
+use Rattle.language.specs.Members.{◌∈◌, first, later}
+use Rattle.language.specs.Numbers.{expression_numbers, expressions_numbers}
+use Rattle.language.specs.Resolved.{Formed, Operands, Arguments, as_cell, as_operand, as_argument, with_operand, with_argument, one_operand, computes, call_form, form_of, operands_of, arguments_of, number_of, refers, call_to, variable_or_cell}
+use Rattle.language.specs.Scopes.{Typ, Scope, Signature}
+use Rattle.language.specs.Single.{Reads, the_name, an_operand, ReadsSome, the_first, a_later}
+use Rattle.language.specs.Table.{Table, Builtin, Callee, composite, built_in}
+use Rattle.language.specs.Tree.{Word, Node, Expression, expression, variable, Expressions, no_expressions, and_expression}
+use Rattle.language.specs.Typing.{HasType, of_number, of_text, of_truth, of_variable, of_element, of_prefixed, of_chain, of_call, of_builtin, RestType, last_operand, next_operand, ArgumentTypes, no_argument, scalar_argument, array_argument, BuiltinType, of_strcat, of_fromint, of_toint, of_size, AllHaveType, none_left, one_more, wanted}
+use Rattle.language.proofs.Members.{split_in, to_left, to_right, either}
 use Rattle.assign_check.specs.Outline as outline
 use Rattle.assign_check.specs.Outline.{Use, Step, uses, reading, name_read, read_in, read_all}
 use Rattle.assign_check.proofs.like.Like.{Plain, no_step, read_step}

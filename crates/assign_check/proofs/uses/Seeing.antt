@@ -1,16 +1,16 @@
 -- The uses of well typed expressions, right sides and calls are of visible variables.
 use Rattle.std.proofs.Common.{◌≡◌, ℕ, List, [], ◌∷◌, ◌++◌, refl, sym, ap, ◌∙◌}
 use Rattle.std.specs.Prelude.{map, Option}
-use Rattle.syntax_trees.specs.declared.tree.Base.{Base}
-use Rattle.syntax_trees.specs.declared.tree.Operator.{Operator}
-use Rattle.syntax_trees.specs.declared.tree.Shape.{Shape}
-use Rattle.syntax_trees.specs.declared.tree.Shape.TheVariants.{Scalar, Array}
-use Rattle.syntax_trees.specs.Members.{◌∈◌, first, later}
-use Rattle.syntax_trees.specs.Table.{Table, Builtin}
-use Rattle.syntax_trees.specs.Tree.{Word, Expression, Expressions, expressions_of, RightSide, Over}
-use Rattle.syntax_trees.specs.Scopes.{Typ, one_of, many_of, Visible, Scope, deeper, Signature, Refers}
-use Rattle.syntax_trees.specs.Typing as rules
-use Rattle.syntax_trees.specs.Typing.{HasType, RestType, ArgumentTypes, BuiltinType, AllHaveType, RightType, ReferAll, StepType, SourceType, CallTyped}
+use Rattle.language.specs.declared.tree.Base.{Base}
+use Rattle.language.specs.declared.tree.Operator.{Operator}
+use Rattle.language.specs.declared.tree.Shape.{Shape}
+use Rattle.language.specs.declared.tree.Shape.TheVariants.{Scalar, Array}
+use Rattle.language.specs.Members.{◌∈◌, first, later}
+use Rattle.language.specs.Table.{Table, Builtin}
+use Rattle.language.specs.Tree.{Word, Expression, Expressions, expressions_of, RightSide, Over}
+use Rattle.language.specs.Scopes.{Typ, one_of, many_of, Visible, Scope, deeper, Signature, Refers}
+use Rattle.language.specs.Typing as rules
+use Rattle.language.specs.Typing.{HasType, RestType, ArgumentTypes, BuiltinType, AllHaveType, RightType, ReferAll, StepType, SourceType, CallTyped}
 use Rattle.assign_check.specs.Outline.{Kind, named, written, read, Use, followed, Step, uses, outlined, use_of, reading, name_read, read_in, read_all, read_right, read_step, read_over, read_names}
 use Rattle.assign_check.proofs.outlines.Scoped.{Seen, Sees, Scoped, scoped_use}
 

@@ -3,20 +3,20 @@ use Rattle.std.specs.Prelude.{◌≡◌, ◌⊎◌, ℕ, ℤ, pos, List, [], ◌
 use Rattle.std.specs.List.{flat_map}
 use Rattle.std.proofs.Common.{inl, inr, sym, ap, subst}
 use Rattle.values.specs.Operators as op
-use Rattle.syntax_trees.specs.declared.tree.Base.{Base}
-use Rattle.syntax_trees.specs.declared.tree.Shape.{Shape}
-use Rattle.syntax_trees.specs.declared.tree.Shape.TheVariants.{Scalar}
-use Rattle.syntax_trees.specs.Core.{Owned, Name, whole, compute, Call, Part, inner, calls, Outer, scalar, Stmt, stmt, Action, call_alone, assign, fill, wait}
-use Rattle.syntax_trees.specs.Members.{◌∈◌, first, later}
-use Rattle.syntax_trees.specs.Numbers.{expression_numbers, expressions_numbers, right_numbers}
-use Rattle.syntax_trees.specs.Parts.{outer_parts, parts, by_name, by_element}
-use Rattle.syntax_trees.specs.Resolved.{Formed, Arguments, computes, form_of, operands_of, arguments_of, number_of, refers, outer, outer_of, right_of, plain_right, call_right, composite_call, call_to}
-use Rattle.syntax_trees.specs.Scopes.{Typ, Scope, Signature}
-use Rattle.syntax_trees.specs.Single.{IsSimple}
-use Rattle.syntax_trees.specs.Table.{Table, Callee, composite}
-use Rattle.syntax_trees.specs.Tree.{Word, Expression, expression, variable, call, Expressions, expressions_of, RightSide, value}
-use Rattle.syntax_trees.specs.Typing.{HasType, of_number, of_text, of_truth, of_variable, of_element, of_prefixed, of_chain, of_call, of_builtin, ArgumentTypes, RightType, of_scalar, of_copy, of_list, of_array_call}
-use Rattle.syntax_trees.proofs.Tested.{declared_of}
+use Rattle.language.specs.declared.tree.Base.{Base}
+use Rattle.language.specs.declared.tree.Shape.{Shape}
+use Rattle.language.specs.declared.tree.Shape.TheVariants.{Scalar}
+use Rattle.language.specs.Core.{Owned, Name, whole, compute, Call, Part, inner, calls, Outer, scalar, Stmt, stmt, Action, call_alone, assign, fill, wait}
+use Rattle.language.specs.Members.{◌∈◌, first, later}
+use Rattle.language.specs.Numbers.{expression_numbers, expressions_numbers, right_numbers}
+use Rattle.language.specs.Parts.{outer_parts, parts, by_name, by_element}
+use Rattle.language.specs.Resolved.{Formed, Arguments, computes, form_of, operands_of, arguments_of, number_of, refers, outer, outer_of, right_of, plain_right, call_right, composite_call, call_to}
+use Rattle.language.specs.Scopes.{Typ, Scope, Signature}
+use Rattle.language.specs.Single.{IsSimple}
+use Rattle.language.specs.Table.{Table, Callee, composite}
+use Rattle.language.specs.Tree.{Word, Expression, expression, variable, call, Expressions, expressions_of, RightSide, value}
+use Rattle.language.specs.Typing.{HasType, of_number, of_text, of_truth, of_variable, of_element, of_prefixed, of_chain, of_call, of_builtin, ArgumentTypes, RightType, of_scalar, of_copy, of_list, of_array_call}
+use Rattle.language.proofs.Tested.{declared_of}
 use Rattle.assign_check.specs.Outline as outline
 use Rattle.assign_check.specs.Outline.{Use, Declared, Step, declares, uses, name_read, read_in, read_all, read_right}
 use Rattle.assign_check.proofs.like.Like.{Plain, no_step as nothing_read, named_step, read_step as is_read}

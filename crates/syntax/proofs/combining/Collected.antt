@@ -6,7 +6,7 @@ use Rattle.lexer.specs.Tokens.{Tokens, TokensFrom, at_end, after_gap, a_token, a
 use Rattle.lexer.specs.declared.fault.LexFault.{LexFault}
 use Rattle.lexer.specs.declared.token.TokenKind.{TokenKind}
 use Rattle.lexer.specs.declared.token.TokenKind.TheVariants as Kind
-use Rattle.syntax_trees.specs.Rules.{Place}
+use Rattle.language.specs.Rules.{Place}
 use Rattle.syntax.specs.Endings.{ending}
 use Rattle.syntax.specs.Formed.{has_form}
 use Rattle.syntax.specs.Held.{Begins, tokens_of}

@@ -13,10 +13,11 @@ use Rattle.syntax_trees.specs.declared.tree.Decl.{Decl}
 use Rattle.syntax_trees.specs.declared.tree.Function.{Function}
 use Rattle.syntax.specs.Answers.{branch_view}
 use Rattle.syntax_trees.specs.declared.tree.StmtKind.{StmtKind, AssignAll, If, Foreach, Wait, the_lemmas as statement_lemmas}
-use Rattle.syntax_trees.specs.Tree.{Composite, Command, statement, assign_all, calls, loop, waits, expression, Form, text}
-use Rattle.syntax_trees.specs.View.{word_of, expression_view, form_view, words_view, calling_of, statement_view, command_view, body_view, over_of, choice_of, composite_of, declarations_view}
-use Rattle.syntax_trees.specs.Rules.{Place}
-use Rattle.syntax_trees.specs.Grammar.{first_of, node, spans, does}
+use Rattle.language.specs.Tree.{Composite, Command, statement, assign_all, calls, loop, waits, expression, Form, text}
+use Rattle.syntax_trees.specs.View.{word_of, expression_view, form_view, words_view, calling_of, statement_view, command_view, body_view, over_of, composite_of, declarations_view}
+use Rattle.language.specs.Tree.{choice_of}
+use Rattle.language.specs.Rules.{Place}
+use Rattle.language.specs.Grammar.{first_of, node, spans, does}
 
 pub view-Text : {A : Type 0} (v : Vec ℕ A) → form_view {A = A} (Text v) ≡ text v.items
 view-Text v = search (rules, the_lemmas)

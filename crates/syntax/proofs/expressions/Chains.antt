@@ -1,13 +1,13 @@
 -- What a chain is, by what its parts are.
 use Rattle.std.proofs.Common.{◌≡◌, ℕ, zero, suc, length, List, [], ◌∷◌, ◌++◌, map, Bool, true, false, refl, ap, ap₂, sym, ◌∙◌, subst, append_assoc}
 use Rattle.std.proofs.lemmas.List.{append-nil}
-use Rattle.syntax_trees.specs.declared.tree.Operator.{Operator}
-use Rattle.syntax_trees.specs.declared.tree.Level.{Level}
-use Rattle.syntax_trees.specs.declared.tree.Prefix.{Prefix}
-use Rattle.syntax_trees.specs.Tree.{Word, Expression, expression, prefixed, call, chain, expressions_of}
-use Rattle.syntax_trees.specs.Kinds.{repeats}
-use Rattle.syntax_trees.specs.Rules.{Place}
-use Rattle.syntax_trees.specs.Grammar.{spans}
+use Rattle.language.specs.declared.tree.Operator.{Operator}
+use Rattle.language.specs.declared.tree.Level.{Level}
+use Rattle.language.specs.declared.tree.Prefix.{Prefix}
+use Rattle.language.specs.Tree.{Word, Expression, expression, prefixed, call, chain, expressions_of}
+use Rattle.language.specs.Kinds.{repeats}
+use Rattle.language.specs.Rules.{Place}
+use Rattle.language.specs.Grammar.{spans}
 use Rattle.lexer.specs.declared.token.Span.{Span}
 use Rattle.lexer.specs.declared.token.TokenKind.{TokenKind}
 use Rattle.syntax.specs.declared.stop.Stop.{Stop}

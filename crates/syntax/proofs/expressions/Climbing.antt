@@ -4,13 +4,13 @@ use Rattle.std.proofs.lemmas.Bool.{leb-true, le-leb}
 use Rattle.std.specs.Prelude.{Option, Some, None, Result, Ok, Err, nat_le}
 use denote.Enum.Bare.{same_true, true_same}
 use Rattle.lexer.specs.declared.token.Span.{Span}
-use Rattle.syntax_trees.specs.contracts.tree.Level as levels
-use Rattle.syntax_trees.specs.declared.tree.Operator.{Operator}
-use Rattle.syntax_trees.specs.declared.tree.Level.{Level}
-use Rattle.syntax_trees.specs.Tree.{Expression}
-use Rattle.syntax_trees.specs.Kinds.{operator_of, level_of, same_level}
-use Rattle.syntax_trees.specs.Rules.{Place}
-use Rattle.syntax_trees.specs.Grammar.{first_of, chained}
+use Rattle.language.specs.contracts.tree.Level as levels
+use Rattle.language.specs.declared.tree.Operator.{Operator}
+use Rattle.language.specs.declared.tree.Level.{Level}
+use Rattle.language.specs.Tree.{Expression}
+use Rattle.language.specs.Kinds.{operator_of, level_of, same_level}
+use Rattle.language.specs.Rules.{Place}
+use Rattle.language.specs.Grammar.{first_of, chained}
 use Rattle.syntax.specs.declared.stop.Stop.{Stop}
 use Rattle.syntax.specs.Readers.{Read, refused, got, ◌>>=◌, cond, kind_at}
 use Rattle.syntax.specs.Answers.{Gives}

@@ -1,17 +1,17 @@
 -- The laws of expressions.
 use Rattle.std.proofs.Common.{◌≡◌, ℕ, zero, suc, ◌+◌, ◌≤◌, length, List, [], ◌∷◌, Option, Some, None, Bool, true, false, refl, ap, sym, ◌∙◌, subst, arith}
 use denote.Enum.Bare.{same_true, true_same}
-use Rattle.syntax_trees.specs.contracts.tree.Level as levels
-use Rattle.syntax_trees.specs.declared.tree.Operator.{Operator}
-use Rattle.syntax_trees.specs.declared.tree.Prefix.TheVariants as Prefix
-use Rattle.syntax_trees.specs.Tree.{Expression, Form, number, text, truth, variable, element, call, prefixed, expressions_of}
+use Rattle.language.specs.contracts.tree.Level as levels
+use Rattle.language.specs.declared.tree.Operator.{Operator}
+use Rattle.language.specs.declared.tree.Prefix.TheVariants as Prefix
+use Rattle.language.specs.Tree.{Expression, Form, number, text, truth, variable, element, call, prefixed, expressions_of}
 use Rattle.lexer.specs.Items.{Lexeme}
 use Rattle.lexer.specs.declared.token.TokenKind.{TokenKind}
 use Rattle.lexer.specs.declared.token.TokenKind.TheVariants as Kind
-use Rattle.syntax_trees.specs.declared.tree.Level.{Level}
-use Rattle.syntax_trees.specs.Kinds.{same, same_level, operator_of, level_of, repeats}
-use Rattle.syntax_trees.specs.Rules.{Place, behind, Rule, The, ◌⋆◌, ◌▹◌, Never, Made, Round, Square}
-use Rattle.syntax_trees.specs.Grammar.{number_of, spelled, spans, word, IsName, IsOperator, chained, Repeated, IsChain, IsExprOver, AreArguments, IsUnaryOver, a_not, a_negative, a_number, a_string, a_true, a_false, a_name, an_element, a_call, a_parenthesis, IsUnary, IsExpr}
+use Rattle.language.specs.declared.tree.Level.{Level}
+use Rattle.language.specs.Kinds.{same, same_level, operator_of, level_of, repeats}
+use Rattle.language.specs.Rules.{Place, behind, Rule, The, ◌⋆◌, ◌▹◌, Never, Made, Round, Square}
+use Rattle.language.specs.Grammar.{number_of, spelled, spans, word, IsName, IsOperator, chained, Repeated, IsChain, IsExprOver, AreArguments, IsUnaryOver, a_not, a_negative, a_number, a_string, a_true, a_false, a_name, an_element, a_call, a_parenthesis, IsUnary, IsExpr}
 use Rattle.syntax.specs.Readers.{Read, refused, got, Reader, stop_at, kind_of, tail_of, kind_at, second_at, at, second, cond, the, ◌∗◌, made, many, once, round, square}
 use Rattle.syntax.specs.Reading.{read_name, of_level, operator_at, is_some, at_operator, take_if, read_operator, chain_over, expr_over, arguments_over, unary_over, read_unary, read_expr}
 use Rattle.syntax.proofs.combining.Combine.{Law, Any, Tests, Begins, Stops, Sound, got_value, got_place, kind_the, the_law, both_law, drop_law, keep_law, made_law, tight_law, sound_as, sound_never, sound_choose, not_kind, once_law, many_law, commas_law, perhaps_law, tests_at}

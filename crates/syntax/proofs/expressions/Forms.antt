@@ -1,17 +1,17 @@
 -- The unary by its depth, and by what its parts read at that depth.
 use Rattle.std.proofs.Common.{◌≡◌, ℕ, zero, suc, ◌-◌, ◌<◌, length, List, [], ◌∷◌, ◌++◌, Bool, true, false, refl, ap, ap₂, sym, ◌∙◌, arith}
 use mathlib.Core.Path.{fun_ext}
-use Rattle.syntax_trees.specs.declared.tree.Prefix.{Prefix}
-use Rattle.syntax_trees.specs.Tree.{Expression, Form, prefixed, element, call, expressions_of}
+use Rattle.language.specs.declared.tree.Prefix.{Prefix}
+use Rattle.language.specs.Tree.{Expression, Form, prefixed, element, call, expressions_of}
 use Rattle.lexer.specs.Items.{Lexeme}
 use Rattle.lexer.specs.declared.token.TokenKind.{TokenKind}
 use Rattle.lexer.specs.declared.token.TokenKind.TheVariants as Kind
-use Rattle.syntax_trees.specs.Rules.{Place}
+use Rattle.language.specs.Rules.{Place}
 use Rattle.syntax.specs.declared.stop.Stop.{Stop}
 use Rattle.syntax.specs.declared.stop.Stop.TheVariants.{AtEnd, Unexpected, TooNested, Memory}
-use Rattle.syntax_trees.specs.declared.tree.Level.{Level}
-use Rattle.syntax_trees.specs.Kinds.{repeats}
-use Rattle.syntax_trees.specs.Grammar.{spans}
+use Rattle.language.specs.declared.tree.Level.{Level}
+use Rattle.language.specs.Kinds.{repeats}
+use Rattle.language.specs.Grammar.{spans}
 use Rattle.syntax.specs.Readers.{Read, refused, got, Reader, ◌>>=◌, at, second, cond, the, ◌∗◌, ◌▸◌, ◌◂◌, made, tight, stop_at, many_over, many, once, perhaps, commas, round, square, bracket}
 use Rattle.syntax.specs.Answers.{Fails}
 use Rattle.syntax.specs.Reading.{at_operator, read_operator, operands, read_name, expr_over, arguments_over, read_unary, read_expr, read_exprs, read_form, read_prefixed, read_literal, read_test, read_named, read_index, read_arguments}

@@ -8,9 +8,9 @@ use Rattle.lexer.specs.Reading.{items_from}
 use Rattle.lexer.specs.Tokens.{Tokens}
 use Rattle.lexer.specs.declared.fault.LexFault.{LexFault}
 use Rattle.lexer.proofs.Items.{only_tokens, spans_rise}
-use Rattle.syntax_trees.specs.Tree.{Part}
-use Rattle.syntax_trees.specs.Numbered.{numbered, numbered_part, part_size}
-use Rattle.syntax_trees.specs.Rules.{Place}
+use Rattle.language.specs.Tree.{Part}
+use Rattle.language.specs.Numbered.{numbered, numbered_part, part_size}
+use Rattle.language.specs.Rules.{Place}
 use Rattle.syntax_trees.proofs.Numbering.{numbered_each-push}
 use Rattle.syntax.specs.Endings.{ending}
 use Rattle.syntax.specs.Held.{Begins}

@@ -1,13 +1,13 @@
 -- The laws of imports, functions and whole scripts.
 use Rattle.std.specs.Prelude.{ℤ, not, ◌||◌}
 use Rattle.std.proofs.Common.{◌≡◌, ℕ, zero, suc, length, List, [], ◌∷◌, Option, Some, None, Bool, true, false, refl, ap, sym, ◌∙◌, subst, arith}
-use Rattle.syntax_trees.specs.Tree.{Word, Declaration, Calling, Statement, Body, Part, import, function, single, Tree}
+use Rattle.language.specs.Tree.{Word, Declaration, Calling, Statement, Body, Part, import, function, single, Tree}
 use Rattle.lexer.specs.Items.{Lexeme}
 use Rattle.lexer.specs.declared.token.TokenKind.{TokenKind}
 use Rattle.lexer.specs.declared.token.TokenKind.TheVariants as Kind
-use Rattle.syntax_trees.specs.Kinds.{same}
-use Rattle.syntax_trees.specs.Rules.{Place, Rule, The, ◌⋆◌, ◌▹◌, ◌◃◌, Never, Many, Made, Maybe, Commas, Perhaps, Deeper}
-use Rattle.syntax_trees.specs.Grammar.{first_of, node, IsName, IsDecl, AreParameters, IsCall, IsPriority, IsStmtOver, a_declaration, an_assignment, a_write, many_assigned, a_call, an_if, a_foreach, a_wait, IsBlockOver, IsStmt, IsBlock, IsModule, io, assert, string, IsPart, an_import, a_function, a_statement, IsScript}
+use Rattle.language.specs.Kinds.{same}
+use Rattle.language.specs.Rules.{Place, Rule, The, ◌⋆◌, ◌▹◌, ◌◃◌, Never, Many, Made, Maybe, Commas, Perhaps, Deeper}
+use Rattle.language.specs.Grammar.{first_of, node, IsName, IsDecl, AreParameters, IsCall, IsPriority, IsStmtOver, a_declaration, an_assignment, a_write, many_assigned, a_call, an_if, a_foreach, a_wait, IsBlockOver, IsStmt, IsBlock, IsModule, io, assert, string, IsPart, an_import, a_function, a_statement, IsScript}
 use Rattle.syntax.specs.declared.stop.Stop.{Stop}
 use Rattle.syntax.specs.declared.stop.Stop.TheVariants.{Unexpected}
 use Rattle.syntax.specs.Readers.{refused, got, ◌>>=◌, kind_of, kind_at, second_at, at, second, start, none_of, at_end, cond, choose, the, made, checked}

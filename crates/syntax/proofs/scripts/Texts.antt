@@ -5,10 +5,10 @@ use Rattle.lexer.specs.Items.{Lexeme, ends_at}
 use Rattle.lexer.proofs.Items.{tokens_end}
 use Rattle.lexer.specs.Tokens.{Tokens}
 use Rattle.lexer.specs.declared.fault.LexFault.{LexFault}
-use Rattle.syntax_trees.specs.Tree.{Tree}
-use Rattle.syntax_trees.specs.Numbered.{numbered}
-use Rattle.syntax_trees.specs.Reads.{Reads}
-use Rattle.syntax_trees.specs.Rules.{Place}
+use Rattle.language.specs.Tree.{Tree}
+use Rattle.language.specs.Numbered.{numbered}
+use Rattle.language.specs.Reads.{Reads}
+use Rattle.language.specs.Rules.{Place}
 use Rattle.syntax.specs.declared.stop.Stop.{Stop}
 use Rattle.syntax.specs.declared.stop.Stop.TheVariants.{AtEnd, Unexpected, TooNested, Memory}
 use Rattle.syntax.specs.declared.error.ParseFault.{ParseFault}

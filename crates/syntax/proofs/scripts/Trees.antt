@@ -2,16 +2,16 @@
 use Rattle.std.specs.Prelude.{Ok, Err, map, ◌++◌, ◌<◌}
 use Rattle.std.proofs.Common.{◌≡◌, ℕ, ◌≤◌, length, List, [], ◌∷◌, refl, ap, sym, ◌∙◌, subst, arith}
 use Rattle.std.proofs.lemmas.List.{append-nil}
-use Rattle.syntax_trees.specs.Tree.{Expression, Tree}
+use Rattle.language.specs.Tree.{Expression, Tree}
 use Rattle.lexer.specs.declared.fault.LexFault.{LexFault}
 use Rattle.lexer.specs.Items.{Lexeme, Item}
 use Rattle.lexer.specs.declared.token.TokenKind.TheVariants as Kind
 use Rattle.lexer.specs.Tokens.{Tokens}
 use Rattle.lexer.proofs.Items.{only_tokens}
-use Rattle.syntax_trees.specs.Rules.{Place}
-use Rattle.syntax_trees.specs.Grammar.{IsExpr, IsScript}
-use Rattle.syntax_trees.specs.Numbered.{numbered}
-use Rattle.syntax_trees.specs.Reads.{Reads}
+use Rattle.language.specs.Rules.{Place}
+use Rattle.language.specs.Grammar.{IsExpr, IsScript}
+use Rattle.language.specs.Numbered.{numbered}
+use Rattle.language.specs.Reads.{Reads}
 use Rattle.syntax.specs.declared.stop.Stop.{Stop}
 use Rattle.syntax.specs.Readers.{got, refused, start, kind_at, kind_of}
 use Rattle.syntax.specs.Reading.{read_script}

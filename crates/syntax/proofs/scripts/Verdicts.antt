@@ -5,7 +5,7 @@ use Rattle.lexer.specs.Items.{Lexeme, Item}
 use Rattle.lexer.specs.Tokens.{Tokens}
 use Rattle.lexer.specs.declared.fault.LexFault.{LexFault}
 use Rattle.lexer.proofs.Items.{only_tokens}
-use Rattle.syntax_trees.specs.Tree.{Tree}
+use Rattle.language.specs.Tree.{Tree}
 use Rattle.syntax.specs.declared.error.ParseFault.{ParseFault}
 use Rattle.syntax.specs.declared.error.ParseFault.TheVariants.{Lex, Unexpected, TooNested, TooLong, Memory}
 use Rattle.syntax.specs.Answers.{answer_of}

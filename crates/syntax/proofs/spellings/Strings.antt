@@ -5,7 +5,7 @@ use Rattle.std.proofs.lemmas.Bool.Decides.{nat_tests}
 use borrow.Author.Tests.{eqb-true}
 use Rattle.lexer.specs.Bytes.{is_plain, is_empty, escaped_byte}
 use Rattle.lexer.specs.Tokens.{Spells, ended, plain, escape, Quotes, IsString}
-use Rattle.syntax_trees.specs.Grammar.{or_itself, spelled_from, behind_quote}
+use Rattle.language.specs.Grammar.{or_itself, spelled_from, behind_quote}
 use Rattle.syntax.specs.Formed.{closes, is_quoted}
 
 if_false : {A : Type 0} (b : Bool) (x y : A) → b ≡ false → (if b then x else y) ≡ y

@@ -3,10 +3,10 @@ use Rattle.std.proofs.Common.{◌≡◌, ℕ, zero, suc, ◌-◌, ◌<◌, lengt
 use Rattle.std.specs.Prelude.{ℤ, Option, not}
 use Rattle.lexer.specs.Items.{Lexeme}
 use Rattle.lexer.specs.declared.token.TokenKind.TheVariants as Kind
-use Rattle.syntax_trees.specs.Tree.{Word, Calling, assign_all, calls, Part, function, Declaration, Expression, Over, loop, waits, Statement, Body, no_statements, and_statement, body, statements_of}
-use Rattle.syntax_trees.specs.View.{choice_of}
-use Rattle.syntax_trees.specs.Rules.{Place}
-use Rattle.syntax_trees.specs.Grammar.{first_of, node, does, or_zero}
+use Rattle.language.specs.Tree.{Word, Calling, assign_all, calls, Part, function, Declaration, Expression, Over, loop, waits, Statement, Body, no_statements, and_statement, body, statements_of}
+use Rattle.language.specs.Tree.{choice_of}
+use Rattle.language.specs.Rules.{Place}
+use Rattle.language.specs.Grammar.{first_of, node, does, or_zero}
 use Rattle.syntax.specs.declared.stop.Stop.{Stop}
 use Rattle.syntax.specs.Readers.{◌◂◌, refused, got, ◌>>=◌, at, at_end, the, ◌▸◌, made, maybe, many_over}
 use Rattle.syntax.specs.Reading.{read_names, read_call, read_many, read_priority, read_calling, read_name, read_test, read_source, read_stmt, read_stmts, read_block, read_else, read_if, read_foreach, read_wait, read_command, read_part, read_script, read_parameters, read_function}

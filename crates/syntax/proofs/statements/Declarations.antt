@@ -3,14 +3,14 @@ use Rattle.std.specs.Prelude.{nat_eq, ◌&&◌}
 use Rattle.std.proofs.lemmas.Bool.{eqb-true, leb-true, le-leb}
 use Rattle.lexer.specs.Bytes.{decimal}
 use Rattle.std.proofs.Common.{◌≡◌, ℕ, ◌+◌, ◌≤◌, length, List, [], ◌∷◌, Option, Some, None, Bool, true, false, refl, ap, sym, ◌∙◌, subst, arith}
-use Rattle.syntax_trees.specs.declared.tree.Base.{Base}
-use Rattle.syntax_trees.specs.Tree.{Expression, RightSide, value, list, Over, array, range}
+use Rattle.language.specs.declared.tree.Base.{Base}
+use Rattle.language.specs.Tree.{Expression, RightSide, value, list, Over, array, range}
 use Rattle.lexer.specs.Items.{Lexeme}
 use Rattle.lexer.specs.declared.token.TokenKind.{TokenKind}
 use Rattle.lexer.specs.declared.token.TokenKind.TheVariants as Kind
-use Rattle.syntax_trees.specs.Kinds.{same, base_of}
-use Rattle.syntax_trees.specs.Rules.{Place, behind, Rule, The, ◌⋆◌, ◌▹◌, Nothing, Made, Maybe, Commas, Round, Square, Deeper}
-use Rattle.syntax_trees.specs.Grammar.{node, IsName, IsExpr, AreArguments, IsType, shape_of, IsDecl, AreParameters, AreNames, IsCall, IsRight, a_value, a_list, IsPrio, IsSmall, IsPriority, signed, IsRange, IsSource, an_array, a_range}
+use Rattle.language.specs.Kinds.{same, base_of}
+use Rattle.language.specs.Rules.{Place, behind, Rule, The, ◌⋆◌, ◌▹◌, Nothing, Made, Maybe, Commas, Round, Square, Deeper}
+use Rattle.language.specs.Grammar.{node, IsName, IsExpr, AreArguments, IsType, shape_of, IsDecl, AreParameters, AreNames, IsCall, IsRight, a_value, a_list, IsPrio, IsSmall, IsPriority, signed, IsRange, IsSource, an_array, a_range}
 use Rattle.syntax.specs.Readers.{got, kind_of, kind_at, at, the, ◌▸◌, made}
 use Rattle.syntax.specs.Reading.{is_some, base_over, at_type, read_name, read_type, read_brackets, read_decl, read_decls, read_parameters, read_words, read_names, read_expr, read_exprs, read_arguments, read_index, read_test, read_call, read_elements, read_right, spells, read_prio, read_small, read_priority, bounds_over, read_range, read_source}
 use Rattle.syntax.proofs.spellings.Spelling.{spells_true}

@@ -2,14 +2,14 @@
 use Rattle.std.specs.Prelude.{ℤ, not, ◌||◌}
 use Rattle.std.proofs.Common.{◌≡◌, ℕ, zero, suc, List, [], ◌∷◌, Option, Some, None, Bool, true, false, refl, ap, sym, ◌∙◌, subst}
 use mathlib.Core.Path.{fun_ext}
-use Rattle.syntax_trees.specs.Tree.{RightSide, Calling, Statement, no_statements, and_statement, declare, assign, write, assign_all, calls, loop, waits, Body, body, statements_of}
-use Rattle.syntax_trees.specs.View.{choice_of}
+use Rattle.language.specs.Tree.{RightSide, Calling, Statement, no_statements, and_statement, declare, assign, write, assign_all, calls, loop, waits, Body, body, statements_of}
+use Rattle.language.specs.Tree.{choice_of}
 use Rattle.lexer.specs.Items.{Lexeme}
 use Rattle.lexer.specs.declared.token.TokenKind.{TokenKind}
 use Rattle.lexer.specs.declared.token.TokenKind.TheVariants as Kind
-use Rattle.syntax_trees.specs.Kinds.{same}
-use Rattle.syntax_trees.specs.Rules.{Place, behind, Rule, The, ◌⋆◌, ◌▹◌, ◌◃◌, Never, Many, Made, Maybe, Round, Square, Deeper}
-use Rattle.syntax_trees.specs.Grammar.{first_of, does, or_zero, IsName, IsExpr, IsDecl, AreNames, IsCall, IsRight, IsPriority, IsSource, IsElse, a_block, an_if, IsStmtOver, a_declaration, an_assignment, a_write, many_assigned, a_call, a_foreach, a_wait, IsBlockOver, IsStmt, IsBlock}
+use Rattle.language.specs.Kinds.{same}
+use Rattle.language.specs.Rules.{Place, behind, Rule, The, ◌⋆◌, ◌▹◌, ◌◃◌, Never, Many, Made, Maybe, Round, Square, Deeper}
+use Rattle.language.specs.Grammar.{first_of, does, or_zero, IsName, IsExpr, IsDecl, AreNames, IsCall, IsRight, IsPriority, IsSource, IsElse, a_block, an_if, IsStmtOver, a_declaration, an_assignment, a_write, many_assigned, a_call, a_foreach, a_wait, IsBlockOver, IsStmt, IsBlock}
 use Rattle.syntax.specs.Readers.{Read, refused, got, Reader, ◌>>=◌, kind_of, kind_at, second_at, at, second, cond, the, ◌◂◌, made, stop_at, nested, tight, many, deeper}
 use Rattle.syntax.specs.Reading.{at_type, read_declaration, read_assignment, read_write, read_many, read_calling, else_over, if_over, foreach_over, wait_over, stmt_over, block_over, read_stmt, read_stmts, read_block, read_else, read_if, read_foreach, read_wait, read_named_stmt, read_command}
 use Rattle.syntax.proofs.combining.Combine.{Law, Any, Tests, Begins, Stops, Sound, kind_the, kind_same, same_kind, the_law, both_law, both_last_law, drop_law, keep_law, made_law, before_law, same_law, tight_law, tight_stays, nested_law, sound_as, sound_never, sound_choose, sound_test, cond_first, choose_first, choose_second, begins_the, not_kind, maybe_law, many_law, tests_at, opened_deep, opened_zero}

@@ -6,13 +6,13 @@ use Rattle.lexer.specs.Bytes.{decimal}
 use Rattle.lexer.specs.Items.{Lexeme}
 use Rattle.lexer.specs.declared.token.TokenKind.{TokenKind}
 use Rattle.lexer.specs.declared.token.TokenKind.TheVariants as Kind
-use Rattle.syntax_trees.specs.declared.tree.Base.{Base}
-use Rattle.syntax_trees.specs.declared.tree.Level.{Level}
-use Rattle.syntax_trees.specs.declared.tree.Prefix.{Prefix}
-use Rattle.syntax_trees.specs.Kinds.{same, operator_of, base_of, repeats}
-use Rattle.syntax_trees.specs.Tree.{Expression, Form, number, text, truth, variable, element, call, prefixed, expressions_of, value, list, array, range}
-use Rattle.syntax_trees.specs.Rules.{Place, behind, Rule, The, ◌⋆◌, ◌▹◌, Nothing, Maybe, Perhaps, Made, cons, Commas, Round, Square}
-use Rattle.syntax_trees.specs.Grammar.{node, spans, word, number_of, spelled, chained, shape_of, signed, IsName, IsOperator, Repeated, IsChain, IsExprOver, AreArguments, IsUnaryOver, a_not, a_negative, a_number, a_string, a_true, a_false, a_name, an_element, a_call, a_parenthesis, IsUnary, IsExpr, IsType, IsDecl, AreParameters, AreNames, IsCall, IsRight, a_value, a_list, IsPrio, IsSmall, IsPriority, IsSource, an_array, a_range}
+use Rattle.language.specs.declared.tree.Base.{Base}
+use Rattle.language.specs.declared.tree.Level.{Level}
+use Rattle.language.specs.declared.tree.Prefix.{Prefix}
+use Rattle.language.specs.Kinds.{same, operator_of, base_of, repeats}
+use Rattle.language.specs.Tree.{Expression, Form, number, text, truth, variable, element, call, prefixed, expressions_of, value, list, array, range}
+use Rattle.language.specs.Rules.{Place, behind, Rule, The, ◌⋆◌, ◌▹◌, Nothing, Maybe, Perhaps, Made, cons, Commas, Round, Square}
+use Rattle.language.specs.Grammar.{node, spans, word, number_of, spelled, chained, shape_of, signed, IsName, IsOperator, Repeated, IsChain, IsExprOver, AreArguments, IsUnaryOver, a_not, a_negative, a_number, a_string, a_true, a_false, a_name, an_element, a_call, a_parenthesis, IsUnary, IsExpr, IsType, IsDecl, AreParameters, AreNames, IsCall, IsRight, a_value, a_list, IsPrio, IsSmall, IsPriority, IsSource, an_array, a_range}
 use Rattle.syntax.specs.declared.stop.Stop.{Stop}
 use Rattle.syntax.specs.declared.stop.Stop.TheVariants.{AtEnd, Unexpected}
 use Rattle.syntax.specs.Readers.{refused, got, Reader, kind_of, kind_at, second_at, at, second, cond, the, ◌∗◌, made, perhaps, many, once, checked}

@@ -4,8 +4,8 @@ use Rattle.std.specs.Prelude.{◌⊎◌}
 use Rattle.lexer.specs.Items.{Lexeme}
 use Rattle.lexer.specs.declared.token.TokenKind.{TokenKind}
 use Rattle.lexer.specs.declared.token.TokenKind.TheVariants as Kind
-use Rattle.syntax_trees.specs.Kinds.{same}
-use Rattle.syntax_trees.specs.Rules.{Place, behind, Rule, The, ◌⋆◌, ◌▹◌, ◌◃◌, Nothing, Many, Maybe, AtMostOne, Perhaps, Made, cons, Commas}
+use Rattle.language.specs.Kinds.{same}
+use Rattle.language.specs.Rules.{Place, behind, Rule, The, ◌⋆◌, ◌▹◌, ◌◃◌, Nothing, Many, Maybe, AtMostOne, Perhaps, Made, cons, Commas}
 use Rattle.syntax.specs.declared.stop.Stop.{Stop}
 use Rattle.syntax.specs.declared.stop.Stop.TheVariants.{AtEnd, Unexpected, TooNested, Memory}
 use Rattle.syntax.specs.Readers.{Read, refused, got, Reader, ◌>>=◌, kind_of, tail_of, kind_at, second_at, stop_of, cond, choose, next_of, the, ◌∗◌, ◌▸◌, ◌◂◌, made, nothing, never, maybe, perhaps, many_over, many, once, commas, at, bracket, checked}

@@ -5,11 +5,11 @@ use Rattle.std.proofs.lemmas.List.{append-nil}
 use Rattle.lexer.specs.Items.{Lexeme}
 use Rattle.lexer.specs.declared.token.TokenKind.{TokenKind}
 use Rattle.lexer.specs.declared.token.TokenKind.TheVariants as Kind
-use Rattle.syntax_trees.specs.Kinds.{same}
-use Rattle.syntax_trees.specs.Tree.{Statement, declare, assign, write, assign_all, calls, loop, waits, Body, body, statements_of, no_statements, and_statement, Part, import, function, single, Tree}
-use Rattle.syntax_trees.specs.View.{choice_of}
-use Rattle.syntax_trees.specs.Rules.{Place, behind, Rule, The, ◌⋆◌, ◌▹◌, Many, Maybe, Round, Deeper}
-use Rattle.syntax_trees.specs.Grammar.{first_of, node, does, or_zero, IsExpr, IsElse, a_block, an_if, IsStmtOver, a_declaration, an_assignment, a_write, many_assigned, a_call, a_foreach, a_wait, IsBlockOver, IsStmt, IsBlock, IsModule, string, IsPart, an_import, a_function, a_statement, IsScript}
+use Rattle.language.specs.Kinds.{same}
+use Rattle.language.specs.Tree.{Statement, declare, assign, write, assign_all, calls, loop, waits, Body, body, statements_of, no_statements, and_statement, Part, import, function, single, Tree}
+use Rattle.language.specs.Tree.{choice_of}
+use Rattle.language.specs.Rules.{Place, behind, Rule, The, ◌⋆◌, ◌▹◌, Many, Maybe, Round, Deeper}
+use Rattle.language.specs.Grammar.{first_of, node, does, or_zero, IsExpr, IsElse, a_block, an_if, IsStmtOver, a_declaration, an_assignment, a_write, many_assigned, a_call, a_foreach, a_wait, IsBlockOver, IsStmt, IsBlock, IsModule, string, IsPart, an_import, a_function, a_statement, IsScript}
 use Rattle.syntax.specs.declared.stop.Stop.{Stop}
 use Rattle.syntax.specs.declared.stop.Stop.TheVariants.{AtEnd, Unexpected, TooNested, Memory}
 use Rattle.syntax.specs.Readers.{refused, got, Reader, ◌>>=◌, kind_of, kind_at, second_at, start, at_end, none_of, cond, choose, made, many_over, nested, deeper}

@@ -11,16 +11,16 @@ use Rattle.types.specs.declared.typed.Meaning.TheVariants.{Called}
 use Rattle.types.specs.declared.typed.Callee.TheVariants.{Function, BuiltIn}
 use Rattle.types.specs.declared.typed.Builtin.{Builtin}
 use Rattle.types.specs.declared.typed.Builtin.TheVariants as Named
-use Rattle.syntax_trees.specs.declared.tree.Base.{Base}
-use Rattle.syntax_trees.specs.declared.tree.Base.TheVariants.{Int, Text, Boolean}
-use Rattle.syntax_trees.specs.declared.tree.Shape.{Shape}
-use Rattle.syntax_trees.specs.declared.tree.Shape.TheVariants.{Scalar, Array}
-use Rattle.syntax_trees.specs.declared.tree.Operator.{Operator}
-use Rattle.syntax_trees.specs.Tree.{Word, Node, Expression, expression, Form, number, text, truth, variable, element, call, prefixed, chain, Expressions, no_expressions, and_expression}
-use Rattle.syntax_trees.specs.Table.{Table, builtin_text}
-use Rattle.syntax_trees.specs.Scopes.{Typ, one_of, many_of, Scope, Signature, Refers, CallsBuiltin}
-use Rattle.syntax_trees.specs.Typing as rules
-use Rattle.syntax_trees.specs.Typing.{HasType, RestType, ArgumentTypes, BuiltinType, AllHaveType}
+use Rattle.language.specs.declared.tree.Base.{Base}
+use Rattle.language.specs.declared.tree.Base.TheVariants.{Int, Text, Boolean}
+use Rattle.language.specs.declared.tree.Shape.{Shape}
+use Rattle.language.specs.declared.tree.Shape.TheVariants.{Scalar, Array}
+use Rattle.language.specs.declared.tree.Operator.{Operator}
+use Rattle.language.specs.Tree.{Word, Node, Expression, expression, Form, number, text, truth, variable, element, call, prefixed, chain, Expressions, no_expressions, and_expression}
+use Rattle.language.specs.Table.{Table, builtin_text}
+use Rattle.language.specs.Scopes.{Typ, one_of, many_of, Scope, Signature, Refers, CallsBuiltin}
+use Rattle.language.specs.Typing as rules
+use Rattle.language.specs.Typing.{HasType, RestType, ArgumentTypes, BuiltinType, AllHaveType}
 use Rattle.types.specs.Known.{Around}
 use Rattle.types.specs.Typed.{builtin_name}
 use Rattle.types.specs.Outcomes.{refused, got, ◌>>=◌}

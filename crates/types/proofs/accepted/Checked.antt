@@ -9,15 +9,15 @@ use Rattle.types.specs.declared.typed.Owned.{Owned}
 use Rattle.types.specs.declared.typed.Owned.TheVariants.{Input, Output}
 use Rattle.types.specs.declared.typed.Settled.{Settled}
 use Rattle.std.proofs.lemmas.Slice.Eq.{bytes_eq-Decides}
-use Rattle.syntax_trees.specs.Core as core
-use Rattle.syntax_trees.specs.Members.{◌∈◌}
-use Rattle.syntax_trees.proofs.Members.{split_in}
-use Rattle.syntax_trees.specs.Tree.{Word, Declaration, Composite, import, function, single, Tree}
-use Rattle.syntax_trees.specs.Table.{Table, strcat, fromint, toint, size, printf, assert}
-use Rattle.syntax_trees.specs.Table as table
-use Rattle.syntax_trees.specs.Scopes.{declared_type, Scope, Signature, signature_of, signatures, IsBuiltinName}
-use Rattle.syntax_trees.specs.Typing as rules
-use Rattle.syntax_trees.specs.Typing.{Parameters, FunctionTyped, PartsTyped, WellTyped}
+use Rattle.language.specs.Core as core
+use Rattle.language.specs.Members.{◌∈◌}
+use Rattle.language.proofs.Members.{split_in}
+use Rattle.language.specs.Tree.{Word, Declaration, Composite, import, function, single, Tree}
+use Rattle.language.specs.Table.{Table, strcat, fromint, toint, size, printf, assert}
+use Rattle.language.specs.Table as table
+use Rattle.language.specs.Scopes.{declared_type, Scope, Signature, signature_of, signatures, IsBuiltinName}
+use Rattle.language.specs.Typing as rules
+use Rattle.language.specs.Typing.{Parameters, FunctionTyped, PartsTyped, WellTyped}
 use Rattle.types.specs.Known.{Around, nowhere}
 use Rattle.types.specs.Typed.{owned_name}
 use Rattle.types.specs.Outcomes.{refused, got, ◌>>=◌}

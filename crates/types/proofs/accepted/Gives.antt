@@ -9,13 +9,13 @@ use Rattle.types.specs.declared.typed.Meaning.TheVariants.{Called}
 use Rattle.types.specs.declared.typed.Callee.TheVariants.{Function, BuiltIn}
 use Rattle.types.specs.declared.typed.Builtin.{Builtin}
 use Rattle.types.specs.declared.typed.Builtin.TheVariants as Named
-use Rattle.syntax_trees.specs.declared.tree.Base.{Base}
-use Rattle.syntax_trees.specs.declared.tree.Base.TheVariants.{Int, Text, Boolean}
-use Rattle.syntax_trees.specs.declared.tree.Operator.{Operator}
-use Rattle.syntax_trees.specs.Members.{◌∈◌, first, later}
-use Rattle.syntax_trees.specs.Tree.{Word, Node, Expression, expression, Form, number, text, truth, variable, element, call, prefixed, chain, Expressions, no_expressions, and_expression}
-use Rattle.syntax_trees.specs.Scopes.{Typ, one_of, Signature}
-use Rattle.syntax_trees.specs.Typing.{Operates}
+use Rattle.language.specs.declared.tree.Base.{Base}
+use Rattle.language.specs.declared.tree.Base.TheVariants.{Int, Text, Boolean}
+use Rattle.language.specs.declared.tree.Operator.{Operator}
+use Rattle.language.specs.Members.{◌∈◌, first, later}
+use Rattle.language.specs.Tree.{Word, Node, Expression, expression, Form, number, text, truth, variable, element, call, prefixed, chain, Expressions, no_expressions, and_expression}
+use Rattle.language.specs.Scopes.{Typ, one_of, Signature}
+use Rattle.language.specs.Typing.{Operates}
 use Rattle.types.specs.Known.{Around}
 use Rattle.types.specs.Typed.{builtin_name}
 use Rattle.types.specs.Outcomes.{refused, got, ◌>>=◌}

@@ -4,16 +4,16 @@ use Rattle.std.specs.Prelude.{Some, cond}
 use Rattle.lexer.specs.declared.token.Span.{Span}
 use Rattle.types.specs.declared.fault.TypeFault.TheVariants.{Mismatch}
 use Rattle.types.specs.declared.typed.Settled.{Settled}
-use Rattle.syntax_trees.specs.declared.tree.Base.{Base}
-use Rattle.syntax_trees.specs.declared.tree.Base.TheVariants.{Int, Text, Boolean}
-use Rattle.syntax_trees.specs.declared.tree.Shape.{Shape}
-use Rattle.syntax_trees.specs.declared.tree.Shape.TheVariants.{Scalar, Array}
-use Rattle.syntax_trees.specs.declared.tree.Operator.{Operator}
-use Rattle.syntax_trees.specs.declared.tree.Operator.TheVariants as Sign
-use Rattle.syntax_trees.specs.declared.tree.Prefix.{Prefix}
-use Rattle.syntax_trees.specs.declared.tree.Prefix.TheVariants as Before
-use Rattle.syntax_trees.specs.Scopes.{Typ, one_of, many_of}
-use Rattle.syntax_trees.specs.Typing as rules
+use Rattle.language.specs.declared.tree.Base.{Base}
+use Rattle.language.specs.declared.tree.Base.TheVariants.{Int, Text, Boolean}
+use Rattle.language.specs.declared.tree.Shape.{Shape}
+use Rattle.language.specs.declared.tree.Shape.TheVariants.{Scalar, Array}
+use Rattle.language.specs.declared.tree.Operator.{Operator}
+use Rattle.language.specs.declared.tree.Operator.TheVariants as Sign
+use Rattle.language.specs.declared.tree.Prefix.{Prefix}
+use Rattle.language.specs.declared.tree.Prefix.TheVariants as Before
+use Rattle.language.specs.Scopes.{Typ, one_of, many_of}
+use Rattle.language.specs.Typing as rules
 use Rattle.types.specs.Outcomes.{Outcome, refused, got, Check, ◌>>=◌}
 use Rattle.types.specs.Expressions.{same_base, has_base, scalar, scalar_by, elements_of, elements_by, gives, base_of, number_only, truth_only, sum_of}
 

@@ -3,9 +3,9 @@ use Rattle.std.proofs.Common.{◌≡◌, ℕ, List, sym, ap, ◌∙◌, subst}
 use Rattle.types.specs.declared.typed.Settled.{Settled}
 use Rattle.types.specs.declared.typed.Typed as typed
 use Rattle.types.specs.declared.typed.Meaning.TheVariants.{Nothing}
-use Rattle.syntax_trees.specs.Tree.{Tree}
-use Rattle.syntax_trees.specs.Numbered.{numbered}
-use Rattle.syntax_trees.specs.Typing.{WellTyped}
+use Rattle.language.specs.Tree.{Tree}
+use Rattle.language.specs.Numbered.{numbered}
+use Rattle.language.specs.Typing.{WellTyped}
 use Rattle.types.specs.Outcomes.{got}
 use Rattle.types.specs.Typed.{table_of, meaning_at, settled_at}
 use Rattle.types.specs.Scripts.{checked}

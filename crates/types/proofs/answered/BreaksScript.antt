@@ -7,10 +7,10 @@ use Rattle.types.specs.declared.fault.TypeFault.TheVariants.{Declared}
 use Rattle.types.specs.declared.typed.Settled.{Settled}
 use Rattle.types.specs.declared.typed.Owned.{Owned}
 use Rattle.types.specs.declared.typed.Owned.TheVariants.{Input, Output}
-use Rattle.syntax_trees.specs.Members.{◌∈◌, first, later}
-use Rattle.syntax_trees.specs.Core as core
-use Rattle.syntax_trees.specs.Tree.{Word, Declaration, Statement, statement, Composite, Tree, import, function, single}
-use Rattle.syntax_trees.specs.Scopes.{declared_type, Scope, Signature, signature_of, signatures}
+use Rattle.language.specs.Members.{◌∈◌, first, later}
+use Rattle.language.specs.Core as core
+use Rattle.language.specs.Tree.{Word, Declaration, Statement, statement, Composite, Tree, import, function, single}
+use Rattle.language.specs.Scopes.{declared_type, Scope, Signature, signature_of, signatures}
 use Rattle.types.specs.Known.{Around, nowhere}
 use Rattle.types.specs.Typed.{owned_name, builtin_name}
 use Rattle.types.specs.Outcomes.{refused, got, ◌>>=◌}

@@ -2,16 +2,16 @@
 use Rattle.std.proofs.Common.{◌≡◌, ℕ, List, [], ◌∷◌, length, map, refl, sym, ap, ◌∙◌, subst}
 use Rattle.std.specs.Prelude.{Option, Some, zero, suc, slice_get}
 use Rattle.types.specs.declared.fault.TypeFault.{TypeFault}
-use Rattle.syntax_trees.specs.declared.tree.Base.{Base}
-use Rattle.syntax_trees.specs.declared.tree.Shape.TheVariants.{Scalar, Array}
-use Rattle.syntax_trees.specs.declared.tree.Operator.{Operator}
-use Rattle.syntax_trees.specs.Members.{◌∈◌, first, later}
-use Rattle.syntax_trees.specs.Tree.{Word, Node, Expression, expression, number, text, truth, variable, element, prefixed, chain, Expressions, no_expressions, and_expression}
-use Rattle.syntax_trees.specs.Tree as tree
-use Rattle.syntax_trees.specs.Table.{Table, Builtin, builtin_text, strcat, fromint, toint, size, printf, assert}
-use Rattle.syntax_trees.specs.Scopes.{Typ, one_of, many_of, Visible, Scope, Signature, Refers, Calls, CallsBuiltin, IsBuiltinName}
-use Rattle.syntax_trees.specs.Typing as rules
-use Rattle.syntax_trees.specs.Typing.{Operates, HasType, RestType, ArgumentTypes, BuiltinType, AllHaveType}
+use Rattle.language.specs.declared.tree.Base.{Base}
+use Rattle.language.specs.declared.tree.Shape.TheVariants.{Scalar, Array}
+use Rattle.language.specs.declared.tree.Operator.{Operator}
+use Rattle.language.specs.Members.{◌∈◌, first, later}
+use Rattle.language.specs.Tree.{Word, Node, Expression, expression, number, text, truth, variable, element, prefixed, chain, Expressions, no_expressions, and_expression}
+use Rattle.language.specs.Tree as tree
+use Rattle.language.specs.Table.{Table, Builtin, builtin_text, strcat, fromint, toint, size, printf, assert}
+use Rattle.language.specs.Scopes.{Typ, one_of, many_of, Visible, Scope, Signature, Refers, Calls, CallsBuiltin, IsBuiltinName}
+use Rattle.language.specs.Typing as rules
+use Rattle.language.specs.Typing.{Operates, HasType, RestType, ArgumentTypes, BuiltinType, AllHaveType}
 use Rattle.types.specs.Typed.{builtin_name}
 use Rattle.types.specs.Names.{builtin_of}
 use Rattle.types.specs.declared.typed.Builtin as typed

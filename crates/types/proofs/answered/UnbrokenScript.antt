@@ -4,17 +4,17 @@ use Rattle.std.specs.Prelude.{false, Some, suc}
 use Rattle.values.specs.declared.format.Piece.{Piece}
 use Rattle.values.specs.Formats.{pieces}
 use Rattle.types.specs.declared.fault.TypeFault.{TypeFault}
-use Rattle.syntax_trees.specs.declared.tree.Base.{Base}
-use Rattle.syntax_trees.specs.declared.tree.Base.TheVariants.{Int, Text, Boolean}
-use Rattle.syntax_trees.specs.Core as core
-use Rattle.syntax_trees.specs.Core.{Owned}
-use Rattle.syntax_trees.specs.Members.{◌∈◌, first, later}
-use Rattle.syntax_trees.proofs.Members.{split_in}
-use Rattle.syntax_trees.specs.Tree.{Word, Node, Declaration, Expression, expression, text, and_expression, expressions_of, RightSide, Over, Statement, statement, Command, Body, Statements, Composite, Tree}
-use Rattle.syntax_trees.specs.Table.{Table, Builtin, printf, assert}
-use Rattle.syntax_trees.specs.Scopes.{Typ, one_of, many_of, declared_type, Visible, Scope, deeper, own, IsVisible, Signature, signatures, IsBuiltinName}
-use Rattle.syntax_trees.specs.Typing as rules
-use Rattle.syntax_trees.specs.Typing.{RightType, ReferAll, SourceType, CallTyped, StatementTyped, StatementsTyped, BodyTyped, Parameters, FunctionTyped, PartsTyped, wanted}
+use Rattle.language.specs.declared.tree.Base.{Base}
+use Rattle.language.specs.declared.tree.Base.TheVariants.{Int, Text, Boolean}
+use Rattle.language.specs.Core as core
+use Rattle.language.specs.Core.{Owned}
+use Rattle.language.specs.Members.{◌∈◌, first, later}
+use Rattle.language.proofs.Members.{split_in}
+use Rattle.language.specs.Tree.{Word, Node, Declaration, Expression, expression, text, and_expression, expressions_of, RightSide, Over, Statement, statement, Command, Body, Statements, Composite, Tree}
+use Rattle.language.specs.Table.{Table, Builtin, printf, assert}
+use Rattle.language.specs.Scopes.{Typ, one_of, many_of, declared_type, Visible, Scope, deeper, own, IsVisible, Signature, signatures, IsBuiltinName}
+use Rattle.language.specs.Typing as rules
+use Rattle.language.specs.Typing.{RightType, ReferAll, SourceType, CallTyped, StatementTyped, StatementsTyped, BodyTyped, Parameters, FunctionTyped, PartsTyped, wanted}
 use Rattle.types.specs.Expressions.{count}
 use Rattle.types.specs.Wants.{OfTypes, no_names, and_name, Outputs, of_function, of_builtin, gives_text, gives_variable, gives_call, Want, argument, BuiltinTakes, printf_takes, assert_takes, Takes}
 use Rattle.types.specs.Breaks.{alone, introduced, call, outputs_to, BuiltinCounts, Broken, visible_before, named_before, named_as_builtin, wrong_count, wrong_count_of_builtin, wrong_count_of_conversions, no_format, no_function, literal_for_scalar, other_outputs, its_name, its_call, its_arguments, itself, within, InExpressions, first_expression, later_expression, InWords, first_word, later_word, InRight, in_value, the_list, in_list, InOver, looped_name, looped_array, from_low, to_high, by_step, Values, of_array, of_range, behind, InCommand, its_declaration, its_initial, its_target, its_right, its_written, its_written_array, its_place, its_element, its_targets, its_called, its_outputs, its_inputs, called_alone, inputs_alone, its_condition, its_branch, either_condition, either_branch, other_branch, its_value, its_key, its_source, its_loop, its_awaited, its_waiting, InBody, in_braces, InStatements, first_statement, later_statement, with_parameters, parameter, InParameters, first_parameter, later_parameter, InFunction, in_outputs, in_name, in_inputs, in_body, InParts, in_function, in_statement, behind_import, behind_function, behind_statement, BreaksNothing}

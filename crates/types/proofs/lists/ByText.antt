@@ -8,7 +8,7 @@ use Rattle.std.proofs.lemmas.List.{map-append}
 use Rattle.types.specs.declared.scope.Known.{Known}
 use Rattle.types.specs.declared.fault.TypeFault.TheVariants.{Declared}
 use Rattle.types.specs.declared.typed.Settled.{Settled}
-use Rattle.syntax_trees.specs.Tree.{Word}
+use Rattle.language.specs.Tree.{Word}
 use Rattle.types.specs.Known.{Seen, Around, seen_at, type_of}
 use Rattle.types.specs.Outcomes.{got, refused, ◌>>=◌}
 use Rattle.types.specs.Names.{seen, free, added}

@@ -5,7 +5,7 @@ use Rattle.std.specs.Map.{lookup}
 use Rattle.std.proofs.lemmas.Option.{slice_get-map, slice_get_read, slice_get_past}
 use Rattle.std.proofs.lemmas.Slice.Eq.{bytes_eq-Decides}
 use Rattle.indexmap.specs.IndexMap.{insert_entry}
-use Rattle.syntax_trees.specs.Scopes.{Signature}
+use Rattle.language.specs.Scopes.{Signature}
 use Rattle.types.specs.Names.{Found, missing, found, find, find_from, place_of}
 use Rattle.types.proofs.lists.ByText.{bytes_eq-sym}
 use Rattle.types.proofs.lists.Rest.{rest_more}

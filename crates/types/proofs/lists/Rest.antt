@@ -3,7 +3,7 @@ use Rattle.std.proofs.Common.{◌≡◌, ℕ, ◌<◌, ◌≤◌, ◌+◌, List,
 use Rattle.std.proofs.lemmas.List.{drop_more, drop_all}
 use Rattle.std.specs.Str.{bytes_eq}
 use Rattle.std.specs.Prelude.{Some, cond}
-use Rattle.syntax_trees.specs.Scopes.{Signature}
+use Rattle.language.specs.Scopes.{Signature}
 use Rattle.types.specs.Known.{Seen}
 use Rattle.types.specs.Names.{seen, find_from, found}
 

@@ -14,13 +14,13 @@ use Rattle.types.specs.declared.typed.Owned.TheVariants.{Input, Output}
 use Rattle.types.specs.declared.typed.Callee.TheVariants.{BuiltIn}
 use Rattle.types.specs.declared.typed.Builtin.{Builtin}
 use Rattle.types.specs.declared.typed.Builtin.TheVariants as Named
-use Rattle.syntax_trees.specs.declared.tree.Base.{Base}
-use Rattle.syntax_trees.specs.declared.tree.Base.TheVariants.{Int, Text, Boolean}
-use Rattle.syntax_trees.specs.declared.tree.Shape.{Shape}
-use Rattle.syntax_trees.specs.declared.tree.Shape.TheVariants.{Scalar, Array}
-use Rattle.syntax_trees.specs.Tree.{Word, Node, Declaration, Expression, expression, number, text, truth, variable, element, call, prefixed, chain, Expressions, and_expression, expressions_of, RightSide, value, list, Calling, Over, array, range, Statement, statement, Command, declare, assign, write, assign_all, calls, choice, choice_else, loop, waits, Body, body, Statements, no_statements, and_statement, Composite, import, function, single, Tree}
-use Rattle.syntax_trees.specs.Scopes.{Typ, one_of, declared_type, Signature, signatures}
-use Rattle.syntax_trees.specs.Numbered.{expression_size, expressions_size, word_size, right_size, calling_size, option_size, over_size, statement_size, command_size, body_size, statements_size, composite_size, part_size, tree_size, declaration_size, numbered_word, numbered_node, numbered_each, numbered_expression, numbered_expressions, numbered_declaration, numbered_right, numbered_calling, numbered_over, numbered_statement, numbered_command, numbered_body, numbered_statements, numbered_composite, numbered_part, numbered}
+use Rattle.language.specs.declared.tree.Base.{Base}
+use Rattle.language.specs.declared.tree.Base.TheVariants.{Int, Text, Boolean}
+use Rattle.language.specs.declared.tree.Shape.{Shape}
+use Rattle.language.specs.declared.tree.Shape.TheVariants.{Scalar, Array}
+use Rattle.language.specs.Tree.{Word, Node, Declaration, Expression, expression, number, text, truth, variable, element, call, prefixed, chain, Expressions, and_expression, expressions_of, RightSide, value, list, Calling, Over, array, range, Statement, statement, Command, declare, assign, write, assign_all, calls, choice, choice_else, loop, waits, Body, body, Statements, no_statements, and_statement, Composite, import, function, single, Tree}
+use Rattle.language.specs.Scopes.{Typ, one_of, declared_type, Signature, signatures}
+use Rattle.language.specs.Numbered.{expression_size, expressions_size, word_size, right_size, calling_size, option_size, over_size, statement_size, command_size, body_size, statements_size, composite_size, part_size, tree_size, declaration_size, numbered_word, numbered_node, numbered_each, numbered_expression, numbered_expressions, numbered_declaration, numbered_right, numbered_calling, numbered_over, numbered_statement, numbered_command, numbered_body, numbered_statements, numbered_composite, numbered_part, numbered}
 use Rattle.types.specs.Known.{Around, nowhere}
 use Rattle.types.specs.Outcomes.{refused, got, ◌>>=◌}
 use Rattle.types.specs.Names.{refer, fresh, added, builtin_of, called, settles, function_called, missing, found, find}

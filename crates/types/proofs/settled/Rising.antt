@@ -9,15 +9,15 @@ use Rattle.types.specs.declared.typed.Meaning.TheVariants.{Variable, Called}
 use Rattle.types.specs.declared.typed.Callee.TheVariants.{Function, BuiltIn}
 use Rattle.types.specs.declared.typed.Builtin.{Builtin}
 use Rattle.types.specs.declared.typed.Builtin.TheVariants as Named
-use Rattle.syntax_trees.specs.declared.tree.Base.{Base}
-use Rattle.syntax_trees.specs.declared.tree.Base.TheVariants.{Int, Text}
-use Rattle.syntax_trees.specs.declared.tree.Shape.TheVariants.{Scalar}
-use Rattle.syntax_trees.specs.declared.tree.Operator.{Operator}
-use Rattle.syntax_trees.specs.Core.{here}
-use Rattle.syntax_trees.specs.Tree.{Word, Expression, expression, Form, number, text, truth, variable, element, call, prefixed, chain, Expressions, no_expressions, and_expression}
-use Rattle.syntax_trees.specs.Table.{Table, composite}
-use Rattle.syntax_trees.specs.Scopes.{Typ, one_of, Signature}
-use Rattle.syntax_trees.specs.Numbered.{expression_size, form_size, expressions_size, numbered_word, numbered_expression, numbered_form, numbered_expressions}
+use Rattle.language.specs.declared.tree.Base.{Base}
+use Rattle.language.specs.declared.tree.Base.TheVariants.{Int, Text}
+use Rattle.language.specs.declared.tree.Shape.TheVariants.{Scalar}
+use Rattle.language.specs.declared.tree.Operator.{Operator}
+use Rattle.language.specs.Core.{here}
+use Rattle.language.specs.Tree.{Word, Expression, expression, Form, number, text, truth, variable, element, call, prefixed, chain, Expressions, no_expressions, and_expression}
+use Rattle.language.specs.Table.{Table, composite}
+use Rattle.language.specs.Scopes.{Typ, one_of, Signature}
+use Rattle.language.specs.Numbered.{expression_size, form_size, expressions_size, numbered_word, numbered_expression, numbered_form, numbered_expressions}
 use Rattle.types.specs.Known.{Around}
 use Rattle.types.specs.Outcomes.{refused, got, ◌>>=◌}
 use Rattle.types.specs.Names.{seen, refer, referred, builtin_of, called, settles, missing, found, find, counted, function_called}

@@ -7,9 +7,9 @@ use Rattle.types.specs.declared.typed.Settled.{Settled}
 use Rattle.types.specs.declared.typed.Meaning.TheVariants.{Variable, Called}
 use Rattle.types.specs.declared.typed.Callee.TheVariants.{Function}
 use Rattle.types.specs.declared.fault.TypeFault.TheVariants.{WrongCount}
-use Rattle.syntax_trees.specs.Members.{◌∈◌, first, later}
-use Rattle.syntax_trees.specs.Table.{Table}
-use Rattle.syntax_trees.specs.Scopes.{Visible, Scope, Signature, Refers, Calls}
+use Rattle.language.specs.Members.{◌∈◌, first, later}
+use Rattle.language.specs.Table.{Table}
+use Rattle.language.specs.Scopes.{Visible, Scope, Signature, Refers, Calls}
 use Rattle.types.specs.Known.{Seen}
 use Rattle.types.specs.Outcomes.{refused, got}
 use Rattle.types.specs.Names.{seen, referred, settles, missing, found, find, find_from, counted}

@@ -8,9 +8,9 @@ use Rattle.types.specs.declared.typed.Meaning.TheVariants.{Nothing, Variable, Ca
 use Rattle.types.specs.declared.typed.Reference.{Reference}
 use Rattle.types.specs.declared.typed.Callee.{Callee}
 use Rattle.types.specs.declared.typed.Settled.{Settled}
-use Rattle.syntax_trees.specs.declared.tree.Shape.{Shape}
-use Rattle.syntax_trees.specs.Table.{Table}
-use Rattle.syntax_trees.specs.Numbered.{numbered}
+use Rattle.language.specs.declared.tree.Shape.{Shape}
+use Rattle.language.specs.Table.{Table}
+use Rattle.language.specs.Numbered.{numbered}
 use Rattle.types.specs.Typed.{table_of, name_in, shape_in, callee_in, reference_name, callee_name, or_nothing, meaning_at, settled_at}
 use Rattle.types.specs.Rising.{Rises, none_settled, one_settled}
 use Rattle.types.specs.Agrees.{Says, SaysOf, Agrees}

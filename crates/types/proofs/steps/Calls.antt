@@ -10,9 +10,9 @@ use Rattle.types.specs.declared.typed.Settled.{Settled}
 use Rattle.types.specs.declared.typed.Builtin.{Builtin}
 use Rattle.types.specs.declared.typed.Meaning.TheVariants.{Called}
 use Rattle.types.specs.declared.typed.Callee.TheVariants.{BuiltIn}
-use Rattle.syntax_trees.specs.declared.tree.Base.{Base}
-use Rattle.syntax_trees.specs.Tree.{Expression, expressions_of, Calling}
-use Rattle.syntax_trees.specs.Scopes.{Typ, one_of, Signature}
+use Rattle.language.specs.declared.tree.Base.{Base}
+use Rattle.language.specs.Tree.{Expression, expressions_of, Calling}
+use Rattle.language.specs.Scopes.{Typ, one_of, Signature}
 use Rattle.types.specs.Known.{Around}
 use Rattle.types.specs.Outcomes.{Outcome, refused, got, Check, ◌>>=◌, Gives, Judges}
 use Rattle.types.specs.Names.{builtin_of, called, function_called, settles}

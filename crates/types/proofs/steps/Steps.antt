@@ -10,14 +10,14 @@ use Rattle.types.specs.declared.typed.Builtin.{Builtin}
 use Rattle.types.specs.declared.typed.Builtin.TheVariants.{Strcat}
 use Rattle.types.specs.declared.typed.Meaning.TheVariants.{Called}
 use Rattle.types.specs.declared.typed.Callee.TheVariants.{BuiltIn}
-use Rattle.syntax_trees.specs.declared.tree.Base.{Base}
-use Rattle.syntax_trees.specs.declared.tree.Base.TheVariants.{Text}
-use Rattle.syntax_trees.specs.declared.tree.Operator.{Operator}
+use Rattle.language.specs.declared.tree.Base.{Base}
+use Rattle.language.specs.declared.tree.Base.TheVariants.{Text}
+use Rattle.language.specs.declared.tree.Operator.{Operator}
 use Rattle.syntax_trees.specs.declared.tree.Expr.{Expr, out-Expr}
 use Rattle.syntax_trees.specs.declared.tree.ExprKind.{the_lemmas}
-use Rattle.syntax_trees.specs.Tree.{Word, Expression, call, Expressions, no_expressions, and_expression, expressions_of}
+use Rattle.language.specs.Tree.{Word, Expression, call, Expressions, no_expressions, and_expression, expressions_of}
 use Rattle.syntax_trees.specs.View.{expression_view}
-use Rattle.syntax_trees.specs.Scopes.{Typ, one_of, Signature}
+use Rattle.language.specs.Scopes.{Typ, one_of, Signature}
 use Rattle.types.specs.Known.{Around}
 use Rattle.types.specs.Outcomes.{Outcome, refused, got, ◌>>=◌}
 use Rattle.types.specs.Statements.{same_types}

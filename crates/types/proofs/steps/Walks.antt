@@ -8,9 +8,10 @@ use Rattle.types.specs.declared.typed.Owned.{Owned}
 use Rattle.syntax_trees.specs.declared.tree.Expr.{Expr}
 use Rattle.syntax_trees.specs.declared.tree.Block.{Block}
 use Rattle.syntax_trees.specs.declared.tree.StmtKind.{If, the_lemmas as statement_lemmas}
-use Rattle.syntax_trees.specs.Tree.{Word, Declaration, Statement, statements_of}
-use Rattle.syntax_trees.specs.View.{expression_view, choice_of, command_view, body_view}
-use Rattle.syntax_trees.specs.Scopes.{declared_type, Signature}
+use Rattle.language.specs.Tree.{Word, Declaration, Statement, statements_of}
+use Rattle.syntax_trees.specs.View.{expression_view, command_view, body_view}
+use Rattle.language.specs.Tree.{choice_of}
+use Rattle.language.specs.Scopes.{declared_type, Signature}
 use Rattle.types.specs.Known.{Seen, Around}
 use Rattle.types.specs.Outcomes.{Outcome, refused, got, ◌>>=◌}
 use Rattle.types.specs.Names.{seen, free, added}

@@ -5,9 +5,9 @@ use Rattle.std.proofs.lemmas.List.{append-nil, take-map, length-map}
 use Rattle.types.specs.declared.typed.Settled.{Settled}
 use Rattle.types.specs.declared.typed.Owned.{Owned}
 use Rattle.types.specs.declared.typed.Owned.TheVariants.{Local}
-use Rattle.syntax_trees.specs.declared.tree.Base.TheVariants.{Int, Boolean}
-use Rattle.syntax_trees.specs.Tree.{Word, Statement, statement, Command, declare, assign, write, assign_all, calls, choice, choice_else, loop, waits}
-use Rattle.syntax_trees.specs.Scopes.{Typ, declared_type, Signature}
+use Rattle.language.specs.declared.tree.Base.TheVariants.{Int, Boolean}
+use Rattle.language.specs.Tree.{Word, Statement, statement, Command, declare, assign, write, assign_all, calls, choice, choice_else, loop, waits}
+use Rattle.language.specs.Scopes.{Typ, declared_type, Signature}
 use Rattle.types.specs.Known.{Seen, Around}
 use Rattle.types.specs.Outcomes.{Outcome, got, ◌>>=◌}
 use Rattle.types.specs.Names.{refer, fresh, added}

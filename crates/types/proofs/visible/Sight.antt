@@ -7,9 +7,9 @@ use Rattle.std.proofs.lemmas.Slice.Eq.{bytes_eq-Decides}
 use Rattle.types.specs.declared.typed.Owned.{Owned}
 use Rattle.types.specs.declared.typed.Owned.TheVariants.{Local}
 use Rattle.types.specs.declared.typed.Settled.{Settled}
-use Rattle.syntax_trees.proofs.Members.{split_in}
-use Rattle.syntax_trees.specs.Tree.{Word}
-use Rattle.syntax_trees.specs.Scopes.{Typ, Visible, Scope, deeper, own, IsVisible}
+use Rattle.language.proofs.Members.{split_in}
+use Rattle.language.specs.Tree.{Word}
+use Rattle.language.specs.Scopes.{Typ, Visible, Scope, deeper, own, IsVisible}
 use Rattle.types.specs.Known.{Seen, Around}
 use Rattle.types.specs.Typed.{owned_name}
 use Rattle.types.specs.Outcomes.{got}

@@ -3,14 +3,14 @@ use Rattle.std.proofs.lemmas.Grind.{common_steps}
 use Rattle.std.specs.List.{sum_by}
 use Rattle.std.specs.Prelude.{option_map}
 use Rattle.syntax_trees.specs.View.{word_of, words_view, expression_view, declaration_of, right_of, calling_of, statement_view, command_view, body_view}
-use Rattle.syntax_trees.specs.Numbered.{statement_size}
-use Rattle.syntax_trees.specs.Tree.{Statement, statements_of, declare, assign, write, assign_all, calls, waits}
+use Rattle.language.specs.Numbered.{statement_size}
+use Rattle.language.specs.Tree.{Statement, statements_of, declare, assign, write, assign_all, calls, waits}
 use Rattle.syntax_trees.proofs.Views.{size_of_element, block-size}
 use Rattle.types.specs.Typed.{table_of}
 use Rattle.assign_check.specs.Outline as outline
 use Rattle.assign_check.specs.declared.outline.Step.{Encloses}
 use Rattle.assign_check.specs.View.{steps_view}
-use Rattle.syntax_trees.proofs.Walks.{walked_more, walked_all}
+use Rattle.language.proofs.Walks.{walked_more, walked_all}
 use Rattle.assign_check.proofs.outlines.Views.{view-Stmt, view-Declare, view-Assign, view-Write, view-AssignAll, view-Call, view-Wait, then_more, step_added, form_added}
 use Rattle.syntax_trees.specs.declared.tree.Stmt.{out-Stmt}
 use Rattle.std.proofs.lemmas.Result.{on_ok_weaker}

@@ -1,8 +1,8 @@
 use Rattle.std.proofs.Common.{◌≡◌, ◌+◌, ◌*◌, ◌++◌, map, drop}
 use Rattle.std.specs.List.{sum_by}
 use Rattle.syntax_trees.specs.View.{statement_view, command_view, body_view}
-use Rattle.syntax_trees.specs.Tree.{statements_of}
-use Rattle.syntax_trees.specs.Numbered.{statement_size, command_size, body_size}
+use Rattle.language.specs.Tree.{statements_of}
+use Rattle.language.specs.Numbered.{statement_size, command_size, body_size}
 use Rattle.types.specs.Typed.{table_of}
 use Rattle.assign_check.specs.Outline as outline
 use Rattle.assign_check.specs.View.{steps_view}

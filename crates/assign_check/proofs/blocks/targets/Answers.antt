@@ -1,11 +1,11 @@
 use Rattle.std.proofs.Common.{[], ◌∷◌, ◌++◌, map, refl, arith}
 use Rattle.std.proofs.lemmas.Grind.{common_steps}
-use Rattle.syntax_trees.specs.Tree.{Word}
+use Rattle.language.specs.Tree.{Word}
 use Rattle.syntax_trees.specs.View.{word_of}
 use Rattle.types.specs.Typed.{table_of}
 use Rattle.assign_check.specs.Outline as outline
 use Rattle.assign_check.specs.View.{steps_view}
-use Rattle.syntax_trees.proofs.Walks.{walked_more, walked_all}
+use Rattle.language.proofs.Walks.{walked_more, walked_all}
 use Rattle.assign_check.proofs.blocks.targets.Goals as goal
 
 pub loop-name-preserved : goal.loop-name-preserved

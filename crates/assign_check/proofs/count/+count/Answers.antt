@@ -2,7 +2,7 @@ use Rattle.std.proofs.Common.{◌≡◌, ◌+◌, ◌<◌, ◌≤◌, ◌++◌, 
 use Rattle.std.proofs.lemmas.Grind.{common_steps}
 use Rattle.std.proofs.lemmas.List.{drop_all}
 use Rattle.std.proofs.lemmas.Result.{on_ok_weaker}
-use Rattle.syntax_trees.specs.Core.{Owned}
+use Rattle.language.specs.Core.{Owned}
 use Rattle.assign_check.specs.declared.count.Part.{Part}
 use Rattle.assign_check.specs.declared.outline.Step.{Step}
 use Rattle.assign_check.specs.Outline as outline

@@ -1,5 +1,5 @@
 use Rattle.std.proofs.Common.{◌≡◌, drop}
-use Rattle.syntax_trees.specs.Core.{Owned}
+use Rattle.language.specs.Core.{Owned}
 use Rattle.assign_check.specs.Faults.{first_among, split_faults, sums, counts}
 use Rattle.assign_check.specs.Sets.{Same, are_empty, part_sums}
 use Rattle.assign_check.specs.View.{outline_view}

@@ -1,5 +1,5 @@
 use Rattle.std.proofs.Common.{◌≡◌, drop, false}
-use Rattle.syntax_trees.specs.Core.{Owned}
+use Rattle.language.specs.Core.{Owned}
 use Rattle.assign_check.specs.Faults.{sums, is_among}
 use Rattle.assign_check.specs.Sets.{Same, numbers, set_at, names, part_sums}
 use Rattle.assign_check.proofs.count.add_all.Given as goal

@@ -1,8 +1,8 @@
 use Rattle.std.proofs.Common.{◌++◌, map, refl, arith}
 use Rattle.std.proofs.lemmas.Grind.{common_steps}
-use Rattle.syntax_trees.specs.Core.{input}
+use Rattle.language.specs.Core.{input}
 use Rattle.syntax_trees.specs.View.{declaration_of}
-use Rattle.syntax_trees.proofs.Walks.{walked_all}
+use Rattle.language.proofs.Walks.{walked_all}
 use Rattle.assign_check.specs.Outline as outline
 use Rattle.assign_check.specs.View.{steps_view}
 use Rattle.assign_check.proofs.outlines.Parameters.{parameters_more}

@@ -1,5 +1,5 @@
 use Rattle.std.proofs.Common.{◌≡◌, ◌++◌, map, drop}
-use Rattle.syntax_trees.specs.Core.{input}
+use Rattle.language.specs.Core.{input}
 use Rattle.syntax_trees.specs.View.{declaration_of}
 use Rattle.assign_check.specs.Outline as outline
 use Rattle.assign_check.specs.View.{steps_view}

@@ -1,13 +1,13 @@
 use Rattle.std.proofs.Common.{◌≡◌, ◌++◌, ◌∷◌, [], List, map, refl, ap, sym, arith}
 use Rattle.std.proofs.lemmas.Grind.{common_steps}
 use Rattle.std.proofs.lemmas.List.{append-nil}
-use Rattle.syntax_trees.specs.Table.{Table}
-use Rattle.syntax_trees.specs.Tree.{Part, import, function, single}
+use Rattle.language.specs.Table.{Table}
+use Rattle.language.specs.Tree.{Part, import, function, single}
 use Rattle.syntax_trees.specs.View.{part_of}
 use Rattle.types.specs.Typed.{table_of}
 use Rattle.assign_check.specs.Outline as outline
 use Rattle.assign_check.specs.View.{steps_view}
-use Rattle.syntax_trees.proofs.Walks.{walked_more}
+use Rattle.language.proofs.Walks.{walked_more}
 use Rattle.assign_check.proofs.parts.script_steps.Goals as goal
 
 one_part : (t : Table) (p : Part) (ps : List Part) → outline.script_steps t (p ∷ ps) ≡ outline.script_steps t (p ∷ []) ++ outline.script_steps t ps

@@ -1,11 +1,11 @@
 use Rattle.std.proofs.Common.{◌++◌, List, map, refl, arith}
 use Rattle.std.proofs.lemmas.Grind.{common_steps}
 use Rattle.syntax_trees.specs.View.{expression_view}
-use Rattle.syntax_trees.specs.Tree.{Expression, expressions_of}
+use Rattle.language.specs.Tree.{Expression, expressions_of}
 use Rattle.types.specs.Typed.{table_of}
 use Rattle.assign_check.specs.Outline as outline
 use Rattle.assign_check.specs.View.{steps_view}
-use Rattle.syntax_trees.proofs.Walks.{walked_more}
+use Rattle.language.proofs.Walks.{walked_more}
 use Rattle.assign_check.proofs.reads.+read.Goals as goal
 
 pub read_all-loop-expr-preserved : goal.read_all-loop-expr-preserved

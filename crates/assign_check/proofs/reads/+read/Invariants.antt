@@ -1,6 +1,6 @@
 use Rattle.std.proofs.Common.{◌≡◌, ◌++◌, map, drop}
 use Rattle.syntax_trees.specs.View.{expression_view}
-use Rattle.syntax_trees.specs.Tree.{expressions_of}
+use Rattle.language.specs.Tree.{expressions_of}
 use Rattle.types.specs.Typed.{table_of}
 use Rattle.assign_check.specs.Outline as outline
 use Rattle.assign_check.specs.View.{steps_view}

@@ -1,6 +1,6 @@
 use Rattle.std.proofs.Common.{◌∷◌, [], arith}
 use Rattle.std.proofs.lemmas.Grind.{common_steps}
-use Rattle.syntax_trees.specs.Tree.{Part}
+use Rattle.language.specs.Tree.{Part}
 use Rattle.syntax_trees.specs.View.{part_of, tree_of}
 use Rattle.types.specs.Typed.{table_of}
 use Rattle.assign_check.specs.Outline.{script_steps}

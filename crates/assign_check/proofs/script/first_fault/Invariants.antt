@@ -1,6 +1,6 @@
 use Rattle.std.proofs.Common.{◌≡◌, [], map, drop}
 use Rattle.std.specs.List.{flat_map}
-use Rattle.syntax_trees.specs.Core.{Owned}
+use Rattle.language.specs.Core.{Owned}
 use Rattle.syntax_trees.specs.View.{part_of, tree_of}
 use Rattle.types.specs.Typed.{table_of}
 use Rattle.assign_check.specs.Faults as faults

@@ -1,7 +1,7 @@
 use Rattle.std.proofs.Common.{List, map, ap, ◌∙◌, ◌++◌, ap₂}
 use Rattle.std.specs.List.{flat_map}
 use Rattle.std.proofs.lemmas.Result.{on_ok_weaker}
-use Rattle.syntax_trees.specs.Core.{Owned}
+use Rattle.language.specs.Core.{Owned}
 use Rattle.assign_check.specs.declared.outline.Use.{Use}
 use Rattle.assign_check.specs.declared.outline.Declared.{Declared}
 use Rattle.assign_check.specs.declared.tally.Tally.{Tally}

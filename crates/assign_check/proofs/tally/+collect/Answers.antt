@@ -3,7 +3,7 @@ use Rattle.std.proofs.lemmas.Grind.{common_steps}
 use Rattle.assign_check.specs.Outline as outline
 use Rattle.assign_check.specs.Faults.{uses_in, uses_at, declared_in, declared_at}
 use Rattle.assign_check.specs.View.{step_view, use_view, declared_view, outline_view}
-use Rattle.syntax_trees.proofs.Walks.{walked_more}
+use Rattle.language.proofs.Walks.{walked_more}
 use Rattle.assign_check.proofs.tally.+collect.Goals as goal
 
 pub collect-loop-step-preserved : goal.collect-loop-step-preserved

@@ -1,5 +1,5 @@
 use Rattle.std.proofs.Common.{◌≡◌, map, drop}
-use Rattle.syntax_trees.specs.Core.{Owned}
+use Rattle.language.specs.Core.{Owned}
 use Rattle.assign_check.specs.Tables.{at}
 use Rattle.assign_check.specs.Tallies.{tally_from}
 use Rattle.assign_check.specs.View.{use_view}

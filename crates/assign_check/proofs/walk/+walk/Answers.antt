@@ -5,7 +5,7 @@ use Rattle.assign_check.specs.Outline as outline
 use Rattle.assign_check.specs.Faults as faults
 use Rattle.assign_check.specs.View.{step_view, outline_view}
 use Rattle.assign_check.specs.Ways.{listed}
-use Rattle.syntax_trees.proofs.Walks.{walked_more}
+use Rattle.language.proofs.Walks.{walked_more}
 use Rattle.assign_check.proofs.faults.Answered.{step_best, split_best, loop_way, view-Repeats, view-Splits}
 use Rattle.assign_check.proofs.walk.+walk.Goals as goal
 

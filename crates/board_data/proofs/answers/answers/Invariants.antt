@@ -1,7 +1,7 @@
 use Rattle.std.proofs.Common.{◌≡◌, map, take}
-use Rattle.entry_outcomes.specs.View.{answers_view}
-use Rattle.board_frames.specs.Names.{led_slot}
-use Rattle.board_frames.specs.View.{frames_view}
+use Rattle.board_compute.specs.View.{answers_view}
+use Rattle.board_instances.specs.Names.{led_slot}
+use Rattle.board_instances.specs.View.{frames_view}
 use Rattle.board_data.specs.Answered.{wanted_answer}
 use Rattle.board_data.specs.View.{cells_view}
 use Rattle.board_data.proofs.answers.answers.Given as goal

@@ -1,6 +1,6 @@
 use Rattle.std.proofs.Common.{◌≡◌, ℕ, ◌<◌, ◌≤◌, ◌+◌, ◌-◌, length, subst, vec_len, vec_capacity, arith}
-use Rattle.board_frames.specs.Names.{spot_slot}
-use Rattle.board_frames.specs.View.{frames_view}
+use Rattle.board_instances.specs.Names.{spot_slot}
+use Rattle.board_instances.specs.View.{frames_view}
 use Rattle.board_data.proofs.Closed.{all_closing, closes_all, last_closing, next_closing, step}
 use Rattle.board_data.proofs.Given.{gives_writes}
 use Rattle.board_data.proofs.Rising.{few_closing, writes_rise}

@@ -1,6 +1,6 @@
 use Rattle.std.proofs.Common.{◌≡◌, ◌≤◌, ◌+◌, ◌-◌, ◌++◌, drop, length, vec_capacity, vec_len}
-use Rattle.board_frames.specs.Names.{spot_slot}
-use Rattle.board_frames.specs.View.{frames_view}
+use Rattle.board_instances.specs.Names.{spot_slot}
+use Rattle.board_instances.specs.View.{frames_view}
 use Rattle.board_data.proofs.Closed.{all_closing, step}
 use Rattle.board_data.proofs.Steps.{one_by_one}
 use Rattle.board_data.proofs.holding.close_all.Given as goal

@@ -1,6 +1,6 @@
-use Rattle.board_frames.specs.Names.{spot_slot}
-use Rattle.board_frames.specs.View.{frames_view}
-use Rattle.board_code.specs.Tables.{led_times}
+use Rattle.board_instances.specs.Names.{spot_slot}
+use Rattle.board_instances.specs.View.{frames_view}
+use Rattle.board_program.specs.Tables.{led_times}
 use Rattle.board_data.proofs.Given.{gives_both}
 use Rattle.board_data.proofs.holding.give_up.Goals as goal
 

@@ -1,6 +1,6 @@
 use Rattle.std.proofs.Common.{◌*◌}
-use Rattle.board_frames.specs.Names.{spot_slot}
-use Rattle.board_frames.specs.View.{frames_view}
+use Rattle.board_instances.specs.Names.{spot_slot}
+use Rattle.board_instances.specs.View.{frames_view}
 use Rattle.board_data.proofs.Held.{held_times, hold_step}
 use Rattle.board_data.proofs.Rising.{holds_rise}
 use Rattle.board_data.proofs.Steps.{last_step}

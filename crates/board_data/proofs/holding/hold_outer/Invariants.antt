@@ -1,6 +1,6 @@
 use Rattle.std.proofs.Common.{◌≡◌, ◌*◌, drop}
-use Rattle.board_frames.specs.Names.{spot_slot}
-use Rattle.board_frames.specs.View.{frames_view}
+use Rattle.board_instances.specs.Names.{spot_slot}
+use Rattle.board_instances.specs.View.{frames_view}
 use Rattle.board_data.proofs.Held.{hold_step}
 use Rattle.board_data.proofs.Steps.{one_by_one}
 use Rattle.board_data.proofs.holding.hold_outer.Given as goal

@@ -1,5 +1,5 @@
-use Rattle.board_frames.specs.Names.{spot_slot}
-use Rattle.board_frames.specs.View.{frames_view}
+use Rattle.board_instances.specs.Names.{spot_slot}
+use Rattle.board_instances.specs.View.{frames_view}
 use Rattle.data_store.specs.Data.{without_read}
 use Rattle.board_data.proofs.Given.{give_step, gives_reads}
 use Rattle.board_data.proofs.Rising.{reads_rise}

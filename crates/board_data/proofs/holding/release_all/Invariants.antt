@@ -1,6 +1,6 @@
 use Rattle.std.proofs.Common.{◌≡◌, drop}
-use Rattle.board_frames.specs.Names.{spot_slot}
-use Rattle.board_frames.specs.View.{frames_view}
+use Rattle.board_instances.specs.Names.{spot_slot}
+use Rattle.board_instances.specs.View.{frames_view}
 use Rattle.data_store.specs.Data.{without_read}
 use Rattle.board_data.proofs.Given.{give_step}
 use Rattle.board_data.proofs.Steps.{one_by_one}

@@ -1,7 +1,7 @@
 use Rattle.std.proofs.Common.{◌≡◌, drop}
 use Rattle.std.specs.List.{list_any}
-use Rattle.replayed.specs.Fields.{slot_at}
-use Rattle.replayed.specs.Needs.{cell_element, has}
+use Rattle.board_history.specs.Fields.{slot_at}
+use Rattle.board_history.specs.Needs.{cell_element, has}
 use Rattle.values.specs.declared.map.Element.{Element}
 use Rattle.board_data.specs.View.{cells_view}
 use Rattle.board_effects.proofs.present.has_any.Given as goal

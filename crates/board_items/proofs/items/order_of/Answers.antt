@@ -1,5 +1,5 @@
 use Rattle.std.proofs.Common.{ap}
-use Rattle.board_frames.specs.View.{job_view}
+use Rattle.board_instances.specs.View.{job_view}
 use Rattle.board_items.proofs.Jobs.{kind_past, priority_past}
 use Rattle.board_items.proofs.items.order_of.Goals as goal
 

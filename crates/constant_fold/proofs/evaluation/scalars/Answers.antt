@@ -3,7 +3,7 @@ use Rattle.std.specs.Prelude.{Result}
 use Rattle.std.proofs.lemmas.Grind.{common_steps}
 use Rattle.values.specs.declared.fault.OpFault.{OpFault}
 use Rattle.values.specs.declared.value.Value.{Value}
-use Rattle.syntax_trees.specs.Tree.{expressions_of}
+use Rattle.language.specs.Tree.{expressions_of}
 use Rattle.syntax_trees.specs.View.{expression_view}
 use Rattle.constant_fold.specs.Folded.{scalars_of}
 use Rattle.constant_fold.proofs.Literals.{behind, lacks_one, one_more}

@@ -1,5 +1,5 @@
 use Rattle.std.proofs.Common.{◌≡◌, drop, map, option_map}
-use Rattle.syntax_trees.specs.Tree.{expressions_of}
+use Rattle.language.specs.Tree.{expressions_of}
 use Rattle.syntax_trees.specs.View.{expression_view}
 use Rattle.constant_fold.specs.Folded.{scalars_of}
 use Rattle.constant_fold.specs.Made.{operands}

@@ -1,5 +1,5 @@
 use Rattle.std.proofs.Common.{◌≡◌, ◌++◌, drop}
-use Rattle.syntax_trees.specs.Resolved as rules
+use Rattle.language.specs.Resolved as rules
 use Rattle.constant_fold.proofs.evaluation.signs.Given as goal
 
 abbrev pub invariant-loop-operator : goal.invariant-loop-operator

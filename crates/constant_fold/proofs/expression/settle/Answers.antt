@@ -1,9 +1,9 @@
 use Rattle.std.proofs.Common.{map, List, ap, ◌∙◌, ℕ}
 use Rattle.syntax_trees.specs.declared.tree.Expr.{Expr}
 use Rattle.syntax_trees.specs.declared.tree.Name.{Name}
-use Rattle.syntax_trees.specs.declared.tree.Operator.{Operator}
-use Rattle.syntax_trees.specs.Resolved.{chain_operation}
-use Rattle.syntax_trees.specs.Tree.{expressions_of}
+use Rattle.language.specs.declared.tree.Operator.{Operator}
+use Rattle.language.specs.Resolved.{chain_operation}
+use Rattle.language.specs.Tree.{expressions_of}
 use Rattle.syntax_trees.specs.View.{form_view, expression_view}
 use Rattle.constant_fold.specs.Folded.{called, called_operation, collapsed, scalars_of}
 use Rattle.constant_fold.proofs.Views.{call_settled, chain_settled}

@@ -1,4 +1,4 @@
-use Rattle.syntax_trees.specs.Resolved.{core}
+use Rattle.language.specs.Resolved.{core}
 use Rattle.constant_fold.specs.Folded.{folded_tree}
 use Rattle.constant_fold.proofs.Declared.{tree_declares}
 use Rattle.constant_fold.proofs.Scripts.{core_same}

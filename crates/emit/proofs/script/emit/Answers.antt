@@ -3,10 +3,10 @@ use Rattle.std.proofs.lemmas.List.{length-map}
 use Rattle.flow.specs.Shapes.{declared_of, kinds_of}
 use Rattle.flow.specs.View.{core_of}
 use Rattle.task_code.specs.View.{body_view, entry_view}
-use Rattle.granting.specs.Granted.{laid_code}
-use Rattle.laid_code.proofs.Bodies.{few_bodies}
-use Rattle.laid_code.proofs.Marks.{laid_marks}
-use Rattle.laid_code.proofs.Small.{laid_small}
+use Rattle.emit_rights.specs.Granted.{laid_code}
+use Rattle.code_layout.proofs.Bodies.{few_bodies}
+use Rattle.code_layout.proofs.Marks.{laid_marks}
+use Rattle.code_layout.proofs.Small.{laid_small}
 use Rattle.emit.specs.Emits.{CanBeEmitted}
 use Rattle.emit.proofs.script.emit.Goals as goal
 

@@ -4,7 +4,7 @@ use Rattle.std.proofs.lemmas.List.{map-append}
 use Rattle.flow.specs.Shapes.{block_declared, kinds_of_function}
 use Rattle.flow.specs.View.{function_view}
 use Rattle.task_code.specs.View.{body_view}
-use Rattle.statement_entries.specs.Into.{laying}
+use Rattle.emit_statements.specs.Into.{laying}
 use Rattle.emit.proofs.Scripts.{function-emits}
 use Rattle.emit.proofs.script.lay_function.Goals as goal
 

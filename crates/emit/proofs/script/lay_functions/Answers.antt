@@ -2,7 +2,7 @@ use Rattle.std.proofs.Common.{map, arith}
 use Rattle.std.proofs.lemmas.Grind.{common_steps}
 use Rattle.flow.specs.Shapes.{kinds_of_function}
 use Rattle.task_code.specs.View.{body_view}
-use Rattle.statement_entries.specs.Into.{laying}
+use Rattle.emit_statements.specs.Into.{laying}
 use Rattle.emit.proofs.Scripts.{functions-end, functions-step}
 use Rattle.emit.proofs.script.lay_functions.Goals as goal
 

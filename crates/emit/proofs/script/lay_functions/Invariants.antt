@@ -1,7 +1,7 @@
 use Rattle.std.proofs.Common.{map, drop}
 use Rattle.flow.specs.Shapes.{kinds_of_function}
 use Rattle.task_code.specs.View.{body_view}
-use Rattle.statement_entries.specs.Into.{laying}
+use Rattle.emit_statements.specs.Into.{laying}
 use Rattle.emit.proofs.Scripts.{FunctionsOn}
 use Rattle.emit.proofs.script.lay_functions.Given as goal
 

@@ -2,13 +2,13 @@ use Rattle.std.proofs.Common.{length, get_or, subst, ◌+◌, ◌*◌, ◌<◌, 
 use Rattle.std.specs.Prelude.{option_to_list}
 use Rattle.std.proofs.lemmas.Grind.{common_steps}
 use Rattle.std.proofs.lemmas.Result.{on_ok_weaker}
-use Rattle.syntax_trees.specs.Core as core
+use Rattle.language.specs.Core as core
 use Rattle.flow.specs.declared.statement.Block.{Block}
 use Rattle.flow.specs.Shapes.{action_declared, block_declared, is_array, kinds_of_function}
 use Rattle.flow.specs.View.{action_view, awaited_view, block_view, call_view, name_view, outer_view, parts_view, waits_around}
 use Rattle.task_code.specs.View.{loop_view}
-use Rattle.syntax_trees.specs.Parts.{outer_parts}
-use Rattle.agreement.specs.Room.{OuterRoom, StepRoom}
+use Rattle.language.specs.Parts.{outer_parts}
+use Rattle.code_rules.specs.Room.{OuterRoom, StepRoom}
 use denote.Param.Weighed.{at_most, most}
 use Rattle.flow.proofs.statement.Block.TheLaws.{the_size as block_size}
 use Rattle.flow.proofs.statement.Statement.TheLaws.{the_size as statement_size}

@@ -2,12 +2,12 @@ use Rattle.std.proofs.Common.{arith, ◌+◌, ◌++◌, IfOk, map, ap, ap₂, sy
 use Rattle.std.proofs.lemmas.Grind.{common_steps}
 use Rattle.std.proofs.lemmas.Result.{IfOk-weaker}
 use Rattle.syntax_trees.specs.View.{word_of, expression_view, form_view}
-use Rattle.syntax_trees.specs.Tree as pure
-use Rattle.syntax_trees.specs.Tree.{expressions_of}
-use Rattle.syntax_trees.specs.Core as core
-use Rattle.syntax_trees.specs.Core.{none, also}
-use Rattle.syntax_trees.specs.Resolved as rules
-use Rattle.syntax_trees.specs.Table as table
+use Rattle.language.specs.Tree as pure
+use Rattle.language.specs.Tree.{expressions_of}
+use Rattle.language.specs.Core as core
+use Rattle.language.specs.Core.{none, also}
+use Rattle.language.specs.Resolved as rules
+use Rattle.language.specs.Table as table
 use Rattle.values.specs.Operators.{Operation}
 use Rattle.types.specs.Typed.{table_of, callee_name, builtin_name}
 use Rattle.flow.specs.declared.cell.Form.{Form}

@@ -1,6 +1,6 @@
 use Rattle.std.proofs.Common.{map, ◌++◌}
 use Rattle.syntax_trees.specs.View.{expression_view}
-use Rattle.syntax_trees.specs.Resolved.{operands_of, arguments_of}
+use Rattle.language.specs.Resolved.{operands_of, arguments_of}
 use Rattle.types.specs.Typed.{table_of}
 use Rattle.flow.specs.View.{expr_view, names_view}
 use Rattle.lowering.proofs.Operands.{SoFar, before, from_on}

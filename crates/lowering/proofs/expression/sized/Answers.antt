@@ -3,9 +3,9 @@ use Rattle.std.specs.Prelude.{Vec}
 use Rattle.std.proofs.lemmas.Grind.{common_steps}
 use Rattle.std.proofs.lemmas.Result.{IfOk-weaker}
 use Rattle.syntax_trees.specs.View.{expression_view}
-use Rattle.syntax_trees.specs.Tree.{expressions_of}
-use Rattle.syntax_trees.specs.Core.{none, also}
-use Rattle.syntax_trees.specs.Resolved.{sized}
+use Rattle.language.specs.Tree.{expressions_of}
+use Rattle.language.specs.Core.{none, also}
+use Rattle.language.specs.Resolved.{sized}
 use Rattle.types.specs.Typed.{table_of}
 use Rattle.flow.specs.declared.expression.Expr.{Expr, Whole}
 use Rattle.flow.specs.View.{name_view, exprs_view}

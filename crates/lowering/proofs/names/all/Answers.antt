@@ -1,7 +1,7 @@
 use Rattle.std.proofs.Common.{◌≡◌, ◌<◌, ◌++◌, ◌∷◌, [], length, get_or, map, ap, ap₂, ◌∙◌, arith}
 use Rattle.std.proofs.lemmas.Grind.{common_steps}
 use Rattle.syntax_trees.specs.View.{word_of}
-use Rattle.syntax_trees.specs.Resolved.{refers, awaited, awaited_as}
+use Rattle.language.specs.Resolved.{refers, awaited, awaited_as}
 use Rattle.syntax_trees.proofs.Numbering.{viewed_all}
 use Rattle.types.specs.Typed.{table_of}
 use Rattle.flow.specs.View.{name_view, names_view, awaited_view}

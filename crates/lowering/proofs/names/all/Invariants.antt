@@ -1,6 +1,6 @@
 use Rattle.std.proofs.Common.{◌≡◌, map, take}
 use Rattle.syntax_trees.specs.View.{word_of}
-use Rattle.syntax_trees.specs.Resolved.{refers, awaited}
+use Rattle.language.specs.Resolved.{refers, awaited}
 use Rattle.types.specs.Typed.{table_of}
 use Rattle.flow.specs.View.{names_view, awaited_view}
 use Rattle.lowering.proofs.names.all.Given as goal

@@ -1,9 +1,9 @@
 use Rattle.std.proofs.Common.{arith, ◌≡◌, [], ap, ◌∙◌}
 use Rattle.std.proofs.lemmas.Grind.{common_steps}
 use Rattle.syntax_trees.specs.View.{calling_of}
-use Rattle.syntax_trees.specs.Tree.{expressions_of}
-use Rattle.syntax_trees.specs.Table as table
-use Rattle.syntax_trees.specs.Resolved as rules
+use Rattle.language.specs.Tree.{expressions_of}
+use Rattle.language.specs.Table as table
+use Rattle.language.specs.Resolved as rules
 use Rattle.types.specs.Typed.{table_of, builtin_name}
 use Rattle.flow.specs.declared.cell.Outer.{Outer}
 use Rattle.flow.specs.View.{outer_view}

@@ -1,9 +1,9 @@
 use Rattle.std.proofs.Common.{arith, to_z, of_z, w32, ◌≡◌, map, ap, ◌∙◌}
 use Rattle.std.proofs.lemmas.Grind.{common_steps}
 use Rattle.syntax_trees.specs.View.{word_of, expression_view}
-use Rattle.syntax_trees.specs.Tree.{expressions_of}
-use Rattle.syntax_trees.specs.Core as core
-use Rattle.syntax_trees.specs.Resolved as rules
+use Rattle.language.specs.Tree.{expressions_of}
+use Rattle.language.specs.Core as core
+use Rattle.language.specs.Resolved as rules
 use Rattle.types.specs.Typed.{table_of}
 use Rattle.flow.specs.View.{call_view, parts_view, names_view}
 use Rattle.lowering.proofs.Actions.{view_call_alone, found_call}

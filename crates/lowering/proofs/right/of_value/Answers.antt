@@ -3,8 +3,8 @@ use Rattle.std.specs.Prelude.{pos}
 use Rattle.std.proofs.lemmas.Result.{IfOk-weaker}
 use Rattle.syntax_trees.specs.declared.tree.Expr.{out-Expr}
 use Rattle.syntax_trees.specs.View.{word_of, expression_view, form_view}
-use Rattle.syntax_trees.specs.Tree.{Node, expressions_of, value}
-use Rattle.syntax_trees.specs.Resolved as rules
+use Rattle.language.specs.Tree.{Node, expressions_of, value}
+use Rattle.language.specs.Resolved as rules
 use Rattle.types.specs.Typed.{table_of, callee_name}
 use Rattle.flow.specs.declared.statement.Action.{Action}
 use Rattle.flow.specs.View.{action_view, name_view, names_view}

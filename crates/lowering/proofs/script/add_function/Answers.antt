@@ -1,13 +1,13 @@
 use Rattle.std.proofs.Common.{◌++◌, ◌∷◌, [], ◌≡◌, Bool, List, map, ap, sym, ◌∙◌}
 use Rattle.std.proofs.lemmas.List.{append-nil, map-append}
 use Rattle.syntax_trees.specs.declared.tree.Function.{Function as Composite'}
-use Rattle.syntax_trees.specs.Core as core
-use Rattle.syntax_trees.specs.Resolved.{functions_of}
-use Rattle.syntax_trees.specs.Tree.{Part, function}
+use Rattle.language.specs.Core as core
+use Rattle.language.specs.Resolved.{functions_of}
+use Rattle.language.specs.Tree.{Part, function}
 use Rattle.syntax_trees.specs.View.{composite_of, part_of}
 use Rattle.types.specs.Typed.{table_of}
-use Rattle.syntax_trees.specs.Scopes.{signature_of, signatures}
-use Rattle.well_formed.specs.Types.{body_declarations}
+use Rattle.language.specs.Scopes.{signature_of, signatures}
+use Rattle.language_accepted.specs.Types.{body_declarations}
 use Rattle.flow.specs.Shapes.{functions_declared, kinds_of_function}
 use Rattle.flow.specs.View.{function_view}
 use Rattle.lowering.specs.Shapes.{flagged, function_declarations, kinds_of_signature}

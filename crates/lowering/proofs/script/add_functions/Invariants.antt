@@ -1,10 +1,10 @@
 use Rattle.std.proofs.Common.{◌≡◌, ◌++◌, map, drop}
 use Rattle.syntax_trees.specs.View.{part_of}
-use Rattle.syntax_trees.specs.Resolved.{functions_of}
+use Rattle.language.specs.Resolved.{functions_of}
 use Rattle.types.specs.Typed.{table_of}
 use Rattle.flow.specs.View.{function_view}
 use Rattle.flow.specs.Shapes.{functions_declared, kinds_of_function}
-use Rattle.syntax_trees.specs.Scopes.{signatures}
+use Rattle.language.specs.Scopes.{signatures}
 use Rattle.lowering.specs.Shapes.{flagged, function_declarations, kinds_of_signature}
 use Rattle.lowering.proofs.script.add_functions.Given as goal
 

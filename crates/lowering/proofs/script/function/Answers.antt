@@ -1,5 +1,5 @@
 use Rattle.std.proofs.Common.{ap₂, length, Bool, List}
-use Rattle.syntax_trees.specs.Resolved.{block_of}
+use Rattle.language.specs.Resolved.{block_of}
 use Rattle.syntax_trees.specs.View.{declarations_view, body_view}
 use Rattle.types.specs.Typed.{table_of}
 use Rattle.flow.specs.View.{block_view}

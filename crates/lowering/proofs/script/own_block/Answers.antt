@@ -1,5 +1,5 @@
 use Rattle.std.proofs.Common.{map, ap, ◌∙◌}
-use Rattle.syntax_trees.specs.Resolved.{script_block}
+use Rattle.language.specs.Resolved.{script_block}
 use Rattle.syntax_trees.specs.View.{part_of}
 use Rattle.types.specs.Typed.{table_of}
 use Rattle.flow.specs.View.{statements_view}

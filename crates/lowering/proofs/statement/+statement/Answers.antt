@@ -6,12 +6,13 @@ use Rattle.std.specs.List.{sum_by}
 use Rattle.syntax_trees.specs.declared.tree.Stmt.{out-Stmt}
 use Rattle.syntax_trees.specs.declared.tree.Block.{out-Block}
 use Rattle.syntax_trees.specs.declared.tree.Header.{Header}
-use Rattle.syntax_trees.specs.View.{word_of, words_view, expression_view, right_of, calling_of, over_of, statement_view, command_view, body_view, choice_of}
-use Rattle.syntax_trees.specs.Numbered.{statement_size}
-use Rattle.syntax_trees.specs.Core as core
-use Rattle.syntax_trees.specs.Tree as trees
-use Rattle.syntax_trees.specs.Tree.{Calling, Command, Statement, expressions_of}
-use Rattle.syntax_trees.specs.Resolved as rules_of
+use Rattle.syntax_trees.specs.View.{word_of, words_view, expression_view, right_of, calling_of, over_of, statement_view, command_view, body_view}
+use Rattle.language.specs.Tree.{choice_of}
+use Rattle.language.specs.Numbered.{statement_size}
+use Rattle.language.specs.Core as core
+use Rattle.language.specs.Tree as trees
+use Rattle.language.specs.Tree.{Calling, Command, Statement, expressions_of}
+use Rattle.language.specs.Resolved as rules_of
 use Rattle.syntax_trees.proofs.Views.{size_of_element, block-size, view-Block, view-Foreach, view-Wait}
 use Rattle.types.specs.Typed.{table_of}
 use Rattle.flow.specs.declared.statement.Block.{Block as Made}
@@ -21,7 +22,7 @@ use Rattle.lowering.specs.View.{command_alone, statement_alone, statements_among
 use Rattle.lowering.proofs.Loops.{view_stmt, view_declaration, view_assign_all, view_calls}
 use Rattle.lowering.proofs.Forms.{view_assign, view_write, view_if, adds_form, declares_form, same_choice}
 use Rattle.lowering.proofs.Statements.{statement_first, block_found}
-use Rattle.well_formed.specs.Types.{statement_declarations, body_declarations}
+use Rattle.language_accepted.specs.Types.{statement_declarations, body_declarations}
 use Rattle.flow.specs.Shapes.{block_declared}
 use Rattle.lowering.specs.Shapes.{among, declared_by, flagged}
 use Rattle.lowering.proofs.Declaring.{flagged_append, statement_next}

@@ -1,7 +1,7 @@
 use Rattle.std.proofs.Common.{◌≡◌, ◌+◌, ◌*◌, ◌++◌, map, drop}
 use Rattle.std.specs.List.{sum_by}
 use Rattle.syntax_trees.specs.View.{statement_view, command_view, body_view}
-use Rattle.syntax_trees.specs.Numbered.{statement_size, command_size, body_size}
+use Rattle.language.specs.Numbered.{statement_size, command_size, body_size}
 use Rattle.types.specs.Typed.{table_of}
 use Rattle.flow.specs.View.{statements_view}
 use Rattle.lowering.specs.Shapes.{among, declared_by, flagged}

@@ -1,7 +1,7 @@
 use Rattle.std.proofs.Common.{◌≡◌, ◌++◌, ◌∷◌, [], sym, subst}
 use Rattle.std.specs.Prelude.{IsOkAnd}
 use Rattle.std.proofs.lemmas.Result.{on_ok_weaker}
-use Rattle.syntax_trees.specs.Core as core
+use Rattle.language.specs.Core as core
 use Rattle.flow.specs.declared.statement.Action.{Action}
 use Rattle.flow.specs.View.{action_view, statements_view}
 use Rattle.flow.specs.Shapes.{action_declared}

@@ -1,13 +1,13 @@
 use Rattle.std.proofs.Common.{◌++◌, List, map, ap, sym, ◌∙◌}
 use Rattle.syntax_trees.specs.declared.tree.Block.{out-Block}
 use Rattle.syntax_trees.specs.View.{statement_view, body_view}
-use Rattle.syntax_trees.specs.Tree as trees
+use Rattle.language.specs.Tree as trees
 use Rattle.syntax_trees.proofs.Views.{view-Block}
 use Rattle.types.specs.Typed.{table_of}
 use Rattle.flow.specs.declared.statement.Statement.{Statement as Added}
 use Rattle.flow.specs.View.{statements_view}
 use Rattle.lowering.proofs.Statements.{block_found}
-use Rattle.well_formed.specs.Types.{body_declarations}
+use Rattle.language_accepted.specs.Types.{body_declarations}
 use Rattle.lowering.specs.Shapes.{among, declared_by, flagged}
 use Rattle.lowering.proofs.statement.block.Goals as goal
 

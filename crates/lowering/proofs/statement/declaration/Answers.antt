@@ -1,6 +1,6 @@
 use Rattle.std.proofs.Common.{option_map, ap, ◌∙◌}
 use Rattle.std.proofs.lemmas.Result.{on_ok_weaker}
-use Rattle.syntax_trees.specs.Core as core
+use Rattle.language.specs.Core as core
 use Rattle.syntax_trees.specs.View.{declaration_of, right_of}
 use Rattle.types.specs.Typed.{table_of}
 use Rattle.flow.specs.declared.statement.Action.{Declare}

@@ -1,7 +1,7 @@
 use Rattle.std.proofs.Common.{option_map, refl, ap, ◌∙◌}
 use Rattle.syntax_trees.specs.View.{word_of, expression_view, over_of}
 use Rattle.syntax_trees.specs.declared.tree.Range.{Range}
-use Rattle.syntax_trees.specs.Resolved as rules_of
+use Rattle.language.specs.Resolved as rules_of
 use Rattle.types.specs.Typed.{table_of}
 use Rattle.flow.specs.View.{block_view}
 use Rattle.lowering.proofs.Loops.{each_found, range_found}

@@ -1,5 +1,5 @@
 use Rattle.std.proofs.Common.{◌≡◌, ◌∙◌, refl, sym, subst, ℕ, ◌+◌, List}
-use Rattle.exit_status.specs.declared.status.Status.{Status}
+use Rattle.swt_status.specs.declared.status.Status.{Status}
 use Rattle.swt_command.specs.Checks.{IsSaid, StopsBy, after}
 use Rattle.swt_command.specs.Files.{Files, contents, name_at, source_of}
 use Rattle.swt_command.specs.Sinks.{Held, held}

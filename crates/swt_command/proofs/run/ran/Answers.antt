@@ -1,5 +1,5 @@
 use Rattle.std.proofs.Common.{refl, sym, ap, subst, Err}
-use Rattle.stops.specs.declared.trouble.Trouble.{Trouble}
+use Rattle.swt_status.specs.declared.trouble.Trouble.{Trouble}
 use Rattle.swt_command.specs.Files.{contents}
 use Rattle.swt_command.specs.Runs.{StopsBeforeRun}
 use Rattle.swt_command.proofs.Stops.{no_report}

@@ -1,4 +1,4 @@
-use Rattle.stops.specs.declared.stop.Stop.{Stop}
+use Rattle.swt_status.specs.declared.stop.Stop.{Stop}
 use Rattle.swt_command.specs.Files.{contents}
 use Rattle.swt_command.specs.Runs.{Replayed, StopsBeforeReplay}
 use Rattle.swt_command.proofs.Stops.{at_script, handed_on, no_trace, run_again}

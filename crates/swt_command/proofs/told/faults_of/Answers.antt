@@ -1,6 +1,6 @@
 use Rattle.std.proofs.Common.{◌≡◌, ◌∙◌, ◌<◌, ℕ, List, ap, length, get_or}
 use Rattle.task_code.specs.Places.{Step}
-use Rattle.board_frames.specs.declared.place.FaultKind.{FaultKind}
+use Rattle.board_instances.specs.declared.place.FaultKind.{FaultKind}
 use Rattle.swt_command.specs.Plain.{meant_fault, told_fault}
 use Rattle.swt_command.proofs.Plain.{map_next}
 use Rattle.swt_command.proofs.told.faults_of.Goals as goal

@@ -2,8 +2,8 @@ use Rattle.std.proofs.Common.{◌≡◌, ◌∙◌, ◌<◌, List, ap, length, g
 use Rattle.std.specs.Prelude.{pos}
 use Rattle.values.specs.declared.key.Key.{Key}
 use Rattle.task_code.specs.Places.{Step}
-use Rattle.board_frames.specs.View.{step_view}
-use Rattle.whole_facts.specs.declared.instances.Step.{Step as MeantStep}
+use Rattle.board_instances.specs.View.{step_view}
+use Rattle.meaning_facts.specs.declared.instances.Step.{Step as MeantStep}
 use Rattle.swt_command.specs.Plain.{meant_step}
 use Rattle.swt_command.proofs.Plain.{map_next}
 use Rattle.swt_command.proofs.told.path_of.Goals as goal

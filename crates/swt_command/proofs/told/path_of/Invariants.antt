@@ -1,5 +1,5 @@
 use Rattle.std.proofs.Common.{◌≡◌, map, take}
-use Rattle.board_frames.specs.View.{step_view}
+use Rattle.board_instances.specs.View.{step_view}
 use Rattle.swt_command.specs.Plain.{meant_step}
 use Rattle.swt_command.proofs.told.path_of.Given as goal
 

@@ -1,6 +1,6 @@
 use Rattle.std.proofs.Common.{◌≡◌, ◌∙◌, ◌<◌, ℕ, List, ap, length, get_or}
 use Rattle.task_code.specs.Places.{Step}
-use Rattle.runs.specs.Same.{place_view}
+use Rattle.board_runs.specs.Same.{place_view}
 use Rattle.swt_command.specs.Plain.{meant_place}
 use Rattle.swt_command.proofs.Plain.{map_next}
 use Rattle.swt_command.proofs.told.statements_of.Goals as goal

@@ -1,5 +1,5 @@
 use Rattle.std.proofs.Common.{◌≡◌, map, take}
-use Rattle.runs.specs.Same.{place_view}
+use Rattle.board_runs.specs.Same.{place_view}
 use Rattle.swt_command.specs.Plain.{meant_place}
 use Rattle.swt_command.proofs.told.statements_of.Given as goal
 

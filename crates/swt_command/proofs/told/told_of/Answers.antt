@@ -1,7 +1,7 @@
 use Rattle.std.proofs.Common.{sym, subst}
-use Rattle.syntax_trees.specs.Core.{Core}
+use Rattle.language.specs.Core.{Core}
 use Rattle.flow.specs.View.{core_of}
-use Rattle.script_meaning.specs.Known.{IsKnowledgeOf}
+use Rattle.meaning_outcomes.specs.Known.{IsKnowledgeOf}
 use Rattle.swt_command.specs.declared.told.Told.{Told}
 use Rattle.swt_command.proofs.Meant.{told_is}
 use Rattle.swt_command.proofs.told.told_of.Goals as goal

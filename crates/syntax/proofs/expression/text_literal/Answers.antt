@@ -1,8 +1,8 @@
 use Rattle.std.proofs.Common.{ap, sym, ◌∙◌}
 use Rattle.lexer.specs.Given.{lexeme_of}
-use Rattle.syntax_trees.specs.Tree.{text}
+use Rattle.language.specs.Tree.{text}
 use Rattle.lexer.specs.declared.token.TokenKind.TheVariants as Kind
-use Rattle.syntax_trees.specs.Grammar.{spelled}
+use Rattle.language.specs.Grammar.{spelled}
 use Rattle.syntax.specs.Readers.{got}
 use Rattle.syntax.proofs.expressions.Forms.{literal_got}
 use Rattle.syntax.proofs.spellings.Strings.{spelled_as}

@@ -1,6 +1,6 @@
 use Rattle.std.proofs.Common.{◌≡◌, ap, sym, ◌∙◌, arith}
 use Rattle.std.proofs.lemmas.Grind.{common_steps}
-use Rattle.syntax_trees.specs.Tree.{function}
+use Rattle.language.specs.Tree.{function}
 use Rattle.syntax_trees.specs.View.{declarations_view, word_of, body_view}
 use Rattle.syntax.specs.Readers.{got}
 use Rattle.syntax.proofs.statements.Commands.{function_reads}

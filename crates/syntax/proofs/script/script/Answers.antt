@@ -3,7 +3,7 @@ use Rattle.std.specs.Prelude.{not}
 use Rattle.std.proofs.lemmas.Grind.{common_steps}
 use Rattle.std.proofs.lemmas.Result.{err_from_is_err_and}
 use Rattle.syntax_trees.specs.View.{part_of}
-use Rattle.syntax_trees.specs.Rules.{Place}
+use Rattle.language.specs.Rules.{Place}
 use Rattle.syntax.specs.Readers.{at_end}
 use Rattle.syntax.specs.Reading.{read_part, read_script}
 use Rattle.syntax.proofs.expressions.Forms.{many_stop, many_more, many_fails, fails_on}

@@ -1,8 +1,8 @@
 use Rattle.std.proofs.Common.{◌≡◌, ℕ, List, ◌+◌, ◌*◌, ◌<◌, ◌≤◌, length, map}
 use Rattle.std.specs.Prelude.{not, sum_by}
-use Rattle.syntax_trees.specs.Tree.{Part}
+use Rattle.language.specs.Tree.{Part}
 use Rattle.syntax_trees.specs.View.{part_of}
-use Rattle.syntax_trees.specs.Numbered.{numbered, part_size}
+use Rattle.language.specs.Numbered.{numbered, part_size}
 use Rattle.syntax.specs.Readers.{at_end, many_over}
 use Rattle.syntax.specs.Reading.{read_part, read_script}
 use Rattle.syntax.proofs.script.script.Given as goal

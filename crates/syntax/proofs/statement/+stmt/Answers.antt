@@ -3,9 +3,10 @@ use Rattle.std.specs.Prelude.{not, option_map}
 use Rattle.std.proofs.lemmas.Grind.{common_steps}
 use Rattle.std.proofs.lemmas.Result.{err_from_is_err_and}
 use Rattle.lexer.specs.Given.{lexeme_of}
-use Rattle.syntax_trees.specs.Tree.{body, statements_of, loop, waits}
-use Rattle.syntax_trees.specs.View.{word_of, words_view, expression_view, statement_view, body_view, over_of, choice_of}
-use Rattle.syntax_trees.specs.Rules.{Place}
+use Rattle.language.specs.Tree.{body, statements_of, loop, waits}
+use Rattle.syntax_trees.specs.View.{word_of, words_view, expression_view, statement_view, body_view, over_of}
+use Rattle.language.specs.Tree.{choice_of}
+use Rattle.language.specs.Rules.{Place}
 use Rattle.lexer.specs.declared.token.TokenKind.TheVariants as Kind
 use Rattle.syntax.specs.Answers.{branch_view}
 use Rattle.syntax.specs.Readers.{got, at, the, ◌▸◌, maybe, many_over}

@@ -1,9 +1,9 @@
 use Rattle.std.proofs.Common.{◌≡◌, refl, ap, sym, ◌∙◌}
 use Rattle.std.specs.Int.{w32}
 use Rattle.std.proofs.lemmas.Int.{to_z-of_z}
-use Rattle.syntax_trees.specs.Tree.{calls}
+use Rattle.language.specs.Tree.{calls}
 use Rattle.syntax_trees.specs.View.{calling_of, statement_view}
-use Rattle.syntax_trees.specs.Grammar.{does}
+use Rattle.language.specs.Grammar.{does}
 use Rattle.syntax.specs.Readers.{got}
 use Rattle.syntax.proofs.statements.Commands.{calling_reads}
 use Rattle.syntax.proofs.combining.Views.{calls_view}

@@ -1,6 +1,6 @@
 use Rattle.std.proofs.Common.{ap, sym, ◌∙◌}
 use Rattle.lexer.specs.Given.{lexeme_of}
-use Rattle.syntax_trees.specs.Tree.{assign_all}
+use Rattle.language.specs.Tree.{assign_all}
 use Rattle.syntax_trees.specs.View.{words_view, calling_of}
 use Rattle.syntax.specs.Readers.{got}
 use Rattle.syntax.proofs.statements.Commands.{many_reads}

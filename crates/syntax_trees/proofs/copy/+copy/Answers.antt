@@ -3,9 +3,9 @@ use Rattle.std.proofs.lemmas.Grind.{common_steps}
 use Rattle.std.proofs.lemmas.Result.{IfOk-weaker}
 use Rattle.std.specs.List.{sum_by}
 use Rattle.syntax_trees.specs.declared.tree.ExprKind.{ExprKind}
-use Rattle.syntax_trees.specs.Tree.{call, chain, expressions_of}
+use Rattle.language.specs.Tree.{call, chain, expressions_of}
 use Rattle.syntax_trees.specs.View.{word_of, expression_view, form_view}
-use Rattle.syntax_trees.specs.Numbered.{expression_size, form_size}
+use Rattle.language.specs.Numbered.{expression_size, form_size}
 use Rattle.syntax_trees.proofs.Views.{view-Call, view-Chain, size_of_element}
 use Rattle.syntax_trees.proofs.Numbering.{copied_more, viewed_all, size-Call, size-Chain}
 use Rattle.syntax_trees.proofs.copy.+copy.Goals as goal

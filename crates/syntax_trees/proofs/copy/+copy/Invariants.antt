@@ -1,7 +1,7 @@
 use Rattle.std.proofs.Common.{◌≡◌, ◌+◌, ◌*◌, map, take}
 use Rattle.std.specs.List.{sum_by}
 use Rattle.syntax_trees.specs.View.{expression_view, form_view}
-use Rattle.syntax_trees.specs.Numbered.{expression_size, form_size}
+use Rattle.language.specs.Numbered.{expression_size, form_size}
 use Rattle.syntax_trees.proofs.copy.+copy.Given as goal
 
 abbrev pub decreases-copy_expr : goal.decreases-copy_expr

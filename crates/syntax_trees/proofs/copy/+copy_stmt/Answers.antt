@@ -5,9 +5,10 @@ use Rattle.std.specs.Prelude.{option_map, Box}
 use Rattle.std.proofs.lemmas.Result.{IfOk-weaker}
 use Rattle.syntax_trees.specs.declared.tree.StmtKind.{StmtKind}
 use Rattle.syntax_trees.specs.declared.tree.Block.{Block, out-Block}
-use Rattle.syntax_trees.specs.Tree.{choice, choice_else, loop, waits, body, statements_of}
-use Rattle.syntax_trees.specs.View.{word_of, words_view, expression_view, over_of, statement_view, command_view, body_view, choice_of}
-use Rattle.syntax_trees.specs.Numbered.{statement_size}
+use Rattle.language.specs.Tree.{choice, choice_else, loop, waits, body, statements_of}
+use Rattle.syntax_trees.specs.View.{word_of, words_view, expression_view, over_of, statement_view, command_view, body_view}
+use Rattle.language.specs.Tree.{choice_of}
+use Rattle.language.specs.Numbered.{statement_size}
 use Rattle.syntax_trees.proofs.Views.{size_of_element, block-size, view-Block, view-If, view-Foreach, view-Wait, same_choice, same_loop}
 use Rattle.syntax_trees.proofs.Numbering.{copied_more, viewed_all}
 use Rattle.syntax_trees.proofs.copy.+copy_stmt.Goals as goal

@@ -1,7 +1,7 @@
 use Rattle.std.proofs.Common.{◌≡◌, ◌+◌, ◌*◌, map, take}
 use Rattle.std.specs.List.{sum_by}
 use Rattle.syntax_trees.specs.View.{statement_view, command_view, body_view}
-use Rattle.syntax_trees.specs.Numbered.{body_size, command_size, statement_size}
+use Rattle.language.specs.Numbered.{body_size, command_size, statement_size}
 use Rattle.syntax_trees.proofs.copy.+copy_stmt.Given as goal
 
 abbrev pub decreases-copy_stmt : goal.decreases-copy_stmt

@@ -1,6 +1,6 @@
 use Rattle.std.proofs.Common.{◌≡◌, ap, sym, ◌∙◌, arith}
 use Rattle.std.proofs.lemmas.Grind.{common_steps}
-use Rattle.syntax_trees.specs.Tree.{function}
+use Rattle.language.specs.Tree.{function}
 use Rattle.syntax_trees.specs.View.{composite_of, part_of}
 use Rattle.syntax_trees.proofs.copy.copy_item.Goals as goal
 

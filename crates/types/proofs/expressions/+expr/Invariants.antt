@@ -1,5 +1,5 @@
 use Rattle.std.proofs.Common.{◌≡◌, ◌≤◌, ◌-◌, map, drop, length}
-use Rattle.syntax_trees.specs.Tree.{expressions_of}
+use Rattle.language.specs.Tree.{expressions_of}
 use Rattle.syntax_trees.specs.View.{expression_view}
 use Rattle.types.specs.Known.{type_of, around_of}
 use Rattle.types.specs.Functions.{signatures_of}

@@ -1,6 +1,6 @@
 use Rattle.std.proofs.Common.{◌≡◌, ◌++◌, map, drop}
 use Rattle.types.specs.Known.{signature_of}
-use Rattle.syntax_trees.specs.Scopes as scopes
+use Rattle.language.specs.Scopes as scopes
 use Rattle.syntax_trees.specs.View.{part_of}
 use Rattle.types.proofs.functions.listed.Given as goal
 

@@ -1,6 +1,6 @@
 use Rattle.std.proofs.Common.{◌≡◌, map, take}
 use Rattle.types.specs.Known.{type_of}
-use Rattle.syntax_trees.specs.Scopes.{declared_type}
+use Rattle.language.specs.Scopes.{declared_type}
 use Rattle.syntax_trees.specs.View.{declaration_of}
 use Rattle.types.proofs.functions.types.Given as goal
 

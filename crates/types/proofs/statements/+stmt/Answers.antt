@@ -2,10 +2,11 @@ use Rattle.std.proofs.Common.{rules, ◌≡◌, ◌<◌, ◌≤◌, List, map, l
 use Rattle.std.specs.Prelude.{vec_len, option_map}
 use Rattle.std.proofs.lemmas.Result.{err_from_is_err_and}
 use Rattle.std.specs.List.{sum_by}
-use Rattle.syntax_trees.specs.View.{expression_view, choice_of, statement_view, command_view, body_view}
-use Rattle.syntax_trees.specs.Numbered.{statement_size}
+use Rattle.syntax_trees.specs.View.{expression_view, statement_view, command_view, body_view}
+use Rattle.language.specs.Tree.{choice_of}
+use Rattle.language.specs.Numbered.{statement_size}
 use Rattle.syntax_trees.proofs.Views.{size_of_element, block-size}
-use Rattle.syntax_trees.specs.Tree.{Command}
+use Rattle.language.specs.Tree.{Command}
 use Rattle.types.specs.Outcomes.{Gives}
 use Rattle.types.specs.Statements.{commanded}
 use Rattle.types.specs.Known.{seen_at, around_of}

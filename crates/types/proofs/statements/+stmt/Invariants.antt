@@ -1,9 +1,9 @@
 use Rattle.std.proofs.Common.{◌≡◌, ◌+◌, ◌*◌, map, drop}
 use Rattle.std.specs.List.{sum_by}
 use Rattle.std.specs.Prelude.{option_map}
-use Rattle.syntax_trees.specs.Tree.{statements_of}
+use Rattle.language.specs.Tree.{statements_of}
 use Rattle.syntax_trees.specs.View.{statement_view, command_view, body_view}
-use Rattle.syntax_trees.specs.Numbered.{option_size, statement_size, command_size, body_size}
+use Rattle.language.specs.Numbered.{option_size, statement_size, command_size, body_size}
 use Rattle.types.specs.Known.{around_of}
 use Rattle.types.specs.Functions.{signatures_of}
 use Rattle.types.specs.Statements as steps

@@ -1,7 +1,7 @@
 use Rattle.std.proofs.Common.{◌≡◌, ◌-◌, map, drop, length, ap, sym, ◌∙◌, arith}
 use Rattle.std.proofs.lemmas.List.{length-map}
 use Rattle.std.proofs.lemmas.Result.{err_from_is_err_and}
-use Rattle.syntax_trees.specs.Tree.{expressions_of}
+use Rattle.language.specs.Tree.{expressions_of}
 use Rattle.syntax_trees.specs.View.{expression_view}
 use Rattle.types.specs.Known.{type_of, around_of}
 use Rattle.types.specs.Functions.{signatures_of}

@@ -1,6 +1,6 @@
 use Rattle.std.proofs.Common.{◌≡◌, ap, sym, ◌∙◌}
 use Rattle.std.proofs.lemmas.Result.{err_from_is_err_and}
-use Rattle.syntax_trees.specs.Tree.{Over}
+use Rattle.language.specs.Tree.{Over}
 use Rattle.syntax_trees.specs.View.{over_of, range_of}
 use Rattle.types.specs.Known.{around_of}
 use Rattle.types.specs.Functions.{signatures_of}

@@ -1,5 +1,5 @@
 use Rattle.std.proofs.Common.{◌≡◌, ◌++◌, map, drop}
-use Rattle.syntax_trees.specs.Typing as typing
+use Rattle.language.specs.Typing as typing
 use Rattle.types.specs.Known.{type_of}
 use Rattle.types.proofs.statements.wanted.Given as goal
 

@@ -3,7 +3,7 @@ use Rattle.std.proofs.lemmas.Grind.{common_steps}
 use Rattle.flow.specs.declared.script.Function.{Function}
 use Rattle.flow.specs.View.{function_view}
 use Rattle.flow.specs.Shapes.{block_declared, kinds_of_function}
-use Rattle.syntax_trees.specs.Core as core
+use Rattle.language.specs.Core as core
 use Rattle.wait_merge.specs.Merged.{block_seen}
 use Rattle.wait_merge.proofs.Lists.{kept_at, merged_more}
 use Rattle.wait_merge.proofs.script.each.Goals as goal

@@ -1,7 +1,7 @@
 use Rattle.std.proofs.Common.{◌≡◌, ◌∷◌, [], ◌++◌, List, ap, sym, ◌∙◌, true, false}
 use Rattle.flow.specs.declared.statement.Header.{Header}
 use Rattle.flow.specs.View.{action_view, block_view, waits_around}
-use Rattle.syntax_trees.specs.Core as core
+use Rattle.language.specs.Core as core
 use Rattle.wait_merge.specs.Merged.{Seen}
 use Rattle.wait_merge.proofs.Actions.{around_more, seen_statement, view_statement, view_waits}
 use Rattle.wait_merge.proofs.Forms.{not_wait}

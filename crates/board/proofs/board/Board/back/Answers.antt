@@ -2,7 +2,7 @@ use Rattle.std.proofs.Common.{rules, arith, refl, sym, subst, map}
 use Rattle.std.proofs.lemmas.Grind.{common_steps}
 use Rattle.task_code.specs.View.{event_view}
 use Rattle.task_code.specs.declared.event.Event.TheVariants as Events
-use Rattle.board_frames.specs.View.{job_view, rows_view}
+use Rattle.board_instances.specs.View.{job_view, rows_view}
 use Rattle.board.specs.Board.{IsGoing, Seen}
 use Rattle.board.specs.Inside.{seen_of}
 use Rattle.board.proofs.Own.{accepts_on, free_core, not_theirs, numbered, some_run, sound_on}

@@ -1,17 +1,17 @@
 use Rattle.std.proofs.Common.{rules, arith, ◌≡◌, ◌+◌, ◌<◌, ◌≤◌, None, refl, sym, ◌∙◌, subst, map}
 use Rattle.std.specs.Prelude.{◌^◌, vec_capacity, vec_len}
 use Rattle.std.proofs.lemmas.Grind.{common_steps}
-use Rattle.replayed.specs.Fields.{Ready}
+use Rattle.board_history.specs.Fields.{Ready}
 use Rattle.task_code.specs.View.{event_view}
 use Rattle.task_code.specs.declared.event.Event.TheVariants as Events
 use Rattle.board_data.specs.View.{cells_view}
-use Rattle.board_frames.specs.View.{frames_view, job_view, rows_view}
+use Rattle.board_instances.specs.View.{frames_view, job_view, rows_view}
 use Rattle.board.specs.Board.{IsGoing, Seen}
 use Rattle.board.specs.Inside.{IsSound, Stand, seen_of}
 use Rattle.board.specs.Rows.{IsReady}
 use Rattle.board.specs.declared.state.Core.{Core}
 use Rattle.board.specs.Working.{IsWorkAt}
-use Rattle.board_openings.specs.declared.world.World.{World}
+use Rattle.board_changes.specs.declared.world.World.{World}
 use Rattle.board.proofs.Own.{accepts_on, free_core, may_begin, may_not_begin, numbered, sorted_sound, sound_on}
 use Rattle.board.proofs.OwnWork.{job_there, own_seen, ready_live}
 use Rattle.board.proofs.board.Board.begin.Goals as goal

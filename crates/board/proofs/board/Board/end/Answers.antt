@@ -1,8 +1,8 @@
 use Rattle.std.proofs.Common.{rules, sym, subst, map}
-use Rattle.replayed.specs.Fields.{Running}
+use Rattle.board_history.specs.Fields.{Running}
 use Rattle.task_code.specs.View.{event_view}
 use Rattle.board_data.specs.View.{cells_view}
-use Rattle.board_frames.specs.View.{frames_view, job_view}
+use Rattle.board_instances.specs.View.{frames_view, job_view}
 use Rattle.board.specs.Board.{IsGoing, Seen}
 use Rattle.board.specs.Inside.{seen_of}
 use Rattle.board.specs.Working.{IsWorkAt}

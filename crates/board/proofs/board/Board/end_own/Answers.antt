@@ -1,10 +1,10 @@
 use Rattle.std.proofs.Common.{rules, arith, refl, sym, ◌∙◌, subst, map}
 use Rattle.std.proofs.lemmas.Grind.{common_steps}
-use Rattle.replayed.specs.Fields.{Running}
+use Rattle.board_history.specs.Fields.{Running}
 use Rattle.task_code.specs.View.{event_view}
 use Rattle.task_code.specs.declared.event.Event.TheVariants as Events
 use Rattle.board_data.specs.View.{cells_view}
-use Rattle.board_frames.specs.View.{frames_view, job_view, rows_view}
+use Rattle.board_instances.specs.View.{frames_view, job_view, rows_view}
 use Rattle.board.specs.Board.{IsGoing, IsOwn, Seen}
 use Rattle.board.specs.Inside.{seen_of}
 use Rattle.board.specs.Working.{IsWorkAt}

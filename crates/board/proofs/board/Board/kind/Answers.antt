@@ -1,9 +1,9 @@
 use Rattle.std.proofs.Common.{rules, ap, sym, ◌∙◌, map}
 use Rattle.task_code.specs.View.{event_view, kind_view}
-use Rattle.board_code.specs.Tables.{queue_kind}
-use Rattle.board_frames.specs.View.{mark_view, row_view}
-use Rattle.replayed.specs.Ending.{job_kind}
-use Rattle.replayed.specs.Fields.{Job}
+use Rattle.board_program.specs.Tables.{queue_kind}
+use Rattle.board_instances.specs.View.{mark_view, row_view}
+use Rattle.board_history.specs.Ending.{job_kind}
+use Rattle.board_history.specs.Fields.{Job}
 use Rattle.board.proofs.Showing.{live_mark, no_item, over_item, some_item}
 use Rattle.board.proofs.board.Board.kind.Goals as goal
 

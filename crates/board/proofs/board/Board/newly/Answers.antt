@@ -1,10 +1,10 @@
 use Rattle.std.proofs.Common.{rules, ap, ◌≡◌, Some, ◌∙◌, map}
 use Rattle.std.specs.Prelude.{slice_get}
-use Rattle.board_code.specs.Tables.{queue_kind}
-use Rattle.replayed.specs.Ending.{job_kind}
-use Rattle.replayed.specs.Fields.{Job, row_of}
+use Rattle.board_program.specs.Tables.{queue_kind}
+use Rattle.board_history.specs.Ending.{job_kind}
+use Rattle.board_history.specs.Fields.{Job, row_of}
 use Rattle.task_code.specs.View.{event_view, kind_view}
-use Rattle.board_frames.specs.View.{row_view, rows_view}
+use Rattle.board_instances.specs.View.{row_view, rows_view}
 use Rattle.board.proofs.Own.{numbered}
 use Rattle.board.proofs.Showing.{no_row_there, row_live, some_ranked}
 use Rattle.board.proofs.board.Board.newly.Goals as goal

@@ -1,7 +1,7 @@
 use Rattle.std.proofs.Common.{rules, arith, inl, inr, refl, map}
-use Rattle.replayed.specs.Fields.{Ready}
+use Rattle.board_history.specs.Fields.{Ready}
 use Rattle.task_code.specs.View.{event_view}
-use Rattle.board_frames.specs.View.{job_view}
+use Rattle.board_instances.specs.View.{job_view}
 use Rattle.board.specs.Board.{RefusesBegin}
 use Rattle.board.specs.Working.{IsThere}
 use Rattle.board.specs.declared.refusal.Refusal.TheVariants.{Memory}

@@ -1,7 +1,7 @@
 use Rattle.std.proofs.Common.{rules, sym, subst, map}
-use Rattle.replayed.specs.Fields.{Running}
+use Rattle.board_history.specs.Fields.{Running}
 use Rattle.task_code.specs.View.{event_view}
-use Rattle.board_frames.specs.View.{job_view}
+use Rattle.board_instances.specs.View.{job_view}
 use Rattle.board.specs.Board.{IsGoing, Seen}
 use Rattle.board.specs.Inside.{seen_of}
 use Rattle.board.proofs.Own.{free_core, not_theirs, theirs}

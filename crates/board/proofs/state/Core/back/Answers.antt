@@ -1,5 +1,5 @@
 use Rattle.std.proofs.Common.{refl}
-use Rattle.board_frames.specs.View.{job_view}
+use Rattle.board_instances.specs.View.{job_view}
 use Rattle.board.proofs.Marked.{has_returned}
 use Rattle.board.proofs.state.Core.back.Goals as goal
 

@@ -1,5 +1,5 @@
 use Rattle.std.proofs.Common.{rules, refl}
-use Rattle.board_frames.specs.View.{job_view}
+use Rattle.board_instances.specs.View.{job_view}
 use Rattle.board.proofs.Marked.{has_begun}
 use Rattle.board.proofs.state.Core.begin.Goals as goal
 

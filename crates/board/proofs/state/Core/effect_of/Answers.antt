@@ -1,6 +1,6 @@
 use Rattle.std.proofs.Common.{rules, ap, ◌∙◌}
 use Rattle.task_code.specs.View.{entry_view}
-use Rattle.board_frames.specs.View.{job_view}
+use Rattle.board_instances.specs.View.{job_view}
 use Rattle.board_work.specs.Assigned.{job_control, job_result}
 use Rattle.board.proofs.Failed.{entry_result, script_result, told_of_all}
 use Rattle.board.proofs.state.Core.effect_of.Goals as goal

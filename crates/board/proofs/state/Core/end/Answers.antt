@@ -1,5 +1,5 @@
 use Rattle.std.proofs.Common.{ap, ◌∙◌}
-use Rattle.entry_outcomes.specs.Outcome.{control_in, result_in}
+use Rattle.board_compute.specs.Outcome.{control_in, result_in}
 use Rattle.board.proofs.Ends.{on_err, on_ok}
 use Rattle.board.proofs.state.Core.end.Goals as goal
 

@@ -1,5 +1,5 @@
 use Rattle.std.proofs.Common.{subst}
-use Rattle.board_frames.specs.View.{job_view}
+use Rattle.board_instances.specs.View.{job_view}
 use Rattle.board.proofs.Failed.{failed_ended, not_fault, passed_ended, stays_if}
 use Rattle.board.specs.Ending.{IsEffectOf}
 use Rattle.board_effects.specs.declared.effect.Effect.{Effect}

@@ -1,6 +1,6 @@
 use Rattle.std.proofs.Common.{◌≡◌, map, drop}
 use Rattle.board_data.specs.View.{cells_view}
-use Rattle.board_frames.specs.View.{frames_view}
+use Rattle.board_instances.specs.View.{frames_view}
 use Rattle.task_code.specs.View.{header_view}
 use Rattle.board.specs.Stuck.{first_unknown}
 use Rattle.board.proofs.state.Core.first_unknown.Given as goal

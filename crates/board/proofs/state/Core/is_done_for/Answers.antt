@@ -3,7 +3,7 @@ use Rattle.data_store.specs.Stores.{Store}
 use Rattle.task_code.specs.View.{entry_view}
 use Rattle.board_data.specs.Data.{AreRising}
 use Rattle.board_data.specs.View.{cells_view}
-use Rattle.board_frames.specs.View.{frames_view, job_view}
+use Rattle.board_instances.specs.View.{frames_view, job_view}
 use Rattle.board.proofs.Tabled.{work_told}
 use Rattle.board.proofs.state.Core.is_done_for.Goals as goal
 

@@ -1,6 +1,6 @@
 use Rattle.std.proofs.Common.{◌≡◌, map, drop}
 use Rattle.board_data.specs.View.{cells_view}
-use Rattle.board_frames.specs.View.{frames_view}
+use Rattle.board_instances.specs.View.{frames_view}
 use Rattle.task_code.specs.View.{need_view}
 use Rattle.board.specs.Stuck.{is_header_known}
 use Rattle.board.proofs.state.Core.is_header_known.Given as goal

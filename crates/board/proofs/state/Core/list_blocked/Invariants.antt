@@ -1,7 +1,7 @@
 use Rattle.std.proofs.Common.{◌≡◌, ◌++◌, map, drop}
 use Rattle.std.specs.List.{filter_map}
 use Rattle.board_data.specs.View.{cells_view}
-use Rattle.board_frames.specs.View.{frames_view, rows_view}
+use Rattle.board_instances.specs.View.{frames_view, rows_view}
 use Rattle.board.specs.Stuck.{blocked_row, place_of}
 use Rattle.board.proofs.state.Core.list_blocked.Given as goal
 

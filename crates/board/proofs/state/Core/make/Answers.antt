@@ -1,10 +1,10 @@
 use Rattle.std.proofs.Common.{◌≡◌, ◌∙◌, ◌+◌, ◌++◌, ◌≤◌, [], List, ℕ, map, refl, sym, ap, subst, arith, vec_capacity}
 use Rattle.board_data.specs.View.{want_view}
-use Rattle.board_frames.specs.View.{frames_view, job_view, rows_view}
-use Rattle.board_frames.specs.declared.item.Item.{Item}
+use Rattle.board_instances.specs.View.{frames_view, job_view, rows_view}
+use Rattle.board_instances.specs.declared.item.Item.{Item}
 use Rattle.board_items.specs.Learnt.{HaveLearnt}
-use Rattle.board_openings.specs.World.{WorldEnds}
-use Rattle.replayed.specs.Fields.{Want}
+use Rattle.board_changes.specs.World.{WorldEnds}
+use Rattle.board_history.specs.Fields.{Want}
 use Rattle.rules.specs.declared.input.Input.{Input}
 use Rattle.board.proofs.state.Core.make.Goals as goal
 

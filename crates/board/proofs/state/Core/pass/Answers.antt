@@ -1,11 +1,11 @@
 use Rattle.std.proofs.Common.{rules, ◌∙◌, List, length, refl, sym, subst}
 use Rattle.smallvec.specs.SmallVec.{SmallVec}
 use Rattle.rules.specs.declared.input.Input.{Input}
-use Rattle.board_frames.specs.View.{frames_view, job_view, rows_view}
+use Rattle.board_instances.specs.View.{frames_view, job_view, rows_view}
 use Rattle.board_items.specs.Progress.{jobs_behind}
 use Rattle.board_items.specs.Room.{AreSpare}
-use Rattle.board_openings.specs.Room.{OpensWell}
-use Rattle.board_openings.specs.declared.world.Change.{Change}
+use Rattle.board_changes.specs.Room.{OpensWell}
+use Rattle.board_changes.specs.declared.world.Change.{Change}
 use Rattle.board.proofs.Assembled as A
 use Rattle.board.proofs.Ends.{can, ended, err_from, no_ok, ok_from, ok_take, one_less, pack, same_spare, short, spare}
 use Rattle.board.proofs.Own.{some_run}

@@ -1,6 +1,6 @@
 use Rattle.std.proofs.Common.{rules, ap, ◌∙◌}
 use Rattle.board_data.specs.View.{cells_view}
-use Rattle.board_frames.specs.View.{frames_view, job_view}
+use Rattle.board_instances.specs.View.{frames_view, job_view}
 use Rattle.board_work.specs.Assigned.{Assigned}
 use Rattle.board.proofs.Tabled.{work_at}
 use Rattle.board.proofs.state.Core.work.Goals as goal

@@ -1,8 +1,8 @@
 use Rattle.std.proofs.Common.{◌≡◌, ◌++◌, ◌-◌, length, map, drop}
 use Rattle.std.specs.List.{flat_map}
 use Rattle.smallvec.specs.SmallVec.{HasRoomFor}
-use Rattle.board_frames.specs.Names.{led_slot}
-use Rattle.board_frames.specs.View.{frames_view}
+use Rattle.board_instances.specs.Names.{led_slot}
+use Rattle.board_instances.specs.View.{frames_view}
 use Rattle.board_data.specs.View.{cells_view, want_view}
 use Rattle.board_data.specs.Wanted.{wanted_missed}
 use Rattle.board_data.proofs.wanted.View.list_missing.Given as goal

@@ -1,8 +1,8 @@
 use Rattle.std.proofs.Common.{◌∙◌, ◌-◌, [], sym, subst, arith, IfOk, drop, length, take}
 use Rattle.task_code.specs.Compute.{Turns, pairs}
 use Rattle.task_code.specs.Effects.{chunk}
-use Rattle.board_frames.proofs.Turned.{turns_are}
-use Rattle.board_frames.specs.Turns.{AddsTurns}
+use Rattle.board_instances.proofs.Turned.{turns_are}
+use Rattle.board_instances.specs.Turns.{AddsTurns}
 use Rattle.board_effects.specs.Ended.{Ends, OpensList, code_of, frames_of}
 use Rattle.board_effects.proofs.Chunks.{elements_chunk, pairs_length}
 use Rattle.board_effects.proofs.Loops.{chunk_deep, chunk_opens}

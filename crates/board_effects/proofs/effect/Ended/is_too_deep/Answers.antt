@@ -1,7 +1,7 @@
 use Rattle.std.proofs.Common.{◌∙◌, ap, sym}
 use Rattle.std.specs.Prelude.{nat_le}
-use Rattle.replayed.specs.Fields.{Frame}
-use Rattle.board_frames.proofs.Slots.{not_there, view_is}
+use Rattle.board_history.specs.Fields.{Frame}
+use Rattle.board_instances.proofs.Slots.{not_there, view_is}
 use Rattle.board_effects.proofs.effect.Ended.is_too_deep.Goals as goal
 
 pub returns-in-Some : goal.returns-in-Some

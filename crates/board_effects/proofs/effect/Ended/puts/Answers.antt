@@ -1,6 +1,6 @@
 use Rattle.std.proofs.Common.{◌≡◌, ◌∙◌, refl, sym, subst, false}
-use Rattle.replayed.specs.Fields.{slot_at}
-use Rattle.replayed.specs.Needs.{cell_element, has}
+use Rattle.board_history.specs.Fields.{slot_at}
+use Rattle.board_history.specs.Needs.{cell_element, has}
 use Rattle.board_effects.specs.Ended.{cells_of}
 use Rattle.board_effects.proofs.Stores.{puts_clash, puts_ends}
 use Rattle.board_effects.proofs.Values.{ok_map}

@@ -1,6 +1,6 @@
 use Rattle.std.proofs.Common.{◌∙◌, arith}
 use Rattle.board_data.specs.View.{cells_view}
-use Rattle.board_frames.specs.View.{frames_view, job_view, rows_view}
+use Rattle.board_instances.specs.View.{frames_view, job_view, rows_view}
 use Rattle.board_items.specs.Progress.{jobs_behind}
 use Rattle.board_items.specs.View.{queue_view, waiters_view}
 use Rattle.board_items.proofs.Finish.{first_can, first_far, first_old, first_short, last_far, next_can, next_far, no_ok, spare_back}

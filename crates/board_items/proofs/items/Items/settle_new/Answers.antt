@@ -1,7 +1,7 @@
 use Rattle.std.proofs.Common.{◌≡◌, ◌∙◌, ◌-◌, ◌+◌, ◌++◌, List, ℕ, suc, append-nil, arith, false, true, refl, reverse, subst, sym}
 use Rattle.std.specs.Prelude.{vec_len}
 use Rattle.board_data.specs.View.{cells_view}
-use Rattle.board_frames.specs.View.{frames_view}
+use Rattle.board_instances.specs.View.{frames_view}
 use Rattle.board_items.specs.Ended.{numbers_behind}
 use Rattle.board_items.specs.Progress.{Progress}
 use Rattle.board_items.proofs.Progress.{new_ok, new_spare, new_step}

@@ -3,9 +3,9 @@ use Rattle.std.proofs.lemmas.Result.{on_ok_weaker}
 use Rattle.std.specs.List.{flat_map}
 use Rattle.board_data.specs.View.{cells_view}
 use Rattle.board_data.specs.Wanted.{wanted_missed}
-use Rattle.board_frames.specs.Names.{led_slot}
-use Rattle.board_frames.specs.View.{frames_view, job_view, row_view}
-use Rattle.board_frames.specs.declared.item.Item.{Item}
+use Rattle.board_instances.specs.Names.{led_slot}
+use Rattle.board_instances.specs.View.{frames_view, job_view, row_view}
+use Rattle.board_instances.specs.declared.item.Item.{Item}
 use Rattle.board_items.specs.Ended.{first_needs, misses_first}
 use Rattle.board_items.proofs.Jobs.{lists_behind, spare_for}
 use Rattle.board_items.proofs.Placed.{job_placed, settles_by}

@@ -1,7 +1,7 @@
 use Rattle.std.proofs.Common.{◌≡◌, ◌∙◌, ◌-◌, ◌+◌, ◌≤◌, List, ℕ, ap, arith, false, true, get_or, length, refl, subst, take}
 use Rattle.std.proofs.lemmas.List.{take_all}
 use Rattle.board_data.specs.View.{cells_view}
-use Rattle.board_frames.specs.View.{frames_view}
+use Rattle.board_instances.specs.View.{frames_view}
 use Rattle.board_items.specs.Progress.{Progress}
 use Rattle.board_items.proofs.Progress.{progress_same, woken_ok, woken_step}
 use Rattle.board_items.proofs.items.Items.wake.Goals as goal

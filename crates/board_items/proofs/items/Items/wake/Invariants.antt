@@ -2,8 +2,8 @@ use Rattle.std.proofs.Common.{◌≡◌, ◌+◌, ◌-◌, ℕ, ℤ, List, [], l
 use Rattle.std.specs.Prelude.{vec_len}
 use Rattle.board_data.specs.View.{cells_view}
 use Rattle.board_data.specs.Wanted.{FewSlots}
-use Rattle.board_frames.specs.View.{frames_view}
-use Rattle.replayed.specs.Fields.{Row, Waiter}
+use Rattle.board_instances.specs.View.{frames_view}
+use Rattle.board_history.specs.Fields.{Row, Waiter}
 use Rattle.task_code.specs.Code.{Kind}
 use Rattle.board_items.specs.Ended.{AreShort, AreToSettle}
 use Rattle.board_items.specs.Progress.{AreOld, Progress}

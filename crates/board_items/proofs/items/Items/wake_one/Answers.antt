@@ -1,7 +1,7 @@
 use Rattle.std.proofs.Common.{refl, map}
 use Rattle.std.proofs.lemmas.Result.{on_ok_weaker}
 use Rattle.board_data.specs.View.{cells_view, want_view}
-use Rattle.board_frames.specs.View.{frames_view, job_view}
+use Rattle.board_instances.specs.View.{frames_view, job_view}
 use Rattle.board_items.specs.Ended.{misses}
 use Rattle.board_items.proofs.Placed.{job_found, settles_by}
 use Rattle.board_items.proofs.items.Items.wake_one.Goals as goal

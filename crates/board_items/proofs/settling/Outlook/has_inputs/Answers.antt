@@ -1,6 +1,6 @@
 use Rattle.std.proofs.Common.{◌∙◌, ap}
 use Rattle.board_data.specs.View.{cells_view}
-use Rattle.board_frames.specs.View.{job_view}
+use Rattle.board_instances.specs.View.{job_view}
 use Rattle.board_items.proofs.Jobs.{listed_there, missed_past, none_true, true_none}
 use Rattle.board_items.proofs.settling.Outlook.has_inputs.Goals as goal
 

@@ -1,7 +1,7 @@
 use Rattle.std.proofs.Common.{◌∙◌, ◌++◌, ap, map}
 use Rattle.std.proofs.lemmas.Result.{on_ok_weaker}
 use Rattle.board_data.specs.View.{cells_view, want_view}
-use Rattle.board_frames.specs.View.{job_view}
+use Rattle.board_instances.specs.View.{job_view}
 use Rattle.board_items.proofs.Jobs.{listed_past, listed_there}
 use Rattle.board_items.proofs.settling.Outlook.list_missing.Goals as goal
 

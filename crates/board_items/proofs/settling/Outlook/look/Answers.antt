@@ -1,6 +1,6 @@
 use Rattle.std.proofs.Common.{◌∙◌, ap, arith}
 use Rattle.board_data.specs.View.{cells_view}
-use Rattle.board_frames.specs.View.{frames_view, job_view}
+use Rattle.board_instances.specs.View.{frames_view, job_view}
 use Rattle.board_items.proofs.Jobs.{first_past, kind_past, new_past, new_there, priority_past}
 use Rattle.board_items.proofs.settling.Outlook.look.Goals as goal
 

@@ -1,4 +1,0 @@
-//! Which arrays are closed: those whose declaring block has nothing left to write in them.
-#![tactic(auto)]
-
-pub mod closing;

@@ -1,4 +1,0 @@
-mod Bounds
-mod Entries
-mod Layings
-mod Merged

@@ -1,9 +1,0 @@
-use Rattle.std.proofs.Common.{◌≡◌, map, take}
-use Rattle.flow.specs.View.{awaited_view}
-use Rattle.task_code.specs.View as code_view
-use Rattle.agreement.specs.CodeNames.{awaited_need}
-use Rattle.agreement.specs.Room.{AwaitedRoom, Each}
-use Rattle.block_entries.proofs.waits.header.Given as goal
-
-abbrev pub invariant-loop-name : goal.invariant-loop-name
-invariant-loop-name g l = Each (AwaitedRoom l.inputs) (map awaited_view l.names.items) → map code_view.need_view l.needs.items ≡ map (awaited_need l.inputs) (map awaited_view (take l.name-index l.names.items))

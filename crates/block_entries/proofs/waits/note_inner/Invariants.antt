@@ -1,8 +1,0 @@
-use Rattle.std.proofs.Common.{take}
-use Rattle.std.specs.List.{flat_map}
-use Rattle.emit_parts.specs.Wanted.{Notes}
-use Rattle.block_entries.specs.Blocks.{InnerRoom, inner_headers}
-use Rattle.block_entries.proofs.waits.note_inner.Given as goal
-
-abbrev pub invariant-loop-merged : goal.invariant-loop-merged
-invariant-loop-merged g l = InnerRoom l.inputs l.inner.items → Notes l.fn.needs.keys l.needs.keys (flat_map (λ h. h.needs) (inner_headers l.inputs (take l.merged-index l.inner.items)))

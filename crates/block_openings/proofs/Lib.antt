@@ -1,9 +1,0 @@
-pub mod Entering
-pub mod Moving
-pub mod Waits
-pub mod Choosing
-pub mod Turning
-pub mod Calling
-pub mod Passing
-pub mod Taking
-pub mod Loops

@@ -1,2 +1,0 @@
-pub mod Insides
-pub mod Opening

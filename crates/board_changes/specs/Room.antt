@@ -1,0 +1,40 @@
+-- Room for an End, which is made before anything is changed.
+use Rattle.std.specs.Prelude.{◌≡◌, ◌≤◌, ℕ, true, length, vec_len, Option, Some}
+use Rattle.dataflow.specs.System.{In}
+use Rattle.data_store.specs.Stores.{Store, array_at, at}
+use Rattle.board_history.specs.Fields.{Job}
+use Rattle.task_code.specs.Code.{Code}
+use Rattle.board_data.specs.Data.{AreRising, is_keyed}
+use Rattle.board_data.specs.View.{cells_view}
+use Rattle.board_instances.specs.declared.opening.Opening.{Opening}
+use Rattle.board_changes.specs.Filled.{HasSlots}
+use Rattle.board_changes.specs.Opened.{CanGoOn, own_of}
+use Rattle.board_changes.specs.declared.world.Change.{Change}
+use Rattle.board_changes.specs.declared.world.Change.TheVariants as Changes
+use Rattle.board_changes.specs.declared.world.World.{World}
+
+-- an array has room for so many elements
+abbrev pub HasPlaces : Option ℕ → ℕ → Store → Type 0
+HasPlaces target n s = (d : ℕ) → target ≡ Some d → is_keyed (at s d) ≡ true → n ≤ (array_at s d).room
+
+-- the array into which a change stores has room for the elements
+abbrev pub TakesMore : Change → Store → Type 0
+TakesMore Changes.Nothing s = Unit {0}
+TakesMore (Changes.Value d v) s = Unit {0}
+TakesMore (Changes.Element d k v) s = HasPlaces d 1 s
+TakesMore (Changes.Elements d es) s = HasPlaces d (vec_len es) s
+TakesMore (Changes.Opens o) s = Unit {0}
+
+-- what is opened has slots for its own data, and a loop that goes on has a next chunk
+abbrev pub OpensWell : Code → Job → Change → Type 0
+OpensWell C j Changes.Nothing = Unit {0}
+OpensWell C j (Changes.Value d v) = Unit {0}
+OpensWell C j (Changes.Element d k v) = Unit {0}
+OpensWell C j (Changes.Elements d es) = Unit {0}
+OpensWell C j (Changes.Opens o) = ((x : Opening) → In x o.list.items → HasSlots (length (own_of C o.body)) x) × CanGoOn j o.goes_on
+
+-- only the room is another
+pub record OnlyRoom (old new : World) : Type 0 where
+  pub frames : new.instances.slots ≡ old.instances.slots
+  pub cells : cells_view new.store.cells ≡ cells_view old.store.cells
+  pub rising : AreRising old.store → AreRising new.store

@@ -1,7 +1,0 @@
-use Rattle.std.proofs.Common.{◌≡◌, map, replicate}
-use Rattle.replayed.specs.Fields.{Absent}
-use Rattle.board_frames.specs.View.{slot_view}
-use Rattle.board_frames.proofs.opening.empty_slots.Given as goal
-
-abbrev pub invariant-loop-place : goal.invariant-loop-place
-invariant-loop-place l = map slot_view l.slots.items ≡ replicate l.place Absent

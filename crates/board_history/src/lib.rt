@@ -1,0 +1,202 @@
+//! The machine as a function of its history, and counts of the rights that its items hold.
+#![tactic(auto)]
+
+ghost use Rattle.std.specs.Prelude.{List, [], ◌∷◌, ◌++◌, ◌≡◌, ℕ, ◌*◌, ◌-◌, suc, length, ℤ, Option, Some, None};
+ghost use Rattle.dataflow.specs.System.{Answer, In, System, tasks_of};
+ghost use Rattle.dataflow.specs.Events.{NewlyAt};
+ghost use Rattle.dataflow.specs.Laws.{Laws};
+ghost use Rattle.dataflow.specs.Machine.{Fault, Item, State, Event, Begin, End, Back, ClosedByRights, Free, SeesAll, Step, Run};
+ghost use Rattle.dataflow.specs.History.{log_of};
+ghost use Rattle.dataflow.specs.Data.{IsTidy, DataAreExact, SameButFree};
+ghost use Rattle.board_history.specs.Replay.{Tests, AreTests, next_state, replayed, and_then};
+ghost use Rattle.board_history.specs.Counts.{readers, writers, SameCounts, Exchanges, StartsWith};
+ghost use Rattle.board_history.specs.Tidy.{FaultOnly, IsBare, MarksOnly, OnlyItsOwn};
+ghost use Rattle.board_history.specs.Worked.{AssignedStands, HelloReplayed, LeavesReplayed, OpenedStands, WaitsReplayed};
+ghost use Rattle.board_history.specs.Static.{AddsHolds, EndCounts, OpensHolds, TurnsHold, computed_by, names_in, outer_holds};
+ghost use Rattle.board_history.specs.Fields.{Counted, Does, Fields, Frame, Job, Layout, Over, Row, Slot, Waiter, row_of, slot_at, slot_for, task_of};
+ghost use Rattle.board_history.specs.Ending.{EndsTo, FramesOpen, Instance, NamesLead, OpensItems, QueueAfter, TasksStay, added_times, ended_rows, held_times};
+ghost use Rattle.board_history.specs.Layouts.{IsLayout, Passes};
+ghost use Rattle.board_history.specs.Marking.{begun_fields, faulted_fields, returned_fields};
+ghost use Rattle.board_history.specs.Stands.{ItemsStand, QueueStands, Stands, first_fields};
+ghost use Rattle.board_history.specs.Elements.{code_tests};
+ghost use Rattle.task_code.specs.Places.{Place, Step as PathStep};
+ghost use Rattle.task_code.specs.System.{code_system, task_inputs, task_kind, task_priority};
+ghost use Rattle.board_history.specs.CodeReplay.{next_state as next_of_code, replayed as replayed_code, and_then as then_of_code};
+ghost use Rattle.task_code.specs.Code.{Calling, Code, Entry, Kind, Loop, Name, Variable, entry, ways};
+ghost use Rattle.task_code.specs.Compute.{Computed, Elements, EntryFault};
+ghost use Rattle.task_code.specs.Effects.{Item as ItemOf, left_at, step_at, turns_of};
+ghost use Rattle.values.specs.declared.key.Key.{Key};
+ghost use Rattle.values.specs.declared.value.Scalar.{Scalar};
+ghost use Rattle.task_code.specs.Whole.{Declared, IsCode};
+ghost use Rattle.task_code.specs.Machine.{ClosedByRights as ClosedInCode, CodeItem, CodeState, CodeStep, Enabled, Run as RunOfCode, run_log, IsTidy as IsTidyCode, DataAreExact as DataAreExactCode, SameButFree as SameButFreeCode};
+
+/// A lawful system whose places and keys can be told apart by tests: in each state of a run the next state is one that the
+/// machine steps to, with no free datum left, and where there is none the machine has no step. So what is replayed is a
+/// run, and each run is replayed, to a state that is the same but for free data.
+pub fn every_replay<T, D, K, V, E>()
+    ensures steps { (S : System T D K V E) (X : Tests D K V) → AreTests S X → Laws S →
+        (events : List Event) (s : State T D K V E) → Run S events s →
+        (e : Event) (t : State T D K V E) → next_state S X s e ≡ Some t → Step S s e t × IsTidy S t }
+    ensures no_other { (S : System T D K V E) (X : Tests D K V) → AreTests S X → Laws S →
+        (events : List Event) (s : State T D K V E) → Run S events s →
+        (e : Event) → next_state S X s e ≡ None → (t : State T D K V E) → Step S s e t → ⊥ }
+    ensures has_next { (S : System T D K V E) (X : Tests D K V) → AreTests S X → Laws S →
+        (events : List Event) (s : State T D K V E) → Run S events s →
+        (e : Event) (new : State T D K V E) → Step S s e new → (t : State T D K V E) × (next_state S X s e ≡ Some t) }
+    ensures is_run { (S : System T D K V E) (X : Tests D K V) → AreTests S X → Laws S →
+        (events : List Event) (s : State T D K V E) → replayed S X events ≡ Some s → Run S events s × IsTidy S s }
+    ensures found { (S : System T D K V E) (X : Tests D K V) → AreTests S X → Laws S →
+        (events : List Event) (t : State T D K V E) → Run S events t →
+        (s : State T D K V E) × (replayed S X events ≡ Some s) × SameButFree S s t × SameButFree S t s }
+    ensures exact { (S : System T D K V E) (X : Tests D K V) → AreTests S X → Laws S →
+        (events : List Event) (s : State T D K V E) → replayed S X events ≡ Some s →
+        (run : Run S events s) → DataAreExact S s (log_of S events s run) }
+    ensures grows { (S : System T D K V E) (X : Tests D K V) → (events : List Event) (e : Event) →
+        replayed S X (events ++ e ∷ []) ≡ and_then S X (replayed S X events) e }
+{}
+
+/// The same of whole code.
+pub fn every_replay_of_code()
+    ensures steps { (C : Code) → IsCode C →
+        (events : List Event) (s : CodeState) → RunOfCode C events s →
+        (e : Event) (t : CodeState) → next_of_code C s e ≡ Some t → CodeStep C s e t × IsTidyCode C t }
+    ensures no_other { (C : Code) → IsCode C →
+        (events : List Event) (s : CodeState) → RunOfCode C events s →
+        (e : Event) → next_of_code C s e ≡ None → (t : CodeState) → CodeStep C s e t → ⊥ }
+    ensures has_next { (C : Code) → IsCode C →
+        (events : List Event) (s : CodeState) → RunOfCode C events s →
+        (e : Event) (new : CodeState) → CodeStep C s e new → (t : CodeState) × (next_of_code C s e ≡ Some t) }
+    ensures is_run { (C : Code) → IsCode C →
+        (events : List Event) (s : CodeState) → replayed_code C events ≡ Some s → RunOfCode C events s × IsTidyCode C s }
+    ensures found { (C : Code) → IsCode C →
+        (events : List Event) (t : CodeState) → RunOfCode C events t →
+        (s : CodeState) × (replayed_code C events ≡ Some s) × SameButFreeCode C s t × SameButFreeCode C t s }
+    ensures exact { (C : Code) → IsCode C →
+        (events : List Event) (s : CodeState) → replayed_code C events ≡ Some s →
+        (run : RunOfCode C events s) → DataAreExactCode C s (run_log C events s run) }
+    ensures grows { (C : Code) → (events : List Event) (e : Event) →
+        replayed_code C (events ++ e ∷ []) ≡ then_of_code C (replayed_code C events) e }
+{}
+
+/// Counts of rights: a datum is free exactly where no right to it is held, an array that is there is closed exactly where
+/// none to write it is. Beginning, giving back and a fault change no count; an End without fault takes its own rights off
+/// and adds those of the tasks that it opens. A datum that it makes starts with the rights of its own block.
+pub fn counted_rights<T, D, K, V, E>()
+    ensures free { (S : System T D K V E) (X : Tests D K V) → AreTests S X → (s : State T D K V E) (a : D) →
+        (Free S s a → (readers S X s a ≡ 0) × (writers S X s a ≡ 0)) × (readers S X s a ≡ 0 → writers S X s a ≡ 0 → Free S s a) }
+    ensures closed { (S : System T D K V E) (X : Tests D K V) → AreTests S X → (s : State T D K V E) (a : D) → In a s.places →
+        (ClosedByRights S s a → writers S X s a ≡ 0) × (writers S X s a ≡ 0 → ClosedByRights S s a) }
+    ensures begin { (S : System T D K V E) (X : Tests D K V) (s t : State T D K V E) (w n : ℕ) → Step S s (Begin w n) t → SameCounts S X s t }
+    ensures back { (S : System T D K V E) (X : Tests D K V) (s t : State T D K V E) (w n : ℕ) → Step S s (Back w n) t → SameCounts S X s t }
+    ensures fault { (S : System T D K V E) (X : Tests D K V) (s t : State T D K V E) (w n : ℕ) → Step S s (End w n) t →
+        (t.fault ≡ None → ⊥) → SameCounts S X s t }
+    ensures end { (S : System T D K V E) (X : Tests D K V) (s t : State T D K V E) (w n : ℕ) → Step S s (End w n) t →
+        t.fault ≡ None → Exchanges S X s n t }
+    ensures starts { (S : System T D K V E) (X : Tests D K V) → AreTests S X → Laws S → ((a : D) → In a (S.may_read S.main) → ⊥) →
+        (events : List Event) (s : State T D K V E) → Run S events s →
+        (t : State T D K V E) (w n : ℕ) → Step S s (End w n) t → t.fault ≡ None →
+        (x : Exchanges S X s n t) × StartsWith S X t x.effect }
+{}
+
+/// The same of code: what one instance of a body adds is worked out once from the code, for its own data and for others.
+pub fn counted_rights_of_code()
+    ensures adds { (C : Code) (b : ℕ) (p : List PathStep) → AddsHolds C b p }
+    ensures opens { (C : Code) (i c : ℕ) (p : List PathStep) (x : Computed) → OpensHolds C i c p x }
+    ensures turns { (C : Code) (w : Loop) (mark : ℕ) (p q : List PathStep) (v : Variable) (k : Key) → (q ≡ step_at mark k p → ⊥) →
+        (ts : Elements) → ((t : Key × Scalar) → In t ts → q ≡ step_at mark t.0 p → ⊥) → TurnsHold C w mark p ts q v k }
+    ensures starts { (C : Code) → IsCode C →
+        (events : List Event) (s : CodeState) → RunOfCode C events s →
+        (t : CodeState) (w n : ℕ) → CodeStep C s (End w n) t → t.fault ≡ None →
+        (x : Exchanges (code_system C) code_tests s n t) × StartsWith (code_system C) code_tests t x.effect }
+    ensures end { (C : Code) → IsCode C →
+        (events : List Event) (s : CodeState) → RunOfCode C events s →
+        (t : CodeState) (w n : ℕ) → CodeStep C s (End w n) t → t.fault ≡ None → EndCounts C s n t }
+{}
+
+/// A state without free data keeps so, and then a step changes little: beginning and giving back change one mark, an End with
+/// a fault records it and changes nothing else, and at one without only data leave that the item has a right to, and only
+/// arrays close that it may write.
+pub fn small_steps<T, D, K, V, E>()
+    ensures replayed_bare { (S : System T D K V E) (X : Tests D K V) → AreTests S X →
+        (events : List Event) (s : State T D K V E) → replayed S X events ≡ Some s → IsBare S s }
+    ensures begin { (S : System T D K V E) (X : Tests D K V) → AreTests S X → (s t : State T D K V E) (w n : ℕ) → IsBare S s →
+        next_state S X s (Begin w n) ≡ Some t → MarksOnly S s n (Some w) t }
+    ensures back { (S : System T D K V E) (X : Tests D K V) → AreTests S X → (s t : State T D K V E) (w n : ℕ) → IsBare S s →
+        next_state S X s (Back w n) ≡ Some t → MarksOnly S s n None t }
+    ensures fault { (S : System T D K V E) (X : Tests D K V) → AreTests S X → (s t : State T D K V E) (w n : ℕ) → IsBare S s →
+        next_state S X s (End w n) ≡ Some t → (t.fault ≡ None → ⊥) → FaultOnly S s w n t }
+    ensures end { (S : System T D K V E) (X : Tests D K V) → AreTests S X → (s t : State T D K V E) (w n : ℕ) → IsBare S s →
+        Step S s (End w n) t → t.fault ≡ None →
+        (item : Item T) × In item s.items × (item.number ≡ n) × OnlyItsOwn S s item.task t }
+{}
+
+/// The function computes: replays of worked scripts. Fields with an instance, data, waiters and a queue stand for two of their
+/// states.
+pub fn worked_replays()
+    ensures hello { HelloReplayed }
+    ensures waits { WaitsReplayed }
+    ensures leaves { LeavesReplayed }
+    ensures opened { OpenedStands }
+    ensures assigned { AssignedStands }
+{}
+
+/// What the fields of a fast board tell of the state that its history leads to. A new board's fields stand for the empty
+/// history. Where an item has begun, its row runs and its number has left the queue; where it was given back, its row is
+/// ready and its number is in the queue again; where it ended with a fault, that is recorded. Nothing else has changed.
+///
+/// Where it ended without fault and the fields have become what `EndsTo` says, they stand for the new state: the instances of
+/// the opened blocks are there, new data have their first counts and older ones have gained and lost what they should, data
+/// and instances that nothing uses are gone, each item that misses something waits for just that, and those newly enabled are
+/// ready and in the queue. Two parts of it by themselves: the rows, if the instances keep the tasks, and the queue. An item
+/// that goes on with a loop keeps what is left of the turns that its answers tell. The names of a new instance lead where they
+/// should, where its compiler has laid them so and a call has filled the slots of its parameters. What several instances of
+/// one body add to the counts is what one adds, times their number.
+pub fn standing_fields()
+    ensures first { (C : Code) (L : Layout) → Stands C L [] first_fields }
+    ensures missing { (C : Code) → IsCode C → (L : Layout) (events : List Event) (F : Fields) (x : Stands C L events F) →
+        (i : CodeItem) → In i x.state.items → (((w : Waiter) → In w F.waiting → w.item ≡ i.number → ⊥) → Enabled C x.state i.task) × (Enabled C x.state i.task → (w : Waiter) → In w F.waiting → w.item ≡ i.number → ⊥) }
+    ensures writes { (C : Code) → IsCode C → (L : Layout) (events : List Event) (F : Fields) (x : Stands C L events F) →
+        (d : ℕ) (a : Place) (c : Counted) → In (d, a) x.names → slot_at F.cells d ≡ Some c →
+        (c.writes ≡ 0 → ClosedInCode C x.state a) × (ClosedInCode C x.state a → c.writes ≡ 0) }
+    ensures begin { (C : Code) → IsCode C → (L : Layout) (events : List Event) (F : Fields) → Stands C L events F →
+        (w n : ℕ) (t : CodeState) → replayed_code C (events ++ Begin w n ∷ []) ≡ Some t →
+        Stands C L (events ++ Begin w n ∷ []) (begun_fields F w n) }
+    ensures back { (C : Code) → IsCode C → (L : Layout) (events : List Event) (F : Fields) (x : Stands C L events F) →
+        (w n : ℕ) (t : CodeState) → replayed_code C (events ++ Back w n ∷ []) ≡ Some t →
+        (item : CodeItem) × In item x.state.items × (item.number ≡ n) ×
+        Stands C L (events ++ Back w n ∷ []) (returned_fields F n (task_kind C item.task) (task_priority C item.task)) }
+    ensures fault { (C : Code) → IsCode C → (L : Layout) (events : List Event) (F : Fields) (x : Stands C L events F) →
+        (w n : ℕ) (t : CodeState) → replayed_code C (events ++ End w n ∷ []) ≡ Some t → (t.fault ≡ None → ⊥) →
+        (item : CodeItem) × (f : Fault EntryFault) × In item x.state.items × (item.number ≡ n) × (t.fault ≡ Some (item.task, f)) ×
+        Stands C L (events ++ End w n ∷ []) (faulted_fields F item.task f) }
+    ensures end_items { (C : Code) → IsCode C → (L : Layout) (events : List Event) (F : Fields) (x : Stands C L events F) →
+        (w n : ℕ) (t : CodeState) → replayed_code C (events ++ End w n ∷ []) ≡ Some t → t.fault ≡ None →
+        (o : OpensItems (code_system C) x.state w n t) ×
+        ((gs : List (Option Frame)) (jobs : List Job) (newly : List ℕ) → NewlyAt (code_system C) x.state t newly →
+        TasksStay F.frames gs F.rows n jobs (tasks_of o.effect.opens) →
+        ItemsStand C (record F { frames = gs; rows = ended_rows F.rows n newly jobs; running = F.running - 1 }) t) }
+    ensures end_queue { (C : Code) → IsCode C → (L : Layout) (events : List Event) (F : Fields) (x : Stands C L events F) →
+        (w n : ℕ) (t : CodeState) → replayed_code C (events ++ End w n ∷ []) ≡ Some t → t.fault ≡ None →
+        (G : Fields) → ItemsStand C G t → NewlyAt (code_system C) x.state t G.newly → QueueAfter C F G → QueueStands C G t }
+    ensures end { (C : Code) → IsCode C → (L : Layout) (events : List Event) (F : Fields) (x : Stands C L events F) →
+        (w n : ℕ) (t : CodeState) → replayed_code C (events ++ End w n ∷ []) ≡ Some t → t.fault ≡ None →
+        (row : Row) → row_of F.rows n ≡ Some row →
+        (answers : List (Answer Key Scalar)) → SeesAll (code_system C) x.state (task_inputs C (task_of F.frames row.job)) answers →
+        (G : Fields) → EndsTo C L F n row.job (computed_by C (task_of F.frames row.job) answers) G →
+        Stands C L (events ++ End w n ∷ []) G }
+    ensures turns { (C : Code) → IsCode C → (L : Layout) (events : List Event) (F : Fields) (x : Stands C L events F) →
+        (i : CodeItem) → In i x.state.items → (e c : ℕ) (p : List PathStep) → i.task ≡ ItemOf e p (suc c) →
+        (answers : List (Answer Key Scalar)) → SeesAll (code_system C) x.state (task_inputs C i.task) answers →
+        F.turns i.number ≡ Some (left_at (suc c) (turns_of (computed_by C i.task answers))) }
+    ensures leads { (C : Code) → IsCode C → (L : Layout) → IsLayout C L → (events : List Event) (F : Fields) → Stands C L events F →
+        (n k e c : ℕ) (row : Row) → row_of F.rows n ≡ Some row → row.job ≡ Does k e c → (row.mark ≡ Over → ⊥) →
+        (made : List Instance) (middle : List (Option Frame)) → FramesOpen C F.frames (Some k) made middle → (m : Instance) → In m made →
+        ((f : Frame) → slot_at middle m.key ≡ Some f → In (Calling, m.body) (ways (entry C e).act) → Passes C L F.frames k e c m f) →
+        NamesLead C L F.frames middle k e c m }
+    ensures once { (C : Code) (L : Layout) (rights : Entry → List Name) (middle : List (Option Frame)) (d body : ℕ) (leads : Name → Slot) (made : List Instance) →
+        ((m : Instance) → In m made → m.body ≡ body) →
+        ((m : Instance) (r : Name) → In m made → In r (names_in C rights body) → (Declared C body r → ⊥) → slot_for L middle m.key body r ≡ leads r) →
+        added_times C L rights middle d made ≡ length made * held_times leads d (outer_holds C rights body) }
+    ensures never_free { (C : Code) → IsCode C → (L : Layout) (events : List Event) (F : Fields) → Stands C L events F →
+        (d : ℕ) (c : Counted) → slot_at F.cells d ≡ Some c → c.reads ≡ 0 → c.writes ≡ 0 → ⊥ }
+{}

@@ -1,0 +1,64 @@
+-- What items and instances stand for.
+use Rattle.std.specs.Prelude.{ℕ, List, Option, map, option_map}
+use Rattle.board_history.specs.Fields as Pure
+use Rattle.task_code.specs.Places as Places
+use Rattle.board_instances.specs.declared.item.Mark.{Mark}
+use Rattle.board_instances.specs.declared.item.Mark.TheVariants as Marks
+use Rattle.board_instances.specs.declared.item.Job.{Job}
+use Rattle.board_instances.specs.declared.item.Job.TheVariants as Jobs
+use Rattle.board_instances.specs.declared.item.Item.{Item}
+use Rattle.board_instances.specs.declared.item.Item.TheVariants as Items
+use Rattle.board_instances.specs.declared.instance.Slot.{Slot}
+use Rattle.board_instances.specs.declared.instance.Slot.TheVariants as Slots
+use Rattle.board_instances.specs.declared.instance.Instance.{Instance}
+use Rattle.board_instances.specs.declared.opening.Opening.{Opening}
+use Rattle.board_instances.specs.declared.place.Step.{Step}
+
+-- items
+abbrev pub mark_view : Mark → Pure.Mark
+mark_view Marks.Waiting = Pure.Waiting
+mark_view Marks.Ready = Pure.Ready
+mark_view (Marks.Running w) = Pure.Running w
+mark_view Marks.Over = Pure.Over
+
+abbrev pub job_view : Job → Pure.Job
+job_view Jobs.Script = Pure.Script
+job_view (Jobs.Does e k c) = Pure.Does k e c
+
+abbrev pub row_view : Item → Pure.Row
+row_view (Items.Script m) = record { job = Pure.Script; mark = mark_view m }
+row_view (Items.Does m e k c) = record { job = Pure.Does k e c; mark = mark_view m }
+
+abbrev pub rows_view : List Item → List Pure.Row
+rows_view items = map row_view items
+
+-- the new item of an entry in an instance
+abbrev pub new_item : (instance entry : ℕ) → Item
+new_item k e = Items.Does Marks.Waiting e k 0
+
+-- instances
+abbrev pub step_view : Step → Places.Step
+step_view s = record { offset = s.offset; key = s.key }
+
+abbrev pub slot_view : Slot → Pure.Slot
+slot_view Slots.Absent = Pure.Absent
+slot_view (Slots.Datum d) = Pure.DatumOf d
+slot_view (Slots.Literal e k) = Pure.LiteralOf e k
+
+abbrev pub frame_view : Instance → Pure.Frame
+frame_view f =
+    record {
+      parent = f.parent;
+      level = f.level;
+      depth = f.depth;
+      way = option_map step_view f.way;
+      body = f.body;
+      live = f.live;
+      slots = map slot_view f.slots.items;
+    }
+
+abbrev pub frames_view : List (Option Instance) → List (Option Pure.Frame)
+frames_view fs = map (λ f. option_map frame_view f) fs
+
+abbrev pub opening_frame : Opening → Pure.Frame
+opening_frame o = frame_view o.instance

@@ -1,0 +1,329 @@
+//! What an instance of a body begins with: the counts of its own data, and what it adds to those outside.
+ghost use Rattle.std.specs.Prelude.{◌≡◌, ◌+◌, ◌<◌, ◌≤◌, ◌∷◌, [], map, replicate, slice_index_or, if◌then◌else◌, IfOk, OnOk};
+ghost use Rattle.std.specs.Bool.{OnTrue};
+ghost use Rattle.std.specs.List.{list_any};
+ghost use Rattle.task_code.specs.Code.{Control, body as body_at, kind_of};
+ghost use Rattle.task_code.specs.View.{body_view, entry_view, name_view, variable_view};
+ghost use Rattle.board_program.specs.Places.{CountsMore, CountsOf, FindsPlaces, with_counts};
+ghost use Rattle.board_program.specs.Program.{IsLeads};
+ghost use Rattle.board_program.specs.Tables.{GainsHold, GainsNames, GainsRights, HoldsOf, IsBodyTable, is_kind, names_of, run_as, shape_of, waits_long};
+
+use crate::places::Places;
+use crate::program::{BodyTable, Hold, Own};
+use crate::spot::{Leads, Spot};
+use data_store::store::Shape;
+use std::alloc::{AllocError, Global};
+use task_code::code::{Body, Code};
+use task_code::entry::{Entry, Kind, Name, Variable};
+
+/// One more, or want of memory where 64 bits do not tell it.
+fn one_more(count: u64) -> Result<u64, AllocError>
+    ensures { IfOk result (λ more. more ≡ count + 1) }
+{
+    match count.checked_add(1) {
+        Some(more) => Ok(more),
+        None => Err(AllocError),
+    }
+}
+
+/// Counts a name at the place of its variable, if it is one of the block's own.
+#[tactic(auto, using(crate::proofs::Counted::one_counted, crate::proofs::Counted::past_counted, crate::proofs::Counted::none_counted))]
+fn count_name(counts: &mut Vec<u64>, places: &Places, name: Name) -> Result<(), AllocError>
+    ensures { OnOk result (CountsMore places.now (name_view name ∷ []) counts.old.items counts.new.items) }
+{
+    let Some(place) = places.of_name(name) else {
+        return Ok(());
+    };
+    if place < counts.len() {
+        counts[place] = one_more(counts[place])?;
+    }
+    Ok(())
+}
+
+/// The same for each of the names.
+#[tactic(auto, using(crate::proofs::Counted::counted_none, crate::proofs::Counted::counted_next, crate::proofs::Counted::counted_all))]
+fn count_names(counts: &mut Vec<u64>, places: &Places, names: &[Name]) -> Result<(), AllocError>
+    ensures { OnOk result (CountsMore places.now (map name_view names.now) counts.old.items counts.new.items) }
+{
+    for at in 0..names.len() {
+        count_name(counts, places, names[at])?;
+    }
+    Ok(())
+}
+
+/// As many counts of nothing.
+#[tactic(auto, using(crate::proofs::Counted::one_more_none))]
+fn no_counts(alloc: Global, many: usize) -> Result<Vec<u64>, AllocError>
+    ensures { IfOk result (λ counts. counts.items ≡ replicate many 0) }
+{
+    let mut counts = Vec::with_capacity(alloc, many)?;
+    for _ in 0..many {
+        counts.push(0)?;
+    }
+    Ok(counts)
+}
+
+/// What a datum is.
+fn shape_of(array: bool) -> Shape
+    ensures { result ≡ shape_of array }
+{
+    if array { Shape::Keyed } else { Shape::Single }
+}
+
+/// The count at a place.
+fn count_at(counts: &[u64], place: usize) -> u64
+    ensures { result ≡ slice_index_or counts.now place 0 }
+{
+    if place < counts.len() {
+        counts[place]
+    } else {
+        0
+    }
+}
+
+/// Variables with their counts.
+#[tactic(auto, using(crate::proofs::Counted::owns_next, crate::proofs::Counted::owns_all))]
+fn with_counts(
+    alloc: Global,
+    makes: &[Variable],
+    reads: &[u64],
+    writes: &[u64],
+) -> Result<Vec<Own>, AllocError>
+    ensures { IfOk result (λ own. own.items ≡ with_counts 0 reads.now writes.now (map variable_view makes.now)) }
+{
+    let mut own = Vec::with_capacity(alloc, makes.len())?;
+    for at in 0..makes.len() {
+        own.push(Own {
+            shape: shape_of(makes[at].array),
+            reads: count_at(reads, at),
+            writes: count_at(writes, at),
+        })?;
+    }
+    Ok(own)
+}
+
+/// Whether both lead to the same slot.
+fn is_same(one: Spot, other: Spot) -> bool
+    ensures { OnTrue result (one ≡ other) }
+{
+    one.levels == other.levels && one.slot == other.slot
+}
+
+/// Both holds, which are of one spot.
+fn joined(one: Hold, other: Hold) -> Result<Hold, AllocError>
+    ensures { IfOk result (λ both. both ≡ record { spot = one.spot; reads = one.reads + other.reads; writes = one.writes + other.writes }) }
+{
+    match (
+        one.reads.checked_add(other.reads),
+        one.writes.checked_add(other.writes),
+    ) {
+        (Some(reads), Some(writes)) => Ok(Hold {
+            spot: one.spot,
+            reads,
+            writes,
+        }),
+        _ => Err(AllocError),
+    }
+}
+
+/// Adds a hold to those of the same spot.
+#[tactic(auto, using(crate::proofs::Holds::set_gains, crate::proofs::Holds::push_gains))]
+fn add_hold(outer: &mut Vec<Hold>, added: Hold) -> Result<(), AllocError>
+    ensures { OnOk result (GainsHold outer.old.items outer.new.items added) }
+{
+    for at in 0..outer.len() {
+        if is_same(outer[at].spot, added.spot) {
+            outer[at] = joined(outer[at], added)?;
+            return Ok(());
+        }
+    }
+    outer.push(added)?;
+    Ok(())
+}
+
+/// Holds what a name stands for, so many times of each kind, unless the body declares it.
+#[tactic(auto, using(crate::proofs::Counted::declared_if, crate::proofs::Holds::gains_own, crate::proofs::Holds::gains_nowhere, crate::proofs::Holds::gains_one))]
+fn hold_name(
+    code: &Code,
+    leads: &Leads,
+    places: &Places,
+    body: u32,
+    name: Name,
+    reads: u64,
+    writes: u64,
+    outer: &mut Vec<Hold>,
+) -> Result<(), AllocError>
+    requires leads { IsLeads code.now leads.now }
+    requires places { FindsPlaces (body_at code.now body).makes places.now }
+    ensures { OnOk result (GainsNames code.now body reads writes (name_view name ∷ []) outer.old.items outer.new.items) }
+{
+    if places.of_name(name).is_some() {
+        return Ok(());
+    }
+    if let Some(spot) = leads.spot_in(code, body, name) {
+        let hold = Hold {
+            spot,
+            reads,
+            writes,
+        };
+        add_hold(outer, hold)?;
+    }
+    Ok(())
+}
+
+/// The same for each of the names.
+#[tactic(auto, using(crate::proofs::Holds::gains_none, crate::proofs::Holds::gains_next, crate::proofs::Holds::gains_all))]
+fn hold_names(
+    code: &Code,
+    leads: &Leads,
+    places: &Places,
+    body: u32,
+    names: &[Name],
+    reads: u64,
+    writes: u64,
+    outer: &mut Vec<Hold>,
+) -> Result<(), AllocError>
+    requires leads { IsLeads code.now leads.now }
+    requires places { FindsPlaces (body_at code.now body).makes places.now }
+    ensures { OnOk result (GainsNames code.now body reads writes (map name_view names.now) outer.old.items outer.new.items) }
+{
+    for at in 0..names.len() {
+        hold_name(code, leads, places, body, names[at], reads, writes, outer)?;
+    }
+    Ok(())
+}
+
+/// Holds what an entry may read once for reads, and what it may write once for writes, unless the body declares it.
+#[tactic(auto, using(crate::proofs::Holds::gains_rights))]
+fn hold_rights(
+    code: &Code,
+    leads: &Leads,
+    places: &Places,
+    body: u32,
+    entry: &Entry,
+    outer: &mut Vec<Hold>,
+) -> Result<(), AllocError>
+    requires leads { IsLeads code.now leads.now }
+    requires places { FindsPlaces (body_at code.now body).makes places.now }
+    ensures { OnOk result (GainsRights code.now body (entry_view entry.now) outer.old.items outer.new.items) }
+{
+    let reads = entry.reads.as_slice();
+    hold_names(code, leads, places, body, reads, 1, 0, outer)?;
+    let writes = entry.writes.as_slice();
+    hold_names(code, leads, places, body, writes, 0, 1, outer)?;
+    Ok(())
+}
+
+/// 1 for a control entry, and 0 for any other.
+fn control_count(entry: &Entry) -> usize
+    ensures count { result ≡ (if is_kind Control (kind_of (entry_view entry.now).act) then 1 else 0) }
+    ensures most { result ≤ 1 }
+{
+    match entry.act.kind() {
+        Kind::Control => 1,
+        Kind::Leaf => 0,
+    }
+}
+
+/// What the rights of a body's entries come to: how many of the names are each of its own variables, the holds on data that it does
+/// not declare, and how many of the entries are control entries.
+#[derive(Drop)]
+struct Rights {
+    reads: Vec<u64>,
+    writes: Vec<u64>,
+    outer: Vec<Hold>,
+    controls: usize,
+}
+
+/// What the rights of these entries come to, in one pass over them.
+#[tactic(auto, using(crate::proofs::Counted::all_none, crate::proofs::Holds::holds_none, crate::proofs::Counted::reads_next, crate::proofs::Counted::writes_next, crate::proofs::Holds::holds_next, crate::proofs::Counts::control_next, crate::proofs::Counted::reads_past, crate::proofs::Counted::writes_past, crate::proofs::Holds::holds_past, crate::proofs::Counts::control_past, crate::proofs::Counted::all_entries, crate::proofs::Holds::holds_all, crate::proofs::Counts::control_all))]
+fn rights_of(
+    alloc: Global,
+    code: &Code,
+    leads: &Leads,
+    places: &Places,
+    body: u32,
+    entries: &[u32],
+    many: usize,
+) -> Result<Rights, AllocError>
+    requires leads { IsLeads code.now leads.now }
+    requires places { FindsPlaces (body_at code.now body).makes places.now }
+    ensures reads { IfOk result (λ rights. CountsOf places.now many (names_of code.now (λ e. e.reads) entries.now) rights.reads.items) }
+    ensures writes { IfOk result (λ rights. CountsOf places.now many (names_of code.now (λ e. e.writes) entries.now) rights.writes.items) }
+    ensures outer { IfOk result (λ rights. HoldsOf code.now body entries.now rights.outer.items) }
+    ensures controls { IfOk result (λ rights. rights.controls ≡ run_as code.now Control entries.now) }
+{
+    let mut reads = no_counts(alloc, many)?;
+    let mut writes = no_counts(alloc, many)?;
+    let mut outer = Vec::new(alloc);
+    let mut controls = 0;
+    for at in 0..entries.len() {
+        if let Some(entry) = code.entry(entries[at]) {
+            count_names(&mut reads, places, entry.reads.as_slice())?;
+            count_names(&mut writes, places, entry.writes.as_slice())?;
+            hold_rights(code, leads, places, body, entry, &mut outer)?;
+            controls += control_count(entry);
+        }
+    }
+    Ok(Rights {
+        reads,
+        writes,
+        outer,
+        controls,
+    })
+}
+
+/// Whether the entry of this number waits for more than two inputs. One that is not there waits for none.
+#[tactic(auto, using(crate::proofs::Counts::blank_there))]
+fn is_long(code: &Code, number: u32) -> bool
+    ensures { result ≡ waits_long code.now number }
+{
+    match code.entry(number) {
+        Some(entry) => entry.needs.len() > 2,
+        None => false,
+    }
+}
+
+/// Whether one of these entries does.
+fn has_long(code: &Code, entries: &[u32]) -> bool
+    ensures { result ≡ list_any (waits_long code.now) entries.now }
+{
+    for number in entries {
+        if is_long(code, *number) {
+            return true;
+        }
+    }
+    false
+}
+
+/// What is worked out of a body.
+#[tactic(auto, using(crate::proofs::Counted::own_told, crate::proofs::Holds::body_reads, crate::proofs::Holds::body_writes, crate::proofs::Counts::leaves_left))]
+pub fn body_table(
+    alloc: Global,
+    code: &Code,
+    leads: &Leads,
+    places: &Places,
+    number: u32,
+    body: &Body,
+) -> Result<BodyTable, AllocError>
+    requires leads { IsLeads code.now leads.now }
+    requires places { FindsPlaces (body_view body.now).makes places.now }
+    requires there { body_view body.now ≡ body_at code.now number }
+    ensures { IfOk result (λ table. IsBodyTable code.now number table) }
+{
+    let entries = body.entries.as_slice();
+    let makes = body.makes.as_slice();
+    let Rights {
+        reads,
+        writes,
+        outer,
+        controls,
+    } = rights_of(alloc, code, leads, places, number, entries, makes.len())?;
+    Ok(BodyTable {
+        own: with_counts(alloc, makes, reads.as_slice(), writes.as_slice())?,
+        outer,
+        controls,
+        leaves: entries.len().saturating_sub(controls),
+        long: has_long(code, entries),
+    })
+}

@@ -1,0 +1,65 @@
+-- What a report tells.
+use Rattle.std.specs.Prelude.{◌≡◌, ◌⊎◌, ℕ, true, false, ◌<◌, ◌≤◌, List, [], map, length, slice_index, None, codes}
+use Rattle.std.specs.Fmt.{signed_decimal}
+use Rattle.dataflow.specs.Events.{tally}
+use Rattle.dataflow.specs.Machine.{Event}
+use Rattle.values.specs.declared.value.Scalar.{Scalar}
+use Rattle.values.specs.declared.value.Scalar.TheVariants.{Number, Truth, Text}
+use Rattle.task_code.specs.Code.{Code}
+use Rattle.task_code.specs.Machine.{Quiet, Run}
+use Rattle.task_code.specs.View.{event_view}
+use Rattle.board_instances.specs.declared.place.Statement.{Statement}
+use Rattle.board.specs.Blocked.{AreBlocked, IsFaultOf}
+use Rattle.board.specs.Board.{AreByWorkers, IsGoing, Seen}
+use Rattle.board.specs.Numbers.{AreNumbered}
+use Rattle.board_runs.specs.declared.report.End.{End}
+use Rattle.board_runs.specs.declared.report.End.TheVariants as Ends
+use Rattle.board_runs.specs.declared.report.Report.{Report}
+
+-- nothing is left to be done: the state is quiet, a fault was met, or the limit is reached
+abbrev pub IsOver : Seen → Type 0
+IsOver b = Quiet b.code b.state ⊎ ¬ IsGoing b
+
+-- a fault was met, the state is quiet, or there are as many events as the limit allows
+abbrev pub EndsAs : Seen → End → Type 0
+EndsAs b (Ends.Fault f) = IsFaultOf b.code b.state f
+EndsAs b Ends.Quiet = Quiet b.code b.state
+EndsAs b Ends.Limit = (b.state.fault ≡ None) × ¬ Quiet b.code b.state × (length b.history ≡ b.limit)
+
+-- where the end is quiet, these are the blocked statements; else there are none in the report
+abbrev pub AreBlockedAt : Seen → End → List Statement → Type 0
+AreBlockedAt b Ends.Quiet statements = AreBlocked b.code b.state statements
+AreBlockedAt b (Ends.Fault f) statements = statements ≡ []
+AreBlockedAt b Ends.Limit statements = statements ≡ []
+
+-- how many events each of the 64 workers has
+pub record AreTallies (events : List Event) (tallies : List ℕ) : Type 0 where
+  pub workers : length tallies ≡ 64
+  pub each : (w : ℕ) → w < 64 → slice_index tallies w ≡ tally events w
+
+-- the bytes of a line: of a text its own, of a number its decimal digits, of a truth value its name. Code of a script prints texts alone
+abbrev pub line_bytes : Scalar → List ℕ
+line_bytes (Text bytes) = bytes
+line_bytes (Number n) = signed_decimal n
+line_bytes (Truth true) = codes "true"
+line_bytes (Truth false) = codes "false"
+
+-- the report tells what a board shows
+pub record Tells (b : Seen) (r : Report) : Type 0 where
+  pub code : r.program ≡ b.code
+  pub history : map event_view r.history.items ≡ b.history
+  pub workers : AreByWorkers b.history
+  pub numbers : AreNumbered b.history
+  pub lines : r.lines.items ≡ map line_bytes b.state.lines
+  pub end : EndsAs b r.end
+  pub blocked : AreBlockedAt b r.end r.blocked.items
+  pub tallies : AreTallies b.history r.tallies
+
+-- the report is one of a run of the code, of at most so many events
+pub record Reports (C : Code) (limit : ℕ) (r : Report) : Type 0 where
+  pub board : Seen
+  pub code : board.code ≡ C
+  pub limit_is : board.limit ≡ limit
+  pub run : Run C board.history board.state
+  pub within : length board.history ≤ limit
+  pub tells : Tells board r

@@ -1,0 +1,62 @@
+//! Code that is laid for a script's core is the core's code. Nothing here runs: each function has an empty body, and its contract is a law.
+#![tactic(auto)]
+
+ghost use Rattle.std.specs.Prelude.{◌≡◌, ◌≤◌, ◌+◌, ◌*◌, ℕ, Bool, List, [], length};
+ghost use Rattle.dataflow.specs.System.{In};
+ghost use Rattle.language.specs.Core.{Core};
+ghost use Rattle.task_code.specs.Code.{Calling, Code, call_at, entry, ways};
+ghost use Rattle.code_rules.specs.Emitted.{CallsOnce, CellsOnce, ReadsStand, size_of};
+ghost use Rattle.code_rules.specs.IsCodeOf.{IsCodeOf, Layout};
+ghost use Rattle.code_rules.specs.Laid.{IsLaid};
+ghost use Rattle.code_rules.specs.Laying.{Kinds, LaysScript};
+ghost use Rattle.code_rules.specs.NodesOnce.{NodesOnce};
+ghost use Rattle.code_layout.specs.Worked.{fibonacci, fibonacci_kinds, fibonacci_code, misplaced_code, filled, filled_kinds, filled_declared, filled_code};
+ghost use Rattle.language.specs.Typing.{WellTyped};
+ghost use Rattle.language_accepted.specs.Placed.{IsPlaced};
+ghost use Rattle.language.specs.Resolved.{core};
+ghost use Rattle.language.specs.Table.{Table};
+ghost use Rattle.language.specs.Tree.{Tree};
+
+/// In code that is laid for a core whose calls have offsets of their own and whose cells have nodes of their own, with the index of each read among them, an entry that calls a function is found by its mark.
+pub fn calls_are_found()
+    ensures { (c : Core) (fs : List Kinds) (ds : List (ℕ × Bool)) (C : Code) → LaysScript c fs ds C → CellsOnce c → ReadsStand c → CallsOnce c
+        → (i b : ℕ) → In (Calling, b) (ways (entry C i).act) → call_at C (entry C i).mark ≡ i }
+{}
+
+/// Code that is laid for a core has no more entries than the core has functions, statements, cells and calls, and no more bodies than twice as many and one.
+pub fn laid_code_is_small()
+    ensures bodies { (c : Core) (fs : List Kinds) (ds : List (ℕ × Bool)) (C : Code) → LaysScript c fs ds C → length C.bodies ≤ 2 * size_of c + 1 }
+    ensures entries { (c : Core) (fs : List Kinds) (ds : List (ℕ × Bool)) (C : Code) → LaysScript c fs ds C → CellsOnce c → ReadsStand c → length C.entries ≤ size_of c }
+{}
+
+/// What the emission of code asks of a core the core of each placed tree has: each of its cells has a node of its own, and the index of each read stands before it.
+pub fn accepted_cores_can_be_laid()
+    ensures cells { (t : Table) (tree : Tree) → IsPlaced tree → CellsOnce (core t tree) }
+    ensures reads { (t : Table) (tree : Tree) → ReadsStand (core t tree) }
+{}
+
+/// Code that is laid for the core of a placed tree is a table of it, whatever its functions' kinds and however its variables are declared: each body stands for a block, with the
+/// entries of its statements and their variables, and each entry and each variable stands once.
+pub fn laid_code_is_a_table()
+    ensures { (t : Table) (tree : Tree) (fs : List Kinds) (ds : List (ℕ × Bool)) (C : Code) → IsPlaced tree → LaysScript (core t tree) fs ds C → (l : Layout) × IsLaid (core t tree) fs ds C l }
+{}
+
+/// Code that is a table of a core, by any layout, is the core's code.
+pub fn a_table_is_the_cores_code()
+    ensures { (s : Core) (fs : List Kinds) (ds : List (ℕ × Bool)) (C : Code) (l : Layout) → IsLaid s fs ds C l → IsCodeOf s C }
+{}
+
+/// So code that is laid for the core of a text that reads as a well typed tree is this core's code, and an entry of it that works out, writes or prints something has its node to itself.
+pub fn laid_code_is_the_cores_code()
+    ensures code { (t : Table) (tree : Tree) (fs : List Kinds) (ds : List (ℕ × Bool)) (C : Code) → IsPlaced tree → LaysScript (core t tree) fs ds C → IsCodeOf (core t tree) C }
+    ensures nodes { (t : Table) (tree : Tree) (fs : List Kinds) (ds : List (ℕ × Bool)) (C : Code) → IsPlaced tree → LaysScript (core t tree) fs ds C → NodesOnce C }
+{}
+
+/// The code of `(int r) fib(int n) { if (n < 2) { r = n; } else { r = fib(n-1) + fib(n-2); } } printf("%i", fib(10));` is laid for its core, and so is that of
+/// `(int B[]) g(int m) { foreach i in [0:m-1] { B[i] = i*i; } } int C[]; C = g(4); printf("%i %i", size(C), C[3]);`. In the first, where the entry of the first branch stands in the function's own body in place of the
+/// branch's, the code is not, whatever the kinds of its function and the variables that are declared.
+pub fn worked_code()
+    ensures laid { LaysScript fibonacci fibonacci_kinds [] fibonacci_code }
+    ensures filled { LaysScript filled filled_kinds filled_declared filled_code }
+    ensures misplaced { (fs : List Kinds) (ds : List (ℕ × Bool)) → LaysScript fibonacci fs ds misplaced_code → ⊥ }
+{}

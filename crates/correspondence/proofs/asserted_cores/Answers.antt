@@ -1,5 +1,0 @@
-use Rattle.correspondence.proofs.AssertedCores.{asserted_core}
-use Rattle.correspondence.proofs.asserted_cores.Goals as goal
-
-pub returns : goal.returns
-returns g = λ t tree. asserted_core t tree

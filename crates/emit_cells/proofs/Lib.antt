@@ -1,0 +1,11 @@
+pub mod Once
+pub mod Keys
+pub mod Walks
+pub mod Befores
+pub mod Passing
+pub mod Chunks
+pub mod Ready
+pub mod Calls
+pub mod Placed
+pub mod Lasts
+pub mod Selves

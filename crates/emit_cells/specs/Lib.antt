@@ -1,0 +1,4 @@
+pub mod Before
+pub mod Wanted
+pub mod Chunk
+pub mod Made

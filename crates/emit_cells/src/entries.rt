@@ -1,0 +1,60 @@
+//! Entries of a statement, without rights.
+ghost use Rattle.std.specs.Prelude.{◌≡◌, ◌++◌, ◌∷◌, [], List, map, OnOk};
+ghost use Rattle.task_code.specs.Code.{Need as PureNeed};
+ghost use Rattle.task_code.specs.View as code_view;
+ghost use Rattle.code_rules.specs.CodeNames.{each_once};
+ghost use Rattle.emit_cells.specs.Wanted.{Noted};
+ghost use Rattle.emit_cells.specs.Made.{made};
+
+use crate::needs::{Wanted, listed};
+use indexmap::IndexSet;
+use std::alloc::{AllocError, Global};
+use task_code::entry::{Act, Entry, Need};
+
+/// What is known of the statement whose entries are made: the offset of its first token, its priority, and how many inputs the
+/// function has in whose body it stands.
+#[derive(Clone, Copy)]
+pub struct Standing {
+    pub at: usize,
+    pub priority: i32,
+    pub inputs: usize,
+}
+
+/// The node of an entry, and the offset that a listing shows for it.
+#[derive(Clone, Copy)]
+pub struct Shown {
+    pub node: u32,
+    pub mark: usize,
+}
+
+/// An entry of a statement.
+pub fn entry(alloc: Global, standing: Standing, shown: Shown, needs: Vec<Need>, act: Act) -> Entry
+    ensures { code_view.entry_view result ≡ made standing shown (map code_view.need_view needs.items) (code_view.act_view act) }
+{
+    Entry {
+        node: shown.node,
+        at: standing.at,
+        mark: shown.mark,
+        priority: standing.priority,
+        needs,
+        act,
+        reads: Vec::new(alloc),
+        writes: Vec::new(alloc),
+    }
+}
+
+/// Puts an entry of a statement, which waits for these needs, behind the others.
+pub fn put(
+    alloc: Global,
+    entries: &mut Vec<Entry>,
+    standing: Standing,
+    shown: Shown,
+    needs: &IndexSet<Wanted>,
+    act: Act,
+) -> Result<(), AllocError>
+    ensures { OnOk result ((ns : List PureNeed) → Noted ns needs.now.keys → map code_view.entry_view entries.new.items ≡ map code_view.entry_view entries.old.items ++ made standing shown (each_once ns) (code_view.act_view act) ∷ []) }
+{
+    let needs = listed(alloc, needs)?;
+    entries.push(entry(alloc, standing, shown, needs, act))?;
+    Ok(())
+}

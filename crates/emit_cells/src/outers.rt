@@ -1,0 +1,70 @@
+//! Outermost cells with the parts inside them.
+ghost use Rattle.std.specs.Prelude.{◌∷◌, ◌++◌, [], List, map, OnOk};
+ghost use Rattle.language.specs.Core as core;
+ghost use Rattle.flow.specs.Shapes.{kinds_of_function};
+ghost use Rattle.flow.specs.View.{cell_view, outer_view, parts_view};
+ghost use Rattle.code_rules.specs.Room.{OuterRoom};
+ghost use Rattle.emit_cells.specs.Chunk.{Added, Inside, IsPassed, Passes};
+
+use crate::cells::{pass_cell, pass_parts};
+use crate::entries::Standing;
+use crate::laid::add_parts;
+use crate::parts::add_cell;
+use crate::plain::is_outer_plain;
+use flow::cell::Outer;
+use flow::script::Function;
+use indexmap::IndexMap;
+use std::alloc::{AllocError, Allocator, Global};
+use task_code::entry::{Argument, Entry};
+
+/// Notes what is handed over for the cells inside an outermost cell, and for itself.
+pub fn pass_outer<A: Allocator>(
+    alloc: Global,
+    passed: &mut IndexMap<u32, Argument>,
+    inputs: usize,
+    outer: &Outer<A>,
+) -> Result<(), AllocError>
+    ensures { OnOk result ((all : List core.Part) → OuterRoom inputs (outer_view outer.now) → Inside all (parts_view outer.now.parts.items ++ core.inner (cell_view outer.now.cell) ∷ [])
+        → Passes inputs all (parts_view outer.now.parts.items ++ core.inner (cell_view outer.now.cell) ∷ []) passed.old passed.new) }
+{
+    pass_parts(alloc, passed, inputs, &outer.parts)?;
+    pass_cell(alloc, passed, inputs, &outer.cell, is_outer_plain(outer))?;
+    Ok(())
+}
+
+/// Adds the entry of an outermost cell that is not plain.
+fn add_last<A: Allocator>(
+    alloc: Global,
+    entries: &mut Vec<Entry>,
+    functions: &Vec<Function<A>, A>,
+    standing: Standing,
+    passed: &IndexMap<u32, Argument>,
+    outer: &Outer<A>,
+) -> Result<(), AllocError>
+    ensures { OnOk result ((all : List core.Part) → IsPassed standing.inputs all passed.now → OuterRoom standing.inputs (outer_view outer.now) → Inside all (parts_view outer.now.parts.items ++ core.inner (cell_view outer.now.cell) ∷ [])
+        → Added (map kinds_of_function functions.now.items) standing.inputs all standing.at standing.priority (core.inner (cell_view outer.now.cell) ∷ []) entries.old.items entries.new.items) }
+{
+    let plain = is_outer_plain(outer);
+    if plain {
+        Ok(())
+    } else {
+        add_cell(alloc, entries, standing, passed, &outer.cell)
+    }
+}
+
+/// Adds the entries of an outermost cell: those of the parts inside it, and its own.
+pub fn add_outer<A: Allocator>(
+    alloc: Global,
+    entries: &mut Vec<Entry>,
+    functions: &Vec<Function<A>, A>,
+    standing: Standing,
+    passed: &IndexMap<u32, Argument>,
+    outer: &Outer<A>,
+) -> Result<(), AllocError>
+    ensures { OnOk result ((all : List core.Part) → IsPassed standing.inputs all passed.now → OuterRoom standing.inputs (outer_view outer.now) → Inside all (parts_view outer.now.parts.items ++ core.inner (cell_view outer.now.cell) ∷ [])
+        → Added (map kinds_of_function functions.now.items) standing.inputs all standing.at standing.priority (parts_view outer.now.parts.items ++ core.inner (cell_view outer.now.cell) ∷ []) entries.old.items entries.new.items) }
+{
+    add_parts(alloc, entries, functions, standing, passed, &outer.parts)?;
+    add_last(alloc, entries, functions, standing, passed, outer)?;
+    Ok(())
+}

@@ -1,0 +1,105 @@
+//! Outermost cells that a statement works out itself, and the data of outermost cells.
+ghost use Rattle.std.specs.Prelude.{◌≡◌, ◌∷◌, ◌++◌, [], List, None, map, OnOk};
+ghost use Rattle.language.specs.Core as core;
+ghost use Rattle.flow.specs.Shapes.{kinds_of_function};
+ghost use Rattle.flow.specs.View.{cell_view, form_view, outer_view, parts_view};
+ghost use Rattle.language_laws.specs.TypedValues.{own_cell, own_outer};
+ghost use Rattle.task_code.specs.View.{variable_view};
+ghost use Rattle.code_rules.specs.Laying.{Kinds, data_in};
+ghost use Rattle.code_rules.specs.Room.{OuterRoom};
+ghost use Rattle.emit_cells.specs.Before.{last_of};
+ghost use Rattle.emit_cells.specs.Chunk.{Added, Inside, IsPassed};
+
+use crate::data::{add_data, add_scalar};
+use crate::entries::Standing;
+use crate::laid::add_parts;
+use crate::parts::add_cell;
+use crate::plain::is_outer_plain;
+use flow::cell::{Form, Outer};
+use flow::script::Function;
+use indexmap::IndexMap;
+use std::alloc::{AllocError, Allocator, Global};
+use task_code::entry::{Argument, Entry, Variable};
+
+/// Adds the entry of a cell that its statement works out itself: it has one where it is an element.
+fn add_element<A: Allocator>(
+    alloc: Global,
+    entries: &mut Vec<Entry>,
+    standing: Standing,
+    passed: &IndexMap<u32, Argument>,
+    outer: &Outer<A>,
+) -> Result<(), AllocError>
+    ensures { OnOk result ((fs : List Kinds) (all : List core.Part) → IsPassed standing.inputs all passed.now → OuterRoom standing.inputs (outer_view outer.now) → Inside all (own_outer (outer_view outer.now))
+        → Added fs standing.inputs all standing.at standing.priority (own_cell (cell_view outer.now.cell) (form_view outer.now.cell.form)) entries.old.items entries.new.items) }
+{
+    match &outer.cell.form {
+        Form::Compute(_) => Ok(()),
+        Form::Read { .. } => add_cell(alloc, entries, standing, passed, &outer.cell),
+    }
+}
+
+/// Adds the entries of an outermost cell that its statement works out itself: those of its parts, and its own where it is an
+/// element.
+pub fn add_own_outer<A: Allocator>(
+    alloc: Global,
+    entries: &mut Vec<Entry>,
+    functions: &Vec<Function<A>, A>,
+    standing: Standing,
+    passed: &IndexMap<u32, Argument>,
+    outer: &Outer<A>,
+) -> Result<(), AllocError>
+    ensures { OnOk result ((all : List core.Part) → IsPassed standing.inputs all passed.now → OuterRoom standing.inputs (outer_view outer.now) → Inside all (own_outer (outer_view outer.now))
+        → Added (map kinds_of_function functions.now.items) standing.inputs all standing.at standing.priority (own_outer (outer_view outer.now)) entries.old.items entries.new.items) }
+{
+    add_parts(alloc, entries, functions, standing, passed, &outer.parts)?;
+    add_element(alloc, entries, standing, passed, outer)?;
+    Ok(())
+}
+
+/// Adds the datum of a cell that is not plain.
+fn add_datum<A: Allocator>(makes: &mut Vec<Variable>, outer: &Outer<A>) -> Result<(), AllocError>
+    ensures { OnOk result (map variable_view makes.new.items ≡ map variable_view makes.old.items ++ data_in (last_of None (parts_view outer.now.parts.items)) (core.inner (cell_view outer.now.cell) ∷ [])) }
+{
+    if is_outer_plain(outer) {
+        Ok(())
+    } else {
+        add_scalar(makes, outer.cell.node)
+    }
+}
+
+/// Adds the data of an outermost cell: those of its parts and its own.
+pub fn add_outer_data<A: Allocator>(
+    makes: &mut Vec<Variable>,
+    outer: &Outer<A>,
+) -> Result<(), AllocError>
+    ensures { OnOk result (map variable_view makes.new.items ≡ map variable_view makes.old.items ++ data_in None (parts_view outer.now.parts.items ++ core.inner (cell_view outer.now.cell) ∷ [])) }
+{
+    add_data(makes, &outer.parts)?;
+    add_datum(makes, outer)?;
+    Ok(())
+}
+
+/// Adds the datum of a cell that its statement works out itself: it has one where it is an element.
+fn add_element_datum<A: Allocator>(
+    makes: &mut Vec<Variable>,
+    outer: &Outer<A>,
+) -> Result<(), AllocError>
+    ensures { OnOk result (map variable_view makes.new.items ≡ map variable_view makes.old.items ++ data_in (last_of None (parts_view outer.now.parts.items)) (own_cell (cell_view outer.now.cell) (form_view outer.now.cell.form))) }
+{
+    match &outer.cell.form {
+        Form::Compute(_) => Ok(()),
+        Form::Read { .. } => add_scalar(makes, outer.cell.node),
+    }
+}
+
+/// Adds the data of an outermost cell that its statement works out itself.
+pub fn add_own_data<A: Allocator>(
+    makes: &mut Vec<Variable>,
+    outer: &Outer<A>,
+) -> Result<(), AllocError>
+    ensures { OnOk result (map variable_view makes.new.items ≡ map variable_view makes.old.items ++ data_in None (own_outer (outer_view outer.now))) }
+{
+    add_data(makes, &outer.parts)?;
+    add_element_datum(makes, outer)?;
+    Ok(())
+}

@@ -1,0 +1,59 @@
+//! What others see of a cell: what it works out where it is plain, else its datum.
+ghost use Rattle.std.specs.Prelude.{◌≡◌, map, OnOk, IfOk};
+ghost use Rattle.flow.specs.View.{form_view};
+ghost use Rattle.task_code.specs.View as code_view;
+ghost use Rattle.code_rules.specs.CodeNames.{over, wanted};
+ghost use Rattle.code_rules.specs.IsCodeOf.{seen_as};
+ghost use Rattle.code_rules.specs.Room.{FormRoom};
+ghost use Rattle.emit_cells.specs.Wanted.{need_of, IsReady, Notes};
+
+use crate::names::own;
+use crate::needs::{Wanted, note, note_name, place_of};
+use crate::over::placed;
+use flow::cell::{Cell, Form};
+use indexmap::IndexSet;
+use std::alloc::{AllocError, Allocator, Global};
+use task_code::expr::Expr as Placed;
+
+/// Notes what the value of a cell waits for: what it works out where it is plain, else its datum.
+pub fn note_seen<A: Allocator>(
+    needs: &mut IndexSet<Wanted>,
+    inputs: usize,
+    cell: &Cell<A>,
+    plain: bool,
+) -> Result<(), AllocError>
+    ensures { OnOk result (FormRoom inputs (form_view cell.now.form) → Notes needs.old.keys needs.new.keys (wanted inputs (seen_as plain cell.now.node (form_view cell.now.form)))) }
+{
+    match &cell.form {
+        Form::Compute(expr) => {
+            if plain {
+                note(needs, inputs, expr)
+            } else {
+                note_name(needs, own(cell.node))
+            }
+        }
+        Form::Read { .. } => note_name(needs, own(cell.node)),
+    }
+}
+
+/// The value of a cell over these needs.
+pub fn placed_seen<A: Allocator>(
+    alloc: Global,
+    needs: &IndexSet<Wanted>,
+    inputs: usize,
+    cell: &Cell<A>,
+    plain: bool,
+) -> Result<Placed, AllocError>
+    ensures { IfOk result (λ e. IsReady needs.now.keys → FormRoom inputs (form_view cell.now.form) → code_view.expr_view e ≡ over inputs (map need_of needs.now.keys) (seen_as plain cell.now.node (form_view cell.now.form))) }
+{
+    match &cell.form {
+        Form::Compute(expr) => {
+            if plain {
+                placed(alloc, needs, inputs, expr)
+            } else {
+                Ok(Placed::Need(place_of(needs, own(cell.node))))
+            }
+        }
+        Form::Read { .. } => Ok(Placed::Need(place_of(needs, own(cell.node)))),
+    }
+}

@@ -1,4 +1,0 @@
-pub mod Once
-pub mod Keys
-pub mod Walks
-pub mod Befores

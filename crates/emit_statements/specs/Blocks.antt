@@ -1,0 +1,90 @@
+-- What is laid for a statement that has blocks, but for the blocks themselves.
+use Rattle.std.specs.Prelude.{◌≡◌, ◌<◌, ◌^◌, ℕ, ℤ, pos, List, [], ◌∷◌, ◌++◌, map, Option, None, Some, option_map, option_to_list}
+use Rattle.std.specs.List.{flat_map}
+use Rattle.values.specs.declared.value.Scalar.TheVariants.{Number}
+use Rattle.language.specs.Core.{Action, Block, Expr, Outer, Part, literal, range, stmt}
+use Rattle.task_code.specs.Code.{Act, Entry, If, Loop, Need, Range, Read, Wait}
+use Rattle.task_code.specs.Code as code
+use Rattle.task_code.specs.View.{entry_view, variable_view}
+use Rattle.task_code.specs.declared.entry.Entry.{Entry as Made}
+use Rattle.flow.specs.View.{awaited_view, outer_view}
+use Rattle.flow.specs.declared.name.Name.{Name as Named}
+use Rattle.flow.specs.declared.statement.Header.{Header}
+use Rattle.flow.specs.declared.statement.Range.{Range as Ranged}
+use Rattle.code_rules.specs.CodeNames.{each_once, header, over}
+use Rattle.code_rules.specs.IsCodeOf.{IsEntry, Layout}
+use Rattle.code_rules.specs.Laying.{Headers, IsOwnEntry, Kinds, Laying, LaysParts, data_in}
+use Rattle.code_rules.specs.Room.{AwaitedRoom, Each}
+use Rattle.emit_statements.specs.Seen.{seen_last}
+use Rattle.emit_statements.specs.declared.filling.Filling.{Filling}
+
+-- PARTS
+
+-- entries and data of a statement's parts are laid into its block
+pub record PartsInto (fs : List Kinds) (k : ℕ) (all : List Part) (at : ℕ) (p : ℤ) (s t : Laying) (old new : Filling) : Type 0 where
+  pub numbers : List ℕ
+  pub laid : LaysParts fs k all at p s t numbers
+  pub entries : new.entries.items ≡ old.entries.items ++ numbers
+  pub makes : map variable_view new.makes.items ≡ map variable_view old.makes.items ++ data_in None all
+
+-- the outermost cells of a range
+abbrev pub range_outers : {A : Type 0} → Ranged A → List Outer
+range_outers r = outer_view r.low ∷ outer_view r.high ∷ option_to_list (option_map outer_view r.step)
+
+-- what others see of a step, which is 1 where it is missing
+abbrev pub seen_step : Option Outer → Expr
+seen_step None = literal (Number (pos 1))
+seen_step (Some o) = seen_last o
+
+-- and of the bounds and the step of a range
+abbrev pub seen_range : {A : Type 0} → Ranged A → List Expr
+seen_range r = seen_last (outer_view r.low) ∷ seen_last (outer_view r.high) ∷ seen_step (option_map outer_view r.step) ∷ []
+
+-- a loop over a range
+abbrev pub range_action : {A : Type 0} → Ranged A → ℕ → Option ℕ → Block → Action
+range_action r x y b = range (outer_view r.low) (outer_view r.high) (option_map outer_view r.step) x y b
+
+-- THE OWN ENTRY
+
+-- a number stands behind the others of its block, which declares no more; it is that of the next entry, behind so many
+pub record Numbered (n count : ℕ) (old new : Filling) : Type 0 where
+  pub is : count < 2 ^ 32 → n ≡ count
+  pub entries : new.entries.items ≡ old.entries.items ++ n ∷ []
+  pub makes : new.makes.items ≡ old.makes.items
+
+-- the own entry of a statement that has blocks stands behind the others
+pub record OwnAddedAs (k at : ℕ) (a : Action) (act : Layout → Act) (old new : List Made) : Type 0 where
+  pub entry : Entry
+  pub is : map entry_view new ≡ map entry_view old ++ entry ∷ []
+  pub own : IsOwnEntry entry at k a act
+  pub mark_is : entry.mark ≡ at
+
+-- so does that of waits, merged one in another round this content
+pub record WaitAddedAs (k at node : ℕ) (a : Action) (b : Block) (body : ℕ) (old new : List Made) : Type 0 where
+  pub headers : List code.Header
+  pub merged : Headers k (stmt at node a) headers b
+  pub entry : Entry
+  pub is : map entry_view new ≡ map entry_view old ++ entry ∷ []
+  pub own : IsEntry entry at (pos 0) (each_once (flat_map (λ h. h.needs) headers)) (Wait headers body)
+
+-- the header of a wait, from its offset and its names
+abbrev pub header_of : ℕ → ℕ → List Named → code.Header
+header_of k at ns = header k at (map awaited_view ns)
+
+-- and those of the waits inside it
+abbrev pub inner_headers : {A : Type 0} → ℕ → List (Header A) → List code.Header
+inner_headers k hs = map (λ h. header_of k h.at h.names.items) hs
+
+abbrev pub InnerRoom : {A : Type 0} → ℕ → List (Header A) → Type 0
+InnerRoom k hs = Each (λ h. Each (AwaitedRoom k) (map awaited_view h.names.items)) hs
+
+-- WHAT ENTRIES DO
+
+-- over these needs, with what is seen of their outermost cells
+abbrev pub branched : ℕ → ℕ → Option ℕ → List Need → List Expr → Act
+branched k t o ns (e ∷ []) = If (over k ns e) t o
+branched k t o ns _ = Read
+
+abbrev pub ranged : ℕ → Loop → List Need → List Expr → Act
+ranged k w ns (low ∷ high ∷ step ∷ []) = Range (over k ns low) (over k ns high) (over k ns step) w
+ranged k w ns _ = Read

@@ -1,0 +1,4 @@
+pub mod Doing
+pub mod Into
+pub mod Seen
+pub mod Blocks

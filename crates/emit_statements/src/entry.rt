@@ -1,0 +1,41 @@
+//! The own entry of a statement, numbered in its block.
+ghost use Rattle.std.specs.Prelude.{◌≡◌, ◌++◌, ◌∷◌, [], List, length, map, IfOk, OnOk};
+ghost use Rattle.task_code.specs.Code.{Need};
+ghost use Rattle.task_code.specs.View as code_view;
+ghost use Rattle.code_rules.specs.CodeNames.{each_once};
+ghost use Rattle.emit_cells.specs.Wanted.{Noted};
+ghost use Rattle.emit_cells.specs.Made.{made};
+ghost use Rattle.emit_statements.specs.Blocks.{Numbered};
+
+use crate::filling::Filling;
+use crate::own::Statement;
+use emit_cells::entries::{Shown, put};
+use emit_cells::names::small;
+use emit_cells::needs::Wanted;
+use indexmap::IndexSet;
+use std::alloc::{AllocError, Global};
+use task_code::entry::{Act, Entry};
+
+/// Puts the own entry of a statement, which waits for these needs, behind the others, and its number behind those of its block.
+/// The result is that number.
+pub fn add_entry(
+    alloc: Global,
+    entries: &mut Vec<Entry>,
+    filling: &mut Filling,
+    statement: Statement,
+    needs: &IndexSet<Wanted>,
+    act: Act,
+) -> Result<u32, AllocError>
+    ensures number { IfOk result (λ n. Numbered n (length entries.old.items) filling.old filling.new) }
+    ensures entry { OnOk result ((ns : List Need) → Noted ns needs.now.keys
+        → map code_view.entry_view entries.new.items ≡ map code_view.entry_view entries.old.items ++ made statement.standing (record { node = statement.node; mark = statement.standing.at }) (each_once ns) (code_view.act_view act) ∷ []) }
+{
+    let number = small(entries.len());
+    let shown = Shown {
+        node: statement.node,
+        mark: statement.standing.at,
+    };
+    put(alloc, entries, statement.standing, shown, needs, act)?;
+    filling.entries.push(number)?;
+    Ok(number)
+}

@@ -1,0 +1,119 @@
+//! Writes of elements.
+ghost use Rattle.std.specs.Prelude.{◌≡◌, ◌+◌, ◌≤◌, ◌^◌, ◌∷◌, ◌++◌, [], ℕ, suc, ℤ, List, map, length, None, pos, OnOk, IfOk};
+ghost use Rattle.language.specs.Core as core;
+ghost use Rattle.language.specs.Parts.{outer_parts, parts};
+ghost use Rattle.flow.specs.Shapes.{kinds_of_function};
+ghost use Rattle.flow.specs.View.{name_view, outer_view};
+ghost use Rattle.task_code.specs.Code as pure;
+ghost use Rattle.task_code.specs.View as code_view;
+ghost use Rattle.language_laws.specs.TypedValues.{own_parts};
+ghost use Rattle.code_rules.specs.IsCodeOf.{Layout};
+ghost use Rattle.code_rules.specs.Laying.{IndexesStand, Suits, data_in};
+ghost use Rattle.code_rules.specs.Room.{ActionRoom, OuterRoom};
+ghost use Rattle.emit_cells.specs.Chunk.{Added};
+ghost use Rattle.emit_statements.specs.Into.{LaysInto, OwnAdded, laying};
+
+use crate::filling::{Filling, add_numbers};
+use crate::own::Statement;
+use emit_cells::entries::{Shown, Standing, put};
+use emit_cells::laws::parts_are_laid;
+use emit_cells::names::named;
+use emit_cells::outers::{add_outer, pass_outer};
+use emit_cells::owns::add_outer_data;
+use emit_cells::plain::is_outer_plain;
+use emit_cells::seen::{note_seen, placed_seen};
+use flow::cell::Outer;
+use flow::name::Name;
+use flow::script::Function;
+use indexmap::{IndexMap, IndexSet};
+use std::alloc::{AllocError, Allocator, Global};
+use task_code::entry::{Act, Entry, Variable};
+
+/// Adds the entries of two outermost cells, with those of the parts inside them.
+fn add_two_entries<A: Allocator>(
+    alloc: Global,
+    entries: &mut Vec<Entry>,
+    functions: &Vec<Function<A>, A>,
+    standing: Standing,
+    one: &Outer<A>,
+    two: &Outer<A>,
+) -> Result<(), AllocError>
+    ensures { OnOk result (OuterRoom standing.inputs (outer_view one.now) → OuterRoom standing.inputs (outer_view two.now)
+        → Added (map kinds_of_function functions.now.items) standing.inputs (outer_parts (outer_view one.now ∷ outer_view two.now ∷ [])) standing.at standing.priority (outer_parts (outer_view one.now ∷ outer_view two.now ∷ [])) entries.old.items entries.new.items) }
+{
+    let mut passed = IndexMap::new(alloc);
+    pass_outer(alloc, &mut passed, standing.inputs, one)?;
+    pass_outer(alloc, &mut passed, standing.inputs, two)?;
+    add_outer(alloc, entries, functions, standing, &passed, one)?;
+    add_outer(alloc, entries, functions, standing, &passed, two)?;
+    Ok(())
+}
+
+/// Adds the data of two outermost cells.
+fn add_two_data<A: Allocator>(
+    makes: &mut Vec<Variable>,
+    one: &Outer<A>,
+    two: &Outer<A>,
+) -> Result<(), AllocError>
+    ensures { OnOk result (map code_view.variable_view makes.new.items ≡ map code_view.variable_view makes.old.items ++ data_in None (outer_parts (outer_view one.now ∷ outer_view two.now ∷ []))) }
+{
+    add_outer_data(makes, one)?;
+    add_outer_data(makes, two)?;
+    Ok(())
+}
+
+/// Adds the own entry of a write of an element.
+fn add_put<A: Allocator>(
+    alloc: Global,
+    entries: &mut Vec<Entry>,
+    statement: Statement,
+    array: Name,
+    index: &Outer<A>,
+    right: &Outer<A>,
+) -> Result<(), AllocError>
+    ensures { OnOk result (ActionRoom statement.standing.inputs (core.insert (name_view array) (outer_view index.now) (outer_view right.now)) → statement.standing.priority ≡ pos 0
+        → OwnAdded statement.standing.inputs statement.standing.at statement.node (core.insert (name_view array) (outer_view index.now) (outer_view right.now)) entries.old.items entries.new.items) }
+{
+    let standing = statement.standing;
+    let inputs = standing.inputs;
+    let shown = Shown {
+        node: statement.node,
+        mark: standing.at,
+    };
+    let plain_index = is_outer_plain(index);
+    let plain_right = is_outer_plain(right);
+    let mut needs = IndexSet::new(alloc);
+    note_seen(&mut needs, inputs, &index.cell, plain_index)?;
+    note_seen(&mut needs, inputs, &right.cell, plain_right)?;
+    let place = placed_seen(alloc, &needs, inputs, &index.cell, plain_index)?;
+    let value = placed_seen(alloc, &needs, inputs, &right.cell, plain_right)?;
+    let act = Act::Put(named(inputs, array, true), place, value);
+    put(alloc, entries, standing, shown, &needs, act)?;
+    Ok(())
+}
+
+/// Lays a write of an element.
+pub fn insert<A: Allocator>(
+    alloc: Global,
+    entries: &mut Vec<Entry>,
+    filling: &mut Filling,
+    functions: &Vec<Function<A>, A>,
+    statement: Statement,
+    array: Name,
+    index: &Outer<A>,
+    right: &Outer<A>,
+) -> Result<(), AllocError>
+    ensures laid { OnOk result ((roots : ℕ) (bodies : List pure.Body) → ActionRoom statement.standing.inputs (core.insert (name_view array) (outer_view index.now) (outer_view right.now)) → length entries.new.items ≤ 2 ^ 32
+        → statement.standing.priority ≡ pos 0
+        → LaysInto (map kinds_of_function functions.now.items) roots statement.standing.inputs (core.stmt statement.standing.at statement.node (core.insert (name_view array) (outer_view index.now) (outer_view right.now))) [] (laying entries.old.items bodies) (laying entries.new.items bodies) filling.old filling.new) }
+    ensures few { OnOk result ((l : Layout) → ActionRoom statement.standing.inputs (core.insert (name_view array) (outer_view index.now) (outer_view right.now)) → Suits l (core.insert (name_view array) (outer_view index.now) (outer_view right.now)) → IndexesStand (own_parts (core.insert (name_view array) (outer_view index.now) (outer_view right.now))) → statement.standing.priority ≡ pos 0
+        → length entries.new.items ≤ length entries.old.items + suc (length (parts (core.insert (name_view array) (outer_view index.now) (outer_view right.now))))) }
+{
+    let from = entries.len();
+    add_two_entries(alloc, entries, functions, statement.standing, index, right)?;
+    add_two_data(&mut filling.makes, index, right)?;
+    add_put(alloc, entries, statement, array, index, right)?;
+    add_numbers(&mut filling.entries, from, entries.len())?;
+    parts_are_laid();
+    Ok(())
+}

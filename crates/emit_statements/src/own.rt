@@ -1,0 +1,207 @@
+//! Statements that work an outermost cell out themselves: assignments, lines and assertions.
+ghost use Rattle.std.specs.Prelude.{◌≡◌, ◌+◌, ◌≤◌, ◌^◌, [], ℕ, suc, ℤ, List, map, length, OnOk, IfOk};
+ghost use Rattle.language.specs.Core as core;
+ghost use Rattle.language.specs.Parts.{parts};
+ghost use Rattle.flow.specs.Shapes.{kinds_of_function};
+ghost use Rattle.flow.specs.View.{cell_view, expr_view, form_view, name_view, outer_view};
+ghost use Rattle.language_laws.specs.TypedValues.{own_cell, own_outer, own_parts};
+ghost use Rattle.task_code.specs.Code as pure;
+ghost use Rattle.task_code.specs.View as code_view;
+ghost use Rattle.code_rules.specs.IsCodeOf.{Layout, fill_act, own_form, own_priority, simple_act};
+ghost use Rattle.code_rules.specs.Laying.{IndexesStand, Suits};
+ghost use Rattle.code_rules.specs.Room.{ActionRoom, FormRoom, NameRoom, OuterRoom};
+ghost use Rattle.emit_cells.specs.Wanted.{need_of, IsReady};
+ghost use Rattle.emit_cells.specs.Chunk.{Added, Inside, Passes};
+ghost use Rattle.emit_statements.specs.Doing.{action_of};
+ghost use Rattle.emit_statements.specs.Into.{LaysInto, OwnAdded, laying};
+
+use crate::filling::{Filling, add_numbers};
+use emit_cells::cells::{pass_cell, pass_parts};
+use emit_cells::entries::{Shown, Standing, put};
+use emit_cells::laws::parts_are_laid;
+use emit_cells::names::named;
+use emit_cells::needs::Wanted;
+use emit_cells::over::all_placed;
+use emit_cells::owns::{add_own_data, add_own_outer};
+use emit_cells::seen::{note_seen, placed_seen};
+use flow::cell::{Form, Outer};
+use flow::expression::Expr;
+use flow::name::Name;
+use flow::script::Function;
+use indexmap::{IndexMap, IndexSet};
+use std::alloc::{AllocError, Allocator, Global};
+use task_code::entry::{Act, Argument, Entry};
+
+/// Where a statement stands, and its node.
+#[derive(Clone, Copy)]
+pub struct Statement {
+    pub standing: Standing,
+    pub node: u32,
+}
+
+/// What a statement does with the value that it works out itself.
+#[derive(Clone, Copy)]
+pub enum Use {
+    Set(Name),
+    Fill(Name),
+    Print,
+    Assert,
+}
+
+/// Notes what is handed over for a cell that its statement works out itself: it has a datum where it is an element.
+fn pass_element<A: Allocator>(
+    alloc: Global,
+    passed: &mut IndexMap<u32, Argument>,
+    inputs: usize,
+    outer: &Outer<A>,
+) -> Result<(), AllocError>
+    ensures { OnOk result ((all : List core.Part) → OuterRoom inputs (outer_view outer.now) → Inside all (own_outer (outer_view outer.now))
+        → Passes inputs all (own_cell (cell_view outer.now.cell) (form_view outer.now.cell.form)) passed.old passed.new) }
+{
+    match &outer.cell.form {
+        Form::Compute(_) => Ok(()),
+        Form::Read { .. } => pass_cell(alloc, passed, inputs, &outer.cell, false),
+    }
+}
+
+/// Notes what is handed over for the cells inside an outermost cell that its statement works out itself, and for itself where it is
+/// an element.
+fn pass_own_outer<A: Allocator>(
+    alloc: Global,
+    passed: &mut IndexMap<u32, Argument>,
+    inputs: usize,
+    outer: &Outer<A>,
+) -> Result<(), AllocError>
+    ensures { OnOk result ((all : List core.Part) → OuterRoom inputs (outer_view outer.now) → Inside all (own_outer (outer_view outer.now)) → Passes inputs all (own_outer (outer_view outer.now)) passed.old passed.new) }
+{
+    pass_parts(alloc, passed, inputs, &outer.parts)?;
+    pass_element(alloc, passed, inputs, outer)?;
+    Ok(())
+}
+
+/// Adds the entries of the parts of a statement that works an outermost cell out itself.
+fn add_own_entries<A: Allocator>(
+    alloc: Global,
+    entries: &mut Vec<Entry>,
+    functions: &Vec<Function<A>, A>,
+    standing: Standing,
+    outer: &Outer<A>,
+) -> Result<(), AllocError>
+    ensures { OnOk result (OuterRoom standing.inputs (outer_view outer.now)
+        → Added (map kinds_of_function functions.now.items) standing.inputs (own_outer (outer_view outer.now)) standing.at standing.priority (own_outer (outer_view outer.now)) entries.old.items entries.new.items) }
+{
+    let mut passed = IndexMap::new(alloc);
+    pass_own_outer(alloc, &mut passed, standing.inputs, outer)?;
+    add_own_outer(alloc, entries, functions, standing, &passed, outer)?;
+    Ok(())
+}
+
+/// The act that fills an array with what an expression is.
+fn filled<A: Allocator>(
+    alloc: Global,
+    needs: &IndexSet<Wanted>,
+    inputs: usize,
+    array: Name,
+    expr: &Expr<A>,
+) -> Result<Act, AllocError>
+    ensures { IfOk result (λ act. (l : Layout) → IsReady needs.now.keys → NameRoom inputs (name_view array) → FormRoom inputs (core.compute (expr_view expr.now))
+        → code_view.act_view act ≡ fill_act l inputs (map need_of needs.now.keys) (name_view array) (expr_view expr.now)) }
+{
+    match expr {
+        Expr::Whole(_) => Ok(Act::Copy(named(inputs, array, true))),
+        Expr::Operation(_, elements) => Ok(Act::Fill(
+            named(inputs, array, true),
+            all_placed(alloc, needs, inputs, elements)?,
+        )),
+        Expr::Number(_) | Expr::Text(_) | Expr::Truth(_) | Expr::Name(_) => {
+            Ok(Act::Fill(named(inputs, array, true), Vec::new(alloc)))
+        }
+    }
+}
+
+/// The act of a statement that fills an array.
+fn fill<A: Allocator>(
+    alloc: Global,
+    needs: &IndexSet<Wanted>,
+    inputs: usize,
+    array: Name,
+    outer: &Outer<A>,
+) -> Result<Act, AllocError>
+    ensures { IfOk result (λ act. (l : Layout) → IsReady needs.now.keys → NameRoom inputs (name_view array) → FormRoom inputs (form_view outer.now.cell.form)
+        → code_view.act_view act ≡ fill_act l inputs (map need_of needs.now.keys) (name_view array) (own_form outer.now.cell.node (form_view outer.now.cell.form))) }
+{
+    match &outer.cell.form {
+        Form::Compute(expr) => filled(alloc, needs, inputs, array, expr),
+        Form::Read { .. } => Ok(Act::Fill(named(inputs, array, true), Vec::new(alloc))),
+    }
+}
+
+/// The act of a statement that works an outermost cell out itself.
+fn act_of<A: Allocator>(
+    alloc: Global,
+    needs: &IndexSet<Wanted>,
+    inputs: usize,
+    done: Use,
+    outer: &Outer<A>,
+) -> Result<Act, AllocError>
+    ensures { IfOk result (λ act. (l : Layout) (p : ℤ) → IsReady needs.now.keys → ActionRoom inputs (action_of done p (outer_view outer.now))
+        → code_view.act_view act ≡ simple_act l inputs (map need_of needs.now.keys) (action_of done p (outer_view outer.now))) }
+{
+    match done {
+        Use::Set(target) => Ok(Act::Set(
+            named(inputs, target, false),
+            placed_seen(alloc, needs, inputs, &outer.cell, true)?,
+        )),
+        Use::Print => Ok(Act::Print(placed_seen(alloc, needs, inputs, &outer.cell, true)?)),
+        Use::Assert => Ok(Act::Assert(placed_seen(alloc, needs, inputs, &outer.cell, true)?)),
+        Use::Fill(array) => fill(alloc, needs, inputs, array, outer),
+    }
+}
+
+/// Adds the own entry of a statement that works an outermost cell out itself.
+fn add_own<A: Allocator>(
+    alloc: Global,
+    entries: &mut Vec<Entry>,
+    statement: Statement,
+    done: Use,
+    outer: &Outer<A>,
+) -> Result<(), AllocError>
+    ensures { OnOk result (ActionRoom statement.standing.inputs (action_of done statement.standing.priority (outer_view outer.now)) → statement.standing.priority ≡ own_priority (action_of done statement.standing.priority (outer_view outer.now))
+        → OwnAdded statement.standing.inputs statement.standing.at statement.node (action_of done statement.standing.priority (outer_view outer.now)) entries.old.items entries.new.items) }
+{
+    let standing = statement.standing;
+    let shown = Shown {
+        node: statement.node,
+        mark: standing.at,
+    };
+    let mut needs = IndexSet::new(alloc);
+    note_seen(&mut needs, standing.inputs, &outer.cell, true)?;
+    let act = act_of(alloc, &needs, standing.inputs, done, outer)?;
+    put(alloc, entries, standing, shown, &needs, act)?;
+    Ok(())
+}
+
+/// Lays a statement that works an outermost cell out itself.
+pub fn own<A: Allocator>(
+    alloc: Global,
+    entries: &mut Vec<Entry>,
+    filling: &mut Filling,
+    functions: &Vec<Function<A>, A>,
+    statement: Statement,
+    done: Use,
+    outer: &Outer<A>,
+) -> Result<(), AllocError>
+    ensures laid { OnOk result ((roots : ℕ) (bodies : List pure.Body) → ActionRoom statement.standing.inputs (action_of done statement.standing.priority (outer_view outer.now)) → length entries.new.items ≤ 2 ^ 32
+        → statement.standing.priority ≡ own_priority (action_of done statement.standing.priority (outer_view outer.now))
+        → LaysInto (map kinds_of_function functions.now.items) roots statement.standing.inputs (core.stmt statement.standing.at statement.node (action_of done statement.standing.priority (outer_view outer.now))) [] (laying entries.old.items bodies) (laying entries.new.items bodies) filling.old filling.new) }
+    ensures few { OnOk result ((l : Layout) → ActionRoom statement.standing.inputs (action_of done statement.standing.priority (outer_view outer.now)) → Suits l (action_of done statement.standing.priority (outer_view outer.now)) → IndexesStand (own_parts (action_of done statement.standing.priority (outer_view outer.now))) → statement.standing.priority ≡ own_priority (action_of done statement.standing.priority (outer_view outer.now))
+        → length entries.new.items ≤ length entries.old.items + suc (length (parts (action_of done statement.standing.priority (outer_view outer.now))))) }
+{
+    let from = entries.len();
+    add_own_entries(alloc, entries, functions, statement.standing, outer)?;
+    add_own_data(&mut filling.makes, outer)?;
+    add_own(alloc, entries, statement, done, outer)?;
+    add_numbers(&mut filling.entries, from, entries.len())?;
+    parts_are_laid();
+    Ok(())
+}

@@ -1,0 +1,103 @@
+//! The step of a range, which may be missing.
+ghost use Rattle.std.specs.Prelude.{◌≡◌, ◌++◌, List, None, option_map, option_to_list, map, IfOk, OnOk};
+ghost use Rattle.language.specs.Core as core;
+ghost use Rattle.language.specs.Parts.{outer_parts};
+ghost use Rattle.flow.specs.Shapes.{kinds_of_function};
+ghost use Rattle.flow.specs.View.{outer_view};
+ghost use Rattle.task_code.specs.View as code_view;
+ghost use Rattle.code_rules.specs.CodeNames.{over, wanted};
+ghost use Rattle.code_rules.specs.Laying.{data_in};
+ghost use Rattle.code_rules.specs.Room.{StepRoom};
+ghost use Rattle.emit_cells.specs.Wanted.{need_of, IsReady, Notes};
+ghost use Rattle.emit_cells.specs.Chunk.{Added, Inside, IsPassed, Passes};
+ghost use Rattle.emit_statements.specs.Blocks.{seen_step};
+
+use emit_cells::entries::Standing;
+use emit_cells::needs::Wanted;
+use emit_cells::outers::{add_outer, pass_outer};
+use emit_cells::owns::add_outer_data;
+use emit_cells::plain::is_outer_plain;
+use emit_cells::seen::{note_seen, placed_seen};
+use flow::cell::Outer;
+use flow::script::Function;
+use indexmap::{IndexMap, IndexSet};
+use std::alloc::{AllocError, Allocator, Global};
+use task_code::entry::{Argument, Entry, Variable};
+use task_code::expr::Expr as Placed;
+use values::value::Scalar;
+
+/// Notes what is handed over for the cells of a step.
+pub fn pass_step<A: Allocator>(
+    alloc: Global,
+    passed: &mut IndexMap<u32, Argument>,
+    inputs: usize,
+    step: &Option<Outer<A>>,
+) -> Result<(), AllocError>
+    ensures { OnOk result ((all : List core.Part) → StepRoom inputs (option_map outer_view step.now) → Inside all (outer_parts (option_to_list (option_map outer_view step.now)))
+        → Passes inputs all (outer_parts (option_to_list (option_map outer_view step.now))) passed.old passed.new) }
+{
+    match step {
+        None => Ok(()),
+        Some(outer) => pass_outer(alloc, passed, inputs, outer),
+    }
+}
+
+/// Adds the entries of the cells of a step.
+pub fn add_step<A: Allocator>(
+    alloc: Global,
+    entries: &mut Vec<Entry>,
+    functions: &Vec<Function<A>, A>,
+    standing: Standing,
+    passed: &IndexMap<u32, Argument>,
+    step: &Option<Outer<A>>,
+) -> Result<(), AllocError>
+    ensures { OnOk result ((all : List core.Part) → IsPassed standing.inputs all passed.now → StepRoom standing.inputs (option_map outer_view step.now) → Inside all (outer_parts (option_to_list (option_map outer_view step.now)))
+        → Added (map kinds_of_function functions.now.items) standing.inputs all standing.at standing.priority (outer_parts (option_to_list (option_map outer_view step.now))) entries.old.items entries.new.items) }
+{
+    match step {
+        None => Ok(()),
+        Some(outer) => add_outer(alloc, entries, functions, standing, passed, outer),
+    }
+}
+
+/// Adds the data of the cells of a step.
+pub fn add_step_data<A: Allocator>(
+    makes: &mut Vec<Variable>,
+    step: &Option<Outer<A>>,
+) -> Result<(), AllocError>
+    ensures { OnOk result (map code_view.variable_view makes.new.items ≡ map code_view.variable_view makes.old.items ++ data_in None (outer_parts (option_to_list (option_map outer_view step.now)))) }
+{
+    match step {
+        None => Ok(()),
+        Some(outer) => add_outer_data(makes, outer),
+    }
+}
+
+/// Notes what a step waits for.
+pub fn note_step<A: Allocator>(
+    needs: &mut IndexSet<Wanted>,
+    inputs: usize,
+    step: &Option<Outer<A>>,
+) -> Result<(), AllocError>
+    ensures { OnOk result (StepRoom inputs (option_map outer_view step.now) → Notes needs.old.keys needs.new.keys (wanted inputs (seen_step (option_map outer_view step.now)))) }
+{
+    match step {
+        None => Ok(()),
+        Some(outer) => note_seen(needs, inputs, &outer.cell, is_outer_plain(outer)),
+    }
+}
+
+/// A step over these needs.
+pub fn placed_step<A: Allocator>(
+    alloc: Global,
+    needs: &IndexSet<Wanted>,
+    inputs: usize,
+    step: &Option<Outer<A>>,
+) -> Result<Placed, AllocError>
+    ensures { IfOk result (λ e. IsReady needs.now.keys → StepRoom inputs (option_map outer_view step.now) → code_view.expr_view e ≡ over inputs (map need_of needs.now.keys) (seen_step (option_map outer_view step.now))) }
+{
+    match step {
+        None => Ok(Placed::Constant(Scalar::Number(1))),
+        Some(outer) => placed_seen(alloc, needs, inputs, &outer.cell, is_outer_plain(outer)),
+    }
+}

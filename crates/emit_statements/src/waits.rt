@@ -1,0 +1,142 @@
+//! Waits, merged where nothing stands beside one inside another.
+ghost use Rattle.std.specs.Prelude.{◌≡◌, ◌∷◌, ◌++◌, List, length, map, pos, IfOk, OnOk};
+ghost use Rattle.std.specs.List.{flat_map};
+ghost use Rattle.language.specs.Core as core;
+ghost use Rattle.flow.specs.View.{awaited_view, waits_around};
+ghost use Rattle.task_code.specs.View as code_view;
+ghost use Rattle.code_rules.specs.CodeNames.{awaited_need};
+ghost use Rattle.code_rules.specs.Room.{ActionRoom, AwaitedRoom, Each};
+ghost use Rattle.emit_cells.specs.Wanted.{need_named, Notes};
+ghost use Rattle.emit_statements.specs.Blocks.{InnerRoom, Numbered, WaitAddedAs, header_of, inner_headers};
+
+use crate::entry::add_entry;
+use crate::filling::Filling;
+use crate::own::Statement;
+use emit_cells::names::named;
+use emit_cells::needs::{Wanted, note_name};
+use flow::name::Name;
+use flow::statement::Header;
+use indexmap::IndexSet;
+use language::tree::Shape;
+use std::alloc::{AllocError, Allocator, Global};
+use task_code::entry::{Act, Entry, Header as Waits, Name as Used};
+
+/// A name that is waited for.
+fn awaited(inputs: usize, name: Name) -> Used
+    ensures { AwaitedRoom inputs (awaited_view name) → need_named (code_view.name_view result) ≡ awaited_need inputs (awaited_view name) }
+{
+    match name.shape {
+        Shape::Array => named(inputs, name, true),
+        Shape::Scalar => named(inputs, name, false),
+    }
+}
+
+// NEEDS
+
+/// Notes the names that are waited for.
+fn note_names<A: Allocator>(
+    needs: &mut IndexSet<Wanted>,
+    inputs: usize,
+    names: &Vec<Name, A>,
+) -> Result<(), AllocError>
+    ensures { OnOk result (Each (AwaitedRoom inputs) (map awaited_view names.now.items) → Notes needs.old.keys needs.new.keys (map (awaited_need inputs) (map awaited_view names.now.items))) }
+{
+    for name in names {
+        note_name(needs, awaited(inputs, *name))?;
+    }
+    Ok(())
+}
+
+/// Notes what the waits inside a wait wait for.
+fn note_inner<A: Allocator>(
+    needs: &mut IndexSet<Wanted>,
+    inputs: usize,
+    inner: &Vec<Header<A>, A>,
+) -> Result<(), AllocError>
+    ensures { OnOk result (InnerRoom inputs inner.now.items → Notes needs.old.keys needs.new.keys (flat_map (λ h. h.needs) (inner_headers inputs inner.now.items))) }
+{
+    for merged in inner {
+        note_names(needs, inputs, &merged.names)?;
+    }
+    Ok(())
+}
+
+// HEADERS
+
+/// The header of a wait.
+fn header<A: Allocator>(
+    alloc: Global,
+    inputs: usize,
+    at: usize,
+    names: &Vec<Name, A>,
+) -> Result<Waits, AllocError>
+    ensures { IfOk result (λ h. Each (AwaitedRoom inputs) (map awaited_view names.now.items) → code_view.header_view h ≡ header_of inputs at names.now.items) }
+{
+    let mut needs = Vec::with_capacity(alloc, names.len())?;
+    for name in names {
+        needs.push(Wanted::new(awaited(inputs, *name)).need())?;
+    }
+    Ok(Waits { at, needs })
+}
+
+/// Adds the headers of the waits inside a wait.
+fn add_headers<A: Allocator>(
+    alloc: Global,
+    headers: &mut Vec<Waits>,
+    inputs: usize,
+    inner: &Vec<Header<A>, A>,
+) -> Result<(), AllocError>
+    ensures { OnOk result (InnerRoom inputs inner.now.items → map code_view.header_view headers.new.items ≡ map code_view.header_view headers.old.items ++ inner_headers inputs inner.now.items) }
+{
+    for merged in inner {
+        headers.push(header(alloc, inputs, merged.at, &merged.names)?)?;
+    }
+    Ok(())
+}
+
+/// The headers of a wait and of those that are merged with it.
+fn all_headers<A: Allocator>(
+    alloc: Global,
+    inputs: usize,
+    at: usize,
+    names: &Vec<Name, A>,
+    inner: &Vec<Header<A>, A>,
+) -> Result<Vec<Waits>, AllocError>
+    ensures { IfOk result (λ hs. Each (AwaitedRoom inputs) (map awaited_view names.now.items) → InnerRoom inputs inner.now.items
+        → map code_view.header_view hs.items ≡ header_of inputs at names.now.items ∷ inner_headers inputs inner.now.items) }
+{
+    let mut headers = Vec::new(alloc);
+    headers.push(header(alloc, inputs, at, names)?)?;
+    add_headers(alloc, &mut headers, inputs, inner)?;
+    Ok(headers)
+}
+
+/// Adds the own entry of a wait and of those that are merged with it, which opens the body of this number. The result is the
+/// entry's number.
+pub fn add_wait<A: Allocator>(
+    alloc: Global,
+    entries: &mut Vec<Entry>,
+    filling: &mut Filling,
+    statement: Statement,
+    names: &Vec<Name, A>,
+    inner: &Vec<Header<A>, A>,
+    body: u32,
+) -> Result<u32, AllocError>
+    ensures number { IfOk result (λ n. Numbered n (length entries.old.items) filling.old filling.new) }
+    ensures entry { OnOk result ((b : core.Block) → ActionRoom statement.standing.inputs (core.wait (map awaited_view names.now.items) (waits_around inner.now.items b)) → statement.standing.priority ≡ pos 0
+        → WaitAddedAs statement.standing.inputs statement.standing.at statement.node (core.wait (map awaited_view names.now.items) (waits_around inner.now.items b)) b body entries.old.items entries.new.items) }
+{
+    let inputs = statement.standing.inputs;
+    let mut needs = IndexSet::new(alloc);
+    note_names(&mut needs, inputs, names)?;
+    note_inner(&mut needs, inputs, inner)?;
+    let headers = all_headers(alloc, inputs, statement.standing.at, names, inner)?;
+    add_entry(
+        alloc,
+        entries,
+        filling,
+        statement,
+        &needs,
+        Act::Wait(headers, body),
+    )
+}

@@ -1,5 +1,0 @@
-use Rattle.ended_blocks.proofs.Indexes as law
-use Rattle.ended_blocks.proofs.laws.what_was_indexed.Goals as goal
-
-pub returns : goal.returns
-returns c = λ s w single n. law.has_indexes s w single n

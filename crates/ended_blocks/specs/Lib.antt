@@ -1,3 +1,0 @@
-pub mod Active
-pub mod Never
-pub mod Turns

@@ -1,4 +1,0 @@
-//! How a command ends, and the status of the process.
-#![tactic(auto)]
-
-pub mod status;

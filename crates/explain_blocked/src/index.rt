@@ -1,0 +1,227 @@
+//! Where the statements, variables, cells and calls of a script stand, found by their offsets and nodes.
+ghost use Rattle.std.specs.Prelude.{IfOk};
+ghost use Rattle.flow.specs.View.{core_of};
+ghost use Rattle.flow_index.specs.Sites.{AreSites};
+
+use crate::sites::{action_of, variable_of};
+use flow::cell::{Call, Cell, Outer, Part};
+use flow::name::{Name, Owned};
+use flow::script::Flow;
+use flow::statement::{Action, Variable};
+use flow_index::site::Site;
+use flow_index::table::Sites;
+use meaning_facts::parts::outers_of;
+use std::alloc::{AllocError, Allocator, Global};
+use std::collections::HashMap;
+
+/// A cell, with the function that its statement stands in if any.
+#[derive(Drop)]
+pub struct Spot<'a, A: Allocator> {
+    pub function: Option<usize>,
+    pub cell: &'a Cell<A>,
+}
+
+/// The statements of a script, with tables of where things stand.
+#[derive(Drop)]
+pub struct Index<'a, A: Allocator> {
+    pub flow: &'a Flow<A>,
+    pub sites: Sites<'a, A>,
+    tables: Tables<'a, A>,
+}
+
+/// Where things stand in the statements of a script.
+#[derive(Drop)]
+struct Tables<'a, A: Allocator> {
+    /// The statements that declare variables, by the nodes of these.
+    declaring: HashMap<u32, usize>,
+    spots: Vec<Spot<'a, A>>,
+    /// The cells by their nodes.
+    cells: HashMap<u32, usize>,
+    /// The offsets of the calls in expressions, by the nodes of what they give.
+    giving: HashMap<u32, usize>,
+    /// The called functions by the offsets of the calls.
+    called: HashMap<usize, usize>,
+}
+
+impl<'a, A: Allocator> Tables<'a, A> {
+    fn of(alloc: Global, sites: &[Site<'a, A>]) -> Result<Tables<'a, A>, AllocError> {
+        let mut tables = Tables {
+            declaring: HashMap::new(alloc),
+            spots: Vec::new(alloc),
+            cells: HashMap::new(alloc),
+            giving: HashMap::new(alloc),
+            called: HashMap::new(alloc),
+        };
+        for i in 0..sites.len() {
+            tables.note_site(alloc, i, &sites[i])?;
+        }
+        Ok(tables)
+    }
+
+    fn note_site(&mut self, alloc: Global, i: usize, site: &Site<'a, A>) -> Result<(), AllocError> {
+        match action_of(site) {
+            None => Ok(()),
+            Some(action) => self.note_action(alloc, i, site.function, action),
+        }
+    }
+
+    fn note_action(
+        &mut self,
+        alloc: Global,
+        i: usize,
+        function: Option<usize>,
+        action: &'a Action<A>,
+    ) -> Result<(), AllocError> {
+        match action {
+            Action::Declare(variable) => self.note_variable(i, variable),
+            Action::Call { parts, call, .. } => {
+                self.note_call(call)?;
+                self.note_parts(function, parts.as_slice())
+            }
+            Action::Range { value, turn, .. } => {
+                self.note_loop(i, value, turn)?;
+                self.note_outers(function, outers_of(alloc, action)?.as_slice())
+            }
+            Action::Each { value, key, .. } => self.note_loop(i, value, key),
+            _ => self.note_outers(function, outers_of(alloc, action)?.as_slice()),
+        }
+    }
+
+    fn note_variable(&mut self, i: usize, variable: &Variable<A>) -> Result<(), AllocError> {
+        self.declaring.insert(variable.node, i)?;
+        Ok(())
+    }
+
+    fn note_loop(
+        &mut self,
+        i: usize,
+        value: &Variable<A>,
+        other: &Option<Variable<A>>,
+    ) -> Result<(), AllocError> {
+        self.note_variable(i, value)?;
+        match other {
+            None => Ok(()),
+            Some(variable) => self.note_variable(i, variable),
+        }
+    }
+
+    fn note_outers(
+        &mut self,
+        function: Option<usize>,
+        outers: &[&'a Outer<A>],
+    ) -> Result<(), AllocError> {
+        for outer in outers {
+            let outer: &'a Outer<A> = *outer;
+            self.note_parts(function, outer.parts.as_slice())?;
+            self.note_cell(function, &outer.cell)?;
+        }
+        Ok(())
+    }
+
+    fn note_parts(
+        &mut self,
+        function: Option<usize>,
+        parts: &'a [Part<A>],
+    ) -> Result<(), AllocError> {
+        for part in parts {
+            match part {
+                Part::Inner(cell) => self.note_cell(function, cell)?,
+                Part::Calls(call) => {
+                    self.note_call(call)?;
+                    self.note_given(call)?;
+                }
+            }
+        }
+        Ok(())
+    }
+
+    fn note_cell(&mut self, function: Option<usize>, cell: &'a Cell<A>) -> Result<(), AllocError> {
+        self.cells.insert(cell.node, self.spots.len())?;
+        self.spots.push(Spot { function, cell })?;
+        Ok(())
+    }
+
+    fn note_call(&mut self, call: &Call<A>) -> Result<(), AllocError> {
+        self.called.insert(call.at, call.function)?;
+        Ok(())
+    }
+
+    /// Notes what a call in an expression gives.
+    fn note_given(&mut self, call: &Call<A>) -> Result<(), AllocError> {
+        for output in &call.outputs {
+            if let Owned::Local(node) = output.what {
+                self.giving.insert(node, call.at)?;
+            }
+        }
+        Ok(())
+    }
+}
+
+impl<'a, A: Allocator> Index<'a, A> {
+    pub fn new(alloc: Global, flow: &'a Flow<A>) -> Result<Index<'a, A>, AllocError>
+        ensures { IfOk result (λ index. AreSites (core_of flow.entry.now) index.sites) }
+    {
+        let sites = Sites::of(alloc, flow)?;
+        let tables = Tables::of(alloc, sites.all.as_slice())?;
+        Ok(Index {
+            flow,
+            sites,
+            tables,
+        })
+    }
+
+    /// The statement at an offset that can be blocked.
+    pub fn site(&self, at: usize) -> Option<&Site<'a, A>> {
+        self.sites.at(at)
+    }
+
+    /// The statement of a node that can be blocked.
+    pub fn site_of(&self, node: u32) -> Option<&Site<'a, A>> {
+        for site in &self.sites.all {
+            if site.node() == node && site.can_be_blocked() {
+                return Some(site);
+            }
+        }
+        None
+    }
+
+    /// The name of the function that is called at an offset.
+    pub fn function_at(&self, at: usize) -> Option<&'a [u8]> {
+        let i = *self.tables.called.get(&at)?;
+        let function = self.flow.functions.get(i)?;
+        Some(function.name.as_slice())
+    }
+
+    /// The cell of a node.
+    pub fn spot(&self, node: u32) -> Option<&Spot<'a, A>> {
+        let i = *self.tables.cells.get(&node)?;
+        self.tables.spots.get(i)
+    }
+
+    /// Where the call stands that gives what is of this node.
+    pub fn giving_at(&self, node: u32) -> Option<usize> {
+        self.tables.giving.get(&node).copied()
+    }
+
+    /// What a variable is called that is declared at this node.
+    pub fn variable_name(&self, node: u32) -> Option<&'a [u8]> {
+        let i = *self.tables.declaring.get(&node)?;
+        let variable = variable_of(self.sites.all.get(i)?, node)?;
+        Some(variable.name.as_slice())
+    }
+
+    /// What a name in a function, or in the script's own blocks, is called; none where it is a cell, or what a call gives.
+    pub fn name(&self, function: Option<usize>, name: Name) -> Option<&'a [u8]> {
+        match name.what {
+            Owned::Local(node) => self.variable_name(node),
+            Owned::Input(i) => {
+                let function = self.flow.functions.get(function?)?;
+                Some(function.inputs.get(i)?.name.as_slice())
+            }
+            Owned::Output(i) => {
+                let function = self.flow.functions.get(function?)?;
+                Some(function.outputs.get(i)?.name.as_slice())
+            }
+        }
+    }
+}

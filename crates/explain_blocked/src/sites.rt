@@ -1,0 +1,63 @@
+//! What is said of a statement by its kind, and which variables it declares.
+
+use flow::statement::{Action, Variable};
+use flow_index::site::{Form, Site};
+use std::alloc::Allocator;
+
+/// What a statement does, where it is no `wait` inside of another one with nothing beside it.
+pub fn action_of<'a, A: Allocator>(site: &Site<'a, A>) -> Option<&'a Action<A>> {
+    match &site.form {
+        Form::Whole(statement) => Some(&statement.action),
+        Form::Inner(_, _, _) => None,
+    }
+}
+
+/// What kind of statement it is.
+pub fn word_of<'a, A: Allocator>(site: &Site<'a, A>) -> &'static str {
+    match action_of(site) {
+        None => "wait",
+        Some(Action::Wait { .. }) => "wait",
+        Some(Action::When { .. }) => "if",
+        Some(Action::Choose { .. }) => "if",
+        Some(Action::Range { .. }) => "loop",
+        Some(Action::Each { .. }) => "loop",
+        Some(_) => "statement",
+    }
+}
+
+/// Whether it has blocks inside.
+pub fn opens_blocks<'a, A: Allocator>(site: &Site<'a, A>) -> bool {
+    match action_of(site) {
+        None => true,
+        Some(Action::Wait { .. }) => true,
+        Some(Action::When { .. }) => true,
+        Some(Action::Choose { .. }) => true,
+        Some(Action::Range { .. }) => true,
+        Some(Action::Each { .. }) => true,
+        Some(_) => false,
+    }
+}
+
+/// The variable that the statement declares under a node, as a loop does too.
+pub fn variable_of<'a, A: Allocator>(site: &Site<'a, A>, node: u32) -> Option<&'a Variable<A>> {
+    match action_of(site) {
+        Some(Action::Declare(variable)) if variable.node == node => Some(variable),
+        Some(Action::Range { value, turn, .. }) => of_loop(value, turn, node),
+        Some(Action::Each { value, key, .. }) => of_loop(value, key, node),
+        _ => None,
+    }
+}
+
+fn of_loop<'a, A: Allocator>(
+    value: &'a Variable<A>,
+    other: &'a Option<Variable<A>>,
+    node: u32,
+) -> Option<&'a Variable<A>> {
+    if value.node == node {
+        return Some(value);
+    }
+    match other {
+        Some(variable) if variable.node == node => Some(variable),
+        _ => None,
+    }
+}

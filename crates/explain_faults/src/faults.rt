@@ -1,0 +1,207 @@
+//! Faults, as a person reads of them.
+
+use crate::printed::Printed;
+use crate::reasons::{plain_of, rule_of, say_reason};
+use explain_blocked::paths::{say_path, say_steps};
+use explain_blocked::scene::Scene;
+use explain_blocked::words::{add_mark, say, say_start};
+use explain_inputs::blocking::instance_at;
+use explain_refusals::position::line_begin;
+use flow::script::Flow;
+use meaning::rounds;
+use meaning_facts::facts::{FaultFact, FaultKind, Place};
+use meaning_facts::instances::Step;
+use meaning_outcomes::knowledge::Knowledge;
+use std::alloc::{AllocError, Allocator, Global};
+use std::collections::HashMap;
+
+/// How many rounds of a script are worked out at first to find the fault of a run.
+const FIRST_ROUNDS: u32 = 16;
+
+/// How often more of them are.
+const MOST_TRIES: usize = 100;
+
+/// Behind so many blocks the fault of a run is looked for no longer.
+const MOST_INSTANCES: usize = 200_000;
+
+/// Adds what is said of each fault that is known of a script, in the order in which they are told:
+/// `FILE:LINE:COLUMN: F3 NoElement: A has no element 3: it is closed and has the keys 0 to 2`, the line of the source with the place
+/// marked, and its path in words.
+///
+/// # Errors
+///
+/// `AllocError` where memory that was asked for was refused.
+pub fn add_all_faults<'t, 'a, A: Allocator>(
+    scene: &Scene<'t, 'a, A>,
+    out: &mut Vec<u8>,
+    file: &str,
+) -> Result<(), AllocError> {
+    let firsts = first_nodes(scene.alloc, scene.known)?;
+    let faults = scene.known.faults()?;
+    for fault in &faults {
+        let statement = &fault.statement;
+        let path = statement.path.as_slice();
+        if let Some(fact) = fact_at(scene.known, &firsts, fault.kind, statement.at, path) {
+            add_fault(scene, out, file, fact)?;
+        }
+    }
+    Ok(())
+}
+
+/// Adds the same of the fault that a run has printed. Of one that is not known of the script, no values.
+///
+/// # Errors
+///
+/// `AllocError` where memory that was asked for was refused.
+pub fn add_printed_fault<'t, 'a, A: Allocator>(
+    scene: &Scene<'t, 'a, A>,
+    out: &mut Vec<u8>,
+    file: &str,
+    printed: &Printed,
+) -> Result<(), AllocError> {
+    match fact_of(scene.alloc, scene.known, printed)? {
+        Some(fact) => add_fault(scene, out, file, fact),
+        None => add_plain(scene, out, file, printed),
+    }
+}
+
+/// What is known of a script after as many rounds as make known the fault that a run has printed; fewer where the script is too large.
+///
+/// # Errors
+///
+/// `AllocError` where memory that was asked for was refused.
+pub fn known_for<A: Allocator>(
+    alloc: Global,
+    flow: &Flow<A>,
+    printed: &Printed,
+) -> Result<Knowledge, AllocError> {
+    let mut limit = FIRST_ROUNDS;
+    let mut known = rounds(alloc, flow, limit)?;
+    for _ in 0..MOST_TRIES {
+        if is_enough(alloc, &known, printed)? {
+            break;
+        }
+        limit = limit.saturating_add(limit / 4);
+        known = rounds(alloc, flow, limit)?;
+    }
+    Ok(known)
+}
+
+fn is_enough(alloc: Global, known: &Knowledge, printed: &Printed) -> Result<bool, AllocError> {
+    if known.finished || known.learned.instances.all.len() > MOST_INSTANCES {
+        return Ok(true);
+    }
+    Ok(fact_of(alloc, known, printed)?.is_some())
+}
+
+/// The fault that a run has printed, where it is known.
+fn fact_of(
+    alloc: Global,
+    known: &Knowledge,
+    printed: &Printed,
+) -> Result<Option<FaultFact>, AllocError> {
+    let firsts = first_nodes(alloc, known)?;
+    let path = printed.path.as_slice();
+    Ok(fact_at(known, &firsts, printed.kind, printed.at, path))
+}
+
+/// Of each statement with a fault the first node that has it, by the fault without its node.
+fn first_nodes(alloc: Global, known: &Knowledge) -> Result<HashMap<FaultFact, u32>, AllocError> {
+    let mut firsts = HashMap::new(alloc);
+    for fault in known.learned.facts.faults.iter() {
+        note_first(&mut firsts, *fault)?;
+    }
+    Ok(firsts)
+}
+
+fn note_first(firsts: &mut HashMap<FaultFact, u32>, fault: FaultFact) -> Result<(), AllocError> {
+    let node = fault.place.node;
+    let key = with_node(fault, 0);
+    let is_first = match firsts.get(&key) {
+        Some(first) => node < *first,
+        None => true,
+    };
+    if is_first {
+        firsts.insert(key, node)?;
+    }
+    Ok(())
+}
+
+fn with_node(fault: FaultFact, node: u32) -> FaultFact {
+    FaultFact {
+        kind: fault.kind,
+        at: fault.at,
+        place: Place {
+            instance: fault.place.instance,
+            node,
+        },
+    }
+}
+
+/// The first fault of a kind that the statement at an offset has under a path.
+fn fact_at(
+    known: &Knowledge,
+    firsts: &HashMap<FaultFact, u32>,
+    kind: FaultKind,
+    at: usize,
+    path: &[Step],
+) -> Option<FaultFact> {
+    let instance = instance_at(&known.learned.instances, path)?;
+    let place = Place { instance, node: 0 };
+    let key = FaultFact { kind, at, place };
+    let node = *firsts.get(&key)?;
+    Some(with_node(key, node))
+}
+
+fn add_fault<'t, 'a, A: Allocator>(
+    scene: &Scene<'t, 'a, A>,
+    out: &mut Vec<u8>,
+    file: &str,
+    fact: FaultFact,
+) -> Result<(), AllocError> {
+    say_start(out, file, scene.text, fact.at)?;
+    say(out, rule_of(fact.kind))?;
+    say(out, ": ")?;
+    if !say_reason(scene, out, fact)? {
+        say(out, plain_of(fact.kind))?;
+    }
+    say(out, "\n")?;
+    add_mark(out, scene.text, mark_of(scene, fact))?;
+    say_path(scene, out, fact.place.instance)
+}
+
+/// What is marked of a fault: its cell where that is on the line of the statement, and else the statement.
+fn mark_of<'t, 'a, A: Allocator>(scene: &Scene<'t, 'a, A>, fact: FaultFact) -> usize {
+    let Some(spot) = scene.index.spot(fact.place.node) else {
+        return fact.at;
+    };
+    let end = scene.text.len();
+    let line = line_begin(scene.text, fact.at.min(end));
+    if line_begin(scene.text, spot.cell.at.min(end)) == line {
+        spot.cell.at
+    } else {
+        fact.at
+    }
+}
+
+/// Adds what is said of a fault of which no values are known.
+fn add_plain<'t, 'a, A: Allocator>(
+    scene: &Scene<'t, 'a, A>,
+    out: &mut Vec<u8>,
+    file: &str,
+    printed: &Printed,
+) -> Result<(), AllocError> {
+    say_start(out, file, scene.text, printed.at)?;
+    say(out, rule_of(printed.kind))?;
+    say(out, ": ")?;
+    say(out, plain_of(printed.kind))?;
+    say(out, "\n")?;
+    add_mark(out, scene.text, printed.at)?;
+    let inner = printed.inner_first(scene.alloc)?;
+    if inner.is_empty() {
+        return Ok(());
+    }
+    say(out, "    ")?;
+    say_steps(scene, out, usize::MAX, inner.as_slice())?;
+    say(out, "\n")
+}

@@ -1,0 +1,112 @@
+//! The fault that a run has printed, read from its line.
+
+use explain_refusals::position::line_begin;
+use meaning_facts::facts::FaultKind;
+use meaning_facts::instances::Step;
+use std::alloc::{AllocError, Global};
+use values::key::Key;
+use values::number;
+
+/// What the line of a fault begins with.
+const START: &[u8] = b"swt: fault F";
+
+/// A fault: its kind, the offset of its statement, and the path of that, the outermost step first.
+#[derive(Drop)]
+pub struct Printed {
+    pub kind: FaultKind,
+    pub at: usize,
+    pub path: Vec<Step>,
+}
+
+impl Printed {
+    /// The fault that the last line of a text tells, as in `swt: fault F3 NoElement 19 /4.1`.
+    ///
+    /// # Errors
+    ///
+    /// `AllocError` where memory that was asked for was refused.
+    pub fn read(alloc: Global, text: &[u8]) -> Result<Option<Printed>, AllocError> {
+        let Some(rest) = last_line(text).strip_prefix(START) else {
+            return Ok(None);
+        };
+        let (number, rest) = cut(rest, b' ');
+        let (_name, rest) = cut(rest, b' ');
+        let (offset, path) = cut(rest, b' ');
+        match (kind_of(number), offset_of(offset)) {
+            (Some(kind), Some(at)) => Ok(Some(Printed {
+                kind,
+                at,
+                path: steps_of(alloc, path)?,
+            })),
+            _ => Ok(None),
+        }
+    }
+
+    /// The path with the innermost step first.
+    pub fn inner_first(&self, alloc: Global) -> Result<Vec<Step>, AllocError> {
+        let mut steps = Vec::new(alloc);
+        for step in &self.path {
+            steps.push(Step {
+                at: step.at,
+                key: step.key.share()?,
+            })?;
+        }
+        steps.reverse();
+        Ok(steps)
+    }
+}
+
+/// The last line of a text, without the byte that ends it.
+fn last_line(text: &[u8]) -> &[u8] {
+    let end = text.len().saturating_sub(1);
+    &text[line_begin(text, end)..end]
+}
+
+/// What stands before the first byte of this kind, and what stands behind it.
+fn cut(bytes: &[u8], at: u8) -> (&[u8], &[u8]) {
+    for i in 0..bytes.len() {
+        if bytes[i] == at {
+            return (&bytes[..i], &bytes[i + 1..]);
+        }
+    }
+    (bytes, &[])
+}
+
+fn kind_of(number: &[u8]) -> Option<FaultKind> {
+    match number {
+        [b'1'] => Some(FaultKind::Overflow),
+        [b'2'] => Some(FaultKind::DivideByZero),
+        [b'3'] => Some(FaultKind::NoElement),
+        [b'4'] => Some(FaultKind::ElementTwice),
+        [b'5'] => Some(FaultKind::BadStep),
+        [b'6'] => Some(FaultKind::TooDeep),
+        [b'7'] => Some(FaultKind::NotANumber),
+        [b'8'] => Some(FaultKind::AssertFailed),
+        _ => None,
+    }
+}
+
+fn offset_of(digits: &[u8]) -> Option<usize> {
+    let number = number::parse(digits).ok()?;
+    usize::try_from(number).ok()
+}
+
+/// The steps of a path as `/4.1/9.-3`; none of `/`.
+fn steps_of(alloc: Global, path: &[u8]) -> Result<Vec<Step>, AllocError> {
+    let mut steps = Vec::new(alloc);
+    let mut rest = path;
+    for _ in 0..path.len() {
+        let (step, behind) = cut(rest, b'/');
+        rest = behind;
+        if let Some(step) = step_of(step) {
+            steps.push(step)?;
+        }
+    }
+    Ok(steps)
+}
+
+fn step_of(step: &[u8]) -> Option<Step> {
+    let (at, key) = cut(step, b'.');
+    let at = offset_of(at)?;
+    let key = Key::Number(number::parse(key).ok()?);
+    Some(Step { at, key })
+}

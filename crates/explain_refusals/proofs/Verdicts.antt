@@ -1,0 +1,85 @@
+-- What is known of a text that was read as a tree, and checked.
+use Rattle.std.proofs.Common.{◌≡◌, ℕ, List, ◌∷◌, ◌++◌, length, Some, inl, inr}
+use Rattle.std.specs.Prelude.{◌≢◌, Option, min}
+use Rattle.lexer.specs.declared.token.Span.{Span}
+use Rattle.language.specs.Numbered.{numbered}
+use Rattle.language.specs.Reads.{Reads}
+use Rattle.language.specs.Resolved.{core}
+use Rattle.language.specs.Single.{SinglyAssigned}
+use Rattle.language.specs.Table.{Table}
+use Rattle.language.specs.Tree.{Tree}
+use Rattle.language.specs.Typing.{WellTyped}
+use Rattle.syntax.specs.Refusals as parsing
+use Rattle.syntax.specs.declared.error.ParseFault.{ParseFault}
+use Rattle.types.specs.declared.fault.TypeFault.{TypeFault}
+use Rattle.types.specs.declared.fault.TypeFault.TheVariants as Typing
+use Rattle.types.specs.Breaks as typing
+use Rattle.types.specs.Faults as type_faults
+use Rattle.assign_check.specs.declared.fault.AssignFault.{AssignFault}
+use Rattle.assign_check.specs.declared.fault.AssignFault.TheVariants as Assign
+use Rattle.assign_check.specs.Breaks as assigning
+use Rattle.assign_check.specs.Places as assign_places
+use Rattle.explain_refusals.specs.Positions.{IsPosition}
+use Rattle.explain_refusals.specs.Verdicts.{IsScript, BeginsAt, Explains, place_text}
+use Rattle.explain_refusals.specs.declared.position.Position.{Position}
+
+-- a numbered tree for which this holds
+abbrev pub IfNumbered : Tree → Type 0 → Type 0
+IfNumbered tree P = (n : ℕ) (u : Tree) → tree ≡ numbered n u → P
+
+is_typed : (src : List ℕ) (tree : Tree) (t : Table) → Reads src tree → IfNumbered tree (WellTyped tree t) → assigning.IsTyped t tree
+is_typed src tree t reads typed = record { first = 1; plain = reads.parsed; is_numbered = reads.is_numbered; typed = typed 1 reads.parsed reads.is_numbered }
+
+pub accepted : (src : List ℕ) (tree : Tree) (t : Table) → Reads src tree → IfNumbered tree (WellTyped tree t)
+    → (assigning.IsTyped t tree → SinglyAssigned (core t tree)) → IsScript src
+accepted src tree t reads typed single =
+    record { tree = tree; table = t; reads = reads; typed = typed 1 reads.parsed reads.is_numbered; single = single (is_typed src tree t reads typed) }
+
+-- words that begin with the place of a fault
+abbrev pub Told : List ℕ → List ℕ → List ℕ → Option Span → Type 0
+Told file src words place = (at : Span) × (place ≡ Some at) × BeginsAt file src at words
+
+pub begins : (file src words rest : List ℕ) (at : Span) (p : Position) → IsPosition src (min at.from (length src)) p
+    → words ≡ place_text file p ++ 58 ∷ 32 ∷ rest → BeginsAt file src at words
+begins file src words rest at p position is = record { position = p; is_position = position; rest = rest; is = is }
+
+pub explains_unread : (file src words : List ℕ) (f : ParseFault) → parsing.Refuses src f → Told file src words (parsing.place_of f) → Explains file src words
+explains_unread file src words f refused told =
+    record { at = told.0; refused = inl (record { fault = f; refused = refused; place = told.1 }); begins = told.2 }
+
+has_place : (f : TypeFault) (at : Span) → type_faults.span_of f ≡ Some at → f ≢ Typing.Memory
+has_place Typing.Memory at place = absurd (cc)
+has_place (Typing.Unknown p) at place = λ same. absurd (cc)
+has_place (Typing.Declared p) at place = λ same. absurd (cc)
+has_place (Typing.Mismatch p) at place = λ same. absurd (cc)
+has_place (Typing.WrongCount p) at place = λ same. absurd (cc)
+has_place (Typing.BadFormat p) at place = λ same. absurd (cc)
+has_place (Typing.NotAFunction p) at place = λ same. absurd (cc)
+
+pub explains_ill_typed : (file src words : List ℕ) (tree : Tree) (f : TypeFault) → Reads src tree
+    → (f ≢ Typing.Memory → typing.Breaks tree f) → (f ≢ Typing.Memory → (t : Table) → ¬ WellTyped tree t) → Told file src words (type_faults.span_of f)
+    → Explains file src words
+explains_ill_typed file src words tree f reads broken none told =
+    let fault = has_place f told.0 told.1 in
+    record { at = told.0; refused = inr (inl (record { tree = tree; fault = f; reads = reads; ill_typed = none fault; broken = broken fault; place = told.1 })); begins = told.2 }
+
+assign_place : (f : AssignFault) (at : Span) → assign_places.span_of f ≡ Some at → f ≢ Assign.Memory
+assign_place Assign.Memory at place = absurd (cc)
+assign_place (Assign.AssignedTwice p) at place = λ same. absurd (cc)
+assign_place (Assign.PartlyAssigned p) at place = λ same. absurd (cc)
+assign_place (Assign.NeverAssigned p) at place = λ same. absurd (cc)
+assign_place (Assign.OuterInLoop p) at place = λ same. absurd (cc)
+assign_place (Assign.WholeAndElements p) at place = λ same. absurd (cc)
+assign_place (Assign.OutputUnassigned p) at place = λ same. absurd (cc)
+
+pub explains_not_single : (file src words : List ℕ) (tree : Tree) (t : Table) (f : AssignFault) → Reads src tree → IfNumbered tree (WellTyped tree t)
+    → (f ≢ Assign.Memory → assigning.IsTyped t tree → ¬ SinglyAssigned (core t tree)) → (f ≢ Assign.Memory → assigning.IsTyped t tree → assigning.Breaks t tree f)
+    → Told file src words (assign_places.span_of f) → Explains file src words
+explains_not_single file src words tree t f reads typed not_single broken told =
+    let fault = assign_place f told.0 told.1 in
+    let well = is_typed src tree t reads typed in
+    record {
+      at = told.0;
+      refused = inr (inr (record { tree = tree; table = t; fault = f; reads = reads; typed = well.typed; not_single = not_single fault well; broken = broken fault well; place = told.1 }));
+      begins = told.2;
+    }

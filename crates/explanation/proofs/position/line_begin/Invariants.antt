@@ -1,5 +1,0 @@
-use Rattle.explanation.specs.Positions.{BeginsLine}
-use Rattle.explanation.proofs.position.line_begin.Given as goal
-
-abbrev pub invariant-loop-i : goal.invariant-loop-i
-invariant-loop-i l = BeginsLine l.text l.i l.begin

@@ -1,0 +1,149 @@
+//! How often a block declares a node.
+ghost use Rattle.std.specs.Prelude.{◌≡◌, ◌∷◌, [], option_map, option_to_list};
+ghost use Rattle.std.specs.List.{flat_map};
+ghost use Rattle.flow.specs.View.{action_view, block_view, name_view, names_view, outer_view, part_view, parts_view};
+ghost use Rattle.language.specs.Parts.{outer_parts};
+ghost use Rattle.flow.specs.Names.{action_nodes, block_nodes, here_nodes, part_nodes};
+ghost use Rattle.flow.specs.Viewed.{plus, times_as};
+
+use crate::cell::{Outer, Part};
+use crate::name::{Name, Owned};
+use crate::statement::{Action, Block, Range};
+use std::alloc::Allocator;
+
+/// How often something is declared.
+#[derive(Clone, Copy, PartialEq, Eq, Debug)]
+pub(crate) enum Times {
+    Never,
+    Once,
+    Often,
+}
+
+impl Times {
+    /// How often in two parts.
+    pub(crate) fn and(self, other: Times) -> Times
+        ensures { result ≡ plus self other }
+    {
+        match (self, other) {
+            (Times::Never, other) => other,
+            (this, Times::Never) => this,
+            _ => Times::Often,
+        }
+    }
+}
+
+/// How often a variable is the one of a node.
+pub(crate) fn times_of_variable(node: u32, variable: Option<u32>) -> Times
+    ensures { result ≡ times_as node (option_to_list variable) }
+{
+    match variable {
+        Some(other) if other == node => Times::Once,
+        _ => Times::Never,
+    }
+}
+
+/// How often a statement declares a node.
+#[cycle(block)]
+fn times_in_action<A: Allocator>(node: u32, action: &Action<A>) -> Times
+    ensures { result ≡ times_as node (action_nodes (action_view action.now)) }
+{
+    match action {
+        Action::Declare(variable) => times_of_variable(node, Some(variable.node)),
+        Action::Call { parts, .. } => times_in_parts(node, parts),
+        Action::Assign { right, .. } => times_in_outer(node, right),
+        Action::Fill { right, .. } => times_in_outer(node, right),
+        Action::Insert { index, right, .. } => times_in_two(node, index, right),
+        Action::Print { line, .. } => times_in_outer(node, line),
+        Action::Assert { check, .. } => times_in_outer(node, check),
+        Action::When { condition, .. } => times_in_outer(node, condition),
+        Action::Choose { condition, .. } => times_in_outer(node, condition),
+        Action::Range { range, .. } => times_in_range(node, range),
+        Action::Each { .. } => Times::Never,
+        Action::Wait { content, .. } => times_in_block(node, content),
+    }
+}
+
+/// How often a block's instance declares a node.
+#[cycle(block)]
+pub(crate) fn times_in_block<A: Allocator>(node: u32, block: &Block<A>) -> Times
+    ensures { result ≡ times_as node (block_nodes (block_view block.now)) }
+{
+    let mut times = Times::Never;
+    for statement in &block.statements {
+        times = times.and(times_in_action(node, &statement.action));
+    }
+    times
+}
+
+/// How often two outermost cells declare a node.
+fn times_in_two<A: Allocator>(node: u32, one: &Outer<A>, other: &Outer<A>) -> Times
+    ensures { result ≡ times_as node (flat_map part_nodes (outer_parts (outer_view one.now ∷ outer_view other.now ∷ []))) }
+{
+    times_in_outer(node, one).and(times_in_outer(node, other))
+}
+
+/// How often the bounds and the step of a range declare a node.
+fn times_in_range<A: Allocator>(node: u32, range: &Range<A>) -> Times
+    ensures { result ≡ times_as node (flat_map part_nodes (outer_parts (outer_view range.now.low ∷ outer_view range.now.high ∷ option_to_list (option_map outer_view range.now.step)))) }
+{
+    let upper = times_in_outer(node, &range.high).and(times_in_step(node, &range.step));
+    times_in_outer(node, &range.low).and(upper)
+}
+
+/// How often the step of a range declares a node.
+fn times_in_step<A: Allocator>(node: u32, step: &Option<Outer<A>>) -> Times
+    ensures { result ≡ times_as node (flat_map part_nodes (outer_parts (option_to_list (option_map outer_view step.now)))) }
+{
+    match step {
+        Some(outer) => times_in_outer(node, outer),
+        None => Times::Never,
+    }
+}
+
+/// How often an outermost cell declares a node, with what is inside it.
+fn times_in_outer<A: Allocator>(node: u32, outer: &Outer<A>) -> Times
+    ensures { result ≡ times_as node (flat_map part_nodes (outer_parts (outer_view outer.now ∷ []))) }
+{
+    times_in_parts(node, &outer.parts).and(times_of_variable(node, Some(outer.cell.node)))
+}
+
+/// How often cells and calls in an expression declare a node.
+fn times_in_parts<A: Allocator>(node: u32, parts: &Vec<Part<A>, A>) -> Times
+    ensures { result ≡ times_as node (flat_map part_nodes (parts_view parts.now.items)) }
+{
+    let mut times = Times::Never;
+    for part in parts {
+        times = times.and(times_in_part(node, part));
+    }
+    times
+}
+
+fn times_in_part<A: Allocator>(node: u32, part: &Part<A>) -> Times
+    ensures { result ≡ times_as node (part_nodes (part_view part.now)) }
+{
+    match part {
+        Part::Inner(cell) => times_of_variable(node, Some(cell.node)),
+        Part::Calls(call) => times_in_names(node, call.outputs.as_slice()),
+    }
+}
+
+/// How often names are the variable of a node in their own block.
+fn times_in_names(node: u32, names: &[Name]) -> Times
+    ensures { result ≡ times_as node (flat_map here_nodes (names_view names.now)) }
+{
+    let mut times = Times::Never;
+    for name in names {
+        times = times.and(times_in_name(node, name));
+    }
+    times
+}
+
+/// How often a name is the variable of a node in its own block.
+fn times_in_name(node: u32, name: &Name) -> Times
+    ensures { result ≡ times_as node (here_nodes (name_view name.now)) }
+{
+    match (name.up, name.what) {
+        (0, Owned::Local(other)) => times_of_variable(node, Some(other)),
+        _ => Times::Never,
+    }
+}

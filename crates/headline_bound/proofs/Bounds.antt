@@ -1,0 +1,213 @@
+-- Of a script that writes no key twice, each item of a run is live in the script, and a run has at most two events for each of them and for each that is given back.
+use Rattle.std.proofs.lemmas.List.{length-map}
+use Rattle.std.proofs.lemmas.List.Concat.{length-flat_map}
+use Rattle.std.proofs.lemmas.List.Sums.{sum_by-cons}
+use Rattle.std.proofs.Common.{◌≡◌, ◌⊎◌, inl, inr, ℕ, zero, suc, ◌+◌, ◌-◌, ◌*◌, ◌<◌, ◌≤◌, arith, Bool, true, false, List, [], ◌∷◌, ◌++◌, length, map, refl, sym, ap, ◌∙◌, subst, Option, Some, None, length-append}
+use Rattle.std.specs.Prelude.{drop}
+use Rattle.std.specs.List.{flat_map, sum_by}
+use Rattle.dataflow.specs.Events.{backs}
+use Rattle.dataflow.specs.Facts as Fa
+use Rattle.dataflow.specs.Facts.{Live, live_main, live_opened}
+use Rattle.dataflow.specs.History.{log_of}
+use Rattle.dataflow.specs.Laws.{Can}
+use Rattle.dataflow.specs.Machine.{Event}
+use Rattle.dataflow.specs.System.{In, Effect, Opening}
+use Rattle.dataflow.proofs.Frozen.{live_grows}
+use Rattle.dataflow.proofs.Headline.{agrees_with}
+use Rattle.dataflow.proofs.Keeping.{live_bound}
+use Rattle.dataflow.proofs.Lists.{in_left, in_right, in_map, in_unmap, in_split}
+use Rattle.dataflow.proofs.Steps.{run_follows}
+use Rattle.values.specs.declared.key.Key.{Key}
+use Rattle.values.specs.declared.value.Scalar.{Scalar}
+use Rattle.language.specs.Core.{Core}
+use Rattle.language.specs.Meaning.{Meaning}
+use Rattle.language.specs.Single.{SinglyAssigned}
+use Rattle.language.specs.WellFormed.{WellFormed}
+use Rattle.language_laws.specs.Scoped.{Scoped}
+use Rattle.language_laws.specs.TypedValues.{TypedValues}
+use Rattle.task_code.specs.Code.{Code, Loop, body, entry, loop_of}
+use Rattle.task_code.specs.Compute.{compute}
+use Rattle.task_code.specs.Count.{items_in, rest_from, rests_of}
+use Rattle.task_code.specs.Effects.{Task, Main, Item, block, instances, is_some_list, left_at, rest, rest_if, turns_of}
+use Rattle.task_code.specs.Exact.{IsExact}
+use Rattle.task_code.specs.Machine.{CodeItem, CodeState, Run}
+use Rattle.task_code.specs.Places.{Step, Place}
+use Rattle.task_code.specs.System.{answered, code_system}
+use Rattle.task_code.specs.Whole.{IsCode}
+use Rattle.task_code.proofs.Counted.{gather_in}
+use Rattle.task_code.proofs.Kept.{code_laws}
+use Rattle.task_code.proofs.Opens as Op
+use Rattle.task_code.proofs.Opens.{effect_is, found}
+use Rattle.fold_laws.specs.Same.{SameCore}
+use Rattle.code_rules.specs.IsCodeOf.{IsCodeOf}
+use Rattle.code_rules.specs.NodesOnce.{NodesOnce}
+use Rattle.headline.specs.Answered.{Reading}
+use Rattle.headline.specs.Chains.{Answers}
+use Rattle.headline.specs.Inclusions.{Facts}
+use Rattle.headline.specs.Knows.{Knows}
+use Rattle.headline.proofs.LiveTo.{Fact, ItemLive, live_to, good_in, in_one}
+use Rattle.headline.proofs.RunsWithin.{within}
+use Rattle.headline.proofs.Transfer.{live_reading, reading_valid}
+use Rattle.headline.proofs.Within.{clean_code}
+use Rattle.headline_bound.specs.Live.{IsLiveItem, HasLiveBodies, HasLiveLoops}
+use Rattle.headline_bound.proofs.Loops.{live_body, live_loop}
+
+-- LISTS
+
+sum_same : {A : Type 0} (f g : A → ℕ) → ((x : A) → f x ≡ g x) → (xs : List A) → sum_by f xs ≡ sum_by g xs
+sum_same f g h [] = refl
+sum_same f g h (x ∷ xs) = sum_by-cons f x xs ∙ (λ i. h x i + sum_same f g h xs i) ∙ sym (sum_by-cons g x xs)
+
+one_more : (n m : ℕ) → n ≡ m → suc n ≡ 1 + m
+one_more n m h = omega arith
+
+length_dropped : {X : Type 0} (n : ℕ) (xs : List X) → length (drop n xs) ≡ length xs - n
+length_dropped zero xs = omega arith
+length_dropped (suc n) [] = omega arith
+length_dropped (suc n) (x ∷ xs) = let h = length_dropped n xs in omega arith
+
+-- what is left before a chunk is behind the chunks before it
+left_long : {X : Type 0} (c : ℕ) (xs : List X) → is_some_list (left_at c xs) ≡ true → 64 * c < length xs
+left_long zero [] h = absurd (cc)
+left_long zero (x ∷ xs) h = omega arith
+left_long (suc c) xs h = let l = left_long c (drop 64 xs) h in let d = length_dropped 64 xs in omega arith
+
+left_some : {X : Type 0} (c : ℕ) (xs : List X) → is_some_list (left_at c xs) ≡ true → (x : X) × In x xs
+left_some c [] h = let l = left_long c [] h in absurd (omega arith)
+left_some c (x ∷ xs) h = (x, inl refl)
+
+few_rests : (c m : ℕ) → 64 * suc c < m → suc c ≤ rests_of m
+few_rests c m h = grind arith
+
+last_or : (c k : ℕ) → suc c ≤ suc k → (c ≡ k) ⊎ (suc c ≤ k)
+last_or c k h = grind arith
+
+in_rests : (i : ℕ) (p : List Step) (c k : ℕ) → suc c ≤ k → In (Item i p (suc c)) (rest_from i p k)
+in_rests i p c zero h = absurd (omega arith)
+in_rests i p c (suc k) h = elim (last_or c k h) [ inl e ↦ inl (ap (λ (n : ℕ). Item i p (suc n)) e) | inr l ↦ inr (in_rests i p c k l) ]
+
+length_rests : (i : ℕ) (p : List Step) (k : ℕ) → length (rest_from i p k) ≡ k
+length_rests i p zero = refl
+length_rests i p (suc k) = let h = length_rests i p k in omega arith
+
+item_parts : {i j c c' : ℕ} {p q : List Step} → Item i p c ≡ Item j q c' → (i ≡ j) × (p ≡ q) × (c ≡ c')
+item_parts h = (cc (h), cc (h), cc (h))
+
+-- THE ITEMS THAT ARE COUNTED
+
+module _ (C : Code) (bodies : List (ℕ × List Step)) (loops : List (ℕ × List Step × ℕ)) where
+  abbrev rest_items : ℕ × List Step × ℕ → List Task
+  rest_items l = rest_from l.0 l.1 (rests_of l.2)
+
+  abbrev block_items : ℕ × List Step → List Task
+  block_items s = map (λ j. Item j s.1 0) (body C s.0).entries
+
+  abbrev all_items : List Task
+  all_items = Main ∷ (flat_map block_items bodies ++ flat_map rest_items loops)
+
+  items_counted : length all_items ≡ items_in C bodies loops
+  items_counted =
+      let a = length-flat_map block_items bodies in
+      let b = length-flat_map rest_items loops in
+      let x = sum_same (λ s. length (block_items s)) (λ s. length (body C s.0).entries) (λ s. length-map (body C s.0).entries (λ j. Item j s.1 0)) bodies in
+      let y = sum_same (λ l. length (rest_items l)) (λ l. rests_of l.2) (λ l. length_rests l.0 l.1 (rests_of l.2)) loops in
+      one_more (length (flat_map block_items bodies ++ flat_map rest_items loops)) _ (length-append (flat_map block_items bodies) (flat_map rest_items loops) ∙ (λ i. (a ∙ x) i + (b ∙ y) i))
+
+module _ (script s : Core) (same : SameCore script s) (C : Code) (w : IsCodeOf s C) (wf : WellFormed s) (kn : Knows s (Meaning s)) (I : IsCode C) (sc : Scoped s) (ty : TypedValues s (Meaning s)) where
+  abbrev Alive : Task → Type 0
+  Alive t = Live (code_system C) (Reading (code_system C) (Answers s (Meaning s))) t
+
+  abbrev FactOf : Task → Effect Task Place Key Scalar → Type 0
+  FactOf t e = Fact s C w (Meaning s) wf kn I sc ty t e
+
+  -- the item of a loop that left the rest of its turns to another one
+  record Before (i c : ℕ) (p : List Step) : Type 0 where
+    effect : Effect Task Place Key Scalar
+    live : Alive (Item i p c)
+    fact : FactOf (Item i p c) effect
+    loop : Loop
+    loops : loop_of (entry C i).act ≡ Some loop
+    left : is_some_list (left_at (suc c) (turns_of (compute (entry C i).act (answered C p (entry C i).needs fact.answers)))) ≡ true
+
+  rest_before : (j d : ℕ) (q : List Step) (e : Effect Task Place Key Scalar) (lv : Alive (Item j q d)) (f : FactOf (Item j q d) e) (o : Opening Task Place) (u : Task)
+      → In o (map (block C) (instances (entry C j).act (entry C j).mark q d (compute (entry C j).act (answered C q (entry C j).needs f.answers)))) ⊎ In o (rest (loop_of (entry C j).act) j q d (compute (entry C j).act (answered C q (entry C j).needs f.answers)))
+      → In u o.tasks → (i c : ℕ) (p : List Step) → u ≡ Item i p (suc c) → Before i c p
+  rest_before j d q e lv f o u (inl g) iu i c p same =
+      let r = in_unmap (block C) o (instances (entry C j).act (entry C j).mark q d (compute (entry C j).act (answered C q (entry C j).needs f.answers))) g in
+      let m = Op.in_block C r.0 o u (sym r.2) iu in
+      let z : suc c ≡ 0 = (item_parts (sym same ∙ m.2)).2 in
+      absurd (omega arith)
+  rest_before j d q e lv f o u (inr g) iu i c p same = by (loop_of (entry C j).act) refl g
+    where
+      by : (k : Option Loop) → loop_of (entry C j).act ≡ k → In o (rest k j q d (compute (entry C j).act (answered C q (entry C j).needs f.answers))) → Before i c p
+      by None z h = absurd h
+      by (Some lp) z h = by_left (is_some_list (left_at (suc d) (turns_of (compute (entry C j).act (answered C q (entry C j).needs f.answers))))) refl h
+        where
+          by_left : (b : Bool) → is_some_list (left_at (suc d) (turns_of (compute (entry C j).act (answered C q (entry C j).needs f.answers)))) ≡ b → In o (rest_if b j q d) → Before i c p
+          by_left false y h = absurd h
+          by_left true y h =
+              let oq : o ≡ record { makes = []; tasks = Item j q (suc d) ∷ [] } = in_one o _ h in
+              let uq : u ≡ Item j q (suc d) = in_one u _ (subst (λ (x : Opening Task Place). In u x.tasks) oq iu) in
+              let parts = item_parts (sym uq ∙ same) in
+              let cq : d ≡ c = (let n = parts.2 in omega arith) in
+              let b : Before j d q = record { effect = e; live = lv; fact = f; loop = lp; loops = z; left = y } in
+              subst (λ (n : ℕ). Before n c p) parts.0 (subst (λ (r : List Step). Before j c r) parts.1 (subst (λ (n : ℕ). Before j n q) cq b))
+
+  before : (u : Task) → Alive u → (i c : ℕ) (p : List Step) → u ≡ Item i p (suc c) → Before i c p
+  before u live_main i c p q = absurd (cc (q))
+  before u (live_opened t u' e o lv f io iu) i c p q = by t lv f
+    where
+      by : (t : Task) → Alive t → FactOf t e → Before i c p
+      by Main lv f =
+          let io' : In o (block C (0, []) ∷ []) = subst (λ (x : Effect Task Place Key Scalar). In o x.opens) (sym (good_in f.is)) io in
+          let m = Op.in_block C (0, []) o u' (in_one o _ io') iu in
+          let z : suc c ≡ 0 = (item_parts (sym q ∙ m.2)).2 in
+          absurd (omega arith)
+      by (Item j r d) lv f =
+          let can : Can (code_system C) (Item j r d) e = record { answers = f.answers; is = f.is; valid = reading_valid (code_system C) (code_laws C I) (Answers s (Meaning s)) lv } in
+          let io' = subst (λ (x : Effect Task Place Key Scalar). In o x.opens) (sym (effect_is C j d r e can)) io in
+          rest_before j d r e lv f o u' (in_split o (map (block C) (instances (entry C j).act (entry C j).mark r d (found C can))) (rest (loop_of (entry C j).act) j r d (found C can)) io') iu i c p q
+
+  -- WHAT IS LIVE IS COUNTED
+  module _ (bodies : List (ℕ × List Step)) (loops : List (ℕ × List Step × ℕ)) (has_bodies : HasLiveBodies script C w.layout bodies) (has_loops : HasLiveLoops script C w.layout loops) where
+    item_counted : (u : Task) → Alive u → (x : ItemLive s C w (Meaning s) wf kn I sc ty u) → (n : ℕ) → x.chunk ≡ n → In u (all_items C bodies loops)
+    item_counted u lv x zero q =
+        let here : Item x.number x.path 0 ≡ u = ap (λ (n : ℕ). Item x.number x.path n) (sym q) ∙ x.is in
+        let there = in_map (λ j. Item j x.path 0) x.number (body C x.body_number).entries x.there in
+        inr (in_left u (flat_map (block_items C bodies loops) bodies) (flat_map (rest_items C bodies loops) loops)
+        (gather_in (block_items C bodies loops) bodies (x.body_number, x.path) u (has_bodies x.body_number x.path (live_body script s same C w wf kn I sc ty x.chain x.number x.there))
+        (subst (λ (z : Task). In z (block_items C bodies loops (x.body_number, x.path))) here there)))
+    item_counted u lv x (suc c) q =
+        let here : Item x.number x.path (suc c) ≡ u = ap (λ (n : ℕ). Item x.number x.path n) (sym q) ∙ x.is in
+        let b = before u lv x.number c x.path (sym here) in
+        let turns = turns_of (compute (entry C x.number).act (answered C x.path (entry C x.number).needs (b.fact).answers)) in
+        let one = left_some (suc c) turns b.left in
+        let loop = live_loop script s same C w wf kn I sc ty x.chain x.number c x.there b.effect b.fact b.loop b.loops one.0 one.1 in
+        let there = in_rests x.number x.path c (rests_of (length turns)) (few_rests c (length turns) (left_long (suc c) turns b.left)) in
+        inr (in_right u (flat_map (block_items C bodies loops) bodies) (flat_map (rest_items C bodies loops) loops)
+        (gather_in (rest_items C bodies loops) loops (x.number, x.path, length turns) u (has_loops x.number x.path (length turns) loop)
+        (subst (λ (z : Task). In z (rest_from x.number x.path (rests_of (length turns)))) here there)))
+
+    counted : (u : Task) → Alive u → In u (all_items C bodies loops)
+    counted u lv = elim (live_to s C w (Meaning s) wf kn I sc ty lv) [ inl q ↦ inl q | inr x ↦ item_counted u lv x x.chunk refl ]
+
+  -- RUNS
+  module _ (nodes : NodesOnce C) (ex : IsExact C) (single : SinglyAssigned s) where
+    alive : (n : ℕ) {t : Task} → Live (code_system C) (Fa.Known (code_system C) n) t → Alive t
+    alive n l =
+        live_reading (code_system C) (code_laws C I) (Answers s (Meaning s))
+        (live_grows (code_system C) (Fa.Known (code_system C) n) (Facts s C (Meaning s)) (within s C w wf kn I sc ty nodes ex single n) l)
+
+    live_item : {u : Task} → ItemLive s C w (Meaning s) wf kn I sc ty u → IsLiveItem script C w.layout u
+    live_item x = record { number = x.number; path = x.path; chunk = x.chunk; is = sym x.is; body_number = x.body_number; there = x.there; live = live_body script s same C w wf kn I sc ty x.chain x.number x.there }
+
+    pub run_live : (events : List Event) (st : CodeState) → Run C events st → (i : CodeItem) → In i st.items → (i.task ≡ Main) ⊎ IsLiveItem script C w.layout i.task
+    run_live events st run i m =
+        let a = agrees_with (code_system C) (code_laws C I) st (log_of (code_system C) events st run) (run_follows (code_system C) (code_laws C I) events st run) (clean_code s C w (Meaning s) wf kn I sc ty nodes ex single) in
+        elim (live_to s C w (Meaning s) wf kn I sc ty (alive a.round (a.items i m))) [ inl q ↦ inl q | inr x ↦ inr (live_item x) ]
+
+    pub run_bound : (bodies : List (ℕ × List Step)) (loops : List (ℕ × List Step × ℕ)) → HasLiveBodies script C w.layout bodies → HasLiveLoops script C w.layout loops
+        → (events : List Event) (st : CodeState) → Run C events st → length events ≤ 2 * (items_in C bodies loops + backs events)
+    run_bound bodies loops hb hl events st run =
+        subst (λ (n : ℕ). length events ≤ 2 * (n + backs events)) (items_counted C bodies loops)
+        (live_bound (code_system C) (code_laws C I) (clean_code s C w (Meaning s) wf kn I sc ty nodes ex single) (all_items C bodies loops) (λ n t l. counted bodies loops hb hl t (alive n l)) events st run)

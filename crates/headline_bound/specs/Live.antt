@@ -1,0 +1,68 @@
+-- What a run of a script's code can come to, in the words of the script: bodies of its live blocks, and its loops that run, with their turns. The code may be that of the script with expressions of literals
+-- folded: then a body stands for what its block has come to.
+use Rattle.std.specs.Prelude.{◌≡◌, ℕ, ◌<◌, List, [], ◌∷◌, length, Option, Some, Ok}
+use Rattle.dataflow.specs.System.{In}
+use Rattle.values.specs.declared.map.Element.{Element}
+use Rattle.values.specs.declared.value.Value.{Value}
+use Rattle.values.specs.declared.value.Value.TheVariants.{Many}
+use Rattle.values.specs.Ranges.{range_count}
+use Rattle.language.specs.Core.{Name, Outer, stmt, Action, range, each, Block, Core}
+use Rattle.language.specs.Meaning.{Live, Ready, Meaning}
+use Rattle.language.specs.Members.{◌∈◌}
+use Rattle.language.specs.Openings.{Bounds, bounds}
+use Rattle.language.specs.Parts.{block_list}
+use Rattle.task_code.specs.Code.{Code, body, entry}
+use Rattle.task_code.specs.Effects.{Task, Item}
+use Rattle.task_code.specs.Places.{Step}
+use Rattle.fold_laws.specs.Same.{SameBlock}
+use Rattle.code_rules.specs.Headline.{script_path}
+use Rattle.code_rules.specs.IsCodeOf.{Layout, BodyAs}
+
+-- a loop has so many turns, given the values of its bounds or the elements of its array
+pub data HasTurns : Action → List Value → ℕ → Type 0 where
+  of_range : {lo hi : Outer} {st : Option Outer} {x m : ℕ} {t : Option ℕ} {b : Block} {vs : List Value} {r : Bounds} → bounds vs ≡ Some r → range_count r.low r.high r.step ≡ Ok m → HasTurns (range lo hi st x t b) vs m
+  of_array : {a : Name} {x m : ℕ} {t : Option ℕ} {b : Block} {es : List Element} → m ≡ length es → HasTurns (each a x t b) (Many es ∷ []) m
+
+-- a script with its code, in this layout
+module _ (s : Core) (C : Code) (l : Layout) where
+  -- the body stands for a block that is live at the path in what the script means, as the script has it but for expressions of literals
+  pub record IsLiveBody (number : ℕ) (path : List Step) : Type 0 where
+    pub within : number < length C.bodies
+    pub inputs : ℕ
+    pub block : Block
+    pub stands : BodyAs C l inputs block number
+    pub written : Block
+    pub same : SameBlock written block
+    pub live : Live s (Meaning s) (script_path path) written
+
+  -- the item is of an entry of such a body, at the body's path
+  pub record IsLiveItem (t : Task) : Type 0 where
+    pub number : ℕ
+    pub path : List Step
+    pub chunk : ℕ
+    pub is : t ≡ Item number path chunk
+    pub body_number : ℕ
+    pub there : In number (body C body_number).entries
+    pub live : IsLiveBody body_number path
+
+  -- the entry is of a loop of such a block that runs there, with so many turns
+  pub record IsLiveLoop (number : ℕ) (path : List Step) (turns : ℕ) : Type 0 where
+    pub body_number : ℕ
+    pub there : In number (body C body_number).entries
+    pub live : IsLiveBody body_number path
+    pub at : ℕ
+    pub node : ℕ
+    pub header : Action
+    pub values : List Value
+    pub in_block : stmt at node header ∈ block_list live.written
+    pub at_is : (entry C number).at ≡ at
+    pub ready : Ready s (Meaning s) (script_path path) header values
+    pub has_turns : HasTurns header values turns
+
+  -- the list has each body with each path where it is live
+  abbrev pub HasLiveBodies : List (ℕ × List Step) → Type 0
+  HasLiveBodies bodies = (number : ℕ) (path : List Step) → IsLiveBody number path → In {X = ℕ × List Step} (number, path) bodies
+
+  -- and each loop that runs, with its turns
+  abbrev pub HasLiveLoops : List (ℕ × List Step × ℕ) → Type 0
+  HasLiveLoops loops = (number : ℕ) (path : List Step) (turns : ℕ) → IsLiveLoop number path turns → In {X = ℕ × List Step × ℕ} (number, path, turns) loops

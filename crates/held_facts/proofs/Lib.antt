@@ -1,5 +1,0 @@
-pub mod Opening
-pub mod Adding
-pub mod Lines
-pub mod Rounds
-pub mod Fresh

@@ -1,4 +1,0 @@
-pub mod Lists
-pub mod Firsts
-pub mod Seen
-pub mod Written

@@ -1,0 +1,19 @@
+-- What it means that a text is read as a tree. States docs/LANGUAGE.md: Grammar.
+use Rattle.std.specs.Prelude.{◌≡◌, ℕ, ◌≤◌, List, map, length, Ok}
+use Rattle.lexer.specs.Items.{Lexeme}
+use Rattle.lexer.specs.Tokens.{Tokens}
+use Rattle.language.specs.Tree.{Tree}
+use Rattle.language.specs.Grammar.{IsScript}
+use Rattle.language.specs.Numbered.{numbered}
+
+pub record Reads (bytes : List ℕ) (tree : Tree) : Type 0 where
+  -- it has at most so many bytes (docs/LANGUAGE.md, Grammar)
+  pub short : length bytes ≤ 1048576
+  -- it is tokens up to its end, without a fault
+  pub tokens : List Lexeme
+  pub lexed : Tokens bytes (map Ok tokens)
+  -- the tokens are a script, nested at most 64 deep
+  pub parsed : Tree
+  pub is_script : IsScript 64 tokens parsed
+  -- the tree is that script, numbered in reading order
+  pub is_numbered : tree ≡ numbered 1 parsed

@@ -1,0 +1,7 @@
+use Rattle.language.specs.Resolved.{core}
+use Rattle.language_laws.proofs.Whole as law
+use Rattle.language_accepted.proofs.Accepted.{accepted_formed}
+use Rattle.language_accepted.proofs.laws.a_scalar_comes_in_a_round.Goals as goal
+
+pub returns : goal.returns
+returns c = λ bytes t tree r w h p v a. law.value_in_round (core t tree) (accepted_formed bytes t tree r w h) h p v a

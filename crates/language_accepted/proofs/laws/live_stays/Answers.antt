@@ -1,0 +1,7 @@
+use Rattle.language.specs.Resolved.{core}
+use Rattle.language_laws.proofs.Ever as law
+use Rattle.language_accepted.proofs.Accepted.{accepted_formed}
+use Rattle.language_accepted.proofs.laws.live_stays.Goals as goal
+
+pub returns : goal.returns
+returns c = λ bytes t tree r w h n m path b l d. law.live_stays (core t tree) (accepted_formed bytes t tree r w h) h n m path b l d

@@ -1,0 +1,122 @@
+//! Laws of the meaning of scripts. Each function does nothing; its contract is a law of the definitions in `specs/`.
+
+ghost use Rattle.std.specs.Prelude.{◌≡◌, ◌≢◌, ◌↔◌, ◌≤◌, ℕ, List, length, Bool, IsTrue, Result};
+ghost use Rattle.values.specs.declared.key.Key.{Key};
+ghost use Rattle.values.specs.declared.map.Element.{Element};
+ghost use Rattle.values.specs.declared.value.Scalar.{Scalar};
+ghost use Rattle.values.specs.declared.value.Value.{Value};
+ghost use Rattle.language.specs.Core.{Block, Cell, Core, Form, Stmt};
+ghost use Rattle.language.specs.Facts.{Fact, Fault, value, element, fault, Elements, OneWriter};
+ghost use Rattle.language.specs.Meaning.{Closed, Gives, HasValue, Live, New, Known, Meaning};
+ghost use Rattle.language.specs.Members.{◌∈◌};
+ghost use Rattle.language.specs.Outcomes.{Clean};
+ghost use Rattle.language.specs.Parts.{cells, script_stmts, stmt_node};
+ghost use Rattle.language.specs.Places.{Path, Place, most_steps};
+ghost use Rattle.language.specs.Resolved.{core};
+ghost use Rattle.language.specs.Single.{SinglyAssigned};
+ghost use Rattle.language.specs.Table.{Table};
+ghost use Rattle.language.specs.Tree.{Tree};
+ghost use Rattle.language.specs.Typing.{WellTyped};
+ghost use Rattle.language.specs.WellFormed.{WellFormed};
+
+/// A cell and a variable have one value, whenever they come to have it. Variables are futures that are assigned once, as in the Swift/T Guide.
+pub fn one_value()
+    ensures { (s : Core) → WellFormed s → SinglyAssigned s → (p : Place) (v u : Value) → Meaning s (value p v) → Meaning s (value p u) → v ≡ u }
+{}
+
+/// A name has one scalar wherever it is read, the loop variables among them, by all that is ever known and after each round.
+pub fn one_scalar()
+    ensures meaning { (s : Core) → WellFormed s → SinglyAssigned s → (p : Place) (v u : Scalar) → HasValue s (Meaning s) p v → HasValue s (Meaning s) p u → v ≡ u }
+    ensures round { (s : Core) → WellFormed s → SinglyAssigned s → (n : ℕ) (p : Place) (v u : Scalar)
+        → HasValue s (Known s n) p v → HasValue s (Known s n) p u → v ≡ u }
+{}
+
+/// A scalar that a name has comes to be known in some round.
+pub fn a_scalar_comes_in_a_round()
+    ensures { (s : Core) → WellFormed s → SinglyAssigned s → (p : Place) (v : Scalar) → HasValue s (Meaning s) p v → (n : ℕ) × HasValue s (Known s n) p v }
+{}
+
+/// A scalar is only where a block is live: a variable of a loop that never opens has none.
+pub fn a_scalar_is_at_a_live_block()
+    ensures { (s : Core) → WellFormed s → SinglyAssigned s → (p : Place) (v : Scalar) → HasValue s (Meaning s) p v → (b : Block) × Live s (Meaning s) p.0 b }
+{}
+
+/// No block is live at a path of more than 512 steps.
+pub fn live_paths_are_bounded()
+    ensures { (s : Core) (path : Path) (b : Block) → Live s (Meaning s) path b → length path ≤ most_steps }
+{}
+
+/// What a cell comes to have, in whichever rounds, is one value or one fault.
+pub fn a_cell_has_one_value_or_fault()
+    ensures { (s : Core) → WellFormed s → SinglyAssigned s → (n m : ℕ) (path : Path) (f : Form) (r q : Result Value Fault)
+        → Gives s (Known s n) path f r → Gives s (Known s m) path f q → r ≡ q }
+{}
+
+/// So of a cell whose number is no statement's, not both a value and a fault are known, nor two faults.
+pub fn a_cell_has_no_two_facts()
+    ensures not_both { (s : Core) → WellFormed s → SinglyAssigned s → (st : Stmt) (c : Cell) → st ∈ script_stmts s → c ∈ cells st
+        → ((x : Stmt) → x ∈ script_stmts s → stmt_node x ≢ c.node)
+        → (path : Path) (v : Value) (f : Fault) (at : ℕ) → Meaning s (value (path, c.node) v) → Meaning s (fault f at (path, c.node)) → ⊥ }
+    ensures one_fault { (s : Core) → WellFormed s → SinglyAssigned s → (st : Stmt) (c : Cell) → st ∈ script_stmts s → c ∈ cells st
+        → ((x : Stmt) → x ∈ script_stmts s → stmt_node x ≢ c.node)
+        → (path : Path) (f g : Fault) (at to : ℕ) → Meaning s (fault f at (path, c.node)) → Meaning s (fault g to (path, c.node)) → (f ≡ g) × (at ≡ to) }
+{}
+
+/// One statement writes one value under a key.
+pub fn one_element()
+    ensures { (s : Core) → WellFormed s → SinglyAssigned s → (a : Place) (k : Key) (w : Place) (v u : Scalar)
+        → Meaning s (element a k w v) → Meaning s (element a k w u) → v ≡ u }
+{}
+
+/// An array that is closed after some round has by then all elements that it ever has.
+pub fn closed_array_is_full()
+    ensures { (s : Core) → WellFormed s → SinglyAssigned s → (n : ℕ) (a : Place) → Closed s (Known s n) a
+        → (k : Key) (w : Place) (v : Scalar) → Meaning s (element a k w v) → Known s n (element a k w v) }
+{}
+
+/// A closed array has finitely many elements, by all that is ever known and after each round.
+pub fn a_closed_array_is_a_list()
+    ensures meaning { (s : Core) → WellFormed s → SinglyAssigned s → (a : Place) → Closed s (Meaning s) a → (es : List Element) × Elements (Meaning s) a es }
+    ensures round { (s : Core) → WellFormed s → SinglyAssigned s → (n : ℕ) (a : Place) → Closed s (Known s n) a → (es : List Element) × Elements (Known s n) a es }
+{}
+
+/// Where in no round a key has two writers, it has one by all that is ever known.
+pub fn one_writer()
+    ensures { (s : Core) → WellFormed s → SinglyAssigned s → Clean s → (a : Place) → OneWriter (Meaning s) a }
+{}
+
+/// What is closed stays closed.
+pub fn closed_stays()
+    ensures { (s : Core) → WellFormed s → SinglyAssigned s → (n m : ℕ) (a : Place) → n ≤ m → Closed s (Known s n) a → Closed s (Known s m) a }
+{}
+
+/// What is live stays live.
+pub fn live_stays()
+    ensures { (s : Core) → WellFormed s → SinglyAssigned s → (n m : ℕ) (path : Path) (b : Block) → n ≤ m
+        → Live s (Known s n) path b → Live s (Known s m) path b }
+{}
+
+/// What follows from all that is ever known is known after some round.
+pub fn meaning_is_closed()
+    ensures { (s : Core) → WellFormed s → SinglyAssigned s → (f : Fact) → New s (Meaning s) f → Meaning s f }
+{}
+
+/// Where no key is written twice, the meaning is just what follows from it.
+pub fn meaning_follows_from_itself()
+    ensures { (s : Core) → WellFormed s → SinglyAssigned s → Clean s → (f : Fact) → Meaning s f ↔ New s (Meaning s) f }
+{}
+
+/// And it is the least such set of facts that has one value at a place and one writer of a key. A set is given by a test.
+pub fn meaning_is_least()
+    ensures { (s : Core) → WellFormed s → SinglyAssigned s → (test : Fact → Bool)
+        → ((f : Fact) → New s (λ f. IsTrue (test f)) f → IsTrue (test f))
+        → ((f : Fact) → IsTrue (test f) → New s (λ f. IsTrue (test f)) f)
+        → ((p : Place) (v u : Value) → IsTrue (test (value p v)) → IsTrue (test (value p u)) → v ≡ u)
+        → ((a : Place) → OneWriter (λ f. IsTrue (test f)) a)
+        → (f : Fact) → Meaning s f → IsTrue (test f) }
+{}
+
+/// A tree has one core: names are found by their texts, so two tables by which a tree is well typed say the same of all that its core is made of.
+pub fn one_core()
+    ensures { (tree : Tree) (t u : Table) → WellTyped tree t → WellTyped tree u → core t tree ≡ core u tree }
+{}

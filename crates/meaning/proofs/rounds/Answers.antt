@@ -1,0 +1,91 @@
+use Rattle.std.proofs.Common.{◌≡◌, ◌<◌, ◌+◌, ℕ, suc, [], sym, ap, ◌∙◌, subst, rules, arith}
+use Rattle.std.specs.Prelude.{nat_eq}
+use Rattle.language.specs.Core.{Core}
+use Rattle.language.specs.Resolved.{core}
+use Rattle.language_accepted.proofs.Accepted.{accepted_formed}
+use Rattle.language_accepted.proofs.Apart.{read_placed}
+use Rattle.flow.specs.View.{core_of}
+use Rattle.meaning_invariants.proofs.Offsets.{offsets_apart}
+use Rattle.meaning_round.specs.Going.{IsBetween}
+use Rattle.meaning_round.specs.Made.{tasks_of, telling_of}
+use Rattle.meaning_round.proofs.Listed.{none_of_few, not_both}
+use Rattle.meaning_outcomes.proofs.Knowing.{empty_so, finished_so, is_known, next_between, not_empty, starts_between, unfinished_so}
+use Rattle.meaning.proofs.rounds.Goals as goal
+
+pub loop-round-init : goal.loop-round-init
+loop-round-init g c =
+    let A = g.row.A.Denot in
+    let made = c.in_ok-state.ensures in
+    record {
+      between = λ bytes t tree r w single e. subst (λ (z : Core). IsBetween {A = A} z 0 c.in_ok-state.state) e
+          (starts_between {A = A} (core_of {A = A} c.args.flow.now) c.in_ok-state.state made.learned made.tasks made.telling made.passed.0 made.passed.1 made.arrays);
+      flow = made.flow;
+    }
+
+pub loop-round-preserved : goal.loop-round-preserved
+loop-round-preserved g c =
+    let A = g.row.A.Denot in
+    let n = c.loop-round.round in
+    let known = c.in_ok-news.ensures in
+    record {
+      between = λ bytes t tree r w single e. (
+          let s = core t tree in
+          let same : s ≡ core_of {A = A} c.loop-round.state.flow.now = sym e ∙ ap (core_of {A = A}) (sym c.loop-round.invariant.flow) in
+          let settled = c.in_ok-settle.ensures.so s n same (accepted_formed bytes t tree r w single) single (offsets_apart t tree (read_placed bytes tree r)) (c.loop-round.invariant.between bytes t tree r w single e) in
+          let one : suc n ≡ n + 1 = omega arith in
+          subst (λ (z : ℕ). IsBetween {A = A} s z c.learn.new.self) one
+          (next_between bytes t tree r w single {A = A} n c.settle.new.state c.learn.new.self c.in_ok-news.news.items settled.0 settled.1 known.inside c.in_ok-learn.ensures.facts
+          (known.round bytes t tree r w single n settled.1) c.in_ok-learn.ensures.telling c.learn.ensures.instances c.learn.ensures.closed c.learn.ensures.tasks c.learn.ensures.arrays c.learn.ensures.waiting
+          c.learn.ensures.passed)
+          );
+      flow = c.learn.ensures.flow ∙ c.settle.ensures.flow ∙ c.loop-round.invariant.flow;
+    }
+
+pub returns-then-is_empty : goal.returns-then-is_empty
+returns-then-is_empty g c =
+    let A = g.row.A.Denot in
+    let n = c.loop-round.round in
+    let k = c.in_ok-known.known in
+    let made = c.in_ok-known.ensures in
+    let below : n < c.args.limit = search rules in
+    let empty : c.in_ok-news.news.items ≡ [] = none_of_few c.in_ok-news.news.items (search rules) in
+    record {
+      known = λ bytes t tree r w single e. (
+          let s = core t tree in
+          let same : s ≡ core_of {A = A} c.loop-round.state.flow.now = sym e ∙ ap (core_of {A = A}) (sym c.loop-round.invariant.flow) in
+          let settled = c.in_ok-settle.ensures.so s n same (accepted_formed bytes t tree r w single) single (offsets_apart t tree (read_placed bytes tree r)) (c.loop-round.invariant.between bytes t tree r w single e) in
+          let l = c.settle.new.state.learned in
+          let ls = tasks_of {A = A} c.settle.new.state in
+          let telling = telling_of {A = A} c.settle.new.state in
+          let round = c.in_ok-news.ensures.round bytes t tree r w single n settled.1 in
+          is_known bytes t tree r w single n l ls telling settled.1 settled.0.good.holds k made.rounds made.learned made.stuck
+          (λ f. finished_so bytes t tree r w single n l ls telling settled.1 settled.0.good.holds c.in_ok-news.news.items round empty) (λ f. absurd (not_both (sym made.finished ∙ f)))
+          );
+      within = let rounds = made.rounds in (omega (arith, rounds, below), λ f. absurd (not_both (sym made.finished ∙ f)));
+    }
+
+pub returns : goal.returns
+returns g c =
+    let A = g.row.A.Denot in
+    let n = c.args.limit in
+    let k = c.in_ok-knowledge.knowledge in
+    let made = c.in_ok-knowledge.ensures in
+    let news = c.in_ok-last.last.items in
+    let test = made.finished ∙ c.is_empty-finished.ensures ∙ ap (λ (z : ℕ). nat_eq z 0) c.in_ok-last.last.ok.0 in
+    let ended : c.loop-round.round ≡ n = search rules in
+    record {
+      known = λ bytes t tree r w single e. (
+          let s = core t tree in
+          let same : s ≡ core_of {A = A} c.loop-round.state.flow.now = sym e ∙ ap (core_of {A = A}) (sym c.loop-round.invariant.flow) in
+          let between = subst (λ (z : ℕ). IsBetween {A = A} s z c.loop-round.state) ended (c.loop-round.invariant.between bytes t tree r w single e) in
+          let settled = c.in_ok-settle-2.ensures.so s n same (accepted_formed bytes t tree r w single) single (offsets_apart t tree (read_placed bytes tree r)) between in
+          let l = c.settle-2.new.state.learned in
+          let ls = tasks_of {A = A} c.settle-2.new.state in
+          let telling = telling_of {A = A} c.settle-2.new.state in
+          let round = c.in_ok-last.ensures.round bytes t tree r w single n settled.1 in
+          is_known bytes t tree r w single n l ls telling settled.1 settled.0.good.holds k made.rounds made.learned made.stuck
+          (λ f. finished_so bytes t tree r w single n l ls telling settled.1 settled.0.good.holds news round (empty_so news k.finished test f))
+          (λ f. unfinished_so bytes t tree r w single n l ls telling settled.1 settled.0.good.holds news round c.in_ok-last.ensures.told (not_empty news k.finished test f))
+          );
+      within = let rounds = made.rounds in (omega (arith, rounds), λ f. rounds);
+    }

@@ -1,0 +1,84 @@
+-- The paths of a program's instances: each stands one step behind the one that opened it, and is found again by its steps.
+use Rattle.std.specs.Prelude.{◌≡◌, ℕ, ◌<◌, ◌≤◌, ℤ, Bool, ◌&&◌, List, [], ◌∷◌, ◌++◌, length, map, nat_eq, Option, Some, None, slice_get, if◌then◌else◌}
+use Rattle.std.specs.HashMap.{get}
+use Rattle.std.specs.Ordering.{int_eq}
+use Rattle.values.specs.declared.key.Key.{Key}
+use Rattle.values.specs.declared.key.Key.TheVariants.{Number}
+use Rattle.language.specs.Places.{Path, most_steps}
+use Rattle.language.specs.Places.{Step as PathStep}
+use Rattle.meaning_facts.specs.declared.instances.Step.{Step}
+use Rattle.meaning_facts.specs.declared.instances.Given.{Given}
+use Rattle.meaning_facts.specs.declared.instances.Instance.{Instance}
+use Rattle.meaning_facts.specs.declared.instances.Instances.{Instances}
+use Rattle.meaning_facts.specs.Store.{parent_of, inputs_of, outputs_of, variables_of}
+
+abbrev pub step_view : Step → PathStep
+step_view s = (s.at, s.key)
+
+abbrev pub path_in : Option Instance → Path
+path_in (Some n) = map step_view n.path.items
+path_in None = []
+
+-- the path of an instance
+abbrev pub path_of : List Instance → ℕ → Path
+path_of ns i = path_in (slice_get ns i)
+
+abbrev pub key_number : Key → ℤ
+key_number (Number z) = z
+
+abbrev pub same_step : ℕ × ℕ × ℤ → ℕ × ℕ × ℤ → Bool
+same_step p q = (nat_eq p.0 q.0 && nat_eq p.1 q.1) && int_eq p.2 q.2
+
+-- the instance that another one has opened under a step
+abbrev pub child_at : Instances → ℕ → (at : ℕ) → Key → Option ℕ
+child_at t i at k = get same_step t.opened (i, at, key_number k)
+
+abbrev pub child_behind : Instances → Option ℕ → (at : ℕ) → Key → Option ℕ
+child_behind t (Some i) at k = child_at t i at k
+child_behind t None at k = None
+
+-- the instance that is found at a path, step by step from the script's own
+abbrev pub at_path : Instances → Path → Option ℕ
+at_path t [] = Some 0
+at_path t (s ∷ path) = child_behind t (at_path t path) s.0 s.1
+
+-- nothing is given
+pub record IsNone (g : Given) : Type 0 where
+  pub inputs : g.inputs.items ≡ []
+  pub outputs : g.outputs.items ≡ []
+  pub variables : g.variables.items ≡ []
+
+-- an instance stands one step behind another
+pub record IsChild (ns : List Instance) (i : ℕ) (at : ℕ) (k : Key) (j : ℕ) : Type 0 where
+  pub within : j < length ns
+  pub behind : i < j
+  pub parent_is : parent_of ns j ≡ i
+  pub path_is : path_of ns j ≡ (at, k) ∷ path_of ns i
+
+-- which step it is that an instance was opened under
+pub record IsOpened (t : Instances) (j : ℕ) : Type 0 where
+  pub at : ℕ
+  pub key : Key
+  pub opened : child_at t (parent_of t.all.items j) at key ≡ Some j
+
+-- the script's own instance stands at no step, with nothing given; what opens an instance is what it stands behind, and each
+-- other instance was opened
+pub record IsTree (t : Instances) : Type 0 where
+  pub rooted : 0 < length t.all.items
+  pub root_path : path_of t.all.items 0 ≡ []
+  pub root_parent : parent_of t.all.items 0 ≡ 0
+  pub root_inputs : inputs_of t.all.items 0 ≡ []
+  pub root_outputs : outputs_of t.all.items 0 ≡ []
+  pub root_variables : variables_of t.all.items 0 ≡ []
+  pub opens : (i at : ℕ) (k : Key) (j : ℕ) → child_at t i at k ≡ Some j → IsChild t.all.items i at k j
+  pub opened : (j : ℕ) → 0 < j → j < length t.all.items → IsOpened t j
+  pub short : (j : ℕ) → length (path_of t.all.items j) ≤ most_steps
+
+-- an instance was opened under a step of another one: it stands behind all others, and is found under that step
+pub record IsOpen (t : Instances) (parent : ℕ) (s : Step) (g : Given) (u : Instances) : Type 0 where
+  pub made : Instance
+  pub all : u.all.items ≡ t.all.items ++ made ∷ []
+  pub parent_is : made.parent ≡ parent
+  pub path_is : map step_view made.path.items ≡ step_view s ∷ path_of t.all.items parent
+  pub given_is : made.given ≡ g
+  pub found : (i at : ℕ) (k : Key) → child_at u i at k ≡ (if same_step (parent, s.at, key_number s.key) (i, at, key_number k) then Some (length t.all.items) else child_at t i at k)

@@ -1,0 +1,423 @@
+//! What can be known of a script's run.
+ghost use Rattle.std.specs.Prelude.{◌≡◌, ◌↔◌, [], not, option_copied, IfOk, IfErr, OnOk, IsSome, IsTrue};
+ghost use Rattle.std.specs.HashMap.{get, IsUnique};
+ghost use Rattle.meaning_steps.specs.Kept.{several_in};
+ghost use Rattle.meaning_facts.specs.Added.{HasSame, IsAdded, IsNothing, is_new, with_write};
+ghost use Rattle.values.specs.Maps.{rising};
+ghost use Rattle.language.specs.Facts.{operation};
+ghost use Rattle.meaning_facts.specs.Keeping.{has_some, some_fault_at};
+ghost use Rattle.meaning_facts.specs.Kinds.{kind_view};
+ghost use Rattle.meaning_facts.specs.Store.{value_at, line_at, all_lines, writes_at, is_written_in, has_key_in, one_writer_in, same_pair, same_place, WrittenAs, writes_under, put_write, elements_from};
+
+use std::alloc::{AllocError, Global};
+use std::collections::{HashMap, HashSet};
+use values::fault::OpFault;
+use values::key::Key;
+use values::map::{Element, Map, place_of};
+use values::text::Text;
+use values::value::{Scalar, Value};
+
+/// A place: a block instance, by its number, with a node.
+#[derive(Clone, Copy, PartialEq, Eq, Hash, Debug)]
+pub struct Place {
+    pub instance: usize,
+    pub node: u32,
+}
+
+/// What can be wrong at a place.
+#[derive(Clone, Copy, PartialEq, Eq, Hash, Debug)]
+pub enum FaultKind {
+    Overflow,
+    DivideByZero,
+    /// The array is closed and has no such element.
+    NoElement,
+    /// A key of an array is written twice.
+    ElementTwice,
+    BadStep,
+    /// A path would be too long.
+    TooDeep,
+    NotANumber,
+    AssertFailed,
+}
+
+/// A fault of the statement at an offset.
+#[derive(Clone, Copy, PartialEq, Eq, Hash, Debug)]
+pub struct FaultFact {
+    pub kind: FaultKind,
+    pub at: usize,
+    pub place: Place,
+}
+
+/// A write of an array's key, with its writer.
+#[derive(Drop)]
+pub struct Write {
+    pub key: Key,
+    pub writer: Place,
+    pub value: Scalar,
+}
+
+/// A fact: the value of a cell or of a scalar variable; a write of an array's key; a line, with its writer; a fault.
+#[derive(Drop)]
+pub enum Fact {
+    Value(Place, Value),
+    Element(Place, Write),
+    Line(Place, Text),
+    Fault(FaultFact),
+}
+
+/// Facts, to be found by their places: by the number of an instance and a node.
+#[derive(Drop)]
+pub struct Facts {
+    values: HashMap<(usize, u32), Value>,
+    writes: HashMap<(usize, u32), Vec<Write>>,
+    lines: HashMap<(usize, u32), Text>,
+    pub faults: HashSet<FaultFact>,
+}
+
+/// What is written under a key.
+#[derive(Drop)]
+pub enum Written<'a> {
+    Never,
+    Once(&'a Scalar),
+    Twice,
+}
+
+impl Place {
+    fn is_same(self, other: Place) -> bool
+        ensures { result ≡ same_place self other }
+    {
+        self.instance == other.instance && self.node == other.node
+    }
+
+    fn key(self) -> (usize, u32)
+        ensures { result ≡ (self.instance, self.node) }
+    {
+        (self.instance, self.node)
+    }
+}
+
+impl FaultKind {
+    /// All kinds, by their numbers.
+    pub const ALL: [FaultKind; 8] = [
+        FaultKind::Overflow,
+        FaultKind::DivideByZero,
+        FaultKind::NoElement,
+        FaultKind::ElementTwice,
+        FaultKind::BadStep,
+        FaultKind::TooDeep,
+        FaultKind::NotANumber,
+        FaultKind::AssertFailed,
+    ];
+
+    /// The fault of an operator, a conversion or a range.
+    ///
+    /// # Errors
+    ///
+    /// `AllocError` for want of memory, which is no fault of a script.
+    pub fn of_operation(fault: OpFault) -> Result<FaultKind, AllocError>
+        ensures kind { IfOk result (λ kind. kind_view kind ≡ operation fault) }
+        ensures memory { IfErr result (λ _. fault ≡ OpFault.Memory) }
+    {
+        match fault {
+            OpFault::Overflow => Ok(FaultKind::Overflow),
+            OpFault::DivideByZero => Ok(FaultKind::DivideByZero),
+            OpFault::BadStep => Ok(FaultKind::BadStep),
+            OpFault::NotANumber => Ok(FaultKind::NotANumber),
+            OpFault::AssertFailed => Ok(FaultKind::AssertFailed),
+            OpFault::Memory => Err(AllocError),
+        }
+    }
+}
+
+impl Facts {
+    /// Nothing.
+    pub fn new(alloc: Global) -> Facts
+        ensures { IsNothing result }
+    {
+        Facts {
+            values: HashMap::new(alloc),
+            writes: HashMap::new(alloc),
+            lines: HashMap::new(alloc),
+            faults: HashSet::new(alloc),
+        }
+    }
+
+    /// The value at a place.
+    pub fn value(&self, place: Place) -> Option<&Value>
+        ensures { option_copied result ≡ value_at self.now place }
+    {
+        self.values.get(&place.key())
+    }
+
+    /// The line of a statement.
+    pub fn line(&self, writer: Place) -> Option<&Text>
+        ensures { option_copied result ≡ line_at self.now writer }
+    {
+        self.lines.get(&writer.key())
+    }
+
+    /// The lines, in no order, one of each writer.
+    pub fn all_lines(&self, alloc: Global) -> Result<Vec<Text>, AllocError>
+        ensures lines { IfOk result (λ lines. lines.items ≡ all_lines self.now) }
+        ensures once { IsUnique same_pair self.now.lines }
+    {
+        let mut lines = Vec::new(alloc);
+        for line in self.lines.values() {
+            lines.push(line.share()?)?;
+        }
+        Ok(lines)
+    }
+
+    /// The writes of an array.
+    pub fn writes_of(&self, array: Place) -> &[Write]
+        ensures { result.now ≡ writes_at self.now array }
+    {
+        match self.writes.get(&array.key()) {
+            Some(writes) => writes.as_slice(),
+            None => &[],
+        }
+    }
+
+    /// What is written under a key of an array.
+    pub fn written(&self, array: Place, key: &Key) -> Written<'_>
+        ensures { WrittenAs result (writes_under (writes_at self.now array) key.now) }
+    {
+        written_in(self.writes_of(array), key)
+    }
+
+    /// Whether a statement has written a key of an array.
+    pub fn is_written_by(&self, array: Place, key: &Key, writer: Place) -> bool
+        ensures { result ≡ is_written_in (writes_at self.now array) key.now writer }
+    {
+        has_writer(self.writes_of(array), key, writer)
+    }
+
+    /// Whether a key of an array has two writers.
+    pub fn is_written_twice(&self, array: Place, key: &Key) -> bool
+        ensures { result ≡ several_in (writes_under (writes_at self.now array) key.now) }
+    {
+        match self.written(array, key) {
+            Written::Twice => true,
+            _ => false,
+        }
+    }
+
+    /// Whether a fault of the statement at an offset is known at a place.
+    pub fn has_fault(&self, at: usize, place: Place) -> bool
+        ensures { result ≡ some_fault_at self.now at place }
+    {
+        self.has_one_of(&FaultKind::ALL, at, place)
+    }
+
+    /// The same of one of these kinds.
+    fn has_one_of(&self, kinds: &[FaultKind], at: usize, place: Place) -> bool
+        ensures { result ≡ has_some self.now kinds.now at place }
+    {
+        for kind in kinds {
+            let kind = *kind;
+            if self.faults.contains(&FaultFact { kind, at, place }) {
+                return true;
+            }
+        }
+        false
+    }
+
+    /// Whether no key of an array has two writers.
+    pub fn has_one_writer(&self, array: Place) -> bool
+        ensures { result ≡ one_writer_in (writes_at self.now array) }
+    {
+        are_apart(self.writes_of(array))
+    }
+
+    /// The elements of an array of which no key has two writers.
+    pub fn elements(&self, alloc: Global, array: Place) -> Result<Map, AllocError>
+        ensures { IfOk result (λ map. map ≡ elements_from [] (writes_at self.now array)) }
+    {
+        elements_in(alloc, self.writes_of(array))
+    }
+
+    /// Adds a fact. Whether it was not known.
+    pub fn add(&mut self, alloc: Global, fact: Fact) -> Result<bool, AllocError>
+        ensures added { OnOk result (IsAdded self.old fact self.new) }
+        ensures new { IfOk result (λ new. new ≡ is_new self.old fact) }
+    {
+        match fact {
+            Fact::Value(place, value) => self.add_value(place, value),
+            Fact::Element(array, write) => self.add_write(alloc, array, write),
+            Fact::Line(writer, text) => self.add_line(writer, text),
+            Fact::Fault(fault) => self.add_fault(fault),
+        }
+    }
+
+    #[tactic(auto, using(crate::proofs::Adding::value_kept, crate::proofs::Adding::value_added))]
+    fn add_value(&mut self, place: Place, value: Value) -> Result<bool, AllocError>
+        ensures added { OnOk result (IsAdded self.old (Fact.Value place value) self.new) }
+        ensures new { IfOk result (λ new. new ≡ is_new self.old (Fact.Value place value)) }
+    {
+        if self.values.contains_key(&place.key()) {
+            return Ok(false);
+        }
+        self.values.insert(place.key(), value)?;
+        Ok(true)
+    }
+
+    #[tactic(auto, using(crate::proofs::Adding::line_kept, crate::proofs::Adding::line_added))]
+    fn add_line(&mut self, writer: Place, text: Text) -> Result<bool, AllocError>
+        ensures added { OnOk result (IsAdded self.old (Fact.Line writer text) self.new) }
+        ensures new { IfOk result (λ new. new ≡ is_new self.old (Fact.Line writer text)) }
+    {
+        if self.lines.contains_key(&writer.key()) {
+            return Ok(false);
+        }
+        self.lines.insert(writer.key(), text)?;
+        Ok(true)
+    }
+
+    #[tactic(auto, using(crate::proofs::Adding::fault_added))]
+    fn add_fault(&mut self, fault: FaultFact) -> Result<bool, AllocError>
+        ensures added { OnOk result (IsAdded self.old (Fact.Fault fault) self.new) }
+        ensures new { IfOk result (λ new. new ≡ is_new self.old (Fact.Fault fault)) }
+    {
+        Ok(self.faults.insert(fault)?)
+    }
+
+    fn add_write(&mut self, alloc: Global, array: Place, write: Write) -> Result<bool, AllocError>
+        ensures added { OnOk result (IsAdded self.old (Fact.Element array write) self.new) }
+        ensures new { IfOk result (λ new. new ≡ is_new self.old (Fact.Element array write)) }
+    {
+        self.make_list(alloc, array)?;
+        self.put_write(array, write)
+    }
+
+    /// Makes a list for the writes of an array where there is none.
+    fn make_list(&mut self, alloc: Global, array: Place) -> Result<(), AllocError>
+        ensures same { OnOk result (HasSame self.old self.new) }
+        ensures there { OnOk result (IsSome (get same_pair self.new.writes (array.instance, array.node))) }
+    {
+        if !self.writes.contains_key(&array.key()) {
+            self.writes.insert(array.key(), Vec::new(alloc))?;
+        }
+        Ok(())
+    }
+
+    /// Puts a write behind the others of an array that has a list for them.
+    fn put_write(&mut self, array: Place, write: Write) -> Result<bool, AllocError>
+        requires { IsSome (get same_pair self.old.writes (array.instance, array.node)) }
+        ensures added { OnOk result (IsAdded self.old (Fact.Element array write) self.new) }
+        ensures new { IfOk result (λ new. new ≡ is_new self.old (Fact.Element array write)) }
+    {
+        match self.writes.get_mut(&array.key()) {
+            Some(writes) => put_behind(writes, write),
+            None => Ok(false),
+        }
+    }
+
+    /// Whether no key of any array has two writers.
+    pub fn is_clean(&self) -> bool
+        ensures { IsTrue result ↔ ((a : Place) → IsTrue (one_writer_in (writes_at self.now a))) }
+    {
+        for writes in self.writes.values() {
+            if !are_apart(writes.as_slice()) {
+                return false;
+            }
+        }
+        true
+    }
+}
+
+/// What is written under a key by these writes.
+fn written_in<'w>(writes: &'w [Write], key: &Key) -> Written<'w>
+    ensures { WrittenAs result (writes_under writes.now key.now) }
+{
+    for i in 0..writes.len() {
+        if writes[i].key.is_same(key) {
+            return if has_key(&writes[i + 1..], key) {
+                Written::Twice
+            } else {
+                Written::Once(&writes[i].value)
+            };
+        }
+    }
+    Written::Never
+}
+
+/// Whether one of these writes has this key and writer.
+fn has_writer(writes: &[Write], key: &Key, writer: Place) -> bool
+    ensures { result ≡ is_written_in writes.now key.now writer }
+{
+    for write in writes {
+        if write.key.is_same(key) && write.writer.is_same(writer) {
+            return true;
+        }
+    }
+    false
+}
+
+/// Whether one of these writes has this key.
+fn has_key(writes: &[Write], key: &Key) -> bool
+    ensures { result ≡ has_key_in writes.now key.now }
+{
+    for write in writes {
+        if write.key.is_same(key) {
+            return true;
+        }
+    }
+    false
+}
+
+/// The elements of these writes, by rising key.
+fn elements_in(alloc: Global, writes: &[Write]) -> Result<Map, AllocError>
+    ensures { IfOk result (λ map. map ≡ elements_from [] writes.now) }
+{
+    let mut elements = Vec::new(alloc);
+    for write in writes {
+        put_element(&mut elements, write)?;
+    }
+    Map::new(alloc, elements)
+}
+
+/// Puts an element at its place, unless its key is there.
+#[tactic(auto, using(crate::proofs::Stored::put_kept, crate::proofs::Stored::put_new, crate::proofs::Stored::put_rising))]
+fn put_element(elements: &mut Vec<Element>, write: &Write) -> Result<(), AllocError>
+    requires { IsTrue (rising elements.old.items) }
+    ensures rising { OnOk result (IsTrue (rising elements.new.items)) }
+    ensures put { OnOk result (elements.new.items ≡ put_write elements.old.items write.now) }
+{
+    match place_of(elements.as_slice(), &write.key) {
+        Ok(_) => Ok(()),
+        Err(place) => {
+            elements.insert(
+                place,
+                Element {
+                    key: write.key.share()?,
+                    value: write.value.share()?,
+                },
+            )?;
+            Ok(())
+        }
+    }
+}
+
+/// Puts a write behind others, unless the writer has written the key.
+fn put_behind(writes: &mut Vec<Write>, write: Write) -> Result<bool, AllocError>
+    ensures put { OnOk result (writes.new.items ≡ with_write writes.old.items write) }
+    ensures new { IfOk result (λ new. new ≡ not (is_written_in writes.old.items write.key write.writer)) }
+{
+    if has_writer(writes.as_slice(), &write.key, write.writer) {
+        return Ok(false);
+    }
+    writes.push(write)?;
+    Ok(true)
+}
+
+/// Whether no two writes have one key.
+fn are_apart(writes: &[Write]) -> bool
+    ensures { result ≡ one_writer_in writes.now }
+{
+    for i in 0..writes.len() {
+        if has_key(&writes[i + 1..], &writes[i].key) {
+            return false;
+        }
+    }
+    true
+}

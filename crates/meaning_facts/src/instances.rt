@@ -1,0 +1,270 @@
+//! Block instances: their paths, and where names lie.
+ghost use Rattle.std.specs.Prelude.{◌≡◌, ◌<◌, ◌∷◌, None, length, map, nat_le, option_copied, IfOk, OnOk};
+ghost use Rattle.flow.specs.View.{name_view, names_view, owned_view};
+ghost use Rattle.language.specs.Core.{Core};
+ghost use Rattle.language.specs.Places.{Path, place, most_steps};
+ghost use Rattle.meaning_facts.specs.Paths.{child_at, key_number, path_of, step_view, IsNone, IsOpen, IsTree};
+ghost use Rattle.meaning_facts.specs.Stands.{Stands, IsPlace};
+ghost use Rattle.meaning_facts.specs.Store.{spot, spots, outward, parent_of, owner_spot, given_at, variable_in, variables_of, inputs_of, outputs_of};
+
+use crate::facts::Place;
+use flow::name::{Name, Owned};
+use std::alloc::{AllocError, Global};
+use std::collections::HashMap;
+use values::key::Key;
+use values::value::Scalar;
+
+/// A step of a path: the offset of what opens a block, and the key under which it opens it.
+#[derive(Drop)]
+pub struct Step {
+    pub at: usize,
+    pub key: Key,
+}
+
+/// A variable of a loop, by its node, and what it is in a turn.
+#[derive(Drop)]
+pub struct Variable {
+    pub node: u32,
+    pub value: Scalar,
+}
+
+/// What opens an instance beside its step: where the inputs and outputs of a call lie, and what the variables of a loop are.
+#[derive(Drop)]
+pub struct Given {
+    pub inputs: Vec<Place>,
+    pub outputs: Vec<Place>,
+    pub variables: Vec<Variable>,
+}
+
+/// An instance: the one that opened it, its path with the innermost step first, and what it was given.
+#[derive(Drop)]
+pub struct Instance {
+    pub parent: usize,
+    pub path: Vec<Step>,
+    pub given: Given,
+}
+
+/// The block instances of a script, the script's own first. Each stands behind the one that opened it.
+#[derive(Drop)]
+pub struct Instances {
+    pub all: Vec<Instance>,
+    opened: HashMap<(usize, usize, i64), usize>,
+}
+
+/// The most steps of a path.
+pub const MOST_STEPS: usize = 512;
+
+impl Given {
+    /// Nothing.
+    pub fn none(alloc: Global) -> Given
+        ensures { IsNone result }
+    {
+        Given {
+            inputs: Vec::new(alloc),
+            outputs: Vec::new(alloc),
+            variables: Vec::new(alloc),
+        }
+    }
+}
+
+impl Instances {
+    /// The script's own instance.
+    #[tactic(auto, using(crate::proofs::Tree::one_is_tree))]
+    pub fn new(alloc: Global) -> Result<Instances, AllocError>
+        ensures tree { IfOk result IsTree }
+        ensures one { IfOk result (λ t. length t.all.items ≡ 1) }
+    {
+        let mut all = Vec::new(alloc);
+        all.push(Instance {
+            parent: 0,
+            path: Vec::new(alloc),
+            given: Given::none(alloc),
+        })?;
+        Ok(Instances {
+            all,
+            opened: HashMap::new(alloc),
+        })
+    }
+
+    /// Whether no further step fits behind the path.
+    pub fn is_deep(&self, instance: usize) -> bool
+        ensures { result ≡ nat_le most_steps (length (path_of self.now.all.items instance)) }
+    {
+        self.path(instance).len() >= MOST_STEPS
+    }
+
+    /// The path of an instance, the innermost step first.
+    pub fn path(&self, instance: usize) -> &[Step]
+        ensures { map step_view result.now ≡ path_of self.now.all.items instance }
+    {
+        match self.all.get(instance) {
+            Some(found) => found.path.as_slice(),
+            None => &[],
+        }
+    }
+
+    /// The instance that another one has opened under a step.
+    pub fn child(&self, parent: usize, at: usize, key: &Key) -> Option<usize>
+        ensures { result ≡ child_at self.now parent at key.now }
+    {
+        self.opened.get(&(parent, at, number_of(key))).copied()
+    }
+
+    /// Opens an instance. Its number.
+    pub fn open(
+        &mut self,
+        alloc: Global,
+        parent: usize,
+        step: Step,
+        given: Given,
+    ) -> Result<usize, AllocError>
+        ensures number { IfOk result (λ number. number ≡ length self.old.all.items) }
+        ensures opened { OnOk result (IsOpen self.old parent step given self.new) }
+        ensures tree { OnOk result (IsTree self.old → parent < length self.old.all.items → child_at self.old parent step.at step.key ≡ None
+            → length (path_of self.old.all.items parent) < most_steps → IsTree self.new) }
+    {
+        let number = self.all.len();
+        let key = number_of(&step.key);
+        self.opened.insert((parent, step.at, key), number)?;
+        let path = path_behind(alloc, self.path(parent), step)?;
+        self.all.push(Instance {
+            parent,
+            path,
+            given,
+        })?;
+        Ok(number)
+    }
+
+    /// What the variable of a loop is in the turn that an instance is.
+    pub fn variable(&self, place: Place) -> Option<&Scalar>
+        ensures { option_copied result ≡ variable_in (variables_of self.now.all.items place.instance) place.node }
+    {
+        match self.all.get(place.instance) {
+            Some(found) => scalar_of(found.given.variables.as_slice(), place.node),
+            None => None,
+        }
+    }
+
+    /// The place that a name denotes in an instance: out of as many instances, and there the owner's node; for an input or an
+    /// output of a function, the place of what the calling block gave for it.
+    pub fn place(&self, instance: usize, name: Name) -> Place
+        ensures spot { result ≡ spot self.now.all.items instance (name_view name) }
+        ensures lies { (s : Core) (path : Path) → Stands s self.now.all.items instance path → IsPlace s self.now.all.items result (place s path (name_view name)) }
+    {
+        self.owner_place(self.outward(instance, name.up), name.what)
+    }
+
+    /// The instance that is so many further out.
+    #[tactic(auto, using(crate::proofs::Stored::outward_step))]
+    fn outward(&self, instance: usize, up: usize) -> usize
+        ensures { result ≡ outward self.now.all.items up instance }
+    {
+        if up == 0 {
+            return instance;
+        }
+        self.outward(self.parent(instance), up - 1)
+    }
+
+    /// The instance that opened one; the script's own opened itself.
+    fn parent(&self, instance: usize) -> usize
+        ensures { result ≡ parent_of self.now.all.items instance }
+    {
+        match self.all.get(instance) {
+            Some(found) => found.parent,
+            None => 0,
+        }
+    }
+
+    /// The place of what an instance owns.
+    fn owner_place(&self, instance: usize, what: Owned) -> Place
+        ensures { result ≡ owner_spot self.now.all.items instance (owned_view what) }
+    {
+        match what {
+            Owned::Local(node) => Place { instance, node },
+            Owned::Input(i) => self.given_place(self.inputs(instance), i, instance),
+            Owned::Output(i) => self.given_place(self.outputs(instance), i, instance),
+        }
+    }
+
+    /// One of the places that an instance was given.
+    fn given_place(&self, places: &[Place], i: usize, instance: usize) -> Place
+        ensures { result ≡ given_at places.now i (parent_of self.now.all.items instance) }
+    {
+        match places.get(i) {
+            Some(place) => *place,
+            None => Place {
+                instance: self.parent(instance),
+                node: 0,
+            },
+        }
+    }
+
+    fn inputs(&self, instance: usize) -> &[Place]
+        ensures { result.now ≡ inputs_of self.now.all.items instance }
+    {
+        match self.all.get(instance) {
+            Some(found) => found.given.inputs.as_slice(),
+            None => &[],
+        }
+    }
+
+    fn outputs(&self, instance: usize) -> &[Place]
+        ensures { result.now ≡ outputs_of self.now.all.items instance }
+    {
+        match self.all.get(instance) {
+            Some(found) => found.given.outputs.as_slice(),
+            None => &[],
+        }
+    }
+
+    /// The places that names denote in an instance.
+    pub fn places(
+        &self,
+        alloc: Global,
+        instance: usize,
+        names: &[Name],
+    ) -> Result<Vec<Place>, AllocError>
+        ensures { IfOk result (λ places. places.items ≡ spots self.now.all.items instance (names_view names.now)) }
+    {
+        let mut places = Vec::new(alloc);
+        for name in names {
+            places.push(self.place(instance, *name))?;
+        }
+        Ok(places)
+    }
+}
+
+/// The number that a key is.
+fn number_of(key: &Key) -> i64
+    ensures { result ≡ key_number key.now }
+{
+    let Key::Number(number) = key;
+    *number
+}
+
+/// What the variable of a node is among these.
+fn scalar_of(variables: &[Variable], node: u32) -> Option<&Scalar>
+    ensures { option_copied result ≡ variable_in variables.now node }
+{
+    for variable in variables {
+        if variable.node == node {
+            return Some(&variable.value);
+        }
+    }
+    None
+}
+
+/// A path with a further step.
+fn path_behind(alloc: Global, path: &[Step], step: Step) -> Result<Vec<Step>, AllocError>
+    ensures { IfOk result (λ longer. map step_view longer.items ≡ step_view step ∷ map step_view path.now) }
+{
+    let mut longer = Vec::new(alloc);
+    longer.push(step)?;
+    for other in path {
+        longer.push(Step {
+            at: other.at,
+            key: other.key.share()?,
+        })?;
+    }
+    Ok(longer)
+}

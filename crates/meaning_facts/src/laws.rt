@@ -1,0 +1,88 @@
+//! Laws of what was learned. Each function does nothing; its contract is the law.
+ghost use Rattle.std.specs.Prelude.{◌≡◌, ◌<◌, ◌∷◌, [], ℕ, List, Option, None, Some, length};
+ghost use Rattle.values.specs.declared.key.Key.{Key};
+ghost use Rattle.values.specs.declared.map.Element.{Element};
+ghost use Rattle.values.specs.declared.value.Scalar.{Scalar};
+ghost use Rattle.values.specs.declared.value.Value.{Value};
+ghost use Rattle.values.specs.declared.value.Value.TheVariants.{Many};
+ghost use Rattle.language.specs.Core.{Action, Block, Core, Name, Outer, Stmt, each, range};
+ghost use Rattle.language.specs.Openings.{Branches, Decides, InTurn, Opens};
+ghost use Rattle.meaning_facts.specs.Chosen.{Chosen, OpensAt, block_in, chosen_by, chosen_in, count_in, items, key_in, value_at_turn};
+ghost use Rattle.language.specs.Parts.{call_at, input_name, output_name};
+ghost use Rattle.language.specs.Places.{Path, Place, place, most_steps};
+ghost use Rattle.meaning_steps.specs.Kept.{sight_by, past_by};
+ghost use Rattle.language.specs.Facts as script;
+ghost use Rattle.meaning_steps.specs.Environment.{Sight};
+ghost use Rattle.meaning_steps.specs.Taken.{Knows, ReadyBy, taken};
+ghost use Rattle.meaning_facts.specs.Taking.{OpensBy, SeesBy};
+ghost use Rattle.meaning_facts.specs.Added.{IsAdded};
+ghost use Rattle.meaning_facts.specs.Growing.{fact_view, IsAgreed, IsWithin, KeepsFacts, With, with_facts};
+ghost use Rattle.meaning_facts.specs.Keeping.{kept_of, past_of, IsLocated, IsPlaced};
+ghost use Rattle.meaning_facts.specs.Paths.{path_of, at_path, child_at, IsOpen, IsTree};
+ghost use Rattle.meaning_facts.specs.Sighted.{sight_of};
+ghost use Rattle.meaning_facts.specs.Store.{given_at, spot};
+
+use crate::facts::{Fact, Facts};
+use crate::instances::{Given, Instances, Step};
+use crate::learned::Learned;
+
+/// Of a tree of instances each is found at its path, and what is found at a path has that path; so two instances of one path
+/// are one.
+pub fn instances_by_paths()
+    ensures found { (t : Instances) → IsTree t → (i : ℕ) → i < length t.all.items → at_path t (path_of t.all.items i) ≡ Some i }
+    ensures there { (t : Instances) → IsTree t → (p : Path) (i : ℕ) → at_path t p ≡ Some i → (i < length t.all.items) × (path_of t.all.items i ≡ p) }
+    ensures one { (t : Instances) → IsTree t → (i j : ℕ) → i < length t.all.items → j < length t.all.items → path_of t.all.items i ≡ path_of t.all.items j → i ≡ j }
+{}
+
+/// Where the instances are a tree and each stands at its path, what an instance sees, and what was told before of it, is what is
+/// kept at its path; and a name lies in an instance where it denotes at the path.
+pub fn what_is_kept()
+    ensures sees { (s : Core) (l : Learned) → IsPlaced s l.instances → (i : ℕ) → i < length l.instances.all.items → sight_of l i ≡ sight_by s (kept_of l) (path_of l.instances.all.items i) }
+    ensures recalls { (s : Core) (l : Learned) → IsPlaced s l.instances → (i : ℕ) → i < length l.instances.all.items → past_of l i ≡ past_by s (kept_of l) (path_of l.instances.all.items i) }
+    ensures lies { (s : Core) (l : Learned) → IsPlaced s l.instances → (i : ℕ) → i < length l.instances.all.items → (x : Name)
+        → IsLocated l.instances.all.items (spot l.instances.all.items i x) (place s (path_of l.instances.all.items i) x) }
+{}
+
+/// Where the facts that were learned are those that are known, they are so with one fact more, of which the places are those of
+/// instances, and with which a place has one value and a writer writes one scalar under a key.
+pub fn one_fact_more()
+    ensures { (fs : List script.Fact) (l : Learned) (k : Facts) (f : Fact) → IsTree l.instances → KeepsFacts (Knows fs) l → IsAdded l.facts f k → IsWithin l.instances.all.items f
+        → IsAgreed (With (Knows fs) (fact_view l.instances.all.items f)) → KeepsFacts (With (Knows fs) (fact_view l.instances.all.items f)) (with_facts l k) }
+{}
+
+/// Where instances are a tree and each stands at its path, this is so with one more that is opened under a new step, if what it
+/// is given lies where the names of the call at the step do.
+pub fn one_instance_more()
+    ensures { (s : Core) (t u : Instances) (p : ℕ) (x : Step) (g : Given) → IsOpen t p x g u → IsPlaced s t → p < length t.all.items
+        → ((j : ℕ) → given_at g.inputs.items j p ≡ spot t.all.items p (input_name (call_at s x.at) j))
+        → ((j : ℕ) → given_at g.outputs.items j p ≡ spot t.all.items p (output_name (call_at s x.at) j))
+        → child_at t p x.at x.key ≡ None → length (path_of t.all.items p) < most_steps → IsPlaced s u }
+{}
+
+/// Of a condition or a range the values of its cells decide a choice just where something is chosen by them, and the blocks that
+/// it opens are those that it has chosen, under their keys.
+pub fn what_is_chosen()
+    ensures decided { (a : Action) (vs : List Value) → Decides a vs → (c : Chosen) × (chosen_by a vs ≡ Some c) }
+    ensures decides { (a : Action) (vs : List Value) (c : Chosen) → chosen_by a vs ≡ Some c → Decides a vs }
+    ensures opens { (a : Action) (vs : List Value) (c : Chosen) → chosen_by a vs ≡ Some c → (k : Key) (b : Block) → Opens a vs k b → OpensAt a c k b }
+    ensures opened { (a : Action) (vs : List Value) (c : Chosen) → chosen_by a vs ≡ Some c → (i : ℕ) → i < count_in c → (b : Block) → block_in a c ≡ Some b → Opens a vs (key_in c i) b }
+{}
+
+/// Of a loop over an array the blocks that it opens are those of its elements, under their keys; and in each turn of a loop its
+/// variable is what the choice has there.
+pub fn what_a_loop_opens()
+    ensures opens { (a : Name) (x : ℕ) (t : Option ℕ) (b : Block) (es : List Element) (k : Key) (d : Block) → Opens (each a x t b) (Many es ∷ []) k d → OpensAt (each a x t b) (items es) k d }
+    ensures opened { (a : Name) (x : ℕ) (t : Option ℕ) (b : Block) (es : List Element) (i : ℕ) → i < length es → Opens (each a x t b) (Many es ∷ []) (key_in (items es) i) b }
+    ensures element { (a : Name) (x : ℕ) (t : Option ℕ) (b : Block) (es : List Element) (i : ℕ) → i < length es → InTurn (each a x t b) (Many es ∷ []) (key_in (items es) i) x (value_at_turn (items es) i) }
+    ensures turn { (lo hi : Outer) (st : Option Outer) (x : ℕ) (t : Option ℕ) (b : Block) (vs : List Value) (c : Chosen) → chosen_by (range lo hi st x t b) vs ≡ Some c → (i : ℕ)
+        → InTurn (range lo hi st x t b) vs (key_in c i) x (value_at_turn c i) }
+{}
+
+/// Where an instance sees what is known and taken at a path, a header whose choice is seen is ready there, and opens just the
+/// blocks that it has chosen; and of one that is ready and opens blocks under keys the choice is seen.
+pub fn what_is_ready()
+    ensures ready { (s : Core) (fs : List script.Fact) (ls : List (Path × Stmt)) (cs : List Place) (us : List (Place × Scalar)) (path : Path) (g : Sight) → SeesBy s (Knows fs) (taken ls cs us) path g
+        → (a : Action) (c : Chosen) → chosen_in g a ≡ Some c → (vs : List Value) × ReadyBy s (Knows fs) (taken ls cs us) path a vs × OpensBy a vs c }
+    ensures chosen { (s : Core) (fs : List script.Fact) (ls : List (Path × Stmt)) (cs : List Place) (us : List (Place × Scalar)) (path : Path) (g : Sight) → SeesBy s (Knows fs) (taken ls cs us) path g
+        → (a : Action) (vs : List Value) → Branches a → ReadyBy s (Knows fs) (taken ls cs us) path a vs → (c : Chosen) × (chosen_in g a ≡ Some c) × OpensBy a vs c }
+{}

@@ -1,0 +1,32 @@
+//! Live statements, by where they stand.
+
+ghost use Rattle.std.specs.Prelude.{◌≡◌};
+
+use meaning_facts::facts::Place;
+
+/// A live statement, by its block instance, its offset and its node.
+#[derive(Clone, Copy)]
+pub struct Site {
+    pub instance: usize,
+    pub at: usize,
+    pub node: u32,
+}
+
+impl Site {
+    /// The place of a node in the statement's instance.
+    pub fn place(self, node: u32) -> Place
+        ensures { result ≡ record { instance = self.instance; node = node } }
+    {
+        Place {
+            instance: self.instance,
+            node,
+        }
+    }
+
+    /// The place of the statement itself.
+    pub fn own_place(self) -> Place
+        ensures { result ≡ record { instance = self.instance; node = self.node } }
+    {
+        self.place(self.node)
+    }
+}

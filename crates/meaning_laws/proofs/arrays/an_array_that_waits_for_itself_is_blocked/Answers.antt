@@ -1,5 +1,0 @@
-use Rattle.meaning_laws.proofs.SelfSized.{blocked}
-use Rattle.meaning_laws.proofs.arrays.an_array_that_waits_for_itself_is_blocked.Goals as goal
-
-pub returns : goal.returns
-returns c = blocked

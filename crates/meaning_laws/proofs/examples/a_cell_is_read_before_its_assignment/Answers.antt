@@ -1,5 +1,0 @@
-use Rattle.meaning_laws.proofs.Printed.{three}
-use Rattle.meaning_laws.proofs.examples.a_cell_is_read_before_its_assignment.Goals as goal
-
-pub returns : goal.returns
-returns c = three

@@ -1,5 +1,0 @@
-use Rattle.meaning_laws.proofs.Stuck.{circle_blocked}
-use Rattle.meaning_laws.proofs.examples.a_circle_is_blocked.Goals as goal
-
-pub returns : goal.returns
-returns c = circle_blocked

@@ -1,5 +1,0 @@
-use Rattle.meaning_laws.proofs.Printed.{four}
-use Rattle.meaning_laws.proofs.examples.a_loop_reads_what_it_writes.Goals as goal
-
-pub returns : goal.returns
-returns c = four

@@ -1,5 +1,0 @@
-use Rattle.meaning_laws.proofs.Printed.{four_eight}
-use Rattle.meaning_laws.proofs.examples.the_outputs_of_a_call_are_the_callers_variables.Goals as goal
-
-pub returns : goal.returns
-returns c = four_eight

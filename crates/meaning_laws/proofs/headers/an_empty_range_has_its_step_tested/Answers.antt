@@ -1,5 +1,0 @@
-use Rattle.meaning_laws.proofs.HeaderScripts.{step_fault}
-use Rattle.meaning_laws.proofs.headers.an_empty_range_has_its_step_tested.Goals as goal
-
-pub returns : goal.returns
-returns c = (1, (1, step_fault))

@@ -1,5 +1,0 @@
-use Rattle.meaning_laws.proofs.OneCore as law
-use Rattle.meaning_laws.proofs.laws.one_core.Goals as goal
-
-pub returns : goal.returns
-returns c = λ tree t u p q. law.one_core tree t u p q

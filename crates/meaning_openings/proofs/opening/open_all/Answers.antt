@@ -1,0 +1,60 @@
+use Rattle.std.proofs.Common.{arith, ◌≡◌, ◌≤◌, List, length, ap, subst, sym, ◌∙◌, None, Some, slice_get}
+use Rattle.std.specs.Prelude.{option_map}
+use Rattle.std.proofs.lemmas.Grind.{common_steps}
+use Rattle.flow.specs.declared.script.Flow.{Flow}
+use Rattle.flow.specs.View.{core_of}
+use Rattle.meaning_round.specs.Made.{tasks_of}
+use Rattle.meaning_round.specs.Standing.{active_of}
+use Rattle.meaning_round.specs.declared.state.Task.{Task}
+use Rattle.meaning_invariants.specs.Active.{Active}
+use Rattle.std.proofs.lemmas.Option.{slice_get-map}
+use Rattle.meaning_facts.proofs.Ending.{slice_past, slice_there}
+use Rattle.meaning_openings.proofs.Entering.{more_joins}
+use Rattle.meaning_openings.proofs.Passing.{pass_all, pass_first, pass_next}
+use Rattle.meaning_openings.proofs.opening.open_all.Goals as goal
+
+pub loop-i-init : goal.loop-i-init
+loop-i-init g c =
+    let A = g.row.A.Denot in
+    let old = c.args.state.now in
+    let mid = c.open_waiting.new.state in
+    let below : c.min-passed.result ≤ c.args.state.now.passed = grind (arith, common_steps) in
+    let inside : c.min-passed.result ≤ length (tasks_of {A = g.row.A.Denot} c.args.state.now) = grind (arith, common_steps) in
+    record {
+      so = λ s n e w offsets good passed live. pass_first {A = A} s n old mid c.min-passed.result old.passed below inside good passed (c.in_ok-open_waiting.ensures.so s n w offsets good live) c.in_ok-open_waiting.ensures.more;
+      more = c.in_ok-open_waiting.ensures.more;
+      flow = c.open_waiting.ensures.flow;
+    }
+
+pub loop-i-preserved : goal.loop-i-preserved
+loop-i-preserved g c =
+    let A = g.row.A.Denot in
+    let old = c.args.state.now in
+    let mid = c.loop-i.state in
+    let called = c.open_calls.new.state in
+    let new = c.open_header.new.state in
+    let a = active_of {A = A} c.again-task.result in
+    let item : slice_get c.loop-i.state.tasks.items c.loop-i.i ≡ Some c.in-Some.task.now =
+    subst (λ (z : List (Task g.row.A.Denot)). slice_get z c.loop-i.i ≡ Some c.in-Some.task.now) c.deref.ensures.value
+    (slice_there c.deref.result.now c.loop-i.i c.in-Some.task.now c.in-Some.ensures.lookup.3.0 c.in-Some.ensures.lookup.1) in
+    let found = slice_get-map (active_of {A = A}) mid.tasks.items c.loop-i.i ∙ ap (option_map (active_of {A = A})) item ∙ ap (λ (z : Active). Some z) (sym c.again-task.ensures) in
+    record {
+      so = λ s n e w offsets good passed live. pass_next {A = A} s n old mid called new a c.loop-i.i (c.loop-i.invariant.so s n e w offsets good passed live) found
+          (λ now there. c.in_ok-open_calls.ensures.so s n (e ∙ ap (λ (z : Flow A). core_of z) (sym c.loop-i.invariant.flow)) w now there) c.open_calls.ensures.waiting
+          (λ now there. c.in_ok-open_header.ensures.so s n w offsets now there) c.in_ok-open_calls.ensures.more c.in_ok-open_header.ensures.more;
+      more = more_joins {A = A} old mid new c.loop-i.invariant.more (more_joins {A = A} mid called new c.in_ok-open_calls.ensures.more c.in_ok-open_header.ensures.more);
+      flow = c.open_header.ensures.flow ∙ c.open_calls.ensures.flow ∙ c.loop-i.invariant.flow;
+    }
+
+pub returns-in_default-clause-so : goal.returns-in_default-clause-so
+returns-in_default-clause-so g c =
+    let A = g.row.A.Denot in
+    let old = c.args.state.now in
+    let mid = c.loop-i.state in
+    let past : slice_get c.loop-i.state.tasks.items c.loop-i.i ≡ None =
+    subst (λ (z : List (Task g.row.A.Denot)). slice_get z c.loop-i.i ≡ None) c.deref.ensures.value (slice_past c.deref.result.now c.loop-i.i c.in_default.ensures.lookup.3) in
+    let none = slice_get-map (active_of {A = A}) mid.tasks.items c.loop-i.i ∙ ap (option_map (active_of {A = A})) past in
+    λ s n e w offsets good passed live. (
+    let p = pass_all {A = A} s n old mid c.loop-i.i (c.loop-i.invariant.so s n e w offsets good passed live) none in
+    (record { so = p.step.so; goes = p.step.goes }, p.so, p.waiting.live, p.waiting.unready)
+    )

@@ -1,0 +1,3 @@
+pub mod Closing
+pub mod Insides
+pub mod Opening

@@ -1,0 +1,115 @@
+//! Which arrays are closed: those whose declaring block has nothing left to write in them.
+ghost use Rattle.std.specs.Prelude.{◌≡◌, cond, false, map, true, IfOk, OnOk};
+ghost use Rattle.flow.specs.View.{core_of};
+ghost use Rattle.meaning_facts.specs.declared.facts.Place.{Place as Spot};
+ghost use Rattle.meaning_facts.specs.Sighted.{closed_at};
+ghost use Rattle.meaning_facts.specs.Store.{same_place};
+ghost use Rattle.meaning_openings.specs.Closing.{AllStaySo, AreEnded, IsEnded, IsToClose, StaysSo};
+ghost use Rattle.meaning_round.specs.Made.{arrays_of, candidate_of, tasks_of, telling_of, waiting_of};
+
+use flow::name::Owned;
+use flow::script::Flow;
+use meaning_facts::facts::Place;
+use meaning_facts::finished::{Body, is_finished};
+use meaning_facts::learned::Learned;
+use meaning_round::state::{Array, State};
+use std::alloc::{AllocError, Allocator, Global};
+
+/// Closes the arrays of live blocks of which this is so by what is live and closed already. Whether there was one.
+pub fn close_some<'a, A: Allocator>(
+    state: &mut State<'a, A>,
+    alloc: Global,
+) -> Result<bool, AllocError>
+    ensures tasks { tasks_of state.new ≡ tasks_of state.old }
+    ensures telling { telling_of state.new ≡ telling_of state.old }
+    ensures waiting { waiting_of state.new ≡ waiting_of state.old }
+    ensures arrays { arrays_of state.new ≡ arrays_of state.old }
+    ensures passed { state.new.passed ≡ state.old.passed }
+    ensures flow { state.new.flow.now ≡ state.old.flow.now }
+    ensures facts { state.new.learned.facts ≡ state.old.learned.facts }
+    ensures instances { state.new.learned.instances ≡ state.old.learned.instances }
+    ensures so { OnOk result (AllStaySo (core_of state.old.flow.now) (arrays_of state.old) state.old.learned state.new.learned) }
+    ensures ended { IfOk result (λ is_new. is_new ≡ false → (state.new.learned ≡ state.old.learned) × AreEnded (core_of state.old.flow.now) state.old.learned (arrays_of state.old)) }
+{
+    close_arrays(
+        &mut state.learned,
+        alloc,
+        state.flow,
+        state.arrays.as_slice(),
+    )
+}
+
+/// Closes those of these arrays of which this is so. Whether there was one.
+fn close_arrays<'a, A: Allocator>(
+    learned: &mut Learned,
+    alloc: Global,
+    flow: &'a Flow<A>,
+    arrays: &[Array<'a, A>],
+) -> Result<bool, AllocError>
+    ensures facts { learned.new.facts ≡ learned.old.facts }
+    ensures instances { learned.new.instances ≡ learned.old.instances }
+    ensures so { OnOk result (AllStaySo (core_of flow.now) (map candidate_of arrays.now) learned.old learned.new) }
+    ensures ended { IfOk result (λ is_new. is_new ≡ false → (learned.new ≡ learned.old) × AreEnded (core_of flow.now) learned.old (map candidate_of arrays.now)) }
+{
+    let mut is_new = false;
+    for array in arrays {
+        if close_one(learned, alloc, flow, array)? {
+            is_new = true;
+        }
+    }
+    Ok(is_new)
+}
+
+/// Closes an array if this is so, and it is not closed yet. Whether it is so.
+fn close_one<'a, A: Allocator>(
+    learned: &mut Learned,
+    alloc: Global,
+    flow: &'a Flow<A>,
+    array: &Array<'a, A>,
+) -> Result<bool, AllocError>
+    ensures facts { learned.new.facts ≡ learned.old.facts }
+    ensures instances { learned.new.instances ≡ learned.old.instances }
+    ensures so { OnOk result (StaysSo (core_of flow.now) (candidate_of array.now) learned.old learned.new) }
+    ensures ended { IfOk result (λ is_new. is_new ≡ false → (learned.new ≡ learned.old) × IsEnded (core_of flow.now) learned.old (candidate_of array.now)) }
+{
+    if learned.is_closed(array.place) {
+        return Ok(false);
+    }
+    if !is_closing(learned, alloc, flow, array)? {
+        return Ok(false);
+    }
+    close(learned, array.place)?;
+    Ok(true)
+}
+
+/// Marks an array as closed.
+fn close(learned: &mut Learned, array: Place) -> Result<(), AllocError>
+    ensures facts { learned.new.facts ≡ learned.old.facts }
+    ensures instances { learned.new.instances ≡ learned.old.instances }
+    ensures closed { OnOk result ((q : Spot) → closed_at learned.new q ≡ cond (same_place array q) true (closed_at learned.old q)) }
+{
+    learned.closed.insert((array.instance, array.node))?;
+    Ok(())
+}
+
+/// Whether each statement of the declaring block is finished for an array, and no key has two writers.
+fn is_closing<'a, A: Allocator>(
+    learned: &Learned,
+    alloc: Global,
+    flow: &'a Flow<A>,
+    array: &Array<'a, A>,
+) -> Result<bool, AllocError>
+    ensures so { IfOk result (λ yes. yes ≡ true → IsToClose (core_of flow.now) learned.now (candidate_of array.now)) }
+    ensures never { IfOk result (λ yes. yes ≡ false → IsToClose (core_of flow.now) learned.now (candidate_of array.now) → ⊥) }
+{
+    let place = array.place;
+    let body = Body {
+        instance: place.instance,
+        what: Owned::Local(place.node),
+        block: array.block,
+    };
+    if !is_finished(learned, alloc, flow, body)? {
+        return Ok(false);
+    }
+    Ok(learned.facts.has_one_writer(place))
+}

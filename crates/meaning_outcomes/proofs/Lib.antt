@@ -1,0 +1,12 @@
+pub mod Finding
+pub mod Exact
+pub mod Clean
+pub mod Knowing
+pub mod Orders
+pub mod Printed
+pub mod Views
+pub mod Sorted
+pub mod Starting
+pub mod Told
+pub mod Steps
+pub mod Settling

@@ -1,0 +1,41 @@
+use Rattle.std.proofs.Common.{rules, ◌≡◌, false, ap, ◌∙◌}
+use Rattle.flow.specs.View.{core_of}
+use Rattle.meaning_outcomes.proofs.Settling.{turn_after, turn_between, IsClosing}
+use Rattle.meaning_outcomes.proofs.settle.settle.Goals as goal
+
+pub returns-then-not-branch-clause-so : goal.returns-then-not-branch-clause-so
+returns-then-not-branch-clause-so g c =
+    let A = g.row.A.Denot in
+    let closing : IsClosing {A = g.row.A.Denot} c.open_all.new.state c.close_some.new.state = record {
+      tasks = c.close_some.ensures.tasks;
+      telling = c.close_some.ensures.telling;
+      waiting = c.close_some.ensures.waiting;
+      arrays = c.close_some.ensures.arrays;
+      passed = c.close_some.ensures.passed;
+      facts = c.close_some.ensures.facts;
+      instances = c.close_some.ensures.instances;
+    } in
+    let none : c.in_ok-close_some.field-0 ≡ false = search rules in
+    let ends = c.in_ok-close_some.ensures.ended none in
+    turn_after {A = A} (core_of {A = A} c.args.state.now.flow.now) (core_of {A = A} c.loop.state.flow.now) (core_of {A = A} c.open_all.new.state.flow.now)
+    c.args.state.now c.loop.state c.open_all.new.state c.close_some.new.state (ap (core_of {A = A}) c.loop.invariant.flow) (ap (core_of {A = A}) c.open_all.ensures.flow)
+    c.loop.invariant.so c.in_ok-open_all.ensures.so c.in_ok-open_all.ensures.more c.in_ok-open_all.ensures.passed closing c.in_ok-close_some.ensures.so ends.0 ends.1
+
+pub loop-preserved : goal.loop-preserved
+loop-preserved g c =
+    let A = g.row.A.Denot in
+    let closing : IsClosing {A = g.row.A.Denot} c.open_all.new.state c.close_some.new.state = record {
+      tasks = c.close_some.ensures.tasks;
+      telling = c.close_some.ensures.telling;
+      waiting = c.close_some.ensures.waiting;
+      arrays = c.close_some.ensures.arrays;
+      passed = c.close_some.ensures.passed;
+      facts = c.close_some.ensures.facts;
+      instances = c.close_some.ensures.instances;
+    } in
+    record {
+      so = turn_between {A = A} (core_of {A = A} c.args.state.now.flow.now) (core_of {A = A} c.loop.state.flow.now) (core_of {A = A} c.open_all.new.state.flow.now)
+          c.args.state.now c.loop.state c.open_all.new.state c.close_some.new.state (ap (core_of {A = A}) c.loop.invariant.flow) (ap (core_of {A = A}) c.open_all.ensures.flow)
+          c.loop.invariant.so c.in_ok-open_all.ensures.so c.in_ok-open_all.ensures.more c.in_ok-open_all.ensures.passed closing c.in_ok-close_some.ensures.so;
+      flow = c.close_some.ensures.flow ∙ c.open_all.ensures.flow ∙ c.loop.invariant.flow;
+    }

@@ -1,0 +1,5 @@
+pub mod Stuck
+pub mod Known
+pub mod Lists
+pub mod Order
+pub mod Read

@@ -1,0 +1,10 @@
+pub mod Settled
+pub mod Sights
+pub mod News
+pub mod Steady
+pub mod Told
+pub mod Nodes
+pub mod Lists
+pub mod Firsts
+pub mod Seen
+pub mod Written

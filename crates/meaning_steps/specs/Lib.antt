@@ -1,0 +1,4 @@
+pub mod Taken
+pub mod Environment
+pub mod News
+pub mod Kept

@@ -1,8 +1,0 @@
-use Rattle.std.proofs.Common.{◌≡◌, ◌++◌, None, map, take}
-use Rattle.flow.specs.View.{parts_view}
-use Rattle.task_code.specs.View.{variable_view}
-use Rattle.agreement.specs.Laying.{data_in}
-use Rattle.part_entries.proofs.data.add_data.Given as goal
-
-abbrev pub invariant-loop-at : goal.invariant-loop-at
-invariant-loop-at g l = map variable_view l.makes.items ≡ map variable_view l.fn.makes.items ++ data_in None (take l.at (parts_view l.parts.items))

@@ -1,2 +1,0 @@
-pub mod Chunk
-pub mod Made

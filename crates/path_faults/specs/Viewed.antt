@@ -1,9 +1,0 @@
--- Facts of a program as facts of the script.
-use Rattle.std.specs.Prelude.{List, map}
-use Rattle.syntax_trees.specs.Facts as script
-use Rattle.whole_facts.specs.declared.facts.Fact.{Fact}
-use Rattle.whole_facts.specs.declared.instances.Instance.{Instance}
-use Rattle.whole_facts.specs.Growing.{fact_view}
-
-abbrev pub facts_view : List Instance → List Fact → List script.Fact
-facts_view ns fs = map (fact_view ns) fs

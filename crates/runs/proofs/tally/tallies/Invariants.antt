@@ -1,7 +1,0 @@
-use Rattle.std.proofs.Common.{map, take}
-use Rattle.task_code.specs.View.{event_view}
-use Rattle.runs.specs.Report.{AreTallies}
-use Rattle.runs.proofs.tally.tallies.Given as goal
-
-abbrev pub invariant-loop-event : goal.invariant-loop-event
-invariant-loop-event l = AreTallies (map event_view (take l.event-index l.history.items)) l.tallies

@@ -1,6 +1,0 @@
-use Rattle.syntax_trees.specs.Meaning.{Known}
-use Rattle.script_meaning.proofs.Clean.{clean_read}
-use Rattle.script_meaning.proofs.knowledge.Knowledge.is_clean.Goals as goal
-
-pub returns : goal.returns
-returns c = λ s h. clean_read (Known s c.args.self.now.rounds) c.args.self.now.learned h.placed.tree h.holds c.is_clean.result c.is_clean.ensures

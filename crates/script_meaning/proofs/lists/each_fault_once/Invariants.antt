@@ -1,8 +1,0 @@
-use Rattle.std.proofs.Common.{◌≡◌, []}
-use Rattle.std.specs.Vec.Iter.{into_iter_items}
-use Rattle.script_meaning.specs.Lists.{each_once}
-use Rattle.script_meaning.specs.Order.{same_fault}
-use Rattle.script_meaning.proofs.lists.each_fault_once.Given as goal
-
-abbrev pub invariant-loop-fault : goal.invariant-loop-fault
-invariant-loop-fault l = each_once same_fault l.found.items (into_iter_items l.fault-iterator) ≡ each_once same_fault [] l.fn.faults.items

@@ -1,8 +1,0 @@
-use Rattle.std.proofs.Common.{◌≡◌, []}
-use Rattle.std.specs.Vec.Iter.{into_iter_items}
-use Rattle.script_meaning.specs.Lists.{each_once}
-use Rattle.script_meaning.specs.Order.{same_statement}
-use Rattle.script_meaning.proofs.lists.each_once.Given as goal
-
-abbrev pub invariant-loop-statement : goal.invariant-loop-statement
-invariant-loop-statement l = each_once same_statement l.found.items (into_iter_items l.statement-iterator) ≡ each_once same_statement [] l.fn.statements.items

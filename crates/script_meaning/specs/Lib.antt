@@ -1,4 +1,0 @@
-pub mod Known
-pub mod Lists
-pub mod Order
-pub mod Read

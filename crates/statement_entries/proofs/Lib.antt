@@ -1,7 +1,0 @@
-pub mod Few
-pub mod Into
-pub mod Numbers
-pub mod Outers
-pub mod Owns
-mod Puts
-pub mod Starts

@@ -1,3 +1,0 @@
-pub mod Doing
-pub mod Into
-pub mod Seen

@@ -1,0 +1,75 @@
+-- The line that the words behind a command give.
+use Rattle.std.specs.Prelude.{ℕ, ◌≤◌, List, [], ◌∷◌, false, Option, Some, None, option_and_then, if◌then◌else◌, codes}
+use Rattle.swt_arguments.specs.declared.command.Command.{Command}
+use Rattle.swt_arguments.specs.declared.command.Command.TheVariants as command
+use Rattle.swt_arguments.specs.declared.line.Line.{Line}
+use Rattle.swt_arguments.specs.declared.line.Line.TheVariants.{Check, Mean, Code, Run, Replay}
+use Rattle.swt_numbers.specs.Numbers.{number_given}
+use Rattle.swt_arguments.specs.Words.{well_formed, files_in, flag_given, values_of, only, optional}
+
+-- `check`, with one or more files
+abbrev pub check_line : List (List ℕ) → Option Line
+check_line [] = None
+check_line (f ∷ fs) = Some (Check (f ∷ fs))
+
+-- `mean`, with its file and the rounds that were given
+abbrev pub mean_line : List (List ℕ) → List (List ℕ) → Option Line
+mean_line files rounds =
+    option_and_then (λ file.
+    option_and_then (λ most. Some (Mean file most))
+    (number_given 1 4294967295 1000000 rounds))
+    (only files)
+
+-- `code`, with its file, and as a graph where `--dot` is given
+abbrev pub code_line : List (List ℕ) → ℕ → Option Line
+code_line files dots = option_and_then (λ file. option_and_then (λ dot. Some (Code file dot)) (flag_given dots)) (only files)
+
+-- `run`, with its file, and what was given for the engines, the workers, the steps and the trace
+abbrev pub run_line : List (List ℕ) → List (List ℕ) → List (List ℕ) → List (List ℕ) → List (List ℕ) → Option Line
+run_line files engines workers steps trace =
+    option_and_then (λ file.
+    option_and_then (λ e.
+    option_and_then (λ w.
+    option_and_then (λ s.
+    option_and_then (λ t. Some (Run file e w s t))
+    (optional trace))
+    (number_given 0 4294967295 10000000 steps))
+    (number_given 1 63 3 workers))
+    (number_given 1 63 1 engines))
+    (only files)
+
+-- `replay`, with its file and its trace
+abbrev pub replay_line : List (List ℕ) → Option Line
+replay_line [] = None
+replay_line (f ∷ []) = None
+replay_line (f ∷ t ∷ []) = Some (Replay f t)
+replay_line (f ∷ t ∷ u ∷ ws) = None
+
+-- a command with the words behind it, and so many options that have no value
+abbrev pub command_line : Command → List (List ℕ) → ℕ → Option Line
+command_line command.Check ws flags = check_line (files_in false ws)
+command_line command.Mean ws flags = mean_line (files_in false ws) (values_of (codes "--rounds") false ws)
+command_line command.Code ws flags = code_line (files_in false ws) flags
+command_line command.Run ws flags = run_line (files_in false ws) (values_of (codes "--engines") false ws) (values_of (codes "--workers") false ws)
+    (values_of (codes "--steps") false ws) (values_of (codes "--trace") false ws)
+command_line command.Replay ws flags = replay_line (files_in false ws)
+
+-- the same, where the words are well formed
+abbrev pub formed_line : Command → List (List ℕ) → ℕ → Option Line
+formed_line c ws flags = if well_formed c false ws then command_line c ws flags else None
+
+-- the files that a line names to be read, in order
+abbrev pub files_of : Line → List (List ℕ)
+files_of (Check files) = files
+files_of (Mean file rounds) = file ∷ []
+files_of (Code file dot) = file ∷ []
+files_of (Run file engines workers steps trace) = file ∷ []
+files_of (Replay file trace) = file ∷ trace ∷ []
+
+-- each number of the line is in its range
+abbrev pub IsInRange : Line → Type 0
+IsInRange (Check files) = Unit {0}
+IsInRange (Mean file rounds) = (1 ≤ rounds) × (rounds ≤ 4294967295)
+IsInRange (Code file dot) = Unit {0}
+IsInRange (Run file engines workers steps trace) = (1 ≤ engines) × (engines ≤ 63) × (1 ≤ workers) × (workers ≤ 63) × (steps ≤ 4294967295)
+IsInRange (Replay file trace) = Unit {0}

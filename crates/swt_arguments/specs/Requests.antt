@@ -1,0 +1,39 @@
+-- What the words behind the program's name ask for: a line, whether it is to be explained, and whether it shows how far it is.
+use Rattle.std.specs.Prelude.{ℕ, Bool, false, List, [], ◌∷◌, Option, Some, None, codes, option_and_then}
+use Rattle.swt_arguments.specs.declared.command.Command.{Command}
+use Rattle.swt_arguments.specs.declared.command.Command.TheVariants.{Check, Mean, Code, Run, Replay}
+use Rattle.swt_arguments.specs.declared.request.Request.{Request}
+use Rattle.swt_arguments.specs.Commands.{command_of}
+use Rattle.swt_arguments.specs.Lines.{formed_line}
+use Rattle.swt_arguments.specs.Words.{flag_given, often, unflagged}
+
+-- whether a command is to explain, with these words behind it; `code` explains nothing
+abbrev pub explain_given : Command → List (List ℕ) → Option Bool
+explain_given Check ws = flag_given (often (codes "--explain") ws)
+explain_given Mean ws = flag_given (often (codes "--explain") ws)
+explain_given Code ws = Some false
+explain_given Run ws = flag_given (often (codes "--explain") ws)
+explain_given Replay ws = flag_given (often (codes "--explain") ws)
+
+-- whether it is to show how far it is; only a run does
+abbrev pub progress_given : Command → List (List ℕ) → Option Bool
+progress_given Check ws = Some false
+progress_given Mean ws = Some false
+progress_given Code ws = Some false
+progress_given Run ws = flag_given (often (codes "--progress") ws)
+progress_given Replay ws = Some false
+
+-- a command with these words behind it
+abbrev pub behind_command : Command → List (List ℕ) → Option Request
+behind_command c ws =
+    option_and_then (λ line.
+    option_and_then (λ explain.
+    option_and_then (λ progress. Some (record { line = line; explain = explain; progress = progress }))
+    (progress_given c ws))
+    (explain_given c ws))
+    (formed_line c (unflagged c ws) (often (codes "--dot") ws))
+
+-- the words behind the program's name
+abbrev pub request_of : List (List ℕ) → Option Request
+request_of [] = None
+request_of (w ∷ ws) = option_and_then (λ c. behind_command c ws) (command_of w)

@@ -1,0 +1,92 @@
+//! The commands.
+ghost use Rattle.std.specs.Prelude.{◌≡◌, Some};
+ghost use Rattle.swt_arguments.specs.Commands.{command_of, has_option, is_flag};
+
+use crate::words::is;
+
+/// What the program is told to do.
+#[derive(Clone, Copy, PartialEq, Eq, Debug, Drop)]
+pub enum Command {
+    /// Says of each file whether it is accepted.
+    Check,
+    /// Prints the meaning of a script.
+    Mean,
+    /// Lists a script's code.
+    Code,
+    /// Runs a script.
+    Run,
+    /// Reports the run that a trace is of.
+    Replay,
+}
+
+impl Command {
+    /// The command of this name.
+    pub fn of(word: &str) -> Option<Command>
+        ensures { result ≡ command_of word.now }
+    {
+        if is(word, "check") {
+            Some(Command::Check)
+        } else if is(word, "mean") {
+            Some(Command::Mean)
+        } else if is(word, "code") {
+            Some(Command::Code)
+        } else if is(word, "run") {
+            Some(Command::Run)
+        } else if is(word, "replay") {
+            Some(Command::Replay)
+        } else {
+            None
+        }
+    }
+
+    /// Whether a word is an option of the command that has no value.
+    pub fn is_flag(self, word: &str) -> bool
+        ensures { result ≡ is_flag self word.now }
+    {
+        match self {
+            Command::Code => is(word, "--dot"),
+            Command::Run => is(word, "--explain") || is(word, "--progress"),
+            Command::Check | Command::Mean | Command::Replay => is(word, "--explain"),
+        }
+    }
+
+    /// Whether a word is an option of the command that has a value.
+    pub fn has_option(self, word: &str) -> bool
+        ensures { result ≡ has_option self word.now }
+    {
+        match self {
+            Command::Mean => is(word, "--rounds"),
+            Command::Run => {
+                is(word, "--engines")
+                    || is(word, "--workers")
+                    || is(word, "--steps")
+                    || is(word, "--trace")
+            }
+            Command::Check | Command::Code | Command::Replay => false,
+        }
+    }
+
+    /// Its name.
+    pub fn name(self) -> &'static str
+        ensures { command_of result.now ≡ Some self }
+    {
+        match self {
+            Command::Check => "check",
+            Command::Mean => "mean",
+            Command::Code => "code",
+            Command::Run => "run",
+            Command::Replay => "replay",
+        }
+    }
+
+    /// What it wants behind it, in words.
+    pub fn wanted(self) -> &'static str {
+        match self {
+            Command::Check => "check wants one file or more",
+            Command::Mean => "mean wants a file",
+            Command::Code => "code wants a file",
+            Command::Run => "run wants a file",
+            Command::Replay => "replay wants a file and its trace",
+        }
+    }
+}

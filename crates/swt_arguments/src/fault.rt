@@ -1,0 +1,51 @@
+//! Why a command line was not read.
+ghost use Rattle.std.specs.Prelude.{◌≡◌};
+
+use clap::error::ErrorKind;
+use std::alloc::{AllocError, AllocFailed};
+use thiserror::Error;
+
+/// Why a command line was not read.
+#[derive(Clone, Copy, PartialEq, Eq, Debug, Drop, Error)]
+pub enum LineFault {
+    /// The words are no command, or they call for help. The text tells how each command is written.
+    #[error("usage: swt check FILE.. [--explain]\n       swt mean FILE [--rounds N] [--explain]\n       swt code FILE [--dot]\n       swt run FILE [--engines N] [--workers N] [--steps N] [--trace FILE] [--explain] [--progress]\n       swt replay FILE TRACE [--explain]\n\ncheck   says of each file whether it is accepted, or the rule that it breaks and where\nmean    prints what the script means, worked out without running it\ncode    lists the code that the script becomes\nrun     runs the script\nreplay  runs the events of a trace again\n\n--rounds N     so many rounds at most: 1 to 4294967295, or 1000000\n--dot          draws the code, as text for dot\n--engines N    threads that open what the script opens: 1 to 63, or 1\n--workers N    threads that compute and print: 1 to 63, or 3; at most 64 of both\n--steps N      so many starts and ends of tasks at most: 0 to 4294967295, or 10000000\n--trace FILE   writes what the run did, for replay; never over the script\n--explain      says on standard error what each refusal, fault and blocked statement means\n--progress     says once a second on standard error how far the run is\n\nThe status is\n0  accepted, or run to its end with nothing blocked\n1  a script is refused\n2  the words are no command, or ask for more than 64 engines and workers\n3  the script met a fault\n4  statements are blocked: what they wait for never comes\n5  the limit of steps or rounds was met\n6  memory ran out\n7  a file could not be read or written, or is no trace of the script")]
+    Usage,
+    /// Memory that was asked for was refused.
+    #[error("no memory")]
+    Memory,
+}
+
+impl From<clap::Error> for LineFault {
+    ghost use Rattle.clap.specs.Words.{kind_of};
+    ghost use Rattle.swt_arguments.specs.Reader.{refusal};
+
+    ghost from_gives = { λ error fault. fault ≡ refusal (kind_of error) };
+
+    fn from(error: clap::Error) -> LineFault {
+        match error.kind() {
+            ErrorKind::OutOfMemory => LineFault::Memory,
+            _ => LineFault::Usage,
+        }
+    }
+}
+
+impl From<AllocError> for LineFault {
+    ghost use Rattle.swt_arguments.specs.declared.fault.LineFault.TheVariants.{Memory};
+
+    ghost from_gives = { λ _ fault. fault ≡ Memory };
+
+    fn from(_refused: AllocError) -> LineFault {
+        LineFault::Memory
+    }
+}
+
+impl<T: Drop> From<AllocFailed<T>> for LineFault {
+    ghost use Rattle.swt_arguments.specs.declared.fault.LineFault.TheVariants.{Memory};
+
+    ghost from_gives = { λ _ fault. fault ≡ Memory };
+
+    fn from(_refused: AllocFailed<T>) -> LineFault {
+        LineFault::Memory
+    }
+}

@@ -1,0 +1,218 @@
+//! A command with its files and numbers.
+ghost use Rattle.std.specs.Prelude.{◌≡◌, ◌≤◌, [], ◌∷◌, codes, IfOk};
+ghost use Rattle.swt_numbers.specs.Numbers.{number_given};
+ghost use Rattle.swt_arguments.specs.Words.{Answers};
+ghost use Rattle.swt_arguments.specs.Reader.{values_given};
+ghost use Rattle.swt_arguments.specs.Lines.{formed_line, check_line, mean_line, code_line, run_line, replay_line, files_of, IsInRange};
+
+use crate::command::Command;
+use crate::fault::LineFault;
+use crate::word::Word;
+use crate::{reading, words};
+use clap::ArgMatches;
+use std::alloc::{AllocError, Global};
+use std::marker::Model;
+
+/// The files of a line, in the order in which they were written.
+#[derive(Drop)]
+pub struct Files {
+    names: Vec<Word>,
+}
+
+impl Model for Files {
+    ghost use Rattle.std.specs.Prelude.{List, ℕ};
+
+    ghost Value = { List (List ℕ) };
+
+    ghost view = { λ files. files.names.items };
+}
+
+impl Files {
+    pub fn as_slice(&self) -> &[Word]
+        ensures { result.now ≡ self.now }
+    {
+        self.names.as_slice()
+    }
+}
+
+/// A command with its files and numbers.
+#[derive(Drop)]
+pub enum Line {
+    /// Says of each file whether it is accepted.
+    Check {
+        files: Files,
+    },
+    /// Prints the meaning of a script, worked out in so many rounds at most.
+    Mean {
+        file: Word,
+        rounds: u32,
+    },
+    /// Lists a script's code, or draws it, as text for `dot`.
+    Code {
+        file: Word,
+        dot: bool,
+    },
+    /// Runs a script for so many events at most, and writes its trace where a file is named for it.
+    Run {
+        file: Word,
+        engines: u8,
+        workers: u8,
+        steps: u32,
+        trace: Option<Word>,
+    },
+    /// Reports the run of a script that a trace is of.
+    Replay {
+        file: Word,
+        trace: Word,
+    },
+}
+
+impl Line {
+    /// The files that the line names to be read, in order.
+    pub fn files(&self, alloc: Global) -> Result<Vec<Word>, AllocError>
+        ensures { IfOk result (λ files. files.items ≡ files_of self.now) }
+    {
+        match self {
+            Line::Check { files } => copies(alloc, files.as_slice()),
+            Line::Mean { file, .. } | Line::Code { file, .. } | Line::Run { file, .. } => {
+                one(alloc, file)
+            }
+            Line::Replay { file, trace } => two(alloc, file, trace),
+        }
+    }
+}
+
+fn one(alloc: Global, file: &Word) -> Result<Vec<Word>, AllocError>
+    ensures { IfOk result (λ files. files.items ≡ file.now ∷ []) }
+{
+    Ok(Vec::from_array(alloc, [file.copy(alloc)?])?)
+}
+
+fn two(alloc: Global, first: &Word, second: &Word) -> Result<Vec<Word>, AllocError>
+    ensures { IfOk result (λ files. files.items ≡ first.now ∷ second.now ∷ []) }
+{
+    Ok(Vec::from_array(alloc, [first.copy(alloc)?, second.copy(alloc)?])?)
+}
+
+fn copies(alloc: Global, words: &[Word]) -> Result<Vec<Word>, AllocError>
+    ensures { IfOk result (λ copies. copies.items ≡ words.now) }
+{
+    let mut copies = Vec::new(alloc);
+    for word in words {
+        copies.push(word.copy(alloc)?)?;
+    }
+    Ok(copies)
+}
+
+/// The line of a command with these words behind it, and so many options that have no value.
+pub fn read(
+    alloc: Global,
+    command: Command,
+    words: &[Word],
+    flags: usize,
+) -> Result<Line, LineFault>
+    ensures line { Answers (formed_line command words.now flags) result }
+    ensures in_range { IfOk result IsInRange }
+{
+    let matches = reading::read(alloc, command, words)?;
+    let files = reading::files(alloc, &matches)?;
+    match command {
+        Command::Check => read_check(files),
+        Command::Mean => read_mean(alloc, &files, &matches),
+        Command::Code => read_code(alloc, &files, flags),
+        Command::Run => read_run(alloc, &files, &matches),
+        Command::Replay => read_replay(alloc, &files),
+    }
+}
+
+fn read_check(names: Vec<Word>) -> Result<Line, LineFault>
+    ensures line { Answers (check_line names.items) result }
+    ensures in_range { IfOk result IsInRange }
+{
+    if names.is_empty() {
+        return Err(LineFault::Usage);
+    }
+    Ok(Line::Check {
+        files: Files { names },
+    })
+}
+
+fn read_mean(alloc: Global, files: &[Word], matches: &ArgMatches) -> Result<Line, LineFault>
+    ensures line { Answers (mean_line files.now (values_given matches.now (codes "--rounds"))) result }
+    ensures in_range { IfOk result IsInRange }
+{
+    let file = words::only(alloc, files)?;
+    let rounds = number(matches, "--rounds", 1, u32::MAX, 1_000_000)?;
+    Ok(Line::Mean { file, rounds })
+}
+
+fn read_code(alloc: Global, files: &[Word], dots: usize) -> Result<Line, LineFault>
+    ensures line { Answers (code_line files.now dots) result }
+    ensures in_range { IfOk result IsInRange }
+{
+    let file = words::only(alloc, files)?;
+    let dot = words::flag(dots)?;
+    Ok(Line::Code { file, dot })
+}
+
+fn read_run(alloc: Global, files: &[Word], matches: &ArgMatches) -> Result<Line, LineFault>
+    ensures line { Answers (run_line files.now (values_given matches.now (codes "--engines"))
+        (values_given matches.now (codes "--workers")) (values_given matches.now (codes "--steps"))
+        (values_given matches.now (codes "--trace"))) result }
+    ensures in_range { IfOk result IsInRange }
+{
+    let file = words::only(alloc, files)?;
+    let engines = seats(matches, "--engines", 1)?;
+    let workers = seats(matches, "--workers", 3)?;
+    let steps = number(matches, "--steps", 0, u32::MAX, 10_000_000)?;
+    let trace = words::optional(alloc, matches.get_str("--trace"))?;
+    Ok(Line::Run {
+        file,
+        engines,
+        workers,
+        steps,
+        trace,
+    })
+}
+
+fn read_replay(alloc: Global, files: &[Word]) -> Result<Line, LineFault>
+    ensures line { Answers (replay_line files.now) result }
+    ensures in_range { IfOk result IsInRange }
+{
+    match files {
+        [file, trace] => Ok(Line::Replay {
+            file: file.copy(alloc)?,
+            trace: trace.copy(alloc)?,
+        }),
+        _ => Err(LineFault::Usage),
+    }
+}
+
+/// The number of an option, of 32 bits.
+fn number(
+    matches: &ArgMatches,
+    option: &str,
+    least: u32,
+    most: u32,
+    default: u32,
+) -> Result<u32, LineFault>
+    requires least { least ≤ default }
+    requires most { default ≤ most }
+    ensures value { Answers (number_given least most default (values_given matches.now option.now)) result }
+    ensures within { IfOk result (λ n. (least ≤ n) × (n ≤ most)) }
+{
+    swt_numbers::number(matches.get_str(option), least, most, default).ok_or(LineFault::Usage)
+}
+
+/// The number of engines or of workers, from 1 to 63.
+fn seats(matches: &ArgMatches, option: &str, default: u8) -> Result<u8, LineFault>
+    requires least { 1 ≤ default }
+    requires most { default ≤ 63 }
+    ensures value { Answers (number_given 1 63 default (values_given matches.now option.now)) result }
+    ensures within { IfOk result (λ n. (1 ≤ n) × (n ≤ 63)) }
+{
+    match swt_numbers::number(matches.get_str(option), 1, 63, default as u32) {
+        Some(n) => Ok(n as u8),
+        None => Err(LineFault::Usage),
+    }
+}

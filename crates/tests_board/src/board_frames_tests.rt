@@ -1,0 +1,246 @@
+//! Items and instances of a script that is opened: what its names stand for, paths, turns of loops, how instances come and go.
+
+use crate::asserts::is_equal;
+use crate::worlds::{ASSERT, FIRST, Opened, SET, opened_script};
+use board_changes::world::World;
+use board_instances::instance::{Slot, datum_at, enter, leave, path_of, slot_at};
+use board_instances::item::{Mark, PackedItem, item_of, mark_item};
+use board_instances::opening::{Around, Opening, inner, outermost};
+use board_instances::outer::{Outer, Way};
+use board_instances::packed::PackedSlot;
+use board_instances::place::Step;
+use board_instances::placing::{go_on, place_all};
+use board_instances::turns::{Site, push_block, push_elements, push_range};
+use board_program::spot::Spot;
+use std::alloc::{AllocError, Global};
+use std::process::Abort;
+use values::key::Key;
+use values::map::Element;
+use values::range::Range;
+use values::value::Scalar;
+
+fn open(rt: &impl Abort, alloc: Global) -> Box<Opened> {
+    opened_script(rt, alloc)
+}
+
+fn around(world: &Opened) -> Around<'_> {
+    world.view().around()
+}
+
+/// A step by the number 40.
+fn way(key: i64) -> Step {
+    Step {
+        offset: 40,
+        key: Key::Number(key),
+    }
+}
+
+/// The variable stands for the first datum, and what lies outside for nothing.
+fn names_have_data(rt: &impl Abort, world: &World) {
+    let outside = Spot { levels: 1, slot: 0 };
+    let instances = &world.instances;
+    is_equal(
+        rt,
+        (slot_at(instances, 0, FIRST), slot_at(instances, 0, outside)),
+        (Slot::Datum(0), Slot::Absent),
+    );
+    is_equal(rt, datum_at(instances, 0, Some(FIRST)), Some(0));
+    is_equal(rt, datum_at(instances, 0, None), None);
+}
+
+/// What a slot stands for that was packed, if there is memory for so great numbers.
+fn repacked(slot: Slot) -> Option<Slot> {
+    match PackedSlot::of(slot) {
+        Ok(packed) => Some(packed.slot()),
+        Err(_) => None,
+    }
+}
+
+#[test]
+fn a_slot_is_packed(rt: HostRuntime) {
+    let slots = [
+        Slot::Absent,
+        Slot::Datum(4_294_967_295),
+        Slot::Literal(7, 2),
+    ];
+    for slot in slots {
+        is_equal(&rt, repacked(slot), Some(slot));
+    }
+    is_equal(&rt, repacked(Slot::Datum(4_294_967_296)), None);
+    is_equal(&rt, repacked(Slot::Literal(7, 4_294_967_294)), None);
+    assert!(rt; PackedSlot::datum(4_294_967_296).is_err());
+    is_equal(&rt, PackedSlot::absent().slot(), Slot::Absent);
+}
+
+/// How many steps the path of an instance has.
+fn path_length(rt: &impl Abort, alloc: Global, world: &World, at: usize) -> usize {
+    let path = path_of(alloc, &world.instances, at).expect(rt, "memory");
+    path.len()
+}
+
+#[test]
+fn names_stand_for_data(rt: HostRuntime) {
+    let world = open(&rt, rt.alloc());
+    names_have_data(&rt, &world.world);
+    is_equal(&rt, path_length(&rt, rt.alloc(), &world.world, 0), 0);
+}
+
+/// The assignment's item waits under its number, and none has the number 0.
+fn set_waits(rt: &impl Abort, rows: &[PackedItem]) {
+    let set = item_of(rows, 2).expect(rt, "an item");
+    is_equal(rt, (set.job(), set.mark()), (SET, Mark::Waiting));
+    is_equal(rt, item_of(rows, 0), None);
+}
+
+/// An item of an entry is packed, unless its numbers are too great.
+fn items_are_packed(rt: &impl Abort) {
+    let packed = PackedItem::waiting(1, 0, 0).expect(rt, "memory");
+    is_equal(rt, packed.item().job(), ASSERT);
+    assert!(rt; PackedItem::waiting(1, 4_294_967_296, 0).is_err());
+}
+
+/// The item of what is asserted is ready under its number, which is the last.
+fn assert_is_ready(rt: &impl Abort, rows: &[PackedItem]) {
+    let found = item_of(rows, 3).expect(rt, "an item");
+    is_equal(rt, (found.job(), found.mark()), (ASSERT, Mark::Ready));
+    is_equal(rt, item_of(rows, 4), None);
+}
+
+#[test]
+fn items_have_numbers(rt: HostRuntime) {
+    let mut world = open(&rt, rt.alloc());
+    set_waits(&rt, world.rows.as_slice());
+    mark_item(world.rows.as_mut_slice(), 3, Mark::Ready);
+    assert_is_ready(&rt, world.rows.as_slice());
+    items_are_packed(&rt);
+}
+
+/// One item more enters the instance, and all three leave it.
+fn leave_thrice(rt: &impl Abort, world: &mut World) {
+    let instances = &mut world.instances;
+    enter(instances, 0, 1);
+    leave(instances, 0);
+    leave(instances, 0);
+    is_equal(rt, instances.len(), 1);
+    leave(instances, 0);
+    is_equal(rt, instances.len(), 0);
+}
+
+#[test]
+fn an_instance_goes_with_its_last_item(rt: HostRuntime) {
+    let mut world = open(&rt, rt.alloc());
+    leave_thrice(&rt, &mut world.world);
+}
+
+/// The outermost instance of the body, which lies in no other.
+fn outermost_lies_in_none(rt: &impl Abort, alloc: Global, world: &Opened) {
+    let body = world.program.code().body(0).expect(rt, "a body");
+    let first = outermost(alloc, body).expect(rt, "memory");
+    is_equal(rt, (first.level, first.depth, first.live), (0, 0, 2));
+}
+
+/// An instance that lies in the script's, a step further.
+fn inner_lies_in_first(rt: &impl Abort, alloc: Global, world: &Opened) {
+    let found = inner(alloc, around(world), 0, Some(way(7)), (0, &[]));
+    let inside = found.expect(rt, "memory").expect(rt, "an instance");
+    is_equal(rt, (inside.level, inside.depth, inside.live), (1, 1, 2));
+    is_equal(rt, inside.parent.key(), Some(0));
+}
+
+/// There is no instance of a body that is not.
+fn no_body_has_none(rt: &impl Abort, alloc: Global, world: &Opened) {
+    let none = inner(alloc, around(world), 1, None, (0, &[]));
+    assert!(rt; none.expect(rt, "memory").is_none());
+}
+
+#[test]
+fn instances_lie_in_one_another(rt: HostRuntime) {
+    let world = open(&rt, rt.alloc());
+    outermost_lies_in_none(&rt, rt.alloc(), &world);
+    inner_lies_in_first(&rt, rt.alloc(), &world);
+    no_body_has_none(&rt, rt.alloc(), &world);
+}
+
+fn site(world: &Opened, alloc: Global) -> Site<'_> {
+    Site {
+        alloc,
+        around: around(world),
+        body: 0,
+        offset: 40,
+    }
+}
+
+/// A block, two elements and three numbers of a range.
+fn turns(alloc: Global, world: &Opened) -> Result<Vec<Opening>, AllocError> {
+    let mut list = Vec::new(alloc);
+    let values = (None, None);
+    push_block(site(world, alloc), &mut list, None, (0, &[]), values)?;
+    let one = Element {
+        key: Key::Number(3),
+        value: Scalar::Truth(true),
+    };
+    push_elements(site(world, alloc), &mut list, &[one])?;
+    if let Ok(range) = Range::new(5, 9, 2) {
+        push_range(site(world, alloc), &mut list, &range, 1, 7)?;
+    }
+    Ok(list)
+}
+
+/// The key of the one around is kept, and that there is none.
+fn keeps_the_outer(rt: &impl Abort) {
+    let outer = Outer::of(7).expect(rt, "a key");
+    is_equal(rt, (outer.key(), Outer::none().key()), (Some(7), None));
+}
+
+/// A step is kept, and that there is none.
+fn keeps_the_step(rt: &impl Abort) {
+    let kept = Way::of(Some(way(3))).expect(rt, "an offset");
+    let step = kept.step().expect(rt, "a step");
+    assert!(rt; step.offset == 40 && matches!(step.key, Key::Number(3)));
+    assert!(rt; Way::none().step().is_none());
+}
+
+#[test]
+fn an_instance_keeps_what_is_around_it(rt: HostRuntime) {
+    keeps_the_outer(&rt);
+    keeps_the_step(&rt);
+}
+
+/// The last turn has the range's last number and its place, and a step by that place.
+fn is_last_turn(rt: &impl Abort, last: &Opening) {
+    assert!(rt; matches!(&last.value, Some(Scalar::Number(9))));
+    assert!(rt; matches!(&last.turn, Some(Scalar::Number(2))));
+    let way = last.instance.way.step().expect(rt, "a step");
+    assert!(rt; way.offset == 40 && matches!(way.key, Key::Number(2)));
+}
+
+#[test]
+fn loops_have_turns(rt: HostRuntime) {
+    let world = open(&rt, rt.alloc());
+    let list = turns(rt.alloc(), &world).expect(&rt, "memory");
+    is_equal(&rt, list.len(), 4);
+    is_last_turn(&rt, list.last().expect(&rt, "a turn"));
+}
+
+/// Places the turns in the script's instance, and gives the key of the last.
+fn place_turns(rt: &impl Abort, alloc: Global, world: &mut Opened) -> usize {
+    let list = turns(alloc, world).expect(rt, "memory");
+    let instances = &mut world.world.instances;
+    let last = place_all(instances, &mut world.rows, Some(0), &[1], list);
+    last.expect(rt, "memory").expect(rt, "a key")
+}
+
+/// How many instances and items there are.
+fn counts(world: &Opened) -> (usize, usize) {
+    (world.world.instances.len(), world.rows.len())
+}
+
+#[test]
+fn instances_are_placed_with_their_items(rt: HostRuntime) {
+    let mut world = open(&rt, rt.alloc());
+    let last = place_turns(&rt, rt.alloc(), &mut world);
+    is_equal(&rt, counts(&world), (5, 7));
+    is_equal(&rt, path_length(&rt, rt.alloc(), &world.world, last), 1);
+    go_on(&mut world.rows, 0, 1, 0).expect(&rt, "memory");
+    is_equal(&rt, world.rows.len(), 8);
+}

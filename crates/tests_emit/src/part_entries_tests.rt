@@ -1,0 +1,337 @@
+//! Each call of `part_entries` on a plain case: `y = A[6] + f(A[6])` and its parts.
+
+use crate::asserts::{boxed, holds, is_equal};
+use crate::flows::{array, call, computed, element, element_parts, functions, scalar, sum};
+use crate::lists::{one, put as put_behind};
+use emit_cells::cells::{element as element_need, handed, pass_cell, pass_parts};
+use emit_cells::data::{add_data, add_scalar};
+use emit_cells::entries::{Shown, Standing, entry, put};
+use emit_cells::laid::add_parts;
+use emit_cells::outers::{add_outer, pass_outer};
+use emit_cells::owns::{add_outer_data, add_own_data, add_own_outer};
+use emit_cells::parts::{add_call, add_cell};
+use flow::cell::{Call, Cell, Outer, Part};
+use flow::expression::Expr;
+use indexmap::{IndexMap, IndexSet};
+use std::alloc::{AllocError, Global};
+use std::process::Abort;
+use task_code::entry::{Act, Argument, Entry, Name, Need, Owned, Variable};
+use values::key::Key;
+use values::value::Scalar;
+
+const STANDING: Standing = Standing {
+    at: 8,
+    priority: 3,
+    inputs: 0,
+};
+
+/// What is handed over, by the nodes of cells.
+type Passed = IndexMap<u32, Argument>;
+
+/// A datum of the block itself.
+fn datum(node: u32, array: bool) -> Name {
+    Name {
+        up: 0,
+        owned: Owned::Local(Variable { node, array }),
+    }
+}
+
+/// What an entry does, in a letter.
+fn letter(act: &Act) -> u8 {
+    match act {
+        Act::Cell(_) => b'c',
+        Act::Read => b'r',
+        Act::Call { .. } => b'f',
+        _ => b'-',
+    }
+}
+
+/// What entries do, in letters.
+fn letters(alloc: Global, entries: &[Entry]) -> Result<Vec<u8>, AllocError> {
+    let mut found = Vec::new(alloc);
+    for entry in entries {
+        found.push(letter(&entry.act))?;
+    }
+    Ok(found)
+}
+
+/// `A[6] + f(A[6])`, but for the sum itself
+fn parts(alloc: Global) -> Result<Vec<Part<Global>>, AllocError> {
+    let mut parts = element_parts(alloc)?;
+    let call = call(alloc)?;
+    put_behind(&mut parts, Part::Calls(call))?;
+    Ok(parts)
+}
+
+/// An outermost cell with the parts inside it, in a box.
+fn outer_of(
+    rt: &impl Abort,
+    alloc: Global,
+    parts: Vec<Part<Global>>,
+    cell: Cell<Global>,
+) -> Box<Outer<Global>> {
+    boxed(rt, alloc, Outer { parts, cell })
+}
+
+/// `A[6] + f(A[6])`
+fn outer(rt: &impl Abort, alloc: Global) -> Box<Outer<Global>> {
+    let parts = parts(alloc).expect(rt, "memory");
+    let expr = sum(alloc, Expr::Name(scalar(4)), Expr::Name(scalar(5))).expect(rt, "memory");
+    outer_of(rt, alloc, parts, computed(7, expr))
+}
+
+/// `A[6]`
+fn read(rt: &impl Abort, alloc: Global) -> Box<Outer<Global>> {
+    let index = Part::Inner(computed(3, Expr::Number(6)));
+    let parts = one(alloc, index).expect(rt, "memory");
+    outer_of(rt, alloc, parts, element())
+}
+
+/// A call in a box.
+fn own_call(rt: &impl Abort, alloc: Global) -> Box<Call<Global>> {
+    let call = call(alloc).expect(rt, "memory");
+    boxed(rt, alloc, call)
+}
+
+/// Whether this is the element of the array of node 1 at the key 6.
+fn is_sixth(need: &Need) -> bool {
+    match need {
+        Need::AtKey(name, Key::Number(n)) => *name == datum(1, true) && *n == 6,
+        _ => false,
+    }
+}
+
+/// Nothing is handed over.
+fn none_passed(rt: &impl Abort, alloc: Global) -> Box<Passed> {
+    boxed(rt, alloc, IndexMap::new(alloc))
+}
+
+/// What is handed over for the parts.
+fn passed_parts(rt: &impl Abort, alloc: Global, parts: &Vec<Part<Global>>) -> Box<Passed> {
+    let mut passed = none_passed(rt, alloc);
+    pass_parts(alloc, &mut passed, 0, parts).expect(rt, "memory");
+    passed
+}
+
+/// What is handed over for an outermost cell and its parts.
+fn passed_outer(rt: &impl Abort, alloc: Global, outer: &Outer<Global>) -> Box<Passed> {
+    let mut passed = none_passed(rt, alloc);
+    pass_outer(alloc, &mut passed, 0, outer).expect(rt, "memory");
+    passed
+}
+
+/// What is handed over for the cell of node 9, the number 5.
+fn passed_five(rt: &impl Abort, alloc: Global) -> Box<Passed> {
+    let cell = boxed(rt, alloc, computed(9, Expr::Number(5)));
+    let mut passed = none_passed(rt, alloc);
+    pass_cell(alloc, &mut passed, 0, &cell, true).expect(rt, "memory");
+    passed
+}
+
+/// Which number it is, if it is one.
+fn number(argument: &Option<Argument>) -> Option<i64> {
+    match argument {
+        Some(Argument::Fixed(Scalar::Number(n))) => Some(*n),
+        _ => None,
+    }
+}
+
+/// Which number is handed over for the cell of a node, if one is.
+fn handed_number(rt: &impl Abort, passed: &Passed, node: u32) -> Option<i64> {
+    let found = handed(passed, node).expect(rt, "memory");
+    number(&found)
+}
+
+#[test]
+fn literals_are_handed_over_for_themselves(rt: HostRuntime) {
+    let passed = passed_five(&rt, rt.alloc());
+    is_equal(&rt, handed_number(&rt, &passed, 9), Some(5));
+    is_equal(&rt, handed_number(&rt, &passed, 2), None);
+}
+
+#[test]
+fn an_element_is_at_its_index(rt: HostRuntime) {
+    let parts = element_parts(rt.alloc()).expect(&rt, "memory");
+    let passed = passed_parts(&rt, rt.alloc(), &parts);
+    is_equal(&rt, handed_number(&rt, &passed, 3), Some(6));
+    holds(&rt, is_sixth(&element_need(&passed, datum(1, true), 3)));
+}
+
+/// The entry of an element, in a box.
+fn element_entry(rt: &impl Abort, alloc: Global) -> Box<Entry> {
+    let shown = Shown { node: 4, mark: 14 };
+    let made = entry(alloc, STANDING, shown, Vec::new(alloc), Act::Read);
+    boxed(rt, alloc, made)
+}
+
+#[test]
+fn an_entry_stands_as_its_statement(rt: HostRuntime) {
+    let made = element_entry(&rt, rt.alloc());
+    is_equal(
+        &rt,
+        (made.node, made.at, made.mark, made.priority),
+        (4, 8, 14, 3),
+    );
+}
+
+/// An entry without needs.
+fn put_read(alloc: Global) -> Result<Vec<Entry>, AllocError> {
+    let needs = IndexSet::new(alloc);
+    let mut entries = Vec::new(alloc);
+    let shown = Shown { node: 4, mark: 14 };
+    put(alloc, &mut entries, STANDING, shown, &needs, Act::Read)?;
+    Ok(entries)
+}
+
+/// The entries of the sum and its parts.
+fn sum_entries(rt: &impl Abort, alloc: Global, outer: &Outer<Global>) -> Vec<Entry> {
+    let functions = functions(alloc).expect(rt, "memory");
+    let passed = passed_outer(rt, alloc, outer);
+    let mut entries = Vec::new(alloc);
+    add_outer(alloc, &mut entries, &functions, STANDING, &passed, outer).expect(rt, "memory");
+    entries
+}
+
+/// The entries of what a statement does not work out itself.
+fn own_entries(rt: &impl Abort, alloc: Global, outer: &Outer<Global>) -> Vec<Entry> {
+    let functions = functions(alloc).expect(rt, "memory");
+    let passed = passed_outer(rt, alloc, outer);
+    let mut entries = Vec::new(alloc);
+    add_own_outer(alloc, &mut entries, &functions, STANDING, &passed, outer).expect(rt, "memory");
+    entries
+}
+
+/// Adds the entry of an element.
+fn add_element(alloc: Global, entries: &mut Vec<Entry>, passed: &Passed) -> Result<(), AllocError> {
+    add_cell(alloc, entries, STANDING, passed, &element())
+}
+
+/// The entries of an element and its index, of the element again, and of a call.
+fn part_entries(
+    rt: &impl Abort,
+    alloc: Global,
+    parts: &Vec<Part<Global>>,
+    call: &Call<Global>,
+) -> Vec<Entry> {
+    let functions = functions(alloc).expect(rt, "memory");
+    let passed = passed_parts(rt, alloc, parts);
+    let mut entries = Vec::new(alloc);
+    add_parts(alloc, &mut entries, &functions, STANDING, &passed, parts).expect(rt, "memory");
+    add_element(alloc, &mut entries, &passed).expect(rt, "memory");
+    add_call(alloc, &mut entries, &functions, STANDING, &passed, call).expect(rt, "memory");
+    entries
+}
+
+/// Whether the entry reads the sixth element, or calls the function as it is to.
+fn is_right(entry: &Entry) -> bool {
+    match &entry.act {
+        Act::Read => entry.needs.iter().all(is_sixth),
+        Act::Call {
+            body,
+            inputs,
+            outputs,
+        } => *body == 1
+            && is_fourth(inputs.as_slice())
+            && outputs.as_slice() == [datum(5, false)].as_slice(),
+        _ => true,
+    }
+}
+
+/// Whether each of the entries does.
+fn are_right(entries: &[Entry]) -> bool {
+    entries.iter().all(is_right)
+}
+
+/// Whether this is the scalar of node 4 alone.
+fn is_fourth(inputs: &[Argument]) -> bool {
+    match inputs {
+        [Argument::Named(name)] => *name == datum(4, false),
+        _ => false,
+    }
+}
+
+/// The entries do this, in letters.
+fn do_these(rt: &impl Abort, alloc: Global, entries: &[Entry], wanted: &[u8]) {
+    let found = letters(alloc, entries).expect(rt, "memory");
+    is_equal(rt, found.as_slice(), wanted);
+}
+
+#[test]
+fn an_entry_is_put_behind_the_others(rt: HostRuntime) {
+    let entries = put_read(rt.alloc()).expect(&rt, "memory");
+    do_these(&rt, rt.alloc(), entries.as_slice(), b"r");
+}
+
+#[test]
+fn cells_and_calls_have_their_entries(rt: HostRuntime) {
+    let outer = outer(&rt, rt.alloc());
+    let entries = sum_entries(&rt, rt.alloc(), &outer);
+    do_these(&rt, rt.alloc(), entries.as_slice(), b"rfc");
+    holds(&rt, are_right(entries.as_slice()));
+}
+
+/// The entries of parts and of a call, each added alone.
+fn entries_alone(rt: &impl Abort, alloc: Global) -> Vec<Entry> {
+    let parts = element_parts(alloc).expect(rt, "memory");
+    let call = own_call(rt, alloc);
+    part_entries(rt, alloc, &parts, &call)
+}
+
+#[test]
+fn parts_are_added_each_alone(rt: HostRuntime) {
+    let entries = entries_alone(&rt, rt.alloc());
+    do_these(&rt, rt.alloc(), entries.as_slice(), b"rrf");
+}
+
+#[test]
+fn a_statement_works_out_its_own_sum(rt: HostRuntime) {
+    let outer = outer(&rt, rt.alloc());
+    let entries = own_entries(&rt, rt.alloc(), &outer);
+    do_these(&rt, rt.alloc(), entries.as_slice(), b"rf");
+}
+
+#[test]
+fn an_element_is_read_before_its_statement(rt: HostRuntime) {
+    let outer = read(&rt, rt.alloc());
+    let entries = own_entries(&rt, rt.alloc(), &outer);
+    do_these(&rt, rt.alloc(), entries.as_slice(), b"r");
+}
+
+/// The data of node 2 and of parts.
+fn part_data(alloc: Global, parts: &Vec<Part<Global>>) -> Result<Vec<Variable>, AllocError> {
+    let mut makes = Vec::new(alloc);
+    add_scalar(&mut makes, 2)?;
+    add_data(&mut makes, parts)?;
+    Ok(makes)
+}
+
+/// The data of an outermost cell, also where its statement works it out itself.
+fn outer_data(alloc: Global, outer: &Outer<Global>) -> Result<Vec<Variable>, AllocError> {
+    let mut makes = Vec::new(alloc);
+    add_outer_data(&mut makes, outer)?;
+    add_own_data(&mut makes, outer)?;
+    Ok(makes)
+}
+
+/// Whether these are the scalars of these nodes.
+fn are_scalars(makes: &[Variable], nodes: &[u32]) -> bool {
+    let mut all = makes.len() == nodes.len();
+    for (variable, node) in makes.iter().zip(nodes) {
+        all = all && variable.node == *node && !variable.array;
+    }
+    all
+}
+
+#[test]
+fn parts_that_are_not_plain_have_data(rt: HostRuntime) {
+    let parts = element_parts(rt.alloc()).expect(&rt, "memory");
+    let makes = part_data(rt.alloc(), &parts).expect(&rt, "memory");
+    holds(&rt, are_scalars(makes.as_slice(), &[2, 4]));
+}
+
+#[test]
+fn a_sum_has_its_datum_where_an_entry_works_it_out(rt: HostRuntime) {
+    let outer = outer(&rt, rt.alloc());
+    let makes = outer_data(rt.alloc(), &outer).expect(&rt, "memory");
+    holds(&rt, are_scalars(makes.as_slice(), &[4, 5, 7, 4, 5]));
+}

@@ -1,0 +1,345 @@
+//! The trace of a script that prints `hello`, read, written and run again, texts that leave the grammar, reports with each
+//! end, and sinks that fail.
+ghost use Rattle.std.specs.Prelude.{◌≡◌};
+
+use crate::asserts::is_equal;
+use board::{Fault, FaultKind, Statement, Step};
+use board_compute::outcome::EntryFault;
+use board_program::program::Program;
+use board_runs::report::{End, Report};
+use std::alloc::Global;
+use std::process::Abort;
+use swt_trace::fault::{ReplayFault, TraceFault, WriteFault};
+use swt_trace::read::read_trace;
+use swt_trace::replay::replay;
+use swt_trace::report::write_report;
+use swt_trace::write::write_trace;
+use task_code::event::Event;
+use tests_codes::codes::{empty, hello};
+use values::key::Key;
+use values::sink::{Sink, SinkFault};
+use values::text::Text;
+
+const HELLO: &[u8] = b"swt-trace 1\nB 0 1\nE 0 1\nB 1 2\nE 1 2\n";
+
+const HELLO_EVENTS: [Event; 4] = [
+    Event::Begin { worker: 0, item: 1 },
+    Event::End { worker: 0, item: 1 },
+    Event::Begin { worker: 1, item: 2 },
+    Event::End { worker: 1, item: 2 },
+];
+
+const MOST: &[u8] = b"swt-trace 1\nK 63 18446744073709551615\n";
+
+const MOST_EVENTS: [Event; 1] = [Event::Back {
+    worker: 63,
+    item: u64::MAX,
+}];
+
+/// A trace is read as these events.
+fn is_read(rt: &impl Abort, alloc: Global, trace: &[u8], events: &[Event]) {
+    let read = read_trace(alloc, trace).expect(rt, "a trace");
+    assert!(rt; read.as_slice() == events);
+}
+
+/// The text has this line as its first that no trace has there.
+fn is_bad(rt: &impl Abort, alloc: Global, text: &[u8], line: u64) {
+    let wanted = Some(TraceFault::BadLine(line));
+    is_equal(rt, read_trace(alloc, text).err(), wanted);
+}
+
+#[test]
+fn traces_are_read(rt: HostRuntime) {
+    is_read(&rt, rt.alloc(), HELLO, &HELLO_EVENTS);
+    is_read(&rt, rt.alloc(), MOST, &MOST_EVENTS);
+    is_read(&rt, rt.alloc(), b"swt-trace 1\n", &[]);
+}
+
+/// A beginning is read where it ends behind a line, and else its last line is bad.
+#[test]
+fn beginnings_are_read(rt: HostRuntime) {
+    assert_eq!(rt; HELLO.len(), 36);
+    for length in 0..36 {
+        if length >= 12 && length % 6 == 0 {
+            assert!(rt; read_trace(rt.alloc(), &HELLO[..length]).is_ok());
+        } else {
+            let line = (length as u64 / 6).max(1);
+            is_bad(&rt, rt.alloc(), &HELLO[..length], line);
+        }
+    }
+}
+
+const BAD_SECOND_LINES: &str =
+    "B 64 1\n|B 0 0\n|B 00 1\n|B 0 01\n|B 0 18446744073709551616\n|B 0 1|B  0 1\n|B 0  1\n|B 0 1 \n|B 0 1\r\n| B 0 1\n|B +0 1\n|B -0 1\n|B 0\n|B\n|b 0 1\n|Q\n|\n";
+
+const BAD_FIRST_LINES: &str = "|\n|swt-trace 1|swt-trace 2\n| swt-trace 1\n";
+
+/// A trace with these lines behind its first.
+fn trace_of(rt: &impl Abort, alloc: Global, lines: &str) -> String {
+    format!(in alloc; "swt-trace 1\n{lines}").expect(rt, "memory")
+}
+
+#[test]
+fn bad_lines_are_refused(rt: HostRuntime) {
+    for line in BAD_SECOND_LINES.split('|') {
+        let text = trace_of(&rt, rt.alloc(), line);
+        is_bad(&rt, rt.alloc(), text.as_bytes(), 2);
+    }
+    for text in BAD_FIRST_LINES.split('|') {
+        is_bad(&rt, rt.alloc(), text.as_bytes(), 1);
+    }
+    is_bad(&rt, rt.alloc(), b"swt-trace 1\nE 0 1\nX\n", 3);
+}
+
+#[test]
+fn faults_have_texts(rt: HostRuntime) {
+    let (bad, stray, refused) = (
+        TraceFault::BadLine(4),
+        ReplayFault::NotARun(5),
+        WriteFault::Write,
+    );
+    let text = format!(in rt.alloc(); "{bad}, {stray}, {refused}").expect(&rt, "memory");
+    is_equal(&rt, text.as_str(), "T1 BadLine 4, T2 NotARun 5, W1 Write");
+}
+
+/// A sink that takes at most `at_once` bytes a write, and refuses one write, by its number from 1.
+#[derive(Drop)]
+struct Failing {
+    taken: Vec<u8>,
+    at_once: usize,
+    writes: u8,
+    refused: u8,
+    failures: u64,
+}
+
+impl Sink for Failing {
+    ghost taken = { λ sink. sink.taken.items };
+
+    ghost failures = { λ sink. sink.failures };
+
+    fn write(&mut self, piece: &[u8]) -> Result<usize, SinkFault> {
+        self.writes = self.writes.saturating_add(1);
+        let n = piece.len().min(self.at_once);
+        if self.writes == self.refused || n == 0 && !piece.is_empty() {
+            self.failures += 1;
+            return Err(SinkFault);
+        }
+        match self.taken.extend_from_slice(&piece[..n]) {
+            Ok(()) => Ok(n),
+            Err(_) => {
+                self.failures += 1;
+                Err(SinkFault)
+            }
+        }
+    }
+}
+
+fn sink_of(alloc: Global, at_once: usize, refused: u8) -> Failing
+    ensures { result.failures ≡ 0 }
+{
+    Failing {
+        taken: Vec::new(alloc),
+        at_once,
+        writes: 0,
+        refused,
+        failures: 0,
+    }
+}
+
+/// The lines `a` and the empty one.
+fn two_lines(rt: &impl Abort, alloc: Global) -> Vec<Text> {
+    let mut lines = Vec::new(alloc);
+    for line in [b"a".as_slice(), b"".as_slice()] {
+        let text = Text::from_slice(alloc, line).expect(rt, "memory");
+        lines.push(text).expect(rt, "memory");
+    }
+    lines
+}
+
+/// A report of these events, with those two lines.
+fn report_with(
+    rt: &impl Abort,
+    alloc: Global,
+    events: &[Event],
+    end: End,
+    blocked: Vec<Statement>,
+) -> Report {
+    let history = Vec::from_slice(alloc, events).expect(rt, "memory");
+    Report {
+        program: Program::new(alloc, empty(alloc)).expect(rt, "memory"),
+        history,
+        lines: two_lines(rt, alloc),
+        end,
+        blocked,
+        tallies: [0; 64],
+    }
+}
+
+/// A report of these events that the limit ended.
+fn limit_report(rt: &impl Abort, alloc: Global, events: &[Event]) -> Report {
+    report_with(rt, alloc, events, End::Limit, Vec::new(alloc))
+}
+
+/// The report's trace is written, so many bytes at once.
+fn is_traced(rt: &impl Abort, alloc: Global, report: &Report, trace: &[u8], at_once: usize) {
+    let mut sink = sink_of(alloc, at_once, 0);
+    is_equal(rt, write_trace(report, &mut sink).err(), None);
+    is_equal(rt, sink.taken.as_slice(), trace);
+}
+
+/// The trace of these events is written, a few bytes at once or all.
+fn is_written(rt: &impl Abort, alloc: Global, events: &[Event], trace: &[u8]) {
+    let report = limit_report(rt, alloc, events);
+    for at_once in [1, 5, 100] {
+        is_traced(rt, alloc, &report, trace, at_once);
+    }
+}
+
+#[test]
+fn traces_are_written(rt: HostRuntime) {
+    is_written(&rt, rt.alloc(), &HELLO_EVENTS, HELLO);
+    is_written(&rt, rt.alloc(), &MOST_EVENTS, MOST);
+}
+
+/// A report is written as this text, so many bytes at once.
+fn is_text(rt: &impl Abort, alloc: Global, report: &Report, text: &[u8], at_once: usize) {
+    let mut sink = sink_of(alloc, at_once, 0);
+    is_equal(rt, write_report(report, &mut sink).err(), None);
+    is_equal(rt, sink.taken.as_slice(), text);
+}
+
+/// A report is written as this text, a few bytes at once or all.
+fn is_shown(rt: &impl Abort, alloc: Global, report: &Report, text: &[u8]) {
+    for at_once in [1, 7, 100] {
+        is_text(rt, alloc, report, text, at_once);
+    }
+}
+
+fn statement(rt: &impl Abort, alloc: Global, at: usize, steps: &[(usize, i64)]) -> Statement {
+    let mut path = Vec::new(alloc);
+    for (offset, key) in steps {
+        let step = Step {
+            offset: *offset,
+            key: Key::Number(*key),
+        };
+        path.push(step).expect(rt, "memory");
+    }
+    Statement { at, path }
+}
+
+/// Two blocked statements, with the greatest and the least number.
+fn two_blocked(rt: &impl Abort, alloc: Global) -> Vec<Statement> {
+    let first = statement(rt, alloc, 14, &[]);
+    let path = [(25, 3), (40, -9223372036854775808)];
+    let second = statement(rt, alloc, 4294967295, &path);
+    Vec::from_array(alloc, [first, second]).expect(rt, "memory")
+}
+
+#[test]
+fn blocked_statements_are_shown(rt: HostRuntime) {
+    let blocked = two_blocked(&rt, rt.alloc());
+    let report = report_with(&rt, rt.alloc(), &HELLO_EVENTS, End::Quiet, blocked);
+    let text = b"a\n\nswt: blocked 14 /\nswt: blocked 4294967295 /25.3/40.-9223372036854775808\n";
+    is_shown(&rt, rt.alloc(), &report, text);
+}
+
+/// A report that ends in this fault, or at the limit after one event, is written as this text.
+fn is_end(rt: &impl Abort, alloc: Global, end: End, text: &[u8]) {
+    let report = report_with(rt, alloc, &HELLO_EVENTS[..1], end, Vec::new(alloc));
+    is_shown(rt, alloc, &report, text);
+}
+
+#[test]
+fn missing_elements_are_shown(rt: HostRuntime) {
+    let missing = Fault {
+        kind: FaultKind::OfEntry(EntryFault::NoElement),
+        statement: statement(&rt, rt.alloc(), 7, &[]),
+    };
+    let text = b"a\n\nswt: fault F3 NoElement 7 /\n";
+    is_end(&rt, rt.alloc(), End::Fault(missing), text);
+}
+
+#[test]
+fn elements_put_twice_are_shown(rt: HostRuntime) {
+    let twice = Fault {
+        kind: FaultKind::ElementTwice,
+        statement: statement(&rt, rt.alloc(), 9, &[(0, 1)]),
+    };
+    let text = b"a\n\nswt: fault F4 ElementTwice 9 /0.1\n";
+    is_end(&rt, rt.alloc(), End::Fault(twice), text);
+}
+
+#[test]
+fn limits_are_shown(rt: HostRuntime) {
+    is_end(&rt, rt.alloc(), End::Limit, b"a\n\nswt: limit 1\n");
+}
+
+/// The sink has failed once, and has the bytes of the text before the one that it refused.
+fn has_stopped(rt: &impl Abort, sink: &Failing, text: &[u8], refused: u8) {
+    let before = refused.saturating_sub(1) as usize;
+    assert!(rt; Some(sink.taken.as_slice()) == text.get(..before));
+    is_equal(rt, sink.failures, 1);
+}
+
+/// The report's trace is written until that write is refused.
+fn stops_writing(rt: &impl Abort, alloc: Global, report: &Report, refused: u8) {
+    let mut sink = sink_of(alloc, 1, refused);
+    let fault = write_trace(report, &mut sink).err();
+    is_equal(rt, fault, Some(WriteFault::Write));
+    has_stopped(rt, &sink, HELLO, refused);
+}
+
+/// A sink that takes one byte a write and refuses one of them has the bytes before it.
+#[test]
+fn writing_stops_at_a_refused_write(rt: HostRuntime) {
+    let report = limit_report(&rt, rt.alloc(), &HELLO_EVENTS);
+    for refused in 1..37u8 {
+        stops_writing(&rt, rt.alloc(), &report, refused);
+    }
+}
+
+/// The report's text is written until that write is refused.
+fn stops_showing(rt: &impl Abort, alloc: Global, report: &Report, refused: u8) {
+    let mut sink = sink_of(alloc, 1, refused);
+    let fault = write_report(report, &mut sink).err();
+    is_equal(rt, fault, Some(WriteFault::Write));
+    has_stopped(rt, &sink, b"a\n\nswt: limit 4\n", refused);
+}
+
+/// A report's text likewise.
+#[test]
+fn showing_stops_at_a_refused_write(rt: HostRuntime) {
+    let report = limit_report(&rt, rt.alloc(), &HELLO_EVENTS);
+    for refused in 1..17u8 {
+        stops_showing(&rt, rt.alloc(), &report, refused);
+    }
+}
+
+/// What the trace of `printf("hello");` with these lines comes to, run again.
+fn replayed(rt: &impl Abort, alloc: Global, lines: &str) -> Result<Report, ReplayFault> {
+    let code = hello(alloc).expect(rt, "a code");
+    let trace = trace_of(rt, alloc, lines);
+    replay(alloc, &code, trace.as_bytes())
+}
+
+#[test]
+fn hello_is_replayed(rt: HostRuntime) {
+    let lines = "B 0 1\nE 0 1\nB 2 2\nE 2 2\n";
+    let report = replayed(&rt, rt.alloc(), lines).expect(&rt, "a run");
+    assert!(rt; matches!(report.end, End::Quiet));
+    is_equal(&rt, (report.lines.len(), report.history.len()), (1, 4));
+}
+
+#[test]
+fn a_trace_may_stop_in_the_midst(rt: HostRuntime) {
+    let cut = replayed(&rt, rt.alloc(), "B 0 1\n").expect(&rt, "a run");
+    assert!(rt; matches!(cut.end, End::Limit));
+}
+
+#[test]
+fn bad_traces_are_not_replayed(rt: HostRuntime) {
+    let bad = replayed(&rt, rt.alloc(), "B 0 1\nE 0\n").err();
+    is_equal(&rt, bad, Some(ReplayFault::BadLine(3)));
+    let stranger = replayed(&rt, rt.alloc(), "B 0 1\nE 1 1\n").err();
+    is_equal(&rt, stranger, Some(ReplayFault::NotARun(3)));
+}

@@ -1,8 +1,0 @@
-use Rattle.std.proofs.Common.{◌≡◌, ◌++◌, drop}
-use Rattle.whole_facts.specs.Listed.{outers_listed}
-use Rattle.unknown_inputs.specs.Inputs.{inputs_view, outers_inputs}
-use Rattle.unknown_inputs.proofs.input.add_outers.Given as goal
-
-abbrev pub invariant-loop-outer : goal.invariant-loop-outer
-invariant-loop-outer g l =
-    inputs_view l.initial.inputs.items ++ outers_inputs (outers_listed l.outers) ≡ inputs_view l.inputs.items ++ outers_inputs (outers_listed (drop l.outer-index l.outers))

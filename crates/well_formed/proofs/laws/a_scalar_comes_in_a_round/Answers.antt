@@ -1,7 +1,0 @@
-use Rattle.syntax_trees.specs.Resolved.{core}
-use Rattle.meaning_laws.proofs.Whole as law
-use Rattle.well_formed.proofs.Accepted.{accepted_formed}
-use Rattle.well_formed.proofs.laws.a_scalar_comes_in_a_round.Goals as goal
-
-pub returns : goal.returns
-returns c = λ bytes t tree r w h p v a. law.value_in_round (core t tree) (accepted_formed bytes t tree r w h) h p v a

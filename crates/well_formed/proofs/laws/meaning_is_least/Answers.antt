@@ -1,8 +1,0 @@
-use Rattle.std.specs.Prelude.{IsTrue}
-use Rattle.syntax_trees.specs.Resolved.{core}
-use Rattle.meaning_laws.proofs.Ever as law
-use Rattle.well_formed.proofs.Accepted.{accepted_formed}
-use Rattle.well_formed.proofs.laws.meaning_is_least.Goals as goal
-
-pub returns : goal.returns
-returns c = λ bytes t tree r w h test a b d e f m. law.least (core t tree) (accepted_formed bytes t tree r w h) h (λ g. IsTrue (test g)) a b d e f m

@@ -1,5 +1,0 @@
-use Rattle.well_formed.proofs.Apart.{read_placed}
-use Rattle.well_formed.proofs.read_trees_are_placed.Goals as goal
-
-pub returns : goal.returns
-returns g = λ bytes tree r. read_placed bytes tree r

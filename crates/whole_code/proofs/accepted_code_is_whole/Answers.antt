@@ -1,5 +1,0 @@
-use Rattle.whole_code.proofs.Accepted.{accepted_whole}
-use Rattle.whole_code.proofs.accepted_code_is_whole.Goals as goal
-
-pub returns : goal.returns
-returns g = λ t tree fs ds C l place typed single kinds declared laid rights found nodes. accepted_whole t tree fs ds C l place typed single kinds declared laid rights found nodes

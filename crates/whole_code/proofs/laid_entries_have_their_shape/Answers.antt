@@ -1,5 +1,0 @@
-use Rattle.whole_code.proofs.Shapes.{shapes}
-use Rattle.whole_code.proofs.laid_entries_have_their_shape.Goals as goal
-
-pub returns : goal.returns
-returns g = λ s fs ds C l h i. shapes C l h i

@@ -1,6 +1,0 @@
-use Rattle.std.proofs.Common.{◌≡◌, drop}
-use Rattle.whole_facts.specs.Store.{has_key_in}
-use Rattle.whole_facts.proofs.facts.has_key.Given as goal
-
-abbrev pub invariant-loop-write : goal.invariant-loop-write
-invariant-loop-write l = has_key_in l.writes l.key ≡ has_key_in (drop l.write-index l.writes) l.key

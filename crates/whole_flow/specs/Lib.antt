@@ -1,4 +1,0 @@
-pub mod Names
-pub mod Whole
-pub mod Tests
-pub mod Viewed

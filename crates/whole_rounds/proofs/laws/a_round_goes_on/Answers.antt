@@ -1,5 +1,0 @@
-use Rattle.whole_rounds.proofs.Going as law
-use Rattle.whole_rounds.proofs.laws.a_round_goes_on.Goals as goal
-
-pub returns : goal.returns
-returns c = λ bytes t tree r w single n l ls arrays passed waiting telling news k h after inside added round. law.round_goes bytes t tree r w single n l ls arrays passed waiting telling news k h after inside added round

@@ -1,5 +1,0 @@
-use Rattle.whole_rounds.proofs.Meant as law
-use Rattle.whole_rounds.proofs.laws.told_is_news.Goals as goal
-
-pub returns : goal.returns
-returns c = λ s l t a lies. law.told_is_news s l t lies a
