@@ -1,4 +1,3 @@
-pub mod Headline
 pub mod CodeNames
 pub mod IsCodeOf
 pub mod NodesOnce

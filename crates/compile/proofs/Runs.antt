@@ -30,7 +30,7 @@ use Rattle.task_code.specs.System.{code_system}
 use Rattle.task_code.specs.Whole.{IsCode}
 use Rattle.task_code.proofs.Kept.{code_laws}
 use Rattle.code_rules.specs.Emitted.{CallsOnce, CellsOnce, IsEmitted, ReadsStand, size_of}
-use Rattle.code_rules.specs.Headline.{Headline}
+use Rattle.headline.specs.Headline.{Headline}
 use Rattle.code_rules.specs.IsCodeOf.{IsCodeOf}
 use Rattle.code_rules.specs.Laying.{Kinds}
 use Rattle.code_rules.specs.Room.{CoreRoom}
@@ -43,7 +43,8 @@ use Rattle.compile.proofs.Whole.{exact_rights, headline_emitted, whole_emitted}
 use Rattle.code_whole.specs.Described.{DeclaredIn, KindsOf, is_array_shape, kinds_of_signature}
 use Rattle.fold_laws.specs.Same.{SameCore}
 use Rattle.fold_laws.proofs.Turned.{turned_core}
-use Rattle.fold_laws.proofs.Views.{headline_too, same_clean}
+use Rattle.fold_laws.proofs.Views.{same_clean}
+use Rattle.headline_bound.proofs.Same.{headline_too}
 use Rattle.headline_bound.proofs.Bounds.{run_bound, run_live}
 use Rattle.constant_fold.specs.Folded.{folded_tree}
 use Rattle.constant_fold.proofs.Declared.{tree_declares}

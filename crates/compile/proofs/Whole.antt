@@ -12,7 +12,7 @@ use Rattle.task_code.specs.Whole.{IsCode}
 use Rattle.language_accepted.proofs.Accepted.{placed_formed, values_meant}
 use Rattle.language_accepted.proofs.Formed.{scoped}
 use Rattle.code_rules.specs.Emitted.{IsEmitted, HasRights}
-use Rattle.code_rules.specs.Headline.{Headline}
+use Rattle.headline.specs.Headline.{Headline}
 use Rattle.code_rules.specs.Laying.{Kinds}
 use Rattle.headline.proofs.AssertedCores.{asserted_core}
 use Rattle.headline.proofs.HeadlineOf.{headline_of}

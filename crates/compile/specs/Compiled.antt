@@ -20,7 +20,7 @@ use Rattle.task_code.specs.Machine.{CodeItem, CodeState, CodeStep, DataAreExact,
 use Rattle.task_code.specs.Places.{Step}
 use Rattle.task_code.specs.Whole.{IsCode}
 use Rattle.code_rules.specs.Emitted.{IsEmitted}
-use Rattle.code_rules.specs.Headline.{Headline}
+use Rattle.headline.specs.Headline.{Headline}
 use Rattle.code_rules.specs.IsCodeOf.{IsCodeOf, Layout}
 use Rattle.code_rules.specs.Laying.{Kinds}
 use Rattle.code_rules.specs.NodesOnce.{NodesOnce}

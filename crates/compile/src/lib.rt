@@ -2,7 +2,7 @@
 #![tactic(auto)]
 
 ghost use Rattle.code_rules.specs.Emitted.{IsEmitted};
-ghost use Rattle.code_rules.specs.Headline.{Headline};
+ghost use Rattle.headline.specs.Headline.{Headline};
 ghost use Rattle.code_rules.specs.IsCodeOf.{IsCodeOf};
 ghost use Rattle.code_rules.specs.Laying.{Kinds};
 ghost use Rattle.std.specs.Prelude.{ℕ, Bool, List};

@@ -1,8 +1,6 @@
 -- What is read off the meaning of cores that are the same.
-use Rattle.std.specs.Prelude.{ℕ, Bool, true, false, List}
+use Rattle.std.specs.Prelude.{ℕ, true, List}
 use Rattle.std.proofs.Common.{subst}
-use Rattle.dataflow.specs.Machine.{Fault as MachineFault}
-use Rattle.values.specs.declared.key.Key.{Key}
 use Rattle.values.specs.declared.value.Scalar.{Scalar}
 use Rattle.values.specs.declared.value.Scalar.TheVariants.{Truth}
 use Rattle.values.specs.declared.value.Value.TheVariants.{One}
@@ -11,13 +9,6 @@ use Rattle.language.specs.Facts.{Fact, value, element, fault, Knowledge}
 use Rattle.language.specs.Meaning.{Closed, HasValue, Known, Meaning}
 use Rattle.language.specs.Outcomes.{OwnFact, Counts, Blocked, Lines, Clean}
 use Rattle.language.specs.Places.{Path, Place}
-use Rattle.task_code.specs.Code.{Code}
-use Rattle.task_code.specs.Compute.{EntryFault}
-use Rattle.task_code.specs.Effects.{Task, Main, Item}
-use Rattle.task_code.specs.Machine.{CodeState}
-use Rattle.task_code.specs.Places as CodePlaces
-use Rattle.task_code.specs.Places.{Datum, Constant, Nowhere}
-use Rattle.code_rules.specs.Headline.{IsMeantIn, IsMeant, IsMeantFault, Agrees, IsAll, Headline}
 use Rattle.fold_laws.specs.Same.{SameAction, same_declare, same_call_alone, same_assign, same_fill, same_insert, same_print, same_assert, same_when, same_choose, same_range, same_each, same_wait, SameCore}
 use Rattle.fold_laws.proofs.Kept.{place_is, same_writer, same_closed, same_ready, same_has, same_live_action}
 use Rattle.fold_laws.proofs.Listed.{like_of, same_outer_cells}
@@ -80,53 +71,11 @@ module _ (c d : Core) (same : SameCore c d) where
   pub meant_back : (f : Fact) → Meaning d f → Meaning c f
   meant_back f m = (m.0, same_known d c (turned_core same) m.0 f m.1)
 
-  closed_too : {a : Place} → Closed c (Meaning c) a → Closed d (Meaning d) a
+  pub closed_too : {a : Place} → Closed c (Meaning c) a → Closed d (Meaning d) a
   closed_too h = same_closed c d same (Meaning c) (Meaning d) meant meant_back h
 
-  value_too : {a : Place} {v : Scalar} → HasValue c (Meaning c) a v → HasValue d (Meaning d) a v
+  pub value_too : {a : Place} {v : Scalar} → HasValue c (Meaning c) a v → HasValue d (Meaning d) a v
   value_too h = same_has c d same (Meaning c) (Meaning d) meant meant_back h
-
-  meant_in : (b : Bool) (at : Place) (k : Key) (v : Scalar) → IsMeantIn c b at k v → IsMeantIn d b at k v
-  meant_in false at k v h = value_too h
-  meant_in true at k v h = (h.0, meant _ h.1)
-
-  is_meant : (a : CodePlaces.Place) (k : Key) (x : Scalar) → IsMeant c a k x → IsMeant d a k x
-  is_meant (Datum path v) k x h = meant_in v.array _ k x h
-  is_meant (Constant v) k x h = h
-  is_meant Nowhere k x h = h
-
-  fault_meant : (C : Code) (t : Task) (f : MachineFault EntryFault) → IsMeantFault c C t f → IsMeantFault d C t f
-  fault_meant C Main f h = h
-  fault_meant C (Item e path n) f h = (h.0, meant _ h.1)
-
-  agrees_too : (C : Code) (st : CodeState) → Agrees c C st → Agrees d C st
-  agrees_too C st a =
-      record {
-        stored = λ w i. is_meant w.place w.key w.value (a.stored w i);
-        closed = λ path v is h. closed_too (a.closed path v is h);
-        printed = a.printed;
-        printed_is = a.printed_is;
-        lines = record { listing = a.lines.listing; once = a.lines.once; known = λ w bytes i. meant _ (a.lines.known w bytes i); is = a.lines.is };
-        fault = λ t f is. fault_meant C t f (a.fault t f is);
-      }
 
   pub lines_too : {ls : List (List ℕ)} → Lines (Meaning c) ls → Lines (Meaning d) ls
   lines_too l = record { listing = l.listing; once = l.once; known = λ w bytes i. meant _ (l.known w bytes i); all = λ w bytes k. l.all w bytes (meant_back _ k); permuted = l.permuted }
-
-  all_too : (C : Code) (st : CodeState) → IsAll c C st → IsAll d C st
-  all_too C st a =
-      record {
-        no_fault = λ f at path h. a.no_fault f at path (h.0, meant_back _ h.1);
-        printed = a.printed;
-        printed_is = a.printed_is;
-        lines = lines_too a.lines;
-        blocked = λ at path b. same_blocked c d same (Meaning c) (Meaning d) meant meant_back (a.blocked at path b);
-        blocked_all = λ at path b. a.blocked_all at path (same_blocked d c (turned_core same) (Meaning d) (Meaning c) meant_back meant b);
-      }
-
-  pub headline_too : (C : Code) → Headline c C → Headline d C
-  headline_too C h =
-      record {
-        agrees = λ clean events st run. agrees_too C st (h.agrees (same_clean d c (turned_core same) clean) events st run);
-        all = λ events st run quiet. all_too C st (h.all events st run quiet);
-      }

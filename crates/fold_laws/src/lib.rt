@@ -10,8 +10,6 @@ ghost use Rattle.language.specs.Meaning.{Closed, HasValue, Known, Live, Meaning,
 ghost use Rattle.language.specs.Outcomes.{Blocked, Clean, Faults, Lines};
 ghost use Rattle.language.specs.Facts.{Fault};
 ghost use Rattle.language.specs.Places.{Path, Place};
-ghost use Rattle.task_code.specs.Code.{Code};
-ghost use Rattle.code_rules.specs.Headline.{Headline};
 ghost use Rattle.fold_laws.specs.Same.{SameAction, SameBlock, SameCore};
 
 /// Where two cores are the same but for expressions of literals, each of which may stand as the value that it comes to, they know the same after each
@@ -31,9 +29,4 @@ pub fn same_meaning()
     ensures live { (c d : Core) → SameCore c d → (path : Path) (b : Block) → Live c (Meaning c) path b → (e : Block) × Live d (Meaning d) path e × SameBlock b e }
     ensures ready { (c d : Core) → SameCore c d → (path : Path) (a h : Action) (vs : List Value) → SameAction a h → Ready c (Meaning c) path a vs → Ready d (Meaning d) path h vs }
     ensures clean { (c d : Core) → SameCore c d → Clean c → Clean d }
-{}
-
-/// What every run of some code owes to one of them, it owes to the other.
-pub fn same_headline()
-    ensures { (c d : Core) (C : Code) → SameCore c d → Headline c C → Headline d C }
 {}

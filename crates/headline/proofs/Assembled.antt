@@ -19,7 +19,7 @@ use Rattle.task_code.specs.Whole.{IsCode}
 use Rattle.task_code.proofs.Equal.{one_order}
 use Rattle.task_code.proofs.Kept.{code_laws}
 use Rattle.task_code.proofs.Places.{spot_path, spot_variable, not_constant, not_nowhere}
-use Rattle.code_rules.specs.Headline.{script_place}
+use Rattle.headline.specs.Headline.{script_place}
 use Rattle.headline.specs.Answered.{IsRight}
 use Rattle.headline.specs.Knows as Know
 use Rattle.headline.specs.Inclusions.{Facts, LiveTask, Knows, IsRead, WrittenTo, WrittenFrom, ClosedTo, ClosedFrom, IsDatumOf, FitsKind, InputsFit, ArraysOnce}

@@ -35,7 +35,7 @@ use Rattle.task_code.proofs.Kept.{code_laws}
 use Rattle.task_code.proofs.Opens.{effect_is}
 use Rattle.code_rules.proofs.Given.{gives_value}
 use Rattle.code_rules.specs.CodeNames.{name_as, wanted, over, each_once}
-use Rattle.code_rules.specs.Headline.{script_path}
+use Rattle.headline.specs.Headline.{script_path}
 use Rattle.code_rules.specs.IsCodeOf.{own_form, own_expr, own_needs, own_priority, simple_act, IsSimple, IsEntry, IsCodeOf}
 use Rattle.code_rules.specs.NodesOnce.{TellsNode, NodesOnce}
 use Rattle.headline.specs.Answered.{Reading}

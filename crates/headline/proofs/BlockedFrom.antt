@@ -39,7 +39,7 @@ use Rattle.task_code.specs.Whole.{IsCode}
 use Rattle.task_code.proofs.Opens.{some_same}
 use Rattle.task_code.proofs.Rights.{loop_instances}
 use Rattle.code_rules.specs.CodeNames.{awaited_need, each_once, header}
-use Rattle.code_rules.specs.Headline.{script_path}
+use Rattle.headline.specs.Headline.{script_path}
 use Rattle.code_rules.specs.IsCodeOf.{Layout, own_expr, own_needs, fill_act, simple_act, IsSimple, StmtAs, declares, calls_alone, simple, branch, branches, range_loop, array_loop, waits, WaitAs, one_wait, merged, BodyAs, IsCodeOf}
 use Rattle.code_rules.specs.NodesOnce.{NodesOnce}
 use Rattle.headline.specs.Asserted.{Asserted}

@@ -35,7 +35,7 @@ use Rattle.task_code.specs.Whole.{IsCode}
 use Rattle.code_rules.proofs.Given.{true_value}
 use Rattle.code_rules.proofs.Given.{gives_value}
 use Rattle.code_rules.specs.CodeNames.{name_as, wanted, over, each_once}
-use Rattle.code_rules.specs.Headline.{script_path}
+use Rattle.headline.specs.Headline.{script_path}
 use Rattle.code_rules.specs.IsCodeOf.{seen, own_form, own_expr, own_needs, own_priority, fill_act, simple_act, step_expr, IsSimple, IsEntry, IsCodeOf}
 use Rattle.headline.specs.Asserted.{Asserted}
 use Rattle.headline.specs.Answered.{Reading}

@@ -27,7 +27,7 @@ use Rattle.task_code.specs.Whole.{IsCode}
 use Rattle.task_code.proofs.Counted.{gather_in}
 use Rattle.task_code.proofs.Kept.{code_laws}
 use Rattle.code_rules.specs.CodeNames.{name_as, awaited_need, header}
-use Rattle.code_rules.specs.Headline.{script_path}
+use Rattle.headline.specs.Headline.{script_path}
 use Rattle.code_rules.specs.IsCodeOf.{IsCodeOf}
 use Rattle.code_rules.specs.NodesOnce.{NodesOnce}
 use Rattle.language_laws.specs.Scoped.{AwaitedIn, Scoped}

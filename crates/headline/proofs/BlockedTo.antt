@@ -28,7 +28,7 @@ use Rattle.task_code.specs.Runs.{counts, FirstUnknown, IsBlockedAt, EverBlocked}
 use Rattle.task_code.specs.System.{code_system}
 use Rattle.task_code.specs.Whole.{IsCode}
 use Rattle.code_rules.specs.CodeNames.{awaited_need}
-use Rattle.code_rules.specs.Headline.{script_path}
+use Rattle.headline.specs.Headline.{script_path}
 use Rattle.code_rules.specs.IsCodeOf.{Layout, own_expr, own_needs, fill_act, simple_act, IsSimple, PartAs, plain_literal, plain_name, a_cell, a_read, a_call, WaitAs, one_wait, merged, BodyAs, body_as, IsCodeOf}
 use Rattle.code_rules.specs.NodesOnce.{NodesOnce}
 use Rattle.headline.specs.Chains.{Chain}

@@ -39,7 +39,7 @@ use Rattle.task_code.specs.Exact.{IsExact, Leads, itself, through}
 use Rattle.task_code.specs.Whole.{IsCode}
 use Rattle.task_code.proofs.Rights.{target_opens_none, target_no_loop}
 use Rattle.task_code.proofs.Places.{spot_path, spot_variable}
-use Rattle.code_rules.specs.Headline.{script_path, script_place}
+use Rattle.headline.specs.Headline.{script_path, script_place}
 use Rattle.headline.specs.Answered.{Reading}
 use Rattle.headline.specs.Backs.{Backs}
 use Rattle.headline.specs.Chains.{Answers, Chain, at_script, by_header, by_wait, by_call, Waited, one_ready, more_ready}

@@ -37,7 +37,7 @@ use Rattle.task_code.specs.Whole.{IsCode}
 use Rattle.task_code.proofs.Opens.{some_same}
 use Rattle.task_code.proofs.Places.{spot_path, spot_variable}
 use Rattle.task_code.proofs.Rights.{loop_instances}
-use Rattle.code_rules.specs.Headline.{script_path, script_place}
+use Rattle.headline.specs.Headline.{script_path, script_place}
 use Rattle.headline.specs.Answered.{Reading}
 use Rattle.headline.specs.Knows.{Knows}
 use Rattle.headline.specs.Inclusions.{Facts, ClosedTo}

@@ -22,7 +22,7 @@ use Rattle.task_code.specs.Effects.{Task}
 use Rattle.task_code.specs.Places.{Datum, Constant, Nowhere}
 use Rattle.task_code.specs.Places as CodePlaces
 use Rattle.task_code.specs.System.{code_system}
-use Rattle.code_rules.specs.Headline.{script_place}
+use Rattle.headline.specs.Headline.{script_place}
 use Rattle.headline.specs.Answered.{ReadAll, Reading, Shown}
 use Rattle.headline.specs.Chains.{Has, HasAll, HasElement, Answers}
 use Rattle.headline.specs.Halves.{Half, HalfIn}

@@ -32,7 +32,7 @@ use Rattle.task_code.specs.Places.{Step, Datum}
 use Rattle.task_code.specs.System.{code_system}
 use Rattle.task_code.specs.Whole.{IsCode}
 use Rattle.code_rules.specs.CodeNames.{awaited_need, header}
-use Rattle.code_rules.specs.Headline.{script_path, script_place}
+use Rattle.headline.specs.Headline.{script_path, script_place}
 use Rattle.code_rules.specs.IsCodeOf.{WaitAs, one_wait, merged, BodyAs, body_as, IsCodeOf}
 use Rattle.headline.specs.Backs.{Backs}
 use Rattle.headline.specs.Chains.{Chain, one_ready, more_ready}

@@ -33,7 +33,7 @@ use Rattle.task_code.specs.Places.{Step, Datum, place_at}
 use Rattle.task_code.specs.Places as CodePlaces
 use Rattle.task_code.specs.System.{answered, code_system}
 use Rattle.task_code.specs.Whole.{IsCode}
-use Rattle.code_rules.specs.Headline.{script_path, script_place}
+use Rattle.headline.specs.Headline.{script_path, script_place}
 use Rattle.code_rules.proofs.Given.{gives_value}
 use Rattle.headline.specs.Answered.{Reading}
 use Rattle.headline.specs.Backs.{RightKnown, Backs}

@@ -23,7 +23,7 @@ use Rattle.task_code.specs.Places as CodePlaces
 use Rattle.task_code.specs.Shape.{is_same_plain}
 use Rattle.task_code.specs.System.{with_answer, literal_at, scalar_input, whole_input, key_input, element_input, answered, inputs_at, code_system}
 use Rattle.task_code.proofs.Equal.{name_sound, name_same}
-use Rattle.code_rules.specs.Headline.{script_path}
+use Rattle.headline.specs.Headline.{script_path}
 use Rattle.headline.specs.Answered.{ReadAll}
 use Rattle.headline.specs.Chains.{Has, HasElement, HasAll, Answers}
 use Rattle.language_laws.specs.Scoped.{IsIn, AreIn, AllAreIn}

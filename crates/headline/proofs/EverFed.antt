@@ -37,7 +37,7 @@ use Rattle.task_code.proofs.Kept.{code_laws}
 use Rattle.task_code.proofs.Places.{spot_path, spot_variable, not_constant}
 use Rattle.task_code.proofs.Rights.{in_gather}
 use Rattle.code_rules.specs.CodeNames.{name_as, wanted}
-use Rattle.code_rules.specs.Headline.{script_path, script_place}
+use Rattle.headline.specs.Headline.{script_path, script_place}
 use Rattle.code_rules.specs.IsCodeOf.{seen, seen_as, own_form, own_expr, IsCodeOf}
 use Rattle.headline.specs.Answered.{Reading}
 use Rattle.headline.specs.Backs.{Backs}

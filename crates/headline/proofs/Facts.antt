@@ -26,7 +26,7 @@ use Rattle.task_code.specs.Places.{Step}
 use Rattle.task_code.specs.Places as CodePlaces
 use Rattle.task_code.specs.System.{answered, code_system}
 use Rattle.task_code.specs.Whole.{IsCode}
-use Rattle.code_rules.specs.Headline.{script_path}
+use Rattle.headline.specs.Headline.{script_path}
 use Rattle.code_rules.proofs.Given.{gives_value}
 use Rattle.headline.specs.Answered.{ReadAll, Reading}
 use Rattle.headline.specs.Backs.{Backs}

@@ -42,7 +42,7 @@ use Rattle.task_code.specs.System.{answered, code_system}
 use Rattle.task_code.specs.Whole.{IsCode}
 use Rattle.task_code.specs.Code.{Variable}
 use Rattle.code_rules.specs.CodeNames.{name_as, wanted, over, each_once}
-use Rattle.code_rules.specs.Headline.{script_path, script_place}
+use Rattle.headline.specs.Headline.{script_path, script_place}
 use Rattle.code_rules.specs.IsCodeOf.{own_form, own_expr, own_needs, own_priority, fill_act, simple_act, IsEntry, PartAs, a_cell, a_read, a_call, StmtAs, simple, branch, branches, range_loop, array_loop, WaitAs, IsCodeOf}
 use Rattle.headline.specs.Answered.{ReadAll}
 use Rattle.headline.specs.Chains.{Answers, Chain, Lacks}

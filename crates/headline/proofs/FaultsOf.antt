@@ -23,7 +23,7 @@ use Rattle.task_code.specs.Effects.{Item}
 use Rattle.task_code.specs.Places.{Step}
 use Rattle.task_code.specs.System.{answered, code_system}
 use Rattle.task_code.specs.Whole.{IsCode}
-use Rattle.code_rules.specs.Headline.{script_path}
+use Rattle.headline.specs.Headline.{script_path}
 use Rattle.headline.specs.Answered.{ReadAll}
 use Rattle.headline.specs.Knows.{Knows}
 use Rattle.headline.specs.Chains.{Answers, Chain}

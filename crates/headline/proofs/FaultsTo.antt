@@ -39,7 +39,7 @@ use Rattle.task_code.specs.Places as CodePlaces
 use Rattle.task_code.specs.System.{answered, code_system}
 use Rattle.task_code.specs.Whole.{IsCode}
 use Rattle.task_code.proofs.Kept.{code_laws}
-use Rattle.code_rules.specs.Headline.{script_path, script_fault}
+use Rattle.headline.specs.Headline.{script_path, script_fault}
 use Rattle.code_rules.specs.CodeNames.{name_as, wanted, over}
 use Rattle.code_rules.specs.IsCodeOf.{seen, own_form, own_expr, own_needs, own_exprs, own_priority, simple_act, fill_act, step_expr, IsSimple, IsEntry, PartAs, plain_literal, plain_name, a_cell, a_read, a_call, IndexAs, at_literal, at_name, at_datum, BodyAs, body_as, IsCodeOf}
 use Rattle.language_laws.specs.Scoped.{IsIn, Scoped}

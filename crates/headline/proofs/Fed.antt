@@ -19,7 +19,7 @@ use Rattle.task_code.specs.Places as CodePlaces
 use Rattle.task_code.specs.System.{code_system}
 use Rattle.task_code.specs.Whole.{IsCode}
 use Rattle.task_code.proofs.Kept.{code_laws}
-use Rattle.code_rules.specs.Headline.{script_place}
+use Rattle.headline.specs.Headline.{script_place}
 use Rattle.headline.specs.Answered.{ReadAll}
 use Rattle.headline.specs.Chains.{AllElements, Lacks, Answers}
 

@@ -30,7 +30,7 @@ use Rattle.task_code.specs.Effects.{Item, effect_at, rest, left_at, chunk, is_so
 use Rattle.task_code.specs.Places.{Step, place_at}
 use Rattle.task_code.specs.System.{answered, code_system}
 use Rattle.task_code.specs.Whole.{IsCode}
-use Rattle.code_rules.specs.Headline.{script_path}
+use Rattle.headline.specs.Headline.{script_path}
 use Rattle.headline.specs.Answered.{Reading}
 use Rattle.headline.specs.Backs.{Backs}
 use Rattle.headline.specs.Chains.{Answers, Chain}

@@ -24,7 +24,7 @@ use Rattle.task_code.specs.System.{code_system}
 use Rattle.task_code.specs.Whole.{IsCode}
 use Rattle.task_code.proofs.Blocks.{ever_blocked, blocked_here}
 use Rattle.task_code.proofs.Kept.{code_laws}
-use Rattle.code_rules.specs.Headline.{Agrees, IsAll, Headline}
+use Rattle.headline.specs.Headline.{Agrees, IsAll, Headline}
 use Rattle.code_rules.specs.IsCodeOf.{IsCodeOf}
 use Rattle.code_rules.specs.NodesOnce.{NodesOnce}
 use Rattle.headline.specs.Asserted.{Asserted}

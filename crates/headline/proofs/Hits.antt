@@ -20,7 +20,7 @@ use Rattle.task_code.proofs.Kept.{code_laws}
 use Rattle.task_code.proofs.Opens.{seen_place, opened, made_in, rest_makes}
 use Rattle.task_code.proofs.Places.{argument_kind, argued, spot_variable, not_constant}
 use Rattle.task_code.proofs.Rights.{declared_place}
-use Rattle.code_rules.specs.Headline.{script_path, script_place}
+use Rattle.headline.specs.Headline.{script_path, script_place}
 use Rattle.headline.specs.Inclusions.{Facts}
 use Rattle.headline.specs.Knows.{Knows}
 use Rattle.headline.specs.Chains.{Answers, Stands, same, plain, constant, Chain, at_script, by_header, by_wait, by_call}

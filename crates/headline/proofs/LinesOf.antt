@@ -34,7 +34,7 @@ use Rattle.task_code.specs.System.{answered, code_system}
 use Rattle.task_code.specs.Whole.{IsCode}
 use Rattle.task_code.proofs.Kept.{code_laws}
 use Rattle.task_code.proofs.Opens.{effect_is}
-use Rattle.code_rules.specs.Headline.{script_path}
+use Rattle.headline.specs.Headline.{script_path}
 use Rattle.code_rules.proofs.Given.{gives_value}
 use Rattle.headline.specs.Answered.{Reading}
 use Rattle.headline.specs.Backs.{RightKnown, Backs}

@@ -16,7 +16,7 @@ use Rattle.task_code.specs.Code.{Code, entry}
 use Rattle.task_code.specs.Effects.{Task, Main, Item}
 use Rattle.task_code.specs.Places as CodePlaces
 use Rattle.task_code.specs.System.{code_system}
-use Rattle.code_rules.specs.Headline.{script_path}
+use Rattle.headline.specs.Headline.{script_path}
 
 abbrev pub TaskEffect : Type 0
 TaskEffect = Effect Task CodePlaces.Place Key Scalar

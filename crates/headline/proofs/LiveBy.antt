@@ -36,7 +36,7 @@ use Rattle.task_code.specs.Places as CodePlaces
 use Rattle.task_code.proofs.Rights.{loop_instances}
 use Rattle.task_code.specs.System.{answered, code_system}
 use Rattle.task_code.specs.Whole.{IsCode}
-use Rattle.code_rules.specs.Headline.{script_path}
+use Rattle.headline.specs.Headline.{script_path}
 use Rattle.headline.specs.Answered.{Reading}
 use Rattle.headline.specs.Backs.{Backs}
 use Rattle.headline.specs.Chains.{Answers, Chain, at_script, by_header, by_wait, by_call, Waited, one_ready, more_ready}

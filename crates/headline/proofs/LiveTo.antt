@@ -39,7 +39,7 @@ use Rattle.task_code.proofs.Chunks.{in_chunk}
 use Rattle.task_code.proofs.Kept.{code_laws}
 use Rattle.task_code.proofs.Opens.{OpensBlock, opened, in_rest, found}
 use Rattle.task_code.proofs.Opens as Op
-use Rattle.code_rules.specs.Headline.{script_path}
+use Rattle.headline.specs.Headline.{script_path}
 use Rattle.headline.specs.Answered.{Reading}
 use Rattle.headline.specs.Knows.{Knows}
 use Rattle.headline.specs.Chains.{Answers, Chain, at_script, by_header, by_wait, by_call, Waited, one_ready, more_ready}

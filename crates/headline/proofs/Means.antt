@@ -21,7 +21,7 @@ use Rattle.task_code.specs.Whole.{Declared, SeenFrom, Fixes, IsCode}
 use Rattle.task_code.proofs.Opens.{seen_place}
 use Rattle.task_code.proofs.Places.{argument_kind, argued}
 use Rattle.task_code.proofs.Rights.{declared_place}
-use Rattle.code_rules.specs.Headline.{script_path}
+use Rattle.headline.specs.Headline.{script_path}
 use Rattle.code_rules.specs.CodeNames.{owned_as, name_as}
 use Rattle.language_laws.specs.Scoped.{IsIn, IsScoped, InScope, of_script, of_function, inside, in_wait, Scoped}
 use Rattle.code_rules.specs.IsCodeOf.{Layout, InputAs, of_literal, of_name, of_datum, of_array, InputsAs, no_input, one_input, OutputsAs, no_output, one_output, CallAs, BodyAs}

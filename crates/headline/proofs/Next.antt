@@ -33,7 +33,7 @@ use Rattle.task_code.specs.Whole.{IsCode}
 use Rattle.task_code.proofs.Places.{spot_path, spot_variable, not_constant}
 use Rattle.code_rules.proofs.Given.{gives_value}
 use Rattle.code_rules.specs.CodeNames.{wanted, wanted_all}
-use Rattle.code_rules.specs.Headline.{script_path, script_place}
+use Rattle.headline.specs.Headline.{script_path, script_place}
 use Rattle.code_rules.specs.IsCodeOf.{IsCodeOf}
 use Rattle.headline.specs.Backs.{RightKnown, Backs}
 use Rattle.headline.specs.Chains.{Chain, Stands, same, plain, constant}

@@ -29,7 +29,7 @@ use Rattle.task_code.proofs.Equal.{true_and, every_in}
 use Rattle.task_code.proofs.Opens.{seen_place}
 use Rattle.task_code.proofs.Places.{argument_kind}
 use Rattle.task_code.proofs.Rights.{declared_place}
-use Rattle.code_rules.specs.Headline.{script_path}
+use Rattle.headline.specs.Headline.{script_path}
 use Rattle.headline.specs.Knows.{Knows}
 use Rattle.headline.specs.Chains.{Chain, at_script, by_header, by_wait, by_call}
 use Rattle.language_laws.specs.Scoped.{IsIn, AreIn, FormIn}

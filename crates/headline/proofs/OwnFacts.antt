@@ -36,7 +36,7 @@ use Rattle.task_code.proofs.Chunks.{in_chunk}
 use Rattle.task_code.proofs.Rights.{loop_instances}
 use Rattle.task_code.specs.System.{answered, code_system}
 use Rattle.task_code.specs.Whole.{IsCode}
-use Rattle.code_rules.specs.Headline.{script_path, script_place}
+use Rattle.headline.specs.Headline.{script_path, script_place}
 use Rattle.code_rules.specs.CodeNames.{awaited_need, each_once, wanted, over, name_as}
 use Rattle.code_rules.specs.IsCodeOf.{Layout, own_form, own_expr, own_needs, fill_act, simple_act, IsEntry, CallAs, BodyAs, IsCodeOf}
 use Rattle.language_laws.specs.Scoped.{IsIn, AreIn, FormIn, InScope, in_wait, Scoped}

@@ -25,7 +25,7 @@ use Rattle.task_code.specs.Whole.{IsCode}
 use Rattle.task_code.specs.Compute.{elements, in_key_order, pairs}
 use Rattle.task_code.specs.Places.{Step, place_at, Datum, Constant, Nowhere}
 use Rattle.task_code.specs.Places as CodePlaces
-use Rattle.code_rules.specs.Headline.{script_path, script_place}
+use Rattle.headline.specs.Headline.{script_path, script_place}
 use Rattle.code_rules.proofs.Given.{gives_value}
 use Rattle.headline.specs.Backs.{Backs}
 use Rattle.headline.specs.Knows.{Knows}

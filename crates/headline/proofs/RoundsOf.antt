@@ -21,7 +21,7 @@ use Rattle.task_code.specs.Places as CodePlaces
 use Rattle.task_code.specs.System.{code_system}
 use Rattle.task_code.specs.Whole.{IsCode}
 use Rattle.task_code.proofs.Kept.{code_laws}
-use Rattle.code_rules.specs.Headline.{script_path}
+use Rattle.headline.specs.Headline.{script_path}
 use Rattle.headline.specs.Backs.{Backs}
 use Rattle.headline.specs.Halves.{Half, HalfIn}
 use Rattle.headline.specs.Inclusions.{Facts}

@@ -34,7 +34,7 @@ use Rattle.task_code.specs.System.{answered, code_system}
 use Rattle.task_code.specs.Whole.{IsCode}
 use Rattle.task_code.proofs.Kept.{code_laws}
 use Rattle.task_code.proofs.Opens.{effect_is}
-use Rattle.code_rules.specs.Headline.{script_path, script_place, IsMeant, IsMeantIn, IsMeantFault, Agrees}
+use Rattle.headline.specs.Headline.{script_path, script_place, IsMeant, IsMeantIn, IsMeantFault, Agrees}
 use Rattle.code_rules.specs.IsCodeOf.{IsCodeOf}
 use Rattle.code_rules.specs.NodesOnce.{TellsNode, NodesOnce}
 use Rattle.headline.specs.Answered.{Reading, IsRight}

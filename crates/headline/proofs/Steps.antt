@@ -21,7 +21,7 @@ use Rattle.task_code.proofs.Equal.{one_order}
 use Rattle.task_code.proofs.Kept.{code_laws}
 use Rattle.task_code.proofs.Opens.{some_same}
 use Rattle.task_code.proofs.Rights.{loop_instances}
-use Rattle.code_rules.specs.Headline.{script_place}
+use Rattle.headline.specs.Headline.{script_place}
 use Rattle.headline.specs.Answered.{Reading}
 use Rattle.headline.specs.Knows.{Knows}
 use Rattle.headline.specs.Inclusions.{Facts}

@@ -27,7 +27,7 @@ use Rattle.task_code.specs.Places as CodePlaces
 use Rattle.task_code.specs.System.{code_system}
 use Rattle.task_code.specs.Whole.{IsCode}
 use Rattle.task_code.proofs.Opens.{some_same}
-use Rattle.code_rules.specs.Headline.{script_path}
+use Rattle.headline.specs.Headline.{script_path}
 use Rattle.headline.specs.Backs.{Backs}
 use Rattle.headline.specs.Inclusions.{Facts}
 use Rattle.language_laws.specs.Scoped.{Scoped}

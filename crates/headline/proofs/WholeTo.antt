@@ -26,7 +26,7 @@ use Rattle.task_code.proofs.Opens as Op
 use Rattle.task_code.proofs.Opens.{effect_is, opened, in_rest}
 use Rattle.task_code.proofs.Places.{declared_at, spot_path, spot_variable, not_constant}
 use Rattle.task_code.proofs.Rights.{in_gather}
-use Rattle.code_rules.specs.Headline.{script_path, script_place}
+use Rattle.headline.specs.Headline.{script_path, script_place}
 use Rattle.headline.specs.Answered.{Reading}
 use Rattle.headline.specs.Knows as Know
 use Rattle.headline.specs.Inclusions.{Facts, WrittenTo, ArraysOnce}

@@ -36,7 +36,7 @@ use Rattle.task_code.specs.System.{answered}
 use Rattle.task_code.specs.Whole.{IsCode}
 use Rattle.task_code.proofs.Chunks.{in_chunk}
 use Rattle.task_code.proofs.Rights.{in_gather, loop_instances}
-use Rattle.code_rules.specs.Headline.{script_path, script_place}
+use Rattle.headline.specs.Headline.{script_path, script_place}
 use Rattle.headline.specs.Knows as Know
 use Rattle.headline.specs.Inclusions.{Knows}
 use Rattle.headline.specs.Chains.{Chain}

@@ -30,7 +30,7 @@ use Rattle.task_code.specs.Places as CodePlaces
 use Rattle.task_code.specs.System.{answered, code_system}
 use Rattle.task_code.specs.Whole.{IsCode}
 use Rattle.task_code.proofs.Places.{declared_at}
-use Rattle.code_rules.specs.Headline.{script_path, script_place}
+use Rattle.headline.specs.Headline.{script_path, script_place}
 use Rattle.code_rules.proofs.Given.{gives_value}
 use Rattle.headline.proofs.Readings.{name_stands, to_code, same_array, name_inv, literal_inv}
 use Rattle.values.specs.declared.value.Scalar.TheVariants.{Number}

@@ -30,7 +30,7 @@ use Rattle.task_code.specs.Places as CodePlaces
 use Rattle.task_code.specs.System.{answered}
 use Rattle.task_code.specs.Whole.{IsCode}
 use Rattle.task_code.proofs.Places.{declared_at}
-use Rattle.code_rules.specs.Headline.{script_path, script_place}
+use Rattle.headline.specs.Headline.{script_path, script_place}
 use Rattle.headline.specs.Knows as Know
 use Rattle.headline.specs.Inclusions.{Knows}
 use Rattle.headline.specs.Chains.{Chain, Stands, same, plain, constant, HasElement}

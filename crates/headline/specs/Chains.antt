@@ -16,7 +16,7 @@ use Rattle.task_code.specs.Compute.{in_key_order, key_of}
 use Rattle.task_code.specs.Effects.{step_at}
 use Rattle.task_code.specs.Places.{Step, Datum, Constant, Nowhere}
 use Rattle.task_code.specs.Places as CodePlaces
-use Rattle.code_rules.specs.Headline.{script_path, script_place}
+use Rattle.headline.specs.Headline.{script_path, script_place}
 use Rattle.code_rules.specs.IsCodeOf.{Layout, CallAs, BodyAs}
 
 module _ (s : Core) (K : Knowledge) where

@@ -17,7 +17,7 @@ use Rattle.task_code.specs.Effects.{Task, Item, only}
 use Rattle.task_code.specs.Places.{Step, Datum, Constant, Nowhere}
 use Rattle.task_code.specs.Places as CodePlaces
 use Rattle.task_code.specs.System.{code_system}
-use Rattle.code_rules.specs.Headline.{script_path, script_place, script_fault}
+use Rattle.headline.specs.Headline.{script_path, script_place, script_fault}
 use Rattle.dataflow.specs.Machine.{OfTask}
 use Rattle.headline.specs.Answered.{Reading, Shown}
 use Rattle.headline.specs.Chains.{Answers}

@@ -1,3 +1,4 @@
+pub mod Headline
 pub mod Answered
 pub mod Chains
 pub mod Knows

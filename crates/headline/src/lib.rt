@@ -10,7 +10,7 @@ ghost use Rattle.code_rules.specs.NodesOnce.{NodesOnce};
 ghost use Rattle.language_laws.specs.Scoped.{Scoped};
 ghost use Rattle.code_rules.specs.IsCodeOf.{IsCodeOf};
 ghost use Rattle.language_laws.specs.TypedValues.{TypedValues};
-ghost use Rattle.code_rules.specs.Headline.{Agrees, Headline};
+ghost use Rattle.headline.specs.Headline.{Agrees, Headline};
 ghost use Rattle.headline.specs.Worked.{fibonacci, fibonacci_code, filled, filled_code};
 ghost use Rattle.dataflow.specs.Facts.{Ever};
 ghost use Rattle.dataflow.specs.Machine.{Event};

@@ -35,7 +35,7 @@ use Rattle.task_code.specs.Places as CodePlaces
 use Rattle.task_code.specs.System.{answered}
 use Rattle.task_code.specs.Whole.{IsCode}
 use Rattle.code_rules.specs.CodeNames.{name_as, wanted, over}
-use Rattle.code_rules.specs.Headline.{script_path}
+use Rattle.headline.specs.Headline.{script_path}
 use Rattle.code_rules.specs.IsCodeOf.{Layout, seen, own_needs, own_expr, fill_act, simple_act, step_expr, IsSimple, IsEntry, PartAs, plain_literal, plain_name, a_cell, a_read, a_call, BodyAs, body_as, IsCodeOf}
 use Rattle.headline.specs.Chains.{Chain}
 use Rattle.headline.specs.Knows.{Knows}

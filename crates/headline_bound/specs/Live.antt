@@ -15,7 +15,7 @@ use Rattle.task_code.specs.Code.{Code, body, entry}
 use Rattle.task_code.specs.Effects.{Task, Item}
 use Rattle.task_code.specs.Places.{Step}
 use Rattle.fold_laws.specs.Same.{SameBlock}
-use Rattle.code_rules.specs.Headline.{script_path}
+use Rattle.headline.specs.Headline.{script_path}
 use Rattle.code_rules.specs.IsCodeOf.{Layout, BodyAs}
 
 -- a loop has so many turns, given the values of its bounds or the elements of its array

@@ -1,8 +1,10 @@
-//! How many items and events a run of a script's code has, in the words of the script. Nothing here runs: the function has an empty body, and its contract is a law.
+//! How many items and events a run of a script's code has, in the words of the script, and that folding changes nothing that a run owes. Nothing here runs: each function
+//! has an empty body, and its contract is a law.
 #![tactic(auto)]
 
 ghost use Rattle.code_rules.specs.IsCodeOf.{IsCodeOf};
 ghost use Rattle.code_rules.specs.NodesOnce.{NodesOnce};
+ghost use Rattle.headline.specs.Headline.{Headline};
 ghost use Rattle.headline_bound.specs.Live.{HasLiveBodies, HasLiveLoops, IsLiveItem};
 ghost use Rattle.dataflow.specs.Events.{backs};
 ghost use Rattle.dataflow.specs.Machine.{Event};
@@ -34,4 +36,9 @@ pub fn bounded_runs()
     ensures bound { (s : Core) (t : Table) (tree : Tree) (C : Code) → SameCore s (core t tree) → IsPlaced tree → WellTyped tree t → SinglyAssigned (core t tree) → (w : IsCodeOf (core t tree) C) → IsCode C → IsExact C → NodesOnce C → Clean s
         → (bodies : List (ℕ × List Step)) (loops : List (ℕ × List Step × ℕ)) → HasLiveBodies s C w.layout bodies → HasLiveLoops s C w.layout loops
         → (events : List Event) (st : CodeState) → Run C events st → length events ≤ 2 * (items_in C bodies loops + backs events) }
+{}
+
+/// What every run of some code owes to one of them, it owes to the other.
+pub fn same_headline()
+    ensures { (c d : Core) (C : Code) → SameCore c d → Headline c C → Headline d C }
 {}

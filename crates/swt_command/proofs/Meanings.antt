@@ -3,7 +3,7 @@ use Rattle.std.proofs.Common.{◌≡◌, subst, inl, inr, ◌⊎◌, ℕ, Bool, 
 use Rattle.language.specs.Core.{Core}
 use Rattle.language.specs.Facts.{Knowledge}
 use Rattle.language.specs.Meaning.{Known, Meaning}
-use Rattle.code_rules.specs.Headline.{script_fault, script_path}
+use Rattle.headline.specs.Headline.{script_fault, script_path}
 use Rattle.board.specs.Blocked.{path_of}
 use Rattle.board.specs.View.{kind_of_fault}
 use Rattle.board_instances.specs.declared.place.Fault.{Fault}

@@ -15,7 +15,7 @@ use Rattle.language.specs.Places.{Path}
 use Rattle.task_code.specs.Places as Places
 use Rattle.task_code.proofs.Checked.{or_true, true_or}
 use Rattle.task_code.proofs.Equal.{both_true, nat_same, nat_sound, true_and}
-use Rattle.code_rules.specs.Headline.{script_fault, script_path}
+use Rattle.headline.specs.Headline.{script_fault, script_path}
 use Rattle.code_rules.proofs.Members.{from_in, to_in}
 use Rattle.board.specs.Blocked.{InTextOrder, comes_before, path_below, path_of}
 use Rattle.board.specs.View.{kind_of_fault, path_view}

@@ -8,7 +8,7 @@ use Rattle.language.specs.Resolved.{core}
 use Rattle.task_code.specs.Code.{Code}
 use Rattle.task_code.specs.Machine.{CodeState, CodeStep, Run, Quiet}
 use Rattle.task_code.specs.System.{code_system}
-use Rattle.code_rules.specs.Headline.{Headline, Agrees, PartOfLines, script_path, script_fault}
+use Rattle.headline.specs.Headline.{Headline, Agrees, PartOfLines, script_path, script_fault}
 use Rattle.board_instances.specs.declared.place.Fault.{Fault}
 use Rattle.board.specs.Blocked.{AreBlocked, IsFaultOf, path_of}
 use Rattle.board.specs.Board.{Seen}

@@ -12,7 +12,7 @@ use Rattle.language.specs.Facts.{Knowledge}
 use Rattle.language.specs.Meaning.{IsFinished, Known, Meaning}
 use Rattle.language.specs.Outcomes.{Blocked, Faults, Lines}
 use Rattle.language.specs.Places.{Path}
-use Rattle.code_rules.specs.Headline.{script_fault, script_path}
+use Rattle.headline.specs.Headline.{script_fault, script_path}
 use Rattle.board.specs.Blocked.{InTextOrder, path_below, path_of}
 use Rattle.board.specs.View.{kind_of_fault}
 use Rattle.board_instances.specs.declared.place.Fault.{Fault}

@@ -7,7 +7,7 @@ use Rattle.language.specs.Meaning.{Meaning}
 use Rattle.language.specs.Outcomes.{Blocked, Clean, Faults, Lines}
 use Rattle.language.specs.Places.{Path}
 use Rattle.task_code.specs.Places.{Step}
-use Rattle.code_rules.specs.Headline.{PartOfLines, script_path, script_fault}
+use Rattle.headline.specs.Headline.{PartOfLines, script_path, script_fault}
 use Rattle.board_instances.specs.declared.place.Fault.{Fault}
 use Rattle.board_instances.specs.declared.place.Statement.{Statement}
 use Rattle.board.specs.Blocked.{InTextOrder, path_of}

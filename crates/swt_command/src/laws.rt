@@ -5,7 +5,7 @@ ghost use Rattle.language.specs.Facts.{Fact};
 ghost use Rattle.language.specs.Meaning.{IsFinished, Known, Meaning};
 ghost use Rattle.language.specs.Outcomes.{Clean};
 ghost use Rattle.language.specs.Resolved.{core};
-ghost use Rattle.code_rules.specs.Headline.{PartOfLines};
+ghost use Rattle.headline.specs.Headline.{PartOfLines};
 ghost use Rattle.task_code.specs.Code.{Code};
 ghost use Rattle.board_instances.specs.declared.place.Fault.{Fault};
 ghost use Rattle.board_runs.specs.declared.report.End.TheVariants as Ends;
