@@ -7,8 +7,6 @@ pub mod lookup;
 pub mod mention;
 pub mod mentions;
 mod partly;
-pub mod position;
-pub mod quote;
 pub mod refusal;
 mod sorts;
 mod texts;
