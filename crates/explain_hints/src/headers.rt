@@ -108,7 +108,8 @@ pub fn word_as_name(around: &Around<'_>) -> Option<Advice> {
     if is_type(around.last.kind) && is_word(around.found.kind) {
         return Advice::here("this is a word of the language: take another name");
     }
-    if is_type(around.first.kind) && is_word(around.last.kind) {
+    let is_behind_type = is_type(around.first.kind) && around.first.span != around.last.span;
+    if is_behind_type && is_word(around.last.kind) {
         return Advice::of(
             "take another name for the word of the language",
             around.last.span,

@@ -7,6 +7,7 @@ mod brackets;
 mod bytes;
 pub mod characters;
 mod endings;
+pub mod functions;
 mod headers;
 mod kinds;
 pub mod literals;

@@ -4,18 +4,16 @@
 const LEAST: &[u8] = b"9223372036854775808";
 
 /// What to write instead of the number that begins at an offset.
-pub fn on_number(text: &[u8], number: &[u8], at: usize) -> Option<&'static str> {
+pub fn on_number(text: &[u8], number: &[u8], at: usize) -> &'static str {
     if number == LEAST && is_negative(text, at) {
-        return Some("the least whole number is written -9223372036854775807 - 1");
+        return "the least whole number is written -9223372036854775807 - 1";
     }
     if has_others(number) {
-        return Some(
-            "a name begins with a letter or _, and a number has decimal digits alone, as 1000 for 1e3",
-        );
+        return "a name begins with a letter or _, and a number has decimal digits alone, as 1000 for 1e3";
     }
     match number {
-        [b'0', ..] => Some("leave out the 0 in front"),
-        _ => Some("9223372036854775807 is the largest whole number"),
+        [b'0', ..] => "leave out the 0 in front",
+        _ => "9223372036854775807 is the largest whole number",
     }
 }
 

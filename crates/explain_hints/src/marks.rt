@@ -26,6 +26,11 @@ fn assign(around: &Around<'_>) -> Option<Advice> {
     if goes_on(around, TokenKind::Greater) {
         return Advice::here("there is no =>: what has to come after x stands in wait (x) { .. }");
     }
+    if around.opener.kind == TokenKind::OpenSquare
+        && around.opener_before.span == around.first.span
+    {
+        return None;
+    }
     if around.last.kind == TokenKind::Equal
         || around.opener.kind == TokenKind::OpenSquare
         || around.opener_before.kind == TokenKind::If

@@ -3,9 +3,13 @@
 #![tactic(auto)]
 
 mod assignments_told;
+mod calls;
+mod counts_told;
+mod inner;
 pub mod lookup;
 pub mod mention;
 pub mod mentions;
+mod names_told;
 mod partly;
 pub mod refusal;
 mod sorts;

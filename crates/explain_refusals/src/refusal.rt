@@ -8,7 +8,7 @@ ghost use Rattle.explain_refusals.specs.Verdicts.{BeginsAt, Explains, IsScript};
 
 use crate::assignments_told::told_of_assignments;
 use crate::texts::told_of_text;
-use crate::told::{Note, Refused, Told};
+use crate::told::{Hint, Note, Refused, Told};
 use crate::types_told::told_of_types;
 use assign_check::fault::AssignFault;
 use explain_text::position::position_of;
@@ -150,7 +150,24 @@ fn behind_place(
     if let Some(note) = told.note {
         add_note(&mut out, file, text, note)?;
     }
+    if let Some(hint) = &told.hint {
+        add_hint(&mut out, file, text, hint)?;
+    }
     Ok(out)
+}
+
+/// Adds the line of a hint, and the line of the source that it speaks of where it speaks of one.
+fn add_hint(out: &mut Vec<u8>, file: &str, text: &[u8], hint: &Hint) -> Result<(), AllocError> {
+    out.extend_from_slice(b"hint: ")?;
+    out.extend_from_slice(hint.words.as_slice())?;
+    let Some(at) = hint.at else {
+        out.push(b'\n')?;
+        return Ok(());
+    };
+    out.extend_from_slice(b" at ")?;
+    add_place(out, file, position_of(text, at.from.min(text.len())))?;
+    out.push(b'\n')?;
+    add_quote(out, text, at)
 }
 
 /// Adds the line of another place.
