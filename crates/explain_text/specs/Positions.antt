@@ -1,7 +1,8 @@
 -- The line and the column of an offset in a text.
-use Rattle.std.specs.Prelude.{◌≡◌, ◌≢◌, ◌⊎◌, ◌≤◌, ◌<◌, ◌+◌, ℕ, List, length, nat_eq, take, slice_index}
+use Rattle.std.specs.Prelude.{◌≡◌, ◌≢◌, ◌⊎◌, ◌≤◌, ◌<◌, ◌+◌, ℕ, List, ◌∷◌, ◌++◌, length, nat_eq, take, slice_index}
+use Rattle.std.specs.Fmt.{decimal}
 use Rattle.std.specs.List.{count_by}
-use Rattle.explain_refusals.specs.declared.position.Position.{Position}
+use Rattle.explain_text.specs.declared.position.Position.{Position}
 
 -- the byte between two lines
 abbrev pub line_feed : ℕ
@@ -30,3 +31,7 @@ pub record IsPosition (text : List ℕ) (at : ℕ) (p : Position) : Type 0 where
   pub begin : ℕ
   pub begins : BeginsLine text at begin
   pub column_is : p.column + begin ≡ at + 1
+
+-- `FILE:LINE:COLUMN`
+abbrev pub place_text : List ℕ → Position → List ℕ
+place_text file p = file ++ 58 ∷ (decimal p.line ++ 58 ∷ decimal p.column)

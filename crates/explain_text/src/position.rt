@@ -1,6 +1,6 @@
 //! Lines and columns.
 ghost use Rattle.std.specs.Prelude.{◌≡◌, ◌≤◌, length};
-ghost use Rattle.explain_refusals.specs.Positions.{BeginsLine, EndsLine, IsPosition, line_of};
+ghost use Rattle.explain_text.specs.Positions.{BeginsLine, EndsLine, IsPosition, line_of};
 
 /// A place in a text as a person counts it, from 1 on. A tab is one column.
 #[derive(Clone, Copy, PartialEq, Eq, Debug, Drop)]

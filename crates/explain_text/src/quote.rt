@@ -1,6 +1,6 @@
 //! The line of a source, with a place on it marked.
 ghost use Rattle.std.specs.Prelude.{◌≡◌, ◌≤◌, ◌+◌, length};
-ghost use Rattle.explain_refusals.specs.Windows.{IsWindow};
+ghost use Rattle.explain_text.specs.Windows.{IsWindow};
 
 use crate::position::{line_begin, line_end};
 use lexer::token::Span;

@@ -1,7 +1,7 @@
 -- The part of a line that is shown.
 use Rattle.std.specs.Prelude.{◌≡◌, ◌≤◌, ◌+◌, ℕ, List, nat_lt}
-use Rattle.explain_refusals.specs.declared.quote.Window.{Window}
-use Rattle.explain_refusals.specs.Positions.{BeginsLine, EndsLine}
+use Rattle.explain_text.specs.declared.quote.Window.{Window}
+use Rattle.explain_text.specs.Positions.{BeginsLine, EndsLine}
 
 -- a part of the offset's line, of 120 bytes at most, that has the offset; and whether the line begins before it and ends behind it
 pub record IsWindow (text : List ℕ) (at : ℕ) (w : Window) : Type 0 where
