@@ -33,7 +33,7 @@ use task_code::entry::Variable as Made;
 
 /// A statement with its priority.
 fn with_priority(statement: Own, priority: i32) -> Own
-    ensures { result ≡ record { standing = record { at = statement.standing.at; priority = priority; inputs = statement.standing.inputs }; node = statement.node } }
+    ensures { result ≡ record statement { standing = record statement.standing { priority = priority } } }
 {
     let standing = Standing {
         at: statement.standing.at,
@@ -196,7 +196,8 @@ impl Emitter {
         parts: &Vec<Part<A>, A>,
         call: &Call<A>,
     ) -> Result<(), AllocError>
-        ensures { OnOk result (EmitsOwn functions.now.items statement (core.call_alone statement.standing.priority (parts_view parts.now.items) (call_view call.now)) self.old self.new) }
+        ensures { OnOk result (EmitsOwn functions.now.items statement (core.call_alone statement.standing.priority
+            (parts_view parts.now.items) (call_view call.now)) self.old self.new) }
     {
         call_alone(
             self.alloc,
@@ -240,7 +241,8 @@ impl Emitter {
         index: &Outer<A>,
         right: &Outer<A>,
     ) -> Result<(), AllocError>
-        ensures { OnOk result (EmitsAction functions.now.items statement (core.insert (name_view array) (outer_view index.now) (outer_view right.now)) [] self.old self.new) }
+        ensures { OnOk result (EmitsAction functions.now.items statement (core.insert (name_view array) (outer_view index.now) (outer_view right.now)) []
+            self.old self.new) }
     {
         insert(
             self.alloc,
@@ -265,7 +267,8 @@ impl Emitter {
         condition: &Outer<A>,
         then: &Block<A>,
     ) -> Result<(), AllocError>
-        ensures { OnOk result (EmitsAction functions.now.items statement (core.when (outer_view condition.now) (block_view then.now)) (block_declared then.now) self.old self.new) }
+        ensures { OnOk result (EmitsAction functions.now.items statement (core.when (outer_view condition.now) (block_view then.now))
+            (block_declared then.now) self.old self.new) }
     {
         let alloc = self.alloc;
         let standing = statement.standing;
@@ -343,7 +346,8 @@ impl Emitter {
         turn: &Option<Variable<A>>,
         body: &Block<A>,
     ) -> Result<(), AllocError>
-        ensures { OnOk result (EmitsAction functions.now.items statement (range_action range.now value.now.node (option_map (λ v. v.node) turn.now) (block_view body.now))
+        ensures { OnOk result (EmitsAction functions.now.items statement (range_action range.now value.now.node
+            (option_map (λ v. v.node) turn.now) (block_view body.now))
             (block_declared body.now) self.old self.new) }
     {
         let alloc = self.alloc;
@@ -381,7 +385,8 @@ impl Emitter {
         key: &Option<Variable<A>>,
         body: &Block<A>,
     ) -> Result<(), AllocError>
-        ensures { OnOk result (EmitsAction functions.now.items statement (core.each (name_view array) value.now.node (option_map (λ v. v.node) key.now) (block_view body.now))
+        ensures { OnOk result (EmitsAction functions.now.items statement (core.each (name_view array) value.now.node
+            (option_map (λ v. v.node) key.now) (block_view body.now))
             (block_declared body.now) self.old self.new) }
     {
         let alloc = self.alloc;
@@ -411,7 +416,8 @@ impl Emitter {
         inner: &Vec<Header<A>, A>,
         content: &Block<A>,
     ) -> Result<(), AllocError>
-        ensures { OnOk result (EmitsAction functions.now.items statement (core.wait (map awaited_view names.now.items) (waits_around inner.now.items (block_view content.now)))
+        ensures { OnOk result (EmitsAction functions.now.items statement (core.wait (map awaited_view names.now.items)
+            (waits_around inner.now.items (block_view content.now)))
             (block_declared content.now) self.old self.new) }
     {
         let alloc = self.alloc;

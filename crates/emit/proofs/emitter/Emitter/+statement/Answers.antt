@@ -1,11 +1,10 @@
-use Rattle.std.proofs.Common.{length, get_or, subst, ◌+◌, ◌*◌, ◌<◌, ◌≤◌, to_z, of_z, w32, ◌≡◌, map, option_map, ◌∷◌, ◌++◌, [], ap, ap₂, ◌∙◌, refl, sym, arith}
+use Rattle.std.proofs.Common.{length, get_or, subst, ◌+◌, ◌*◌, ◌<◌, ◌≤◌, ◌≡◌, map, option_map, ◌∷◌, [], ap, ◌∙◌, refl, sym, arith}
 use Rattle.std.specs.Prelude.{option_to_list}
 use Rattle.std.proofs.lemmas.Grind.{common_steps}
 use Rattle.std.proofs.lemmas.Result.{on_ok_weaker}
 use Rattle.language.specs.Core as core
-use Rattle.flow.specs.declared.statement.Block.{Block}
 use Rattle.flow.specs.Shapes.{action_declared, block_declared, is_array, kinds_of_function}
-use Rattle.flow.specs.View.{action_view, awaited_view, block_view, call_view, name_view, outer_view, parts_view, waits_around}
+use Rattle.flow.specs.View.{action_view, awaited_view, block_view, name_view, outer_view, waits_around}
 use Rattle.task_code.specs.View.{loop_view}
 use Rattle.language.specs.Parts.{outer_parts}
 use Rattle.code_rules.specs.Room.{OuterRoom, StepRoom}
@@ -13,14 +12,13 @@ use denote.Param.Weighed.{at_most, most}
 use Rattle.flow.proofs.statement.Block.TheLaws.{the_size as block_size}
 use Rattle.flow.proofs.statement.Statement.TheLaws.{the_size as statement_size}
 use Rattle.flow.specs.declared.statement.Variable.{Variable}
-use Rattle.flow.specs.declared.statement.Range.{Range as Ranged}
 use Rattle.emit.specs.Emits.{roots_of, state_of}
 use Rattle.emit.proofs.Opening.{numbered-in, parts-zero}
-use Rattle.emit.proofs.Emitting.{ok-both, declare-emits, emits-as, emits-with, walked-all, walked-none, walked-one}
+use Rattle.emit.proofs.Emitting.{ok-both, declare-emits, emits-as, walked-all, walked-none, walked-one}
 use Rattle.emit.proofs.Branching.{branch-emits, branches-emit}
 use Rattle.emit.proofs.Looping.{each-emits, range-emits}
 use Rattle.emit.proofs.Waiting.{wait-emits}
-use Rattle.emit.proofs.Views.{statement_seen, statement_tells, see_assert, see_assign, see_call, see_choose, see_declare, see_each, see_fill, see_insert, see_print, see_range, see_wait, see_when}
+use Rattle.emit.proofs.Views.{see_declare}
 use Rattle.emit.proofs.emitter.Emitter.+statement.Goals as goal
 
 pub each_statement-loop-one-init : goal.each_statement-loop-one-init
