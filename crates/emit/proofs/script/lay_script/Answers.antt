@@ -1,4 +1,4 @@
-use Rattle.std.proofs.Common.{◌≡◌, ◌∷◌, [], ◌+◌, length, map, sym, refl, ap, ◌∙◌}
+use Rattle.std.proofs.Common.{◌∷◌, [], length, map, sym, refl, ap, ◌∙◌}
 use Rattle.std.proofs.lemmas.List.{length-map, map-append}
 use Rattle.flow.specs.Shapes.{block_declared, functions_declared, kinds_of}
 use Rattle.flow.specs.View.{core_of, function_view}
