@@ -4,12 +4,12 @@ use Rattle.flow.proofs.statement.Action.TheLaws.{the_size as action_size}
 use Rattle.flow.proofs.statement.Block.TheLaws.{the_size as block_size}
 use Rattle.flow.proofs.statement.Statement.TheLaws.{the_size as statement_size}
 use Rattle.flow.specs.Shapes.{kinds_of_function}
-use Rattle.emit.specs.Emits.{state}
+use Rattle.emit.specs.Emits.{roots_of, state_of}
 use Rattle.emit.proofs.Emitting.{WalksOn}
-use Rattle.emit.proofs.statement.+statement.Given as goal
+use Rattle.emit.proofs.emitter.Emitter.+statement.Given as goal
 
 abbrev pub invariant-each_statement-loop-one : goal.invariant-each_statement-loop-one
-invariant-each_statement-loop-one g l = WalksOn (map kinds_of_function l.functions.items) l.roots l.inputs l.statements.items (drop l.one-index l.statements.items) (state l.fn.entries.items l.fn.bodies.items l.fn.filling) (state l.entries.items l.bodies.items l.filling)
+invariant-each_statement-loop-one g l = WalksOn (map kinds_of_function l.functions.items) (roots_of l.functions.items) l.inputs l.statements.items (drop l.one-index l.statements.items) (state_of l.fn.self) (state_of l.self)
 
 abbrev pub decreases-block : goal.decreases-block
 decreases-block g l = 2 * block_size g.row.A g.A.Allocator g.A.laws l.block.now + 0
@@ -29,8 +29,8 @@ decreases-when g l = 2 * block_size g.row.A g.A.Allocator g.A.laws l.then.now + 
 abbrev pub decreases-choose : goal.decreases-choose
 decreases-choose g l = 2 * max (block_size g.row.A g.A.Allocator g.A.laws l.then.now) (block_size g.row.A g.A.Allocator g.A.laws l.other.now) + 1
 
-abbrev pub decreases-ranged : goal.decreases-ranged
-decreases-ranged g l = 2 * block_size g.row.A g.A.Allocator g.A.laws l.body.now + 1
+abbrev pub decreases-range : goal.decreases-range
+decreases-range g l = 2 * block_size g.row.A g.A.Allocator g.A.laws l.body.now + 1
 
 abbrev pub decreases-each : goal.decreases-each
 decreases-each g l = 2 * block_size g.row.A g.A.Allocator g.A.laws l.body.now + 1
