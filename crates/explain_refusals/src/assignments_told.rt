@@ -156,6 +156,18 @@ fn hint_of_partly<A: Allocator>(
     name: &[u8],
     at: Span,
 ) -> Result<Option<Hint>, AllocError> {
+    let mentions = mentions_around(refused.alloc, at.from, refused.script)?;
+    let before = last_before(
+        refused.text,
+        mentions.as_slice(),
+        Wanted::Assignment,
+        name,
+        at.from,
+    );
+    if before.is_some() {
+        let words = " has a value before this if: give the new value another name";
+        return Hint::named(refused.alloc, "", name, words);
+    }
     let inner = if partly.inner == at {
         None
     } else {
