@@ -9,9 +9,9 @@ use explain_inputs::blocking::instance_at;
 use explain_refusals::position::line_begin;
 use flow::script::Flow;
 use meaning::rounds;
-use meaning_facts::facts::{FaultFact, FaultKind, Place};
-use meaning_facts::instances::Step;
+use meaning_facts::facts::{FaultFact, Place};
 use meaning_outcomes::knowledge::Knowledge;
+use meaning_outcomes::{FaultKind, Step};
 use std::alloc::{AllocError, Allocator, Global};
 use std::collections::HashMap;
 

@@ -6,7 +6,7 @@ use explain_blocked::scene::Scene;
 use explain_blocked::words::{say, say_bytes, say_scalar};
 use flow::cell::Form;
 use flow::expression::{Expr, Operation};
-use meaning_facts::facts::FaultKind;
+use meaning_outcomes::FaultKind;
 use std::alloc::{AllocError, Allocator};
 use values::op::{Factor, Sign};
 use values::value::Value;

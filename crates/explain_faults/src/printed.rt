@@ -1,8 +1,7 @@
 //! The fault that a run has printed, read from its line.
 
 use explain_refusals::position::line_begin;
-use meaning_facts::facts::FaultKind;
-use meaning_facts::instances::Step;
+use meaning_outcomes::{FaultKind, Step};
 use std::alloc::{AllocError, Global};
 use values::key::Key;
 use values::number;
@@ -45,10 +44,7 @@ impl Printed {
     pub fn inner_first(&self, alloc: Global) -> Result<Vec<Step>, AllocError> {
         let mut steps = Vec::new(alloc);
         for step in &self.path {
-            steps.push(Step {
-                at: step.at,
-                key: step.key.share()?,
-            })?;
+            steps.push(step.share()?)?;
         }
         steps.reverse();
         Ok(steps)
@@ -108,5 +104,5 @@ fn step_of(step: &[u8]) -> Option<Step> {
     let (at, key) = cut(step, b'.');
     let at = offset_of(at)?;
     let key = Key::Number(number::parse(key).ok()?);
-    Some(Step { at, key })
+    Some(Step { offset: at, key })
 }
