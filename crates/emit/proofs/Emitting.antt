@@ -1,5 +1,5 @@
 -- Statements and blocks that are laid one after another, or one inside another.
-use Rattle.std.proofs.Common.{◌≡◌, ℕ, suc, ◌+◌, ◌≤◌, ◌<◌, ◌^◌, ℤ, Bool, List, [], ◌∷◌, ◌++◌, map, drop, get_or, length, refl, sym, ap, ◌∙◌, subst, arith, append_assoc, append-nil}
+use Rattle.std.proofs.Common.{◌≡◌, ℕ, suc, ◌+◌, ◌≤◌, ◌<◌, ◌^◌, Bool, List, [], ◌∷◌, ◌++◌, map, drop, get_or, length, refl, sym, ap, ◌∙◌, subst, arith, append_assoc, append-nil}
 use Rattle.std.specs.Prelude.{OnOk, Result, Ok, Err}
 use Rattle.std.proofs.lemmas.List.{length-map, drop_more, drop_all}
 use Rattle.language.specs.Core.{Stmt, stmt, Action, declare, Block, no_stmts, stmts}
@@ -18,7 +18,6 @@ use Rattle.code_rules.specs.IsCodeOf.{Layout}
 use Rattle.code_rules.specs.Laying.{IndexesStand, Kinds, LaysBlock, LaysStmt, Suits, declares, one_statement, no_statement}
 use Rattle.code_rules.specs.Room.{ActionRoom}
 use Rattle.emit_statements.specs.Into.{LaysInto, laying}
-use Rattle.emit_statements.specs.declared.own.Statement.{Statement as Own}
 use Rattle.emit_statements.specs.declared.filling.Filling.{Filling}
 use Rattle.emit.specs.Emits.{EmitsBlock, EmitsStmt, Lays, State, state, with_inner}
 use Rattle.emit.proofs.Fitting.{first-in, fits-part, others-in, size-first}
@@ -69,14 +68,6 @@ ok-both (Err e) P Q R f p q = tt
 -- a statement that is told otherwise
 pub emits-as : (fs : List Kinds) (roots k : ℕ) (a b : Stmt) (ds es : List (ℕ × Bool)) (s t : State) → b ≡ a → es ≡ ds → EmitsStmt fs roots k a ds s t → EmitsStmt fs roots k b es s t
 emits-as fs roots k a b ds es s t e q h = subst (λ (x : Stmt). EmitsStmt fs roots k x es s t) (sym e) (subst (λ (xs : List (ℕ × Bool)). EmitsStmt fs roots k a xs s t) (sym q) h)
-
-abbrev with : Own → ℤ → Own
-with s p = record { standing = record { at = s.standing.at; priority = p; inputs = s.standing.inputs }; node = s.node }
-
--- a statement with a priority
-pub emits-with : (fs : List Kinds) (roots : ℕ) (a b : Own) (p : ℤ) (does : ℤ → Action) (s t : State) → b ≡ with a p → EmitsStmt fs roots b.standing.inputs (stmt b.standing.at b.node (does b.standing.priority)) [] s t
-    → EmitsStmt fs roots a.standing.inputs (stmt a.standing.at a.node (does p)) [] s t
-emits-with fs roots a b p does s t e h = subst (λ (x : Own). EmitsStmt fs roots x.standing.inputs (stmt x.standing.at x.node (does x.standing.priority)) [] s t) e h
 
 -- STATEMENTS OF A FLOW, ONE AFTER ANOTHER
 

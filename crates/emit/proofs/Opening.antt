@@ -29,6 +29,10 @@ pub body-is : (o : Opener) (us : List Variable) (old new : Filling) (vs : List V
 body-is o us old new vs js none are entries makes =
     ap₂ (λ (ms : List Variable) (es : List ℕ). record { opener = o; makes = ms; entries = es }) (makes ∙ ap (λ (ms : List Variable). ms ++ vs) are) (entries ∙ ap (λ (es : List ℕ). es ++ js) none)
 
+-- a number listed in a block that was left as it was
+pub numbered-in : {n count : ℕ} {F F' F2 : Filling} → F' ≡ F → Numbered n count F' F2 → Numbered n count F F2
+numbered-in {n} {count} {F} {F'} {F2} same numbered = subst (λ (z : Filling). Numbered n count z F2) same numbered
+
 pub own-number : (n : ℕ) (es : List Made) (old new : Filling) → Numbered n (length es) old new → length es < 2 ^ 32 → n ≡ length (map entry_view es)
 own-number n es old new numbered few = numbered.is few ∙ sym (length-map es entry_view)
 

@@ -1,6 +1,11 @@
 -- What laying a statement or a block into the block around it owes.
-use Rattle.std.specs.Prelude.{◌≡◌, ℕ, ◌+◌, ◌*◌, ◌^◌, ◌≤◌, ◌<◌, Bool, List, [], ◌∷◌, ◌++◌, map, length}
+use Rattle.std.specs.Prelude.{◌≡◌, ℕ, pos, ◌+◌, ◌*◌, ◌^◌, ◌≤◌, ◌<◌, Bool, List, [], ◌∷◌, ◌++◌, map, length}
 use Rattle.language.specs.Core.{Stmt, stmt, Action, Block, Function, Core}
+use Rattle.flow.specs.declared.script.Function.{Function as Found}
+use Rattle.flow.specs.declared.statement.Block.{Block as Inner}
+use Rattle.flow.specs.declared.statement.Statement.{Statement}
+use Rattle.flow.specs.Shapes.{block_declared, functions_declared, kinds_of_function, statement_declared, together}
+use Rattle.flow.specs.View.{block_of, block_view, function_view, statement_view}
 use Rattle.language.specs.Members.{◌∈◌}
 use Rattle.language.specs.Parts.{blocks_in, function_blocks, stmts_among, stmts_within}
 use Rattle.language_laws.specs.TypedValues.{own_parts}
@@ -15,6 +20,8 @@ use Rattle.code_rules.specs.Emitted.{CallsOnce, CellsOnce, ReadsStand, size_of, 
 use Rattle.code_rules.specs.Room.{BlockRoom, CoreRoom, StmtRoom, Each, FunctionRoom}
 use Rattle.emit_statements.specs.Into.{laying}
 use Rattle.emit_statements.specs.declared.filling.Filling.{Filling}
+use Rattle.emit_statements.specs.declared.own.Statement.{Statement as Own}
+use Rattle.emit.specs.declared.emitter.Emitter.{Emitter}
 
 -- what is laid so far, with the numbers and the data that the block around has
 pub record State : Type 0 where
@@ -95,3 +102,55 @@ pub record CanBeEmitted (c : Core) : Type 0 where
   pub reads : ReadsStand c
   pub room : CoreRoom c
   pub size : size_of c ≤ 4194304
+
+-- BY AN EMITTER
+
+-- what it has laid, with what a block has
+abbrev pub state_with : Emitter → Filling → State
+state_with e f = state e.entries.items e.bodies.items f
+
+-- and with what the block that is being laid has
+abbrev pub state_of : Emitter → State
+state_of e = state_with e e.filling
+
+abbrev pub laying_of : Emitter → Laying
+laying_of e = laying e.entries.items (map body_view e.bodies.items)
+
+-- how many bodies are the script's and its functions'
+abbrev pub roots_of : {X : Type 0} → List X → ℕ
+roots_of fs = length fs + 1
+
+-- in a script with these functions
+module _ {A : Type 0} (functions : List (Found A)) where
+  -- a block, some statements and one, in a function with k inputs
+  abbrev pub EmitsInner : ℕ → Inner A → State → State → Type 0
+  EmitsInner k b s t = EmitsBlock (map kinds_of_function functions) (roots_of functions) k (block_view b) (block_declared b) s t
+
+  abbrev pub EmitsStatements : ℕ → List (Statement A) → State → State → Type 0
+  EmitsStatements k ss s t = EmitsBlock (map kinds_of_function functions) (roots_of functions) k (block_of (map statement_view ss)) (together (map statement_declared ss)) s t
+
+  abbrev pub EmitsOne : ℕ → Statement A → State → State → Type 0
+  EmitsOne k one s t = EmitsStmt (map kinds_of_function functions) (roots_of functions) k (statement_view one) (statement_declared one) s t
+
+  -- a statement that does this and declares these
+  abbrev pub EmitsAs : Own → Action → List (ℕ × Bool) → Emitter → Emitter → Type 0
+  EmitsAs one a ds s t = EmitsStmt (map kinds_of_function functions) (roots_of functions) one.standing.inputs (stmt one.standing.at one.node a) ds (state_of s) (state_of t)
+
+  -- one that has no block and declares nothing
+  abbrev pub EmitsOwn : Own → Action → Emitter → Emitter → Type 0
+  EmitsOwn one a s t = EmitsAs one a [] s t
+
+  -- one without a priority of its own
+  abbrev pub EmitsAction : Own → Action → List (ℕ × Bool) → Emitter → Emitter → Type 0
+  EmitsAction one a ds s t = one.standing.priority ≡ pos 0 → EmitsAs one a ds s t
+
+  -- a block of a function's own, or the script's
+  abbrev pub EmitsRoot : ℕ → Inner A → Opener → Emitter → Emitter → code.Body → Type 0
+  EmitsRoot k b o s t made = EmitsBody (map kinds_of_function functions) (roots_of functions) k (block_view b) (block_declared b) o (laying_of s) (laying_of t) made
+
+  -- a function, and all functions
+  abbrev pub EmitsFunction : Found A → Emitter → Emitter → List Body → List Body → Type 0
+  EmitsFunction f s t old new = EmitsFirst (map kinds_of_function functions) (roots_of functions) (function_view f) (block_declared f.body) (laying_of s) (laying_of t) old new
+
+  abbrev pub EmitsAll : Emitter → Emitter → List Body → List Body → Type 0
+  EmitsAll s t old new = EmitsFunctions (map kinds_of_function functions) (roots_of functions) (map function_view functions) (functions_declared functions) (laying_of s) (laying_of t) old new

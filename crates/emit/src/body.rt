@@ -1,6 +1,7 @@
 //! Bodies of blocks.
 ghost use Rattle.std.specs.Prelude.{◌≡◌, ◌∷◌, ◌++◌, [], map, OnOk};
-ghost use Rattle.task_code.specs.View.{body_view, opener_view, variable_view};
+ghost use Rattle.task_code.specs.View.{body_view, opener_view};
+ghost use Rattle.emit.specs.Bodies.{opened_by};
 
 use emit_statements::filling::Filling;
 use std::alloc::{AllocError, Global};
@@ -19,7 +20,7 @@ pub fn empty(alloc: Global) -> Filling
 
 /// The body that is opened so.
 pub fn body(filling: Filling, opener: Opener) -> Body
-    ensures { body_view result ≡ record { opener = opener_view opener; makes = map variable_view filling.makes.items; entries = filling.entries.items } }
+    ensures { body_view result ≡ opened_by (opener_view opener) filling }
 {
     Body {
         opener,
@@ -30,7 +31,7 @@ pub fn body(filling: Filling, opener: Opener) -> Body
 
 /// Puts the body of a block behind the others.
 pub fn add_body(bodies: &mut Vec<Body>, opener: Opener, filling: Filling) -> Result<(), AllocError>
-    ensures { OnOk result (map body_view bodies.new.items ≡ map body_view bodies.old.items ++ record { opener = opener_view opener; makes = map variable_view filling.makes.items; entries = filling.entries.items } ∷ []) }
+    ensures { OnOk result (map body_view bodies.new.items ≡ map body_view bodies.old.items ++ opened_by (opener_view opener) filling ∷ []) }
 {
     bodies.push(body(filling, opener))?;
     Ok(())

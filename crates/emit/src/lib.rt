@@ -2,6 +2,7 @@
 #![tactic(auto)]
 
 mod body;
+mod emitter;
 mod script;
 mod statement;
 

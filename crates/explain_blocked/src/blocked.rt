@@ -3,8 +3,8 @@
 use crate::inputs::say_inputs;
 use crate::paths::say_path;
 use crate::scene::{Scene, Stand};
-use crate::words::{add_mark, say, say_start};
 use explain_inputs::blocking::inputs_blocking;
+use explain_text::words::{add_mark, say, say_start};
 use meaning_outcomes::Statement;
 use std::alloc::{AllocError, Allocator};
 

@@ -2,10 +2,10 @@
 
 use crate::scene::{Scene, Stand};
 use crate::sites::{opens_blocks, word_of};
-use crate::words::{say, say_number, say_place};
 use crate::writers::Writer;
 use explain_inputs::input::{Input, add_form};
 use explain_inputs::missing::missing_of;
+use explain_text::words::{say, say_number, say_place};
 use flow::name::{Name, Owned};
 use meaning_facts::facts::Place;
 use std::alloc::{AllocError, Allocator};

@@ -2,7 +2,8 @@
 
 use crate::scene::Scene;
 use crate::sites::action_of;
-use crate::words::{say, say_count, say_place, say_scalar};
+use crate::words::say_scalar;
+use explain_text::words::{say, say_count, say_place};
 use flow::statement::{Action, Variable};
 use meaning_facts::facts::Place;
 use meaning_outcomes::Step;

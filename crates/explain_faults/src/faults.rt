@@ -1,12 +1,13 @@
 //! Faults, as a person reads of them.
 
+use crate::hints::say_hint;
 use crate::printed::Printed;
 use crate::reasons::{plain_of, rule_of, say_reason};
 use explain_blocked::paths::{say_path, say_steps};
 use explain_blocked::scene::Scene;
-use explain_blocked::words::{add_mark, say, say_start};
 use explain_inputs::blocking::instance_at;
-use explain_refusals::position::line_begin;
+use explain_text::position::line_begin;
+use explain_text::words::{add_mark, say, say_start};
 use flow::script::Flow;
 use meaning::rounds;
 use meaning_facts::facts::{FaultFact, Place};
@@ -167,7 +168,8 @@ fn add_fault<'t, 'a, A: Allocator>(
     }
     say(out, "\n")?;
     add_mark(out, scene.text, mark_of(scene, fact))?;
-    say_path(scene, out, fact.place.instance)
+    say_path(scene, out, fact.place.instance)?;
+    say_hint(out, scene.text, fact.kind, fact.at)
 }
 
 /// What is marked of a fault: its cell where that is on the line of the statement, and else the statement.
@@ -198,10 +200,10 @@ fn add_plain<'t, 'a, A: Allocator>(
     say(out, "\n")?;
     add_mark(out, scene.text, printed.at)?;
     let inner = printed.inner_first(scene.alloc)?;
-    if inner.is_empty() {
-        return Ok(());
+    if !inner.is_empty() {
+        say(out, "    ")?;
+        say_steps(scene, out, usize::MAX, inner.as_slice())?;
+        say(out, "\n")?;
     }
-    say(out, "    ")?;
-    say_steps(scene, out, usize::MAX, inner.as_slice())?;
-    say(out, "\n")
+    say_hint(out, scene.text, printed.kind, printed.at)
 }

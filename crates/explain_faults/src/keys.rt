@@ -1,6 +1,6 @@
 //! Which keys an array has.
 
-use explain_blocked::words::{say, say_count, say_number};
+use explain_text::words::{say, say_count, say_number};
 use std::alloc::AllocError;
 use values::key::Key;
 use values::map::Element;

@@ -2,6 +2,7 @@
 #![tactic(auto)]
 
 pub mod faults;
+mod hints;
 mod keys;
 pub mod limits;
 mod operations;

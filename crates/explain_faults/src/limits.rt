@@ -1,6 +1,6 @@
 //! An end at a limit, as a person reads of it.
 
-use explain_blocked::words::{say, say_count};
+use explain_text::words::{say, say_count};
 use std::alloc::AllocError;
 
 /// Adds what is said of a run that was cut off after so many events, with so many items that could begin and so many that ran.

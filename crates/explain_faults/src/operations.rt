@@ -3,7 +3,8 @@
 use crate::parts::{faulty, value_of};
 use explain_blocked::index::Spot;
 use explain_blocked::scene::Scene;
-use explain_blocked::words::{say, say_bytes, say_scalar};
+use explain_blocked::words::say_scalar;
+use explain_text::words::{say, say_bytes};
 use flow::cell::Form;
 use flow::expression::{Expr, Operation};
 use meaning_outcomes::FaultKind;

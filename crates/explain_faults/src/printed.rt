@@ -1,6 +1,6 @@
 //! The fault that a run has printed, read from its line.
 
-use explain_refusals::position::line_begin;
+use explain_text::position::line_begin;
 use meaning_outcomes::{FaultKind, Step};
 use std::alloc::{AllocError, Global};
 use values::key::Key;

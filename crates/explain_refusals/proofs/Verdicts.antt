@@ -19,9 +19,9 @@ use Rattle.assign_check.specs.declared.fault.AssignFault.{AssignFault}
 use Rattle.assign_check.specs.declared.fault.AssignFault.TheVariants as Assign
 use Rattle.assign_check.specs.Breaks as assigning
 use Rattle.assign_check.specs.Places as assign_places
-use Rattle.explain_refusals.specs.Positions.{IsPosition}
-use Rattle.explain_refusals.specs.Verdicts.{IsScript, BeginsAt, Explains, place_text}
-use Rattle.explain_refusals.specs.declared.position.Position.{Position}
+use Rattle.explain_text.specs.Positions.{IsPosition, place_text}
+use Rattle.explain_refusals.specs.Verdicts.{IsScript, BeginsAt, Explains}
+use Rattle.explain_text.specs.declared.position.Position.{Position}
 
 -- a numbered tree for which this holds
 abbrev pub IfNumbered : Tree → Type 0 → Type 0

@@ -1,6 +1,5 @@
 -- What it means that a text is a script, that it is refused at a place, and that words name that place.
 use Rattle.std.specs.Prelude.{◌≡◌, ◌⊎◌, ℕ, List, ◌∷◌, ◌++◌, Some, length, min}
-use Rattle.std.specs.Fmt.{decimal}
 use Rattle.lexer.specs.declared.token.Span.{Span}
 use Rattle.language.specs.Reads.{Reads}
 use Rattle.language.specs.Resolved.{core}
@@ -16,8 +15,8 @@ use Rattle.types.specs.declared.fault.TypeFault.{TypeFault}
 use Rattle.assign_check.specs.Breaks as assigning
 use Rattle.assign_check.specs.Places as assign_places
 use Rattle.assign_check.specs.declared.fault.AssignFault.{AssignFault}
-use Rattle.explain_refusals.specs.Positions.{IsPosition}
-use Rattle.explain_refusals.specs.declared.position.Position.{Position}
+use Rattle.explain_text.specs.Positions.{IsPosition, place_text}
+use Rattle.explain_text.specs.declared.position.Position.{Position}
 
 -- it reads as a tree that is well typed and singly assigned
 pub record IsScript (src : List ℕ) : Type 0 where
@@ -55,10 +54,6 @@ pub record IsNotSingle (src : List ℕ) (at : Span) : Type 0 where
 
 abbrev pub IsRefusedAt : List ℕ → Span → Type 0
 IsRefusedAt src at = IsUnread src at ⊎ (IsIllTyped src at ⊎ IsNotSingle src at)
-
--- `FILE:LINE:COLUMN`
-abbrev pub place_text : List ℕ → Position → List ℕ
-place_text file p = file ++ 58 ∷ (decimal p.line ++ 58 ∷ decimal p.column)
 
 -- the words begin with the file, and the line and the column where the place begins
 pub record BeginsAt (file src : List ℕ) (at : Span) (words : List ℕ) : Type 0 where

@@ -1,10 +1,11 @@
 //! Scripts that are not singly assigned, explained.
 
+use crate::calls::is_read_behind;
 use crate::lookup::{Wanted, bytes_at, kind_at, last_before, place_before};
 use crate::mention::{Kind, Mention};
 use crate::mentions::{function_around, mentions_around};
-use crate::partly::partly_assigned;
-use crate::told::{Note, Refused, Told, note_of};
+use crate::partly::{Partly, partly_assigned};
+use crate::told::{Hint, Note, Refused, Told, note_of};
 use assign_check::fault::AssignFault;
 use lexer::token::Span;
 use std::alloc::{AllocError, Allocator};
@@ -25,7 +26,8 @@ pub fn told_of_assignments<A: Allocator>(
             let declared = place_before(refused, at, Wanted::Declaration, at.from)?;
             let name = bytes_at(refused.text, at);
             let words = "is assigned in each turn of a loop, and declared outside of it";
-            Told::of(refused.alloc, name, words, note_of("declared at", declared))
+            let told = Told::of(refused.alloc, name, words, note_of("declared at", declared))?;
+            Ok(told.with(hint_of_loop(refused, name, at)?))
         }
         AssignFault::WholeAndElements(at) => told_of_both(refused, at),
         AssignFault::OutputUnassigned(at) => told_of_output(refused, at),
@@ -43,11 +45,74 @@ fn told_of_twice<A: Allocator>(refused: &Refused<'_, A>, at: Span) -> Result<Tol
         name,
         at.from,
     );
-    Told::of(
+    let hint = match first {
+        None => None,
+        Some(first) => hint_of_twice(refused, mentions.as_slice(), name, first)?,
+    };
+    let words = "is assigned a second time";
+    Ok(Told::of(refused.alloc, name, words, first_assigned(first))?.with(hint))
+}
+
+/// What to write instead of a second assignment.
+fn hint_of_twice<A: Allocator>(
+    refused: &Refused<'_, A>,
+    mentions: &[Mention],
+    name: &[u8],
+    first: Mention,
+) -> Result<Option<Hint>, AllocError> {
+    if first.kind == Kind::Given {
+        return Hint::named(
+            refused.alloc,
+            "an input, or the variable of a loop, has its value already: give the new value another name than ",
+            name,
+            "",
+        );
+    }
+    let behind = if is_declared_at(mentions, first.at) {
+        " without a value, or give the new value another name"
+    } else {
+        ""
+    };
+    let before = if behind.is_empty() {
+        "a variable has one value: give the new one another name than "
+    } else {
+        "a variable has one value: declare "
+    };
+    Hint::named(refused.alloc, before, name, behind)
+}
+
+/// Whether a declaration stands at a place.
+fn is_declared_at(mentions: &[Mention], at: Span) -> bool {
+    for mention in mentions {
+        if mention.at == at && mention.kind == Kind::Declared {
+            return true;
+        }
+    }
+    false
+}
+
+/// What to write instead of an assignment in each turn of a loop: one that reads the variable goes on with the value of the turn before.
+fn hint_of_loop<A: Allocator>(
+    refused: &Refused<'_, A>,
+    name: &[u8],
+    at: Span,
+) -> Result<Option<Hint>, AllocError> {
+    if is_read_behind(refused.text, at.to, name) {
+        let mut words = Vec::from_slice(
+            refused.alloc,
+            b"keep each turn's value in an array, which goes on from the turn before: ",
+        )?;
+        words.extend_from_slice(name)?;
+        words.extend_from_slice(b"[i] = ")?;
+        words.extend_from_slice(name)?;
+        words.extend_from_slice(b"[i - 1] + .., with the first one written before the loop")?;
+        return Ok(Some(Hint { words, at: None }));
+    }
+    Hint::named(
         refused.alloc,
+        "declare it in the loop, or make it an array with an element for each turn: ",
         name,
-        "is assigned a second time",
-        first_assigned(first),
+        "[i] = ..",
     )
 }
 
@@ -71,15 +136,55 @@ fn told_of_partly<A: Allocator>(refused: &Refused<'_, A>, at: Span) -> Result<To
             refused.alloc,
             "one branch of this if assigns a variable that the other branch does not assign as often",
         ),
-        Some(mention) => {
-            let name = bytes_at(refused.text, mention.at);
+        Some(partly) => {
+            let name = bytes_at(refused.text, partly.mention.at);
             let note = Some(Note {
                 words: "assigned at",
-                at: mention.at,
+                at: partly.mention.at,
             });
             let words = "is assigned by one branch of this if, and not as often by the other";
-            Told::of(refused.alloc, name, words, note)
+            let hint = hint_of_partly(refused, partly, name, at)?;
+            Ok(Told::of(refused.alloc, name, words, note)?.with(hint))
         }
+    }
+}
+
+/// What to write instead of an `if` that leaves a variable out, which may be one inside of the one at the place.
+fn hint_of_partly<A: Allocator>(
+    refused: &Refused<'_, A>,
+    partly: Partly,
+    name: &[u8],
+    at: Span,
+) -> Result<Option<Hint>, AllocError> {
+    let mentions = mentions_around(refused.alloc, at.from, refused.script)?;
+    let before = last_before(
+        refused.text,
+        mentions.as_slice(),
+        Wanted::Assignment,
+        name,
+        at.from,
+    );
+    if before.is_some() {
+        let words = " has a value before this if: give the new value another name";
+        return Hint::named(refused.alloc, "", name, words);
+    }
+    let inner = if partly.inner == at {
+        None
+    } else {
+        Some(partly.inner)
+    };
+    let behind = match (partly.has_else, inner.is_some()) {
+        (false, false) => " in an else of this if too",
+        (false, true) => " in an else too, of the if",
+        (true, false) => " in both branches of this if",
+        (true, true) => " in both branches of the if",
+    };
+    match Hint::named(refused.alloc, "assign ", name, behind)? {
+        None => Ok(None),
+        Some(hint) => Ok(Some(Hint {
+            words: hint.words,
+            at: inner,
+        })),
     }
 }
 

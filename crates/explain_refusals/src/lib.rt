@@ -3,12 +3,14 @@
 #![tactic(auto)]
 
 mod assignments_told;
+mod calls;
+mod counts_told;
+mod inner;
 pub mod lookup;
 pub mod mention;
 pub mod mentions;
+mod names_told;
 mod partly;
-pub mod position;
-pub mod quote;
 pub mod refusal;
 mod sorts;
 mod texts;

@@ -1,5 +1,6 @@
 //! Which variable the branches of an `if` assign differently often.
 
+use crate::inner::{Branches, innermost_partial};
 use crate::lookup::{Wanted, bytes_at, last_before};
 use crate::mention::{Kind, Mention};
 use crate::mentions::block_mentions;
@@ -16,14 +17,24 @@ struct Search<'a> {
     at: Span,
 }
 
-/// The place where the `if` at a place assigns a variable from outside of it that one branch assigns on each way, or on some way,
-/// and the other does not: the first such place.
+/// A variable that the branches of an `if` assign differently often.
+#[derive(Clone, Copy, Debug, PartialEq, Eq)]
+pub struct Partly {
+    /// The first place that assigns it.
+    pub mention: Mention,
+    /// The innermost `if` that leaves it out on some way, and whether that has an `else`.
+    pub inner: Span,
+    pub has_else: bool,
+}
+
+/// The variable from outside of the `if` at a place that one branch assigns on each way, or on some way, and the other does not: the first
+/// such place.
 pub fn partly_assigned<A: Allocator>(
     alloc: Global,
     text: &[u8],
     script: &Script<A>,
     at: Span,
-) -> Result<Option<Mention>, AllocError> {
+) -> Result<Option<Partly>, AllocError> {
     let search = Search { alloc, text, at };
     let mut found = None;
     for item in &script.items {
@@ -41,7 +52,7 @@ pub fn partly_assigned<A: Allocator>(
 fn in_statement<A: Allocator>(
     search: &Search,
     stmt: &Stmt<A>,
-    found: &mut Option<Mention>,
+    found: &mut Option<Partly>,
 ) -> Result<(), AllocError> {
     in_command(search, stmt.first == search.at, &stmt.kind, found)
 }
@@ -52,7 +63,7 @@ fn in_command<A: Allocator>(
     search: &Search,
     is_it: bool,
     kind: &StmtKind<A>,
-    found: &mut Option<Mention>,
+    found: &mut Option<Partly>,
 ) -> Result<(), AllocError> {
     match kind {
         StmtKind::If(_, then, other) => {
@@ -75,7 +86,7 @@ fn in_command<A: Allocator>(
 fn in_block<A: Allocator>(
     search: &Search,
     block: &Block<A>,
-    found: &mut Option<Mention>,
+    found: &mut Option<Partly>,
 ) -> Result<(), AllocError> {
     in_each(search, &block.statements, found)
 }
@@ -85,7 +96,7 @@ fn in_block<A: Allocator>(
 fn in_each<A: Allocator>(
     search: &Search,
     statements: &Vec<Stmt<A>, A>,
-    found: &mut Option<Mention>,
+    found: &mut Option<Partly>,
 ) -> Result<(), AllocError> {
     for stmt in statements {
         in_statement(search, stmt, found)?;
@@ -98,13 +109,28 @@ fn differing<A: Allocator>(
     search: &Search,
     then: &Block<A>,
     other: &Option<Box<Block<A>, A>>,
-) -> Result<Option<Mention>, AllocError> {
+) -> Result<Option<Partly>, AllocError> {
     let mut mentions = Vec::new(search.alloc);
     block_mentions(then, &mut mentions)?;
     if let Some(other) = other {
         block_mentions(other, &mut mentions)?;
     }
-    Ok(first_differing(search.text, mentions.as_slice(), then, other))
+    match first_differing(search.text, mentions.as_slice(), then, other) {
+        None => Ok(None),
+        Some(mention) => {
+            let outer = Branches {
+                at: search.at,
+                then,
+                other,
+            };
+            let inner = innermost_partial(bytes_at(search.text, mention.at), outer);
+            Ok(Some(Partly {
+                mention,
+                inner: inner.at,
+                has_else: inner.other.is_some(),
+            }))
+        }
+    }
 }
 
 fn first_differing<A: Allocator>(

@@ -1,19 +1,19 @@
 //! A refusal, as a person reads it.
-ghost use Rattle.std.specs.Prelude.{◌≡◌, ◌++◌, Some, IfOk, OnOk, MatchOption};
+ghost use Rattle.std.specs.Prelude.{◌≡◌, Some, IfOk, MatchOption};
 ghost use Rattle.lexer.specs.declared.token.Span.{Span};
 ghost use Rattle.syntax.specs.Refusals as parsing;
 ghost use Rattle.types.specs.Faults as type_faults;
 ghost use Rattle.assign_check.specs.Places as assign_places;
-ghost use Rattle.explain_refusals.specs.Verdicts.{BeginsAt, Explains, IsScript, place_text};
+ghost use Rattle.explain_refusals.specs.Verdicts.{BeginsAt, Explains, IsScript};
 
 use crate::assignments_told::told_of_assignments;
-use crate::position::{Position, position_of};
-use crate::quote::add_quote;
 use crate::texts::told_of_text;
-use crate::told::{Note, Refused, Told};
+use crate::told::{Hint, Note, Refused, Told};
 use crate::types_told::told_of_types;
 use assign_check::fault::AssignFault;
-use itoa::Buffer;
+use explain_text::position::position_of;
+use explain_text::quote::add_quote;
+use explain_text::words::add_place;
 use lexer::token::Span;
 use std::alloc::{AllocError, Allocator, Global};
 use syntax::error::ParseFault;
@@ -150,21 +150,24 @@ fn behind_place(
     if let Some(note) = told.note {
         add_note(&mut out, file, text, note)?;
     }
+    if let Some(hint) = &told.hint {
+        add_hint(&mut out, file, text, hint)?;
+    }
     Ok(out)
 }
 
-/// Adds `FILE:LINE:COLUMN`.
-fn add_place(out: &mut Vec<u8>, file: &str, position: Position) -> Result<(), AllocError>
-    ensures { OnOk result (out.new.items ≡ out.old.items ++ place_text file.now position) }
-{
-    let mut buffer = Buffer::new();
-    out.extend_from_slice(file.as_bytes())?;
-    out.push(b':')?;
-    out.extend_from_slice(buffer.format(position.line).as_bytes())?;
-    out.push(b':')?;
-    let mut buffer = Buffer::new();
-    out.extend_from_slice(buffer.format(position.column).as_bytes())?;
-    Ok(())
+/// Adds the line of a hint, and the line of the source that it speaks of where it speaks of one.
+fn add_hint(out: &mut Vec<u8>, file: &str, text: &[u8], hint: &Hint) -> Result<(), AllocError> {
+    out.extend_from_slice(b"hint: ")?;
+    out.extend_from_slice(hint.words.as_slice())?;
+    let Some(at) = hint.at else {
+        out.push(b'\n')?;
+        return Ok(());
+    };
+    out.extend_from_slice(b" at ")?;
+    add_place(out, file, position_of(text, at.from.min(text.len())))?;
+    out.push(b'\n')?;
+    add_quote(out, text, at)
 }
 
 /// Adds the line of another place.

@@ -1,5 +1,6 @@
 //! What type an expression has, and what is wanted of it where it stands.
 
+use crate::calls::looped_array;
 use crate::lookup::{Wanted, bytes_at, function_named, last_before};
 use crate::mention::{Mention, Sort};
 use lexer::token::Span;
@@ -13,7 +14,22 @@ use syntax_trees::tree::{
 #[derive(Clone, Copy, Debug, PartialEq, Eq, Drop)]
 pub struct Mismatch {
     pub found: Sort,
-    pub wanted: Sort,
+    pub wanted: Wish,
+}
+
+/// What is wanted of an expression.
+#[derive(Clone, Copy, Debug, PartialEq, Eq, Drop)]
+pub enum Wish {
+    /// A type.
+    Sort(Sort),
+    /// An array that has elements.
+    Element,
+    /// An array that a loop goes over.
+    Loop,
+    /// An array whose elements are counted.
+    Size,
+    /// A scalar that is compared.
+    Compared,
 }
 
 /// Where a mismatch is looked for: at an offset of a script, with what is declared round it.
@@ -61,7 +77,11 @@ fn in_command<A: Allocator>(search: &Search<A>, kind: &StmtKind<A>, found: &mut 
             in_right(search, right, sort_of_name(search, name), found);
         }
         StmtKind::Write(name, index, value) => in_write(search, name, index, value, found),
-        StmtKind::AssignAll(_, call) | StmtKind::Call(_, call) => in_call(search, call, found),
+        StmtKind::AssignAll(targets, call) => {
+            in_call(search, call, found);
+            in_targets(search, targets, call, found);
+        }
+        StmtKind::Call(_, call) => in_call(search, call, found),
         StmtKind::If(test, then, other) => {
             demand(search, test, one(Base::Boolean), found);
             in_block(search, then, found);
@@ -117,6 +137,7 @@ fn in_write<A: Allocator>(
     value: &Expr<A>,
     found: &mut Option<Mismatch>,
 ) {
+    want_array(search, name, Wish::Element, found);
     demand(search, index, one(Base::Int), found);
     if let Some(array) = sort_of_name(search, name) {
         demand(search, value, one(array.base), found);
@@ -136,6 +157,66 @@ fn in_right<A: Allocator>(
             for element in &list.elements {
                 demand(search, element, one(wanted.base), found);
             }
+            if wanted.shape == Shape::Scalar && list.first == search.at {
+                let array = Sort {
+                    base: wanted.base,
+                    shape: Shape::Array,
+                };
+                note(found, array, Wish::Sort(wanted));
+            }
+        }
+    }
+}
+
+/// Takes down a mismatch, where it is the first.
+fn note(found: &mut Option<Mismatch>, sort: Sort, wanted: Wish) {
+    if found.is_none() {
+        *found = Some(Mismatch {
+            found: sort,
+            wanted,
+        });
+    }
+}
+
+/// Takes down that a variable is no array, where it stands at the place.
+fn want_array<A: Allocator>(
+    search: &Search<A>,
+    name: &Name<A>,
+    wish: Wish,
+    found: &mut Option<Mismatch>,
+) {
+    if name.span != search.at {
+        return;
+    }
+    if let Some(sort) = sort_of_name(search, name) {
+        if sort.shape == Shape::Scalar {
+            note(found, sort, wish);
+        }
+    }
+}
+
+/// Takes down that an output of a call has another type than its target, where the call stands at the place.
+fn in_targets<A: Allocator>(
+    search: &Search<A>,
+    targets: &Vec<Name<A>, A>,
+    call: &Call<A>,
+    found: &mut Option<Mismatch>,
+) {
+    if call.name.span != search.at {
+        return;
+    }
+    let Some(function) = function_named(call.name.text.as_slice(), search.script) else {
+        return;
+    };
+    for (output, target) in function.outputs.iter().zip(targets.iter()) {
+        let given = Sort {
+            base: output.base,
+            shape: output.shape,
+        };
+        if let Some(wanted) = sort_of_name(search, target) {
+            if wanted != given {
+                note(found, given, Wish::Sort(wanted));
+            }
         }
     }
 }
@@ -145,8 +226,9 @@ fn in_call<A: Allocator>(search: &Search<A>, call: &Call<A>, found: &mut Option<
 }
 
 fn in_source<A: Allocator>(search: &Search<A>, source: &Source<A>, found: &mut Option<Mismatch>) {
-    if let Source::Range(range) = source {
-        in_range(search, range, found);
+    match source {
+        Source::Range(range) => in_range(search, range, found),
+        Source::Array(name) => want_array(search, name, Wish::Loop, found),
     }
 }
 
@@ -177,15 +259,12 @@ fn judge<A: Allocator>(
     wanted: Sort,
     found: &mut Option<Mismatch>,
 ) {
-    if found.is_some() || value.first != search.at {
+    if value.first != search.at {
         return;
     }
     if let Some(sort) = sort_of(search, value) {
         if sort != wanted {
-            *found = Some(Mismatch {
-                found: sort,
-                wanted,
-            });
+            note(found, sort, Wish::Sort(wanted));
         }
     }
 }
@@ -203,7 +282,10 @@ fn base_of(prefix: Prefix) -> Base {
 fn in_form<A: Allocator>(search: &Search<A>, kind: &ExprKind<A>, found: &mut Option<Mismatch>) {
     match kind {
         ExprKind::Number(_) | ExprKind::Text(_) | ExprKind::Truth(_) | ExprKind::Variable(_) => {}
-        ExprKind::Element(_, index) => demand(search, index, one(Base::Int), found),
+        ExprKind::Element(name, index) => {
+            want_array(search, name, Wish::Element, found);
+            demand(search, index, one(Base::Int), found);
+        }
         ExprKind::Call(name, arguments) => in_arguments(search, name, arguments, found),
         ExprKind::Prefixed(prefix, operand) => {
             demand(search, operand, one(base_of(*prefix)), found);
@@ -225,8 +307,33 @@ fn in_chain<A: Allocator>(
         None => None,
     };
     let wanted = wanted_by(operators.as_slice(), first);
+    judge_compared(search, operators.as_slice(), operands.as_slice(), found);
     for operand in operands {
         demand(search, operand, wanted, found);
+    }
+}
+
+/// Takes down that an array is compared, where it stands at the place.
+fn judge_compared<A: Allocator>(
+    search: &Search<A>,
+    operators: &[Operator],
+    operands: &[Expr<A>],
+    found: &mut Option<Mismatch>,
+) {
+    if !matches!(
+        operators.first(),
+        Some(Operator::Equal | Operator::NotEqual)
+    ) {
+        return;
+    }
+    for operand in operands {
+        if operand.first == search.at {
+            if let Some(sort) = sort_of(search, operand) {
+                if sort.shape == Shape::Array {
+                    note(found, sort, Wish::Compared);
+                }
+            }
+        }
     }
 }
 
@@ -258,7 +365,7 @@ fn in_arguments<A: Allocator>(
     for argument in arguments {
         match wanted_at(search, name, arguments.as_slice(), place) {
             Some(wanted) => demand(search, argument, wanted, found),
-            None => in_argument(search, argument, found),
+            None => in_argument(search, name, argument, found),
         }
         place = place.saturating_add(1);
     }
@@ -266,8 +373,28 @@ fn in_arguments<A: Allocator>(
 
 /// Looks in an argument of which no one type is wanted.
 #[cycle(expr)]
-fn in_argument<A: Allocator>(search: &Search<A>, value: &Expr<A>, found: &mut Option<Mismatch>) {
+fn in_argument<A: Allocator>(
+    search: &Search<A>,
+    name: &Name<A>,
+    value: &Expr<A>,
+    found: &mut Option<Mismatch>,
+) {
     in_form(search, &value.kind, found);
+    if name.text.as_slice() == b"size".as_slice() {
+        judge_counted(search, value, found);
+    }
+}
+
+/// Takes down that what is counted is no array, where it stands at the place.
+fn judge_counted<A: Allocator>(search: &Search<A>, value: &Expr<A>, found: &mut Option<Mismatch>) {
+    if value.first != search.at {
+        return;
+    }
+    if let Some(sort) = sort_of(search, value) {
+        if sort.shape == Shape::Scalar {
+            note(found, sort, Wish::Size);
+        }
+    }
 }
 
 /// What a function wants as its argument of a place.
@@ -326,16 +453,28 @@ fn converted(format: &[u8], place: usize) -> Option<Sort> {
     None
 }
 
-/// The type of a variable, where it stands at its declaration.
+/// The type of a variable: the one that stands at its declaration, or that of the elements of the array that its loop goes over.
 fn sort_of_name<A: Allocator>(search: &Search<A>, name: &Name<A>) -> Option<Sort> {
-    let declared = last_before(
+    let declared = declaration_of(search, bytes_at(search.text, name.span), name.span.from)?;
+    match declared.sort {
+        Some(sort) => Some(sort),
+        None => {
+            let array = looped_array(search.text, declared.at.to)?;
+            let source = declaration_of(search, array, declared.at.from)?;
+            Some(one(source.sort?.base))
+        }
+    }
+}
+
+/// The last declaration of a name before an offset.
+fn declaration_of<A: Allocator>(search: &Search<A>, name: &[u8], before: usize) -> Option<Mention> {
+    last_before(
         search.text,
         search.mentions,
         Wanted::Declaration,
-        bytes_at(search.text, name.span),
-        name.span.from,
-    )?;
-    declared.sort
+        name,
+        before,
+    )
 }
 
 /// The type of an expression, where its form tells it.

@@ -1,7 +1,10 @@
 //! Texts that are no scripts, explained.
 
 use crate::lookup::bytes_at;
-use crate::told::Told;
+use crate::told::{Hint, Told};
+use explain_hints::characters::on_byte;
+use explain_hints::literals::{on_escape, on_number, on_string};
+use explain_hints::unexpected::on_unexpected;
 use itoa::Buffer;
 use lexer::fault::LexFault;
 use lexer::token::Span;
@@ -10,6 +13,40 @@ use syntax::error::ParseFault;
 
 /// What is said of a text that is no script.
 pub fn told_of_text(alloc: Global, text: &[u8], fault: ParseFault) -> Result<Told, AllocError> {
+    let hint = hint_of_text(alloc, text, fault)?;
+    Ok(sentence_of_text(alloc, text, fault)?.with(hint))
+}
+
+/// What to write instead of a text that is no script.
+fn hint_of_text(alloc: Global, text: &[u8], fault: ParseFault) -> Result<Option<Hint>, AllocError> {
+    match fault {
+        ParseFault::Lex(fault) => hint_of_token(alloc, text, fault),
+        ParseFault::Unexpected(at) => Hint::of(alloc, on_unexpected(alloc, text, at.from)?),
+        ParseFault::TooNested(_) => {
+            Hint::plain(
+                alloc,
+                "give inner parts names of their own, or write them as functions",
+            )
+        }
+        ParseFault::TooLong(_) | ParseFault::Memory => Ok(None),
+    }
+}
+
+fn hint_of_token(alloc: Global, text: &[u8], fault: LexFault) -> Result<Option<Hint>, AllocError> {
+    match fault {
+        LexFault::BadByte(at) => match on_byte(alloc, text, at.from)? {
+            None => Ok(None),
+            Some(words) => Ok(Some(Hint { words, at: None })),
+        },
+        LexFault::BadNumber(at) => Hint::plain(alloc, on_number(text, bytes_at(text, at), at.from)),
+        LexFault::OpenString(_) => Hint::plain(alloc, on_string()),
+        LexFault::OpenComment(_) => Ok(None),
+        LexFault::BadEscape(at) => Hint::plain(alloc, on_escape(bytes_at(text, at))),
+    }
+}
+
+/// What is wrong with a text that is no script.
+fn sentence_of_text(alloc: Global, text: &[u8], fault: ParseFault) -> Result<Told, AllocError> {
     match fault {
         ParseFault::Lex(fault) => told_of_token(alloc, text, fault),
         ParseFault::Unexpected(at) => told_of_unexpected(alloc, text, at),

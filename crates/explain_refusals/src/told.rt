@@ -1,5 +1,6 @@
 //! What is said of a refusal.
 
+use explain_hints::advice::Advice;
 use lexer::token::Span;
 use std::alloc::{AllocError, Allocator, Global};
 use syntax_trees::tree::Script;
@@ -20,11 +21,53 @@ pub struct Note {
     pub at: Span,
 }
 
-/// What is said of a refusal: what is wrong, and another place where there is one.
+/// What to write instead, and the place that this speaks of where it is another one than that of the refusal.
+#[derive(Debug, Drop)]
+pub struct Hint {
+    pub words: Vec<u8>,
+    pub at: Option<Span>,
+}
+
+impl Hint {
+    /// A hint of these words, without another place.
+    pub fn plain(alloc: Global, words: &str) -> Result<Option<Hint>, AllocError> {
+        Hint::named(alloc, words, b"", "")
+    }
+
+    /// A hint with a name between two parts of its words.
+    pub fn named(
+        alloc: Global,
+        before: &str,
+        name: &[u8],
+        behind: &str,
+    ) -> Result<Option<Hint>, AllocError> {
+        let mut words = Vec::from_slice(alloc, before.as_bytes())?;
+        words.extend_from_slice(name)?;
+        words.extend_from_slice(behind.as_bytes())?;
+        Ok(Some(Hint { words, at: None }))
+    }
+
+    /// The hint that a piece of advice is, where there is one.
+    pub fn of(alloc: Global, advice: Option<Advice>) -> Result<Option<Hint>, AllocError> {
+        match advice {
+            None => Ok(None),
+            Some(advice) => {
+                let words = Vec::from_slice(alloc, advice.words.as_bytes())?;
+                Ok(Some(Hint {
+                    words,
+                    at: advice.at,
+                }))
+            }
+        }
+    }
+}
+
+/// What is said of a refusal: what is wrong, another place where there is one, and what to write instead where that is known.
 #[derive(Debug, Drop)]
 pub struct Told {
     pub sentence: Vec<u8>,
     pub note: Option<Note>,
+    pub hint: Option<Hint>,
 }
 
 impl Told {
@@ -33,7 +76,22 @@ impl Told {
         Ok(Told {
             sentence: Vec::from_slice(alloc, words.as_bytes())?,
             note: None,
+            hint: None,
         })
+    }
+
+    /// The same with a hint.
+    pub fn with(self, hint: Option<Hint>) -> Told {
+        let Told {
+            sentence,
+            note,
+            hint: _,
+        } = self;
+        Told {
+            sentence,
+            note,
+            hint,
+        }
     }
 
     /// A sentence of a name and these words behind it.
@@ -46,7 +104,11 @@ impl Told {
         let mut sentence = Vec::from_slice(alloc, name)?;
         sentence.push(b' ')?;
         sentence.extend_from_slice(words.as_bytes())?;
-        Ok(Told { sentence, note })
+        Ok(Told {
+            sentence,
+            note,
+            hint: None,
+        })
     }
 }
 

@@ -1,11 +1,12 @@
 //! Scripts that are not well typed, explained.
 
+use crate::counts_told::{add_count, hint_of_built_in, hint_of_count};
 use crate::lookup::{Wanted, bytes_at, function_named, place_before};
 use crate::mention::Sort;
 use crate::mentions::{function_around, mentions_around};
-use crate::sorts::{Search, first_mismatch};
-use crate::told::{Note, Refused, Told, note_of};
-use itoa::Buffer;
+use crate::names_told::{told_of_no_function, told_of_unknown};
+use crate::sorts::{Mismatch, Search, Wish, first_mismatch};
+use crate::told::{Hint, Note, Refused, Told, note_of};
 use lexer::token::Span;
 use std::alloc::{AllocError, Allocator};
 use syntax_trees::tree::{Base, Function, Shape};
@@ -20,35 +21,15 @@ pub fn told_of_types<A: Allocator>(
         TypeFault::Unknown(at) => told_of_unknown(refused, at),
         TypeFault::Declared(at) => told_of_declared(refused, at),
         TypeFault::Mismatch(at) => told_of_mismatch(refused, at),
-        TypeFault::WrongCount(at) => told_of_count(refused, bytes_at(refused.text, at)),
-        TypeFault::BadFormat(_) => {
-            Told::plain(
-                refused.alloc,
-                "printf wants a string first in which each % begins %i, %d, %s or %%",
-            )
+        TypeFault::WrongCount(at) => told_of_count(refused, at),
+        TypeFault::BadFormat(at) => {
+            let words = "printf wants a string first in which each % begins %i, %d, %s or %%";
+            let hint = Hint::plain(refused.alloc, hint_of_format(bytes_at(refused.text, at)))?;
+            Ok(Told::plain(refused.alloc, words)?.with(hint))
         }
-        TypeFault::NotAFunction(at) => {
-            Told::of(
-                refused.alloc,
-                bytes_at(refused.text, at),
-                "is no function",
-                None,
-            )
-        }
+        TypeFault::NotAFunction(at) => told_of_no_function(refused, at),
         TypeFault::Memory => Told::plain(refused.alloc, "no memory"),
     }
-}
-
-fn told_of_unknown<A: Allocator>(refused: &Refused<'_, A>, at: Span) -> Result<Told, AllocError> {
-    let name = bytes_at(refused.text, at);
-    let other = place_before(refused, at, Wanted::Declaration, refused.text.len())?;
-    let note = note_of("another block or a later line declares it at", other);
-    Told::of(
-        refused.alloc,
-        name,
-        "is no variable that is visible here",
-        note,
-    )
 }
 
 fn told_of_declared<A: Allocator>(refused: &Refused<'_, A>, at: Span) -> Result<Told, AllocError> {
@@ -77,10 +58,64 @@ fn told_of_mismatch<A: Allocator>(refused: &Refused<'_, A>, at: Span) -> Result<
         Some(mismatch) => {
             let mut told = Told::plain(refused.alloc, "this is ")?;
             add_sort(&mut told.sentence, mismatch.found)?;
-            told.sentence.extend_from_slice(b", and wanted is ")?;
-            add_sort(&mut told.sentence, mismatch.wanted)?;
-            Ok(told)
+            add_wish(&mut told.sentence, mismatch.wanted)?;
+            let hint = Hint::plain(refused.alloc, hint_of_mismatch(mismatch))?;
+            Ok(told.with(hint))
         }
+    }
+}
+
+/// Adds what is wanted, in words.
+fn add_wish(out: &mut Vec<u8>, wanted: Wish) -> Result<(), AllocError> {
+    out.extend_from_slice(b", and ")?;
+    match wanted {
+        Wish::Sort(sort) => {
+            out.extend_from_slice(b"wanted is ")?;
+            add_sort(out, sort)
+        }
+        Wish::Element | Wish::Size => out.extend_from_slice(b"wanted is an array"),
+        Wish::Loop => out.extend_from_slice(b"wanted is an array or a range"),
+        Wish::Compared => out.extend_from_slice(b"arrays can not be compared"),
+    }
+}
+
+/// What to write instead of an expression of another type.
+fn hint_of_mismatch(mismatch: Mismatch) -> &'static str {
+    match mismatch.wanted {
+        Wish::Element => "an array alone has elements: int A[]; A[0] = 1;",
+        Wish::Loop => "foreach goes over a range, as [1:n], or over an array by its name",
+        Wish::Size => "size counts the elements of an array; a string has no length",
+        Wish::Compared => "compare their elements, one by one: A[i] == B[i]",
+        Wish::Sort(wanted) => hint_of_sorts(mismatch.found, wanted),
+    }
+}
+
+/// What to write instead of an expression of one type where another one is wanted.
+fn hint_of_sorts(found: Sort, wanted: Sort) -> &'static str {
+    match (found.shape, wanted.shape) {
+        (Shape::Array, Shape::Scalar) => {
+            "an element of an array is A[i], and size(A) is how many there are"
+        }
+        (Shape::Scalar, Shape::Array) => {
+            "an array is written whole, int A[] = [1, 2];, or by its elements, A[0] = 1;"
+        }
+        (Shape::Array, Shape::Array) => {
+            "make each element anew in a loop: foreach v, i in A { B[i] = fromint(v); }"
+        }
+        (Shape::Scalar, Shape::Scalar) => hint_of_bases(found.base, wanted.base),
+    }
+}
+
+fn hint_of_bases(found: Base, wanted: Base) -> &'static str {
+    match (found, wanted) {
+        (Base::Int, Base::Text) => "a number becomes a string by fromint(n)",
+        (Base::Text, Base::Int) => {
+            "a string becomes a number by toint(s), and a number a string by fromint(n); strings are compared by == and != alone"
+        }
+        (Base::Boolean, _) => {
+            "a boolean becomes another value by an if: string s; if (b) { s = \"yes\"; } else { s = \"no\"; }"
+        }
+        _ => "a boolean is a comparison: n != 0, s == \"yes\"",
     }
 }
 
@@ -125,29 +160,23 @@ fn defined_at<A: Allocator>(function: &Function<A>) -> Note {
 }
 
 /// What is said of a call with a wrong number of arguments or outputs.
-fn told_of_count<A: Allocator>(refused: &Refused<'_, A>, name: &[u8]) -> Result<Told, AllocError> {
+fn told_of_count<A: Allocator>(refused: &Refused<'_, A>, at: Span) -> Result<Told, AllocError> {
+    let name = bytes_at(refused.text, at);
     match function_named(name, refused.script) {
         Some(function) => {
+            let hint = hint_of_count(refused, function, at)?;
             let note = Some(defined_at(function));
             let mut told = Told::of(refused.alloc, name, "takes ", note)?;
             add_count(&mut told.sentence, function.inputs.len(), " argument")?;
             told.sentence.extend_from_slice(b" and gives ")?;
             add_count(&mut told.sentence, function.outputs.len(), " value")?;
-            Ok(told)
+            Ok(told.with(hint))
         }
-        None => Told::of(refused.alloc, name, built_in_counts(name), None),
+        None => {
+            let hint = hint_of_built_in(refused, name, at)?;
+            Ok(Told::of(refused.alloc, name, built_in_counts(name), None)?.with(hint))
+        }
     }
-}
-
-/// Adds a number with what is counted, in the plural where it is not 1.
-fn add_count(out: &mut Vec<u8>, count: usize, what: &str) -> Result<(), AllocError> {
-    let mut buffer = Buffer::new();
-    out.extend_from_slice(buffer.format(count).as_bytes())?;
-    out.extend_from_slice(what.as_bytes())?;
-    if count != 1 {
-        out.push(b's')?;
-    }
-    Ok(())
 }
 
 /// How a built-in function is called.
@@ -161,4 +190,34 @@ fn built_in_counts(name: &[u8]) -> &'static str {
     } else {
         "takes one argument, and gives one value"
     }
+}
+
+/// What to write instead of a format that is none.
+fn hint_of_format(format: &[u8]) -> &'static str {
+    if !format.starts_with(b"\"") {
+        return "the format stands in the call: printf(\"%s\", s); or printf(\"%i\", n);";
+    }
+    match wrong_conversion(format) {
+        Some(b'f' | b'e' | b'g') => "there are whole numbers alone: %i",
+        Some(b'0'..=b'9' | b'-' | b'.' | b'l' | b'+') => {
+            "a conversion has no width: %i alone, or a function that puts blanks before"
+        }
+        _ => "a % that stands for itself is written %%",
+    }
+}
+
+/// What stands behind the first `%` that begins no conversion.
+fn wrong_conversion(format: &[u8]) -> Option<u8> {
+    let mut begun = false;
+    for byte in format {
+        if begun {
+            begun = false;
+            if !matches!(*byte, b'i' | b'd' | b's' | b'%') {
+                return Some(*byte);
+            }
+        } else {
+            begun = *byte == b'%';
+        }
+    }
+    None
 }

@@ -1,0 +1,21 @@
+use Rattle.std.proofs.Common.{map}
+use Rattle.flow.specs.Shapes.{kinds_of_function}
+use Rattle.flow.specs.View.{outer_view}
+use Rattle.emit_statements.specs.Doing.{action_of}
+use Rattle.emit.specs.Emits.{roots_of}
+use Rattle.emit.proofs.Emitting.{ok-both, simple-emits}
+use Rattle.emit.proofs.emitter.Emitter.own.Goals as goal
+
+pub returns : goal.returns
+returns g c =
+    let A = g.row.A.Denot in
+    let functions = c.args.functions.now.items in
+    let one = c.args.statement in
+    let s = one.standing in
+    let a = action_of c.args.done s.priority (outer_view {A = A} c.args.outer.now) in
+    let now = c.args.self.now in
+    ok-both c.own.result _ _ _
+    (λ into. λ few_are. λ priority.
+    simple-emits (map (kinds_of_function {A = A}) functions) (roots_of functions) s.inputs s.at one.node a now.entries.items c.own.new.entries.items now.bodies.items now.filling c.own.new.filling
+    (λ l room suits stands. few_are l room suits stands priority) (λ bodies room few. into (roots_of functions) bodies room few priority))
+    c.own.ensures.laid c.own.ensures.few

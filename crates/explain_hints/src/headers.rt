@@ -1,0 +1,188 @@
+//! Imports, and what stands before the block of a function, an `if`, a loop or a `wait`.
+
+use crate::advice::Advice;
+use crate::around::Around;
+use crate::kinds::{is_type, is_word};
+use lexer::token::TokenKind;
+
+/// Where a module is not there, or an import has another form.
+pub fn import(around: &Around<'_>) -> Option<Advice> {
+    if around.last.kind == TokenKind::Import {
+        return Advice::here(
+            "io, string and assert are the modules, and their functions are there without an import",
+        );
+    }
+    if around.first.kind == TokenKind::Import && around.found.kind == TokenKind::Comma {
+        return Advice::here("one module an import: import io; import string;");
+    }
+    if around.found.kind == TokenKind::Import && around.opener.kind == TokenKind::OpenCurly {
+        return Advice::of(
+            "an import stands outside of all blocks, and not in the one that opens",
+            around.opener.span,
+        );
+    }
+    None
+}
+
+/// Where the block of an `if`, an `else`, a `wait` or a loop is not there.
+pub fn block(around: &Around<'_>) -> Option<Advice> {
+    if around.found.kind == TokenKind::CloseRound {
+        return None;
+    }
+    if around.last.kind == TokenKind::Else {
+        return Advice::here("a { is missing: both branches are blocks, else { .. }");
+    }
+    if around.last.kind == TokenKind::CloseRound {
+        match around.closed.kind {
+            TokenKind::If => {
+                return Advice::here("a { is missing: a branch is a block, if (x > 0) { .. }");
+            }
+            TokenKind::Wait => return Advice::here("a { is missing: wait (x) { .. }"),
+            _ => {}
+        }
+    }
+    if around.first.kind == TokenKind::Foreach && is_source_end(around) {
+        return Advice::here(
+            "a { is missing: what a loop does is a block, foreach i in [0:9] { .. }",
+        );
+    }
+    None
+}
+
+/// Whether what a loop goes over has ended.
+fn is_source_end(around: &Around<'_>) -> bool {
+    around.last.kind == TokenKind::CloseSquare && around.opener.kind != TokenKind::OpenRound
+        || around.last.kind == TokenKind::Name
+            && around.before_last.kind == TokenKind::In
+            && (around.is_on_new_line || around.found.kind == TokenKind::Name)
+}
+
+/// Where what stands behind `if`, `wait` or `foreach` has another form.
+pub fn form(around: &Around<'_>) -> Option<Advice> {
+    match around.last.kind {
+        TokenKind::If => Advice::here("a condition stands in brackets: if (x > 0) { .. }"),
+        TokenKind::Wait => {
+            Advice::here("what is waited for stands in brackets: wait (x) { .. }")
+        }
+        TokenKind::Foreach => looped(around),
+        TokenKind::In => source(around),
+        _ => waited(around),
+    }
+}
+
+/// Where a loop's variable has another form.
+fn looped(around: &Around<'_>) -> Option<Advice> {
+    if around.found.kind == TokenKind::OpenRound {
+        Advice::here("a loop has no brackets round its head: foreach i in [0:9] { .. }")
+    } else if is_type(around.found.kind) {
+        Advice::here("a loop's variable has no type: foreach i in [0:9] { .. }")
+    } else {
+        Advice::here("write foreach i in [0:9] { .. }")
+    }
+}
+
+/// Where what a loop goes over has another form.
+fn source(around: &Around<'_>) -> Option<Advice> {
+    if is_type(around.first.kind) {
+        return word_as_name(around);
+    }
+    Advice::here("foreach goes over a range, as [0:9], or over an array by its name")
+}
+
+/// Where `wait` has something else than names in its brackets.
+fn waited(around: &Around<'_>) -> Option<Advice> {
+    if around.opener.kind == TokenKind::OpenRound && around.opener_before.kind == TokenKind::Wait {
+        return Advice::here("wait takes variables by their names: int x = A[0]; wait (x) { .. }");
+    }
+    if around.first.kind == TokenKind::Foreach
+        && around.second.span == around.last.span
+        && around.found.kind != TokenKind::In
+    {
+        return Advice::here("write foreach i in [0:9] { .. }");
+    }
+    None
+}
+
+/// Where a word of the language is taken for a name.
+pub fn word_as_name(around: &Around<'_>) -> Option<Advice> {
+    if is_type(around.last.kind) && is_word(around.found.kind) {
+        return Advice::here("this is a word of the language: take another name");
+    }
+    let is_behind_type = is_type(around.first.kind) && around.first.span != around.last.span;
+    if is_behind_type && is_word(around.last.kind) {
+        return Advice::of(
+            "take another name for the word of the language",
+            around.last.span,
+        );
+    }
+    None
+}
+
+/// Where the head of a function has another form.
+pub fn function(around: &Around<'_>) -> Option<Advice> {
+    let found = around.found.kind;
+    if found == TokenKind::OpenRound
+        && is_type(around.first.kind)
+        && around.second.span == around.last.span
+    {
+        return Advice::here(
+            "a function's outputs stand before it in brackets, and it assigns them: (int r) f(int n) { r = n; }",
+        );
+    }
+    if is_type(found)
+        && around.last.span == around.first.span
+        && around.outer.kind == TokenKind::OpenCurly
+    {
+        return Advice::of(
+            "a function stands outside of all blocks; a } may be missing for the {",
+            around.outer.span,
+        );
+    }
+    if around.first.kind == TokenKind::OpenRound {
+        return headed(around);
+    }
+    if is_called(around) {
+        return Advice::here("a function begins with its outputs: (int r) f(int n) { r = n; }");
+    }
+    None
+}
+
+/// Whether a statement begins as a call, and goes on as a function would.
+fn is_called(around: &Around<'_>) -> bool {
+    let in_brackets = is_type(around.found.kind)
+        && around.opener.kind == TokenKind::OpenRound
+        && around.opener_before.span == around.first.span;
+    let behind = around.found.kind == TokenKind::OpenCurly
+        && around.last.kind == TokenKind::CloseRound
+        && around.closed.span == around.first.span;
+    around.first.kind == TokenKind::Name && (in_brackets || behind)
+}
+
+/// Where something is wrong behind the outputs of a function, or in a list of targets.
+fn headed(around: &Around<'_>) -> Option<Advice> {
+    if is_type(around.second.kind) {
+        if around.found.kind == TokenKind::Semicolon || around.found.kind == TokenKind::Assign {
+            return Advice::here(
+                "a function has its block right behind its inputs: (int r) f(int n) { r = n; }",
+            );
+        }
+        if around.found.kind == TokenKind::Name && around.opener.kind == TokenKind::OpenRound {
+            return Advice::here(
+                "each output and input has its type: (int r, int s) f(int n, string t) { .. }",
+            );
+        }
+        return None;
+    }
+    if around.opener.span == around.first.span && around.found.kind == TokenKind::OpenSquare {
+        return Advice::here(
+            "outputs are taken by names alone: int x; int y; (x, y) = f(1); A[0] = x;",
+        );
+    }
+    if around.found.kind == TokenKind::Name
+        && around.last.kind == TokenKind::CloseRound
+        && !around.is_on_new_line
+    {
+        return Advice::here("each output has its type: (int r) f(int n) { r = n; }");
+    }
+    None
+}

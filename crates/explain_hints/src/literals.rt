@@ -1,0 +1,55 @@
+//! Numbers, strings and escapes that are none.
+
+/// The text of the least whole number, without its sign.
+const LEAST: &[u8] = b"9223372036854775808";
+
+/// What to write instead of the number that begins at an offset.
+pub fn on_number(text: &[u8], number: &[u8], at: usize) -> &'static str {
+    if number == LEAST && is_negative(text, at) {
+        return "the least whole number is written -9223372036854775807 - 1";
+    }
+    if has_others(number) {
+        return "a name begins with a letter or _, and a number has decimal digits alone, as 1000 for 1e3";
+    }
+    match number {
+        [b'0', ..] => "leave out the 0 in front",
+        _ => "9223372036854775807 is the largest whole number",
+    }
+}
+
+/// Whether a number has other bytes than digits.
+fn has_others(number: &[u8]) -> bool {
+    for byte in number {
+        if !byte.is_ascii_digit() {
+            return true;
+        }
+    }
+    false
+}
+
+/// Whether the last byte before an offset that is no space is a `-`.
+fn is_negative(text: &[u8], at: usize) -> bool {
+    let (before, _) = text.split_at(at.min(text.len()));
+    let mut last = b' ';
+    for byte in before {
+        if *byte != b' ' {
+            last = *byte;
+        }
+    }
+    last == b'-'
+}
+
+/// What to write instead of a string that its line leaves open.
+pub fn on_string() -> &'static str {
+    "a string ends on its line with a \": \\n in it ends a line, and strings are joined by +"
+}
+
+/// What to write instead of an escape.
+pub fn on_escape(escape: &[u8]) -> &'static str {
+    match escape {
+        [b'\\', b'%'] => "a % is written %% in a format",
+        [b'\\', b'\''] => "a ' stands for itself",
+        [b'\\', b'r'] => "an end of line is \\n alone",
+        _ => "a \\ itself is written \\\\",
+    }
+}

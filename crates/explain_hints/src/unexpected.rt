@@ -1,0 +1,41 @@
+//! Tokens that can not stand where they stand.
+
+use crate::advice::Advice;
+use crate::around::Around;
+use crate::{brackets, endings, headers, marks, missing, words};
+use std::alloc::{AllocError, Global};
+
+/// What to write instead of the token that begins at an offset of a text, or that is missing at its end.
+///
+/// # Errors
+///
+/// `AllocError` where memory that was asked for was refused.
+pub fn on_unexpected(alloc: Global, text: &[u8], at: usize) -> Result<Option<Advice>, AllocError> {
+    let around = Around::new(alloc, text, at)?;
+    match by_words(&around) {
+        Some(advice) => Ok(Some(advice)),
+        None => Ok(by_signs(&around)),
+    }
+}
+
+/// By words, and by what a statement begins as.
+fn by_words(around: &Around<'_>) -> Option<Advice> {
+    words::first_word(around)
+        .or(headers::import(around))
+        .or(words::other_operator(around))
+        .or(words::other_type(around))
+        .or(headers::word_as_name(around))
+        .or(headers::form(around))
+        .or(headers::block(around))
+        .or(headers::function(around))
+}
+
+/// By signs, and by what is missing.
+fn by_signs(around: &Around<'_>) -> Option<Advice> {
+    marks::sign(around)
+        .or(brackets::bracket(around))
+        .or(endings::ending(around))
+        .or(missing::bracket(around))
+        .or(missing::sign(around))
+        .or(endings::value(around))
+}

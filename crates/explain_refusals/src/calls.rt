@@ -1,0 +1,107 @@
+//! What stands round a place of a text that reads as a script, token by token.
+
+use explain_hints::around::Around;
+use lexer::lexer::Lexer;
+use lexer::token::{Token, TokenKind};
+use std::alloc::{AllocError, Global};
+
+/// Who takes the values of a call.
+#[derive(Clone, Copy, Debug, PartialEq, Eq)]
+pub enum Taker {
+    /// Nobody: the call is a statement.
+    Nobody,
+    /// An expression, or one variable.
+    One,
+    /// So many names in brackets.
+    Names(usize),
+}
+
+/// Who takes the values of the call whose name begins at an offset.
+pub fn taker_of(alloc: Global, text: &[u8], at: usize) -> Result<Taker, AllocError> {
+    let around = Around::new(alloc, text, at)?;
+    let is_first = around.first.span == around.found.span;
+    if is_first
+        || around.first.kind == TokenKind::At && around.opener.kind != TokenKind::OpenRound
+    {
+        return Ok(Taker::Nobody);
+    }
+    if around.first.kind == TokenKind::OpenRound && around.last.kind == TokenKind::Assign {
+        return Ok(Taker::Names(count_behind(text, around.first.span.from)));
+    }
+    Ok(Taker::One)
+}
+
+/// How many things stand in the brackets that open at an offset or behind it, with a `,` between them.
+pub fn count_behind(text: &[u8], at: usize) -> usize {
+    let mut lexer = Lexer::behind(text, at.min(text.len()));
+    let mut depth: usize = 0;
+    let mut commas: usize = 0;
+    let mut is_empty = true;
+    for _ in at..text.len() {
+        let Some(token) = next_token(&mut lexer) else {
+            break;
+        };
+        match token.kind {
+            TokenKind::OpenRound | TokenKind::OpenSquare => {
+                is_empty = is_empty && depth == 0;
+                depth = depth.saturating_add(1);
+            }
+            TokenKind::CloseRound | TokenKind::CloseSquare => {
+                depth = depth.saturating_sub(1);
+                if depth == 0 {
+                    break;
+                }
+            }
+            TokenKind::Comma if depth == 1 => commas = commas.saturating_add(1),
+            _ => is_empty = is_empty && depth == 0,
+        }
+    }
+    if is_empty {
+        0
+    } else {
+        commas.saturating_add(1)
+    }
+}
+
+/// The array that the loop goes over whose value's name ends at an offset.
+pub fn looped_array(text: &[u8], at: usize) -> Option<&[u8]> {
+    let mut lexer = Lexer::behind(text, at.min(text.len()));
+    let mut token = next_token(&mut lexer)?;
+    if token.kind == TokenKind::Comma {
+        let _key = next_token(&mut lexer)?;
+        token = next_token(&mut lexer)?;
+    }
+    if token.kind != TokenKind::In {
+        return None;
+    }
+    let array = next_token(&mut lexer)?;
+    if array.kind == TokenKind::Name {
+        Some(array.text)
+    } else {
+        None
+    }
+}
+
+/// Whether a name stands between an offset and the next `;`.
+pub fn is_read_behind(text: &[u8], at: usize, name: &[u8]) -> bool {
+    let mut lexer = Lexer::behind(text, at.min(text.len()));
+    for _ in at..text.len() {
+        match next_token(&mut lexer) {
+            Some(token) if token.kind != TokenKind::Semicolon => {
+                if token.text == name {
+                    return true;
+                }
+            }
+            _ => return false,
+        }
+    }
+    false
+}
+
+/// The next token, if there is one.
+fn next_token<'t>(lexer: &mut Lexer<'t>) -> Option<Token<'t>> {
+    match lexer.next() {
+        Some(Ok(token)) => Some(token),
+        _ => None,
+    }
+}

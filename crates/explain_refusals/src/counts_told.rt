@@ -1,0 +1,98 @@
+//! Calls with a wrong number of arguments or outputs, explained.
+
+use crate::calls::{Taker, count_behind, taker_of};
+use crate::told::{Hint, Refused};
+use explain_text::words::{say, say_count};
+use lexer::token::Span;
+use std::alloc::{AllocError, Allocator};
+use syntax_trees::tree::Function;
+
+/// Adds a number with what is counted, in the plural where it is not 1.
+pub fn add_count(out: &mut Vec<u8>, count: usize, what: &str) -> Result<(), AllocError> {
+    say_count(out, count)?;
+    say(out, what)?;
+    say(out, if count == 1 { "" } else { "s" })
+}
+
+/// Which count of a call is off, where the function is one of the script's.
+pub fn hint_of_count<A: Allocator>(
+    refused: &Refused<'_, A>,
+    function: &Function<A>,
+    at: Span,
+) -> Result<Option<Hint>, AllocError> {
+    let given = count_behind(refused.text, at.to);
+    if given != function.inputs.len() {
+        return hint_of_arguments(refused, given);
+    }
+    let gives = function.outputs.len();
+    let mut words = Vec::new(refused.alloc);
+    words.extend_from_slice(function.name.text.as_slice())?;
+    say(&mut words, " gives ")?;
+    add_count(&mut words, gives, " value")?;
+    match taker_of(refused.alloc, refused.text, at.from)? {
+        Taker::Nobody if gives == 1 => {
+            say(
+                &mut words,
+                ", and nothing takes it: assign it to a variable",
+            )?;
+        }
+        Taker::Nobody => {
+            say(
+                &mut words,
+                ", and nothing takes them: assign them, (x, y) = f(..);",
+            )?;
+        }
+        Taker::One if gives == 0 => {
+            say(&mut words, ": call it as a statement of its own, f(..);")?;
+        }
+        Taker::One => say(&mut words, ", and here one is taken: (x, y) = f(..);")?,
+        Taker::Names(names) => {
+            say(&mut words, ", and on the left ")?;
+            say(&mut words, if names == 1 { "stands " } else { "stand " })?;
+            add_count(&mut words, names, " name")?;
+        }
+    }
+    Ok(Some(Hint { words, at: None }))
+}
+
+/// That a call has so many arguments.
+pub fn hint_of_arguments<A: Allocator>(
+    refused: &Refused<'_, A>,
+    given: usize,
+) -> Result<Option<Hint>, AllocError> {
+    let mut words = Vec::from_slice(refused.alloc, b"it is called with ")?;
+    add_count(&mut words, given, " argument")?;
+    say(&mut words, " here")?;
+    Ok(Some(Hint { words, at: None }))
+}
+
+/// Which count of a call of a built-in function is off.
+pub fn hint_of_built_in<A: Allocator>(
+    refused: &Refused<'_, A>,
+    name: &[u8],
+    at: Span,
+) -> Result<Option<Hint>, AllocError> {
+    let given = count_behind(refused.text, at.to);
+    let is_statement = name == b"printf".as_slice() || name == b"assert".as_slice();
+    match taker_of(refused.alloc, refused.text, at.from)? {
+        Taker::Nobody if !is_statement && given > 0 => {
+            Hint::plain(
+                refused.alloc,
+                "nothing takes the value: assign it to a variable",
+            )
+        }
+        Taker::One if is_statement => {
+            Hint::plain(
+                refused.alloc,
+                "it gives no value: call it as a statement of its own",
+            )
+        }
+        Taker::Names(names) if names != 1 => {
+            Hint::plain(
+                refused.alloc,
+                "it gives one value, which one variable takes",
+            )
+        }
+        _ => hint_of_arguments(refused, given),
+    }
+}

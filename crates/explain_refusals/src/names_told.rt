@@ -1,0 +1,186 @@
+//! Names that nothing has, explained.
+
+use crate::lookup::{Wanted, bytes_at, kind_at, last_before, place_before};
+use crate::mention::{Kind, Mention};
+use crate::mentions::{function_around, mentions_around};
+use crate::told::{Hint, Note, Refused, Told, note_of};
+use explain_hints::functions::{on_function, on_variable};
+use explain_hints::nearest::{Near, nearer};
+use lexer::token::Span;
+use std::alloc::{AllocError, Allocator, Global};
+use syntax_trees::tree::Item;
+
+/// The functions that are there without a definition.
+static BUILT_IN: [&str; 6] = ["strcat", "fromint", "toint", "size", "printf", "assert"];
+
+/// What is said of a name that is no variable where it stands.
+pub fn told_of_unknown<A: Allocator>(
+    refused: &Refused<'_, A>,
+    at: Span,
+) -> Result<Told, AllocError> {
+    let name = bytes_at(refused.text, at);
+    let words = "is no variable that is visible here";
+    if let Some(outside) = outside_of_function(refused, at)? {
+        let note = Note {
+            words: "the script declares it at",
+            at: outside,
+        };
+        let hint = Hint::named(
+            refused.alloc,
+            "a function sees no variable of the script: ",
+            name,
+            " has to be an input of it",
+        )?;
+        return Ok(Told::of(refused.alloc, name, words, Some(note))?.with(hint));
+    }
+    let other = place_before(refused, at, Wanted::Declaration, refused.text.len())?;
+    let note = note_of("another block or a later line declares it at", other);
+    let hint = match other {
+        Some(other) if other.from > at.from => Hint::plain(
+            refused.alloc,
+            "a variable is visible from its declaration on: declare it before",
+        )?,
+        Some(_) => Hint::plain(
+            refused.alloc,
+            "a variable is visible to the end of the block that declares it: declare it before that block",
+        )?,
+        None => hint_of_unknown(refused, at, name)?,
+    };
+    Ok(Told::of(refused.alloc, name, words, note)?.with(hint))
+}
+
+/// Where the script declares the name that stands at a place in a function.
+fn outside_of_function<A: Allocator>(
+    refused: &Refused<'_, A>,
+    at: Span,
+) -> Result<Option<Span>, AllocError> {
+    if function_around(at.from, refused.script).is_none() {
+        return Ok(None);
+    }
+    let here = place_before(refused, at, Wanted::Declaration, refused.text.len())?;
+    if here.is_some() {
+        return Ok(None);
+    }
+    let mentions = mentions_around(refused.alloc, refused.text.len(), refused.script)?;
+    let name = bytes_at(refused.text, at);
+    let declared = last_before(
+        refused.text,
+        mentions.as_slice(),
+        Wanted::Declaration,
+        name,
+        refused.text.len(),
+    );
+    match declared {
+        None => Ok(None),
+        Some(mention) => Ok(Some(mention.at)),
+    }
+}
+
+/// What to write instead of a name that nothing declares: the nearest one, or a declaration where it is assigned.
+fn hint_of_unknown<A: Allocator>(
+    refused: &Refused<'_, A>,
+    at: Span,
+    name: &[u8],
+) -> Result<Option<Hint>, AllocError> {
+    let mentions = mentions_around(refused.alloc, at.from, refused.script)?;
+    let near = nearest_variable(refused.alloc, refused.text, mentions.as_slice(), at)?;
+    match (near, kind_at(mentions.as_slice(), at)) {
+        (Some(near), _) => Hint::named(refused.alloc, "did you mean ", near.name, "?"),
+        (None, Some(Kind::Written)) => {
+            Hint::named(refused.alloc, "declare it before: int ", name, "[];")
+        }
+        (None, Some(_)) => Hint::named(refused.alloc, "declare it: int ", name, " = ..;"),
+        (None, None) => hint_of_read(refused, name),
+    }
+}
+
+/// What to write instead of a name that is read and that nothing is near to.
+fn hint_of_read<A: Allocator>(
+    refused: &Refused<'_, A>,
+    name: &[u8],
+) -> Result<Option<Hint>, AllocError> {
+    if let Some(words) = on_variable(name) {
+        return Hint::plain(refused.alloc, words);
+    }
+    match nearest_function(refused, name)? {
+        Some(near) if near.distance == 0 => {
+            Hint::named(
+                refused.alloc,
+                "a function is called with brackets: ",
+                name,
+                "(..)",
+            )
+        }
+        _ => Hint::named(refused.alloc, "declare it before: int ", name, " = ..;"),
+    }
+}
+
+/// The nearest variable that is declared before a place.
+fn nearest_variable<'t>(
+    alloc: Global,
+    text: &'t [u8],
+    mentions: &[Mention],
+    at: Span,
+) -> Result<Option<Near<'t>>, AllocError> {
+    let mut near = None;
+    for mention in mentions {
+        if Wanted::Declaration.takes(mention.kind) && mention.at.to <= at.from {
+            near = nearer(alloc, bytes_at(text, at), near, bytes_at(text, mention.at))?;
+        }
+    }
+    Ok(near)
+}
+
+/// What is said of a called name that is no function.
+pub fn told_of_no_function<A: Allocator>(
+    refused: &Refused<'_, A>,
+    at: Span,
+) -> Result<Told, AllocError> {
+    let name = bytes_at(refused.text, at);
+    let hint = match on_function(name) {
+        Some(words) => Hint::plain(refused.alloc, words)?,
+        None => hint_of_function(refused, at, name)?,
+    };
+    Ok(Told::of(refused.alloc, name, "is no function", None)?.with(hint))
+}
+
+/// What to write instead of a function that is not there: the nearest one, or the list of those that are always there.
+fn hint_of_function<A: Allocator>(
+    refused: &Refused<'_, A>,
+    at: Span,
+    name: &[u8],
+) -> Result<Option<Hint>, AllocError> {
+    if place_before(refused, at, Wanted::Declaration, at.from)?.is_some() {
+        return Hint::named(
+            refused.alloc,
+            "it is a variable, and has no arguments: ",
+            name,
+            "",
+        );
+    }
+    match nearest_function(refused, name)? {
+        Some(near) => Hint::named(refused.alloc, "did you mean ", near.name, "?"),
+        None => Hint::plain(
+            refused.alloc,
+            "strcat, fromint, toint, size, printf and assert are there; other functions are written in the script: (int r) f(int n) { r = n + 1; }",
+        ),
+    }
+}
+
+/// The nearest function, of the script's and those that are always there.
+fn nearest_function<'a, A: Allocator>(
+    refused: &Refused<'a, A>,
+    name: &[u8],
+) -> Result<Option<Near<'a>>, AllocError> {
+    let mut near = None;
+    for item in &refused.script.items {
+        if let Item::Function(function) = item {
+            let other = bytes_at(refused.text, function.name.span);
+            near = nearer(refused.alloc, name, near, other)?;
+        }
+    }
+    for other in &BUILT_IN {
+        near = nearer(refused.alloc, name, near, other.as_bytes())?;
+    }
+    Ok(near)
+}

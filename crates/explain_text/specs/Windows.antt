@@ -1,0 +1,18 @@
+-- The part of a line that is shown.
+use Rattle.std.specs.Prelude.{◌≡◌, ◌≤◌, ◌+◌, ℕ, List, nat_lt}
+use Rattle.explain_text.specs.declared.quote.Window.{Window}
+use Rattle.explain_text.specs.Positions.{BeginsLine, EndsLine}
+
+-- a part of the offset's line, of 120 bytes at most, that has the offset; and whether the line begins before it and ends behind it
+pub record IsWindow (text : List ℕ) (at : ℕ) (w : Window) : Type 0 where
+  pub begin : ℕ
+  pub end : ℕ
+  pub begins : BeginsLine text at begin
+  pub ends : EndsLine text at end
+  pub from_in : begin ≤ w.from
+  pub from_before : w.from ≤ at
+  pub to_behind : at ≤ w.to
+  pub to_in : w.to ≤ end
+  pub short : w.to ≤ w.from + 120
+  pub before_is : w.cut_before ≡ nat_lt begin w.from
+  pub behind_is : w.cut_behind ≡ nat_lt w.to end

@@ -1,0 +1,1 @@
+foreach i in [1:64] { printf("%i", i); }

@@ -1,0 +1,1 @@
+foreach i in [1:65] { printf("%i", i); }

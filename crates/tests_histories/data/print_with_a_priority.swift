@@ -1,0 +1,1 @@
+printf("a"); @prio=5 printf("b");

@@ -1,0 +1,71 @@
+//! A run of one thread beside a stored one.
+
+use crate::sink::Kept;
+use board_program::program::Program;
+use board_runs::one::run_one;
+use board_runs::report::Report;
+use std::alloc::{AllocError, Global};
+use swt_trace::fault::TraceFault;
+use swt_trace::read::read_trace;
+use swt_trace::report::write_report;
+use task_code::event::Event;
+
+/// What stands between the trace and the report of a stored run.
+const BORDER: &str = "--\n";
+
+/// Where a run is not the stored one.
+#[derive(Clone, Copy, PartialEq, Eq, Debug, Drop)]
+pub enum Difference {
+    /// It has other events, or has them in another order.
+    Events,
+    /// The text of its report is another.
+    Report,
+    /// What is stored is no trace with a report behind it.
+    Unreadable,
+}
+
+/// Where the run by these choices, with so many events at most, is not the one that is stored in this text, if anywhere.
+///
+/// # Errors
+///
+/// `AllocError` where memory that was asked for was refused.
+pub fn compare(
+    alloc: Global,
+    program: &Program,
+    choices: &[u32],
+    limit: u32,
+    text: &str,
+) -> Result<Option<Difference>, AllocError> {
+    let Some((trace, wanted)) = text.split_once(BORDER) else {
+        return Ok(Some(Difference::Unreadable));
+    };
+    let Some(events) = events_of(alloc, trace)? else {
+        return Ok(Some(Difference::Unreadable));
+    };
+    let report = run_one(alloc, program, choices, limit)?;
+    if report.history.as_slice() != events.as_slice() {
+        return Ok(Some(Difference::Events));
+    }
+    if !is_told(alloc, &report, wanted.as_bytes())? {
+        return Ok(Some(Difference::Report));
+    }
+    Ok(None)
+}
+
+/// The events of a trace. None where it is none.
+fn events_of(alloc: Global, trace: &str) -> Result<Option<Vec<Event>>, AllocError> {
+    match read_trace(alloc, trace.as_bytes()) {
+        Ok(events) => Ok(Some(events)),
+        Err(TraceFault::BadLine(_)) => Ok(None),
+        Err(TraceFault::Memory) => Err(AllocError),
+    }
+}
+
+/// Whether this is the text of the report.
+fn is_told(alloc: Global, report: &Report, wanted: &[u8]) -> Result<bool, AllocError> {
+    let mut told = Kept::new(alloc);
+    match write_report(report, &mut told) {
+        Ok(()) => Ok(told.bytes.as_slice() == wanted),
+        Err(_) => Err(AllocError),
+    }
+}

@@ -1,0 +1,23 @@
+# Completion for bash: source this file. Written by `shell/words write`.
+_swt() {
+  local word="${COMP_WORDS[COMP_CWORD]}" before="${COMP_WORDS[COMP_CWORD - 1]}" command="" it words=""
+  for it in "${COMP_WORDS[@]:1:COMP_CWORD-1}"; do
+    [[ $it == --fresh || $it == --plain || $it == --unproved ]] || { command="$it"; break; }
+  done
+  case $command in
+    "") words="check mean code run replay help explain --version --fresh --plain --unproved" ;;
+    help) words="check mean code run replay" ;;
+    check) words="--explain" ;;
+    mean) words="--rounds --explain" ;;
+    code) words="--dot" ;;
+    run) words="--engines --workers --steps --trace --explain --progress" ;;
+    replay) words="--explain" ;;
+  esac
+  case $before in --rounds|--engines|--workers|--steps) return ;; --trace) words="" ;; esac
+  if [[ -z $command || $command == help || $word == -* ]]; then
+    mapfile -t COMPREPLY < <(compgen -W "$words" -- "$word")
+  else
+    mapfile -t COMPREPLY < <(compgen -f -- "$word")
+  fi
+}
+complete -o filenames -F _swt swt
