@@ -2,15 +2,20 @@
 use Rattle.std.specs.Prelude.{◌≡◌, ℕ, suc, ℤ, Bool, true, false, List, [], ◌∷◌, ◌++◌, length, map, Option, Some, None, slice_get, option_map, nat_eq, cond, take, drop}
 use Rattle.values.specs.declared.value.Scalar.{Scalar}
 use Rattle.indexmap.specs.IndexMap.{IndexMap, get}
-use Rattle.language.specs.Core.{Name, here, Expr, literal, name, whole, operator, Form, compute, read, Cell, Call, Part}
+use Rattle.language.specs.Core.{Name, here, Expr, literal, name, whole, operator, Form, compute, read, Cell, Call, Part, inner}
 use Rattle.language.specs.Members.{◌∈◌}
 use Rattle.language.specs.Parts.{part_cells}
+use Rattle.flow.specs.declared.cell.Outer.{Outer}
+use Rattle.flow.specs.declared.script.Function.{Function}
+use Rattle.flow.specs.Shapes.{kinds_of_function}
+use Rattle.flow.specs.View.{cell_view, parts_view}
 use Rattle.task_code.specs.Code as code
 use Rattle.task_code.specs.Code.{Argument, Named, Fixed, At, AtKey, Need, Code, Entry, is_array_name}
 use Rattle.task_code.specs.Compute.{key_of}
 use Rattle.task_code.specs.View.{argument_view, entry_view}
 use Rattle.task_code.specs.declared.entry.Argument.{Argument as Handed}
 use Rattle.task_code.specs.declared.entry.Entry.{Entry as Made}
+use Rattle.emit_cells.specs.declared.entries.Standing.{Standing}
 use Rattle.code_rules.specs.CodeNames.{name_as}
 use Rattle.code_rules.specs.IsCodeOf.{Layout, InputAs, PartsAs}
 use Rattle.code_rules.specs.Laying.{CallsFit, IndexesStand, Kinds, PlainAs, StandsAmong, counted, is_array_argument}
@@ -98,6 +103,13 @@ pub data OneByOne {X Y : Type 0} (R : ℕ → X → Y → Type 0) : ℕ → List
   no_pair : {i : ℕ} → OneByOne R i [] []
   one_pair : {i : ℕ} {x : X} {y : Y} {xs : List X} {ys : List Y} → R i x y → OneByOne R (suc i) xs ys → OneByOne R i (x ∷ xs) (y ∷ ys)
 
+-- inputs and outputs from a number on, in a script with these functions
+abbrev pub InputsPass : {A : Type 0} → List (Function A) → ℕ → List Part → ℕ → ℕ → List Name → List Argument → Type 0
+InputsPass functions k all f i xs handed = OneByOne (InputPasses (map kinds_of_function functions) k all f) i xs handed
+
+abbrev pub OutputsPass : {A : Type 0} → List (Function A) → ℕ → ℕ → ℕ → List Name → List code.Name → Type 0
+OutputsPass functions k f i xs given = OneByOne (OutputPasses (map kinds_of_function functions) k f) i xs given
+
 -- the act of a call's entry
 pub record Calls (fs : List Kinds) (k : ℕ) (all : List Part) (c : Call) (a : code.Act) : Type 0 where
   pub ins : List Argument
@@ -121,3 +133,15 @@ module _ (fs : List Kinds) (k : ℕ) (all : List Part) (at : ℕ) (p : ℤ) wher
     pub more : List Entry
     pub is : map entry_view new ≡ map entry_view old ++ more
     pub chunk : Chunk ps more
+
+-- in a script with these functions, for a statement that stands so
+abbrev pub AddedFor : {A : Type 0} → List (Function A) → Standing → List Part → List Part → List Made → List Made → Type 0
+AddedFor functions s all ps old new = Added (map kinds_of_function functions) s.inputs all s.at s.priority ps old new
+
+-- and for all of its parts
+abbrev pub AllAdded : {A : Type 0} → List (Function A) → Standing → List Part → List Made → List Made → Type 0
+AllAdded functions s ps old new = AddedFor functions s ps ps old new
+
+-- the cells and calls inside an outermost cell, and itself behind them
+abbrev pub parts_inside : {A : Type 0} → Outer A → List Part
+parts_inside o = parts_view o.parts.items ++ inner (cell_view o.cell) ∷ []

@@ -1,10 +1,9 @@
 //! The parts of a statement, laid in reading order.
-ghost use Rattle.std.specs.Prelude.{◌<◌, List, length, map, OnOk};
+ghost use Rattle.std.specs.Prelude.{◌<◌, List, length, OnOk};
 ghost use Rattle.language.specs.Core as core;
-ghost use Rattle.flow.specs.Shapes.{kinds_of_function};
 ghost use Rattle.flow.specs.View.{parts_view};
 ghost use Rattle.code_rules.specs.Room.{PartRoom, Each};
-ghost use Rattle.emit_cells.specs.Chunk.{Added, Inside, IsPassed, part_at};
+ghost use Rattle.emit_cells.specs.Chunk.{AddedFor, Inside, IsPassed, part_at};
 
 use crate::entries::Standing;
 use crate::parts::{add_call, add_cell};
@@ -26,8 +25,9 @@ fn add_part<A: Allocator>(
     at: usize,
 ) -> Result<(), AllocError>
     requires { at < length parts.now.items }
-    ensures { OnOk result ((all : List core.Part) → IsPassed standing.inputs all passed.now → Each (PartRoom standing.inputs) (parts_view parts.now.items) → Inside all (parts_view parts.now.items)
-        → Added (map kinds_of_function functions.now.items) standing.inputs all standing.at standing.priority (part_at (parts_view parts.now.items) at) entries.old.items entries.new.items) }
+    ensures { OnOk result ((all : List core.Part) → IsPassed standing.inputs all passed.now → Each (PartRoom standing.inputs) (parts_view parts.now.items)
+        → Inside all (parts_view parts.now.items)
+        → AddedFor functions.now.items standing all (part_at (parts_view parts.now.items) at) entries.old.items entries.new.items) }
 {
     match &parts[at] {
         Part::Calls(call) => add_call(alloc, entries, functions, standing, passed, call),
@@ -51,8 +51,9 @@ pub fn add_parts<A: Allocator>(
     passed: &IndexMap<u32, Argument>,
     parts: &Vec<Part<A>, A>,
 ) -> Result<(), AllocError>
-    ensures { OnOk result ((all : List core.Part) → IsPassed standing.inputs all passed.now → Each (PartRoom standing.inputs) (parts_view parts.now.items) → Inside all (parts_view parts.now.items)
-        → Added (map kinds_of_function functions.now.items) standing.inputs all standing.at standing.priority (parts_view parts.now.items) entries.old.items entries.new.items) }
+    ensures { OnOk result ((all : List core.Part) → IsPassed standing.inputs all passed.now → Each (PartRoom standing.inputs) (parts_view parts.now.items)
+        → Inside all (parts_view parts.now.items)
+        → AddedFor functions.now.items standing all (parts_view parts.now.items) entries.old.items entries.new.items) }
 {
     for at in 0..parts.len() {
         add_part(alloc, entries, functions, standing, passed, parts, at)?;
