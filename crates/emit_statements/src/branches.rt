@@ -2,11 +2,8 @@
 ghost use Rattle.std.specs.Prelude.{◌≡◌, ℕ, None, Some, length, pos, IfOk, OnOk};
 ghost use Rattle.language.specs.Core as core;
 ghost use Rattle.flow.specs.View.{outer_view};
-ghost use Rattle.task_code.specs.Code as pure;
-ghost use Rattle.code_rules.specs.CodeNames.{over};
-ghost use Rattle.code_rules.specs.IsCodeOf.{own_needs, seen};
 ghost use Rattle.code_rules.specs.Room.{OuterRoom};
-ghost use Rattle.emit_statements.specs.Blocks.{Numbered, OwnAddedAs};
+ghost use Rattle.emit_statements.specs.Blocks.{Numbered, OwnAddedAs, branch_act};
 
 use crate::entry::add_entry;
 use crate::filling::Filling;
@@ -30,13 +27,15 @@ pub fn add_branch<A: Allocator>(
     other: Option<u32>,
 ) -> Result<u32, AllocError>
     ensures number { IfOk result (λ n. Numbered n (length entries.old.items) filling.old filling.new) }
-    ensures one { OnOk result ((b : core.Block) → OuterRoom statement.standing.inputs (outer_view condition.now) → statement.standing.priority ≡ pos 0 → other ≡ None
+    ensures one { OnOk result ((b : core.Block) → OuterRoom statement.standing.inputs (outer_view condition.now) → statement.standing.priority ≡ pos 0
+        → other ≡ None
         → OwnAddedAs statement.standing.inputs statement.standing.at (core.when (outer_view condition.now) b)
-        (λ l. pure.If (over statement.standing.inputs (own_needs l statement.standing.inputs (core.when (outer_view condition.now) b)) (seen l (outer_view condition.now).cell)) then None)
+        (λ l. branch_act l statement.standing.inputs (core.when (outer_view condition.now) b) (outer_view condition.now) then None)
         entries.old.items entries.new.items) }
-    ensures two { OnOk result ((b d : core.Block) (m : ℕ) → OuterRoom statement.standing.inputs (outer_view condition.now) → statement.standing.priority ≡ pos 0 → other ≡ Some m
+    ensures two { OnOk result ((b d : core.Block) (m : ℕ) → OuterRoom statement.standing.inputs (outer_view condition.now)
+        → statement.standing.priority ≡ pos 0 → other ≡ Some m
         → OwnAddedAs statement.standing.inputs statement.standing.at (core.choose (outer_view condition.now) b d)
-        (λ l. pure.If (over statement.standing.inputs (own_needs l statement.standing.inputs (core.choose (outer_view condition.now) b d)) (seen l (outer_view condition.now).cell)) then (Some m))
+        (λ l. branch_act l statement.standing.inputs (core.choose (outer_view condition.now) b d) (outer_view condition.now) then (Some m))
         entries.old.items entries.new.items) }
 {
     let inputs = statement.standing.inputs;

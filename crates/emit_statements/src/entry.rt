@@ -28,7 +28,9 @@ pub fn add_entry(
 ) -> Result<u32, AllocError>
     ensures number { IfOk result (λ n. Numbered n (length entries.old.items) filling.old filling.new) }
     ensures entry { OnOk result ((ns : List Need) → Noted ns needs.now.keys
-        → map code_view.entry_view entries.new.items ≡ map code_view.entry_view entries.old.items ++ made statement.standing (record { node = statement.node; mark = statement.standing.at }) (each_once ns) (code_view.act_view act) ∷ []) }
+        → map code_view.entry_view entries.new.items
+        ≡ map code_view.entry_view entries.old.items
+        ++ made statement.standing (record { node = statement.node; mark = statement.standing.at }) (each_once ns) (code_view.act_view act) ∷ []) }
 {
     let number = small(entries.len());
     let shown = Shown {

@@ -1,5 +1,5 @@
 //! Waits, merged where nothing stands beside one inside another.
-ghost use Rattle.std.specs.Prelude.{◌≡◌, ◌∷◌, ◌++◌, List, length, map, pos, IfOk, OnOk};
+ghost use Rattle.std.specs.Prelude.{◌≡◌, ◌∷◌, ◌++◌, length, map, pos, IfOk, OnOk};
 ghost use Rattle.std.specs.List.{flat_map};
 ghost use Rattle.language.specs.Core as core;
 ghost use Rattle.flow.specs.View.{awaited_view, waits_around};
@@ -39,7 +39,8 @@ fn note_names<A: Allocator>(
     inputs: usize,
     names: &Vec<Name, A>,
 ) -> Result<(), AllocError>
-    ensures { OnOk result (Each (AwaitedRoom inputs) (map awaited_view names.now.items) → Notes needs.old.keys needs.new.keys (map (awaited_need inputs) (map awaited_view names.now.items))) }
+    ensures { OnOk result (Each (AwaitedRoom inputs) (map awaited_view names.now.items)
+        → Notes needs.old.keys needs.new.keys (map (awaited_need inputs) (map awaited_view names.now.items))) }
 {
     for name in names {
         note_name(needs, awaited(inputs, *name))?;
@@ -53,7 +54,8 @@ fn note_inner<A: Allocator>(
     inputs: usize,
     inner: &Vec<Header<A>, A>,
 ) -> Result<(), AllocError>
-    ensures { OnOk result (InnerRoom inputs inner.now.items → Notes needs.old.keys needs.new.keys (flat_map (λ h. h.needs) (inner_headers inputs inner.now.items))) }
+    ensures { OnOk result (InnerRoom inputs inner.now.items
+        → Notes needs.old.keys needs.new.keys (flat_map (λ h. h.needs) (inner_headers inputs inner.now.items))) }
 {
     for merged in inner {
         note_names(needs, inputs, &merged.names)?;
@@ -70,7 +72,8 @@ fn header<A: Allocator>(
     at: usize,
     names: &Vec<Name, A>,
 ) -> Result<Waits, AllocError>
-    ensures { IfOk result (λ h. Each (AwaitedRoom inputs) (map awaited_view names.now.items) → code_view.header_view h ≡ header_of inputs at names.now.items) }
+    ensures { IfOk result (λ h. Each (AwaitedRoom inputs) (map awaited_view names.now.items)
+        → code_view.header_view h ≡ header_of inputs at names.now.items) }
 {
     let mut needs = Vec::with_capacity(alloc, names.len())?;
     for name in names {
@@ -86,7 +89,8 @@ fn add_headers<A: Allocator>(
     inputs: usize,
     inner: &Vec<Header<A>, A>,
 ) -> Result<(), AllocError>
-    ensures { OnOk result (InnerRoom inputs inner.now.items → map code_view.header_view headers.new.items ≡ map code_view.header_view headers.old.items ++ inner_headers inputs inner.now.items) }
+    ensures { OnOk result (InnerRoom inputs inner.now.items
+        → map code_view.header_view headers.new.items ≡ map code_view.header_view headers.old.items ++ inner_headers inputs inner.now.items) }
 {
     for merged in inner {
         headers.push(header(alloc, inputs, merged.at, &merged.names)?)?;
@@ -123,8 +127,12 @@ pub fn add_wait<A: Allocator>(
     body: u32,
 ) -> Result<u32, AllocError>
     ensures number { IfOk result (λ n. Numbered n (length entries.old.items) filling.old filling.new) }
-    ensures entry { OnOk result ((b : core.Block) → ActionRoom statement.standing.inputs (core.wait (map awaited_view names.now.items) (waits_around inner.now.items b)) → statement.standing.priority ≡ pos 0
-        → WaitAddedAs statement.standing.inputs statement.standing.at statement.node (core.wait (map awaited_view names.now.items) (waits_around inner.now.items b)) b body entries.old.items entries.new.items) }
+    ensures entry { OnOk result ((b : core.Block)
+        → ActionRoom statement.standing.inputs (core.wait (map awaited_view names.now.items) (waits_around inner.now.items b))
+        → statement.standing.priority ≡ pos 0
+        → WaitAddedAs statement.standing.inputs statement.standing.at statement.node
+        (core.wait (map awaited_view names.now.items) (waits_around inner.now.items b)) b body
+        entries.old.items entries.new.items) }
 {
     let inputs = statement.standing.inputs;
     let mut needs = IndexSet::new(alloc);

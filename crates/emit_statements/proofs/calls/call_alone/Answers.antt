@@ -3,6 +3,7 @@ use Rattle.std.proofs.lemmas.Grind.{common_steps}
 use Rattle.language.specs.Core.{calls}
 use Rattle.flow.specs.Shapes.{kinds_of_function}
 use Rattle.flow.specs.View.{call_view, parts_view}
+use Rattle.emit_cells.proofs.Lays.{parts_laid}
 use Rattle.emit_statements.specs.Into.{laying}
 use Rattle.emit_statements.proofs.Into.{call_laid}
 use Rattle.emit_statements.proofs.Few.{added_few}
@@ -20,7 +21,7 @@ returns-clause-laid g c roots node bodies room few =
     let new = c.add_call_entries.new.entries.items in
     let added = c.in_ok-add_call_entries.ensures room.0 room.1 in
     call_laid fs roots node s.inputs s.at s.priority ps call bodies old new c.args.filling.now (record { makes = c.add_data.new.makes; entries = c.add_numbers.new.numbers }) c.len-from.result _ few added
-    (c.parts_are_laid.ensures fs s.inputs all s.at s.priority (laying old bodies) (laying new bodies) added.more added.is refl added.chunk)
+    (parts_laid fs s.inputs all s.at s.priority (laying old bodies) (laying new bodies) added.more added.is refl added.chunk)
     c.in_ok-add_data.ensures (grind (arith, common_steps)) (grind (arith, common_steps)) c.in_ok-add_numbers.ensures
 
 pub returns-clause-few : goal.returns-clause-few

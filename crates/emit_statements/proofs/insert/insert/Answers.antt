@@ -6,6 +6,7 @@ use Rattle.flow.specs.Shapes.{kinds_of_function}
 use Rattle.flow.specs.View.{name_view, outer_view}
 use Rattle.code_rules.specs.IsCodeOf.{own_priority}
 use Rattle.emit_cells.specs.Chunk.{Added}
+use Rattle.emit_cells.proofs.Lays.{parts_laid}
 use Rattle.emit_statements.specs.Into.{laying}
 use Rattle.emit_statements.proofs.Into.{own_laid}
 use Rattle.emit_statements.proofs.Few.{own_few}
@@ -23,7 +24,7 @@ returns-clause-laid g c roots bodies room few priority =
     let new = c.add_put.new.entries.items in
     let added : Added fs k (own_parts a) s.at (own_priority a) (own_parts a) old mid = subst (λ (p : ℤ). Added fs k (own_parts a) s.at p (own_parts a) old mid) priority (c.in_ok-add_two_entries.ensures room.1.0 room.1.1) in
     own_laid fs roots c.args.statement.node k s.at a bodies old mid new c.args.filling.now (record { makes = c.add_two_data.new.makes; entries = c.add_numbers.new.numbers }) c.len-from.result _ tt few added
-    (λ more is chunk. c.parts_are_laid.ensures fs k (own_parts a) s.at (own_priority a) (laying old bodies) (laying mid bodies) more is refl chunk)
+    (λ more is chunk. parts_laid fs k (own_parts a) s.at (own_priority a) (laying old bodies) (laying mid bodies) more is refl chunk)
     (c.in_ok-add_put.ensures room priority) c.in_ok-add_two_data.ensures
     (grind (arith, common_steps)) (grind (arith, common_steps)) c.in_ok-add_numbers.ensures
 

@@ -3,6 +3,7 @@ use Rattle.std.proofs.lemmas.Grind.{common_steps}
 use Rattle.language.specs.Parts.{outer_parts}
 use Rattle.flow.specs.Shapes.{kinds_of_function}
 use Rattle.flow.specs.View.{outer_view}
+use Rattle.emit_cells.proofs.Lays.{parts_laid}
 use Rattle.emit_statements.specs.Into.{laying}
 use Rattle.emit_statements.proofs.Few.{added_few}
 use Rattle.emit_statements.proofs.Layings.{parts_into}
@@ -19,7 +20,7 @@ returns-clause-laid g c bodies room few =
     let new = c.add_condition.new.entries.items in
     let added = c.in_ok-add_condition.ensures room in
     parts_into fs k s.at s.priority ps bodies old new c.args.filling.now (record { makes = c.add_outer_data.new.makes; entries = c.add_numbers.new.numbers }) c.len-from.result _ few added
-    (c.parts_are_laid.ensures fs k ps s.at s.priority (laying old bodies) (laying new bodies) added.more added.is refl added.chunk)
+    (parts_laid fs k ps s.at s.priority (laying old bodies) (laying new bodies) added.more added.is refl added.chunk)
     c.in_ok-add_outer_data.ensures (grind (arith, common_steps)) (grind (arith, common_steps)) c.in_ok-add_numbers.ensures
 
 pub returns-clause-few : goal.returns-clause-few

@@ -2,6 +2,7 @@ use Rattle.std.proofs.Common.{map, refl, arith}
 use Rattle.std.proofs.lemmas.Grind.{common_steps}
 use Rattle.language.specs.Parts.{outer_parts}
 use Rattle.flow.specs.Shapes.{kinds_of_function}
+use Rattle.emit_cells.proofs.Lays.{parts_laid}
 use Rattle.emit_statements.specs.Into.{laying}
 use Rattle.emit_statements.proofs.Few.{added_few}
 use Rattle.emit_statements.specs.Blocks.{range_outers}
@@ -19,7 +20,7 @@ returns-clause-laid g c bodies room_low room_high room_step few =
     let new = c.add_range_entries.new.entries.items in
     let added = c.in_ok-add_range_entries.ensures room_low room_high room_step in
     parts_into fs k s.at s.priority ps bodies old new c.args.filling.now (record { makes = c.add_range_data.new.makes; entries = c.add_numbers.new.numbers }) c.len-from.result _ few added
-    (c.parts_are_laid.ensures fs k ps s.at s.priority (laying old bodies) (laying new bodies) added.more added.is refl added.chunk)
+    (parts_laid fs k ps s.at s.priority (laying old bodies) (laying new bodies) added.more added.is refl added.chunk)
     c.in_ok-add_range_data.ensures (grind (arith, common_steps)) (grind (arith, common_steps)) c.in_ok-add_numbers.ensures
 
 pub returns-clause-few : goal.returns-clause-few
