@@ -9,8 +9,9 @@ ghost use Rattle.code_rules.specs.Room.{OuterRoom};
 ghost use Rattle.emit_cells.specs.Chunk.{AllAdded};
 ghost use Rattle.emit_statements.specs.Into.{AddsFew, AddsOwn, LaysOwn};
 
-use crate::filling::{Filling, add_numbers};
+use crate::filling::add_numbers;
 use crate::own::Statement;
+use crate::writer::Writer;
 use emit_cells::entries::{Shown, Standing, put};
 use emit_cells::names::named;
 use emit_cells::outers::{add_outer, pass_outer};
@@ -88,26 +89,40 @@ fn add_put<A: Allocator>(
     Ok(())
 }
 
-/// Lays a write of an element.
-pub fn insert<A: Allocator>(
-    alloc: Global,
-    entries: &mut Vec<Entry>,
-    filling: &mut Filling,
-    functions: &Vec<Function<A>, A>,
-    statement: Statement,
-    array: Name,
-    index: &Outer<A>,
-    right: &Outer<A>,
-) -> Result<(), AllocError>
-    ensures laid { OnOk result (LaysOwn functions.now.items statement (core.insert (name_view array) (outer_view index.now) (outer_view right.now))
-        entries.old.items entries.new.items filling.old filling.new) }
-    ensures few { OnOk result (AddsFew statement (core.insert (name_view array) (outer_view index.now) (outer_view right.now))
-        entries.old.items entries.new.items) }
-{
-    let from = entries.len();
-    add_two_entries(alloc, entries, functions, statement.standing, index, right)?;
-    add_two_data(&mut filling.makes, index, right)?;
-    add_put(alloc, entries, statement, array, index, right)?;
-    add_numbers(&mut filling.entries, from, entries.len())?;
-    Ok(())
+impl Writer {
+    /// Lays a write of an element.
+    pub fn insert<A: Allocator>(
+        &mut self,
+        functions: &Vec<Function<A>, A>,
+        statement: Statement,
+        array: Name,
+        index: &Outer<A>,
+        right: &Outer<A>,
+    ) -> Result<(), AllocError>
+        ensures laid { OnOk result (LaysOwn functions.now.items statement (core.insert (name_view array) (outer_view index.now) (outer_view right.now))
+            self.old.entries.items self.new.entries.items self.old.filling self.new.filling) }
+        ensures few { OnOk result (AddsFew statement (core.insert (name_view array) (outer_view index.now) (outer_view right.now))
+            self.old.entries.items self.new.entries.items) }
+    {
+        let from = self.entries.len();
+        add_two_entries(
+            self.alloc,
+            &mut self.entries,
+            functions,
+            statement.standing,
+            index,
+            right,
+        )?;
+        add_two_data(&mut self.filling.makes, index, right)?;
+        add_put(
+            self.alloc,
+            &mut self.entries,
+            statement,
+            array,
+            index,
+            right,
+        )?;
+        add_numbers(&mut self.filling.entries, from, self.entries.len())?;
+        Ok(())
+    }
 }

@@ -10,10 +10,10 @@ ghost use Rattle.code_rules.specs.Room.{NameRoom, OuterRoom, StepRoom};
 ghost use Rattle.emit_cells.specs.Wanted.{need_of, IsReady, Notes};
 ghost use Rattle.emit_statements.specs.Blocks.{Numbered, OwnAddedAs, loop_with, range_action, range_loop_act, ranged, seen_range};
 
-use crate::entry::add_entry;
 use crate::filling::Filling;
 use crate::own::Statement;
 use crate::steps::{note_step, placed_step};
+use crate::writer::Writer;
 use emit_cells::data::add_scalar;
 use emit_cells::names::named;
 use emit_cells::needs::{Wanted, note_name};
@@ -23,7 +23,7 @@ use flow::name::Name;
 use flow::statement::{Range, Variable};
 use indexmap::IndexSet;
 use std::alloc::{AllocError, Allocator, Global};
-use task_code::entry::{Act, Entry, Loop, Variable as Made};
+use task_code::entry::{Act, Loop, Variable as Made};
 
 // VARIABLES
 
@@ -129,48 +129,48 @@ fn range_act<A: Allocator>(
     Ok(Act::Range(low, high, step, turns))
 }
 
-/// Adds the own entry of a loop over a range. The result is the entry's number.
-pub fn add_range<A: Allocator>(
-    alloc: Global,
-    entries: &mut Vec<Entry>,
-    filling: &mut Filling,
-    statement: Statement,
-    range: &Range<A>,
-    turns: Loop,
-) -> Result<u32, AllocError>
-    ensures number { IfOk result (λ n. Numbered n (length entries.old.items) filling.old filling.new) }
-    ensures entry { OnOk result ((x : ℕ) (y : Option ℕ) (b : core.Block) → OuterRoom statement.standing.inputs (outer_view range.now.low)
-        → OuterRoom statement.standing.inputs (outer_view range.now.high)
-        → StepRoom statement.standing.inputs (option_map outer_view range.now.step) → statement.standing.priority ≡ pos 0
-        → OwnAddedAs statement.standing.inputs statement.standing.at (range_action range.now x y b)
-        (λ l. range_loop_act l statement.standing.inputs range.now (range_action range.now x y b) (code_view.loop_view turns))
-        entries.old.items entries.new.items) }
-{
-    let inputs = statement.standing.inputs;
-    let mut needs = IndexSet::new(alloc);
-    note_range(&mut needs, inputs, range)?;
-    let act = range_act(alloc, &needs, inputs, range, turns)?;
-    add_entry(alloc, entries, filling, statement, &needs, act)
+impl Writer {
+    /// Adds the own entry of a loop over a range. The result is the entry's number.
+    pub fn add_range<A: Allocator>(
+        &mut self,
+        statement: Statement,
+        range: &Range<A>,
+        turns: Loop,
+    ) -> Result<u32, AllocError>
+        ensures number { IfOk result (λ n. Numbered n (length self.old.entries.items) self.old.filling self.new.filling) }
+        ensures entry { OnOk result ((x : ℕ) (y : Option ℕ) (b : core.Block) → OuterRoom statement.standing.inputs (outer_view range.now.low)
+            → OuterRoom statement.standing.inputs (outer_view range.now.high)
+            → StepRoom statement.standing.inputs (option_map outer_view range.now.step) → statement.standing.priority ≡ pos 0
+            → OwnAddedAs statement.standing.inputs statement.standing.at (range_action range.now x y b)
+            (λ l. range_loop_act l statement.standing.inputs range.now (range_action range.now x y b) (code_view.loop_view turns))
+            self.old.entries.items self.new.entries.items) }
+    {
+        let inputs = statement.standing.inputs;
+        let mut needs = IndexSet::new(self.alloc);
+        note_range(&mut needs, inputs, range)?;
+        let act = range_act(self.alloc, &needs, inputs, range, turns)?;
+        self.add_entry(statement, &needs, act)
+    }
 }
 
 // ARRAYS
 
-/// Adds the own entry of a loop over an array. The result is the entry's number.
-pub fn add_each(
-    alloc: Global,
-    entries: &mut Vec<Entry>,
-    filling: &mut Filling,
-    statement: Statement,
-    array: Name,
-    turns: Loop,
-) -> Result<u32, AllocError>
-    ensures number { IfOk result (λ n. Numbered n (length entries.old.items) filling.old filling.new) }
-    ensures entry { OnOk result ((x : ℕ) (y : Option ℕ) (b : core.Block) → NameRoom statement.standing.inputs (name_view array)
-        → statement.standing.priority ≡ pos 0
-        → OwnAddedAs statement.standing.inputs statement.standing.at (core.each (name_view array) x y b) (λ l. pure.Each (code_view.loop_view turns))
-        entries.old.items entries.new.items) }
-{
-    let mut needs = IndexSet::new(alloc);
-    note_name(&mut needs, named(statement.standing.inputs, array, true))?;
-    add_entry(alloc, entries, filling, statement, &needs, Act::Each(turns))
+impl Writer {
+    /// Adds the own entry of a loop over an array. The result is the entry's number.
+    pub fn add_each(
+        &mut self,
+        statement: Statement,
+        array: Name,
+        turns: Loop,
+    ) -> Result<u32, AllocError>
+        ensures number { IfOk result (λ n. Numbered n (length self.old.entries.items) self.old.filling self.new.filling) }
+        ensures entry { OnOk result ((x : ℕ) (y : Option ℕ) (b : core.Block) → NameRoom statement.standing.inputs (name_view array)
+            → statement.standing.priority ≡ pos 0
+            → OwnAddedAs statement.standing.inputs statement.standing.at (core.each (name_view array) x y b) (λ l. pure.Each (code_view.loop_view turns))
+            self.old.entries.items self.new.entries.items) }
+    {
+        let mut needs = IndexSet::new(self.alloc);
+        note_name(&mut needs, named(statement.standing.inputs, array, true))?;
+        self.add_entry(statement, &needs, Act::Each(turns))
+    }
 }

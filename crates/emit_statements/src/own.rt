@@ -11,7 +11,8 @@ ghost use Rattle.emit_cells.specs.Chunk.{AllAdded, Inside, Passes};
 ghost use Rattle.emit_statements.specs.Doing.{action_of};
 ghost use Rattle.emit_statements.specs.Into.{AddsFew, AddsOwn, LaysOwn};
 
-use crate::filling::{Filling, add_numbers};
+use crate::filling::add_numbers;
+use crate::writer::Writer;
 use emit_cells::cells::{pass_cell, pass_parts};
 use emit_cells::entries::{Shown, Standing, put};
 use emit_cells::names::named;
@@ -178,24 +179,31 @@ fn add_own<A: Allocator>(
     Ok(())
 }
 
-/// Lays a statement that works an outermost cell out itself.
-pub fn own<A: Allocator>(
-    alloc: Global,
-    entries: &mut Vec<Entry>,
-    filling: &mut Filling,
-    functions: &Vec<Function<A>, A>,
-    statement: Statement,
-    done: Use,
-    outer: &Outer<A>,
-) -> Result<(), AllocError>
-    ensures laid { OnOk result (LaysOwn functions.now.items statement (action_of done statement.standing.priority (outer_view outer.now))
-        entries.old.items entries.new.items filling.old filling.new) }
-    ensures few { OnOk result (AddsFew statement (action_of done statement.standing.priority (outer_view outer.now)) entries.old.items entries.new.items) }
-{
-    let from = entries.len();
-    add_own_entries(alloc, entries, functions, statement.standing, outer)?;
-    add_own_data(&mut filling.makes, outer)?;
-    add_own(alloc, entries, statement, done, outer)?;
-    add_numbers(&mut filling.entries, from, entries.len())?;
-    Ok(())
+impl Writer {
+    /// Lays a statement that works an outermost cell out itself.
+    pub fn own<A: Allocator>(
+        &mut self,
+        functions: &Vec<Function<A>, A>,
+        statement: Statement,
+        done: Use,
+        outer: &Outer<A>,
+    ) -> Result<(), AllocError>
+        ensures laid { OnOk result (LaysOwn functions.now.items statement (action_of done statement.standing.priority (outer_view outer.now))
+            self.old.entries.items self.new.entries.items self.old.filling self.new.filling) }
+        ensures few { OnOk result (AddsFew statement (action_of done statement.standing.priority (outer_view outer.now))
+            self.old.entries.items self.new.entries.items) }
+    {
+        let from = self.entries.len();
+        add_own_entries(
+            self.alloc,
+            &mut self.entries,
+            functions,
+            statement.standing,
+            outer,
+        )?;
+        add_own_data(&mut self.filling.makes, outer)?;
+        add_own(self.alloc, &mut self.entries, statement, done, outer)?;
+        add_numbers(&mut self.filling.entries, from, self.entries.len())?;
+        Ok(())
+    }
 }

@@ -11,8 +11,9 @@ ghost use Rattle.code_rules.specs.Room.{OuterRoom, StepRoom};
 ghost use Rattle.emit_cells.specs.Chunk.{AddedFor, AllAdded, Inside, IsPassed, Passes};
 ghost use Rattle.emit_statements.specs.Blocks.{FewParts, PartsLaid, range_outers};
 
-use crate::filling::{Filling, add_numbers};
+use crate::filling::add_numbers;
 use crate::steps::{add_step, add_step_data, pass_step};
+use crate::writer::Writer;
 use emit_cells::entries::Standing;
 use emit_cells::outers::{add_outer, pass_outer};
 use emit_cells::owns::add_outer_data;
@@ -42,26 +43,32 @@ fn add_condition<A: Allocator>(
     Ok(())
 }
 
-/// Lays the parts of a condition: their entries and data.
-pub fn condition_parts<A: Allocator>(
-    alloc: Global,
-    entries: &mut Vec<Entry>,
-    filling: &mut Filling,
-    functions: &Vec<Function<A>, A>,
-    standing: Standing,
-    condition: &Outer<A>,
-) -> Result<(), AllocError>
-    ensures laid { OnOk result ((bodies : List pure.Body) → OuterRoom standing.inputs (outer_view condition.now) → length entries.new.items ≤ 2 ^ 32
-        → PartsLaid functions.now.items standing (outer_parts (outer_view condition.now ∷ [])) bodies
-        entries.old.items entries.new.items filling.old filling.new) }
-    ensures few { OnOk result ((l : Layout) → OuterRoom standing.inputs (outer_view condition.now)
-        → FewParts l (outer_parts (outer_view condition.now ∷ [])) entries.old.items entries.new.items) }
-{
-    let from = entries.len();
-    add_condition(alloc, entries, functions, standing, condition)?;
-    add_outer_data(&mut filling.makes, condition)?;
-    add_numbers(&mut filling.entries, from, entries.len())?;
-    Ok(())
+impl Writer {
+    /// Lays the parts of a condition: their entries and data.
+    pub fn condition_parts<A: Allocator>(
+        &mut self,
+        functions: &Vec<Function<A>, A>,
+        standing: Standing,
+        condition: &Outer<A>,
+    ) -> Result<(), AllocError>
+        ensures laid { OnOk result ((bodies : List pure.Body) → OuterRoom standing.inputs (outer_view condition.now) → length self.new.entries.items ≤ 2 ^ 32
+            → PartsLaid functions.now.items standing (outer_parts (outer_view condition.now ∷ [])) bodies
+            self.old.entries.items self.new.entries.items self.old.filling self.new.filling) }
+        ensures few { OnOk result ((l : Layout) → OuterRoom standing.inputs (outer_view condition.now)
+            → FewParts l (outer_parts (outer_view condition.now ∷ [])) self.old.entries.items self.new.entries.items) }
+    {
+        let from = self.entries.len();
+        add_condition(
+            self.alloc,
+            &mut self.entries,
+            functions,
+            standing,
+            condition,
+        )?;
+        add_outer_data(&mut self.filling.makes, condition)?;
+        add_numbers(&mut self.filling.entries, from, self.entries.len())?;
+        Ok(())
+    }
 }
 
 // RANGES
@@ -135,27 +142,27 @@ fn add_range_data<A: Allocator>(
     Ok(())
 }
 
-/// Lays the parts of a range: the entries and data of its bounds and its step.
-pub fn range_parts<A: Allocator>(
-    alloc: Global,
-    entries: &mut Vec<Entry>,
-    filling: &mut Filling,
-    functions: &Vec<Function<A>, A>,
-    standing: Standing,
-    range: &Range<A>,
-) -> Result<(), AllocError>
-    ensures laid { OnOk result ((bodies : List pure.Body) → OuterRoom standing.inputs (outer_view range.now.low)
-        → OuterRoom standing.inputs (outer_view range.now.high) → StepRoom standing.inputs (option_map outer_view range.now.step)
-        → length entries.new.items ≤ 2 ^ 32
-        → PartsLaid functions.now.items standing (outer_parts (range_outers range.now)) bodies
-        entries.old.items entries.new.items filling.old filling.new) }
-    ensures few { OnOk result ((l : Layout) → OuterRoom standing.inputs (outer_view range.now.low) → OuterRoom standing.inputs (outer_view range.now.high)
-        → StepRoom standing.inputs (option_map outer_view range.now.step)
-        → FewParts l (outer_parts (range_outers range.now)) entries.old.items entries.new.items) }
-{
-    let from = entries.len();
-    add_range_entries(alloc, entries, functions, standing, range)?;
-    add_range_data(&mut filling.makes, range)?;
-    add_numbers(&mut filling.entries, from, entries.len())?;
-    Ok(())
+impl Writer {
+    /// Lays the parts of a range: the entries and data of its bounds and its step.
+    pub fn range_parts<A: Allocator>(
+        &mut self,
+        functions: &Vec<Function<A>, A>,
+        standing: Standing,
+        range: &Range<A>,
+    ) -> Result<(), AllocError>
+        ensures laid { OnOk result ((bodies : List pure.Body) → OuterRoom standing.inputs (outer_view range.now.low)
+            → OuterRoom standing.inputs (outer_view range.now.high) → StepRoom standing.inputs (option_map outer_view range.now.step)
+            → length self.new.entries.items ≤ 2 ^ 32
+            → PartsLaid functions.now.items standing (outer_parts (range_outers range.now)) bodies
+            self.old.entries.items self.new.entries.items self.old.filling self.new.filling) }
+        ensures few { OnOk result ((l : Layout) → OuterRoom standing.inputs (outer_view range.now.low) → OuterRoom standing.inputs (outer_view range.now.high)
+            → StepRoom standing.inputs (option_map outer_view range.now.step)
+            → FewParts l (outer_parts (range_outers range.now)) self.old.entries.items self.new.entries.items) }
+    {
+        let from = self.entries.len();
+        add_range_entries(self.alloc, &mut self.entries, functions, standing, range)?;
+        add_range_data(&mut self.filling.makes, range)?;
+        add_numbers(&mut self.filling.entries, from, self.entries.len())?;
+        Ok(())
+    }
 }
