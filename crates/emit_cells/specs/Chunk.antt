@@ -34,7 +34,8 @@ Told all n b = (l : Layout) → PlainAs l None all → l.plain n ≡ b
 -- for the cell of a node
 pub data HandedFor (k : ℕ) (all : List Part) (n : ℕ) (a : Argument) : Type 0 where
   literal_handed : {v : Scalar} → record { node = n; form = compute (literal v) } ∈ part_cells all → Told all n true → a ≡ Fixed v → HandedFor k all n a
-  name_handed : {x : Name} → record { node = n; form = compute (name x) } ∈ part_cells all → Told all n true → a ≡ Named (name_as k false x) → HandedFor k all n a
+  name_handed : {x : Name} → record { node = n; form = compute (name x) } ∈ part_cells all → Told all n true → a ≡ Named (name_as k false x)
+      → HandedFor k all n a
   datum_handed : {c : Cell} → c ∈ part_cells all → n ≡ c.node → Told all n false → a ≡ Named (name_as k false (here n)) → HandedFor k all n a
 
 -- what it is, for a cell that is plain or not
@@ -90,7 +91,8 @@ pub record NamePasses (k : ℕ) (all : List Part) (b : Bool) (x : Name) (a : Arg
 -- for an input, to a function of these kinds
 pub record InputPasses (fs : List Kinds) (k : ℕ) (all : List Part) (f i : ℕ) (x : Name) (a : Argument) : Type 0 where
   pub input : (C : Code) (l : Layout) → PlainAs l None all → InputAs C l k all x a
-  pub array : (kinds : Kinds) (b : Bool) → slice_get fs f ≡ Some kinds → slice_get kinds.0 i ≡ Some b → (b ≡ false → StandsAmong all x) → is_array_argument a ≡ b
+  pub array : (kinds : Kinds) (b : Bool) → slice_get fs f ≡ Some kinds → slice_get kinds.0 i ≡ Some b → (b ≡ false → StandsAmong all x)
+      → is_array_argument a ≡ b
 
 -- and for an output
 pub record OutputPasses (fs : List Kinds) (k f i : ℕ) (x : Name) (r : code.Name) : Type 0 where
@@ -125,7 +127,8 @@ module _ (fs : List Kinds) (k : ℕ) (all : List Part) (at : ℕ) (p : ℤ) wher
   -- these entries are laid for some of the parts
   pub record Chunk (ps : List Part) (more : List Entry) : Type 0 where
     pub fit : CallsFit fs all more
-    pub parts_as : (C : Code) (front rest : List Entry) → C.entries ≡ front ++ (more ++ rest) → (l : Layout) → PlainAs l None all → ((i : ℕ) → l.body_of i ≡ suc i) → IndexesStand all
+    pub parts_as : (C : Code) (front rest : List Entry) → C.entries ≡ front ++ (more ++ rest) → (l : Layout) → PlainAs l None all
+        → ((i : ℕ) → l.body_of i ≡ suc i) → IndexesStand all
         → PartsAs C l k all at p ps (counted (length front) (length more))
 
   -- they are laid behind these
