@@ -21,6 +21,7 @@ use std::{env, fs};
 use swt_arguments::complaint::first_wrong;
 use swt_arguments::fault::LineFault;
 use swt_arguments::line::Line;
+use swt_arguments::nearest::meant;
 use swt_arguments::request::Request;
 use swt_arguments::word::Word;
 use swt_command::buffer::Buffer;
@@ -117,10 +118,11 @@ fn check_of(rt: &HostRuntime, file: &Word, explain: bool) -> Result<Request, Lin
     let alloc = rt.alloc();
     let mut words = Vec::new(alloc);
     words.push(Word::new(String::from_str(alloc, "check")?))?;
-    words.push(file.copy(alloc)?)?;
     if explain {
         words.push(Word::new(String::from_str(alloc, "--explain")?))?;
     }
+    words.push(Word::new(String::from_str(alloc, "--")?))?;
+    words.push(file.copy(alloc)?)?;
     Request::read(alloc, words.as_slice())
 }
 
@@ -366,12 +368,25 @@ fn say(rt: &HostRuntime, status: Status) -> u8 {
     status.number()
 }
 
-/// Says which of the words is wrong, and how the program is called, and gives the status of that.
+/// Says which of the words is wrong, and which was meant, and gives the status of that. Where there are no words, or they ask
+/// for help, it says how the program is called.
 fn say_usage(rt: &HostRuntime, words: &[Word]) -> u8 {
     // Where this can't be written, the status says enough.
-    if let Some(wrong) = first_wrong(words) {
-        let _ = eprintln!(rt; "{wrong}");
+    let Some(wrong) = first_wrong(words) else {
+        let _ = eprintln!(rt; "{}", LineFault::Usage);
+        return Status::Usage.number();
+    };
+    match meant(rt.alloc(), &wrong) {
+        Ok(Some(name)) => {
+            let _ = eprintln!(rt; "{wrong}: did you mean {name}?");
+        }
+        Ok(None) => {
+            let _ = eprintln!(rt; "{wrong}");
+        }
+        Err(AllocError) => return say(rt, Status::Memory),
     }
-    let _ = eprintln!(rt; "{}", LineFault::Usage);
+    if wrong.wants_usage() {
+        let _ = eprintln!(rt; "{}", LineFault::Usage);
+    }
     Status::Usage.number()
 }
