@@ -1,5 +1,5 @@
 -- What a program has asked of its machine, and what it was answered. The newest comes first.
-use Rattle.std.specs.Prelude.{◌≡◌, ℕ, Bool, true, false, ◌&&◌, List, [], ◌∷◌, ◌++◌, Option, Some, None, option_to_list, bytes_eq}
+use Rattle.std.specs.Prelude.{◌≡◌, ℕ, Bool, true, false, ◌&&◌, List, [], ◌∷◌, ◌++◌, Option, Some, None, option_to_list, option_map, is_some, bytes_eq}
 use Rattle.host.specs.declared.identity.Identity.{Identity}
 use Rattle.host.specs.declared.host.Stream.{Stream}
 use Rattle.host.specs.declared.host.Stream.TheVariants.{Out, Error}
@@ -30,28 +30,39 @@ pub data Event : Type 0 where
   -- what was asked could not be done
   Failed : Event
 
--- a name that was opened, and the bytes that stand for it: none where it could not be read
-abbrev pub Read : Type 0
-Read = List ℕ × Option (List ℕ)
+abbrev is_nil : List ℕ → Bool
+is_nil [] = true
+is_nil (b ∷ bs) = false
 
--- more bytes of the last that was opened
+-- a name that was opened, with the bytes that stand for it, none where it could not be read, and whether its end was met
+pub record Read : Type 0 where
+  pub name : List ℕ
+  pub bytes : Option (List ℕ)
+  pub ended : Bool
+
+-- more bytes came of the last that was opened, and none at its end
 abbrev pub grown : List ℕ → List Read → List Read
 grown bytes [] = []
-grown bytes ((name, None) ∷ rs) = (name, None) ∷ rs
-grown bytes ((name, Some before) ∷ rs) = (name, Some (before ++ bytes)) ∷ rs
+grown bytes (r ∷ rs) = record { name = r.name; bytes = option_map (λ before. before ++ bytes) r.bytes; ended = is_nil bytes } ∷ rs
 
+-- no more can come of it
 abbrev pub broken : List Read → List Read
 broken [] = []
-broken (r ∷ rs) = (r.0, None) ∷ rs
+broken (r ∷ rs) = record { name = r.name; bytes = None; ended = false } ∷ rs
 
 -- what was read, the last name first
 abbrev pub reads : List Event → List Read
 reads [] = []
-reads (Opened name ∷ h) = (name, Some []) ∷ reads h
+reads (Opened name ∷ h) = record { name = name; bytes = Some []; ended = false } ∷ reads h
 reads (Got bytes ∷ h) = grown bytes (reads h)
-reads (Unopened name ∷ h) = (name, None) ∷ reads h
+reads (Unopened name ∷ h) = record { name = name; bytes = None; ended = false } ∷ reads h
 reads (Broken ∷ h) = broken (reads h)
 reads (e ∷ h) = reads h
+
+-- the last of those is a file of this name, of which some bytes came
+abbrev pub IsReading : List ℕ → (before now : List Read) → Type 0
+IsReading name before [] = ⊥
+IsReading name before (r ∷ rs) = (r.name ≡ name) × (is_some r.bytes ≡ true) × (rs ≡ before)
 
 -- which files were opened to be read, in order
 abbrev pub inputs : List Event → List Identity
@@ -91,7 +102,7 @@ learnt h = record { words = words h; links = links h; reads = reads h }
 
 -- the last piece that was read is the end of its file
 abbrev pub ends : List Event → Bool
-ends (Got [] ∷ h) = true
+ends (Got bytes ∷ h) = is_nil bytes
 ends _ = false
 
 -- the bytes that went to files that were made
