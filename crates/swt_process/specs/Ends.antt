@@ -1,8 +1,7 @@
 -- How a process ends.
-use Rattle.std.specs.Prelude.{◌≡◌, ◌<◌, ◌⊎◌, ◌||◌, ◌==◌, ℕ, Bool, List, [], map, option_to_list, reverse, true}
+use Rattle.std.specs.Prelude.{◌≡◌, ◌<◌, ◌⊎◌, ◌||◌, ◌==◌, ℕ, Bool, List, [], map, option_to_list, true}
 use Rattle.host.specs.Events.{Event, changes, given, is_safe, links, reads, replaced}
 use Rattle.host.specs.Traces.{IsKept}
-use Rattle.swt_arguments.specs.Lines.{files_of}
 use Rattle.swt_arguments.specs.declared.line.Line.{Line}
 use Rattle.swt_status.specs.declared.trouble.Trouble.TheVariants.{Memory, Untraced}
 use Rattle.swt_command.specs.Files.{Files}
@@ -10,7 +9,7 @@ use Rattle.swt_command.specs.Owes.{Owes}
 use Rattle.swt_command.specs.Sinks.{Held, Given, Kept, held}
 use Rattle.swt_command.specs.Troubles.{trouble_line}
 use Rattle.swt_process.specs.Places.{name_of, place_of, trace_of}
-use Rattle.swt_process.specs.Reads.{AreRead}
+use Rattle.swt_process.specs.Reads.{HasRead}
 
 -- the numbers of a report that was printed whole, and of a script that was accepted
 abbrev pub is_reported : ℕ → Bool
@@ -30,10 +29,10 @@ pub record Did (line : Line) (files : Files) (place : List ℕ) (h : List Event)
   pub owes : Owes line files out out_new err mid (held [] 0) (held (given h) failures) number
   pub closes : Closes place h (held (given h) failures) number mid err_new status
 
--- each file of the line was read, and the command was done on what they gave; no file that was read was written, and none of a standard stream
+-- the files of the line were read, and the command was done on what they gave; no file that was read was written, and none of a standard stream
 pub record Ran (line : Line) (h : List Event) (out out_new err err_new : Held) (status : ℕ) : Type 0 where
   pub files : Files
-  pub read : AreRead line (files_of line) files (reverse (reads h))
+  pub read : HasRead line files status (reads h)
   pub asked : map name_of (links h) ≡ option_to_list (trace_of line)
   pub safe : is_safe (place_of (trace_of line) (links h)) h ≡ true
   pub did : Did line files (place_of (trace_of line) (links h)) h out out_new err err_new status

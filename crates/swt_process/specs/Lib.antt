@@ -1,3 +1,4 @@
 pub mod Reads
 pub mod Places
+pub mod Each
 pub mod Ends

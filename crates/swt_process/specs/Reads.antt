@@ -1,9 +1,10 @@
 -- What is read of the files of a line.
-use Rattle.std.specs.Prelude.{◌≡◌, ◌⊎◌, ◌≤◌, ◌<◌, ◌+◌, ℕ, zero, suc, Bool, List, [], ◌∷◌, length, map, Option, Some, None, IsTrue}
+use Rattle.std.specs.Prelude.{◌≡◌, ◌⊎◌, ◌≤◌, ◌<◌, ◌+◌, ℕ, zero, suc, Bool, List, [], ◌∷◌, ◌++◌, length, map, reverse, take, Option, Some, None, IsTrue}
 use Rattle.host.specs.Events.{Read}
 use Rattle.swt_arguments.specs.declared.line.Line.{Line}
 use Rattle.swt_arguments.specs.declared.line.Line.TheVariants.{Check, Mean, Code, Run, Replay}
-use Rattle.swt_command.specs.Files.{Files}
+use Rattle.swt_arguments.specs.Lines.{files_of}
+use Rattle.swt_command.specs.Files.{Files, name_at}
 
 -- the most bytes that a script may have
 abbrev pub max_source : ℕ
@@ -33,3 +34,26 @@ pub record AreRead (line : Line) (names : List (List ℕ)) (files : Files) (rs :
   pub names_are : map (λ r. r.name) rs ≡ names
   pub files_are : map (λ r. r.bytes) rs ≡ files
   pub enough : AreEnough line 0 rs
+
+-- the last that was read is the file at which a check stopped, with this number; of it too enough was read, unless memory was refused
+pub record EndsReading (names : List (List ℕ)) (files : Files) (number : ℕ) (rs : List Read) : Type 0 where
+  pub earlier : Files
+  pub before : List Read
+  pub last : Read
+  pub files_are : files ≡ earlier ++ last.bytes ∷ []
+  pub reads_are : rs ≡ last ∷ before
+  pub name_is : last.name ≡ name_at names (length earlier)
+  pub read : AreRead (Check names) (take (length earlier) names) earlier (reverse before)
+  pub enough : (number ≡ 6) ⊎ IsEnough max_source last.bytes last.ended
+
+-- only a check ends before it has read all of its files
+abbrev pub StopsReading : Line → Files → (number : ℕ) → List Read → Type 0
+StopsReading (Check names) files number rs = EndsReading names files number rs
+StopsReading (Mean file rounds) files number rs = ⊥
+StopsReading (Code file dot) files number rs = ⊥
+StopsReading (Run file engines workers steps wanted) files number rs = ⊥
+StopsReading (Replay file trace) files number rs = ⊥
+
+-- each file of the line was read; or, by a check that ended with this number, those up to the one at which it stopped
+abbrev pub HasRead : Line → Files → (number : ℕ) → List Read → Type 0
+HasRead line files number rs = AreRead line (files_of line) files (reverse rs) ⊎ StopsReading line files number rs

@@ -12,7 +12,7 @@ use swt_arguments::line::Line;
 use swt_arguments::word::Word;
 
 /// The most bytes that a script may have.
-const MAX_SOURCE: usize = 1_048_576;
+pub const MAX_SOURCE: usize = 1_048_576;
 
 /// How many bytes of the file of a place are read at most, but for one more.
 fn most_at(line: &Line, place: usize) -> usize

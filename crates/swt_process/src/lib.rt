@@ -1,6 +1,7 @@
 //! From the words of a command line, and what the machine gives, to what it is given and the status of the process.
 #![tactic(auto)]
 
+pub mod each;
 pub mod files;
 pub mod place;
 pub mod program;

@@ -27,11 +27,7 @@ fn trace_of(line: &Line) -> Option<&str>
 /// # Errors
 ///
 /// `AllocError` where memory that was asked for was refused.
-pub fn find_place<H: Host>(
-    host: &mut H,
-    alloc: Global,
-    line: &Line,
-) -> Result<String, AllocError>
+pub fn find_place<H: Host>(host: &mut H, alloc: Global, line: &Line) -> Result<String, AllocError>
     requires none { links (H.history host.old) ≡ [] }
     ensures place { IfOk result (λ place. string_bytes place ≡ place_of (trace_of line.now) (links (H.history host.new))) }
     ensures asked { IfOk result (λ place. map name_of (links (H.history host.new)) ≡ option_to_list (trace_of line.now)) }

@@ -8,6 +8,7 @@ ghost use Rattle.swt_process.specs.Ends.{Ends};
 ghost use Rattle.swt_process.specs.Places.{name_of, place_of, trace_of};
 ghost use Rattle.swt_process.specs.Reads.{AreRead};
 
+use crate::each::check_files;
 use crate::files::read_files;
 use crate::place::{find_place, name_beside};
 use crate::traced::with_trace;
@@ -62,9 +63,43 @@ fn read<H: Host>(
     })
 }
 
-/// Does what the line asks for: reads its files, does its command with one arena for all trees, and gives the trace its place. The answer
-/// is the status of the process, and the machine. `process` is the number of this process among those of the machine.
+/// Does what the line asks for. The answer is the status of the process, and the machine. `process` is the number of this process among
+/// those of the machine.
+///
+/// The files of a check are read, checked and told in turn, so that no more than one is kept. Of any other command all files are read, its
+/// command is done with one arena for all trees, and its trace gets its place.
 pub fn program<R: Threads + Wait + Sync, G: Gate, H: Host + Drop, O: Sink, E: Sink>(
+    rt: &R,
+    alloc: Global,
+    host: H,
+    process: u32,
+    line: &Line,
+    gate: &G,
+    out: &mut O,
+    err: &mut E,
+) -> (u8, H)
+    requires reads { reads (H.history host) ≡ [] }
+    requires links { links (H.history host) ≡ [] }
+    requires inputs { inputs (H.history host) ≡ [] }
+    requires changes { changes (H.history host) ≡ [] }
+    requires out { O.failures out.old < u64.MAX }
+    requires err { E.failures err.old < u64.MAX }
+    ensures { Ends line.now (H.history result.1)
+        (held (O.taken out.old) (O.failures out.old)) (held (O.taken out.new) (O.failures out.new))
+        (held (E.taken err.old) (E.failures err.old)) (held (E.taken err.new) (E.failures err.new)) result.0 }
+{
+    let mut host = host;
+    match line {
+        Line::Check { files } => {
+            let status = check_files(&mut host, alloc, files.as_slice(), out, err);
+            (status, host)
+        }
+        _ => on_files(rt, alloc, host, process, line, gate, out, err),
+    }
+}
+
+/// The same for a command whose files are read first.
+fn on_files<R: Threads + Wait + Sync, G: Gate, H: Host + Drop, O: Sink, E: Sink>(
     rt: &R,
     alloc: Global,
     host: H,

@@ -54,9 +54,7 @@ pub fn with_trace<R: Threads + Wait + Sync, G: Gate, H: Host + Drop, K: Past, O:
         (held (E.taken err.old) (E.failures err.old)) (held (E.taken err.new) (E.failures err.new)) result.0 }
 {
     let mut trace = TraceFile::<H, K>::new(host, known, place, beside);
-    let status = command(
-        rt, alloc, arena, line, files, gate, out, err, &mut trace,
-    );
+    let status = command(rt, alloc, arena, line, files, gate, out, err, &mut trace);
     let (is_kept, host) = trace.finish();
     if is_kept {
         return (status, host);

@@ -1,11 +1,11 @@
-use Rattle.std.proofs.Common.{◌≡◌, ◌∙◌, sym, ap, subst, ℕ, ◌+◌, List, [], ◌∷◌, ◌++◌, length, get_or, take, reverse, arith, length-append, Option}
+use Rattle.std.proofs.Common.{◌≡◌, ◌∙◌, sym, subst, ℕ, ◌+◌, List, [], ◌∷◌, ◌++◌, get_or, take, reverse, arith, length-append, Option}
 use Rattle.std.specs.Prelude.{Vec}
 use Rattle.std.specs.declared.alloc.Global.{Global}
 use Rattle.host.specs.Events.{ends, reads}
 use Rattle.host.specs.Files.{bytes_of}
 use Rattle.swt_command.specs.Files.{contents}
 use Rattle.swt_process.specs.Reads.{AreRead, IsEnough, most_at}
-use Rattle.swt_process.proofs.Reading.{enough_of, none_read, read_at}
+use Rattle.swt_process.proofs.Reading.{enough_of, read_at}
 use Rattle.swt_process.proofs.files.read_files.Goals as goal
 
 pub loop-place-preserved : goal.loop-place-preserved
