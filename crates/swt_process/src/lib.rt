@@ -6,3 +6,4 @@ pub mod files;
 pub mod place;
 pub mod program;
 mod traced;
+pub mod words;
