@@ -24,7 +24,7 @@ pub enum EntryFault {
     InOperation(OpFault),
     /// A closed array has no such element.
     NoElement,
-    /// A path would have more than 512 steps.
+    /// A path would have more than 2,048 steps.
     TooDeep,
 }
 
@@ -178,19 +178,13 @@ fn written(
         Err(fault) => return Ok(fails(fault)),
     };
     match evaluate(alloc, right, answers)? {
-        Ok(right) => Ok(Computed::Puts(key_of(&index), into_scalar(right))),
+        Ok(right) => Ok(Computed::Puts(Key::of(into_scalar(index)), into_scalar(right))),
         Err(fault) => Ok(fails(fault)),
     }
 }
 
-/// The key that a value is, else 0.
-fn key_of(value: &Value) -> Key
-    ensures { result ≡ key_spelled (scalar_of value.now) }
-{
-    Key::Number(value.number())
-}
-
 /// The scalar that a value is, else 0. A text is not counted anew.
+#[inline(always)]
 pub fn into_scalar(value: Value) -> Scalar
     ensures { result ≡ scalar_of value }
 {

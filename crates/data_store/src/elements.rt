@@ -1,193 +1,161 @@
-//! The elements of an array: found by their keys in slots or in a hash table, and listed by rising key once they are asked for.
-ghost use Rattle.std.specs.Prelude.{◌≡◌, ◌<◌, ◌≤◌, ◌+◌, ◌++◌, None, length, map, IfOk, IsOk, OnOk, OnErr, option_copied};
-ghost use Rattle.std.specs.HashMap.{spare};
-ghost use Rattle.std.specs.Map.{lookup};
-ghost use Rattle.std.specs.Ordering.{int_eq, is_lt};
-ghost use Rattle.values.specs.Keys.{key_below};
-ghost use Rattle.values.specs.Maps.{found};
-ghost use Rattle.data_store.specs.Arrays.{arranged, element_of, empty, with_element, with_room};
-ghost use Rattle.data_store.specs.Filled.{IsPut};
+//! The elements of an array, those under numbers and those under texts each by themselves: an array of a script has keys of one kind.
+ghost use Rattle.std.specs.Prelude.{IsTrue, ◌≡◌, ◌<◌, ◌≤◌, ◌+◌, ◌++◌, None, length, IfOk, IsOk, OnOk, OnErr, option_copied};
+ghost use Rattle.values.specs.Keys.{key_seen};
+ghost use Rattle.values.specs.Maps.{found, rising};
+ghost use Rattle.data_store.specs.Arrays.{both, empty, room_for, with_element, with_room, with_room_for};
 
-use crate::slots::Slots;
+use crate::named::Named;
+use crate::numbered::Index;
 use std::alloc::{AllocError, Global};
-use std::cmp::Ordering;
-use std::collections::HashMap;
 use std::marker::Model;
-use values::key::Key;
+use values::key::{Key, KeyRef};
 use values::map::{Element, Map};
 use values::value::Scalar;
-
-/// The elements, with a list of them that is made when it is first asked for.
-#[derive(Drop)]
-pub struct Index {
-    // The elements under small keys, as long as there is memory for their slots.
-    slots: Slots,
-    // The others. It has spare places for all the room, so that an element without a slot finds one.
-    by_key: HashMap<i64, Scalar>,
-    // All elements, from the first call of `whole` to the next insert.
-    sorted: Option<Map>,
-    room: usize,
-}
-
-impl Model for Index {
-    ghost use Rattle.std.specs.Prelude.{◌++◌};
-    ghost use Rattle.std.specs.HashMap.{spare};
-    ghost use Rattle.data_store.specs.Arrays.{Array, arranged, IsKept};
-
-    ghost Value = { Array };
-
-    ghost view = { λ a. record { elements = arranged (a.slots ++ a.by_key.entries); room = a.room } };
-
-    ghost invariant = { λ a. IsKept (a.slots ++ a.by_key.entries) (spare a.by_key) a.sorted a.room };
-}
-
-impl Index {
-    pub fn new(alloc: Global) -> Index
-        ensures { result ≡ empty }
-    {
-        Index {
-            slots: Slots::new(alloc),
-            by_key: HashMap::new(alloc),
-            sorted: None,
-            room: 0,
-        }
-    }
-
-    pub fn len(&self) -> usize
-        ensures { result ≡ length self.now.elements }
-    {
-        self.slots.len() + self.by_key.len()
-    }
-
-    pub fn get(&self, key: &Key) -> Option<&Scalar>
-        ensures { option_copied result ≡ found key.now self.now.elements }
-    {
-        let n = number(key);
-        match self.slots.get(n) {
-            Some(value) => Some(value),
-            None => self.by_key.get(&n),
-        }
-    }
-
-    pub fn reserve(&mut self, n: usize) -> Result<(), AllocError>
-        ensures ok { OnOk result (self.new ≡ with_room n self.old) }
-        ensures succeeds { n ≤ self.old.room → IsOk result }
-        ensures err { OnErr result (self.new ≡ self.old) }
-    {
-        if self.room < n {
-            self.by_key.reserve(n)?;
-            self.sorted = None;
-            self.room = n;
-        }
-        Ok(())
-    }
-
-    pub fn insert(&mut self, key: Key, value: Scalar) -> Result<(), AllocError>
-        requires { found key self.old.elements ≡ None }
-        ensures ok { OnOk result (self.new ≡ with_element key value self.old) }
-        ensures succeeds { 0 < self.old.room → IsOk result }
-        ensures err { OnErr result (self.new ≡ self.old) }
-    {
-        put(&mut self.slots, &mut self.by_key, number(&key), value)?;
-        self.sorted = None;
-        self.room = self.room.saturating_sub(1);
-        Ok(())
-    }
-
-    pub fn listed(&self, alloc: Global) -> Result<Map, AllocError>
-        ensures { IfOk result (λ map. map ≡ self.now.elements) }
-    {
-        if let Some(map) = &self.sorted {
-            return map.share();
-        }
-        Map::new(alloc, sorted(alloc, &self.slots, &self.by_key)?)
-    }
-
-    pub fn whole(&mut self, alloc: Global) -> Result<Map, AllocError>
-        ensures whole { IfOk result (λ map. map ≡ self.old.elements) }
-        ensures same { self.new ≡ self.old }
-    {
-        if let Some(map) = &self.sorted {
-            return map.share();
-        }
-        let map = Map::new(alloc, sorted(alloc, &self.slots, &self.by_key)?)?;
-        let shared = map.share()?;
-        self.sorted = Some(map);
-        Ok(shared)
-    }
-}
 
 /// The elements of an array, which have no table before the first is put in or room is asked for.
 #[derive(Drop)]
 pub struct Elements {
-    index: Option<Box<Index>>,
+    numbers: Option<Box<Index>>,
+    texts: Option<Box<Named>>,
 }
 
 impl Model for Elements {
-    ghost use Rattle.data_store.specs.Arrays.{Array, array_of};
+    ghost use Rattle.data_store.specs.Arrays.{Array, both};
 
     ghost Value = { Array };
 
-    ghost view = { λ a. array_of a.index };
+    ghost view = { λ a. both a.numbers a.texts };
 }
 
 impl Elements {
     pub fn new() -> Elements
         ensures { result ≡ empty }
     {
-        Elements { index: None }
+        Elements {
+            numbers: None,
+            texts: None,
+        }
     }
 
     pub fn len(&self) -> usize
         ensures { result ≡ length self.now.elements }
     {
-        match &self.index {
+        self.numbered().saturating_add(self.named())
+    }
+
+    // How many are under numbers.
+    fn numbered(&self) -> usize {
+        match &self.numbers {
             Some(index) => index.len(),
             None => 0,
         }
     }
 
-    pub fn get(&self, key: &Key) -> Option<&Scalar>
-        ensures { option_copied result ≡ found key.now self.now.elements }
+    // How many are under texts.
+    fn named(&self) -> usize {
+        match &self.texts {
+            Some(named) => named.len(),
+            None => 0,
+        }
+    }
+
+    #[inline(always)]
+    pub fn get(&self, key: KeyRef<'_>) -> Option<&Scalar>
+        ensures { option_copied result ≡ found (key_seen key) self.now.elements }
     {
-        match &self.index {
-            Some(index) => index.get(key),
-            None => None,
+        match key {
+            KeyRef::Number(n) => match &self.numbers {
+                Some(index) => index.get(n),
+                None => None,
+            },
+            KeyRef::Text(text) => match &self.texts {
+                Some(named) => named.get(text),
+                None => None,
+            },
         }
     }
 
     /// Makes the next `n` calls of `insert` succeed.
     pub fn reserve(&mut self, alloc: Global, n: usize) -> Result<(), AllocError>
         ensures ok { OnOk result (self.new ≡ with_room n self.old) }
-        ensures succeeds { n ≤ self.old.room → IsOk result }
+        ensures succeeds { n ≤ self.old.room → n ≤ self.old.text_room → IsOk result }
+    {
+        self.reserve_numbers(alloc, n)?;
+        self.reserve_texts(alloc, n)
+    }
+
+    /// Makes the next `n` calls of `insert` with a key of this one's kind succeed.
+    #[inline(always)]
+    pub fn reserve_for(
+        &mut self,
+        alloc: Global,
+        key: KeyRef<'_>,
+        n: usize,
+    ) -> Result<(), AllocError>
+        ensures ok { OnOk result (self.new ≡ with_room_for (key_seen key) n self.old) }
+        ensures succeeds { n ≤ room_for (key_seen key) self.old → IsOk result }
         ensures err { OnErr result (self.new ≡ self.old) }
     {
-        match &mut self.index {
+        match key {
+            KeyRef::Number(_) => self.reserve_numbers(alloc, n),
+            KeyRef::Text(_) => self.reserve_texts(alloc, n),
+        }
+    }
+
+    #[inline(always)]
+    fn reserve_numbers(&mut self, alloc: Global, n: usize) -> Result<(), AllocError> {
+        match &mut self.numbers {
             Some(index) => index.reserve(n),
             None if n == 0 => Ok(()),
             None => {
                 let mut index = Box::new(alloc, Index::new(alloc))?;
                 index.reserve(n)?;
-                self.index = Some(index);
+                self.numbers = Some(index);
                 Ok(())
             }
         }
     }
 
+    #[inline(never)]
+    fn reserve_texts(&mut self, alloc: Global, n: usize) -> Result<(), AllocError> {
+        match &mut self.texts {
+            Some(named) => named.reserve(n),
+            None if n == 0 => Ok(()),
+            None => {
+                let mut named = Box::new(alloc, Named::new(alloc))?;
+                named.reserve(n)?;
+                self.texts = Some(named);
+                Ok(())
+            }
+        }
+    }
+
+    #[inline(always)]
     pub fn insert(&mut self, alloc: Global, key: Key, value: Scalar) -> Result<(), AllocError>
         requires { found key self.old.elements ≡ None }
         ensures ok { OnOk result (self.new ≡ with_element key value self.old) }
-        ensures succeeds { 0 < self.old.room → IsOk result }
+        ensures succeeds { 0 < room_for key self.old → IsOk result }
         ensures err { OnErr result (self.new ≡ self.old) }
     {
-        match &mut self.index {
-            Some(index) => index.insert(key, value),
-            None => {
-                let mut index = Box::new(alloc, Index::new(alloc))?;
-                index.insert(key, value)?;
-                self.index = Some(index);
-                Ok(())
-            }
+        match key {
+            Key::Number(n) => match &mut self.numbers {
+                Some(index) => index.insert(n, value),
+                None => {
+                    let mut index = Box::new(alloc, Index::new(alloc))?;
+                    index.insert(n, value)?;
+                    self.numbers = Some(index);
+                    Ok(())
+                }
+            },
+            Key::Text(text) => match &mut self.texts {
+                Some(named) => named.insert(text, value),
+                None => {
+                    let mut named = Box::new(alloc, Named::new(alloc))?;
+                    named.insert(text, value)?;
+                    self.texts = Some(named);
+                    Ok(())
+                }
+            },
         }
     }
 
@@ -195,9 +163,13 @@ impl Elements {
     pub fn listed(&self, alloc: Global) -> Result<Map, AllocError>
         ensures { IfOk result (λ map. map ≡ self.now.elements) }
     {
-        match &self.index {
-            Some(index) => index.listed(alloc),
-            None => Map::new(alloc, Vec::new(alloc)),
+        match (&self.numbers, &self.texts) {
+            (None, None) => Map::new(alloc, Vec::new(alloc)),
+            (Some(index), None) => index.listed(alloc),
+            (None, Some(named)) => named.listed(alloc),
+            (Some(index), Some(named)) => {
+                joined(alloc, index.listed(alloc)?, named.listed(alloc)?)
+            }
         }
     }
 
@@ -206,80 +178,34 @@ impl Elements {
         ensures whole { IfOk result (λ map. map ≡ self.old.elements) }
         ensures same { self.new ≡ self.old }
     {
-        match &mut self.index {
-            Some(index) => index.whole(alloc),
-            None => Map::new(alloc, Vec::new(alloc)),
+        match (&mut self.numbers, &mut self.texts) {
+            (None, None) => Map::new(alloc, Vec::new(alloc)),
+            (Some(index), None) => index.whole(alloc),
+            (None, Some(named)) => named.whole(alloc),
+            (Some(index), Some(named)) => joined(alloc, index.whole(alloc)?, named.whole(alloc)?),
         }
     }
 }
 
-fn number(key: &Key) -> i64
-    ensures { key.now ≡ Key.Number result }
+// The elements under numbers, and behind them those under texts.
+fn joined(alloc: Global, numbers: Map, texts: Map) -> Result<Map, AllocError>
+    requires { IsTrue (rising (numbers ++ texts)) }
+    ensures { IfOk result (λ map. map ≡ numbers ++ texts) }
 {
-    match key {
-        Key::Number(n) => *n,
-    }
+    let mut list = Vec::with_capacity(alloc, numbers.len().saturating_add(texts.len()))?;
+    append(&mut list, numbers.elements())?;
+    append(&mut list, texts.elements())?;
+    Map::new(alloc, list)
 }
 
-// Puts in an element under a key that has none: into a slot, if there is one for it, and else into the table.
-fn put(
-    slots: &mut Slots,
-    by_key: &mut HashMap<i64, Scalar>,
-    key: i64,
-    value: Scalar,
-) -> Result<(), AllocError>
-    requires { lookup (int_eq key) (slots.old ++ by_key.old.entries) ≡ None }
-    ensures ok { OnOk result (IsPut key value (slots.old ++ by_key.old.entries) (slots.new ++ by_key.new.entries)) }
-    ensures succeeds { 0 < spare by_key.old → IsOk result }
-    ensures spare { spare by_key.old ≤ spare by_key.new + 1 }
-    ensures err { OnErr result ((slots.new ≡ slots.old) × (by_key.new.entries ≡ by_key.old.entries)) }
+fn append(list: &mut Vec<Element>, elements: &[Element]) -> Result<(), AllocError>
+    ensures { OnOk result (list.new.items ≡ list.old.items ++ elements.now) }
 {
-    match slots.put(key, value) {
-        None => Ok(()),
-        Some(value) => {
-            by_key.insert(key, value)?;
-            Ok(())
-        }
-    }
-}
-
-// The elements in slots and in a table, by rising key.
-fn sorted(
-    alloc: Global,
-    slots: &Slots,
-    by_key: &HashMap<i64, Scalar>,
-) -> Result<Vec<Element>, AllocError>
-    requires { length (arranged (slots.now ++ by_key.now.entries)) ≡ length (slots.now ++ by_key.now.entries) }
-    ensures { IfOk result (λ list. list.items ≡ arranged (slots.now ++ by_key.now.entries)) }
-{
-    let mut list = Vec::with_capacity(alloc, slots.len() + by_key.len())?;
-    slots.append_to(&mut list)?;
-    append_to(&mut list, by_key)?;
-    list.sort_unstable_by(|a, b| order(a, b));
-    Ok(list)
-}
-
-// Adds the elements of a table to the end of the list, as they come.
-fn append_to(list: &mut Vec<Element>, by_key: &HashMap<i64, Scalar>) -> Result<(), AllocError>
-    ensures { OnOk result (list.new.items ≡ list.old.items ++ map element_of by_key.now.entries) }
-{
-    for (key, value) in by_key {
+    for one in elements {
         list.push(Element {
-            key: Key::Number(*key),
-            value: value.share()?,
+            key: one.key.share()?,
+            value: one.value.share()?,
         })?;
     }
     Ok(())
-}
-
-fn order(a: &Element, b: &Element) -> Ordering
-    ensures { is_lt result ≡ key_below a.now.key b.now.key }
-{
-    if a.key.is_below(&b.key) {
-        Ordering::Less
-    } else if b.key.is_below(&a.key) {
-        Ordering::Greater
-    } else {
-        Ordering::Equal
-    }
 }

@@ -8,6 +8,8 @@
 
 mod datum;
 mod elements;
+mod named;
+mod numbered;
 pub mod refusal;
 mod slots;
 pub mod store;

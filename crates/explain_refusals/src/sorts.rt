@@ -5,8 +5,8 @@ use crate::mention::{Mention, Sort};
 use lexer::token::Span;
 use std::alloc::Allocator;
 use syntax_trees::tree::{
-    Base, Block, Call, Decl, Expr, ExprKind, Item, Name, Operator, Prefix, Range, Right, Script,
-    Shape, Source, Stmt, StmtKind,
+    Base, Block, Call, Decl, Expr, ExprKind, Item, Keys, Name, Operator, Prefix, Range, Right,
+    Script, Shape, Source, Stmt, StmtKind,
 };
 
 /// An expression that has another type than the one that is wanted.
@@ -30,6 +30,14 @@ fn one(base: Base) -> Sort {
     Sort {
         base,
         shape: Shape::Scalar,
+    }
+}
+
+/// The type of an index of an array.
+fn index_of(array: Sort) -> Sort {
+    match array.shape {
+        Shape::Array(keys) => one(keys.base()),
+        Shape::Scalar => one(Base::Int),
     }
 }
 
@@ -117,8 +125,8 @@ fn in_write<A: Allocator>(
     value: &Expr<A>,
     found: &mut Option<Mismatch>,
 ) {
-    demand(search, index, one(Base::Int), found);
     if let Some(array) = sort_of_name(search, name) {
+        demand(search, index, index_of(array), found);
         demand(search, value, one(array.base), found);
     }
 }
@@ -135,6 +143,18 @@ fn in_right<A: Allocator>(
         Right::List(list) => {
             for element in &list.elements {
                 demand(search, element, one(wanted.base), found);
+            }
+            if found.is_none()
+                && list.first == search.at
+                && wanted.shape == Shape::Array(Keys::Texts)
+            {
+                *found = Some(Mismatch {
+                    found: Sort {
+                        base: wanted.base,
+                        shape: Shape::Array(Keys::Numbers),
+                    },
+                    wanted,
+                });
             }
         }
     }
@@ -203,7 +223,10 @@ fn base_of(prefix: Prefix) -> Base {
 fn in_form<A: Allocator>(search: &Search<A>, kind: &ExprKind<A>, found: &mut Option<Mismatch>) {
     match kind {
         ExprKind::Number(_) | ExprKind::Text(_) | ExprKind::Truth(_) | ExprKind::Variable(_) => {}
-        ExprKind::Element(_, index) => demand(search, index, one(Base::Int), found),
+        ExprKind::Element(name, index) => match sort_of_name(search, name) {
+            Some(array) => demand(search, index, index_of(array), found),
+            None => demand(search, index, one(Base::Int), found),
+        },
         ExprKind::Call(name, arguments) => in_arguments(search, name, arguments, found),
         ExprKind::Prefixed(prefix, operand) => {
             demand(search, operand, one(base_of(*prefix)), found);

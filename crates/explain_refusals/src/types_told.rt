@@ -8,7 +8,7 @@ use crate::told::{Note, Refused, Told, note_of};
 use itoa::Buffer;
 use lexer::token::Span;
 use std::alloc::{AllocError, Allocator};
-use syntax_trees::tree::{Base, Function, Shape};
+use syntax_trees::tree::{Base, Function, Keys, Shape};
 use types::fault::TypeFault;
 
 /// What is said of a script that is not well typed.
@@ -90,9 +90,12 @@ fn add_sort(out: &mut Vec<u8>, sort: Sort) -> Result<(), AllocError> {
         (Shape::Scalar, Base::Int) => "an int",
         (Shape::Scalar, Base::Text) => "a string",
         (Shape::Scalar, Base::Boolean) => "a boolean",
-        (Shape::Array, Base::Int) => "an array of int",
-        (Shape::Array, Base::Text) => "an array of string",
-        (Shape::Array, Base::Boolean) => "an array of boolean",
+        (Shape::Array(Keys::Numbers), Base::Int) => "an array of int",
+        (Shape::Array(Keys::Numbers), Base::Text) => "an array of string",
+        (Shape::Array(Keys::Numbers), Base::Boolean) => "an array of boolean",
+        (Shape::Array(Keys::Texts), Base::Int) => "an array of int by strings",
+        (Shape::Array(Keys::Texts), Base::Text) => "an array of string by strings",
+        (Shape::Array(Keys::Texts), Base::Boolean) => "an array of boolean by strings",
     };
     out.extend_from_slice(words.as_bytes())
 }

@@ -14,7 +14,7 @@ Path = List Step
 
 -- the most steps of a path (docs/LANGUAGE.md, Limits)
 abbrev pub most_steps : ℕ
-most_steps = 512
+most_steps = 2048
 
 -- a place: a path with a node
 abbrev pub Place : Type 0

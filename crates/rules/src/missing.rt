@@ -1,7 +1,6 @@
 //! What an item misses, in few words.
 ghost use Rattle.std.specs.Prelude.{◌≡◌, ◌≢◌, ◌<◌, Vec, [], ◌∷◌, ◌==◌, not, length, filter};
 ghost use Rattle.std.specs.Global.{Global};
-ghost use Rattle.values.specs.declared.key.Key.TheVariants.{Number};
 ghost use Rattle.rules.specs.declared.input.Input.{Input};
 ghost use Rattle.rules.specs.declared.input.Input.TheVariants.{Element};
 ghost use Rattle.rules.specs.declared.missing.Missing.TheVariants.{More};
@@ -10,19 +9,18 @@ ghost use Rattle.rules.specs.Missing.{inputs_in, inputs_of};
 
 use crate::input::Input;
 use smallvec::SmallVec;
-use values::key::Key;
 
 /// The inputs that an item misses, in their order: one or two in as few words as that takes, a datum by its number and an element by
-/// those of its array and its key, and more in a list.
+/// those of its array and its mark, and more in a list.
 #[derive(Drop)]
 pub enum Missing {
     Nothing,
     OneWhole(u64),
-    OneElement(u64, i64),
+    OneElement(u64, u64),
     TwoWholes(u64, u64),
-    WholeAndElement(u64, u64, i64),
-    ElementAndWhole(u64, i64, u64),
-    TwoElements(u64, i64, u64, i64),
+    WholeAndElement(u64, u64, u64),
+    ElementAndWhole(u64, u64, u64),
+    TwoElements(u64, u64, u64, u64),
     More(Vec<Input>),
 }
 
@@ -42,7 +40,7 @@ fn one(input: &Input) -> Missing
 {
     match input {
         Input::Whole(a) => Missing::OneWhole(*a),
-        Input::Element(a, Key::Number(k)) => Missing::OneElement(*a, *k),
+        Input::Element(a, k) => Missing::OneElement(*a, *k),
     }
 }
 
@@ -53,15 +51,9 @@ fn two(first: &Input, second: &Input) -> Missing
 {
     match (first, second) {
         (Input::Whole(a), Input::Whole(b)) => Missing::TwoWholes(*a, *b),
-        (Input::Whole(a), Input::Element(b, Key::Number(l))) => {
-            Missing::WholeAndElement(*a, *b, *l)
-        }
-        (Input::Element(a, Key::Number(k)), Input::Whole(b)) => {
-            Missing::ElementAndWhole(*a, *k, *b)
-        }
-        (Input::Element(a, Key::Number(k)), Input::Element(b, Key::Number(l))) => {
-            Missing::TwoElements(*a, *k, *b, *l)
-        }
+        (Input::Whole(a), Input::Element(b, l)) => { Missing::WholeAndElement(*a, *b, *l) }
+        (Input::Element(a, k), Input::Whole(b)) => { Missing::ElementAndWhole(*a, *k, *b) }
+        (Input::Element(a, k), Input::Element(b, l)) => { Missing::TwoElements(*a, *k, *b, *l) }
     }
 }
 
@@ -192,10 +184,10 @@ impl Missing {
     }
 }
 
-/// The element under the number.
+/// The element of the mark.
 #[inline(always)]
-fn element(array: u64, number: i64) -> Input
-    ensures { result ≡ Element array (Number number) }
+fn element(array: u64, mark: u64) -> Input
+    ensures { result ≡ Element array mark }
 {
-    Input::Element(array, Key::Number(number))
+    Input::Element(array, mark)
 }

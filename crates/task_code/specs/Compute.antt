@@ -37,11 +37,7 @@ abbrev pub in_key_order : Elements → Bool
 in_key_order xs = rising (elements xs)
 
 -- the key that a scalar is, and the scalar that a key is
-abbrev pub key_of : Scalar → Key
-key_of v = number_key (number_of (One v))
-
-abbrev pub key_scalar : Key → Scalar
-key_scalar (number_key z) = Number z
+pub use Rattle.values.specs.Keys.{key_of, key_scalar}
 
 -- the answer to the need of a number
 abbrev pub answer_at : List (Answer Key Scalar) → ℕ → Option (Answer Key Scalar)

@@ -128,9 +128,9 @@ steps_on (Range l h s w) = true
 steps_on (Each w) = true
 steps_on _ = false
 
--- a path has at most 512 steps
+-- a path has at most 2,048 steps
 abbrev pub is_too_deep : Act → List Step → List (ℕ × List Step) → Bool
-is_too_deep a p ss = nat_le 512 (length p) && (steps_on a && is_some_list ss)
+is_too_deep a p ss = nat_le 2048 (length p) && (steps_on a && is_some_list ss)
 
 -- an effect, or TooDeep in its place
 abbrev pub limited : Bool → Effect Task Place Key Scalar → Outcome Task Place Key Scalar EntryFault
