@@ -58,7 +58,7 @@ impl Content {
 
     #[inline(always)]
     pub fn element(&self, key: KeyRef<'_>) -> Option<&Scalar>
-        ensures { option_copied result ≡ found (key_seen key) (array_in self.now).elements }
+        ensures { option_copied result ≡ found (key_seen key.entry) (array_in self.now).elements }
     {
         match self {
             Content::OfArray(elements) => elements.get(key),
@@ -155,8 +155,8 @@ impl Datum {
         n: usize,
     ) -> Result<(), AllocError>
         requires { IsArray self.old.content }
-        ensures ok { OnOk result (self.new ≡ with_array (with_room_for (key_seen key) n) self.old) }
-        ensures succeeds { n ≤ room_for (key_seen key) (array_in self.old.content) → IsOk result }
+        ensures ok { OnOk result (self.new ≡ with_array (with_room_for (key_seen key.entry) n) self.old) }
+        ensures succeeds { n ≤ room_for (key_seen key.entry) (array_in self.old.content) → IsOk result }
         ensures err { OnErr result (self.new ≡ self.old) }
     {
         match &mut self.content {

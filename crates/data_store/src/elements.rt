@@ -1,8 +1,8 @@
 //! The elements of an array, those under numbers and those under texts each by themselves: an array of a script has keys of one kind.
-ghost use Rattle.std.specs.Prelude.{IsTrue, ◌≡◌, ◌<◌, ◌≤◌, ◌+◌, ◌++◌, None, length, IfOk, IsOk, OnOk, OnErr, option_copied};
+ghost use Rattle.std.specs.Prelude.{◌≡◌, ◌<◌, ◌≤◌, ◌+◌, ◌^◌, ◌++◌, None, length, IfOk, IsOk, OnOk, OnErr, option_copied};
 ghost use Rattle.values.specs.Keys.{key_seen};
-ghost use Rattle.values.specs.Maps.{found, rising};
-ghost use Rattle.data_store.specs.Arrays.{both, empty, room_for, with_element, with_room, with_room_for};
+ghost use Rattle.values.specs.Maps.{found};
+ghost use Rattle.data_store.specs.Arrays.{empty, limited, room_for, table_of, with_element, with_entry, with_places, with_room, with_room_for, AreParted};
 
 use crate::named::Named;
 use crate::numbered::Index;
@@ -10,6 +10,7 @@ use std::alloc::{AllocError, Global};
 use std::marker::Model;
 use values::key::{Key, KeyRef};
 use values::map::{Element, Map};
+use values::text::Text;
 use values::value::Scalar;
 
 /// The elements of an array, which have no table before the first is put in or room is asked for.
@@ -20,11 +21,13 @@ pub struct Elements {
 }
 
 impl Model for Elements {
-    ghost use Rattle.data_store.specs.Arrays.{Array, both};
+    ghost use Rattle.data_store.specs.Arrays.{Array, table_of, together, AreParted};
 
     ghost Value = { Array };
 
-    ghost view = { λ a. both a.numbers a.texts };
+    ghost view = { λ a. together (table_of a.numbers) (table_of a.texts) };
+
+    ghost invariant = { λ a. AreParted (table_of a.numbers).entries (table_of a.texts).entries };
 }
 
 impl Elements {
@@ -40,38 +43,16 @@ impl Elements {
     pub fn len(&self) -> usize
         ensures { result ≡ length self.now.elements }
     {
-        self.numbered().saturating_add(self.named())
-    }
-
-    // How many are under numbers.
-    fn numbered(&self) -> usize {
-        match &self.numbers {
-            Some(index) => index.len(),
-            None => 0,
-        }
-    }
-
-    // How many are under texts.
-    fn named(&self) -> usize {
-        match &self.texts {
-            Some(named) => named.len(),
-            None => 0,
-        }
+        count_numbers(&self.numbers) + count_texts(&self.texts)
     }
 
     #[inline(always)]
     pub fn get(&self, key: KeyRef<'_>) -> Option<&Scalar>
-        ensures { option_copied result ≡ found (key_seen key) self.now.elements }
+        ensures { option_copied result ≡ found (key_seen key.entry) self.now.elements }
     {
         match key {
-            KeyRef::Number(n) => match &self.numbers {
-                Some(index) => index.get(n),
-                None => None,
-            },
-            KeyRef::Text(text) => match &self.texts {
-                Some(named) => named.get(text),
-                None => None,
-            },
+            KeyRef::Number(n) => under_number(&self.numbers, n),
+            KeyRef::Text(text) => under_text(&self.texts, text),
         }
     }
 
@@ -79,9 +60,15 @@ impl Elements {
     pub fn reserve(&mut self, alloc: Global, n: usize) -> Result<(), AllocError>
         ensures ok { OnOk result (self.new ≡ with_room n self.old) }
         ensures succeeds { n ≤ self.old.room → n ≤ self.old.text_room → IsOk result }
+        ensures err { OnErr result (self.new ≡ self.old) }
     {
-        self.reserve_numbers(alloc, n)?;
-        self.reserve_texts(alloc, n)
+        let promised = places(&self.numbers);
+        reserve_numbers(&mut self.numbers, alloc, n)?;
+        if let Err(refused) = reserve_texts(&mut self.texts, alloc, n) {
+            limit(&mut self.numbers, promised);
+            return Err(refused);
+        }
+        Ok(())
     }
 
     /// Makes the next `n` calls of `insert` with a key of this one's kind succeed.
@@ -92,41 +79,13 @@ impl Elements {
         key: KeyRef<'_>,
         n: usize,
     ) -> Result<(), AllocError>
-        ensures ok { OnOk result (self.new ≡ with_room_for (key_seen key) n self.old) }
-        ensures succeeds { n ≤ room_for (key_seen key) self.old → IsOk result }
+        ensures ok { OnOk result (self.new ≡ with_room_for (key_seen key.entry) n self.old) }
+        ensures succeeds { n ≤ room_for (key_seen key.entry) self.old → IsOk result }
         ensures err { OnErr result (self.new ≡ self.old) }
     {
         match key {
-            KeyRef::Number(_) => self.reserve_numbers(alloc, n),
-            KeyRef::Text(_) => self.reserve_texts(alloc, n),
-        }
-    }
-
-    #[inline(always)]
-    fn reserve_numbers(&mut self, alloc: Global, n: usize) -> Result<(), AllocError> {
-        match &mut self.numbers {
-            Some(index) => index.reserve(n),
-            None if n == 0 => Ok(()),
-            None => {
-                let mut index = Box::new(alloc, Index::new(alloc))?;
-                index.reserve(n)?;
-                self.numbers = Some(index);
-                Ok(())
-            }
-        }
-    }
-
-    #[inline(never)]
-    fn reserve_texts(&mut self, alloc: Global, n: usize) -> Result<(), AllocError> {
-        match &mut self.texts {
-            Some(named) => named.reserve(n),
-            None if n == 0 => Ok(()),
-            None => {
-                let mut named = Box::new(alloc, Named::new(alloc))?;
-                named.reserve(n)?;
-                self.texts = Some(named);
-                Ok(())
-            }
+            KeyRef::Number(_) => reserve_numbers(&mut self.numbers, alloc, n),
+            KeyRef::Text(_) => reserve_texts(&mut self.texts, alloc, n),
         }
     }
 
@@ -138,24 +97,8 @@ impl Elements {
         ensures err { OnErr result (self.new ≡ self.old) }
     {
         match key {
-            Key::Number(n) => match &mut self.numbers {
-                Some(index) => index.insert(n, value),
-                None => {
-                    let mut index = Box::new(alloc, Index::new(alloc))?;
-                    index.insert(n, value)?;
-                    self.numbers = Some(index);
-                    Ok(())
-                }
-            },
-            Key::Text(text) => match &mut self.texts {
-                Some(named) => named.insert(text, value),
-                None => {
-                    let mut named = Box::new(alloc, Named::new(alloc))?;
-                    named.insert(text, value)?;
-                    self.texts = Some(named);
-                    Ok(())
-                }
-            },
+            Key::Number(n) => insert_number(&mut self.numbers, alloc, n, value),
+            Key::Text(text) => insert_text(&mut self.texts, alloc, text, value),
         }
     }
 
@@ -187,12 +130,158 @@ impl Elements {
     }
 }
 
+fn count_numbers(numbers: &Option<Box<Index>>) -> usize
+    ensures len { result ≡ length (table_of numbers.now).entries }
+    ensures small { result < 2 ^ 63 + 2 ^ 32 }
+{
+    match numbers {
+        Some(index) => index.len(),
+        None => 0,
+    }
+}
+
+fn count_texts(texts: &Option<Box<Named>>) -> usize
+    ensures len { result ≡ length (table_of texts.now).entries }
+    ensures small { result ≤ 2 ^ 62 }
+{
+    match texts {
+        Some(named) => named.len(),
+        None => 0,
+    }
+}
+
+#[inline(always)]
+fn under_number(numbers: &Option<Box<Index>>, n: i64) -> Option<&Scalar>
+    ensures { option_copied result ≡ found (Key.Number n) (table_of numbers.now).entries }
+{
+    match numbers {
+        Some(index) => index.get(n),
+        None => None,
+    }
+}
+
+#[inline(always)]
+fn under_text<'a>(texts: &'a Option<Box<Named>>, text: &Text) -> Option<&'a Scalar>
+    ensures { option_copied result ≡ found (Key.Text text.now) (table_of texts.now).entries }
+{
+    match texts {
+        Some(named) => named.get(text),
+        None => None,
+    }
+}
+
+// How many further elements under numbers are sure to find memory.
+fn places(numbers: &Option<Box<Index>>) -> usize
+    ensures { result ≡ (table_of numbers.now).places }
+{
+    match numbers {
+        Some(index) => index.places(),
+        None => 0,
+    }
+}
+
+// Takes back what was promised to elements under numbers, but for so many.
+fn limit(numbers: &mut Option<Box<Index>>, places: usize)
+    requires { places ≤ (table_of numbers.old).places }
+    ensures { table_of numbers.new ≡ limited places (table_of numbers.old) }
+{
+    if let Some(index) = numbers {
+        index.limit(places);
+    }
+}
+
+#[inline(always)]
+fn reserve_numbers(
+    numbers: &mut Option<Box<Index>>,
+    alloc: Global,
+    n: usize,
+) -> Result<(), AllocError>
+    ensures ok { OnOk result (table_of numbers.new ≡ with_places n (table_of numbers.old)) }
+    ensures succeeds { n ≤ (table_of numbers.old).places → IsOk result }
+    ensures err { OnErr result (table_of numbers.new ≡ table_of numbers.old) }
+{
+    match numbers {
+        Some(index) => index.reserve(n),
+        None if n == 0 => Ok(()),
+        None => {
+            let mut index = Box::new(alloc, Index::new(alloc))?;
+            index.reserve(n)?;
+            *numbers = Some(index);
+            Ok(())
+        }
+    }
+}
+
+#[inline(never)]
+fn reserve_texts(texts: &mut Option<Box<Named>>, alloc: Global, n: usize) -> Result<(), AllocError>
+    ensures ok { OnOk result (table_of texts.new ≡ with_places n (table_of texts.old)) }
+    ensures succeeds { n ≤ (table_of texts.old).places → IsOk result }
+    ensures err { OnErr result (table_of texts.new ≡ table_of texts.old) }
+{
+    match texts {
+        Some(named) => named.reserve(n),
+        None if n == 0 => Ok(()),
+        None => {
+            let mut named = Box::new(alloc, Named::new(alloc))?;
+            named.reserve(n)?;
+            *texts = Some(named);
+            Ok(())
+        }
+    }
+}
+
+#[inline(always)]
+fn insert_number(
+    numbers: &mut Option<Box<Index>>,
+    alloc: Global,
+    n: i64,
+    value: Scalar,
+) -> Result<(), AllocError>
+    requires { found (Key.Number n) (table_of numbers.old).entries ≡ None }
+    ensures ok { OnOk result (table_of numbers.new ≡ with_entry (Key.Number n) value (table_of numbers.old)) }
+    ensures succeeds { 0 < (table_of numbers.old).places → IsOk result }
+    ensures err { OnErr result (table_of numbers.new ≡ table_of numbers.old) }
+{
+    match numbers {
+        Some(index) => index.insert(n, value),
+        None => {
+            let mut index = Box::new(alloc, Index::new(alloc))?;
+            index.insert(n, value)?;
+            *numbers = Some(index);
+            Ok(())
+        }
+    }
+}
+
+#[inline(never)]
+fn insert_text(
+    texts: &mut Option<Box<Named>>,
+    alloc: Global,
+    text: Text,
+    value: Scalar,
+) -> Result<(), AllocError>
+    requires { found (Key.Text text) (table_of texts.old).entries ≡ None }
+    ensures ok { OnOk result (table_of texts.new ≡ with_entry (Key.Text text) value (table_of texts.old)) }
+    ensures succeeds { 0 < (table_of texts.old).places → IsOk result }
+    ensures err { OnErr result (table_of texts.new ≡ table_of texts.old) }
+{
+    match texts {
+        Some(named) => named.insert(text, value),
+        None => {
+            let mut named = Box::new(alloc, Named::new(alloc))?;
+            named.insert(text, value)?;
+            *texts = Some(named);
+            Ok(())
+        }
+    }
+}
+
 // The elements under numbers, and behind them those under texts.
 fn joined(alloc: Global, numbers: Map, texts: Map) -> Result<Map, AllocError>
-    requires { IsTrue (rising (numbers ++ texts)) }
+    requires { AreParted numbers texts }
     ensures { IfOk result (λ map. map ≡ numbers ++ texts) }
 {
-    let mut list = Vec::with_capacity(alloc, numbers.len().saturating_add(texts.len()))?;
+    let mut list = Vec::new(alloc);
     append(&mut list, numbers.elements())?;
     append(&mut list, texts.elements())?;
     Map::new(alloc, list)
@@ -201,10 +290,10 @@ fn joined(alloc: Global, numbers: Map, texts: Map) -> Result<Map, AllocError>
 fn append(list: &mut Vec<Element>, elements: &[Element]) -> Result<(), AllocError>
     ensures { OnOk result (list.new.items ≡ list.old.items ++ elements.now) }
 {
-    for one in elements {
+    for element in elements {
         list.push(Element {
-            key: one.key.share()?,
-            value: one.value.share()?,
+            key: element.key.share()?,
+            value: element.value.share()?,
         })?;
     }
     Ok(())

@@ -1,11 +1,10 @@
 //! The elements of an array under texts: found by their keys in a hash table, and listed by rising key once they are asked for.
-ghost use Rattle.std.specs.Prelude.{◌≡◌, ◌<◌, ◌≤◌, ◌++◌, None, length, map, IfOk, IsOk, OnOk, OnErr, option_copied};
-ghost use Rattle.std.specs.Ordering.{is_lt};
-ghost use Rattle.values.specs.Keys.{key_below};
+ghost use Rattle.std.specs.Prelude.{IsTrue, ◌≡◌, ◌<◌, ◌≤◌, ◌+◌, ◌-◌, ◌^◌, ◌++◌, None, length, map, IfOk, IsOk, OnOk, OnErr, option_copied};
+ghost use Rattle.std.specs.Bool.{OnTrue};
 ghost use Rattle.values.specs.Maps.{found};
-ghost use Rattle.data_store.specs.Arrays.{named, named_element, no_table, with_entry, with_places};
+ghost use Rattle.data_store.specs.Arrays.{arranged, no_table, text_element, with_entry, with_places};
 
-use crate::numbered::order;
+use crate::order::arrange;
 use std::alloc::{AllocError, Global};
 use std::collections::HashMap;
 use std::marker::Model;
@@ -13,6 +12,9 @@ use values::key::Key;
 use values::map::{Element, Map};
 use values::text::Text;
 use values::value::Scalar;
+
+// So many elements there are at most, that the number of all elements of an array has 64 bits.
+const MOST: usize = 1 << 62;
 
 /// The elements, with a list of them that is made when it is first asked for.
 #[derive(Drop)]
@@ -24,14 +26,15 @@ pub struct Named {
 }
 
 impl Model for Named {
+    ghost use Rattle.std.specs.Prelude.{◌≤◌, ◌+◌, ◌^◌, length, map};
     ghost use Rattle.std.specs.HashMap.{spare};
-    ghost use Rattle.data_store.specs.Arrays.{Table, named, IsNamed};
+    ghost use Rattle.data_store.specs.Arrays.{Table, arranged, text_element, IsKept};
 
     ghost Value = { Table };
 
-    ghost view = { λ a. record { entries = named a.by_text.entries; places = a.room } };
+    ghost view = { λ a. record { entries = arranged (map text_element a.by_text.entries); places = a.room } };
 
-    ghost invariant = { λ a. IsNamed a.by_text.entries (spare a.by_text) a.sorted a.room };
+    ghost invariant = { λ a. IsKept (map text_element a.by_text.entries) (spare a.by_text) a.sorted a.room × (length a.by_text.entries + a.room ≤ 2 ^ 62) };
 }
 
 impl Named {
@@ -46,7 +49,8 @@ impl Named {
     }
 
     pub fn len(&self) -> usize
-        ensures { result ≡ length self.now.entries }
+        ensures len { result ≡ length self.now.entries }
+        ensures small { result ≤ 2 ^ 62 }
     {
         self.by_text.len()
     }
@@ -63,6 +67,9 @@ impl Named {
         ensures err { OnErr result (self.new ≡ self.old) }
     {
         if self.room < n {
+            if n > MOST - self.by_text.len() {
+                return Err(AllocError);
+            }
             self.by_text.reserve(n)?;
             self.sorted = None;
             self.room = n;
@@ -76,6 +83,9 @@ impl Named {
         ensures succeeds { 0 < self.old.places → IsOk result }
         ensures err { OnErr result (self.new ≡ self.old) }
     {
+        if !has_place(self.by_text.len(), self.room) {
+            return Err(AllocError);
+        }
         self.by_text.insert(text, value)?;
         self.sorted = None;
         self.room = self.room.saturating_sub(1);
@@ -105,20 +115,29 @@ impl Named {
     }
 }
 
+// Whether so many elements, with so much room, are few enough for one more.
+fn has_place(len: usize, room: usize) -> bool
+    requires { len + room ≤ 2 ^ 62 }
+    ensures more { OnTrue result (len + 1 + (room - 1) ≤ 2 ^ 62) }
+    ensures promised { 0 < room → IsTrue result }
+{
+    room > 0 || len < MOST
+}
+
 // The elements in a table, by rising key.
 fn sorted(alloc: Global, by_text: &HashMap<Text, Scalar>) -> Result<Vec<Element>, AllocError>
-    requires { length (named by_text.now.entries) ≡ length by_text.now.entries }
-    ensures { IfOk result (λ list. list.items ≡ named by_text.now.entries) }
+    requires { length (arranged (map text_element by_text.now.entries)) ≡ length (map text_element by_text.now.entries) }
+    ensures { IfOk result (λ list. list.items ≡ arranged (map text_element by_text.now.entries)) }
 {
     let mut list = Vec::with_capacity(alloc, by_text.len())?;
     append_to(&mut list, by_text)?;
-    list.sort_unstable_by(|a, b| order(a, b));
+    arrange(&mut list);
     Ok(list)
 }
 
 // Adds the elements of a table to the end of the list, as they come.
 fn append_to(list: &mut Vec<Element>, by_text: &HashMap<Text, Scalar>) -> Result<(), AllocError>
-    ensures { OnOk result (list.new.items ≡ list.old.items ++ map named_element by_text.now.entries) }
+    ensures { OnOk result (list.new.items ≡ list.old.items ++ map text_element by_text.now.entries) }
 {
     for (text, value) in by_text {
         list.push(Element {

@@ -1,16 +1,15 @@
 //! The elements of an array under numbers: found by their keys in slots or in a hash table, and listed by rising key once they are asked for.
-ghost use Rattle.std.specs.Prelude.{◌≡◌, ◌<◌, ◌≤◌, ◌+◌, ◌++◌, None, length, map, IfOk, IsOk, OnOk, OnErr, option_copied};
+ghost use Rattle.std.specs.Prelude.{◌≡◌, ◌<◌, ◌≤◌, ◌+◌, ◌^◌, ◌++◌, None, length, map, IfOk, IsOk, OnOk, OnErr, option_copied};
 ghost use Rattle.std.specs.HashMap.{spare};
 ghost use Rattle.std.specs.Map.{lookup};
-ghost use Rattle.std.specs.Ordering.{int_eq, is_lt};
-ghost use Rattle.values.specs.Keys.{key_below};
+ghost use Rattle.std.specs.Ordering.{int_eq};
 ghost use Rattle.values.specs.Maps.{found};
-ghost use Rattle.data_store.specs.Arrays.{arranged, element_of, no_table, with_entry, with_places};
+ghost use Rattle.data_store.specs.Arrays.{arranged, limited, no_table, number_element, with_entry, with_places};
 ghost use Rattle.data_store.specs.Filled.{IsPut};
 
+use crate::order::arrange;
 use crate::slots::Slots;
 use std::alloc::{AllocError, Global};
-use std::cmp::Ordering;
 use std::collections::HashMap;
 use std::marker::Model;
 use values::key::Key;
@@ -30,15 +29,15 @@ pub struct Index {
 }
 
 impl Model for Index {
-    ghost use Rattle.std.specs.Prelude.{◌++◌};
+    ghost use Rattle.std.specs.Prelude.{◌++◌, map};
     ghost use Rattle.std.specs.HashMap.{spare};
-    ghost use Rattle.data_store.specs.Arrays.{Table, arranged, IsKept};
+    ghost use Rattle.data_store.specs.Arrays.{Table, arranged, number_element, IsKept};
 
     ghost Value = { Table };
 
-    ghost view = { λ a. record { entries = arranged (a.slots ++ a.by_key.entries); places = a.room } };
+    ghost view = { λ a. record { entries = arranged (map number_element (a.slots ++ a.by_key.entries)); places = a.room } };
 
-    ghost invariant = { λ a. IsKept (a.slots ++ a.by_key.entries) (spare a.by_key) a.sorted a.room };
+    ghost invariant = { λ a. IsKept (map number_element (a.slots ++ a.by_key.entries)) (spare a.by_key) a.sorted a.room };
 }
 
 impl Index {
@@ -54,7 +53,8 @@ impl Index {
     }
 
     pub fn len(&self) -> usize
-        ensures { result ≡ length self.now.entries }
+        ensures len { result ≡ length self.now.entries }
+        ensures small { result < 2 ^ 63 + 2 ^ 32 }
     {
         self.slots.len() + self.by_key.len()
     }
@@ -79,6 +79,21 @@ impl Index {
             self.room = n;
         }
         Ok(())
+    }
+
+    /// How many further elements are sure to find memory.
+    pub fn places(&self) -> usize
+        ensures { result ≡ self.now.places }
+    {
+        self.room
+    }
+
+    /// Takes back what `reserve` promised, but for so many elements.
+    pub fn limit(&mut self, places: usize)
+        requires { places ≤ self.old.places }
+        ensures { self.new ≡ limited places self.old }
+    {
+        self.room = places;
     }
 
     pub fn insert(&mut self, n: i64, value: Scalar) -> Result<(), AllocError>
@@ -144,19 +159,19 @@ fn sorted(
     slots: &Slots,
     by_key: &HashMap<i64, Scalar>,
 ) -> Result<Vec<Element>, AllocError>
-    requires { length (arranged (slots.now ++ by_key.now.entries)) ≡ length (slots.now ++ by_key.now.entries) }
-    ensures { IfOk result (λ list. list.items ≡ arranged (slots.now ++ by_key.now.entries)) }
+    requires { length (arranged (map number_element (slots.now ++ by_key.now.entries))) ≡ length (map number_element (slots.now ++ by_key.now.entries)) }
+    ensures { IfOk result (λ list. list.items ≡ arranged (map number_element (slots.now ++ by_key.now.entries))) }
 {
     let mut list = Vec::with_capacity(alloc, slots.len() + by_key.len())?;
     slots.append_to(&mut list)?;
     append_to(&mut list, by_key)?;
-    list.sort_unstable_by(|a, b| order(a, b));
+    arrange(&mut list);
     Ok(list)
 }
 
 // Adds the elements of a table to the end of the list, as they come.
 fn append_to(list: &mut Vec<Element>, by_key: &HashMap<i64, Scalar>) -> Result<(), AllocError>
-    ensures { OnOk result (list.new.items ≡ list.old.items ++ map element_of by_key.now.entries) }
+    ensures { OnOk result (list.new.items ≡ list.old.items ++ map number_element by_key.now.entries) }
 {
     for (key, value) in by_key {
         list.push(Element {
@@ -165,17 +180,4 @@ fn append_to(list: &mut Vec<Element>, by_key: &HashMap<i64, Scalar>) -> Result<(
         })?;
     }
     Ok(())
-}
-
-#[inline(always)]
-pub(crate) fn order(a: &Element, b: &Element) -> Ordering
-    ensures { is_lt result ≡ key_below a.now.key b.now.key }
-{
-    if a.key.is_below(&b.key) {
-        Ordering::Less
-    } else if b.key.is_below(&a.key) {
-        Ordering::Greater
-    } else {
-        Ordering::Equal
-    }
 }

@@ -127,8 +127,8 @@ impl Store {
     #[inline(always)]
     pub fn reserve_for(&mut self, d: DatumNo, key: KeyRef<'_>, n: usize) -> Result<(), AllocError>
         requires { IsArrayAt self.old d }
-        ensures ok { OnOk result (self.new ≡ changed d (with_array (arrays.with_room_for (key_seen key) n)) self.old) }
-        ensures succeeds { n ≤ arrays.room_for (key_seen key) (array_at self.old d) → IsOk result }
+        ensures ok { OnOk result (self.new ≡ changed d (with_array (arrays.with_room_for (key_seen key.entry) n)) self.old) }
+        ensures succeeds { n ≤ arrays.room_for (key_seen key.entry) (array_at self.old d) → IsOk result }
         ensures err { OnErr result (self.new ≡ self.old) }
     {
         let alloc = self.alloc;
@@ -147,7 +147,7 @@ impl Store {
     #[inline(always)]
     pub fn element(&self, d: DatumNo, key: KeyRef<'_>) -> Option<&Scalar>
         requires { IsArrayAt self.now d }
-        ensures { option_copied result ≡ found (key_seen key) (array_at self.now d).elements }
+        ensures { option_copied result ≡ found (key_seen key.entry) (array_at self.now d).elements }
     {
         self.cells[d].content.element(key)
     }

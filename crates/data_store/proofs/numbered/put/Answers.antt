@@ -1,11 +1,11 @@
-use Rattle.std.proofs.Common.{rules, ◌≡◌, ◌∙◌, ◌++◌, sym, subst, w64, to_z, of_z, None, Some}
-use Rattle.std.specs.Prelude.{ℤ, if◌then◌else◌}
+use Rattle.std.proofs.Common.{rules, ◌≡◌, ◌++◌, sym, subst, w64, to_z, of_z, None}
+use Rattle.std.specs.Prelude.{ℤ}
 use Rattle.std.specs.Map.{lookup}
 use Rattle.std.specs.Ordering.{int_eq}
 use Rattle.std.proofs.lemmas.Int.{to_z-of_z}
 use Rattle.data_store.specs.Filled.{IsPut}
 use Rattle.data_store.proofs.Filled.{absent_first, put_first, put_in_table}
-use Rattle.data_store.proofs.elements.put.Goals as goal
+use Rattle.data_store.proofs.numbered.put.Goals as goal
 
 pub put-requires : goal.put-requires
 put-requires c =
