@@ -2,7 +2,6 @@
 ghost use Rattle.std.specs.Prelude.{◌≡◌, ◌≢◌, ◌<◌, Vec, [], ◌∷◌, ◌==◌, not, length, filter};
 ghost use Rattle.std.specs.Global.{Global};
 ghost use Rattle.rules.specs.declared.input.Input.{Input};
-ghost use Rattle.rules.specs.declared.input.Input.TheVariants.{Element};
 ghost use Rattle.rules.specs.declared.missing.Missing.TheVariants.{More};
 ghost use Rattle.rules.specs.Inputs.{covers};
 ghost use Rattle.rules.specs.Missing.{inputs_in, inputs_of};
@@ -139,11 +138,11 @@ impl Missing {
         match self {
             Missing::Nothing => Listed::Nothing,
             Missing::OneWhole(a) => Listed::One(Input::Whole(*a)),
-            Missing::OneElement(a, k) => Listed::One(element(*a, *k)),
+            Missing::OneElement(a, k) => Listed::One(Input::Element(*a, *k)),
             Missing::TwoWholes(a, b) => Listed::Two(Input::Whole(*a), Input::Whole(*b)),
-            Missing::WholeAndElement(a, b, l) => Listed::Two(Input::Whole(*a), element(*b, *l)),
-            Missing::ElementAndWhole(a, k, b) => Listed::Two(element(*a, *k), Input::Whole(*b)),
-            Missing::TwoElements(a, k, b, l) => Listed::Two(element(*a, *k), element(*b, *l)),
+            Missing::WholeAndElement(a, b, l) => Listed::Two(Input::Whole(*a), Input::Element(*b, *l)),
+            Missing::ElementAndWhole(a, k, b) => Listed::Two(Input::Element(*a, *k), Input::Whole(*b)),
+            Missing::TwoElements(a, k, b, l) => Listed::Two(Input::Element(*a, *k), Input::Element(*b, *l)),
             Missing::More(list) => Listed::More(list.as_slice()),
         }
     }
@@ -157,16 +156,16 @@ impl Missing {
         match self {
             Missing::Nothing => Missing::Nothing,
             Missing::OneWhole(a) => left_of_one(input, &Input::Whole(*a)),
-            Missing::OneElement(a, k) => left_of_one(input, &element(*a, *k)),
+            Missing::OneElement(a, k) => left_of_one(input, &Input::Element(*a, *k)),
             Missing::TwoWholes(a, b) => left_of_two(input, &Input::Whole(*a), &Input::Whole(*b)),
             Missing::WholeAndElement(a, b, l) => {
-                left_of_two(input, &Input::Whole(*a), &element(*b, *l))
+                left_of_two(input, &Input::Whole(*a), &Input::Element(*b, *l))
             }
             Missing::ElementAndWhole(a, k, b) => {
-                left_of_two(input, &element(*a, *k), &Input::Whole(*b))
+                left_of_two(input, &Input::Element(*a, *k), &Input::Whole(*b))
             }
             Missing::TwoElements(a, k, b, l) => {
-                left_of_two(input, &element(*a, *k), &element(*b, *l))
+                left_of_two(input, &Input::Element(*a, *k), &Input::Element(*b, *l))
             }
             Missing::More(_) => unreachable!(),
         }
@@ -182,12 +181,4 @@ impl Missing {
         }
         *self = self.left(input);
     }
-}
-
-/// The element of the mark.
-#[inline(always)]
-fn element(array: u64, mark: u64) -> Input
-    ensures { result ≡ Element array mark }
-{
-    Input::Element(array, mark)
 }
