@@ -107,11 +107,11 @@ built_same {b = b} {c = c} p q = builtin_same b c (sym p.same ∙ q.same)
 
 -- a variable's name or its cell
 abbrev argument_of : Shape → Name → ℕ → List Part × Name
-argument_of Shape.Array x n = ([], x)
+argument_of (Shape.Array κ) x n = ([], x)
 argument_of Shape.Scalar x n = (as_cell n ([], compute (name x)), here n)
 
 argument_is : (h : Shape) (t : Table) (w : Word) (n : ℕ) → variable_or_cell h t w n ([], compute (name (refers t w))) ≡ argument_of h (refers t w) n
-argument_is Shape.Array t w n = refl
+argument_is (Shape.Array κ) t w n = refl
 argument_is Shape.Scalar t w n = refl
 
 module _ (fs : List Signature) (named : Named fs) (g : Scope) (apart : Apart g) (t u : Table) where
@@ -218,22 +218,22 @@ module _ (fs : List Signature) (named : Named fs) (g : Scope) (apart : Apart g) 
       ∙ sym (ap (λ (c : Callee). call_right u x (expression nd (call w es)) w es c) q)
 
   variable_right : (nd : Node) {w : Word} {τ σ : Typ} (x : Name) (a : Shape) → Refers g t w τ → Refers g u w σ → right_of t x a (value (expression nd (variable w))) ≡ right_of u x a (value (expression nd (variable w)))
-  variable_right nd x Shape.Array r q = ap (λ (y : Name). C.fill x (outer_of nd.number ([], compute (whole y)))) (refers_same g apart t u r q)
+  variable_right nd x (Shape.Array κ) r q = ap (λ (y : Name). C.fill x (outer_of nd.number ([], compute (whole y)))) (refers_same g apart t u r q)
   variable_right nd x Shape.Scalar r q = ap (λ (y : Name). C.assign x (outer_of nd.number ([], compute (name y)))) (refers_same g apart t u r q)
 
   value_same : {e : Expression} {b c : Base} (x : Name) (a : Shape) → HasType fs t g e b → HasType fs u g e c → right_of t x a (value e) ≡ right_of u x a (value e)
-  value_same x Shape.Array of_number of_number = refl
+  value_same x (Shape.Array κ) of_number of_number = refl
   value_same x Shape.Scalar of_number of_number = refl
-  value_same x Shape.Array of_text of_text = refl
+  value_same x (Shape.Array κ) of_text of_text = refl
   value_same x Shape.Scalar of_text of_text = refl
-  value_same x Shape.Array of_truth of_truth = refl
+  value_same x (Shape.Array κ) of_truth of_truth = refl
   value_same x Shape.Scalar of_truth of_truth = refl
   value_same x a (of_variable {nd = nd} r) (of_variable q) = variable_right nd x a r q
-  value_same x Shape.Array (of_element {nd = nd} r h) (of_element q k) = ap (λ (o : Outer). C.assign x o) (outer_same (of_element {nd = nd} r h) (of_element q k))
+  value_same x (Shape.Array κ) (of_element {nd = nd} r h) (of_element q k) = ap (λ (o : Outer). C.assign x o) (outer_same (of_element {nd = nd} r h) (of_element q k))
   value_same x Shape.Scalar (of_element {nd = nd} r h) (of_element q k) = ap (λ (o : Outer). C.assign x o) (outer_same (of_element {nd = nd} r h) (of_element q k))
-  value_same x Shape.Array (of_prefixed {nd = nd} y h) (of_prefixed z k) = ap (λ (o : Outer). C.assign x o) (outer_same (of_prefixed {nd = nd} y h) (of_prefixed z k))
+  value_same x (Shape.Array κ) (of_prefixed {nd = nd} y h) (of_prefixed z k) = ap (λ (o : Outer). C.assign x o) (outer_same (of_prefixed {nd = nd} y h) (of_prefixed z k))
   value_same x Shape.Scalar (of_prefixed {nd = nd} y h) (of_prefixed z k) = ap (λ (o : Outer). C.assign x o) (outer_same (of_prefixed {nd = nd} y h) (of_prefixed z k))
-  value_same x Shape.Array (of_chain {nd = nd} h rs) (of_chain k qs) = ap (λ (o : Outer). C.assign x o) (outer_same (of_chain {nd = nd} h rs) (of_chain k qs))
+  value_same x (Shape.Array κ) (of_chain {nd = nd} h rs) (of_chain k qs) = ap (λ (o : Outer). C.assign x o) (outer_same (of_chain {nd = nd} h rs) (of_chain k qs))
   value_same x Shape.Scalar (of_chain {nd = nd} h rs) (of_chain k qs) = ap (λ (o : Outer). C.assign x o) (outer_same (of_chain {nd = nd} h rs) (of_chain k qs))
   value_same x a (of_call {nd = nd} {w = w} {es = es} c as' o) (of_call d bs p) = called_right w es nd x c.named d.named (place_same fs named t u c d) (arguments_same as' bs)
   value_same x a (of_call c as' o) (of_builtin d b) = no_builtin fs named t u c d
