@@ -14,7 +14,7 @@ use Rattle.language.specs.Tree.{choice_of}
 use Rattle.language.specs.declared.tree.Level.{Level}
 use Rattle.lexer.specs.declared.token.TokenKind.TheVariants as Kind
 use Rattle.language.specs.Kinds.{operator_of, base_of, level_of, repeats}
-use Rattle.language.specs.Rules.{Place, Rule, The, ◌⋆◌, ◌▹◌, ◌◃◌, Nothing, Never, Many, Maybe, AtMostOne, Perhaps, Made, Commas, Round, Square, Curly, Deeper}
+use Rattle.language.specs.Rules.{Place, Rule, The, ◌⋆◌, ◌▹◌, ◌◃◌, Never, Many, Maybe, AtMostOne, Perhaps, Made, Commas, Round, Square, Curly, Deeper}
 
 -- the first token's place
 abbrev pub first_of : List Lexeme → Span
