@@ -1,7 +1,7 @@
 -- What typing gives of the values that a script knows: conditions are truths, bounds are numbers.
 use Rattle.std.specs.Prelude.{◌≡◌, ℕ, ℤ, Bool, Option, Some, List, [], ◌∷◌, ◌++◌}
 use Rattle.values.specs.declared.value.Scalar.{Scalar}
-use Rattle.values.specs.declared.value.Scalar.TheVariants.{Number, Text, Truth}
+use Rattle.values.specs.declared.value.Scalar.TheVariants.{Text, Truth}
 use Rattle.values.specs.declared.value.Value.{Value}
 use Rattle.values.specs.declared.value.Value.TheVariants.{One}
 use Rattle.language.specs.Core.{Name, Stmt, Form, compute, read, Cell, Part, inner, Action, assign, fill, insert, print, assert, Outer, stmt, when, choose, range, Block, Core}
