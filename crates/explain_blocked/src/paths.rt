@@ -6,7 +6,7 @@ use crate::words::say_scalar;
 use explain_text::words::{say, say_count, say_place};
 use flow::statement::{Action, Variable};
 use meaning_facts::facts::Place;
-use meaning_facts::instances::Step;
+use meaning_outcomes::Step;
 use std::alloc::{AllocError, Allocator};
 use values::key::Key;
 
@@ -69,19 +69,19 @@ fn say_step<'t, 'a, A: Allocator>(
     instance: usize,
     step: &Step,
 ) -> Result<(), AllocError> {
-    if let Some(name) = scene.index.function_at(step.at) {
+    if let Some(name) = scene.index.function_at(step.offset) {
         say(out, "in ")?;
         out.extend_from_slice(name)?;
         say(out, ", called at ")?;
-        return say_place(out, scene.text, step.at);
+        return say_place(out, scene.text, step.offset);
     }
-    match opener(scene, step.at) {
+    match opener(scene, step.offset) {
         Some(Action::Range { value, .. }) => say_turn(scene, out, instance, value)?,
         Some(Action::Each { value, .. }) => say_turn(scene, out, instance, value)?,
         Some(Action::Choose { .. }) => say_branch(out, &step.key)?,
         _ => say(out, "in the if at ")?,
     }
-    say_place(out, scene.text, step.at)
+    say_place(out, scene.text, step.offset)
 }
 
 /// What the statement does that opens blocks at an offset.

@@ -3,7 +3,7 @@
 use explain_text::words::say;
 use lexer::lexer::Lexer;
 use lexer::token::TokenKind;
-use meaning_facts::facts::FaultKind;
+use paths::FaultKind;
 use std::alloc::AllocError;
 
 const BOTH_SIDES: &str =

@@ -2,8 +2,8 @@
 use Rattle.std.specs.Prelude.{◌≡◌, ◌⊎◌, ℕ, ◌<◌, true, false, List, [], length, Some, None}
 use Rattle.dataflow.specs.System.{In}
 use Rattle.task_code.specs.Code.{Code as ScriptCode}
-use Rattle.board_instances.specs.declared.place.Fault.{Fault}
-use Rattle.board_instances.specs.declared.place.Statement.{Statement}
+use Rattle.paths.specs.declared.faults.Fault.{Fault}
+use Rattle.paths.specs.declared.statements.Statement.{Statement}
 use Rattle.board_runs.specs.declared.report.End.TheVariants as Was
 use Rattle.board_runs.specs.declared.report.Report.{Report}
 use Rattle.swt_arguments.specs.Lines.{files_of}

@@ -2,18 +2,13 @@
 use Rattle.std.specs.Prelude.{ℕ, List, [], ◌∷◌, ◌++◌, length, codes}
 use Rattle.std.specs.List.{flat_map}
 use Rattle.std.specs.Fmt.{decimal, signed_decimal}
-use Rattle.board_instances.specs.declared.place.Fault.{Fault}
-use Rattle.board_instances.specs.declared.place.FaultKind.{FaultKind}
-use Rattle.board_instances.specs.declared.place.FaultKind.TheVariants.{OfEntry, ElementTwice}
-use Rattle.board_instances.specs.declared.place.Statement.{Statement}
-use Rattle.board_instances.specs.declared.place.Step.{Step}
-use Rattle.board_compute.specs.declared.outcome.EntryFault.{EntryFault}
-use Rattle.board_compute.specs.declared.outcome.EntryFault.TheVariants.{InOperation, NoElement, TooDeep}
+use Rattle.paths.specs.declared.faults.Fault.{Fault}
+use Rattle.paths.specs.declared.statements.Statement.{Statement}
+use Rattle.paths.specs.declared.steps.Step.{Step}
+use Rattle.paths.specs.Names.{fault_name}
 use Rattle.board_runs.specs.declared.report.End.{End}
 use Rattle.board_runs.specs.declared.report.End.TheVariants as Ends
 use Rattle.board_runs.specs.declared.report.Report.{Report}
-use Rattle.values.specs.declared.fault.OpFault.{OpFault}
-use Rattle.values.specs.declared.fault.OpFault.TheVariants as Of
 use Rattle.values.specs.declared.key.Key.{Key}
 use Rattle.values.specs.declared.key.Key.TheVariants.{Number}
 
@@ -37,24 +32,6 @@ path_text (s ∷ ss) = flat_map step_text (s ∷ ss)
 -- `AT PATH`
 abbrev pub statement_text : Statement → List ℕ
 statement_text s = decimal s.at ++ 32 ∷ path_text s.path.items
-
--- the number and the name of a fault; no run has the fault that memory was wanted
-abbrev pub operation_fault_name : OpFault → List ℕ
-operation_fault_name Of.Overflow = codes "F1 Overflow"
-operation_fault_name Of.DivideByZero = codes "F2 DivideByZero"
-operation_fault_name Of.BadStep = codes "F5 BadStep"
-operation_fault_name Of.NotANumber = codes "F7 NotANumber"
-operation_fault_name Of.AssertFailed = codes "F8 AssertFailed"
-operation_fault_name Of.Memory = codes "no memory"
-
-abbrev pub entry_fault_name : EntryFault → List ℕ
-entry_fault_name (InOperation f) = operation_fault_name f
-entry_fault_name NoElement = codes "F3 NoElement"
-entry_fault_name TooDeep = codes "F6 TooDeep"
-
-abbrev pub fault_name : FaultKind → List ℕ
-fault_name (OfEntry f) = entry_fault_name f
-fault_name ElementTwice = codes "F4 ElementTwice"
 
 -- `swt: blocked AT PATH`
 abbrev pub blocked_line : Statement → List ℕ

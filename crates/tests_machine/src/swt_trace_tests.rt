@@ -4,7 +4,6 @@ ghost use Rattle.std.specs.Prelude.{◌≡◌};
 
 use crate::asserts::is_equal;
 use board::{Fault, FaultKind, Statement, Step};
-use board_compute::outcome::EntryFault;
 use board_program::program::Program;
 use board_runs::report::{End, Report};
 use std::alloc::Global;
@@ -252,7 +251,7 @@ fn is_end(rt: &impl Abort, alloc: Global, end: End, text: &[u8]) {
 #[test]
 fn missing_elements_are_shown(rt: HostRuntime) {
     let missing = Fault {
-        kind: FaultKind::OfEntry(EntryFault::NoElement),
+        kind: FaultKind::NoElement,
         statement: statement(&rt, rt.alloc(), 7, &[]),
     };
     let text = b"a\n\nswt: fault F3 NoElement 7 /\n";

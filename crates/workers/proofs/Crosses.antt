@@ -34,7 +34,7 @@ use Rattle.board_program.specs.contracts.program.Program as program
 use Rattle.board_program.proofs.program.EntryTable.TheSendSync as entry_table
 use Rattle.board_program.proofs.program.BodyTable.TheSendSync as body_table
 use Rattle.board_instances.proofs.item.Item.TheSendSync as item
-use Rattle.board_instances.proofs.place.Fault.TheSendSync as fault
+use Rattle.paths.proofs.faults.Fault.TheSendSync as fault
 use Rattle.board_items.specs.contracts.items.Items as items
 use Rattle.board_changes.proofs.world.World.TheSendSync as world
 use Rattle.board.specs.contracts.state.Core as core
