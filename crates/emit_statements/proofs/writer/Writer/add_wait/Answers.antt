@@ -4,7 +4,7 @@ use Rattle.task_code.specs.View as code_view
 use Rattle.emit_cells.specs.Wanted.{Noted}
 use Rattle.emit_cells.proofs.Keys.{noted_none}
 use Rattle.emit_statements.proofs.Merged.{inner_room, wait_added, waited}
-use Rattle.emit_statements.proofs.waits.add_wait.Goals as goal
+use Rattle.emit_statements.proofs.writer.Writer.add_wait.Goals as goal
 
 pub returns-clause-entry : goal.returns-clause-entry
 returns-clause-entry g c =
@@ -17,6 +17,6 @@ returns-clause-entry g c =
     (λ adds. λ b room priority.
     let inside = inner_room {A = A} k inner b room.1 in
     let own = c.in_ok-note_names.ensures room.0 [] (subst (Noted []) (sym c.new-needs.ensures.empty) noted_none) in
-    wait_added {A = A} s c.args.statement.node names inner b c.args.body (map code_view.header_view c.in_ok-headers.headers.items) c.note_inner.new.needs.keys c.args.entries.now.items c.add_entry.new.entries.items priority
+    wait_added {A = A} s c.args.statement.node names inner b c.args.body (map code_view.header_view c.in_ok-headers.headers.items) c.note_inner.new.needs.keys c.args.self.now.entries.items c.add_entry.new.self.entries.items priority
     (c.in_ok-note_inner.ensures inside (waited k names) own) (c.in_ok-headers.ensures room.0 inside) adds)
     c.add_entry.ensures.entry
