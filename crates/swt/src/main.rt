@@ -12,7 +12,7 @@ use bumpalo::Bump;
 use explain_faults::limits::add_limit_of_steps;
 use explain_refusals::refusal::explained;
 use std::alloc::{AllocError, Global};
-use std::io::{self, Write};
+use std::io::{self, Read, Write};
 use std::os::unix::fs::MetadataExt;
 use std::process::ExitCode;
 use std::sync::Wait;
@@ -21,11 +21,18 @@ use std::{env, fs};
 use swt_arguments::complaint::first_wrong;
 use swt_arguments::fault::LineFault;
 use swt_arguments::line::Line;
+use swt_arguments::nearest::meant;
 use swt_arguments::request::Request;
 use swt_arguments::word::Word;
 use swt_command::buffer::Buffer;
 use swt_command::command::command;
 use swt_status::status::Status;
+
+/// How many bytes of standard input are read at once.
+const PIECE: usize = 4096;
+
+/// The name that the system has for standard input.
+const STANDARD_INPUT: &str = "/dev/stdin";
 
 fn main(rt: HostRuntime) -> ExitCode {
     let status = match words(&rt) {
@@ -117,10 +124,11 @@ fn check_of(rt: &HostRuntime, file: &Word, explain: bool) -> Result<Request, Lin
     let alloc = rt.alloc();
     let mut words = Vec::new(alloc);
     words.push(Word::new(String::from_str(alloc, "check")?))?;
-    words.push(file.copy(alloc)?)?;
     if explain {
         words.push(Word::new(String::from_str(alloc, "--explain")?))?;
     }
+    words.push(Word::new(String::from_str(alloc, "--")?))?;
+    words.push(file.copy(alloc)?)?;
     Request::read(alloc, words.as_slice())
 }
 
@@ -312,15 +320,20 @@ fn writes_what_it_reads(rt: &HostRuntime, line: &Line) -> Result<bool, AllocErro
     else {
         return Ok(false);
     };
-    match (file_of(rt, file)?, file_of(rt, trace)?) {
+    let script = if file.is_standard_input() {
+        STANDARD_INPUT
+    } else {
+        file.as_str()
+    };
+    match (file_of(rt, script)?, file_of(rt, trace.as_str())?) {
         (Some(read), Some(written)) => Ok(read == written),
         _ => Ok(false),
     }
 }
 
 /// The device that a file lies on and its number there, where there is such a file.
-fn file_of(rt: &HostRuntime, name: &Word) -> Result<Option<(u64, u64)>, AllocError> {
-    match fs::metadata(rt, name.as_str()) {
+fn file_of(rt: &HostRuntime, name: &str) -> Result<Option<(u64, u64)>, AllocError> {
+    match fs::metadata(rt, name) {
         Ok(found) => Ok(Some((found.dev(), found.ino()))),
         Err(error) if error.kind() == io::ErrorKind::OutOfMemory => Err(AllocError),
         Err(_) => Ok(None),
@@ -338,11 +351,30 @@ fn read_files(rt: &HostRuntime, line: &Line) -> Result<Vec<Option<Vec<u8>>>, All
 }
 
 fn read_file(rt: &HostRuntime, name: &Word) -> Result<Option<Vec<u8>>, AllocError> {
+    if name.is_standard_input() {
+        return read_input(rt);
+    }
     match fs::read(rt, name.as_str()) {
         Ok(bytes) => Ok(Some(bytes)),
         Err(error) if error.kind() == io::ErrorKind::OutOfMemory => Err(AllocError),
         Err(_) => Ok(None),
     }
+}
+
+/// The bytes of standard input, and none where it cannot be read.
+fn read_input(rt: &HostRuntime) -> Result<Option<Vec<u8>>, AllocError> {
+    let mut input = rt.stdin();
+    let mut bytes = Vec::new(rt.alloc());
+    let mut piece = [0; PIECE];
+    for _ in 0..u64::MAX {
+        match input.read(&mut piece) {
+            Ok(0) => return Ok(Some(bytes)),
+            Ok(n) => bytes.extend_from_slice(&piece[..n])?,
+            Err(error) if error.kind() == io::ErrorKind::Interrupted => {}
+            Err(_) => return Ok(None),
+        }
+    }
+    Ok(None)
 }
 
 /// Writes a trace that there is into the file that the line names for it, and says whether that went well.
@@ -366,12 +398,25 @@ fn say(rt: &HostRuntime, status: Status) -> u8 {
     status.number()
 }
 
-/// Says which of the words is wrong, and how the program is called, and gives the status of that.
+/// Says which of the words is wrong, and which was meant, and gives the status of that. Where there are no words, or they ask
+/// for help, it says how the program is called.
 fn say_usage(rt: &HostRuntime, words: &[Word]) -> u8 {
     // Where this can't be written, the status says enough.
-    if let Some(wrong) = first_wrong(words) {
-        let _ = eprintln!(rt; "{wrong}");
+    let Some(wrong) = first_wrong(words) else {
+        let _ = eprintln!(rt; "{}", LineFault::Usage);
+        return Status::Usage.number();
+    };
+    match meant(rt.alloc(), &wrong) {
+        Ok(Some(name)) => {
+            let _ = eprintln!(rt; "{wrong}: did you mean {name}?");
+        }
+        Ok(None) => {
+            let _ = eprintln!(rt; "{wrong}");
+        }
+        Err(AllocError) => return say(rt, Status::Memory),
     }
-    let _ = eprintln!(rt; "{}", LineFault::Usage);
+    if wrong.wants_usage() {
+        let _ = eprintln!(rt; "{}", LineFault::Usage);
+    }
     Status::Usage.number()
 }
