@@ -36,7 +36,7 @@ pub fn read_request<H: Host>(host: &mut H, alloc: Global) -> Result<Request, Lin
 /// # Errors
 ///
 /// `Usage` where a word is no text, and `Memory` where memory that was asked for was refused.
-fn read_words<H: Host>(host: &mut H, alloc: Global) -> Result<Vec<Word>, LineFault>
+pub fn read_words<H: Host>(host: &mut H, alloc: Global) -> Result<Vec<Word>, LineFault>
     requires { H.history host.old ≡ [] }
     ensures words { IfOk result (λ all. words (H.history host.new) ≡ all.items) }
     ensures all { OnOk result (has_all_words (H.history host.new) ≡ true) }
