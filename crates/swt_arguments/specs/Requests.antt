@@ -5,7 +5,7 @@ use Rattle.swt_arguments.specs.declared.command.Command.TheVariants.{Check, Mean
 use Rattle.swt_arguments.specs.declared.request.Request.{Request}
 use Rattle.swt_arguments.specs.Commands.{command_of}
 use Rattle.swt_arguments.specs.Lines.{formed_line}
-use Rattle.swt_arguments.specs.Words.{flag_given, often, unflagged}
+use Rattle.swt_arguments.specs.Words.{all_divided, before_dashes, behind_dashes, flag_given, often, unflagged}
 
 -- whether a command is to explain, with these words behind it; `code` explains nothing
 abbrev pub explain_given : Command → List (List ℕ) → Option Bool
@@ -23,15 +23,19 @@ progress_given Code ws = Some false
 progress_given Run ws = flag_given (often (codes "--progress") ws)
 progress_given Replay ws = Some false
 
--- a command with these words behind it
-abbrev pub behind_command : Command → List (List ℕ) → Option Request
-behind_command c ws =
+-- a command with these options and files behind it, and behind those more files
+abbrev pub request_with : Command → List (List ℕ) → List (List ℕ) → Option Request
+request_with c ws behind =
     option_and_then (λ line.
     option_and_then (λ explain.
     option_and_then (λ progress. Some (record { line = line; explain = explain; progress = progress }))
     (progress_given c ws))
     (explain_given c ws))
-    (formed_line c (unflagged c ws) (often (codes "--dot") ws))
+    (formed_line c (all_divided c (unflagged c ws)) behind (often (codes "--dot") ws))
+
+-- a command with these words behind it
+abbrev pub behind_command : Command → List (List ℕ) → Option Request
+behind_command c ws = request_with c (before_dashes ws) (behind_dashes ws)
 
 -- the words behind the program's name
 abbrev pub request_of : List (List ℕ) → Option Request

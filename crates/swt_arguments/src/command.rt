@@ -79,6 +79,23 @@ impl Command {
         }
     }
 
+    /// Its options, those with a value first.
+    pub fn options(self) -> &'static [&'static str] {
+        match self {
+            Command::Check | Command::Replay => &["--explain"],
+            Command::Mean => &["--rounds", "--explain"],
+            Command::Code => &["--dot"],
+            Command::Run => &[
+                "--engines",
+                "--workers",
+                "--steps",
+                "--trace",
+                "--explain",
+                "--progress",
+            ],
+        }
+    }
+
     /// What it wants behind it, in words.
     pub fn wanted(self) -> &'static str {
         match self {

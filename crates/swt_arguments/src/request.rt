@@ -1,14 +1,14 @@
 //! The command line, read.
-ghost use Rattle.std.specs.Prelude.{◌≡◌, codes, IfOk};
+ghost use Rattle.std.specs.Prelude.{◌≡◌, [], ◌∷◌, codes, IfOk, MatchOption};
 ghost use Rattle.swt_arguments.specs.Lines.{formed_line, IsInRange};
-ghost use Rattle.swt_arguments.specs.Requests.{behind_command, explain_given, progress_given, request_of};
-ghost use Rattle.swt_arguments.specs.Words.{often, unflagged, Answers};
+ghost use Rattle.swt_arguments.specs.Requests.{behind_command, explain_given, progress_given, request_of, request_with};
+ghost use Rattle.swt_arguments.specs.Words.{all_divided, before_dashes, behind_dashes, divided, often, unflagged, Answers};
 
 use crate::command::Command;
 use crate::fault::LineFault;
 use crate::line::{self, Line};
 use crate::word::Word;
-use crate::words;
+use crate::words::{self, is};
 use std::alloc::{AllocError, Global};
 
 /// What the program is asked for.
@@ -41,7 +41,21 @@ fn read_command(alloc: Global, command: Command, words: &[Word]) -> Result<Reque
     ensures request { Answers (behind_command command words.now) result }
     ensures in_range { IfOk result (λ request. IsInRange request.line) }
 {
-    let line = read_line(alloc, command, words)?;
+    let options = before_dashes(alloc, words)?;
+    read_parts(alloc, command, options.as_slice(), behind_dashes(words))
+}
+
+/// The request of a command with these options and files behind it, and behind those more files.
+fn read_parts(
+    alloc: Global,
+    command: Command,
+    words: &[Word],
+    behind: &[Word],
+) -> Result<Request, LineFault>
+    ensures request { Answers (request_with command words.now behind.now) result }
+    ensures in_range { IfOk result (λ request. IsInRange request.line) }
+{
+    let line = read_line(alloc, command, words, behind)?;
     let explain = explains(command, words)?;
     let progress = shows_progress(command, words)?;
     Ok(Request {
@@ -51,26 +65,84 @@ fn read_command(alloc: Global, command: Command, words: &[Word]) -> Result<Reque
     })
 }
 
-/// The line of a command with these words behind it.
-fn read_line(alloc: Global, command: Command, words: &[Word]) -> Result<Line, LineFault>
-    ensures line { Answers (formed_line command (unflagged command words.now) (often (codes "--dot") words.now)) result }
+/// The line of a command with these words behind it, and behind them these files.
+fn read_line(
+    alloc: Global,
+    command: Command,
+    words: &[Word],
+    behind: &[Word],
+) -> Result<Line, LineFault>
+    ensures line { Answers (formed_line command (all_divided command (unflagged command words.now)) behind.now
+        (often (codes "--dot") words.now)) result }
     ensures in_range { IfOk result IsInRange }
 {
     let others = unflagged(alloc, command, words)?;
-    line::read(alloc, command, others.as_slice(), often("--dot", words))
+    let parts = all_divided(alloc, command, others.as_slice())?;
+    line::read(
+        alloc,
+        command,
+        parts.as_slice(),
+        behind,
+        words::often("--dot", words),
+    )
 }
 
-/// How often an option stands among the words.
-fn often(option: &str, words: &[Word]) -> usize
-    ensures { result ≡ often option.now words.now }
+/// The words in front of the first `--`.
+fn before_dashes(alloc: Global, words: &[Word]) -> Result<Vec<Word>, AllocError>
+    ensures { IfOk result (λ before. before.items ≡ before_dashes words.now) }
 {
-    let mut count = 0;
+    let mut before = Vec::new(alloc);
     for word in words {
-        if word.as_str() == option {
-            count += 1;
+        if is(word.as_str(), "--") {
+            break;
+        }
+        before.push(word.copy(alloc)?)?;
+    }
+    Ok(before)
+}
+
+/// The words behind the first `--`.
+fn behind_dashes(words: &[Word]) -> &[Word]
+    ensures { result.now ≡ behind_dashes words.now }
+{
+    match words {
+        [] => &[],
+        [first, rest @ ..] if is(first.as_str(), "--") => rest,
+        [_, rest @ ..] => behind_dashes(rest),
+    }
+}
+
+/// The words, with each value in a word of its own.
+fn all_divided(alloc: Global, command: Command, words: &[Word]) -> Result<Vec<Word>, AllocError>
+    ensures { IfOk result (λ parts. parts.items ≡ all_divided command words.now) }
+{
+    let mut parts = Vec::new(alloc);
+    for word in words {
+        match divided(command, word.as_str()) {
+            Some((option, value)) => {
+                parts.push(Word::new(String::from_str(alloc, option)?))?;
+                parts.push(Word::new(String::from_str(alloc, value)?))?;
+            }
+            None => parts.push(word.copy(alloc)?)?,
         }
     }
-    count
+    Ok(parts)
+}
+
+/// The option and the value of a word that is `--option=value`.
+pub(crate) fn divided<'a>(command: Command, word: &'a str) -> Option<(&'a str, &'a str)>
+    ensures { MatchOption result (divided command word.entry.now ≡ word.entry.now ∷ [])
+        (λ parts. divided command word.entry.now ≡ parts.0.now ∷ parts.1.now ∷ []) }
+{
+    if command.has_option(word) {
+        return None;
+    }
+    let (option, value) = word.split_once('=')?;
+    if command.has_option(option) {
+        Some((option, value))
+    } else {
+        None
+    }
 }
 
 /// The words but for the options that have no value.
@@ -93,7 +165,7 @@ fn explains(command: Command, words: &[Word]) -> Result<bool, LineFault>
     match command {
         Command::Code => Ok(false),
         Command::Check | Command::Mean | Command::Run | Command::Replay => {
-            words::flag(often("--explain", words))
+            words::flag(words::often("--explain", words))
         }
     }
 }
@@ -103,7 +175,7 @@ fn shows_progress(command: Command, words: &[Word]) -> Result<bool, LineFault>
     ensures { Answers (progress_given command words.now) result }
 {
     match command {
-        Command::Run => words::flag(often("--progress", words)),
+        Command::Run => words::flag(words::often("--progress", words)),
         Command::Check | Command::Mean | Command::Code | Command::Replay => Ok(false),
     }
 }
