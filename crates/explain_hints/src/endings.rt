@@ -2,7 +2,7 @@
 
 use crate::advice::Advice;
 use crate::around::Around;
-use crate::kinds::{is_form, is_plain, is_type, wants_value};
+use crate::kinds::{is_arithmetic, is_form, is_plain, is_type, wants_value};
 use lexer::token::TokenKind;
 
 /// Where a statement is empty, or ends before its value, or where an `else` has no `if`.
@@ -19,12 +19,34 @@ pub fn ending(around: &Around<'_>) -> Option<Advice> {
     if found == TokenKind::At || around.last.kind == TokenKind::At {
         return Advice::here("@prio=5 before a call is the one thing that an @ begins");
     }
+    if is_value(around) {
+        return Advice::here(
+            "a value is no statement: assign it, int y = x + 1;, or print it, printf(\"%i\", x + 1); a comment begins with //",
+        );
+    }
     if is_form(found) && (wants_value(around.last.kind) || is_in_brackets(around)) {
         return Advice::here(
             "a statement has no value: assign the variable in it, in each of its branches",
         );
     }
     called(around)
+}
+
+/// Whether a statement begins as a value, and ends or goes on as one.
+fn is_value(around: &Around<'_>) -> bool {
+    let found = around.found.kind;
+    let is_first = around.found.span == around.first.span;
+    if is_first {
+        return found != TokenKind::Name
+            && (is_plain(found) || found == TokenKind::Minus || found == TokenKind::Not);
+    }
+    let is_behind_value = around.first.span == around.last.span
+        || around.last.kind == TokenKind::CloseRound && around.closed.span == around.first.span;
+    let goes_on = found == TokenKind::Semicolon || is_arithmetic(found);
+    around.first.kind == TokenKind::Name && is_behind_value && goes_on
+        || around.first.kind == TokenKind::OpenRound
+            && around.last.kind == TokenKind::CloseRound
+            && goes_on
 }
 
 fn is_in_brackets(around: &Around<'_>) -> bool {
@@ -61,6 +83,11 @@ fn called(around: &Around<'_>) -> Option<Advice> {
 
 /// Where a value is missing behind an operator.
 pub fn value(around: &Around<'_>) -> Option<Advice> {
+    if around.last.kind == TokenKind::Assign && around.first.kind == TokenKind::OpenRound {
+        return Advice::here(
+            "several variables take the outputs of one call: (x, y) = f(1); else each has an assignment of its own",
+        );
+    }
     if wants_value(around.last.kind) {
         return Advice::of("a value is missing behind the sign", around.last.span);
     }

@@ -71,10 +71,22 @@ pub fn sign(around: &Around<'_>) -> Option<Advice> {
     if !is_ended {
         return None;
     }
+    if is_prefixed(around) {
+        return Advice::here(
+            "a string has no letter in front, and no values are filled in: \"x = \" + fromint(x)",
+        );
+    }
     match around.opener.kind {
         TokenKind::OpenRound | TokenKind::OpenSquare => between(around),
         _ => semicolon(around),
     }
+}
+
+/// Whether a string stands right behind a name.
+fn is_prefixed(around: &Around<'_>) -> bool {
+    around.found.kind == TokenKind::Text
+        && around.last.kind == TokenKind::Name
+        && around.last.span.to == around.found.span.from
 }
 
 /// Where a `;` is missing behind the last token, or an operator.
@@ -89,7 +101,12 @@ fn semicolon(around: &Around<'_>) -> Option<Advice> {
             around.found.kind,
             TokenKind::CloseCurly | TokenKind::End | TokenKind::At
         );
-    if around.is_on_new_line || is_end {
+    if around.is_before_comment {
+        Advice::of(
+            "a ; is missing before the comment (whole numbers are divided by %/)",
+            behind,
+        )
+    } else if around.is_on_new_line || is_end {
         Advice::of("a ; is missing", behind)
     } else if around.found.kind == TokenKind::Text && around.last.kind == TokenKind::Text {
         Advice::here("strings are joined by +: \"a\" + \"b\"")

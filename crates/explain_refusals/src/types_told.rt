@@ -197,6 +197,9 @@ fn hint_of_format(format: &[u8]) -> &'static str {
     if !format.starts_with(b"\"") {
         return "the format stands in the call: printf(\"%s\", s); or printf(\"%i\", n);";
     }
+    if !is_one_string(format) {
+        return "the format is one string, and what is to be filled in stands behind it: printf(\"n = %i\", n);";
+    }
     match wrong_conversion(format) {
         Some(b'f' | b'e' | b'g') => "there are whole numbers alone: %i",
         Some(b'0'..=b'9' | b'-' | b'.' | b'l' | b'+') => {
@@ -204,6 +207,21 @@ fn hint_of_format(format: &[u8]) -> &'static str {
         }
         _ => "a % that stands for itself is written %%",
     }
+}
+
+/// Whether the string that a text begins with is all of it.
+fn is_one_string(text: &[u8]) -> bool {
+    let mut escaped = false;
+    for i in 1..text.len() {
+        if escaped {
+            escaped = false;
+        } else if text[i] == b'"' {
+            return i + 1 == text.len();
+        } else {
+            escaped = text[i] == b'\\';
+        }
+    }
+    false
 }
 
 /// What stands behind the first `%` that begins no conversion.
