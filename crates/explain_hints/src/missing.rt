@@ -92,10 +92,7 @@ fn is_prefixed(around: &Around<'_>) -> bool {
 /// Where a `;` is missing behind the last token, or an operator.
 fn semicolon(around: &Around<'_>) -> Option<Advice> {
     let to = around.last.span.to;
-    let behind = Span {
-        from: to,
-        to: to.saturating_add(1),
-    };
+    let behind = Span { from: to, to };
     let is_end = begins_statement(around.found.kind)
         || matches!(
             around.found.kind,

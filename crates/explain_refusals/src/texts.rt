@@ -1,6 +1,6 @@
 //! Texts that are no scripts, explained.
 
-use crate::lookup::bytes_at;
+use explain_names::lookup::bytes_at;
 use crate::told::{Hint, Told};
 use explain_hints::characters::on_byte;
 use explain_hints::literals::{on_escape, on_number, on_string};
