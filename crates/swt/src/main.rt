@@ -4,12 +4,17 @@
 mod explain;
 mod left;
 mod progress;
+mod troubles;
 
 use crate::explain::{explain_blocked, explain_fault, explain_meaning};
-use crate::left::left_behind;
+use crate::left::follow;
 use crate::progress::Teller;
+use crate::troubles::{
+    Unwritten, explain_count, explain_same_file, explain_trace, explain_unread, explain_unwritten,
+};
 use bumpalo::Bump;
-use explain_faults::limits::add_limit_of_steps;
+use explain_faults::limits::{add_limit_of_steps, add_limit_of_trace};
+use explain_json::json::json_line;
 use explain_refusals::refusal::explained;
 use std::alloc::{AllocError, Global};
 use std::io::{self, Write};
@@ -85,7 +90,7 @@ fn in_turn<R: Threads + Wait + Sync>(
     };
     let mut status = Status::Done.number();
     for file in files.as_slice() {
-        let number = check_one(rt, threads, &mut arena, file, request.explain)?;
+        let number = check_one(rt, threads, &mut arena, file, request)?;
         if number > Status::Refused.number() {
             return Ok(number);
         }
@@ -100,9 +105,9 @@ fn check_one<R: Threads + Wait + Sync>(
     threads: &R,
     arena: &mut Bump,
     file: &Word,
-    explain: bool,
+    wanted: &Request,
 ) -> Result<u8, AllocError> {
-    match check_of(rt, file, explain) {
+    match check_of(rt, file, wanted) {
         Ok(request) => {
             let status = perform(rt, threads, arena, &request);
             drop(request);
@@ -112,14 +117,17 @@ fn check_one<R: Threads + Wait + Sync>(
     }
 }
 
-/// The request to check this file alone. `Memory` where memory was refused, and nothing else.
-fn check_of(rt: &HostRuntime, file: &Word, explain: bool) -> Result<Request, LineFault> {
+/// The request to check this file alone, and to explain as this one is to. `Memory` where memory was refused, and nothing else.
+fn check_of(rt: &HostRuntime, file: &Word, wanted: &Request) -> Result<Request, LineFault> {
     let alloc = rt.alloc();
     let mut words = Vec::new(alloc);
     words.push(Word::new(String::from_str(alloc, "check")?))?;
     words.push(file.copy(alloc)?)?;
-    if explain {
+    if wanted.explain {
         words.push(Word::new(String::from_str(alloc, "--explain")?))?;
+    }
+    if wanted.json {
+        words.push(Word::new(String::from_str(alloc, "--json")?))?;
     }
     Request::read(alloc, words.as_slice())
 }
@@ -134,8 +142,8 @@ fn perform<R: Threads + Wait + Sync>(
 ) -> Result<u8, AllocError> {
     let alloc = rt.alloc();
     let line = &request.line;
-    if writes_what_it_reads(rt, line)? {
-        return Ok(say(rt, Status::Failed));
+    if let Some(trace) = written_over(rt, line)? {
+        return say_written_over(rt, request.explain, trace);
     }
     let files = read_files(rt, line)?;
     let mut out = Buffer::new(alloc);
@@ -153,17 +161,38 @@ fn perform<R: Threads + Wait + Sync>(
         &mut err,
         &mut trace,
     );
-    let printed = io::writer(rt).write_all(out.bytes()).is_ok();
+    let unprinted = print(rt, out.bytes());
     let _ = rt.stderr().write_all(err.bytes());
-    let is_written = printed && write_file(rt, line, trace.bytes());
-    if request.explain {
+    let unwritten = match unprinted {
+        None => write_trace(rt, line, trace.bytes()),
+        Some(unprinted) => Some(unprinted),
+    };
+    if request.json {
+        tell_json(rt, line, files.as_slice())?;
+    } else if request.explain {
         explain_command(rt, line, files.as_slice(), status, &teller, out.bytes())?;
     }
-    if is_written {
-        Ok(status)
-    } else {
-        Ok(say(rt, Status::Failed))
+    match unwritten {
+        None => Ok(status),
+        Some(unwritten) => say_unwritten(rt, request.explain, &unwritten),
     }
+}
+
+/// Says on standard error, as a line of JSON, what is to be said of the script, where it is refused.
+fn tell_json(
+    rt: &HostRuntime,
+    line: &Line,
+    files: &[Option<Vec<u8>>],
+) -> Result<(), AllocError> {
+    let names = line.files(rt.alloc())?;
+    let (Some(name), Some(Some(script))) = (names.as_slice().first(), files.first()) else {
+        return Ok(());
+    };
+    if let Some(told) = json_line(rt.alloc(), name.as_str(), script.as_slice())? {
+        // Where this can't be written, the status says enough.
+        let _ = eprintln!(rt; "{told}");
+    }
+    Ok(())
 }
 
 /// Says on standard error what is to be said of a command that ended so, and printed this.
@@ -177,10 +206,39 @@ fn explain_command(
 ) -> Result<(), AllocError> {
     let mut text = Vec::new(rt.alloc());
     explain_refusals(rt, line, files, &mut text)?;
+    explain_trouble(rt, line, files, status, &mut text)?;
     explain_end(rt, line, files, status, teller, printed, &mut text)?;
     // Where this can't be written, the status says enough.
     let _ = rt.stderr().write_all(text.as_slice());
     Ok(())
+}
+
+/// Adds what is to be said of a command that could not be done: of too many threads, a file that can not be read, or a trace that is none.
+fn explain_trouble(
+    rt: &HostRuntime,
+    line: &Line,
+    files: &[Option<Vec<u8>>],
+    status: u8,
+    text: &mut Vec<u8>,
+) -> Result<(), AllocError> {
+    if status == Status::Usage.number() {
+        return explain_count(line, text);
+    }
+    if status != Status::Failed.number() {
+        return Ok(());
+    }
+    let names = line.files(rt.alloc())?;
+    for place in 0..names.len() {
+        if let (Some(name), Some(None)) = (names.as_slice().get(place), files.get(place)) {
+            return explain_unread(rt, name, text);
+        }
+    }
+    match (line, files) {
+        (Line::Replay { trace: name, .. }, [Some(script), Some(trace)]) => {
+            explain_trace(rt.alloc(), name, script.as_slice(), trace.as_slice(), text)
+        }
+        _ => Ok(()),
+    }
 }
 
 /// The most events that the line's run may have.
@@ -255,16 +313,15 @@ fn explain_limit(
     teller: &Teller<'_>,
     text: &mut Vec<u8>,
 ) -> Result<(), AllocError> {
-    let left = match files {
+    match files {
         [Some(script), Some(trace)] => {
-            let Some(left) = left_behind(alloc, script.as_slice(), trace.as_slice())? else {
-                return Ok(());
-            };
-            left
+            match follow(alloc, script.as_slice(), trace.as_slice())? {
+                Some(followed) => add_limit_of_trace(text, name, followed.left),
+                None => Ok(()),
+            }
         }
-        _ => teller.left(),
-    };
-    add_limit_of_steps(text, name, left.events, left.ready, left.running)
+        _ => add_limit_of_steps(text, name, teller.left()),
+    }
 }
 
 /// Adds what is to be said of each script that is refused, up to a file that cannot be read.
@@ -302,19 +359,19 @@ fn explain_refusal(
     }
 }
 
-/// Whether the trace would be written into the script, by whatever name the line has for it.
-fn writes_what_it_reads(rt: &HostRuntime, line: &Line) -> Result<bool, AllocError> {
+/// The trace that would be written into the script, by whatever name the line has for it.
+fn written_over<'l>(rt: &HostRuntime, line: &'l Line) -> Result<Option<&'l Word>, AllocError> {
     let Line::Run {
         file,
         trace: Some(trace),
         ..
     } = line
     else {
-        return Ok(false);
+        return Ok(None);
     };
     match (file_of(rt, file)?, file_of(rt, trace)?) {
-        (Some(read), Some(written)) => Ok(read == written),
-        _ => Ok(false),
+        (Some(read), Some(written)) if read == written => Ok(Some(trace)),
+        _ => Ok(None),
     }
 }
 
@@ -345,15 +402,58 @@ fn read_file(rt: &HostRuntime, name: &Word) -> Result<Option<Vec<u8>>, AllocErro
     }
 }
 
-/// Writes a trace that there is into the file that the line names for it, and says whether that went well.
-fn write_file(rt: &HostRuntime, line: &Line, trace: &[u8]) -> bool {
+/// Prints, and tells what was not written and why, where it was not.
+fn print(rt: &HostRuntime, bytes: &[u8]) -> Option<Unwritten<'static>> {
+    match io::writer(rt).write_all(bytes) {
+        Ok(()) => None,
+        Err(error) => Some(Unwritten {
+            name: "standard output",
+            error,
+        }),
+    }
+}
+
+/// Writes a trace that there is into the file that the line names for it, and tells what was not written and why, where it was not.
+fn write_trace<'l>(rt: &HostRuntime, line: &'l Line, trace: &[u8]) -> Option<Unwritten<'l>> {
     match line {
         Line::Run {
             trace: Some(file),
             ..
-        } if !trace.is_empty() => fs::write(rt, file.as_str(), trace).is_ok(),
-        _ => true,
+        } if !trace.is_empty() => match fs::write(rt, file.as_str(), trace) {
+            Ok(()) => None,
+            Err(error) => Some(Unwritten {
+                name: file.as_str(),
+                error,
+            }),
+        },
+        _ => None,
     }
+}
+
+/// Says that something was not written, and why where that is wanted, and gives the status of that.
+fn say_unwritten(
+    rt: &HostRuntime,
+    explain: bool,
+    unwritten: &Unwritten<'_>,
+) -> Result<u8, AllocError> {
+    let status = say(rt, Status::Failed);
+    if explain {
+        let mut text = Vec::new(rt.alloc());
+        explain_unwritten(rt.alloc(), unwritten, &mut text)?;
+        let _ = rt.stderr().write_all(text.as_slice());
+    }
+    Ok(status)
+}
+
+/// The same of a trace that would be written over the script.
+fn say_written_over(rt: &HostRuntime, explain: bool, trace: &Word) -> Result<u8, AllocError> {
+    let status = say(rt, Status::Failed);
+    if explain {
+        let mut text = Vec::new(rt.alloc());
+        explain_same_file(trace, &mut text)?;
+        let _ = rt.stderr().write_all(text.as_slice());
+    }
+    Ok(status)
 }
 
 /// Says why the process ends, and gives its status.

@@ -44,9 +44,10 @@ impl Command {
         ensures { result ≡ is_flag self word.now }
     {
         match self {
-            Command::Code => is(word, "--dot"),
+            Command::Code => is(word, "--dot") || is(word, "--explain"),
+            Command::Check => is(word, "--explain") || is(word, "--json"),
             Command::Run => is(word, "--explain") || is(word, "--progress"),
-            Command::Check | Command::Mean | Command::Replay => is(word, "--explain"),
+            Command::Mean | Command::Replay => is(word, "--explain"),
         }
     }
 
