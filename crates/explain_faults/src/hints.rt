@@ -12,6 +12,12 @@ const BOTH_SIDES: &str =
 const DEPTH: &str =
     "hint: with an if in it a function calls itself 255 times at most: what goes on longer goes on along an array, s[i] = s[i - 1] + ..\n";
 
+const ONCE: &str =
+    "hint: each turn writes an element of its own, A[i] = ..; what several turns have for one key goes into an array with a key for each turn\n";
+
+const UPWARDS: &str =
+    "hint: a range goes upwards: downwards go the values 10 - i in the turns of foreach i in [0:10]\n";
+
 const NEGATIVE: &str =
     "hint: keys are not counted from the end: the last element is A[size(A) - 1], where the keys begin with 0\n";
 
@@ -27,6 +33,8 @@ pub fn say_hint(
             say(out, BOTH_SIDES)
         }
         FaultKind::NoElement if has_negative_key(text, at) => say(out, NEGATIVE),
+        FaultKind::ElementTwice => say(out, ONCE),
+        FaultKind::BadStep => say(out, UPWARDS),
         FaultKind::TooDeep => say(out, DEPTH),
         _ => Ok(()),
     }

@@ -96,7 +96,10 @@ fn say_no_step(out: &mut Vec<u8>, reason: NoStep) -> Result<(), AllocError> {
             say_count(out, thread as usize)?;
             say(out, " here")
         }
-        NoStep::Ended => say(out, "the script has met a fault before, behind which nothing begins"),
+        NoStep::Ended => say(
+            out,
+            "the script has met a fault before, behind which nothing begins",
+        ),
     }
 }
 

@@ -16,7 +16,9 @@ pub fn ending(around: &Around<'_>) -> Option<Advice> {
             "an else stands right behind the } of its if: if (x > 0) { .. } else { .. }",
         );
     }
-    if found == TokenKind::At || around.last.kind == TokenKind::At {
+    let is_behind_priority = around.first.kind == TokenKind::At
+        && around.before_last.kind == TokenKind::Assign;
+    if found == TokenKind::At || around.last.kind == TokenKind::At || is_behind_priority {
         return Advice::here("@prio=5 before a call is the one thing that an @ begins");
     }
     if is_value(around) {
@@ -40,8 +42,12 @@ fn is_value(around: &Around<'_>) -> bool {
         return found != TokenKind::Name
             && (is_plain(found) || found == TokenKind::Minus || found == TokenKind::Not);
     }
+    let is_closed = matches!(
+        around.last.kind,
+        TokenKind::CloseRound | TokenKind::CloseSquare
+    );
     let is_behind_value = around.first.span == around.last.span
-        || around.last.kind == TokenKind::CloseRound && around.closed.span == around.first.span;
+        || is_closed && around.closed.span == around.first.span;
     let goes_on = found == TokenKind::Semicolon || is_arithmetic(found);
     around.first.kind == TokenKind::Name && is_behind_value && goes_on
         || around.first.kind == TokenKind::OpenRound

@@ -100,7 +100,7 @@ fn semicolon(around: &Around<'_>) -> Option<Advice> {
         );
     if around.is_before_comment {
         Advice::of(
-            "a ; is missing before the comment (whole numbers are divided by %/)",
+            "// begins a comment (whole numbers are divided by %/): a ; is missing",
             behind,
         )
     } else if around.is_on_new_line || is_end {

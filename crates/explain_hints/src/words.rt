@@ -404,7 +404,8 @@ pub fn other_operator(around: &Around<'_>) -> Option<Advice> {
             return Advice::here(words);
         }
     }
-    if around.last.kind == TokenKind::Name && (is_plain(around.found.kind) || is_type(around.found.kind)) {
+    let goes_on = is_plain(around.found.kind) || is_type(around.found.kind);
+    if around.last.kind == TokenKind::Name && goes_on && !around.is_on_new_line {
         return Advice::here(row_of(&OPERATORS, around.last.text)?);
     }
     None

@@ -101,12 +101,7 @@ fn hint_value(alloc: Global, text: &[u8], hint: &Option<Hint>) -> Result<Value, 
 }
 
 /// The other places that are spoken of, each with what is said of it.
-fn related(
-    alloc: Global,
-    file: &str,
-    text: &[u8],
-    refusal: &Refusal,
-) -> Result<Value, AllocError> {
+fn related(alloc: Global, file: &str, text: &[u8], refusal: &Refusal) -> Result<Value, AllocError> {
     let mut places = Vec::new(alloc);
     if let Some(note) = refusal.told.note {
         places.push(place_value(alloc, file, text, words_of(note), note.at)?)?;

@@ -143,12 +143,7 @@ pub fn explained(alloc: Global, file: &str, text: &[u8]) -> Result<Option<Vec<u8
 
 /// The place, the name of the rule, and what is said of it.
 #[tactic(auto, using(crate::proofs::Verdicts::begins))]
-fn shown(
-    alloc: Global,
-    file: &str,
-    text: &[u8],
-    refusal: &Refusal,
-) -> Result<Vec<u8>, AllocError>
+fn shown(alloc: Global, file: &str, text: &[u8], refusal: &Refusal) -> Result<Vec<u8>, AllocError>
     ensures { IfOk result (λ words. BeginsAt file.now text.now refusal.now.at words.items) }
 {
     let rest = behind_place(alloc, file, text, refusal)?;

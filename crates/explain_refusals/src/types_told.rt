@@ -1,12 +1,12 @@
 //! Scripts that are not well typed, explained.
 
 use crate::counts_told::{add_count, hint_of_built_in, hint_of_count};
-use explain_names::lookup::{Wanted, bytes_at, function_named, place_before};
-use explain_names::mention::Sort;
-use explain_names::mentions::{function_around, mentions_around};
 use crate::names_told::{told_of_no_function, told_of_unknown};
 use crate::sorts::{Mismatch, Search, Wish, first_mismatch};
 use crate::told::{Hint, Note, Told, note_of};
+use explain_names::lookup::{Wanted, bytes_at, function_named, place_before};
+use explain_names::mention::Sort;
+use explain_names::mentions::{function_around, mentions_around};
 use explain_names::refused::Refused;
 use lexer::token::Span;
 use std::alloc::{AllocError, Allocator};

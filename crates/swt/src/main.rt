@@ -179,11 +179,7 @@ fn perform<R: Threads + Wait + Sync>(
 }
 
 /// Says on standard error, as a line of JSON, what is to be said of the script, where it is refused.
-fn tell_json(
-    rt: &HostRuntime,
-    line: &Line,
-    files: &[Option<Vec<u8>>],
-) -> Result<(), AllocError> {
+fn tell_json(rt: &HostRuntime, line: &Line, files: &[Option<Vec<u8>>]) -> Result<(), AllocError> {
     let names = line.files(rt.alloc())?;
     let (Some(name), Some(Some(script))) = (names.as_slice().first(), files.first()) else {
         return Ok(());

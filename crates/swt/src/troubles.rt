@@ -20,11 +20,7 @@ pub struct Unwritten<'l> {
 }
 
 /// Adds `FILE: cannot read: ` and the system's reason, for a file that it does not give.
-pub fn explain_unread(
-    rt: &HostRuntime,
-    name: &Word,
-    out: &mut Vec<u8>,
-) -> Result<(), AllocError> {
+pub fn explain_unread(rt: &HostRuntime, name: &Word, out: &mut Vec<u8>) -> Result<(), AllocError> {
     match fs::read(rt, name.as_str()) {
         Ok(_) => Ok(()),
         Err(error) if error.kind() == io::ErrorKind::OutOfMemory => Err(AllocError),
@@ -93,7 +89,9 @@ pub fn explain_trace(
 pub fn explain_count(line: &Line, out: &mut Vec<u8>) -> Result<(), AllocError> {
     match line {
         Line::Run {
-            engines, workers, ..
+            engines,
+            workers,
+            ..
         } => add_bad_count(out, *engines as usize, *workers as usize),
         _ => Ok(()),
     }
