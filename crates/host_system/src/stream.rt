@@ -4,7 +4,7 @@ ghost use Rattle.std.specs.Prelude.{◌≡◌, ◌≤◌, [], length, IfOk};
 use crate::files::TRIES;
 use host::host::Stream;
 use host::record::{PUT, Record};
-use std::io::{self, ErrorKind, Print};
+use std::io::{self, Error, ErrorKind, Print};
 use values::sink::{Sink, SinkFault};
 
 /// Standard output or standard error.
@@ -13,6 +13,7 @@ pub struct Standard<'r> {
     rt: &'r HostRuntime,
     stream: Stream,
     failures: u64,
+    reason: Option<Error>,
     log: Record,
 }
 
@@ -27,8 +28,14 @@ impl<'r> Standard<'r> {
             rt,
             stream,
             failures: 0,
+            reason: None,
             log: Record::new(),
         }
+    }
+
+    /// Why the last write that failed did, where one failed.
+    pub fn reason(&self) -> Option<&Error> {
+        self.reason.as_ref()
     }
 }
 
@@ -70,7 +77,8 @@ impl Sink for Standard<'_> {
                 self.log.note(&[PUT], &piece[..n]);
                 Ok(n)
             }
-            Err(_) => {
+            Err(error) => {
+                self.reason = Some(error);
                 self.failures += 1;
                 Err(SinkFault)
             }

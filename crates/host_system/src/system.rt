@@ -14,6 +14,7 @@ use host::record::{
 use std::alloc::{AllocError, Global};
 use std::env::Args;
 use std::fs::{self, File};
+use std::io::Error;
 
 /// The system that the process runs on.
 #[derive(Drop)]
@@ -22,6 +23,7 @@ pub struct System<'r> {
     words: Option<Args<Global>>,
     input: Input,
     output: Option<File>,
+    reason: Option<Error>,
     log: Record,
 }
 
@@ -37,8 +39,26 @@ impl<'r> System<'r> {
             words: None,
             input: Input::Closed,
             output: None,
+            reason: None,
             log: Record::new(),
         }
+    }
+
+    /// Why the last call on a file failed that was to read, make, write or rename it, where one failed.
+    pub fn reason(self) -> Option<Error> {
+        let System {
+            rt: _,
+            words,
+            input,
+            output,
+            reason,
+            log,
+        } = self;
+        drop(words);
+        drop(input);
+        drop(output);
+        drop(log);
+        reason
     }
 }
 
@@ -114,7 +134,8 @@ impl Host for System<'_> {
                 self.log.note(&[OPENED], name.as_bytes());
                 Ok(())
             }
-            Err(_) => {
+            Err(error) => {
+                self.reason = Some(error);
                 self.log.note(&[UNOPENED], name.as_bytes());
                 Err(HostFault)
             }
@@ -136,7 +157,8 @@ impl Host for System<'_> {
                 self.log.note(&[GOT], &buffer[..n]);
                 Ok(n)
             }
-            Err(_) => {
+            Err(error) => {
+                self.reason = Some(error);
                 self.log.note(&[BROKEN], &[]);
                 Err(HostFault)
             }
@@ -150,7 +172,8 @@ impl Host for System<'_> {
                 self.log.note(&[BEGAN], name.as_bytes());
                 Ok(())
             }
-            Err(_) => {
+            Err(error) => {
+                self.reason = Some(error);
                 self.log.note(&[FAILED], &[]);
                 Err(HostFault)
             }
@@ -164,7 +187,8 @@ impl Host for System<'_> {
                 self.log.note(&[EMPTIED], name.as_bytes());
                 Ok(())
             }
-            Err(_) => {
+            Err(error) => {
+                self.reason = Some(error);
                 self.log.note(&[FAILED], &[]);
                 Err(HostFault)
             }
@@ -177,7 +201,8 @@ impl Host for System<'_> {
                 self.log.note(&[PUT], &piece[..n]);
                 Ok(n)
             }
-            Err(_) => {
+            Err(error) => {
+                self.reason = Some(error);
                 self.log.note(&[FAILED], &[]);
                 Err(HostFault)
             }
@@ -190,7 +215,8 @@ impl Host for System<'_> {
                 self.log.note_two(before.as_bytes(), name.as_bytes());
                 Ok(())
             }
-            Err(_) => {
+            Err(error) => {
+                self.reason = Some(error);
                 self.log.note(&[FAILED], &[]);
                 Err(HostFault)
             }

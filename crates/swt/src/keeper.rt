@@ -7,6 +7,7 @@ use host::host::{ArgumentFault, Host, HostFault, Stream};
 use host::identity::Identity;
 use host_system::system::System;
 use std::alloc::AllocError;
+use std::io::Error;
 
 /// The system, and what was read of files.
 #[derive(Drop)]
@@ -24,11 +25,10 @@ impl<'r> Keeper<'r> {
         Keeper { system, kept }
     }
 
-    /// What was read.
-    pub fn kept(self) -> Kept<'r> {
+    /// What was read, and why the last call on a file failed, where one failed.
+    pub fn end(self) -> (Kept<'r>, Option<Error>) {
         let Keeper { system, kept } = self;
-        drop(system);
-        kept
+        (kept, system.reason())
     }
 }
 

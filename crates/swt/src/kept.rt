@@ -1,5 +1,6 @@
 //! What was read of files, for what is said of them.
 
+use explain_json::json::json_line;
 use explain_refusals::refusal::explained;
 use std::alloc::{AllocError, Global};
 use std::io::Write;
@@ -8,7 +9,7 @@ use swt_arguments::request::Request;
 
 /// Which files are kept.
 #[derive(Clone, Copy, PartialEq, Eq, Debug, Drop)]
-pub enum Wanted {
+enum Wanted {
     Nothing,
     /// One at a time: before the next is opened it is said of the last why it is refused.
     Each,
@@ -17,8 +18,8 @@ pub enum Wanted {
 
 impl Wanted {
     /// Those of which something is to be said.
-    pub fn by(request: &Request) -> Wanted {
-        if !request.explain {
+    fn by(request: &Request) -> Wanted {
+        if !request.explain && !request.json {
             return Wanted::Nothing;
         }
         match &request.line {
@@ -40,18 +41,36 @@ struct Source {
 pub struct Kept<'r> {
     rt: &'r HostRuntime,
     wanted: Wanted,
+    /// Refusals are told as JSON.
+    json: bool,
     sources: Vec<Source>,
     /// Memory for one was refused, or for what was to be said of it.
     lacks: bool,
 }
 
 impl<'r> Kept<'r> {
-    pub fn new(rt: &'r HostRuntime, wanted: Wanted) -> Kept<'r> {
+    /// Before the first file, for what is asked for.
+    pub fn new(rt: &'r HostRuntime, request: &Request) -> Kept<'r> {
         Kept {
             rt,
-            wanted,
+            wanted: Wanted::by(request),
+            json: request.json,
             sources: Vec::new(rt.alloc()),
             lacks: false,
+        }
+    }
+
+    /// Whether refusals are told as JSON.
+    pub fn tells_json(&self) -> bool {
+        self.json
+    }
+
+    /// The name of the file that could not be read, where there is one.
+    pub fn unread(&self) -> Option<&str> {
+        let source = self.sources.as_slice().last()?;
+        match &source.bytes {
+            Some(_) => None,
+            None => Some(source.name.as_str()),
         }
     }
 
@@ -134,6 +153,7 @@ impl<'r> Kept<'r> {
 
     fn told_refusal(&self) -> Result<(), AllocError> {
         match self.first() {
+            Some((name, text)) if self.json => say_json(self.rt, name, text),
             Some((name, text)) => say_refusal(self.rt, self.rt.alloc(), name, text),
             None => Ok(()),
         }
@@ -145,6 +165,15 @@ fn say_refusal(rt: &HostRuntime, alloc: Global, name: &str, text: &[u8]) -> Resu
     if let Some(refusal) = explained(alloc, name, text)? {
         // Where this can't be written, the status says enough.
         let _ = rt.stderr().write_all(refusal.as_slice());
+    }
+    Ok(())
+}
+
+/// The same as a line of JSON.
+fn say_json(rt: &HostRuntime, name: &str, text: &[u8]) -> Result<(), AllocError> {
+    if let Some(refusal) = json_line(rt.alloc(), name, text)? {
+        // Where this can't be written, the status says enough.
+        let _ = eprintln!(rt; "{refusal}");
     }
     Ok(())
 }

@@ -1,4 +1,4 @@
-//! What was left to be done where a run was cut off.
+//! How far a script follows a trace, and what was left to be done where a run was cut off.
 
 use board::board::Board;
 use board::refusal::Refusal;
@@ -6,86 +6,100 @@ use board_program::program::Program;
 use board_runs::turn::finish;
 use compile::compile::compile;
 use compile::fault::CompileFault;
+use explain_faults::limits::Left;
+use explain_faults::traces::NoStep;
 use std::alloc::{AllocError, Global};
 use swt_trace::fault::TraceFault;
 use swt_trace::read::read_trace;
 use task_code::event::Event;
 
-/// How many events there were, and behind them how many items could begin and how many ran.
+/// What was left to be done behind the events of a trace that are steps, and why the next one is none, where there is one.
 #[derive(Clone, Copy, Drop)]
-pub struct Left {
-    pub events: usize,
-    pub ready: usize,
-    pub running: usize,
+pub struct Followed {
+    pub left: Left,
+    pub refused: Option<NoStep>,
 }
 
-/// What was left to be done behind the events of a trace. None where the script or the trace is refused.
-pub fn left_behind(alloc: Global, text: &[u8], trace: &[u8]) -> Result<Option<Left>, AllocError> {
+/// How far a script follows a trace. None where the script is refused, or the trace has a line that is none.
+pub fn follow(alloc: Global, text: &[u8], trace: &[u8]) -> Result<Option<Followed>, AllocError> {
     let code = match compile(alloc, alloc, text) {
         Ok(code) => code,
         Err(CompileFault::Memory) => return Err(AllocError),
         Err(_) => return Ok(None),
     };
     let mut board = Board::new(alloc, Program::new(alloc, code)?, u32::MAX)?;
-    left_on(alloc, &mut board, trace)
+    follow_on(alloc, &mut board, trace)
 }
 
 /// The same, of a board before all events.
-fn left_on(alloc: Global, board: &mut Board, trace: &[u8]) -> Result<Option<Left>, AllocError> {
+fn follow_on(
+    alloc: Global,
+    board: &mut Board,
+    trace: &[u8],
+) -> Result<Option<Followed>, AllocError> {
     let events = match read_trace(alloc, trace) {
         Ok(events) => events,
         Err(TraceFault::Memory) => return Err(AllocError),
         Err(_) => return Ok(None),
     };
-    let running = take_all(board, events.as_slice())?;
-    Ok(Some(Left {
-        events: events.len(),
-        ready: board.ready_items()?.len(),
-        running,
-    }))
+    let followed = take_all(board, events.as_slice())?;
+    Ok(Some(followed))
 }
 
-/// Does what the events say, and counts the items that run then.
-fn take_all(board: &mut Board, events: &[Event]) -> Result<usize, AllocError> {
+/// Does what the events say, up to one that is no step, and counts the items that run then.
+fn take_all(board: &mut Board, events: &[Event]) -> Result<Followed, AllocError> {
+    let mut count: usize = 0;
     let mut running: usize = 0;
+    let mut refused = None;
     for event in events {
-        take(board, *event)?;
+        refused = take(board, *event)?;
+        if refused.is_some() {
+            break;
+        }
+        count = count.saturating_add(1);
         running = match event {
             Event::Begin { .. } => running.saturating_add(1),
             _ => running.saturating_sub(1),
         };
     }
-    Ok(running)
+    let left = Left {
+        events: count,
+        ready: board.ready_items()?.len(),
+        running,
+    };
+    Ok(Followed { left, refused })
 }
 
-/// Does what an event says, where it is a step.
-fn take(board: &mut Board, event: Event) -> Result<(), AllocError> {
+/// Does what an event says, or tells why it is no step.
+fn take(board: &mut Board, event: Event) -> Result<Option<NoStep>, AllocError> {
     match event {
         Event::Begin { worker, item } if worker < 64 => match board.begin(worker, item) {
             Ok(work) => {
                 drop(work);
-                Ok(())
+                Ok(None)
             }
-            Err(refusal) => unless_memory(refusal),
+            Err(refusal) => no_step(refusal, NoStep::NotReady(item)),
         },
         Event::End { worker, item } if worker < 64 => match board.work(worker, item) {
             Ok(work) => {
                 finish(board, worker, work)?;
-                Ok(())
+                Ok(None)
             }
-            Err(refusal) => unless_memory(refusal),
+            Err(refusal) => no_step(refusal, NoStep::NotRunning(item, worker)),
         },
         Event::Back { worker, item } if worker < 64 => match board.back(worker, item) {
-            Ok(()) => Ok(()),
-            Err(refusal) => unless_memory(refusal),
+            Ok(()) => Ok(None),
+            Err(refusal) => no_step(refusal, NoStep::NotRunning(item, worker)),
         },
-        _ => Ok(()),
+        _ => Ok(None),
     }
 }
 
-fn unless_memory(refusal: Refusal) -> Result<(), AllocError> {
+/// Why an event is no step, by what the board said of it.
+fn no_step(refusal: Refusal, reason: NoStep) -> Result<Option<NoStep>, AllocError> {
     match refusal {
         Refusal::Memory => Err(AllocError),
-        _ => Ok(()),
+        Refusal::Ended => Ok(Some(NoStep::Ended)),
+        _ => Ok(Some(reason)),
     }
 }

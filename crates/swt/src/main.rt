@@ -12,10 +12,11 @@ mod kept;
 mod left;
 mod output;
 mod progress;
+mod troubles;
 
-use crate::ending::explain_ending;
+use crate::ending::{Ended, explain_ending};
 use crate::keeper::Keeper;
-use crate::kept::{Kept, Wanted};
+use crate::kept::Kept;
 use crate::output::Output;
 use crate::progress::Teller;
 use host::host::Stream;
@@ -66,7 +67,7 @@ fn perform<'r, R: Threads + Wait + Sync>(
 {
     let line = &request.line;
     let teller = Teller::new(rt, request.progress, most_steps(line));
-    let host = Keeper::new(system, Kept::new(rt, Wanted::by(request)));
+    let host = Keeper::new(system, Kept::new(rt, request));
     let mut out = Output::new(rt, request.explain);
     let mut err = Standard::new(rt, Stream::Error);
     let number = process::id(rt.process());
@@ -80,9 +81,17 @@ fn perform<'r, R: Threads + Wait + Sync>(
         &mut out,
         &mut err,
     );
-    let mut kept = host.kept();
-    if request.explain {
-        explain_ending(rt, &mut kept, line, status, &teller, out.tail());
+    let (mut kept, reason) = host.end();
+    if request.explain || request.json {
+        let ended = Ended {
+            line,
+            status,
+            teller: &teller,
+            tail: out.tail(),
+            unprinted: out.reason(),
+            reason: reason.as_ref(),
+        };
+        explain_ending(rt, &mut kept, ended);
     }
     status
 }

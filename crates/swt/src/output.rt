@@ -4,6 +4,7 @@ ghost use Rattle.std.specs.Prelude.{◌≡◌, []};
 use host::host::Stream;
 use host_system::stream::Standard;
 use std::alloc::AllocError;
+use std::io::Error;
 use values::sink::{Sink, SinkFault};
 
 /// The last line of a text that comes in pieces, with the byte that ends it.
@@ -93,6 +94,11 @@ impl<'r> Output<'r> {
     /// The last line that was kept.
     pub fn tail(&self) -> &Tail {
         &self.tail
+    }
+
+    /// Why the last write that failed did, where one failed.
+    pub fn reason(&self) -> Option<&Error> {
+        self.stream.reason()
     }
 }
 

@@ -1,7 +1,7 @@
 //! The command line, read.
 ghost use Rattle.std.specs.Prelude.{◌≡◌, [], ◌∷◌, codes, IfOk, MatchOption};
 ghost use Rattle.swt_arguments.specs.Lines.{formed_line, IsInRange};
-ghost use Rattle.swt_arguments.specs.Requests.{behind_command, explain_given, progress_given, request_of, request_with};
+ghost use Rattle.swt_arguments.specs.Requests.{behind_command, explain_given, json_given, progress_given, request_of, request_with};
 ghost use Rattle.swt_arguments.specs.Words.{all_divided, before_dashes, behind_dashes, divided, often, unflagged, Answers};
 
 use crate::command::Command;
@@ -19,6 +19,8 @@ pub struct Request {
     pub explain: bool,
     /// Whether a run is to show how far it is.
     pub progress: bool,
+    /// Whether refusals are to be told as JSON.
+    pub json: bool,
 }
 
 impl Request {
@@ -56,12 +58,14 @@ fn read_parts(
     ensures in_range { IfOk result (λ request. IsInRange request.line) }
 {
     let line = read_line(alloc, command, words, behind)?;
-    let explain = explains(command, words)?;
+    let explain = explains(words)?;
     let progress = shows_progress(command, words)?;
+    let json = tells_json(command, words)?;
     Ok(Request {
         line,
         explain,
         progress,
+        json,
     })
 }
 
@@ -158,16 +162,11 @@ fn unflagged(alloc: Global, command: Command, words: &[Word]) -> Result<Vec<Word
     Ok(others)
 }
 
-/// Whether a command is to explain, with these words behind it.
-fn explains(command: Command, words: &[Word]) -> Result<bool, LineFault>
-    ensures { Answers (explain_given command words.now) result }
+/// Whether it is to explain, with these words behind the command.
+fn explains(words: &[Word]) -> Result<bool, LineFault>
+    ensures { Answers (explain_given words.now) result }
 {
-    match command {
-        Command::Code => Ok(false),
-        Command::Check | Command::Mean | Command::Run | Command::Replay => {
-            words::flag(words::often("--explain", words))
-        }
-    }
+    words::flag(words::often("--explain", words))
 }
 
 /// Whether it is to show how far it is.
@@ -177,5 +176,15 @@ fn shows_progress(command: Command, words: &[Word]) -> Result<bool, LineFault>
     match command {
         Command::Run => words::flag(words::often("--progress", words)),
         Command::Check | Command::Mean | Command::Code | Command::Replay => Ok(false),
+    }
+}
+
+/// Whether it is to tell refusals as JSON.
+fn tells_json(command: Command, words: &[Word]) -> Result<bool, LineFault>
+    ensures { Answers (json_given command words.now) result }
+{
+    match command {
+        Command::Check => words::flag(words::often("--json", words)),
+        Command::Mean | Command::Code | Command::Run | Command::Replay => Ok(false),
     }
 }

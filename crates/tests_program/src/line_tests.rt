@@ -85,12 +85,15 @@ fn shown_line(alloc: Global, line: &Line) -> Result<String, AllocError> {
 }
 
 /// Adds the options that several commands have.
-fn add_options(text: &mut String, explain: bool, progress: bool) -> Result<(), AllocError> {
-    if explain {
+fn add_options(text: &mut String, request: &Request) -> Result<(), AllocError> {
+    if request.explain {
         text.push_str(" explain")?;
     }
-    if progress {
+    if request.progress {
         text.push_str(" progress")?;
+    }
+    if request.json {
+        text.push_str(" json")?;
     }
     Ok(())
 }
@@ -98,7 +101,7 @@ fn add_options(text: &mut String, explain: bool, progress: bool) -> Result<(), A
 /// A request in one text.
 fn shown_request(alloc: Global, request: &Request) -> Result<String, AllocError> {
     let mut text = shown_line(alloc, &request.line)?;
-    add_options(&mut text, request.explain, request.progress)?;
+    add_options(&mut text, request)?;
     Ok(text)
 }
 
@@ -151,6 +154,9 @@ run a 1 3 10000000 none | run a
 run a 2 63 0 t | run --trace t --engines 2 a --steps 0 --workers 63
 replay a t | replay a t
 check a explain | check --explain a
+check a json | check a --json
+check a b explain json | check --json a --explain b
+code a explain | code a --explain
 mean a 1000000 explain | mean a --explain
 run a 1 3 1 none explain | run --steps 1 --explain a
 run a 1 3 10000000 none explain progress | run --progress a --explain
@@ -192,7 +198,8 @@ run a --workers -5
 run a --engines 1 --engines 1
 run a --trace
 run a --trace --steps 1
-code a --explain
+check --json a --json
+run a --json
 run --explain a --explain
 run --progress a --progress
 mean a --progress
@@ -443,7 +450,7 @@ fn fault_text(rt: &impl Abort, alloc: Global, fault: LineFault) -> String {
 #[test]
 fn usage_has_a_text(rt: HostRuntime) {
     let usage = fault_text(&rt, rt.alloc(), LineFault::Usage);
-    let first = "usage: swt check FILE.. [--explain]\n";
+    let first = "usage: swt check FILE.. [--explain] [--json]\n";
     holds(&rt, usage.as_str().starts_with(first));
 }
 
