@@ -217,7 +217,7 @@ same_place bytes m n b c =
 same_end : (bytes : List ℕ) (m n : ℕ) → LeavesMore bytes m → LeavesMore bytes n → m ≡ n
 same_end bytes m n b c =
     let once = read_once bytes ended ended b.events c.events (ending_line b.ending b.rest) (ending_line c.ending c.rest) b.begins c.begins
-        (λ l. ending_is_no_line b.ending b.rest) (λ l. ending_is_no_line c.ending c.rest) in
+    (λ l. ending_is_no_line b.ending b.rest) (λ l. ending_is_no_line c.ending c.rest) in
     omega (arith, b.number, c.number, ap (λ (es : List Event). length es) once.events)
 
 pub first_bad : (bytes : List ℕ) (m n : ℕ) → IsFirstBad bytes m → IsFirstBad bytes n → m ≡ n

@@ -1,5 +1,5 @@
 -- A trace that is written in pieces.
-use Rattle.std.proofs.Common.{◌≡◌, ◌∙◌, sym, ap, refl, ℕ, zero, suc, ◌+◌, ◌<◌, List, [], ◌∷◌, ◌++◌, length, get_or, take, drop, arith, append_assoc, length-append, Some}
+use Rattle.std.proofs.Common.{◌≡◌, ◌∙◌, sym, ap, refl, ℕ, zero, suc, ◌+◌, ◌<◌, List, [], ◌∷◌, ◌++◌, length, get_or, take, drop, arith, append-nil, append_assoc, length-append, Some}
 use Rattle.std.specs.Fmt.{decimal}
 use Rattle.std.proofs.Math.Seq.{take-append-add}
 use Rattle.std.proofs.lemmas.List.{take-append-le}
@@ -60,3 +60,18 @@ next_written old mid new es i d l m n =
     ∙ ap (λ xs. old ++ xs) (append_assoc (first_line ended) (event_lines (take i es) []) (event_line (get_or es i d) []))
     ∙ ap (λ xs. old ++ (first_line ended ++ xs)) (sym (lines_next es i d l))
     ∙ ap (λ k. old ++ (first_line ended ++ event_lines (take k es) [])) (sym next)
+
+-- a beginning of the lines of a trace, and of its last line behind them, is one of the trace
+pub in_lines : (old new : List ℕ) (es : List Event) (d : Ending) → Beginning old (first_line ended ++ event_lines es []) new → Beginning old (TraceText es (Some d)) new
+in_lines old new es d b = beginning_in old old new (TraceText es (Some d)) [] (first_line ended ++ event_lines es []) (ending_line d []) (two_parts es d) (sym (append-nil old)) b
+
+pub in_last : (old mid new : List ℕ) (es : List Event) (d : Ending) → mid ≡ old ++ (first_line ended ++ event_lines es []) → Beginning mid (ending_line d []) new → Beginning old (TraceText es (Some d)) new
+in_last old mid new es d m b =
+    beginning_in old mid new (TraceText es (Some d)) (first_line ended ++ event_lines es []) (ending_line d []) []
+    (two_parts es d ∙ ap (λ xs. (first_line ended ++ event_lines es []) ++ xs) (sym (append-nil (ending_line d [])))) m b
+
+pub all_written : (old mid new : List ℕ) (es : List Event) (d : Ending) → mid ≡ old ++ (first_line ended ++ event_lines es []) → new ≡ mid ++ ending_line d [] → new ≡ old ++ TraceText es (Some d)
+all_written old mid new es d m n =
+    n ∙ ap (λ xs. xs ++ ending_line d []) m
+    ∙ append_assoc old (first_line ended ++ event_lines es []) (ending_line d [])
+    ∙ ap (λ xs. old ++ xs) (sym (two_parts es d))

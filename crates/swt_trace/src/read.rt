@@ -39,13 +39,29 @@ pub fn read_trace(alloc: Global, bytes: &[u8]) -> Result<Trace, TraceFault>
     ensures ok { IfOk result (λ trace. IsTrace bytes.now trace.events.items trace.ending) }
     ensures bad { IfErr result (λ fault. (n : ℕ) → fault ≡ TraceFault.BadLine n → IsFirstBad bytes.now n) }
 {
-    if let Some(lines) = bytes.strip_prefix(PLAIN_LINE) {
+    if let Some(lines) = behind_plain(bytes) {
         return read_plain(alloc, lines);
     }
-    if let Some(lines) = bytes.strip_prefix(ENDED_LINE) {
+    if let Some(lines) = behind_ended(bytes) {
         return read_ended(alloc, lines);
     }
     Err(TraceFault::BadLine(1))
+}
+
+/// What stands behind the first line of a trace of version 1.
+fn behind_plain(bytes: &[u8]) -> Option<&[u8]>
+    ensures some { IfSome result (λ lines. bytes.now ≡ first_line plain ++ lines.now) }
+    ensures none { IfNone result ((lines : List ℕ) → bytes.now ≢ first_line plain ++ lines) }
+{
+    bytes.strip_prefix(PLAIN_LINE)
+}
+
+/// What stands behind the first line of a trace of version 2.
+fn behind_ended(bytes: &[u8]) -> Option<&[u8]>
+    ensures some { IfSome result (λ lines. bytes.now ≡ first_line ended ++ lines.now) }
+    ensures none { IfNone result ((lines : List ℕ) → bytes.now ≢ first_line ended ++ lines) }
+{
+    bytes.strip_prefix(ENDED_LINE)
 }
 
 /// What a trace of version 1 tells with these lines behind its first.

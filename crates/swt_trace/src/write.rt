@@ -1,13 +1,13 @@
 //! Writing a trace.
 ghost use Rattle.std.specs.Prelude.{◌≡◌, ◌<◌, ◌++◌, ◌∷◌, [], length, decimal, OnOk, OnErr};
 ghost use Rattle.values.specs.Sinks.{Beginning};
-ghost use Rattle.swt_trace.specs.Report.{TraceOf};
-ghost use Rattle.swt_trace.specs.Trace.{ended, event_line, event_lines, first_line};
+ghost use Rattle.swt_trace.specs.Report.{TraceOf, ending_of};
+ghost use Rattle.swt_trace.specs.Trace.{ended, ending_line, event_line, event_lines, first_line};
 
 use crate::ending::Ending;
 use crate::fault::WriteFault;
 use arrayvec::ArrayString;
-use board_runs::report::Report;
+use board_runs::report::{End, Report};
 use itoa::Buffer;
 use task_code::event::Event;
 use values::sink::{Sink, SinkFault, write_all};
@@ -28,7 +28,7 @@ pub fn write_trace<W: Sink>(report: &Report, sink: &mut W) -> Result<(), WriteFa
     ensures none_failed { OnOk result (W.failures sink.new ≡ W.failures sink.old) }
 {
     write_events(report.history.as_slice(), sink)?;
-    write_all(sink, Ending::of(&report.end).line())?;
+    write_ending(&report.end, sink)?;
     Ok(())
 }
 
@@ -45,6 +45,17 @@ fn write_events<W: Sink>(events: &[Event], sink: &mut W) -> Result<(), SinkFault
         write_event(event, sink)?;
     }
     Ok(())
+}
+
+/// Writes the line that names an end.
+fn write_ending<W: Sink>(end: &End, sink: &mut W) -> Result<(), SinkFault>
+    requires { W.failures sink.old < u64.MAX }
+    ensures ok { OnOk result (W.taken sink.new ≡ W.taken sink.old ++ ending_line (ending_of end.now) []) }
+    ensures err { OnErr result (Beginning (W.taken sink.old) (ending_line (ending_of end.now) []) (W.taken sink.new)) }
+    ensures failed { OnErr result (W.failures sink.old < W.failures sink.new) }
+    ensures none_failed { OnOk result (W.failures sink.new ≡ W.failures sink.old) }
+{
+    write_all(sink, Ending::of(end).line())
 }
 
 /// Writes an event's line.

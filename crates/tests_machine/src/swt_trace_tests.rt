@@ -42,13 +42,7 @@ const CUT_HELLO: &[u8] = b"swt-trace 2\nB 0 1\nE 0 1\nB 1 2\nE 1 2\nL\n";
 const CUT_MOST: &[u8] = b"swt-trace 2\nK 63 18446744073709551615\nL\n";
 
 /// A trace is read as these events, and names this end.
-fn is_read(
-    rt: &impl Abort,
-    alloc: Global,
-    trace: &[u8],
-    events: &[Event],
-    ending: Option<Ending>,
-) {
+fn is_read(rt: &impl Abort, alloc: Global, trace: &[u8], events: &[Event], ending: Option<Ending>) {
     let told = read_trace(alloc, trace).expect(rt, "a trace");
     assert!(rt; told.events.as_slice() == events);
     is_equal(rt, told.ending, ending);
