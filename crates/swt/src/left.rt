@@ -38,7 +38,7 @@ fn follow_on(
     trace: &[u8],
 ) -> Result<Option<Followed>, AllocError> {
     let events = match read_trace(alloc, trace) {
-        Ok(events) => events,
+        Ok(told) => told.events,
         Err(TraceFault::Memory) => return Err(AllocError),
         Err(_) => return Ok(None),
     };

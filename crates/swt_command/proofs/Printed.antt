@@ -46,6 +46,7 @@ not_stopped Is.Stranger n is h = is_none_of n 7 is (λ x. omega (arith, x)) (λ 
 not_stopped (Is.Refused r) n is h = is_none_of n 1 is (λ x. omega (arith, x)) (λ x. omega (arith, x)) h
 not_stopped (Is.BadLine m) n is h = is_none_of n 7 is (λ x. omega (arith, x)) (λ x. omega (arith, x)) h
 not_stopped (Is.NotARun m) n is h = is_none_of n 7 is (λ x. omega (arith, x)) (λ x. omega (arith, x)) h
+not_stopped (Is.WrongEnd m) n is h = is_none_of n 7 is (λ x. omega (arith, x)) (λ x. omega (arith, x)) h
 not_stopped Is.BadCount n is h = is_none_of n 2 is (λ x. omega (arith, x)) (λ x. omega (arith, x)) h
 not_stopped Is.Memory n is h = is_none_of n 6 is (λ x. omega (arith, x)) (λ x. omega (arith, x)) h
 not_stopped Is.Unprinted n is h = is_none_of n 7 is (λ x. omega (arith, x)) (λ x. omega (arith, x)) h
