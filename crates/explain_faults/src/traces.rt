@@ -50,9 +50,54 @@ fn what_is_wrong(trace: &[u8], line: usize, at: Span) -> &'static str {
         "the first line of a trace is swt-trace and its version"
     } else if behind.is_empty() && !bytes.is_empty() {
         "the last line of a trace ends with a line feed, as all others do"
+    } else if trace.starts_with(b"swt-trace 2\n") {
+        what_is_wrong_with_end(trace, line, bytes)
     } else {
         "a line has B, E or K, a thread from 0 to 63 and an item from 1 on, with one blank between, and no 0 in front"
     }
+}
+
+/// The same in a trace whose last line names the end of its run.
+fn what_is_wrong_with_end(trace: &[u8], line: usize, bytes: &[u8]) -> &'static str {
+    if names_end(trace, line_at(trace, line.saturating_sub(1))) {
+        "nothing stands behind the line that names the end of the run"
+    } else if bytes.is_empty() {
+        "the last line of a trace names the end of its run: Q quiet, F a fault, L the limit"
+    } else {
+        "a line has B, E or K, a thread from 0 to 63 and an item from 1 on, with one blank between, and no 0 in front; the last one has Q, F or L alone"
+    }
+}
+
+/// Whether a line names the end of a run.
+fn names_end(trace: &[u8], at: Span) -> bool {
+    match trace.get(at.from..at.to) {
+        Some([byte]) => matches!(byte, b'Q' | b'F' | b'L'),
+        _ => false,
+    }
+}
+
+/// Adds what is said of a last line that names another end than that of the run.
+///
+/// # Errors
+///
+/// `AllocError` where memory that was asked for was refused.
+pub fn add_wrong_end(
+    out: &mut Vec<u8>,
+    file: &str,
+    trace: &[u8],
+    line: usize,
+) -> Result<(), AllocError> {
+    let at = line_at(trace, line);
+    say_start(out, file, trace, at.from)?;
+    say(
+        out,
+        "T3 WrongEnd: behind these events the run has another end than Q quiet, F a fault or L the limit, whichever this line names\n",
+    )?;
+    add_quote(out, trace, at)?;
+    say(
+        out,
+        "hint: a trace is of one script, as that was when it was run, and whole: swt run FILE --trace TRACE writes it anew\n",
+    )
 }
 
 /// Adds what is said of the first line whose event is no step of the script, with the reason where it is known.

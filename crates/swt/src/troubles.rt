@@ -2,7 +2,7 @@
 
 use crate::left::follow;
 use explain_faults::limits::add_bad_count;
-use explain_faults::traces::{add_bad_line, add_no_step};
+use explain_faults::traces::{add_bad_line, add_no_step, add_wrong_end};
 use explain_text::words::say;
 use std::alloc::{AllocError, Global};
 use std::io::Error;
@@ -56,7 +56,8 @@ pub fn explain_same_file(name: &str, out: &mut Vec<u8>) -> Result<(), AllocError
     )
 }
 
-/// Adds what is said of a trace that was refused: of its first line that is none, or whose event is no step of the script.
+/// Adds what is said of a trace that was refused: of its first line that is none, whose event is no step of the script, or which names
+/// another end than that of the run.
 pub fn explain_trace(
     alloc: Global,
     name: &str,
@@ -64,20 +65,19 @@ pub fn explain_trace(
     trace: &[u8],
     out: &mut Vec<u8>,
 ) -> Result<(), AllocError> {
-    match read_trace(alloc, trace) {
+    let ending = match read_trace(alloc, trace) {
+        Ok(told) => told.ending,
         Err(TraceFault::Memory) => return Err(AllocError),
-        Err(TraceFault::BadLine(line)) => {
-            return add_bad_line(out, name, trace, line as usize);
-        }
-        Ok(_) => {}
-    }
+        Err(TraceFault::BadLine(line)) => return add_bad_line(out, name, trace, line as usize),
+    };
     let Some(followed) = follow(alloc, script, trace)? else {
         return Ok(());
     };
     let line = followed.left.events.saturating_add(2);
-    match followed.refused {
-        Some(reason) => add_no_step(out, name, trace, line, reason),
-        None => Ok(()),
+    match (followed.refused, ending) {
+        (Some(reason), _) => add_no_step(out, name, trace, line, reason),
+        (None, Some(_)) => add_wrong_end(out, name, trace, line),
+        (None, None) => Ok(()),
     }
 }
 
