@@ -9,7 +9,7 @@ use host_system::system::System;
 use std::alloc::AllocError;
 use std::io::Error;
 
-/// The system, and what was read of files.
+/// The system, and what was read of files. What is kept takes memory; where that is refused it is let go, and the calls are done all the same.
 #[derive(Drop)]
 pub struct Keeper<'r> {
     system: System<'r>,
