@@ -49,7 +49,7 @@ fn left_on(alloc: Global, board: &mut Board, trace: &[u8]) -> Result<Option<Left
 fn take_all(board: &mut Board, events: &[Event]) -> Result<usize, AllocError> {
     let mut running: usize = 0;
     for event in events {
-        take(board, *event)?;
+        let _is_step = take(board, *event)?;
         running = match event {
             Event::Begin { .. } => running.saturating_add(1),
             _ => running.saturating_sub(1),
@@ -58,34 +58,31 @@ fn take_all(board: &mut Board, events: &[Event]) -> Result<usize, AllocError> {
     Ok(running)
 }
 
-/// Does what an event says, where it is a step.
-fn take(board: &mut Board, event: Event) -> Result<(), AllocError> {
+/// Does what an event says, where it is a step, and says whether it is.
+pub fn take(board: &mut Board, event: Event) -> Result<bool, AllocError> {
     match event {
         Event::Begin { worker, item } if worker < 64 => match board.begin(worker, item) {
             Ok(work) => {
                 drop(work);
-                Ok(())
+                Ok(true)
             }
             Err(refusal) => unless_memory(refusal),
         },
         Event::End { worker, item } if worker < 64 => match board.work(worker, item) {
-            Ok(work) => {
-                finish(board, worker, work)?;
-                Ok(())
-            }
+            Ok(work) => finish(board, worker, work),
             Err(refusal) => unless_memory(refusal),
         },
         Event::Back { worker, item } if worker < 64 => match board.back(worker, item) {
-            Ok(()) => Ok(()),
+            Ok(()) => Ok(true),
             Err(refusal) => unless_memory(refusal),
         },
-        _ => Ok(()),
+        _ => Ok(false),
     }
 }
 
-fn unless_memory(refusal: Refusal) -> Result<(), AllocError> {
+fn unless_memory(refusal: Refusal) -> Result<bool, AllocError> {
     match refusal {
         Refusal::Memory => Err(AllocError),
-        _ => Ok(()),
+        _ => Ok(false),
     }
 }

@@ -4,10 +4,12 @@
 mod explain;
 mod left;
 mod progress;
+mod refused;
 
 use crate::explain::{explain_blocked, explain_fault, explain_meaning};
 use crate::left::left_behind;
 use crate::progress::Teller;
+use crate::refused::explain_trace;
 use bumpalo::Bump;
 use explain_faults::limits::add_limit_of_steps;
 use explain_refusals::refusal::explained;
@@ -220,13 +222,34 @@ fn explain_end(
             Ok(())
         }
         Line::Run { .. } | Line::Replay { .. } => {
-            if status == Status::Limit.number() {
+            if status == Status::Failed.number() {
+                explain_refused(alloc, names.as_slice(), files, text)
+            } else if status == Status::Limit.number() {
                 explain_limit(alloc, name, files, teller, text)
             } else {
                 explain_run(alloc, name, script, status, printed, text)
             }
         }
     }
+}
+
+/// Adds why the trace that is the second file was refused, where it was.
+fn explain_refused(
+    alloc: Global,
+    names: &[Word],
+    files: &[Option<Vec<u8>>],
+    text: &mut Vec<u8>,
+) -> Result<(), AllocError> {
+    let (Some(name), [Some(script), Some(trace)]) = (names.get(1), files) else {
+        return Ok(());
+    };
+    explain_trace(
+        alloc,
+        name.as_str(),
+        script.as_slice(),
+        trace.as_slice(),
+        text,
+    )
 }
 
 /// Adds what is to be said of a run that was not cut off.
