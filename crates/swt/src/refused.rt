@@ -80,20 +80,17 @@ fn explain_told(
 
 /// Why an event is no step of a board.
 fn cause_of(board: &Board, event: Event) -> Cause {
-    let (item, begins) = match event {
-        Event::Begin { item, .. } => (item, true),
-        Event::End { item, .. } | Event::Back { item, .. } => (item, false),
-    };
     if board.fault().is_some() {
         return Cause::Faulty;
     }
+    let item = item_of(event);
     match last_of(board.history().as_slice(), item) {
         Some(Event::Begin { worker, .. }) => Cause::Runs(worker),
         Some(Event::End { .. }) => Cause::Over,
         _ => {
             if board.kind(item).is_none() {
                 Cause::Absent
-            } else if begins {
+            } else if matches!(event, Event::Begin { .. }) {
                 Cause::Waits
             } else {
                 Cause::Idle
@@ -106,14 +103,19 @@ fn cause_of(board: &Board, event: Event) -> Cause {
 fn last_of(events: &[Event], wanted: u64) -> Option<Event> {
     let mut last = None;
     for event in events {
-        let item = match event {
-            Event::Begin { item, .. } | Event::End { item, .. } | Event::Back { item, .. } => *item,
-        };
-        if item == wanted {
+        if item_of(*event) == wanted {
             last = Some(*event);
         }
     }
     last
+}
+
+fn item_of(event: Event) -> u64 {
+    match event {
+        Event::Begin { item, .. } => item,
+        Event::End { item, .. } => item,
+        Event::Back { item, .. } => item,
+    }
 }
 
 /// Adds the event of a line, and why it is no step.
