@@ -5,15 +5,28 @@ use explain_text::words::{say, say_count, say_start};
 use lexer::token::Span;
 use std::alloc::AllocError;
 
+/// The item of an event that is no step of the script, and why it is none.
+#[derive(Clone, Copy, Debug, PartialEq, Eq)]
+pub struct NoStep {
+    pub item: u64,
+    pub why: WhyNot,
+}
+
 /// Why an event of a trace is no step of the script.
 #[derive(Clone, Copy, Debug, PartialEq, Eq)]
-pub enum NoStep {
-    /// The item can not begin there.
-    NotReady(u64),
-    /// The item does not run on the thread that ends it, or gives it back.
-    NotRunning(u64, u8),
+pub enum WhyNot {
     /// A fault was met before.
-    Ended,
+    Faulty,
+    /// The item was not made yet.
+    Absent,
+    /// The item has ended.
+    Over,
+    /// The item runs on this thread.
+    Runs(u8),
+    /// The item does not run.
+    Idle,
+    /// The item waits for an input.
+    Waits,
 }
 
 /// Adds what is said of the first line that no trace has there:
@@ -76,7 +89,7 @@ fn names_end(trace: &[u8], at: Span) -> bool {
     }
 }
 
-/// Adds what is said of a last line that names another end than that of the run.
+/// Adds what is said of a last line that names another end than that of the run, which ended as these words say.
 ///
 /// # Errors
 ///
@@ -86,13 +99,13 @@ pub fn add_wrong_end(
     file: &str,
     trace: &[u8],
     line: usize,
+    end: &str,
 ) -> Result<(), AllocError> {
     let at = line_at(trace, line);
     say_start(out, file, trace, at.from)?;
-    say(
-        out,
-        "T3 WrongEnd: behind these events the run has another end than Q quiet, F a fault or L the limit, whichever this line names\n",
-    )?;
+    say(out, "T3 WrongEnd: the run ")?;
+    say(out, end)?;
+    say(out, "\n")?;
     add_quote(out, trace, at)?;
     say(
         out,
@@ -110,12 +123,12 @@ pub fn add_no_step(
     file: &str,
     trace: &[u8],
     line: usize,
-    reason: NoStep,
+    refused: NoStep,
 ) -> Result<(), AllocError> {
     let at = line_at(trace, line);
     say_start(out, file, trace, at.from)?;
     say(out, "T2 NotARun: ")?;
-    say_no_step(out, reason)?;
+    say_no_step(out, refused)?;
     say(out, "\n")?;
     add_quote(out, trace, at)?;
     say(
@@ -124,27 +137,24 @@ pub fn add_no_step(
     )
 }
 
-fn say_no_step(out: &mut Vec<u8>, reason: NoStep) -> Result<(), AllocError> {
-    match reason {
-        NoStep::NotReady(item) => {
-            say(out, "item ")?;
-            say_item(out, item)?;
-            say(
-                out,
-                " can not begin here: it is not there yet, waits for a value, runs, or is done",
-            )
-        }
-        NoStep::NotRunning(item, thread) => {
-            say(out, "item ")?;
-            say_item(out, item)?;
-            say(out, " does not run on thread ")?;
-            say_count(out, thread as usize)?;
-            say(out, " here")
-        }
-        NoStep::Ended => say(
+fn say_no_step(out: &mut Vec<u8>, refused: NoStep) -> Result<(), AllocError> {
+    if refused.why == WhyNot::Faulty {
+        return say(
             out,
             "the script has met a fault before, behind which nothing begins",
-        ),
+        );
+    }
+    say(out, "item ")?;
+    say_item(out, refused.item)?;
+    match refused.why {
+        WhyNot::Faulty | WhyNot::Absent => say(out, " is not there yet"),
+        WhyNot::Over => say(out, " has ended before"),
+        WhyNot::Idle => say(out, " does not run"),
+        WhyNot::Waits => say(out, " waits for what is not known yet"),
+        WhyNot::Runs(thread) => {
+            say(out, " runs on thread ")?;
+            say_count(out, thread as usize)
+        }
     }
 }
 

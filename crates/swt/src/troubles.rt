@@ -7,6 +7,7 @@ use explain_text::words::say;
 use std::alloc::{AllocError, Global};
 use std::io::Error;
 use swt_arguments::line::Line;
+use swt_trace::ending::Ending;
 use swt_trace::fault::TraceFault;
 use swt_trace::read::read_trace;
 
@@ -75,9 +76,20 @@ pub fn explain_trace(
     };
     let line = followed.left.events.saturating_add(2);
     match (followed.refused, ending) {
-        (Some(reason), _) => add_no_step(out, name, trace, line, reason),
-        (None, Some(_)) => add_wrong_end(out, name, trace, line),
-        (None, None) => Ok(()),
+        (Some(refused), _) => add_no_step(out, name, trace, line, refused),
+        (None, Some(named)) if named != followed.end => {
+            add_wrong_end(out, name, trace, line, words_of(followed.end))
+        }
+        (None, _) => Ok(()),
+    }
+}
+
+/// How a run ended, with the letter that a trace has for it.
+fn words_of(end: Ending) -> &'static str {
+    match end {
+        Ending::Quiet => "is quiet here, which is Q",
+        Ending::Fault => "has met a fault here, which is F",
+        Ending::Limit => "is cut off here, which is L",
     }
 }
 

@@ -26,10 +26,10 @@ end_no_step fault m n e f = absurd (cc (sym e ∙ f))
 
 -- what is none of the three is want of memory
 pub no_other : (fault : ReplayFault) → ((n : ℕ) → fault ≡ Fault.BadLine n → ⊥) → ((n : ℕ) → fault ≡ Fault.NotARun n → ⊥) → ((n : ℕ) → fault ≡ Fault.WrongEnd n → ⊥) → fault ≡ Fault.Memory
-no_other (Fault.BadLine n) line event end = absurd (line n refl)
-no_other (Fault.NotARun n) line event end = absurd (event n refl)
-no_other (Fault.WrongEnd n) line event end = absurd (end n refl)
-no_other Fault.Memory line event end = refl
+no_other (Fault.BadLine n) line event other = absurd (line n refl)
+no_other (Fault.NotARun n) line event other = absurd (event n refl)
+no_other (Fault.WrongEnd n) line event other = absurd (other n refl)
+no_other Fault.Memory line event other = refl
 
 -- what follows of a report, and of a fault
 pub of_report : {T E : Type 0} (r : Result T E) (P Q : T → Type 0) → ((x : T) → P x → Q x) → IfOk r P → IfOk r Q

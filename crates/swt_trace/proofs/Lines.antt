@@ -10,7 +10,7 @@ use Rattle.swt_trace.specs.declared.fault.TraceFault.TheVariants.{BadLine, Memor
 use Rattle.swt_trace.specs.declared.ending.Ending.{Ending}
 use Rattle.swt_trace.specs.declared.ending.Ending.TheVariants.{Quiet, Fault, Limit}
 use Rattle.swt_trace.specs.Trace.{Version, plain, ended, letter, worker_of, item_of, ending_letter, first_line, event_line, event_lines, ending_line, version_of, last_line, TraceText, most_events}
-use Rattle.swt_trace.specs.Trace.{IsInRange, IsLineThen, AreLinesThen, BeginsTrace, IsTrace, LacksLine, LacksLast, LeavesBehind, LeavesMore, IsFirstBad}
+use Rattle.swt_trace.specs.Trace.{IsInRange, IsLineThen, AreLinesThen, BeginsTrace, IsTrace, LacksLine, LacksFirstLine, LacksLast, LeavesBehind, LeavesMore, IsFirstBad}
 use Rattle.swt_trace.proofs.Numbers.{written_decimal, decimal_written, same_number}
 
 -- the events of a list that are in range, one by one
@@ -291,9 +291,17 @@ line_number : TraceFault → ℕ
 line_number (BadLine n) = n
 line_number Memory = 0
 
-pub number_named : (m n : ℕ) → BadLine m ≡ BadLine n → m ≡ n
+number_named : (m n : ℕ) → BadLine m ≡ BadLine n → m ≡ n
 unfolding line_number
 number_named m n e = ap line_number e
+
+-- a text with neither first line
+neither : (bytes : List ℕ) → ((lines : List ℕ) → bytes ≢ first_line plain ++ lines) → ((lines : List ℕ) → bytes ≢ first_line ended ++ lines) → LacksFirstLine bytes
+neither bytes p q plain lines = p lines
+neither bytes p q ended lines = q lines
+
+pub no_first_line : (bytes : List ℕ) → ((lines : List ℕ) → bytes ≢ first_line plain ++ lines) → ((lines : List ℕ) → bytes ≢ first_line ended ++ lines) → (n : ℕ) → BadLine 1 ≡ BadLine n → IsFirstBad bytes n
+no_first_line bytes p q n e = inl (sym (number_named 1 n e), neither bytes p q)
 
 -- all bytes behind two
 pub behind_two : (bs : List ℕ) → 2 ≤ length bs → take (length bs - 2) (drop 2 bs) ≡ drop 2 bs

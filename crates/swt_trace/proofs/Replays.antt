@@ -66,14 +66,14 @@ replayed C bytes events ending r s trace history reports same named =
     let x : ReplaysTo C bytes r = record { events = events; ending = ending; trace = trace; history = history; reports = reports; named = named } in
     subst (λ (q : Report). ReplaysTo C bytes q) (sym same) x
 
-pub wrong_end : (C : Code) (bytes : List ℕ) (events : List Event) (ending : Option Ending) (r : Report) (n : ℕ)
-    → IsTrace bytes events ending → r.history.items ≡ events → Reports C (length events) r → ¬ IsNamed ending r.end → WrongEnd (length events + 2) ≡ WrongEnd n → IsWrongEnd C bytes n
-wrong_end C bytes events None r n trace history reports other e = absurd (other tt)
-wrong_end C bytes events (Some ending) r n trace history reports other e = record {
+pub wrong_end : (C : Code) (bytes : List ℕ) (events : List Event) (ending : Option Ending) (r : Report) (m n : ℕ)
+    → IsTrace bytes events ending → r.history.items ≡ events → Reports C (length events) r → ¬ IsNamed ending r.end → m ≡ length events + 2 → WrongEnd m ≡ WrongEnd n → IsWrongEnd C bytes n
+wrong_end C bytes events None r m n trace history reports other line e = absurd (other tt)
+wrong_end C bytes events (Some ending) r m n trace history reports other line e = record {
   events = events;
   ending = ending;
   trace = trace;
-  number = sym (ap line_number e);
+  number = sym (ap line_number e) ∙ line;
   report = r;
   history = history;
   reports = reports;

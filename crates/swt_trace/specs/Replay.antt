@@ -24,8 +24,8 @@ Takes old e new false = (new ≡ old) × IsNoStep old.code old.state e
 
 -- no end is named, or it is this one
 abbrev pub IsNamed : Option Ending → End → Type 0
-IsNamed None end = Unit {0}
-IsNamed (Some e) end = e ≡ ending_of end
+IsNamed None d = Unit {0}
+IsNamed (Some e) d = e ≡ ending_of d
 
 -- the report is one of the events of which the bytes are a trace, with their number as the limit, and no other end is named
 pub record ReplaysTo (C : Code) (bytes : List ℕ) (r : Report) : Type 0 where
