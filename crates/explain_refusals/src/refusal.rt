@@ -1,6 +1,5 @@
 //! A refusal, and how a person reads it.
 ghost use Rattle.std.specs.Prelude.{◌≡◌, Some, IfOk, MatchOption};
-ghost use Rattle.lexer.specs.declared.token.Span.{Span};
 ghost use Rattle.syntax.specs.Refusals as parsing;
 ghost use Rattle.types.specs.Faults as type_faults;
 ghost use Rattle.assign_check.specs.Places as assign_places;
