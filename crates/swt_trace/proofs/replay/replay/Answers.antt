@@ -1,4 +1,4 @@
-use Rattle.std.proofs.Common.{rules, ◌≡◌, ◌∙◌, ap, sym, subst, refl, Some, ℕ, List, length}
+use Rattle.std.proofs.Common.{rules, arith, ◌≡◌, ◌∙◌, ap, sym, subst, refl, Some, ℕ, List, length}
 use Rattle.task_code.specs.Code.{Code}
 use Rattle.task_code.specs.declared.event.Event.{Event}
 use Rattle.board.specs.Board.{Seen}
