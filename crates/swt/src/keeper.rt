@@ -20,7 +20,7 @@ impl<'r> Keeper<'r> {
     ghost use Rattle.swt.specs.Keepers.{events_of};
 
     pub fn new(system: System<'r>, kept: Kept<'r>) -> Keeper<'r>
-        ensures { events_of result ≡ Systems.events_of system }
+        ensures { events_of result ≡ Systems.events_of system.entry }
     {
         Keeper { system, kept }
     }
