@@ -1,5 +1,4 @@
 //! What to write instead.
-ghost use Rattle.std.specs.Prelude.{◌≡◌, IfSome};
 
 use lexer::token::Span;
 
@@ -13,9 +12,7 @@ pub struct Advice {
 
 impl Advice {
     /// Advice on the place of the refusal.
-    pub fn here(words: &'static str) -> Option<Advice>
-        ensures { IfSome result (λ advice. advice.words.now ≡ words.now) }
-    {
+    pub fn here(words: &'static str) -> Option<Advice> {
         Some(Advice { words, at: None })
     }
 

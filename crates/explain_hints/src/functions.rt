@@ -1,6 +1,4 @@
 //! Functions and variables that other languages have.
-ghost use Rattle.std.specs.Prelude.{◌≡◌, option_map};
-ghost use Rattle.explain_hints.specs.Tables.{words_for};
 
 use crate::bytes::{Row, row_of};
 
@@ -232,9 +230,7 @@ static FUNCTIONS: [Row; 52] = [
 ];
 
 /// What is there instead of a function of another language.
-pub fn on_function(name: &[u8]) -> Option<&'static str>
-    ensures { option_map (λ words. words.now) result ≡ words_for name.now FUNCTIONS }
-{
+pub fn on_function(name: &[u8]) -> Option<&'static str> {
     row_of(&FUNCTIONS, name)
 }
 
@@ -275,8 +271,6 @@ static VARIABLES: [Row; 8] = [
 ];
 
 /// What is there instead of a variable of another language.
-pub fn on_variable(name: &[u8]) -> Option<&'static str>
-    ensures { option_map (λ words. words.now) result ≡ words_for name.now VARIABLES }
-{
+pub fn on_variable(name: &[u8]) -> Option<&'static str> {
     row_of(&VARIABLES, name)
 }

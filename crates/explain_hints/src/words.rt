@@ -1,6 +1,4 @@
 //! Words that other languages have.
-ghost use Rattle.std.specs.Prelude.{◌≡◌, Some, IfSome};
-ghost use Rattle.explain_hints.specs.Tables.{words_for};
 
 use crate::advice::Advice;
 use crate::around::Around;
@@ -347,9 +345,7 @@ static OPERATORS: [Row; 7] = [
 ];
 
 /// Where the first word of the statement is one of another language, and no variable or function of the script.
-pub fn first_word(text: &[u8], around: &Around<'_>) -> Option<Advice>
-    ensures { IfSome result (λ advice. words_for around.now.first.text.now FIRST_WORDS ≡ Some advice.words.now) }
-{
+pub fn first_word(text: &[u8], around: &Around<'_>) -> Option<Advice> {
     if around.first.kind != TokenKind::Name || is_variable(around) {
         return None;
     }
