@@ -2,6 +2,10 @@
 
 ghost use Rattle.std.specs.Prelude.{ℕ, ℤ, List};
 ghost use Rattle.dataflow.specs.Machine.{Event};
+ghost use Rattle.task_code.specs.Machine.{Run};
+ghost use Rattle.task_code.specs.Whole.{IsCode};
+ghost use Rattle.board_work.specs.Assigned.{Assigned};
+ghost use Rattle.board.specs.Board.{Accepts, IsItems, IsOwn, IsTheirs, Seen};
 ghost use Rattle.board_history.specs.Fields.{Fields, Layout};
 ghost use Rattle.board_history.specs.Stands.{Stands};
 ghost use Rattle.task_code.specs.Code.{Code, Kind};
@@ -12,4 +16,12 @@ ghost use Rattle.board.specs.Queues.{SameNumbers, with_queue};
 pub fn queues_by_members()
     ensures { (C : Code) (L : Layout) (events : List Event) (F : Fields) → Stands C L events F →
         (q : Kind → ℤ → List ℕ) → SameNumbers F.queue q → Stands C L events (with_queue q F) }
+{}
+
+/// Work that is an item's own on a worker is that of its item, whatever is accepted next; and it is its own on any worker on which the item
+/// runs.
+pub fn work_stays()
+    ensures begun { (b : Seen) → IsCode b.code → Run b.code b.history b.state → (w : ℕ) (work : Assigned) → IsOwn b w work → IsItems b work }
+    ensures stays { (old new : Seen) → IsCode old.code → Run old.code old.history old.state → (e : Event) → Accepts old e new → (work : Assigned) → IsItems old work → IsItems new work }
+    ensures own { (b : Seen) (w : ℕ) (work : Assigned) → IsItems b work → IsTheirs b w work.item → IsOwn b w work }
 {}

@@ -1,11 +1,16 @@
 //! What lies under the lock: the board, and the books of its events and of the items that they made ready.
-ghost use Rattle.std.specs.Prelude.{◌≡◌, ◌≢◌, ◌+◌, ◌<◌, ◌≤◌, ◌^◌, [], None, IfOk, IfErr, OnOk, OnErr, length, vec_len};
+ghost use Rattle.std.specs.Prelude.{◌≡◌, ◌≢◌, ◌+◌, ◌<◌, ◌≤◌, ◌^◌, [], None, IfOk, IfErr, IsTrue, OnOk, OnErr, length, vec_len};
 ghost use Rattle.dataflow.specs.Events.{backs};
 ghost use Rattle.dataflow.specs.Machine.{start};
 ghost use Rattle.task_code.specs.System.{code_system};
 ghost use Rattle.task_code.specs.View.{kind_view};
+ghost use Rattle.board.specs.Board.{Accepts, IsItems, IsWorker};
+ghost use Rattle.dataflow.specs.Machine as Machine;
+ghost use Rattle.dataflow.specs.System.{In};
 ghost use Rattle.workers.specs.Threads.{IsPlace, IsTheirs, RunsTo};
 
+use crate::begun::{Begun, Finished};
+use crate::book::{Book as Log, Front, Opened};
 use crate::crowd::Crowds;
 use crate::fresh::{count_fresh, list_fresh};
 use crate::job::Job;
@@ -20,6 +25,9 @@ use task_code::entry::Kind;
 /// So many items may have come to be ready at most; no run of as many events as can be counted comes near it.
 const MOST: u64 = 1 << 62;
 
+/// So much work is known from its begin.
+const MOST_BEGUN: u64 = 1 << 61;
+
 /// Why a run stopped before its end.
 #[derive(Clone, Copy, PartialEq, Eq, Drop)]
 pub enum Stop {
@@ -32,6 +40,8 @@ pub enum Stop {
 #[derive(Drop)]
 pub struct Desk<J: Job, E: Ledger, N: Ledger> {
     board: Board,
+    log: Log<J>,
+    front: Front<J>,
     stop: Option<Stop>,
     told: u64,
     events: Book<E>,
@@ -48,21 +58,25 @@ impl<J: Job, E: Ledger, N: Ledger> Model for Desk<J, E, N> {
 
     ghost coded = { Prim.hlevel (codes, expr_code (Prim.hlevel codes), exprs_code (Prim.hlevel codes)) };
 
-    ghost view = { λ d. record { board = d.board; stop = d.stop; told = d.told; events = d.events.total; news = d.news.total } };
+    ghost view = { λ d. record { board = d.board; stop = d.stop; told = d.told; events = d.events.total; news = d.news.total; log = d.front } };
 
-    ghost invariant = { λ d. IsKept J.code J.limit J.engines J.workers (record { board = d.board; stop = d.stop; told = d.told; events = d.events.total; news = d.news.total }) };
+    ghost invariant = { λ d. IsKept J.code J.limit J.engines J.workers (record { board = d.board; stop = d.stop; told = d.told; events = d.events.total; news = d.news.total; log = d.front }) };
 }
 
 impl<J: Job, E: Ledger, N: Ledger> Desk<J, E, N> {
     /// A board before any event, with empty books.
-    pub fn new(board: Board, events: Book<E>, news: Book<N>) -> Desk<J, E, N>
+    pub fn new(board: Board, opened: Opened, events: Book<E>, news: Book<N>) -> Desk<J, E, N>
         requires code { (board.code ≡ J.code) × (board.limit ≡ J.limit) }
         requires some { J.engines + J.workers ≤ 64 }
         requires first { (board.history ≡ []) × (board.state ≡ start (code_system board.code)) }
         requires empty { (events.total ≡ 0) × (news.total ≡ 0) }
+        requires opened { opened.seen.book ≡ J.book }
     {
+        let (log, front) = opened.named::<J>();
         Desk {
             board,
+            log,
+            front,
             stop: None,
             told: 0,
             events,
@@ -101,6 +115,35 @@ impl<J: Job, E: Ledger, N: Ledger> Desk<J, E, N> {
         self.board.lines().len()
     }
 
+    /// Work that has just begun goes into the log. It is known from then on.
+    fn note(&mut self, work: Work) -> Begun<J>
+        requires { IsItems self.old.board work }
+        ensures same { (self.new.board ≡ self.old.board) × (self.new.stop ≡ self.old.stop) × (self.new.told ≡ self.old.told) × (self.new.events ≡ self.old.events) × (self.new.news ≡ self.old.news) }
+        ensures work { result ≡ work }
+    {
+        let mut front = self.front.again();
+        if front.len() >= MOST_BEGUN {
+            return Begun {
+                work,
+                front,
+                known: false,
+            };
+        }
+        if !front.add(&self.log, &work) {
+            return Begun {
+                work,
+                front,
+                known: false,
+            };
+        }
+        self.front = front.again();
+        Begun {
+            work,
+            front,
+            known: true,
+        }
+    }
+
     /// The item of the number begins, if it is of the kind and can begin.
     fn begin_this(
         &mut self,
@@ -108,7 +151,7 @@ impl<J: Job, E: Ledger, N: Ledger> Desk<J, E, N> {
         kind: Kind,
         item: u64,
         mine: &mut Share<E>,
-    ) -> Result<Work, Refusal>
+    ) -> Result<Begun<J>, Refusal>
         requires part { 0 < mine.old.parts }
         requires place { IsPlace J.engines J.workers worker (kind_view kind) }
         ensures ok { OnOk result ((mine.new.amount ≡ mine.old.amount + 1) × (mine.new.amount < 2 ^ 64)) }
@@ -129,7 +172,7 @@ impl<J: Job, E: Ledger, N: Ledger> Desk<J, E, N> {
         let Desk { events, .. } = self;
         events.add(mine, 1);
         events.audit(mine);
-        Ok(work)
+        Ok(self.note(work))
     }
 
     /// The item of the number begins, if there is one that is of the kind and can begin, and else the first that can. None can where the
@@ -140,7 +183,7 @@ impl<J: Job, E: Ledger, N: Ledger> Desk<J, E, N> {
         kind: Kind,
         drawn: Option<u64>,
         mine: &mut Share<E>,
-    ) -> Result<Work, Refusal>
+    ) -> Result<Begun<J>, Refusal>
         requires part { 0 < mine.old.parts }
         requires place { IsPlace J.engines J.workers worker (kind_view kind) }
         ensures ok { OnOk result ((mine.new.amount ≡ mine.old.amount + 1) × (mine.new.amount < 2 ^ 64)) }
@@ -159,12 +202,35 @@ impl<J: Job, E: Ledger, N: Ledger> Desk<J, E, N> {
         }
     }
 
+    /// An item of the board ends. What is known from its begin is not looked at.
+    fn end_on(
+        &mut self,
+        worker: u8,
+        done: Done,
+        front: &Front<J>,
+        known: bool,
+    ) -> Result<(), (Done, Refusal)>
+        requires worker { IsWorker worker }
+        requires known { IsTrue known → In done front.now }
+        ensures accepted { OnOk result (Accepts self.old.board (Machine.End worker done.item) self.new.board) }
+        ensures same { (self.new.stop ≡ self.old.stop) × (self.new.told ≡ self.old.told) × (self.new.events ≡ self.old.events) × (self.new.news ≡ self.old.news) }
+        ensures unchanged { OnErr result (self.new ≡ self.old) }
+    {
+        if !known {
+            return self.board.end(worker, done);
+        }
+        if !front.begins(&self.front) {
+            return self.board.end(worker, done);
+        }
+        self.board.end_begun(worker, done)
+    }
+
     /// An item ends. The items that can begin from now on go behind the list, as far as there is memory for them, and how many they are
     /// is the answer.
     pub fn end(
         &mut self,
         worker: u8,
-        done: Done,
+        finished: Finished<J>,
         mine: &mut Share<E>,
         news: &mut Share<N>,
         list: &mut Vec<Fresh>,
@@ -177,10 +243,11 @@ impl<J: Job, E: Ledger, N: Ledger> Desk<J, E, N> {
         ensures err { OnErr result ((mine.new.amount ≡ mine.old.amount) × (news.new.amount ≡ news.old.amount) × (list.new ≡ list.old)) }
         ensures parts { (mine.new.parts ≡ mine.old.parts) × (news.new.parts ≡ news.old.parts) }
     {
+        let Finished { done, front, known } = finished;
         if self.told >= MOST {
             return Err((done, Refusal::Stranger));
         }
-        self.board.end(worker, done)?;
+        self.end_on(worker, done, &front, known)?;
         let Desk {
             board,
             told,
