@@ -1,8 +1,10 @@
 -- Beginnings of one list.
-use Rattle.std.proofs.Common.{◌≡◌, ◌⊎◌, inl, inr, ℕ, zero, suc, ◌≤◌, List, [], ◌∷◌, ◌++◌, length, refl, ap, sym, ◌∙◌, arith}
+use Rattle.std.proofs.Common.{◌≡◌, ◌⊎◌, inl, inr, ℕ, ◌≤◌, List, [], ◌∷◌, ◌++◌, length, refl, sym, subst, ◌∙◌, arith}
 use mathlib.Core.List.{IsPrefix}
 use Rattle.board_work.specs.Assigned.{Assigned}
 use Rattle.dataflow.specs.System.{In}
+use Rattle.board.specs.Board.{IsItems, Seen}
+use Rattle.workers.specs.Begun.{AreItems}
 
 -- of two beginnings of one list the shorter begins the longer
 pub prefix_shorter : {A : Type 0} (xs ys zs : List A) → IsPrefix xs zs → IsPrefix ys zs → length xs ≤ length ys → IsPrefix xs ys
@@ -32,3 +34,21 @@ prefix_in w (x ∷ xs) (y ∷ ys) p (inr h) = inr (prefix_in w xs ys (p.0, cc (p
 pub in_last : (w : Assigned) (xs : List Assigned) → In w (xs ++ w ∷ [])
 in_last w [] = inl refl
 in_last w (x ∷ xs) = inr (in_last w xs)
+
+in_or_last : (v w : Assigned) (xs : List Assigned) → In v (xs ++ w ∷ []) → In v xs ⊎ (v ≡ w)
+in_or_last v w [] (inl e) = inr e
+in_or_last v w [] (inr h) = absurd h
+in_or_last v w (x ∷ xs) (inl e) = inl (inl e)
+in_or_last v w (x ∷ xs) (inr h) = by (in_or_last v w xs h)
+  where
+    by : In v xs ⊎ (v ≡ w) → In v (x ∷ xs) ⊎ (v ≡ w)
+    by (inl a) = inl (inr a)
+    by (inr e) = inr e
+
+-- work more that is its item's own
+pub items_more : (b : Seen) (xs : List Assigned) (w : Assigned) → AreItems b xs → IsItems b w → AreItems b (xs ++ w ∷ [])
+items_more b xs w all here v h = by (in_or_last v w xs h)
+  where
+    by : In v xs ⊎ (v ≡ w) → IsItems b v
+    by (inl a) = all v a
+    by (inr e) = subst (λ (u : Assigned). IsItems b u) (sym e) here

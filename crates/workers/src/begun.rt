@@ -1,5 +1,5 @@
 //! Work that was begun under the lock, and what was done for it: known to be the item's own without a look at either.
-ghost use Rattle.std.specs.Prelude.{◌≡◌, IfOk};
+ghost use Rattle.std.specs.Prelude.{◌≡◌};
 
 use crate::book::Front;
 use crate::job::{Gate, Job};
@@ -74,5 +74,13 @@ impl<J: Job> Finished<J> {
     /// The item's number.
     pub fn item(&self) -> u64 {
         self.done.item()
+    }
+
+    /// What was done alone.
+    pub fn into_done(self) -> Done
+        ensures { result ≡ self }
+    {
+        let Finished { done, .. } = self;
+        done
     }
 }

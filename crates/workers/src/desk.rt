@@ -1,12 +1,12 @@
 //! What lies under the lock: the board, and the books of its events and of the items that they made ready.
-ghost use Rattle.std.specs.Prelude.{◌≡◌, ◌≢◌, ◌+◌, ◌<◌, ◌≤◌, ◌^◌, [], None, IfOk, IfErr, IsTrue, OnOk, OnErr, length, vec_len};
+ghost use Rattle.std.specs.Prelude.{◌≡◌, ◌≢◌, ◌+◌, ◌<◌, ◌≤◌, ◌^◌, [], None, IfOk, IfErr, OnOk, OnErr, length, vec_len};
 ghost use Rattle.dataflow.specs.Events.{backs};
 ghost use Rattle.dataflow.specs.Machine.{start};
 ghost use Rattle.task_code.specs.System.{code_system};
 ghost use Rattle.task_code.specs.View.{kind_view};
 ghost use Rattle.board.specs.Board.{Accepts, IsItems, IsWorker};
 ghost use Rattle.dataflow.specs.Machine as Machine;
-ghost use Rattle.dataflow.specs.System.{In};
+ghost use Rattle.workers.specs.Begun.{AreItems};
 ghost use Rattle.workers.specs.Threads.{IsPlace, IsTheirs, RunsTo};
 
 use crate::begun::{Begun, Finished};
@@ -15,6 +15,7 @@ use crate::crowd::Crowds;
 use crate::fresh::{count_fresh, list_fresh};
 use crate::job::Job;
 use board::board::Board;
+use board::laws::work_stays;
 use board::refusal::Refusal;
 use board_work::work::{Done, Work};
 use pool_offers::Fresh;
@@ -118,7 +119,7 @@ impl<J: Job, E: Ledger, N: Ledger> Desk<J, E, N> {
     /// Work that has just begun goes into the log. It is known from then on.
     fn note(&mut self, work: Work) -> Begun<J>
         requires { IsItems self.old.board work }
-        ensures same { (self.new.board ≡ self.old.board) × (self.new.stop ≡ self.old.stop) × (self.new.told ≡ self.old.told) × (self.new.events ≡ self.old.events) × (self.new.news ≡ self.old.news) }
+        ensures rest { self.new ≡ record self.old { log = self.new.log } }
         ensures work { result ≡ work }
     {
         let mut front = self.front.again();
@@ -167,6 +168,8 @@ impl<J: Job, E: Ledger, N: Ledger> Desk<J, E, N> {
         if found != kind {
             return Err(Refusal::NotReady);
         }
+        work_stays();
+        let _before = self.board.history();
         let work = self.board.begin(worker, item)?;
         let _within = self.board.history();
         let Desk { events, .. } = self;
@@ -202,29 +205,6 @@ impl<J: Job, E: Ledger, N: Ledger> Desk<J, E, N> {
         }
     }
 
-    /// An item of the board ends. What is known from its begin is not looked at.
-    fn end_on(
-        &mut self,
-        worker: u8,
-        done: Done,
-        front: &Front<J>,
-        known: bool,
-    ) -> Result<(), (Done, Refusal)>
-        requires worker { IsWorker worker }
-        requires known { IsTrue known → In done front.now }
-        ensures accepted { OnOk result (Accepts self.old.board (Machine.End worker done.item) self.new.board) }
-        ensures same { (self.new.stop ≡ self.old.stop) × (self.new.told ≡ self.old.told) × (self.new.events ≡ self.old.events) × (self.new.news ≡ self.old.news) }
-        ensures unchanged { OnErr result (self.new ≡ self.old) }
-    {
-        if !known {
-            return self.board.end(worker, done);
-        }
-        if !front.begins(&self.front) {
-            return self.board.end(worker, done);
-        }
-        self.board.end_begun(worker, done)
-    }
-
     /// An item ends. The items that can begin from now on go behind the list, as far as there is memory for them, and how many they are
     /// is the answer.
     pub fn end(
@@ -243,11 +223,12 @@ impl<J: Job, E: Ledger, N: Ledger> Desk<J, E, N> {
         ensures err { OnErr result ((mine.new.amount ≡ mine.old.amount) × (news.new.amount ≡ news.old.amount) × (list.new ≡ list.old)) }
         ensures parts { (mine.new.parts ≡ mine.old.parts) × (news.new.parts ≡ news.old.parts) }
     {
-        let Finished { done, front, known } = finished;
         if self.told >= MOST {
-            return Err((done, Refusal::Stranger));
+            return Err((finished.into_done(), Refusal::Stranger));
         }
-        self.end_on(worker, done, &front, known)?;
+        work_stays();
+        let _before = self.board.history();
+        end_on(&mut self.board, &self.front, worker, finished)?;
         let Desk {
             board,
             told,
@@ -284,6 +265,8 @@ impl<J: Job, E: Ledger, N: Ledger> Desk<J, E, N> {
         if self.told >= MOST {
             return Err(Refusal::Stranger);
         }
+        work_stays();
+        let _before = self.board.history();
         self.board.back(worker, item)?;
         let Desk {
             board,
@@ -343,4 +326,30 @@ impl<J: Job, E: Ledger, N: Ledger> Desk<J, E, N> {
     {
         &self.board
     }
+}
+
+/// An item of the board ends. What is known from its begin is not looked at.
+fn end_on<J: Job>(
+    board: &mut Board,
+    front: &Front<J>,
+    worker: u8,
+    finished: Finished<J>,
+) -> Result<(), (Done, Refusal)>
+    requires worker { IsWorker worker }
+    requires items { AreItems board.old front.now }
+    ensures accepted { OnOk result (Accepts board.old (Machine.End worker finished.item) board.new) }
+    ensures unchanged { OnErr result (board.new ≡ board.old) }
+{
+    let Finished {
+        done,
+        front: seen,
+        known,
+    } = finished;
+    if !known {
+        return board.end(worker, done);
+    }
+    if !seen.begins(front) {
+        return board.end(worker, done);
+    }
+    board.end_begun(worker, done)
 }
