@@ -1,5 +1,6 @@
 //! Work that was begun under the lock, and what was done for it: known to be the item's own without a look at either.
 ghost use Rattle.std.specs.Prelude.{◌≡◌};
+ghost use Rattle.dataflow.specs.System.{In};
 
 use crate::book::Front;
 use crate::job::{Gate, Job};
@@ -55,6 +56,29 @@ impl<J: Job> Model for Finished<J> {
 }
 
 impl<J: Job> Begun<J> {
+    /// Work that stands in what was seen of the log.
+    pub fn known(work: Work, front: Front<J>) -> Begun<J>
+        requires { In work front }
+        ensures { result ≡ work }
+    {
+        Begun {
+            work,
+            front,
+            known: true,
+        }
+    }
+
+    /// Work of which nothing is known.
+    pub fn unknown(work: Work, front: Front<J>) -> Begun<J>
+        ensures { result ≡ work }
+    {
+        Begun {
+            work,
+            front,
+            known: false,
+        }
+    }
+
     /// The item's number.
     pub fn item(&self) -> u64 {
         self.work.item()

@@ -124,25 +124,14 @@ impl<J: Job, E: Ledger, N: Ledger> Desk<J, E, N> {
     {
         let mut front = self.front.again();
         if front.len() >= MOST_BEGUN {
-            return Begun {
-                work,
-                front,
-                known: false,
-            };
+            return Begun::unknown(work, front);
         }
         if !front.add(&self.log, &work) {
-            return Begun {
-                work,
-                front,
-                known: false,
-            };
+            return Begun::unknown(work, front);
         }
-        self.front = front.again();
-        Begun {
-            work,
-            front,
-            known: true,
-        }
+        let begun = Begun::known(work, front.again());
+        self.front = front;
+        begun
     }
 
     /// The item of the number begins, if it is of the kind and can begin.
