@@ -89,4 +89,4 @@ returns-in_default-end-clause-refused c =
 pub returns-clause-own : goal.returns-clause-own
 returns-clause-own c =
     let own : IsOwn (seen_of c.self.inside) c.args.worker c.args.done = own_here c.self.inside c.self.invariant c.args.worker c.item-item.result (job_view c.in-Some.job) c.in-Some.ensures.some c.args.done (sym c.item-item.ensures) (subst (λ (b : Seen). IsItems b c.args.done) (sym c.self.view_is) c.requires.items) in
-    ok_from c.result (λ _. subst (λ (b : Seen). IsOwn b c.args.worker c.args.done) c.self.view_is own)
+    subst (λ (b : Seen). IsOwn b c.args.worker c.args.done) c.self.view_is own
