@@ -26,7 +26,7 @@ use Rattle.swt_trace.specs.declared.fault.ReplayFault.TheVariants as Replay
 use Rattle.swt_trace.specs.Faults.{replay_fault}
 use Rattle.swt_trace.specs.declared.ending.Ending.{Ending}
 use Rattle.swt_trace.specs.Replay.{IsFirstNoStep, IsNamed, IsTraceOf, IsWrongEnd, ReplaysTo}
-use Rattle.swt_trace.specs.Report.{TraceOf, ending_of}
+use Rattle.swt_trace.specs.Report.{ending_of}
 use Rattle.swt_trace.specs.Trace.{IsFirstBad, IsInRange, IsTrace, most_events}
 use Rattle.swt_trace.proofs.Lines.{bad, one_meaning, written}
 

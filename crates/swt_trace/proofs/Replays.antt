@@ -1,5 +1,5 @@
 -- The reports and faults of a trace that is run again.
-use Rattle.std.proofs.Common.{◌≡◌, ◌∙◌, sym, ap, subst, ℕ, ◌+◌, ◌<◌, Bool, false, Option, Some, None, List, [], length, map, take, get_or, All}
+use Rattle.std.proofs.Common.{◌≡◌, ◌∙◌, sym, ap, subst, ℕ, ◌+◌, ◌<◌, Bool, false, Option, Some, None, List, length, map, take, get_or, All}
 use Rattle.std.proofs.lemmas.List.{get_or_default}
 use Rattle.dataflow.specs.Machine as Machine
 use Rattle.task_code.specs.declared.event.Event.{Event}

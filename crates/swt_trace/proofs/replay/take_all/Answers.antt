@@ -1,9 +1,8 @@
-use Rattle.std.proofs.Common.{rules, arith, ◌≡◌, ◌∙◌, refl, ap, false, ℕ, ◌+◌, List, length, map, take}
+use Rattle.std.proofs.Common.{rules, arith, ◌≡◌, ◌∙◌, refl, ap, false, List, length, map, take}
 use Rattle.std.proofs.Math.Seq.{take-length}
 use Rattle.task_code.specs.declared.event.Event.{Event}
 use Rattle.task_code.specs.declared.event.Event.TheVariants.{Begin}
 use Rattle.task_code.specs.View.{event_view}
-use Rattle.swt_trace.proofs.Faults.{no_event, no_line}
 use Rattle.swt_trace.proofs.Replays.{by_worker, no_step_at}
 use Rattle.swt_trace.proofs.replay.take_all.Goals as goal
 

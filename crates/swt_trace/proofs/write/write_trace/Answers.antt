@@ -1,4 +1,4 @@
-use Rattle.std.proofs.Common.{rules, ◌≡◌, ◌∙◌, ◌++◌, [], ap, subst, List}
+use Rattle.std.proofs.Common.{rules, ◌∙◌, ◌++◌, [], ap, subst, List}
 use Rattle.task_code.specs.declared.event.Event.{Event}
 use Rattle.values.specs.Sinks.{Beginning}
 use Rattle.swt_trace.specs.Report.{TraceOf, ending_of}
