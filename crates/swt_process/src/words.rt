@@ -21,7 +21,8 @@ pub fn read_request<H: Host>(host: &mut H, alloc: Global) -> Result<Request, Lin
     requires { H.history host.old ≡ [] }
     ensures all { OnOk result (has_all_words (H.history host.new) ≡ true) }
     ensures request { IfOk result (λ request. request_of (words (H.history host.new)) ≡ Some request) }
-    ensures usage { IfErr result (λ fault. fault ≡ LineFault.Usage → has_all_words (H.history host.new) ≡ true → request_of (words (H.history host.new)) ≡ None) }
+    ensures usage { IfErr result (λ fault. fault ≡ LineFault.Usage → has_all_words (H.history host.new) ≡ true
+        → request_of (words (H.history host.new)) ≡ None) }
     ensures reads { reads (H.history host.new) ≡ [] }
     ensures links { links (H.history host.new) ≡ [] }
     ensures inputs { inputs (H.history host.new) ≡ [] }
