@@ -1,10 +1,8 @@
 -- What is known of a text that was read as a tree, and checked.
-use Rattle.std.proofs.Common.{◌≡◌, inl, inr, ℕ, List, [], Some, None, subst, sym, ap, ◌∙◌}
+use Rattle.std.proofs.Common.{◌≡◌, inl, inr, ℕ, List, [], Some, None, sym, ap, ◌∙◌}
 use Rattle.std.specs.Prelude.{◌≢◌}
-use Rattle.language.specs.Core.{Core}
 use Rattle.language.specs.Numbered.{numbered}
 use Rattle.language.specs.Reads.{Reads}
-use Rattle.language.specs.Resolved.{core}
 use Rattle.language.specs.Table.{Table}
 use Rattle.language.specs.Tree.{Tree}
 use Rattle.language.specs.Typing.{WellTyped}
@@ -22,7 +20,6 @@ use Rattle.assign_check.proofs.Named.{breaks}
 use Rattle.syntax.specs.Refusals.{Refuses}
 use Rattle.syntax.specs.declared.error.ParseFault.{ParseFault}
 use Rattle.syntax.specs.declared.error.ParseFault.TheVariants as Parse
-use Rattle.compile.specs.declared.fault.CompileFault.TheVariants as Fault
 use Rattle.compile.specs.Accepted.{IsAccepted, IsIllTyped, IsNotSingle, IsUnfit, fault_of_text, fault_of_types, fault_of_assignments}
 
 -- a numbered tree for which this holds
@@ -84,6 +81,3 @@ refused_by_text src (Parse.Unexpected at) refuses = refuses
 refused_by_text src (Parse.TooNested at) refuses = refuses
 refused_by_text src (Parse.TooLong at) refuses = refuses
 refused_by_text src Parse.Memory refuses = inl refuses
-
-pub lacks_memory : (src : List ℕ) (tree : Tree) → Reads src tree → IsUnfit src Fault.Memory
-lacks_memory src tree reads = inr (tree, reads)

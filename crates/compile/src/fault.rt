@@ -5,7 +5,6 @@ ghost use Rattle.compile.specs.Places.{span_of};
 
 use assign_check::fault::AssignFault;
 use lexer::token::Span;
-use std::alloc::AllocError;
 use std::error::Error;
 use std::fmt;
 use syntax::error::ParseFault;
