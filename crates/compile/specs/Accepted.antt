@@ -1,5 +1,5 @@
 -- What it means that a text is a script, of this core, and that it is refused.
-use Rattle.std.specs.Prelude.{◌≡◌, ◌⊎◌, ⊥, ℕ, List, Some}
+use Rattle.std.specs.Prelude.{◌≡◌, ◌⊎◌, ℕ, List, Some}
 use Rattle.language.specs.Core.{Core}
 use Rattle.language.specs.Reads.{Reads}
 use Rattle.language.specs.Resolved.{core}

@@ -28,6 +28,7 @@ never Is.Unread e = cc
 never (Is.Refused r) e = cc
 never (Is.BadLine n) e = cc
 never (Is.NotARun n) e = cc
+never (Is.WrongEnd n) e = cc
 never Is.BadCount e = cc
 never Is.NoThread e = cc
 never Is.Stranger e = cc
@@ -63,6 +64,7 @@ run_stop files engines workers steps wanted Is.Unread out out_new trace new h e 
 run_stop files engines workers steps wanted (Is.Refused r) out out_new trace new h e f = h.2
 run_stop files engines workers steps wanted (Is.BadLine n) out out_new trace new h e f = h.2
 run_stop files engines workers steps wanted (Is.NotARun n) out out_new trace new h e f = h.2
+run_stop files engines workers steps wanted (Is.WrongEnd n) out out_new trace new h e f = h.2
 run_stop files engines workers steps wanted Is.BadCount out out_new trace new h e f = h.2
 run_stop files engines workers steps wanted Is.NoThread out out_new trace new h e f = h.2
 run_stop files engines workers steps wanted Is.Stranger out out_new trace new h e f = h.2
