@@ -151,14 +151,14 @@ impl<J: Job, E: Ledger, N: Ledger> Desk<J, E, N> {
         if self.told >= MOST {
             return Err(Refusal::Stranger);
         }
+        work_stays();
+        let _before = self.board.history();
         let Some(found) = self.board.kind(item) else {
             return Err(Refusal::NotReady);
         };
         if found != kind {
             return Err(Refusal::NotReady);
         }
-        work_stays();
-        let _before = self.board.history();
         let work = self.board.begin(worker, item)?;
         let _within = self.board.history();
         let Desk { events, .. } = self;

@@ -14,5 +14,5 @@ invariant_of-result g c = record {
   fits = omega arith;
   runs = first g.J.Job.code g.J.Job.engines g.J.Job.workers c.args.board c.requires.code.0 c.requires.first.0 c.requires.first.1;
   no_back = λ e. rw c.requires.first.0 refl;
-  items = λ work h. absurd (subst (λ (log : List Assigned). In work log) c.named.ensures h);
+  items = λ work h. absurd (subst (λ (log : List Assigned). In work log) c.named-log.ensures h);
 }
