@@ -1,5 +1,3 @@
 mod Added
 mod Crosses
 mod Threads
-mod Adding
-mod Fronts

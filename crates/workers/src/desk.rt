@@ -4,18 +4,12 @@ ghost use Rattle.dataflow.specs.Events.{backs};
 ghost use Rattle.dataflow.specs.Machine.{start};
 ghost use Rattle.task_code.specs.System.{code_system};
 ghost use Rattle.task_code.specs.View.{kind_view};
-ghost use Rattle.board.specs.Board.{Accepts, IsItems, IsWorker};
-ghost use Rattle.dataflow.specs.Machine as Machine;
-ghost use Rattle.workers.specs.Begun.{AreItems};
 ghost use Rattle.workers.specs.Threads.{IsPlace, IsTheirs, RunsTo};
 
-use crate::begun::{Begun, Finished};
-use crate::book::{Book as Log, Front, Opened};
 use crate::crowd::Crowds;
 use crate::fresh::{count_fresh, list_fresh};
 use crate::job::Job;
 use board::board::Board;
-use board::laws::work_stays;
 use board::refusal::Refusal;
 use board_work::work::{Done, Work};
 use pool_offers::Fresh;
@@ -25,9 +19,6 @@ use task_code::entry::Kind;
 
 /// So many items may have come to be ready at most; no run of as many events as can be counted comes near it.
 const MOST: u64 = 1 << 62;
-
-/// So much work is known from its begin.
-const MOST_BEGUN: u64 = 1 << 61;
 
 /// Why a run stopped before its end.
 #[derive(Clone, Copy, PartialEq, Eq, Drop)]
@@ -41,8 +32,6 @@ pub enum Stop {
 #[derive(Drop)]
 pub struct Desk<J: Job, E: Ledger, N: Ledger> {
     board: Board,
-    log: Log<J>,
-    front: Front<J>,
     stop: Option<Stop>,
     told: u64,
     events: Book<E>,
@@ -59,25 +48,21 @@ impl<J: Job, E: Ledger, N: Ledger> Model for Desk<J, E, N> {
 
     ghost coded = { Prim.hlevel (codes, expr_code (Prim.hlevel codes), exprs_code (Prim.hlevel codes)) };
 
-    ghost view = { λ d. record { board = d.board; stop = d.stop; told = d.told; events = d.events.total; news = d.news.total; log = d.front } };
+    ghost view = { λ d. record { board = d.board; stop = d.stop; told = d.told; events = d.events.total; news = d.news.total } };
 
-    ghost invariant = { λ d. IsKept J.code J.limit J.engines J.workers (record { board = d.board; stop = d.stop; told = d.told; events = d.events.total; news = d.news.total; log = d.front }) };
+    ghost invariant = { λ d. IsKept J.code J.limit J.engines J.workers (record { board = d.board; stop = d.stop; told = d.told; events = d.events.total; news = d.news.total }) };
 }
 
 impl<J: Job, E: Ledger, N: Ledger> Desk<J, E, N> {
     /// A board before any event, with empty books.
-    pub fn new(board: Board, opened: Opened, events: Book<E>, news: Book<N>) -> Desk<J, E, N>
+    pub fn new(board: Board, events: Book<E>, news: Book<N>) -> Desk<J, E, N>
         requires code { (board.code ≡ J.code) × (board.limit ≡ J.limit) }
         requires some { J.engines + J.workers ≤ 64 }
         requires first { (board.history ≡ []) × (board.state ≡ start (code_system board.code)) }
         requires empty { (events.total ≡ 0) × (news.total ≡ 0) }
-        requires opened { opened.seen.book ≡ J.book }
     {
-        let (log, front) = opened.named::<J>();
         Desk {
             board,
-            log,
-            front,
             stop: None,
             told: 0,
             events,
@@ -116,24 +101,6 @@ impl<J: Job, E: Ledger, N: Ledger> Desk<J, E, N> {
         self.board.lines().len()
     }
 
-    /// Work that has just begun goes into the log. It is known from then on.
-    fn note(&mut self, work: Work) -> Begun<J>
-        requires { IsItems self.old.board work }
-        ensures rest { self.new ≡ record self.old { log = self.new.log } }
-        ensures work { result ≡ work }
-    {
-        let mut front = self.front.again();
-        if front.len() >= MOST_BEGUN {
-            return Begun::unknown(work, front);
-        }
-        if !front.add(&self.log, &work) {
-            return Begun::unknown(work, front);
-        }
-        let begun = Begun::known(work, front.again());
-        self.front = front;
-        begun
-    }
-
     /// The item of the number begins, if it is of the kind and can begin.
     fn begin_this(
         &mut self,
@@ -141,7 +108,7 @@ impl<J: Job, E: Ledger, N: Ledger> Desk<J, E, N> {
         kind: Kind,
         item: u64,
         mine: &mut Share<E>,
-    ) -> Result<Begun<J>, Refusal>
+    ) -> Result<Work, Refusal>
         requires part { 0 < mine.old.parts }
         requires place { IsPlace J.engines J.workers worker (kind_view kind) }
         ensures ok { OnOk result ((mine.new.amount ≡ mine.old.amount + 1) × (mine.new.amount < 2 ^ 64)) }
@@ -157,14 +124,12 @@ impl<J: Job, E: Ledger, N: Ledger> Desk<J, E, N> {
         if found != kind {
             return Err(Refusal::NotReady);
         }
-        work_stays();
-        let _before = self.board.history();
         let work = self.board.begin(worker, item)?;
         let _within = self.board.history();
         let Desk { events, .. } = self;
         events.add(mine, 1);
         events.audit(mine);
-        Ok(self.note(work))
+        Ok(work)
     }
 
     /// The item of the number begins, if there is one that is of the kind and can begin, and else the first that can. None can where the
@@ -175,7 +140,7 @@ impl<J: Job, E: Ledger, N: Ledger> Desk<J, E, N> {
         kind: Kind,
         drawn: Option<u64>,
         mine: &mut Share<E>,
-    ) -> Result<Begun<J>, Refusal>
+    ) -> Result<Work, Refusal>
         requires part { 0 < mine.old.parts }
         requires place { IsPlace J.engines J.workers worker (kind_view kind) }
         ensures ok { OnOk result ((mine.new.amount ≡ mine.old.amount + 1) × (mine.new.amount < 2 ^ 64)) }
@@ -199,7 +164,7 @@ impl<J: Job, E: Ledger, N: Ledger> Desk<J, E, N> {
     pub fn end(
         &mut self,
         worker: u8,
-        finished: Finished<J>,
+        done: Done,
         mine: &mut Share<E>,
         news: &mut Share<N>,
         list: &mut Vec<Fresh>,
@@ -213,11 +178,9 @@ impl<J: Job, E: Ledger, N: Ledger> Desk<J, E, N> {
         ensures parts { (mine.new.parts ≡ mine.old.parts) × (news.new.parts ≡ news.old.parts) }
     {
         if self.told >= MOST {
-            return Err((finished.into_done(), Refusal::Stranger));
+            return Err((done, Refusal::Stranger));
         }
-        work_stays();
-        let _before = self.board.history();
-        end_on(&mut self.board, &self.front, worker, finished)?;
+        self.board.end(worker, done)?;
         let Desk {
             board,
             told,
@@ -254,8 +217,6 @@ impl<J: Job, E: Ledger, N: Ledger> Desk<J, E, N> {
         if self.told >= MOST {
             return Err(Refusal::Stranger);
         }
-        work_stays();
-        let _before = self.board.history();
         self.board.back(worker, item)?;
         let Desk {
             board,
@@ -315,30 +276,4 @@ impl<J: Job, E: Ledger, N: Ledger> Desk<J, E, N> {
     {
         &self.board
     }
-}
-
-/// An item of the board ends. What is known from its begin is not looked at.
-fn end_on<J: Job>(
-    board: &mut Board,
-    front: &Front<J>,
-    worker: u8,
-    finished: Finished<J>,
-) -> Result<(), (Done, Refusal)>
-    requires worker { IsWorker worker }
-    requires items { AreItems board.old front.now }
-    ensures accepted { OnOk result (Accepts board.old (Machine.End worker finished.item) board.new) }
-    ensures unchanged { OnErr result (board.new ≡ board.old) }
-{
-    let Finished {
-        done,
-        front: seen,
-        known,
-    } = finished;
-    if !known {
-        return board.end(worker, done);
-    }
-    if !seen.begins(front) {
-        return board.end(worker, done);
-    }
-    board.end_begun(worker, done)
 }

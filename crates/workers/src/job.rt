@@ -4,10 +4,9 @@ use board_work::work::{Done, Work};
 use std::alloc::AllocError;
 use std::marker::Brand;
 
-/// Names one run: its code and limit, how many engines and workers it has, its pool, and the book of what was begun.
+/// Names one run: its code and limit, how many engines and workers it has, and its pool.
 pub trait Job {
     ghost use Rattle.std.specs.Prelude.{ℕ};
-    ghost use Rattle.logbook.specs.Pages.{Book};
     ghost use Rattle.pool.specs.Seats.{PoolId};
     ghost use Rattle.task_code.specs.Code.{Code};
 
@@ -20,8 +19,6 @@ pub trait Job {
     ghost workers: { ℕ };
 
     ghost pool: { PoolId };
-
-    ghost book: { Book };
 }
 
 impl Job for Brand {
@@ -37,8 +34,6 @@ impl Job for Brand {
     ghost workers = { 0 };
 
     ghost pool = { no_pool };
-
-    ghost book = { record { number = 0; log_name = 0; cells_name = 0 } };
 }
 
 /// How far a run is.
