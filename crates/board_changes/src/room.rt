@@ -3,7 +3,7 @@ ghost use Rattle.std.specs.Prelude.{◌≡◌, ◌+◌, ◌≤◌, vec_len, vec_
 ghost use Rattle.board_instances.specs.View.{job_view};
 ghost use Rattle.std.specs.Bool.{OnTrue};
 ghost use Rattle.board_changes.specs.Opened.{IsShort};
-ghost use Rattle.board_changes.specs.Room.{OnlyRoom, OpensWell, TakesMore};
+ghost use Rattle.board_changes.specs.Room.{HasPlaces, OnlyRoom, OpensWell, TakesMore};
 ghost use Rattle.board_changes.specs.World.{CanOpen, HasRoomToEnd, closes_of, goes_on, holds_of, told_by};
 ghost use Rattle.board_changes.specs.declared.world.Change.TheVariants.{Opens as OpensAll};
 
@@ -13,8 +13,10 @@ use board_data::data;
 use board_instances::item::{Job, PackedItem};
 use board_instances::opening::Openings;
 use board_program::program::Program;
+use data_store::store::Store;
 use rules::input::Input;
 use std::alloc::AllocError;
+use values::map::Element;
 
 /// So many data, or instances, have numbers of 32 bits. More than that are more than memory has room for.
 const MOST: usize = 4_294_967_296;
@@ -73,6 +75,21 @@ fn closed_by(program: &Program, job: Job, change: &Change) -> usize
     }
 }
 
+/// Room for elements in an array. Those of an array have keys of one kind, so one of each kind that there is tells it.
+fn room_for_all(
+    store: &mut Store,
+    d: Option<usize>,
+    elements: &Vec<Element>,
+) -> Result<(), AllocError>
+    ensures { OnOk result (HasPlaces d elements.now.items store.new) }
+{
+    if let (Some(first), Some(last)) = (elements.first(), elements.last()) {
+        data::reserve(store, d, first.key.as_ref(), elements.len())?;
+        data::reserve(store, d, last.key.as_ref(), elements.len())?;
+    }
+    Ok(())
+}
+
 impl World {
     /// Room for instances that are opened, with their data and items.
     fn room_to_open(
@@ -123,8 +140,8 @@ impl World {
         match change {
             Change::Nothing => Ok(()),
             Change::Value(_, _) => Ok(()),
-            Change::Element(d, _, _) => data::reserve(&mut self.store, *d, 1),
-            Change::Elements(d, elements) => data::reserve(&mut self.store, *d, elements.len()),
+            Change::Element(d, key, _) => data::reserve(&mut self.store, *d, key.as_ref(), 1),
+            Change::Elements(d, elements) => room_for_all(&mut self.store, *d, elements),
             Change::Opens(openings) => self.room_to_open(rows, program, job, openings),
         }
     }

@@ -1,6 +1,7 @@
 -- What is stored.
 use Rattle.std.specs.Prelude.{◌≡◌, ◌≤◌, ◌<◌, ℕ, false, List, [], length, Option, Some, None, IsTrue, if◌then◌else◌}
 use Rattle.dataflow.specs.System.{In}
+use Rattle.data_store.specs.Arrays.{room_for}
 use Rattle.data_store.specs.Stores.{IsArrayAt, Store, array_at, at, datum}
 use Rattle.data_store.specs.declared.datum.Content.{Content}
 use Rattle.data_store.specs.declared.datum.Datum.{Datum}
@@ -25,6 +26,6 @@ IsScalarTarget target s = (d : ℕ) → target ≡ Some d → is_keyed (at s d) 
 pub record Takes (d : ℕ) (elements : List Element) (s : Store) : Type 0 where
   pub is_array : IsArrayAt s d
   pub is_open : 0 < (datum s d).writes
-  pub has_room : length elements ≤ (array_at s d).room
+  pub has_room : (e : Element) → In e elements → length elements ≤ room_for e.key (array_at s d)
   pub apart : IsTrue (rising elements)
   pub unused : (e : Element) → In e elements → found e.key (array_at s d).elements ≡ None

@@ -62,7 +62,7 @@ pub record Counted : Type 0 where
 -- what an item waits for: a scalar that is stored or an array that is closed, or an element
 pub data Want (D : Type 0) : Type 0 where
   Whole : D → Want D
-  AnElement : D → Key → Want D
+  AnElement : D → (mark : ℕ) → Want D
 
 -- an item that waits, and what it misses, in the order of its inputs
 pub record Waiter : Type 0 where

@@ -120,7 +120,7 @@ fn push_step(
     let Some(instance) = instances.get(at) else {
         return Ok(None);
     };
-    if let Some(step) = instance.way.step() {
+    if let Some(step) = instance.way.step()? {
         steps.push(step)?;
     }
     Ok(instance.parent.key())

@@ -33,7 +33,7 @@ pub fn left_behind(alloc: Global, text: &[u8], trace: &[u8]) -> Result<Option<Le
 /// The same, of a board before all events.
 fn left_on(alloc: Global, board: &mut Board, trace: &[u8]) -> Result<Option<Left>, AllocError> {
     let events = match read_trace(alloc, trace) {
-        Ok(events) => events,
+        Ok(read) => read.events,
         Err(TraceFault::Memory) => return Err(AllocError),
         Err(_) => return Ok(None),
     };

@@ -1,5 +1,5 @@
 -- Traces that are run again.
-use Rattle.std.specs.Prelude.{◌≡◌, ℕ, ◌+◌, ◌<◌, ◌≤◌, Bool, true, false, List, length, map, take, slice_index_or}
+use Rattle.std.specs.Prelude.{◌≡◌, ◌≢◌, ℕ, ◌+◌, ◌<◌, ◌≤◌, Bool, true, false, Option, Some, None, List, length, map, take, slice_index_or}
 use Rattle.dataflow.specs.Machine as Machine
 use Rattle.task_code.specs.declared.event.Event.{Event}
 use Rattle.task_code.specs.Code.{Code}
@@ -8,7 +8,9 @@ use Rattle.task_code.specs.View.{event_view}
 use Rattle.board.specs.Board.{Accepts, Seen}
 use Rattle.board_runs.specs.declared.report.Report.{Report}
 use Rattle.board_runs.specs.Report.{Reports}
-use Rattle.swt_trace.specs.Trace.{IsTrace, TraceText, most_events}
+use Rattle.swt_trace.specs.Trace.{IsTrace, TraceText, ending_of, most_events}
+use Rattle.swt_trace.specs.declared.read.Ending.{Ending}
+use Rattle.board_runs.specs.declared.report.End.{End}
 
 -- the event is no step from the state
 abbrev pub IsNoStep : Code → CodeState → Machine.Event → Type 0
@@ -19,17 +21,25 @@ abbrev pub Takes : Seen → Machine.Event → Seen → Bool → Type 0
 Takes old e new true = Accepts old e new
 Takes old e new false = (new ≡ old) × IsNoStep old.code old.state e
 
--- the report is one of the events of which the bytes are a trace, with their number as the limit
+-- the end is the one that is named, if one is
+abbrev pub IsNamed : Option Ending → End → Type 0
+IsNamed None e = Unit {0}
+IsNamed (Some n) e = n ≡ ending_of e
+
+-- the report is one of the events of which the bytes are a trace, with their number as the limit, and it ends as the trace names it
 pub record ReplaysTo (C : Code) (bytes : List ℕ) (r : Report) : Type 0 where
   pub events : List Event
-  pub trace : IsTrace bytes events
+  pub ending : Option Ending
+  pub trace : IsTrace bytes events ending
+  pub ends : IsNamed ending r.end
   pub history : r.history.items ≡ events
   pub reports : Reports C (length events) r
 
 -- the bytes are a trace whose events are a run up to line n, and the event of line n is no step from where they lead to
 pub record IsFirstNoStep (C : Code) (bytes : List ℕ) (n : ℕ) : Type 0 where
   pub events : List Event
-  pub trace : IsTrace bytes events
+  pub ending : Option Ending
+  pub trace : IsTrace bytes events ending
   pub place : ℕ
   pub within : place < length events
   pub number : n ≡ place + 2
@@ -44,4 +54,16 @@ pub record IsTraceOf (C : Code) (bytes : List ℕ) (r : Report) : Type 0 where
   pub limit : ℕ
   pub few : limit ≤ most_events
   pub reports : Reports C limit r
-  pub text : bytes ≡ TraceText r.history.items
+  pub text : bytes ≡ TraceText r.history.items (ending_of r.end)
+
+-- the bytes are a trace of the second version whose events are all steps, and line n, its last one, names another end than that of the
+-- state that they lead to
+pub record IsWrongEnd (C : Code) (bytes : List ℕ) (n : ℕ) : Type 0 where
+  pub events : List Event
+  pub ending : Ending
+  pub trace : IsTrace bytes events (Some ending)
+  pub number : n ≡ length events + 2
+  pub report : Report
+  pub history : report.history.items ≡ events
+  pub reports : Reports C (length events) report
+  pub other : ending ≢ ending_of report.end

@@ -1,7 +1,11 @@
 -- The texts of traces, and their grammar.
-use Rattle.std.specs.Prelude.{◌≡◌, ◌≢◌, ℕ, ◌+◌, ◌^◌, ◌<◌, ◌≤◌, ◌⊎◌, List, [], ◌∷◌, ◌++◌, length, slice_index, codes}
+use Rattle.std.specs.Prelude.{◌≡◌, ◌≢◌, ℕ, ◌+◌, ◌^◌, ◌<◌, ◌≤◌, ◌⊎◌, List, [], ◌∷◌, ◌++◌, length, slice_index, codes, Option, Some, None}
 use Rattle.std.specs.Fmt.{decimal}
 use Rattle.std.specs.Str.Parse.{IsNumeral, digits_value}
+use Rattle.board_runs.specs.declared.report.End as Ends
+use Rattle.board_runs.specs.declared.report.End.TheVariants as EndsBy
+use Rattle.swt_trace.specs.declared.read.Ending.{Ending}
+use Rattle.swt_trace.specs.declared.read.Ending.TheVariants.{Quiet, Fault, Limit}
 use Rattle.task_code.specs.declared.event.Event.{Event}
 use Rattle.task_code.specs.declared.event.Event.TheVariants.{Begin, End, Back}
 
@@ -21,9 +25,24 @@ item_of (Begin worker item) = item
 item_of (End worker item) = item
 item_of (Back worker item) = item
 
--- `swt-trace 1`, and byte 10
+-- `swt-trace 1` or `swt-trace 2`, and byte 10
 abbrev pub first_line : List ℕ
 first_line = codes "swt-trace 1\n"
+
+abbrev pub second_line : List ℕ
+second_line = codes "swt-trace 2\n"
+
+-- `Q`, `F` or `L`, with byte 10, and the text behind it
+abbrev pub ending_line : Ending → List ℕ → List ℕ
+ending_line Quiet rest = 81 ∷ 10 ∷ rest
+ending_line Fault rest = 70 ∷ 10 ∷ rest
+ending_line Limit rest = 76 ∷ 10 ∷ rest
+
+-- how a run ended
+abbrev pub ending_of : Ends.End → Ending
+ending_of EndsBy.Quiet = Quiet
+ending_of (EndsBy.Fault f) = Fault
+ending_of EndsBy.Limit = Limit
 
 -- an event's line, and the text behind it
 abbrev pub event_line : Event → List ℕ → List ℕ
@@ -34,9 +53,9 @@ abbrev pub event_lines : List Event → List ℕ → List ℕ
 event_lines [] rest = rest
 event_lines (e ∷ es) rest = event_line e (event_lines es rest)
 
--- the text of a trace
-abbrev pub TraceText : List Event → List ℕ
-TraceText es = first_line ++ event_lines es []
+-- the text of a trace, which is of the second version
+abbrev pub TraceText : List Event → Ending → List ℕ
+TraceText es e = second_line ++ event_lines es (ending_line e [])
 
 -- The grammar.
 
@@ -77,13 +96,19 @@ pub record BeginsTrace (bytes : List ℕ) (es : List Event) (rest : List ℕ) : 
   pub lines : AreLinesThen behind es rest
   pub few : length es ≤ most_events
 
--- the bytes are a trace of the events
-abbrev pub IsTrace : List ℕ → List Event → Type 0
-IsTrace bytes es = BeginsTrace bytes es []
+-- what stands behind the first line of the second version: lines of the events, and the line that names the end
+abbrev pub IsEnded : List ℕ → List Event → Option Ending → Type 0
+IsEnded behind es None = ⊥
+IsEnded behind es (Some e) = AreLinesThen behind es (ending_line e []) × (length es ≤ most_events)
 
--- the bytes do not begin as a trace
+-- the bytes are a trace of the events: of the first version, which names no end, or of the second, which names this one
+pub data IsTrace (bytes : List ℕ) (es : List Event) : Option Ending → Type 0 where
+  names_none : BeginsTrace bytes es [] → IsTrace bytes es None
+  names : {e : Ending} (behind : List ℕ) → bytes ≡ second_line ++ behind → IsEnded behind es (Some e) → IsTrace bytes es (Some e)
+
+-- the bytes do not begin as a trace of either version
 abbrev pub LacksFirstLine : List ℕ → Type 0
-LacksFirstLine bytes = (behind : List ℕ) → bytes ≢ first_line ++ behind
+LacksFirstLine bytes = ((behind : List ℕ) → bytes ≢ first_line ++ behind) × ((behind : List ℕ) → bytes ≢ second_line ++ behind)
 
 -- no line of an event stands at the front of the bytes
 abbrev pub LacksLine : List ℕ → Type 0
@@ -98,6 +123,18 @@ pub record LeavesBehind (bytes : List ℕ) (n : ℕ) : Type 0 where
   pub leaves : length events < most_events → LacksLine rest
   pub number : n ≡ length events + 2
 
+-- no line that names an end stands at the front of the bytes
+abbrev pub LacksEnding : List ℕ → Type 0
+LacksEnding bytes = (e : Ending) (rest : List ℕ) → bytes ≢ ending_line e rest
+
+-- behind the first line of the second version, lines of events are followed by no line that names the end, or something stands
+-- behind that one; n is the number of that line
+pub data LeavesEnded (behind : List ℕ) (n : ℕ) : Type 0 where
+  no_ending : (es : List Event) (rest : List ℕ) → AreLinesThen behind es rest → length es ≤ most_events → (length es < most_events → LacksLine rest)
+      → LacksEnding rest → n ≡ length es + 2 → LeavesEnded behind n
+  more_behind : (es : List Event) (e : Ending) (rest : List ℕ) → AreLinesThen behind es (ending_line e rest) → length es ≤ most_events
+      → rest ≢ [] → n ≡ length es + 3 → LeavesEnded behind n
+
 -- n is the number of the first line that leaves the grammar
 abbrev pub IsFirstBad : List ℕ → ℕ → Type 0
-IsFirstBad bytes n = ((n ≡ 1) × LacksFirstLine bytes) ⊎ LeavesBehind bytes n
+IsFirstBad bytes n = ((n ≡ 1) × LacksFirstLine bytes) ⊎ (LeavesBehind bytes n ⊎ ((behind : List ℕ) × (bytes ≡ second_line ++ behind) × LeavesEnded behind n))

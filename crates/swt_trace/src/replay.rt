@@ -1,19 +1,19 @@
 //! Running a trace again.
-ghost use Rattle.std.specs.Prelude.{◌≡◌, ◌<◌, ℕ, List, [], length, map, IfOk, IfErr, OnOk};
+ghost use Rattle.std.specs.Prelude.{◌≡◌, ◌↔◌, IsTrue, ◌<◌, ℕ, List, [], length, map, IfOk, IfErr, OnOk};
 ghost use Rattle.dataflow.specs.Machine.{Back, Begin, End};
 ghost use Rattle.task_code.specs.View.{event_view};
 ghost use Rattle.board.specs.Board.{IsWorker};
 ghost use Rattle.swt_trace.specs.Trace.{IsFirstBad, IsTrace, worker_of};
 ghost use Rattle.board_runs.specs.declared.report.Report.{Report};
 ghost use Rattle.board_runs.specs.Same.{SameReport};
-ghost use Rattle.swt_trace.specs.Replay.{IsFirstNoStep, IsTraceOf, ReplaysTo, Takes};
+ghost use Rattle.swt_trace.specs.Replay.{IsFirstNoStep, IsNamed, IsTraceOf, IsWrongEnd, ReplaysTo, Takes};
 
 use crate::fault::ReplayFault;
-use crate::read::read_trace;
+use crate::read::{Ending, Trace, read_trace};
 use board::board::Board;
 use board::refusal::Refusal;
 use board_program::program::Program;
-use board_runs::report::{Report, report_of};
+use board_runs::report::{End, Report, report_of};
 use board_runs::turn::finish;
 use std::alloc::{AllocError, Global};
 use task_code::code::Code;
@@ -28,19 +28,38 @@ use task_code::event::Event;
 ///
 /// `BadLine` with the number of the first line that leaves the grammar of traces, before any event is run. `NotARun` with
 /// the number of the first line whose event is no step: an item was begun that could not begin, or was ended or given back by
-/// a worker that did not run it, or a fault was met before. `Memory` where memory that was asked for was refused.
+/// a worker that did not run it, or a fault was met before. `WrongEnd` with the number of the last line of a trace of the second
+/// version, whose events are all steps, where it names another end than the run comes to. `Memory` where memory that was asked for was refused.
 pub fn replay(alloc: Global, code: &Code, trace: &[u8]) -> Result<Report, ReplayFault>
     ensures report { IfOk result (ReplaysTo code.now trace.now) }
     ensures bad { IfErr result (λ fault. (n : ℕ) → fault ≡ ReplayFault.BadLine n → IsFirstBad trace.now n) }
     ensures no_step { IfErr result (λ fault. (n : ℕ) → fault ≡ ReplayFault.NotARun n → IsFirstNoStep code.now trace.now n) }
+    ensures wrong_end { IfErr result (λ fault. (n : ℕ) → fault ≡ ReplayFault.WrongEnd n → IsWrongEnd code.now trace.now n) }
     ensures again { (report : Report) → IsTraceOf code.now trace.now report → IfOk result (SameReport report) }
     ensures only_memory { (report : Report) → IsTraceOf code.now trace.now report → IfErr result (λ fault. fault ≡ ReplayFault.Memory) }
 {
     let _whole = code.entry_count();
-    let events = read_trace(alloc, trace)?;
+    let Trace { events, ending } = read_trace(alloc, trace)?;
     let program = Program::new(alloc, code.copy()?)?;
     let mut board = Board::new(alloc, program, events.len() as u32)?;
-    report_behind(alloc, &mut board, events.as_slice())
+    let report = report_behind(alloc, &mut board, events.as_slice())?;
+    if !is_named(ending, &report.end) {
+        return Err(ReplayFault::WrongEnd(events.len() as u64 + 2));
+    }
+    Ok(report)
+}
+
+/// Whether a run ended as its trace names it, if it does.
+fn is_named(ending: Option<Ending>, end: &End) -> bool
+    ensures { IsTrue result ↔ IsNamed ending end.now }
+{
+    match (ending, end) {
+        (None, _) => true,
+        (Some(Ending::Quiet), End::Quiet) => true,
+        (Some(Ending::Fault), End::Fault(_)) => true,
+        (Some(Ending::Limit), End::Limit) => true,
+        _ => false,
+    }
 }
 
 /// The report of the events of a trace, on a board without any before.

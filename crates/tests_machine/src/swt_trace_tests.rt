@@ -21,6 +21,11 @@ use values::text::Text;
 
 const HELLO: &[u8] = b"swt-trace 1\nB 0 1\nE 0 1\nB 1 2\nE 1 2\n";
 
+/// The same of a run that met its limit, as it is written.
+const CUT_HELLO: &[u8] = b"swt-trace 2\nB 0 1\nE 0 1\nB 1 2\nE 1 2\nL\n";
+
+const CUT_MOST: &[u8] = b"swt-trace 2\nK 63 18446744073709551615\nL\n";
+
 const HELLO_EVENTS: [Event; 4] = [
     Event::Begin { worker: 0, item: 1 },
     Event::End { worker: 0, item: 1 },
@@ -38,7 +43,7 @@ const MOST_EVENTS: [Event; 1] = [Event::Back {
 /// A trace is read as these events.
 fn is_read(rt: &impl Abort, alloc: Global, trace: &[u8], events: &[Event]) {
     let read = read_trace(alloc, trace).expect(rt, "a trace");
-    assert!(rt; read.as_slice() == events);
+    assert!(rt; read.events.as_slice() == events && read.ending.is_none());
 }
 
 /// The text has this line as its first that no trace has there.
@@ -71,7 +76,7 @@ fn beginnings_are_read(rt: HostRuntime) {
 const BAD_SECOND_LINES: &str =
     "B 64 1\n|B 0 0\n|B 00 1\n|B 0 01\n|B 0 18446744073709551616\n|B 0 1|B  0 1\n|B 0  1\n|B 0 1 \n|B 0 1\r\n| B 0 1\n|B +0 1\n|B -0 1\n|B 0\n|B\n|b 0 1\n|Q\n|\n";
 
-const BAD_FIRST_LINES: &str = "|\n|swt-trace 1|swt-trace 2\n| swt-trace 1\n";
+const BAD_FIRST_LINES: &str = "|\n|swt-trace 1|swt-trace 2|swt-trace 3\n| swt-trace 1\n";
 
 /// A trace with these lines behind its first.
 fn trace_of(rt: &impl Abort, alloc: Global, lines: &str) -> String {
@@ -196,8 +201,8 @@ fn is_written(rt: &impl Abort, alloc: Global, events: &[Event], trace: &[u8]) {
 
 #[test]
 fn traces_are_written(rt: HostRuntime) {
-    is_written(&rt, rt.alloc(), &HELLO_EVENTS, HELLO);
-    is_written(&rt, rt.alloc(), &MOST_EVENTS, MOST);
+    is_written(&rt, rt.alloc(), &HELLO_EVENTS, CUT_HELLO);
+    is_written(&rt, rt.alloc(), &MOST_EVENTS, CUT_MOST);
 }
 
 /// A report is written as this text, so many bytes at once.
@@ -285,7 +290,7 @@ fn stops_writing(rt: &impl Abort, alloc: Global, report: &Report, refused: u8) {
     let mut sink = sink_of(alloc, 1, refused);
     let fault = write_trace(report, &mut sink).err();
     is_equal(rt, fault, Some(WriteFault::Write));
-    has_stopped(rt, &sink, HELLO, refused);
+    has_stopped(rt, &sink, CUT_HELLO, refused);
 }
 
 /// A sink that takes one byte a write and refuses one of them has the bytes before it.
