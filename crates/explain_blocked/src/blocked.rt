@@ -1,7 +1,7 @@
 //! Blocked statements, as a person reads of them.
 
 use crate::inputs::say_inputs;
-use crate::paths::say_path;
+use crate::path::say_path;
 use crate::scene::{Scene, Stand};
 use explain_inputs::blocking::inputs_blocking;
 use explain_text::words::{add_mark, say, say_start};

@@ -3,7 +3,7 @@
 use crate::hints::say_hint;
 use crate::printed::Printed;
 use crate::reasons::{plain_of, say_reason};
-use explain_blocked::paths::{say_path, say_steps};
+use explain_blocked::path::{say_path, say_steps};
 use explain_blocked::scene::Scene;
 use explain_inputs::blocking::instance_at;
 use explain_text::position::line_begin;

@@ -3,7 +3,7 @@
 use crate::keys::{say_element, say_keys};
 use crate::operations::{say_message, say_operation};
 use explain_blocked::index::Spot;
-use explain_blocked::paths::say_steps;
+use explain_blocked::path::say_steps;
 use explain_blocked::scene::Scene;
 use explain_blocked::sites::action_of;
 use explain_blocked::words::say_scalar;
