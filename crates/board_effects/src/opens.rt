@@ -3,9 +3,8 @@ ghost use Rattle.std.specs.Prelude.{◌≡◌, ◌+◌, ◌*◌, ◌^◌, ◌<�
 ghost use Rattle.board_history.specs.Fields.{path_of, slot_at, Script, Counted, Frame};
 ghost use Rattle.task_code.specs.Code.{Loop as PureLoop, loop_of};
 ghost use Rattle.task_code.specs.Compute.{Computed, Opens as OpensOne, TooDeep, Takes, Turns, pairs, range_turns};
-ghost use Rattle.task_code.specs.Places.{Step as PureStep};
 ghost use Rattle.board_instances.specs.View.{step_view};
-ghost use Rattle.values.specs.declared.key.Key.{Key};
+ghost use Rattle.values.specs.declared.key.Key.TheVariants.{Number as number_key};
 ghost use Rattle.board_effects.specs.Effects.{IsEffect};
 ghost use Rattle.board_effects.specs.Ended.{act_of, code_of, frames_of, Ends, IsEnded, FailsWith, IsLoop, IsScriptList, OpensBlock, OpensList};
 ghost use Rattle.dataflow.specs.Machine.{OfTask};
@@ -18,7 +17,7 @@ use board_instances::opening::{Around, Opening, Openings, outermost};
 use board_instances::outer::Way;
 use board_instances::turns::{Site, push_block, push_elements, push_range};
 use board_program::program::Program;
-use paths::{FaultKind, Step};
+use paths::FaultKind;
 use std::alloc::{AllocError, Global};
 use task_code::entry::Act;
 use values::map::Map;
@@ -49,7 +48,7 @@ impl<'a> Ended<'a> {
     /// The step to a block that it opens.
     #[inline(always)]
     fn step(self, number: i64) -> Way
-        ensures { option_map step_view result ≡ Some (record { offset = self.entry.table.now.mark; key = Key.Number number }) }
+        ensures { option_map step_view result ≡ Some (record { offset = self.entry.table.now.mark; key = number_key number }) }
     {
         Way::to_number(self.table.mark, number)
     }
