@@ -49,7 +49,7 @@ fn declare<A: Allocator>(filling: &mut Filling, variable: &Variable<A>) -> Resul
 {
     filling.makes.push(Made {
         node: variable.node,
-        array: variable.shape == Shape::Array,
+        array: variable.shape != Shape::Scalar,
     })?;
     Ok(())
 }

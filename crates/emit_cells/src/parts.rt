@@ -83,7 +83,7 @@ pub fn add_cell<A: Allocator>(
     match &cell.form {
         Form::Compute(expr) => add_computed(alloc, entries, standing, shown, expr),
         Form::Read { array, index } => {
-            let need = element(passed, named(standing.inputs, *array, true), *index);
+            let need = element(passed, named(standing.inputs, *array, true), *index)?;
             add_read(alloc, entries, standing, shown, need)
         }
     }
@@ -98,7 +98,7 @@ fn is_array_at<A: Allocator>(variables: &Vec<Variable<A>, A>, number: usize) -> 
     match variables.get(number) {
         None => false,
         Some(variable) => match variable.shape {
-            Shape::Array => true,
+            Shape::Array(_) => true,
             Shape::Scalar => false,
         },
     }

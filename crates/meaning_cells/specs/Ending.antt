@@ -53,7 +53,7 @@ where_aimed false gs = Some []
 abbrev pub inserted_by : Learned → ℕ → Name → (node : ℕ) → Option Value → Bool
 inserted_by l i a n (Some (One (Scalar.Number z))) = is_written_in (writes_at l.facts (spot l.instances.all.items i a)) (Key.Number z) (record { instance = i; node = n })
 inserted_by l i a n (Some (One (Scalar.Truth t))) = false
-inserted_by l i a n (Some (One (Scalar.Text t))) = false
+inserted_by l i a n (Some (One (Scalar.Text t))) = is_written_in (writes_at l.facts (spot l.instances.all.items i a)) (Key.Text t) (record { instance = i; node = n })
 inserted_by l i a n (Some (Many es)) = false
 inserted_by l i a n None = false
 

@@ -3,7 +3,10 @@ use Rattle.std.specs.Prelude.{◌≡◌, ℕ, ◌<◌, ◌≤◌, ℤ, Bool, ◌
 use Rattle.std.specs.HashMap.{get}
 use Rattle.std.specs.Ordering.{int_eq}
 use Rattle.values.specs.declared.key.Key.{Key}
-use Rattle.values.specs.declared.key.Key.TheVariants.{Number}
+use Rattle.values.specs.declared.key.Key.TheVariants.{Number, Text}
+use Rattle.values.specs.Keys.{bytes_same}
+use Rattle.meaning_facts.specs.Store.{same_pair}
+use Rattle.std.specs.declared.hash_map.HashMap.{HashMap}
 use Rattle.language.specs.Places.{Path, most_steps}
 use Rattle.language.specs.Places.{Step as PathStep}
 use Rattle.paths.specs.declared.steps.Step.{Step}
@@ -23,15 +26,17 @@ path_in None = []
 abbrev pub path_of : List Instance → ℕ → Path
 path_of ns i = path_in (slice_get ns i)
 
-abbrev pub key_number : Key → ℤ
-key_number (Number z) = z
-
 abbrev pub same_step : ℕ × ℕ × ℤ → ℕ × ℕ × ℤ → Bool
 same_step p q = (nat_eq p.0 q.0 && nat_eq p.1 q.1) && int_eq p.2 q.2
 
 -- the instance that another one has opened under a step
+abbrev pub named_in : Option (HashMap (List ℕ) ℕ) → List ℕ → Option ℕ
+named_in None bytes = None
+named_in (Some children) bytes = get bytes_same children bytes
+
 abbrev pub child_at : Instances → ℕ → (at : ℕ) → Key → Option ℕ
-child_at t i at k = get same_step t.opened (i, at, key_number k)
+child_at t i at (Number z) = get same_step t.opened (i, at, z)
+child_at t i at (Text bytes) = named_in (get same_pair t.named (i, at)) bytes
 
 abbrev pub child_behind : Instances → Option ℕ → (at : ℕ) → Key → Option ℕ
 child_behind t (Some i) at k = child_at t i at k

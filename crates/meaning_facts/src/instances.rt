@@ -13,6 +13,7 @@ use paths::Step;
 use std::alloc::{AllocError, Global};
 use std::collections::HashMap;
 use values::key::Key;
+use values::text::Text;
 use values::value::Scalar;
 
 /// A variable of a loop, by its node, and what it is in a turn.
@@ -42,11 +43,13 @@ pub struct Instance {
 #[derive(Drop)]
 pub struct Instances {
     pub all: Vec<Instance>,
+    // By the one that opened it and its step: those behind numbers, and those behind texts.
     opened: HashMap<(usize, usize, i64), usize>,
+    named: HashMap<(usize, usize), HashMap<Text, usize>>,
 }
 
 /// The most steps of a path.
-pub const MOST_STEPS: usize = 512;
+pub const MOST_STEPS: usize = 2048;
 
 impl Given {
     /// Nothing.
@@ -77,6 +80,7 @@ impl Instances {
         Ok(Instances {
             all,
             opened: HashMap::new(alloc),
+            named: HashMap::new(alloc),
         })
     }
 
@@ -101,7 +105,13 @@ impl Instances {
     pub fn child(&self, parent: usize, at: usize, key: &Key) -> Option<usize>
         ensures { result ≡ child_at self.now parent at key.now }
     {
-        self.opened.get(&(parent, at, number_of(key))).copied()
+        match key {
+            Key::Number(number) => self.opened.get(&(parent, at, *number)).copied(),
+            Key::Text(text) => match self.named.get(&(parent, at)) {
+                Some(children) => children.get(text).copied(),
+                None => None,
+            },
+        }
     }
 
     /// Opens an instance. Its number.
@@ -118,8 +128,7 @@ impl Instances {
             → length (path_of self.old.all.items parent) < most_steps → IsTree self.new) }
     {
         let number = self.all.len();
-        let key = number_of(&step.key);
-        self.opened.insert((parent, step.offset, key), number)?;
+        self.note(alloc, parent, step.offset, &step.key, number)?;
         let path = path_behind(alloc, self.path(parent), step)?;
         self.all.push(Instance {
             parent,
@@ -127,6 +136,31 @@ impl Instances {
             given,
         })?;
         Ok(number)
+    }
+
+    /// Notes the instance that another one opens under a step.
+    fn note(
+        &mut self,
+        alloc: Global,
+        parent: usize,
+        at: usize,
+        key: &Key,
+        number: usize,
+    ) -> Result<(), AllocError> {
+        match key {
+            Key::Number(key) => {
+                self.opened.insert((parent, at, *key), number)?;
+            }
+            Key::Text(text) => {
+                if !self.named.contains_key(&(parent, at)) {
+                    self.named.insert((parent, at), HashMap::new(alloc))?;
+                }
+                if let Some(children) = self.named.get_mut(&(parent, at)) {
+                    children.insert(text.share()?, number)?;
+                }
+            }
+        }
+        Ok(())
     }
 
     /// What the variable of a loop is in the turn that an instance is.
@@ -226,14 +260,6 @@ impl Instances {
         }
         Ok(places)
     }
-}
-
-/// The number that a key is.
-fn number_of(key: &Key) -> i64
-    ensures { result ≡ key_number key.now }
-{
-    let Key::Number(number) = key;
-    *number
 }
 
 /// What the variable of a node is among these.

@@ -87,7 +87,7 @@ element_come (v ∷ u ∷ vs) c = None
 abbrev pub read_come : Sight → Name → Option Value → Outcome
 read_come g a (Some (One (Scalar.Number z))) = element_come (g.writes a (Key.Number z)) (g.closed a)
 read_come g a (Some (One (Scalar.Truth b))) = None
-read_come g a (Some (One (Scalar.Text t))) = None
+read_come g a (Some (One (Scalar.Text t))) = element_come (g.writes a (Key.Text t)) (g.closed a)
 read_come g a (Some (Many es)) = None
 read_come g a None = None
 

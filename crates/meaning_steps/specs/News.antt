@@ -97,7 +97,7 @@ filled_told s m path at n a None = []
 abbrev pub key_in : Option Value → Option Key
 key_in (Some (One (Scalar.Number z))) = Some (Key.Number z)
 key_in (Some (One (Scalar.Truth t))) = None
-key_in (Some (One (Scalar.Text t))) = None
+key_in (Some (One (Scalar.Text t))) = Some (Key.Text t)
 key_in (Some (Many es)) = None
 key_in None = None
 

@@ -2,7 +2,7 @@
 
 use crate::asserts::is_equal;
 use crate::rows::are_judged;
-use language::tree::Shape;
+use language::tree::{Keys, Shape};
 use lexer::token::Span;
 use std::alloc::Global;
 use std::process::Abort;
@@ -93,7 +93,7 @@ fn what_names_are(rt: HostRuntime) {
         what: Owned::Local(14),
     };
     refers(&rt, &typed, 26, outer);
-    is_equal(&rt, typed.shape(10), Shape::Array);
+    is_equal(&rt, typed.shape(10), Shape::Array(Keys::Numbers));
     is_equal(&rt, typed.shape(26), Shape::Scalar);
 }
 
@@ -112,7 +112,7 @@ fn settled(number: u32, meaning: Meaning) -> Settled {
 
 #[test]
 fn what_was_settled_last_holds(rt: HostRuntime) {
-    let variable = Meaning::Variable(own(Owned::Input(4)), Shape::Array);
+    let variable = Meaning::Variable(own(Owned::Input(4)), Shape::Array(Keys::Numbers));
     let settled = [
         settled(3, Meaning::Called(Callee::Function(1))),
         settled(1, variable),

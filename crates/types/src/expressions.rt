@@ -16,7 +16,7 @@ use crate::signatures::Functions;
 use crate::typed::{Builtin, Callee, Settled, VariableType};
 use lexer::token::Span;
 use std::alloc::Allocator;
-use syntax_trees::tree::{Base, Expr, ExprKind, Name, Operator, Shape};
+use syntax_trees::tree::{Base, Expr, ExprKind, Keys, Name, Operator, Shape};
 
 /// Refuses a type that is not the one that is wanted.
 pub fn same_base(found: Base, wanted: Base, at: Span) -> Result<(), TypeFault>
@@ -46,16 +46,16 @@ pub fn scalar(found: VariableType, at: Span) -> Result<Base, TypeFault>
 {
     match found.shape {
         Shape::Scalar => Ok(found.base),
-        Shape::Array => Err(TypeFault::Mismatch(at)),
+        Shape::Array(_) => Err(TypeFault::Mismatch(at)),
     }
 }
 
-/// The type of the elements of an array; a scalar is refused.
-pub fn elements_of(found: VariableType, at: Span) -> Result<Base, TypeFault>
+/// The type of the elements of an array, and what they stand under; a scalar is refused.
+pub fn elements_of(found: VariableType, at: Span) -> Result<(Base, Keys), TypeFault>
     ensures { Judges (λ b. b) result (checks.elements_of (type_of found) at) }
 {
     match found.shape {
-        Shape::Array => Ok(found.base),
+        Shape::Array(keys) => Ok((found.base, keys)),
         Shape::Scalar => Err(TypeFault::Mismatch(at)),
     }
 }
@@ -91,8 +91,8 @@ fn form<A: Allocator>(
         ExprKind::Truth(_) => Ok(one_of(Base::Boolean)),
         ExprKind::Variable(name) => refer(scope, settled, name),
         ExprKind::Element(name, index) => {
-            let base = elements_of(refer(scope, settled, name)?, name.span)?;
-            expect(functions, scope, settled, index, Base::Int)?;
+            let (base, keys) = elements_of(refer(scope, settled, name)?, name.span)?;
+            expect(functions, scope, settled, index, keys.base())?;
             Ok(one_of(base))
         }
         ExprKind::Call(name, given) => call(functions, scope, settled, name, given, at),
@@ -347,7 +347,7 @@ fn of_one<A: Allocator>(
             Ok(Base::Int)
         }
         Builtin::Size => {
-            let _base = array_name(found, argument)?;
+            let _array = array_name(found, argument)?;
             Ok(Base::Int)
         }
         Builtin::Strcat | Builtin::Printf | Builtin::Assert => Err(TypeFault::WrongCount(at)),
@@ -397,15 +397,14 @@ fn fits<A: Allocator>(
 ) -> Result<(), TypeFault>
     ensures { Judges (λ _. tt) result (checks.fits (type_of found) (type_of input) (expression_view argument.now)) }
 {
-    let base = match input.shape {
-        Shape::Scalar => scalar(found, argument.first)?,
-        Shape::Array => array_name(found, argument)?,
-    };
-    same_base(base, input.base, argument.first)
+    if let Shape::Array(_) = input.shape {
+        let _array = array_name(found, argument)?;
+    }
+    same_type(found, input, argument.first)
 }
 
-/// The type of the elements of an array, of which an expression is the name.
-fn array_name<A: Allocator>(found: VariableType, value: &Expr<A>) -> Result<Base, TypeFault>
+/// The type of the elements of an array, of which an expression is the name, and what they stand under.
+fn array_name<A: Allocator>(found: VariableType, value: &Expr<A>) -> Result<(Base, Keys), TypeFault>
     ensures { Judges (λ b. b) result (checks.array_name (type_of found) (expression_view value.now)) }
 {
     match &value.kind {

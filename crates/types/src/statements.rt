@@ -24,8 +24,8 @@ use crate::typed::{Builtin, Callee, Owned, Settled, VariableType};
 use lexer::token::Span;
 use std::alloc::{AllocError, Allocator, Global};
 use syntax_trees::tree::{
-    Base, Block, Call, Decl, Expr, ExprKind, Header, ListOf, Name, Range, Right, Shape, Source,
-    Stmt, StmtKind,
+    Base, Block, Call, Decl, Expr, ExprKind, Header, Keys, ListOf, Name, Range, Right, Shape,
+    Source, Stmt, StmtKind,
 };
 use values::format::{Format, FormatFault, Piece};
 
@@ -48,7 +48,7 @@ fn right<A: Allocator>(
     }
 }
 
-/// An array literal: its elements have the type of the target's, and the target is an array. With a scalar target they are compared
+/// An array literal: its elements have the type of the target's, and the target is an array under numbers. With a scalar target they are compared
 /// with nothing, before the literal is refused.
 fn literal<A: Allocator>(
     functions: &Functions,
@@ -60,7 +60,13 @@ fn literal<A: Allocator>(
     ensures { Gives (λ _. tt) result settled.new.items (steps.right (signatures_of functions.now) (around_of scope.now) (list_of list.now) (type_of target) settled.old.items) }
 {
     match target.shape {
-        Shape::Array => elements(functions, scope, settled, &list.elements, Some(target.base)),
+        Shape::Array(keys) => {
+            elements(functions, scope, settled, &list.elements, Some(target.base))?;
+            match keys {
+                Keys::Numbers => Ok(()),
+                Keys::Texts => Err(TypeFault::Mismatch(list.first)),
+            }
+        }
         Shape::Scalar => {
             elements(functions, scope, settled, &list.elements, None)?;
             Err(TypeFault::Mismatch(list.first))
@@ -274,20 +280,23 @@ fn wanted(alloc: Global, format: &Format) -> Result<Vec<VariableType>, AllocErro
     Ok(types)
 }
 
-/// What a loop goes over, with the type of the values that it gives.
+/// What a loop goes over, with the types of the values and of the keys that it gives.
 fn source<A: Allocator>(
     functions: &Functions,
     scope: &Scope,
     settled: &mut Vec<Settled>,
     source: &Source<A>,
-) -> Result<Base, TypeFault>
+) -> Result<(Base, Base), TypeFault>
     ensures { Gives (λ b. b) result settled.new.items (steps.source (signatures_of functions.now) (around_of scope.now) (over_of source.now) settled.old.items) }
 {
     match source {
-        Source::Array(name) => elements_of(refer(scope, settled, name)?, name.span),
+        Source::Array(name) => {
+            let (base, keys) = elements_of(refer(scope, settled, name)?, name.span)?;
+            Ok((base, keys.base()))
+        }
         Source::Range(over) => {
             let base = range(functions, scope, settled, over)?;
-            Ok(base)
+            Ok((base, Base::Int))
         }
     }
 }
@@ -349,11 +358,12 @@ fn add_variables<A: Allocator>(
     scope: &mut Scope,
     value: &Name<A>,
     key: &Option<Name<A>>,
-    base: Base,
+    bases: (Base, Base),
 ) -> Result<(), AllocError>
     requires { (settled : List Settled) → steps.fresh_variables (around_of scope.old) (word_of value.now) (option_map word_of key.now) settled ≡ got tt settled }
-    ensures { OnOk result (around_of scope.new ≡ steps.with_key (steps.declared (around_of scope.old) (word_of value.now) (scopes.one_of base)) (option_map word_of key.now)) }
+    ensures { OnOk result (around_of scope.new ≡ steps.with_key (steps.declared (around_of scope.old) (word_of value.now) (scopes.one_of bases.0)) (option_map word_of key.now) bases.1) }
 {
+    let (base, key_base) = bases;
     add(
         alloc,
         scope,
@@ -367,7 +377,7 @@ fn add_variables<A: Allocator>(
             scope,
             key,
             Owned::Local(key.number),
-            one_of(Base::Int),
+            one_of(key_base),
         )?;
     }
     Ok(())
@@ -488,8 +498,8 @@ fn write<A: Allocator>(
 ) -> Result<(), TypeFault>
     ensures { Gives (λ _. around_of scope.now) result settled.new.items (steps.commanded (signatures_of functions.now) (around_of scope.now) (trees.write (word_of name.now) (expression_view index.now) (expression_view value.now)) settled.old.items) }
 {
-    let base = elements_of(refer(scope, settled, name)?, name.span)?;
-    expect(functions, scope, settled, index, Base::Int)?;
+    let (base, keys) = elements_of(refer(scope, settled, name)?, name.span)?;
+    expect(functions, scope, settled, index, keys.base())?;
     expect(functions, scope, settled, value, base)?;
     Ok(())
 }
@@ -563,10 +573,10 @@ fn repetition<A: Allocator>(
     ensures { Gives (λ _. around_of scope.new) result settled.new.items (steps.commanded (signatures_of functions.now) (around_of scope.old) (trees.loop (word_of header.now.value) (option_map word_of header.now.key) (over_of header.now.source) (body_view body.now)) settled.old.items) }
 {
     fresh_variables(scope, &header.value, &header.key)?;
-    let base = source(functions, scope, settled, &header.source)?;
+    let bases = source(functions, scope, settled, &header.source)?;
     let visible = scope.names.len();
     scope.blocks.push(visible)?;
-    add_variables(alloc, scope, &header.value, &header.key, base)?;
+    add_variables(alloc, scope, &header.value, &header.key, bases)?;
     block(alloc, functions, scope, settled, body)?;
     leave(scope, visible);
     Ok(())
