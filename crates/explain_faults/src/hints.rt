@@ -10,7 +10,7 @@ const BOTH_SIDES: &str =
     "hint: && and || work out both of their sides: test the one in an if, and the other in an if inside of it\n";
 
 const DEPTH: &str =
-    "hint: with an if in it a function calls itself 255 times at most: what goes on longer goes on along an array, s[i] = s[i - 1] + ..\n";
+    "hint: with an if in it a function calls itself 1023 times at most: what goes on longer goes on along an array, s[i] = s[i - 1] + ..\n";
 
 /// Adds the line of a hint, where one is known of a fault of this kind that the statement at an offset has.
 pub fn say_hint(
