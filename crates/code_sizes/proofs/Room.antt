@@ -78,7 +78,7 @@ module _ (fs : List Signature) (type_of : ℕ → Typ) (f : Signature) (k W : �
     operands_room (join_has h) = all_room h
     operands_room (from_int_has h) = all_room h
     operands_room (to_int_has h) = all_room h
-    operands_room {depth} (size_has {a} b h) = (name_room depth a _ h, tt)
+    operands_room {depth} (size_has {a} κ b h) = (name_room depth a _ h, tt)
     operands_room (printf_has h) = each_room h
     operands_room (assert_has c m) = (expr_room c, (expr_room m, tt))
 
@@ -118,7 +118,7 @@ module _ (fs : List Signature) (type_of : ℕ → Typ) (f : Signature) (k W : �
 
   awaited_room : {depth : ℕ} {x : Awaited} → AwaitedHas fs type_of f depth x → AwaitedRoom k x
   awaited_room {depth} (awaits_one {x} b h) = name_room depth x _ h
-  awaited_room {depth} (awaits_many {x} b h) = name_room depth x _ h
+  awaited_room {depth} (awaits_many {x} κ b h) = name_room depth x _ h
 
   all_awaited : (depth : ℕ) (xs : List Awaited) → ((x : Awaited) → x ∈ xs → AwaitedHas fs type_of f depth x) → Each (AwaitedRoom k) xs
   all_awaited depth [] h = tt

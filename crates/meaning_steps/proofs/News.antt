@@ -153,13 +153,14 @@ opens_found (item i) = item_some i
 
 key_there : (o : Option Value) (k : Key) → key_in o ≡ Some k → (u : Value) × (o ≡ Some u) × IsKey u k
 key_there (Some (One (Scalar.Number z))) k h = (One (Scalar.Number z), refl, subst (λ (j : Key). IsKey (One (Scalar.Number z)) j) (some_same h) a_number)
+key_there (Some (One (Scalar.Text t))) k h = (One (Scalar.Text t), refl, subst (λ (j : Key). IsKey (One (Scalar.Text t)) j) (some_same h) a_text)
 key_there (Some (One (Scalar.Truth t))) k h = absurd (cc (h))
-key_there (Some (One (Scalar.Text t))) k h = absurd (cc (h))
 key_there (Some (Many es)) k h = absurd (cc (h))
 key_there None k h = absurd (cc (h))
 
 key_found : {u : Value} {k : Key} → IsKey u k → key_in (Some u) ≡ Some k
 key_found a_number = refl
+key_found a_text = refl
 
 one_there : (o : Option Value) (v : Scalar) → one_in o ≡ Some v → o ≡ Some (One v)
 one_there (Some (One u)) v h = ap (λ (z : Scalar). Some (One z)) (some_same h)
