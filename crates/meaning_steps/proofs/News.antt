@@ -10,7 +10,7 @@ use Rattle.values.specs.declared.value.Value.TheVariants.{One, Many}
 use Rattle.values.specs.Maps.{element as entry}
 use Rattle.values.specs.Ranges.{range_count}
 use Rattle.language.specs.Core.{Name, Cell, Call, Part, inner, calls, Outer, Stmt, stmt, Action, declare, call_alone, assign, fill, insert, print, assert, when, choose, range, each, wait, Block, Core}
-use Rattle.language.specs.Facts.{Fault, operation, element_twice, too_deep, Fact, value, element, line, fault, Knowledge, IsKey, a_number, KnownAll, no_cell, next_cell}
+use Rattle.language.specs.Facts.{Fault, operation, element_twice, too_deep, Fact, value, element, line, fault, Knowledge, IsKey, a_number, a_text, KnownAll, no_cell, next_cell}
 use Rattle.language.specs.Meaning.{Ready, cells_known, source_closed, names_known, Gives, Comes, before, now, ComeAll, none_comes, next_comes, LiveStmt, New, cell_value, cell_fault, assigned, filled, inserted, printed, bad_range, too_deep_header, too_deep_call, written_twice}
 use Rattle.language.specs.Members.{◌∈◌, first, later}
 use Rattle.language.specs.Openings.{Bounds, bounds, Opens, then_alone, then_first, else_second, turn, item}
