@@ -9,7 +9,7 @@ use Rattle.dataflow.proofs.Lists.{in_left, in_right, in_unmap}
 use Rattle.values.specs.declared.fault.OpFault.{OpFault}
 use Rattle.values.specs.declared.key.Key.{Key}
 use Rattle.values.specs.declared.value.Scalar.{Scalar}
-use Rattle.values.specs.declared.value.Scalar.TheVariants.{Number, Truth}
+use Rattle.values.specs.declared.value.Scalar.TheVariants.{Truth}
 use Rattle.values.specs.declared.value.Value.{Value}
 use Rattle.values.specs.declared.value.Value.TheVariants.{One}
 use Rattle.values.specs.Operators.{literal, evaluated}

@@ -33,7 +33,6 @@ use Rattle.task_code.proofs.Places.{declared_at}
 use Rattle.headline.specs.Headline.{script_path, script_place}
 use Rattle.code_rules.proofs.Given.{gives_value}
 use Rattle.headline.proofs.Readings.{name_stands, to_code, same_array, name_inv, literal_inv}
-use Rattle.values.specs.declared.value.Scalar.TheVariants.{Number}
 use Rattle.headline.specs.Backs.{RightKnown, Backs}
 use Rattle.headline.specs.Inclusions.{Facts}
 use Rattle.headline.specs.Chains.{Chain, Stands, same, plain, constant, HasElement}
