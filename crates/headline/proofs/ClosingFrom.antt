@@ -12,7 +12,6 @@ use Rattle.values.specs.declared.value.Value.{Value}
 use Rattle.language.specs.Core as Co
 use Rattle.language.specs.Core.{Owned, local, input, output, Name, Cell, Call, Part, Outer, Awaited, Stmt, stmt, Action, declare, call_alone, assign, fill, insert, print, assert, when, choose, range, each, wait, Block, stmts, no_stmts, Function, Core}
 use Rattle.language.specs.Facts.{value, element, Knowledge}
-use Rattle.values.specs.declared.value.Scalar.TheVariants.{Number}
 use Rattle.values.specs.declared.value.Value.TheVariants.{One}
 use Rattle.language.specs.Parts.{script_stmts}
 use Rattle.code_rules.specs.IsCodeOf.{Layout}
