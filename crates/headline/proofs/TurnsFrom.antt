@@ -38,7 +38,7 @@ use Rattle.headline.proofs.LiveBy.{Feed, Where, at_body, between, ReadyFed, AllA
 use Rattle.headline.proofs.LiveFrom.{by_answers, no_need, live_from}
 use Rattle.headline.proofs.Means.{chain_body}
 use Rattle.headline.proofs.WrittenFrom.{path_same, TurnsStored}
-use Rattle.headline.proofs.KeysOf.{key_same}
+use Rattle.language_accepted.proofs.Values.{key_same}
 
 -- what a loop stores are its turns' variables
 pub loop_stores : (C : Code) (a : Act) (l : Loop) (node mark : ℕ) (p : List Step) (c : ℕ) (x : Computed) → loop_of a ≡ Some l → stores C a node mark p c x ≡ flat_map (bound l mark p) (chunk c (turns_of x))

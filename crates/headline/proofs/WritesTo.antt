@@ -50,7 +50,7 @@ use Rattle.headline.proofs.HeaderWorks.{outer_among}
 use Rattle.headline.proofs.LiveTo.{Fact, value_of, says, answers_all, cell_known_by, range_known, bounds_two, bounds_three, listed_in, ok_step, depth}
 use Rattle.headline.proofs.Means.{chain_live, chain_scope, means, covering_writes}
 use Rattle.headline.proofs.Readings.{IsSame, same_array, element_in}
-use Rattle.headline.proofs.KeysOf.{key_same}
+use Rattle.language_accepted.proofs.Values.{key_same}
 use Rattle.headline.proofs.WrittenTo.{IsKnown}
 
 -- elements that are stored

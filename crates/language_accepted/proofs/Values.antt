@@ -8,6 +8,7 @@ use Rattle.values.specs.declared.map.Element.{Element}
 use Rattle.values.specs.declared.value.Scalar.{Scalar}
 use Rattle.values.specs.declared.value.Value.{Value}
 use Rattle.values.specs.declared.value.Value.TheVariants.{One, Many}
+use Rattle.values.specs.Keys.{key_scalar}
 use Rattle.values.specs.Maps.{element as entry}
 use Rattle.values.specs.Numbers.{fits}
 use Rattle.values.specs.Operators as op
@@ -35,6 +36,11 @@ use Rattle.language_accepted.proofs.Typed.{StmtHas, stmt_has, cell_has, live_sta
 
 pub one_base : {v : Scalar} {τ : Typ} → OfType (One v) τ → OfBase v τ.base
 one_base (one_scalar h) = h
+
+-- a key as a scalar and as a value
+pub key_same : (k : Key) → key_scalar k ≡ key_value k
+key_same (Key.Number z) = refl
+key_same (Key.Text bytes) = refl
 
 -- a key is a value of the type that its array's keys have
 key_has : {k : Key} {κ : Keys} → OfKeys k κ → OfType (One (key_value k)) (one_of (base_of_keys κ))

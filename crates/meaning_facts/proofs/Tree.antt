@@ -1,5 +1,6 @@
 -- Instances stay a tree where one is opened, and each is found at its path.
 use Rattle.std.specs.Prelude.{◌≡◌, ◌⊎◌, ℕ, zero, suc, ◌+◌, ◌<◌, ◌≤◌, Bool, true, false, ◌&&◌, List, [], ◌∷◌, ◌++◌, length, map, nat_eq, Option, Some, None, slice_get, if◌then◌else◌, refl}
+use Rattle.std.specs.HashMap.{get}
 use Rattle.std.proofs.Common.{inl, inr, sym, ap, ◌∙◌, subst, arith, length-append}
 use Rattle.std.proofs.lemmas.Bool.{cases_Bool, cases_lt, cases_order, eqb-true, eq-eqb}
 use Rattle.std.proofs.lemmas.List.{get_or_append_left}
@@ -14,8 +15,8 @@ use Rattle.meaning_facts.specs.declared.instances.Given.{Given}
 use Rattle.paths.specs.declared.steps.Step.{Step}
 use Rattle.meaning_facts.specs.declared.instances.Instance.{Instance}
 use Rattle.meaning_facts.specs.declared.instances.Instances.{Instances}
-use Rattle.meaning_facts.specs.Paths.{step_view, path_in, path_of, same_step, named_in, child_at, IsChild, IsOpened, IsOpen, IsTree}
-use Rattle.meaning_facts.specs.Store.{parent_in, parent_of, inputs_in, inputs_of, outputs_in, outputs_of, variables_in, variables_of}
+use Rattle.meaning_facts.specs.Paths.{step_view, path_in, path_of, same_step, same_turn, named_in, child_at, IsChild, IsOpened, IsOpen, IsTree}
+use Rattle.meaning_facts.specs.Store.{same_pair, parent_in, parent_of, inputs_in, inputs_of, outputs_in, outputs_of, variables_in, variables_of}
 
 -- THE FIRST INSTANCE
 
@@ -81,6 +82,11 @@ same_step_is p i at a k l h =
 
 pub step_itself : (p at : ℕ) (k : Key) → same_step (p, at, k) (p, at, k) ≡ true
 step_itself p at k = rw (eq-eqb p p refl) (rw (eq-eqb at at refl) (same_key-refl k))
+
+-- what is opened is found by both tables alone
+pub same_child : (t u : Instances) → u.opened ≡ t.opened → u.named ≡ t.named → (i at : ℕ) (k : Key) → child_at u i at k ≡ child_at t i at k
+same_child t u o n i at (Number z) = ap (λ m. get same_turn m (i, at, z)) o
+same_child t u o n i at (Text bytes) = ap (λ m. named_in (get same_pair m (i, at)) bytes) n
 
 module _ (t u : Instances) (p : ℕ) (s : Step) (g : Given) (o : IsOpen t p s g u) where
   pub count : length u.all.items ≡ length t.all.items + 1

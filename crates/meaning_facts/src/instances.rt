@@ -1,8 +1,8 @@
 //! Block instances: their paths, and where names lie.
-ghost use Rattle.std.specs.Prelude.{◌≡◌, ◌&&◌, ◌<◌, ◌×◌, ◌∷◌, ℕ, List, None, Some, if◌then◌else◌, length, map, nat_le, option_copied, IfOk, OnOk};
+ghost use Rattle.std.specs.Prelude.{◌≡◌, ◌&&◌, ◌<◌, ◌∷◌, ℕ, List, None, Some, if◌then◌else◌, length, map, nat_le, option_copied, IfOk, OnOk};
 ghost use Rattle.std.specs.HashMap.{get};
 ghost use Rattle.std.specs.Str.{bytes_eq};
-ghost use Rattle.values.specs.declared.key.Key.{Key as KeyModel};
+ghost use Rattle.values.specs.declared.key.Key.{Key as StepKey};
 ghost use Rattle.flow.specs.View.{name_view, names_view, owned_view};
 ghost use Rattle.language.specs.Core.{Core};
 ghost use Rattle.language.specs.Places.{Path, place, most_steps};
@@ -151,7 +151,7 @@ impl Instances {
         number: usize,
     ) -> Result<(), AllocError>
         ensures all { OnOk result (self.new.all ≡ self.old.all) }
-        ensures found { OnOk result ((i a : ℕ) (k : KeyModel) → child_at self.new i a k ≡ (if same_step (parent, at, key.now) (i, a, k) then Some number else child_at self.old i a k)) }
+        ensures found { OnOk result ((i a : ℕ) (k : StepKey) → child_at self.new i a k ≡ (if same_step (parent, at, key.now) (i, a, k) then Some number else child_at self.old i a k)) }
     {
         match key {
             Key::Number(turn) => {
