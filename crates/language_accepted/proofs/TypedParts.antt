@@ -182,7 +182,7 @@ module _ (fs : List Signature) (t : Table) (f : Signature) (depth : ℕ) (g : Sc
     expression_typed (rules.of_element {nd = nd} {w = w} {i = i} {κ = κ} {b = b} r h) =
         noted nd.number (one_of b) (passed w.number (and_so (expression_typed h) (λ type_of q s. (
           cell_has fs type_of f depth (number_of i) (form_of t i) (base_of_keys κ) q.0 (q.1 s),
-          types.reads {a = refers t w} (refers_has type_of r s) q.0,
+          types.reads {a = refers t w} κ (refers_has type_of r s) q.0,
         ))))
     expression_typed (rules.of_prefixed {nd = nd} {e = e} {b = b} p h) =
         noted nd.number (one_of b) (and_so (expression_typed h) (λ type_of q s. (

@@ -201,7 +201,7 @@ module _ (fs : List Signature) (t : Table) (f : Signature) (depth : ℕ) (g : Sc
       → BlockHas fs type_of f (suc depth) b → StmtHas fs type_of f depth (loop_action t v k o b)
   loop_has type_of v k (T.array w) β γ b h e u r = record {
     outer = no_outers fs type_of f depth;
-    action = types.of_each {a = refers t w} {κ = h.0} h.2 e (subst (λ (z : Base). TurnHas fs type_of f z (option_map (λ (x : Word). x.number) k)) h.1 u) r;
+    action = types.of_each {a = refers t w} h.0 h.2 e (subst (λ (z : Base). TurnHas fs type_of f z (option_map (λ (x : Word). x.number) k)) h.1 u) r;
   }
   loop_has type_of v k (T.range low high step) β γ b h e u r = record {
     outer = λ o m. (h.2 o m).0;
@@ -272,7 +272,7 @@ module _ (fs : List Signature) (t : Table) (f : Signature) where
                 s,
                 λ b rest. put fs type_of f nd.first.from nd.number (record {
                   outer = two_outers fs type_of f depth (outer t i) (outer t e) (outer_has fs type_of f depth (number_of i) (form_of t i) (one_of (base_of_keys κ)) q.0.0 p.0 p.1) (outer_has fs type_of f depth (number_of e) (form_of t e) (one_of β) q.1.0 o.0 o.1);
-                  action = types.of_insert {x = refers t w} {i = outer t i} {o = outer t e} (refers_has fs t f depth g type_of refers_to s) q.0.0 q.1.0;
+                  action = types.of_insert {x = refers t w} {i = outer t i} {o = outer t e} κ (refers_has fs t f depth g type_of refers_to s) q.0.0 q.1.0;
                 }) rest,
               )),
         ))))

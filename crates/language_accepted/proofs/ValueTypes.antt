@@ -49,10 +49,10 @@ module _ (fs : List Signature) (type_of : ℕ → Typ) (f : Signature) (depth : 
   IsOne n = (b : Base) × (type_of n ≡ one_of b)
 
   read_one : {a : Name} {i : ℕ} {τ : Typ} → FormHas fs type_of f depth (read a i) τ → (b : Base) × (τ ≡ one_of b)
-  read_one (reads {b = b} h e) = (b, refl)
+  read_one (reads κ {b = b} h e) = (b, refl)
 
   pub read_index : {a : Name} {i : ℕ} {τ : Typ} → FormHas fs type_of f depth (read a i) τ → (κ : Keys) × (type_of i ≡ one_of (base_of_keys κ))
-  read_index (reads {κ = κ} h e) = (κ, e)
+  read_index (reads κ h e) = (κ, e)
 
   same_cell : {c d : Cell} → inner c ≡ inner d → c ≡ d
   same_cell e = cc
@@ -93,7 +93,7 @@ module _ (fs : List Signature) (type_of : ℕ → Typ) (f : Signature) (depth : 
   part_one (insert x i o) {c} h m = by h.action
     where
       by : ActionHas fs type_of f depth (insert x i o) → IsOne c.node
-      by (of_insert {κ = κ} {b = b} u e g) = outers_one (i ∷ o ∷ []) (λ z k. elim (split_in k) [
+      by (of_insert κ {b = b} u e g) = outers_one (i ∷ o ∷ []) (λ z k. elim (split_in k) [
         | inl q ↦ subst (λ (y : Outer). OuterHas fs type_of f depth y × IsOne y.cell.node) (sym q) (h.outer i first, (base_of_keys κ, e))
         | inr j ↦ one_outer o (h.outer o (later first)) (b, g) z j
       ]) m
@@ -149,7 +149,7 @@ module _ (fs : List Signature) (type_of : ℕ → Typ) (s : Core) (has : HasType
       assign_cell (of_assign {b = b} h e) = (b, e)
 
       insert_cell : {g : Signature} {depth : ℕ} {x : Name} {i o : Outer} → ActionHas fs type_of g depth (insert x i o) → (κ : Keys) × (type_of i.cell.node ≡ one_of (base_of_keys κ))
-      insert_cell (of_insert {κ = κ} h e r) = (κ, e)
+      insert_cell (of_insert κ h e r) = (κ, e)
 
       print_cell : {g : Signature} {depth : ℕ} {p : ℤ} {o : Outer} → ActionHas fs type_of g depth (print p o) → type_of o.cell.node ≡ one_of Base.Text
       print_cell (of_print e) = e

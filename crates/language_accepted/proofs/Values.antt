@@ -129,13 +129,13 @@ module _ (fs : List Signature) (type_of : ℕ → Typ) (s : Core) (has : HasType
         → (q : TypedAt fs type_of s path c) → InTurn header vs k x v → Opens header vs k d → ActionHas fs type_of q.signature q.depth header → Ready s K path header vs → OfType (One v) (type_of x)
     turn_has {v = v} q (range_value e w) o (of_range cs h t d) r = subst (OfType (One v)) (sym h) (subst (λ (z : Scalar). OfType (One z) (one_of Int)) (sym w) (one_scalar types.a_number))
     turn_has {v = v} q (range_turn {t = y} w) (turn f g l) (of_range cs h t d) r = subst (OfType (One v)) (sym (t y refl)) (subst (λ (z : Scalar). OfType (One z) (one_of Int)) (sym w) (one_scalar types.a_number))
-    turn_has {path} {v = v} q (each_value {k = k} m) o (of_each {a = a} {κ = κ} {β = β} g h t d) (source_closed cl el) =
+    turn_has {path} {v = v} q (each_value {k = k} m) o (of_each {a = a} κ {β = β} g h t d) (source_closed cl el) =
         subst (OfType (One v)) (sym h) (one_scalar (elements_have (place s path a) κ β (q.names a (many_of κ β) g) el (entry k v) m).1)
-    turn_has q (each_value m) o (of_each g h t d) (cells_known u x) = elim x [ ]
-    turn_has {path} {v = v} q (each_key {t = y} {k = k} w) (item {v = u} m) (of_each {a = a} {κ = κ} {β = β} g h t d) (source_closed cl el) =
+    turn_has q (each_value m) o (of_each κ g h t d) (cells_known u x) = elim x [ ]
+    turn_has {path} {v = v} q (each_key {t = y} {k = k} w) (item {v = u} m) (of_each {a = a} κ {β = β} g h t d) (source_closed cl el) =
         let same = (elements_have (place s path a) κ β (q.names a (many_of κ β) g) el (entry k u) m).0 in
         subst (OfType (One v)) (sym (t y refl)) (subst (λ (z : Scalar). OfType (One z) (one_of (base_of_keys κ))) (sym w) (key_has same))
-    turn_has q (each_key w) o (of_each g h t d) (cells_known u x) = elim x [ ]
+    turn_has q (each_key w) o (of_each κ g h t d) (cells_known u x) = elim x [ ]
 
     value_at : {p : Place} {v : Scalar} → HasValue s K p v → OfType (One v) (type_of p.1)
     value_at {p} (stored {v = v} h) = facts (value p (One v)) h
@@ -198,7 +198,7 @@ module _ (fs : List Signature) (type_of : ℕ → Typ) (s : Core) (has : HasType
           by : (r : Result (List Value) OpFault) → all_values rs ≡ r → on_all op.literal r ≡ Ok v → OfType v (many_of Numbers b)
           by (Ok ws) p k = list_value (fits (pos (length ws))) (operands_have h us ws p) k
           by (Err f) p k = absurd (cc (k))
-      gives_has (reads {a = a} {κ = κ} {b = b} h i) (found {k = k} {v = v} u y w) = one_scalar (known_element (place s path a) κ b k w.writer v (q.names a (many_of κ b) h) w.write).1
+      gives_has (reads {a = a} κ {b = b} h i) (found {k = k} {v = v} u y w) = one_scalar (known_element (place s path a) κ b k w.writer v (q.names a (many_of κ b) h) w.write).1
 
       comes_has : {o : Cell} {v : Value} → FormHas fs type_of q.signature q.depth o.form (type_of o.node) → Comes s K path o v → OfType v (type_of o.node)
       comes_has {o} {v} h (before k) = facts (value (path, o.node) v) k
@@ -244,7 +244,7 @@ module _ (fs : List Signature) (type_of : ℕ → Typ) (s : Core) (has : HasType
         inserted_has q a i c h m g = by h.action
           where
             by : ActionHas fs type_of q.signature q.depth (insert a i c) → OfElement k v (type_of (place s path a).1)
-            by (of_insert {κ = κ} {b = β} u e f) =
+            by (of_insert κ {b = β} u e f) =
                 subst (OfElement k v) (sym (q.names a (many_of κ β) u)) (of_array (value_has_key {κ = κ} (subst (OfType x) e m) y) (one_base (subst (OfType (One v)) f g)))
     new_has (cell_fault l m g) = tt
     new_has (printed l k) = tt
