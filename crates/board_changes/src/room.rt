@@ -1,5 +1,7 @@
 //! Room for what the end of an item does, which is made before anything is changed.
 ghost use Rattle.std.specs.Prelude.{◌≡◌, ◌+◌, ◌≤◌, vec_len, vec_capacity, OnErr, OnOk};
+ghost use Rattle.board_data.specs.Data.{AreRising};
+ghost use Rattle.board_data.specs.View.{cells_view};
 ghost use Rattle.board_instances.specs.View.{job_view};
 ghost use Rattle.std.specs.Bool.{OnTrue};
 ghost use Rattle.board_changes.specs.Opened.{IsShort};
@@ -75,17 +77,18 @@ fn closed_by(program: &Program, job: Job, change: &Change) -> usize
     }
 }
 
-/// Room for elements in an array. Those of an array have keys of one kind, so one of each kind that there is tells it.
+/// Room for elements in an array, under keys of their kinds.
 fn room_for_all(
     store: &mut Store,
     d: Option<usize>,
-    elements: &Vec<Element>,
+    elements: &[Element],
 ) -> Result<(), AllocError>
-    ensures { OnOk result (HasPlaces d elements.now.items store.new) }
+    ensures places { OnOk result (HasPlaces d elements.now store.new) }
+    ensures cells { cells_view store.new.cells ≡ cells_view store.old.cells }
+    ensures rising { AreRising store.old → AreRising store.new }
 {
-    if let (Some(first), Some(last)) = (elements.first(), elements.last()) {
-        data::reserve(store, d, first.key.as_ref(), elements.len())?;
-        data::reserve(store, d, last.key.as_ref(), elements.len())?;
+    for one in elements {
+        data::reserve(store, d, one.key.as_ref(), elements.len())?;
     }
     Ok(())
 }
@@ -141,7 +144,9 @@ impl World {
             Change::Nothing => Ok(()),
             Change::Value(_, _) => Ok(()),
             Change::Element(d, key, _) => data::reserve(&mut self.store, *d, key.as_ref(), 1),
-            Change::Elements(d, elements) => room_for_all(&mut self.store, *d, elements),
+            Change::Elements(d, elements) => {
+                room_for_all(&mut self.store, *d, elements.as_slice())
+            }
             Change::Opens(openings) => self.room_to_open(rows, program, job, openings),
         }
     }

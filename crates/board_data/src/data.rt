@@ -27,7 +27,7 @@ pub fn value(store: &Store, d: usize) -> Option<&Scalar>
 /// The element of an array under a key.
 #[inline(always)]
 pub fn element<'a>(store: &'a Store, d: usize, key: KeyRef<'_>) -> Option<&'a Scalar>
-    ensures { option_copied result ≡ found (key_seen key) (array_at store.now d).elements }
+    ensures { option_copied result ≡ found (key_seen key.entry) (array_at store.now d).elements }
 {
     match store.shape(d) {
         Some(Shape::Keyed) => store.element(d, key),
@@ -123,7 +123,7 @@ pub fn reserve(
     key: KeyRef<'_>,
     n: usize,
 ) -> Result<(), AllocError>
-    ensures ok { OnOk result (store.new ≡ roomy d (key_seen key) n store.old) }
+    ensures ok { OnOk result (store.new ≡ roomy d (key_seen key.entry) n store.old) }
     ensures err { OnErr result (store.new ≡ store.old) }
 {
     match d {

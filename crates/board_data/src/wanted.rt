@@ -117,7 +117,7 @@ fn missing_array(store: &Store, slot: Slot) -> Option<Input>
 /// What an element waits for.
 #[tactic(auto, using(crate::proofs::Cells::shut_there, crate::proofs::Cells::element_there))]
 fn missing_element(store: &Store, slot: Slot, key: KeyRef<'_>) -> Option<Input>
-    ensures { wants_in result ≡ element_missed (cells_view store.now.cells) (slot_view slot) (key_seen key) }
+    ensures { wants_in result ≡ element_missed (cells_view store.now.cells) (slot_view slot) (key_seen key.entry) }
 {
     match slot {
         Slot::Datum(d) => {

@@ -3,9 +3,9 @@ ghost use Rattle.std.specs.Prelude.{◌≡◌, ◌+◌, ◌*◌, ◌^◌, ◌<�
 ghost use Rattle.board_history.specs.Fields.{path_of, slot_at, Script, Counted, Frame};
 ghost use Rattle.task_code.specs.Code.{Loop as PureLoop, loop_of};
 ghost use Rattle.task_code.specs.Compute.{Computed, Opens as OpensOne, TooDeep, Takes, Turns, pairs, range_turns};
-ghost use Rattle.task_code.specs.Places.{Step as PureStep};
 ghost use Rattle.board_instances.specs.View.{step_view};
-ghost use Rattle.values.specs.declared.key.Key.{Key};
+ghost use Rattle.values.specs.Limits.{most_steps};
+ghost use Rattle.values.specs.declared.key.Key.TheVariants.{Number as number_key};
 ghost use Rattle.board_effects.specs.Effects.{IsEffect};
 ghost use Rattle.board_effects.specs.Ended.{act_of, code_of, frames_of, Ends, IsEnded, FailsWith, IsLoop, IsScriptList, OpensBlock, OpensList};
 ghost use Rattle.dataflow.specs.Machine.{OfTask};
@@ -18,7 +18,7 @@ use board_instances::opening::{Around, Opening, Openings, outermost};
 use board_instances::outer::Way;
 use board_instances::turns::{Site, push_block, push_elements, push_range};
 use board_program::program::Program;
-use paths::{FaultKind, Step};
+use paths::FaultKind;
 use std::alloc::{AllocError, Global};
 use task_code::entry::Act;
 use values::map::Map;
@@ -31,7 +31,7 @@ impl<'a> Ended<'a> {
     /// Whether it may open no block by one more step.
     #[inline(always)]
     fn is_too_deep(self) -> bool
-        ensures { IsEnded self.entry → result ≡ nat_le 2048 (length (path_of (frames_of self.entry) self.entry.view.at)) }
+        ensures { IsEnded self.entry → result ≡ nat_le most_steps (length (path_of (frames_of self.entry) self.entry.view.at)) }
     {
         match self.view.instances.get(self.view.at) {
             Some(around) => around.depth >= MOST_STEPS,
@@ -49,7 +49,7 @@ impl<'a> Ended<'a> {
     /// The step to a block that it opens.
     #[inline(always)]
     fn step(self, number: i64) -> Way
-        ensures { option_map step_view result ≡ Some (record { offset = self.entry.table.now.mark; key = Key.Number number }) }
+        ensures { IsEnded self.entry → option_map step_view result ≡ Some (record { offset = self.entry.entry.now.mark; key = number_key number }) }
     {
         Way::to_number(self.table.mark, number)
     }

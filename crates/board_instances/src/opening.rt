@@ -9,7 +9,6 @@ use crate::instance::{INLINE_SLOTS, Instance, Slot, Slots, slot_at};
 use crate::outer::{Outer, Way};
 use crate::packed::PackedSlot;
 use board_program::program::{Passed, Program};
-use paths::Step;
 use rules::input::Input;
 use slab::Slab;
 use smallvec::SmallVec;

@@ -1,7 +1,7 @@
 //! What an instance keeps of the one around it and of the step that leads to it, in as few words as that takes.
 ghost use Rattle.std.specs.Prelude.{◌≡◌, None, Some, is_some, IfOk};
 ghost use Rattle.values.specs.Keys.{key_seen};
-ghost use Rattle.values.specs.declared.key.Key.{Key};
+ghost use Rattle.values.specs.declared.key.Key.TheVariants.{Number as number_key};
 
 use paths::Step;
 use std::alloc::AllocError;
@@ -97,7 +97,7 @@ impl Way {
     /// A step to the key of this number.
     #[inline(always)]
     pub fn to_number(offset: u32, number: i64) -> Way
-        ensures { result ≡ Some (record { offset = offset; key = Key.Number number }) }
+        ensures { result ≡ Some (record { offset = offset; key = number_key number }) }
     {
         Way {
             kept: Kept::ToNumber(offset, number),
@@ -111,7 +111,7 @@ impl Way {
     /// `AllocError` where a text has too many owners to count.
     #[inline(always)]
     pub fn to(offset: u32, key: KeyRef<'_>) -> Result<Way, AllocError>
-        ensures { IfOk result (λ way. way ≡ Some (record { offset = offset; key = key_seen key })) }
+        ensures { IfOk result (λ way. way ≡ Some (record { offset = offset; key = key_seen key.entry })) }
     {
         match key {
             KeyRef::Number(number) => Ok(Way::to_number(offset, number)),

@@ -2,7 +2,7 @@
 ghost use Rattle.std.specs.Prelude.{◌≡◌, ◌<◌, ◌-◌, ◌++◌, ◌∷◌, [], IsSome, OnOk, length, min, pos, option_map};
 ghost use Rattle.board_history.specs.Fields.{slot_at as slot_of};
 ghost use Rattle.task_code.specs.Code.{body as body_of};
-ghost use Rattle.task_code.specs.Compute.{key_scalar, pairs, range_turns};
+ghost use Rattle.task_code.specs.Compute.{pairs, range_turns};
 ghost use Rattle.values.specs.Ranges.{value_in};
 ghost use Rattle.values.specs.declared.key.Key.TheVariants.{Number as number_key};
 ghost use Rattle.values.specs.declared.value.Scalar.TheVariants.{Number};
@@ -15,7 +15,6 @@ ghost use Rattle.board_instances.specs.declared.opening.Opening.{Opening as AnOp
 use crate::opening::{Around, Opening, inner};
 use crate::outer::Way;
 use board_program::program::Passed;
-use paths::Step;
 use std::alloc::{AllocError, Global};
 use values::key::KeyRef;
 use values::map::Element;
@@ -74,7 +73,7 @@ fn push_turn(
     value: Scalar,
 ) -> Result<(), AllocError>
     ensures added { OnOk result (0 < length (body_of site.entry.around.program.now site.entry.body).entries → IsSome (slot_of (frames_view site.entry.around.instances.now.slots) site.entry.around.at) →
-        AddsTurns site.entry.around.program.now (frames_view site.entry.around.instances.now.slots) site.entry.around.at site.entry.body site.entry.offset ((key_seen key, value) ∷ []) list.old.items list.new.items) }
+        AddsTurns site.entry.around.program.now (frames_view site.entry.around.instances.now.slots) site.entry.around.at site.entry.body site.entry.offset ((key_seen key.entry, value) ∷ []) list.old.items list.new.items) }
     ensures none { OnOk result (length (body_of site.entry.around.program.now site.entry.body).entries ≡ 0 → list.new.items ≡ list.old.items) }
 {
     let turn = key.scalar()?;

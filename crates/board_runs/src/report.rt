@@ -169,10 +169,7 @@ fn steps(alloc: Global, path: &Vec<Step>) -> Result<Vec<Step>, AllocError>
 {
     let mut copies = Vec::new(alloc);
     for step in path {
-        copies.push(Step {
-            offset: step.offset,
-            key: step.key.share()?,
-        })?;
+        copies.push(step.share()?)?;
     }
     Ok(copies)
 }

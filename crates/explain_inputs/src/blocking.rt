@@ -99,7 +99,7 @@ pub fn instance_at(instances: &Instances, path: &[Step]) -> Option<usize>
 
 /// The instance that another one has opened under a step.
 fn child_of(instances: &Instances, parent: usize, step: &Step) -> Option<usize>
-    ensures { result ≡ child_at instances.now parent step.now.at step.now.key }
+    ensures { result ≡ child_at instances.now parent step.now.offset step.now.key }
 {
     instances.child(parent, step.offset, &step.key)
 }

@@ -4,10 +4,11 @@
 //! the run ended quiet, the fault where it met one, or else the limit. A path is `/` for the script, or `/node.key` for
 //! each step from the outermost on. A key that is a text stands between quotes, as a string of a script spells it.
 ghost use Rattle.std.specs.Prelude.{◌≡◌, ◌<◌, ◌≤◌, ◌+◌, ◌++◌, ◌∷◌, [], length, codes, decimal, OnOk, OnErr};
+ghost use Rattle.std.specs.Fmt.{signed_decimal};
 ghost use Rattle.std.specs.List.{flat_map};
 ghost use Rattle.values.specs.Sinks.{Beginning};
 ghost use Rattle.paths.specs.Names.{fault_name};
-ghost use Rattle.swt_trace.specs.Report.{ReportText, text_line, quoted, step_text, path_text, statement_text, blocked_line, fault_line, limit_line, end_text};
+ghost use Rattle.swt_trace.specs.Report.{ReportText, text_line, quoted, spelled, step_text, path_text, statement_text, blocked_line, fault_line, limit_line, end_text};
 
 use crate::fault::WriteFault;
 use arrayvec::ArrayString;
@@ -281,14 +282,37 @@ fn write_quoted<W: Sink>(bytes: &[u8], sink: &mut W) -> Result<(), SinkFault>
     ensures none_failed { OnOk result (W.failures sink.new ≡ W.failures sink.old) }
 {
     write_all(sink, b"\"")?;
-    for i in 0..bytes.len() {
-        match bytes[i] {
-            b'\n' => write_all(sink, b"\\n")?,
-            b'\t' => write_all(sink, b"\\t")?,
-            b'\\' => write_all(sink, b"\\\\")?,
-            b'"' => write_all(sink, b"\\\"")?,
-            _ => write_all(sink, &bytes[i..i + 1])?,
-        }
-    }
+    write_spelled(bytes, sink)?;
     write_all(sink, b"\"")
+}
+
+/// Writes the bytes of a text, as a string of a script spells them.
+fn write_spelled<W: Sink>(bytes: &[u8], sink: &mut W) -> Result<(), SinkFault>
+    requires { W.failures sink.old < u64.MAX }
+    ensures ok { OnOk result (W.taken sink.new ≡ W.taken sink.old ++ flat_map spelled bytes.now) }
+    ensures err { OnErr result (Beginning (W.taken sink.old) (flat_map spelled bytes.now) (W.taken sink.new)) }
+    ensures failed { OnErr result (W.failures sink.old < W.failures sink.new) }
+    ensures none_failed { OnOk result (W.failures sink.new ≡ W.failures sink.old) }
+{
+    for byte in bytes {
+        write_byte(*byte, sink)?;
+    }
+    Ok(())
+}
+
+/// Writes a byte of a text, as a string of a script spells it.
+fn write_byte<W: Sink>(byte: u8, sink: &mut W) -> Result<(), SinkFault>
+    requires { W.failures sink.old < u64.MAX }
+    ensures ok { OnOk result (W.taken sink.new ≡ W.taken sink.old ++ spelled byte) }
+    ensures err { OnErr result (Beginning (W.taken sink.old) (spelled byte) (W.taken sink.new)) }
+    ensures failed { OnErr result (W.failures sink.old < W.failures sink.new) }
+    ensures none_failed { OnOk result (W.failures sink.new ≡ W.failures sink.old) }
+{
+    match byte {
+        b'\n' => write_all(sink, b"\\n"),
+        b'\t' => write_all(sink, b"\\t"),
+        b'\\' => write_all(sink, b"\\\\"),
+        b'"' => write_all(sink, b"\\\""),
+        _ => write_all(sink, &[byte]),
+    }
 }
