@@ -1,5 +1,5 @@
 //! Block instances: their paths, and where names lie.
-ghost use Rattle.std.specs.Prelude.{◌≡◌, ◌&&◌, ◌<◌, ◌∷◌, ℕ, List, None, Some, if◌then◌else◌, length, map, nat_le, option_copied, IfOk, OnOk};
+ghost use Rattle.std.specs.Prelude.{◌≡◌, ◌&&◌, ◌<◌, ◌∷◌, ℕ, List, None, Some, if◌then◌else◌, cond, length, map, nat_le, option_copied, IfOk, OnOk};
 ghost use Rattle.std.specs.HashMap.{get};
 ghost use Rattle.std.specs.Str.{bytes_eq};
 ghost use Rattle.values.specs.declared.key.Key.{Key as StepKey};
@@ -272,13 +272,25 @@ fn note_named(
     ensures { OnOk result ((other : ℕ × ℕ) (bytes : List ℕ) → named_in (get same_pair named.new other) bytes
         ≡ (if same_pair step other && bytes_eq text bytes then Some number else named_in (get same_pair named.old other) bytes)) }
 {
-    let mut children = match named.remove(&step) {
-        Some(children) => children,
-        None => HashMap::new(alloc),
-    };
+    let mut children = take_named(named, alloc, step);
     children.insert(text, number)?;
     named.insert(step, children)?;
     Ok(())
+}
+
+/// Takes out the instances that are opened under texts at an offset of another one.
+fn take_named(
+    named: &mut HashMap<(usize, usize), HashMap<Text, usize>>,
+    alloc: Global,
+    step: (usize, usize),
+) -> HashMap<Text, usize>
+    ensures left { (other : ℕ × ℕ) → get same_pair named.new other ≡ cond (same_pair step other) None (get same_pair named.old other) }
+    ensures taken { (bytes : List ℕ) → get bytes_eq result bytes ≡ named_in (get same_pair named.old step) bytes }
+{
+    match named.remove(&step) {
+        Some(children) => children,
+        None => HashMap::new(alloc),
+    }
 }
 
 /// What the variable of a node is among these.
