@@ -105,7 +105,7 @@ module _ (fs : List Signature) (type_of : ℕ → Typ) (f : Signature) where
     computes : {e : Expr} {b : Base} → ExprHas depth e b → FormHas depth (compute e) (one_of b)
     copies : {a : Name} {κ : Keys} {b : Base} → NameHas depth a (many_of κ b) → FormHas depth (compute (whole a)) (many_of κ b)
     lists : {es : Exprs} {b : Base} → AllHave depth es b → FormHas depth (compute (operator op.literal es)) (many_of Numbers b)
-    reads : {a : Name} {i : ℕ} {κ : Keys} {b : Base} → NameHas depth a (many_of κ b) → type_of i ≡ one_of (base_of_keys κ) → FormHas depth (read a i) (one_of b)
+    reads : {a : Name} {i : ℕ} (κ : Keys) {b : Base} → NameHas depth a (many_of κ b) → type_of i ≡ one_of (base_of_keys κ) → FormHas depth (read a i) (one_of b)
 
   -- a call hands over what the called function's inputs and outputs are
   pub record CallHas (depth : ℕ) (c : Call) : Type 0 where
@@ -148,7 +148,7 @@ module _ (fs : List Signature) (type_of : ℕ → Typ) (f : Signature) where
       of_call : {depth : ℕ} {p : ℤ} {ps : List Part} {c : Call} → PartsHave depth ps → CallHas depth c → ActionHas depth (call_alone p ps c)
       of_assign : {depth : ℕ} {x : Name} {o : Outer} {b : Base} → NameHas depth x (one_of b) → type_of o.cell.node ≡ one_of b → ActionHas depth (assign x o)
       of_fill : {depth : ℕ} {x : Name} {o : Outer} {κ : Keys} {b : Base} → NameHas depth x (many_of κ b) → type_of o.cell.node ≡ many_of κ b → ActionHas depth (fill x o)
-      of_insert : {depth : ℕ} {x : Name} {i o : Outer} {κ : Keys} {b : Base} → NameHas depth x (many_of κ b) → type_of i.cell.node ≡ one_of (base_of_keys κ) → type_of o.cell.node ≡ one_of b → ActionHas depth (insert x i o)
+      of_insert : {depth : ℕ} {x : Name} {i o : Outer} (κ : Keys) {b : Base} → NameHas depth x (many_of κ b) → type_of i.cell.node ≡ one_of (base_of_keys κ) → type_of o.cell.node ≡ one_of b → ActionHas depth (insert x i o)
       of_print : {depth : ℕ} {p : ℤ} {o : Outer} → type_of o.cell.node ≡ one_of Text → ActionHas depth (print p o)
       of_assert : {depth : ℕ} {p : ℤ} {o : Outer} → type_of o.cell.node ≡ one_of Boolean → ActionHas depth (assert p o)
       of_when : {depth : ℕ} {c : Outer} {b : Block} → type_of c.cell.node ≡ one_of Boolean → BlockHas (suc depth) b → ActionHas depth (when c b)
@@ -156,7 +156,7 @@ module _ (fs : List Signature) (type_of : ℕ → Typ) (f : Signature) where
       of_range : {depth x : ℕ} {lo hi : Outer} {st : Option Outer} {turn : Option ℕ} {b : Block}
           → ((c : Cell) → c ∈ outer_cells (range lo hi st x turn b) → type_of c.node ≡ one_of Int) → type_of x ≡ one_of Int → TurnHas Int turn → BlockHas (suc depth) b
           → ActionHas depth (range lo hi st x turn b)
-      of_each : {depth x : ℕ} {a : Name} {turn : Option ℕ} {b : Block} {κ : Keys} {β : Base} → NameHas depth a (many_of κ β) → type_of x ≡ one_of β → TurnHas (base_of_keys κ) turn → BlockHas (suc depth) b
+      of_each : {depth x : ℕ} {a : Name} {turn : Option ℕ} {b : Block} (κ : Keys) {β : Base} → NameHas depth a (many_of κ β) → type_of x ≡ one_of β → TurnHas (base_of_keys κ) turn → BlockHas (suc depth) b
           → ActionHas depth (each a x turn b)
       of_wait : {depth : ℕ} {ns : List Awaited} {b : Block} → ((x : Awaited) → x ∈ ns → AwaitedHas depth x) → BlockHas depth b → ActionHas depth (wait ns b)
 

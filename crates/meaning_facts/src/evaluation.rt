@@ -66,7 +66,7 @@ impl Learned {
         array: Name,
         key: KeyRef<'_>,
     ) -> Result<Option<Outcome>, AllocError>
-        ensures { IfOk result (λ r. outcome_view r ≡ element_come ((sight_of self.now instance).writes (name_view array) (key_seen key)) ((sight_of self.now instance).closed (name_view array))) }
+        ensures { IfOk result (λ r. outcome_view r ≡ element_come ((sight_of self.now instance).writes (name_view array) (key_seen key.entry)) ((sight_of self.now instance).closed (name_view array))) }
     {
         let place = self.instances.place(instance, array);
         match self.facts.written(place, key) {

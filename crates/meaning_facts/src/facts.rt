@@ -145,21 +145,21 @@ impl Facts {
 
     /// What is written under a key of an array.
     pub fn written(&self, array: Place, key: KeyRef<'_>) -> Written<'_>
-        ensures { WrittenAs result (writes_under (writes_at self.now array) (key_seen key)) }
+        ensures { WrittenAs result (writes_under (writes_at self.now array) (key_seen key.entry)) }
     {
         written_in(self.writes_of(array), key)
     }
 
     /// Whether a statement has written a key of an array.
     pub fn is_written_by(&self, array: Place, key: KeyRef<'_>, writer: Place) -> bool
-        ensures { result ≡ is_written_in (writes_at self.now array) (key_seen key) writer }
+        ensures { result ≡ is_written_in (writes_at self.now array) (key_seen key.entry) writer }
     {
         has_writer(self.writes_of(array), key, writer)
     }
 
     /// Whether a key of an array has two writers.
     pub fn is_written_twice(&self, array: Place, key: KeyRef<'_>) -> bool
-        ensures { result ≡ several_in (writes_under (writes_at self.now array) (key_seen key)) }
+        ensures { result ≡ several_in (writes_under (writes_at self.now array) (key_seen key.entry)) }
     {
         match self.written(array, key) {
             Written::Twice => true,
@@ -292,7 +292,7 @@ impl Facts {
 
 /// What is written under a key by these writes.
 fn written_in<'w>(writes: &'w [Write], key: KeyRef<'_>) -> Written<'w>
-    ensures { WrittenAs result (writes_under writes.now (key_seen key)) }
+    ensures { WrittenAs result (writes_under writes.now (key_seen key.entry)) }
 {
     for i in 0..writes.len() {
         if writes[i].key.as_ref().is_same(key) {
@@ -308,7 +308,7 @@ fn written_in<'w>(writes: &'w [Write], key: KeyRef<'_>) -> Written<'w>
 
 /// Whether one of these writes has this key and writer.
 fn has_writer(writes: &[Write], key: KeyRef<'_>, writer: Place) -> bool
-    ensures { result ≡ is_written_in writes.now (key_seen key) writer }
+    ensures { result ≡ is_written_in writes.now (key_seen key.entry) writer }
 {
     for write in writes {
         if write.key.as_ref().is_same(key) && write.writer.is_same(writer) {
@@ -320,7 +320,7 @@ fn has_writer(writes: &[Write], key: KeyRef<'_>, writer: Place) -> bool
 
 /// Whether one of these writes has this key.
 fn has_key(writes: &[Write], key: KeyRef<'_>) -> bool
-    ensures { result ≡ has_key_in writes.now (key_seen key) }
+    ensures { result ≡ has_key_in writes.now (key_seen key.entry) }
 {
     for write in writes {
         if write.key.as_ref().is_same(key) {

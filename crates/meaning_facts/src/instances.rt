@@ -1,11 +1,14 @@
 //! Block instances: their paths, and where names lie.
-ghost use Rattle.std.specs.Prelude.{◌≡◌, ◌<◌, ◌∷◌, None, length, map, nat_le, option_copied, IfOk, OnOk};
+ghost use Rattle.std.specs.Prelude.{◌≡◌, ◌&&◌, ◌<◌, ◌∷◌, ℕ, List, None, Some, if◌then◌else◌, cond, length, map, nat_le, option_copied, IfOk, OnOk};
+ghost use Rattle.std.specs.HashMap.{get};
+ghost use Rattle.std.specs.Str.{bytes_eq};
+ghost use Rattle.values.specs.declared.key.Key.{Key as StepKey};
 ghost use Rattle.flow.specs.View.{name_view, names_view, owned_view};
 ghost use Rattle.language.specs.Core.{Core};
 ghost use Rattle.language.specs.Places.{Path, place, most_steps};
-ghost use Rattle.meaning_facts.specs.Paths.{child_at, key_number, path_of, step_view, IsNone, IsOpen, IsTree};
+ghost use Rattle.meaning_facts.specs.Paths.{child_at, named_in, path_of, same_step, step_view, IsNone, IsOpen, IsTree};
 ghost use Rattle.meaning_facts.specs.Stands.{Stands, IsPlace};
-ghost use Rattle.meaning_facts.specs.Store.{spot, spots, outward, parent_of, owner_spot, given_at, variable_in, variables_of, inputs_of, outputs_of};
+ghost use Rattle.meaning_facts.specs.Store.{same_pair, spot, spots, outward, parent_of, owner_spot, given_at, variable_in, variables_of, inputs_of, outputs_of};
 
 use crate::facts::Place;
 use flow::name::{Name, Owned};
@@ -146,21 +149,17 @@ impl Instances {
         at: usize,
         key: &Key,
         number: usize,
-    ) -> Result<(), AllocError> {
+    ) -> Result<(), AllocError>
+        ensures all { OnOk result (self.new.all ≡ self.old.all) }
+        ensures found { OnOk result ((i a : ℕ) (k : StepKey) → child_at self.new i a k ≡ (if same_step (parent, at, key.now) (i, a, k) then Some number else child_at self.old i a k)) }
+    {
         match key {
-            Key::Number(key) => {
-                self.opened.insert((parent, at, *key), number)?;
+            Key::Number(turn) => {
+                self.opened.insert((parent, at, *turn), number)?;
+                Ok(())
             }
-            Key::Text(text) => {
-                if !self.named.contains_key(&(parent, at)) {
-                    self.named.insert((parent, at), HashMap::new(alloc))?;
-                }
-                if let Some(children) = self.named.get_mut(&(parent, at)) {
-                    children.insert(text.share()?, number)?;
-                }
-            }
+            Key::Text(text) => note_named(&mut self.named, alloc, (parent, at), text.share()?, number),
         }
-        Ok(())
     }
 
     /// What the variable of a loop is in the turn that an instance is.
@@ -259,6 +258,38 @@ impl Instances {
             places.push(self.place(instance, *name))?;
         }
         Ok(places)
+    }
+}
+
+/// Notes the instance that is opened under a text.
+fn note_named(
+    named: &mut HashMap<(usize, usize), HashMap<Text, usize>>,
+    alloc: Global,
+    step: (usize, usize),
+    text: Text,
+    number: usize,
+) -> Result<(), AllocError>
+    ensures { OnOk result ((other : ℕ × ℕ) (bytes : List ℕ) → named_in (get same_pair named.new other) bytes
+        ≡ (if same_pair step other && bytes_eq text bytes then Some number else named_in (get same_pair named.old other) bytes)) }
+{
+    let mut children = take_named(named, alloc, step);
+    children.insert(text, number)?;
+    named.insert(step, children)?;
+    Ok(())
+}
+
+/// Takes out the instances that are opened under texts at an offset of another one.
+fn take_named(
+    named: &mut HashMap<(usize, usize), HashMap<Text, usize>>,
+    alloc: Global,
+    step: (usize, usize),
+) -> HashMap<Text, usize>
+    ensures left { (other : ℕ × ℕ) → get same_pair named.new other ≡ cond (same_pair step other) None (get same_pair named.old other) }
+    ensures taken { (bytes : List ℕ) → get bytes_eq result bytes ≡ named_in (get same_pair named.old step) bytes }
+{
+    match named.remove(&step) {
+        Some(children) => children,
+        None => HashMap::new(alloc),
     }
 }
 

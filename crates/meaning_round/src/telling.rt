@@ -1,6 +1,7 @@
 //! What a round adds of a live statement, with the values of its outermost cells.
 ghost use Rattle.std.specs.Prelude.{◌≡◌, ◌++◌, ◌∷◌, [], OnOk, Some, map, option_map, option_to_list, pos, true};
 ghost use Rattle.flow.specs.View.{action_view, name_view, outer_view, part_view};
+ghost use Rattle.values.specs.Keys.{key_seen};
 ghost use Rattle.language.specs.Core as core;
 ghost use Rattle.language.specs.Parts.{cells, outer_parts, part_calls, parts};
 ghost use Rattle.meaning_steps.specs.News.{comes_all, key_in, one_in, some_call, with_value};
@@ -181,7 +182,7 @@ fn add_element(
     news: &mut Vec<Fact>,
 ) -> Result<(), AllocError>
     ensures told { OnOk result (facts_view learned.now.instances.all.items news.new.items
-        ≡ facts_view learned.now.instances.all.items news.old.items ++ element_news learned.now site (name_view array) (key_seen key) value.now) }
+        ≡ facts_view learned.now.instances.all.items news.old.items ++ element_news learned.now site (name_view array) (key_seen key.entry) value.now) }
     ensures inside { OnOk result (StayInside learned.now.instances.all.items site.instance news.old.items news.new.items) }
 {
     let place = learned.instances.place(site.instance, array);

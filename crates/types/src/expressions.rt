@@ -13,10 +13,10 @@ use crate::fault::TypeFault;
 use crate::functions::{called, function_called};
 use crate::scope::{Scope, refer};
 use crate::signatures::Functions;
-use crate::typed::{Builtin, Callee, Settled, VariableType};
+use crate::typed::{Builtin, Callee, Elements, Settled, VariableType};
 use lexer::token::Span;
 use std::alloc::Allocator;
-use syntax_trees::tree::{Base, Expr, ExprKind, Keys, Name, Operator, Shape};
+use syntax_trees::tree::{Base, Expr, ExprKind, Name, Operator, Shape};
 
 /// Refuses a type that is not the one that is wanted.
 pub fn same_base(found: Base, wanted: Base, at: Span) -> Result<(), TypeFault>
@@ -50,12 +50,15 @@ pub fn scalar(found: VariableType, at: Span) -> Result<Base, TypeFault>
     }
 }
 
-/// The type of the elements of an array, and what they stand under; a scalar is refused.
-pub fn elements_of(found: VariableType, at: Span) -> Result<(Base, Keys), TypeFault>
-    ensures { Judges (λ b. b) result (checks.elements_of (type_of found) at) }
+/// What an array gives; a scalar is refused.
+pub fn elements_of(found: VariableType, at: Span) -> Result<Elements, TypeFault>
+    ensures { Judges (λ given. given) result (checks.elements_of (type_of found) at) }
 {
     match found.shape {
-        Shape::Array(keys) => Ok((found.base, keys)),
+        Shape::Array(keys) => Ok(Elements {
+            value: found.base,
+            key: keys.base(),
+        }),
         Shape::Scalar => Err(TypeFault::Mismatch(at)),
     }
 }
@@ -91,9 +94,9 @@ fn form<A: Allocator>(
         ExprKind::Truth(_) => Ok(one_of(Base::Boolean)),
         ExprKind::Variable(name) => refer(scope, settled, name),
         ExprKind::Element(name, index) => {
-            let (base, keys) = elements_of(refer(scope, settled, name)?, name.span)?;
-            expect(functions, scope, settled, index, keys.base())?;
-            Ok(one_of(base))
+            let given = elements_of(refer(scope, settled, name)?, name.span)?;
+            expect(functions, scope, settled, index, given.key)?;
+            Ok(one_of(given.value))
         }
         ExprKind::Call(name, given) => call(functions, scope, settled, name, given, at),
         ExprKind::Prefixed(prefix, operand) => {
@@ -347,7 +350,7 @@ fn of_one<A: Allocator>(
             Ok(Base::Int)
         }
         Builtin::Size => {
-            let _array = array_name(found, argument)?;
+            let _given = array_name(found, argument)?;
             Ok(Base::Int)
         }
         Builtin::Strcat | Builtin::Printf | Builtin::Assert => Err(TypeFault::WrongCount(at)),
@@ -397,15 +400,18 @@ fn fits<A: Allocator>(
 ) -> Result<(), TypeFault>
     ensures { Judges (λ _. tt) result (checks.fits (type_of found) (type_of input) (expression_view argument.now)) }
 {
-    if let Shape::Array(_) = input.shape {
-        let _array = array_name(found, argument)?;
+    match input.shape {
+        Shape::Scalar => same_base(scalar(found, argument.first)?, input.base, argument.first),
+        Shape::Array(_) => {
+            let _given = array_name(found, argument)?;
+            same_type(found, input, argument.first)
+        }
     }
-    same_type(found, input, argument.first)
 }
 
-/// The type of the elements of an array, of which an expression is the name, and what they stand under.
-fn array_name<A: Allocator>(found: VariableType, value: &Expr<A>) -> Result<(Base, Keys), TypeFault>
-    ensures { Judges (λ b. b) result (checks.array_name (type_of found) (expression_view value.now)) }
+/// What an array gives, of which an expression is the name.
+fn array_name<A: Allocator>(found: VariableType, value: &Expr<A>) -> Result<Elements, TypeFault>
+    ensures { Judges (λ given. given) result (checks.array_name (type_of found) (expression_view value.now)) }
 {
     match &value.kind {
         ExprKind::Variable(_) => elements_of(found, value.first),
