@@ -6,7 +6,6 @@ use Rattle.task_code.specs.Compute.{Elements, EntryFault}
 use Rattle.task_code.specs.Effects.{Item, Main, Task}
 use Rattle.task_code.specs.Machine.{CodeItem}
 use Rattle.task_code.specs.Places.{Step}
-use Rattle.values.specs.declared.key.Key.{Key}
 use Rattle.values.specs.declared.value.Scalar.{Scalar}
 
 -- the value under a key of a slab
