@@ -158,7 +158,13 @@ impl Instances {
                 self.opened.insert((parent, at, *turn), number)?;
                 Ok(())
             }
-            Key::Text(text) => note_named(&mut self.named, alloc, (parent, at), text.share()?, number),
+            Key::Text(text) => note_named(
+                &mut self.named,
+                alloc,
+                (parent, at),
+                text.share()?,
+                number,
+            ),
         }
     }
 
