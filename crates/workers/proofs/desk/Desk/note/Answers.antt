@@ -1,4 +1,4 @@
-use Rattle.std.proofs.Common.{List, [], ◌∷◌, ◌++◌, ap, subst, sym, ◌∙◌}
+use Rattle.std.proofs.Common.{List, [], ◌∷◌, ◌++◌, ap, refl, subst, sym, ◌∙◌}
 use Rattle.board.specs.Board.{IsItems}
 use Rattle.board_work.specs.Assigned.{Assigned}
 use Rattle.dataflow.specs.System.{In}
@@ -9,7 +9,7 @@ use Rattle.workers.proofs.desk.Desk.note.Goals as goal
 
 pub known-begun-requires : goal.known-begun-requires
 known-begun-requires g c =
-    subst (λ (l : List Assigned). In c.args.work l) (sym (c.again.ensures ∙ c.if-not-add.ensures)) (in_last c.args.work c.again-front.result)
+    subst (λ (l : List Assigned). In c.args.work l) (sym (c.again.ensures ∙ c.if-not-add.ensures refl)) (in_last c.args.work c.again-front.result)
 
 pub invariant_of-self : goal.invariant_of-self
 invariant_of-self g c =
@@ -24,5 +24,5 @@ invariant_of-self g c =
       fits = k.fits;
       runs = k.runs;
       no_back = k.no_back;
-      items = subst (λ (l : List Assigned). AreItems c.self.inside.board l) (sym (c.if-not-add.ensures ∙ ap (λ (l : List Assigned). l ++ c.args.work ∷ []) c.again-front.ensures)) (items_more c.self.inside.board c.self.inside.front c.args.work k.items here);
+      items = subst (λ (l : List Assigned). AreItems c.self.inside.board l) (sym (c.if-not-add.ensures refl ∙ ap (λ (l : List Assigned). l ++ c.args.work ∷ []) c.again-front.ensures)) (items_more c.self.inside.board c.self.inside.front c.args.work k.items here);
     }
