@@ -140,9 +140,18 @@ impl Missing {
             Missing::OneWhole(a) => Listed::One(Input::Whole(*a)),
             Missing::OneElement(a, k) => Listed::One(Input::Element(*a, *k)),
             Missing::TwoWholes(a, b) => Listed::Two(Input::Whole(*a), Input::Whole(*b)),
-            Missing::WholeAndElement(a, b, l) => Listed::Two(Input::Whole(*a), Input::Element(*b, *l)),
-            Missing::ElementAndWhole(a, k, b) => Listed::Two(Input::Element(*a, *k), Input::Whole(*b)),
-            Missing::TwoElements(a, k, b, l) => Listed::Two(Input::Element(*a, *k), Input::Element(*b, *l)),
+            Missing::WholeAndElement(a, b, l) => Listed::Two(
+                Input::Whole(*a),
+                Input::Element(*b, *l),
+            ),
+            Missing::ElementAndWhole(a, k, b) => Listed::Two(
+                Input::Element(*a, *k),
+                Input::Whole(*b),
+            ),
+            Missing::TwoElements(a, k, b, l) => Listed::Two(
+                Input::Element(*a, *k),
+                Input::Element(*b, *l),
+            ),
             Missing::More(list) => Listed::More(list.as_slice()),
         }
     }
