@@ -78,11 +78,7 @@ fn closed_by(program: &Program, job: Job, change: &Change) -> usize
 }
 
 /// Room for elements in an array, under keys of their kinds.
-fn room_for_all(
-    store: &mut Store,
-    d: Option<usize>,
-    elements: &[Element],
-) -> Result<(), AllocError>
+fn room_for_all(store: &mut Store, d: Option<usize>, elements: &[Element]) -> Result<(), AllocError>
     ensures places { OnOk result (HasPlaces d elements.now store.new) }
     ensures cells { cells_view store.new.cells ≡ cells_view store.old.cells }
     ensures rising { AreRising store.old → AreRising store.new }
