@@ -1,4 +1,5 @@
 //! What to write instead.
+ghost use Rattle.std.specs.Prelude.{◌≡◌, IfSome};
 
 use lexer::token::Span;
 
@@ -12,7 +13,9 @@ pub struct Advice {
 
 impl Advice {
     /// Advice on the place of the refusal.
-    pub fn here(words: &'static str) -> Option<Advice> {
+    pub fn here(words: &'static str) -> Option<Advice>
+        ensures { IfSome result (λ advice. advice.words.now ≡ words.now) }
+    {
         Some(Advice { words, at: None })
     }
 

@@ -1,4 +1,6 @@
 //! Functions and variables that other languages have.
+ghost use Rattle.std.specs.Prelude.{◌≡◌, option_map};
+ghost use Rattle.explain_hints.specs.Tables.{words_for};
 
 use crate::bytes::{Row, row_of};
 
@@ -230,7 +232,9 @@ static FUNCTIONS: [Row; 52] = [
 ];
 
 /// What is there instead of a function of another language.
-pub fn on_function(name: &[u8]) -> Option<&'static str> {
+pub fn on_function(name: &[u8]) -> Option<&'static str>
+    ensures { option_map (λ words. words.now) result ≡ words_for name.now FUNCTIONS }
+{
     row_of(&FUNCTIONS, name)
 }
 
@@ -271,6 +275,8 @@ static VARIABLES: [Row; 8] = [
 ];
 
 /// What is there instead of a variable of another language.
-pub fn on_variable(name: &[u8]) -> Option<&'static str> {
+pub fn on_variable(name: &[u8]) -> Option<&'static str>
+    ensures { option_map (λ words. words.now) result ≡ words_for name.now VARIABLES }
+{
     row_of(&VARIABLES, name)
 }

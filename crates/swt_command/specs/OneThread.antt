@@ -40,6 +40,6 @@ pub record IsMeant (s : Core) (r : Report) : Type 0 where
 abbrev pub IsMeantBy : Files → Report → Type 0
 IsMeantBy files r = (s : Core) × HasScript files 0 s × IsMeant s r
 
--- the text of a report was printed that has all that the first file's script means
+-- the text of a report was printed that ends quiet and has all that the first file's script means
 abbrev pub PrintsWhole : Files → (out new : Held) → Type 0
-PrintsWhole files out new = (s : Core) × HasScript files 0 s × ((r : Report) × IsWhole s r × Took out (ReportText r) new)
+PrintsWhole files out new = (s : Core) × HasScript files 0 s × ((r : Report) × (r.end ≡ Was.Quiet) × IsWhole s r × Took out (ReportText r) new)

@@ -16,7 +16,7 @@ pub enum Trouble {
     BadLine(u64),
     /// This line's event is no step of the script's code.
     NotARun(u64),
-    /// This line of the trace names another end than the run comes to.
+    /// This line of the trace names another end than that of the run.
     WrongEnd(u64),
     /// No engine, no worker, or more than 64 of both.
     BadCount,

@@ -6,11 +6,12 @@ use Rattle.task_code.specs.Code.{Code}
 use Rattle.task_code.specs.Machine.{CodeState, CodeStep, Run}
 use Rattle.task_code.specs.View.{event_view}
 use Rattle.board.specs.Board.{Accepts, Seen}
+use Rattle.board_runs.specs.declared.report.End.{End}
 use Rattle.board_runs.specs.declared.report.Report.{Report}
 use Rattle.board_runs.specs.Report.{Reports}
-use Rattle.swt_trace.specs.Trace.{IsTrace, TraceText, ending_of, most_events}
-use Rattle.swt_trace.specs.declared.read.Ending.{Ending}
-use Rattle.board_runs.specs.declared.report.End.{End}
+use Rattle.swt_trace.specs.declared.ending.Ending.{Ending}
+use Rattle.swt_trace.specs.Report.{TraceOf, ending_of}
+use Rattle.swt_trace.specs.Trace.{IsTrace, most_events}
 
 -- the event is no step from the state
 abbrev pub IsNoStep : Code → CodeState → Machine.Event → Type 0
@@ -21,19 +22,19 @@ abbrev pub Takes : Seen → Machine.Event → Seen → Bool → Type 0
 Takes old e new true = Accepts old e new
 Takes old e new false = (new ≡ old) × IsNoStep old.code old.state e
 
--- the end is the one that is named, if one is
+-- no end is named, or it is this one
 abbrev pub IsNamed : Option Ending → End → Type 0
-IsNamed None e = Unit {0}
-IsNamed (Some n) e = n ≡ ending_of e
+IsNamed None d = Unit {0}
+IsNamed (Some e) d = e ≡ ending_of d
 
--- the report is one of the events of which the bytes are a trace, with their number as the limit, and it ends as the trace names it
+-- the report is one of the events of which the bytes are a trace, with their number as the limit, and no other end is named
 pub record ReplaysTo (C : Code) (bytes : List ℕ) (r : Report) : Type 0 where
   pub events : List Event
   pub ending : Option Ending
   pub trace : IsTrace bytes events ending
-  pub ends : IsNamed ending r.end
   pub history : r.history.items ≡ events
   pub reports : Reports C (length events) r
+  pub named : IsNamed ending r.end
 
 -- the bytes are a trace whose events are a run up to line n, and the event of line n is no step from where they lead to
 pub record IsFirstNoStep (C : Code) (bytes : List ℕ) (n : ℕ) : Type 0 where
@@ -49,15 +50,7 @@ pub record IsFirstNoStep (C : Code) (bytes : List ℕ) (n : ℕ) : Type 0 where
   pub here : slice_index_or events place event ≡ event
   pub no_step : IsNoStep C state (event_view event)
 
--- the bytes are the trace of the report's events, and the report is one of a run of the code of no more events than a trace has
-pub record IsTraceOf (C : Code) (bytes : List ℕ) (r : Report) : Type 0 where
-  pub limit : ℕ
-  pub few : limit ≤ most_events
-  pub reports : Reports C limit r
-  pub text : bytes ≡ TraceText r.history.items (ending_of r.end)
-
--- the bytes are a trace of the second version whose events are all steps, and line n, its last one, names another end than that of the
--- state that they lead to
+-- the bytes are a trace whose events are a run, and line n, behind them, names another end than that of its report
 pub record IsWrongEnd (C : Code) (bytes : List ℕ) (n : ℕ) : Type 0 where
   pub events : List Event
   pub ending : Ending
@@ -67,3 +60,10 @@ pub record IsWrongEnd (C : Code) (bytes : List ℕ) (n : ℕ) : Type 0 where
   pub history : report.history.items ≡ events
   pub reports : Reports C (length events) report
   pub other : ending ≢ ending_of report.end
+
+-- the bytes are the trace of the report, and the report is one of a run of the code of no more events than a trace has
+pub record IsTraceOf (C : Code) (bytes : List ℕ) (r : Report) : Type 0 where
+  pub limit : ℕ
+  pub few : limit ≤ most_events
+  pub reports : Reports C limit r
+  pub text : bytes ≡ TraceOf r

@@ -1,5 +1,5 @@
--- The texts of reports.
-use Rattle.std.specs.Prelude.{ℕ, ◌==◌, List, [], ◌∷◌, ◌++◌, length, codes, if◌then◌else◌}
+-- The texts of reports, and of their traces.
+use Rattle.std.specs.Prelude.{ℕ, ◌==◌, List, [], ◌∷◌, ◌++◌, length, codes, Some, if◌then◌else◌}
 use Rattle.std.specs.List.{flat_map}
 use Rattle.std.specs.Fmt.{decimal, signed_decimal}
 use Rattle.paths.specs.declared.faults.Fault.{Fault}
@@ -11,6 +11,9 @@ use Rattle.board_runs.specs.declared.report.End.TheVariants as Ends
 use Rattle.board_runs.specs.declared.report.Report.{Report}
 use Rattle.values.specs.declared.key.Key.{Key}
 use Rattle.values.specs.declared.key.Key.TheVariants.{Number, Text}
+use Rattle.swt_trace.specs.declared.ending.Ending.{Ending}
+use Rattle.swt_trace.specs.declared.ending.Ending.TheVariants as Named
+use Rattle.swt_trace.specs.Trace.{TraceText}
 
 -- a line, and byte 10
 abbrev pub text_line : List ℕ → List ℕ
@@ -65,3 +68,13 @@ end_text Ends.Limit r = limit_line (length r.history.items)
 -- the text of a report
 abbrev pub ReportText : Report → List ℕ
 ReportText r = flat_map text_line r.lines.items ++ end_text r.end r
+
+-- how a run ended, as a trace names it
+abbrev pub ending_of : End → Ending
+ending_of Ends.Quiet = Named.Quiet
+ending_of (Ends.Fault f) = Named.Fault
+ending_of Ends.Limit = Named.Limit
+
+-- the text of a report's trace, which is of version 2
+abbrev pub TraceOf : Report → List ℕ
+TraceOf r = TraceText r.history.items (Some (ending_of r.end))

@@ -1,8 +1,10 @@
 //! Writing a trace.
 ghost use Rattle.std.specs.Prelude.{◌≡◌, ◌<◌, ◌++◌, ◌∷◌, [], length, decimal, OnOk, OnErr};
 ghost use Rattle.values.specs.Sinks.{Beginning};
-ghost use Rattle.swt_trace.specs.Trace.{TraceText, ending_line, ending_of, event_line, event_lines, second_line};
+ghost use Rattle.swt_trace.specs.Report.{TraceOf, ending_of};
+ghost use Rattle.swt_trace.specs.Trace.{ended, ending_line, event_line, event_lines, first_line};
 
+use crate::ending::Ending;
 use crate::fault::WriteFault;
 use arrayvec::ArrayString;
 use board_runs::report::{End, Report};
@@ -13,39 +15,28 @@ use values::sink::{Sink, SinkFault, write_all};
 /// The most bytes of an event's line: a letter, three digits of a worker, twenty of an item, two spaces and the byte 10.
 const LONGEST_LINE: usize = 27;
 
-/// Writes the trace of the report's events, a line a write where the sink takes it whole.
+/// Writes the trace of the report, of version 2, a line a write where the sink takes it whole.
 ///
 /// # Errors
 ///
 /// `Write` where a write failed. The sink then has what it had before and a beginning of the trace.
 pub fn write_trace<W: Sink>(report: &Report, sink: &mut W) -> Result<(), WriteFault>
     requires { W.failures sink.old < u64.MAX }
-    ensures ok { OnOk result (W.taken sink.new ≡ W.taken sink.old ++ TraceText report.now.history.items (ending_of report.now.end)) }
-    ensures err { OnErr result (Beginning (W.taken sink.old) (TraceText report.now.history.items (ending_of report.now.end)) (W.taken sink.new)) }
+    ensures ok { OnOk result (W.taken sink.new ≡ W.taken sink.old ++ TraceOf report.now) }
+    ensures err { OnErr result (Beginning (W.taken sink.old) (TraceOf report.now) (W.taken sink.new)) }
     ensures failed { OnErr result (W.failures sink.old < W.failures sink.new) }
     ensures none_failed { OnOk result (W.failures sink.new ≡ W.failures sink.old) }
 {
     write_events(report.history.as_slice(), sink)?;
-    write_all(sink, ending_line(&report.end))?;
+    write_ending(&report.end, sink)?;
     Ok(())
 }
 
-/// The line that names how a run ended.
-fn ending_line(end: &End) -> &'static [u8]
-    ensures { result.now ≡ ending_line (ending_of end.now) [] }
-{
-    match end {
-        End::Quiet => b"Q\n",
-        End::Fault(_) => b"F\n",
-        End::Limit => b"L\n",
-    }
-}
-
-/// Writes the first line and those of the events.
+/// Writes the first line, and the lines of the events.
 fn write_events<W: Sink>(events: &[Event], sink: &mut W) -> Result<(), SinkFault>
     requires { W.failures sink.old < u64.MAX }
-    ensures ok { OnOk result (W.taken sink.new ≡ W.taken sink.old ++ second_line ++ event_lines events.now []) }
-    ensures err { OnErr result (Beginning (W.taken sink.old) (second_line ++ event_lines events.now []) (W.taken sink.new)) }
+    ensures ok { OnOk result (W.taken sink.new ≡ W.taken sink.old ++ (first_line ended ++ event_lines events.now [])) }
+    ensures err { OnErr result (Beginning (W.taken sink.old) (first_line ended ++ event_lines events.now []) (W.taken sink.new)) }
     ensures failed { OnErr result (W.failures sink.old < W.failures sink.new) }
     ensures none_failed { OnOk result (W.failures sink.new ≡ W.failures sink.old) }
 {
@@ -54,6 +45,17 @@ fn write_events<W: Sink>(events: &[Event], sink: &mut W) -> Result<(), SinkFault
         write_event(event, sink)?;
     }
     Ok(())
+}
+
+/// Writes the line that names an end.
+fn write_ending<W: Sink>(end: &End, sink: &mut W) -> Result<(), SinkFault>
+    requires { W.failures sink.old < u64.MAX }
+    ensures ok { OnOk result (W.taken sink.new ≡ W.taken sink.old ++ ending_line (ending_of end.now) []) }
+    ensures err { OnErr result (Beginning (W.taken sink.old) (ending_line (ending_of end.now) []) (W.taken sink.new)) }
+    ensures failed { OnErr result (W.failures sink.old < W.failures sink.new) }
+    ensures none_failed { OnOk result (W.failures sink.new ≡ W.failures sink.old) }
+{
+    write_all(sink, Ending::of(end).line())
 }
 
 /// Writes an event's line.

@@ -482,6 +482,6 @@ fn chosen_order(rt: HostRuntime) {
     let code = code_of(&rt, rt.alloc(), script);
     let report = report_of(&rt, rt.alloc(), &code, &[7, 1], 100);
     tells(&rt, rt.alloc(), &report, b"a\n1\n");
-    let events = b"swt-trace 1\nB 0 1\nE 0 1\nB 1 3\nE 1 3\nB 1 2\nE 1 2\nB 1 4\nE 1 4\n";
+    let events = b"swt-trace 2\nB 0 1\nE 0 1\nB 1 3\nE 1 3\nB 1 2\nE 1 2\nB 1 4\nE 1 4\nQ\n";
     has_events(&rt, rt.alloc(), &report, events);
 }

@@ -1,0 +1,4 @@
+pub mod Reads
+pub mod Places
+pub mod Each
+pub mod Ends
