@@ -11,7 +11,7 @@ use Rattle.values.specs.declared.value.Scalar.TheVariants.{Number}
 use Rattle.values.specs.declared.value.Value.{Value}
 use Rattle.values.specs.Ranges.{value_in}
 use Rattle.language.specs.Core.{Stmt, stmt, Action, Block, Core}
-use Rattle.language.specs.Facts.{Knowledge, key_value}
+use Rattle.language.specs.Facts.{Knowledge}
 use Rattle.language.specs.Meaning.{in_block, Ready}
 use Rattle.language.specs.Members.{◌∈◌}
 use Rattle.language.specs.Parts.{block_list}

@@ -8,7 +8,7 @@ use Rattle.values.specs.declared.key.Key.{Key}
 use Rattle.values.specs.declared.value.Scalar.{Scalar}
 use Rattle.values.specs.declared.value.Value.{Value}
 use Rattle.values.specs.declared.value.Value.TheVariants.{One}
-use Rattle.values.specs.Values.{scalar_of, number_of}
+use Rattle.values.specs.Values.{scalar_of}
 use Rattle.language.specs.Core as Co
 use Rattle.language.specs.Core.{Name, here, Expr, name, Form, compute, read, Cell, Outer, Part, Stmt, stmt, Action, assign, fill, insert, print, assert, Block, Core}
 use Rattle.language.specs.Facts.{value, Knowledge, IsKey, OneWrite}

@@ -151,14 +151,21 @@ impl Instances {
         number: usize,
     ) -> Result<(), AllocError>
         ensures all { OnOk result (self.new.all ≡ self.old.all) }
-        ensures found { OnOk result ((i a : ℕ) (k : StepKey) → child_at self.new i a k ≡ (if same_step (parent, at, key.now) (i, a, k) then Some number else child_at self.old i a k)) }
+        ensures found { OnOk result ((i a : ℕ) (k : StepKey) → child_at self.new i a k
+            ≡ (if same_step (parent, at, key.now) (i, a, k) then Some number else child_at self.old i a k)) }
     {
         match key {
             Key::Number(turn) => {
                 self.opened.insert((parent, at, *turn), number)?;
                 Ok(())
             }
-            Key::Text(text) => note_named(&mut self.named, alloc, (parent, at), text.share()?, number),
+            Key::Text(text) => note_named(
+                &mut self.named,
+                alloc,
+                (parent, at),
+                text.share()?,
+                number,
+            ),
         }
     }
 

@@ -5,7 +5,6 @@ use Rattle.std.proofs.lemmas.Bool.Decides.{nat_tests}
 use Rattle.values.specs.declared.key.Key.{Key}
 use Rattle.values.specs.declared.value.Scalar.{Scalar}
 use Rattle.values.specs.declared.value.Value.{Value}
-use Rattle.values.specs.declared.value.Value.TheVariants.{One}
 use Rattle.language.specs.Core.{Owned, output, Name, Part, Call, calls, Stmt, stmt, Action, call_alone, fill, insert, when, choose, range, each, wait, Block, Function, Core}
 use Rattle.language.specs.Facts.{Knowledge, IsKey, a_number, a_text, value, element}
 use Rattle.language.specs.Meaning.{IsTarget}
