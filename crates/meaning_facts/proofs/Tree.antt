@@ -1,6 +1,6 @@
 -- Instances stay a tree where one is opened, and each is found at its path.
 use Rattle.std.specs.Prelude.{◌≡◌, ◌⊎◌, ℕ, zero, suc, ◌+◌, ◌<◌, ◌≤◌, Bool, true, false, ◌&&◌, List, [], ◌∷◌, ◌++◌, length, map, nat_eq, Option, Some, None, cond, slice_get, if◌then◌else◌, ℤ, refl}
-use Rattle.std.specs.HashMap.{HashMap, get}
+use Rattle.std.specs.HashMap.{get}
 use Rattle.std.specs.Str.{bytes_eq}
 use Rattle.std.proofs.Common.{inl, inr, sym, ap, ◌∙◌, subst, arith, length-append}
 use Rattle.std.proofs.lemmas.Bool.{cases_Bool, cases_lt, cases_order, eqb-true, eq-eqb}
@@ -88,25 +88,6 @@ step_itself p at k = rw (eq-eqb p p refl) (rw (eq-eqb at at refl) (same_key-refl
 pub same_child : (t u : Instances) → u.opened ≡ t.opened → u.named ≡ t.named → (i at : ℕ) (k : Key) → child_at u i at k ≡ child_at t i at k
 same_child t u o n i at (Number z) = ap (λ m. get same_turn m (i, at, z)) o
 same_child t u o n i at (Text bytes) = ap (λ m. named_in (get same_pair m (i, at)) bytes) n
-
-pair_is : (p q : ℕ × ℕ) → same_pair p q ≡ true → p ≡ q
-pair_is (a, b) (c, d) h = let e = both (nat_eq a c) (nat_eq b d) h in let x = eqb-true a c e.0 in let y = eqb-true b d e.1 in λ i. (x i, y i)
-
--- the children at an offset are taken out, get one more, and are put back
-pub named_noted : {R S : Type 0} (old taken new : HashMap (ℕ × ℕ) (HashMap (List ℕ) ℕ S) R) (some more : HashMap (List ℕ) ℕ S) (step : ℕ × ℕ) (text : List ℕ) (number : ℕ)
-    → ((other : ℕ × ℕ) → get same_pair taken other ≡ cond (same_pair step other) None (get same_pair old other))
-    → ((bytes : List ℕ) → get bytes_eq some bytes ≡ named_in (get same_pair old step) bytes)
-    → ((bytes : List ℕ) → get bytes_eq more bytes ≡ cond (bytes_eq text bytes) (Some number) (get bytes_eq some bytes))
-    → ((other : ℕ × ℕ) → get same_pair new other ≡ cond (same_pair step other) (Some more) (get same_pair taken other))
-    → (other : ℕ × ℕ) (bytes : List ℕ) → named_in (get same_pair new other) bytes ≡ (if same_pair step other && bytes_eq text bytes then Some number else named_in (get same_pair old other) bytes)
-named_noted old taken new some more step text number left came added put other bytes = by (same_pair step other) refl
-  where
-    by : (b : Bool) → same_pair step other ≡ b → named_in (get same_pair new other) bytes ≡ (if b && bytes_eq text bytes then Some number else named_in (get same_pair old other) bytes)
-    by true e =
-        ap (λ o. named_in o bytes) (put other ∙ ap (λ (z : Bool). cond z (Some more) (get same_pair taken other)) e) ∙ added bytes
-        ∙ ap (λ (z : Option ℕ). cond (bytes_eq text bytes) (Some number) z) (came bytes ∙ ap (λ (z : ℕ × ℕ). named_in (get same_pair old z) bytes) (pair_is step other e))
-    by false e =
-        ap (λ o. named_in o bytes) (put other ∙ ap (λ (z : Bool). cond z (Some more) (get same_pair taken other)) e ∙ left other ∙ ap (λ (z : Bool). cond z None (get same_pair old other)) e)
 
 and_false : (b : Bool) → b && false ≡ false
 and_false true = refl
