@@ -24,3 +24,9 @@ returns-in-WrongEnd g c =
 
 pub returns-in-BadCount : goal.returns-in-BadCount
 returns-in-BadCount g c = rw c.in-BadCount.is c.write_parts-in-BadCount.ensures
+
+pub returns-in-NoThread : goal.returns-in-NoThread
+returns-in-NoThread g c = rw c.in-NoThread.is c.write_parts-in-NoThread.ensures
+
+pub returns-in-Stranger : goal.returns-in-Stranger
+returns-in-Stranger g c = rw c.in-Stranger.is c.write_parts-in-Stranger.ensures
