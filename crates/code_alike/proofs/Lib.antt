@@ -1,0 +1,4 @@
+pub mod Parts
+pub mod Blocks
+pub mod Codes
+pub mod Trees
