@@ -42,6 +42,7 @@ bodies_added : (s t : Laying) (bs cs : List Body) → SameLaying s t → bs ≡ 
 bodies_added s t bs cs h q = record { entries = h.entries; bodies = ap₂ (λ (x y : List Body). x ++ y) h.bodies q }
 
 call_part : (ps : List Part) {c : Call} → calls c ∈ ps → c ∈ part_calls ps
+call_part [] m = elim m [ ]
 call_part (inner d ∷ ps) (later m) = call_part ps m
 call_part (calls d ∷ ps) first = first
 call_part (calls d ∷ ps) (later m) = later (call_part ps m)
@@ -103,14 +104,13 @@ shape_right : (shape : ℕ → Bool) (ds bs cs : List (ℕ × Bool)) → ds ≡ 
 shape_right shape ds bs cs e h v b m = h v b (subst (λ (z : List (ℕ × Bool)). ◌∈◌ {X = ℕ × Bool} (v, b) z) (sym e) (to_right bs cs m))
 
 module _ (c : Core) (fs : List Kinds) (roots : ℕ) (l : Layout) (suits : (at n : ℕ) (a : Action) → stmt at n a ∈ script_stmts c → Suits l a) (stands : ReadsStand c)
-  (pinned : (at n : ℕ) (a : Action) → stmt at n a ∈ script_stmts c → ArePinned fs (own_parts a)) (shape : ℕ → Bool) (k : ℕ) where
+    (pinned : (at n : ℕ) (a : Action) → stmt at n a ∈ script_stmts c → ArePinned fs (own_parts a)) (shape : ℕ → Bool) (k : ℕ) where
   laid_parts : {all : List Part} {at : ℕ} {p : ℤ} {s s' t t' : Laying} {es es' : List ℕ} → LaysParts fs k all at p s t es → LaysParts fs k all at p s' t' es' → SameLaying s s'
       → PlainAs l None all → ((i : ℕ) → l.body_of i ≡ suc i) → IndexesStand all → ArePinned fs all → SameLaying t t' × (es ≡ es')
   laid_parts {all} {at} {p} {s} {s'} {t} {t'} {es} {es'} x y h plain bodies st pi =
       let len = many s s' h in
       let more : AllDoSame x.more y.more = parts_same fs l bodies k all pi at p (code_of t) (code_of t') all es es' s.entries s'.entries x.more y.more x.more y.more (λ z m. call_part all m) len x.entries y.entries (λ e i. i) (λ e i. i) x.fit y.fit x.numbers y.numbers
-          (x.parts_as l plain bodies st) (y.parts_as l plain bodies st) in
-      (
+      (x.parts_as l plain bodies st) (y.parts_as l plain bodies st) in (
         record {
           entries = subst (λ (z : List Entry). AllDoSame z t'.entries) (sym x.entries) (subst (λ (z : List Entry). AllDoSame (s.entries ++ x.more) z) (sym y.entries) (same-append s.entries s'.entries x.more y.more h.entries more));
           bodies = x.bodies ∙ h.bodies ∙ sym y.bodies;
@@ -188,8 +188,8 @@ module _ (c : Core) (fs : List Kinds) (roots : ℕ) (l : Layout) (suits : (at n 
         let r = laid_parts lp lq h su.parts_plain su.bodies (stands at n a j) (pinned at n a j) in
         let q = block_pinned bl bl' r.0 sh sh' b (inner_block c m i first) (λ y z. z) in
         let d = same_entry (ow l su)
-            (subst (λ (z : ℕ). IsEntry f at (own_priority a) (own_needs l k a) (Range (over k (own_needs l k a) (seen l lo.cell)) (over k (own_needs l k a) (seen l hi.cell)) (over k (own_needs l k a) (step_expr l k so)) (record { body = z; value = x; turn = y })))
-            (sym (next_same roots u u' q.laid)) (ow' l su)) (λ z. absurd z) (λ z. mk ∙ sym mk') in
+        (subst (λ (z : ℕ). IsEntry f at (own_priority a) (own_needs l k a) (Range (over k (own_needs l k a) (seen l lo.cell)) (over k (own_needs l k a) (seen l hi.cell)) (over k (own_needs l k a) (step_expr l k so)) (record { body = z; value = x; turn = y })))
+        (sym (next_same roots u u' q.laid)) (ow' l su)) (λ z. absurd z) (λ z. mk ∙ sym mk') in
         let us = loop_variables (record { body = 0; value = x; turn = y }) in
         record {
           laid = opened u u' w w' e f _ _ we we' q.laid d (step_body u u' (us ++ vs) (us ++ vs') js js' q.laid (ap (λ (z : List Variable). us ++ z) q.makes) q.numbers);

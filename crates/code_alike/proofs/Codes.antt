@@ -41,7 +41,7 @@ all_bare (e ∷ es) [] h = absurd h
 all_bare (e ∷ es) (f ∷ fs) h = (bare_same h.0, all_bare es fs h.1)
 
 module _ (c : Core) (fs : List Kinds) (l : Layout) (suits : (at n : ℕ) (a : Action) → stmt at n a ∈ script_stmts c → Suits l a) (stands : ReadsStand c)
-  (pinned : (at n : ℕ) (a : Action) → stmt at n a ∈ script_stmts c → ArePinned fs (own_parts a)) (shape : ℕ → Bool) where
+    (pinned : (at n : ℕ) (a : Action) → stmt at n a ∈ script_stmts c → ArePinned fs (own_parts a)) (shape : ℕ → Bool) where
   functions_pinned : (roots : ℕ) (gs : List Function) {ds ds' : List (ℕ × Bool)} {s s' t t' : Laying} {bs bs' : List Body} → LaysFunctions fs roots gs ds s t bs → LaysFunctions fs roots gs ds' s' t' bs' → SameLaying s s' → AsShape shape ds → AsShape shape ds'
       → ((b : Block) → b ∈ function_blocks gs → b ∈ script_blocks c) → SameFunctions t t' bs bs'
   functions_pinned roots [] no_function no_function h sh sh' i = record { laid = h; bodies = refl }
@@ -61,9 +61,9 @@ module _ (c : Core) (fs : List Kinds) (l : Layout) (suits : (at n : ℕ) (a : Ac
   pub script_pinned : {ds es : List (ℕ × Bool)} {C D : Code} → LaysScript c fs ds C → LaysScript c fs es D → AsShape shape ds → AsShape shape es → SameCode C D
   script_pinned {ds} {es} {C} {D} x y sh sh' =
       let p = block_pinned c fs (suc (length c.functions)) l suits stands pinned shape 0 x.script y.script (record { entries = tt; bodies = refl }) (shape_first shape ds x.own_declared x.function_declared x.declared sh) (shape_first shape es y.own_declared y.function_declared y.declared sh')
-          c.body first (λ z j. j) in
+      c.body first (λ z j. j) in
       let q = functions_pinned (suc (length c.functions)) c.functions x.functions y.functions p.laid (shape_rest shape ds x.own_declared x.function_declared x.declared sh) (shape_rest shape es y.own_declared y.function_declared y.declared sh')
-          (λ b m. to_right (blocks_of c.body) (function_blocks c.functions) m) in
+      (λ b m. to_right (blocks_of c.body) (function_blocks c.functions) m) in
       record {
         bodies = x.bodies ∙ ap₂ (λ (bs ms : List Body). bs ++ ms)
             (ap₂ (λ (z : List Variable × List ℕ) (zs : List Body). record { opener = ByMain; makes = z.0; entries = z.1 } ∷ zs) (λ z. (p.makes z, p.numbers z)) q.bodies) (q.laid).bodies ∙ sym y.bodies;
@@ -131,13 +131,13 @@ calls_same i (e ∷ es) (f ∷ fs) at h =
     ∙ from_same i f.act e.mark f.mark es fs at (λ z. (h.0).mark (subst OpensAtMark (sym (h.0).act) z)) (calls_same (suc i) es fs at h.1)
 
 module _ (C D : Code) (bodies : C.bodies ≡ D.bodies) (entries : AllDoSame C.entries D.entries) where
-  same_at : (i : ℕ) → DoSame (entry C i) (entry D i)
+  pub same_at : (i : ℕ) → DoSame (entry C i) (entry D i)
   same_at = nth_same C.entries D.entries entries
 
-  body_same : (b : ℕ) → body C b ≡ body D b
+  pub body_same : (b : ℕ) → body C b ≡ body D b
   body_same b = ap (λ bs. nth blank_body bs b) bodies
 
-  argument_same : (at k : ℕ) (b : Bool) → argument C at k b ≡ argument D at k b
+  pub argument_same : (at k : ℕ) (b : Bool) → argument C at k b ≡ argument D at k b
   argument_same at k b =
       ap (λ (i : ℕ). argument_in (arguments (entry C i).act) k b) (calls_same 0 C.entries D.entries at entries)
       ∙ ap (λ (a : Act). argument_in (arguments a) k b) (same_at (call_at D at)).act
@@ -167,8 +167,8 @@ module _ (C D : Code) (bodies : C.bodies ≡ D.bodies) (entries : AllDoSame C.en
       calling_opens (code.Wait hs x) b m = elim m [ inl q ↦ absurd (let z : Calling ≡ InPlace = ap (λ (y : Way × ℕ). y.0) q in cc (z)) | inr n ↦ absurd n ]
 
   leads_move : (own : Entry → List Name) → ((i : ℕ) → own (entry C i) ≡ own (entry D i)) → (i : ℕ) (r : Name) → Leads C own i r → Leads D own i r
-  leads_move own same i r (itself i r m) = itself i r (subst (λ (xs : List Name). In r xs) (same i) m)
-  leads_move own same i r (through i j b w r inner way there led out seen) =
+  leads_move own same _ _ (itself i r m) = itself i r (subst (λ (xs : List Name). In r xs) (same i) m)
+  leads_move own same _ _ (through i j b w r inner way there led out seen) =
       through i j b w r inner (subst (λ (a : Act). In {X = Way × ℕ} (w, b) (ways a)) (same_at i).act way) (subst (λ (x : Body). In j x.entries) (body_same b) there) (leads_move own same j inner led)
       (λ d. out (declared_back b inner d)) (seen_moves i w b inner r way seen)
 
@@ -176,14 +176,17 @@ same_back : (es fs : List Entry) → AllDoSame es fs → AllDoSame fs es
 same_back [] [] h = tt
 same_back [] (f ∷ fs) h = absurd h
 same_back (e ∷ es) [] h = absurd h
-same_back (e ∷ es) (f ∷ fs) h = (record {
-  at = sym (h.0).at;
-  priority = sym (h.0).priority;
-  needs = sym (h.0).needs;
-  act = sym (h.0).act;
-  node = λ z. sym ((h.0).node (subst StoresAtNode (sym (h.0).act) z));
-  mark = λ z. sym ((h.0).mark (subst OpensAtMark (sym (h.0).act) z));
-}, same_back es fs h.1)
+same_back (e ∷ es) (f ∷ fs) h = (
+  record {
+    at = sym (h.0).at;
+    priority = sym (h.0).priority;
+    needs = sym (h.0).needs;
+    act = sym (h.0).act;
+    node = λ z. sym ((h.0).node (subst StoresAtNode (sym (h.0).act) z));
+    mark = λ z. sym ((h.0).mark (subst OpensAtMark (sym (h.0).act) z));
+  },
+  same_back es fs h.1,
+)
 
 -- codes that do the same and have the rights that their entries lead to are alike
 pub alike : (C D : Code) → C.bodies ≡ D.bodies → AllDoSame C.entries D.entries → HasRights C → HasRights D → AreAlike C D
@@ -201,11 +204,11 @@ alike C D bodies entries x y = record { bodies = bodies; entries = entries; righ
     rights : (i : ℕ) → HaveSameRights (entry C i) (entry D i)
     rights i = record {
       reads = λ r. (
-          λ m. y.all_reads i r (leads_move C D bodies entries needs_of needs_at i r (x.reads i r m)),
-          λ m. x.all_reads i r (leads_move D C (sym bodies) back needs_of (λ j. sym (needs_at j)) i r (y.reads i r m)),
-        );
+        λ m. y.all_reads i r (leads_move C D bodies entries needs_of needs_at i r (x.reads i r m)),
+        λ m. x.all_reads i r (leads_move D C (sym bodies) back needs_of (λ j. sym (needs_at j)) i r (y.reads i r m)),
+      );
       writes = λ r. (
-          λ m. y.all_writes i r (leads_move C D bodies entries targets targets_at i r (x.writes i r m)),
-          λ m. x.all_writes i r (leads_move D C (sym bodies) back targets (λ j. sym (targets_at j)) i r (y.writes i r m)),
-        );
+        λ m. y.all_writes i r (leads_move C D bodies entries targets targets_at i r (x.writes i r m)),
+        λ m. x.all_writes i r (leads_move D C (sym bodies) back targets (λ j. sym (targets_at j)) i r (y.writes i r m)),
+      );
     }

@@ -28,6 +28,13 @@ same-append [] (f ∷ fs) gs hs a b = absurd a
 same-append (e ∷ es) [] gs hs a b = absurd a
 same-append (e ∷ es) (f ∷ fs) gs hs a b = (a.0, same-append es fs gs hs a.1 b)
 
+one_longer : (zs : List Entry) (z : Entry) → suc (length zs) ≡ length (zs ++ z ∷ [])
+one_longer [] z = refl
+one_longer (y ∷ zs) z = ap suc (one_longer zs z)
+
+longer : (xs ys : List Entry) (x y : Entry) → length xs ≡ length ys → length (xs ++ x ∷ []) ≡ length (ys ++ y ∷ [])
+longer xs ys x y q = sym (one_longer xs x) ∙ ap suc q ∙ one_longer ys y
+
 -- ENTRIES
 
 pub same_entry : {e f : Entry} {at : ℕ} {p : ℤ} {ns : List Need} {a : Act} → IsEntry e at p ns a → IsEntry f at p ns a → (StoresAtNode a → e.node ≡ f.node) → (OpensAtMark a → e.mark ≡ f.mark) → DoSame e f
@@ -117,18 +124,16 @@ module _ (fs : List Kinds) (l : Layout) (bodies : (i : ℕ) → l.body_of i ≡ 
       u.3 ∙ ap (λ (c : Cell). index_need (l.plain c.node) c.form c.node k a) (pinned.cells_once u.0 v.0 u.1 v.1 (u.2 ∙ sym v.2)) ∙ sym v.3
 
   -- an input
-  HandedOver : Name → Argument → Type 0
+  abbrev HandedOver : Name → Argument → Type 0
   HandedOver x a = (a ≡ Named (name_as k true x)) ⊎ ((c : Cell) × (c ∈ part_cells all) × (x ≡ here c.node) × (a ≡ handed (l.plain c.node) c.form c.node k))
 
   input_view : {E : Code} {x : Name} {a : Argument} → InputAs E l k all x a → HandedOver x a
-  unfolding HandedOver
   input_view (of_literal {n = n} {v = v} m h) = inr (record { node = n; form = compute (literal v) }, m, refl, ap (λ (b : Bool). handed b (compute (literal v)) n k) (sym h))
   input_view (of_name {n = n} {x = x} m h) = inr (record { node = n; form = compute (name x) }, m, refl, ap (λ (b : Bool). handed b (compute (name x)) n k) (sym h))
   input_view (of_datum {c = c} m h) = inr (c, m, refl, ap (λ (b : Bool). handed b c.form c.node k) (sym h))
   input_view of_array = inl refl
 
   handed_same : (x : Name) (a b : Argument) → HandedOver x a → HandedOver x b → Kinded all x a b → a ≡ b
-  unfolding HandedOver
   handed_same x a b (inl e) (inl f) q = e ∙ sym f
   handed_same x a b (inr c) (inr d) q = c.3 ∙ ap (λ (z : Cell). handed (l.plain z.node) z.form z.node k) (pinned.cells_once c.0 d.0 c.1 d.1 (here_same c.0.node d.0.node (sym c.2 ∙ d.2))) ∙ sym d.3
   handed_same x a b (inl e) (inr d) q =
@@ -159,7 +164,7 @@ module _ (fs : List Kinds) (l : Layout) (bodies : (i : ℕ) → l.body_of i ≡ 
   call_same {C} {D} {at} {p} {c} {i} {j} x y fx fy h =
       let ins : x.ins ≡ y.ins = inputs_same x.inputs y.inputs (λ n z a b q r s. (let g = h.inputs n z q in record { kind = g.0; left = fx.inputs h.kinds n z a g.0 h.is q r g.1; right = fy.inputs h.kinds n z b g.0 h.is q s g.1 })) in
       let outs : x.outs ≡ y.outs = outputs_same x.outputs y.outputs (λ n z r s q u v. (let g = h.outputs n z q in fx.outputs h.kinds n r g.0 h.is u g.1 ∙ sym (fy.outputs h.kinds n s g.0 h.is v g.1))) in
-      let moved : IsEntry (entry D j) at p [] (code.Call (l.body_of c.function) x.ins x.outs) = subst (λ (as : List Argument). IsEntry (entry D j) at p [] (code.Call (l.body_of c.function) as x.outs)) (sym ins) (subst (λ (os : List code.Name). IsEntry (entry D j) at p [] (code.Call (l.body_of c.function) y.ins os)) (sym outs) y.is) in
+      let moved : IsEntry (entry D j) at p [] (code.Call (l.body_of c.function) x.ins x.outs) = subst (λ (zs : List Argument). IsEntry (entry D j) at p [] (code.Call (l.body_of c.function) zs x.outs)) (sym ins) (subst (λ (os : List code.Name). IsEntry (entry D j) at p [] (code.Call (l.body_of c.function) y.ins os)) (sym outs) y.is) in
       same_entry x.is moved (λ z. absurd z) (λ z. x.mark_is ∙ sym y.mark_is)
 
   -- what an entry that calls hands over is fitting, since its mark tells the call
@@ -199,19 +204,19 @@ module _ (fs : List Kinds) (l : Layout) (bodies : (i : ℕ) → l.body_of i ≡ 
     part_view (a_read {j = j} {need = need} z nd ix en) = inr (record { number = j; are = refl; has = (z, nd, (need, ix, en)) })
     part_view (a_call {j = j} ca) = inr (record { number = j; are = refl; has = ca })
 
-    none_one : {E : Code} (x : Part) (j : ℕ) → HasNone x → HasEntry E x j → ⊥
-    none_one (inner c) j h g = true_false h g.0
-    none_one (calls c) j h g = h
+    none_one : (E : Code) (x : Part) (j : ℕ) → HasNone x → HasEntry E x j → ⊥
+    none_one E (inner c) j h g = true_false h g.0
+    none_one E (calls c) j h g = h
 
-    form_same : {C D : Code} (f : Form) (i j n : ℕ) → (entry C i).node ≡ n → (entry D j).node ≡ n → FormAs C f i → FormAs D f j → DoSame (entry C i) (entry D j)
-    form_same (compute e) i j n a b x y = same_entry x y (λ z. a ∙ sym b) (λ z. absurd z)
-    form_same {C} {D} (read q m) i j n a b x y =
+    form_same : (C D : Code) (f : Form) (i j n : ℕ) → (entry C i).node ≡ n → (entry D j).node ≡ n → FormAs C f i → FormAs D f j → DoSame (entry C i) (entry D j)
+    form_same C D (compute e) i j n a b x y = same_entry x y (λ z. a ∙ sym b) (λ z. absurd z)
+    form_same C D (read q m) i j n a b x y =
         let same = index_same x.1 y.1 in
         same_entry x.2 (subst (λ (z : Need). IsEntry (entry D j) at p (z ∷ []) Read) (sym same) y.2) (λ z. a ∙ sym b) (λ z. absurd z)
 
-    entry_same : {C D : Code} (x : Part) (i j : ℕ) (es fs' : List Entry) → HasEntry C x i → HasEntry D x j → ((c : Call) → x ≡ calls c → c ∈ part_calls all) → CallsFit fs all es → CallsFit fs all fs' → In (entry C i) es → In (entry D j) fs' → DoSame (entry C i) (entry D j)
-    entry_same (inner c) i j es fs' h g m fe ff ie jf = form_same c.form i j c.node h.1 g.1 h.2 g.2
-    entry_same (calls c) i j es fs' h g m fe ff ie jf = call_same h g (fits_of h es fe ie (m c refl)) (fits_of g fs' ff jf (m c refl)) (pinned.kinds c (m c refl))
+    entry_same : (C D : Code) (x : Part) (i j : ℕ) (es fs' : List Entry) → HasEntry C x i → HasEntry D x j → ((c : Call) → x ≡ calls c → c ∈ part_calls all) → CallsFit fs all es → CallsFit fs all fs' → In (entry C i) es → In (entry D j) fs' → DoSame (entry C i) (entry D j)
+    entry_same C D (inner c) i j es fs' h g m fe ff ie jf = form_same C D c.form i j c.node h.1 g.1 h.2 g.2
+    entry_same C D (calls c) i j es fs' h g m fe ff ie jf = call_same h g (fits_of h es fe ie (m c refl)) (fits_of g fs' ff jf (m c refl)) (pinned.kinds c (m c refl))
 
     -- of several parts, one after another
     record Split (E : Code) (x : Part) (xs : List Part) (ks : List ℕ) : Type 0 where
@@ -258,52 +263,45 @@ module _ (fs : List Kinds) (l : Layout) (bodies : (i : ℕ) → l.body_of i ≡ 
     abbrev Within : List Entry → List Entry → Type 0
     Within es all_of = (e : Entry) → In e es → In e all_of
 
-    parts_same : (C D : Code) (xs : List Part) (ks ms : List ℕ) (before behind es gs es' gs' : List Entry) → Among xs → length before ≡ length behind → C.entries ≡ before ++ es → D.entries ≡ behind ++ gs → Within es es' → Within gs gs' → CallsFit fs all es' → CallsFit fs all gs'
+    -- what is to be shown of the parts behind one
+    abbrev RestOf : Code → Code → List Part → List Entry → List Entry → Type 0
+    RestOf C D xs es' gs' = (js ns : List ℕ) (b b' a a' : List Entry) → length b ≡ length b' → C.entries ≡ b ++ a → D.entries ≡ b' ++ a' → Within a es' → Within a' gs'
+        → js ≡ counted (length b) (length a) → ns ≡ counted (length b') (length a') → PartsAs C l k all at p xs js → PartsAs D l k all at p xs ns → AllDoSame a a'
+
+    both_have : (C D : Code) (part : Part) (xs : List Part) (ks ms : List ℕ) (before behind es gs es' gs' : List Entry) → Among (part ∷ xs) → length before ≡ length behind → C.entries ≡ before ++ es → D.entries ≡ behind ++ gs → Within es es' → Within gs gs' → CallsFit fs all es' → CallsFit fs all gs'
+        → ks ≡ counted (length before) (length es) → ms ≡ counted (length behind) (length gs) → (s : Split C part xs ks) → (t : Split D part xs ms) → One C part s.is → One D part t.is → RestOf C D xs es' gs' → AllDoSame es gs
+    both_have C D part xs ks ms before behind es gs es' gs' am len ce de we wg fe fg ke me s t u v rest =
+        let cf = first_of C (length before) u.number s.js es (sym (ap (λ (z : List ℕ). z ++ s.js) u.are) ∙ sym s.are ∙ ke) in
+        let df = first_of D (length behind) v.number t.js gs (sym (ap (λ (z : List ℕ). z ++ t.js) v.are) ∙ sym t.are ∙ me) in
+        let c_is : C.entries ≡ before ++ cf.head ∷ cf.rest = ce ∙ ap (λ (z : List Entry). before ++ z) cf.are in
+        let d_is : D.entries ≡ behind ++ df.head ∷ df.rest = de ∙ ap (λ (z : List Entry). behind ++ z) df.are in
+        let c_here : entry C u.number ≡ cf.head = ap (λ (z : ℕ). entry C z) cf.number ∙ ap (λ (z : List Entry). nth blank_entry z (length before)) c_is ∙ nth_here before cf.head cf.rest in
+        let d_here : entry D v.number ≡ df.head = ap (λ (z : ℕ). entry D z) df.number ∙ ap (λ (z : List Entry). nth blank_entry z (length behind)) d_is ∙ nth_here behind df.head df.rest in
+        let c_in : In (entry C u.number) es' = we (entry C u.number) (subst (λ (z : List Entry). In (entry C u.number) z) (sym cf.are) (inl c_here)) in
+        let d_in : In (entry D v.number) gs' = wg (entry D v.number) (subst (λ (z : List Entry). In (entry D v.number) z) (sym df.are) (inl d_here)) in
+        let one : DoSame (entry C u.number) (entry D v.number) = entry_same C D part u.number v.number es' gs' u.has v.has (λ c q. am c (subst (λ (z : Part). z ∈ (part ∷ xs)) q first)) fe fg c_in d_in in
+        let head : DoSame cf.head df.head = subst (λ (z : Entry). DoSame z df.head) c_here (subst (λ (z : Entry). DoSame (entry C u.number) z) d_here one) in
+        let more : AllDoSame cf.rest df.rest = rest s.js t.js (before ++ cf.head ∷ []) (behind ++ df.head ∷ []) cf.rest df.rest (longer before behind cf.head df.head len)
+        (c_is ∙ sym (append_assoc before (cf.head ∷ []) cf.rest)) (d_is ∙ sym (append_assoc behind (df.head ∷ []) df.rest))
+        (λ e i. we e (subst (λ (z : List Entry). In e z) (sym cf.are) (inr i))) (λ e i. wg e (subst (λ (z : List Entry). In e z) (sym df.are) (inr i)))
+        (cf.numbers ∙ ap (λ (n : ℕ). counted n (length cf.rest)) (one_longer before cf.head)) (df.numbers ∙ ap (λ (n : ℕ). counted n (length df.rest)) (one_longer behind df.head)) s.tail t.tail in
+        subst (λ (z : List Entry). AllDoSame z gs) (sym cf.are) (subst (λ (z : List Entry). AllDoSame (cf.head ∷ cf.rest) z) (sym df.are) (head, more))
+
+    pub parts_same : (C D : Code) (xs : List Part) (ks ms : List ℕ) (before behind es gs es' gs' : List Entry) → Among xs → length before ≡ length behind → C.entries ≡ before ++ es → D.entries ≡ behind ++ gs → Within es es' → Within gs gs' → CallsFit fs all es' → CallsFit fs all gs'
         → ks ≡ counted (length before) (length es) → ms ≡ counted (length behind) (length gs) → PartsAs C l k all at p xs ks → PartsAs D l k all at p xs ms → AllDoSame es gs
     parts_same C D [] ks ms before behind es gs es' gs' am len ce de we wg fe fg ke me x y =
-        let a = no_entry (length before) es (sym ke ∙ none_numbers x) in
-        let b = no_entry (length behind) gs (sym me ∙ none_numbers y) in
+        let a : es ≡ [] = no_entry (length before) es (sym ke ∙ none_numbers x) in
+        let b : gs ≡ [] = no_entry (length behind) gs (sym me ∙ none_numbers y) in
         subst (λ (z : List Entry). AllDoSame z gs) (sym a) (subst (λ (z : List Entry). AllDoSame [] z) (sym b) tt)
     parts_same C D (part ∷ xs) ks ms before behind es gs es' gs' am len ce de we wg fe fg ke me x y =
         by (split x) (split y) (λ js ns b b' a a' q d d' w w' e e'. parts_same C D xs js ns b b' a a' es' gs' (λ c m. am c (later m)) q d d' w w' fe fg e e')
       where
-        Rest : Type 0
-        Rest = (js ns : List ℕ) (b b' a a' : List Entry) → length b ≡ length b' → C.entries ≡ b ++ a → D.entries ≡ b' ++ a' → Within a es' → Within a' gs'
-            → js ≡ counted (length b) (length a) → ns ≡ counted (length b') (length a') → PartsAs C l k all at p xs js → PartsAs D l k all at p xs ns → AllDoSame a a'
-
-        both : (s : Split C part xs ks) (t : Split D part xs ms) → One C part s.is → One D part t.is → Rest → AllDoSame es gs
-        unfolding Rest
-        both s t u v rest =
-            let cf = first_of C (length before) u.number s.js es (sym (ap (λ (z : List ℕ). z ++ s.js) u.are) ∙ sym s.are ∙ ke) in
-            let df = first_of D (length behind) v.number t.js gs (sym (ap (λ (z : List ℕ). z ++ t.js) v.are) ∙ sym t.are ∙ me) in
-            let c_is : C.entries ≡ before ++ cf.head ∷ cf.rest = ce ∙ ap (λ (z : List Entry). before ++ z) cf.are in
-            let d_is : D.entries ≡ behind ++ df.head ∷ df.rest = de ∙ ap (λ (z : List Entry). behind ++ z) df.are in
-            let c_here : entry C u.number ≡ cf.head = ap (λ (z : ℕ). entry C z) cf.number ∙ ap (λ (z : List Entry). nth blank_entry z (length before)) c_is ∙ nth_here before cf.head cf.rest in
-            let d_here : entry D v.number ≡ df.head = ap (λ (z : ℕ). entry D z) df.number ∙ ap (λ (z : List Entry). nth blank_entry z (length behind)) d_is ∙ nth_here behind df.head df.rest in
-            let c_in : In (entry C u.number) es' = we _ (subst (λ (z : List Entry). In (entry C u.number) z) (sym cf.are) (inl c_here)) in
-            let d_in : In (entry D v.number) gs' = wg _ (subst (λ (z : List Entry). In (entry D v.number) z) (sym df.are) (inl d_here)) in
-            let one : DoSame (entry C u.number) (entry D v.number) = entry_same part u.number v.number es' gs' u.has v.has (λ c q. am c (subst (λ (z : Part). z ∈ (part ∷ xs)) q first)) fe fg c_in d_in in
-            let one' : DoSame cf.head df.head = subst (λ (z : Entry). DoSame z df.head) c_here (subst (λ (z : Entry). DoSame (entry C u.number) z) d_here one) in
-            let more = rest s.js t.js (before ++ cf.head ∷ []) (behind ++ df.head ∷ []) cf.rest df.rest (longer before behind cf.head df.head len)
-                (c_is ∙ sym (append_assoc before (cf.head ∷ []) cf.rest)) (d_is ∙ sym (append_assoc behind (df.head ∷ []) df.rest))
-                (λ e i. we e (subst (λ (z : List Entry). In e z) (sym cf.are) (inr i))) (λ e i. wg e (subst (λ (z : List Entry). In e z) (sym df.are) (inr i)))
-                (cf.numbers ∙ ap (λ (n : ℕ). counted n (length cf.rest)) (one_longer before cf.head)) (df.numbers ∙ ap (λ (n : ℕ). counted n (length df.rest)) (one_longer behind df.head)) s.tail t.tail in
-            subst (λ (z : List Entry). AllDoSame z gs) (sym cf.are) (subst (λ (z : List Entry). AllDoSame (cf.head ∷ cf.rest) z) (sym df.are) (one', more))
-          where
-            one_longer : (zs : List Entry) (z : Entry) → suc (length zs) ≡ length (zs ++ z ∷ [])
-            one_longer [] z = refl
-            one_longer (y ∷ zs) z = ap suc (one_longer zs z)
-
-            longer : (as bs : List Entry) (a b : Entry) → length as ≡ length bs → length (as ++ a ∷ []) ≡ length (bs ++ b ∷ [])
-            longer as bs a b q = sym (one_longer as a) ∙ ap suc q ∙ one_longer bs b
-
-        by : Split C part xs ks → Split D part xs ms → Rest → AllDoSame es gs
-        unfolding Rest
+        by : Split C part xs ks → Split D part xs ms → RestOf C D xs es' gs' → AllDoSame es gs
         by s t rest = pick (part_view s.head) (part_view t.head)
           where
             pick : NoOne part s.is ⊎ One C part s.is → NoOne part t.is ⊎ One D part t.is → AllDoSame es gs
             pick (inl u) (inl v) =
                 rest s.js t.js before behind es gs len ce de we wg (sym (s.are ∙ ap (λ (z : List ℕ). z ++ s.js) u.are) ∙ ke) (sym (t.are ∙ ap (λ (z : List ℕ). z ++ t.js) v.are) ∙ me) s.tail t.tail
-            pick (inl u) (inr v) = absurd (none_one part v.number u.has v.has)
-            pick (inr u) (inl v) = absurd (none_one part u.number v.has u.has)
-            pick (inr u) (inr v) = both s t u v rest
+            pick (inl u) (inr v) = absurd (none_one D part v.number u.has v.has)
+            pick (inr u) (inl v) = absurd (none_one C part u.number v.has u.has)
+            pick (inr u) (inr v) = both_have C D part xs ks ms before behind es gs es' gs' am len ce de we wg fe fg ke me s t u v rest

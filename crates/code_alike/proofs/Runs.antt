@@ -1,16 +1,16 @@
 -- Codes that are alike have the same runs, the same quiet states and the same blocked statements.
 use Rattle.std.proofs.Common.{◌≡◌, ◌⊎◌, inl, inr, ℕ, zero, suc, Bool, true, false, List, [], ◌∷◌, ◌++◌, map, refl, sym, ap, ap₂, ◌∙◌, subst, Option, None, Some}
 use Rattle.std.specs.List.{flat_map}
-use Rattle.dataflow.specs.System.{In, Answer, Found, Missing, Content, Input, StoredScalar, ClosedArray, ElementOf, ElementAt, Opening, Outcome, Good, Bad}
+use Rattle.dataflow.specs.System.{In, Answer, Found, Missing, Content, Input, StoredScalar, ClosedArray, ElementOf, ElementAt, Effect, Opening, Outcome, Good, Bad}
 use Rattle.dataflow.specs.Machine.{Event, Begin, End, Back, IsElementKnown, IsKnown, ClosedByRights, Free, LacksKey, HasContent, SeesElement, Sees, SeesAll, Leaves, After, Begins, Backs, Ends, Step, Steps, Quiet}
 use Rattle.dataflow.proofs.Lists.{in_map, in_unmap}
 use Rattle.values.specs.declared.key.Key.{Key}
 use Rattle.values.specs.declared.value.Scalar.{Scalar}
 use Rattle.task_code.specs.Code as code
-use Rattle.task_code.specs.Code.{Act, Body, Code, Entry, Header, Local, Name, Need, Owned, Parameter, Named, Fixed, Argument, argument, body, entry, here, scalar}
-use Rattle.task_code.specs.Compute.{Computed, EntryFault, compute}
-use Rattle.task_code.specs.Effects.{Item, Main, Task, block, effect_at, instances, inserted_at, is_too_deep, loop_of, outcome_of, prints, rest, stored_at, stores}
-use Rattle.task_code.specs.Machine.{CodeState}
+use Rattle.task_code.specs.Code.{Act, Body, Code, Entry, Header, Local, Name, Need, Owned, Parameter, Named, Fixed, Argument, argument, body, entry, here, loop_of, scalar}
+use Rattle.task_code.specs.Compute.{Computed, EntryFault, compute, key_of}
+use Rattle.task_code.specs.Effects.{Item, Main, Task, block, effect_at, instances, inserted_at, is_too_deep, outcome_of, prints, rest, stored_at, stores}
+use Rattle.task_code.specs.Machine.{CodeItem, CodeState}
 use Rattle.task_code.specs.Places.{Constant, Datum, Nowhere, Place, place_at, resolve}
 use Rattle.task_code.specs.Places as Places
 use Rattle.task_code.specs.Runs.{Blocked, FaultAt, FirstUnknown, IsBlockedAt, IsHeaderKnown}
@@ -21,11 +21,6 @@ use Rattle.code_alike.proofs.Codes.{argument_same, body_same, same_at}
 -- PLACES
 
 module _ (C D : Code) (same : (at k : ℕ) (b : Bool) → argument C at k b ≡ argument D at k b) where
-  place_of : List Places.Step → ℕ → Owned → Option Argument → (List Places.Step → ℕ → Owned → Place) → Place
-  place_of p up x None f = Nowhere
-  place_of p up x (Some (Named r)) f = f p r.up r.owned
-  place_of p up x (Some (Fixed v)) f = Constant v
-
   resolve_same : (p : List Places.Step) (up : ℕ) (x : Owned) → resolve C p up x ≡ resolve D p up x
   resolve_same [] zero (Local v) = refl
   resolve_same [] zero (Parameter k b) = refl
@@ -169,8 +164,8 @@ module _ (C D : Code) (al : AreAlike C D) where
       let y = compute f.act (answered D p f.needs xs) in
       let same : x ≡ y = ap₂ (λ (a : Act) (ns : List Need). compute a (answered C p ns xs)) d.act d.needs ∙ ap (compute f.act) (answers_same C D arguments p f.needs xs) in
       let deep : is_too_deep e.act p (instances e.act e.mark p c x) ≡ is_too_deep f.act p (instances f.act f.mark p c x) =
-      ap (λ ss. is_too_deep e.act p ss) (instances_same C D arguments e.act e.mark f.mark p c x d.mark) ∙ ap (λ (a : Act). is_too_deep a p (instances a f.mark p c x)) d.act in
-      ap₂ (λ (b : Bool) z. outcome_of x b z) deep (effect_same i p c x) ∙ ap (λ (z : Computed). outcome_of z (is_too_deep f.act p (instances f.act f.mark p c z)) (effect_at D i p c z)) same
+      ap (λ (ss : List (ℕ × List Places.Step)). is_too_deep e.act p ss) (instances_same C D arguments e.act e.mark f.mark p c x d.mark) ∙ ap (λ (a : Act). is_too_deep a p (instances a f.mark p c x)) d.act in
+      ap₂ (λ (b : Bool) (z : Effect Task Place Key Scalar). outcome_of x b z) deep (effect_same i p c x) ∙ ap (λ (z : Computed). outcome_of z (is_too_deep f.act p (instances f.act f.mark p c z)) (effect_at D i p c z)) same
 
   task_inputs_same : (t : Task) → task_inputs C t ≡ task_inputs D t
   task_inputs_same Main = refl
@@ -199,15 +194,15 @@ module _ (C D : Code) (h : SameTasks C D) where
   free_moves : {s : CodeState} {a : Place} → Free (code_system C) s a → Free (code_system D) s a
   free_moves {a = a} f = record { unread = λ i m r. f.unread i m (h.reads i.task a r); unwritten = λ i m w. f.unwritten i m (h.writes i.task a w) }
 
-  element_moves : {s : CodeState} {a : Place} {k : Key} → IsElementKnown (code_system C) s a k → IsElementKnown (code_system D) s a k
-  element_moves (inl x) = inl x
-  element_moves (inr c) = inr (closed_moves c)
+  element_moves : (s : CodeState) (a : Place) (k : Key) → IsElementKnown (code_system C) s a k → IsElementKnown (code_system D) s a k
+  element_moves s a k (inl x) = inl x
+  element_moves s a k (inr c) = inr (closed_moves c)
 
-  known_moves : {s : CodeState} (n : Input Place Key) → IsKnown (code_system C) s n → IsKnown (code_system D) s n
-  known_moves (StoredScalar d) x = x
-  known_moves (ClosedArray a) x = closed_moves x
-  known_moves (ElementOf a k) x = element_moves x
-  known_moves (ElementAt a d) x = (x.0, x.1, element_moves x.2)
+  known_moves : (s : CodeState) (n : Input Place Key) → IsKnown (code_system C) s n → IsKnown (code_system D) s n
+  known_moves s (StoredScalar d) x = x
+  known_moves s (ClosedArray a) x = closed_moves x
+  known_moves s (ElementOf a k) x = element_moves s a k x
+  known_moves s (ElementAt a d) x = (x.0, x.1, element_moves s a (key_of x.0) x.2)
 
   lacks_moves : {s : CodeState} {a : Place} {k : Key} → LacksKey (code_system C) s a k → LacksKey (code_system D) s a k
   lacks_moves x = record { closed = closed_moves x.closed; none = x.none }
@@ -215,22 +210,22 @@ module _ (C D : Code) (h : SameTasks C D) where
   content_moves : {s : CodeState} {a : Place} {xs : List (Key × Scalar)} → HasContent (code_system C) s a xs → HasContent (code_system D) s a xs
   content_moves x = record { closed = closed_moves x.closed; in_order = x.in_order; all = x.all; only = x.only }
 
-  sees_element : {s : CodeState} {a : Place} {k : Key} (x : Answer Key Scalar) → SeesElement (code_system C) s a k x → SeesElement (code_system D) s a k x
-  sees_element (Found v) x = x
-  sees_element Missing x = lacks_moves x
-  sees_element (Content xs) x = x
+  sees_element : (s : CodeState) (a : Place) (k : Key) (x : Answer Key Scalar) → SeesElement (code_system C) s a k x → SeesElement (code_system D) s a k x
+  sees_element s a k (Found v) x = x
+  sees_element s a k Missing x = lacks_moves x
+  sees_element s a k (Content xs) x = x
 
-  sees_moves : {s : CodeState} (n : Input Place Key) (y : Answer Key Scalar) → Sees (code_system C) s n y → Sees (code_system D) s n y
-  sees_moves (StoredScalar d) y x = x
-  sees_moves (ClosedArray a) y x = (x.0, content_moves x.1, x.2)
-  sees_moves (ElementOf a k) y x = sees_element y x
-  sees_moves (ElementAt a d) y x = (x.0, x.1, sees_element y x.2)
+  sees_moves : (s : CodeState) (n : Input Place Key) (y : Answer Key Scalar) → Sees (code_system C) s n y → Sees (code_system D) s n y
+  sees_moves s (StoredScalar d) y x = x
+  sees_moves s (ClosedArray a) y x = (x.0, content_moves x.1, x.2)
+  sees_moves s (ElementOf a k) y x = sees_element s a k y x
+  sees_moves s (ElementAt a d) y x = (x.0, x.1, sees_element s a (key_of x.0) y x.2)
 
-  all_seen : {s : CodeState} (ns : List (Input Place Key)) (xs : List (Answer Key Scalar)) → SeesAll (code_system C) s ns xs → SeesAll (code_system D) s ns xs
-  all_seen [] [] x = x
-  all_seen [] (y ∷ ys) x = x
-  all_seen (n ∷ ns) [] x = x
-  all_seen (n ∷ ns) (y ∷ ys) x = (sees_moves n y x.0, all_seen ns ys x.1)
+  all_seen : (s : CodeState) (ns : List (Input Place Key)) (xs : List (Answer Key Scalar)) → SeesAll (code_system C) s ns xs → SeesAll (code_system D) s ns xs
+  all_seen s [] [] x = x
+  all_seen s [] (y ∷ ys) x = x
+  all_seen s (n ∷ ns) [] x = x
+  all_seen s (n ∷ ns) (y ∷ ys) x = (sees_moves s n y x.0, all_seen s ns ys x.1)
 
   leaves_moves : {mid new : CodeState} → Leaves (code_system C) mid new → Leaves (code_system D) mid new
   leaves_moves l = record {
@@ -245,9 +240,9 @@ module _ (C D : Code) (h : SameTasks C D) where
   }
 
   enabled_moves : (s : CodeState) (t : Task) → ((n : Input Place Key) → In n (task_inputs C t) → IsKnown (code_system C) s n) → (n : Input Place Key) → In n (task_inputs D t) → IsKnown (code_system D) s n
-  enabled_moves s t e n m = known_moves n (e n (subst (λ (ns : List (Input Place Key)). In n ns) (sym (h.inputs t)) m))
+  enabled_moves s t e n m = known_moves s n (e n (subst (λ (ns : List (Input Place Key)). In n ns) (sym (h.inputs t)) m))
 
-  after_moves : (old : CodeState) (t : Task) (others : _) (r : Outcome Task Place Key Scalar EntryFault) (new : CodeState) → After (code_system C) old t others r new → After (code_system D) old t others r new
+  after_moves : (old : CodeState) (t : Task) (others : List CodeItem) (r : Outcome Task Place Key Scalar EntryFault) (new : CodeState) → After (code_system C) old t others r new → After (code_system D) old t others r new
   after_moves old t others (Bad f) new x = leaves_moves x
   after_moves old t others (Good e) new (inl x) = inl (x.0, leaves_moves x.1)
   after_moves old t others (Good e) new (inr x) = inr (x.0, leaves_moves x.1)
@@ -271,7 +266,7 @@ module _ (C D : Code) (h : SameTasks C D) where
         at = record { items = b.at.items; number_is = b.at.number_is };
         runs = b.runs;
         answers = b.answers;
-        known = subst (λ (ns : List (Input Place Key)). SeesAll (code_system D) old ns b.answers) (h.inputs b.item.task) (all_seen (task_inputs C b.item.task) b.answers b.known);
+        known = subst (λ (ns : List (Input Place Key)). SeesAll (code_system D) old ns b.answers) (h.inputs b.item.task) (all_seen old (task_inputs C b.item.task) b.answers b.known);
         result = subst (λ (r : Outcome Task Place Key Scalar EntryFault). After (code_system D) old b.item.task (b.before ++ b.after) r new) (h.effect b.item.task b.answers)
             (after_moves old b.item.task (b.before ++ b.after) (task_effect C b.item.task b.answers) new b.result);
       }

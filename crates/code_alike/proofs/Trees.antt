@@ -57,6 +57,7 @@ cell_part (inner d ∷ ps) (later m) = later (cell_part ps m)
 cell_part (calls d ∷ ps) m = later (cell_part ps m)
 
 part_cell : (ps : List Part) {c : Cell} → inner c ∈ ps → c ∈ part_cells ps
+part_cell [] m = elim m [ ]
 part_cell (inner d ∷ ps) first = first
 part_cell (inner d ∷ ps) (later m) = later (part_cell ps m)
 part_cell (calls d ∷ ps) (later m) = part_cell ps m
@@ -68,6 +69,7 @@ call_part (calls d ∷ ps) first = first
 call_part (calls d ∷ ps) (later m) = later (call_part ps m)
 
 part_call : (ps : List Part) {c : Call} → calls c ∈ ps → c ∈ part_calls ps
+part_call [] m = elim m [ ]
 part_call (inner d ∷ ps) (later m) = part_call ps m
 part_call (calls d ∷ ps) first = first
 part_call (calls d ∷ ps) (later m) = later (part_call ps m)
@@ -191,5 +193,5 @@ codes_alike t tree fs gs ds es C D place typed kinds kinds' declared declared' x
     let left = subst (λ (ks : List Kinds). IsEmitted s ks ds C) kinds x in
     let right = subst (λ (ks : List Kinds). IsEmitted s ks es D) kinds' y in
     let same = script_pinned s (map kinds_of_signature (signatures tree)) (layout_of s []) (layout_suits s [] cells_are) (reads_stand t tree) (stmt_pinned (signatures tree) types.type_of s scoped cells_are calls_are) shape left.laid right.laid
-        (λ n b m. sym (declared_kinds types.type_of ds tree declared types.declared n b m)) (λ n b m. sym (declared_kinds types.type_of es tree declared' types.declared n b m)) in
+    (λ n b m. sym (declared_kinds types.type_of ds tree declared types.declared n b m)) (λ n b m. sym (declared_kinds types.type_of es tree declared' types.declared n b m)) in
     alike C D same.bodies same.entries left.rights right.rights
