@@ -7,9 +7,9 @@ _swt() {
   case $command in
     "") words="check mean code run replay help explain --version --fresh --plain --unproved" ;;
     help) words="check mean code run replay" ;;
-    check) words="--explain" ;;
+    check) words="--explain --json" ;;
     mean) words="--rounds --explain" ;;
-    code) words="--dot" ;;
+    code) words="--dot --explain" ;;
     run) words="--engines --workers --steps --trace --explain --progress" ;;
     replay) words="--explain" ;;
   esac

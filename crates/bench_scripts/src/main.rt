@@ -10,7 +10,7 @@ use std::{env, io};
 fn main(rt: HostRuntime) -> io::Result<()> {
     let mut words = env::args(&rt)?;
     let Some(name) = words.nth(1) else {
-        return println!(rt; "all flat fib chain array deep nested calls");
+        return println!(rt; "all flat fib chain array deep nested calls each");
     };
     match words.next() {
         None => laps::time(&rt, rt.alloc(), name.as_str(), None),

@@ -20,9 +20,9 @@ enum Body {
 }
 
 /// A loop of prints, Fibonacci by calls, a chain of scalars, an array of which each element is from the one before, calls that lie 501
-/// steps deep in one another, nested loops with an `if` that fill an array, and many small calls. The longest chain is one that 1 MiB
-/// holds.
-pub const SCRIPTS: [Script; 7] = [
+/// steps deep in one another, nested loops with an `if` that fill an array, many small calls, and a loop over an array. The longest chain
+/// is one that 1 MiB holds.
+pub const SCRIPTS: [Script; 8] = [
     Script {
         name: "flat",
         body: Body::Between("foreach i in [1:", "] { printf(\"%i\", i); }"),
@@ -72,6 +72,14 @@ pub const SCRIPTS: [Script; 7] = [
             "] { A[i] = square(i); } printf(\"%i\", size(A));",
         ),
         numbers: [1_000, 10_000, 100_000, 1_000_000],
+    },
+    Script {
+        name: "each",
+        body: Body::Between(
+            "int A[]; foreach i in [1:",
+            "] { A[i] = i; } foreach v, k in A { }",
+        ),
+        numbers: [10_000, 50_000, 100_000, 400_000],
     },
 ];
 

@@ -13,7 +13,7 @@ use Rattle.board_data.specs.View.{cells_view}
 use Rattle.board_data.specs.Wanted.{wanted_missed}
 use Rattle.board_instances.specs.Names.{led_slot}
 use Rattle.board_instances.specs.View.{frames_view, rows_view}
-use Rattle.board_instances.specs.declared.place.Statement.{Statement}
+use Rattle.paths.specs.declared.statements.Statement.{Statement}
 use Rattle.board_history.specs.Fields as Fields
 use Rattle.board_history.specs.Fields.{Counted, Does, Frame, Job, Over, Row, Script, Slot, is_over, row_of, slot_at, slot_for, task_of}
 use Rattle.board_history.specs.Needs.{missed}

@@ -20,7 +20,7 @@ use Rattle.work_queue.proofs.InOrder.{holds_exactly}
 use Rattle.board_program.specs.Spots.{layout_of}
 use Rattle.board_program.specs.Tables.{queue_kind}
 use Rattle.board_instances.specs.View.{frames_view, rows_view}
-use Rattle.board_instances.specs.declared.place.Fault.{Fault as Noted}
+use Rattle.paths.specs.declared.faults.Fault.{Fault as Noted}
 use Rattle.board_data.specs.Wanted.{FewSlots}
 use Rattle.board.specs.Board.{Rises}
 use Rattle.board_data.specs.Data.{AreRising}

@@ -23,7 +23,7 @@ use Rattle.values.specs.declared.value.Scalar.{Scalar}
 use Rattle.board_program.specs.Spots.{layout_of}
 use Rattle.board_data.specs.View.{cells_view}
 use Rattle.board_data.specs.Wanted.{FewSlots}
-use Rattle.board_effects.specs.Effects.{IsEffect, IsStatementOf as IsStatementAt, kind_view}
+use Rattle.board_effects.specs.Effects.{IsEffect, IsStatementOf as IsStatementAt, kind_of_fault}
 use Rattle.board_effects.specs.declared.effect.Effect.TheVariants.{Fails}
 use Rattle.board_effects.specs.declared.effect.Effect.TheVariants as Effects
 use Rattle.board_effects.proofs.AtWork.{at_work}
@@ -38,10 +38,8 @@ use Rattle.task_code.specs.Compute.{compute}
 use Rattle.board.proofs.OwnWork.{running_live}
 use Rattle.board_effects.proofs.Tells.{tells}
 use Rattle.board_instances.specs.View.{frames_view, rows_view}
-use Rattle.board_instances.specs.declared.place.Fault.{Fault as Noted}
-use Rattle.board_instances.specs.declared.place.FaultKind.{FaultKind}
-use Rattle.board_instances.specs.declared.place.FaultKind.TheVariants as Kinds
-use Rattle.board_instances.specs.declared.place.Statement.{Statement}
+use Rattle.paths.specs.declared.faults.Fault.{Fault as Noted}
+use Rattle.paths.specs.declared.statements.Statement.{Statement}
 use Rattle.board_items.specs.Room.{IsRoomy}
 use Rattle.board_changes.specs.declared.world.World.{World}
 use Rattle.board.specs.Board.{IsWorkOf, Rises, answers_to}
@@ -50,16 +48,12 @@ use Rattle.board.specs.History.{state_of}
 use Rattle.board_data.specs.Data.{AreRising}
 use Rattle.board.specs.Inside.{IsNoted, IsStatementOf, Stand}
 use Rattle.board.specs.Rows.{RunsOn}
-use Rattle.board.specs.View.{fields_view, kind_of_fault, with_fault}
+use Rattle.board.specs.View.{fields_view, with_fault}
 use Rattle.board.specs.declared.state.Core.{Core}
 use Rattle.board.proofs.Changes.{untold}
 use Rattle.board.proofs.Moves.{ends, state_is}
 use Rattle.board_work.specs.Assigned.{Assigned}
 use Rattle.board_effects.specs.declared.effect.Effect.{Effect}
-
-same_kind : (k : FaultKind) → kind_view k ≡ kind_of_fault k
-same_kind (Kinds.OfEntry f) = refl
-same_kind Kinds.ElementTwice = refl
 
 statement_is : (C : Code) (fs : List (Option Frame)) (j : Job) (s : Statement) → IsStatementAt C fs j s → IsStatementOf C (task_of fs j) s
 statement_is C fs Script s h = h
@@ -78,11 +72,11 @@ module _ (C : Code) (I : IsCode C) (es : List Event) (old new : Core) (t : Stand
     where
       by : (u : CodeState) × (replayed C (es ++ End w n ∷ []) ≡ Some u) → Stand C (es ++ End w n ∷ []) new
       by p =
-          let told : p.0.fault ≡ Some (task_of (frames_view old.world.instances.slots) j, kind_view f.kind) = tells C I es (fields_view t.told old) t.stands w n p.0 p.1 (record { job = j; mark = Running w }) runs xs known (Fails f) effect in
+          let told : p.0.fault ≡ Some (task_of (frames_view old.world.instances.slots) j, kind_of_fault f.kind) = tells C I es (fields_view t.told old) t.stands w n p.0 p.1 (record { job = j; mark = Running w }) runs xs known (Fails f) effect in
           let bad : p.0.fault ≡ None → ⊥ = λ e. none_some (sym e ∙ told) in
           at p.0 told (fault_stands C I (layout_of C) es (fields_view t.told old) t.stands w n p.0 p.1 bad)
         where
-          at : (u : CodeState) → u.fault ≡ Some (task_of (frames_view old.world.instances.slots) j, kind_view f.kind)
+          at : (u : CodeState) → u.fault ≡ Some (task_of (frames_view old.world.instances.slots) j, kind_of_fault f.kind)
               → (i : CodeItem) × (g : Fault EntryFault) × In i t.stands.state.items × (i.number ≡ n) × (u.fault ≡ Some (i.task, g)) × Stands C (layout_of C) (es ++ End w n ∷ []) (faulted_fields (fields_view t.told old) i.task g) → Stand C (es ++ End w n ∷ []) new
           at u told q =
               record {
@@ -97,15 +91,15 @@ module _ (C : Code) (I : IsCode C) (es : List Event) (old new : Core) (t : Stand
                 };
               }
             where
-              pair : ◌≡◌ {A = Option (Task × Fault EntryFault)} (Some (task_of (frames_view old.world.instances.slots) j, kind_view f.kind)) (Some (q.0.task, q.1))
+              pair : ◌≡◌ {A = Option (Task × Fault EntryFault)} (Some (task_of (frames_view old.world.instances.slots) j, kind_of_fault f.kind)) (Some (q.0.task, q.1))
               pair = sym told ∙ q.4
 
-              same : ◌≡◌ {A = Task × Fault EntryFault} (task_of (frames_view old.world.instances.slots) j, kind_view f.kind) (q.0.task, q.1)
+              same : ◌≡◌ {A = Task × Fault EntryFault} (task_of (frames_view old.world.instances.slots) j, kind_of_fault f.kind) (q.0.task, q.1)
               same = some_same pair
 
               noted : IsNoted C (Some (q.0.task, q.1)) (Some f)
               noted = (
-                sym (ap (λ (z : Task × Fault EntryFault). z.1) same) ∙ same_kind f.kind,
+                sym (ap (λ (z : Task × Fault EntryFault). z.1) same),
                 subst (λ (u : Task). IsStatementOf C u f.statement) (ap (λ (z : Task × Fault EntryFault). z.0) same) (statement_is C (frames_view old.world.instances.slots) j f.statement effect.1),
               )
 

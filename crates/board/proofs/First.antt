@@ -15,7 +15,7 @@ use Rattle.board_program.specs.Spots.{layout_of}
 use Rattle.board_data.specs.Wanted.{FewSlots}
 use Rattle.board_instances.specs.View.{frames_view, rows_view}
 use Rattle.board_instances.specs.declared.instance.Instance.{Instance}
-use Rattle.board_instances.specs.declared.place.Fault.{Fault}
+use Rattle.paths.specs.declared.faults.Fault.{Fault}
 use Rattle.board.specs.Board.{Rises}
 use Rattle.board_data.specs.Data.{AreRising}
 use Rattle.board.specs.Inside.{IsNoted, Stand}

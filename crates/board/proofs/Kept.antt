@@ -9,7 +9,7 @@ use Rattle.board_program.specs.Spots.{layout_of}
 use Rattle.board_data.specs.View.{cells_view}
 use Rattle.board_data.specs.Wanted.{FewSlots}
 use Rattle.board_instances.specs.View.{frames_view, rows_view}
-use Rattle.board_instances.specs.declared.place.Fault.{Fault}
+use Rattle.paths.specs.declared.faults.Fault.{Fault}
 use Rattle.rules.specs.Waiting.{Listing}
 use Rattle.board_changes.specs.Room.{OnlyRoom}
 use Rattle.values.specs.declared.value.Scalar.{Scalar}

@@ -36,6 +36,7 @@ pub mod Rooms
 pub mod Showing
 pub mod Slots
 pub mod SpareAfter
+pub mod Staying
 pub mod Storing
 pub mod Stuck
 pub mod Tabled

@@ -19,7 +19,7 @@ use Rattle.rules.specs.declared.input.Input.{Input}
 use Rattle.board_compute.specs.declared.answer.Answer.{Answer}
 use Rattle.board_program.specs.Spots.{layout_of}
 use Rattle.board_instances.specs.View.{rows_view}
-use Rattle.board_instances.specs.declared.place.Fault.{Fault}
+use Rattle.paths.specs.declared.faults.Fault.{Fault}
 use Rattle.dataflow.specs.Machine as Machine
 use Rattle.task_code.specs.Compute.{EntryFault}
 use Rattle.task_code.specs.Effects.{Item, Main, Task}
@@ -32,7 +32,8 @@ use Rattle.board.specs.History.{state_of}
 use Rattle.board.specs.Inside.{IsNoted, IsSound, Stand, seen_of}
 use Rattle.board.specs.Numbers.{AreNumbered, number_in}
 use Rattle.board.specs.Rows as Rows
-use Rattle.board.specs.View.{fields_view, kind_of_fault}
+use Rattle.board_effects.specs.Effects.{kind_of_fault}
+use Rattle.board.specs.View.{fields_view}
 use Rattle.board.specs.declared.board.Board.TheInside.{Inside}
 use Rattle.board.specs.declared.state.Core.{Core}
 use Rattle.std.proofs.Common.{Vec, Global}

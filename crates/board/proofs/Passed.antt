@@ -22,7 +22,7 @@ use Rattle.board_effects.specs.declared.effect.Effect.{Effect}
 use Rattle.board_effects.specs.declared.effect.Effect.TheVariants as Effects
 use Rattle.board_effects.proofs.Tells.{tells}
 use Rattle.board_instances.specs.View.{frames_view, rows_view}
-use Rattle.board_instances.specs.declared.place.Fault.{Fault as Noted}
+use Rattle.paths.specs.declared.faults.Fault.{Fault as Noted}
 use Rattle.board.specs.Ending.{is_fault}
 use Rattle.board.specs.Inside.{IsKept, IsNoted, Stand}
 use Rattle.board.specs.Rows.{RunsOn}

@@ -1,32 +1,19 @@
 -- The blocked statements of a state, and its fault, as lists and values of the program.
-use Rattle.std.specs.Prelude.{◌≡◌, ◌⊎◌, ℕ, Bool, true, false, ◌&&◌, ◌||◌, nat_eq, nat_lt, List, [], ◌∷◌, reverse}
+use Rattle.std.specs.Prelude.{◌≡◌, ◌⊎◌, ℕ, true, nat_lt, List, [], ◌∷◌, reverse}
 use Rattle.dataflow.specs.System.{In}
-use Rattle.values.specs.Keys.{key_below, same_key}
 use Rattle.task_code.specs.Code.{Code}
 use Rattle.task_code.specs.Machine.{CodeState}
 use Rattle.task_code.specs.Places as Places
 use Rattle.task_code.specs.Runs.{Blocked, FaultAt}
-use Rattle.board_instances.specs.declared.place.Fault.{Fault}
-use Rattle.board_instances.specs.declared.place.Statement.{Statement}
-use Rattle.board_instances.specs.declared.place.Step.{Step}
-use Rattle.board.specs.View.{kind_of_fault, path_view}
+use Rattle.paths.specs.declared.faults.Fault.{Fault}
+use Rattle.paths.specs.declared.statements.Statement.{Statement}
+use Rattle.paths.specs.Order.{path_below}
+use Rattle.board_effects.specs.Effects.{kind_of_fault}
+use Rattle.board.specs.View.{path_view}
 
 -- a path is written from its outermost step on, and a place has its last step first
 abbrev pub path_of : Statement → List Places.Step
 path_of s = reverse (path_view s.path.items)
-
--- a path comes before another: step by step, by offset and then by key; a beginning comes before what goes on from it
-abbrev pub step_below : Step → Step → Bool
-step_below s t = nat_lt s.offset t.offset || (nat_eq s.offset t.offset && key_below s.key t.key)
-
-abbrev pub same_step : Step → Step → Bool
-same_step s t = nat_eq s.offset t.offset && same_key s.key t.key
-
-abbrev pub path_below : List Step → List Step → Bool
-path_below [] [] = false
-path_below [] (t ∷ q) = true
-path_below (s ∷ p) [] = false
-path_below (s ∷ p) (t ∷ q) = step_below s t || (same_step s t && path_below p q)
 
 -- a statement comes before another: by its path, and then by its offset
 abbrev pub comes_before : Statement → Statement → Type 0

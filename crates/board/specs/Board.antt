@@ -4,6 +4,7 @@ use Rattle.dataflow.specs.System.{Answer, In}
 use Rattle.dataflow.specs.Events.{NewlyAt, worker_of}
 use Rattle.dataflow.specs.Machine as Machine
 use Rattle.dataflow.specs.Machine.{SeesAll}
+use Rattle.dataflow.specs.Staying.{Knows}
 use Rattle.values.specs.declared.key.Key.{Key}
 use Rattle.values.specs.declared.value.Scalar.{Scalar}
 use Rattle.task_code.specs.Code.{Code, entry}
@@ -73,6 +74,14 @@ pub record IsOwn (b : Seen) (worker : ℕ) (work : Assigned) : Type 0 where
   pub number_is : item.number ≡ work.item
   pub runs : item.runs ≡ Some worker
   pub own : IsWorkOf b.code b.state item.task work
+
+-- the work is that of the item of its number, for as long as that is there, running or not
+pub record IsItems (b : Seen) (work : Assigned) : Type 0 where
+  pub task : Task
+  pub inputs : List (Answer Key Scalar)
+  pub knows : Knows (code_system b.code) b.state work.item task inputs
+  pub job : work.job ≡ job_of b.code task
+  pub answers : work.answers ≡ answers_to b.code task inputs
 
 -- some item of that number may begin, or runs on that worker
 abbrev pub MayBegin : Seen → ℕ → Type 0

@@ -5,7 +5,7 @@ use Rattle.board_data.specs.View.{cells_view}
 use Rattle.board_effects.specs.Effects.{IsEffect}
 use Rattle.board_effects.specs.declared.effect.Effect.{Effect}
 use Rattle.board_effects.specs.declared.effect.Effect.TheVariants.{Fails}
-use Rattle.board_instances.specs.declared.place.Fault.{Fault}
+use Rattle.paths.specs.declared.faults.Fault.{Fault}
 use Rattle.dataflow.specs.Machine.{End, Event, SeesAll}
 use Rattle.dataflow.specs.System.{Answer}
 use Rattle.board_history.specs.Fields as Pure

@@ -13,8 +13,8 @@ use Rattle.board_data.specs.Data.{AreRising}
 use Rattle.board_program.specs.Spots.{layout_of}
 use Rattle.board_data.specs.Wanted.{FewSlots}
 use Rattle.board_instances.specs.View.{frames_view}
-use Rattle.board_instances.specs.declared.place.Fault.{Fault}
-use Rattle.board_instances.specs.declared.place.Statement.{Statement}
+use Rattle.paths.specs.declared.faults.Fault.{Fault}
+use Rattle.paths.specs.declared.statements.Statement.{Statement}
 use Rattle.board.specs.declared.board.Board.TheInside.{Inside}
 use Rattle.board.specs.Blocked.{path_of}
 use Rattle.board_program.specs.Program.{AreAtMost}
@@ -22,7 +22,8 @@ use Rattle.board.specs.Board.{AreByWorkers, Rises, Seen}
 use Rattle.board.specs.History.{state_of}
 use Rattle.board.specs.Numbers.{AreNumbered}
 use Rattle.board_items.specs.Room.{IsRoomy}
-use Rattle.board.specs.View.{Told, fields_view, kind_of_fault}
+use Rattle.board_effects.specs.Effects.{kind_of_fault}
+use Rattle.board.specs.View.{Told, fields_view}
 use Rattle.board.specs.declared.state.Core.{Core}
 
 abbrev pub seen_of : Inside → Seen

@@ -1,11 +1,11 @@
 -- Statements in a list where the same ones stand together, each once.
 use Rattle.std.specs.Prelude.{◌-◌, Bool, false, List, [], ◌∷◌, ◌++◌, None, Some, length, slice_get, if◌then◌else◌}
-use Rattle.board_instances.specs.declared.place.Statement.{Statement}
-use Rattle.board.specs.Stuck.{is_same_statement}
+use Rattle.paths.specs.declared.statements.Statement.{Statement}
+use Rattle.paths.specs.Order.{same_statement}
 
 -- the statement is the last of these
 abbrev pub is_last : List Statement → Statement → Bool
-is_last found s = elim (slice_get found (length found - 1)) [ None ↦ false | Some t ↦ is_same_statement s t ]
+is_last found s = elim (slice_get found (length found - 1)) [ None ↦ false | Some t ↦ same_statement s t ]
 
 -- each of the others is put behind these, unless it is the last of them
 abbrev pub each_once : List Statement → List Statement → List Statement

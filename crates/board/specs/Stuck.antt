@@ -1,5 +1,5 @@
 -- Where the statement of an item is blocked, told by the fields of a board.
-use Rattle.std.specs.Prelude.{ℕ, length, nat_eq, nat_lt, Bool, true, false, ◌&&◌, ◌||◌, List, [], ◌∷◌, Option, Some, None, option_map, if◌then◌else◌}
+use Rattle.std.specs.Prelude.{ℕ, length, nat_lt, Bool, true, false, List, [], ◌∷◌, Option, Some, None, option_map, if◌then◌else◌}
 use Rattle.std.specs.List.{list_all}
 use Rattle.board_program.specs.Tables.{wanted_in}
 use Rattle.board_data.specs.Wanted.{wanted_missed}
@@ -8,9 +8,8 @@ use Rattle.board_history.specs.Fields.{Counted, Does, Frame, Job, Row, Script, W
 use Rattle.task_code.specs.Code.{Act, Code, Header, Need, Wait, entry}
 use Rattle.task_code.specs.Places as Places
 use Rattle.task_code.specs.Runs.{counts}
-use Rattle.board_instances.specs.declared.place.Statement.{Statement}
-use Rattle.board_instances.specs.declared.place.Step.{Step}
-use Rattle.board.specs.Blocked.{path_below, path_of, same_step}
+use Rattle.paths.specs.declared.statements.Statement.{Statement}
+use Rattle.board.specs.Blocked.{path_of}
 
 -- a statement: its offset, and the path of its instance
 pub record Place : Type 0 where
@@ -22,19 +21,6 @@ at_place n p = record { at = n; path = p }
 
 abbrev pub place_of : Statement → Place
 place_of s = at_place s.at (path_of s)
-
--- the same path, and the order of statements
-abbrev pub same_path : List Step → List Step → Bool
-same_path [] [] = true
-same_path [] (t ∷ q) = false
-same_path (s ∷ p) [] = false
-same_path (s ∷ p) (t ∷ q) = same_step s t && same_path p q
-
-abbrev pub is_before : Statement → Statement → Bool
-is_before s t = path_below s.path.items t.path.items || (same_path s.path.items t.path.items && nat_lt s.at t.at)
-
-abbrev pub is_same_statement : Statement → Statement → Bool
-is_same_statement s t = nat_eq s.at t.at && same_path s.path.items t.path.items
 
 abbrev pub misses_none : List (Want ℕ) → Bool
 misses_none [] = true

@@ -5,22 +5,15 @@ use Rattle.board_history.specs.Fields as Pure
 use Rattle.task_code.specs.Compute.{Elements, EntryFault}
 use Rattle.task_code.specs.Effects.{Task}
 use Rattle.task_code.specs.Places as Places
-use Rattle.board_compute.specs.View.{fault_view}
 use Rattle.board_data.specs.View.{cells_view}
 use Rattle.board_instances.specs.View.{frames_view, rows_view, step_view}
-use Rattle.board_instances.specs.declared.place.FaultKind.{FaultKind}
-use Rattle.board_instances.specs.declared.place.FaultKind.TheVariants as Kind
-use Rattle.board_instances.specs.declared.place.Step.{Step}
+use Rattle.paths.specs.declared.steps.Step.{Step}
 use Rattle.board_items.specs.View.{queue_view, waiters_view}
 use Rattle.board.specs.declared.state.Core.{Core}
 
--- a path, and what went wrong
+-- a path
 abbrev pub path_view : List Step → List Places.Step
 path_view p = map step_view p
-
-abbrev pub kind_of_fault : FaultKind → Machine.Fault EntryFault
-kind_of_fault (Kind.OfEntry f) = Machine.OfTask (fault_view f)
-kind_of_fault Kind.ElementTwice = Machine.ElementTwice
 
 -- what is not kept as it stands in the fields: the turns that are left to items that go on with loops, and the task that met the fault
 pub record Told : Type 0 where

@@ -11,15 +11,16 @@ ghost use Rattle.board_history.specs.Fields.{Frame, path_of as path_in, slot_at}
 ghost use Rattle.task_code.specs.Runs.{counts};
 ghost use Rattle.task_code.specs.View.{act_view, header_view, need_view};
 ghost use Rattle.dataflow.specs.System.{In};
-ghost use Rattle.board.specs.Blocked.{InTextOrder, path_below, same_step, step_below};
-ghost use Rattle.board.specs.Stuck.{Place, is_before, is_same_statement, same_path, at_place, blocked_offset, blocked_row, first_unknown, is_header_known, misses_none, place_of};
+ghost use Rattle.paths.specs.Order.{statement_below};
+ghost use Rattle.board.specs.Blocked.{InTextOrder};
+ghost use Rattle.board.specs.Stuck.{Place, at_place, blocked_offset, blocked_row, first_unknown, is_header_known, misses_none, place_of};
 ghost use Rattle.board.specs.Sorting.{each_once, is_last};
 
 use crate::state::Core;
 use board_instances::instance::{Instance, path_of};
 use board_instances::item::{Item, Job, Mark};
-use board_instances::place::{Statement, Step};
 use board_program::program::Program;
+use paths::Statement;
 use slab::Slab;
 use std::alloc::{AllocError, Global};
 use std::cmp::Ordering;
@@ -52,78 +53,13 @@ fn body_at(instances: &Slab<Instance>, at: usize) -> Option<u32>
     }
 }
 
-/// Whether a step comes before another: by offset, and then by key.
-fn is_step_below(one: &Step, other: &Step) -> bool
-    ensures { result ≡ step_below one.now other.now }
-{
-    one.offset < other.offset || (one.offset == other.offset && one.key.is_below(&other.key))
-}
-
-/// Whether both are the same step.
-fn is_same_step(one: &Step, other: &Step) -> bool
-    ensures { result ≡ same_step one.now other.now }
-{
-    one.offset == other.offset && one.key.is_same(&other.key)
-}
-
-/// Whether a path comes before another: step by step, and a beginning comes first.
-fn is_path_below(one: &[Step], other: &[Step]) -> bool
-    ensures { result ≡ path_below one.now other.now }
-{
-    let mut rest = other;
-    for step in one {
-        match rest {
-            [] => return false,
-            [first, left @ ..] => {
-                if is_step_below(step, first) {
-                    return true;
-                }
-                if !is_same_step(step, first) {
-                    return false;
-                }
-                rest = left;
-            }
-        }
-    }
-    !rest.is_empty()
-}
-
-/// Whether both are the same path.
-fn is_same_path(one: &[Step], other: &[Step]) -> bool
-    ensures { result ≡ same_path one.now other.now }
-{
-    let mut rest = other;
-    for step in one {
-        match rest {
-            [first, left @ ..] if is_same_step(step, first) => rest = left,
-            _ => return false,
-        }
-    }
-    rest.is_empty()
-}
-
-/// Whether a statement comes before another: by their paths, and then by their offsets.
-fn is_before(one: &Statement, other: &Statement) -> bool
-    ensures { result ≡ is_before one.now other.now }
-{
-    is_path_below(one.path.as_slice(), other.path.as_slice())
-        || (is_same_path(one.path.as_slice(), other.path.as_slice()) && one.at < other.at)
-}
-
-/// Whether both are the same statement.
-fn is_same(one: &Statement, other: &Statement) -> bool
-    ensures { result ≡ is_same_statement one.now other.now }
-{
-    one.at == other.at && is_same_path(one.path.as_slice(), other.path.as_slice())
-}
-
 /// How a statement stands to another in the order.
 fn order(one: &Statement, other: &Statement) -> Ordering
-    ensures { is_lt result ≡ is_before one.now other.now }
+    ensures { is_lt result ≡ statement_below one.now other.now }
 {
-    if is_before(one, other) {
+    if one.is_below(other) {
         Ordering::Less
-    } else if is_before(other, one) {
+    } else if other.is_below(one) {
         Ordering::Greater
     } else {
         Ordering::Equal
@@ -135,7 +71,7 @@ fn is_last(found: &[Statement], statement: &Statement) -> bool
     ensures { result ≡ is_last found.now statement.now }
 {
     match found.last() {
-        Some(last) => is_same(statement, last),
+        Some(last) => statement.is_same(last),
         None => false,
     }
 }
@@ -161,7 +97,7 @@ fn in_order(alloc: Global, statements: Vec<Statement>) -> Result<Vec<Statement>,
     let mut statements = statements;
     statements.sort_by(
         |a, b|
-            ensures { is_lt result ≡ is_before a.now b.now }
+            ensures { is_lt result ≡ statement_below a.now b.now }
         { order(a, b) },
     )?;
     each_once(alloc, statements)

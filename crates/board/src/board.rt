@@ -10,7 +10,7 @@ ghost use Rattle.work_queue.specs.declared.entry.Kind.{Kind as QueueKind};
 ghost use Rattle.board_program.specs.Tables.{queue_kind};
 ghost use Rattle.board_work.specs.Assigned.{Assigned};
 ghost use Rattle.board_compute.specs.View.{answers_view};
-ghost use Rattle.board.specs.Board.{Seen, AreByWorkers, IsWorker, IsGoing, Accepts, IsOwn, RefusesBegin, RefusesEnd, RefusesBack, RefusesWork};
+ghost use Rattle.board.specs.Board.{Seen, AreByWorkers, IsWorker, IsGoing, Accepts, IsItems, IsOwn, RefusesBegin, RefusesEnd, RefusesBack, RefusesWork};
 ghost use Rattle.board.specs.declared.refusal.Refusal.TheVariants.{Memory};
 ghost use Rattle.board.specs.Numbers.{AreNumbered};
 ghost use Rattle.board.specs.Stored.{AreSoMany};
@@ -18,14 +18,15 @@ ghost use Rattle.board.specs.Ready.{AreReady, HasKind, IsFirst, IsNext, IsReady}
 ghost use Rattle.board.specs.Blocked.{AreBlocked, IsFaultOf};
 ghost use Rattle.dataflow.specs.System.{In};
 
+use crate::laws::work_stays;
 use crate::refusal::Refusal;
 use crate::state::Core;
 use board_compute::answer::Answer;
 use board_instances::item::{Job, Mark, item_of};
-use board_instances::place::{Fault, Statement};
 use board_items::items::order_of;
 use board_program::program::Program;
 use board_work::work::{Done, Job as Task, Work};
+use paths::{Fault, Statement};
 use rules::input::Input;
 use std::alloc::{AllocError, Global};
 use std::marker::Model;
@@ -212,6 +213,26 @@ impl Board {
         requires worker { IsWorker worker }
         requires own { IsOwn self.old worker done }
         ensures accepted { OnOk result (Accepts self.old (Machine.End worker done.item) self.new) }
+        ensures refused { IfErr result (λ e. RefusesEnd self.old worker done e.1) }
+        ensures handed_back { IfErr result (λ e. e.0 ≡ done) }
+        ensures unchanged { OnErr result (self.new ≡ self.old) }
+    {
+        work_stays();
+        let _events = self.history();
+        self.end_begun(worker, done)
+    }
+
+    /// Ends the item on the worker as `end` does, where the work is that of the item of its number, as long as there is one: neither the
+    /// entry nor an answer is looked at.
+    ///
+    /// # Errors
+    ///
+    /// With the work that was done: `Ended` after a fault or at the limit; `NotYours` where the item does not run on the worker; `Memory`.
+    pub fn end_begun(&mut self, worker: u8, done: Done) -> Result<(), (Done, Refusal)>
+        requires worker { IsWorker worker }
+        requires items { IsItems self.old done }
+        ensures accepted { OnOk result (Accepts self.old (Machine.End worker done.item) self.new) }
+        ensures own { OnOk result (IsOwn self.old worker done) }
         ensures refused { IfErr result (λ e. RefusesEnd self.old worker done e.1) }
         ensures handed_back { IfErr result (λ e. e.0 ≡ done) }
         ensures unchanged { OnErr result (self.new ≡ self.old) }

@@ -17,10 +17,10 @@ use board_data::wanted::View;
 use board_effects::effect::{Effect, Ended};
 use board_effects::script_effect;
 use board_instances::item::Job;
-use board_instances::place::Fault;
 use board_items::settling::Outlook;
 use board_program::program::Program;
 use board_work::work::Done;
+use paths::Fault;
 use rules::input::Input;
 use std::alloc::{AllocError, Global};
 

@@ -19,5 +19,5 @@ mod working;
 
 pub use board_compute::answer::Answer;
 pub use board_compute::outcome::EntryFault;
-pub use board_instances::place::{Fault, FaultKind, Statement, Step};
 pub use board_work::work::{Done, Work};
+pub use paths::{Fault, FaultKind, Statement, Step};

@@ -10,9 +10,9 @@ ghost use Rattle.board.specs.Rows.{IsReady, RunsOn};
 use board_changes::world::World;
 use board_data::wanted::View;
 use board_instances::item::{Job, Mark, item_of};
-use board_instances::place::Fault;
 use board_items::items::{Items, order_of};
 use board_program::program::Program;
+use paths::Fault;
 use std::alloc::{AllocError, Global};
 use values::value::Scalar;
 

@@ -53,7 +53,7 @@ use Rattle.values.specs.declared.fault.OpFault.{OpFault}
 use Rattle.values.specs.declared.value.Value.{Value}
 use Rattle.board_effects.specs.declared.effect.Effect.{Effect as ProgramEffect}
 use Rattle.board_effects.specs.declared.effect.Effect.TheVariants as To
-use Rattle.board_effects.specs.Effects.{GoesWell, GoesWrong, IsEffect, fault_of, kind_view, outcome_for}
+use Rattle.board_effects.specs.Effects.{GoesWell, GoesWrong, IsEffect, fault_of, kind_of_fault, outcome_for}
 use Rattle.board_effects.specs.Effects as mine
 
 -- what comes of a task is told by what it computes
@@ -356,7 +356,7 @@ module _ (C : Code) (I : IsCode C) (es : List Event) (F : Fields) (x : Stands C 
 
   -- the next state has the fault of the effect, and none where it has none
   pub tells : (e : ProgramEffect) → IsEffect C F.frames F.cells row.job computed e → t.fault ≡ fault_of task e
-  tells (To.Fails f) g = wrong_told (kind_view f.kind) g.0
+  tells (To.Fails f) g = wrong_told (kind_of_fault f.kind) g.0
   tells (To.Stores d v) g = well_told (To.Stores d v) g
   tells (To.Puts d k v) g = well_told (To.Puts d k v) g
   tells (To.Inserts d es) g = well_told (To.Inserts d es) g

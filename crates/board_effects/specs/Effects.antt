@@ -8,31 +8,37 @@ use Rattle.board_history.specs.Fields.{Counted, DatumOf, Does, Frame, Job, Scrip
 use Rattle.board_history.specs.Needs.{cell_element}
 use Rattle.board_history.specs.Static.{opened, rests}
 use Rattle.task_code.specs.Code.{Code, Entry, Name, entry, stored_of}
-use Rattle.task_code.specs.Compute.{Computed, Elements, EntryFault, Gives, Inserts as InsertsAll, in_key_order, pairs}
+use Rattle.task_code.specs.Compute.{Computed, Elements, EntryFault, Gives, InOperation, Inserts as InsertsAll, NoElement, TooDeep, in_key_order, pairs}
 use Rattle.task_code.specs.Effects.{Item, Main, Task, block, effect_at, instances, is_too_deep, only, outcome_of}
 use Rattle.task_code.specs.Places.{Place}
+use Rattle.values.specs.declared.fault.OpFault.TheVariants as Op
 use Rattle.values.specs.declared.key.Key.{Key}
 use Rattle.values.specs.declared.value.Scalar.{Scalar}
 use Rattle.board_program.specs.Spots.{layout_of}
 use Rattle.board_program.specs.Tables.{IsEntryTable, is_place}
 use Rattle.board_program.specs.declared.program.EntryTable.{EntryTable}
-use Rattle.board_compute.specs.View.{fault_view}
 use Rattle.data_store.specs.Stores.{Store, array_at}
 use Rattle.values.specs.Maps.{element}
 use Rattle.board_data.specs.Stored.{IsScalarTarget, Takes}
 use Rattle.board_data.specs.Wanted.{FewSlots}
 use Rattle.board_instances.specs.View.{step_view}
-use Rattle.board_instances.specs.declared.place.FaultKind.{FaultKind}
-use Rattle.board_instances.specs.declared.place.FaultKind.TheVariants as Kind
-use Rattle.board_instances.specs.declared.place.Statement.{Statement}
+use Rattle.paths.specs.declared.faults.FaultKind.{FaultKind}
+use Rattle.paths.specs.declared.faults.FaultKind.TheVariants as Kind
+use Rattle.paths.specs.declared.statements.Statement.{Statement}
 use Rattle.board_effects.specs.Openings.{AreOpenings}
 use Rattle.board_effects.specs.declared.effect.Effect.{Effect}
 use Rattle.board_effects.specs.declared.effect.Effect.TheVariants.{Fails, Inserts, Opens, Prints, Puts, Stores}
 
 -- what went wrong, as the machine has it
-abbrev pub kind_view : FaultKind → Fault EntryFault
-kind_view (Kind.OfEntry f) = OfTask (fault_view f)
-kind_view Kind.ElementTwice = ElementTwice
+abbrev pub kind_of_fault : FaultKind → Fault EntryFault
+kind_of_fault Kind.Overflow = OfTask (InOperation Op.Overflow)
+kind_of_fault Kind.DivideByZero = OfTask (InOperation Op.DivideByZero)
+kind_of_fault Kind.NoElement = OfTask NoElement
+kind_of_fault Kind.ElementTwice = ElementTwice
+kind_of_fault Kind.BadStep = OfTask (InOperation Op.BadStep)
+kind_of_fault Kind.TooDeep = OfTask TooDeep
+kind_of_fault Kind.NotANumber = OfTask (InOperation Op.NotANumber)
+kind_of_fault Kind.AssertFailed = OfTask (InOperation Op.AssertFailed)
 
 -- the datum that it stores into, what it stores there, and what it prints
 abbrev pub target_in : Effect → Option ℕ
@@ -67,7 +73,7 @@ IsStored _ x = Unit {0}
 
 -- the fault that it leaves, with the task that met it
 abbrev pub fault_of : Task → Effect → Option (Task × Fault EntryFault)
-fault_of t (Fails f) = Some (t, kind_view f.kind)
+fault_of t (Fails f) = Some (t, kind_of_fault f.kind)
 fault_of t _ = None
 
 -- there is an effect, and no fault in place of it
@@ -138,5 +144,5 @@ module _ (C : Code) where
 
       -- what the item of a job does that computed this
       abbrev pub IsEffect : Job → Computed → Effect → Type 0
-      IsEffect j x (Fails f) = GoesWrong j x (kind_view f.kind) × IsStatementOf j f.statement
+      IsEffect j x (Fails f) = GoesWrong j x (kind_of_fault f.kind) × IsStatementOf j f.statement
       IsEffect j x e = GoesWell j x e

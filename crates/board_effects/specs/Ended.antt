@@ -14,8 +14,8 @@ use Rattle.board_data.specs.View.{cells_view}
 use Rattle.board_instances.specs.View.{frames_view, opening_frame}
 use Rattle.board_instances.specs.declared.opening.Opening.{Opening}
 use Rattle.board_instances.specs.declared.opening.Openings.{Openings}
-use Rattle.board_instances.specs.declared.place.Fault.{Fault}
-use Rattle.board_effects.specs.Effects.{IsAtWork, IsEffect, IsStatementOf, kind_view}
+use Rattle.paths.specs.declared.faults.Fault.{Fault}
+use Rattle.board_effects.specs.Effects.{IsAtWork, IsEffect, IsStatementOf, kind_of_fault}
 use Rattle.board_effects.specs.Openings.{IsScript, IsSpare, long_needs}
 use Rattle.board_effects.specs.Fits.{is_fault}
 use Rattle.board_effects.specs.declared.effect.Effect.{Effect}
@@ -53,7 +53,7 @@ Ends p x e = IsEffect (code_of p) (frames_of p) (cells_of p) (job_of p) x e
 pub record FailsWith (p : Ended) (f : PureFault EntryFault) (e : Effect) : Type 0 where
   pub fault : Fault
   pub is : e ≡ Fails fault
-  pub kind_is : kind_view fault.kind ≡ f
+  pub kind_is : kind_of_fault fault.kind ≡ f
   pub met : IsStatementOf (code_of p) (frames_of p) (job_of p) fault.statement
 
 -- an empty list with room for so many inputs, and at least for two

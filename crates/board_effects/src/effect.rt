@@ -1,5 +1,6 @@
 //! What an item does when it ends.
-ghost use Rattle.std.specs.Prelude.{◌≡◌, ◌∷◌, [], ℕ, true, List, Ok, IfOk, IsTrue};
+ghost use Rattle.std.specs.Prelude.{◌≡◌, ◌∷◌, [], ℕ, true, List, Ok, IfErr, IfOk, IsTrue};
+ghost use Rattle.dataflow.specs.Machine.{OfTask};
 ghost use Rattle.dataflow.specs.System.{Answer};
 ghost use Rattle.task_code.specs.Code.{Control, Leaf, kind_of};
 ghost use Rattle.task_code.specs.Compute.{compute, leaf_result, pairs, Gives, Inserts as InsertsAll};
@@ -8,9 +9,9 @@ ghost use Rattle.values.specs.Values.{elements_of};
 ghost use Rattle.values.specs.declared.key.Key.{Key};
 ghost use Rattle.values.specs.declared.value.Scalar.{Scalar};
 ghost use Rattle.board_compute.specs.Outcome.{control_in, control_result, of_leaf, result_in};
-ghost use Rattle.board_compute.specs.View.{computed_view};
+ghost use Rattle.board_compute.specs.View.{computed_view, fault_view};
 ghost use Rattle.board_instances.specs.Names.{datum_of, led_slot};
-ghost use Rattle.board_effects.specs.Effects.{kind_view};
+ghost use Rattle.board_effects.specs.Effects.{kind_of_fault};
 ghost use Rattle.board_effects.specs.Ended.{act_of, frames_of, Ends, FailsWith, IsEnded};
 ghost use Rattle.board_effects.specs.Fits.{fits, gives_elements, gives_scalar};
 
@@ -19,10 +20,11 @@ use board_compute::outcome::{Computed, EntryFault, Outcome, into_scalar};
 use board_data::wanted::View;
 use board_instances::instance::path_of;
 use board_instances::opening::Openings;
-use board_instances::place::{Fault, FaultKind, Statement};
 use board_program::program::EntryTable;
+use paths::{Fault, FaultKind, Statement};
 use std::alloc::{AllocError, Global};
 use task_code::entry::{Act, Entry};
+use values::fault::OpFault;
 use values::key::Key;
 use values::map::Element;
 use values::value::{Scalar, Value};
@@ -51,10 +53,26 @@ pub struct Ended<'a> {
     pub chunk: usize,
 }
 
+/// The kind of an entry's own fault.
+///
+/// # Errors
+///
+/// `AllocError` for want of memory, which is no fault of a script.
+fn kind_of(fault: EntryFault) -> Result<FaultKind, AllocError>
+    ensures kind { IfOk result (λ kind. kind_of_fault kind ≡ OfTask (fault_view fault)) }
+    ensures memory { IfErr result (λ _. fault ≡ EntryFault.InOperation OpFault.Memory) }
+{
+    match fault {
+        EntryFault::InOperation(fault) => FaultKind::of_operation(fault),
+        EntryFault::NoElement => Ok(FaultKind::NoElement),
+        EntryFault::TooDeep => Ok(FaultKind::TooDeep),
+    }
+}
+
 impl<'a> Ended<'a> {
     /// A fault, and where it is met.
     pub(crate) fn fails(self, kind: FaultKind) -> Result<Effect, AllocError>
-        ensures { IsEnded self.entry → IfOk result (FailsWith self.entry (kind_view kind)) }
+        ensures { IsEnded self.entry → IfOk result (FailsWith self.entry (kind_of_fault kind)) }
     {
         Ok(Effect::Fails(Fault {
             kind,
@@ -137,7 +155,7 @@ impl<'a> Ended<'a> {
         ensures { IsEnded self.entry → kind_of (act_of self.entry) ≡ Control → fits (act_of self.entry) (computed_view computed) ≡ true → IfOk result (Ends self.entry (computed_view computed)) }
     {
         match computed {
-            Computed::Fails(fault) => self.fails(FaultKind::OfEntry(fault)),
+            Computed::Fails(fault) => self.fails(kind_of(fault)?),
             Computed::Gives(scalar) => Ok(self.stores(scalar)),
             Computed::Inserts(map) => self.inserts(map.elements()),
             Computed::Puts(key, value) => self.puts(key, value),
@@ -165,9 +183,7 @@ impl<'a> Ended<'a> {
     {
         match outcome {
             Outcome::Leaf(Ok(value)) => self.takes_value(value),
-            Outcome::Leaf(Err(fault)) => {
-                self.fails(FaultKind::OfEntry(EntryFault::InOperation(fault)))
-            }
+            Outcome::Leaf(Err(fault)) => self.fails(kind_of(EntryFault::InOperation(fault))?),
             Outcome::Control(computed) => self.takes_computed(computed),
         }
     }

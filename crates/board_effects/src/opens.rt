@@ -13,11 +13,10 @@ ghost use Rattle.board_effects.specs.Fits.{enters_block, takes_branch};
 use crate::effect::{Effect, Ended};
 use crate::spare::spare_lists;
 use board_chunks::{are_left, chunk_of};
-use board_compute::outcome::EntryFault;
 use board_instances::opening::{Around, Opening, Openings, outermost};
-use board_instances::place::{FaultKind, Step};
 use board_instances::turns::{Site, push_block, push_elements, push_range};
 use board_program::program::Program;
+use paths::{FaultKind, Step};
 use std::alloc::{AllocError, Global};
 use task_code::entry::Act;
 use values::key::Key;
@@ -43,7 +42,7 @@ impl<'a> Ended<'a> {
     fn fails_too_deep(self) -> Result<Effect, AllocError>
         ensures { IsEnded self.entry → IfOk result (FailsWith self.entry (OfTask TooDeep)) }
     {
-        self.fails(FaultKind::OfEntry(EntryFault::TooDeep))
+        self.fails(FaultKind::TooDeep)
     }
 
     /// The step to a block that it opens.

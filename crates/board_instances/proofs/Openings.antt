@@ -10,7 +10,7 @@ use Rattle.task_code.specs.declared.code.Body.{Body}
 use Rattle.board_instances.specs.Openings.{IsInner, steps_in, unfilled}
 use Rattle.board_instances.specs.View.{frame_view, frames_view, step_view}
 use Rattle.board_instances.specs.declared.instance.Instance.{Instance}
-use Rattle.board_instances.specs.declared.place.Step.{Step}
+use Rattle.paths.specs.declared.steps.Step.{Step}
 use Rattle.board_instances.proofs.Slots.{view_there}
 
 -- an instance inside of one that is there, as it is made

@@ -8,7 +8,7 @@ use Rattle.task_code.specs.Places as Places
 use Rattle.values.specs.declared.key.Key.{Key}
 use Rattle.board_instances.specs.View.{frame_view, frames_view, step_view}
 use Rattle.board_instances.specs.declared.instance.Instance.{Instance}
-use Rattle.board_instances.specs.declared.place.Step.{Step}
+use Rattle.paths.specs.declared.steps.Step.{Step}
 use Rattle.board_instances.proofs.Slots.{view_absent, view_there}
 
 module _ (s : Slab Instance) (k n : ℕ) where

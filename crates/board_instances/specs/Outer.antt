@@ -1,6 +1,6 @@
 -- What an instance keeps of the one around it and of its step.
 use Rattle.std.specs.Prelude.{ℕ, ℤ, Option, Some, None, ◌==◌, cond}
-use Rattle.board_instances.specs.declared.place.Step.{Step}
+use Rattle.paths.specs.declared.steps.Step.{Step}
 use Rattle.values.specs.declared.key.Key.TheVariants.{Number}
 
 -- the key, but that the greatest number of 32 bits stands for none

@@ -12,7 +12,7 @@ use Rattle.board_instances.specs.declared.instance.Slot.{Slot}
 use Rattle.board_instances.specs.declared.instance.Slot.TheVariants as Slots
 use Rattle.board_instances.specs.declared.instance.Instance.{Instance}
 use Rattle.board_instances.specs.declared.opening.Opening.{Opening}
-use Rattle.board_instances.specs.declared.place.Step.{Step}
+use Rattle.paths.specs.declared.steps.Step.{Step}
 
 -- items
 abbrev pub mark_view : Mark → Pure.Mark

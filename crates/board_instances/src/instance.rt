@@ -9,8 +9,8 @@ ghost use Rattle.board_instances.specs.View.{frame_view, frames_view, slot_view,
 
 use crate::outer::{Outer, Way};
 use crate::packed::PackedSlot;
-use crate::place::Step;
 use board_program::spot::Spot;
+use paths::Step;
 use slab::Slab;
 use smallvec::SmallVec;
 use std::alloc::{AllocError, Global};

@@ -7,6 +7,5 @@ pub mod laws;
 pub mod opening;
 pub mod outer;
 pub mod packed;
-pub mod place;
 pub mod placing;
 pub mod turns;

@@ -8,8 +8,8 @@ ghost use Rattle.board_instances.specs.View.{frame_view, frames_view, slot_view,
 use crate::instance::{INLINE_SLOTS, Instance, Slot, Slots, slot_at};
 use crate::outer::{Outer, Way};
 use crate::packed::PackedSlot;
-use crate::place::Step;
 use board_program::program::{Passed, Program};
+use paths::Step;
 use rules::input::Input;
 use slab::Slab;
 use smallvec::SmallVec;

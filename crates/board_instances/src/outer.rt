@@ -1,7 +1,7 @@
 //! What an instance keeps of the one around it and of the step that leads to it, in as few words as that takes.
 ghost use Rattle.std.specs.Prelude.{◌≡◌, None, Some, IfOk};
 
-use crate::place::Step;
+use paths::Step;
 use std::alloc::AllocError;
 use std::marker::Model;
 use values::key::Key;
@@ -69,7 +69,7 @@ pub struct Way {
 impl Model for Way {
     ghost use Rattle.std.specs.Prelude.{Option};
     ghost use Rattle.board_instances.specs.Outer.{step_in};
-    ghost use Rattle.board_instances.specs.declared.place.Step.{Step};
+    ghost use Rattle.paths.specs.declared.steps.Step.{Step};
 
     ghost Value = { Option Step };
 

@@ -12,9 +12,9 @@ ghost use Rattle.board_instances.specs.View.{frames_view, step_view};
 ghost use Rattle.board_instances.specs.declared.opening.Opening.{Opening as AnOpening};
 
 use crate::opening::{Around, Opening, inner};
-use crate::place::Step;
 use board_program::key::copy_key;
 use board_program::program::Passed;
+use paths::Step;
 use std::alloc::{AllocError, Global};
 use values::key::Key;
 use values::map::Element;

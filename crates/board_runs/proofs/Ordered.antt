@@ -7,60 +7,21 @@ use Rattle.values.specs.Keys.{key_below, same_key}
 use Rattle.values.proofs.Keys.{above_differs, below_differs, key_below-asymmetric}
 use Rattle.task_code.specs.Places as Places
 use Rattle.task_code.proofs.Equal.{nat_sound, true_and}
-use Rattle.board_instances.specs.declared.place.Statement.{Statement}
-use Rattle.board_instances.specs.declared.place.Step.{Step}
+use Rattle.paths.specs.declared.statements.Statement.{Statement}
+use Rattle.paths.specs.declared.steps.Step.{Step}
 use Rattle.board_instances.specs.View.{step_view}
-use Rattle.board.specs.Blocked.{InTextOrder, comes_before, path_below, same_step, step_below}
+use Rattle.paths.specs.Order.{path_below}
+use Rattle.paths.proofs.Orders.{path_order}
+use Rattle.board.specs.Blocked.{InTextOrder, comes_before}
 use Rattle.board.specs.View.{path_view}
 use Rattle.board_runs.specs.Same.{place_view}
-
-or_split : (a b : Bool) → (a || b) ≡ true → (a ≡ true) ⊎ (b ≡ true)
-or_split true b h = inl refl
-or_split false b h = inr h
-
-not_both : (b : Bool) → b ≡ true → b ≡ false → ⊥
-not_both true h k = absurd (cc (k))
-not_both false h k = absurd (cc (h))
 
 below_sound : (n m : ℕ) → nat_lt n m ≡ true → n < m
 below_sound n m h = grind arith
 
--- a step before another: by offset, or at one offset by key
-abbrev Earlier : Step → Step → Type 0
-Earlier s t = (s.offset < t.offset) ⊎ ((s.offset ≡ t.offset) × (key_below s.key t.key ≡ true))
-
-earlier : (s t : Step) → step_below s t ≡ true → Earlier s t
-earlier s t h = elim (or_split (nat_lt s.offset t.offset) _ h) [
-  | inl p ↦ inl (below_sound s.offset t.offset p)
-  | inr p ↦ (let q = true_and (nat_eq s.offset t.offset) (key_below s.key t.key) p in inr (nat_sound s.offset t.offset q.0, q.1))
-]
-
-one_earlier : (s t : Step) → Earlier s t → Earlier t s → ⊥
-one_earlier s t (inl p) (inl q) = omega (arith, p, q)
-one_earlier s t (inl p) (inr q) = omega (arith, p, q.0)
-one_earlier s t (inr p) (inl q) = omega (arith, p.0, q)
-one_earlier s t (inr p) (inr q) = not_both (key_below t.key s.key) q.1 (key_below-asymmetric s.key t.key p.1)
-
-not_same : (s t : Step) → Earlier s t → same_step s t ≡ true → ⊥
-not_same s t (inl p) h = (let q = true_and (nat_eq s.offset t.offset) (same_key s.key t.key) h in omega (arith, p, nat_sound s.offset t.offset q.0))
-not_same s t (inr p) h = (let q = true_and (nat_eq s.offset t.offset) (same_key s.key t.key) h in not_both (same_key s.key t.key) q.1 (below_differs s.key t.key p.1))
-
-not_same_back : (s t : Step) → Earlier s t → same_step t s ≡ true → ⊥
-not_same_back s t (inl p) h = (let q = true_and (nat_eq t.offset s.offset) (same_key t.key s.key) h in omega (arith, p, nat_sound t.offset s.offset q.0))
-not_same_back s t (inr p) h = (let q = true_and (nat_eq t.offset s.offset) (same_key t.key s.key) h in not_both (same_key t.key s.key) q.1 (above_differs t.key s.key p.1))
-
 -- of two paths one at most comes first
 one_first : (p q : List Step) → path_below p q ≡ true → path_below q p ≡ true → ⊥
-one_first [] [] h k = absurd (cc (h))
-one_first [] (t ∷ q) h k = absurd (cc (k))
-one_first (s ∷ p) [] h k = absurd (cc (h))
-one_first (s ∷ p) (t ∷ q) h k = by (or_split (step_below s t) _ h) (or_split (step_below t s) _ k) (one_first p q)
-  where
-    by : (step_below s t ≡ true) ⊎ ((same_step s t && path_below p q) ≡ true) → (step_below t s ≡ true) ⊎ ((same_step t s && path_below q p) ≡ true) → (path_below p q ≡ true → path_below q p ≡ true → ⊥) → ⊥
-    by (inl a) (inl b) rest = one_earlier s t (earlier s t a) (earlier t s b)
-    by (inl a) (inr b) rest = not_same_back s t (earlier s t a) (true_and (same_step t s) _ b).0
-    by (inr a) (inl b) rest = not_same_back t s (earlier t s b) (true_and (same_step s t) _ a).0
-    by (inr a) (inr b) rest = rest (true_and (same_step s t) _ a).1 (true_and (same_step t s) _ b).1
+one_first p q h k = path_order.not_own p (path_order.chain p q p h k)
 
 -- a path is told by what it stands for
 same_path : (p q : List Step) → path_view p ≡ path_view q → p ≡ q

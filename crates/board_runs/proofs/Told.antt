@@ -13,16 +13,15 @@ use Rattle.task_code.specs.System.{code_system}
 use Rattle.task_code.specs.View.{event_view}
 use Rattle.task_code.specs.Whole.{IsCode}
 use Rattle.task_code.proofs.Kept.{code_laws}
-use Rattle.board_compute.specs.declared.outcome.EntryFault.{EntryFault}
-use Rattle.board_compute.specs.declared.outcome.EntryFault.TheVariants as Of
-use Rattle.board_compute.specs.View.{fault_view}
-use Rattle.board_instances.specs.declared.place.Fault.{Fault}
-use Rattle.board_instances.specs.declared.place.FaultKind.{FaultKind}
-use Rattle.board_instances.specs.declared.place.FaultKind.TheVariants.{ElementTwice, OfEntry}
-use Rattle.board_instances.specs.declared.place.Statement.{Statement}
+use Rattle.values.specs.declared.fault.OpFault.TheVariants as Op
+use Rattle.paths.specs.declared.faults.Fault.{Fault}
+use Rattle.paths.specs.declared.faults.FaultKind.{FaultKind}
+use Rattle.paths.specs.declared.faults.FaultKind.TheVariants as Kind
+use Rattle.paths.specs.declared.statements.Statement.{Statement}
 use Rattle.board.specs.Blocked.{AreBlocked, IsFaultOf, path_of}
 use Rattle.board.specs.Board.{Seen}
-use Rattle.board.specs.View.{kind_of_fault, path_view}
+use Rattle.board_effects.specs.Effects.{kind_of_fault}
+use Rattle.board.specs.View.{path_view}
 use Rattle.board_runs.specs.declared.report.End.{End}
 use Rattle.board_runs.specs.declared.report.End.TheVariants as Ends
 use Rattle.board_runs.specs.declared.report.Report.{Report}
@@ -36,22 +35,30 @@ same_tallies : (es : List Event) (xs ys : List ℕ) → AreTallies es xs → Are
 same_tallies es xs ys x y = ext_get_or 0 xs ys (x.workers ∙ sym y.workers) (λ w l. (let below : w < 64 = omega (arith, l, x.workers) in x.each w below ∙ sym (y.each w below)))
 
 -- faults are told by what they stand for
-same_entry_fault : (f g : EntryFault) → fault_view f ≡ fault_view g → f ≡ g
-same_entry_fault (Of.InOperation f) (Of.InOperation g) e = (let same : f ≡ g = cc in ap Of.InOperation same)
-same_entry_fault (Of.InOperation f) Of.NoElement e = absurd (cc (e))
-same_entry_fault (Of.InOperation f) Of.TooDeep e = absurd (cc (e))
-same_entry_fault Of.NoElement (Of.InOperation g) e = absurd (cc (e))
-same_entry_fault Of.NoElement Of.NoElement e = refl
-same_entry_fault Of.NoElement Of.TooDeep e = absurd (cc (e))
-same_entry_fault Of.TooDeep (Of.InOperation g) e = absurd (cc (e))
-same_entry_fault Of.TooDeep Of.NoElement e = absurd (cc (e))
-same_entry_fault Of.TooDeep Of.TooDeep e = refl
+kind_back : Machine.Fault Pure.EntryFault → FaultKind
+kind_back (Machine.OfTask (Pure.InOperation Op.Overflow)) = Kind.Overflow
+kind_back (Machine.OfTask (Pure.InOperation Op.DivideByZero)) = Kind.DivideByZero
+kind_back (Machine.OfTask (Pure.InOperation Op.BadStep)) = Kind.BadStep
+kind_back (Machine.OfTask (Pure.InOperation Op.NotANumber)) = Kind.NotANumber
+kind_back (Machine.OfTask (Pure.InOperation Op.AssertFailed)) = Kind.AssertFailed
+kind_back (Machine.OfTask (Pure.InOperation Op.Memory)) = Kind.Overflow
+kind_back (Machine.OfTask Pure.NoElement) = Kind.NoElement
+kind_back (Machine.OfTask Pure.TooDeep) = Kind.TooDeep
+kind_back Machine.ElementTwice = Kind.ElementTwice
+
+kind_same : (k : FaultKind) → kind_back (kind_of_fault k) ≡ k
+unfolding kind_back
+kind_same Kind.Overflow = refl
+kind_same Kind.DivideByZero = refl
+kind_same Kind.NoElement = refl
+kind_same Kind.ElementTwice = refl
+kind_same Kind.BadStep = refl
+kind_same Kind.TooDeep = refl
+kind_same Kind.NotANumber = refl
+kind_same Kind.AssertFailed = refl
 
 same_kind : (f g : FaultKind) → kind_of_fault f ≡ kind_of_fault g → f ≡ g
-same_kind (OfEntry f) (OfEntry g) e = (let same : fault_view f ≡ fault_view g = cc in ap OfEntry (same_entry_fault f g same))
-same_kind (OfEntry f) ElementTwice e = absurd (cc (e))
-same_kind ElementTwice (OfEntry g) e = absurd (cc (e))
-same_kind ElementTwice ElementTwice e = refl
+same_kind f g e = sym (kind_same f) ∙ ap kind_back e ∙ kind_same g
 
 fault_parts : (t u : Task) (f g : Machine.Fault Pure.EntryFault) → ◌≡◌ {A = Option (Task × Machine.Fault Pure.EntryFault)} (Some (t, f)) (Some (u, g)) → (t ≡ u) × (f ≡ g)
 fault_parts t u f g e = (let p : ◌≡◌ {A = Task × Machine.Fault Pure.EntryFault} (t, f) (u, g) = cc in (ap (λ q. q.0) p, ap (λ q. q.1) p))

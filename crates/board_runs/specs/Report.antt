@@ -8,7 +8,7 @@ use Rattle.values.specs.declared.value.Scalar.TheVariants.{Number, Truth, Text}
 use Rattle.task_code.specs.Code.{Code}
 use Rattle.task_code.specs.Machine.{Quiet, Run}
 use Rattle.task_code.specs.View.{event_view}
-use Rattle.board_instances.specs.declared.place.Statement.{Statement}
+use Rattle.paths.specs.declared.statements.Statement.{Statement}
 use Rattle.board.specs.Blocked.{AreBlocked, IsFaultOf}
 use Rattle.board.specs.Board.{AreByWorkers, IsGoing, Seen}
 use Rattle.board.specs.Numbers.{AreNumbered}

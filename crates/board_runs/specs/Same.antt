@@ -1,7 +1,7 @@
 -- Reports that tell the same.
 use Rattle.std.specs.Prelude.{◌≡◌, ℕ, List, map}
 use Rattle.task_code.specs.Places as Places
-use Rattle.board_instances.specs.declared.place.Statement.{Statement}
+use Rattle.paths.specs.declared.statements.Statement.{Statement}
 use Rattle.board.specs.View.{path_view}
 use Rattle.board_runs.specs.declared.report.End.{End}
 use Rattle.board_runs.specs.declared.report.End.TheVariants as Ends

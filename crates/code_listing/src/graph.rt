@@ -5,24 +5,17 @@
 //! variable that it stores.
 
 use crate::bodies::{Seat, in_order, places};
-use crate::found::{Found, Stand, What, find};
-use crate::needs::{Scope, giver};
+use crate::drawing::Drawing;
+use crate::found::{Stand, What, find};
+use crate::givers::Givers;
+use crate::needs::Scope;
 use crate::page::Page;
 use crate::text::{add_act, add_title};
-use flow::script::{Flow, Function};
+use flow::script::Flow;
 use flow::statement::Variable as Named;
 use std::alloc::{AllocError, Allocator, Global};
 use task_code::code::{Body, Code};
 use task_code::entry::{Act, Entry, Name, Need, Owned, Variable};
-
-/// What is drawn, and for each body of the code its number in the listing.
-#[derive(Drop)]
-struct Drawing<'a, A: Allocator> {
-    code: &'a Code,
-    found: &'a Found,
-    functions: &'a Vec<Function<A>, A>,
-    places: &'a Vec<usize>,
-}
 
 /// The graph of a script's code: its bodies, by the offsets of their `{`, and the entries of each. The code is that of the flow.
 ///
@@ -36,26 +29,17 @@ pub fn graph<A: Allocator>(
 ) -> Result<Vec<u8>, AllocError> {
     let found = find(alloc, flow)?;
     let seats = in_order(alloc, &found)?;
-    draw(alloc, flow, code, &found, &seats)
-}
-
-/// The graph with these bodies.
-fn draw<A: Allocator>(
-    alloc: Global,
-    flow: &Flow<A>,
-    code: &Code,
-    found: &Found,
-    seats: &Vec<Seat>,
-) -> Result<Vec<u8>, AllocError> {
-    let places = places(alloc, seats)?;
+    let places = places(alloc, &seats)?;
+    let givers = Givers::find(alloc, code, &seats)?;
     let drawing = Drawing {
         code,
-        found,
+        found: &found,
         functions: &flow.functions,
         places: &places,
+        givers: &givers,
     };
     let mut page = Page::new(alloc);
-    add_bodies(&mut page, &drawing, seats);
+    add_bodies(&mut page, &drawing, &seats);
     page.finish()
 }
 
@@ -215,13 +199,7 @@ fn add_edges<A: Allocator>(
         match drawing.code.entry(entries[k]) {
             None => {}
             Some(entry) => {
-                let scope = Scope {
-                    code: drawing.code,
-                    found: drawing.found,
-                    functions: drawing.functions,
-                    function,
-                    before: &entries[..k],
-                };
+                let scope = drawing.scope(function, k + 1);
                 add_needs(page, &scope, place, entry);
                 add_stores(page, &scope, place, &entry.act);
                 add_opened(page, drawing.places, place, k + 1, &entry.act);
@@ -261,7 +239,7 @@ fn add_need<A: Allocator>(
     page.add(b"  ");
     add_point(page, scope, place, name);
     page.add(b" -> ");
-    add_entry(page, place, scope.before.len() + 1);
+    add_entry(page, place, scope.number);
     page.add(label);
     page.add(b";\n")
 }
@@ -274,7 +252,7 @@ fn add_point<A: Allocator>(page: &mut Page, scope: &Scope<'_, A>, place: usize, 
             if has_name(scope, name) {
                 page.add_counted(b"v", variable.node as usize)
             } else {
-                add_entry(page, place, giver(scope.code, scope.before, variable.node))
+                add_entry(page, place, scope.givers.of(variable.node))
             }
         }
     }
@@ -317,7 +295,7 @@ fn add_store<A: Allocator>(page: &mut Page, scope: &Scope<'_, A>, place: usize, 
         return;
     }
     page.add(b"  ");
-    add_entry(page, place, scope.before.len() + 1);
+    add_entry(page, place, scope.number);
     page.add(b" -> ");
     add_point(page, scope, place, name);
     page.add(b" [arrowhead=empty];\n")

@@ -1,9 +1,11 @@
 //! The listing of a script's code: its bodies and their entries, as text; and the same drawn, as text for `dot`.
 #![tactic(auto)]
 
-pub mod bodies;
-pub mod found;
+mod bodies;
+mod drawing;
+mod found;
+mod givers;
 pub mod graph;
-pub mod needs;
+mod needs;
 mod page;
 pub mod text;

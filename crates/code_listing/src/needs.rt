@@ -1,21 +1,21 @@
 //! What an entry waits for, as a listing shows it.
 
 use crate::found::Found;
+use crate::givers::Givers;
 use crate::page::Page;
 use flow::script::Function;
 use std::alloc::Allocator;
-use task_code::code::Code;
-use task_code::entry::{Act, Entry, Name, Need, Owned};
+use task_code::entry::{Entry, Name, Need, Owned};
 
-/// Where the names of an entry are looked up: in the script, in the function of this number, and among the entries of its
-/// body before it.
+/// Where the names of an entry are looked up: in the script, in the function of this number, and among the entries that give
+/// values; with the entry's own number in its body, from 1 on.
 #[derive(Drop)]
 pub struct Scope<'a, A: Allocator> {
-    pub code: &'a Code,
     pub found: &'a Found,
     pub functions: &'a Vec<Function<A>, A>,
+    pub givers: &'a Givers,
     pub function: u32,
-    pub before: &'a [u32],
+    pub number: usize,
 }
 
 /// Adds what an entry waits for, each behind a space.
@@ -79,44 +79,6 @@ fn add_parameter_of<A: Allocator>(page: &mut Page, function: &Function<A>, place
 fn add_local<A: Allocator>(page: &mut Page, scope: &Scope<'_, A>, node: u32) {
     match scope.found.names.get(&node) {
         Some(name) => page.add(name.as_slice()),
-        None => page.add_counted(b"#", giver(scope.code, scope.before, node)),
+        None => page.add_counted(b"#", scope.givers.of(node)),
     }
-}
-
-/// The number in its body, from 1 on, of the last of these entries that gives a node its value, and 0 where none does.
-pub fn giver(code: &Code, before: &[u32], node: u32) -> usize {
-    for passed in 0..before.len() {
-        let left = before.len() - passed;
-        if gives(code, before[left - 1], node) {
-            return left;
-        }
-    }
-    0
-}
-
-/// Whether the entry of a number gives a node its value.
-fn gives(code: &Code, number: u32, node: u32) -> bool {
-    match code.entry(number) {
-        None => false,
-        Some(entry) => match &entry.act {
-            Act::Cell(_) | Act::Read => entry.node == node,
-            Act::Call { outputs, .. } => is_output(outputs, node),
-            _ => false,
-        },
-    }
-}
-
-/// Whether a node is among the outputs of a call.
-fn is_output(outputs: &Vec<Name>, node: u32) -> bool {
-    for output in outputs {
-        match output.owned {
-            Owned::Parameter(_, _) => {}
-            Owned::Local(variable) => {
-                if output.up == 0 && variable.node == node {
-                    return true;
-                }
-            }
-        }
-    }
-    false
 }

@@ -1,7 +1,9 @@
 //! Bodies and entries.
 
-use crate::bodies::{Seat, in_order, places};
-use crate::found::{Found, Stand, What, find};
+use crate::bodies::{in_order, places};
+use crate::drawing::Drawing;
+use crate::found::{Stand, What, find};
+use crate::givers::Givers;
 use crate::needs::{Scope, needs};
 use crate::page::Page;
 use flow::script::{Flow, Function};
@@ -21,60 +23,33 @@ pub fn listing<A: Allocator>(
 ) -> Result<Vec<u8>, AllocError> {
     let found = find(alloc, flow)?;
     let seats = in_order(alloc, &found)?;
-    list(alloc, flow, code, &found, &seats)
-}
-
-/// The text of these bodies.
-fn list<A: Allocator>(
-    alloc: Global,
-    flow: &Flow<A>,
-    code: &Code,
-    found: &Found,
-    seats: &Vec<Seat>,
-) -> Result<Vec<u8>, AllocError> {
-    let places = places(alloc, seats)?;
+    let places = places(alloc, &seats)?;
+    let givers = Givers::find(alloc, code, &seats)?;
+    let drawing = Drawing {
+        code,
+        found: &found,
+        functions: &flow.functions,
+        places: &places,
+        givers: &givers,
+    };
     let mut page = Page::new(alloc);
     for place in 0..seats.len() {
-        add_body(
-            &mut page,
-            flow,
-            code,
-            found,
-            &places,
-            seats[place].body,
-            place,
-        );
+        add_body(&mut page, &drawing, seats[place].body, place);
     }
     page.finish()
 }
 
 /// Adds a body and its entries.
-fn add_body<A: Allocator>(
-    page: &mut Page,
-    flow: &Flow<A>,
-    code: &Code,
-    found: &Found,
-    places: &Vec<usize>,
-    body: u32,
-    place: usize,
-) {
-    let Some(stand) = found.stand(body) else {
+fn add_body<A: Allocator>(page: &mut Page, drawing: &Drawing<'_, A>, body: u32, place: usize) {
+    let Some(stand) = drawing.found.stand(body) else {
         return;
     };
-    let Some(body) = code.body(body) else {
+    let Some(body) = drawing.code.body(body) else {
         return;
     };
-    add_title(page, &flow.functions, stand, place);
+    add_title(page, drawing.functions, stand, place);
     page.add(b"\n");
-    add_entries(
-        page,
-        flow,
-        code,
-        found,
-        places,
-        stand.function,
-        body.entries.as_slice(),
-    );
+    add_entries(page, drawing, stand.function, body.entries.as_slice());
 }
 
 /// Adds the title of a body.
@@ -109,25 +84,16 @@ fn what_text(what: What) -> &'static str {
 /// Adds the entries of a body.
 fn add_entries<A: Allocator>(
     page: &mut Page,
-    flow: &Flow<A>,
-    code: &Code,
-    found: &Found,
-    places: &Vec<usize>,
+    drawing: &Drawing<'_, A>,
     function: u32,
     entries: &[u32],
 ) {
     for k in 0..entries.len() {
-        match code.entry(entries[k]) {
+        match drawing.code.entry(entries[k]) {
             None => {}
             Some(entry) => {
-                let scope = Scope {
-                    code,
-                    found,
-                    functions: &flow.functions,
-                    function,
-                    before: &entries[..k],
-                };
-                add_entry(page, &scope, places, entry);
+                let scope = drawing.scope(function, k + 1);
+                add_entry(page, &scope, drawing.places, entry);
             }
         }
     }
@@ -140,7 +106,7 @@ fn add_entry<A: Allocator>(
     places: &Vec<usize>,
     entry: &Entry,
 ) {
-    page.add_counted(b"  ", scope.before.len() + 1);
+    page.add_counted(b"  ", scope.number);
     add_act(page, entry);
     needs(page, scope, entry);
     add_opened(page, places, &entry.act);

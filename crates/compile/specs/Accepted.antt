@@ -1,5 +1,5 @@
 -- What it means that a text is a script, of this core, and that it is refused.
-use Rattle.std.specs.Prelude.{◌≡◌, ℕ, List, Some}
+use Rattle.std.specs.Prelude.{◌≡◌, ◌⊎◌, ℕ, List, Some}
 use Rattle.language.specs.Core.{Core}
 use Rattle.language.specs.Reads.{Reads}
 use Rattle.language.specs.Resolved.{core}
@@ -8,6 +8,8 @@ use Rattle.language.specs.Table.{Table}
 use Rattle.language.specs.Tree.{Tree}
 use Rattle.language.specs.Typing.{WellTyped}
 use Rattle.syntax.specs.Refusals.{Refuses}
+use Rattle.syntax.specs.declared.error.ParseFault.{ParseFault}
+use Rattle.syntax.specs.declared.error.ParseFault.TheVariants as Parse
 use Rattle.types.specs.declared.fault.TypeFault.{TypeFault}
 use Rattle.types.specs.declared.fault.TypeFault.TheVariants as Typing
 use Rattle.types.specs.Breaks as typing
@@ -61,17 +63,35 @@ pub record IsNotSingle (src : List ℕ) (fault : AssignFault) : Type 0 where
   pub broken : Breaks table tree fault
   pub not_single : ¬ SinglyAssigned (core table tree)
 
+abbrev pub IsRefusedByText : List ℕ → ParseFault → Type 0
+IsRefusedByText src Parse.Memory = ⊥
+IsRefusedByText src f = Refuses src f
+
 abbrev pub IsRefusedByTypes : List ℕ → TypeFault → Type 0
-IsRefusedByTypes src Typing.Memory = IsRead src
+IsRefusedByTypes src Typing.Memory = ⊥
 IsRefusedByTypes src f = IsIllTyped src f
 
 abbrev pub IsRefusedByAssignments : List ℕ → AssignFault → Type 0
-IsRefusedByAssignments src Assign.Memory = IsRead src
+IsRefusedByAssignments src Assign.Memory = ⊥
 IsRefusedByAssignments src f = IsNotSingle src f
 
--- why a text is no script, by the first step that refuses it
+-- why a text is no script, by the first step that refuses it; want of memory is no refusal, and comes while a text is read that is not too
+-- long, or behind that
 abbrev pub IsUnfit : List ℕ → CompileFault → Type 0
-IsUnfit src (Fault.Parse f) = Refuses src f
+IsUnfit src (Fault.Parse f) = IsRefusedByText src f
 IsUnfit src (Fault.Types f) = IsRefusedByTypes src f
 IsUnfit src (Fault.Assignments f) = IsRefusedByAssignments src f
-IsUnfit src Fault.Memory = IsRead src
+IsUnfit src Fault.Memory = Refuses src Parse.Memory ⊎ IsRead src
+
+-- what the fault of a step comes to
+abbrev pub fault_of_text : ParseFault → CompileFault
+fault_of_text Parse.Memory = Fault.Memory
+fault_of_text f = Fault.Parse f
+
+abbrev pub fault_of_types : TypeFault → CompileFault
+fault_of_types Typing.Memory = Fault.Memory
+fault_of_types f = Fault.Types f
+
+abbrev pub fault_of_assignments : AssignFault → CompileFault
+fault_of_assignments Assign.Memory = Fault.Memory
+fault_of_assignments f = Fault.Assignments f

@@ -13,11 +13,9 @@ use Rattle.flow.specs.View.{core_of}
 use Rattle.flow.specs.declared.script.Flow.{Flow}
 use Rattle.wait_merge.specs.Merged.{IsMerged}
 use Rattle.task_code.specs.Code.{Code}
-use Rattle.task_code.specs.Count.{items_in}
 use Rattle.task_code.specs.Effects.{Main}
 use Rattle.task_code.specs.Exact.{IsExact}
 use Rattle.task_code.specs.Machine.{CodeItem, CodeState, CodeStep, DataAreExact, DataAreKept, GoesOn, HasSteps, IsTidy, LeadsTo, Quiet, Run, SameEnd, run_log}
-use Rattle.task_code.specs.Places.{Step}
 use Rattle.task_code.specs.Whole.{IsCode}
 use Rattle.code_rules.specs.Emitted.{IsEmitted}
 use Rattle.headline.specs.Headline.{Headline}
@@ -25,7 +23,7 @@ use Rattle.code_rules.specs.IsCodeOf.{IsCodeOf, Layout}
 use Rattle.code_rules.specs.Laying.{Kinds}
 use Rattle.code_rules.specs.NodesOnce.{NodesOnce}
 use Rattle.code_whole.specs.Described.{DeclaredIn, KindsOf}
-use Rattle.headline_bound.specs.Live.{HasLiveBodies, HasLiveLoops, IsLiveItem}
+use Rattle.headline_bound.specs.Live.{IsBounded, IsLiveItem}
 use Rattle.constant_fold.specs.Folded.{folded_tree}
 use Rattle.compile.specs.Accepted.{IsAccepted}
 
@@ -74,9 +72,8 @@ pub record RunsGoOn (code : Code) : Type 0 where
 pub record RunsAreLive (s : Core) (code : Code) (l : Layout) : Type 0 where
   -- each item is of a live block, at the block's path
   pub live : (events : List Event) (st : CodeState) → Run code events st → (i : CodeItem) → In i st.items → (i.task ≡ Main) ⊎ IsLiveItem s code l i.task
-  -- so there are at most two events for each entry of each live block's body and each rest of a loop that runs, for the item that opens the script, and for each item that was given back
-  pub bound : (bodies : List (ℕ × List Step)) (loops : List (ℕ × List Step × ℕ)) → HasLiveBodies s code l bodies → HasLiveLoops s code l loops
-      → (events : List Event) (st : CodeState) → Run code events st → length events ≤ 2 * (items_in code bodies loops + backs events)
+  -- so there are at most two events for each item of live bodies and of loops that run, none of them twice, for the item that opens the script, and for each item that was given back
+  pub bound : (events : List Event) (st : CodeState) → Run code events st → IsBounded s code l events
 
 -- the text is a script, and the code is that of its fold, laid by the rules: it is whole and not too long, its rights are exact, and every run of it owes to the script, as it is written, what the headline says
 pub record IsCompiled (src : List ℕ) (code : Code) : Type 0 where

@@ -22,7 +22,7 @@ pub struct Accepted<A: Allocator> {
 /// # Errors
 ///
 /// The refusal of the first step that refuses the script, or its want of memory.
-#[tactic(auto, using(crate::proofs::Scripts::accepted, crate::proofs::Scripts::refused_by_types, crate::proofs::Scripts::refused_by_assignments))]
+#[tactic(auto, using(crate::proofs::Scripts::accepted, crate::proofs::Scripts::refused_by_text, crate::proofs::Scripts::refused_by_types, crate::proofs::Scripts::refused_by_assignments))]
 pub fn accept<A: Allocator + Clone>(
     machine: Global,
     alloc: A,
@@ -33,15 +33,15 @@ pub fn accept<A: Allocator + Clone>(
 {
     let script = match parse(alloc, src) {
         Ok(script) => script,
-        Err(fault) => return Err(CompileFault::Parse(fault)),
+        Err(fault) => return Err(CompileFault::of_text(fault)),
     };
     let typed = match types::check(machine, &script) {
         Ok(typed) => typed,
-        Err(fault) => return Err(CompileFault::Types(fault)),
+        Err(fault) => return Err(CompileFault::of_types(fault)),
     };
     match assign_check::check(machine, &script, &typed) {
         Ok(()) => Ok(Accepted { script, typed }),
-        Err(fault) => Err(CompileFault::Assignments(fault)),
+        Err(fault) => Err(CompileFault::of_assignments(fault)),
     }
 }
 

@@ -1,10 +1,10 @@
 //! Why a script has no code.
 ghost use Rattle.std.specs.Prelude.{◌≡◌};
+ghost use Rattle.compile.specs.Accepted.{fault_of_assignments, fault_of_text, fault_of_types};
 ghost use Rattle.compile.specs.Places.{span_of};
 
 use assign_check::fault::AssignFault;
 use lexer::token::Span;
-use std::alloc::AllocError;
 use std::error::Error;
 use std::fmt;
 use syntax::error::ParseFault;
@@ -25,6 +25,36 @@ pub enum CompileFault {
 }
 
 impl CompileFault {
+    /// What a fault of reading comes to: want of memory is no refusal.
+    pub fn of_text(fault: ParseFault) -> CompileFault
+        ensures { result ≡ fault_of_text fault }
+    {
+        match fault {
+            ParseFault::Memory => CompileFault::Memory,
+            refusal => CompileFault::Parse(refusal),
+        }
+    }
+
+    /// The same of a fault of types.
+    pub fn of_types(fault: TypeFault) -> CompileFault
+        ensures { result ≡ fault_of_types fault }
+    {
+        match fault {
+            TypeFault::Memory => CompileFault::Memory,
+            refusal => CompileFault::Types(refusal),
+        }
+    }
+
+    /// The same of a fault of assignments.
+    pub fn of_assignments(fault: AssignFault) -> CompileFault
+        ensures { result ≡ fault_of_assignments fault }
+    {
+        match fault {
+            AssignFault::Memory => CompileFault::Memory,
+            refusal => CompileFault::Assignments(refusal),
+        }
+    }
+
     /// The place of the refusal. Want of memory has none.
     pub fn span(self) -> Option<Span>
         ensures { result ≡ span_of self }

@@ -8,7 +8,7 @@ abbrev pub number_of_item : {T : Type 0} → Item T → ℕ
 number_of_item i = i.number
 
 -- the numbers of new items rise from the next one
-new_between : {T : Type 0} (n : ℕ) (ts : List T) (k : ℕ) → In k (map number_of_item (new_items n ts)) → (n ≤ k) × (k < n + length ts)
+pub new_between : {T : Type 0} (n : ℕ) (ts : List T) (k : ℕ) → In k (map number_of_item (new_items n ts)) → (n ≤ k) × (k < n + length ts)
 new_between n [] k h = absurd h
 new_between n (t ∷ ts) k h = elim h [ inl p ↦ first p | inr j ↦ further (new_between (suc n) ts k j) ]
   where

@@ -107,14 +107,14 @@ pub record CanBeEmitted (c : Core) : Type 0 where
 
 -- what it has laid, with what a block has
 abbrev pub state_with : Emitter → Filling → State
-state_with e f = state e.entries.items e.bodies.items f
+state_with e f = state e.writer.entries.items e.bodies.items f
 
 -- and with what the block that is being laid has
 abbrev pub state_of : Emitter → State
-state_of e = state_with e e.filling
+state_of e = state_with e e.writer.filling
 
 abbrev pub laying_of : Emitter → Laying
-laying_of e = laying e.entries.items (map body_view e.bodies.items)
+laying_of e = laying e.writer.entries.items (map body_view e.bodies.items)
 
 -- how many bodies are the script's and its functions'
 abbrev pub roots_of : {X : Type 0} → List X → ℕ
@@ -127,14 +127,16 @@ module _ {A : Type 0} (functions : List (Found A)) where
   EmitsInner k b s t = EmitsBlock (map kinds_of_function functions) (roots_of functions) k (block_view b) (block_declared b) s t
 
   abbrev pub EmitsStatements : ℕ → List (Statement A) → State → State → Type 0
-  EmitsStatements k ss s t = EmitsBlock (map kinds_of_function functions) (roots_of functions) k (block_of (map statement_view ss)) (together (map statement_declared ss)) s t
+  EmitsStatements k ss s t =
+      EmitsBlock (map kinds_of_function functions) (roots_of functions) k (block_of (map statement_view ss)) (together (map statement_declared ss)) s t
 
   abbrev pub EmitsOne : ℕ → Statement A → State → State → Type 0
   EmitsOne k one s t = EmitsStmt (map kinds_of_function functions) (roots_of functions) k (statement_view one) (statement_declared one) s t
 
   -- a statement that does this and declares these
   abbrev pub EmitsAs : Own → Action → List (ℕ × Bool) → Emitter → Emitter → Type 0
-  EmitsAs one a ds s t = EmitsStmt (map kinds_of_function functions) (roots_of functions) one.standing.inputs (stmt one.standing.at one.node a) ds (state_of s) (state_of t)
+  EmitsAs one a ds s t =
+      EmitsStmt (map kinds_of_function functions) (roots_of functions) one.standing.inputs (stmt one.standing.at one.node a) ds (state_of s) (state_of t)
 
   -- one that has no block and declares nothing
   abbrev pub EmitsOwn : Own → Action → Emitter → Emitter → Type 0
@@ -146,11 +148,14 @@ module _ {A : Type 0} (functions : List (Found A)) where
 
   -- a block of a function's own, or the script's
   abbrev pub EmitsRoot : ℕ → Inner A → Opener → Emitter → Emitter → code.Body → Type 0
-  EmitsRoot k b o s t made = EmitsBody (map kinds_of_function functions) (roots_of functions) k (block_view b) (block_declared b) o (laying_of s) (laying_of t) made
+  EmitsRoot k b o s t made =
+      EmitsBody (map kinds_of_function functions) (roots_of functions) k (block_view b) (block_declared b) o (laying_of s) (laying_of t) made
 
   -- a function, and all functions
   abbrev pub EmitsFunction : Found A → Emitter → Emitter → List Body → List Body → Type 0
-  EmitsFunction f s t old new = EmitsFirst (map kinds_of_function functions) (roots_of functions) (function_view f) (block_declared f.body) (laying_of s) (laying_of t) old new
+  EmitsFunction f s t old new =
+      EmitsFirst (map kinds_of_function functions) (roots_of functions) (function_view f) (block_declared f.body) (laying_of s) (laying_of t) old new
 
   abbrev pub EmitsAll : Emitter → Emitter → List Body → List Body → Type 0
-  EmitsAll s t old new = EmitsFunctions (map kinds_of_function functions) (roots_of functions) (map function_view functions) (functions_declared functions) (laying_of s) (laying_of t) old new
+  EmitsAll s t old new =
+      EmitsFunctions (map kinds_of_function functions) (roots_of functions) (map function_view functions) (functions_declared functions) (laying_of s) (laying_of t) old new

@@ -4,11 +4,10 @@ ghost use Rattle.emit.specs.Emits.{roots_of};
 
 use crate::body::empty;
 use emit_numbers::{behind, next_number};
-use emit_statements::filling::Filling;
+use emit_statements::writer::Writer;
 use flow::script::Function;
 use std::alloc::{Allocator, Global};
 use task_code::code::Body;
-use task_code::entry::Entry;
 
 /// How many bodies are the script's and its functions', which stand before those of inner blocks.
 pub fn roots<A: Allocator>(functions: &Vec<Function<A>, A>) -> usize
@@ -17,26 +16,27 @@ pub fn roots<A: Allocator>(functions: &Vec<Function<A>, A>) -> usize
     behind(functions.len(), 1)
 }
 
-/// The entries that are laid, the bodies of the inner blocks that are laid, and what the block that is being laid has so far.
+/// What is laid of entries and of the block that is being laid, and the bodies of the inner blocks that are laid.
 #[derive(Drop)]
 pub struct Emitter {
-    pub alloc: Global,
-    pub entries: Vec<Entry>,
+    pub writer: Writer,
     pub bodies: Vec<Body>,
-    pub filling: Filling,
 }
 
 impl Emitter {
     /// Nothing is laid.
     pub fn new(alloc: Global) -> Emitter
-        ensures entries { result.entries.items ≡ [] }
+        ensures entries { result.writer.entries.items ≡ [] }
         ensures bodies { result.bodies.items ≡ [] }
     {
-        Emitter {
+        let writer = Writer {
             alloc,
             entries: Vec::new(alloc),
-            bodies: Vec::new(alloc),
             filling: empty(alloc),
+        };
+        Emitter {
+            writer,
+            bodies: Vec::new(alloc),
         }
     }
 

@@ -30,7 +30,7 @@ impl Emitter {
     ) -> Result<Body, AllocError>
         ensures { IfOk result (λ made. EmitsRoot functions.now.items inputs block.now (opener_view opener) self.old self.new (body_view made)) }
     {
-        let nothing = empty(self.alloc);
+        let nothing = empty(self.writer.alloc);
         let filling = self.block(functions, inputs, nothing, block)?;
         Ok(body(filling, opener))
     }
@@ -85,7 +85,7 @@ fn lay_script<A: Allocator>(alloc: Global, flow: &Flow<A>) -> Result<Laid, Alloc
     found.append(&mut emitter.bodies)?;
     Ok(Laid {
         bodies: found,
-        entries: emitter.entries,
+        entries: emitter.writer.entries,
     })
 }
 

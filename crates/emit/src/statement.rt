@@ -13,14 +13,9 @@ use crate::body::{add_body, empty};
 use crate::emitter::Emitter;
 use emit_cells::entries::Standing;
 use emit_numbers::next;
-use emit_statements::branches::add_branch;
-use emit_statements::calls::call_alone;
 use emit_statements::filling::Filling;
-use emit_statements::insert::insert;
-use emit_statements::loops::{add_each, add_range, loop_filling, loop_of};
-use emit_statements::own::{Statement as Own, Use, own};
-use emit_statements::parts::{condition_parts, range_parts};
-use emit_statements::waits::add_wait;
+use emit_statements::loops::{loop_filling, loop_of};
+use emit_statements::own::{Statement as Own, Use};
 use flow::cell::{Call, Outer, Part};
 use flow::name::Name;
 use flow::script::Function;
@@ -71,11 +66,11 @@ impl Emitter {
         block: &Block<A>,
     ) -> Result<Filling, AllocError>
         ensures laid { IfOk result (λ inside. EmitsInner functions.now.items inputs block.now (state_with self.old filling) (state_with self.new inside)) }
-        ensures around { OnOk result (self.new.filling ≡ self.old.filling) }
+        ensures around { OnOk result (self.new.writer.filling ≡ self.old.writer.filling) }
     {
-        let around = mem::replace(&mut self.filling, filling);
+        let around = mem::replace(&mut self.writer.filling, filling);
         self.each_statement(functions, inputs, &block.statements)?;
-        Ok(mem::replace(&mut self.filling, around))
+        Ok(mem::replace(&mut self.writer.filling, around))
     }
 
     /// Lays statements, one after another.
@@ -127,7 +122,7 @@ impl Emitter {
         ensures { OnOk result (EmitsAction functions.now.items statement (action_view action.now) (action_declared action.now) self.old self.new) }
     {
         match action {
-            Action::Declare(variable) => declare(&mut self.filling, variable),
+            Action::Declare(variable) => declare(&mut self.writer.filling, variable),
             Action::Call {
                 priority,
                 parts,
@@ -199,15 +194,8 @@ impl Emitter {
         ensures { OnOk result (EmitsOwn functions.now.items statement (core.call_alone statement.standing.priority
             (parts_view parts.now.items) (call_view call.now)) self.old self.new) }
     {
-        call_alone(
-            self.alloc,
-            &mut self.entries,
-            &mut self.filling,
-            functions,
-            statement.standing,
-            parts,
-            call,
-        )
+        self.writer
+            .call_alone(functions, statement.standing, parts, call)
     }
 
     /// Lays a statement that works an outermost cell out itself.
@@ -221,15 +209,7 @@ impl Emitter {
         ensures { OnOk result (statement.standing.priority ≡ own_priority (action_of done statement.standing.priority (outer_view outer.now))
             → EmitsOwn functions.now.items statement (action_of done statement.standing.priority (outer_view outer.now)) self.old self.new) }
     {
-        own(
-            self.alloc,
-            &mut self.entries,
-            &mut self.filling,
-            functions,
-            statement,
-            done,
-            outer,
-        )
+        self.writer.own(functions, statement, done, outer)
     }
 
     /// Lays a write of an element.
@@ -244,16 +224,8 @@ impl Emitter {
         ensures { OnOk result (EmitsAction functions.now.items statement (core.insert (name_view array) (outer_view index.now) (outer_view right.now)) []
             self.old self.new) }
     {
-        insert(
-            self.alloc,
-            &mut self.entries,
-            &mut self.filling,
-            functions,
-            statement,
-            array,
-            index,
-            right,
-        )
+        self.writer
+            .insert(functions, statement, array, index, right)
     }
 
     // BRANCHES
@@ -270,27 +242,12 @@ impl Emitter {
         ensures { OnOk result (EmitsAction functions.now.items statement (core.when (outer_view condition.now) (block_view then.now))
             (block_declared then.now) self.old self.new) }
     {
-        let alloc = self.alloc;
+        let alloc = self.writer.alloc;
         let standing = statement.standing;
-        condition_parts(
-            alloc,
-            &mut self.entries,
-            &mut self.filling,
-            functions,
-            standing,
-            condition,
-        )?;
+        self.writer.condition_parts(functions, standing, condition)?;
         let inside = self.block(functions, standing.inputs, empty(alloc), then)?;
         let body = self.next_body(functions);
-        let number = add_branch(
-            alloc,
-            &mut self.entries,
-            &mut self.filling,
-            statement,
-            condition,
-            body,
-            None,
-        )?;
+        let number = self.writer.add_branch(statement, condition, body, None)?;
         add_body(&mut self.bodies, Opener::ByStep(number), inside)
     }
 
@@ -307,28 +264,15 @@ impl Emitter {
         ensures { OnOk result (EmitsAction functions.now.items statement (core.choose (outer_view condition.now) (block_view then.now) (block_view other.now))
             (block_declared then.now ++ block_declared other.now) self.old self.new) }
     {
-        let alloc = self.alloc;
+        let alloc = self.writer.alloc;
         let standing = statement.standing;
-        condition_parts(
-            alloc,
-            &mut self.entries,
-            &mut self.filling,
-            functions,
-            standing,
-            condition,
-        )?;
+        self.writer.condition_parts(functions, standing, condition)?;
         let inside = self.block(functions, standing.inputs, empty(alloc), then)?;
         let outside = self.block(functions, standing.inputs, empty(alloc), other)?;
         let body = self.next_body(functions);
-        let number = add_branch(
-            alloc,
-            &mut self.entries,
-            &mut self.filling,
-            statement,
-            condition,
-            body,
-            Some(next(body)),
-        )?;
+        let number = self
+            .writer
+            .add_branch(statement, condition, body, Some(next(body)))?;
         add_body(&mut self.bodies, Opener::ByStep(number), inside)?;
         add_body(&mut self.bodies, Opener::ByStep(number), outside)
     }
@@ -350,27 +294,13 @@ impl Emitter {
             (option_map (λ v. v.node) turn.now) (block_view body.now))
             (block_declared body.now) self.old self.new) }
     {
-        let alloc = self.alloc;
+        let alloc = self.writer.alloc;
         let standing = statement.standing;
-        range_parts(
-            alloc,
-            &mut self.entries,
-            &mut self.filling,
-            functions,
-            standing,
-            range,
-        )?;
+        self.writer.range_parts(functions, standing, range)?;
         let variables = loop_filling(alloc, value, turn)?;
         let inside = self.block(functions, standing.inputs, variables, body)?;
         let turns = loop_of(self.next_body(functions), value, turn);
-        let number = add_range(
-            alloc,
-            &mut self.entries,
-            &mut self.filling,
-            statement,
-            range,
-            turns,
-        )?;
+        let number = self.writer.add_range(statement, range, turns)?;
         add_body(&mut self.bodies, Opener::ByStep(number), inside)
     }
 
@@ -389,18 +319,11 @@ impl Emitter {
             (option_map (λ v. v.node) key.now) (block_view body.now))
             (block_declared body.now) self.old self.new) }
     {
-        let alloc = self.alloc;
+        let alloc = self.writer.alloc;
         let variables = loop_filling(alloc, value, key)?;
         let inside = self.block(functions, statement.standing.inputs, variables, body)?;
         let turns = loop_of(self.next_body(functions), value, key);
-        let number = add_each(
-            alloc,
-            &mut self.entries,
-            &mut self.filling,
-            statement,
-            array,
-            turns,
-        )?;
+        let number = self.writer.add_each(statement, array, turns)?;
         add_body(&mut self.bodies, Opener::ByStep(number), inside)
     }
 
@@ -420,18 +343,10 @@ impl Emitter {
             (waits_around inner.now.items (block_view content.now)))
             (block_declared content.now) self.old self.new) }
     {
-        let alloc = self.alloc;
+        let alloc = self.writer.alloc;
         let inside = self.block(functions, statement.standing.inputs, empty(alloc), content)?;
         let body = self.next_body(functions);
-        let number = add_wait(
-            alloc,
-            &mut self.entries,
-            &mut self.filling,
-            statement,
-            names,
-            inner,
-            body,
-        )?;
+        let number = self.writer.add_wait(statement, names, inner, body)?;
         add_body(&mut self.bodies, Opener::ByWait(number), inside)
     }
 }

@@ -9,3 +9,4 @@ pub mod Calls
 pub mod Placed
 pub mod Lasts
 pub mod Selves
+pub mod Lays

@@ -2,15 +2,20 @@
 use Rattle.std.specs.Prelude.{◌≡◌, ℕ, suc, ℤ, Bool, true, false, List, [], ◌∷◌, ◌++◌, length, map, Option, Some, None, slice_get, option_map, nat_eq, cond, take, drop}
 use Rattle.values.specs.declared.value.Scalar.{Scalar}
 use Rattle.indexmap.specs.IndexMap.{IndexMap, get}
-use Rattle.language.specs.Core.{Name, here, Expr, literal, name, whole, operator, Form, compute, read, Cell, Call, Part}
+use Rattle.language.specs.Core.{Name, here, Expr, literal, name, whole, operator, Form, compute, read, Cell, Call, Part, inner}
 use Rattle.language.specs.Members.{◌∈◌}
 use Rattle.language.specs.Parts.{part_cells}
+use Rattle.flow.specs.declared.cell.Outer.{Outer}
+use Rattle.flow.specs.declared.script.Function.{Function}
+use Rattle.flow.specs.Shapes.{kinds_of_function}
+use Rattle.flow.specs.View.{cell_view, parts_view}
 use Rattle.task_code.specs.Code as code
 use Rattle.task_code.specs.Code.{Argument, Named, Fixed, At, AtKey, Need, Code, Entry, is_array_name}
 use Rattle.task_code.specs.Compute.{key_of}
 use Rattle.task_code.specs.View.{argument_view, entry_view}
 use Rattle.task_code.specs.declared.entry.Argument.{Argument as Handed}
 use Rattle.task_code.specs.declared.entry.Entry.{Entry as Made}
+use Rattle.emit_cells.specs.declared.entries.Standing.{Standing}
 use Rattle.code_rules.specs.CodeNames.{name_as}
 use Rattle.code_rules.specs.IsCodeOf.{Layout, InputAs, PartsAs}
 use Rattle.code_rules.specs.Laying.{CallsFit, IndexesStand, Kinds, PlainAs, StandsAmong, counted, is_array_argument}
@@ -29,7 +34,8 @@ Told all n b = (l : Layout) → PlainAs l None all → l.plain n ≡ b
 -- for the cell of a node
 pub data HandedFor (k : ℕ) (all : List Part) (n : ℕ) (a : Argument) : Type 0 where
   literal_handed : {v : Scalar} → record { node = n; form = compute (literal v) } ∈ part_cells all → Told all n true → a ≡ Fixed v → HandedFor k all n a
-  name_handed : {x : Name} → record { node = n; form = compute (name x) } ∈ part_cells all → Told all n true → a ≡ Named (name_as k false x) → HandedFor k all n a
+  name_handed : {x : Name} → record { node = n; form = compute (name x) } ∈ part_cells all → Told all n true → a ≡ Named (name_as k false x)
+      → HandedFor k all n a
   datum_handed : {c : Cell} → c ∈ part_cells all → n ≡ c.node → Told all n false → a ≡ Named (name_as k false (here n)) → HandedFor k all n a
 
 -- what it is, for a cell that is plain or not
@@ -85,7 +91,8 @@ pub record NamePasses (k : ℕ) (all : List Part) (b : Bool) (x : Name) (a : Arg
 -- for an input, to a function of these kinds
 pub record InputPasses (fs : List Kinds) (k : ℕ) (all : List Part) (f i : ℕ) (x : Name) (a : Argument) : Type 0 where
   pub input : (C : Code) (l : Layout) → PlainAs l None all → InputAs C l k all x a
-  pub array : (kinds : Kinds) (b : Bool) → slice_get fs f ≡ Some kinds → slice_get kinds.0 i ≡ Some b → (b ≡ false → StandsAmong all x) → is_array_argument a ≡ b
+  pub array : (kinds : Kinds) (b : Bool) → slice_get fs f ≡ Some kinds → slice_get kinds.0 i ≡ Some b → (b ≡ false → StandsAmong all x)
+      → is_array_argument a ≡ b
 
 -- and for an output
 pub record OutputPasses (fs : List Kinds) (k f i : ℕ) (x : Name) (r : code.Name) : Type 0 where
@@ -97,6 +104,13 @@ pub record OutputPasses (fs : List Kinds) (k f i : ℕ) (x : Name) (r : code.Nam
 pub data OneByOne {X Y : Type 0} (R : ℕ → X → Y → Type 0) : ℕ → List X → List Y → Type 0 where
   no_pair : {i : ℕ} → OneByOne R i [] []
   one_pair : {i : ℕ} {x : X} {y : Y} {xs : List X} {ys : List Y} → R i x y → OneByOne R (suc i) xs ys → OneByOne R i (x ∷ xs) (y ∷ ys)
+
+-- inputs and outputs from a number on, in a script with these functions
+abbrev pub InputsPass : {A : Type 0} → List (Function A) → ℕ → List Part → ℕ → ℕ → List Name → List Argument → Type 0
+InputsPass functions k all f i xs handed = OneByOne (InputPasses (map kinds_of_function functions) k all f) i xs handed
+
+abbrev pub OutputsPass : {A : Type 0} → List (Function A) → ℕ → ℕ → ℕ → List Name → List code.Name → Type 0
+OutputsPass functions k f i xs given = OneByOne (OutputPasses (map kinds_of_function functions) k f) i xs given
 
 -- the act of a call's entry
 pub record Calls (fs : List Kinds) (k : ℕ) (all : List Part) (c : Call) (a : code.Act) : Type 0 where
@@ -113,7 +127,8 @@ module _ (fs : List Kinds) (k : ℕ) (all : List Part) (at : ℕ) (p : ℤ) wher
   -- these entries are laid for some of the parts
   pub record Chunk (ps : List Part) (more : List Entry) : Type 0 where
     pub fit : CallsFit fs all more
-    pub parts_as : (C : Code) (front rest : List Entry) → C.entries ≡ front ++ (more ++ rest) → (l : Layout) → PlainAs l None all → ((i : ℕ) → l.body_of i ≡ suc i) → IndexesStand all
+    pub parts_as : (C : Code) (front rest : List Entry) → C.entries ≡ front ++ (more ++ rest) → (l : Layout) → PlainAs l None all
+        → ((i : ℕ) → l.body_of i ≡ suc i) → IndexesStand all
         → PartsAs C l k all at p ps (counted (length front) (length more))
 
   -- they are laid behind these
@@ -121,3 +136,15 @@ module _ (fs : List Kinds) (k : ℕ) (all : List Part) (at : ℕ) (p : ℤ) wher
     pub more : List Entry
     pub is : map entry_view new ≡ map entry_view old ++ more
     pub chunk : Chunk ps more
+
+-- in a script with these functions, for a statement that stands so
+abbrev pub AddedFor : {A : Type 0} → List (Function A) → Standing → List Part → List Part → List Made → List Made → Type 0
+AddedFor functions s all ps old new = Added (map kinds_of_function functions) s.inputs all s.at s.priority ps old new
+
+-- and for all of its parts
+abbrev pub AllAdded : {A : Type 0} → List (Function A) → Standing → List Part → List Made → List Made → Type 0
+AllAdded functions s ps old new = AddedFor functions s ps ps old new
+
+-- the cells and calls inside an outermost cell, and itself behind them
+abbrev pub parts_inside : {A : Type 0} → Outer A → List Part
+parts_inside o = parts_view o.parts.items ++ inner (cell_view o.cell) ∷ []

@@ -50,7 +50,8 @@ fn argument<A: Allocator>(
     cell: &Cell<A>,
     plain: bool,
 ) -> Result<Argument, AllocError>
-    ensures { IfOk result (λ a. FormRoom inputs (form_view cell.now.form) → code_view.argument_view a ≡ passed_as inputs plain cell.now.node (form_view cell.now.form)) }
+    ensures { IfOk result (λ a. FormRoom inputs (form_view cell.now.form)
+        → code_view.argument_view a ≡ passed_as inputs plain cell.now.node (form_view cell.now.form)) }
 {
     if plain {
         plain_argument(alloc, inputs, cell.node, &cell.form)
@@ -67,7 +68,8 @@ pub fn pass_cell<A: Allocator>(
     cell: &Cell<A>,
     plain: bool,
 ) -> Result<(), AllocError>
-    ensures { OnOk result (FormRoom inputs (form_view cell.now.form) → Puts cell.now.node (passed_as inputs plain cell.now.node (form_view cell.now.form)) passed.old passed.new) }
+    ensures { OnOk result (FormRoom inputs (form_view cell.now.form)
+        → Puts cell.now.node (passed_as inputs plain cell.now.node (form_view cell.now.form)) passed.old passed.new) }
 {
     let argument = argument(alloc, inputs, cell, plain)?;
     passed.insert(cell.node, argument)?;
@@ -102,7 +104,8 @@ pub fn pass_parts<A: Allocator>(
     inputs: usize,
     parts: &Vec<Part<A>, A>,
 ) -> Result<(), AllocError>
-    ensures { OnOk result ((all : List core.Part) → Each (PartRoom inputs) (parts_view parts.now.items) → Inside all (parts_view parts.now.items) → Passes inputs all (parts_view parts.now.items) passed.old passed.new) }
+    ensures { OnOk result ((all : List core.Part) → Each (PartRoom inputs) (parts_view parts.now.items) → Inside all (parts_view parts.now.items)
+        → Passes inputs all (parts_view parts.now.items) passed.old passed.new) }
 {
     for at in 0..parts.len() {
         pass_part(alloc, passed, inputs, parts, at)?;

@@ -51,7 +51,8 @@ fn add_part_data<A: Allocator>(
     at: usize,
 ) -> Result<(), AllocError>
     requires { at < length parts.now.items }
-    ensures { OnOk result (map variable_view makes.new.items ≡ map variable_view makes.old.items ++ data_in (before (parts_view parts.now.items) at) (part_at (parts_view parts.now.items) at)) }
+    ensures { OnOk result (map variable_view makes.new.items
+        ≡ map variable_view makes.old.items ++ data_in (before (parts_view parts.now.items) at) (part_at (parts_view parts.now.items) at)) }
 {
     match &parts[at] {
         Part::Calls(call) => add_outputs(makes, &call.outputs),

@@ -52,7 +52,9 @@ pub fn put(
     needs: &IndexSet<Wanted>,
     act: Act,
 ) -> Result<(), AllocError>
-    ensures { OnOk result ((ns : List PureNeed) → Noted ns needs.now.keys → map code_view.entry_view entries.new.items ≡ map code_view.entry_view entries.old.items ++ made standing shown (each_once ns) (code_view.act_view act) ∷ []) }
+    ensures { OnOk result ((ns : List PureNeed) → Noted ns needs.now.keys
+        → map code_view.entry_view entries.new.items
+        ≡ map code_view.entry_view entries.old.items ++ made standing shown (each_once ns) (code_view.act_view act) ∷ []) }
 {
     let needs = listed(alloc, needs)?;
     entries.push(entry(alloc, standing, shown, needs, act))?;

@@ -1,10 +1,9 @@
 //! The parts of a statement, laid in reading order.
-ghost use Rattle.std.specs.Prelude.{◌<◌, List, length, map, OnOk};
+ghost use Rattle.std.specs.Prelude.{List, OnOk};
 ghost use Rattle.language.specs.Core as core;
-ghost use Rattle.flow.specs.Shapes.{kinds_of_function};
 ghost use Rattle.flow.specs.View.{parts_view};
 ghost use Rattle.code_rules.specs.Room.{PartRoom, Each};
-ghost use Rattle.emit_cells.specs.Chunk.{Added, Inside, IsPassed, part_at};
+ghost use Rattle.emit_cells.specs.Chunk.{AddedFor, Inside, IsPassed};
 
 use crate::entries::Standing;
 use crate::parts::{add_call, add_cell};
@@ -15,33 +14,6 @@ use indexmap::IndexMap;
 use std::alloc::{AllocError, Allocator, Global};
 use task_code::entry::{Argument, Entry};
 
-/// Adds the entry of the part at a place, if it has one.
-fn add_part<A: Allocator>(
-    alloc: Global,
-    entries: &mut Vec<Entry>,
-    functions: &Vec<Function<A>, A>,
-    standing: Standing,
-    passed: &IndexMap<u32, Argument>,
-    parts: &Vec<Part<A>, A>,
-    at: usize,
-) -> Result<(), AllocError>
-    requires { at < length parts.now.items }
-    ensures { OnOk result ((all : List core.Part) → IsPassed standing.inputs all passed.now → Each (PartRoom standing.inputs) (parts_view parts.now.items) → Inside all (parts_view parts.now.items)
-        → Added (map kinds_of_function functions.now.items) standing.inputs all standing.at standing.priority (part_at (parts_view parts.now.items) at) entries.old.items entries.new.items) }
-{
-    match &parts[at] {
-        Part::Calls(call) => add_call(alloc, entries, functions, standing, passed, call),
-        Part::Inner(cell) => {
-            let plain = is_plain(parts, at, &cell.form);
-            if plain {
-                Ok(())
-            } else {
-                add_cell(alloc, entries, standing, passed, cell)
-            }
-        }
-    }
-}
-
 /// Adds the entries of parts.
 pub fn add_parts<A: Allocator>(
     alloc: Global,
@@ -51,11 +23,19 @@ pub fn add_parts<A: Allocator>(
     passed: &IndexMap<u32, Argument>,
     parts: &Vec<Part<A>, A>,
 ) -> Result<(), AllocError>
-    ensures { OnOk result ((all : List core.Part) → IsPassed standing.inputs all passed.now → Each (PartRoom standing.inputs) (parts_view parts.now.items) → Inside all (parts_view parts.now.items)
-        → Added (map kinds_of_function functions.now.items) standing.inputs all standing.at standing.priority (parts_view parts.now.items) entries.old.items entries.new.items) }
+    ensures { OnOk result ((all : List core.Part) → IsPassed standing.inputs all passed.now → Each (PartRoom standing.inputs) (parts_view parts.now.items)
+        → Inside all (parts_view parts.now.items)
+        → AddedFor functions.now.items standing all (parts_view parts.now.items) entries.old.items entries.new.items) }
 {
     for at in 0..parts.len() {
-        add_part(alloc, entries, functions, standing, passed, parts, at)?;
+        match &parts[at] {
+            Part::Calls(call) => add_call(alloc, entries, functions, standing, passed, call)?,
+            Part::Inner(cell) => {
+                if !is_plain(parts, at, &cell.form) {
+                    add_cell(alloc, entries, standing, passed, cell)?;
+                }
+            }
+        }
     }
     Ok(())
 }

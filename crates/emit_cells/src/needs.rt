@@ -108,7 +108,8 @@ fn note_all<A: Allocator>(
     inputs: usize,
     exprs: &Vec<Expr<A>, A>,
 ) -> Result<(), AllocError>
-    ensures { OnOk result (ExprsRoom inputs (exprs_view exprs.now.items) → Notes needs.old.keys needs.new.keys (wanted_all inputs (exprs_view exprs.now.items))) }
+    ensures { OnOk result (ExprsRoom inputs (exprs_view exprs.now.items)
+        → Notes needs.old.keys needs.new.keys (wanted_all inputs (exprs_view exprs.now.items))) }
 {
     for expr in exprs {
         note(needs, inputs, expr)?;

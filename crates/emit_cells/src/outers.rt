@@ -1,10 +1,9 @@
 //! Outermost cells with the parts inside them.
-ghost use Rattle.std.specs.Prelude.{◌∷◌, ◌++◌, [], List, map, OnOk};
+ghost use Rattle.std.specs.Prelude.{◌∷◌, [], List, OnOk};
 ghost use Rattle.language.specs.Core as core;
-ghost use Rattle.flow.specs.Shapes.{kinds_of_function};
-ghost use Rattle.flow.specs.View.{cell_view, outer_view, parts_view};
+ghost use Rattle.flow.specs.View.{cell_view, outer_view};
 ghost use Rattle.code_rules.specs.Room.{OuterRoom};
-ghost use Rattle.emit_cells.specs.Chunk.{Added, Inside, IsPassed, Passes};
+ghost use Rattle.emit_cells.specs.Chunk.{AddedFor, Inside, IsPassed, Passes, parts_inside};
 
 use crate::cells::{pass_cell, pass_parts};
 use crate::entries::Standing;
@@ -24,8 +23,8 @@ pub fn pass_outer<A: Allocator>(
     inputs: usize,
     outer: &Outer<A>,
 ) -> Result<(), AllocError>
-    ensures { OnOk result ((all : List core.Part) → OuterRoom inputs (outer_view outer.now) → Inside all (parts_view outer.now.parts.items ++ core.inner (cell_view outer.now.cell) ∷ [])
-        → Passes inputs all (parts_view outer.now.parts.items ++ core.inner (cell_view outer.now.cell) ∷ []) passed.old passed.new) }
+    ensures { OnOk result ((all : List core.Part) → OuterRoom inputs (outer_view outer.now) → Inside all (parts_inside outer.now)
+        → Passes inputs all (parts_inside outer.now) passed.old passed.new) }
 {
     pass_parts(alloc, passed, inputs, &outer.parts)?;
     pass_cell(alloc, passed, inputs, &outer.cell, is_outer_plain(outer))?;
@@ -41,8 +40,9 @@ fn add_last<A: Allocator>(
     passed: &IndexMap<u32, Argument>,
     outer: &Outer<A>,
 ) -> Result<(), AllocError>
-    ensures { OnOk result ((all : List core.Part) → IsPassed standing.inputs all passed.now → OuterRoom standing.inputs (outer_view outer.now) → Inside all (parts_view outer.now.parts.items ++ core.inner (cell_view outer.now.cell) ∷ [])
-        → Added (map kinds_of_function functions.now.items) standing.inputs all standing.at standing.priority (core.inner (cell_view outer.now.cell) ∷ []) entries.old.items entries.new.items) }
+    ensures { OnOk result ((all : List core.Part) → IsPassed standing.inputs all passed.now → OuterRoom standing.inputs (outer_view outer.now)
+        → Inside all (parts_inside outer.now)
+        → AddedFor functions.now.items standing all (core.inner (cell_view outer.now.cell) ∷ []) entries.old.items entries.new.items) }
 {
     let plain = is_outer_plain(outer);
     if plain {
@@ -61,8 +61,9 @@ pub fn add_outer<A: Allocator>(
     passed: &IndexMap<u32, Argument>,
     outer: &Outer<A>,
 ) -> Result<(), AllocError>
-    ensures { OnOk result ((all : List core.Part) → IsPassed standing.inputs all passed.now → OuterRoom standing.inputs (outer_view outer.now) → Inside all (parts_view outer.now.parts.items ++ core.inner (cell_view outer.now.cell) ∷ [])
-        → Added (map kinds_of_function functions.now.items) standing.inputs all standing.at standing.priority (parts_view outer.now.parts.items ++ core.inner (cell_view outer.now.cell) ∷ []) entries.old.items entries.new.items) }
+    ensures { OnOk result ((all : List core.Part) → IsPassed standing.inputs all passed.now → OuterRoom standing.inputs (outer_view outer.now)
+        → Inside all (parts_inside outer.now)
+        → AddedFor functions.now.items standing all (parts_inside outer.now) entries.old.items entries.new.items) }
 {
     add_parts(alloc, entries, functions, standing, passed, &outer.parts)?;
     add_last(alloc, entries, functions, standing, passed, outer)?;

@@ -23,7 +23,8 @@ pub fn placed<A: Allocator>(
     inputs: usize,
     expr: &Expr<A>,
 ) -> Result<Placed, AllocError>
-    ensures { IfOk result (λ e. IsReady needs.now.keys → ExprRoom inputs (expr_view expr.now) → code_view.expr_view e ≡ over inputs (map need_of needs.now.keys) (expr_view expr.now)) }
+    ensures { IfOk result (λ e. IsReady needs.now.keys → ExprRoom inputs (expr_view expr.now)
+        → code_view.expr_view e ≡ over inputs (map need_of needs.now.keys) (expr_view expr.now)) }
 {
     match expr {
         Expr::Number(n) => Ok(Placed::Constant(Scalar::Number(*n))),
@@ -46,7 +47,8 @@ pub fn all_placed<A: Allocator>(
     inputs: usize,
     exprs: &Vec<Expr<A>, A>,
 ) -> Result<Vec<Placed>, AllocError>
-    ensures { IfOk result (λ es. IsReady needs.now.keys → ExprsRoom inputs (exprs_view exprs.now.items) → code_view.exprs_view es.items ≡ all_over inputs (map need_of needs.now.keys) (exprs_view exprs.now.items)) }
+    ensures { IfOk result (λ es. IsReady needs.now.keys → ExprsRoom inputs (exprs_view exprs.now.items)
+        → code_view.exprs_view es.items ≡ all_over inputs (map need_of needs.now.keys) (exprs_view exprs.now.items)) }
 {
     let mut found = Vec::with_capacity(alloc, exprs.len())?;
     for expr in exprs {

@@ -1,14 +1,13 @@
 //! Outermost cells that a statement works out itself, and the data of outermost cells.
 ghost use Rattle.std.specs.Prelude.{◌≡◌, ◌∷◌, ◌++◌, [], List, None, map, OnOk};
 ghost use Rattle.language.specs.Core as core;
-ghost use Rattle.flow.specs.Shapes.{kinds_of_function};
 ghost use Rattle.flow.specs.View.{cell_view, form_view, outer_view, parts_view};
 ghost use Rattle.language_laws.specs.TypedValues.{own_cell, own_outer};
 ghost use Rattle.task_code.specs.View.{variable_view};
 ghost use Rattle.code_rules.specs.Laying.{Kinds, data_in};
 ghost use Rattle.code_rules.specs.Room.{OuterRoom};
 ghost use Rattle.emit_cells.specs.Before.{last_of};
-ghost use Rattle.emit_cells.specs.Chunk.{Added, Inside, IsPassed};
+ghost use Rattle.emit_cells.specs.Chunk.{Added, AddedFor, Inside, IsPassed, parts_inside};
 
 use crate::data::{add_data, add_scalar};
 use crate::entries::Standing;
@@ -29,8 +28,10 @@ fn add_element<A: Allocator>(
     passed: &IndexMap<u32, Argument>,
     outer: &Outer<A>,
 ) -> Result<(), AllocError>
-    ensures { OnOk result ((fs : List Kinds) (all : List core.Part) → IsPassed standing.inputs all passed.now → OuterRoom standing.inputs (outer_view outer.now) → Inside all (own_outer (outer_view outer.now))
-        → Added fs standing.inputs all standing.at standing.priority (own_cell (cell_view outer.now.cell) (form_view outer.now.cell.form)) entries.old.items entries.new.items) }
+    ensures { OnOk result ((fs : List Kinds) (all : List core.Part) → IsPassed standing.inputs all passed.now
+        → OuterRoom standing.inputs (outer_view outer.now) → Inside all (own_outer (outer_view outer.now))
+        → Added fs standing.inputs all standing.at standing.priority (own_cell (cell_view outer.now.cell) (form_view outer.now.cell.form))
+        entries.old.items entries.new.items) }
 {
     match &outer.cell.form {
         Form::Compute(_) => Ok(()),
@@ -48,8 +49,9 @@ pub fn add_own_outer<A: Allocator>(
     passed: &IndexMap<u32, Argument>,
     outer: &Outer<A>,
 ) -> Result<(), AllocError>
-    ensures { OnOk result ((all : List core.Part) → IsPassed standing.inputs all passed.now → OuterRoom standing.inputs (outer_view outer.now) → Inside all (own_outer (outer_view outer.now))
-        → Added (map kinds_of_function functions.now.items) standing.inputs all standing.at standing.priority (own_outer (outer_view outer.now)) entries.old.items entries.new.items) }
+    ensures { OnOk result ((all : List core.Part) → IsPassed standing.inputs all passed.now → OuterRoom standing.inputs (outer_view outer.now)
+        → Inside all (own_outer (outer_view outer.now))
+        → AddedFor functions.now.items standing all (own_outer (outer_view outer.now)) entries.old.items entries.new.items) }
 {
     add_parts(alloc, entries, functions, standing, passed, &outer.parts)?;
     add_element(alloc, entries, standing, passed, outer)?;
@@ -58,7 +60,8 @@ pub fn add_own_outer<A: Allocator>(
 
 /// Adds the datum of a cell that is not plain.
 fn add_datum<A: Allocator>(makes: &mut Vec<Variable>, outer: &Outer<A>) -> Result<(), AllocError>
-    ensures { OnOk result (map variable_view makes.new.items ≡ map variable_view makes.old.items ++ data_in (last_of None (parts_view outer.now.parts.items)) (core.inner (cell_view outer.now.cell) ∷ [])) }
+    ensures { OnOk result (map variable_view makes.new.items
+        ≡ map variable_view makes.old.items ++ data_in (last_of None (parts_view outer.now.parts.items)) (core.inner (cell_view outer.now.cell) ∷ [])) }
 {
     if is_outer_plain(outer) {
         Ok(())
@@ -72,7 +75,7 @@ pub fn add_outer_data<A: Allocator>(
     makes: &mut Vec<Variable>,
     outer: &Outer<A>,
 ) -> Result<(), AllocError>
-    ensures { OnOk result (map variable_view makes.new.items ≡ map variable_view makes.old.items ++ data_in None (parts_view outer.now.parts.items ++ core.inner (cell_view outer.now.cell) ∷ [])) }
+    ensures { OnOk result (map variable_view makes.new.items ≡ map variable_view makes.old.items ++ data_in None (parts_inside outer.now)) }
 {
     add_data(makes, &outer.parts)?;
     add_datum(makes, outer)?;
@@ -84,7 +87,9 @@ fn add_element_datum<A: Allocator>(
     makes: &mut Vec<Variable>,
     outer: &Outer<A>,
 ) -> Result<(), AllocError>
-    ensures { OnOk result (map variable_view makes.new.items ≡ map variable_view makes.old.items ++ data_in (last_of None (parts_view outer.now.parts.items)) (own_cell (cell_view outer.now.cell) (form_view outer.now.cell.form))) }
+    ensures { OnOk result (map variable_view makes.new.items
+        ≡ map variable_view makes.old.items
+        ++ data_in (last_of None (parts_view outer.now.parts.items)) (own_cell (cell_view outer.now.cell) (form_view outer.now.cell.form))) }
 {
     match &outer.cell.form {
         Form::Compute(_) => Ok(()),

@@ -1,17 +1,15 @@
 //! The entries of parts.
-ghost use Rattle.std.specs.Prelude.{◌≡◌, ◌<◌, ◌+◌, ◌^◌, ◌++◌, ◌∷◌, [], List, ℕ, Bool, Some, None, true, false, length, map, take, slice_get, OnOk, IfOk};
+ghost use Rattle.std.specs.Prelude.{◌≡◌, ◌<◌, ◌+◌, ◌^◌, ◌++◌, ◌∷◌, [], List, Bool, Some, false, length, map, slice_get, OnOk, IfOk};
 ghost use Rattle.language.specs.Core as core;
 ghost use Rattle.language.specs.Members.{◌∈◌};
-ghost use Rattle.language.specs.Parts.{part_calls};
 ghost use Rattle.flow.specs.Shapes.{is_array, kinds_of_function};
-ghost use Rattle.flow.specs.View.{call_view, cell_view, expr_view, form_view, name_view, names_view, parts_view};
+ghost use Rattle.flow.specs.View.{call_view, cell_view, expr_view, form_view, name_view, names_view};
 ghost use Rattle.task_code.specs.Code as pure;
 ghost use Rattle.task_code.specs.View as code_view;
-ghost use Rattle.code_rules.specs.CodeNames.{each_once, over, wanted};
 ghost use Rattle.code_rules.specs.Laying.{Kinds};
 ghost use Rattle.code_rules.specs.Room.{FormRoom, NameRoom, PartRoom, Each};
-ghost use Rattle.emit_cells.specs.Chunk.{Added, Calls, Inside, InputPasses, IsPassed, NamePasses, OneByOne, OutputPasses, Told, name_at, part_at};
-ghost use Rattle.emit_cells.specs.Made.{made};
+ghost use Rattle.emit_cells.specs.Chunk.{Added, AddedFor, Calls, InputsPass, IsPassed, NamePasses, OutputsPass, Told, name_at};
+ghost use Rattle.emit_cells.specs.Made.{made, made_cell};
 
 use crate::cells::{element, handed};
 use crate::entries::{Shown, Standing, entry, put};
@@ -39,8 +37,8 @@ fn add_computed<A: Allocator>(
     shown: Shown,
     expr: &Expr<A>,
 ) -> Result<(), AllocError>
-    ensures { OnOk result (FormRoom standing.inputs (core.compute (expr_view expr.now)) → map code_view.entry_view entries.new.items ≡ map code_view.entry_view entries.old.items
-        ++ made standing shown (each_once (wanted standing.inputs (expr_view expr.now))) (pure.Cell (over standing.inputs (each_once (wanted standing.inputs (expr_view expr.now))) (expr_view expr.now))) ∷ []) }
+    ensures { OnOk result (FormRoom standing.inputs (core.compute (expr_view expr.now))
+        → map code_view.entry_view entries.new.items ≡ map code_view.entry_view entries.old.items ++ made_cell standing shown (expr_view expr.now) ∷ []) }
 {
     let mut needs = IndexSet::new(alloc);
     note(&mut needs, standing.inputs, expr)?;
@@ -57,7 +55,8 @@ fn add_read(
     shown: Shown,
     need: Need,
 ) -> Result<(), AllocError>
-    ensures { OnOk result (map code_view.entry_view entries.new.items ≡ map code_view.entry_view entries.old.items ++ made standing shown (code_view.need_view need ∷ []) pure.Read ∷ []) }
+    ensures { OnOk result (map code_view.entry_view entries.new.items
+        ≡ map code_view.entry_view entries.old.items ++ made standing shown (code_view.need_view need ∷ []) pure.Read ∷ []) }
 {
     let mut needs = Vec::new(alloc);
     needs.push(need)?;
@@ -73,7 +72,8 @@ pub fn add_cell<A: Allocator>(
     passed: &IndexMap<u32, Argument>,
     cell: &Cell<A>,
 ) -> Result<(), AllocError>
-    ensures { OnOk result ((fs : List Kinds) (all : List core.Part) → IsPassed standing.inputs all passed.now → FormRoom standing.inputs (form_view cell.now.form) → core.inner (cell_view cell.now) ∈ all → Told all cell.now.node false
+    ensures { OnOk result ((fs : List Kinds) (all : List core.Part) → IsPassed standing.inputs all passed.now
+        → FormRoom standing.inputs (form_view cell.now.form) → core.inner (cell_view cell.now) ∈ all → Told all cell.now.node false
         → Added fs standing.inputs all standing.at standing.priority (core.inner (cell_view cell.now) ∷ []) entries.old.items entries.new.items) }
 {
     let shown = Shown {
@@ -110,7 +110,8 @@ fn is_array_input<A: Allocator>(
     function: usize,
     number: usize,
 ) -> bool
-    ensures { (kinds : Kinds) (b : Bool) → slice_get (map kinds_of_function functions.now.items) function ≡ Some kinds → slice_get kinds.0 number ≡ Some b → result ≡ b }
+    ensures { (kinds : Kinds) (b : Bool) → slice_get (map kinds_of_function functions.now.items) function ≡ Some kinds
+        → slice_get kinds.0 number ≡ Some b → result ≡ b }
 {
     match functions.get(function) {
         None => false,
@@ -124,7 +125,8 @@ fn is_array_output<A: Allocator>(
     function: usize,
     number: usize,
 ) -> bool
-    ensures { (kinds : Kinds) (b : Bool) → slice_get (map kinds_of_function functions.now.items) function ≡ Some kinds → slice_get kinds.1 number ≡ Some b → result ≡ b }
+    ensures { (kinds : Kinds) (b : Bool) → slice_get (map kinds_of_function functions.now.items) function ≡ Some kinds
+        → slice_get kinds.1 number ≡ Some b → result ≡ b }
 {
     match functions.get(function) {
         None => false,
@@ -138,7 +140,8 @@ fn scalar_input(
     passed: &IndexMap<u32, Argument>,
     name: Name,
 ) -> Result<Argument, AllocError>
-    ensures { IfOk result (λ a. (all : List core.Part) → IsPassed inputs all passed.now → NameRoom inputs (name_view name) → NamePasses inputs all false (name_view name) (code_view.argument_view a)) }
+    ensures { IfOk result (λ a. (all : List core.Part) → IsPassed inputs all passed.now → NameRoom inputs (name_view name)
+        → NamePasses inputs all false (name_view name) (code_view.argument_view a)) }
 {
     match local_node(name) {
         None => Ok(Argument::Named(named(inputs, name, true))),
@@ -156,7 +159,8 @@ fn input(
     name: Name,
     array: bool,
 ) -> Result<Argument, AllocError>
-    ensures { IfOk result (λ a. (all : List core.Part) → IsPassed inputs all passed.now → NameRoom inputs (name_view name) → NamePasses inputs all array (name_view name) (code_view.argument_view a)) }
+    ensures { IfOk result (λ a. (all : List core.Part) → IsPassed inputs all passed.now → NameRoom inputs (name_view name)
+        → NamePasses inputs all array (name_view name) (code_view.argument_view a)) }
 {
     if array {
         Ok(Argument::Named(named(inputs, name, true)))
@@ -175,7 +179,8 @@ fn input_at<A: Allocator>(
 ) -> Result<Argument, AllocError>
     requires { number < length call.now.inputs.items }
     ensures { IfOk result (λ a. (all : List core.Part) → IsPassed inputs all passed.now → Each (NameRoom inputs) (names_view call.now.inputs.items)
-        → OneByOne (InputPasses (map kinds_of_function functions.now.items) inputs all call.now.function) number (name_at (names_view call.now.inputs.items) number) (code_view.argument_view a ∷ [])) }
+        → InputsPass functions.now.items inputs all call.now.function number (name_at (names_view call.now.inputs.items) number)
+        (code_view.argument_view a ∷ [])) }
 {
     let name = call.inputs[number];
     let array = is_array_input(functions, call.function, number);
@@ -191,7 +196,7 @@ fn call_inputs<A: Allocator>(
     call: &Call<A>,
 ) -> Result<Vec<Argument>, AllocError>
     ensures { IfOk result (λ found. (all : List core.Part) → IsPassed inputs all passed.now → Each (NameRoom inputs) (names_view call.now.inputs.items)
-        → OneByOne (InputPasses (map kinds_of_function functions.now.items) inputs all call.now.function) 0 (names_view call.now.inputs.items) (map code_view.argument_view found.items)) }
+        → InputsPass functions.now.items inputs all call.now.function 0 (names_view call.now.inputs.items) (map code_view.argument_view found.items)) }
 {
     let mut found = Vec::with_capacity(alloc, call.inputs.len())?;
     for number in 0..call.inputs.len() {
@@ -209,7 +214,8 @@ fn output_at<A: Allocator>(
 ) -> Used
     requires { number < length call.now.outputs.items }
     ensures { Each (NameRoom inputs) (names_view call.now.outputs.items)
-        → OneByOne (OutputPasses (map kinds_of_function functions.now.items) inputs call.now.function) number (name_at (names_view call.now.outputs.items) number) (code_view.name_view result ∷ []) }
+        → OutputsPass functions.now.items inputs call.now.function number (name_at (names_view call.now.outputs.items) number)
+        (code_view.name_view result ∷ []) }
 {
     let name = call.outputs[number];
     let array = is_array_output(functions, call.function, number);
@@ -224,7 +230,7 @@ fn call_outputs<A: Allocator>(
     call: &Call<A>,
 ) -> Result<Vec<Used>, AllocError>
     ensures { IfOk result (λ found. Each (NameRoom inputs) (names_view call.now.outputs.items)
-        → OneByOne (OutputPasses (map kinds_of_function functions.now.items) inputs call.now.function) 0 (names_view call.now.outputs.items) (map code_view.name_view found.items)) }
+        → OutputsPass functions.now.items inputs call.now.function 0 (names_view call.now.outputs.items) (map code_view.name_view found.items)) }
 {
     let mut found = Vec::with_capacity(alloc, call.outputs.len())?;
     for number in 0..call.outputs.len() {
@@ -252,7 +258,8 @@ fn call_act<A: Allocator>(
     passed: &IndexMap<u32, Argument>,
     call: &Call<A>,
 ) -> Result<Act, AllocError>
-    ensures { IfOk result (λ act. (all : List core.Part) → IsPassed inputs all passed.now → PartRoom inputs (core.calls (call_view call.now)) → Calls (map kinds_of_function functions.now.items) inputs all (call_view call.now) (code_view.act_view act)) }
+    ensures { IfOk result (λ act. (all : List core.Part) → IsPassed inputs all passed.now → PartRoom inputs (core.calls (call_view call.now))
+        → Calls (map kinds_of_function functions.now.items) inputs all (call_view call.now) (code_view.act_view act)) }
 {
     let body = next(call.function);
     let found = call_inputs(alloc, functions, inputs, passed, call)?;
@@ -272,7 +279,8 @@ fn put_bare(
     shown: Shown,
     act: Act,
 ) -> Result<(), AllocError>
-    ensures { OnOk result (map code_view.entry_view entries.new.items ≡ map code_view.entry_view entries.old.items ++ made standing shown [] (code_view.act_view act) ∷ []) }
+    ensures { OnOk result (map code_view.entry_view entries.new.items
+        ≡ map code_view.entry_view entries.old.items ++ made standing shown [] (code_view.act_view act) ∷ []) }
 {
     let needs = Vec::new(alloc);
     entries.push(entry(alloc, standing, shown, needs, act))?;
@@ -288,8 +296,9 @@ pub fn add_call<A: Allocator>(
     passed: &IndexMap<u32, Argument>,
     call: &Call<A>,
 ) -> Result<(), AllocError>
-    ensures { OnOk result ((all : List core.Part) → IsPassed standing.inputs all passed.now → PartRoom standing.inputs (core.calls (call_view call.now)) → core.calls (call_view call.now) ∈ all
-        → Added (map kinds_of_function functions.now.items) standing.inputs all standing.at standing.priority (core.calls (call_view call.now) ∷ []) entries.old.items entries.new.items) }
+    ensures { OnOk result ((all : List core.Part) → IsPassed standing.inputs all passed.now → PartRoom standing.inputs (core.calls (call_view call.now))
+        → core.calls (call_view call.now) ∈ all
+        → AddedFor functions.now.items standing all (core.calls (call_view call.now) ∷ []) entries.old.items entries.new.items) }
 {
     let shown = Shown {
         node: 0,

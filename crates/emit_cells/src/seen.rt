@@ -22,7 +22,8 @@ pub fn note_seen<A: Allocator>(
     cell: &Cell<A>,
     plain: bool,
 ) -> Result<(), AllocError>
-    ensures { OnOk result (FormRoom inputs (form_view cell.now.form) → Notes needs.old.keys needs.new.keys (wanted inputs (seen_as plain cell.now.node (form_view cell.now.form)))) }
+    ensures { OnOk result (FormRoom inputs (form_view cell.now.form)
+        → Notes needs.old.keys needs.new.keys (wanted inputs (seen_as plain cell.now.node (form_view cell.now.form)))) }
 {
     match &cell.form {
         Form::Compute(expr) => {
@@ -44,7 +45,8 @@ pub fn placed_seen<A: Allocator>(
     cell: &Cell<A>,
     plain: bool,
 ) -> Result<Placed, AllocError>
-    ensures { IfOk result (λ e. IsReady needs.now.keys → FormRoom inputs (form_view cell.now.form) → code_view.expr_view e ≡ over inputs (map need_of needs.now.keys) (seen_as plain cell.now.node (form_view cell.now.form))) }
+    ensures { IfOk result (λ e. IsReady needs.now.keys → FormRoom inputs (form_view cell.now.form)
+        → code_view.expr_view e ≡ over inputs (map need_of needs.now.keys) (seen_as plain cell.now.node (form_view cell.now.form))) }
 {
     match &cell.form {
         Form::Compute(expr) => {

@@ -1,5 +1,5 @@
 -- What is laid for a statement that has blocks, but for the blocks themselves.
-use Rattle.std.specs.Prelude.{◌≡◌, ◌<◌, ◌^◌, ℕ, ℤ, pos, List, [], ◌∷◌, ◌++◌, map, Option, None, Some, option_map, option_to_list}
+use Rattle.std.specs.Prelude.{◌≡◌, ◌<◌, ◌≤◌, ◌+◌, ◌^◌, ℕ, suc, ℤ, pos, length, List, [], ◌∷◌, ◌++◌, map, Option, None, Some, option_map, option_to_list}
 use Rattle.std.specs.List.{flat_map}
 use Rattle.values.specs.declared.value.Scalar.TheVariants.{Number}
 use Rattle.language.specs.Core.{Action, Block, Expr, Outer, Part, literal, range, stmt}
@@ -7,14 +7,21 @@ use Rattle.task_code.specs.Code.{Act, Entry, If, Loop, Need, Range, Read, Wait}
 use Rattle.task_code.specs.Code as code
 use Rattle.task_code.specs.View.{entry_view, variable_view}
 use Rattle.task_code.specs.declared.entry.Entry.{Entry as Made}
+use Rattle.language.specs.Parts.{outer_parts}
+use Rattle.flow.specs.Shapes.{kinds_of_function}
 use Rattle.flow.specs.View.{awaited_view, outer_view}
+use Rattle.flow.specs.declared.cell.Outer.{Outer as Outermost}
 use Rattle.flow.specs.declared.name.Name.{Name as Named}
+use Rattle.flow.specs.declared.script.Function.{Function}
 use Rattle.flow.specs.declared.statement.Header.{Header}
 use Rattle.flow.specs.declared.statement.Range.{Range as Ranged}
+use Rattle.flow.specs.declared.statement.Variable.{Variable}
 use Rattle.code_rules.specs.CodeNames.{each_once, header, over}
-use Rattle.code_rules.specs.IsCodeOf.{IsEntry, Layout}
-use Rattle.code_rules.specs.Laying.{Headers, IsOwnEntry, Kinds, Laying, LaysParts, data_in}
+use Rattle.code_rules.specs.IsCodeOf.{IsEntry, Layout, own_needs, seen, step_expr}
+use Rattle.code_rules.specs.Laying.{Headers, IndexesStand, IsOwnEntry, Kinds, Laying, LaysParts, PlainAs, data_in}
 use Rattle.code_rules.specs.Room.{AwaitedRoom, Each}
+use Rattle.emit_cells.specs.declared.entries.Standing.{Standing}
+use Rattle.emit_statements.specs.Into.{laying}
 use Rattle.emit_statements.specs.Seen.{seen_last}
 use Rattle.emit_statements.specs.declared.filling.Filling.{Filling}
 
@@ -26,6 +33,19 @@ pub record PartsInto (fs : List Kinds) (k : ℕ) (all : List Part) (at : ℕ) (p
   pub laid : LaysParts fs k all at p s t numbers
   pub entries : new.entries.items ≡ old.entries.items ++ numbers
   pub makes : map variable_view new.makes.items ≡ map variable_view old.makes.items ++ data_in None all
+
+-- in a script with these functions, for a statement that stands so
+abbrev pub PartsLaid : {A : Type 0} → List (Function A) → Standing → List Part → List code.Body → List Made → List Made → Filling → Filling → Type 0
+PartsLaid functions s ps bodies es more old new =
+    PartsInto (map kinds_of_function functions) s.inputs ps s.at s.priority (laying es bodies) (laying more bodies) old new
+
+-- at most an entry is added for each part
+abbrev pub FewParts : Layout → List Part → List Made → List Made → Type 0
+FewParts l ps es more = PlainAs l None ps → ((i : ℕ) → l.body_of i ≡ suc i) → IndexesStand ps → length more ≤ length es + length ps
+
+-- the parts of a step, if there is one
+abbrev pub step_parts : {A : Type 0} → Option (Outermost A) → List Part
+step_parts o = outer_parts (option_to_list (option_map outer_view o))
 
 -- the outermost cells of a range
 abbrev pub range_outers : {A : Type 0} → Ranged A → List Outer
@@ -88,3 +108,17 @@ branched k t o ns _ = Read
 abbrev pub ranged : ℕ → Loop → List Need → List Expr → Act
 ranged k w ns (low ∷ high ∷ step ∷ []) = Range (over k ns low) (over k ns high) (over k ns step) w
 ranged k w ns _ = Read
+
+-- of a layout, in a function with k inputs: a branch by an outermost cell
+abbrev pub branch_act : Layout → ℕ → Action → Outer → ℕ → Option ℕ → Act
+branch_act l k a o t other = If (over k (own_needs l k a) (seen l o.cell)) t other
+
+-- and a loop over a range
+abbrev pub range_loop_act : {A : Type 0} → Layout → ℕ → Ranged A → Action → Loop → Act
+range_loop_act l k r a w =
+    Range (over k (own_needs l k a) (seen l (outer_view r.low).cell)) (over k (own_needs l k a) (seen l (outer_view r.high).cell))
+    (over k (own_needs l k a) (step_expr l k (option_map outer_view r.step))) w
+
+-- a loop with the body of a number, and these variables
+abbrev pub loop_with : {A : Type 0} → ℕ → Variable A → Option (Variable A) → Loop
+loop_with {A} body value turn = record { body = body; value = value.node; turn = option_map (λ (x : Variable A). x.node) turn }

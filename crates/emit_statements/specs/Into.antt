@@ -1,12 +1,22 @@
 -- A statement that is laid into the block that it stands in.
-use Rattle.std.specs.Prelude.{◌≡◌, ℕ, Bool, List, [], ◌∷◌, ◌++◌, map}
-use Rattle.language.specs.Core.{Stmt, Action}
+use Rattle.std.specs.Prelude.{◌≡◌, ◌≤◌, ◌+◌, ◌^◌, ℕ, suc, Bool, List, [], ◌∷◌, ◌++◌, length, map}
+use Rattle.language.specs.Core.{Stmt, stmt, Action, call_alone}
+use Rattle.language.specs.Parts.{parts}
+use Rattle.language_laws.specs.TypedValues.{own_parts}
+use Rattle.flow.specs.declared.cell.Call.{Call}
+use Rattle.flow.specs.declared.cell.Part.{Part}
+use Rattle.flow.specs.declared.script.Function.{Function}
+use Rattle.flow.specs.Shapes.{kinds_of_function}
+use Rattle.flow.specs.View.{call_view, parts_view}
 use Rattle.task_code.specs.Code.{Body, Entry, Variable}
 use Rattle.task_code.specs.View.{entry_view, variable_view}
 use Rattle.task_code.specs.declared.entry.Entry.{Entry as Made}
-use Rattle.code_rules.specs.IsCodeOf.{own_needs, simple_act}
-use Rattle.code_rules.specs.Laying.{IsOwnEntry, Kinds, Laying, LaysStmt}
+use Rattle.code_rules.specs.IsCodeOf.{Layout, own_needs, own_priority, simple_act}
+use Rattle.code_rules.specs.Laying.{IndexesStand, IsOwnEntry, Kinds, Laying, LaysStmt, Suits}
+use Rattle.code_rules.specs.Room.{ActionRoom}
+use Rattle.emit_cells.specs.declared.entries.Standing.{Standing}
 use Rattle.emit_statements.specs.declared.filling.Filling.{Filling}
+use Rattle.emit_statements.specs.declared.own.Statement.{Statement}
 
 -- these entries, and bodies of inner blocks
 abbrev pub laying : List Made → List Body → Laying
@@ -26,3 +36,25 @@ pub record OwnAdded (k at node : ℕ) (a : Action) (old new : List Made) : Type 
   pub is : map entry_view new ≡ map entry_view old ++ entry ∷ []
   pub own : IsOwnEntry entry at k a (λ l. simple_act l k (own_needs l k a) a)
   pub node_is : entry.node ≡ node
+
+-- A STATEMENT THAT DOES THIS, OF THE PRIORITY THAT IT THEN HAS
+
+-- its own entry stands behind those of its parts
+abbrev pub AddsOwn : Statement → Action → List Made → List Made → Type 0
+AddsOwn one a old new = ActionRoom one.standing.inputs a → one.standing.priority ≡ own_priority a
+    → OwnAdded one.standing.inputs one.standing.at one.node a old new
+
+-- it is laid, in a script with these functions
+abbrev pub LaysOwn : {A : Type 0} → List (Function A) → Statement → Action → List Made → List Made → Filling → Filling → Type 0
+LaysOwn functions one a es more old new = (roots : ℕ) (bodies : List Body) → ActionRoom one.standing.inputs a → length more ≤ 2 ^ 32
+    → one.standing.priority ≡ own_priority a
+    → LaysInto (map kinds_of_function functions) roots one.standing.inputs (stmt one.standing.at one.node a) [] (laying es bodies) (laying more bodies) old new
+
+-- it has at most an entry for each of its parts, and its own
+abbrev pub AddsFew : Statement → Action → List Made → List Made → Type 0
+AddsFew one a es more = (l : Layout) → ActionRoom one.standing.inputs a → Suits l a → IndexesStand (own_parts a) → one.standing.priority ≡ own_priority a
+    → length more ≤ length es + suc (length (parts a))
+
+-- a call of a composite function that is a statement
+abbrev pub call_of : {A : Type 0} → Standing → List (Part A) → Call A → Action
+call_of s ps c = call_alone s.priority (parts_view ps) (call_view c)

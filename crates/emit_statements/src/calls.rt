@@ -9,15 +9,15 @@ ghost use Rattle.task_code.specs.Code as pure;
 ghost use Rattle.code_rules.specs.IsCodeOf.{Layout};
 ghost use Rattle.code_rules.specs.Laying.{IndexesStand, Suits};
 ghost use Rattle.code_rules.specs.Room.{ActionRoom, PartRoom, Each};
-ghost use Rattle.emit_cells.specs.Chunk.{Added};
-ghost use Rattle.emit_statements.specs.Into.{LaysInto, laying};
+ghost use Rattle.emit_cells.specs.Chunk.{AllAdded};
+ghost use Rattle.emit_statements.specs.Into.{LaysInto, call_of, laying};
 
-use crate::filling::{Filling, add_numbers};
+use crate::filling::add_numbers;
+use crate::writer::Writer;
 use emit_cells::cells::pass_parts;
 use emit_cells::data::add_data;
 use emit_cells::entries::Standing;
 use emit_cells::laid::add_parts;
-use emit_cells::laws::parts_are_laid;
 use emit_cells::parts::add_call;
 use flow::cell::{Call, Part};
 use flow::script::Function;
@@ -35,7 +35,7 @@ fn add_call_entries<A: Allocator>(
     call: &Call<A>,
 ) -> Result<(), AllocError>
     ensures { OnOk result (Each (PartRoom standing.inputs) (parts_view parts.now.items) → PartRoom standing.inputs (core.calls (call_view call.now))
-        → Added (map kinds_of_function functions.now.items) standing.inputs (parts_view parts.now.items ++ core.calls (call_view call.now) ∷ []) standing.at standing.priority (parts_view parts.now.items ++ core.calls (call_view call.now) ∷ []) entries.old.items entries.new.items) }
+        → AllAdded functions.now.items standing (parts_view parts.now.items ++ core.calls (call_view call.now) ∷ []) entries.old.items entries.new.items) }
 {
     let mut passed = IndexMap::new(alloc);
     pass_parts(alloc, &mut passed, standing.inputs, parts)?;
@@ -44,25 +44,36 @@ fn add_call_entries<A: Allocator>(
     Ok(())
 }
 
-/// Lays a call of a composite function that is a statement.
-pub fn call_alone<A: Allocator>(
-    alloc: Global,
-    entries: &mut Vec<Entry>,
-    filling: &mut Filling,
-    functions: &Vec<Function<A>, A>,
-    standing: Standing,
-    parts: &Vec<Part<A>, A>,
-    call: &Call<A>,
-) -> Result<(), AllocError>
-    ensures laid { OnOk result ((roots node : ℕ) (bodies : List pure.Body) → ActionRoom standing.inputs (core.call_alone standing.priority (parts_view parts.now.items) (call_view call.now)) → length entries.new.items ≤ 2 ^ 32
-        → LaysInto (map kinds_of_function functions.now.items) roots standing.inputs (core.stmt standing.at node (core.call_alone standing.priority (parts_view parts.now.items) (call_view call.now))) [] (laying entries.old.items bodies) (laying entries.new.items bodies) filling.old filling.new) }
-    ensures few { OnOk result ((l : Layout) → ActionRoom standing.inputs (core.call_alone standing.priority (parts_view parts.now.items) (call_view call.now)) → Suits l (core.call_alone standing.priority (parts_view parts.now.items) (call_view call.now)) → IndexesStand (own_parts (core.call_alone standing.priority (parts_view parts.now.items) (call_view call.now)))
-        → length entries.new.items ≤ length entries.old.items + suc (length (all_parts (core.call_alone standing.priority (parts_view parts.now.items) (call_view call.now))))) }
-{
-    let from = entries.len();
-    add_call_entries(alloc, entries, functions, standing, parts, call)?;
-    add_data(&mut filling.makes, parts)?;
-    add_numbers(&mut filling.entries, from, entries.len())?;
-    parts_are_laid();
-    Ok(())
+impl Writer {
+    /// Lays a call of a composite function that is a statement.
+    pub fn call_alone<A: Allocator>(
+        &mut self,
+        functions: &Vec<Function<A>, A>,
+        standing: Standing,
+        parts: &Vec<Part<A>, A>,
+        call: &Call<A>,
+    ) -> Result<(), AllocError>
+        ensures laid { OnOk result ((roots node : ℕ) (bodies : List pure.Body) → ActionRoom standing.inputs (call_of standing parts.now.items call.now)
+            → length self.new.entries.items ≤ 2 ^ 32
+            → LaysInto (map kinds_of_function functions.now.items) roots standing.inputs
+            (core.stmt standing.at node (call_of standing parts.now.items call.now)) []
+            (laying self.old.entries.items bodies) (laying self.new.entries.items bodies) self.old.filling self.new.filling) }
+        ensures few { OnOk result ((l : Layout) → ActionRoom standing.inputs (call_of standing parts.now.items call.now)
+            → Suits l (call_of standing parts.now.items call.now)
+            → IndexesStand (own_parts (call_of standing parts.now.items call.now))
+            → length self.new.entries.items ≤ length self.old.entries.items + suc (length (all_parts (call_of standing parts.now.items call.now)))) }
+    {
+        let from = self.entries.len();
+        add_call_entries(
+            self.alloc,
+            &mut self.entries,
+            functions,
+            standing,
+            parts,
+            call,
+        )?;
+        add_data(&mut self.filling.makes, parts)?;
+        add_numbers(&mut self.filling.entries, from, self.entries.len())?;
+        Ok(())
+    }
 }

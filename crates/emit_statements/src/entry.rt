@@ -7,35 +7,44 @@ ghost use Rattle.emit_cells.specs.Wanted.{Noted};
 ghost use Rattle.emit_cells.specs.Made.{made};
 ghost use Rattle.emit_statements.specs.Blocks.{Numbered};
 
-use crate::filling::Filling;
 use crate::own::Statement;
+use crate::writer::Writer;
 use emit_cells::entries::{Shown, put};
 use emit_cells::names::small;
 use emit_cells::needs::Wanted;
 use indexmap::IndexSet;
-use std::alloc::{AllocError, Global};
-use task_code::entry::{Act, Entry};
+use std::alloc::AllocError;
+use task_code::entry::Act;
 
-/// Puts the own entry of a statement, which waits for these needs, behind the others, and its number behind those of its block.
-/// The result is that number.
-pub fn add_entry(
-    alloc: Global,
-    entries: &mut Vec<Entry>,
-    filling: &mut Filling,
-    statement: Statement,
-    needs: &IndexSet<Wanted>,
-    act: Act,
-) -> Result<u32, AllocError>
-    ensures number { IfOk result (λ n. Numbered n (length entries.old.items) filling.old filling.new) }
-    ensures entry { OnOk result ((ns : List Need) → Noted ns needs.now.keys
-        → map code_view.entry_view entries.new.items ≡ map code_view.entry_view entries.old.items ++ made statement.standing (record { node = statement.node; mark = statement.standing.at }) (each_once ns) (code_view.act_view act) ∷ []) }
-{
-    let number = small(entries.len());
-    let shown = Shown {
-        node: statement.node,
-        mark: statement.standing.at,
-    };
-    put(alloc, entries, statement.standing, shown, needs, act)?;
-    filling.entries.push(number)?;
-    Ok(number)
+impl Writer {
+    /// Puts the own entry of a statement, which waits for these needs, behind the others, and its number behind those of its
+    /// block. The result is that number.
+    pub(crate) fn add_entry(
+        &mut self,
+        statement: Statement,
+        needs: &IndexSet<Wanted>,
+        act: Act,
+    ) -> Result<u32, AllocError>
+        ensures number { IfOk result (λ n. Numbered n (length self.old.entries.items) self.old.filling self.new.filling) }
+        ensures entry { OnOk result ((ns : List Need) → Noted ns needs.now.keys
+            → map code_view.entry_view self.new.entries.items
+            ≡ map code_view.entry_view self.old.entries.items
+            ++ made statement.standing (record { node = statement.node; mark = statement.standing.at }) (each_once ns) (code_view.act_view act) ∷ []) }
+    {
+        let number = small(self.entries.len());
+        let shown = Shown {
+            node: statement.node,
+            mark: statement.standing.at,
+        };
+        put(
+            self.alloc,
+            &mut self.entries,
+            statement.standing,
+            shown,
+            needs,
+            act,
+        )?;
+        self.filling.entries.push(number)?;
+        Ok(number)
+    }
 }

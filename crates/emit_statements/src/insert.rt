@@ -1,22 +1,18 @@
 //! Writes of elements.
-ghost use Rattle.std.specs.Prelude.{◌≡◌, ◌+◌, ◌≤◌, ◌^◌, ◌∷◌, ◌++◌, [], ℕ, suc, ℤ, List, map, length, None, pos, OnOk, IfOk};
+ghost use Rattle.std.specs.Prelude.{◌≡◌, ◌∷◌, ◌++◌, [], map, None, OnOk};
 ghost use Rattle.language.specs.Core as core;
-ghost use Rattle.language.specs.Parts.{outer_parts, parts};
-ghost use Rattle.flow.specs.Shapes.{kinds_of_function};
+ghost use Rattle.language.specs.Parts.{outer_parts};
 ghost use Rattle.flow.specs.View.{name_view, outer_view};
-ghost use Rattle.task_code.specs.Code as pure;
 ghost use Rattle.task_code.specs.View as code_view;
-ghost use Rattle.language_laws.specs.TypedValues.{own_parts};
-ghost use Rattle.code_rules.specs.IsCodeOf.{Layout};
-ghost use Rattle.code_rules.specs.Laying.{IndexesStand, Suits, data_in};
-ghost use Rattle.code_rules.specs.Room.{ActionRoom, OuterRoom};
-ghost use Rattle.emit_cells.specs.Chunk.{Added};
-ghost use Rattle.emit_statements.specs.Into.{LaysInto, OwnAdded, laying};
+ghost use Rattle.code_rules.specs.Laying.{data_in};
+ghost use Rattle.code_rules.specs.Room.{OuterRoom};
+ghost use Rattle.emit_cells.specs.Chunk.{AllAdded};
+ghost use Rattle.emit_statements.specs.Into.{AddsFew, AddsOwn, LaysOwn};
 
-use crate::filling::{Filling, add_numbers};
+use crate::filling::add_numbers;
 use crate::own::Statement;
+use crate::writer::Writer;
 use emit_cells::entries::{Shown, Standing, put};
-use emit_cells::laws::parts_are_laid;
 use emit_cells::names::named;
 use emit_cells::outers::{add_outer, pass_outer};
 use emit_cells::owns::add_outer_data;
@@ -39,7 +35,7 @@ fn add_two_entries<A: Allocator>(
     two: &Outer<A>,
 ) -> Result<(), AllocError>
     ensures { OnOk result (OuterRoom standing.inputs (outer_view one.now) → OuterRoom standing.inputs (outer_view two.now)
-        → Added (map kinds_of_function functions.now.items) standing.inputs (outer_parts (outer_view one.now ∷ outer_view two.now ∷ [])) standing.at standing.priority (outer_parts (outer_view one.now ∷ outer_view two.now ∷ [])) entries.old.items entries.new.items) }
+        → AllAdded functions.now.items standing (outer_parts (outer_view one.now ∷ outer_view two.now ∷ [])) entries.old.items entries.new.items) }
 {
     let mut passed = IndexMap::new(alloc);
     pass_outer(alloc, &mut passed, standing.inputs, one)?;
@@ -55,7 +51,8 @@ fn add_two_data<A: Allocator>(
     one: &Outer<A>,
     two: &Outer<A>,
 ) -> Result<(), AllocError>
-    ensures { OnOk result (map code_view.variable_view makes.new.items ≡ map code_view.variable_view makes.old.items ++ data_in None (outer_parts (outer_view one.now ∷ outer_view two.now ∷ []))) }
+    ensures { OnOk result (map code_view.variable_view makes.new.items
+        ≡ map code_view.variable_view makes.old.items ++ data_in None (outer_parts (outer_view one.now ∷ outer_view two.now ∷ []))) }
 {
     add_outer_data(makes, one)?;
     add_outer_data(makes, two)?;
@@ -71,8 +68,8 @@ fn add_put<A: Allocator>(
     index: &Outer<A>,
     right: &Outer<A>,
 ) -> Result<(), AllocError>
-    ensures { OnOk result (ActionRoom statement.standing.inputs (core.insert (name_view array) (outer_view index.now) (outer_view right.now)) → statement.standing.priority ≡ pos 0
-        → OwnAdded statement.standing.inputs statement.standing.at statement.node (core.insert (name_view array) (outer_view index.now) (outer_view right.now)) entries.old.items entries.new.items) }
+    ensures { OnOk result (AddsOwn statement (core.insert (name_view array) (outer_view index.now) (outer_view right.now))
+        entries.old.items entries.new.items) }
 {
     let standing = statement.standing;
     let inputs = standing.inputs;
@@ -92,28 +89,40 @@ fn add_put<A: Allocator>(
     Ok(())
 }
 
-/// Lays a write of an element.
-pub fn insert<A: Allocator>(
-    alloc: Global,
-    entries: &mut Vec<Entry>,
-    filling: &mut Filling,
-    functions: &Vec<Function<A>, A>,
-    statement: Statement,
-    array: Name,
-    index: &Outer<A>,
-    right: &Outer<A>,
-) -> Result<(), AllocError>
-    ensures laid { OnOk result ((roots : ℕ) (bodies : List pure.Body) → ActionRoom statement.standing.inputs (core.insert (name_view array) (outer_view index.now) (outer_view right.now)) → length entries.new.items ≤ 2 ^ 32
-        → statement.standing.priority ≡ pos 0
-        → LaysInto (map kinds_of_function functions.now.items) roots statement.standing.inputs (core.stmt statement.standing.at statement.node (core.insert (name_view array) (outer_view index.now) (outer_view right.now))) [] (laying entries.old.items bodies) (laying entries.new.items bodies) filling.old filling.new) }
-    ensures few { OnOk result ((l : Layout) → ActionRoom statement.standing.inputs (core.insert (name_view array) (outer_view index.now) (outer_view right.now)) → Suits l (core.insert (name_view array) (outer_view index.now) (outer_view right.now)) → IndexesStand (own_parts (core.insert (name_view array) (outer_view index.now) (outer_view right.now))) → statement.standing.priority ≡ pos 0
-        → length entries.new.items ≤ length entries.old.items + suc (length (parts (core.insert (name_view array) (outer_view index.now) (outer_view right.now))))) }
-{
-    let from = entries.len();
-    add_two_entries(alloc, entries, functions, statement.standing, index, right)?;
-    add_two_data(&mut filling.makes, index, right)?;
-    add_put(alloc, entries, statement, array, index, right)?;
-    add_numbers(&mut filling.entries, from, entries.len())?;
-    parts_are_laid();
-    Ok(())
+impl Writer {
+    /// Lays a write of an element.
+    pub fn insert<A: Allocator>(
+        &mut self,
+        functions: &Vec<Function<A>, A>,
+        statement: Statement,
+        array: Name,
+        index: &Outer<A>,
+        right: &Outer<A>,
+    ) -> Result<(), AllocError>
+        ensures laid { OnOk result (LaysOwn functions.now.items statement (core.insert (name_view array) (outer_view index.now) (outer_view right.now))
+            self.old.entries.items self.new.entries.items self.old.filling self.new.filling) }
+        ensures few { OnOk result (AddsFew statement (core.insert (name_view array) (outer_view index.now) (outer_view right.now))
+            self.old.entries.items self.new.entries.items) }
+    {
+        let from = self.entries.len();
+        add_two_entries(
+            self.alloc,
+            &mut self.entries,
+            functions,
+            statement.standing,
+            index,
+            right,
+        )?;
+        add_two_data(&mut self.filling.makes, index, right)?;
+        add_put(
+            self.alloc,
+            &mut self.entries,
+            statement,
+            array,
+            index,
+            right,
+        )?;
+        add_numbers(&mut self.filling.entries, from, self.entries.len())?;
+        Ok(())
+    }
 }

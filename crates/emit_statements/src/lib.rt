@@ -11,3 +11,4 @@ pub mod own;
 pub mod parts;
 mod steps;
 pub mod waits;
+pub mod writer;

@@ -5,16 +5,15 @@ ghost use Rattle.language.specs.Core as core;
 ghost use Rattle.flow.specs.View.{name_view, outer_view};
 ghost use Rattle.task_code.specs.Code as pure;
 ghost use Rattle.task_code.specs.View as code_view;
-ghost use Rattle.code_rules.specs.CodeNames.{over, wanted};
-ghost use Rattle.code_rules.specs.IsCodeOf.{own_needs, seen, step_expr};
+ghost use Rattle.code_rules.specs.CodeNames.{wanted};
 ghost use Rattle.code_rules.specs.Room.{NameRoom, OuterRoom, StepRoom};
 ghost use Rattle.emit_cells.specs.Wanted.{need_of, IsReady, Notes};
-ghost use Rattle.emit_statements.specs.Blocks.{Numbered, OwnAddedAs, range_action, ranged, seen_range};
+ghost use Rattle.emit_statements.specs.Blocks.{Numbered, OwnAddedAs, loop_with, range_action, range_loop_act, ranged, seen_range};
 
-use crate::entry::add_entry;
 use crate::filling::Filling;
 use crate::own::Statement;
 use crate::steps::{note_step, placed_step};
+use crate::writer::Writer;
 use emit_cells::data::add_scalar;
 use emit_cells::names::named;
 use emit_cells::needs::{Wanted, note_name};
@@ -24,7 +23,7 @@ use flow::name::Name;
 use flow::statement::{Range, Variable};
 use indexmap::IndexSet;
 use std::alloc::{AllocError, Allocator, Global};
-use task_code::entry::{Act, Entry, Loop, Variable as Made};
+use task_code::entry::{Act, Loop, Variable as Made};
 
 // VARIABLES
 
@@ -40,7 +39,7 @@ fn turn_node<A: Allocator>(turn: &Option<Variable<A>>) -> Option<u32>
 
 /// A loop with the body of a number.
 pub fn loop_of<A: Allocator>(body: u32, value: &Variable<A>, turn: &Option<Variable<A>>) -> Loop
-    ensures { code_view.loop_view result ≡ record { body = body; value = value.now.node; turn = option_map (λ x. x.node) turn.now } }
+    ensures { code_view.loop_view result ≡ loop_with body value.now turn.now }
 {
     Loop {
         body,
@@ -54,7 +53,8 @@ fn add_turn<A: Allocator>(
     makes: &mut Vec<Made>,
     turn: &Option<Variable<A>>,
 ) -> Result<(), AllocError>
-    ensures { OnOk result (map code_view.variable_view makes.new.items ≡ map code_view.variable_view makes.old.items ++ pure.turn_variables (option_map (λ x. x.node) turn.now)) }
+    ensures { OnOk result (map code_view.variable_view makes.new.items
+        ≡ map code_view.variable_view makes.old.items ++ pure.turn_variables (option_map (λ x. x.node) turn.now)) }
 {
     match turn {
         None => Ok(()),
@@ -69,7 +69,8 @@ pub fn loop_filling<A: Allocator>(
     turn: &Option<Variable<A>>,
 ) -> Result<Filling, AllocError>
     ensures entries { IfOk result (λ filling. filling.entries.items ≡ []) }
-    ensures makes { IfOk result (λ filling. (body : ℕ) → map code_view.variable_view filling.makes.items ≡ pure.loop_variables (record { body = body; value = value.now.node; turn = option_map (λ x. x.node) turn.now })) }
+    ensures makes { IfOk result (λ filling. (body : ℕ)
+        → map code_view.variable_view filling.makes.items ≡ pure.loop_variables (loop_with body value.now turn.now)) }
 {
     let mut makes = Vec::new(alloc);
     add_scalar(&mut makes, value.node)?;
@@ -88,7 +89,8 @@ fn note_range<A: Allocator>(
     inputs: usize,
     range: &Range<A>,
 ) -> Result<(), AllocError>
-    ensures { OnOk result (OuterRoom inputs (outer_view range.now.low) → OuterRoom inputs (outer_view range.now.high) → StepRoom inputs (option_map outer_view range.now.step)
+    ensures { OnOk result (OuterRoom inputs (outer_view range.now.low) → OuterRoom inputs (outer_view range.now.high)
+        → StepRoom inputs (option_map outer_view range.now.step)
         → Notes needs.old.keys needs.new.keys (flat_map (wanted inputs) (seen_range range.now))) }
 {
     note_seen(needs, inputs, &range.low.cell, is_outer_plain(&range.low))?;
@@ -105,7 +107,8 @@ fn range_act<A: Allocator>(
     range: &Range<A>,
     turns: Loop,
 ) -> Result<Act, AllocError>
-    ensures { IfOk result (λ act. IsReady needs.now.keys → OuterRoom inputs (outer_view range.now.low) → OuterRoom inputs (outer_view range.now.high) → StepRoom inputs (option_map outer_view range.now.step)
+    ensures { IfOk result (λ act. IsReady needs.now.keys → OuterRoom inputs (outer_view range.now.low) → OuterRoom inputs (outer_view range.now.high)
+        → StepRoom inputs (option_map outer_view range.now.step)
         → code_view.act_view act ≡ ranged inputs (code_view.loop_view turns) (map need_of needs.now.keys) (seen_range range.now)) }
 {
     let low = placed_seen(
@@ -126,47 +129,48 @@ fn range_act<A: Allocator>(
     Ok(Act::Range(low, high, step, turns))
 }
 
-/// Adds the own entry of a loop over a range. The result is the entry's number.
-pub fn add_range<A: Allocator>(
-    alloc: Global,
-    entries: &mut Vec<Entry>,
-    filling: &mut Filling,
-    statement: Statement,
-    range: &Range<A>,
-    turns: Loop,
-) -> Result<u32, AllocError>
-    ensures number { IfOk result (λ n. Numbered n (length entries.old.items) filling.old filling.new) }
-    ensures entry { OnOk result ((x : ℕ) (y : Option ℕ) (b : core.Block) → OuterRoom statement.standing.inputs (outer_view range.now.low) → OuterRoom statement.standing.inputs (outer_view range.now.high)
-        → StepRoom statement.standing.inputs (option_map outer_view range.now.step) → statement.standing.priority ≡ pos 0
-        → OwnAddedAs statement.standing.inputs statement.standing.at (range_action range.now x y b)
-        (λ l. pure.Range (over statement.standing.inputs (own_needs l statement.standing.inputs (range_action range.now x y b)) (seen l (outer_view range.now.low).cell))
-        (over statement.standing.inputs (own_needs l statement.standing.inputs (range_action range.now x y b)) (seen l (outer_view range.now.high).cell))
-        (over statement.standing.inputs (own_needs l statement.standing.inputs (range_action range.now x y b)) (step_expr l statement.standing.inputs (option_map outer_view range.now.step))) (code_view.loop_view turns))
-        entries.old.items entries.new.items) }
-{
-    let inputs = statement.standing.inputs;
-    let mut needs = IndexSet::new(alloc);
-    note_range(&mut needs, inputs, range)?;
-    let act = range_act(alloc, &needs, inputs, range, turns)?;
-    add_entry(alloc, entries, filling, statement, &needs, act)
+impl Writer {
+    /// Adds the own entry of a loop over a range. The result is the entry's number.
+    pub fn add_range<A: Allocator>(
+        &mut self,
+        statement: Statement,
+        range: &Range<A>,
+        turns: Loop,
+    ) -> Result<u32, AllocError>
+        ensures number { IfOk result (λ n. Numbered n (length self.old.entries.items) self.old.filling self.new.filling) }
+        ensures entry { OnOk result ((x : ℕ) (y : Option ℕ) (b : core.Block) → OuterRoom statement.standing.inputs (outer_view range.now.low)
+            → OuterRoom statement.standing.inputs (outer_view range.now.high)
+            → StepRoom statement.standing.inputs (option_map outer_view range.now.step) → statement.standing.priority ≡ pos 0
+            → OwnAddedAs statement.standing.inputs statement.standing.at (range_action range.now x y b)
+            (λ l. range_loop_act l statement.standing.inputs range.now (range_action range.now x y b) (code_view.loop_view turns))
+            self.old.entries.items self.new.entries.items) }
+    {
+        let inputs = statement.standing.inputs;
+        let mut needs = IndexSet::new(self.alloc);
+        note_range(&mut needs, inputs, range)?;
+        let act = range_act(self.alloc, &needs, inputs, range, turns)?;
+        self.add_entry(statement, &needs, act)
+    }
 }
 
 // ARRAYS
 
-/// Adds the own entry of a loop over an array. The result is the entry's number.
-pub fn add_each(
-    alloc: Global,
-    entries: &mut Vec<Entry>,
-    filling: &mut Filling,
-    statement: Statement,
-    array: Name,
-    turns: Loop,
-) -> Result<u32, AllocError>
-    ensures number { IfOk result (λ n. Numbered n (length entries.old.items) filling.old filling.new) }
-    ensures entry { OnOk result ((x : ℕ) (y : Option ℕ) (b : core.Block) → NameRoom statement.standing.inputs (name_view array) → statement.standing.priority ≡ pos 0
-        → OwnAddedAs statement.standing.inputs statement.standing.at (core.each (name_view array) x y b) (λ l. pure.Each (code_view.loop_view turns)) entries.old.items entries.new.items) }
-{
-    let mut needs = IndexSet::new(alloc);
-    note_name(&mut needs, named(statement.standing.inputs, array, true))?;
-    add_entry(alloc, entries, filling, statement, &needs, Act::Each(turns))
+impl Writer {
+    /// Adds the own entry of a loop over an array. The result is the entry's number.
+    pub fn add_each(
+        &mut self,
+        statement: Statement,
+        array: Name,
+        turns: Loop,
+    ) -> Result<u32, AllocError>
+        ensures number { IfOk result (λ n. Numbered n (length self.old.entries.items) self.old.filling self.new.filling) }
+        ensures entry { OnOk result ((x : ℕ) (y : Option ℕ) (b : core.Block) → NameRoom statement.standing.inputs (name_view array)
+            → statement.standing.priority ≡ pos 0
+            → OwnAddedAs statement.standing.inputs statement.standing.at (core.each (name_view array) x y b) (λ l. pure.Each (code_view.loop_view turns))
+            self.old.entries.items self.new.entries.items) }
+    {
+        let mut needs = IndexSet::new(self.alloc);
+        note_name(&mut needs, named(statement.standing.inputs, array, true))?;
+        self.add_entry(statement, &needs, Act::Each(turns))
+    }
 }

@@ -1,24 +1,20 @@
 //! Statements that work an outermost cell out themselves: assignments, lines and assertions.
-ghost use Rattle.std.specs.Prelude.{◌≡◌, ◌+◌, ◌≤◌, ◌^◌, [], ℕ, suc, ℤ, List, map, length, OnOk, IfOk};
+ghost use Rattle.std.specs.Prelude.{◌≡◌, ℤ, List, map, OnOk, IfOk};
 ghost use Rattle.language.specs.Core as core;
-ghost use Rattle.language.specs.Parts.{parts};
-ghost use Rattle.flow.specs.Shapes.{kinds_of_function};
 ghost use Rattle.flow.specs.View.{cell_view, expr_view, form_view, name_view, outer_view};
-ghost use Rattle.language_laws.specs.TypedValues.{own_cell, own_outer, own_parts};
-ghost use Rattle.task_code.specs.Code as pure;
+ghost use Rattle.language_laws.specs.TypedValues.{own_cell, own_outer};
 ghost use Rattle.task_code.specs.View as code_view;
-ghost use Rattle.code_rules.specs.IsCodeOf.{Layout, fill_act, own_form, own_priority, simple_act};
-ghost use Rattle.code_rules.specs.Laying.{IndexesStand, Suits};
+ghost use Rattle.code_rules.specs.IsCodeOf.{Layout, fill_act, own_form, simple_act};
 ghost use Rattle.code_rules.specs.Room.{ActionRoom, FormRoom, NameRoom, OuterRoom};
 ghost use Rattle.emit_cells.specs.Wanted.{need_of, IsReady};
-ghost use Rattle.emit_cells.specs.Chunk.{Added, Inside, Passes};
+ghost use Rattle.emit_cells.specs.Chunk.{AllAdded, Inside, Passes};
 ghost use Rattle.emit_statements.specs.Doing.{action_of};
-ghost use Rattle.emit_statements.specs.Into.{LaysInto, OwnAdded, laying};
+ghost use Rattle.emit_statements.specs.Into.{AddsFew, AddsOwn, LaysOwn};
 
-use crate::filling::{Filling, add_numbers};
+use crate::filling::add_numbers;
+use crate::writer::Writer;
 use emit_cells::cells::{pass_cell, pass_parts};
 use emit_cells::entries::{Shown, Standing, put};
-use emit_cells::laws::parts_are_laid;
 use emit_cells::names::named;
 use emit_cells::needs::Wanted;
 use emit_cells::over::all_placed;
@@ -72,7 +68,8 @@ fn pass_own_outer<A: Allocator>(
     inputs: usize,
     outer: &Outer<A>,
 ) -> Result<(), AllocError>
-    ensures { OnOk result ((all : List core.Part) → OuterRoom inputs (outer_view outer.now) → Inside all (own_outer (outer_view outer.now)) → Passes inputs all (own_outer (outer_view outer.now)) passed.old passed.new) }
+    ensures { OnOk result ((all : List core.Part) → OuterRoom inputs (outer_view outer.now) → Inside all (own_outer (outer_view outer.now))
+        → Passes inputs all (own_outer (outer_view outer.now)) passed.old passed.new) }
 {
     pass_parts(alloc, passed, inputs, &outer.parts)?;
     pass_element(alloc, passed, inputs, outer)?;
@@ -88,7 +85,7 @@ fn add_own_entries<A: Allocator>(
     outer: &Outer<A>,
 ) -> Result<(), AllocError>
     ensures { OnOk result (OuterRoom standing.inputs (outer_view outer.now)
-        → Added (map kinds_of_function functions.now.items) standing.inputs (own_outer (outer_view outer.now)) standing.at standing.priority (own_outer (outer_view outer.now)) entries.old.items entries.new.items) }
+        → AllAdded functions.now.items standing (own_outer (outer_view outer.now)) entries.old.items entries.new.items) }
 {
     let mut passed = IndexMap::new(alloc);
     pass_own_outer(alloc, &mut passed, standing.inputs, outer)?;
@@ -104,7 +101,8 @@ fn filled<A: Allocator>(
     array: Name,
     expr: &Expr<A>,
 ) -> Result<Act, AllocError>
-    ensures { IfOk result (λ act. (l : Layout) → IsReady needs.now.keys → NameRoom inputs (name_view array) → FormRoom inputs (core.compute (expr_view expr.now))
+    ensures { IfOk result (λ act. (l : Layout) → IsReady needs.now.keys → NameRoom inputs (name_view array)
+        → FormRoom inputs (core.compute (expr_view expr.now))
         → code_view.act_view act ≡ fill_act l inputs (map need_of needs.now.keys) (name_view array) (expr_view expr.now)) }
 {
     match expr {
@@ -128,7 +126,8 @@ fn fill<A: Allocator>(
     outer: &Outer<A>,
 ) -> Result<Act, AllocError>
     ensures { IfOk result (λ act. (l : Layout) → IsReady needs.now.keys → NameRoom inputs (name_view array) → FormRoom inputs (form_view outer.now.cell.form)
-        → code_view.act_view act ≡ fill_act l inputs (map need_of needs.now.keys) (name_view array) (own_form outer.now.cell.node (form_view outer.now.cell.form))) }
+        → code_view.act_view act ≡ fill_act l inputs (map need_of needs.now.keys) (name_view array)
+        (own_form outer.now.cell.node (form_view outer.now.cell.form))) }
 {
     match &outer.cell.form {
         Form::Compute(expr) => filled(alloc, needs, inputs, array, expr),
@@ -166,8 +165,7 @@ fn add_own<A: Allocator>(
     done: Use,
     outer: &Outer<A>,
 ) -> Result<(), AllocError>
-    ensures { OnOk result (ActionRoom statement.standing.inputs (action_of done statement.standing.priority (outer_view outer.now)) → statement.standing.priority ≡ own_priority (action_of done statement.standing.priority (outer_view outer.now))
-        → OwnAdded statement.standing.inputs statement.standing.at statement.node (action_of done statement.standing.priority (outer_view outer.now)) entries.old.items entries.new.items) }
+    ensures { OnOk result (AddsOwn statement (action_of done statement.standing.priority (outer_view outer.now)) entries.old.items entries.new.items) }
 {
     let standing = statement.standing;
     let shown = Shown {
@@ -181,27 +179,31 @@ fn add_own<A: Allocator>(
     Ok(())
 }
 
-/// Lays a statement that works an outermost cell out itself.
-pub fn own<A: Allocator>(
-    alloc: Global,
-    entries: &mut Vec<Entry>,
-    filling: &mut Filling,
-    functions: &Vec<Function<A>, A>,
-    statement: Statement,
-    done: Use,
-    outer: &Outer<A>,
-) -> Result<(), AllocError>
-    ensures laid { OnOk result ((roots : ℕ) (bodies : List pure.Body) → ActionRoom statement.standing.inputs (action_of done statement.standing.priority (outer_view outer.now)) → length entries.new.items ≤ 2 ^ 32
-        → statement.standing.priority ≡ own_priority (action_of done statement.standing.priority (outer_view outer.now))
-        → LaysInto (map kinds_of_function functions.now.items) roots statement.standing.inputs (core.stmt statement.standing.at statement.node (action_of done statement.standing.priority (outer_view outer.now))) [] (laying entries.old.items bodies) (laying entries.new.items bodies) filling.old filling.new) }
-    ensures few { OnOk result ((l : Layout) → ActionRoom statement.standing.inputs (action_of done statement.standing.priority (outer_view outer.now)) → Suits l (action_of done statement.standing.priority (outer_view outer.now)) → IndexesStand (own_parts (action_of done statement.standing.priority (outer_view outer.now))) → statement.standing.priority ≡ own_priority (action_of done statement.standing.priority (outer_view outer.now))
-        → length entries.new.items ≤ length entries.old.items + suc (length (parts (action_of done statement.standing.priority (outer_view outer.now))))) }
-{
-    let from = entries.len();
-    add_own_entries(alloc, entries, functions, statement.standing, outer)?;
-    add_own_data(&mut filling.makes, outer)?;
-    add_own(alloc, entries, statement, done, outer)?;
-    add_numbers(&mut filling.entries, from, entries.len())?;
-    parts_are_laid();
-    Ok(())
+impl Writer {
+    /// Lays a statement that works an outermost cell out itself.
+    pub fn own<A: Allocator>(
+        &mut self,
+        functions: &Vec<Function<A>, A>,
+        statement: Statement,
+        done: Use,
+        outer: &Outer<A>,
+    ) -> Result<(), AllocError>
+        ensures laid { OnOk result (LaysOwn functions.now.items statement (action_of done statement.standing.priority (outer_view outer.now))
+            self.old.entries.items self.new.entries.items self.old.filling self.new.filling) }
+        ensures few { OnOk result (AddsFew statement (action_of done statement.standing.priority (outer_view outer.now))
+            self.old.entries.items self.new.entries.items) }
+    {
+        let from = self.entries.len();
+        add_own_entries(
+            self.alloc,
+            &mut self.entries,
+            functions,
+            statement.standing,
+            outer,
+        )?;
+        add_own_data(&mut self.filling.makes, outer)?;
+        add_own(self.alloc, &mut self.entries, statement, done, outer)?;
+        add_numbers(&mut self.filling.entries, from, self.entries.len())?;
+        Ok(())
+    }
 }

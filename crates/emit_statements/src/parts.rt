@@ -1,22 +1,20 @@
 //! The parts of statements that have blocks: those of a condition and of a range.
-ghost use Rattle.std.specs.Prelude.{◌≡◌, ◌≤◌, ◌^◌, ◌+◌, ◌∷◌, ◌++◌, [], ℕ, suc, List, None, length, map, option_map, OnOk};
+ghost use Rattle.std.specs.Prelude.{◌≡◌, ◌≤◌, ◌^◌, ◌∷◌, ◌++◌, [], List, None, length, map, option_map, OnOk};
 ghost use Rattle.language.specs.Core as core;
 ghost use Rattle.language.specs.Parts.{outer_parts};
-ghost use Rattle.flow.specs.Shapes.{kinds_of_function};
 ghost use Rattle.flow.specs.View.{outer_view};
 ghost use Rattle.task_code.specs.Code as pure;
 ghost use Rattle.task_code.specs.View as code_view;
 ghost use Rattle.code_rules.specs.IsCodeOf.{Layout};
-ghost use Rattle.code_rules.specs.Laying.{IndexesStand, PlainAs, data_in};
+ghost use Rattle.code_rules.specs.Laying.{data_in};
 ghost use Rattle.code_rules.specs.Room.{OuterRoom, StepRoom};
-ghost use Rattle.emit_cells.specs.Chunk.{Added, Inside, IsPassed, Passes};
-ghost use Rattle.emit_statements.specs.Into.{laying};
-ghost use Rattle.emit_statements.specs.Blocks.{PartsInto, range_outers};
+ghost use Rattle.emit_cells.specs.Chunk.{AddedFor, AllAdded, Inside, IsPassed, Passes};
+ghost use Rattle.emit_statements.specs.Blocks.{FewParts, PartsLaid, range_outers};
 
-use crate::filling::{Filling, add_numbers};
+use crate::filling::add_numbers;
 use crate::steps::{add_step, add_step_data, pass_step};
+use crate::writer::Writer;
 use emit_cells::entries::Standing;
-use emit_cells::laws::parts_are_laid;
 use emit_cells::outers::{add_outer, pass_outer};
 use emit_cells::owns::add_outer_data;
 use flow::cell::Outer;
@@ -37,7 +35,7 @@ fn add_condition<A: Allocator>(
     condition: &Outer<A>,
 ) -> Result<(), AllocError>
     ensures { OnOk result (OuterRoom standing.inputs (outer_view condition.now)
-        → Added (map kinds_of_function functions.now.items) standing.inputs (outer_parts (outer_view condition.now ∷ [])) standing.at standing.priority (outer_parts (outer_view condition.now ∷ [])) entries.old.items entries.new.items) }
+        → AllAdded functions.now.items standing (outer_parts (outer_view condition.now ∷ [])) entries.old.items entries.new.items) }
 {
     let mut passed = IndexMap::new(alloc);
     pass_outer(alloc, &mut passed, standing.inputs, condition)?;
@@ -45,26 +43,32 @@ fn add_condition<A: Allocator>(
     Ok(())
 }
 
-/// Lays the parts of a condition: their entries and data.
-pub fn condition_parts<A: Allocator>(
-    alloc: Global,
-    entries: &mut Vec<Entry>,
-    filling: &mut Filling,
-    functions: &Vec<Function<A>, A>,
-    standing: Standing,
-    condition: &Outer<A>,
-) -> Result<(), AllocError>
-    ensures laid { OnOk result ((bodies : List pure.Body) → OuterRoom standing.inputs (outer_view condition.now) → length entries.new.items ≤ 2 ^ 32
-        → PartsInto (map kinds_of_function functions.now.items) standing.inputs (outer_parts (outer_view condition.now ∷ [])) standing.at standing.priority (laying entries.old.items bodies) (laying entries.new.items bodies) filling.old filling.new) }
-    ensures few { OnOk result ((l : Layout) → OuterRoom standing.inputs (outer_view condition.now) → PlainAs l None (outer_parts (outer_view condition.now ∷ [])) → ((i : ℕ) → l.body_of i ≡ suc i)
-        → IndexesStand (outer_parts (outer_view condition.now ∷ [])) → length entries.new.items ≤ length entries.old.items + length (outer_parts (outer_view condition.now ∷ []))) }
-{
-    let from = entries.len();
-    add_condition(alloc, entries, functions, standing, condition)?;
-    add_outer_data(&mut filling.makes, condition)?;
-    add_numbers(&mut filling.entries, from, entries.len())?;
-    parts_are_laid();
-    Ok(())
+impl Writer {
+    /// Lays the parts of a condition: their entries and data.
+    pub fn condition_parts<A: Allocator>(
+        &mut self,
+        functions: &Vec<Function<A>, A>,
+        standing: Standing,
+        condition: &Outer<A>,
+    ) -> Result<(), AllocError>
+        ensures laid { OnOk result ((bodies : List pure.Body) → OuterRoom standing.inputs (outer_view condition.now) → length self.new.entries.items ≤ 2 ^ 32
+            → PartsLaid functions.now.items standing (outer_parts (outer_view condition.now ∷ [])) bodies
+            self.old.entries.items self.new.entries.items self.old.filling self.new.filling) }
+        ensures few { OnOk result ((l : Layout) → OuterRoom standing.inputs (outer_view condition.now)
+            → FewParts l (outer_parts (outer_view condition.now ∷ [])) self.old.entries.items self.new.entries.items) }
+    {
+        let from = self.entries.len();
+        add_condition(
+            self.alloc,
+            &mut self.entries,
+            functions,
+            standing,
+            condition,
+        )?;
+        add_outer_data(&mut self.filling.makes, condition)?;
+        add_numbers(&mut self.filling.entries, from, self.entries.len())?;
+        Ok(())
+    }
 }
 
 // RANGES
@@ -76,7 +80,8 @@ fn pass_range<A: Allocator>(
     inputs: usize,
     range: &Range<A>,
 ) -> Result<(), AllocError>
-    ensures { OnOk result ((all : List core.Part) → OuterRoom inputs (outer_view range.now.low) → OuterRoom inputs (outer_view range.now.high) → StepRoom inputs (option_map outer_view range.now.step)
+    ensures { OnOk result ((all : List core.Part) → OuterRoom inputs (outer_view range.now.low) → OuterRoom inputs (outer_view range.now.high)
+        → StepRoom inputs (option_map outer_view range.now.step)
         → Inside all (outer_parts (range_outers range.now)) → Passes inputs all (outer_parts (range_outers range.now)) passed.old passed.new) }
 {
     pass_outer(alloc, passed, inputs, &range.low)?;
@@ -94,9 +99,10 @@ fn add_bounds<A: Allocator>(
     passed: &IndexMap<u32, Argument>,
     range: &Range<A>,
 ) -> Result<(), AllocError>
-    ensures { OnOk result ((all : List core.Part) → IsPassed standing.inputs all passed.now → OuterRoom standing.inputs (outer_view range.now.low) → OuterRoom standing.inputs (outer_view range.now.high)
+    ensures { OnOk result ((all : List core.Part) → IsPassed standing.inputs all passed.now → OuterRoom standing.inputs (outer_view range.now.low)
+        → OuterRoom standing.inputs (outer_view range.now.high)
         → StepRoom standing.inputs (option_map outer_view range.now.step) → Inside all (outer_parts (range_outers range.now))
-        → Added (map kinds_of_function functions.now.items) standing.inputs all standing.at standing.priority (outer_parts (range_outers range.now)) entries.old.items entries.new.items) }
+        → AddedFor functions.now.items standing all (outer_parts (range_outers range.now)) entries.old.items entries.new.items) }
 {
     add_outer(alloc, entries, functions, standing, passed, &range.low)?;
     add_outer(alloc, entries, functions, standing, passed, &range.high)?;
@@ -112,8 +118,9 @@ fn add_range_entries<A: Allocator>(
     standing: Standing,
     range: &Range<A>,
 ) -> Result<(), AllocError>
-    ensures { OnOk result (OuterRoom standing.inputs (outer_view range.now.low) → OuterRoom standing.inputs (outer_view range.now.high) → StepRoom standing.inputs (option_map outer_view range.now.step)
-        → Added (map kinds_of_function functions.now.items) standing.inputs (outer_parts (range_outers range.now)) standing.at standing.priority (outer_parts (range_outers range.now)) entries.old.items entries.new.items) }
+    ensures { OnOk result (OuterRoom standing.inputs (outer_view range.now.low) → OuterRoom standing.inputs (outer_view range.now.high)
+        → StepRoom standing.inputs (option_map outer_view range.now.step)
+        → AllAdded functions.now.items standing (outer_parts (range_outers range.now)) entries.old.items entries.new.items) }
 {
     let mut passed = IndexMap::new(alloc);
     pass_range(alloc, &mut passed, standing.inputs, range)?;
@@ -126,7 +133,8 @@ fn add_range_data<A: Allocator>(
     makes: &mut Vec<Variable>,
     range: &Range<A>,
 ) -> Result<(), AllocError>
-    ensures { OnOk result (map code_view.variable_view makes.new.items ≡ map code_view.variable_view makes.old.items ++ data_in None (outer_parts (range_outers range.now))) }
+    ensures { OnOk result (map code_view.variable_view makes.new.items
+        ≡ map code_view.variable_view makes.old.items ++ data_in None (outer_parts (range_outers range.now))) }
 {
     add_outer_data(makes, &range.low)?;
     add_outer_data(makes, &range.high)?;
@@ -134,26 +142,27 @@ fn add_range_data<A: Allocator>(
     Ok(())
 }
 
-/// Lays the parts of a range: the entries and data of its bounds and its step.
-pub fn range_parts<A: Allocator>(
-    alloc: Global,
-    entries: &mut Vec<Entry>,
-    filling: &mut Filling,
-    functions: &Vec<Function<A>, A>,
-    standing: Standing,
-    range: &Range<A>,
-) -> Result<(), AllocError>
-    ensures laid { OnOk result ((bodies : List pure.Body) → OuterRoom standing.inputs (outer_view range.now.low) → OuterRoom standing.inputs (outer_view range.now.high) → StepRoom standing.inputs (option_map outer_view range.now.step)
-        → length entries.new.items ≤ 2 ^ 32
-        → PartsInto (map kinds_of_function functions.now.items) standing.inputs (outer_parts (range_outers range.now)) standing.at standing.priority (laying entries.old.items bodies) (laying entries.new.items bodies) filling.old filling.new) }
-    ensures few { OnOk result ((l : Layout) → OuterRoom standing.inputs (outer_view range.now.low) → OuterRoom standing.inputs (outer_view range.now.high) → StepRoom standing.inputs (option_map outer_view range.now.step)
-        → PlainAs l None (outer_parts (range_outers range.now)) → ((i : ℕ) → l.body_of i ≡ suc i) → IndexesStand (outer_parts (range_outers range.now))
-        → length entries.new.items ≤ length entries.old.items + length (outer_parts (range_outers range.now))) }
-{
-    let from = entries.len();
-    add_range_entries(alloc, entries, functions, standing, range)?;
-    add_range_data(&mut filling.makes, range)?;
-    add_numbers(&mut filling.entries, from, entries.len())?;
-    parts_are_laid();
-    Ok(())
+impl Writer {
+    /// Lays the parts of a range: the entries and data of its bounds and its step.
+    pub fn range_parts<A: Allocator>(
+        &mut self,
+        functions: &Vec<Function<A>, A>,
+        standing: Standing,
+        range: &Range<A>,
+    ) -> Result<(), AllocError>
+        ensures laid { OnOk result ((bodies : List pure.Body) → OuterRoom standing.inputs (outer_view range.now.low)
+            → OuterRoom standing.inputs (outer_view range.now.high) → StepRoom standing.inputs (option_map outer_view range.now.step)
+            → length self.new.entries.items ≤ 2 ^ 32
+            → PartsLaid functions.now.items standing (outer_parts (range_outers range.now)) bodies
+            self.old.entries.items self.new.entries.items self.old.filling self.new.filling) }
+        ensures few { OnOk result ((l : Layout) → OuterRoom standing.inputs (outer_view range.now.low) → OuterRoom standing.inputs (outer_view range.now.high)
+            → StepRoom standing.inputs (option_map outer_view range.now.step)
+            → FewParts l (outer_parts (range_outers range.now)) self.old.entries.items self.new.entries.items) }
+    {
+        let from = self.entries.len();
+        add_range_entries(self.alloc, &mut self.entries, functions, standing, range)?;
+        add_range_data(&mut self.filling.makes, range)?;
+        add_numbers(&mut self.filling.entries, from, self.entries.len())?;
+        Ok(())
+    }
 }

@@ -1,16 +1,14 @@
 //! The step of a range, which may be missing.
-ghost use Rattle.std.specs.Prelude.{◌≡◌, ◌++◌, List, None, option_map, option_to_list, map, IfOk, OnOk};
+ghost use Rattle.std.specs.Prelude.{◌≡◌, ◌++◌, List, None, option_map, map, IfOk, OnOk};
 ghost use Rattle.language.specs.Core as core;
-ghost use Rattle.language.specs.Parts.{outer_parts};
-ghost use Rattle.flow.specs.Shapes.{kinds_of_function};
 ghost use Rattle.flow.specs.View.{outer_view};
 ghost use Rattle.task_code.specs.View as code_view;
 ghost use Rattle.code_rules.specs.CodeNames.{over, wanted};
 ghost use Rattle.code_rules.specs.Laying.{data_in};
 ghost use Rattle.code_rules.specs.Room.{StepRoom};
 ghost use Rattle.emit_cells.specs.Wanted.{need_of, IsReady, Notes};
-ghost use Rattle.emit_cells.specs.Chunk.{Added, Inside, IsPassed, Passes};
-ghost use Rattle.emit_statements.specs.Blocks.{seen_step};
+ghost use Rattle.emit_cells.specs.Chunk.{AddedFor, Inside, IsPassed, Passes};
+ghost use Rattle.emit_statements.specs.Blocks.{seen_step, step_parts};
 
 use emit_cells::entries::Standing;
 use emit_cells::needs::Wanted;
@@ -33,8 +31,8 @@ pub fn pass_step<A: Allocator>(
     inputs: usize,
     step: &Option<Outer<A>>,
 ) -> Result<(), AllocError>
-    ensures { OnOk result ((all : List core.Part) → StepRoom inputs (option_map outer_view step.now) → Inside all (outer_parts (option_to_list (option_map outer_view step.now)))
-        → Passes inputs all (outer_parts (option_to_list (option_map outer_view step.now))) passed.old passed.new) }
+    ensures { OnOk result ((all : List core.Part) → StepRoom inputs (option_map outer_view step.now) → Inside all (step_parts step.now)
+        → Passes inputs all (step_parts step.now) passed.old passed.new) }
 {
     match step {
         None => Ok(()),
@@ -51,8 +49,9 @@ pub fn add_step<A: Allocator>(
     passed: &IndexMap<u32, Argument>,
     step: &Option<Outer<A>>,
 ) -> Result<(), AllocError>
-    ensures { OnOk result ((all : List core.Part) → IsPassed standing.inputs all passed.now → StepRoom standing.inputs (option_map outer_view step.now) → Inside all (outer_parts (option_to_list (option_map outer_view step.now)))
-        → Added (map kinds_of_function functions.now.items) standing.inputs all standing.at standing.priority (outer_parts (option_to_list (option_map outer_view step.now))) entries.old.items entries.new.items) }
+    ensures { OnOk result ((all : List core.Part) → IsPassed standing.inputs all passed.now → StepRoom standing.inputs (option_map outer_view step.now)
+        → Inside all (step_parts step.now)
+        → AddedFor functions.now.items standing all (step_parts step.now) entries.old.items entries.new.items) }
 {
     match step {
         None => Ok(()),
@@ -65,7 +64,7 @@ pub fn add_step_data<A: Allocator>(
     makes: &mut Vec<Variable>,
     step: &Option<Outer<A>>,
 ) -> Result<(), AllocError>
-    ensures { OnOk result (map code_view.variable_view makes.new.items ≡ map code_view.variable_view makes.old.items ++ data_in None (outer_parts (option_to_list (option_map outer_view step.now)))) }
+    ensures { OnOk result (map code_view.variable_view makes.new.items ≡ map code_view.variable_view makes.old.items ++ data_in None (step_parts step.now)) }
 {
     match step {
         None => Ok(()),
@@ -79,7 +78,8 @@ pub fn note_step<A: Allocator>(
     inputs: usize,
     step: &Option<Outer<A>>,
 ) -> Result<(), AllocError>
-    ensures { OnOk result (StepRoom inputs (option_map outer_view step.now) → Notes needs.old.keys needs.new.keys (wanted inputs (seen_step (option_map outer_view step.now)))) }
+    ensures { OnOk result (StepRoom inputs (option_map outer_view step.now)
+        → Notes needs.old.keys needs.new.keys (wanted inputs (seen_step (option_map outer_view step.now)))) }
 {
     match step {
         None => Ok(()),
@@ -94,7 +94,8 @@ pub fn placed_step<A: Allocator>(
     inputs: usize,
     step: &Option<Outer<A>>,
 ) -> Result<Placed, AllocError>
-    ensures { IfOk result (λ e. IsReady needs.now.keys → StepRoom inputs (option_map outer_view step.now) → code_view.expr_view e ≡ over inputs (map need_of needs.now.keys) (seen_step (option_map outer_view step.now))) }
+    ensures { IfOk result (λ e. IsReady needs.now.keys → StepRoom inputs (option_map outer_view step.now)
+        → code_view.expr_view e ≡ over inputs (map need_of needs.now.keys) (seen_step (option_map outer_view step.now))) }
 {
     match step {
         None => Ok(Placed::Constant(Scalar::Number(1))),

@@ -1,5 +1,5 @@
 //! Waits, merged where nothing stands beside one inside another.
-ghost use Rattle.std.specs.Prelude.{◌≡◌, ◌∷◌, ◌++◌, List, length, map, pos, IfOk, OnOk};
+ghost use Rattle.std.specs.Prelude.{◌≡◌, ◌∷◌, ◌++◌, length, map, pos, IfOk, OnOk};
 ghost use Rattle.std.specs.List.{flat_map};
 ghost use Rattle.language.specs.Core as core;
 ghost use Rattle.flow.specs.View.{awaited_view, waits_around};
@@ -9,9 +9,8 @@ ghost use Rattle.code_rules.specs.Room.{ActionRoom, AwaitedRoom, Each};
 ghost use Rattle.emit_cells.specs.Wanted.{need_named, Notes};
 ghost use Rattle.emit_statements.specs.Blocks.{InnerRoom, Numbered, WaitAddedAs, header_of, inner_headers};
 
-use crate::entry::add_entry;
-use crate::filling::Filling;
 use crate::own::Statement;
+use crate::writer::Writer;
 use emit_cells::names::named;
 use emit_cells::needs::{Wanted, note_name};
 use flow::name::Name;
@@ -19,7 +18,7 @@ use flow::statement::Header;
 use indexmap::IndexSet;
 use language::tree::Shape;
 use std::alloc::{AllocError, Allocator, Global};
-use task_code::entry::{Act, Entry, Header as Waits, Name as Used};
+use task_code::entry::{Act, Header as Waits, Name as Used};
 
 /// A name that is waited for.
 fn awaited(inputs: usize, name: Name) -> Used
@@ -39,7 +38,8 @@ fn note_names<A: Allocator>(
     inputs: usize,
     names: &Vec<Name, A>,
 ) -> Result<(), AllocError>
-    ensures { OnOk result (Each (AwaitedRoom inputs) (map awaited_view names.now.items) → Notes needs.old.keys needs.new.keys (map (awaited_need inputs) (map awaited_view names.now.items))) }
+    ensures { OnOk result (Each (AwaitedRoom inputs) (map awaited_view names.now.items)
+        → Notes needs.old.keys needs.new.keys (map (awaited_need inputs) (map awaited_view names.now.items))) }
 {
     for name in names {
         note_name(needs, awaited(inputs, *name))?;
@@ -53,7 +53,8 @@ fn note_inner<A: Allocator>(
     inputs: usize,
     inner: &Vec<Header<A>, A>,
 ) -> Result<(), AllocError>
-    ensures { OnOk result (InnerRoom inputs inner.now.items → Notes needs.old.keys needs.new.keys (flat_map (λ h. h.needs) (inner_headers inputs inner.now.items))) }
+    ensures { OnOk result (InnerRoom inputs inner.now.items
+        → Notes needs.old.keys needs.new.keys (flat_map (λ h. h.needs) (inner_headers inputs inner.now.items))) }
 {
     for merged in inner {
         note_names(needs, inputs, &merged.names)?;
@@ -70,7 +71,8 @@ fn header<A: Allocator>(
     at: usize,
     names: &Vec<Name, A>,
 ) -> Result<Waits, AllocError>
-    ensures { IfOk result (λ h. Each (AwaitedRoom inputs) (map awaited_view names.now.items) → code_view.header_view h ≡ header_of inputs at names.now.items) }
+    ensures { IfOk result (λ h. Each (AwaitedRoom inputs) (map awaited_view names.now.items)
+        → code_view.header_view h ≡ header_of inputs at names.now.items) }
 {
     let mut needs = Vec::with_capacity(alloc, names.len())?;
     for name in names {
@@ -86,7 +88,8 @@ fn add_headers<A: Allocator>(
     inputs: usize,
     inner: &Vec<Header<A>, A>,
 ) -> Result<(), AllocError>
-    ensures { OnOk result (InnerRoom inputs inner.now.items → map code_view.header_view headers.new.items ≡ map code_view.header_view headers.old.items ++ inner_headers inputs inner.now.items) }
+    ensures { OnOk result (InnerRoom inputs inner.now.items
+        → map code_view.header_view headers.new.items ≡ map code_view.header_view headers.old.items ++ inner_headers inputs inner.now.items) }
 {
     for merged in inner {
         headers.push(header(alloc, inputs, merged.at, &merged.names)?)?;
@@ -111,32 +114,29 @@ fn all_headers<A: Allocator>(
     Ok(headers)
 }
 
-/// Adds the own entry of a wait and of those that are merged with it, which opens the body of this number. The result is the
-/// entry's number.
-pub fn add_wait<A: Allocator>(
-    alloc: Global,
-    entries: &mut Vec<Entry>,
-    filling: &mut Filling,
-    statement: Statement,
-    names: &Vec<Name, A>,
-    inner: &Vec<Header<A>, A>,
-    body: u32,
-) -> Result<u32, AllocError>
-    ensures number { IfOk result (λ n. Numbered n (length entries.old.items) filling.old filling.new) }
-    ensures entry { OnOk result ((b : core.Block) → ActionRoom statement.standing.inputs (core.wait (map awaited_view names.now.items) (waits_around inner.now.items b)) → statement.standing.priority ≡ pos 0
-        → WaitAddedAs statement.standing.inputs statement.standing.at statement.node (core.wait (map awaited_view names.now.items) (waits_around inner.now.items b)) b body entries.old.items entries.new.items) }
-{
-    let inputs = statement.standing.inputs;
-    let mut needs = IndexSet::new(alloc);
-    note_names(&mut needs, inputs, names)?;
-    note_inner(&mut needs, inputs, inner)?;
-    let headers = all_headers(alloc, inputs, statement.standing.at, names, inner)?;
-    add_entry(
-        alloc,
-        entries,
-        filling,
-        statement,
-        &needs,
-        Act::Wait(headers, body),
-    )
+impl Writer {
+    /// Adds the own entry of a wait and of those that are merged with it, which opens the body of this number. The result is
+    /// the entry's number.
+    pub fn add_wait<A: Allocator>(
+        &mut self,
+        statement: Statement,
+        names: &Vec<Name, A>,
+        inner: &Vec<Header<A>, A>,
+        body: u32,
+    ) -> Result<u32, AllocError>
+        ensures number { IfOk result (λ n. Numbered n (length self.old.entries.items) self.old.filling self.new.filling) }
+        ensures entry { OnOk result ((b : core.Block)
+            → ActionRoom statement.standing.inputs (core.wait (map awaited_view names.now.items) (waits_around inner.now.items b))
+            → statement.standing.priority ≡ pos 0
+            → WaitAddedAs statement.standing.inputs statement.standing.at statement.node
+            (core.wait (map awaited_view names.now.items) (waits_around inner.now.items b)) b body
+            self.old.entries.items self.new.entries.items) }
+    {
+        let inputs = statement.standing.inputs;
+        let mut needs = IndexSet::new(self.alloc);
+        note_names(&mut needs, inputs, names)?;
+        note_inner(&mut needs, inputs, inner)?;
+        let headers = all_headers(self.alloc, inputs, statement.standing.at, names, inner)?;
+        self.add_entry(statement, &needs, Act::Wait(headers, body))
+    }
 }

@@ -1,11 +1,11 @@
 //! Blocked statements, as a person reads of them.
 
 use crate::inputs::say_inputs;
-use crate::paths::say_path;
+use crate::path::say_path;
 use crate::scene::{Scene, Stand};
 use explain_inputs::blocking::inputs_blocking;
 use explain_text::words::{add_mark, say, say_start};
-use meaning_outcomes::order::Statement;
+use meaning_outcomes::Statement;
 use std::alloc::{AllocError, Allocator};
 
 /// Adds what is said of the statements that are blocked by what is known of a script, in the order in which they are told: of each

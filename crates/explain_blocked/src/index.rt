@@ -10,7 +10,7 @@ use flow::script::Flow;
 use flow::statement::{Action, Variable};
 use flow_index::site::Site;
 use flow_index::table::Sites;
-use meaning_facts::parts::outers_of;
+use meaning_cells::parts::outers_of;
 use std::alloc::{AllocError, Allocator, Global};
 use std::collections::HashMap;
 

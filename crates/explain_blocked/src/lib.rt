@@ -4,7 +4,7 @@
 pub mod blocked;
 pub mod index;
 mod inputs;
-pub mod paths;
+pub mod path;
 pub mod scene;
 pub mod sites;
 pub mod words;

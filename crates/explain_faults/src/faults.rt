@@ -2,17 +2,17 @@
 
 use crate::hints::say_hint;
 use crate::printed::Printed;
-use crate::reasons::{plain_of, rule_of, say_reason};
-use explain_blocked::paths::{say_path, say_steps};
+use crate::reasons::{plain_of, say_reason};
+use explain_blocked::path::{say_path, say_steps};
 use explain_blocked::scene::Scene;
 use explain_inputs::blocking::instance_at;
 use explain_text::position::line_begin;
 use explain_text::words::{add_mark, say, say_start};
 use flow::script::Flow;
 use meaning::rounds;
-use meaning_facts::facts::{FaultFact, FaultKind, Place};
-use meaning_facts::instances::Step;
+use meaning_facts::facts::{FaultFact, Place};
 use meaning_outcomes::knowledge::Knowledge;
+use paths::{FaultKind, Step};
 use std::alloc::{AllocError, Allocator, Global};
 use std::collections::HashMap;
 
@@ -161,7 +161,7 @@ fn add_fault<'t, 'a, A: Allocator>(
     fact: FaultFact,
 ) -> Result<(), AllocError> {
     say_start(out, file, scene.text, fact.at)?;
-    say(out, rule_of(fact.kind))?;
+    say(out, fact.kind.name())?;
     say(out, ": ")?;
     if !say_reason(scene, out, fact)? {
         say(out, plain_of(fact.kind))?;
@@ -194,7 +194,7 @@ fn add_plain<'t, 'a, A: Allocator>(
     printed: &Printed,
 ) -> Result<(), AllocError> {
     say_start(out, file, scene.text, printed.at)?;
-    say(out, rule_of(printed.kind))?;
+    say(out, printed.kind.name())?;
     say(out, ": ")?;
     say(out, plain_of(printed.kind))?;
     say(out, "\n")?;

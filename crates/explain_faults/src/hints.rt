@@ -3,7 +3,7 @@
 use explain_text::words::say;
 use lexer::lexer::Lexer;
 use lexer::token::TokenKind;
-use meaning_facts::facts::FaultKind;
+use paths::FaultKind;
 use std::alloc::AllocError;
 
 const BOTH_SIDES: &str =
@@ -11,6 +11,15 @@ const BOTH_SIDES: &str =
 
 const DEPTH: &str =
     "hint: with an if in it a function calls itself 255 times at most: what goes on longer goes on along an array, s[i] = s[i - 1] + ..\n";
+
+const ONCE: &str =
+    "hint: each turn writes an element of its own, A[i] = ..; what several turns have for one key goes into an array with a key for each turn\n";
+
+const UPWARDS: &str =
+    "hint: a range goes upwards: downwards go the values 10 - i in the turns of foreach i in [0:10]\n";
+
+const NEGATIVE: &str =
+    "hint: keys are not counted from the end: the last element is A[size(A) - 1], where the keys begin with 0\n";
 
 /// Adds the line of a hint, where one is known of a fault of this kind that the statement at an offset has.
 pub fn say_hint(
@@ -23,6 +32,9 @@ pub fn say_hint(
         FaultKind::DivideByZero | FaultKind::NoElement if joins_conditions(text, at) => {
             say(out, BOTH_SIDES)
         }
+        FaultKind::NoElement if has_negative_key(text, at) => say(out, NEGATIVE),
+        FaultKind::ElementTwice => say(out, ONCE),
+        FaultKind::BadStep => say(out, UPWARDS),
         FaultKind::TooDeep => say(out, DEPTH),
         _ => Ok(()),
     }
@@ -39,6 +51,23 @@ fn joins_conditions(text: &[u8], at: usize) -> bool {
             TokenKind::And | TokenKind::Or => return true,
             TokenKind::Semicolon | TokenKind::OpenCurly => return false,
             _ => {}
+        }
+    }
+    false
+}
+
+/// Whether the statement at an offset has a `-` right behind a `[` before its end or its block.
+fn has_negative_key(text: &[u8], at: usize) -> bool {
+    let mut lexer = Lexer::behind(text, at.min(text.len()));
+    let mut last = TokenKind::End;
+    for _ in at..text.len() {
+        let Some(Ok(token)) = lexer.next() else {
+            return false;
+        };
+        match token.kind {
+            TokenKind::Minus if last == TokenKind::OpenSquare => return true,
+            TokenKind::Semicolon | TokenKind::OpenCurly => return false,
+            kind => last = kind,
         }
     }
     false

@@ -1,4 +1,4 @@
-//! What is said to a person of faults, and of an end at a limit: the place, the values that were met, and the path in words.
+//! What is said to a person of faults, of an end at a limit, and of traces that are none: the place, the values that were met, and the path in words.
 #![tactic(auto)]
 
 pub mod faults;
@@ -9,3 +9,4 @@ mod operations;
 mod parts;
 pub mod printed;
 mod reasons;
+pub mod traces;

@@ -3,29 +3,63 @@
 use explain_text::words::{say, say_count};
 use std::alloc::AllocError;
 
-/// Adds what is said of a run that was cut off after so many events, with so many items that could begin and so many that ran.
+/// What was done where a run was cut off: so many events, with so many items that could begin and so many that ran.
+#[derive(Clone, Copy, Debug, PartialEq, Eq)]
+pub struct Left {
+    pub events: usize,
+    pub ready: usize,
+    pub running: usize,
+}
+
+/// Adds what is said of a run that was cut off.
 ///
 /// # Errors
 ///
 /// `AllocError` where memory that was asked for was refused.
-pub fn add_limit_of_steps(
-    out: &mut Vec<u8>,
-    file: &str,
-    events: usize,
-    ready: usize,
-    running: usize,
-) -> Result<(), AllocError> {
+pub fn add_limit_of_steps(out: &mut Vec<u8>, file: &str, left: Left) -> Result<(), AllocError> {
     say(out, file)?;
     say(out, ": limit: cut off after ")?;
-    say_some(out, events, "event", "events")?;
-    say(out, ", with ")?;
-    say_some(out, ready, "item", "items")?;
-    say(out, " ready and ")?;
-    say_count(out, running)?;
+    say_left(out, left)?;
     say(
         out,
-        " running; --steps N allows N events, which are starts and ends of items\n",
+        "; --steps N allows N events, which are starts and ends of items\n",
     )
+}
+
+/// Adds what is said of a trace that ends before the script's run does.
+///
+/// # Errors
+///
+/// `AllocError` where memory that was asked for was refused.
+pub fn add_limit_of_trace(out: &mut Vec<u8>, file: &str, left: Left) -> Result<(), AllocError> {
+    say(out, file)?;
+    say(out, ": limit: the trace ends here, after ")?;
+    say_left(out, left)?;
+    say(out, "\n")
+}
+
+fn say_left(out: &mut Vec<u8>, left: Left) -> Result<(), AllocError> {
+    say_some(out, left.events, "event", "events")?;
+    say(out, ", with ")?;
+    say_some(out, left.ready, "item", "items")?;
+    say(out, " ready and ")?;
+    say_count(out, left.running)?;
+    say(out, " running")
+}
+
+/// Adds what is said of a run for which too many threads were asked.
+///
+/// # Errors
+///
+/// `AllocError` where memory that was asked for was refused.
+pub fn add_bad_count(out: &mut Vec<u8>, engines: usize, workers: usize) -> Result<(), AllocError> {
+    say(out, "swt: R1 BadCount: ")?;
+    say_some(out, engines, "engine", "engines")?;
+    say(out, " and ")?;
+    say_some(out, workers, "worker", "workers")?;
+    say(out, " are ")?;
+    say_count(out, engines.saturating_add(workers))?;
+    say(out, " threads, and a run has 64 at most\n")
 }
 
 /// Adds what is said of a meaning that was cut off after so many rounds, with so many statements that were not done.

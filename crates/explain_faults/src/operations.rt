@@ -7,7 +7,7 @@ use explain_blocked::words::say_scalar;
 use explain_text::words::{say, say_bytes};
 use flow::cell::Form;
 use flow::expression::{Expr, Operation};
-use meaning_facts::facts::FaultKind;
+use paths::FaultKind;
 use std::alloc::{AllocError, Allocator};
 use values::op::{Factor, Sign};
 use values::value::Value;

@@ -1,14 +1,13 @@
 //! The fault that a run has printed, read from its line.
 
 use explain_text::position::line_begin;
-use meaning_facts::facts::FaultKind;
-use meaning_facts::instances::Step;
+use paths::{FaultKind, Step};
 use std::alloc::{AllocError, Global};
 use values::key::Key;
 use values::number;
 
 /// What the line of a fault begins with.
-const START: &[u8] = b"swt: fault F";
+const START: &[u8] = b"swt: fault ";
 
 /// A fault: its kind, the offset of its statement, and the path of that, the outermost step first.
 #[derive(Drop)]
@@ -28,16 +27,18 @@ impl Printed {
         let Some(rest) = last_line(text).strip_prefix(START) else {
             return Ok(None);
         };
-        let (number, rest) = cut(rest, b' ');
-        let (_name, rest) = cut(rest, b' ');
+        let Some((kind, rest)) = kind_of(rest) else {
+            return Ok(None);
+        };
+        let (_, rest) = cut(rest, b' ');
         let (offset, path) = cut(rest, b' ');
-        match (kind_of(number), offset_of(offset)) {
-            (Some(kind), Some(at)) => Ok(Some(Printed {
+        match offset_of(offset) {
+            Some(at) => Ok(Some(Printed {
                 kind,
                 at,
                 path: steps_of(alloc, path)?,
             })),
-            _ => Ok(None),
+            None => Ok(None),
         }
     }
 
@@ -45,10 +46,7 @@ impl Printed {
     pub fn inner_first(&self, alloc: Global) -> Result<Vec<Step>, AllocError> {
         let mut steps = Vec::new(alloc);
         for step in &self.path {
-            steps.push(Step {
-                at: step.at,
-                key: step.key.share()?,
-            })?;
+            steps.push(step.share()?)?;
         }
         steps.reverse();
         Ok(steps)
@@ -71,18 +69,14 @@ fn cut(bytes: &[u8], at: u8) -> (&[u8], &[u8]) {
     (bytes, &[])
 }
 
-fn kind_of(number: &[u8]) -> Option<FaultKind> {
-    match number {
-        [b'1'] => Some(FaultKind::Overflow),
-        [b'2'] => Some(FaultKind::DivideByZero),
-        [b'3'] => Some(FaultKind::NoElement),
-        [b'4'] => Some(FaultKind::ElementTwice),
-        [b'5'] => Some(FaultKind::BadStep),
-        [b'6'] => Some(FaultKind::TooDeep),
-        [b'7'] => Some(FaultKind::NotANumber),
-        [b'8'] => Some(FaultKind::AssertFailed),
-        _ => None,
+/// The kind whose number and name a text begins with, and what stands behind them.
+fn kind_of(text: &[u8]) -> Option<(FaultKind, &[u8])> {
+    for kind in &FaultKind::ALL {
+        if let Some(rest) = text.strip_prefix(kind.name().as_bytes()) {
+            return Some((*kind, rest));
+        }
     }
+    None
 }
 
 fn offset_of(digits: &[u8]) -> Option<usize> {
@@ -108,5 +102,5 @@ fn step_of(step: &[u8]) -> Option<Step> {
     let (at, key) = cut(step, b'.');
     let at = offset_of(at)?;
     let key = Key::Number(number::parse(key).ok()?);
-    Some(Step { at, key })
+    Some(Step { offset: at, key })
 }

@@ -3,7 +3,7 @@
 use crate::keys::{say_element, say_keys};
 use crate::operations::{say_message, say_operation};
 use explain_blocked::index::Spot;
-use explain_blocked::paths::say_steps;
+use explain_blocked::path::say_steps;
 use explain_blocked::scene::Scene;
 use explain_blocked::sites::action_of;
 use explain_blocked::words::say_scalar;
@@ -12,24 +12,11 @@ use flow::cell::{Form, Outer};
 use flow::name::Name;
 use flow::statement::{Action, Range};
 use flow_index::site::Site;
-use meaning_facts::facts::{FaultFact, FaultKind, Place, Write};
+use meaning_facts::facts::{FaultFact, Place, Write};
+use paths::FaultKind;
 use std::alloc::{AllocError, Allocator};
 use values::key::Key;
 use values::value::Value;
-
-/// The rule that a fault breaks.
-pub fn rule_of(kind: FaultKind) -> &'static str {
-    match kind {
-        FaultKind::Overflow => "F1 Overflow",
-        FaultKind::DivideByZero => "F2 DivideByZero",
-        FaultKind::NoElement => "F3 NoElement",
-        FaultKind::ElementTwice => "F4 ElementTwice",
-        FaultKind::BadStep => "F5 BadStep",
-        FaultKind::TooDeep => "F6 TooDeep",
-        FaultKind::NotANumber => "F7 NotANumber",
-        FaultKind::AssertFailed => "F8 AssertFailed",
-    }
-}
 
 /// What a fault is, without any value.
 pub fn plain_of(kind: FaultKind) -> &'static str {

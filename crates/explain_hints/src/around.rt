@@ -33,6 +33,8 @@ pub struct Around<'t> {
     pub closed: Token<'t>,
     /// Whether a line ends between the last token and it.
     pub is_on_new_line: bool,
+    /// Whether a comment up to the end of the line begins behind the last token.
+    pub is_before_comment: bool,
 }
 
 /// A bracket that is open, with the token before it.
@@ -172,6 +174,7 @@ impl<'t> Walk<'t> {
             outer: walk.opener().bracket,
             closed: walk.closed,
             is_on_new_line: has_line_end(text, walk.last.span.to, to),
+            is_before_comment: begins_comment(text, walk.last.span.to),
         }
     }
 }
@@ -181,6 +184,19 @@ const NOTHING_OPEN: Open<'static> = Open {
     bracket: ABSENT,
     before: ABSENT,
 };
+
+/// Whether a comment up to the end of the line stands behind an offset, with spaces before it.
+fn begins_comment(text: &[u8], from: usize) -> bool {
+    let (_, behind) = text.split_at(from.min(text.len()));
+    let mut rest = behind;
+    for _ in 0..behind.len() {
+        match rest.strip_prefix(b" ") {
+            Some(after) => rest = after,
+            None => break,
+        }
+    }
+    rest.starts_with(b"//")
+}
 
 /// Whether a line ends between two offsets.
 fn has_line_end(text: &[u8], from: usize, to: usize) -> bool {

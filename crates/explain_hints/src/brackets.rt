@@ -56,6 +56,11 @@ fn curly(around: &Around<'_>) -> Option<Advice> {
 
 fn round(around: &Around<'_>) -> Option<Advice> {
     if around.last.kind == TokenKind::Name && around.before_last.kind == TokenKind::In {
+        if around.last.text == b"range".as_slice() {
+            return Advice::here(
+                "a range stands in square brackets, with both of its ends: foreach i in [0:9] { .. }",
+            );
+        }
         return Advice::here(
             "foreach goes over an array by its name: int A[] = f(3); foreach v in A { .. }",
         );

@@ -121,6 +121,9 @@ fn past_ascii(alloc: Global, before: &[u8], rest: &[u8]) -> Result<Vec<u8>, Allo
             "the file begins with a byte order mark: save it without one",
         );
     }
+    if before.is_empty() && (rest.starts_with(b"\xFF\xFE") || rest.starts_with(b"\xFE\xFF")) {
+        return words(alloc, "the file is UTF-16: save it as ASCII");
+    }
     for character in &CHARACTERS {
         if rest.starts_with(character.bytes) {
             return words(alloc, character.words);

@@ -73,6 +73,9 @@ fn comma(around: &Around<'_>) -> Option<Advice> {
 
 /// Where names are listed outside of brackets.
 fn listed(around: &Around<'_>) -> Option<Advice> {
+    if around.first.kind == TokenKind::Foreach {
+        return Advice::here("a loop has a value and its key at most: foreach v, i in A { .. }");
+    }
     if is_type(around.first.kind) {
         return Advice::here("one name a declaration: int x; int y;");
     }
@@ -123,9 +126,22 @@ fn changed(around: &Around<'_>) -> Option<Advice> {
         );
     }
     let twice = (found == TokenKind::Plus || found == TokenKind::Minus) && goes_on(around, found);
+    if twice && around.found.span == around.first.span {
+        return Advice::here(
+            "a comment begins with //, and a variable has one value: int j = i - 1;",
+        );
+    }
     if twice || around.last.kind == TokenKind::Plus && found == TokenKind::Plus {
         return Advice::here(
             "a variable has one value: int j = i + 1; a loop counts by itself: foreach i in [0:9] { .. }",
+        );
+    }
+    if is_arithmetic(found)
+        && around.last.kind == TokenKind::CloseSquare
+        && around.closed.kind == TokenKind::Assign
+    {
+        return Advice::here(
+            "an array is not reckoned with as a whole: foreach i in [0:9] { A[i] = 0; }",
         );
     }
     if is_comparison(found) && around.first.span == around.last.span {

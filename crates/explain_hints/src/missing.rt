@@ -71,25 +71,39 @@ pub fn sign(around: &Around<'_>) -> Option<Advice> {
     if !is_ended {
         return None;
     }
+    if is_prefixed(around) {
+        return Advice::here(
+            "a string has no letter in front, and no values are filled in: \"x = \" + fromint(x)",
+        );
+    }
     match around.opener.kind {
         TokenKind::OpenRound | TokenKind::OpenSquare => between(around),
         _ => semicolon(around),
     }
 }
 
+/// Whether a string stands right behind a name.
+fn is_prefixed(around: &Around<'_>) -> bool {
+    around.found.kind == TokenKind::Text
+        && around.last.kind == TokenKind::Name
+        && around.last.span.to == around.found.span.from
+}
+
 /// Where a `;` is missing behind the last token, or an operator.
 fn semicolon(around: &Around<'_>) -> Option<Advice> {
     let to = around.last.span.to;
-    let behind = Span {
-        from: to,
-        to: to.saturating_add(1),
-    };
+    let behind = Span { from: to, to };
     let is_end = begins_statement(around.found.kind)
         || matches!(
             around.found.kind,
             TokenKind::CloseCurly | TokenKind::End | TokenKind::At
         );
-    if around.is_on_new_line || is_end {
+    if around.is_before_comment {
+        Advice::of(
+            "// begins a comment (whole numbers are divided by %/): a ; is missing",
+            behind,
+        )
+    } else if around.is_on_new_line || is_end {
         Advice::of("a ; is missing", behind)
     } else if around.found.kind == TokenKind::Text && around.last.kind == TokenKind::Text {
         Advice::here("strings are joined by +: \"a\" + \"b\"")

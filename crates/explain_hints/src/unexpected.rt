@@ -2,6 +2,7 @@
 
 use crate::advice::Advice;
 use crate::around::Around;
+use crate::keywords::near_keyword;
 use crate::{brackets, endings, headers, marks, missing, words};
 use std::alloc::{AllocError, Global};
 
@@ -12,19 +13,27 @@ use std::alloc::{AllocError, Global};
 /// `AllocError` where memory that was asked for was refused.
 pub fn on_unexpected(alloc: Global, text: &[u8], at: usize) -> Result<Option<Advice>, AllocError> {
     let around = Around::new(alloc, text, at)?;
-    match by_words(&around) {
+    if let Some(advice) = by_words(text, &around) {
+        return Ok(Some(advice));
+    }
+    match near_keyword(alloc, text, &around)? {
         Some(advice) => Ok(Some(advice)),
-        None => Ok(by_signs(&around)),
+        None => Ok(by_form(&around).or(by_signs(&around))),
     }
 }
 
-/// By words, and by what a statement begins as.
-fn by_words(around: &Around<'_>) -> Option<Advice> {
-    words::first_word(around)
+/// By words.
+fn by_words(text: &[u8], around: &Around<'_>) -> Option<Advice> {
+    words::first_word(text, around)
         .or(headers::import(around))
         .or(words::other_operator(around))
         .or(words::other_type(around))
         .or(headers::word_as_name(around))
+}
+
+/// By what a statement begins as.
+fn by_form(around: &Around<'_>) -> Option<Advice> {
+    words::two_names(around)
         .or(headers::form(around))
         .or(headers::block(around))
         .or(headers::function(around))

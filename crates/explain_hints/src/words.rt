@@ -3,7 +3,8 @@
 use crate::advice::Advice;
 use crate::around::Around;
 use crate::bytes::{Row, row_of};
-use crate::kinds::is_plain;
+use crate::definitions::is_defined;
+use crate::kinds::{is_plain, is_type};
 use lexer::token::TokenKind;
 
 const LOOP: &str =
@@ -312,7 +313,7 @@ static TYPES: [Row; 26] = [
 ];
 
 /// Operators that are words elsewhere.
-static OPERATORS: [Row; 6] = [
+static OPERATORS: [Row; 7] = [
     Row {
         word: "and",
         words: "and is &&",
@@ -334,27 +335,40 @@ static OPERATORS: [Row; 6] = [
         words: "whole numbers are divided by %/",
     },
     Row {
+        word: "new",
+        words: "there is no new: an array is declared by int A[]; and has what is written to it",
+    },
+    Row {
         word: "then",
         words: "a block stands between { and }",
     },
 ];
 
-/// Where the first word of the statement is one of another language.
-pub fn first_word(around: &Around<'_>) -> Option<Advice> {
-    if around.first.kind != TokenKind::Name || around.second.kind == TokenKind::Assign {
+/// Where the first word of the statement is one of another language, and no variable or function of the script.
+pub fn first_word(text: &[u8], around: &Around<'_>) -> Option<Advice> {
+    if around.first.kind != TokenKind::Name || is_variable(around) {
         return None;
     }
-    Advice::here(row_of(&FIRST_WORDS, around.first.text)?)
+    let words = row_of(&FIRST_WORDS, around.first.text)?;
+    if around.second.kind == TokenKind::OpenRound && is_defined(text, around.first.text) {
+        return None;
+    }
+    Advice::here(words)
+}
+
+/// Whether the first word of the statement is used as a variable.
+pub fn is_variable(around: &Around<'_>) -> bool {
+    matches!(
+        around.second.kind,
+        TokenKind::Assign | TokenKind::OpenSquare
+    )
 }
 
 /// Where a type of another language stands before a name, or where a type is wanted.
 pub fn other_type(around: &Around<'_>) -> Option<Advice> {
     let is_before_name = matches!(around.found.kind, TokenKind::Name | TokenKind::OpenSquare);
     if around.last.kind == TokenKind::Name && is_before_name && !around.is_on_new_line {
-        return match row_of(&TYPES, around.last.text) {
-            Some(words) => Advice::here(words),
-            None => no_type(around),
-        };
+        return Advice::here(row_of(&TYPES, around.last.text)?);
     }
     if around.first.kind == TokenKind::OpenRound && around.found.kind == TokenKind::Name {
         return Advice::here(row_of(&TYPES, around.found.text)?);
@@ -363,8 +377,12 @@ pub fn other_type(around: &Around<'_>) -> Option<Advice> {
 }
 
 /// Where a statement begins with two names.
-fn no_type(around: &Around<'_>) -> Option<Advice> {
-    if around.second.span == around.found.span && around.found.kind == TokenKind::Name {
+pub fn two_names(around: &Around<'_>) -> Option<Advice> {
+    if around.first.kind == TokenKind::Name
+        && around.second.span == around.found.span
+        && around.found.kind == TokenKind::Name
+        && !around.is_on_new_line
+    {
         return Advice::here(
             "no statement begins with two names: a declaration begins with int, string or boolean, and what a function is called with stands in brackets",
         );
@@ -374,13 +392,25 @@ fn no_type(around: &Around<'_>) -> Option<Advice> {
 
 /// Where an operator is a word.
 pub fn other_operator(around: &Around<'_>) -> Option<Advice> {
+    if around.is_on_new_line && begins_as_variable(around) {
+        return None;
+    }
     if around.found.kind == TokenKind::Name {
         if let Some(words) = row_of(&OPERATORS, around.found.text) {
             return Advice::here(words);
         }
     }
-    if around.last.kind == TokenKind::Name && is_plain(around.found.kind) {
+    let goes_on = is_plain(around.found.kind) || is_type(around.found.kind);
+    if around.last.kind == TokenKind::Name && goes_on && !around.is_on_new_line {
         return Advice::here(row_of(&OPERATORS, around.last.text)?);
     }
     None
+}
+
+/// Whether a statement that assigns or calls begins with the token.
+fn begins_as_variable(around: &Around<'_>) -> bool {
+    matches!(
+        around.next.kind,
+        TokenKind::Assign | TokenKind::OpenSquare | TokenKind::OpenRound
+    )
 }

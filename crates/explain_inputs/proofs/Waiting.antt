@@ -12,11 +12,11 @@ use Rattle.language.specs.Parts.{script_stmts, stmt_action}
 use Rattle.language.specs.Places.{Path}
 use Rattle.language_laws.proofs.Declared.{stmt_in}
 use Rattle.meaning_facts.specs.declared.instances.Instances.{Instances}
-use Rattle.meaning_facts.specs.declared.instances.Step.{Step}
+use Rattle.paths.specs.declared.steps.Step.{Step}
 use Rattle.meaning_facts.specs.Paths.{at_path, child_at, child_behind, path_of, path_in, step_view, IsTree}
 use Rattle.meaning_facts.proofs.Keeping.{at_path_of, found_there}
 use Rattle.meaning_outcomes.specs.declared.knowledge.Knowledge.{Knowledge as Learning}
-use Rattle.meaning_outcomes.specs.declared.order.Statement.{Statement}
+use Rattle.paths.specs.declared.statements.Statement.{Statement}
 use Rattle.meaning_outcomes.specs.Known.{IsKnowledgeOf}
 use Rattle.meaning_outcomes.specs.Read.{path_of as statement_path}
 use Rattle.flow_index.specs.Candidates.{can_be_blocked, is_candidate, candidates, only}
@@ -108,10 +108,10 @@ steps_more path i d l =
 
 -- one step further
 pub step_further : (t : Instances) (path : List Step) (i : ℕ) (d : Step) (from : ℕ) (to : Option ℕ) → i < length path
-    → at_path t (reverse (map step_view (take i path))) ≡ Some from → to ≡ child_at t from (get_or path i d).at (get_or path i d).key → at_path t (reverse (map step_view (take (i + 1) path))) ≡ to
+    → at_path t (reverse (map step_view (take i path))) ≡ Some from → to ≡ child_at t from (get_or path i d).offset (get_or path i d).key → at_path t (reverse (map step_view (take (i + 1) path))) ≡ to
 step_further t path i d from to l e c =
     let x = get_or path i d in
-    ap (at_path t) (steps_more path i d l) ∙ ap (λ (o : Option ℕ). child_behind t o x.at x.key) e ∙ sym c
+    ap (at_path t) (steps_more path i d l) ∙ ap (λ (o : Option ℕ). child_behind t o x.offset x.key) e ∙ sym c
 
 -- where nothing is found some steps on, nothing is found at all
 pub step_lost : (t : Instances) (path : List Step) (i : ℕ) → at_path t (reverse (map step_view (take i path))) ≡ None → at_path t (reverse (map step_view path)) ≡ None

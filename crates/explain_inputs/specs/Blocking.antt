@@ -4,7 +4,7 @@ use Rattle.language.specs.Core.{Core, Action, stmt}
 use Rattle.language.specs.Meaning.{Known}
 use Rattle.meaning_facts.specs.Paths as instances
 use Rattle.meaning_outcomes.specs.declared.knowledge.Knowledge.{Knowledge}
-use Rattle.meaning_outcomes.specs.declared.order.Statement.{Statement}
+use Rattle.paths.specs.declared.statements.Statement.{Statement}
 use Rattle.meaning_outcomes.specs.Read.{path_of}
 use Rattle.flow_index.specs.Sites.{site_view}
 use Rattle.explain_inputs.specs.declared.blocking.Waiting.{Waiting}

@@ -22,9 +22,9 @@ use crate::input::{Input, inputs_of, inputs_of_wait};
 use crate::missing::missing_of;
 use flow_index::site::{Form, Site};
 use flow_index::table::Sites;
-use meaning_facts::instances::{Instances, Step};
+use meaning_facts::instances::Instances;
 use meaning_outcomes::knowledge::Knowledge;
-use meaning_outcomes::order::Statement;
+use paths::{Statement, Step};
 use std::alloc::{AllocError, Allocator, Global};
 
 /// What a blocked statement waits for: where it stands, in which instance, and those of its inputs that are not known.
@@ -99,7 +99,7 @@ pub fn instance_at(instances: &Instances, path: &[Step]) -> Option<usize>
 
 /// The instance that another one has opened under a step.
 fn child_of(instances: &Instances, parent: usize, step: &Step) -> Option<usize>
-    ensures { result ≡ child_at instances.now parent step.now.at step.now.key }
+    ensures { result ≡ child_at instances.now parent step.now.offset step.now.key }
 {
-    instances.child(parent, step.at, &step.key)
+    instances.child(parent, step.offset, &step.key)
 }

@@ -2,7 +2,7 @@
 ghost use Rattle.std.specs.Prelude.{◌≡◌, ◌++◌, ◌∷◌, [], map, IfOk, OnOk};
 ghost use Rattle.language.specs.Parts.{outers};
 ghost use Rattle.flow.specs.View.{action_view, awaited_view, expr_view, exprs_view, form_view, outer_view, part_view, parts_view};
-ghost use Rattle.meaning_facts.specs.Listed.{outers_listed};
+ghost use Rattle.meaning_cells.specs.Listed.{outers_listed};
 ghost use Rattle.explain_inputs.specs.Inputs.{awaited_input, expr_inputs, exprs_inputs, form_inputs, input_view, inputs_of, inputs_view, outer_inputs, outers_inputs, part_inputs, parts_inputs};
 
 use flow::cell::{Form, Outer, Part};
@@ -10,7 +10,7 @@ use flow::expression::Expr;
 use flow::name::Name;
 use flow::statement::Action;
 use language::tree::Shape;
-use meaning_facts::parts::outers_of;
+use meaning_cells::parts::outers_of;
 use std::alloc::{AllocError, Allocator, Global};
 
 /// What a statement reads.

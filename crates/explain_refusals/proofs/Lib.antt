@@ -1,3 +1,1 @@
-mod Any
 mod Verdicts
-mod Views

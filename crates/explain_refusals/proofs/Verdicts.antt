@@ -1,6 +1,6 @@
 -- What is known of a text that was read as a tree, and checked.
 use Rattle.std.proofs.Common.{◌≡◌, ℕ, List, ◌∷◌, ◌++◌, length, Some, inl, inr}
-use Rattle.std.specs.Prelude.{◌≢◌, Option, min}
+use Rattle.std.specs.Prelude.{◌≢◌, min}
 use Rattle.lexer.specs.declared.token.Span.{Span}
 use Rattle.language.specs.Numbered.{numbered}
 use Rattle.language.specs.Reads.{Reads}
@@ -20,7 +20,7 @@ use Rattle.assign_check.specs.declared.fault.AssignFault.TheVariants as Assign
 use Rattle.assign_check.specs.Breaks as assigning
 use Rattle.assign_check.specs.Places as assign_places
 use Rattle.explain_text.specs.Positions.{IsPosition, place_text}
-use Rattle.explain_refusals.specs.Verdicts.{IsScript, BeginsAt, Explains}
+use Rattle.explain_refusals.specs.Verdicts.{IsScript, IsRefusedAt, BeginsAt, Explains}
 use Rattle.explain_text.specs.declared.position.Position.{Position}
 
 -- a numbered tree for which this holds
@@ -35,17 +35,16 @@ pub accepted : (src : List ℕ) (tree : Tree) (t : Table) → Reads src tree →
 accepted src tree t reads typed single =
     record { tree = tree; table = t; reads = reads; typed = typed 1 reads.parsed reads.is_numbered; single = single (is_typed src tree t reads typed) }
 
--- words that begin with the place of a fault
-abbrev pub Told : List ℕ → List ℕ → List ℕ → Option Span → Type 0
-Told file src words place = (at : Span) × (place ≡ Some at) × BeginsAt file src at words
-
 pub begins : (file src words rest : List ℕ) (at : Span) (p : Position) → IsPosition src (min at.from (length src)) p
     → words ≡ place_text file p ++ 58 ∷ 32 ∷ rest → BeginsAt file src at words
 begins file src words rest at p position is = record { position = p; is_position = position; rest = rest; is = is }
 
-pub explains_unread : (file src words : List ℕ) (f : ParseFault) → parsing.Refuses src f → Told file src words (parsing.place_of f) → Explains file src words
-explains_unread file src words f refused told =
-    record { at = told.0; refused = inl (record { fault = f; refused = refused; place = told.1 }); begins = told.2 }
+-- words on a place where the text is refused
+pub explains : (file src words : List ℕ) (at : Span) → IsRefusedAt src at → BeginsAt file src at words → Explains file src words
+explains file src words at refused begins = record { at = at; refused = refused; begins = begins }
+
+pub unread : (src : List ℕ) (f : ParseFault) (at : Span) → parsing.Refuses src f → parsing.place_of f ≡ Some at → IsRefusedAt src at
+unread src f at refused place = inl (record { fault = f; refused = refused; place = place })
 
 has_place : (f : TypeFault) (at : Span) → type_faults.span_of f ≡ Some at → f ≢ Typing.Memory
 has_place Typing.Memory at place = absurd (cc)
@@ -56,12 +55,11 @@ has_place (Typing.WrongCount p) at place = λ same. absurd (cc)
 has_place (Typing.BadFormat p) at place = λ same. absurd (cc)
 has_place (Typing.NotAFunction p) at place = λ same. absurd (cc)
 
-pub explains_ill_typed : (file src words : List ℕ) (tree : Tree) (f : TypeFault) → Reads src tree
-    → (f ≢ Typing.Memory → typing.Breaks tree f) → (f ≢ Typing.Memory → (t : Table) → ¬ WellTyped tree t) → Told file src words (type_faults.span_of f)
-    → Explains file src words
-explains_ill_typed file src words tree f reads broken none told =
-    let fault = has_place f told.0 told.1 in
-    record { at = told.0; refused = inr (inl (record { tree = tree; fault = f; reads = reads; ill_typed = none fault; broken = broken fault; place = told.1 })); begins = told.2 }
+pub ill_typed : (src : List ℕ) (tree : Tree) (f : TypeFault) (at : Span) → Reads src tree
+    → (f ≢ Typing.Memory → typing.Breaks tree f) → (f ≢ Typing.Memory → (t : Table) → ¬ WellTyped tree t) → type_faults.span_of f ≡ Some at → IsRefusedAt src at
+ill_typed src tree f at reads broken none place =
+    let fault = has_place f at place in
+    inr (inl (record { tree = tree; fault = f; reads = reads; ill_typed = none fault; broken = broken fault; place = place }))
 
 assign_place : (f : AssignFault) (at : Span) → assign_places.span_of f ≡ Some at → f ≢ Assign.Memory
 assign_place Assign.Memory at place = absurd (cc)
@@ -72,14 +70,10 @@ assign_place (Assign.OuterInLoop p) at place = λ same. absurd (cc)
 assign_place (Assign.WholeAndElements p) at place = λ same. absurd (cc)
 assign_place (Assign.OutputUnassigned p) at place = λ same. absurd (cc)
 
-pub explains_not_single : (file src words : List ℕ) (tree : Tree) (t : Table) (f : AssignFault) → Reads src tree → IfNumbered tree (WellTyped tree t)
+pub not_single : (src : List ℕ) (tree : Tree) (t : Table) (f : AssignFault) (at : Span) → Reads src tree → IfNumbered tree (WellTyped tree t)
     → (f ≢ Assign.Memory → assigning.IsTyped t tree → ¬ SinglyAssigned (core t tree)) → (f ≢ Assign.Memory → assigning.IsTyped t tree → assigning.Breaks t tree f)
-    → Told file src words (assign_places.span_of f) → Explains file src words
-explains_not_single file src words tree t f reads typed not_single broken told =
-    let fault = assign_place f told.0 told.1 in
+    → assign_places.span_of f ≡ Some at → IsRefusedAt src at
+not_single src tree t f at reads typed single broken place =
+    let fault = assign_place f at place in
     let well = is_typed src tree t reads typed in
-    record {
-      at = told.0;
-      refused = inr (inr (record { tree = tree; table = t; fault = f; reads = reads; typed = well.typed; not_single = not_single fault well; broken = broken fault well; place = told.1 }));
-      begins = told.2;
-    }
+    inr (inr (record { tree = tree; table = t; fault = f; reads = reads; typed = well.typed; not_single = single fault well; broken = broken fault well; place = place }))

@@ -1,4 +1,1 @@
-pub mod Lookups
-pub mod Mentions
 pub mod Verdicts
-pub mod Ways

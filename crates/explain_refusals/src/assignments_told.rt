@@ -1,12 +1,13 @@
 //! Scripts that are not singly assigned, explained.
 
 use crate::calls::is_read_behind;
-use crate::lookup::{Wanted, bytes_at, kind_at, last_before, place_before};
-use crate::mention::{Kind, Mention};
-use crate::mentions::{function_around, mentions_around};
-use crate::partly::{Partly, partly_assigned};
-use crate::told::{Hint, Note, Refused, Told, note_of};
+use crate::told::{Hint, Note, Told, note_of};
 use assign_check::fault::AssignFault;
+use explain_names::lookup::{Wanted, bytes_at, kind_at, last_before, place_before};
+use explain_names::mention::{Kind, Mention};
+use explain_names::mentions::{function_around, mentions_around};
+use explain_names::partly::{Partly, partly_assigned};
+use explain_names::refused::Refused;
 use lexer::token::Span;
 use std::alloc::{AllocError, Allocator};
 

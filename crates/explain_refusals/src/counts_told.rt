@@ -1,7 +1,8 @@
 //! Calls with a wrong number of arguments or outputs, explained.
 
 use crate::calls::{Taker, count_behind, taker_of};
-use crate::told::{Hint, Refused};
+use crate::told::Hint;
+use explain_names::refused::Refused;
 use explain_text::words::{say, say_count};
 use lexer::token::Span;
 use std::alloc::{AllocError, Allocator};

@@ -5,15 +5,9 @@
 mod assignments_told;
 mod calls;
 mod counts_told;
-mod inner;
-pub mod lookup;
-pub mod mention;
-pub mod mentions;
 mod names_told;
-mod partly;
 pub mod refusal;
 mod sorts;
 mod texts;
-mod told;
+pub mod told;
 mod types_told;
-pub mod ways;

@@ -1,11 +1,12 @@
 //! Names that nothing has, explained.
 
-use crate::lookup::{Wanted, bytes_at, kind_at, last_before, place_before};
-use crate::mention::{Kind, Mention};
-use crate::mentions::{function_around, mentions_around};
-use crate::told::{Hint, Note, Refused, Told, note_of};
+use crate::told::{Hint, Note, Told, note_of};
 use explain_hints::functions::{on_function, on_variable};
 use explain_hints::nearest::{Near, nearer};
+use explain_names::lookup::{Wanted, bytes_at, kind_at, last_before, place_before};
+use explain_names::mention::{Kind, Mention};
+use explain_names::mentions::{function_around, mentions_around};
+use explain_names::refused::Refused;
 use lexer::token::Span;
 use std::alloc::{AllocError, Allocator, Global};
 use syntax_trees::tree::Item;

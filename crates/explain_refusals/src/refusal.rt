@@ -1,16 +1,16 @@
-//! A refusal, as a person reads it.
+//! A refusal, and how a person reads it.
 ghost use Rattle.std.specs.Prelude.{◌≡◌, Some, IfOk, MatchOption};
-ghost use Rattle.lexer.specs.declared.token.Span.{Span};
 ghost use Rattle.syntax.specs.Refusals as parsing;
 ghost use Rattle.types.specs.Faults as type_faults;
 ghost use Rattle.assign_check.specs.Places as assign_places;
-ghost use Rattle.explain_refusals.specs.Verdicts.{BeginsAt, Explains, IsScript};
+ghost use Rattle.explain_refusals.specs.Verdicts.{BeginsAt, Explains, IsRefusedAt, IsScript};
 
 use crate::assignments_told::told_of_assignments;
 use crate::texts::told_of_text;
-use crate::told::{Hint, Note, Refused, Told};
+use crate::told::{Hint, Note, Told};
 use crate::types_told::told_of_types;
 use assign_check::fault::AssignFault;
+use explain_names::refused::Refused;
 use explain_text::position::position_of;
 use explain_text::quote::add_quote;
 use explain_text::words::add_place;
@@ -21,56 +21,66 @@ use syntax::parser::parse;
 use syntax_trees::tree::Script;
 use types::fault::TypeFault;
 
-/// The refusal of a text, explained: `FILE:LINE:COLUMN: S1 AssignedTwice: x is assigned a second time`, the line of the source
-/// with the place marked, and another place that it speaks of. None where the text is accepted.
-#[tactic(auto, using(crate::proofs::Verdicts::accepted, crate::proofs::Verdicts::explains_unread, crate::proofs::Verdicts::explains_ill_typed))]
-pub fn explained(alloc: Global, file: &str, text: &[u8]) -> Result<Option<Vec<u8>>, AllocError>
-    ensures { IfOk result (λ told. MatchOption told (IsScript text.now) (λ words. Explains file.now text.now words.items)) }
+/// A refusal of a text: the place, the number and the name of the rule that is broken there, as `S1 AssignedTwice`, and what is said of it.
+#[derive(Debug, Drop)]
+pub struct Refusal {
+    pub at: Span,
+    pub rule: String,
+    pub told: Told,
+}
+
+/// The refusal of a text. None where the text is accepted.
+///
+/// # Errors
+///
+/// `AllocError` where memory that was asked for was refused.
+#[tactic(auto, using(crate::proofs::Verdicts::accepted, crate::proofs::Verdicts::unread, crate::proofs::Verdicts::ill_typed))]
+pub fn refusal_of(alloc: Global, text: &[u8]) -> Result<Option<Refusal>, AllocError>
+    ensures { IfOk result (λ found. MatchOption found (IsScript text.now) (λ refusal. IsRefusedAt text.now refusal.at)) }
 {
     let script = match parse(alloc, text) {
         Ok(script) => script,
         Err(fault) => {
-            let words = unread(alloc, file, text, fault)?;
-            return Ok(Some(words));
+            let refusal = unread(alloc, text, fault)?;
+            return Ok(Some(refusal));
         }
     };
     let typed = match types::check(alloc, &script) {
         Ok(typed) => typed,
         Err(fault) => {
-            let words = ill_typed(alloc, file, text, &script, fault)?;
-            return Ok(Some(words));
+            let refusal = ill_typed(alloc, text, &script, fault)?;
+            return Ok(Some(refusal));
         }
     };
     match assign_check::check(alloc, &script, &typed) {
         Ok(()) => Ok(None),
         Err(fault) => {
-            let words = not_single(alloc, file, text, &script, fault)?;
-            Ok(Some(words))
+            let refusal = not_single(alloc, text, &script, fault)?;
+            Ok(Some(refusal))
         }
     }
 }
 
-/// The words on a text that is no script. Want of memory has none.
-fn unread(alloc: Global, file: &str, text: &[u8], fault: ParseFault) -> Result<Vec<u8>, AllocError>
-    ensures { IfOk result (λ words. (at : Span) × (parsing.place_of fault ≡ Some at) × BeginsAt file.now text.now at words.items) }
+/// The refusal of a text that is no script. Want of memory has none.
+fn unread(alloc: Global, text: &[u8], fault: ParseFault) -> Result<Refusal, AllocError>
+    ensures { IfOk result (λ refusal. parsing.place_of fault ≡ Some refusal.at) }
 {
     let Some(at) = fault.span() else {
         return Err(AllocError);
     };
     let told = told_of_text(alloc, text, fault)?;
-    let name = format!(in alloc; "{fault}")?;
-    shown(alloc, file, text, at, name.as_str(), &told)
+    let rule = format!(in alloc; "{fault}")?;
+    Ok(Refusal { at, rule, told })
 }
 
-/// The words on a script that is not well typed. Want of memory has none.
+/// The refusal of a script that is not well typed. Want of memory has none.
 fn ill_typed<A: Allocator>(
     alloc: Global,
-    file: &str,
     text: &[u8],
     script: &Script<A>,
     fault: TypeFault,
-) -> Result<Vec<u8>, AllocError>
-    ensures { IfOk result (λ words. (at : Span) × (type_faults.span_of fault ≡ Some at) × BeginsAt file.now text.now at words.items) }
+) -> Result<Refusal, AllocError>
+    ensures { IfOk result (λ refusal. type_faults.span_of fault ≡ Some refusal.at) }
 {
     let Some(at) = fault.span() else {
         return Err(AllocError);
@@ -83,19 +93,18 @@ fn ill_typed<A: Allocator>(
         },
         fault,
     )?;
-    let name = format!(in alloc; "{fault}")?;
-    shown(alloc, file, text, at, name.as_str(), &told)
+    let rule = format!(in alloc; "{fault}")?;
+    Ok(Refusal { at, rule, told })
 }
 
-/// The words on a script that is not singly assigned. Want of memory has none.
+/// The refusal of a script that is not singly assigned. Want of memory has none.
 fn not_single<A: Allocator>(
     alloc: Global,
-    file: &str,
     text: &[u8],
     script: &Script<A>,
     fault: AssignFault,
-) -> Result<Vec<u8>, AllocError>
-    ensures { IfOk result (λ words. (at : Span) × (assign_places.span_of fault ≡ Some at) × BeginsAt file.now text.now at words.items) }
+) -> Result<Refusal, AllocError>
+    ensures { IfOk result (λ refusal. assign_places.span_of fault ≡ Some refusal.at) }
 {
     let Some(at) = fault.span() else {
         return Err(AllocError);
@@ -108,24 +117,36 @@ fn not_single<A: Allocator>(
         },
         fault,
     )?;
-    let name = format!(in alloc; "{fault}")?;
-    shown(alloc, file, text, at, name.as_str(), &told)
+    let rule = format!(in alloc; "{fault}")?;
+    Ok(Refusal { at, rule, told })
+}
+
+/// The refusal of a text, explained: `FILE:LINE:COLUMN: S1 AssignedTwice: x is assigned a second time`, the line of the source
+/// with the place marked, another place that it speaks of, and what to write instead. None where the text is accepted.
+///
+/// # Errors
+///
+/// `AllocError` where memory that was asked for was refused.
+#[tactic(auto, using(crate::proofs::Verdicts::explains))]
+pub fn explained(alloc: Global, file: &str, text: &[u8]) -> Result<Option<Vec<u8>>, AllocError>
+    ensures { IfOk result (λ told. MatchOption told (IsScript text.now) (λ words. Explains file.now text.now words.items)) }
+{
+    match refusal_of(alloc, text)? {
+        None => Ok(None),
+        Some(refusal) => {
+            let words = shown(alloc, file, text, &refusal)?;
+            Ok(Some(words))
+        }
+    }
 }
 
 /// The place, the name of the rule, and what is said of it.
 #[tactic(auto, using(crate::proofs::Verdicts::begins))]
-fn shown(
-    alloc: Global,
-    file: &str,
-    text: &[u8],
-    at: Span,
-    name: &str,
-    told: &Told,
-) -> Result<Vec<u8>, AllocError>
-    ensures { IfOk result (λ words. BeginsAt file.now text.now at words.items) }
+fn shown(alloc: Global, file: &str, text: &[u8], refusal: &Refusal) -> Result<Vec<u8>, AllocError>
+    ensures { IfOk result (λ words. BeginsAt file.now text.now refusal.now.at words.items) }
 {
-    let rest = behind_place(alloc, file, text, at, name, told)?;
-    let position = position_of(text, at.from.min(text.len()));
+    let rest = behind_place(alloc, file, text, refusal)?;
+    let position = position_of(text, refusal.at.from.min(text.len()));
     let mut words = Vec::new(alloc);
     add_place(&mut words, file, position)?;
     words.extend_from_slice(b": ")?;
@@ -138,15 +159,14 @@ fn behind_place(
     alloc: Global,
     file: &str,
     text: &[u8],
-    at: Span,
-    name: &str,
-    told: &Told,
+    refusal: &Refusal,
 ) -> Result<Vec<u8>, AllocError> {
-    let mut out = Vec::from_slice(alloc, name.as_bytes())?;
+    let told = &refusal.told;
+    let mut out = Vec::from_slice(alloc, refusal.rule.as_bytes())?;
     out.extend_from_slice(b": ")?;
     out.extend_from_slice(told.sentence.as_slice())?;
     out.push(b'\n')?;
-    add_quote(&mut out, text, at)?;
+    add_quote(&mut out, text, refusal.at)?;
     if let Some(note) = told.note {
         add_note(&mut out, file, text, note)?;
     }

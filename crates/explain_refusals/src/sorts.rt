@@ -1,8 +1,8 @@
 //! What type an expression has, and what is wanted of it where it stands.
 
 use crate::calls::looped_array;
-use crate::lookup::{Wanted, bytes_at, function_named, last_before};
-use crate::mention::{Mention, Sort};
+use explain_names::lookup::{Wanted, bytes_at, function_named, last_before};
+use explain_names::mention::{Mention, Sort};
 use lexer::token::Span;
 use std::alloc::Allocator;
 use syntax_trees::tree::{

@@ -1,10 +1,10 @@
 //! Texts that are no scripts, explained.
 
-use crate::lookup::bytes_at;
 use crate::told::{Hint, Told};
 use explain_hints::characters::on_byte;
 use explain_hints::literals::{on_escape, on_number, on_string};
 use explain_hints::unexpected::on_unexpected;
+use explain_names::lookup::bytes_at;
 use itoa::Buffer;
 use lexer::fault::LexFault;
 use lexer::token::Span;

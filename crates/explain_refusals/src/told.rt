@@ -2,16 +2,7 @@
 
 use explain_hints::advice::Advice;
 use lexer::token::Span;
-use std::alloc::{AllocError, Allocator, Global};
-use syntax_trees::tree::Script;
-
-/// A script that is refused, with its text, and the memory that the words on it take.
-#[derive(Clone, Copy, Drop)]
-pub struct Refused<'a, A: Allocator> {
-    pub alloc: Global,
-    pub text: &'a [u8],
-    pub script: &'a Script<A>,
-}
+use std::alloc::{AllocError, Global};
 
 /// Another place that a refusal speaks of.
 #[derive(Clone, Copy, Debug, PartialEq, Eq)]

@@ -1,12 +1,13 @@
 //! Scripts that are not well typed, explained.
 
 use crate::counts_told::{add_count, hint_of_built_in, hint_of_count};
-use crate::lookup::{Wanted, bytes_at, function_named, place_before};
-use crate::mention::Sort;
-use crate::mentions::{function_around, mentions_around};
 use crate::names_told::{told_of_no_function, told_of_unknown};
 use crate::sorts::{Mismatch, Search, Wish, first_mismatch};
-use crate::told::{Hint, Note, Refused, Told, note_of};
+use crate::told::{Hint, Note, Told, note_of};
+use explain_names::lookup::{Wanted, bytes_at, function_named, place_before};
+use explain_names::mention::Sort;
+use explain_names::mentions::{function_around, mentions_around};
+use explain_names::refused::Refused;
 use lexer::token::Span;
 use std::alloc::{AllocError, Allocator};
 use syntax_trees::tree::{Base, Function, Shape};
@@ -197,6 +198,9 @@ fn hint_of_format(format: &[u8]) -> &'static str {
     if !format.starts_with(b"\"") {
         return "the format stands in the call: printf(\"%s\", s); or printf(\"%i\", n);";
     }
+    if !is_one_string(format) {
+        return "the format is one string, and what is to be filled in stands behind it: printf(\"n = %i\", n);";
+    }
     match wrong_conversion(format) {
         Some(b'f' | b'e' | b'g') => "there are whole numbers alone: %i",
         Some(b'0'..=b'9' | b'-' | b'.' | b'l' | b'+') => {
@@ -204,6 +208,21 @@ fn hint_of_format(format: &[u8]) -> &'static str {
         }
         _ => "a % that stands for itself is written %%",
     }
+}
+
+/// Whether the string that a text begins with is all of it.
+fn is_one_string(text: &[u8]) -> bool {
+    let mut escaped = false;
+    for i in 1..text.len() {
+        if escaped {
+            escaped = false;
+        } else if text[i] == b'"' {
+            return i + 1 == text.len();
+        } else {
+            escaped = text[i] == b'\\';
+        }
+    }
+    false
 }
 
 /// What stands behind the first `%` that begins no conversion.

@@ -1,4 +1,4 @@
--- Of a script that writes no key twice, each item of a run is live in the script, and a run has at most two events for each of them and for each that is given back.
+-- Of a script that writes no key twice, each item of a run is live in the script, and a run has at most two events for each item of live bodies and loops, none of them twice, and for each that is given back.
 use Rattle.std.proofs.lemmas.List.{length-map}
 use Rattle.std.proofs.lemmas.List.Concat.{length-flat_map}
 use Rattle.std.proofs.lemmas.List.Sums.{sum_by-cons}
@@ -12,9 +12,10 @@ use Rattle.dataflow.specs.History.{log_of}
 use Rattle.dataflow.specs.Laws.{Can}
 use Rattle.dataflow.specs.Machine.{Event}
 use Rattle.dataflow.specs.System.{In, Effect, Opening}
+use Rattle.dataflow.proofs.Bound.{events_bound}
+use Rattle.dataflow.proofs.Decide.{distinct_within}
 use Rattle.dataflow.proofs.Frozen.{live_grows}
 use Rattle.dataflow.proofs.Headline.{agrees_with}
-use Rattle.dataflow.proofs.Keeping.{live_bound}
 use Rattle.dataflow.proofs.Lists.{in_left, in_right, in_map, in_unmap, in_split}
 use Rattle.dataflow.proofs.Steps.{run_follows}
 use Rattle.values.specs.declared.key.Key.{Key}
@@ -49,8 +50,9 @@ use Rattle.headline.proofs.LiveTo.{Fact, ItemLive, live_to, good_in, in_one}
 use Rattle.headline.proofs.RunsWithin.{within}
 use Rattle.headline.proofs.Transfer.{live_reading, reading_valid}
 use Rattle.headline.proofs.Within.{clean_code}
-use Rattle.headline_bound.specs.Live.{IsLiveItem, HasLiveBodies, HasLiveLoops}
+use Rattle.headline_bound.specs.Live.{AreLiveBodies, AreLiveLoops, IsBounded, IsLiveBody, IsLiveItem, IsLiveLoop}
 use Rattle.headline_bound.proofs.Loops.{live_body, live_loop}
+use Rattle.headline_bound.proofs.Once.{Instance, Looped, Put, IsRest, among, in_rests, item_parts, put, rest_items}
 
 -- LISTS
 
@@ -79,39 +81,39 @@ left_some c (x ∷ xs) h = (x, inl refl)
 few_rests : (c m : ℕ) → 64 * suc c < m → suc c ≤ rests_of m
 few_rests c m h = grind arith
 
-last_or : (c k : ℕ) → suc c ≤ suc k → (c ≡ k) ⊎ (suc c ≤ k)
-last_or c k h = grind arith
-
-in_rests : (i : ℕ) (p : List Step) (c k : ℕ) → suc c ≤ k → In (Item i p (suc c)) (rest_from i p k)
-in_rests i p c zero h = absurd (omega arith)
-in_rests i p c (suc k) h = elim (last_or c k h) [ inl e ↦ inl (ap (λ (n : ℕ). Item i p (suc n)) e) | inr l ↦ inr (in_rests i p c k l) ]
-
 length_rests : (i : ℕ) (p : List Step) (k : ℕ) → length (rest_from i p k) ≡ k
 length_rests i p zero = refl
 length_rests i p (suc k) = let h = length_rests i p k in omega arith
 
-item_parts : {i j c c' : ℕ} {p q : List Step} → Item i p c ≡ Item j q c' → (i ≡ j) × (p ≡ q) × (c ≡ c')
-item_parts h = (cc (h), cc (h), cc (h))
-
 -- THE ITEMS THAT ARE COUNTED
 
-module _ (C : Code) (bodies : List (ℕ × List Step)) (loops : List (ℕ × List Step × ℕ)) where
-  abbrev rest_items : ℕ × List Step × ℕ → List Task
-  rest_items l = rest_from l.0 l.1 (rests_of l.2)
-
-  abbrev block_items : ℕ × List Step → List Task
+module _ (C : Code) where
+  abbrev block_items : Instance → List Task
   block_items s = map (λ j. Item j s.1 0) (body C s.0).entries
 
-  abbrev all_items : List Task
-  all_items = Main ∷ (flat_map block_items bodies ++ flat_map rest_items loops)
+  module _ (bodies : List Instance) (loops : List Looped) where
+    abbrev all_items : List Task
+    all_items = Main ∷ (flat_map block_items bodies ++ flat_map rest_items loops)
 
-  items_counted : length all_items ≡ items_in C bodies loops
-  items_counted =
-      let a = length-flat_map block_items bodies in
-      let b = length-flat_map rest_items loops in
-      let x = sum_same (λ s. length (block_items s)) (λ s. length (body C s.0).entries) (λ s. length-map (body C s.0).entries (λ j. Item j s.1 0)) bodies in
-      let y = sum_same (λ l. length (rest_items l)) (λ l. rests_of l.2) (λ l. length_rests l.0 l.1 (rests_of l.2)) loops in
-      one_more (length (flat_map block_items bodies ++ flat_map rest_items loops)) _ (length-append (flat_map block_items bodies) (flat_map rest_items loops) ∙ (λ i. (a ∙ x) i + (b ∙ y) i))
+    items_counted : length all_items ≡ items_in C bodies loops
+    items_counted =
+        let a = length-flat_map block_items bodies in
+        let b = length-flat_map rest_items loops in
+        let x = sum_same (λ s. length (block_items s)) (λ s. length (body C s.0).entries) (λ s. length-map (body C s.0).entries (λ j. Item j s.1 0)) bodies in
+        let y = sum_same (λ l. length (rest_items l)) (λ l. rests_of l.2) (λ l. length_rests l.0 l.1 (rests_of l.2)) loops in
+        one_more (length (flat_map block_items bodies ++ flat_map rest_items loops)) _ (length-append (flat_map block_items bodies) (flat_map rest_items loops) ∙ (λ i. (a ∙ x) i + (b ∙ y) i))
+
+    -- one of these items
+    abbrev IsOf : Task → Type 0
+    IsOf u = (u ≡ Main) ⊎ (((b : Instance) × In b bodies × In u (block_items b)) ⊎ IsRest u loops)
+
+    counted : (u : Task) → IsOf u → In u all_items
+    counted u (inl q) = inl q
+    counted u (inr (inl x)) = inr (in_left u (flat_map block_items bodies) (flat_map rest_items loops) (gather_in block_items bodies x.0 u x.1 x.2))
+    counted u (inr (inr x)) = inr (in_right u (flat_map block_items bodies) (flat_map rest_items loops) (gather_in rest_items loops x.loop u x.there x.of_it))
+
+few_events : (e n m k b : ℕ) → e + 2 ≤ 2 * n + 2 * b → n ≡ suc m → m ≤ k → e ≤ 2 * (k + b)
+few_events e n m k b h q l = omega arith
 
 module _ (script s : Core) (same : SameCore script s) (C : Code) (w : IsCodeOf s C) (wf : WellFormed s) (kn : Knows s (Meaning s)) (I : IsCode C) (sc : Scoped s) (ty : TypedValues s (Meaning s)) where
   abbrev Alive : Task → Type 0
@@ -168,28 +170,103 @@ module _ (script s : Core) (same : SameCore script s) (C : Code) (w : IsCodeOf s
           let io' = subst (λ (x : Effect Task Place Key Scalar). In o x.opens) (sym (effect_is C j d r e can)) io in
           rest_before j d r e lv f o u' (in_split o (map (block C) (instances (entry C j).act (entry C j).mark r d (found C can))) (rest (loop_of (entry C j).act) j r d (found C can)) io') iu i c p q
 
-  -- WHAT IS LIVE IS COUNTED
-  module _ (bodies : List (ℕ × List Step)) (loops : List (ℕ × List Step × ℕ)) (has_bodies : HasLiveBodies script C w.layout bodies) (has_loops : HasLiveLoops script C w.layout loops) where
-    item_counted : (u : Task) → Alive u → (x : ItemLive s C w (Meaning s) wf kn I sc ty u) → (n : ℕ) → x.chunk ≡ n → In u (all_items C bodies loops)
-    item_counted u lv x zero q =
-        let here : Item x.number x.path 0 ≡ u = ap (λ (n : ℕ). Item x.number x.path n) (sym q) ∙ x.is in
-        let there = in_map (λ j. Item j x.path 0) x.number (body C x.body_number).entries x.there in
-        inr (in_left u (flat_map (block_items C bodies loops) bodies) (flat_map (rest_items C bodies loops) loops)
-        (gather_in (block_items C bodies loops) bodies (x.body_number, x.path) u (has_bodies x.body_number x.path (live_body script s same C w wf kn I sc ty x.chain x.number x.there))
-        (subst (λ (z : Task). In z (block_items C bodies loops (x.body_number, x.path))) here there)))
-    item_counted u lv x (suc c) q =
-        let here : Item x.number x.path (suc c) ≡ u = ap (λ (n : ℕ). Item x.number x.path n) (sym q) ∙ x.is in
-        let b = before u lv x.number c x.path (sym here) in
-        let turns = turns_of (compute (entry C x.number).act (answered C x.path (entry C x.number).needs (b.fact).answers)) in
-        let one = left_some (suc c) turns b.left in
-        let loop = live_loop script s same C w wf kn I sc ty x.chain x.number c x.there b.effect b.fact b.loop b.loops one.0 one.1 in
-        let there = in_rests x.number x.path c (rests_of (length turns)) (few_rests c (length turns) (left_long (suc c) turns b.left)) in
-        inr (in_right u (flat_map (block_items C bodies loops) bodies) (flat_map (rest_items C bodies loops) loops)
-        (gather_in (rest_items C bodies loops) loops (x.number, x.path, length turns) u (has_loops x.number x.path (length turns) loop)
-        (subst (λ (z : Task). In z (rest_from x.number x.path (rests_of (length turns)))) here there)))
+  -- BODIES AND LOOPS FOR ITEMS
 
-    counted : (u : Task) → Alive u → In u (all_items C bodies loops)
-    counted u lv = elim (live_to s C w (Meaning s) wf kn I sc ty lv) [ inl q ↦ inl q | inr x ↦ item_counted u lv x x.chunk refl ]
+  -- live bodies and loops, none twice, that have all of these items
+  record Covers (ts : List Task) : Type 0 where
+    bodies : List Instance
+    loops : List Looped
+    live_bodies : AreLiveBodies script C w.layout bodies
+    live_loops : AreLiveLoops script C w.layout loops
+    has : (u : Task) → In u ts → IsOf C bodies loops u
+
+  -- with an item of one more body
+  with_body : (ts : List Task) → Covers ts → (b : Instance) → IsLiveBody script C w.layout b.0 b.1 → (u : Task) → In u (block_items C b) → Covers (u ∷ ts)
+  with_body ts r b live u m = by (among b r.bodies)
+    where
+      same_body : (v : Task) → v ≡ u → In v (block_items C b)
+      same_body v q = subst (λ (z : Task). In z (block_items C b)) (sym q) m
+
+      more : (v : Task) → IsOf C r.bodies r.loops v → IsOf C (b ∷ r.bodies) r.loops v
+      more v (inl q) = inl q
+      more v (inr (inl x)) = inr (inl (x.0, inr x.1, x.2))
+      more v (inr (inr x)) = inr (inr x)
+
+      by : (In b r.bodies ⊎ (In b r.bodies → ⊥)) → Covers (u ∷ ts)
+      by (inl i) = record {
+        bodies = r.bodies;
+        loops = r.loops;
+        live_bodies = r.live_bodies;
+        live_loops = r.live_loops;
+        has = λ v h. elim h [ inl q ↦ inr (inl (b, i, same_body v q)) | inr j ↦ r.has v j ];
+      }
+      by (inr n) = record {
+        bodies = b ∷ r.bodies;
+        loops = r.loops;
+        live_bodies = record {
+          once = (n, (r.live_bodies).once);
+          each = λ c h. elim h [ inl q ↦ subst (λ (z : Instance). IsLiveBody script C w.layout z.0 z.1) (sym q) live | inr j ↦ (r.live_bodies).each c j ];
+        };
+        live_loops = r.live_loops;
+        has = λ v h. elim h [ inl q ↦ inr (inl (b, inl refl, same_body v q)) | inr j ↦ more v (r.has v j) ];
+      }
+
+  -- with an item of one more loop
+  with_loop : (ts : List Task) → Covers ts → (l : Looped) → IsLiveLoop script C w.layout l.0 l.1 l.2 → (u : Task) → In u (rest_items l) → Covers (u ∷ ts)
+  with_loop ts r l live u m =
+      let x = put l r.loops in
+      record {
+        bodies = r.bodies;
+        loops = x.after;
+        live_bodies = r.live_bodies;
+        live_loops = record {
+          once = x.once (r.live_loops).once;
+          each = λ k h. elim (x.from k h) [ inl q ↦ subst (λ (z : Looped). IsLiveLoop script C w.layout z.0 z.1 z.2) (sym q) live | inr j ↦ (r.live_loops).each k j ];
+        };
+        has = λ v h. elim h [ inl q ↦ inr (inr (x.has v (subst (λ (z : Task). In z (rest_items l)) (sym q) m))) | inr j ↦ more x v (r.has v j) ];
+      }
+    where
+      more : (x : Put l r.loops) (v : Task) → IsOf C r.bodies r.loops v → IsOf C r.bodies x.after v
+      more x v (inl q) = inl q
+      more x v (inr (inl y)) = inr (inl y)
+      more x v (inr (inr y)) = inr (inr (x.keeps v y))
+
+  with_item : (ts : List Task) → Covers ts → (u : Task) → Alive u → (x : ItemLive s C w (Meaning s) wf kn I sc ty u) → (n : ℕ) → x.chunk ≡ n → Covers (u ∷ ts)
+  with_item ts r u lv x zero q =
+      let here : Item x.number x.path 0 ≡ u = ap (λ (n : ℕ). Item x.number x.path n) (sym q) ∙ x.is in
+      let there = in_map (λ j. Item j x.path 0) x.number (body C x.body_number).entries x.there in
+      with_body ts r (x.body_number, x.path) (live_body script s same C w wf kn I sc ty x.chain x.number x.there) u
+      (subst (λ (z : Task). In z (block_items C (x.body_number, x.path))) here there)
+  with_item ts r u lv x (suc c) q =
+      let here : Item x.number x.path (suc c) ≡ u = ap (λ (n : ℕ). Item x.number x.path n) (sym q) ∙ x.is in
+      let b = before u lv x.number c x.path (sym here) in
+      let turns = turns_of (compute (entry C x.number).act (answered C x.path (entry C x.number).needs (b.fact).answers)) in
+      let one = left_some (suc c) turns b.left in
+      let loop = live_loop script s same C w wf kn I sc ty x.chain x.number c x.there b.effect b.fact b.loop b.loops one.0 one.1 in
+      let there = in_rests x.number x.path c (rests_of (length turns)) (few_rests c (length turns) (left_long (suc c) turns b.left)) in
+      with_loop ts r (x.number, x.path, length turns) loop u (subst (λ (z : Task). In z (rest_from x.number x.path (rests_of (length turns)))) here there)
+
+  covers : (ts : List Task) → ((t : Task) → In t ts → Alive t) → Covers ts
+  covers [] h = record {
+    bodies = [];
+    loops = [];
+    live_bodies = record { once = tt; each = λ b z. absurd z };
+    live_loops = record { once = tt; each = λ l z. absurd z };
+    has = λ u z. absurd z;
+  }
+  covers (t ∷ ts) h = with_one (h t (inl refl)) (covers ts (λ u i. h u (inr i)))
+    where
+      with_one : Alive t → Covers ts → Covers (t ∷ ts)
+      with_one lv r = elim (live_to s C w (Meaning s) wf kn I sc ty lv) [ inl q ↦ with_main q r | inr x ↦ with_item ts r t lv x x.chunk refl ]
+        where
+          with_main : t ≡ Main → Covers ts → Covers (t ∷ ts)
+          with_main q r = record {
+            bodies = r.bodies;
+            loops = r.loops;
+            live_bodies = r.live_bodies;
+            live_loops = r.live_loops;
+            has = λ v h. elim h [ inl e ↦ inl (e ∙ q) | inr j ↦ r.has v j ];
+          }
 
   -- RUNS
   module _ (nodes : NodesOnce C) (ex : IsExact C) (single : SinglyAssigned s) where
@@ -206,8 +283,15 @@ module _ (script s : Core) (same : SameCore script s) (C : Code) (w : IsCodeOf s
         let a = agrees_with (code_system C) (code_laws C I) st (log_of (code_system C) events st run) (run_follows (code_system C) (code_laws C I) events st run) (clean_code s C w (Meaning s) wf kn I sc ty nodes ex single) in
         elim (live_to s C w (Meaning s) wf kn I sc ty (alive a.round (a.items i m))) [ inl q ↦ inl q | inr x ↦ inr (live_item x) ]
 
-    pub run_bound : (bodies : List (ℕ × List Step)) (loops : List (ℕ × List Step × ℕ)) → HasLiveBodies script C w.layout bodies → HasLiveLoops script C w.layout loops
-        → (events : List Event) (st : CodeState) → Run C events st → length events ≤ 2 * (items_in C bodies loops + backs events)
-    run_bound bodies loops hb hl events st run =
-        subst (λ (n : ℕ). length events ≤ 2 * (n + backs events)) (items_counted C bodies loops)
-        (live_bound (code_system C) (code_laws C I) (clean_code s C w (Meaning s) wf kn I sc ty nodes ex single) (all_items C bodies loops) (λ n t l. counted bodies loops hb hl t (alive n l)) events st run)
+    pub run_bound : (events : List Event) (st : CodeState) → Run C events st → IsBounded script C w.layout events
+    run_bound events st run =
+        let a = agrees_with (code_system C) (code_laws C I) st (log_of (code_system C) events st run) (run_follows (code_system C) (code_laws C I) events st run) (clean_code s C w (Meaning s) wf kn I sc ty nodes ex single) in
+        let r = covers a.made (λ t i. alive a.round (a.made_live t i)) in
+        let d = distinct_within a.made (all_items C r.bodies r.loops) a.made_once (λ t i. counted C r.bodies r.loops t (r.has t i)) in
+        record {
+          bodies = r.bodies;
+          loops = r.loops;
+          live_bodies = r.live_bodies;
+          live_loops = r.live_loops;
+          few = subst (λ (n : ℕ). length events ≤ 2 * (n + backs events)) (items_counted C r.bodies r.loops) (few_events (length events) st.next (length a.made) (length (all_items C r.bodies r.loops)) (backs events) (events_bound (code_system C) events st run) a.made_all d);
+        }

@@ -1,3 +1,4 @@
+pub mod Once
 pub mod Loops
 pub mod Bounds
 pub mod Same

@@ -132,11 +132,13 @@ module _ (script s : Core) (same : SameCore script s) (C : Code) (w : IsCodeOf s
     abbrev pub LoopHere : ℕ → Type 0
     LoopHere m = IsLiveLoop script C w.layout i p m
 
-    loop_here : (at n : ℕ) (a : Action) (vs : List Value) (m : ℕ) → stmt at n a ∈ block_list b → (entry C i).at ≡ at → Ready s (Meaning s) (script_path p) a vs → HasTurns a vs m → LoopHere m
-    loop_here at n a vs m sm q r h =
+    loop_here : (at n : ℕ) (a : Action) (vs : List Value) (m : ℕ) (lp : Loop) → loop_of (entry C i).act ≡ Some lp → stmt at n a ∈ block_list b → (entry C i).at ≡ at → Ready s (Meaning s) (script_path p) a vs → HasTurns a vs m → LoopHere m
+    loop_here at n a vs m lp is sm q r h =
         let x = in_script (chain_live s C w.layout (Meaning s) wf.names I sc ch) in
         let y = stmt_like (same_list x.same_block) sm in
         record {
+          loop = lp;
+          is_loop = is;
           body_number = t;
           there = there;
           live = live_body ch i there;
@@ -168,7 +170,7 @@ module _ (script s : Core) (same : SameCore script s) (C : Code) (w : IsCodeOf s
             let r = says.array a g (subst (λ (l : List Need). In (code.Closed (name_as k true a)) l) (sym en.needs_is) (inl refl)) z al.0 in
             let j' : In u (listed r.0) = subst (λ (o : Option Got). In u (content o)) (ap Some r.1) j in
             let many : length (content (Some z)) ≡ length (elements r.0) = ap (λ (o : Got). length (content (Some o))) r.1 ∙ listed_many r.0 u j' in
-            loop_here at n (each a x y d) _ _ m en.at_is (source_closed r.2 r.3) (of_array many)
+            loop_here at n (each a x y d) _ _ _ (ap loop_of en.act_is) m en.at_is (source_closed r.2 r.3) (of_array many)
 
     -- a loop over a range
     range_here : (at n x t' : ℕ) (lo hi : Outer) (st : Option Outer) (y : Option ℕ) (d : Block) → stmt at n (range lo hi st x y d) ∈ block_list b
@@ -189,7 +191,7 @@ module _ (script s : Core) (same : SameCore script s) (C : Code) (w : IsCodeOf s
         let st1 : number_of r.step ≡ bd.0.step = ap number_of (ok_step r.step_is) ∙ sym nb.2 in
         let rc : range_count bd.0.low bd.0.high bd.0.step ≡ Ok r.many = (λ i. range_count (sym nb.0 i) (sym nb.1 i) (sym st1 i)) ∙ r.count in
         subst LoopHere (sym (many_of _ _ _ r.low r.high r.step r.many r.low_is r.high_is r.step_is r.count))
-        (loop_here at n (range lo hi None x y d) _ r.many m en.at_is (cells_known ka (in_turns bd.1 rc)) (of_range bd.1 rc))
+        (loop_here at n (range lo hi None x y d) _ r.many _ (ap loop_of en.act_is) m en.at_is (cells_known ka (in_turns bd.1 rc)) (of_range bd.1 rc))
     range_here at n x t' lo hi (Some o) y d m ms mq en u r =
         let known = To.range_known s C w (Meaning s) wf kn I sc ty ch i c there e f at n x lo hi (Some o) y d m ms mq en.needs_is in
         let e1 = wanted k (seen w.layout lo.cell) in
@@ -203,7 +205,7 @@ module _ (script s : Core) (same : SameCore script s) (C : Code) (w : IsCodeOf s
         let nb = bounds_three r.low r.high r.step bd.0 bd.1 in
         let rc : range_count bd.0.low bd.0.high bd.0.step ≡ Ok r.many = (λ i. range_count (sym nb.0 i) (sym nb.1 i) (sym nb.2 i)) ∙ r.count in
         subst LoopHere (sym (many_of _ _ _ r.low r.high r.step r.many r.low_is r.high_is r.step_is r.count))
-        (loop_here at n (range lo hi (Some o) x y d) _ r.many m en.at_is (cells_known ka (in_turns bd.1 rc)) (of_range bd.1 rc))
+        (loop_here at n (range lo hi (Some o) x y d) _ r.many _ (ap loop_of en.act_is) m en.at_is (cells_known ka (in_turns bd.1 rc)) (of_range bd.1 rc))
 
     ranged_here : (at n x t' : ℕ) (lo hi : Outer) (st : Option Outer) (y : Option ℕ) (d : Block) → stmt at n (range lo hi st x y d) ∈ block_list b
         → (ms : List Need) → own_needs w.layout k (range lo hi st x y d) ≡ ms

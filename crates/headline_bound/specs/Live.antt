@@ -1,7 +1,9 @@
 -- What a run of a script's code can come to, in the words of the script: bodies of its live blocks, and its loops that run, with their turns. The code may be that of the script with expressions of literals
 -- folded: then a body stands for what its block has come to.
-use Rattle.std.specs.Prelude.{◌≡◌, ℕ, ◌<◌, List, [], ◌∷◌, length, Option, Some, Ok}
-use Rattle.dataflow.specs.System.{In}
+use Rattle.std.specs.Prelude.{◌≡◌, ℕ, ◌<◌, ◌+◌, ◌*◌, ◌≤◌, List, [], ◌∷◌, length, map, Option, Some, Ok}
+use Rattle.dataflow.specs.Events.{backs}
+use Rattle.dataflow.specs.Machine.{Event}
+use Rattle.dataflow.specs.System.{Distinct, In}
 use Rattle.values.specs.declared.map.Element.{Element}
 use Rattle.values.specs.declared.value.Value.{Value}
 use Rattle.values.specs.declared.value.Value.TheVariants.{Many}
@@ -11,7 +13,8 @@ use Rattle.language.specs.Meaning.{Live, Ready, Meaning}
 use Rattle.language.specs.Members.{◌∈◌}
 use Rattle.language.specs.Openings.{Bounds, bounds}
 use Rattle.language.specs.Parts.{block_list}
-use Rattle.task_code.specs.Code.{Code, body, entry}
+use Rattle.task_code.specs.Code.{Code, Loop, body, entry, loop_of}
+use Rattle.task_code.specs.Count.{items_in}
 use Rattle.task_code.specs.Effects.{Task, Item}
 use Rattle.task_code.specs.Places.{Step}
 use Rattle.fold_laws.specs.Same.{SameBlock}
@@ -22,6 +25,10 @@ use Rattle.code_rules.specs.IsCodeOf.{Layout, BodyAs}
 pub data HasTurns : Action → List Value → ℕ → Type 0 where
   of_range : {lo hi : Outer} {st : Option Outer} {x m : ℕ} {t : Option ℕ} {b : Block} {vs : List Value} {r : Bounds} → bounds vs ≡ Some r → range_count r.low r.high r.step ≡ Ok m → HasTurns (range lo hi st x t b) vs m
   of_array : {a : Name} {x m : ℕ} {t : Option ℕ} {b : Block} {es : List Element} → m ≡ length es → HasTurns (each a x t b) (Many es ∷ []) m
+
+-- where a loop stands: its entry and the path
+abbrev pub loop_at : ℕ × List Step × ℕ → ℕ × List Step
+loop_at l = (l.0, l.1)
 
 -- a script with its code, in this layout
 module _ (s : Core) (C : Code) (l : Layout) where
@@ -45,8 +52,10 @@ module _ (s : Core) (C : Code) (l : Layout) where
     pub there : In number (body C body_number).entries
     pub live : IsLiveBody body_number path
 
-  -- the entry is of a loop of such a block that runs there, with so many turns
+  -- the entry is a loop, of such a block, that runs there with so many turns
   pub record IsLiveLoop (number : ℕ) (path : List Step) (turns : ℕ) : Type 0 where
+    pub loop : Loop
+    pub is_loop : loop_of (entry C number).act ≡ Some loop
     pub body_number : ℕ
     pub there : In number (body C body_number).entries
     pub live : IsLiveBody body_number path
@@ -59,10 +68,20 @@ module _ (s : Core) (C : Code) (l : Layout) where
     pub ready : Ready s (Meaning s) (script_path path) header values
     pub has_turns : HasTurns header values turns
 
-  -- the list has each body with each path where it is live
-  abbrev pub HasLiveBodies : List (ℕ × List Step) → Type 0
-  HasLiveBodies bodies = (number : ℕ) (path : List Step) → IsLiveBody number path → In {X = ℕ × List Step} (number, path) bodies
+  -- bodies with paths where they are live, none of them twice
+  pub record AreLiveBodies (bodies : List (ℕ × List Step)) : Type 0 where
+    pub once : Distinct bodies
+    pub each : (b : ℕ × List Step) → In b bodies → IsLiveBody b.0 b.1
 
-  -- and each loop that runs, with its turns
-  abbrev pub HasLiveLoops : List (ℕ × List Step × ℕ) → Type 0
-  HasLiveLoops loops = (number : ℕ) (path : List Step) (turns : ℕ) → IsLiveLoop number path turns → In {X = ℕ × List Step × ℕ} (number, path, turns) loops
+  -- loops with paths where they run and their turns there, none of them twice at one path
+  pub record AreLiveLoops (loops : List (ℕ × List Step × ℕ)) : Type 0 where
+    pub once : Distinct (map loop_at loops)
+    pub each : (l : ℕ × List Step × ℕ) → In l loops → IsLiveLoop l.0 l.1 l.2
+
+  -- there are such bodies and loops that so many events are at most two for each of their items, and for each that was given back
+  pub record IsBounded (events : List Event) : Type 0 where
+    pub bodies : List (ℕ × List Step)
+    pub loops : List (ℕ × List Step × ℕ)
+    pub live_bodies : AreLiveBodies bodies
+    pub live_loops : AreLiveLoops loops
+    pub few : length events ≤ 2 * (items_in C bodies loops + backs events)

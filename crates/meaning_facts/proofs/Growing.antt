@@ -20,9 +20,9 @@ use Rattle.meaning_steps.specs.Kept.{Write as KeptWrite}
 use Rattle.meaning_facts.specs.declared.facts.Fact.{Fact}
 use Rattle.meaning_facts.specs.declared.facts.Fact.TheVariants as Is
 use Rattle.meaning_facts.specs.declared.facts.FaultFact.{FaultFact}
-use Rattle.meaning_facts.specs.contracts.facts.FaultKind as kinds
-use Rattle.meaning_facts.specs.declared.facts.FaultKind.{FaultKind}
-use Rattle.meaning_facts.specs.declared.facts.FaultKind.TheVariants as Kind
+use Rattle.paths.specs.contracts.faults.FaultKind as kinds
+use Rattle.paths.specs.declared.faults.FaultKind.{FaultKind}
+use Rattle.paths.specs.declared.faults.FaultKind.TheVariants as Kind
 use Rattle.meaning_facts.specs.declared.facts.Facts.{Facts}
 use Rattle.meaning_facts.specs.declared.facts.Place.{Place as Spot}
 use Rattle.meaning_facts.specs.declared.facts.Write.{Write}

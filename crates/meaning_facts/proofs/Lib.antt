@@ -1,16 +1,9 @@
 pub mod Stored
 pub mod Fronts
 pub mod Standing
-pub mod Aims
 pub mod Adding
 pub mod Clean
 pub mod Tree
 pub mod Keeping
-pub mod Parting
-pub mod Seeing
 pub mod Growing
 pub mod Placing
-pub mod Choosing
-pub mod Ending
-pub mod Looping
-pub mod Readying

@@ -7,7 +7,7 @@ use Rattle.language.specs.Parts.{call_at, input_name, output_name}
 use Rattle.language.specs.Places.{Path, most_steps}
 use Rattle.meaning_facts.specs.declared.facts.Place.{Place as Spot}
 use Rattle.meaning_facts.specs.declared.instances.Given.{Given}
-use Rattle.meaning_facts.specs.declared.instances.Step.{Step}
+use Rattle.paths.specs.declared.steps.Step.{Step}
 use Rattle.meaning_facts.specs.declared.instances.Instances.{Instances}
 use Rattle.meaning_facts.specs.Keeping.{IsPlaced}
 use Rattle.meaning_facts.specs.Paths.{path_of, child_at, IsOpen, IsTree}
@@ -50,30 +50,30 @@ module _ (s : Core) (t u : Instances) (p : ℕ) (x : Step) (g : Given) (o : IsOp
       (λ j. owner_stays i l (output j) ∙ ys j ∙ sym (spot_stays (parent_of t.all.items i) within (output_name (call_at s at) j)) ∙ ap (λ (z : ℕ). spot u.all.items z (output_name (call_at s at) j)) (sym (parent_stays t u p x g o i l)))
 
   module _ (placed : IsPlaced s t) (within : p < length t.all.items)
-      (xs : (j : ℕ) → given_at g.inputs.items j p ≡ spot t.all.items p (input_name (call_at s x.at) j))
-      (ys : (j : ℕ) → given_at g.outputs.items j p ≡ spot t.all.items p (output_name (call_at s x.at) j)) where
+      (xs : (j : ℕ) → given_at g.inputs.items j p ≡ spot t.all.items p (input_name (call_at s x.offset) j))
+      (ys : (j : ℕ) → given_at g.outputs.items j p ≡ spot t.all.items p (output_name (call_at s x.offset) j)) where
     inputs_come : inputs_of u.all.items (length t.all.items) ≡ g.inputs.items
     inputs_come = ap inputs_in (comes t u p x g o) ∙ ap (λ (z : Given). z.inputs.items) o.given_is
 
     outputs_come : outputs_of u.all.items (length t.all.items) ≡ g.outputs.items
     outputs_come = ap outputs_in (comes t u p x g o) ∙ ap (λ (z : Given). z.outputs.items) o.given_is
 
-    stands_new : Stands s u.all.items (length t.all.items) ((x.at, x.key) ∷ path_of t.all.items p)
+    stands_new : Stands s u.all.items (length t.all.items) ((x.offset, x.key) ∷ path_of t.all.items p)
     stands_new =
         behind (subst (λ (z : ℕ). Stands s u.all.items z (path_of t.all.items p)) (sym (parent_comes t u p x g o)) (stands_stays p (path_of t.all.items p) (placed.stands p within) within))
         (λ j. ap (λ (z : List Spot). given_at z j (parent_of u.all.items (length t.all.items))) inputs_come ∙ ap (given_at g.inputs.items j) (parent_comes t u p x g o) ∙ xs j
-        ∙ sym (spot_stays p within (input_name (call_at s x.at) j)) ∙ ap (λ (z : ℕ). spot u.all.items z (input_name (call_at s x.at) j)) (sym (parent_comes t u p x g o)))
+        ∙ sym (spot_stays p within (input_name (call_at s x.offset) j)) ∙ ap (λ (z : ℕ). spot u.all.items z (input_name (call_at s x.offset) j)) (sym (parent_comes t u p x g o)))
         (λ j. ap (λ (z : List Spot). given_at z j (parent_of u.all.items (length t.all.items))) outputs_come ∙ ap (given_at g.outputs.items j) (parent_comes t u p x g o) ∙ ys j
-        ∙ sym (spot_stays p within (output_name (call_at s x.at) j)) ∙ ap (λ (z : ℕ). spot u.all.items z (output_name (call_at s x.at) j)) (sym (parent_comes t u p x g o)))
+        ∙ sym (spot_stays p within (output_name (call_at s x.offset) j)) ∙ ap (λ (z : ℕ). spot u.all.items z (output_name (call_at s x.offset) j)) (sym (parent_comes t u p x g o)))
 
     stands_all : (i : ℕ) → i < length u.all.items → Stands s u.all.items i (path_of u.all.items i)
     stands_all i l = elim (cases_lt i (length t.all.items)) [
       | inl b ↦ subst (Stands s u.all.items i) (sym (path_stays t u p x g o i b)) (stands_stays i (path_of t.all.items i) (placed.stands i b) b)
       | inr b ↦
           let last : i ≡ length t.all.items = omega (arith, ap length o.all, length-append t.all.items (o.made ∷ [])) in
-          let path : path_of u.all.items i ≡ (x.at, x.key) ∷ path_of t.all.items p = ap (path_of u.all.items) last ∙ path_comes t u p x g o in
-          subst (Stands s u.all.items i) (sym path) (subst (λ (z : ℕ). Stands s u.all.items z ((x.at, x.key) ∷ path_of t.all.items p)) (sym last) stands_new)
+          let path : path_of u.all.items i ≡ (x.offset, x.key) ∷ path_of t.all.items p = ap (path_of u.all.items) last ∙ path_comes t u p x g o in
+          subst (Stands s u.all.items i) (sym path) (subst (λ (z : ℕ). Stands s u.all.items z ((x.offset, x.key) ∷ path_of t.all.items p)) (sym last) stands_new)
     ]
 
-    pub placed_more : child_at t p x.at x.key ≡ None → length (path_of t.all.items p) < most_steps → IsPlaced s u
+    pub placed_more : child_at t p x.offset x.key ≡ None → length (path_of t.all.items p) < most_steps → IsPlaced s u
     placed_more lacks fits = record { tree = grows t u p x g o h within lacks fits; stands = stands_all }

@@ -11,7 +11,7 @@ use Rattle.values.specs.declared.key.Key.TheVariants.{Number}
 use Rattle.values.proofs.Keys.{same_key-eq, same_key-refl}
 use Rattle.language.specs.Places.{Path, most_steps}
 use Rattle.meaning_facts.specs.declared.instances.Given.{Given}
-use Rattle.meaning_facts.specs.declared.instances.Step.{Step}
+use Rattle.paths.specs.declared.steps.Step.{Step}
 use Rattle.meaning_facts.specs.declared.instances.Instance.{Instance}
 use Rattle.meaning_facts.specs.declared.instances.Instances.{Instances}
 use Rattle.meaning_facts.specs.Paths.{step_view, path_in, path_of, key_number, same_step, child_at, IsChild, IsOpened, IsOpen, IsTree}
@@ -97,36 +97,36 @@ module _ (t u : Instances) (p : ℕ) (s : Step) (g : Given) (o : IsOpen t p s g 
   pub parent_stays : (j : ℕ) → j < length t.all.items → parent_of u.all.items j ≡ parent_of t.all.items j
   parent_stays j l = ap parent_in (stays j l)
 
-  pub path_comes : path_of u.all.items (length t.all.items) ≡ (s.at, s.key) ∷ path_of t.all.items p
+  pub path_comes : path_of u.all.items (length t.all.items) ≡ (s.offset, s.key) ∷ path_of t.all.items p
   path_comes = ap path_in comes ∙ o.path_is
 
   pub parent_comes : parent_of u.all.items (length t.all.items) ≡ p
   parent_comes = ap parent_in comes ∙ o.parent_is
 
-  pub found_itself : child_at u p s.at s.key ≡ Some (length t.all.items)
+  pub found_itself : child_at u p s.offset s.key ≡ Some (length t.all.items)
   found_itself =
-      o.found p s.at s.key ∙ ap (λ (b : Bool). if b then Some (length t.all.items) else child_at t p s.at s.key) (step_itself p s.at s.key)
+      o.found p s.offset s.key ∙ ap (λ (b : Bool). if b then Some (length t.all.items) else child_at t p s.offset s.key) (step_itself p s.offset s.key)
 
-  pub found_other : (i at : ℕ) (k : Key) → same_step (p, s.at, key_number s.key) (i, at, key_number k) ≡ false → child_at u i at k ≡ child_at t i at k
+  pub found_other : (i at : ℕ) (k : Key) → same_step (p, s.offset, key_number s.key) (i, at, key_number k) ≡ false → child_at u i at k ≡ child_at t i at k
   found_other i at k h = o.found i at k ∙ ap (λ (b : Bool). if b then Some (length t.all.items) else child_at t i at k) h
 
-  module _ (h : IsTree t) (within : p < length t.all.items) (lacks : child_at t p s.at s.key ≡ None) (fits : length (path_of t.all.items p) < most_steps) where
+  module _ (h : IsTree t) (within : p < length t.all.items) (lacks : child_at t p s.offset s.key ≡ None) (fits : length (path_of t.all.items p) < most_steps) where
     -- what was found is found
     pub found_stays : (i at : ℕ) (k : Key) (j : ℕ) → child_at t i at k ≡ Some j → child_at u i at k ≡ Some j
-    found_stays i at k j e = elim (cases_Bool (same_step (p, s.at, key_number s.key) (i, at, key_number k))) [
+    found_stays i at k j e = elim (cases_Bool (same_step (p, s.offset, key_number s.key) (i, at, key_number k))) [
       | inl same ↦
-          let x = same_step_is p i s.at at s.key k same in
-          let none : child_at t i at k ≡ None = subst (λ (z : ℕ). child_at t z at k ≡ None) x.parent_same (subst (λ (z : ℕ). child_at t p z k ≡ None) x.at_same (subst (λ (z : Key). child_at t p s.at z ≡ None) x.key_same lacks)) in
+          let x = same_step_is p i s.offset at s.key k same in
+          let none : child_at t i at k ≡ None = subst (λ (z : ℕ). child_at t z at k ≡ None) x.parent_same (subst (λ (z : ℕ). child_at t p z k ≡ None) x.at_same (subst (λ (z : Key). child_at t p s.offset z ≡ None) x.key_same lacks)) in
           absurd (let q : None ≡ Some j = sym none ∙ e in cc (q))
       | inr other ↦ found_other i at k other ∙ e
     ]
 
-    pub child_new : IsChild u.all.items p s.at s.key (length t.all.items)
+    pub child_new : IsChild u.all.items p s.offset s.key (length t.all.items)
     child_new = record {
       within = omega (arith, count);
       behind = within;
       parent_is = parent_comes;
-      path_is = path_comes ∙ ap (λ (z : Path). (s.at, s.key) ∷ z) (sym (path_stays p within));
+      path_is = path_comes ∙ ap (λ (z : Path). (s.offset, s.key) ∷ z) (sym (path_stays p within));
     }
 
     pub child_old : (i at : ℕ) (k : Key) (j : ℕ) → IsChild t.all.items i at k j → IsChild u.all.items i at k j
@@ -138,13 +138,13 @@ module _ (t u : Instances) (p : ℕ) (s : Step) (g : Given) (o : IsOpen t p s g 
     }
 
     pub opens : (i at : ℕ) (k : Key) (j : ℕ) → child_at u i at k ≡ Some j → IsChild u.all.items i at k j
-    opens i at k j e = elim (cases_Bool (same_step (p, s.at, key_number s.key) (i, at, key_number k))) [
+    opens i at k j e = elim (cases_Bool (same_step (p, s.offset, key_number s.key) (i, at, key_number k))) [
       | inl same ↦
-          let x = same_step_is p i s.at at s.key k same in
+          let x = same_step_is p i s.offset at s.key k same in
           let number : Some (length t.all.items) ≡ Some j = sym (o.found i at k ∙ ap (λ (b : Bool). if b then Some (length t.all.items) else child_at t i at k) same) ∙ e in
           let q : length t.all.items ≡ j = cc (number) in
           subst (λ (z : ℕ). IsChild u.all.items z at k j) x.parent_same (subst (λ (z : ℕ). IsChild u.all.items p z k j) x.at_same
-          (subst (λ (z : Key). IsChild u.all.items p s.at z j) x.key_same (subst (λ (z : ℕ). IsChild u.all.items p s.at s.key z) q child_new)))
+          (subst (λ (z : Key). IsChild u.all.items p s.offset z j) x.key_same (subst (λ (z : ℕ). IsChild u.all.items p s.offset s.key z) q child_new)))
       | inr other ↦ child_old i at k j (h.opens i at k j (sym (found_other i at k other) ∙ e))
     ]
 
@@ -157,14 +157,14 @@ module _ (t u : Instances) (p : ℕ) (s : Step) (g : Given) (o : IsOpen t p s g 
           let x = h.opened j l q in
           record { at = x.at; key = x.key; opened = ap (λ (z : ℕ). child_at u z x.at x.key) (parent_stays j q) ∙ found_stays (parent_of t.all.items j) x.at x.key j x.opened }
       | inr q ↦
-          record { at = s.at; key = s.key; opened = ap (λ (z : ℕ). child_at u (parent_of u.all.items z) s.at s.key) q ∙ ap (λ (z : ℕ). child_at u z s.at s.key) parent_comes ∙ found_itself ∙ ap Some (sym q) }
+          record { at = s.offset; key = s.key; opened = ap (λ (z : ℕ). child_at u (parent_of u.all.items z) s.offset s.key) q ∙ ap (λ (z : ℕ). child_at u z s.offset s.key) parent_comes ∙ found_itself ∙ ap Some (sym q) }
     ]
 
     pub short : (j : ℕ) → length (path_of u.all.items j) ≤ most_steps
     short j = elim (cases_order j (length t.all.items)) [
       | inr (inl q) ↦ subst (λ (z : Path). length z ≤ most_steps) (sym (path_stays j q)) (h.short j)
       | inl q ↦
-          let e : path_of u.all.items j ≡ (s.at, s.key) ∷ path_of t.all.items p = ap (path_of u.all.items) q ∙ path_comes in
+          let e : path_of u.all.items j ≡ (s.offset, s.key) ∷ path_of t.all.items p = ap (path_of u.all.items) q ∙ path_comes in
           subst (λ (z : Path). length z ≤ most_steps) (sym e) (omega (arith, fits))
       | inr (inr q) ↦
           let e : slice_get u.all.items j ≡ None = ap (λ (z : List Instance). slice_get z j) o.all ∙ past_at t.all.items o.made j q in

@@ -10,9 +10,9 @@ use Rattle.language.specs.Places.{Place, most_steps}
 use Rattle.meaning_steps.specs.News.{Past}
 use Rattle.meaning_steps.specs.Kept.{Kept, is_there, several_in}
 use Rattle.meaning_steps.specs.Kept.{Write as KeptWrite}
-use Rattle.meaning_facts.specs.contracts.facts.FaultKind as kinds
-use Rattle.meaning_facts.specs.declared.facts.FaultKind.{FaultKind}
-use Rattle.meaning_facts.specs.declared.facts.FaultKind.TheVariants as Kind
+use Rattle.paths.specs.contracts.faults.FaultKind as kinds
+use Rattle.paths.specs.declared.faults.FaultKind.{FaultKind}
+use Rattle.paths.specs.declared.faults.FaultKind.TheVariants as Kind
 use Rattle.meaning_facts.specs.declared.facts.FaultFact.{FaultFact}
 use Rattle.meaning_facts.specs.declared.facts.Facts.{Facts}
 use Rattle.meaning_facts.specs.declared.facts.Place.{Place as Spot}

@@ -1,8 +1,8 @@
 -- Which fault of the meaning a kind of fault is.
 use Rattle.values.specs.declared.fault.OpFault.TheVariants as Op
 use Rattle.language.specs.Facts.{Fault, operation, no_element, element_twice, too_deep}
-use Rattle.meaning_facts.specs.declared.facts.FaultKind.{FaultKind}
-use Rattle.meaning_facts.specs.declared.facts.FaultKind.TheVariants as Kind
+use Rattle.paths.specs.declared.faults.FaultKind.{FaultKind}
+use Rattle.paths.specs.declared.faults.FaultKind.TheVariants as Kind
 
 abbrev pub kind_view : FaultKind → Fault
 kind_view Kind.Overflow = operation Op.Overflow

@@ -1,4 +1,3 @@
-pub mod Targeted
 pub mod Kinds
 pub mod Store
 pub mod Sighted
@@ -6,9 +5,5 @@ pub mod Stands
 pub mod Paths
 pub mod Keeping
 pub mod Added
-pub mod Chosen
-pub mod Taking
-pub mod Ending
-pub mod Listed
 pub mod Growing
 pub mod Fresh

@@ -6,14 +6,14 @@ use Rattle.values.specs.declared.key.Key.{Key}
 use Rattle.values.specs.declared.key.Key.TheVariants.{Number}
 use Rattle.language.specs.Places.{Path, most_steps}
 use Rattle.language.specs.Places.{Step as PathStep}
-use Rattle.meaning_facts.specs.declared.instances.Step.{Step}
+use Rattle.paths.specs.declared.steps.Step.{Step}
 use Rattle.meaning_facts.specs.declared.instances.Given.{Given}
 use Rattle.meaning_facts.specs.declared.instances.Instance.{Instance}
 use Rattle.meaning_facts.specs.declared.instances.Instances.{Instances}
 use Rattle.meaning_facts.specs.Store.{parent_of, inputs_of, outputs_of, variables_of}
 
 abbrev pub step_view : Step → PathStep
-step_view s = (s.at, s.key)
+step_view s = (s.offset, s.key)
 
 abbrev pub path_in : Option Instance → Path
 path_in (Some n) = map step_view n.path.items
@@ -81,4 +81,4 @@ pub record IsOpen (t : Instances) (parent : ℕ) (s : Step) (g : Given) (u : Ins
   pub parent_is : made.parent ≡ parent
   pub path_is : map step_view made.path.items ≡ step_view s ∷ path_of t.all.items parent
   pub given_is : made.given ≡ g
-  pub found : (i at : ℕ) (k : Key) → child_at u i at k ≡ (if same_step (parent, s.at, key_number s.key) (i, at, key_number k) then Some (length t.all.items) else child_at t i at k)
+  pub found : (i at : ℕ) (k : Key) → child_at u i at k ≡ (if same_step (parent, s.offset, key_number s.key) (i, at, key_number k) then Some (length t.all.items) else child_at t i at k)

@@ -5,7 +5,7 @@ use Rattle.values.specs.declared.fault.OpFault.{OpFault}
 use Rattle.values.specs.declared.value.Scalar.{Scalar}
 use Rattle.values.specs.declared.value.Value.{Value}
 use Rattle.meaning_steps.specs.Kept.{scalar_by}
-use Rattle.meaning_facts.specs.declared.facts.FaultKind.{FaultKind}
+use Rattle.paths.specs.declared.faults.FaultKind.{FaultKind}
 use Rattle.meaning_facts.specs.declared.facts.Place.{Place}
 use Rattle.meaning_facts.specs.declared.learned.Learned.{Learned}
 use Rattle.meaning_steps.specs.Environment.{Sight, Outcome}

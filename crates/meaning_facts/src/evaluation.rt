@@ -9,11 +9,12 @@ ghost use Rattle.flow.specs.View.{expr_view, exprs_view, form_view, name_view, o
 ghost use Rattle.meaning_steps.specs.Environment.{element_come, many_come, outcome, worked, worked_all};
 ghost use Rattle.meaning_facts.specs.Sighted.{outcome_view, sight_of};
 
-use crate::facts::{FaultKind, Place, Written};
+use crate::facts::{Place, Written, kind_of_operation};
 use crate::learned::Learned;
 use flow::cell::Form;
 use flow::expression::{Expr, Operation};
 use flow::name::Name;
+use paths::FaultKind;
 use std::alloc::{AllocError, Allocator, Global};
 use values::fault::OpFault;
 use values::format::{Format, FormatFault};
@@ -38,7 +39,7 @@ impl Learned {
         match form {
             Form::Compute(expr) => match self.value_under(alloc, instance, expr)? {
                 Some(Ok(value)) => Ok(Some(Ok(value))),
-                Some(Err(fault)) => Ok(Some(Err(FaultKind::of_operation(fault)?))),
+                Some(Err(fault)) => Ok(Some(Err(kind_of_operation(fault)?))),
                 None => Ok(None),
             },
             Form::Read { array, index } => {

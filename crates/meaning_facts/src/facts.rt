@@ -9,6 +9,7 @@ ghost use Rattle.meaning_facts.specs.Keeping.{has_some, some_fault_at};
 ghost use Rattle.meaning_facts.specs.Kinds.{kind_view};
 ghost use Rattle.meaning_facts.specs.Store.{value_at, line_at, all_lines, writes_at, is_written_in, has_key_in, one_writer_in, same_pair, same_place, WrittenAs, writes_under, put_write, elements_from};
 
+use paths::FaultKind;
 use std::alloc::{AllocError, Global};
 use std::collections::{HashMap, HashSet};
 use values::fault::OpFault;
@@ -22,22 +23,6 @@ use values::value::{Scalar, Value};
 pub struct Place {
     pub instance: usize,
     pub node: u32,
-}
-
-/// What can be wrong at a place.
-#[derive(Clone, Copy, PartialEq, Eq, Hash, Debug)]
-pub enum FaultKind {
-    Overflow,
-    DivideByZero,
-    /// The array is closed and has no such element.
-    NoElement,
-    /// A key of an array is written twice.
-    ElementTwice,
-    BadStep,
-    /// A path would be too long.
-    TooDeep,
-    NotANumber,
-    AssertFailed,
 }
 
 /// A fault of the statement at an offset.
@@ -96,37 +81,16 @@ impl Place {
     }
 }
 
-impl FaultKind {
-    /// All kinds, by their numbers.
-    pub const ALL: [FaultKind; 8] = [
-        FaultKind::Overflow,
-        FaultKind::DivideByZero,
-        FaultKind::NoElement,
-        FaultKind::ElementTwice,
-        FaultKind::BadStep,
-        FaultKind::TooDeep,
-        FaultKind::NotANumber,
-        FaultKind::AssertFailed,
-    ];
-
-    /// The fault of an operator, a conversion or a range.
-    ///
-    /// # Errors
-    ///
-    /// `AllocError` for want of memory, which is no fault of a script.
-    pub fn of_operation(fault: OpFault) -> Result<FaultKind, AllocError>
-        ensures kind { IfOk result (λ kind. kind_view kind ≡ operation fault) }
-        ensures memory { IfErr result (λ _. fault ≡ OpFault.Memory) }
-    {
-        match fault {
-            OpFault::Overflow => Ok(FaultKind::Overflow),
-            OpFault::DivideByZero => Ok(FaultKind::DivideByZero),
-            OpFault::BadStep => Ok(FaultKind::BadStep),
-            OpFault::NotANumber => Ok(FaultKind::NotANumber),
-            OpFault::AssertFailed => Ok(FaultKind::AssertFailed),
-            OpFault::Memory => Err(AllocError),
-        }
-    }
+/// The kind of a fault of an operator, a conversion or a range.
+///
+/// # Errors
+///
+/// `AllocError` for want of memory, which is no fault of a script.
+pub fn kind_of_operation(fault: OpFault) -> Result<FaultKind, AllocError>
+    ensures kind { IfOk result (λ kind. kind_view kind ≡ operation fault) }
+    ensures memory { IfErr result (λ _. fault ≡ OpFault.Memory) }
+{
+    FaultKind::of_operation(fault)
 }
 
 impl Facts {

@@ -9,17 +9,11 @@ ghost use Rattle.meaning_facts.specs.Store.{spot, spots, outward, parent_of, own
 
 use crate::facts::Place;
 use flow::name::{Name, Owned};
+use paths::Step;
 use std::alloc::{AllocError, Global};
 use std::collections::HashMap;
 use values::key::Key;
 use values::value::Scalar;
-
-/// A step of a path: the offset of what opens a block, and the key under which it opens it.
-#[derive(Drop)]
-pub struct Step {
-    pub at: usize,
-    pub key: Key,
-}
 
 /// A variable of a loop, by its node, and what it is in a turn.
 #[derive(Drop)]
@@ -120,12 +114,12 @@ impl Instances {
     ) -> Result<usize, AllocError>
         ensures number { IfOk result (λ number. number ≡ length self.old.all.items) }
         ensures opened { OnOk result (IsOpen self.old parent step given self.new) }
-        ensures tree { OnOk result (IsTree self.old → parent < length self.old.all.items → child_at self.old parent step.at step.key ≡ None
+        ensures tree { OnOk result (IsTree self.old → parent < length self.old.all.items → child_at self.old parent step.offset step.key ≡ None
             → length (path_of self.old.all.items parent) < most_steps → IsTree self.new) }
     {
         let number = self.all.len();
         let key = number_of(&step.key);
-        self.opened.insert((parent, step.at, key), number)?;
+        self.opened.insert((parent, step.offset, key), number)?;
         let path = path_behind(alloc, self.path(parent), step)?;
         self.all.push(Instance {
             parent,
@@ -261,10 +255,7 @@ fn path_behind(alloc: Global, path: &[Step], step: Step) -> Result<Vec<Step>, Al
     let mut longer = Vec::new(alloc);
     longer.push(step)?;
     for other in path {
-        longer.push(Step {
-            at: other.at,
-            key: other.key.share()?,
-        })?;
+        longer.push(other.share()?)?;
     }
     Ok(longer)
 }

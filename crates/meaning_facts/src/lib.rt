@@ -1,12 +1,8 @@
 //! What is known of a script by its places: facts, block instances and closed arrays, and what expressions come to by them.
 #![tactic(auto)]
 
-pub mod choices;
 pub mod evaluation;
 pub mod facts;
-pub mod finished;
 pub mod instances;
 pub mod laws;
 pub mod learned;
-pub mod parts;
-pub mod targets;

@@ -8,8 +8,9 @@ ghost use Rattle.meaning_faults.specs.Faults.{sight_at, fault_news, deep_news, e
 
 use crate::site::Site;
 use flow::name::Name;
-use meaning_facts::facts::{Fact, FaultFact, FaultKind};
+use meaning_facts::facts::{Fact, FaultFact};
 use meaning_facts::learned::Learned;
+use paths::FaultKind;
 use std::alloc::{AllocError, Global};
 
 /// Adds a fault at a node of a statement, unless it is known. It can fail for want of memory alone.

@@ -11,7 +11,7 @@ use Rattle.language.specs.Places.{Place}
 use Rattle.meaning_facts.specs.declared.facts.Fact.{Fact}
 use Rattle.meaning_facts.specs.declared.facts.Fact.TheVariants as Is
 use Rattle.meaning_facts.specs.declared.facts.FaultFact.{FaultFact}
-use Rattle.meaning_facts.specs.contracts.facts.FaultKind as kinds
+use Rattle.paths.specs.contracts.faults.FaultKind as kinds
 use Rattle.meaning_facts.specs.declared.facts.Facts.{Facts}
 use Rattle.meaning_facts.specs.declared.facts.Place.{Place as Spot}
 use Rattle.meaning_facts.specs.declared.facts.Write.{Write}

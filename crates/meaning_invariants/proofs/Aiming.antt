@@ -6,7 +6,7 @@ use Rattle.language.specs.Core.{Owned, local, input, output, Name, Stmt, stmt, A
 use Rattle.language.specs.Members.{◌∈◌, first, later}
 use Rattle.language.specs.Parts.{owners, targets, targets_of, targets_in}
 use Rattle.language.proofs.Members.{to_left, to_right, either}
-use Rattle.meaning_facts.specs.Targeted.{same_owned, names_owned, aims, aims_of, aims_in}
+use Rattle.meaning_cells.specs.Targeted.{same_owned, names_owned, aims, aims_of, aims_in}
 use Rattle.meaning_facts.proofs.Growing.{or_cases, or_right}
 
 pub same_so : (x y : Owned) → same_owned x y ≡ true → x ≡ y

@@ -16,7 +16,7 @@ use Rattle.language_laws.proofs.Declared.{stmt_in}
 use Rattle.meaning_facts.specs.declared.facts.Place.{Place as Spot}
 use Rattle.meaning_facts.specs.declared.instances.Given.{Given}
 use Rattle.meaning_facts.specs.declared.instances.Instance.{Instance}
-use Rattle.meaning_facts.specs.declared.instances.Step.{Step}
+use Rattle.paths.specs.declared.steps.Step.{Step}
 use Rattle.meaning_facts.specs.declared.instances.Variable.{Variable}
 use Rattle.meaning_facts.specs.declared.learned.Learned.{Learned}
 use Rattle.meaning_facts.specs.Paths.{path_of}
@@ -46,15 +46,15 @@ module _ (s : Core) (names : NamesFound s) (K : Knowledge) (levels : ℕ) (l : L
 
   -- the body of a call
   module _ (st : Stmt) (c : Call) (f : Function) (there : active i st ∈ ls) (calls : c ∈ stmt_calls st) (found : slice_get s.functions c.function ≡ Some f)
-      (at : x.at ≡ c.at) (key : x.key ≡ Key.Number (pos 0)) (ins : g.inputs.items ≡ spots ns i c.inputs) (outs : g.outputs.items ≡ spots ns i c.outputs) (none : g.variables.items ≡ []) where
-    call_is : call_at s x.at ≡ Some c
+      (at : x.offset ≡ c.at) (key : x.key ≡ Key.Number (pos 0)) (ins : g.inputs.items ≡ spots ns i c.inputs) (outs : g.outputs.items ≡ spots ns i c.outputs) (none : g.variables.items ≡ []) where
+    call_is : call_at s x.offset ≡ Some c
     call_is = ap (call_at s) at ∙ live_call s names c (far.live (active i st) there).so calls
 
     pub call_opening : IsOpening s K l i x g f.body
     call_opening = record {
       within = (far.live (active i st) there).within;
       short = short;
-      live = subst (λ (k : Key). Live s K ((x.at, k) ∷ path_of ns i) f.body) (sym key)
+      live = subst (λ (k : Key). Live s K ((x.offset, k) ∷ path_of ns i) f.body) (sym key)
           (subst (λ (a : ℕ). Live s K ((a, Key.Number (pos 0)) ∷ path_of ns i) f.body) (sym at) (live_body (far.live (active i st) there).so calls found short));
       inputs = λ j. ap (λ (ps : List Spot). given_at ps j i) ins ∙ given_name ns i c.inputs j ∙ ap (λ (o : Option Call). spot ns i (input_name o j)) (sym call_is);
       outputs = λ j. ap (λ (ps : List Spot). given_at ps j i) outs ∙ given_name ns i c.outputs j ∙ ap (λ (o : Option Call). spot ns i (output_name o j)) (sym call_is);
@@ -63,9 +63,9 @@ module _ (s : Core) (names : NamesFound s) (K : Knowledge) (levels : ℕ) (l : L
 
   -- a turn of a header
   module _ (offsets : OffsetsApart s) (at n : ℕ) (header : Action) (vs : List Value) (b : Block) (there : active i (stmt at n header) ∈ ls) (ready : Ready s K (path_of ns i) header vs)
-      (at_is : x.at ≡ at) (opens : Opens header vs x.key b) (ins : g.inputs.items ≡ []) (outs : g.outputs.items ≡ [])
+      (at_is : x.offset ≡ at) (opens : Opens header vs x.key b) (ins : g.inputs.items ≡ []) (outs : g.outputs.items ≡ [])
       (all : (y : ℕ) (v : Scalar) → InTurn header vs x.key y v → variable_in g.variables.items y ≡ Some v) (so : (y : ℕ) (v : Scalar) → variable_in g.variables.items y ≡ Some v → InTurn header vs x.key y v) where
-    no_call : call_at s x.at ≡ None
+    no_call : call_at s x.offset ≡ None
     no_call = ap (call_at s) at_is ∙ offsets.no_call (stmt at n header) (stmt_in s (far.live (active i (stmt at n header)) there).so) (opens_branches opens)
 
     pub turn_opening : IsOpening s K l i x g b

@@ -9,7 +9,7 @@ use Rattle.language.specs.Members.{◌∈◌}
 use Rattle.meaning_steps.proofs.Settled.{finished_so}
 use Rattle.meaning_facts.specs.declared.facts.Place.{Place as Spot}
 use Rattle.meaning_facts.specs.declared.learned.Learned.{Learned}
-use Rattle.meaning_facts.specs.Ending.{IsDone}
+use Rattle.meaning_cells.specs.Ending.{IsDone}
 use Rattle.meaning_facts.specs.Growing.{KeepsFacts}
 use Rattle.meaning_facts.specs.Sighted.{closed_at}
 use Rattle.meaning_facts.specs.Store.{one_writer_in, same_place, writes_at}

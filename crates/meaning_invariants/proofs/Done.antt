@@ -6,10 +6,10 @@ use Rattle.language.specs.Members.{◌∈◌, first, later}
 use Rattle.language.specs.Parts.{block_list}
 use Rattle.language.proofs.Members.{either, split_in}
 use Rattle.meaning_facts.specs.declared.learned.Learned.{Learned}
-use Rattle.meaning_facts.specs.Chosen.{Chosen, key_in}
-use Rattle.meaning_facts.specs.Ending.{Goal, Goals, behind, both, child_goals, goals_in, IsDone, done, output_goals, statement_goals, turn_goals, where_so}
+use Rattle.meaning_cells.specs.Chosen.{Chosen, key_in}
+use Rattle.meaning_cells.specs.Ending.{Goal, Goals, behind, both, child_goals, goals_in, IsDone, done, output_goals, statement_goals, turn_goals, where_so}
 use Rattle.meaning_facts.specs.Paths.{child_at}
-use Rattle.meaning_facts.specs.Targeted.{same_owned}
+use Rattle.meaning_cells.specs.Targeted.{same_owned}
 use Rattle.meaning_invariants.proofs.Aiming.{same_so}
 
 -- there are goals, and each is done

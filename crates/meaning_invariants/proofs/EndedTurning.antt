@@ -22,11 +22,11 @@ use Rattle.language_laws.proofs.Rising.{rising_once}
 use Rattle.meaning_steps.specs.Environment.{Sight}
 use Rattle.meaning_steps.specs.Taken.{Taken, ReadyBy, by_cells, by_source}
 use Rattle.meaning_facts.specs.declared.instances.Variable.{Variable}
-use Rattle.meaning_facts.specs.Chosen.{Chosen, chosen_from, chosen_in, count_in, item_key, item_value, items, items_seen, key_in, turns, turns_by, turns_of}
+use Rattle.meaning_cells.specs.Chosen.{Chosen, chosen_from, chosen_in, count_in, item_key, item_value, items, items_seen, key_in, turns, turns_by, turns_of}
 use Rattle.meaning_facts.specs.Store.{variable_in}
-use Rattle.meaning_facts.specs.Taking.{SeesBy}
-use Rattle.meaning_facts.proofs.Looping.{each_turn, has_at}
-use Rattle.meaning_facts.proofs.Readying.{cells_all}
+use Rattle.meaning_cells.specs.Taking.{SeesBy}
+use Rattle.meaning_cells.proofs.Looping.{each_turn, has_at}
+use Rattle.meaning_cells.proofs.Readying.{cells_all}
 use Rattle.meaning_invariants.specs.Turns.{key_variable, turn_variables}
 
 found_first : (x : ℕ) (v : Scalar) (vs : List Variable) → variable_in (record { node = x; value = v } ∷ vs) x ≡ Some v

@@ -19,18 +19,18 @@ use Rattle.meaning_steps.specs.News.{Past}
 use Rattle.meaning_steps.specs.Taken.{FinishedBy, no_target_by, value_by, write_by, body_by, blocks_by, content_by, ReadyBy}
 use Rattle.meaning_steps.proofs.Settled.{ready_so}
 use Rattle.meaning_facts.specs.declared.learned.Learned.{Learned}
-use Rattle.meaning_facts.specs.Chosen.{Chosen, block_in, is_other, count_in, have_come_in, key_in}
-use Rattle.meaning_facts.specs.Ending.{Goal, Goals, action_goals, block_goals, body_goals, child_goals, choice_goals, function_goals, header_goals, inserted_by, is_inserted_in, IsDone, output_goals, statement_goals, where_aimed}
+use Rattle.meaning_cells.specs.Chosen.{Chosen, block_in, is_other, count_in, have_come_in, key_in}
+use Rattle.meaning_cells.specs.Ending.{Goal, Goals, action_goals, block_goals, body_goals, child_goals, choice_goals, function_goals, header_goals, inserted_by, is_inserted_in, IsDone, output_goals, statement_goals, where_aimed}
 use Rattle.meaning_facts.specs.Growing.{KeepsFacts}
 use Rattle.meaning_facts.specs.Keeping.{kept_of, past_of, IsPlaced}
 use Rattle.meaning_facts.specs.Paths.{child_at, path_of}
 use Rattle.meaning_facts.specs.Sighted.{sight_of}
 use Rattle.meaning_facts.specs.Store.{value_at}
-use Rattle.meaning_facts.specs.Taking.{SeesBy}
-use Rattle.meaning_facts.specs.Targeted.{aims_of}
+use Rattle.meaning_cells.specs.Taking.{SeesBy}
+use Rattle.meaning_cells.specs.Targeted.{aims_of}
 use Rattle.meaning_facts.proofs.Keeping.{recalls_kept}
-use Rattle.meaning_facts.proofs.Parting.{calls_append}
-use Rattle.meaning_facts.proofs.Readying.{HasChosen, ready_chosen}
+use Rattle.meaning_cells.proofs.Parting.{calls_append}
+use Rattle.meaning_cells.proofs.Readying.{HasChosen, ready_chosen}
 use Rattle.meaning_invariants.specs.Active.{Active, active, taken_by, HasIndexes, IsAllOpen, IsRight}
 use Rattle.meaning_invariants.proofs.Aiming.{aimed_so}
 use Rattle.meaning_invariants.proofs.Done.{AllDone, done_none, done_one, done_where, done_block, done_goal, done_turns, done_outputs}

@@ -15,16 +15,16 @@ use Rattle.language.specs.Places.{Path, Place, place, most_steps}
 use Rattle.meaning_steps.specs.News.{Past}
 use Rattle.meaning_steps.specs.Taken.{FinishedBy, no_target_by, value_by, write_by, body_by, blocks_by, content_by, by_names}
 use Rattle.meaning_facts.specs.declared.learned.Learned.{Learned}
-use Rattle.meaning_facts.specs.Chosen.{Chosen, block_in, chosen_in, count_in, have_come_in, key_in}
-use Rattle.meaning_facts.specs.Ending.{Goal, action_goals, block_goals, body_goals, choice_goals, function_goals, inserted_by, IsDone, done, is_inserted_in, statement_goals, turn_goals, where_aimed, where_so, output_goals}
+use Rattle.meaning_cells.specs.Chosen.{Chosen, block_in, chosen_in, count_in, have_come_in, key_in}
+use Rattle.meaning_cells.specs.Ending.{Goal, action_goals, block_goals, body_goals, choice_goals, function_goals, inserted_by, IsDone, done, is_inserted_in, statement_goals, turn_goals, where_aimed, where_so, output_goals}
 use Rattle.meaning_facts.specs.Growing.{KeepsFacts}
 use Rattle.meaning_facts.specs.Keeping.{kept_of, IsPlaced}
 use Rattle.meaning_facts.specs.Paths.{child_at, path_of}
 use Rattle.meaning_facts.specs.Sighted.{sight_of}
 use Rattle.meaning_facts.specs.Store.{is_written_in, spot, value_at, writes_at}
-use Rattle.meaning_facts.specs.Targeted.{aims_of}
+use Rattle.meaning_cells.specs.Targeted.{aims_of}
 use Rattle.meaning_facts.proofs.Keeping.{recalls_kept}
-use Rattle.meaning_facts.proofs.Readying.{chosen_ready}
+use Rattle.meaning_cells.proofs.Readying.{chosen_ready}
 use Rattle.meaning_invariants.specs.Active.{Active, taken_by}
 use Rattle.meaning_invariants.proofs.Aiming.{aimed_all}
 use Rattle.meaning_invariants.proofs.Parts.{part_of_block, part_of_turns, Child, child_of, output_first, where_parts}

@@ -17,8 +17,8 @@ use Rattle.language.proofs.Members.{split_in, either}
 use Rattle.meaning_steps.specs.Kept.{is_there, past_by}
 use Rattle.meaning_steps.specs.Environment.{Sight, Sees, Outcome, outcome}
 use Rattle.meaning_steps.specs.News.{Past, Recalls, unless, comes, comes_all, cell_by, cell_told, cells_told, assigned_told, element_by, element_told, elements_told, filled_told, inserted_told, printed_told, deep_by, deep_told, bad_by, bad_told, items_told, own_told, count_of, opens_some, some_call, key_in, one_in, text_in, news}
-use Rattle.meaning_facts.specs.declared.facts.FaultKind.{FaultKind}
-use Rattle.meaning_facts.specs.declared.facts.FaultKind.TheVariants as Kind
+use Rattle.paths.specs.declared.faults.FaultKind.{FaultKind}
+use Rattle.paths.specs.declared.faults.FaultKind.TheVariants as Kind
 use Rattle.meaning_facts.specs.declared.learned.Learned.{Learned}
 use Rattle.meaning_facts.specs.Keeping.{fault_at, has_kind, kept_of, kind_of}
 use Rattle.meaning_facts.specs.Kinds.{kind_view}

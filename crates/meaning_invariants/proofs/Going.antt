@@ -10,7 +10,7 @@ use Rattle.language.specs.Parts.{stmt_action}
 use Rattle.language.specs.Places.{Path, most_steps}
 use Rattle.meaning_facts.specs.declared.learned.Learned.{Learned}
 use Rattle.meaning_facts.specs.Paths.{path_of}
-use Rattle.meaning_facts.specs.Chosen.{chosen_in, have_come_in}
+use Rattle.meaning_cells.specs.Chosen.{chosen_in, have_come_in}
 use Rattle.meaning_steps.specs.Environment.{Sight}
 use Rattle.meaning_invariants.specs.Active.{Active, active, HasBlock}
 use Rattle.meaning_invariants.specs.Opened.{AreCalled, ArePassed, IsOpened, nothing, branches, content, IsUnready, GoesOn}

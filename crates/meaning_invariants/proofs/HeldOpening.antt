@@ -9,12 +9,12 @@ use Rattle.language.specs.Members.{◌∈◌, first, later}
 use Rattle.language.specs.Places.{Place}
 use Rattle.meaning_steps.specs.Kept.{AreApart}
 use Rattle.meaning_steps.specs.Kept.{Write as KeptWrite}
-use Rattle.meaning_facts.specs.declared.facts.FaultKind.{FaultKind}
+use Rattle.paths.specs.declared.faults.FaultKind.{FaultKind}
 use Rattle.meaning_facts.specs.declared.facts.Place.{Place as Spot}
 use Rattle.meaning_facts.specs.declared.facts.Write.{Write}
 use Rattle.meaning_facts.specs.declared.instances.Given.{Given}
 use Rattle.meaning_facts.specs.declared.instances.Instances.{Instances}
-use Rattle.meaning_facts.specs.declared.instances.Step.{Step}
+use Rattle.paths.specs.declared.steps.Step.{Step}
 use Rattle.meaning_facts.specs.declared.learned.Learned.{Learned}
 use Rattle.meaning_facts.specs.Growing.{KeepsFacts}
 use Rattle.meaning_facts.specs.Keeping.{by_place, in_instance, fault_at, has_kind, kept_of, kind_of, place_view, write_view, same_fault, IsLocated}

@@ -10,7 +10,7 @@ use Rattle.language.specs.Openings.{Decides, two_ways, Opens, then_first, else_s
 use Rattle.language.specs.Parts.{block_list, function_body, stmts_of}
 use Rattle.language.specs.Places.{Path}
 use Rattle.meaning_steps.specs.Taken.{Taken, FinishedBy, no_target_by, body_by, blocks_by, content_by, ReadyBy, by_cells}
-use Rattle.meaning_facts.specs.Targeted.{same_owned, names_owned, aims, aims_of, aims_in}
+use Rattle.meaning_cells.specs.Targeted.{same_owned, names_owned, aims, aims_of, aims_in}
 use Rattle.meaning_facts.proofs.Growing.{both, or_cases, or_right}
 use Rattle.meaning_invariants.specs.Never.{some_output, never, never_by, never_in, never_within, never_called, never_ends}
 use Rattle.meaning_invariants.proofs.Aiming.{aimed_so, or_left, same_so}

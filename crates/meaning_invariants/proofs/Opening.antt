@@ -12,7 +12,7 @@ use Rattle.language.specs.Places.{Path, most_steps}
 use Rattle.meaning_facts.specs.declared.facts.Place.{Place as Spot}
 use Rattle.meaning_facts.specs.declared.instances.Given.{Given}
 use Rattle.meaning_facts.specs.declared.instances.Instances.{Instances}
-use Rattle.meaning_facts.specs.declared.instances.Step.{Step}
+use Rattle.paths.specs.declared.steps.Step.{Step}
 use Rattle.meaning_facts.specs.declared.instances.Variable.{Variable}
 use Rattle.meaning_facts.specs.declared.learned.Learned.{Learned}
 use Rattle.meaning_facts.specs.Keeping.{IsPlaced}
@@ -29,7 +29,7 @@ use Rattle.meaning_invariants.specs.Active.{Active, Candidate}
 use Rattle.meaning_invariants.specs.Opened.{GoesOn, IsActive, IsCandidate, IsClosedSo, IsSoFar, Origin}
 
 module _ (s : Core) (K : Knowledge) (levels : ℕ) (l : Learned) (ls : List Active) (arrays : List Candidate) (far : IsSoFar s K levels l ls arrays)
-    (i : ℕ) (within : i < length l.instances.all.items) (x : Step) (g : Given) (u : Instances) (o : IsOpen l.instances i x g u) (lacks : child_at l.instances i x.at x.key ≡ None)
+    (i : ℕ) (within : i < length l.instances.all.items) (x : Step) (g : Given) (u : Instances) (o : IsOpen l.instances i x g u) (lacks : child_at l.instances i x.offset x.key ≡ None)
     (short : length (path_of l.instances.all.items i) < most_steps) where
   abbrev t : Instances
   t = l.instances
@@ -70,9 +70,9 @@ module _ (s : Core) (K : Knowledge) (levels : ℕ) (l : Learned) (ls : List Acti
   }
 
   -- WHAT IS SO
-  module _ (xs : (j : ℕ) → given_at g.inputs.items j i ≡ spot t.all.items i (input_name (call_at s x.at) j))
-      (ys : (j : ℕ) → given_at g.outputs.items j i ≡ spot t.all.items i (output_name (call_at s x.at) j))
-      (origin : Origin s K (path_of t.all.items i) x.at x.key (variable_in g.variables.items)) where
+  module _ (xs : (j : ℕ) → given_at g.inputs.items j i ≡ spot t.all.items i (input_name (call_at s x.offset) j))
+      (ys : (j : ℕ) → given_at g.outputs.items j i ≡ spot t.all.items i (output_name (call_at s x.offset) j))
+      (origin : Origin s K (path_of t.all.items i) x.offset x.key (variable_in g.variables.items)) where
     placed_now : IsPlaced s u
     placed_now = placed_more s t u i x g o tree far.placed within xs ys lacks short
 
@@ -97,10 +97,10 @@ module _ (s : Core) (K : Knowledge) (levels : ℕ) (l : Learned) (ls : List Acti
     abbrev FromAt : ℕ → ℕ → Key → ℕ → Type 0
     FromAt j at k c = Origin s K (path_of u.all.items j) at k (variable_in (variables_of u.all.items c))
 
-    origin_new : FromAt i x.at x.key (length t.all.items)
+    origin_new : FromAt i x.offset x.key (length t.all.items)
     origin_new =
-        subst (λ (p : Path). Origin s K p x.at x.key (variable_in (variables_of u.all.items (length t.all.items)))) (sym (same_path i within))
-        (subst (λ (vs : List Variable). Origin s K (path_of t.all.items i) x.at x.key (variable_in vs)) (sym (ap variables_in (comes t u i x g o) ∙ ap (λ (z : Given). z.variables.items) o.given_is)) origin)
+        subst (λ (p : Path). Origin s K p x.offset x.key (variable_in (variables_of u.all.items (length t.all.items)))) (sym (same_path i within))
+        (subst (λ (vs : List Variable). Origin s K (path_of t.all.items i) x.offset x.key (variable_in vs)) (sym (ap variables_in (comes t u i x g o) ∙ ap (λ (z : Given). z.variables.items) o.given_is)) origin)
 
     origin_old : (j at : ℕ) (k : Key) (c : ℕ) → child_at t j at k ≡ Some c → FromAt j at k c
     origin_old j at k c e =
@@ -110,14 +110,14 @@ module _ (s : Core) (K : Knowledge) (levels : ℕ) (l : Learned) (ls : List Acti
         (subst (λ (vs : List Variable). Origin s K (path_of t.all.items j) at k (variable_in vs)) (sym (ap variables_in (stays t u i x g o c h.within))) (far.origins j at k c e))
 
     origins_now : (j at : ℕ) (k : Key) (c : ℕ) → child_at u j at k ≡ Some c → FromAt j at k c
-    origins_now j at k c e = elim (cases_Bool (same_step (i, x.at, key_number x.key) (j, at, key_number k))) [
+    origins_now j at k c e = elim (cases_Bool (same_step (i, x.offset, key_number x.key) (j, at, key_number k))) [
       | inl same ↦
-          let z = same_step_is i j x.at at x.key k same in
+          let z = same_step_is i j x.offset at x.key k same in
           let number : Some (length t.all.items) ≡ Some c = sym (o.found j at k ∙ ap (λ (b : Bool). if b then Some (length t.all.items) else child_at t j at k) same) ∙ e in
           let last : length t.all.items ≡ c = cc (number) in
           subst (λ (m : ℕ). FromAt j at k m) last
           (subst (λ (q : Key). FromAt j at q (length t.all.items)) z.key_same
-          (subst (λ (a : ℕ). FromAt j a x.key (length t.all.items)) z.at_same (subst (λ (n : ℕ). FromAt n x.at x.key (length t.all.items)) z.parent_same origin_new)))
+          (subst (λ (a : ℕ). FromAt j a x.key (length t.all.items)) z.at_same (subst (λ (n : ℕ). FromAt n x.offset x.key (length t.all.items)) z.parent_same origin_new)))
       | inr other ↦
           origin_old j at k c (sym (o.found j at k ∙ ap (λ (b : Bool). if b then Some (length t.all.items) else child_at t j at k) other) ∙ e)
     ]

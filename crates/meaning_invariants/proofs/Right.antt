@@ -11,13 +11,13 @@ use Rattle.meaning_steps.specs.Taken.{Taken, by_names}
 use Rattle.meaning_steps.proofs.Settled.{ready_so}
 use Rattle.meaning_facts.specs.declared.instances.Variable.{Variable}
 use Rattle.meaning_facts.specs.declared.learned.Learned.{Learned}
-use Rattle.meaning_facts.specs.Chosen.{Chosen, chosen_in, have_come_in}
+use Rattle.meaning_cells.specs.Chosen.{Chosen, chosen_in, have_come_in}
 use Rattle.meaning_facts.specs.Keeping.{in_instance, turn_at}
 use Rattle.meaning_facts.specs.Paths.{at_path, path_of}
 use Rattle.meaning_facts.specs.Sighted.{closed_at, sight_of}
 use Rattle.meaning_facts.specs.Store.{parent_of, variable_in, variables_of}
 use Rattle.meaning_facts.proofs.Keeping.{found_there}
-use Rattle.meaning_facts.proofs.Readying.{chosen_ready}
+use Rattle.meaning_cells.proofs.Readying.{chosen_ready}
 use Rattle.meaning_invariants.specs.Active.{Active, Candidate, IsRight, taken_by}
 use Rattle.meaning_invariants.proofs.EndedRight.{right_apart, right_so}
 use Rattle.meaning_invariants.proofs.Sights.{come_so, sees}

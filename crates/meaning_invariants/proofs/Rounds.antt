@@ -15,7 +15,7 @@ use Rattle.language_laws.proofs.Ever as law
 use Rattle.meaning_steps.specs.Kept.{AreApart}
 use Rattle.meaning_steps.specs.News.{NodesTell}
 use Rattle.meaning_facts.specs.declared.facts.Fact.{Fact}
-use Rattle.meaning_facts.specs.declared.facts.FaultKind.{FaultKind}
+use Rattle.paths.specs.declared.faults.FaultKind.{FaultKind}
 use Rattle.meaning_facts.specs.declared.facts.Facts.{Facts}
 use Rattle.meaning_facts.specs.declared.facts.Place.{Place as Spot}
 use Rattle.meaning_facts.specs.declared.facts.Write.{Write}

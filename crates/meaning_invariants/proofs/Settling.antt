@@ -23,7 +23,7 @@ use Rattle.meaning_facts.specs.Keeping.{kept_of, turn_at, IsPlaced}
 use Rattle.meaning_facts.specs.Paths.{path_of}
 use Rattle.meaning_facts.specs.Sighted.{closed_at, sight_of}
 use Rattle.meaning_facts.proofs.Keeping.{by_located, one_instance}
-use Rattle.meaning_facts.proofs.Readying.{HasChosen, ready_chosen}
+use Rattle.meaning_cells.proofs.Readying.{HasChosen, ready_chosen}
 use Rattle.meaning_invariants.specs.Active.{Active, active, Candidate, goal_of, HasBlock, HasIndexes, IsAllClosed, IsAllOpen, IsDeclared, IsListed, IsRight, taken_by}
 use Rattle.meaning_invariants.specs.Never.{never_ends}
 use Rattle.meaning_invariants.proofs.Apart as apart

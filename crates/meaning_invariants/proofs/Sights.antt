@@ -10,12 +10,12 @@ use Rattle.meaning_steps.proofs.Written.{elements, elements_one}
 use Rattle.meaning_steps.specs.Environment.{Sight}
 use Rattle.meaning_steps.specs.Taken.{ComeBy, ReadyBy, by_cells, by_names}
 use Rattle.meaning_facts.specs.declared.learned.Learned.{Learned}
-use Rattle.meaning_facts.specs.Chosen.{has_come_in, have_come_in}
+use Rattle.meaning_cells.specs.Chosen.{has_come_in, have_come_in}
 use Rattle.meaning_facts.specs.Growing.{KeepsFacts}
 use Rattle.meaning_facts.specs.Keeping.{kept_of, IsPlaced}
 use Rattle.meaning_facts.specs.Paths.{path_of}
 use Rattle.meaning_facts.specs.Sighted.{sight_of}
-use Rattle.meaning_facts.specs.Taking.{SeesBy}
+use Rattle.meaning_cells.specs.Taking.{SeesBy}
 use Rattle.meaning_facts.proofs.Growing.{both}
 use Rattle.meaning_facts.proofs.Keeping.{sees_kept}
 use Rattle.meaning_invariants.specs.Active.{Active, taken_by}

@@ -12,15 +12,15 @@ use Rattle.language_laws.proofs.Declared.{stmt_in}
 use Rattle.meaning_steps.specs.Taken.{Taken}
 use Rattle.meaning_steps.proofs.Settled.{ready_so}
 use Rattle.meaning_facts.specs.declared.instances.Given.{Given}
-use Rattle.meaning_facts.specs.declared.instances.Step.{Step}
+use Rattle.paths.specs.declared.steps.Step.{Step}
 use Rattle.meaning_facts.specs.declared.instances.Variable.{Variable}
 use Rattle.meaning_facts.specs.declared.learned.Learned.{Learned}
-use Rattle.meaning_facts.specs.Chosen.{Chosen, block_in, chosen_in, count_in, key_in}
+use Rattle.meaning_cells.specs.Chosen.{Chosen, block_in, chosen_in, count_in, key_in}
 use Rattle.meaning_facts.specs.Paths.{path_of}
 use Rattle.meaning_facts.specs.Sighted.{sight_of}
 use Rattle.meaning_facts.specs.Store.{variable_in}
-use Rattle.meaning_facts.specs.Taking.{SeesBy}
-use Rattle.meaning_facts.proofs.Readying.{IsReady, chosen_ready}
+use Rattle.meaning_cells.specs.Taking.{SeesBy}
+use Rattle.meaning_cells.proofs.Readying.{IsReady, chosen_ready}
 use Rattle.meaning_invariants.specs.Active.{Active, active, Candidate, taken_by}
 use Rattle.meaning_invariants.specs.Turns.{turn_variables}
 use Rattle.meaning_invariants.proofs.EndedRight.{right_apart, right_so}
@@ -48,7 +48,7 @@ module _ (s : Core) (w : WellFormed s) (offsets : OffsetsApart s) (K : Knowledge
   opens : Opens header ready.values (key_in c j) b
   opens = ready.opens.so j b below block
 
-  pub seen_opening : x.at ≡ at → x.key ≡ key_in c j → g.inputs.items ≡ [] → g.outputs.items ≡ [] → g.variables.items ≡ turn_variables header c j → IsOpening s K l i x g b
+  pub seen_opening : x.offset ≡ at → x.key ≡ key_in c j → g.inputs.items ≡ [] → g.outputs.items ≡ [] → g.variables.items ≡ turn_variables header c j → IsOpening s K l i x g b
   seen_opening at_is key ins outs variables =
       turn_opening s w.names K levels l ls arrays far i x g short offsets at n header ready.values b there (ready_so s K T (right_so s K l ls far.holds.keeps (is_right s K levels l ls arrays far)) ready.ready)
       at_is (subst (λ (k : Key). Opens header ready.values k b) (sym key) opens) ins outs

@@ -14,8 +14,8 @@ use Rattle.meaning_steps.specs.Kept.{scalar_by}
 use Rattle.meaning_steps.specs.Taken.{Taken}
 use Rattle.meaning_facts.specs.declared.facts.Place.{Place as Spot}
 use Rattle.meaning_facts.specs.declared.learned.Learned.{Learned}
-use Rattle.meaning_facts.specs.Chosen.{Chosen, chosen_in, have_come_in}
-use Rattle.meaning_facts.specs.Ending.{Goal, IsDone}
+use Rattle.meaning_cells.specs.Chosen.{Chosen, chosen_in, have_come_in}
+use Rattle.meaning_cells.specs.Ending.{Goal, IsDone}
 use Rattle.meaning_facts.specs.Keeping.{kept_of}
 use Rattle.meaning_facts.specs.Paths.{child_at, path_of}
 use Rattle.meaning_facts.specs.Sighted.{closed_at, sight_of}

@@ -1,7 +1,7 @@
 -- Variables that never end in a block: those that it assigns as scalars, whatever its branches choose, so many levels of calls deep.
 use Rattle.std.specs.Prelude.{ℕ, zero, suc, Bool, false, ◌&&◌, ◌||◌, List, [], ◌∷◌, Option, Some, None, slice_get}
 use Rattle.language.specs.Core.{Owned, output, Name, Stmt, stmt, Action, call_alone, assign, choose, wait, Block, no_stmts, stmts, Function, Core}
-use Rattle.meaning_facts.specs.Targeted.{same_owned}
+use Rattle.meaning_cells.specs.Targeted.{same_owned}
 
 -- some output of a call stands for the variable, and never ends in the body that is called
 abbrev pub some_output : (ℕ → Bool) → Owned → ℕ → List Name → Bool

@@ -13,14 +13,14 @@ use Rattle.language.specs.Places.{Path, most_steps}
 use Rattle.meaning_facts.specs.declared.facts.Place.{Place as Spot}
 use Rattle.meaning_facts.specs.declared.instances.Given.{Given}
 use Rattle.meaning_facts.specs.declared.instances.Instances.{Instances}
-use Rattle.meaning_facts.specs.declared.instances.Step.{Step}
+use Rattle.paths.specs.declared.steps.Step.{Step}
 use Rattle.meaning_facts.specs.declared.learned.Learned.{Learned}
-use Rattle.meaning_facts.specs.Chosen.{Chosen, chosen_in, have_come_in}
+use Rattle.meaning_cells.specs.Chosen.{Chosen, chosen_in, have_come_in}
 use Rattle.meaning_facts.specs.Keeping.{place_view, IsPlaced}
 use Rattle.meaning_facts.specs.Paths.{child_at, path_of, IsOpen}
 use Rattle.meaning_facts.specs.Sighted.{closed_at, sight_of}
 use Rattle.meaning_facts.specs.Store.{given_at, spot, variable_in, variables_of}
-use Rattle.meaning_facts.specs.Taking.{OpensBy}
+use Rattle.meaning_cells.specs.Taking.{OpensBy}
 use Rattle.meaning_invariants.specs.Held.{with_instances, Holds}
 use Rattle.meaning_invariants.specs.Active.{Active, active, Candidate, HasBlock, IsDeclared}
 
@@ -111,12 +111,12 @@ pub record SeesChoices (s : Core) (K : Knowledge) (l : Learned) : Type 0 where
 pub record IsOpening (s : Core) (K : Knowledge) (l : Learned) (i : ℕ) (x : Step) (g : Given) (b : Block) : Type 0 where
   pub within : i < length l.instances.all.items
   pub short : length (path_of l.instances.all.items i) < most_steps
-  pub live : Live s K ((x.at, x.key) ∷ path_of l.instances.all.items i) b
-  pub inputs : (j : ℕ) → given_at g.inputs.items j i ≡ spot l.instances.all.items i (input_name (call_at s x.at) j)
-  pub outputs : (j : ℕ) → given_at g.outputs.items j i ≡ spot l.instances.all.items i (output_name (call_at s x.at) j)
-  pub origin : Origin s K (path_of l.instances.all.items i) x.at x.key (variable_in g.variables.items)
+  pub live : Live s K ((x.offset, x.key) ∷ path_of l.instances.all.items i) b
+  pub inputs : (j : ℕ) → given_at g.inputs.items j i ≡ spot l.instances.all.items i (input_name (call_at s x.offset) j)
+  pub outputs : (j : ℕ) → given_at g.outputs.items j i ≡ spot l.instances.all.items i (output_name (call_at s x.offset) j)
+  pub origin : Origin s K (path_of l.instances.all.items i) x.offset x.key (variable_in g.variables.items)
 
 -- the child of an instance under a step, which was there, or is opened now
 pub data IsChildOf (l : Learned) (i : ℕ) (x : Step) (g : Given) : Learned → ℕ → Type 0 where
-  was_there : {child : ℕ} → child_at l.instances i x.at x.key ≡ Some child → IsChildOf l i x g l child
-  is_new : {u : Instances} → child_at l.instances i x.at x.key ≡ None → IsOpen l.instances i x g u → IsChildOf l i x g (with_instances l u) (length l.instances.all.items)
+  was_there : {child : ℕ} → child_at l.instances i x.offset x.key ≡ Some child → IsChildOf l i x g l child
+  is_new : {u : Instances} → child_at l.instances i x.offset x.key ≡ None → IsOpen l.instances i x g u → IsChildOf l i x g (with_instances l u) (length l.instances.all.items)

@@ -4,7 +4,7 @@ use Rattle.values.specs.declared.key.Key.{Key}
 use Rattle.language.specs.Core.{Action, range, each}
 use Rattle.language.specs.Facts.{key_value}
 use Rattle.meaning_facts.specs.declared.instances.Variable.{Variable}
-use Rattle.meaning_facts.specs.Chosen.{Chosen, key_in, value_at_turn}
+use Rattle.meaning_cells.specs.Chosen.{Chosen, key_in, value_at_turn}
 
 abbrev pub key_variable : Option ℕ → Key → List Variable
 key_variable (Some t) k = record { node = t; value = key_value k } ∷ []

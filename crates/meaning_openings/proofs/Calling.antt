@@ -12,7 +12,7 @@ use Rattle.language.specs.Members.{◌∈◌}
 use Rattle.language.specs.Parts.{stmt_calls}
 use Rattle.language.specs.Places.{Path, most_steps}
 use Rattle.language.proofs.Members.{either, split_in}
-use Rattle.meaning_facts.specs.Listed.{calls_listed}
+use Rattle.meaning_cells.specs.Listed.{calls_listed}
 use Rattle.meaning_facts.specs.Paths.{path_of}
 use Rattle.meaning_invariants.specs.Active.{Active, active, HasBlock}
 use Rattle.meaning_invariants.specs.Opened.{AreCalled}

@@ -10,7 +10,7 @@ use Rattle.language.specs.Openings.{Branches}
 use Rattle.language.specs.Parts.{stmt_action, stmt_at}
 use Rattle.language.specs.Places.{Path, most_steps}
 use Rattle.meaning_facts.specs.declared.learned.Learned.{Learned}
-use Rattle.meaning_facts.specs.Chosen.{Chosen, chosen_in, count_in}
+use Rattle.meaning_cells.specs.Chosen.{Chosen, chosen_in, count_in}
 use Rattle.meaning_facts.specs.Paths.{path_of}
 use Rattle.meaning_facts.specs.Sighted.{sight_of}
 use Rattle.meaning_invariants.specs.Active.{Active, HasBlock}

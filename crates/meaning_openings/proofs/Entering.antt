@@ -13,8 +13,8 @@ use Rattle.language.specs.Members.{◌∈◌}
 use Rattle.language.specs.WellFormed.{WellFormed}
 use Rattle.language.specs.Places.{most_steps}
 use Rattle.meaning_facts.specs.declared.instances.Given.{Given}
-use Rattle.meaning_facts.specs.declared.instances.Step.{Step}
-use Rattle.meaning_facts.specs.Chosen.{Chosen, block_in, chosen_in, count_in, key_in}
+use Rattle.paths.specs.declared.steps.Step.{Step}
+use Rattle.meaning_cells.specs.Chosen.{Chosen, block_in, chosen_in, count_in, key_in}
 use Rattle.meaning_facts.specs.Paths.{path_of}
 use Rattle.meaning_facts.specs.Sighted.{sight_of}
 use Rattle.meaning_facts.specs.Store.{spots}
@@ -59,7 +59,7 @@ no_step s n old good = record { so = good; goes = goes_nowhere old.learned (task
 
 pub record HasEntered {A : Type 0} (s : Core) (n : ℕ) (old : State A) (i : ℕ) (x : Step) (b : core.Block) (new : State A) : Type 0 where
   pub step : IsStep s n old new
-  pub block : HasBlock new.learned (tasks_of new) i x.at x.key b
+  pub block : HasBlock new.learned (tasks_of new) i x.offset x.key b
 
 -- a block became live
 pub enter_step : {A : Type 0} (s : Core) (n : ℕ) (old new : State A) (i : ℕ) (x : Step) (g : Given) (b : core.Block) → IsGood s n old → IsOpening s (Known s n) old.learned i x g b
@@ -73,7 +73,7 @@ enter_step {A} s n old new i x g b good opening e =
             (subst (λ (z : List Candidate). IsSoFar s (Known s n) 0 new.learned (tasks_of old ++ all_active e.child (block_list b)) z) (sym arrays) h.so);
         goes = subst (λ (z : List Active). GoesOn old.learned (tasks_of old) new.learned z) (sym e.tasks) h.goes;
       };
-      block = subst (λ (z : List Active). HasBlock new.learned z i x.at x.key b) (sym e.tasks) h.block;
+      block = subst (λ (z : List Active). HasBlock new.learned z i x.offset x.key b) (sym e.tasks) h.block;
     }
 
 -- where a path is full no further step is short
@@ -111,7 +111,7 @@ some_same h = cc
 -- the body of a call becomes live
 pub call_step : {A : Type 0} (s : Core) (n : ℕ) (old new : State A) (i : ℕ) (c : core.Call) (b : core.Block) (f : core.Function) (x : Step) (g : Given)
     → WellFormed s → IsGood s n old → (st : Stmt) → active i st ∈ tasks_of old → c ∈ stmt_calls st → slice_get s.functions c.function ≡ Some f → f.body ≡ b
-    → length (path_of old.learned.instances.all.items i) < most_steps → x.at ≡ c.at → x.key ≡ Key.Number (pos 0)
+    → length (path_of old.learned.instances.all.items i) < most_steps → x.offset ≡ c.at → x.key ≡ Key.Number (pos 0)
     → g.inputs.items ≡ spots old.learned.instances.all.items i c.inputs → g.outputs.items ≡ spots old.learned.instances.all.items i c.outputs → g.variables.items ≡ []
     → IsEnteredBy old i x g b new → IsStep s n old new × HasBlock new.learned (tasks_of new) i c.at (Key.Number (pos 0)) f.body
 call_step {A} s n old new i c b f x g w good st m j found body short at key ins outs none e =
@@ -130,7 +130,7 @@ one_function s k f h p q = some_same (sym q ∙ p)
 -- a block that a header opens in a turn becomes live
 pub turn_step : {A : Type 0} (s : Core) (n : ℕ) (old new : State A) (i at node : ℕ) (header : Action) (c : Chosen) (j : ℕ) (b : core.Block) (x : Step) (g : Given)
     → WellFormed s → OffsetsApart s → IsGood s n old → active i (stmt at node header) ∈ tasks_of old → chosen_in (sight_of old.learned i) header ≡ Some c → j < count_in c → block_in header c ≡ Some b
-    → length (path_of old.learned.instances.all.items i) < most_steps → x.at ≡ at → x.key ≡ key_in c j → g.inputs.items ≡ [] → g.outputs.items ≡ [] → g.variables.items ≡ turn_variables header c j
+    → length (path_of old.learned.instances.all.items i) < most_steps → x.offset ≡ at → x.key ≡ key_in c j → g.inputs.items ≡ [] → g.outputs.items ≡ [] → g.variables.items ≡ turn_variables header c j
     → IsEnteredBy old i x g b new → IsStep s n old new × HasBlock new.learned (tasks_of new) i at (key_in c j) b
 turn_step {A} s n old new i at node header c j b x g w offsets good there chosen below block short at_is key ins outs variables e =
     let opening = seen_opening s w offsets (Known s n) 0 old.learned (tasks_of old) (arrays_of old) good i x g short at node header c j b there chosen below block at_is key ins outs variables in

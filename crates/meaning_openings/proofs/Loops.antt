@@ -8,7 +8,7 @@ use Rattle.flow.specs.declared.statement.Range.{Range}
 use Rattle.flow.specs.declared.statement.Variable.{Variable as Declared}
 use Rattle.flow.specs.View.{action_view, block_view, name_view, outer_view}
 use Rattle.language.specs.Core as core
-use Rattle.meaning_facts.specs.Chosen.{Chosen, key_in, value_at_turn}
+use Rattle.meaning_cells.specs.Chosen.{Chosen, key_in, value_at_turn}
 use Rattle.meaning_invariants.specs.Turns.{key_variable, turn_variables}
 
 view_range : {A : Type 0} (r : Box (Range A) A) (v : Declared A) (k : Option (Declared A)) (b : Box (Block A) A)

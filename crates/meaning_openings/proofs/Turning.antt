@@ -6,7 +6,7 @@ use Rattle.language.specs.Core.{Core, Action, stmt}
 use Rattle.language.specs.Members.{◌∈◌}
 use Rattle.language.specs.Places.{Path, most_steps}
 use Rattle.meaning_steps.specs.Environment.{Sight}
-use Rattle.meaning_facts.specs.Chosen.{Chosen, block_in, chosen_in, key_in}
+use Rattle.meaning_cells.specs.Chosen.{Chosen, block_in, chosen_in, key_in}
 use Rattle.meaning_facts.specs.Paths.{path_of}
 use Rattle.meaning_facts.specs.Sighted.{sight_of}
 use Rattle.meaning_invariants.specs.Active.{active, HasBlock}

@@ -9,7 +9,7 @@ use Rattle.language.specs.Members.{◌∈◌}
 use Rattle.language.specs.Parts.{block_list, stmt_action}
 use Rattle.language.specs.Places.{Path}
 use Rattle.meaning_facts.specs.declared.learned.Learned.{Learned}
-use Rattle.meaning_facts.specs.Chosen.{chosen_in, have_come_in}
+use Rattle.meaning_cells.specs.Chosen.{chosen_in, have_come_in}
 use Rattle.meaning_facts.specs.Paths.{path_of}
 use Rattle.meaning_facts.specs.Sighted.{sight_of}
 use Rattle.meaning_invariants.specs.Active.{Active, active, Candidate}

@@ -8,8 +8,8 @@ use Rattle.language.specs.Members.{◌∈◌}
 use Rattle.language.specs.Parts.{block_list}
 use Rattle.language.specs.Places.{most_steps}
 use Rattle.meaning_facts.specs.declared.instances.Given.{Given}
-use Rattle.meaning_facts.specs.declared.instances.Step.{Step}
-use Rattle.meaning_facts.specs.Chosen.{Chosen, block_in, key_in}
+use Rattle.paths.specs.declared.steps.Step.{Step}
+use Rattle.meaning_cells.specs.Chosen.{Chosen, block_in, key_in}
 use Rattle.meaning_facts.specs.Paths.{path_of}
 use Rattle.meaning_invariants.specs.Active.{Active, HasBlock}
 use Rattle.meaning_invariants.specs.Listed.{all_active}

@@ -17,9 +17,10 @@ ghost use Rattle.meaning_openings.specs.Opening.{IsGood, IsMore, IsStep};
 
 use crate::children::enter;
 use flow::cell::Call;
-use meaning_facts::instances::{Given, Step};
-use meaning_facts::parts::calls_of;
+use meaning_cells::parts::calls_of;
+use meaning_facts::instances::Given;
 use meaning_round::state::{Deed, State, Task};
+use paths::Step;
 use std::alloc::{AllocError, Allocator, Global};
 use values::key::Key;
 
@@ -70,7 +71,7 @@ fn open_call<'a, A: Allocator>(
         return Ok(());
     };
     let step = Step {
-        at: call.at,
+        offset: call.at,
         key: Key::Number(0),
     };
     let given = Given {

@@ -7,9 +7,10 @@ ghost use Rattle.meaning_round.specs.Made.{waiting_of};
 ghost use Rattle.meaning_openings.specs.Opening.{IsEnteredBy};
 
 use flow::statement::Block;
-use meaning_facts::instances::{Given, Step};
+use meaning_facts::instances::Given;
 use meaning_facts::learned::Learned;
 use meaning_round::state::State;
+use paths::Step;
 use std::alloc::{AllocError, Allocator, Global};
 
 /// Makes the statements of a block live in the instance under a step.
@@ -44,7 +45,7 @@ fn child_of(
     ensures facts { learned.new.facts ≡ learned.old.facts }
     ensures closed { learned.new.closed ≡ learned.old.closed }
 {
-    match learned.instances.child(parent, step.at, &step.key) {
+    match learned.instances.child(parent, step.offset, &step.key) {
         Some(child) => Ok(child),
         None => {
             let child = learned.instances.open(alloc, parent, step, given)?;

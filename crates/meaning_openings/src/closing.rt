@@ -9,8 +9,8 @@ ghost use Rattle.meaning_round.specs.Made.{arrays_of, candidate_of, tasks_of, te
 
 use flow::name::Owned;
 use flow::script::Flow;
+use meaning_cells::finished::{Body, is_finished};
 use meaning_facts::facts::Place;
-use meaning_facts::finished::{Body, is_finished};
 use meaning_facts::learned::Learned;
 use meaning_round::state::{Array, State};
 use std::alloc::{AllocError, Allocator, Global};

@@ -15,7 +15,7 @@ ghost use Rattle.meaning_openings.specs.Insides.{inside, inside_view};
 use crate::turns::open_choice;
 use flow::name::Name;
 use flow::statement::Action;
-use meaning_facts::choices::{choice_of, have_come};
+use meaning_cells::choices::{choice_of, have_come};
 use meaning_round::state::{Content, Deed, State, Task};
 use std::alloc::{AllocError, Allocator, Global};
 

@@ -6,7 +6,7 @@ ghost use Rattle.language.specs.Core.{Block as CoreBlock, Core, stmt};
 ghost use Rattle.language.specs.Members.{◌∈◌};
 ghost use Rattle.language.specs.Places.{most_steps};
 ghost use Rattle.language.specs.WellFormed.{WellFormed};
-ghost use Rattle.meaning_facts.specs.Chosen.{block_in, choice_view, chosen_in, count_in, key_in, value_at_turn};
+ghost use Rattle.meaning_cells.specs.Chosen.{block_in, choice_view, chosen_in, count_in, key_in, value_at_turn};
 ghost use Rattle.meaning_facts.specs.Paths.{path_of};
 ghost use Rattle.meaning_facts.specs.Sighted.{sight_of};
 ghost use Rattle.meaning_invariants.specs.Active.{active, HasBlock};
@@ -17,9 +17,10 @@ ghost use Rattle.meaning_openings.specs.Opening.{AreTurned, IsGood, IsMore, IsSt
 
 use crate::children::enter;
 use flow::statement::{Action, Block, Variable as Declared};
-use meaning_facts::choices::{Choice, block_of};
-use meaning_facts::instances::{Given, Step, Variable};
+use meaning_cells::choices::{Choice, block_of};
+use meaning_facts::instances::{Given, Variable};
 use meaning_round::state::State;
+use paths::Step;
 use std::alloc::{AllocError, Allocator, Global};
 use values::key::Key;
 use values::value::Scalar;
@@ -75,7 +76,7 @@ fn open_turn<'a, A: Allocator>(
     ensures waiting { waiting_of state.new ≡ waiting_of state.old }
 {
     let step = Step {
-        at,
+        offset: at,
         key: key_at(choice, i)?,
     };
     let given = Given {

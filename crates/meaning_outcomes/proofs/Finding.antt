@@ -17,21 +17,21 @@ use Rattle.language.proofs.Members.{split_in}
 use Rattle.meaning_steps.specs.Environment.{Sees, Sight}
 use Rattle.meaning_steps.specs.News.{Recalls}
 use Rattle.meaning_steps.specs.Taken.{Taken, ReadyBy, by_cells, by_source, by_names}
-use Rattle.meaning_facts.specs.declared.facts.FaultKind.{FaultKind}
-use Rattle.meaning_facts.specs.declared.facts.FaultKind.TheVariants as Kind
+use Rattle.paths.specs.declared.faults.FaultKind.{FaultKind}
+use Rattle.paths.specs.declared.faults.FaultKind.TheVariants as Kind
 use Rattle.meaning_facts.specs.declared.facts.Place.{Place as Spot}
 use Rattle.meaning_facts.specs.declared.learned.Learned.{Learned}
-use Rattle.meaning_facts.specs.Chosen.{chosen_in, has_come_in, have_come_in}
-use Rattle.meaning_facts.specs.Ending.{inserted_by}
+use Rattle.meaning_cells.specs.Chosen.{chosen_in, has_come_in, have_come_in}
+use Rattle.meaning_cells.specs.Ending.{inserted_by}
 use Rattle.meaning_facts.specs.Keeping.{all_kinds, fault_at, has_kind, has_some, past_of, some_fault_at, IsLocated}
 use Rattle.meaning_facts.specs.Kinds.{kind_view}
 use Rattle.meaning_facts.specs.Paths.{path_of, IsTree}
 use Rattle.meaning_facts.specs.Sighted.{sight_of}
 use Rattle.meaning_facts.specs.Store.{value_at, line_at}
-use Rattle.meaning_facts.specs.Taking.{SeesBy}
+use Rattle.meaning_cells.specs.Taking.{SeesBy}
 use Rattle.meaning_facts.proofs.Growing.{both, or_cases, or_right, has_known}
 use Rattle.meaning_facts.proofs.Keeping.{by_located}
-use Rattle.meaning_facts.proofs.Readying.{chosen_ready, ready_chosen}
+use Rattle.meaning_cells.proofs.Readying.{chosen_ready, ready_chosen}
 use Rattle.meaning_invariants.specs.Held.{Holds}
 use Rattle.meaning_invariants.proofs.Fresh.{lined_known, faulted_known}
 use Rattle.meaning_invariants.specs.Active.{HasIndexes}

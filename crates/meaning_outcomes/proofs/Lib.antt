@@ -2,7 +2,6 @@ pub mod Finding
 pub mod Exact
 pub mod Clean
 pub mod Knowing
-pub mod Orders
 pub mod Printed
 pub mod Views
 pub mod Sorted

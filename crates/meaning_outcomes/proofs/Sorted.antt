@@ -8,7 +8,7 @@ use Rattle.std.proofs.lemmas.Option.{none-some, same_Some}
 use Rattle.language.specs.Members.{◌∈◌, first, later}
 use Rattle.language.proofs.Members.{either, split_in, to_left, to_right}
 use Rattle.meaning_outcomes.specs.Lists.{each_once, is_last, IsInOrder, Lists}
-use Rattle.meaning_outcomes.proofs.Orders.{IsOrder}
+use Rattle.paths.proofs.Orders.{IsOrder}
 
 -- MEMBERS OF A PERMUTATION
 

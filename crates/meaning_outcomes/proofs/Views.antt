@@ -12,13 +12,13 @@ use Rattle.language.specs.Members.{◌∈◌, first, later}
 use Rattle.language.specs.Outcomes.{Blocked}
 use Rattle.language.specs.Places.{Path, Place}
 use Rattle.language.proofs.Members.{split_in}
-use Rattle.meaning_facts.specs.contracts.facts.FaultKind as kinds
+use Rattle.paths.specs.contracts.faults.FaultKind as kinds
 use Rattle.meaning_facts.specs.declared.facts.FaultFact.{FaultFact}
-use Rattle.meaning_facts.specs.declared.facts.FaultKind.{FaultKind}
-use Rattle.meaning_facts.specs.declared.facts.FaultKind.TheVariants as Kind
+use Rattle.paths.specs.declared.faults.FaultKind.{FaultKind}
+use Rattle.paths.specs.declared.faults.FaultKind.TheVariants as Kind
 use Rattle.meaning_facts.specs.declared.facts.Facts.{Facts}
 use Rattle.meaning_facts.specs.declared.instances.Instance.{Instance}
-use Rattle.meaning_facts.specs.declared.instances.Step.{Step}
+use Rattle.paths.specs.declared.steps.Step.{Step}
 use Rattle.meaning_facts.specs.Keeping.{place_view}
 use Rattle.meaning_facts.specs.Keeping as keeping
 use Rattle.meaning_facts.specs.Kinds.{kind_view}
@@ -28,14 +28,15 @@ use Rattle.meaning_facts.proofs.Growing.{fault_eq, place_same}
 use Rattle.meaning_round.proofs.Listed.{mapped_in}
 use Rattle.meaning_outcomes.specs.declared.knowledge.Knowledge.{Knowledge}
 use Rattle.meaning_outcomes.specs.declared.knowledge.Stuck.{Stuck}
-use Rattle.meaning_outcomes.specs.declared.order.Fault.{Fault}
-use Rattle.meaning_outcomes.specs.declared.order.Statement.{Statement}
+use Rattle.paths.specs.declared.faults.Fault.{Fault}
+use Rattle.paths.specs.declared.statements.Statement.{Statement}
 use Rattle.meaning_outcomes.specs.Known.{IsKnowledgeOf}
 use Rattle.meaning_outcomes.specs.Lists.{Lists}
-use Rattle.meaning_outcomes.specs.Order.{fault_below, same_fault, same_statement, statement_below}
+use Rattle.paths.specs.Order.{fault_below, same_fault, same_statement, statement_below}
 use Rattle.meaning_outcomes.specs.Read.{held_mark, mark_of, path_of, point_of, stuck_point, AreBlocked, AreFaults, Mark, Point}
-use Rattle.meaning_outcomes.proofs.Told.{fault_is, point_is}
-use Rattle.meaning_outcomes.proofs.Told as told
+use Rattle.paths.proofs.Points.{fault_is, point_is}
+use Rattle.paths.proofs.Points as told
+use Rattle.meaning_outcomes.proofs.Told.{number_own}
 
 -- LISTS THAT ARE TOLD BY THE SAME
 
@@ -80,7 +81,7 @@ both_true true b h k = k
 both_true false b h k = absurd (cc (h))
 
 fault_own : (g : FaultFact) → keeping.same_fault g g ≡ true
-fault_own g = both_true (sameb kinds.the_type g.kind g.kind) _ (same_kind g.kind) (both_true (nat_eq g.at g.at) (same_place g.place g.place) (told.number_own g.at) (place_same g.place))
+fault_own g = both_true (sameb kinds.the_type g.kind g.kind) _ (same_kind g.kind) (both_true (nat_eq g.at g.at) (same_place g.place g.place) (number_own g.at) (place_same g.place))
 
 held_in : (k : Facts) (g : FaultFact) → g ∈ keys k.faults → contains keeping.same_fault k.faults g ≡ true
 held_in k g i = in_any (keeping.same_fault g) (keys k.faults) g i (fault_own g)

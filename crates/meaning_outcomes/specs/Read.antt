@@ -7,16 +7,16 @@ use Rattle.language.specs.Members.{◌∈◌}
 use Rattle.language.specs.Outcomes.{Blocked, Faults}
 use Rattle.language.specs.Places.{Path}
 use Rattle.meaning_facts.specs.declared.facts.FaultFact.{FaultFact}
-use Rattle.meaning_facts.specs.declared.facts.FaultKind.{FaultKind}
+use Rattle.paths.specs.declared.faults.FaultKind.{FaultKind}
 use Rattle.meaning_facts.specs.declared.instances.Instance.{Instance}
 use Rattle.meaning_facts.specs.Kinds.{kind_view}
 use Rattle.meaning_facts.specs.Paths as instances
 use Rattle.meaning_facts.specs.Paths.{step_view}
 use Rattle.meaning_outcomes.specs.declared.knowledge.Stuck.{Stuck}
-use Rattle.meaning_outcomes.specs.declared.order.Fault.{Fault}
-use Rattle.meaning_outcomes.specs.declared.order.Statement.{Statement}
+use Rattle.paths.specs.declared.faults.Fault.{Fault}
+use Rattle.paths.specs.declared.statements.Statement.{Statement}
 use Rattle.meaning_outcomes.specs.Lists.{IsInOrder}
-use Rattle.meaning_outcomes.specs.Order.{fault_below, statement_below}
+use Rattle.paths.specs.Order.{fault_below, statement_below}
 
 -- the path of a statement, the innermost step first
 abbrev pub path_of : Statement → Path

@@ -6,8 +6,8 @@ use Rattle.values.specs.declared.value.Value.TheVariants.{One, Many}
 use Rattle.language.specs.Core.{Cell, Stmt, stmt, Action, declare, call_alone, assign, fill, insert, print, assert, when, choose, range, each, wait}
 use Rattle.language.specs.Parts.{outer_cells}
 use Rattle.meaning_facts.specs.declared.learned.Learned.{Learned}
-use Rattle.meaning_facts.specs.Chosen.{chosen_in, have_come_in}
-use Rattle.meaning_facts.specs.Ending.{is_inserted_in}
+use Rattle.meaning_cells.specs.Chosen.{chosen_in, have_come_in}
+use Rattle.meaning_cells.specs.Ending.{is_inserted_in}
 use Rattle.meaning_facts.specs.Keeping.{some_fault_at}
 use Rattle.meaning_facts.specs.Sighted.{sight_of}
 use Rattle.meaning_facts.specs.Store.{value_at, line_at}

@@ -4,7 +4,8 @@
 pub mod knowledge;
 pub mod laws;
 mod lists;
-pub mod order;
 pub mod reading;
 pub mod settle;
 pub mod stuck;
+
+pub use paths::{Fault, FaultKind, Statement, Step};

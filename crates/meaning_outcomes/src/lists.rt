@@ -2,9 +2,9 @@
 ghost use Rattle.std.specs.Prelude.{◌≡◌, [], IfOk};
 ghost use Rattle.std.specs.Ordering.{is_lt};
 ghost use Rattle.meaning_outcomes.specs.Lists.{each_once, is_last, Lists};
-ghost use Rattle.meaning_outcomes.specs.Order.{fault_below, same_fault, same_statement, statement_below};
+ghost use Rattle.paths.specs.Order.{fault_below, same_fault, same_statement, statement_below};
 
-use crate::order::{Fault, Statement};
+use paths::{Fault, Statement};
 use std::alloc::{AllocError, Global};
 use std::cmp::Ordering;
 

@@ -14,8 +14,7 @@ ghost use Rattle.meaning_outcomes.specs.Read.{held_mark, mark_of, point_of, stuc
 
 use crate::knowledge::Knowledge;
 use crate::lists::{faults_in_order, in_order};
-use crate::order::{Fault, Statement};
-use meaning_facts::instances::Step;
+use paths::{Fault, Statement, Step};
 use std::alloc::{AllocError, Global};
 use values::text::Text;
 
@@ -125,10 +124,7 @@ fn copied(alloc: Global, path: &[Step]) -> Result<Vec<Step>, AllocError>
 {
     let mut steps = Vec::new(alloc);
     for step in path {
-        steps.push(Step {
-            at: step.at,
-            key: step.key.share()?,
-        })?;
+        steps.push(step.share()?)?;
     }
     Ok(steps)
 }

@@ -3,19 +3,19 @@ ghost use Rattle.std.specs.Prelude.{◌≡◌, IfOk, is_some, map};
 ghost use Rattle.flow.specs.View.{action_view, awaited_view};
 ghost use Rattle.language.specs.Core.{no_stmts, stmt, wait};
 ghost use Rattle.meaning_outcomes.specs.Stuck.{fails_among, has_fact, is_stuck_in, is_truth};
-ghost use Rattle.meaning_facts.specs.Chosen.{chosen_in};
+ghost use Rattle.meaning_cells.specs.Chosen.{chosen_in};
 ghost use Rattle.meaning_facts.specs.Sighted.{sight_of};
-ghost use Rattle.meaning_facts.specs.Listed.{outers_listed};
+ghost use Rattle.meaning_cells.specs.Listed.{outers_listed};
 ghost use Rattle.meaning_facts.specs.Store.{value_at};
 
 use flow::cell::Outer;
 use flow::name::Name;
 use flow::statement::Action;
-use meaning_facts::choices::{choice_of, have_come};
+use meaning_cells::choices::{choice_of, have_come};
+use meaning_cells::finished::{is_inserted, is_known};
+use meaning_cells::parts::outers_of;
 use meaning_facts::facts::Place;
-use meaning_facts::finished::{is_inserted, is_known};
 use meaning_facts::learned::Learned;
-use meaning_facts::parts::outers_of;
 use std::alloc::{AllocError, Allocator, Global};
 use values::value::{Scalar, Value};
 

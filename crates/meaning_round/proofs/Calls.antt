@@ -7,7 +7,7 @@ use Rattle.flow.specs.View.{part_view, parts_view}
 use Rattle.language.specs.Core.{Cell, Call, Part, inner, calls, Outer}
 use Rattle.language.specs.Parts.{part_calls, outer_parts}
 use Rattle.meaning_steps.specs.News.{some_call}
-use Rattle.meaning_facts.proofs.Ending.{drop_past}
+use Rattle.meaning_cells.proofs.Ending.{drop_past}
 
 some_append : (cs ds : List Call) → some_call (cs ++ ds) ≡ some_call cs || some_call ds
 some_append [] ds = refl

@@ -40,7 +40,7 @@ use Rattle.meaning_invariants.proofs.Settling as settling
 use Rattle.language_laws.proofs.Hinge.{grows}
 use Rattle.language_laws.proofs.Whole.{later_known, one_scalar_known}
 use Rattle.meaning_facts.specs.declared.facts.Place.{Place as Spot}
-use Rattle.meaning_facts.specs.Ending.{IsDone}
+use Rattle.meaning_cells.specs.Ending.{IsDone}
 use Rattle.meaning_facts.specs.Sighted.{closed_at}
 use Rattle.meaning_facts.specs.Store.{one_writer_in, writes_at}
 use Rattle.meaning_round.specs.Going.{IsTelling, StandsBetween}

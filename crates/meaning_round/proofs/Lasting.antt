@@ -17,7 +17,7 @@ use Rattle.meaning_facts.specs.declared.facts.Fact.TheVariants as Is
 use Rattle.meaning_facts.specs.declared.facts.Facts.{Facts}
 use Rattle.meaning_facts.specs.declared.instances.Given.{Given}
 use Rattle.meaning_facts.specs.declared.instances.Instances.{Instances}
-use Rattle.meaning_facts.specs.declared.instances.Step.{Step}
+use Rattle.paths.specs.declared.steps.Step.{Step}
 use Rattle.meaning_facts.specs.Added.{first_of, IsAdded}
 use Rattle.meaning_facts.specs.Growing.{with_facts}
 use Rattle.meaning_facts.specs.Paths.{IsOpen, IsTree}

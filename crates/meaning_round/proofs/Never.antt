@@ -11,10 +11,10 @@ use Rattle.flow.specs.declared.statement.Block.{Block, out-Block}
 use Rattle.flow.specs.declared.statement.Header.{Header}
 use Rattle.flow.specs.declared.statement.Statement.{Statement, out-Statement}
 use Rattle.flow.specs.View.{call_view, parts_view, waits_around, action_view, block_view, block_of, statement_view, statements_view}
-use Rattle.meaning_facts.specs.Targeted.{same_owned}
-use Rattle.meaning_facts.proofs.Aims.{view_statement}
+use Rattle.meaning_cells.specs.Targeted.{same_owned}
+use Rattle.meaning_cells.proofs.Aims.{view_statement}
 use Rattle.meaning_invariants.specs.Never.{never, never_by, never_in, some_output}
-use Rattle.meaning_facts.proofs.Ending.{drop_past}
+use Rattle.meaning_cells.proofs.Ending.{drop_past}
 use Rattle.meaning_round.specs.Made.{no_calls}
 use Rattle.meaning_round.proofs.Made.{block_seen}
 

@@ -14,7 +14,7 @@ use Rattle.language.specs.Parts.{parts, part_cells, stmt_calls}
 use Rattle.meaning_steps.specs.Environment.{Outcome, outcome}
 use Rattle.meaning_steps.specs.News.{Past, unless, text_in, printed_told, cell_by, branch_by, some_item, some_call}
 use Rattle.meaning_facts.specs.declared.learned.Learned.{Learned}
-use Rattle.meaning_facts.proofs.Ending.{drop_past}
+use Rattle.meaning_cells.proofs.Ending.{drop_past}
 use Rattle.meaning_faults.specs.declared.site.Site.{Site}
 use Rattle.meaning_round.specs.Silence.{all_known, is_done, told_unless, has_told}
 use Rattle.meaning_faults.specs.Faults.{sight_at, past_at, path_at, each_news}

@@ -6,7 +6,7 @@ ghost use Rattle.meaning_round.specs.Made.{no_calls};
 
 use flow::name::Owned;
 use flow::statement::{Action, Block};
-use meaning_facts::targets::is_same;
+use meaning_cells::targets::is_same;
 use std::alloc::Allocator;
 
 /// Whether a variable never ends in what a statement does. Functions that are called are not looked into.

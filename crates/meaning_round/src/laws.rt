@@ -12,7 +12,7 @@ ghost use Rattle.language.specs.Tree.{Tree};
 ghost use Rattle.language.specs.Typing.{WellTyped};
 ghost use Rattle.language.specs.WellFormed.{WellFormed};
 ghost use Rattle.meaning_facts.specs.declared.facts.Place.{Place as Spot};
-ghost use Rattle.meaning_facts.specs.Ending.{IsDone};
+ghost use Rattle.meaning_cells.specs.Ending.{IsDone};
 ghost use Rattle.meaning_facts.specs.Growing.{with_facts};
 ghost use Rattle.meaning_facts.specs.Sighted.{closed_at};
 ghost use Rattle.meaning_facts.specs.Store.{one_writer_in, writes_at};

@@ -13,11 +13,12 @@ use crate::adding::{add_parts, comes};
 use flow::cell::{Outer, Part};
 use flow::name::Name;
 use flow::statement::{Action, Range};
-use meaning_facts::choices::range_of;
-use meaning_facts::facts::{Fact, FaultKind, Write, Written};
+use meaning_cells::choices::range_of;
+use meaning_facts::facts::{Fact, Write, Written, kind_of_operation};
 use meaning_facts::learned::Learned;
 use meaning_faults::faults::{add_deep, add_deep_items, add_fault};
 use meaning_faults::site::Site;
+use paths::FaultKind;
 use std::alloc::{AllocError, Allocator, Global};
 use values::key::Key;
 use values::map::Element;
@@ -304,13 +305,7 @@ fn add_bounds(
 {
     match range_of(values) {
         Some(Ok(range)) if range.count > 0 => add_deep(learned, site, news),
-        Some(Err(fault)) => add_fault(
-            learned,
-            site,
-            FaultKind::of_operation(fault)?,
-            site.node,
-            news,
-        ),
+        Some(Err(fault)) => add_fault(learned, site, kind_of_operation(fault)?, site.node, news),
         _ => Ok(()),
     }
 }

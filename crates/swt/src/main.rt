@@ -1,186 +1,121 @@
 //! `swt`: checks, explains and runs scripts of a profile of Swift/T. Called without words it says how it is called.
 #![tactic(auto)]
 
-mod explain;
-mod left;
-mod progress;
+ghost use Rattle.std.specs.Prelude.{◌≡◌, ◌<◌, ◌⊎◌, []};
+ghost use Rattle.host.specs.Events.{asked, changes, inputs, links, reads};
+ghost use Rattle.swt_arguments.specs.declared.fault.LineFault.TheVariants.{Usage};
+ghost use Rattle.swt_command.specs.Sinks.{Given, held};
+ghost use Rattle.swt_command.specs.Troubles.{trouble_line};
+ghost use Rattle.swt_status.specs.declared.trouble.Trouble.TheVariants.{Memory};
+ghost use Rattle.swt_process.specs.Ends.{Ends};
+ghost use Rattle.swt_process.specs.Process.{IsProcess};
+ghost use Rattle.swt.specs.Keepers.{events_of};
+ghost use Rattle.swt.specs.Outputs.{failures_of, taken_of};
+ghost use Rattle.host_system.specs.Streams as Streams;
 
-use crate::explain::{explain_blocked, explain_fault, explain_meaning};
-use crate::left::left_behind;
+mod ending;
+mod explain;
+mod keeper;
+mod kept;
+mod left;
+mod output;
+mod progress;
+mod troubles;
+
+use crate::ending::Ended;
+use crate::keeper::Keeper;
+use crate::output::Output;
 use crate::progress::Teller;
-use bumpalo::Bump;
-use explain_faults::limits::add_limit_of_steps;
-use explain_refusals::refusal::explained;
-use std::alloc::{AllocError, Global};
-use std::io::{self, Write};
-use std::os::unix::fs::MetadataExt;
-use std::process::ExitCode;
+use host::host::Stream;
+use host_system::stream::Standard;
+use std::alloc::AllocError;
+use std::process::{self, ExitCode};
 use std::sync::Wait;
 use std::thread::Threads;
-use std::{env, fs};
 use swt_arguments::complaint::first_wrong;
 use swt_arguments::fault::LineFault;
 use swt_arguments::line::Line;
+use swt_arguments::nearest::meant;
 use swt_arguments::request::Request;
 use swt_arguments::word::Word;
-use swt_command::buffer::Buffer;
-use swt_command::command::command;
+use swt_command::trouble::tell;
+use swt_process::program::program;
+use swt_process::words::read_words;
 use swt_status::status::Status;
+use swt_status::trouble::Trouble;
 
 fn main(rt: HostRuntime) -> ExitCode {
-    let status = match words(&rt) {
-        Ok(words) => obey(&rt, &rt, words.as_slice()),
-        Err(LineFault::Usage) => say_usage(&rt, &[]),
-        Err(LineFault::Memory) => say(&rt, Status::Memory),
-    };
+    let mut out = Output::new(&rt);
+    let mut err = Standard::new(&rt, Stream::Error);
+    let (status, _host) = obey(&rt, &rt, Keeper::new(&rt), &mut out, &mut err);
     ExitCode::from(status)
 }
 
-/// The program's words, without its own name.
-fn words(rt: &HostRuntime) -> Result<Vec<Word>, LineFault> {
-    let mut words = Vec::new(rt.alloc());
-    match env::args(rt) {
-        Ok(all) => {
-            for word in all.skip(1) {
-                words.push(Word::new(word))?;
-            }
-        }
-        Err(error) if error.kind() == io::ErrorKind::OutOfMemory => return Err(LineFault::Memory),
-        Err(_) => return Err(LineFault::Usage),
-    }
-    Ok(words)
-}
-
-/// Does what the words ask for. The answer is the status of the process.
-fn obey<R: Threads + Wait + Sync>(rt: &HostRuntime, threads: &R, words: &[Word]) -> u8 {
-    match Request::read(rt.alloc(), words) {
-        Ok(request) => {
-            let status = status_of(rt, in_turn(rt, threads, &request));
-            drop(request);
-            status
-        }
-        Err(LineFault::Usage) => say_usage(rt, words),
-        Err(LineFault::Memory) => say(rt, Status::Memory),
-    }
-}
-
-/// The status that a command ended with. Where memory was refused that is said.
-fn status_of(rt: &HostRuntime, ended: Result<u8, AllocError>) -> u8 {
-    match ended {
-        Ok(status) => status,
-        Err(AllocError) => say(rt, Status::Memory),
-    }
-}
-
-/// Does the command, with one arena for all trees. Of a check each file is read, checked and told in turn, up to one that ends
-/// it, so that no more than one is kept. The answer is the status of the process.
-fn in_turn<R: Threads + Wait + Sync>(
-    rt: &HostRuntime,
+/// Does what the words of the command line ask for. The answer is the status of the process, and the system.
+fn obey<'r, R: Threads + Wait + Sync>(
+    rt: &'r HostRuntime,
     threads: &R,
-    request: &Request,
-) -> Result<u8, AllocError> {
-    let mut arena = Bump::new(rt.alloc());
-    let Line::Check { files } = &request.line else {
-        return perform(rt, threads, &mut arena, request);
+    host: Keeper<'r>,
+    out: &mut Output<'r>,
+    err: &mut Standard<'r>,
+) -> (u8, Keeper<'r>)
+    requires none { events_of host ≡ [] }
+    requires out { failures_of out.old < u64.MAX }
+    requires err { Streams.failures_of err.old < u64.MAX }
+    ensures { IsProcess (events_of result.1)
+        (held (taken_of out.old) (failures_of out.old)) (held (taken_of out.new) (failures_of out.new))
+        (held (Streams.taken_of err.old) (Streams.failures_of err.old)) (held (Streams.taken_of err.new) (Streams.failures_of err.new))
+        result.0 }
+{
+    let mut host = host;
+    let words = match read_words(&mut host, rt.alloc()) {
+        Ok(words) => words,
+        Err(fault) => return (decline(rt, &[], fault, err), host),
     };
-    let mut status = Status::Done.number();
-    for file in files.as_slice() {
-        let number = check_one(rt, threads, &mut arena, file, request.explain)?;
-        if number > Status::Refused.number() {
-            return Ok(number);
-        }
-        status = status.max(number);
+    match Request::read(rt.alloc(), words.as_slice()) {
+        Ok(request) => perform(rt, threads, host, &request, out, err),
+        Err(fault) => (decline(rt, words.as_slice(), fault, err), host),
     }
-    Ok(status)
 }
 
-/// Checks this file alone. The answer is the status of that.
-fn check_one<R: Threads + Wait + Sync>(
-    rt: &HostRuntime,
+/// Does what is asked for, and then says what is to be said of its end.
+fn perform<'r, R: Threads + Wait + Sync>(
+    rt: &'r HostRuntime,
     threads: &R,
-    arena: &mut Bump,
-    file: &Word,
-    explain: bool,
-) -> Result<u8, AllocError> {
-    match check_of(rt, file, explain) {
-        Ok(request) => {
-            let status = perform(rt, threads, arena, &request);
-            drop(request);
-            status
-        }
-        Err(_) => Err(AllocError),
-    }
-}
-
-/// The request to check this file alone. `Memory` where memory was refused, and nothing else.
-fn check_of(rt: &HostRuntime, file: &Word, explain: bool) -> Result<Request, LineFault> {
-    let alloc = rt.alloc();
-    let mut words = Vec::new(alloc);
-    words.push(Word::new(String::from_str(alloc, "check")?))?;
-    words.push(file.copy(alloc)?)?;
-    if explain {
-        words.push(Word::new(String::from_str(alloc, "--explain")?))?;
-    }
-    Request::read(alloc, words.as_slice())
-}
-
-/// Does the command, on threads of `threads` where it runs a script, and writes what it printed. The answer is the status of
-/// the process.
-fn perform<R: Threads + Wait + Sync>(
-    rt: &HostRuntime,
-    threads: &R,
-    arena: &mut Bump,
+    host: Keeper<'r>,
     request: &Request,
-) -> Result<u8, AllocError> {
-    let alloc = rt.alloc();
+    out: &mut Output<'r>,
+    err: &mut Standard<'r>,
+) -> (u8, Keeper<'r>)
+    requires reads { reads (events_of host) ≡ [] }
+    requires links { links (events_of host) ≡ [] }
+    requires inputs { inputs (events_of host) ≡ [] }
+    requires changes { changes (events_of host) ≡ [] }
+    requires out { failures_of out.old < u64.MAX }
+    requires err { Streams.failures_of err.old < u64.MAX }
+    ensures ends { Ends request.now.line (events_of result.1)
+        (held (taken_of out.old) (failures_of out.old)) (held (taken_of out.new) (failures_of out.new))
+        (held (Streams.taken_of err.old) (Streams.failures_of err.old)) (held (Streams.taken_of err.new) (Streams.failures_of err.new))
+        result.0 }
+    ensures asked { asked (events_of result.1) ≡ asked (events_of host.entry) }
+{
+    let mut host = host;
     let line = &request.line;
-    if writes_what_it_reads(rt, line)? {
-        return Ok(say(rt, Status::Failed));
-    }
-    let files = read_files(rt, line)?;
-    let mut out = Buffer::new(alloc);
-    let mut err = Buffer::new(alloc);
-    let mut trace = Buffer::new(alloc);
     let teller = Teller::new(rt, request.progress, most_steps(line));
-    let status = command(
-        threads,
-        alloc,
-        arena,
-        line,
-        files.as_slice(),
-        &teller,
-        &mut out,
-        &mut err,
-        &mut trace,
-    );
-    let printed = io::writer(rt).write_all(out.bytes()).is_ok();
-    let _ = rt.stderr().write_all(err.bytes());
-    let is_written = printed && write_file(rt, line, trace.bytes());
-    if request.explain {
-        explain_command(rt, line, files.as_slice(), status, &teller, out.bytes())?;
+    host.want(request);
+    out.want(request.explain);
+    let number = process::id(rt.process());
+    let (status, mut host) = program(threads, rt.alloc(), host, number, line, &teller, out, err);
+    if request.explain || request.json {
+        host.explain(Ended {
+            line,
+            status,
+            teller: &teller,
+            tail: out.tail(),
+            unprinted: out.reason(),
+        });
     }
-    if is_written {
-        Ok(status)
-    } else {
-        Ok(say(rt, Status::Failed))
-    }
-}
-
-/// Says on standard error what is to be said of a command that ended so, and printed this.
-fn explain_command(
-    rt: &HostRuntime,
-    line: &Line,
-    files: &[Option<Vec<u8>>],
-    status: u8,
-    teller: &Teller<'_>,
-    printed: &[u8],
-) -> Result<(), AllocError> {
-    let mut text = Vec::new(rt.alloc());
-    explain_refusals(rt, line, files, &mut text)?;
-    explain_end(rt, line, files, status, teller, printed, &mut text)?;
-    // Where this can't be written, the status says enough.
-    let _ = rt.stderr().write_all(text.as_slice());
-    Ok(())
+    (status, host)
 }
 
 /// The most events that the line's run may have.
@@ -191,187 +126,50 @@ fn most_steps(line: &Line) -> u32 {
     }
 }
 
-/// Adds what is to be said of a command on a script that is accepted, by the status that it ended with and what it printed: of blocked
-/// statements, of faults, and of a limit.
-fn explain_end(
-    rt: &HostRuntime,
-    line: &Line,
-    files: &[Option<Vec<u8>>],
-    status: u8,
-    teller: &Teller<'_>,
-    printed: &[u8],
-    text: &mut Vec<u8>,
-) -> Result<(), AllocError> {
-    let alloc = rt.alloc();
-    let names = line.files(alloc)?;
-    let (Some(name), Some(Some(file))) = (names.as_slice().first(), files.first()) else {
+/// Says why the words are no request, and gives the status of that.
+fn decline(rt: &HostRuntime, words: &[Word], fault: LineFault, err: &mut Standard<'_>) -> u8
+    requires { Streams.failures_of err.old < u64.MAX }
+    ensures { ((result ≡ 2) × (fault ≡ Usage)) ⊎ ((result ≡ 6)
+        × Given (held (Streams.taken_of err.old) (Streams.failures_of err.old)) (trouble_line Memory [])
+        (held (Streams.taken_of err.new) (Streams.failures_of err.new))) }
+{
+    match fault {
+        LineFault::Usage => match say_usage(rt, words) {
+            Ok(()) => Status::Usage.number(),
+            Err(AllocError) => say_no_memory(err),
+        },
+        LineFault::Memory => say_no_memory(err),
+    }
+}
+
+/// Says that memory was refused, and gives the status of that.
+fn say_no_memory(err: &mut Standard<'_>) -> u8
+    requires { Streams.failures_of err.old < u64.MAX }
+    ensures six { result ≡ 6 }
+    ensures said { Given (held (Streams.taken_of err.old) (Streams.failures_of err.old)) (trouble_line Memory [])
+        (held (Streams.taken_of err.new) (Streams.failures_of err.new)) }
+{
+    let _ = tell(Trouble::Memory, "", err);
+    Status::Memory.number()
+}
+
+/// Says which of the words is wrong, and which was meant. Where there are no words, or they ask for help, it says how the program is called.
+fn say_usage(rt: &HostRuntime, words: &[Word]) -> Result<(), AllocError> {
+    // Where this can't be written, the status says enough.
+    let Some(wrong) = first_wrong(words) else {
+        let _ = eprintln!(rt; "{}", LineFault::Usage);
         return Ok(());
     };
-    let (name, script) = (name.as_str(), file.as_slice());
-    match line {
-        Line::Check { .. } | Line::Code { .. } => Ok(()),
-        Line::Mean { rounds, .. } => {
-            if status == Status::Fault.number()
-                || status == Status::Blocked.number()
-                || status == Status::Limit.number()
-            {
-                explain_meaning(alloc, name, script, *rounds, text)?;
-            }
-            Ok(())
+    match meant(rt.alloc(), &wrong)? {
+        Some(name) => {
+            let _ = eprintln!(rt; "{wrong}: did you mean {name}?");
         }
-        Line::Run { .. } | Line::Replay { .. } => {
-            if status == Status::Limit.number() {
-                explain_limit(alloc, name, files, teller, text)
-            } else {
-                explain_run(alloc, name, script, status, printed, text)
-            }
+        None => {
+            let _ = eprintln!(rt; "{wrong}");
         }
     }
-}
-
-/// Adds what is to be said of a run that was not cut off.
-fn explain_run(
-    alloc: Global,
-    name: &str,
-    script: &[u8],
-    status: u8,
-    printed: &[u8],
-    text: &mut Vec<u8>,
-) -> Result<(), AllocError> {
-    if status == Status::Fault.number() {
-        explain_fault(alloc, name, script, printed, text)
-    } else if status == Status::Blocked.number() {
-        explain_blocked(alloc, name, script, text)
-    } else {
-        Ok(())
-    }
-}
-
-/// Adds what was left to be done where a run met its limit, or behind the end of the trace that is the second file.
-fn explain_limit(
-    alloc: Global,
-    name: &str,
-    files: &[Option<Vec<u8>>],
-    teller: &Teller<'_>,
-    text: &mut Vec<u8>,
-) -> Result<(), AllocError> {
-    let left = match files {
-        [Some(script), Some(trace)] => {
-            let Some(left) = left_behind(alloc, script.as_slice(), trace.as_slice())? else {
-                return Ok(());
-            };
-            left
-        }
-        _ => teller.left(),
-    };
-    add_limit_of_steps(text, name, left.events, left.ready, left.running)
-}
-
-/// Adds what is to be said of each script that is refused, up to a file that cannot be read.
-fn explain_refusals(
-    rt: &HostRuntime,
-    line: &Line,
-    files: &[Option<Vec<u8>>],
-    text: &mut Vec<u8>,
-) -> Result<(), AllocError> {
-    let alloc = rt.alloc();
-    let names = line.files(alloc)?;
-    let scripts = match line {
-        Line::Check { .. } => names.len(),
-        _ => 1,
-    };
-    for place in 0..scripts {
-        let (Some(name), Some(Some(bytes))) = (names.as_slice().get(place), files.get(place)) else {
-            break;
-        };
-        explain_refusal(alloc, name.as_str(), bytes.as_slice(), text)?;
+    if wrong.wants_usage() {
+        let _ = eprintln!(rt; "{}", LineFault::Usage);
     }
     Ok(())
-}
-
-/// Adds what is to be said of a script, where it is refused.
-fn explain_refusal(
-    alloc: Global,
-    name: &str,
-    bytes: &[u8],
-    text: &mut Vec<u8>,
-) -> Result<(), AllocError> {
-    match explained(alloc, name, bytes)? {
-        Some(refusal) => text.extend_from_slice(refusal.as_slice()),
-        None => Ok(()),
-    }
-}
-
-/// Whether the trace would be written into the script, by whatever name the line has for it.
-fn writes_what_it_reads(rt: &HostRuntime, line: &Line) -> Result<bool, AllocError> {
-    let Line::Run {
-        file,
-        trace: Some(trace),
-        ..
-    } = line
-    else {
-        return Ok(false);
-    };
-    match (file_of(rt, file)?, file_of(rt, trace)?) {
-        (Some(read), Some(written)) => Ok(read == written),
-        _ => Ok(false),
-    }
-}
-
-/// The device that a file lies on and its number there, where there is such a file.
-fn file_of(rt: &HostRuntime, name: &Word) -> Result<Option<(u64, u64)>, AllocError> {
-    match fs::metadata(rt, name.as_str()) {
-        Ok(found) => Ok(Some((found.dev(), found.ino()))),
-        Err(error) if error.kind() == io::ErrorKind::OutOfMemory => Err(AllocError),
-        Err(_) => Ok(None),
-    }
-}
-
-/// The bytes of each file that the line names to be read, and none for one that cannot be read.
-fn read_files(rt: &HostRuntime, line: &Line) -> Result<Vec<Option<Vec<u8>>>, AllocError> {
-    let alloc = rt.alloc();
-    let mut files = Vec::new(alloc);
-    for name in line.files(alloc)? {
-        files.push(read_file(rt, &name)?)?;
-    }
-    Ok(files)
-}
-
-fn read_file(rt: &HostRuntime, name: &Word) -> Result<Option<Vec<u8>>, AllocError> {
-    match fs::read(rt, name.as_str()) {
-        Ok(bytes) => Ok(Some(bytes)),
-        Err(error) if error.kind() == io::ErrorKind::OutOfMemory => Err(AllocError),
-        Err(_) => Ok(None),
-    }
-}
-
-/// Writes a trace that there is into the file that the line names for it, and says whether that went well.
-fn write_file(rt: &HostRuntime, line: &Line, trace: &[u8]) -> bool {
-    match line {
-        Line::Run {
-            trace: Some(file),
-            ..
-        } if !trace.is_empty() => fs::write(rt, file.as_str(), trace).is_ok(),
-        _ => true,
-    }
-}
-
-/// Says why the process ends, and gives its status.
-fn say(rt: &HostRuntime, status: Status) -> u8 {
-    let text = match status {
-        Status::Memory => "swt: no memory",
-        _ => "swt: cannot write",
-    };
-    let _ = eprintln!(rt; "{text}");
-    status.number()
-}
-
-/// Says which of the words is wrong, and how the program is called, and gives the status of that.
-fn say_usage(rt: &HostRuntime, words: &[Word]) -> u8 {
-    // Where this can't be written, the status says enough.
-    if let Some(wrong) = first_wrong(words) {
-        let _ = eprintln!(rt; "{wrong}");
-    }
-    let _ = eprintln!(rt; "{}", LineFault::Usage);
-    Status::Usage.number()
 }

@@ -1,7 +1,7 @@
 //! How far a run is, said once a second, and what was left to be done where it was cut off.
 
-use crate::left::Left;
 use board_work::work::{Done, Work};
+use explain_faults::limits::Left;
 use std::alloc::AllocError;
 use std::sync::atomic::{AtomicU64, Ordering};
 use std::time::Instant;

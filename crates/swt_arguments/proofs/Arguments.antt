@@ -86,7 +86,12 @@ option_word c w e = each_option c IsWord (all c) w e
 -- a word that is not marked is no flag
 pub unmarked : (w : Text) → marked w ≡ false → (long_of w ≡ None) × (short_of w ≡ None) × (bytes_eq w (45 ∷ 45 ∷ []) ≡ false)
 unmarked [] e = (refl, refl, refl)
-unmarked (x ∷ xs) e = (rw e refl, rw e refl, rw e refl)
+unmarked (x ∷ []) e = go (nat_eq x 45) refl
+  where
+    go : (b : Bool) → nat_eq x 45 ≡ b → (long_of (x ∷ []) ≡ None) × (short_of (x ∷ []) ≡ None) × (bytes_eq (x ∷ []) (45 ∷ 45 ∷ []) ≡ false)
+    go true is = (rw is refl, rw is refl, rw is refl)
+    go false is = (rw is refl, rw is refl, rw is refl)
+unmarked (x ∷ y ∷ xs) e = (rw e refl, rw e refl, rw e refl)
 
 pub marked_name : (w : Text) → marked w ≡ true → is_plain w ≡ true → is_name w ≡ true
 marked_name w m k = elim (or_cases _ _ k) [

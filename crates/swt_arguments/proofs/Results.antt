@@ -1,6 +1,6 @@
 -- What the matches and the errors of a command say of the words.
 use Rattle.std.proofs.Common.{◌≤◌, ◌+◌, length, ◌≡◌, ◌∙◌, arith, ℕ, Bool, true, false, refl, sym, ap, subst, List, [], ◌∷◌, Option, Some, None, inl, inr}
-use Rattle.std.specs.Prelude.{◌||◌, Result, Ok, Err, IsErrAnd, option_to_list, option_map, option_and_then, slice_get, find, cond, fold, codes, unwrap_or, bytes_eq}
+use Rattle.std.specs.Prelude.{◌||◌, ◌&&◌, ◌++◌, Result, Ok, Err, IsErrAnd, option_to_list, option_map, option_and_then, slice_get, find, cond, fold, codes, unwrap_or, bytes_eq}
 use Rattle.std.proofs.lemmas.Bool.{and_parts}
 use Rattle.std.specs.List.{list_all}
 use Rattle.clap.specs.Words.{App, Rule, Row, Text, found_of, kind_of, rows_of}
@@ -21,8 +21,8 @@ use Rattle.swt_arguments.specs.declared.command.Command.{Command}
 use Rattle.swt_arguments.specs.declared.command.Command.TheVariants.{Check, Mean, Code, Run, Replay}
 use Rattle.swt_arguments.specs.Commands.{has_option, options_of}
 use Rattle.swt_numbers.specs.Numbers.{number_given}
-use Rattle.swt_arguments.specs.Words.{Answers, well_formed, files_in, only, optional, values_of}
-use Rattle.swt_arguments.specs.Lines.{command_line, formed_line}
+use Rattle.swt_arguments.specs.Words.{Answers, well_formed, files_in, input_once, only, written, values_of}
+use Rattle.swt_arguments.specs.Lines.{command_line, formed_line, run_line}
 use Rattle.swt_arguments.specs.Reader.{Holds, IsRead, files_given, values_given, refusal, app_with, is_plain}
 use Rattle.swt_arguments.proofs.Arguments.{EachOf, each_option, shape_for, is_reader}
 use Rattle.swt_arguments.proofs.Rows.{kept, tally}
@@ -192,7 +192,7 @@ twice_number least most default [] h = absurd (omega arith)
 twice_number least most default (v ∷ []) h = absurd (omega arith)
 twice_number least most default (v ∷ w ∷ vs) h = refl
 
-twice_text : (vs : List Text) → 2 ≤ length vs → optional vs ≡ None
+twice_text : (vs : List Text) → 2 ≤ length vs → written vs ≡ None
 twice_text [] h = absurd (omega arith)
 twice_text (v ∷ []) h = absurd (omega arith)
 twice_text (v ∷ w ∷ vs) h = refl
@@ -201,16 +201,16 @@ and_then_none : {T U : Type 0} (o : Option T) → option_and_then {T = T} {U = U
 and_then_none None = refl
 and_then_none (Some x) = refl
 
-twice_line : (c : Command) (ws : List Text) (n : ℕ) (o : Text) → has_option c o ≡ true → 2 ≤ length (values_of o false ws) → command_line c ws n ≡ None
-twice_line c ws n o is = each_option c (λ p. 2 ≤ length (values_of p false ws) → command_line c ws n ≡ None) (all c) o is
+twice_line : (c : Command) (ws fs : List Text) (n : ℕ) (o : Text) → has_option c o ≡ true → 2 ≤ length (values_of o false ws) → command_line c ws fs n ≡ None
+twice_line c ws fs n o is = each_option c (λ p. 2 ≤ length (values_of p false ws) → command_line c ws fs n ≡ None) (all c) o is
   where
-    all : (d : Command) → EachOf (λ p. 2 ≤ length (values_of p false ws) → command_line d ws n ≡ None) (options_of d)
+    all : (d : Command) → EachOf (λ p. 2 ≤ length (values_of p false ws) → command_line d ws fs n ≡ None) (options_of d)
     all Check = tt
     all Code = tt
     all Replay = tt
-    all Mean = (λ h. rw (twice_number 1 4294967295 1000000 (values_of (codes "--rounds") false ws) h) (and_then_none (only (files_in false ws))), tt)
+    all Mean = (λ h. rw (twice_number 1 4294967295 1000000 (values_of (codes "--rounds") false ws) h) (and_then_none (only fs)), tt)
     all Run = (
-      λ h. rw (twice_number 1 63 1 (values_of (codes "--engines") false ws) h) (and_then_none (only (files_in false ws))),
+      λ h. rw (twice_number 1 63 1 (values_of (codes "--engines") false ws) h) (and_then_none (only fs)),
       (
         λ h. simp (twice_number 1 63 3 (values_of (codes "--workers") false ws) h, and_then_none) refl,
         (
@@ -220,16 +220,43 @@ twice_line c ws n o is = each_option c (λ p. 2 ≤ length (values_of p false ws
       ),
     )
 
-no_line : (c : Command) (ws : List Text) (n : ℕ) → IsRead c ws (Err Usage) → formed_line c ws n ≡ None
-no_line c ws n (inl form) = rw form refl
-no_line c ws n (inr twice) = rw (twice_line c ws n twice.0 twice.1 twice.2) (one_way (well_formed c false ws) None)
+no_line : (c : Command) (ws behind : List Text) (n : ℕ) → IsRead c ws (Err Usage) → formed_line c ws behind n ≡ None
+no_line c ws behind n (inl form) = rw form refl
+no_line c ws behind n (inr twice) =
+    rw (twice_line c ws (files_in false ws ++ behind) n twice.0 twice.1 twice.2) (one_way (well_formed c false ws && input_once (files_in false ws ++ behind)) None)
 
-answer_at : (c : Command) (ws : List Text) (n : ℕ) (fault : LineFault) → IsRead c ws (Err fault) → Answers {A = Line} (formed_line c ws n) (Err fault)
-answer_at c ws n Usage is = no_line c ws n is
-answer_at c ws n Memory is = tt
+answer_at : (c : Command) (ws behind : List Text) (n : ℕ) (fault : LineFault) → IsRead c ws (Err fault) → Answers {A = Line} (formed_line c ws behind n) (Err fault)
+answer_at c ws behind n Usage is = no_line c ws behind n is
+answer_at c ws behind n Memory is = tt
 
 -- what was not read is no line
-pub failed_line : (c : Command) (ws : List Text) (n : ℕ) (fault : LineFault) (r : Result Line LineFault) → IsRead c ws (Err fault) → IsErrAnd r (λ y. y ≡ fault)
-    → Answers (formed_line c ws n) r
-failed_line c ws n fault (Ok line) is h = absurd h
-failed_line c ws n fault (Err y) is h = rw h (answer_at c ws n fault is)
+pub failed_line : (c : Command) (ws behind : List Text) (n : ℕ) (fault : LineFault) (r : Result Line LineFault) → IsRead c ws (Err fault) → IsErrAnd r (λ y. y ≡ fault)
+    → Answers (formed_line c ws behind n) r
+failed_line c ws behind n fault (Ok line) is h = absurd h
+failed_line c ws behind n fault (Err y) is h = rw h (answer_at c ws behind n fault is)
+
+-- what a run's words and files give is its line
+run_is : (ws behind files : List Text) (n : ℕ) (m : ArgMatches) → Holds Run ws m → files ≡ files_given m ++ behind → input_once files ≡ true
+    → formed_line Run ws behind n
+    ≡ run_line files (values_given m (codes "--engines")) (values_given m (codes "--workers")) (values_given m (codes "--steps")) (values_given m (codes "--trace"))
+run_is ws behind files n m holds are once =
+    let at : files ≡ files_in false ws ++ behind = are ∙ ap (λ fs. fs ++ behind) holds.files in
+    let once_at : input_once (files_in false ws ++ behind) ≡ true = subst (λ fs. input_once fs ≡ true) at once in
+    rw (
+      holds.form,
+      once_at,
+      at,
+      holds.values (codes "--engines") refl,
+      holds.values (codes "--workers") refl,
+      holds.values (codes "--steps") refl,
+      holds.values (codes "--trace") refl,
+    ) refl
+
+pub run_answers : (c : Command) (ws behind files : List Text) (n : ℕ) (m : ArgMatches) (r : Result Line LineFault) → c ≡ Run → Holds c ws m
+    → files ≡ files_given m ++ behind → input_once files ≡ true
+    → Answers {A = Line} (run_line files (values_given m (codes "--engines")) (values_given m (codes "--workers")) (values_given m (codes "--steps")) (values_given m (codes "--trace"))) r
+    → Answers {A = Line} (formed_line c ws behind n) r
+run_answers c ws behind files n m r is holds are once given =
+    let held = subst (λ d. Holds d ws m) is holds in
+    let line = run_is ws behind files n m held are once in
+    subst (λ d. Answers {A = Line} (formed_line d ws behind n) r) (sym is) (subst (λ x. Answers {A = Line} x r) (sym line) given)

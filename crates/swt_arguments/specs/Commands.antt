@@ -25,8 +25,8 @@ options_of Replay = []
 
 -- the options of a command that have no value
 abbrev pub flags_of : Command → List (List ℕ)
-flags_of Code = codes "--dot" ∷ []
-flags_of Check = codes "--explain" ∷ []
+flags_of Code = codes "--dot" ∷ codes "--explain" ∷ []
+flags_of Check = codes "--explain" ∷ codes "--json" ∷ []
 flags_of Mean = codes "--explain" ∷ []
 flags_of Run = codes "--explain" ∷ codes "--progress" ∷ []
 flags_of Replay = codes "--explain" ∷ []

@@ -1,11 +1,11 @@
 -- The line that the words behind a command give.
-use Rattle.std.specs.Prelude.{ℕ, ◌≤◌, List, [], ◌∷◌, false, Option, Some, None, option_and_then, if◌then◌else◌, codes}
+use Rattle.std.specs.Prelude.{ℕ, ◌≤◌, List, [], ◌∷◌, ◌++◌, ◌&&◌, false, Option, Some, None, option_and_then, if◌then◌else◌, codes}
 use Rattle.swt_arguments.specs.declared.command.Command.{Command}
 use Rattle.swt_arguments.specs.declared.command.Command.TheVariants as command
 use Rattle.swt_arguments.specs.declared.line.Line.{Line}
 use Rattle.swt_arguments.specs.declared.line.Line.TheVariants.{Check, Mean, Code, Run, Replay}
 use Rattle.swt_numbers.specs.Numbers.{number_given}
-use Rattle.swt_arguments.specs.Words.{well_formed, files_in, flag_given, values_of, only, optional}
+use Rattle.swt_arguments.specs.Words.{well_formed, files_in, flag_given, input_once, values_of, only, written}
 
 -- `check`, with one or more files
 abbrev pub check_line : List (List ℕ) → Option Line
@@ -32,7 +32,7 @@ run_line files engines workers steps trace =
     option_and_then (λ w.
     option_and_then (λ s.
     option_and_then (λ t. Some (Run file e w s t))
-    (optional trace))
+    (written trace))
     (number_given 0 4294967295 10000000 steps))
     (number_given 1 63 3 workers))
     (number_given 1 63 1 engines))
@@ -45,18 +45,19 @@ replay_line (f ∷ []) = None
 replay_line (f ∷ t ∷ []) = Some (Replay f t)
 replay_line (f ∷ t ∷ u ∷ ws) = None
 
--- a command with the words behind it, and so many options that have no value
-abbrev pub command_line : Command → List (List ℕ) → ℕ → Option Line
-command_line command.Check ws flags = check_line (files_in false ws)
-command_line command.Mean ws flags = mean_line (files_in false ws) (values_of (codes "--rounds") false ws)
-command_line command.Code ws flags = code_line (files_in false ws) flags
-command_line command.Run ws flags = run_line (files_in false ws) (values_of (codes "--engines") false ws) (values_of (codes "--workers") false ws)
+-- a command with the words behind it, its files, and so many options that have no value
+abbrev pub command_line : Command → List (List ℕ) → List (List ℕ) → ℕ → Option Line
+command_line command.Check ws files flags = check_line files
+command_line command.Mean ws files flags = mean_line files (values_of (codes "--rounds") false ws)
+command_line command.Code ws files flags = code_line files flags
+command_line command.Run ws files flags = run_line files (values_of (codes "--engines") false ws) (values_of (codes "--workers") false ws)
     (values_of (codes "--steps") false ws) (values_of (codes "--trace") false ws)
-command_line command.Replay ws flags = replay_line (files_in false ws)
+command_line command.Replay ws files flags = replay_line files
 
--- the same, where the words are well formed
-abbrev pub formed_line : Command → List (List ℕ) → ℕ → Option Line
-formed_line c ws flags = if well_formed c false ws then command_line c ws flags else None
+-- the same with these words and the files behind them, where the words are well formed and standard input is named once at most
+abbrev pub formed_line : Command → List (List ℕ) → List (List ℕ) → ℕ → Option Line
+formed_line c ws behind flags =
+    if well_formed c false ws && input_once (files_in false ws ++ behind) then command_line c ws (files_in false ws ++ behind) flags else None
 
 -- the files that a line names to be read, in order
 abbrev pub files_of : Line → List (List ℕ)

@@ -1,19 +1,15 @@
--- What the words behind the program's name ask for: a line, whether it is to be explained, and whether it shows how far it is.
+-- What the words behind the program's name ask for: a line, whether it is to be explained, whether it shows how far it is, and whether it tells refusals as JSON.
 use Rattle.std.specs.Prelude.{ℕ, Bool, false, List, [], ◌∷◌, Option, Some, None, codes, option_and_then}
 use Rattle.swt_arguments.specs.declared.command.Command.{Command}
 use Rattle.swt_arguments.specs.declared.command.Command.TheVariants.{Check, Mean, Code, Run, Replay}
 use Rattle.swt_arguments.specs.declared.request.Request.{Request}
 use Rattle.swt_arguments.specs.Commands.{command_of}
 use Rattle.swt_arguments.specs.Lines.{formed_line}
-use Rattle.swt_arguments.specs.Words.{flag_given, often, unflagged}
+use Rattle.swt_arguments.specs.Words.{all_divided, before_dashes, behind_dashes, flag_given, often, unflagged}
 
--- whether a command is to explain, with these words behind it; `code` explains nothing
-abbrev pub explain_given : Command → List (List ℕ) → Option Bool
-explain_given Check ws = flag_given (often (codes "--explain") ws)
-explain_given Mean ws = flag_given (often (codes "--explain") ws)
-explain_given Code ws = Some false
-explain_given Run ws = flag_given (often (codes "--explain") ws)
-explain_given Replay ws = flag_given (often (codes "--explain") ws)
+-- whether a command is to explain, with these words behind it
+abbrev pub explain_given : List (List ℕ) → Option Bool
+explain_given ws = flag_given (often (codes "--explain") ws)
 
 -- whether it is to show how far it is; only a run does
 abbrev pub progress_given : Command → List (List ℕ) → Option Bool
@@ -23,15 +19,29 @@ progress_given Code ws = Some false
 progress_given Run ws = flag_given (often (codes "--progress") ws)
 progress_given Replay ws = Some false
 
--- a command with these words behind it
-abbrev pub behind_command : Command → List (List ℕ) → Option Request
-behind_command c ws =
+-- whether it is to tell refusals as JSON; only a check does
+abbrev pub json_given : Command → List (List ℕ) → Option Bool
+json_given Check ws = flag_given (often (codes "--json") ws)
+json_given Mean ws = Some false
+json_given Code ws = Some false
+json_given Run ws = Some false
+json_given Replay ws = Some false
+
+-- a command with these options and files behind it, and behind those more files
+abbrev pub request_with : Command → List (List ℕ) → List (List ℕ) → Option Request
+request_with c ws behind =
     option_and_then (λ line.
     option_and_then (λ explain.
-    option_and_then (λ progress. Some (record { line = line; explain = explain; progress = progress }))
+    option_and_then (λ progress.
+    option_and_then (λ json. Some (record { line = line; explain = explain; progress = progress; json = json }))
+    (json_given c ws))
     (progress_given c ws))
-    (explain_given c ws))
-    (formed_line c (unflagged c ws) (often (codes "--dot") ws))
+    (explain_given ws))
+    (formed_line c (all_divided c (unflagged c ws)) behind (often (codes "--dot") ws))
+
+-- a command with these words behind it
+abbrev pub behind_command : Command → List (List ℕ) → Option Request
+behind_command c ws = request_with c (before_dashes ws) (behind_dashes ws)
 
 -- the words behind the program's name
 abbrev pub request_of : List (List ℕ) → Option Request

@@ -1,10 +1,32 @@
--- The words behind a command: its options, each with its value behind it, and its files.
-use Rattle.std.specs.Prelude.{◌≡◌, ℕ, zero, suc, Bool, true, false, not, ◌&&◌, nat_eq, List, [], ◌∷◌, Option, Some, None, Result, Ok, Err, if◌then◌else◌}
+-- The words behind a command: its options, each with its value behind it or in the same word, and its files.
+use Rattle.std.specs.Prelude.{◌≡◌, ℕ, zero, suc, Bool, true, false, not, ◌&&◌, ◌++◌, nat_eq, nat_le, eqb, List, [], ◌∷◌, Option, Some, None, Result, Ok, Err, codes, if◌then◌else◌}
+use Rattle.std.specs.List.{before_first, after_first}
 use Rattle.std.specs.Str.{bytes_eq}
 use Rattle.swt_arguments.specs.declared.command.Command.{Command}
 use Rattle.swt_arguments.specs.declared.fault.LineFault.{LineFault}
 use Rattle.swt_arguments.specs.declared.fault.LineFault.TheVariants.{Usage, Memory}
 use Rattle.swt_arguments.specs.Commands.{has_option, is_flag}
+
+-- the words in front of the first `--`, among which options stand
+abbrev pub before_dashes : List (List ℕ) → List (List ℕ)
+before_dashes [] = []
+before_dashes (w ∷ ws) = if bytes_eq w (codes "--") then [] else w ∷ before_dashes ws
+
+-- the words behind the first `--`, all of them files
+abbrev pub behind_dashes : List (List ℕ) → List (List ℕ)
+behind_dashes [] = []
+behind_dashes (w ∷ ws) = if bytes_eq w (codes "--") then ws else behind_dashes ws
+
+-- `--option=value` as two words, parted at the first `=`; any other word as it is
+abbrev pub divided : Command → List ℕ → List (List ℕ)
+divided command w =
+    if not (has_option command w) && has_option command (before_first (λ b. eqb b 61) w)
+    then before_first (λ b. eqb b 61) w ∷ after_first (λ b. eqb b 61) w ∷ [] else w ∷ []
+
+-- the words, with each value in a word of its own
+abbrev pub all_divided : Command → List (List ℕ) → List (List ℕ)
+all_divided command [] = []
+all_divided command (w ∷ ws) = divided command w ++ all_divided command ws
 
 -- the words but for the options that have no value
 abbrev pub unflagged : Command → List (List ℕ) → List (List ℕ)
@@ -16,10 +38,19 @@ abbrev pub often : List ℕ → List (List ℕ) → ℕ
 often option [] = 0
 often option (w ∷ ws) = if bytes_eq w option then suc (often option ws) else often option ws
 
--- a word that begins with a dash, as an option does
+-- whether a file that is read is standard input
+abbrev pub is_standard_input : List ℕ → Bool
+is_standard_input w = bytes_eq w (codes "-")
+
+-- standard input is named once at most
+abbrev pub input_once : List (List ℕ) → Bool
+input_once files = nat_le (often (codes "-") files) 1
+
+-- a word that begins with a dash and has more behind it, as an option does
 abbrev pub marked : List ℕ → Bool
 marked [] = false
-marked (c ∷ cs) = nat_eq c 45
+marked (c ∷ []) = false
+marked (c ∷ d ∷ cs) = nat_eq c 45
 
 -- each marked word is an option of the command, and a word that is not marked stands right behind it.
 -- Here and below, the first word itself stands behind an option where `behind` is true
@@ -51,11 +82,11 @@ only [] = None
 only (w ∷ []) = Some w
 only (w ∷ v ∷ ws) = None
 
--- the value of an option that may be absent, and none where there are several
-abbrev pub optional : List (List ℕ) → Option (Option (List ℕ))
-optional [] = Some None
-optional (w ∷ []) = Some (Some w)
-optional (w ∷ v ∷ ws) = None
+-- the file to be written, which may be absent: none where several are given, or `-`
+abbrev pub written : List (List ℕ) → Option (Option (List ℕ))
+written [] = Some None
+written (w ∷ []) = if bytes_eq w (codes "-") then None else Some (Some w)
+written (w ∷ v ∷ ws) = None
 
 -- an answer is what the words give, Usage comes only where they give nothing, and Memory at any words
 abbrev pub Answers : {A : Type 0} → Option A → Result A LineFault → Type 0

@@ -44,9 +44,10 @@ impl Command {
         ensures { result ≡ is_flag self word.now }
     {
         match self {
-            Command::Code => is(word, "--dot"),
+            Command::Code => is(word, "--dot") || is(word, "--explain"),
+            Command::Check => is(word, "--explain") || is(word, "--json"),
             Command::Run => is(word, "--explain") || is(word, "--progress"),
-            Command::Check | Command::Mean | Command::Replay => is(word, "--explain"),
+            Command::Mean | Command::Replay => is(word, "--explain"),
         }
     }
 
@@ -76,6 +77,24 @@ impl Command {
             Command::Code => "code",
             Command::Run => "run",
             Command::Replay => "replay",
+        }
+    }
+
+    /// Its options, those with a value first.
+    pub fn options(self) -> &'static [&'static str] {
+        match self {
+            Command::Check => &["--explain", "--json"],
+            Command::Replay => &["--explain"],
+            Command::Mean => &["--rounds", "--explain"],
+            Command::Code => &["--dot", "--explain"],
+            Command::Run => &[
+                "--engines",
+                "--workers",
+                "--steps",
+                "--trace",
+                "--explain",
+                "--progress",
+            ],
         }
     }
 

@@ -1,7 +1,7 @@
 //! What is wrong with words that are no request.
-ghost use Rattle.std.specs.Prelude.{◌≤◌, length};
 
 use crate::command::Command;
+use crate::request::divided;
 use crate::word::Word;
 use crate::words::is;
 use std::fmt;
@@ -18,7 +18,7 @@ pub enum Wrong {
     NotAnOption(Command),
     /// An option has no value behind it.
     NoValue,
-    /// An option stands twice.
+    /// An option stands twice, or standard input is named twice.
     Twice,
     /// The word is no number of this range.
     NotWithin(u32, u32),
@@ -26,6 +26,8 @@ pub enum Wrong {
     OneTooMany(Command),
     /// The command has too few files behind it.
     TooFew(Command),
+    /// The word is no name of a file that can be written.
+    NotWritable,
 }
 
 /// The first word that is wrong, and why.
@@ -33,6 +35,19 @@ pub enum Wrong {
 pub struct Complaint<'a> {
     pub word: &'a str,
     pub wrong: Wrong,
+}
+
+impl Complaint<'_> {
+    /// Whether it calls for the whole usage: there are no words, or the word asks for help.
+    pub fn wants_usage(&self) -> bool {
+        match self.wrong {
+            Wrong::NoCommand => true,
+            Wrong::NotACommand | Wrong::NotAnOption(_) => {
+                is(self.word, "help") || is(self.word, "--help") || is(self.word, "-h")
+            }
+            _ => false,
+        }
+    }
 }
 
 impl fmt::Display for Complaint<'_> {
@@ -51,6 +66,7 @@ impl fmt::Display for Complaint<'_> {
                 write_command(f, word, " is one file too many for ", command.name())
             }
             Wrong::TooFew(command) => write!(f, "swt: {}", command.wanted()),
+            Wrong::NotWritable => write_command(f, word, " is no name for a trace: write ./", word),
         }
     }
 }
@@ -60,14 +76,14 @@ fn write_word<W: fmt::Write>(f: &mut fmt::Formatter<W>, word: &str, wrong: &str)
     write!(f, "swt: {word}{wrong}")
 }
 
-/// The same, where it is wrong for a command.
+/// The same, where it is wrong for a command, whose name stands at the end, or another word does.
 fn write_command<W: fmt::Write>(
     f: &mut fmt::Formatter<W>,
     word: &str,
     wrong: &str,
-    command: &str,
+    end: &str,
 ) -> fmt::Result {
-    write!(f, "swt: {word}{wrong}{command}")
+    write!(f, "swt: {word}{wrong}{end}")
 }
 
 /// The same, where it is no number of a range.
@@ -100,26 +116,29 @@ pub fn first_wrong(words: &[Word]) -> Option<Complaint<'_>> {
 /// The same of the words behind a command.
 fn behind(command: Command, words: &[Word]) -> Option<Complaint<'_>> {
     let mut waiting: Option<&str> = None;
+    let mut only_files = false;
     let mut files: u64 = 0;
     for place in 0..words.len() {
         let word = words[place].as_str();
-        let wrong = if command.is_flag(word) {
-            twice(word, words, place)
-        } else if is_marked(word) {
+        let before = &words[..place];
+        let wrong = if !only_files && command.is_flag(word) {
+            twice(command, word, before)
+        } else if !only_files && is_marked(word) {
             if let Some(option) = waiting {
-                return Some(no_value(option));
+                return Some(instead_of_value(option, word));
             }
-            waiting = Some(word);
-            wrong_option(command, word, words, place)
+            only_files = is(word, "--");
+            waiting = awaiting(command, word);
+            wrong_option(command, word, before)
         } else if let Some(option) = waiting {
             waiting = None;
             wrong_value(option, word)
         } else {
             files = files.saturating_add(1);
-            wrong_file(command, files)
+            wrong_file(command, word, files, before)
         };
-        if let Some(wrong) = wrong {
-            return Some(Complaint { word, wrong });
+        if wrong.is_some() {
+            return wrong;
         }
     }
     match waiting {
@@ -129,7 +148,16 @@ fn behind(command: Command, words: &[Word]) -> Option<Complaint<'_>> {
 }
 
 fn is_marked(word: &str) -> bool {
-    word.as_bytes().first() == Some(&b'-')
+    matches!(word.as_bytes(), [b'-', _, ..])
+}
+
+/// The option that the next word is the value of, where this is one without a value.
+fn awaiting(command: Command, word: &str) -> Option<&str> {
+    if is(word, "--") || divided(command, word).is_some() {
+        None
+    } else {
+        Some(word)
+    }
 }
 
 fn no_value(word: &str) -> Complaint<'_> {
@@ -139,32 +167,92 @@ fn no_value(word: &str) -> Complaint<'_> {
     }
 }
 
-/// Whether a word stands before a place too.
-fn twice(word: &str, words: &[Word], place: usize) -> Option<Wrong>
-    requires { place ≤ length words.now }
-{
-    if words[..place].iter().any(|other| other.as_str() == word) {
-        Some(Wrong::Twice)
+/// What is wrong with a word that begins with a dash, where the value of an option has to stand.
+fn instead_of_value<'a>(option: &'a str, word: &'a str) -> Complaint<'a> {
+    match range_of(option) {
+        Some((least, most)) if is_below_zero(word) => Complaint {
+            word,
+            wrong: Wrong::NotWithin(least, most),
+        },
+        _ => no_value(option),
+    }
+}
+
+/// Whether a word is a dash with a digit behind it.
+fn is_below_zero(word: &str) -> bool {
+    matches!(word.as_bytes(), [b'-', b'0'..=b'9', ..])
+}
+
+/// Whether a word stands among those before it too, by itself or as the option of `--option=value`.
+fn twice<'a>(command: Command, word: &'a str, before: &[Word]) -> Option<Complaint<'a>> {
+    if before
+        .iter()
+        .any(|other| names(command, other.as_str(), word))
+    {
+        Some(Complaint {
+            word,
+            wrong: Wrong::Twice,
+        })
     } else {
         None
     }
 }
 
-fn wrong_option(command: Command, word: &str, words: &[Word], place: usize) -> Option<Wrong>
-    requires { place ≤ length words.now }
-{
-    if command.has_option(word) {
-        twice(word, words, place)
-    } else {
-        Some(Wrong::NotAnOption(command))
+/// Whether a word is this one, or this option with a value.
+fn names(command: Command, word: &str, option: &str) -> bool {
+    match divided(command, word) {
+        Some((other, _)) => is(other, option),
+        None => is(word, option),
     }
 }
 
-fn wrong_value(option: &str, word: &str) -> Option<Wrong> {
-    let (least, most) = range_of(option)?;
-    match number_within(word, least, most) {
+fn wrong_option<'a>(command: Command, word: &'a str, before: &[Word]) -> Option<Complaint<'a>> {
+    if is(word, "--") {
+        return None;
+    }
+    if let Some((option, value)) = divided(command, word) {
+        let wrong = twice(command, option, before);
+        return if wrong.is_some() {
+            wrong
+        } else {
+            wrong_value(option, value)
+        };
+    }
+    if command.has_option(word) {
+        twice(command, word, before)
+    } else {
+        Some(Complaint {
+            word,
+            wrong: Wrong::NotAnOption(command),
+        })
+    }
+}
+
+fn wrong_value<'a>(option: &'a str, value: &'a str) -> Option<Complaint<'a>> {
+    let Some((least, most)) = range_of(option) else {
+        return wrong_name(value);
+    };
+    if value.is_empty() {
+        return Some(no_value(option));
+    }
+    match number_within(value, least, most) {
         Some(_) => None,
-        None => Some(Wrong::NotWithin(least, most)),
+        None => Some(Complaint {
+            word: value,
+            wrong: Wrong::NotWithin(least, most),
+        }),
+    }
+}
+
+/// What is wrong with the name of a file to be written.
+fn wrong_name(name: &str) -> Option<Complaint<'_>> {
+    if name.as_bytes().first() == Some(&b'-') {
+        Some(Complaint {
+            word: name,
+            wrong: Wrong::NotWritable,
+        })
+    } else {
+        None
     }
 }
 
@@ -181,12 +269,26 @@ fn range_of(option: &str) -> Option<(u32, u32)> {
     }
 }
 
-fn wrong_file(command: Command, files: u64) -> Option<Wrong> {
+fn wrong_file<'a>(
+    command: Command,
+    word: &'a str,
+    files: u64,
+    before: &[Word],
+) -> Option<Complaint<'a>> {
+    if is(word, "-") {
+        let wrong = twice(command, word, before);
+        if wrong.is_some() {
+            return wrong;
+        }
+    }
     match command {
         Command::Check => None,
         Command::Mean | Command::Code | Command::Run if files <= 1 => None,
         Command::Replay if files <= 2 => None,
-        _ => Some(Wrong::OneTooMany(command)),
+        _ => Some(Complaint {
+            word,
+            wrong: Wrong::OneTooMany(command),
+        }),
     }
 }
 

@@ -1,8 +1,8 @@
 //! A command with its files and numbers.
-ghost use Rattle.std.specs.Prelude.{◌≡◌, ◌≤◌, [], ◌∷◌, codes, IfOk};
+ghost use Rattle.std.specs.Prelude.{◌≡◌, ◌≤◌, ◌++◌, [], ◌∷◌, codes, IfOk};
 ghost use Rattle.swt_numbers.specs.Numbers.{number_given};
 ghost use Rattle.swt_arguments.specs.Words.{Answers};
-ghost use Rattle.swt_arguments.specs.Reader.{values_given};
+ghost use Rattle.swt_arguments.specs.Reader.{files_given, values_given};
 ghost use Rattle.swt_arguments.specs.Lines.{formed_line, check_line, mean_line, code_line, run_line, replay_line, files_of, IsInRange};
 
 use crate::command::Command;
@@ -104,18 +104,22 @@ fn copies(alloc: Global, words: &[Word]) -> Result<Vec<Word>, AllocError>
     Ok(copies)
 }
 
-/// The line of a command with these words behind it, and so many options that have no value.
+/// The line of a command with these words behind it, behind them these files, and so many options that have no value.
 pub fn read(
     alloc: Global,
     command: Command,
     words: &[Word],
+    behind: &[Word],
     flags: usize,
 ) -> Result<Line, LineFault>
-    ensures line { Answers (formed_line command words.now flags) result }
+    ensures line { Answers (formed_line command words.now behind.now flags) result }
     ensures in_range { IfOk result IsInRange }
 {
     let matches = reading::read(alloc, command, words)?;
-    let files = reading::files(alloc, &matches)?;
+    let files = all_files(alloc, &matches, behind)?;
+    if !words::input_once(&files) {
+        return Err(LineFault::Usage);
+    }
     match command {
         Command::Check => read_check(files),
         Command::Mean => read_mean(alloc, &files, &matches),
@@ -123,6 +127,17 @@ pub fn read(
         Command::Run => read_run(alloc, &files, &matches),
         Command::Replay => read_replay(alloc, &files),
     }
+}
+
+/// The files among the words that were read, and these behind them.
+fn all_files(alloc: Global, matches: &ArgMatches, behind: &[Word]) -> Result<Vec<Word>, AllocError>
+    ensures { IfOk result (λ files. files.items ≡ files_given matches.now ++ behind.now) }
+{
+    let mut files = reading::files(alloc, matches)?;
+    for word in behind {
+        files.push(word.copy(alloc)?)?;
+    }
+    Ok(files)
 }
 
 fn read_check(names: Vec<Word>) -> Result<Line, LineFault>
@@ -165,7 +180,7 @@ fn read_run(alloc: Global, files: &[Word], matches: &ArgMatches) -> Result<Line,
     let engines = seats(matches, "--engines", 1)?;
     let workers = seats(matches, "--workers", 3)?;
     let steps = number(matches, "--steps", 0, u32::MAX, 10_000_000)?;
-    let trace = words::optional(alloc, matches.get_str("--trace"))?;
+    let trace = words::written(alloc, matches.get_str("--trace"))?;
     Ok(Line::Run {
         file,
         engines,

@@ -33,14 +33,14 @@ fn are_plain(words: &[Word]) -> bool
     words.iter().all(is_plain)
 }
 
-/// Whether the word is a plain one: one that begins with a dash begins with two, has more behind them, and has no `=`. Of
-/// other words `clap` takes `-` for a file, what stands behind `--` for files, and `--option=value` for both.
+/// Whether the word is a plain one: one that begins with a dash and is longer begins with two, has more behind them, and has
+/// no `=`. Of other words `clap` takes what stands behind `--` for files, and `--option=value` for both.
 fn is_plain(word: &Word) -> bool
     ensures { result ≡ is_plain word.now }
 {
     match word.as_str().as_bytes() {
         [b'-', b'-', first, rest @ ..] => *first != b'=' && !rest.contains(&b'='),
-        [b'-', ..] => false,
+        [b'-', _, ..] => false,
         _ => true,
     }
 }

@@ -1,14 +1,14 @@
 //! The command line, read.
-ghost use Rattle.std.specs.Prelude.{◌≡◌, codes, IfOk};
+ghost use Rattle.std.specs.Prelude.{◌≡◌, [], ◌∷◌, codes, IfOk, MatchOption};
 ghost use Rattle.swt_arguments.specs.Lines.{formed_line, IsInRange};
-ghost use Rattle.swt_arguments.specs.Requests.{behind_command, explain_given, progress_given, request_of};
-ghost use Rattle.swt_arguments.specs.Words.{often, unflagged, Answers};
+ghost use Rattle.swt_arguments.specs.Requests.{behind_command, explain_given, json_given, progress_given, request_of, request_with};
+ghost use Rattle.swt_arguments.specs.Words.{all_divided, before_dashes, behind_dashes, divided, often, unflagged, Answers};
 
 use crate::command::Command;
 use crate::fault::LineFault;
 use crate::line::{self, Line};
 use crate::word::Word;
-use crate::words;
+use crate::words::{self, is};
 use std::alloc::{AllocError, Global};
 
 /// What the program is asked for.
@@ -19,6 +19,8 @@ pub struct Request {
     pub explain: bool,
     /// Whether a run is to show how far it is.
     pub progress: bool,
+    /// Whether refusals are to be told as JSON.
+    pub json: bool,
 }
 
 impl Request {
@@ -41,36 +43,110 @@ fn read_command(alloc: Global, command: Command, words: &[Word]) -> Result<Reque
     ensures request { Answers (behind_command command words.now) result }
     ensures in_range { IfOk result (λ request. IsInRange request.line) }
 {
-    let line = read_line(alloc, command, words)?;
-    let explain = explains(command, words)?;
+    let options = before_dashes(alloc, words)?;
+    read_parts(alloc, command, options.as_slice(), behind_dashes(words))
+}
+
+/// The request of a command with these options and files behind it, and behind those more files.
+fn read_parts(
+    alloc: Global,
+    command: Command,
+    words: &[Word],
+    behind: &[Word],
+) -> Result<Request, LineFault>
+    ensures request { Answers (request_with command words.now behind.now) result }
+    ensures in_range { IfOk result (λ request. IsInRange request.line) }
+{
+    let line = read_line(alloc, command, words, behind)?;
+    let explain = explains(words)?;
     let progress = shows_progress(command, words)?;
+    let json = tells_json(command, words)?;
     Ok(Request {
         line,
         explain,
         progress,
+        json,
     })
 }
 
-/// The line of a command with these words behind it.
-fn read_line(alloc: Global, command: Command, words: &[Word]) -> Result<Line, LineFault>
-    ensures line { Answers (formed_line command (unflagged command words.now) (often (codes "--dot") words.now)) result }
+/// The line of a command with these words behind it, and behind them these files.
+fn read_line(
+    alloc: Global,
+    command: Command,
+    words: &[Word],
+    behind: &[Word],
+) -> Result<Line, LineFault>
+    ensures line { Answers (formed_line command (all_divided command (unflagged command words.now)) behind.now
+        (often (codes "--dot") words.now)) result }
     ensures in_range { IfOk result IsInRange }
 {
     let others = unflagged(alloc, command, words)?;
-    line::read(alloc, command, others.as_slice(), often("--dot", words))
+    let parts = all_divided(alloc, command, others.as_slice())?;
+    line::read(
+        alloc,
+        command,
+        parts.as_slice(),
+        behind,
+        words::often("--dot", words),
+    )
 }
 
-/// How often an option stands among the words.
-fn often(option: &str, words: &[Word]) -> usize
-    ensures { result ≡ often option.now words.now }
+/// The words in front of the first `--`.
+fn before_dashes(alloc: Global, words: &[Word]) -> Result<Vec<Word>, AllocError>
+    ensures { IfOk result (λ before. before.items ≡ before_dashes words.now) }
 {
-    let mut count = 0;
+    let mut before = Vec::new(alloc);
     for word in words {
-        if word.as_str() == option {
-            count += 1;
+        if is(word.as_str(), "--") {
+            break;
+        }
+        before.push(word.copy(alloc)?)?;
+    }
+    Ok(before)
+}
+
+/// The words behind the first `--`.
+fn behind_dashes(words: &[Word]) -> &[Word]
+    ensures { result.now ≡ behind_dashes words.now }
+{
+    match words {
+        [] => &[],
+        [first, rest @ ..] if is(first.as_str(), "--") => rest,
+        [_, rest @ ..] => behind_dashes(rest),
+    }
+}
+
+/// The words, with each value in a word of its own.
+fn all_divided(alloc: Global, command: Command, words: &[Word]) -> Result<Vec<Word>, AllocError>
+    ensures { IfOk result (λ parts. parts.items ≡ all_divided command words.now) }
+{
+    let mut parts = Vec::new(alloc);
+    for word in words {
+        match divided(command, word.as_str()) {
+            Some((option, value)) => {
+                parts.push(Word::new(String::from_str(alloc, option)?))?;
+                parts.push(Word::new(String::from_str(alloc, value)?))?;
+            }
+            None => parts.push(word.copy(alloc)?)?,
         }
     }
-    count
+    Ok(parts)
+}
+
+/// The option and the value of a word that is `--option=value`.
+pub(crate) fn divided<'a>(command: Command, word: &'a str) -> Option<(&'a str, &'a str)>
+    ensures { MatchOption result (divided command word.entry.now ≡ word.entry.now ∷ [])
+        (λ parts. divided command word.entry.now ≡ parts.0.now ∷ parts.1.now ∷ []) }
+{
+    if command.has_option(word) {
+        return None;
+    }
+    let (option, value) = word.split_once('=')?;
+    if command.has_option(option) {
+        Some((option, value))
+    } else {
+        None
+    }
 }
 
 /// The words but for the options that have no value.
@@ -86,16 +162,11 @@ fn unflagged(alloc: Global, command: Command, words: &[Word]) -> Result<Vec<Word
     Ok(others)
 }
 
-/// Whether a command is to explain, with these words behind it.
-fn explains(command: Command, words: &[Word]) -> Result<bool, LineFault>
-    ensures { Answers (explain_given command words.now) result }
+/// Whether it is to explain, with these words behind the command.
+fn explains(words: &[Word]) -> Result<bool, LineFault>
+    ensures { Answers (explain_given words.now) result }
 {
-    match command {
-        Command::Code => Ok(false),
-        Command::Check | Command::Mean | Command::Run | Command::Replay => {
-            words::flag(often("--explain", words))
-        }
-    }
+    words::flag(words::often("--explain", words))
 }
 
 /// Whether it is to show how far it is.
@@ -103,7 +174,17 @@ fn shows_progress(command: Command, words: &[Word]) -> Result<bool, LineFault>
     ensures { Answers (progress_given command words.now) result }
 {
     match command {
-        Command::Run => words::flag(often("--progress", words)),
+        Command::Run => words::flag(words::often("--progress", words)),
         Command::Check | Command::Mean | Command::Code | Command::Replay => Ok(false),
+    }
+}
+
+/// Whether it is to tell refusals as JSON.
+fn tells_json(command: Command, words: &[Word]) -> Result<bool, LineFault>
+    ensures { Answers (json_given command words.now) result }
+{
+    match command {
+        Command::Check => words::flag(words::often("--json", words)),
+        Command::Mean | Command::Code | Command::Run | Command::Replay => Ok(false),
     }
 }

@@ -1,6 +1,8 @@
 //! A word of a command line.
 ghost use Rattle.std.specs.Prelude.{◌≡◌, IfOk};
+ghost use Rattle.swt_arguments.specs.Words.{is_standard_input};
 
+use crate::words::is;
 use std::alloc::{AllocError, Global};
 use std::convert::AsStr;
 use std::marker::Model;
@@ -41,6 +43,13 @@ impl Word {
         ensures { result.now ≡ self.now }
     {
         self.text.as_str()
+    }
+
+    /// Whether the word stands for standard input, where it is a file that is read.
+    pub fn is_standard_input(&self) -> bool
+        ensures { result ≡ is_standard_input self.now }
+    {
+        is(self.text.as_str(), "-")
     }
 
     pub fn copy(&self, alloc: Global) -> Result<Word, AllocError>

@@ -2,8 +2,8 @@
 use Rattle.std.proofs.Common.{◌≡◌, ◌∙◌, sym, ap, refl, subst, inl, inr, ◌⊎◌, ℕ, zero, suc, Bool, true, false, List, [], ◌∷◌, arith, Option, Some, None, Result, Ok, Err}
 use Rattle.std.specs.Prelude.{is_some, slice_get}
 use Rattle.task_code.specs.Code.{Code}
-use Rattle.board_instances.specs.declared.place.Fault.{Fault}
-use Rattle.board_instances.specs.declared.place.Statement.{Statement}
+use Rattle.paths.specs.declared.faults.Fault.{Fault}
+use Rattle.paths.specs.declared.statements.Statement.{Statement}
 use Rattle.board_runs.specs.declared.report.End.{End}
 use Rattle.board_runs.specs.declared.report.End.TheVariants as Was
 use Rattle.swt_arguments.specs.declared.line.Line.{Line}
@@ -38,6 +38,7 @@ refused_only Is.Unread e = absurd (omega (arith, e))
 refused_only (Is.Refused r) e = (r, refl)
 refused_only (Is.BadLine n) e = absurd (omega (arith, e))
 refused_only (Is.NotARun n) e = absurd (omega (arith, e))
+refused_only (Is.WrongEnd n) e = absurd (omega (arith, e))
 refused_only Is.BadCount e = absurd (omega (arith, e))
 refused_only Is.NoThread e = absurd (omega (arith, e))
 refused_only Is.Stranger e = absurd (omega (arith, e))
@@ -50,6 +51,7 @@ usage_only Is.Unread e = absurd (omega (arith, e))
 usage_only (Is.Refused r) e = absurd (omega (arith, e))
 usage_only (Is.BadLine n) e = absurd (omega (arith, e))
 usage_only (Is.NotARun n) e = absurd (omega (arith, e))
+usage_only (Is.WrongEnd n) e = absurd (omega (arith, e))
 usage_only Is.BadCount e = refl
 usage_only Is.Memory e = absurd (omega (arith, e))
 usage_only Is.NoThread e = absurd (omega (arith, e))

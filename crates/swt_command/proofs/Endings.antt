@@ -3,8 +3,8 @@ use Rattle.std.proofs.Common.{◌≡◌, ◌∙◌, sym, ap, refl, subst, inl, i
 use Rattle.std.proofs.lemmas.Option.{slice_get-get_or}
 use Rattle.std.specs.Prelude.{slice_get}
 use Rattle.dataflow.specs.System.{In}
-use Rattle.board_instances.specs.declared.place.Fault.{Fault}
-use Rattle.board_instances.specs.declared.place.Statement.{Statement}
+use Rattle.paths.specs.declared.faults.Fault.{Fault}
+use Rattle.paths.specs.declared.statements.Statement.{Statement}
 use Rattle.board_runs.specs.declared.report.End.{End}
 use Rattle.board_runs.specs.declared.report.End.TheVariants as Was
 use Rattle.board_runs.specs.declared.report.Report.{Report}
@@ -39,6 +39,8 @@ not_stopped (Is.BadLine n) (inl e) = omega (arith, e)
 not_stopped (Is.BadLine n) (inr h) = omega (arith, h.1)
 not_stopped (Is.NotARun n) (inl e) = omega (arith, e)
 not_stopped (Is.NotARun n) (inr h) = omega (arith, h.1)
+not_stopped (Is.WrongEnd n) (inl e) = omega (arith, e)
+not_stopped (Is.WrongEnd n) (inr h) = omega (arith, h.1)
 not_stopped Is.BadCount (inl e) = omega (arith, e)
 not_stopped Is.BadCount (inr h) = omega (arith, h.0)
 not_stopped Is.NoThread (inl e) = omega (arith, e)

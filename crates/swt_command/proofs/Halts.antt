@@ -3,15 +3,15 @@ use Rattle.std.proofs.Common.{◌≡◌, ◌∙◌, sym, ap, refl, subst, inl, i
 use Rattle.std.proofs.lemmas.Option.{slice_get-get_or}
 use Rattle.std.specs.Prelude.{is_some}
 use Rattle.task_code.specs.Code.{Code as ScriptCode}
-use Rattle.board_instances.specs.declared.place.Fault.{Fault}
-use Rattle.board_instances.specs.declared.place.Statement.{Statement}
+use Rattle.paths.specs.declared.faults.Fault.{Fault}
+use Rattle.paths.specs.declared.statements.Statement.{Statement}
 use Rattle.board_runs.specs.declared.report.End.{End}
 use Rattle.board_runs.specs.declared.report.End.TheVariants as Was
 use Rattle.board_runs.specs.declared.report.Report.{Report}
 use Rattle.swt_arguments.specs.Lines.{files_of}
 use Rattle.swt_arguments.specs.declared.line.Line.{Line}
 use Rattle.swt_arguments.specs.declared.line.Line.TheVariants as Lines
-use Rattle.swt_trace.specs.Replay.{IsFirstNoStep}
+use Rattle.swt_trace.specs.Replay.{IsFirstNoStep, IsWrongEnd}
 use Rattle.swt_trace.specs.Trace.{IsFirstBad}
 use Rattle.swt_status.specs.declared.refusal.Refusal.{Refusal}
 use Rattle.swt_status.specs.Verdicts.{Verdict}
@@ -22,7 +22,7 @@ use Rattle.swt_status.specs.declared.trouble.Trouble.{Trouble}
 use Rattle.swt_status.specs.declared.trouble.Trouble.TheVariants as Is
 use Rattle.swt_status.specs.Troubles.{trouble_status}
 use Rattle.swt_status.specs.Traces.{StopsAtTrace}
-use Rattle.swt_command.specs.Causes.{HasFailed, IsReplay, IsRun, LacksMemory, PrintedBefore, no_run, no_thread, no_trace, stranger, unprinted, unread, untraced}
+use Rattle.swt_command.specs.Causes.{HasFailed, IsReplay, IsRun, LacksMemory, PrintedBefore, no_run, no_thread, no_trace, stranger, unprinted, unread, untraced, wrong_end}
 use Rattle.swt_command.specs.Checks.{Judged, StopsBy, check_status}
 use Rattle.swt_command.specs.Files.{Files, HasCode, StopsAt, name_at, source_of}
 use Rattle.swt_command.specs.Listings.{StopsListing}
@@ -115,6 +115,7 @@ module _ (line : Line) (files : Files) where
     refused : (r : Refusal) → Behind (Is.Refused r)
     bad_line : (bytes : List ℕ) (n : ℕ) → IsReplay line → source_of files 1 ≡ Some bytes → IsFirstBad bytes n → Behind (Is.BadLine n)
     not_a_run : (code : ScriptCode) (bytes : List ℕ) (n : ℕ) → IsReplay line → HasCode files 0 code → source_of files 1 ≡ Some bytes → IsFirstNoStep code bytes n → Behind (Is.NotARun n)
+    other_end : (code : ScriptCode) (bytes : List ℕ) (n : ℕ) → IsReplay line → HasCode files 0 code → source_of files 1 ≡ Some bytes → IsWrongEnd code bytes n → Behind (Is.WrongEnd n)
     bad_count : Behind Is.BadCount
     not_started : (code : ScriptCode) → IsRun line → HasCode files 0 code → Behind Is.NoThread
     miscounted : (code : ScriptCode) → IsRun line → HasCode files 0 code → Behind Is.Stranger
@@ -136,6 +137,7 @@ module _ (line : Line) (files : Files) where
   at_file (Is.Refused r) h = behind (readable h.1) (refused r)
   at_file (Is.BadLine n) h = absurd h.2
   at_file (Is.NotARun n) h = absurd h.2
+  at_file (Is.WrongEnd n) h = absurd h.2
   at_file Is.BadCount h = absurd h.2
   at_file Is.NoThread h = absurd h.2
   at_file Is.Stranger h = absurd h.2
@@ -151,6 +153,7 @@ mean_stop file files rounds limit out new trace trace_new k Is.Unread h = kept (
 mean_stop file files rounds limit out new trace trace_new k (Is.Refused r) h = kept (at_file (Lines.Mean file rounds) files (Is.Refused r) h.0) h.1 (same h.1) k
 mean_stop file files rounds limit out new trace trace_new k (Is.BadLine n) h = kept (at_file (Lines.Mean file rounds) files (Is.BadLine n) h.0) h.1 (same h.1) k
 mean_stop file files rounds limit out new trace trace_new k (Is.NotARun n) h = kept (at_file (Lines.Mean file rounds) files (Is.NotARun n) h.0) h.1 (same h.1) k
+mean_stop file files rounds limit out new trace trace_new k (Is.WrongEnd n) h = kept (at_file (Lines.Mean file rounds) files (Is.WrongEnd n) h.0) h.1 (same h.1) k
 mean_stop file files rounds limit out new trace trace_new k Is.BadCount h = kept (at_file (Lines.Mean file rounds) files Is.BadCount h.0) h.1 (same h.1) k
 mean_stop file files rounds limit out new trace trace_new k Is.NoThread h = kept (at_file (Lines.Mean file rounds) files Is.NoThread h.0) h.1 (same h.1) k
 mean_stop file files rounds limit out new trace trace_new k Is.Stranger h = kept (at_file (Lines.Mean file rounds) files Is.Stranger h.0) h.1 (same h.1) k
@@ -164,6 +167,7 @@ listing_stop file files dot out new trace trace_new k Is.Unread h = kept (at_fil
 listing_stop file files dot out new trace trace_new k (Is.Refused r) h = kept (at_file (Lines.Code file dot) files (Is.Refused r) h.0) h.1 (same h.1) k
 listing_stop file files dot out new trace trace_new k (Is.BadLine n) h = kept (at_file (Lines.Code file dot) files (Is.BadLine n) h.0) h.1 (same h.1) k
 listing_stop file files dot out new trace trace_new k (Is.NotARun n) h = kept (at_file (Lines.Code file dot) files (Is.NotARun n) h.0) h.1 (same h.1) k
+listing_stop file files dot out new trace trace_new k (Is.WrongEnd n) h = kept (at_file (Lines.Code file dot) files (Is.WrongEnd n) h.0) h.1 (same h.1) k
 listing_stop file files dot out new trace trace_new k Is.BadCount h = kept (at_file (Lines.Code file dot) files Is.BadCount h.0) h.1 (same h.1) k
 listing_stop file files dot out new trace trace_new k Is.NoThread h = kept (at_file (Lines.Code file dot) files Is.NoThread h.0) h.1 (same h.1) k
 listing_stop file files dot out new trace trace_new k Is.Stranger h = kept (at_file (Lines.Code file dot) files Is.Stranger h.0) h.1 (same h.1) k
@@ -179,6 +183,7 @@ module _ (file : List ℕ) (files : Files) (engines workers steps : ℕ) (wanted
   before_run (Is.Refused r) h = at_file (Lines.Run file engines workers steps wanted) files (Is.Refused r) h
   before_run (Is.BadLine n) h = at_file (Lines.Run file engines workers steps wanted) files (Is.BadLine n) h
   before_run (Is.NotARun n) h = at_file (Lines.Run file engines workers steps wanted) files (Is.NotARun n) h
+  before_run (Is.WrongEnd n) h = at_file (Lines.Run file engines workers steps wanted) files (Is.WrongEnd n) h
   before_run Is.BadCount h = behind (readable h.1.1) bad_count
   before_run Is.NoThread h = behind (readable h.1.1) (not_started h.0 tt h.1)
   before_run Is.Stranger h = behind (readable h.1.1) (miscounted h.0 tt h.1)
@@ -192,6 +197,7 @@ module _ (file : List ℕ) (files : Files) (engines workers steps : ℕ) (wanted
   run_stop out new trace trace_new (Is.Refused r) h = kept (before_run (Is.Refused r) h.0) h.1 (same h.1) h.2
   run_stop out new trace trace_new (Is.BadLine n) h = kept (before_run (Is.BadLine n) h.0) h.1 (same h.1) h.2
   run_stop out new trace trace_new (Is.NotARun n) h = kept (before_run (Is.NotARun n) h.0) h.1 (same h.1) h.2
+  run_stop out new trace trace_new (Is.WrongEnd n) h = kept (before_run (Is.WrongEnd n) h.0) h.1 (same h.1) h.2
   run_stop out new trace trace_new Is.BadCount h = kept (before_run Is.BadCount h.0) h.1 (same h.1) h.2
   run_stop out new trace trace_new Is.NoThread h = kept (before_run Is.NoThread h.0) h.1 (same h.1) h.2
   run_stop out new trace trace_new Is.Stranger h = kept (before_run Is.Stranger h.0) h.1 (same h.1) h.2
@@ -207,6 +213,7 @@ module _ (file events : List ℕ) (files : Files) where
   at_trace code has None e (Is.Refused r) h = absurd h
   at_trace code has None e (Is.BadLine n) h = absurd h
   at_trace code has None e (Is.NotARun n) h = absurd h
+  at_trace code has None e (Is.WrongEnd n) h = absurd h
   at_trace code has None e Is.BadCount h = absurd h
   at_trace code has None e Is.NoThread h = absurd h
   at_trace code has None e Is.Stranger h = absurd h
@@ -217,6 +224,7 @@ module _ (file events : List ℕ) (files : Files) where
   at_trace code has (Some bytes) e (Is.Refused r) h = absurd h
   at_trace code has (Some bytes) e (Is.BadLine n) h = bad_line bytes n tt e h
   at_trace code has (Some bytes) e (Is.NotARun n) h = not_a_run code bytes n tt has e h
+  at_trace code has (Some bytes) e (Is.WrongEnd n) h = other_end code bytes n tt has e h
   at_trace code has (Some bytes) e Is.BadCount h = absurd h
   at_trace code has (Some bytes) e Is.NoThread h = absurd h
   at_trace code has (Some bytes) e Is.Stranger h = absurd h
@@ -234,6 +242,7 @@ module _ (file events : List ℕ) (files : Files) where
   replay_stop out new trace trace_new k place (Is.Refused r) h = kept (before_replay place (Is.Refused r) h.0) h.1 (same h.1) k
   replay_stop out new trace trace_new k place (Is.BadLine n) h = kept (before_replay place (Is.BadLine n) h.0) h.1 (same h.1) k
   replay_stop out new trace trace_new k place (Is.NotARun n) h = kept (before_replay place (Is.NotARun n) h.0) h.1 (same h.1) k
+  replay_stop out new trace trace_new k place (Is.WrongEnd n) h = kept (before_replay place (Is.WrongEnd n) h.0) h.1 (same h.1) k
   replay_stop out new trace trace_new k place Is.BadCount h = kept (before_replay place Is.BadCount h.0) h.1 (same h.1) k
   replay_stop out new trace trace_new k place Is.NoThread h = kept (before_replay place Is.NoThread h.0) h.1 (same h.1) k
   replay_stop out new trace trace_new k place Is.Stranger h = kept (before_replay place Is.Stranger h.0) h.1 (same h.1) k
@@ -266,6 +275,7 @@ module _ (names : List (List ℕ)) (files : Files) (vs : List Verdict) (out mid 
   check_stop name None e (Is.Refused r) h = absurd h
   check_stop name None e (Is.BadLine n) h = absurd h
   check_stop name None e (Is.NotARun n) h = absurd h
+  check_stop name None e (Is.WrongEnd n) h = absurd h
   check_stop name None e Is.BadCount h = absurd h
   check_stop name None e Is.NoThread h = absurd h
   check_stop name None e Is.Stranger h = absurd h
@@ -276,6 +286,7 @@ module _ (names : List (List ℕ)) (files : Files) (vs : List Verdict) (out mid 
   check_stop name (Some src) e (Is.Refused r) h = absurd h
   check_stop name (Some src) e (Is.BadLine n) h = absurd h
   check_stop name (Some src) e (Is.NotARun n) h = absurd h
+  check_stop name (Some src) e (Is.WrongEnd n) h = absurd h
   check_stop name (Some src) e Is.BadCount h = absurd h
   check_stop name (Some src) e Is.NoThread h = absurd h
   check_stop name (Some src) e Is.Stranger h = absurd h
@@ -307,6 +318,7 @@ module _ (line : Line) (files : Files) (out out_new err err_new trace trace_new 
       behind_by (refused r) e says = absurd (omega (arith, e))
       behind_by (bad_line bytes n is z b) e says = absurd (omega (arith, e))
       behind_by (not_a_run code bytes n is has z b) e says = absurd (omega (arith, e))
+      behind_by (other_end code bytes n is has z b) e says = absurd (omega (arith, e))
       behind_by bad_count e says = absurd (omega (arith, e))
       behind_by (not_started code is has) e says = absurd (omega (arith, e))
       behind_by (miscounted code is has) e says = absurd (omega (arith, e))
@@ -327,6 +339,7 @@ module _ (line : Line) (files : Files) (out out_new err err_new trace trace_new 
       behind_by (refused r) e says = absurd (omega (arith, e))
       behind_by (bad_line bytes n is z b) e says = no_trace bytes n is z b
       behind_by (not_a_run code bytes n is has z b) e says = no_run code bytes n is has z b
+      behind_by (other_end code bytes n is has z b) e says = wrong_end code bytes n is has z b
       behind_by bad_count e says = absurd (omega (arith, e))
       behind_by (not_started code is has) e says = no_thread code is has (printed, says, traced)
       behind_by (miscounted code is has) e says = stranger code is has (printed, says, traced)

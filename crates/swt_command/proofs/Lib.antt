@@ -5,7 +5,6 @@ pub mod Enough
 pub mod Halts
 pub mod Meanings
 pub mod Meant
-pub mod Plain
 pub mod Printed
 pub mod Refused
 pub mod Reported

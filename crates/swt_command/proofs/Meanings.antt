@@ -5,9 +5,9 @@ use Rattle.language.specs.Facts.{Knowledge}
 use Rattle.language.specs.Meaning.{Known, Meaning}
 use Rattle.headline.specs.Headline.{script_fault, script_path}
 use Rattle.board.specs.Blocked.{path_of}
-use Rattle.board.specs.View.{kind_of_fault}
-use Rattle.board_instances.specs.declared.place.Fault.{Fault}
-use Rattle.board_instances.specs.declared.place.Statement.{Statement}
+use Rattle.board_effects.specs.Effects.{kind_of_fault}
+use Rattle.paths.specs.declared.faults.Fault.{Fault}
+use Rattle.paths.specs.declared.statements.Statement.{Statement}
 use Rattle.swt_arguments.specs.declared.line.Line.TheVariants.{Mean}
 use Rattle.swt_command.specs.declared.told.Told.{Told}
 use Rattle.swt_command.specs.Causes.{Informed, IsDone, LeftBlocked, MetFault}

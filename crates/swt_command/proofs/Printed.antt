@@ -3,7 +3,7 @@ use Rattle.std.proofs.Common.{◌≡◌, ◌∙◌, sym, ap, refl, inl, inr, ◌
 use Rattle.std.specs.Prelude.{Bool, is_some}
 use Rattle.language.specs.Resolved.{core}
 use Rattle.task_code.specs.Code.{Code}
-use Rattle.board_instances.specs.declared.place.Statement.{Statement}
+use Rattle.paths.specs.declared.statements.Statement.{Statement}
 use Rattle.board_runs.specs.declared.report.End.{End}
 use Rattle.board_runs.specs.declared.report.End.TheVariants as Was
 use Rattle.board_runs.specs.declared.report.Report.{Report}
@@ -46,6 +46,7 @@ not_stopped Is.Stranger n is h = is_none_of n 7 is (λ x. omega (arith, x)) (λ 
 not_stopped (Is.Refused r) n is h = is_none_of n 1 is (λ x. omega (arith, x)) (λ x. omega (arith, x)) h
 not_stopped (Is.BadLine m) n is h = is_none_of n 7 is (λ x. omega (arith, x)) (λ x. omega (arith, x)) h
 not_stopped (Is.NotARun m) n is h = is_none_of n 7 is (λ x. omega (arith, x)) (λ x. omega (arith, x)) h
+not_stopped (Is.WrongEnd m) n is h = is_none_of n 7 is (λ x. omega (arith, x)) (λ x. omega (arith, x)) h
 not_stopped Is.BadCount n is h = is_none_of n 2 is (λ x. omega (arith, x)) (λ x. omega (arith, x)) h
 not_stopped Is.Memory n is h = is_none_of n 6 is (λ x. omega (arith, x)) (λ x. omega (arith, x)) h
 not_stopped Is.Unprinted n is h = is_none_of n 7 is (λ x. omega (arith, x)) (λ x. omega (arith, x)) h
@@ -53,7 +54,7 @@ not_stopped Is.Untraced n is h = is_none_of n 7 is (λ x. omega (arith, x)) (λ 
 
 whole_printed : (files : Files) (code : Code) (r : Report) (out new : Held) → HasCode files 0 code → IsOfRun code r → Took out (ReportText r) new → r.end ≡ Was.Quiet → PrintsWhole files out new
 whole_printed files code r out new (src, read, w) reports took quiet =
-    (core w.table w.tree, (src, read, record { table = w.table; tree = w.tree; accepted = w.accepted; is = refl }), (r, whole_report src code r w reports quiet, took))
+    (core w.table w.tree, (src, read, record { table = w.table; tree = w.tree; accepted = w.accepted; is = refl }), (r, quiet, whole_report src code r w reports quiet, took))
 
 run_done : (files : Files) (engines workers steps : ℕ) (wanted : Bool) (done : Result Status Stop) (out out_new trace trace_new : Held) (n : ℕ) → Runs files engines workers steps wanted done out out_new trace trace_new
     → n ≡ number_of (status_of done) → IsQuiet n → PrintsWhole files out out_new

@@ -9,10 +9,10 @@ use Rattle.task_code.specs.Code.{Code}
 use Rattle.task_code.specs.Machine.{CodeState, CodeStep, Run, Quiet}
 use Rattle.task_code.specs.System.{code_system}
 use Rattle.headline.specs.Headline.{Headline, Agrees, PartOfLines, script_path, script_fault}
-use Rattle.board_instances.specs.declared.place.Fault.{Fault}
+use Rattle.paths.specs.declared.faults.Fault.{Fault}
 use Rattle.board.specs.Blocked.{AreBlocked, IsFaultOf, path_of}
 use Rattle.board.specs.Board.{Seen}
-use Rattle.board.specs.View.{kind_of_fault}
+use Rattle.board_effects.specs.Effects.{kind_of_fault}
 use Rattle.board_runs.specs.declared.report.End.{End}
 use Rattle.board_runs.specs.declared.report.End.TheVariants as Ends
 use Rattle.board_runs.specs.declared.report.Report.{Report}

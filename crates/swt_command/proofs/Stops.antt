@@ -2,7 +2,7 @@
 use Rattle.std.proofs.Common.{◌≡◌, refl, sym, subst, ℕ, zero, suc, Bool, true, List, Option, Some, None, Result, Ok, Err}
 use Rattle.std.specs.Prelude.{IsErrAnd, MatchResult}
 use Rattle.board_runs.specs.declared.report.Report.{Report}
-use Rattle.swt_trace.specs.Report.{ReportText}
+use Rattle.swt_trace.specs.Report.{ReportText, TraceOf}
 use Rattle.task_code.specs.Code.{Code}
 use Rattle.swt_status.specs.declared.status.Status.{Status}
 use Rattle.swt_status.specs.Statuses.{report_status}
@@ -16,7 +16,6 @@ use Rattle.swt_command.specs.Means.{StopsMean}
 use Rattle.workers.specs.declared.fault.RunFault.{RunFault}
 use Rattle.workers.specs.declared.fault.RunFault.TheVariants as Run
 use Rattle.swt_trace.specs.Replay.{ReplaysTo}
-use Rattle.swt_trace.specs.Trace.{TraceText}
 use Rattle.swt_command.specs.Runs.{IsBadCount, Ran, Replayed, Runs, StopsBeforeReplay, StopsBeforeRun, StopsReplay, StopsRun, Traces}
 use Rattle.swt_command.specs.Sinks.{Held, Lost, Took}
 use Rattle.swt_command.specs.Troubles.{run_trouble}
@@ -27,6 +26,7 @@ mean_stopped files limit Is.Unread out h = (h, refl)
 mean_stopped files limit (Is.Refused r) out h = (h, refl)
 mean_stopped files limit (Is.BadLine n) out h = (h, refl)
 mean_stopped files limit (Is.NotARun n) out h = (h, refl)
+mean_stopped files limit (Is.WrongEnd n) out h = (h, refl)
 mean_stopped files limit Is.BadCount out h = (h, refl)
 mean_stopped files limit Is.NoThread out h = (h, refl)
 mean_stopped files limit Is.Stranger out h = (h, refl)
@@ -39,6 +39,7 @@ listing_stopped files Is.Unread out h = (h, refl)
 listing_stopped files (Is.Refused r) out h = (h, refl)
 listing_stopped files (Is.BadLine n) out h = (h, refl)
 listing_stopped files (Is.NotARun n) out h = (h, refl)
+listing_stopped files (Is.WrongEnd n) out h = (h, refl)
 listing_stopped files Is.BadCount out h = (h, refl)
 listing_stopped files Is.NoThread out h = (h, refl)
 listing_stopped files Is.Stranger out h = (h, refl)
@@ -51,6 +52,7 @@ run_stopped files engines workers steps wanted Is.Unread out trace h = (h, refl,
 run_stopped files engines workers steps wanted (Is.Refused r) out trace h = (h, refl, refl)
 run_stopped files engines workers steps wanted (Is.BadLine n) out trace h = (h, refl, refl)
 run_stopped files engines workers steps wanted (Is.NotARun n) out trace h = (h, refl, refl)
+run_stopped files engines workers steps wanted (Is.WrongEnd n) out trace h = (h, refl, refl)
 run_stopped files engines workers steps wanted Is.BadCount out trace h = (h, refl, refl)
 run_stopped files engines workers steps wanted Is.NoThread out trace h = (h, refl, refl)
 run_stopped files engines workers steps wanted Is.Stranger out trace h = (h, refl, refl)
@@ -60,7 +62,7 @@ run_stopped files engines workers steps wanted Is.Untraced out trace h = absurd 
 
 -- a run whose report was printed, by what came of its trace
 pub run_traced : (files : Files) (engines workers steps : ℕ) (wanted : Bool) (report : Report) (r : Result Status Stop) (out out_new trace trace_new : Held) → Ran files engines workers steps report → Took out (ReportText report) out_new
-    → MatchResult r (λ status. (status ≡ report_status report) × Traces wanted report trace trace_new) (λ stop. (stop.place ≡ 0) × (stop.trouble ≡ Is.Untraced) × (wanted ≡ true) × Lost trace (TraceText report.history.items) trace_new)
+    → MatchResult r (λ status. (status ≡ report_status report) × Traces wanted report trace trace_new) (λ stop. (stop.place ≡ 0) × (stop.trouble ≡ Is.Untraced) × (wanted ≡ true) × Lost trace (TraceOf report) trace_new)
     → Runs files engines workers steps wanted r out out_new trace trace_new
 run_traced files engines workers steps wanted report (Ok status) out out_new trace trace_new ran took h = (report, ran, h.0, took, h.1)
 run_traced files engines workers steps wanted report (Err stop) out out_new trace trace_new ran took h =
@@ -72,6 +74,7 @@ before_run files engines workers Is.Unread h = h
 before_run files engines workers (Is.Refused r) h = h
 before_run files engines workers (Is.BadLine n) h = h
 before_run files engines workers (Is.NotARun n) h = h
+before_run files engines workers (Is.WrongEnd n) h = h
 before_run files engines workers Is.BadCount h = absurd h.2
 before_run files engines workers Is.NoThread h = absurd h.2
 before_run files engines workers Is.Stranger h = absurd h.2
@@ -120,6 +123,7 @@ replay_stopped files place Is.Unread out h = (h, refl)
 replay_stopped files place (Is.Refused r) out h = (h, refl)
 replay_stopped files place (Is.BadLine n) out h = (h, refl)
 replay_stopped files place (Is.NotARun n) out h = (h, refl)
+replay_stopped files place (Is.WrongEnd n) out h = (h, refl)
 replay_stopped files place Is.BadCount out h = (h, refl)
 replay_stopped files place Is.NoThread out h = (h, refl)
 replay_stopped files place Is.Stranger out h = (h, refl)

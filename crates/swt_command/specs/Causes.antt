@@ -2,14 +2,14 @@
 use Rattle.std.specs.Prelude.{◌≡◌, ◌⊎◌, ℕ, ◌<◌, true, false, List, [], length, Some, None}
 use Rattle.dataflow.specs.System.{In}
 use Rattle.task_code.specs.Code.{Code as ScriptCode}
-use Rattle.board_instances.specs.declared.place.Fault.{Fault}
-use Rattle.board_instances.specs.declared.place.Statement.{Statement}
+use Rattle.paths.specs.declared.faults.Fault.{Fault}
+use Rattle.paths.specs.declared.statements.Statement.{Statement}
 use Rattle.board_runs.specs.declared.report.End.TheVariants as Was
 use Rattle.board_runs.specs.declared.report.Report.{Report}
 use Rattle.swt_arguments.specs.Lines.{files_of}
 use Rattle.swt_arguments.specs.declared.line.Line.{Line}
 use Rattle.swt_arguments.specs.declared.line.Line.TheVariants.{Check, Mean, Code, Run, Replay}
-use Rattle.swt_trace.specs.Replay.{IsFirstNoStep}
+use Rattle.swt_trace.specs.Replay.{IsFirstNoStep, IsWrongEnd}
 use Rattle.swt_trace.specs.Report.{ReportText}
 use Rattle.swt_trace.specs.Trace.{IsFirstBad}
 use Rattle.swt_status.specs.declared.refusal.Refusal.{Refusal}
@@ -108,11 +108,12 @@ module _ (line : Line) (files : Files) (out out_new err err_new trace trace_new 
   abbrev pub LacksMemory : Type 0
   LacksMemory = Stopped Is.Memory line files out out_new err err_new trace trace_new
 
-  -- a file cannot be read, the second is no trace or none of a run of the script, a write failed, a thread could not be started, or the counts of threads are not what the board shows
+  -- a file cannot be read, the second is no trace, none of a run of the script or one that names another end than that run has, a write failed, a thread could not be started, or the counts of threads are not what the board shows
   pub data HasFailed : Type 0 where
     unread : (place : ℕ) → place < length (files_of line) → source_of files place ≡ None → HasFailed
     no_trace : (bytes : List ℕ) (n : ℕ) → IsReplay line → source_of files 1 ≡ Some bytes → IsFirstBad bytes n → HasFailed
     no_run : (code : ScriptCode) (bytes : List ℕ) (n : ℕ) → IsReplay line → HasCode files 0 code → source_of files 1 ≡ Some bytes → IsFirstNoStep code bytes n → HasFailed
+    wrong_end : (code : ScriptCode) (bytes : List ℕ) (n : ℕ) → IsReplay line → HasCode files 0 code → source_of files 1 ≡ Some bytes → IsWrongEnd code bytes n → HasFailed
     unprinted : out.failures < out_new.failures → HasFailed
     untraced : trace.failures < trace_new.failures → HasFailed
     no_thread : (code : ScriptCode) → IsRun line → HasCode files 0 code → Stopped Is.NoThread line files out out_new err err_new trace trace_new → HasFailed

@@ -5,7 +5,6 @@ pub mod Listings
 pub mod Means
 pub mod OneThread
 pub mod Owes
-pub mod Plain
 pub mod Runs
 pub mod Sinks
 pub mod Troubles

@@ -4,8 +4,6 @@ use Rattle.std.specs.Cmp.Lexicographic.{slice_cmp}
 use Rattle.std.specs.List.{flat_map}
 use Rattle.std.specs.Ordering.{nat_cmp}
 use Rattle.dataflow.specs.System.{In}
-use Rattle.values.specs.declared.fault.OpFault.{OpFault}
-use Rattle.values.specs.declared.fault.OpFault.TheVariants as Of
 use Rattle.language.specs.Core.{Core}
 use Rattle.language.specs.Facts as Facts
 use Rattle.language.specs.Facts.{Knowledge}
@@ -13,13 +11,11 @@ use Rattle.language.specs.Meaning.{IsFinished, Known, Meaning}
 use Rattle.language.specs.Outcomes.{Blocked, Faults, Lines}
 use Rattle.language.specs.Places.{Path}
 use Rattle.headline.specs.Headline.{script_fault, script_path}
-use Rattle.board.specs.Blocked.{InTextOrder, path_below, path_of}
-use Rattle.board.specs.View.{kind_of_fault}
-use Rattle.board_instances.specs.declared.place.Fault.{Fault}
-use Rattle.board_instances.specs.declared.place.FaultKind.{FaultKind}
-use Rattle.board_instances.specs.declared.place.FaultKind.TheVariants.{OfEntry, ElementTwice}
-use Rattle.board_instances.specs.declared.place.Statement.{Statement}
-use Rattle.board_compute.specs.declared.outcome.EntryFault.TheVariants.{InOperation, NoElement, TooDeep}
+use Rattle.board.specs.Blocked.{InTextOrder, path_of}
+use Rattle.board_effects.specs.Effects.{kind_of_fault}
+use Rattle.paths.specs.Order.{fault_number, path_below}
+use Rattle.paths.specs.declared.faults.Fault.{Fault}
+use Rattle.paths.specs.declared.statements.Statement.{Statement}
 use Rattle.swt_trace.specs.Report.{blocked_line, fault_line, limit_line, text_line}
 use Rattle.swt_status.specs.declared.status.Status.{Status}
 use Rattle.swt_status.specs.declared.status.Status.TheVariants as Ends
@@ -55,24 +51,9 @@ mean_status t = status_by t.blocked.items t.faults.items t.enough
 
 -- WHAT IS TOLD
 
-abbrev pub operation_number : OpFault → ℕ
-operation_number Of.Overflow = 1
-operation_number Of.DivideByZero = 2
-operation_number Of.BadStep = 5
-operation_number Of.NotANumber = 7
-operation_number Of.AssertFailed = 8
-operation_number Of.Memory = 9
-
--- the number of a kind of fault
-abbrev pub kind_number : FaultKind → ℕ
-kind_number (OfEntry (InOperation f)) = operation_number f
-kind_number (OfEntry NoElement) = 3
-kind_number ElementTwice = 4
-kind_number (OfEntry TooDeep) = 6
-
 -- of one path: by the offset of the statement, and then by number
 abbrev pub behind_it : Fault → Fault → Bool
-behind_it f g = nat_lt f.statement.at g.statement.at || (nat_eq f.statement.at g.statement.at && nat_lt (kind_number f.kind) (kind_number g.kind))
+behind_it f g = nat_lt f.statement.at g.statement.at || (nat_eq f.statement.at g.statement.at && nat_lt (fault_number f.kind) (fault_number g.kind))
 
 -- a fault comes before another: by its path, and then so
 abbrev pub fault_before : Fault → Fault → Type 0

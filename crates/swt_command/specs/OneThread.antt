@@ -8,10 +8,10 @@ use Rattle.language.specs.Outcomes.{Blocked, Clean, Faults, Lines}
 use Rattle.language.specs.Places.{Path}
 use Rattle.task_code.specs.Places.{Step}
 use Rattle.headline.specs.Headline.{PartOfLines, script_path, script_fault}
-use Rattle.board_instances.specs.declared.place.Fault.{Fault}
-use Rattle.board_instances.specs.declared.place.Statement.{Statement}
+use Rattle.paths.specs.declared.faults.Fault.{Fault}
+use Rattle.paths.specs.declared.statements.Statement.{Statement}
 use Rattle.board.specs.Blocked.{InTextOrder, path_of}
-use Rattle.board.specs.View.{kind_of_fault}
+use Rattle.board_effects.specs.Effects.{kind_of_fault}
 use Rattle.board_runs.specs.declared.report.End.TheVariants as Was
 use Rattle.board_runs.specs.declared.report.Report.{Report}
 use Rattle.swt_trace.specs.Report.{ReportText}
@@ -40,6 +40,6 @@ pub record IsMeant (s : Core) (r : Report) : Type 0 where
 abbrev pub IsMeantBy : Files → Report → Type 0
 IsMeantBy files r = (s : Core) × HasScript files 0 s × IsMeant s r
 
--- the text of a report was printed that has all that the first file's script means
+-- the text of a report was printed that ends quiet and has all that the first file's script means
 abbrev pub PrintsWhole : Files → (out new : Held) → Type 0
-PrintsWhole files out new = (s : Core) × HasScript files 0 s × ((r : Report) × IsWhole s r × Took out (ReportText r) new)
+PrintsWhole files out new = (s : Core) × HasScript files 0 s × ((r : Report) × (r.end ≡ Was.Quiet) × IsWhole s r × Took out (ReportText r) new)

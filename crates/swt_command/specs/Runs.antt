@@ -3,8 +3,7 @@ use Rattle.std.specs.Prelude.{◌≡◌, ◌⊎◌, ℕ, zero, suc, ◌+◌, ◌
 use Rattle.task_code.specs.Code.{Code}
 use Rattle.board_runs.specs.declared.report.Report.{Report}
 use Rattle.swt_trace.specs.Replay.{ReplaysTo}
-use Rattle.swt_trace.specs.Report.{ReportText}
-use Rattle.swt_trace.specs.Trace.{TraceText}
+use Rattle.swt_trace.specs.Report.{ReportText, TraceOf}
 use Rattle.workers.specs.declared.run.PoolCount.{PoolCount}
 use Rattle.workers.specs.Reports.{IsReport}
 use Rattle.swt_status.specs.declared.status.Status.{Status}
@@ -32,7 +31,7 @@ Ran files engines workers steps r = (code : Code) × HasCode files 0 code × ¬ 
 
 -- the trace was written where it is wanted
 abbrev pub Traces : (wanted : Bool) → Report → Held → Held → Type 0
-Traces true r trace new = Took trace (TraceText r.history.items) new
+Traces true r trace new = Took trace (TraceOf r) new
 Traces false r trace new = Kept trace new
 
 -- before there is a report: the file cannot be read or its script is refused, there cannot be so many engines and workers, a thread could not be started, the threads' counts are not what the board shows, or memory was refused
@@ -47,7 +46,7 @@ abbrev pub StopsRun : Files → (engines workers steps : ℕ) → (wanted : Bool
 StopsRun files engines workers steps wanted Is.Unprinted out out_new trace trace_new =
     (r : Report) × Ran files engines workers steps r × Lost out (ReportText r) out_new × Kept trace trace_new
 StopsRun files engines workers steps wanted Is.Untraced out out_new trace trace_new =
-    (r : Report) × Ran files engines workers steps r × Took out (ReportText r) out_new × (wanted ≡ true) × Lost trace (TraceText r.history.items) trace_new
+    (r : Report) × Ran files engines workers steps r × Took out (ReportText r) out_new × (wanted ≡ true) × Lost trace (TraceOf r) trace_new
 StopsRun files engines workers steps wanted trouble out out_new trace trace_new = StopsBeforeRun files engines workers trouble × Kept out out_new × Kept trace trace_new
 
 -- the report was printed, and then its trace was written where it is wanted; or the command stops

@@ -49,7 +49,7 @@ pub fn check<O: Sink>(
 }
 
 /// The status behind a file of which this is said.
-fn after(refusal: Option<Refusal>, status: Status) -> Status
+pub fn after(refusal: Option<Refusal>, status: Status) -> Status
     ensures { result ≡ after refusal status }
 {
     match refusal {
@@ -58,8 +58,12 @@ fn after(refusal: Option<Refusal>, status: Status) -> Status
     }
 }
 
-/// Says whether the file of a place is accepted, and gives its refusal.
-fn check_file<O: Sink>(
+/// Says whether the file of a place is accepted, and gives its refusal. Its tree lies in the arena until the answer.
+///
+/// # Errors
+///
+/// `Unread`, `Memory`, or `Unprinted` where the line could not be written.
+pub fn check_file<O: Sink>(
     alloc: Global,
     arena: &Bump,
     name: &str,

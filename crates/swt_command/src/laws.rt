@@ -7,7 +7,7 @@ ghost use Rattle.language.specs.Outcomes.{Clean};
 ghost use Rattle.language.specs.Resolved.{core};
 ghost use Rattle.headline.specs.Headline.{PartOfLines};
 ghost use Rattle.task_code.specs.Code.{Code};
-ghost use Rattle.board_instances.specs.declared.place.Fault.{Fault};
+ghost use Rattle.paths.specs.declared.faults.Fault.{Fault};
 ghost use Rattle.board_runs.specs.declared.report.End.TheVariants as Ends;
 ghost use Rattle.board_runs.specs.declared.report.Report.{Report};
 ghost use Rattle.board_runs.specs.Report.{Reports};

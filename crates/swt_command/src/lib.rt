@@ -3,7 +3,7 @@
 
 mod arena;
 pub mod buffer;
-mod check;
+pub mod check;
 mod code;
 pub mod command;
 pub mod laws;

@@ -1,6 +1,6 @@
 //! Runs of scripts.
 ghost use Rattle.std.specs.Prelude.{◌≡◌, ◌<◌, true, MatchResult};
-ghost use Rattle.swt_trace.specs.Trace.{TraceText};
+ghost use Rattle.swt_trace.specs.Report.{TraceOf};
 ghost use Rattle.swt_status.specs.Statuses.{report_status};
 ghost use Rattle.swt_command.specs.Files.{contents};
 ghost use Rattle.swt_command.specs.Runs.{Ran, Replayed, Replays, Runs, StopsBeforeReplay, StopsBeforeRun, Traces};
@@ -68,7 +68,7 @@ fn traced<S: Sink>(report: &Report, wanted: bool, trace: &mut S) -> Result<Statu
         (λ status. (status ≡ report_status report.now) × Traces wanted report.now (held (S.taken trace.old) (S.failures trace.old))
         (held (S.taken trace.new) (S.failures trace.new)))
         (λ stop. (stop.place ≡ 0) × (stop.trouble ≡ Trouble.Untraced) × (wanted ≡ true) × Lost (held (S.taken trace.old) (S.failures trace.old))
-        (TraceText report.now.history.items) (held (S.taken trace.new) (S.failures trace.new))) }
+        (TraceOf report.now) (held (S.taken trace.new) (S.failures trace.new))) }
 {
     if !wanted {
         return Ok(status_of(report));

@@ -1,27 +1,19 @@
 //! What is known of a script after some rounds.
-ghost use Rattle.std.specs.Prelude.{◌≡◌, List, ℕ, map, IfOk, MatchResult};
+ghost use Rattle.std.specs.Prelude.{◌≡◌, List, ℕ, IfOk, MatchResult};
 ghost use Rattle.compile.specs.Accepted.{IsScriptOf};
 ghost use Rattle.flow.specs.View.{core_of};
-ghost use Rattle.board.specs.View.{path_view};
-ghost use Rattle.board_instances.specs.View.{step_view};
-ghost use Rattle.board_runs.specs.Same.{place_view};
 ghost use Rattle.swt_command.specs.Files.{HasScript, StopsAt, contents};
 ghost use Rattle.swt_command.specs.Means.{IsTold, ToldOf};
-ghost use Rattle.swt_command.specs.Plain.{meant_fault, meant_kind, meant_place, meant_step, told_fault};
 
 use crate::scripts::{at_script, source};
-use board::{EntryFault, Fault, FaultKind, Statement, Step};
 use bumpalo::Bump;
 use compile::compile::read;
 use flow::script::Flow;
 use meaning::rounds;
-use meaning_facts::facts::FaultKind as MeantKind;
-use meaning_facts::instances::Step as MeantStep;
-use meaning_outcomes::order::{Fault as MeantFault, Statement as MeantStatement};
+use paths::{Fault, Statement};
 use std::alloc::{AllocError, Global};
 use swt_status::stop::Stop;
 use swt_status::trouble::Trouble;
-use values::fault::OpFault;
 use values::text::Text;
 
 /// What is known of a script after some rounds.
@@ -91,86 +83,8 @@ fn told_of(alloc: Global, flow: &Flow<&Bump>, limit: u32) -> Result<Told, AllocE
     let faults = known.faults()?;
     Ok(Told {
         lines: known.lines_sorted()?,
-        blocked: statements_of(alloc, &blocked)?,
-        faults: faults_of(alloc, &faults)?,
+        blocked,
+        faults,
         enough: known.finished(),
-    })
-}
-
-/// Statements, as reports tell them.
-fn statements_of(alloc: Global, meant: &Vec<MeantStatement>) -> Result<Vec<Statement>, AllocError>
-    ensures { IfOk result (λ all. map place_view all.items ≡ map meant_place meant.now.items) }
-{
-    let mut all = Vec::new(alloc);
-    for statement in meant {
-        let told = statement_of(alloc, statement)?;
-        all.push(told)?;
-    }
-    Ok(all)
-}
-
-/// The same for faults.
-fn faults_of(alloc: Global, meant: &Vec<MeantFault>) -> Result<Vec<Fault>, AllocError>
-    ensures { IfOk result (λ all. map told_fault all.items ≡ map meant_fault meant.now.items) }
-{
-    let mut all = Vec::new(alloc);
-    for fault in meant {
-        let told = fault_of(alloc, fault)?;
-        all.push(told)?;
-    }
-    Ok(all)
-}
-
-fn fault_of(alloc: Global, meant: &MeantFault) -> Result<Fault, AllocError>
-    ensures { IfOk result (λ fault. told_fault fault ≡ meant_fault meant.now) }
-{
-    let statement = statement_of(alloc, &meant.statement)?;
-    Ok(Fault {
-        kind: kind_of(meant.kind),
-        statement,
-    })
-}
-
-fn kind_of(meant: MeantKind) -> FaultKind
-    ensures { result ≡ meant_kind meant }
-{
-    let operation = match meant {
-        MeantKind::NoElement => return FaultKind::OfEntry(EntryFault::NoElement),
-        MeantKind::ElementTwice => return FaultKind::ElementTwice,
-        MeantKind::TooDeep => return FaultKind::OfEntry(EntryFault::TooDeep),
-        MeantKind::Overflow => OpFault::Overflow,
-        MeantKind::DivideByZero => OpFault::DivideByZero,
-        MeantKind::BadStep => OpFault::BadStep,
-        MeantKind::NotANumber => OpFault::NotANumber,
-        MeantKind::AssertFailed => OpFault::AssertFailed,
-    };
-    FaultKind::OfEntry(EntryFault::InOperation(operation))
-}
-
-fn statement_of(alloc: Global, meant: &MeantStatement) -> Result<Statement, AllocError>
-    ensures { IfOk result (λ statement. place_view statement ≡ meant_place meant.now) }
-{
-    let path = path_of(alloc, &meant.path)?;
-    Ok(Statement { at: meant.at, path })
-}
-
-/// A path, the outermost step first.
-fn path_of(alloc: Global, meant: &Vec<MeantStep>) -> Result<Vec<Step>, AllocError>
-    ensures { IfOk result (λ path. path_view path.items ≡ map meant_step meant.now.items) }
-{
-    let mut path = Vec::new(alloc);
-    for step in meant {
-        let told = step_of(step)?;
-        path.push(told)?;
-    }
-    Ok(path)
-}
-
-fn step_of(meant: &MeantStep) -> Result<Step, AllocError>
-    ensures { IfOk result (λ step. step_view step ≡ meant_step meant.now) }
-{
-    Ok(Step {
-        offset: meant.at,
-        key: meant.key.share()?,
     })
 }

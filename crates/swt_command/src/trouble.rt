@@ -45,6 +45,14 @@ pub fn tell<E: Sink>(trouble: Trouble, file: &str, err: &mut E) -> Result<(), Si
                 b"\n",
             )
         }
+        Trouble::WrongEnd(line) => {
+            write_parts(
+                err,
+                b"swt: T3 WrongEnd ",
+                buffer.format(line).as_bytes(),
+                b"\n",
+            )
+        }
         Trouble::BadCount => write_parts(err, b"swt: ", b"bad count", b"\n"),
         Trouble::NoThread => write_parts(err, b"swt: ", b"no thread", b"\n"),
         Trouble::Stranger => write_parts(err, b"swt: ", b"stranger", b"\n"),

@@ -9,6 +9,7 @@ trouble_status Is.Unread = Ends.Failed
 trouble_status (Is.Refused r) = Ends.Refused
 trouble_status (Is.BadLine n) = Ends.Failed
 trouble_status (Is.NotARun n) = Ends.Failed
+trouble_status (Is.WrongEnd n) = Ends.Failed
 trouble_status Is.BadCount = Ends.Usage
 trouble_status Is.NoThread = Ends.Failed
 trouble_status Is.Stranger = Ends.Failed

@@ -16,7 +16,8 @@ use task_code::code::Code;
 /// # Errors
 ///
 /// The stop at the trace, which is the second file: `BadLine` with the number of the first line that is none of a trace,
-/// `NotARun` with that of the first line whose event is no step, or `Memory`.
+/// `NotARun` with that of the first line whose event is no step, `WrongEnd` with that of the last line where it names another end, or
+/// `Memory`.
 pub fn report_of_trace(alloc: Global, code: &Code, trace: &[u8]) -> Result<Report, Stop>
     ensures { MatchResult result (ReplaysTo code.now trace.now)
         (λ stop. (stop.place ≡ 1) × StopsAtTrace (Some trace.now) code.now stop.trouble) }
@@ -30,6 +31,10 @@ pub fn report_of_trace(alloc: Global, code: &Code, trace: &[u8]) -> Result<Repor
         Err(ReplayFault::NotARun(line)) => Err(Stop {
             place: 1,
             trouble: Trouble::NotARun(line),
+        }),
+        Err(ReplayFault::WrongEnd(line)) => Err(Stop {
+            place: 1,
+            trouble: Trouble::WrongEnd(line),
         }),
         Err(ReplayFault::Memory) => Err(Stop {
             place: 1,

@@ -16,6 +16,8 @@ pub enum Trouble {
     BadLine(u64),
     /// This line's event is no step of the script's code.
     NotARun(u64),
+    /// This line of the trace names another end than that of the run.
+    WrongEnd(u64),
     /// No engine, no worker, or more than 64 of both.
     BadCount,
     /// A thread could not be started.
@@ -40,6 +42,7 @@ impl Trouble {
             Trouble::Refused(_) => Status::Refused,
             Trouble::BadLine(_) => Status::Failed,
             Trouble::NotARun(_) => Status::Failed,
+            Trouble::WrongEnd(_) => Status::Failed,
             Trouble::BadCount => Status::Usage,
             Trouble::NoThread => Status::Failed,
             Trouble::Stranger => Status::Failed,

@@ -4,7 +4,7 @@ use Rattle.std.specs.Prelude.{Result, Ok, Err, IfErr, IfOk, IsErrAnd}
 use Rattle.swt_trace.specs.declared.fault.ReplayFault.{ReplayFault}
 use Rattle.swt_trace.specs.declared.fault.ReplayFault.TheVariants as Fault
 
--- want of memory is neither a bad line nor no step
+-- want of memory is no bad line, no step that is none, and no other end
 pub no_line : {T : Type 0} (r : Result T ReplayFault) (P : ℕ → Type 0) → IsErrAnd r (λ fault. fault ≡ Fault.Memory) → IfErr r (λ fault. (n : ℕ) → fault ≡ Fault.BadLine n → P n)
 no_line (Ok x) P h = tt
 no_line (Err fault) P h = λ n e. absurd (cc (sym h ∙ e))
@@ -13,11 +13,23 @@ pub no_event : {T : Type 0} (r : Result T ReplayFault) (P : ℕ → Type 0) → 
 no_event (Ok x) P h = tt
 no_event (Err fault) P h = λ n e. absurd (cc (sym h ∙ e))
 
--- what is neither a bad line nor no step is want of memory
-pub no_other : (fault : ReplayFault) → ((n : ℕ) → fault ≡ Fault.BadLine n → ⊥) → ((n : ℕ) → fault ≡ Fault.NotARun n → ⊥) → fault ≡ Fault.Memory
-no_other (Fault.BadLine n) line event = absurd (line n refl)
-no_other (Fault.NotARun n) line event = absurd (event n refl)
-no_other Fault.Memory line event = refl
+pub no_end : {T : Type 0} (r : Result T ReplayFault) (P : ℕ → Type 0) → IsErrAnd r (λ fault. fault ≡ Fault.Memory) → IfErr r (λ fault. (n : ℕ) → fault ≡ Fault.WrongEnd n → P n)
+no_end (Ok x) P h = tt
+no_end (Err fault) P h = λ n e. absurd (cc (sym h ∙ e))
+
+-- another end is neither
+pub end_alone : (fault : ReplayFault) (m n : ℕ) → fault ≡ Fault.WrongEnd m → fault ≡ Fault.BadLine n → ⊥
+end_alone fault m n e f = absurd (cc (sym e ∙ f))
+
+pub end_no_step : (fault : ReplayFault) (m n : ℕ) → fault ≡ Fault.WrongEnd m → fault ≡ Fault.NotARun n → ⊥
+end_no_step fault m n e f = absurd (cc (sym e ∙ f))
+
+-- what is none of the three is want of memory
+pub no_other : (fault : ReplayFault) → ((n : ℕ) → fault ≡ Fault.BadLine n → ⊥) → ((n : ℕ) → fault ≡ Fault.NotARun n → ⊥) → ((n : ℕ) → fault ≡ Fault.WrongEnd n → ⊥) → fault ≡ Fault.Memory
+no_other (Fault.BadLine n) line event other = absurd (line n refl)
+no_other (Fault.NotARun n) line event other = absurd (event n refl)
+no_other (Fault.WrongEnd n) line event other = absurd (other n refl)
+no_other Fault.Memory line event other = refl
 
 -- what follows of a report, and of a fault
 pub of_report : {T E : Type 0} (r : Result T E) (P Q : T → Type 0) → ((x : T) → P x → Q x) → IfOk r P → IfOk r Q

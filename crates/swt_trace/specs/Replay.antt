@@ -1,14 +1,17 @@
 -- Traces that are run again.
-use Rattle.std.specs.Prelude.{◌≡◌, ℕ, ◌+◌, ◌<◌, ◌≤◌, Bool, true, false, List, length, map, take, slice_index_or}
+use Rattle.std.specs.Prelude.{◌≡◌, ◌≢◌, ℕ, ◌+◌, ◌<◌, ◌≤◌, Bool, true, false, Option, Some, None, List, length, map, take, slice_index_or}
 use Rattle.dataflow.specs.Machine as Machine
 use Rattle.task_code.specs.declared.event.Event.{Event}
 use Rattle.task_code.specs.Code.{Code}
 use Rattle.task_code.specs.Machine.{CodeState, CodeStep, Run}
 use Rattle.task_code.specs.View.{event_view}
 use Rattle.board.specs.Board.{Accepts, Seen}
+use Rattle.board_runs.specs.declared.report.End.{End}
 use Rattle.board_runs.specs.declared.report.Report.{Report}
 use Rattle.board_runs.specs.Report.{Reports}
-use Rattle.swt_trace.specs.Trace.{IsTrace, TraceText, most_events}
+use Rattle.swt_trace.specs.declared.ending.Ending.{Ending}
+use Rattle.swt_trace.specs.Report.{TraceOf, ending_of}
+use Rattle.swt_trace.specs.Trace.{IsTrace, most_events}
 
 -- the event is no step from the state
 abbrev pub IsNoStep : Code → CodeState → Machine.Event → Type 0
@@ -19,17 +22,25 @@ abbrev pub Takes : Seen → Machine.Event → Seen → Bool → Type 0
 Takes old e new true = Accepts old e new
 Takes old e new false = (new ≡ old) × IsNoStep old.code old.state e
 
--- the report is one of the events of which the bytes are a trace, with their number as the limit
+-- no end is named, or it is this one
+abbrev pub IsNamed : Option Ending → End → Type 0
+IsNamed None d = Unit {0}
+IsNamed (Some e) d = e ≡ ending_of d
+
+-- the report is one of the events of which the bytes are a trace, with their number as the limit, and no other end is named
 pub record ReplaysTo (C : Code) (bytes : List ℕ) (r : Report) : Type 0 where
   pub events : List Event
-  pub trace : IsTrace bytes events
+  pub ending : Option Ending
+  pub trace : IsTrace bytes events ending
   pub history : r.history.items ≡ events
   pub reports : Reports C (length events) r
+  pub named : IsNamed ending r.end
 
 -- the bytes are a trace whose events are a run up to line n, and the event of line n is no step from where they lead to
 pub record IsFirstNoStep (C : Code) (bytes : List ℕ) (n : ℕ) : Type 0 where
   pub events : List Event
-  pub trace : IsTrace bytes events
+  pub ending : Option Ending
+  pub trace : IsTrace bytes events ending
   pub place : ℕ
   pub within : place < length events
   pub number : n ≡ place + 2
@@ -39,9 +50,20 @@ pub record IsFirstNoStep (C : Code) (bytes : List ℕ) (n : ℕ) : Type 0 where
   pub here : slice_index_or events place event ≡ event
   pub no_step : IsNoStep C state (event_view event)
 
--- the bytes are the trace of the report's events, and the report is one of a run of the code of no more events than a trace has
+-- the bytes are a trace whose events are a run, and line n, behind them, names another end than that of its report
+pub record IsWrongEnd (C : Code) (bytes : List ℕ) (n : ℕ) : Type 0 where
+  pub events : List Event
+  pub ending : Ending
+  pub trace : IsTrace bytes events (Some ending)
+  pub number : n ≡ length events + 2
+  pub report : Report
+  pub history : report.history.items ≡ events
+  pub reports : Reports C (length events) report
+  pub other : ending ≢ ending_of report.end
+
+-- the bytes are the trace of the report, and the report is one of a run of the code of no more events than a trace has
 pub record IsTraceOf (C : Code) (bytes : List ℕ) (r : Report) : Type 0 where
   pub limit : ℕ
   pub few : limit ≤ most_events
   pub reports : Reports C limit r
-  pub text : bytes ≡ TraceText r.history.items
+  pub text : bytes ≡ TraceOf r

@@ -1,21 +1,19 @@
--- The texts of reports.
-use Rattle.std.specs.Prelude.{ℕ, List, [], ◌∷◌, ◌++◌, length, codes}
+-- The texts of reports, and of their traces.
+use Rattle.std.specs.Prelude.{ℕ, List, [], ◌∷◌, ◌++◌, length, codes, Some}
 use Rattle.std.specs.List.{flat_map}
 use Rattle.std.specs.Fmt.{decimal, signed_decimal}
-use Rattle.board_instances.specs.declared.place.Fault.{Fault}
-use Rattle.board_instances.specs.declared.place.FaultKind.{FaultKind}
-use Rattle.board_instances.specs.declared.place.FaultKind.TheVariants.{OfEntry, ElementTwice}
-use Rattle.board_instances.specs.declared.place.Statement.{Statement}
-use Rattle.board_instances.specs.declared.place.Step.{Step}
-use Rattle.board_compute.specs.declared.outcome.EntryFault.{EntryFault}
-use Rattle.board_compute.specs.declared.outcome.EntryFault.TheVariants.{InOperation, NoElement, TooDeep}
+use Rattle.paths.specs.declared.faults.Fault.{Fault}
+use Rattle.paths.specs.declared.statements.Statement.{Statement}
+use Rattle.paths.specs.declared.steps.Step.{Step}
+use Rattle.paths.specs.Names.{fault_name}
 use Rattle.board_runs.specs.declared.report.End.{End}
 use Rattle.board_runs.specs.declared.report.End.TheVariants as Ends
 use Rattle.board_runs.specs.declared.report.Report.{Report}
-use Rattle.values.specs.declared.fault.OpFault.{OpFault}
-use Rattle.values.specs.declared.fault.OpFault.TheVariants as Of
 use Rattle.values.specs.declared.key.Key.{Key}
 use Rattle.values.specs.declared.key.Key.TheVariants.{Number}
+use Rattle.swt_trace.specs.declared.ending.Ending.{Ending}
+use Rattle.swt_trace.specs.declared.ending.Ending.TheVariants as Named
+use Rattle.swt_trace.specs.Trace.{TraceText}
 
 -- a line, and byte 10
 abbrev pub text_line : List ℕ → List ℕ
@@ -38,24 +36,6 @@ path_text (s ∷ ss) = flat_map step_text (s ∷ ss)
 abbrev pub statement_text : Statement → List ℕ
 statement_text s = decimal s.at ++ 32 ∷ path_text s.path.items
 
--- the number and the name of a fault; no run has the fault that memory was wanted
-abbrev pub operation_fault_name : OpFault → List ℕ
-operation_fault_name Of.Overflow = codes "F1 Overflow"
-operation_fault_name Of.DivideByZero = codes "F2 DivideByZero"
-operation_fault_name Of.BadStep = codes "F5 BadStep"
-operation_fault_name Of.NotANumber = codes "F7 NotANumber"
-operation_fault_name Of.AssertFailed = codes "F8 AssertFailed"
-operation_fault_name Of.Memory = codes "no memory"
-
-abbrev pub entry_fault_name : EntryFault → List ℕ
-entry_fault_name (InOperation f) = operation_fault_name f
-entry_fault_name NoElement = codes "F3 NoElement"
-entry_fault_name TooDeep = codes "F6 TooDeep"
-
-abbrev pub fault_name : FaultKind → List ℕ
-fault_name (OfEntry f) = entry_fault_name f
-fault_name ElementTwice = codes "F4 ElementTwice"
-
 -- `swt: blocked AT PATH`
 abbrev pub blocked_line : Statement → List ℕ
 blocked_line s = text_line (codes "swt: blocked " ++ statement_text s)
@@ -77,3 +57,13 @@ end_text Ends.Limit r = limit_line (length r.history.items)
 -- the text of a report
 abbrev pub ReportText : Report → List ℕ
 ReportText r = flat_map text_line r.lines.items ++ end_text r.end r
+
+-- how a run ended, as a trace names it
+abbrev pub ending_of : End → Ending
+ending_of Ends.Quiet = Named.Quiet
+ending_of (Ends.Fault f) = Named.Fault
+ending_of Ends.Limit = Named.Limit
+
+-- the text of a report's trace, which is of version 2
+abbrev pub TraceOf : Report → List ℕ
+TraceOf r = TraceText r.history.items (Some (ending_of r.end))

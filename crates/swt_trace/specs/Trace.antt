@@ -1,9 +1,11 @@
 -- The texts of traces, and their grammar.
-use Rattle.std.specs.Prelude.{◌≡◌, ◌≢◌, ℕ, ◌+◌, ◌^◌, ◌<◌, ◌≤◌, ◌⊎◌, List, [], ◌∷◌, ◌++◌, length, slice_index, codes}
+use Rattle.std.specs.Prelude.{◌≡◌, ◌≢◌, ℕ, ◌+◌, ◌^◌, ◌<◌, ◌≤◌, ◌⊎◌, List, [], ◌∷◌, ◌++◌, length, slice_index, codes, Option, Some, None}
 use Rattle.std.specs.Fmt.{decimal}
 use Rattle.std.specs.Str.Parse.{IsNumeral, digits_value}
 use Rattle.task_code.specs.declared.event.Event.{Event}
 use Rattle.task_code.specs.declared.event.Event.TheVariants.{Begin, End, Back}
+use Rattle.swt_trace.specs.declared.ending.Ending.{Ending}
+use Rattle.swt_trace.specs.declared.ending.Ending.TheVariants.{Quiet, Fault, Limit}
 
 -- `B`, `E` or `K`
 abbrev pub letter : Event → ℕ
@@ -21,9 +23,21 @@ item_of (Begin worker item) = item
 item_of (End worker item) = item
 item_of (Back worker item) = item
 
--- `swt-trace 1`, and byte 10
-abbrev pub first_line : List ℕ
-first_line = codes "swt-trace 1\n"
+-- `Q`, `F` or `L`
+abbrev pub ending_letter : Ending → ℕ
+ending_letter Quiet = 81
+ending_letter Fault = 70
+ending_letter Limit = 76
+
+-- a trace of version 1 is plain, and one of version 2 is ended by a line that names the end of the run
+pub data Version : Type 0 where
+  plain : Version
+  ended : Version
+
+-- `swt-trace 1` or `swt-trace 2`, and byte 10
+abbrev pub first_line : Version → List ℕ
+first_line plain = codes "swt-trace 1\n"
+first_line ended = codes "swt-trace 2\n"
 
 -- an event's line, and the text behind it
 abbrev pub event_line : Event → List ℕ → List ℕ
@@ -34,9 +48,23 @@ abbrev pub event_lines : List Event → List ℕ → List ℕ
 event_lines [] rest = rest
 event_lines (e ∷ es) rest = event_line e (event_lines es rest)
 
+-- the line that names an end, and the text behind it
+abbrev pub ending_line : Ending → List ℕ → List ℕ
+ending_line e rest = ending_letter e ∷ 10 ∷ rest
+
+-- the version of a trace that names this end, or none
+abbrev pub version_of : Option Ending → Version
+version_of None = plain
+version_of (Some e) = ended
+
+-- what stands behind its lines of events
+abbrev pub last_line : Option Ending → List ℕ
+last_line None = []
+last_line (Some e) = ending_line e []
+
 -- the text of a trace
-abbrev pub TraceText : List Event → List ℕ
-TraceText es = first_line ++ event_lines es []
+abbrev pub TraceText : List Event → Option Ending → List ℕ
+TraceText es e = first_line (version_of e) ++ event_lines es (last_line e)
 
 -- The grammar.
 
@@ -70,34 +98,50 @@ abbrev pub AreLinesThen : List ℕ → List Event → List ℕ → Type 0
 AreLinesThen bytes [] rest = bytes ≡ rest
 AreLinesThen bytes (e ∷ es) rest = (behind : List ℕ) × IsLineThen bytes e behind × AreLinesThen behind es rest
 
--- the bytes are a trace of the events so far, and then the rest
-pub record BeginsTrace (bytes : List ℕ) (es : List Event) (rest : List ℕ) : Type 0 where
+-- the bytes are a trace of that version of the events so far, and then the rest
+pub record BeginsTrace (v : Version) (bytes : List ℕ) (es : List Event) (rest : List ℕ) : Type 0 where
   pub behind : List ℕ
-  pub first : bytes ≡ first_line ++ behind
+  pub first : bytes ≡ first_line v ++ behind
   pub lines : AreLinesThen behind es rest
   pub few : length es ≤ most_events
 
--- the bytes are a trace of the events
-abbrev pub IsTrace : List ℕ → List Event → Type 0
-IsTrace bytes es = BeginsTrace bytes es []
+-- the bytes are a trace of the events that names this end, or of version 1, which names none
+abbrev pub IsTrace : List ℕ → List Event → Option Ending → Type 0
+IsTrace bytes es e = BeginsTrace (version_of e) bytes es (last_line e)
 
--- the bytes do not begin as a trace
+-- the bytes begin as a trace of neither version
 abbrev pub LacksFirstLine : List ℕ → Type 0
-LacksFirstLine bytes = (behind : List ℕ) → bytes ≢ first_line ++ behind
+LacksFirstLine bytes = (v : Version) (behind : List ℕ) → bytes ≢ first_line v ++ behind
 
 -- no line of an event stands at the front of the bytes
 abbrev pub LacksLine : List ℕ → Type 0
 LacksLine bytes = (e : Event) (rest : List ℕ) → IsLineThen bytes e rest → ⊥
 
--- behind lines of events something stands that is no further line, or one line too many; n is its number
+-- the bytes are no end of a trace of version 1, and of version 2 they do not begin with a line that names an end
+abbrev pub LacksLast : Version → List ℕ → Type 0
+LacksLast plain bytes = bytes ≢ []
+LacksLast ended bytes = (e : Ending) (rest : List ℕ) → bytes ≢ ending_line e rest
+
+-- behind lines of events something stands that is no further line, or one line too many, and not the last line, or that is not there;
+-- n is its number
 pub record LeavesBehind (bytes : List ℕ) (n : ℕ) : Type 0 where
+  pub version : Version
   pub events : List Event
   pub rest : List ℕ
-  pub begins : BeginsTrace bytes events rest
-  pub more : rest ≢ []
+  pub begins : BeginsTrace version bytes events rest
+  pub lacks : LacksLast version rest
   pub leaves : length events < most_events → LacksLine rest
   pub number : n ≡ length events + 2
 
+-- something stands behind the line that names the end; n is its number
+pub record LeavesMore (bytes : List ℕ) (n : ℕ) : Type 0 where
+  pub events : List Event
+  pub ending : Ending
+  pub rest : List ℕ
+  pub begins : BeginsTrace ended bytes events (ending_line ending rest)
+  pub more : rest ≢ []
+  pub number : n ≡ length events + 3
+
 -- n is the number of the first line that leaves the grammar
 abbrev pub IsFirstBad : List ℕ → ℕ → Type 0
-IsFirstBad bytes n = ((n ≡ 1) × LacksFirstLine bytes) ⊎ LeavesBehind bytes n
+IsFirstBad bytes n = ((n ≡ 1) × LacksFirstLine bytes) ⊎ (LeavesBehind bytes n ⊎ LeavesMore bytes n)

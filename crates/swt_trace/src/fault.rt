@@ -45,6 +45,9 @@ pub enum ReplayFault {
     /// The number of the first line whose event is no step.
     #[error("T2 NotARun {0}")]
     NotARun(u64),
+    /// The number of the last line, which names another end than that of the run.
+    #[error("T3 WrongEnd {0}")]
+    WrongEnd(u64),
     /// Memory that was asked for was refused.
     #[error("no memory")]
     Memory,

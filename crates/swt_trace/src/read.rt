@@ -1,53 +1,132 @@
 //! Reading a trace.
-ghost use Rattle.std.specs.Prelude.{◌≡◌, ◌≢◌, ◌^◌, ◌<◌, ◌++◌, ◌∷◌, ℕ, List, length, IfOk, IfErr, IfSome, IfNone};
+ghost use Rattle.std.specs.Prelude.{◌≡◌, ◌≢◌, ◌^◌, ◌<◌, ◌≤◌, ◌++◌, ◌∷◌, ℕ, List, length, IfOk, IfErr, IfSome, IfNone};
 ghost use Rattle.task_code.specs.declared.event.Event.{Event};
-ghost use Rattle.swt_trace.specs.Trace.{IsTrace, IsFirstBad, IsInRange, first_line, event_line, LacksFirstLine, letter, worker_of, item_of};
+ghost use Rattle.swt_trace.specs.declared.ending.Ending.{Ending};
+ghost use Rattle.swt_trace.specs.Trace.{IsTrace, IsFirstBad, IsInRange, AreLinesThen, LacksLine, plain, ended, first_line, event_line, ending_line, most_events, letter, worker_of, item_of};
 
+use crate::ending::Ending;
 use crate::fault::TraceFault;
 use crate::number::read_number;
 use std::alloc::Global;
 use task_code::event::Event;
 
-/// A trace begins with it.
-const FIRST_LINE: &[u8] = b"swt-trace 1\n";
+/// A trace of version 1 begins with it.
+const PLAIN_LINE: &[u8] = b"swt-trace 1\n";
+
+/// A trace of version 2 begins with it.
+const ENDED_LINE: &[u8] = b"swt-trace 2\n";
 
 /// The most events that a trace has.
 const MOST_EVENTS: usize = 4_294_967_295;
 
-/// The events of a trace, in order.
+/// What a trace tells.
+#[derive(Drop)]
+pub struct Trace {
+    /// The events, in order.
+    pub events: Vec<Event>,
+    /// The end that a trace of version 2 names. One of version 1 names none.
+    pub ending: Option<Ending>,
+}
+
+/// What a trace of either version tells.
 ///
 /// # Errors
 ///
 /// `BadLine` with the number of the first line that leaves the grammar of traces: also of a last line without its byte 10,
-/// of an empty text (line 1), and of the first line past 4,294,967,295 events. `Memory` where the list could not grow.
-pub fn read_trace(alloc: Global, bytes: &[u8]) -> Result<Vec<Event>, TraceFault>
-    ensures ok { IfOk result (λ events. IsTrace bytes.now events.items) }
+/// of an empty text (line 1), of the first line past 4,294,967,295 events, and in version 2 of the line that names the end where it is
+/// not there, and of a line behind it. `Memory` where the list could not grow.
+pub fn read_trace(alloc: Global, bytes: &[u8]) -> Result<Trace, TraceFault>
+    ensures ok { IfOk result (λ trace. IsTrace bytes.now trace.events.items trace.ending) }
     ensures bad { IfErr result (λ fault. (n : ℕ) → fault ≡ TraceFault.BadLine n → IsFirstBad bytes.now n) }
 {
-    let Some(mut rest) = behind_first_line(bytes) else {
-        return Err(TraceFault::BadLine(1));
+    if let Some(lines) = behind_plain(bytes) {
+        return read_plain(alloc, lines);
+    }
+    if let Some(lines) = behind_ended(bytes) {
+        return read_ended(alloc, lines);
+    }
+    Err(TraceFault::BadLine(1))
+}
+
+/// What stands behind the first line of a trace of version 1.
+fn behind_plain(bytes: &[u8]) -> Option<&[u8]>
+    ensures some { IfSome result (λ lines. bytes.now ≡ first_line plain ++ lines.now) }
+    ensures none { IfNone result ((lines : List ℕ) → bytes.now ≢ first_line plain ++ lines) }
+{
+    bytes.strip_prefix(PLAIN_LINE)
+}
+
+/// What stands behind the first line of a trace of version 2.
+fn behind_ended(bytes: &[u8]) -> Option<&[u8]>
+    ensures some { IfSome result (λ lines. bytes.now ≡ first_line ended ++ lines.now) }
+    ensures none { IfNone result ((lines : List ℕ) → bytes.now ≢ first_line ended ++ lines) }
+{
+    bytes.strip_prefix(ENDED_LINE)
+}
+
+/// What a trace of version 1 tells with these lines behind its first.
+fn read_plain(alloc: Global, lines: &[u8]) -> Result<Trace, TraceFault>
+    ensures ok { IfOk result (λ trace. (bytes : List ℕ) → bytes ≡ first_line plain ++ lines.now → IsTrace bytes trace.events.items trace.ending) }
+    ensures bad { IfErr result (λ fault. (n : ℕ) (bytes : List ℕ) → fault ≡ TraceFault.BadLine n → bytes ≡ first_line plain ++ lines.now → IsFirstBad bytes n) }
+{
+    let (events, rest) = read_events(alloc, lines)?;
+    if !rest.is_empty() {
+        return Err(TraceFault::BadLine(events.len() as u64 + 2));
+    }
+    Ok(Trace {
+        events,
+        ending: None,
+    })
+}
+
+/// What a trace of version 2 tells with these lines behind its first.
+fn read_ended(alloc: Global, lines: &[u8]) -> Result<Trace, TraceFault>
+    ensures ok { IfOk result (λ trace. (bytes : List ℕ) → bytes ≡ first_line ended ++ lines.now → IsTrace bytes trace.events.items trace.ending) }
+    ensures bad { IfErr result (λ fault. (n : ℕ) (bytes : List ℕ) → fault ≡ TraceFault.BadLine n → bytes ≡ first_line ended ++ lines.now → IsFirstBad bytes n) }
+{
+    let (events, rest) = read_events(alloc, lines)?;
+    let Some((ending, behind)) = read_ending(rest) else {
+        return Err(TraceFault::BadLine(events.len() as u64 + 2));
     };
+    if !behind.is_empty() {
+        return Err(TraceFault::BadLine(events.len() as u64 + 3));
+    }
+    Ok(Trace {
+        events,
+        ending: Some(ending),
+    })
+}
+
+/// The events of the lines at the front, as many as there are and as a trace may have, and what stands behind them.
+fn read_events(alloc: Global, bytes: &[u8]) -> Result<(Vec<Event>, &[u8]), TraceFault>
+    ensures lines { IfOk result (λ read. AreLinesThen bytes.now read.0.items read.1.now) }
+    ensures few { IfOk result (λ read. length read.0.items ≤ most_events) }
+    ensures all { IfOk result (λ read. length read.0.items < most_events → LacksLine read.1.now) }
+    ensures memory { IfErr result (λ fault. fault ≡ TraceFault.Memory) }
+{
+    let mut rest = bytes;
     let mut events = Vec::new(alloc);
-    while !rest.is_empty() {
-        let line = events.len() as u64 + 2;
-        if events.len() == MOST_EVENTS {
-            return Err(TraceFault::BadLine(line));
-        }
+    while events.len() < MOST_EVENTS {
         let Some((event, behind)) = read_line(rest) else {
-            return Err(TraceFault::BadLine(line));
+            return Ok((events, rest));
         };
         events.push(event)?;
         rest = behind;
     }
-    Ok(events)
+    Ok((events, rest))
 }
 
-/// What stands behind the first line of a trace.
-fn behind_first_line(bytes: &[u8]) -> Option<&[u8]>
-    ensures some { IfSome result (λ rest. bytes.now ≡ first_line ++ rest.now) }
-    ensures none { IfNone result (LacksFirstLine bytes.now) }
+/// The end that the line at the front names, and what stands behind it.
+fn read_ending(bytes: &[u8]) -> Option<(Ending, &[u8])>
+    ensures line { IfSome result (λ read. bytes.now ≡ ending_line read.0 read.1.now) }
+    ensures none { IfNone result ((e : Ending) (rest : List ℕ) → bytes.now ≢ ending_line e rest) }
 {
-    bytes.strip_prefix(FIRST_LINE)
+    match bytes {
+        [b'Q', b'\n', rest @ ..] => Some((Ending::Quiet, rest)),
+        [b'F', b'\n', rest @ ..] => Some((Ending::Fault, rest)),
+        [b'L', b'\n', rest @ ..] => Some((Ending::Limit, rest)),
+        _ => None,
+    }
 }
 
 /// The event of the line at the front, and what stands behind it.

@@ -1,13 +1,16 @@
 //! Running a trace again.
-ghost use Rattle.std.specs.Prelude.{◌≡◌, ◌<◌, ℕ, List, [], length, map, IfOk, IfErr, OnOk};
+ghost use Rattle.std.specs.Prelude.{◌≡◌, ◌<◌, ℕ, List, [], length, map, Option, IfOk, IfErr, OnOk};
 ghost use Rattle.dataflow.specs.Machine.{Back, Begin, End};
 ghost use Rattle.task_code.specs.View.{event_view};
 ghost use Rattle.board.specs.Board.{IsWorker};
 ghost use Rattle.swt_trace.specs.Trace.{IsFirstBad, IsTrace, worker_of};
 ghost use Rattle.board_runs.specs.declared.report.Report.{Report};
+ghost use Rattle.board_runs.specs.Report.{Reports};
 ghost use Rattle.board_runs.specs.Same.{SameReport};
-ghost use Rattle.swt_trace.specs.Replay.{IsFirstNoStep, IsTraceOf, ReplaysTo, Takes};
+ghost use Rattle.swt_trace.specs.declared.ending.Ending.{Ending};
+ghost use Rattle.swt_trace.specs.Replay.{IsFirstNoStep, IsNamed, IsTraceOf, IsWrongEnd, ReplaysTo, Takes};
 
+use crate::ending::Ending;
 use crate::fault::ReplayFault;
 use crate::read::read_trace;
 use board::board::Board;
@@ -28,29 +31,48 @@ use task_code::event::Event;
 ///
 /// `BadLine` with the number of the first line that leaves the grammar of traces, before any event is run. `NotARun` with
 /// the number of the first line whose event is no step: an item was begun that could not begin, or was ended or given back by
-/// a worker that did not run it, or a fault was met before. `Memory` where memory that was asked for was refused.
+/// a worker that did not run it, or a fault was met before. `WrongEnd` with the number of the last line of a trace of version 2,
+/// where each event is a step and that line names another end. `Memory` where memory that was asked for was refused.
 pub fn replay(alloc: Global, code: &Code, trace: &[u8]) -> Result<Report, ReplayFault>
     ensures report { IfOk result (ReplaysTo code.now trace.now) }
     ensures bad { IfErr result (λ fault. (n : ℕ) → fault ≡ ReplayFault.BadLine n → IsFirstBad trace.now n) }
     ensures no_step { IfErr result (λ fault. (n : ℕ) → fault ≡ ReplayFault.NotARun n → IsFirstNoStep code.now trace.now n) }
+    ensures wrong { IfErr result (λ fault. (n : ℕ) → fault ≡ ReplayFault.WrongEnd n → IsWrongEnd code.now trace.now n) }
     ensures again { (report : Report) → IsTraceOf code.now trace.now report → IfOk result (SameReport report) }
     ensures only_memory { (report : Report) → IsTraceOf code.now trace.now report → IfErr result (λ fault. fault ≡ ReplayFault.Memory) }
 {
     let _whole = code.entry_count();
-    let events = read_trace(alloc, trace)?;
+    let told = read_trace(alloc, trace)?;
     let program = Program::new(alloc, code.copy()?)?;
-    let mut board = Board::new(alloc, program, events.len() as u32)?;
-    report_behind(alloc, &mut board, events.as_slice())
+    let mut board = Board::new(alloc, program, told.events.len() as u32)?;
+    let report = report_behind(alloc, &mut board, told.events.as_slice())?;
+    ended_as(report, told.ending, told.events.len() as u64 + 2)
+}
+
+/// The report, where it ends as its trace names it on this line, if it names an end.
+fn ended_as(report: Report, ending: Option<Ending>, line: u64) -> Result<Report, ReplayFault>
+    ensures ok { IfOk result (λ same. (same ≡ report) × IsNamed ending report.end) }
+    ensures err { IfErr result (λ fault. (fault ≡ ReplayFault.WrongEnd line) × ¬ IsNamed ending report.end) }
+{
+    if let Some(named) = ending {
+        if named != Ending::of(&report.end) {
+            return Err(ReplayFault::WrongEnd(line));
+        }
+    }
+    Ok(report)
 }
 
 /// The report of the events of a trace, on a board without any before.
 fn report_behind(alloc: Global, board: &mut Board, events: &[Event]) -> Result<Report, ReplayFault>
-    requires trace { (bytes : List ℕ) × IsTrace bytes events.now }
+    requires trace { (bytes : List ℕ) × (e : Option Ending) × IsTrace bytes events.now e }
     requires none { board.old.history ≡ [] }
     requires room { board.old.limit ≡ length events.now }
-    ensures report { IfOk result (λ report. (bytes : List ℕ) → IsTrace bytes events.now → ReplaysTo board.old.code bytes report) }
+    ensures history { IfOk result (λ report. report.history.items ≡ events.now) }
+    ensures reports { IfOk result (λ report. Reports board.old.code (length events.now) report) }
     ensures bad { IfErr result (λ fault. (n : ℕ) → fault ≡ ReplayFault.BadLine n → ⊥) }
-    ensures no_step { IfErr result (λ fault. (n : ℕ) → fault ≡ ReplayFault.NotARun n → (bytes : List ℕ) → IsTrace bytes events.now → IsFirstNoStep board.old.code bytes n) }
+    ensures wrong { IfErr result (λ fault. (n : ℕ) → fault ≡ ReplayFault.WrongEnd n → ⊥) }
+    ensures no_step { IfErr result (λ fault. (n : ℕ) → fault ≡ ReplayFault.NotARun n
+        → (bytes : List ℕ) (e : Option Ending) → IsTrace bytes events.now e → IsFirstNoStep board.old.code bytes n) }
 {
     take_all(board, events)?;
     Ok(report_of(alloc, board)?)
@@ -58,14 +80,16 @@ fn report_behind(alloc: Global, board: &mut Board, events: &[Event]) -> Result<R
 
 /// Does what the events of a trace say, on a board without any before, up to one that is no step.
 fn take_all(board: &mut Board, events: &[Event]) -> Result<(), ReplayFault>
-    requires trace { (bytes : List ℕ) × IsTrace bytes events.now }
+    requires trace { (bytes : List ℕ) × (e : Option Ending) × IsTrace bytes events.now e }
     requires none { board.old.history ≡ [] }
     requires room { board.old.limit ≡ length events.now }
     ensures code { OnOk result (board.new.code ≡ board.old.code) }
     ensures limit { OnOk result (board.new.limit ≡ board.old.limit) }
     ensures history { OnOk result (board.new.history ≡ map event_view events.now) }
     ensures bad { IfErr result (λ fault. (n : ℕ) → fault ≡ ReplayFault.BadLine n → ⊥) }
-    ensures no_step { IfErr result (λ fault. (n : ℕ) → fault ≡ ReplayFault.NotARun n → (bytes : List ℕ) → IsTrace bytes events.now → IsFirstNoStep board.old.code bytes n) }
+    ensures wrong { IfErr result (λ fault. (n : ℕ) → fault ≡ ReplayFault.WrongEnd n → ⊥) }
+    ensures no_step { IfErr result (λ fault. (n : ℕ) → fault ≡ ReplayFault.NotARun n
+        → (bytes : List ℕ) (e : Option Ending) → IsTrace bytes events.now e → IsFirstNoStep board.old.code bytes n) }
 {
     for (place, event) in events.iter().enumerate() {
         if !take_step(board, event)? {

@@ -5,22 +5,26 @@
 //! each step from the outermost on.
 ghost use Rattle.std.specs.Prelude.{◌≡◌, ◌<◌, ◌≤◌, ◌+◌, ◌++◌, ◌∷◌, [], length, codes, decimal, OnOk, OnErr};
 ghost use Rattle.std.specs.List.{flat_map};
+ghost use Rattle.pages.specs.Pages.{OnPage};
 ghost use Rattle.values.specs.Sinks.{Beginning};
-ghost use Rattle.swt_trace.specs.Report.{ReportText, text_line, key_text, step_text, path_text, statement_text, operation_fault_name, entry_fault_name, fault_name, blocked_line, fault_line, limit_line, end_text};
+ghost use Rattle.paths.specs.Names.{fault_name};
+ghost use Rattle.swt_trace.specs.Report.{ReportText, text_line, key_text, step_text, path_text, statement_text, blocked_line, fault_line, limit_line, end_text};
 
 use crate::fault::WriteFault;
 use arrayvec::ArrayString;
-use board::{Fault, FaultKind, Statement, Step};
-use board_compute::outcome::EntryFault;
 use board_runs::report::{End, Report};
 use itoa::Buffer;
-use values::fault::OpFault;
+use pages::Page;
+use paths::{Fault, FaultKind, Statement, Step};
 use values::key::Key;
 use values::sink::{Sink, SinkFault, write_all};
 use values::text::Text;
 
 /// The most bytes of a step: `/`, twenty digits of an offset, `.`, and twenty bytes of a key.
 const LONGEST_STEP: usize = 42;
+
+/// The most bytes of what stands before the offset in the line of a fault: the longest is `swt: fault F4 ElementTwice `.
+const LONGEST_FAULT: usize = 27;
 
 /// The most bytes of what stands before a path: the longest is `swt: fault F4 ElementTwice `, twenty digits and a space.
 const LONGEST_START: usize = 48;
@@ -45,7 +49,7 @@ pub fn write_report<W: Sink>(report: &Report, sink: &mut W) -> Result<(), WriteF
     Ok(())
 }
 
-/// Writes the lines that were printed.
+/// Writes the lines that were printed, many a write.
 ///
 /// # Errors
 ///
@@ -57,22 +61,25 @@ pub fn write_lines<W: Sink>(lines: &Vec<Text>, sink: &mut W) -> Result<(), SinkF
     ensures failed { OnErr result (W.failures sink.old < W.failures sink.new) }
     ensures none_failed { OnOk result (W.failures sink.new ≡ W.failures sink.old) }
 {
+    let mut page = Page::new();
     for line in lines {
-        write_line(line.as_bytes(), sink)?;
+        put_line(line.as_bytes(), &mut page, sink)?;
     }
+    page.empty(sink)?;
     Ok(())
 }
 
-/// Writes a line and the byte 10.
-fn write_line<W: Sink>(line: &[u8], sink: &mut W) -> Result<(), SinkFault>
+/// Puts a line and the byte 10 behind what waits.
+fn put_line<W: Sink>(line: &[u8], page: &mut Page, sink: &mut W) -> Result<(), SinkFault>
     requires { W.failures sink.old < u64.MAX }
-    ensures ok { OnOk result (W.taken sink.new ≡ W.taken sink.old ++ text_line line.now) }
-    ensures err { OnErr result (Beginning (W.taken sink.old) (text_line line.now) (W.taken sink.new)) }
+    ensures ok { OnOk result (OnPage (W.taken sink.old) (W.taken sink.new) page.new (page.old ++ text_line line.now)) }
+    ensures err { OnErr result (Beginning (W.taken sink.old) (page.old ++ text_line line.now) (W.taken sink.new)) }
     ensures failed { OnErr result (W.failures sink.old < W.failures sink.new) }
     ensures none_failed { OnOk result (W.failures sink.new ≡ W.failures sink.old) }
 {
-    write_all(sink, line)?;
-    write_all(sink, b"\n")
+    page.put(sink, line)?;
+    page.put(sink, b"\n")?;
+    Ok(())
 }
 
 /// Writes what follows the lines.
@@ -120,45 +127,19 @@ pub fn write_fault<W: Sink>(fault: &Fault, sink: &mut W) -> Result<(), SinkFault
     ensures failed { OnErr result (W.failures sink.old < W.failures sink.new) }
     ensures none_failed { OnOk result (W.failures sink.new ≡ W.failures sink.old) }
 {
-    write_statement(fault_start(fault.kind), &fault.statement, sink)
+    let start = fault_start(fault.kind);
+    write_statement(start.as_str(), &fault.statement, sink)
 }
 
 /// What the line of a fault begins with.
-fn fault_start(kind: FaultKind) -> &'static str
-    ensures text { result.now ≡ codes "swt: fault " ++ (fault_name kind ++ 32 ∷ []) }
-    ensures short { length result.now ≤ 27 }
+fn fault_start(kind: FaultKind) -> ArrayString<LONGEST_FAULT>
+    ensures { result.bytes ≡ codes "swt: fault " ++ (fault_name kind ++ 32 ∷ []) }
 {
-    match kind {
-        FaultKind::OfEntry(fault) => entry_fault_start(fault),
-        FaultKind::ElementTwice => "swt: fault F4 ElementTwice ",
-    }
-}
-
-/// The same for a fault of an entry's own.
-fn entry_fault_start(fault: EntryFault) -> &'static str
-    ensures text { result.now ≡ codes "swt: fault " ++ (entry_fault_name fault ++ 32 ∷ []) }
-    ensures short { length result.now ≤ 27 }
-{
-    match fault {
-        EntryFault::InOperation(fault) => operation_fault_start(fault),
-        EntryFault::NoElement => "swt: fault F3 NoElement ",
-        EntryFault::TooDeep => "swt: fault F6 TooDeep ",
-    }
-}
-
-/// The same for a fault of an operation.
-fn operation_fault_start(fault: OpFault) -> &'static str
-    ensures text { result.now ≡ codes "swt: fault " ++ (operation_fault_name fault ++ 32 ∷ []) }
-    ensures short { length result.now ≤ 27 }
-{
-    match fault {
-        OpFault::Overflow => "swt: fault F1 Overflow ",
-        OpFault::DivideByZero => "swt: fault F2 DivideByZero ",
-        OpFault::BadStep => "swt: fault F5 BadStep ",
-        OpFault::NotANumber => "swt: fault F7 NotANumber ",
-        OpFault::AssertFailed => "swt: fault F8 AssertFailed ",
-        OpFault::Memory => "swt: fault no memory ",
-    }
+    let mut start = ArrayString::new();
+    start.push_str("swt: fault ");
+    start.push_str(kind.name());
+    start.push_str(" ");
+    start
 }
 
 /// Writes the line of a limit.

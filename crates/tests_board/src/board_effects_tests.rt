@@ -2,10 +2,10 @@
 
 use crate::asserts::is_equal;
 use crate::worlds::{Opened, opened_script};
-use board_compute::outcome::{EntryFault, Outcome};
+use board_compute::outcome::Outcome;
 use board_effects::effect::{Effect, Ended};
 use board_effects::script_effect;
-use board_instances::place::FaultKind;
+use paths::FaultKind;
 use std::alloc::Global;
 use std::process::Abort;
 use values::fault::OpFault;
@@ -71,7 +71,7 @@ fn an_assignment_stores(rt: HostRuntime) {
 fn fails_at_its_statement(rt: &impl Abort, effect: &Effect) {
     match effect {
         Effect::Fails(fault) => {
-            let kind = FaultKind::OfEntry(EntryFault::InOperation(OpFault::AssertFailed));
+            let kind = FaultKind::AssertFailed;
             is_equal(rt, (fault.kind, fault.statement.at), (kind, 18));
             assert!(rt; fault.statement.path.is_empty());
         }

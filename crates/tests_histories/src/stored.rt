@@ -55,7 +55,7 @@ pub fn compare(
 /// The events of a trace. None where it is none.
 fn events_of(alloc: Global, trace: &str) -> Result<Option<Vec<Event>>, AllocError> {
     match read_trace(alloc, trace.as_bytes()) {
-        Ok(events) => Ok(Some(events)),
+        Ok(told) => Ok(Some(told.events)),
         Err(TraceFault::BadLine(_)) => Ok(None),
         Err(TraceFault::Memory) => Err(AllocError),
     }

@@ -4,11 +4,11 @@ ghost use Rattle.std.specs.Prelude.{◌≡◌};
 
 use crate::asserts::is_equal;
 use board::{Fault, FaultKind, Statement, Step};
-use board_compute::outcome::EntryFault;
 use board_program::program::Program;
 use board_runs::report::{End, Report};
 use std::alloc::Global;
 use std::process::Abort;
+use swt_trace::ending::Ending;
 use swt_trace::fault::{ReplayFault, TraceFault, WriteFault};
 use swt_trace::read::read_trace;
 use swt_trace::replay::replay;
@@ -36,10 +36,16 @@ const MOST_EVENTS: [Event; 1] = [Event::Back {
     item: u64::MAX,
 }];
 
-/// A trace is read as these events.
-fn is_read(rt: &impl Abort, alloc: Global, trace: &[u8], events: &[Event]) {
-    let read = read_trace(alloc, trace).expect(rt, "a trace");
-    assert!(rt; read.as_slice() == events);
+/// The same traces of version 2, of runs that were cut off.
+const CUT_HELLO: &[u8] = b"swt-trace 2\nB 0 1\nE 0 1\nB 1 2\nE 1 2\nL\n";
+
+const CUT_MOST: &[u8] = b"swt-trace 2\nK 63 18446744073709551615\nL\n";
+
+/// A trace is read as these events, and names this end.
+fn is_read(rt: &impl Abort, alloc: Global, trace: &[u8], events: &[Event], ending: Option<Ending>) {
+    let told = read_trace(alloc, trace).expect(rt, "a trace");
+    assert!(rt; told.events.as_slice() == events);
+    is_equal(rt, told.ending, ending);
 }
 
 /// The text has this line as its first that no trace has there.
@@ -50,9 +56,21 @@ fn is_bad(rt: &impl Abort, alloc: Global, text: &[u8], line: u64) {
 
 #[test]
 fn traces_are_read(rt: HostRuntime) {
-    is_read(&rt, rt.alloc(), HELLO, &HELLO_EVENTS);
-    is_read(&rt, rt.alloc(), MOST, &MOST_EVENTS);
-    is_read(&rt, rt.alloc(), b"swt-trace 1\n", &[]);
+    is_read(&rt, rt.alloc(), HELLO, &HELLO_EVENTS, None);
+    is_read(&rt, rt.alloc(), MOST, &MOST_EVENTS, None);
+    is_read(&rt, rt.alloc(), b"swt-trace 1\n", &[], None);
+}
+
+#[test]
+fn ends_are_read(rt: HostRuntime) {
+    let limit = Some(Ending::Limit);
+    is_read(&rt, rt.alloc(), CUT_HELLO, &HELLO_EVENTS, limit);
+    is_read(&rt, rt.alloc(), CUT_MOST, &MOST_EVENTS, limit);
+    is_read(&rt, rt.alloc(), b"swt-trace 2\nL\n", &[], limit);
+    let quiet = Some(Ending::Quiet);
+    is_read(&rt, rt.alloc(), b"swt-trace 2\nQ\n", &[], quiet);
+    let fault = Some(Ending::Fault);
+    is_read(&rt, rt.alloc(), b"swt-trace 2\nF\n", &[], fault);
 }
 
 /// A beginning is read where it ends behind a line, and else its last line is bad.
@@ -69,10 +87,20 @@ fn beginnings_are_read(rt: HostRuntime) {
     }
 }
 
+/// A beginning of a trace of version 2 is none: its last line is bad, or the one that is not there.
+#[test]
+fn beginnings_name_no_end(rt: HostRuntime) {
+    assert_eq!(rt; CUT_HELLO.len(), 38);
+    for length in 0..38 {
+        let line = (length as u64 / 6).max(1);
+        is_bad(&rt, rt.alloc(), &CUT_HELLO[..length], line);
+    }
+}
+
 const BAD_SECOND_LINES: &str =
     "B 64 1\n|B 0 0\n|B 00 1\n|B 0 01\n|B 0 18446744073709551616\n|B 0 1|B  0 1\n|B 0  1\n|B 0 1 \n|B 0 1\r\n| B 0 1\n|B +0 1\n|B -0 1\n|B 0\n|B\n|b 0 1\n|Q\n|\n";
 
-const BAD_FIRST_LINES: &str = "|\n|swt-trace 1|swt-trace 2\n| swt-trace 1\n";
+const BAD_FIRST_LINES: &str = "|\n|swt-trace 1|swt-trace 2|swt-trace 3\n| swt-trace 1\n";
 
 /// A trace with these lines behind its first.
 fn trace_of(rt: &impl Abort, alloc: Global, lines: &str) -> String {
@@ -91,15 +119,33 @@ fn bad_lines_are_refused(rt: HostRuntime) {
     is_bad(&rt, rt.alloc(), b"swt-trace 1\nE 0 1\nX\n", 3);
 }
 
+const BAD_ENDS: &str = "|Q|q\n|X\n|Q \n|QQ\n|\n|B 64 1\nQ\n|Q\r\n";
+
+/// In version 2 the line that names the end is wanted, and nothing stands behind it.
+#[test]
+fn bad_ends_are_refused(rt: HostRuntime) {
+    for end in BAD_ENDS.split('|') {
+        let text = format!(in rt.alloc(); "swt-trace 2\n{end}").expect(&rt, "memory");
+        is_bad(&rt, rt.alloc(), text.as_bytes(), 2);
+    }
+    for behind in ["Q\n", "\n", "B 0 1\n", "x"] {
+        let text = format!(in rt.alloc(); "swt-trace 2\nE 0 1\nQ\n{behind}").expect(&rt, "memory");
+        is_bad(&rt, rt.alloc(), text.as_bytes(), 4);
+    }
+    is_bad(&rt, rt.alloc(), b"swt-trace 1\nE 0 1\nQ\n", 3);
+}
+
 #[test]
 fn faults_have_texts(rt: HostRuntime) {
-    let (bad, stray, refused) = (
-        TraceFault::BadLine(4),
-        ReplayFault::NotARun(5),
-        WriteFault::Write,
+    let bad = TraceFault::BadLine(4);
+    let (stray, other) = (ReplayFault::NotARun(5), ReplayFault::WrongEnd(6));
+    let refused = WriteFault::Write;
+    let text = format!(in rt.alloc(); "{bad}, {stray}, {other}, {refused}").expect(&rt, "memory");
+    is_equal(
+        &rt,
+        text.as_str(),
+        "T1 BadLine 4, T2 NotARun 5, T3 WrongEnd 6, W1 Write",
     );
-    let text = format!(in rt.alloc(); "{bad}, {stray}, {refused}").expect(&rt, "memory");
-    is_equal(&rt, text.as_str(), "T1 BadLine 4, T2 NotARun 5, W1 Write");
 }
 
 /// A sink that takes at most `at_once` bytes a write, and refuses one write, by its number from 1.
@@ -197,8 +243,25 @@ fn is_written(rt: &impl Abort, alloc: Global, events: &[Event], trace: &[u8]) {
 
 #[test]
 fn traces_are_written(rt: HostRuntime) {
-    is_written(&rt, rt.alloc(), &HELLO_EVENTS, HELLO);
-    is_written(&rt, rt.alloc(), &MOST_EVENTS, MOST);
+    is_written(&rt, rt.alloc(), &HELLO_EVENTS, CUT_HELLO);
+    is_written(&rt, rt.alloc(), &MOST_EVENTS, CUT_MOST);
+}
+
+/// The trace of a run without events that ended so is this text.
+fn is_named(rt: &impl Abort, alloc: Global, end: End, trace: &[u8]) {
+    let report = report_with(rt, alloc, &[], end, Vec::new(alloc));
+    is_traced(rt, alloc, &report, trace, 100);
+}
+
+#[test]
+fn traces_name_the_end(rt: HostRuntime) {
+    is_named(&rt, rt.alloc(), End::Quiet, b"swt-trace 2\nQ\n");
+    is_named(&rt, rt.alloc(), End::Limit, b"swt-trace 2\nL\n");
+    let fault = Fault {
+        kind: FaultKind::NoElement,
+        statement: statement(&rt, rt.alloc(), 7, &[]),
+    };
+    is_named(&rt, rt.alloc(), End::Fault(fault), b"swt-trace 2\nF\n");
 }
 
 /// A report is written as this text, so many bytes at once.
@@ -252,7 +315,7 @@ fn is_end(rt: &impl Abort, alloc: Global, end: End, text: &[u8]) {
 #[test]
 fn missing_elements_are_shown(rt: HostRuntime) {
     let missing = Fault {
-        kind: FaultKind::OfEntry(EntryFault::NoElement),
+        kind: FaultKind::NoElement,
         statement: statement(&rt, rt.alloc(), 7, &[]),
     };
     let text = b"a\n\nswt: fault F3 NoElement 7 /\n";
@@ -286,14 +349,14 @@ fn stops_writing(rt: &impl Abort, alloc: Global, report: &Report, refused: u8) {
     let mut sink = sink_of(alloc, 1, refused);
     let fault = write_trace(report, &mut sink).err();
     is_equal(rt, fault, Some(WriteFault::Write));
-    has_stopped(rt, &sink, HELLO, refused);
+    has_stopped(rt, &sink, CUT_HELLO, refused);
 }
 
 /// A sink that takes one byte a write and refuses one of them has the bytes before it.
 #[test]
 fn writing_stops_at_a_refused_write(rt: HostRuntime) {
     let report = limit_report(&rt, rt.alloc(), &HELLO_EVENTS);
-    for refused in 1..37u8 {
+    for refused in 1..39u8 {
         stops_writing(&rt, rt.alloc(), &report, refused);
     }
 }
@@ -342,4 +405,46 @@ fn bad_traces_are_not_replayed(rt: HostRuntime) {
     is_equal(&rt, bad, Some(ReplayFault::BadLine(3)));
     let stranger = replayed(&rt, rt.alloc(), "B 0 1\nE 1 1\n").err();
     is_equal(&rt, stranger, Some(ReplayFault::NotARun(3)));
+}
+
+/// What the trace of version 2 of `printf("hello");` with these lines comes to, run again.
+fn ended(rt: &impl Abort, alloc: Global, lines: &str) -> Result<Report, ReplayFault> {
+    let code = hello(alloc).expect(rt, "a code");
+    let trace = format!(in alloc; "swt-trace 2\n{lines}").expect(rt, "memory");
+    replay(alloc, &code, trace.as_bytes())
+}
+
+#[test]
+fn the_end_that_is_named_is_that_of_the_run(rt: HostRuntime) {
+    let whole = "B 0 1\nE 0 1\nB 2 2\nE 2 2\nQ\n";
+    let report = ended(&rt, rt.alloc(), whole).expect(&rt, "a run");
+    assert!(rt; matches!(report.end, End::Quiet));
+    let cut = ended(&rt, rt.alloc(), "B 0 1\nL\n").expect(&rt, "a run");
+    assert!(rt; matches!(cut.end, End::Limit));
+    let none = ended(&rt, rt.alloc(), "L\n").expect(&rt, "a run");
+    assert!(rt; none.history.is_empty());
+}
+
+/// The trace of version 2 with these lines is refused so.
+fn is_refused(rt: &impl Abort, alloc: Global, lines: &str, wanted: ReplayFault) {
+    is_equal(rt, ended(rt, alloc, lines).err(), Some(wanted));
+}
+
+#[test]
+fn another_end_is_refused(rt: HostRuntime) {
+    let whole = "B 0 1\nE 0 1\nB 2 2\nE 2 2\n";
+    for letter in ["F", "L"] {
+        let lines = format!(in rt.alloc(); "{whole}{letter}\n").expect(&rt, "memory");
+        is_refused(&rt, rt.alloc(), lines.as_str(), ReplayFault::WrongEnd(6));
+    }
+    is_refused(&rt, rt.alloc(), "B 0 1\nQ\n", ReplayFault::WrongEnd(3));
+    is_refused(&rt, rt.alloc(), "Q\n", ReplayFault::WrongEnd(2));
+}
+
+/// A bad line is refused before any event is run, and an event that is no step before the end.
+#[test]
+fn another_end_is_refused_last(rt: HostRuntime) {
+    let stray = "E 0 1\nQ\nQ\n";
+    is_refused(&rt, rt.alloc(), stray, ReplayFault::BadLine(4));
+    is_refused(&rt, rt.alloc(), "E 0 1\nQ\n", ReplayFault::NotARun(2));
 }

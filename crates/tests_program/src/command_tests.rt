@@ -153,7 +153,7 @@ fn runs_a_script_in_either_order(rt: HostRuntime) {
 
 #[test]
 fn takes_options(rt: HostRuntime) {
-    let traced = "hello\n||swt-trace 1\nB 0 1\nE 0 1\nB 1 2\nE 1 2\n|0";
+    let traced = "hello\n||swt-trace 2\nB 0 1\nE 0 1\nB 1 2\nE 1 2\nQ\n|0";
     let rows: [(&str, &str); 6] = [
         ("run f --engines 1 --workers 1 --trace t", traced),
         ("run f --steps 1", "swt: limit 1\n|||5"),
@@ -260,7 +260,7 @@ fn replays<R: Threads + Wait + Sync + Abort>(rt: &R, alloc: Global, trace: &[u8]
 
 #[test]
 fn replays_traces(rt: HostRuntime) {
-    let rows: [(&[u8], &str); 5] = [
+    let rows: [(&[u8], &str); 8] = [
         (b"swt-trace 1\nB 0 1\nE 0 1\nB 1 2\nE 1 2\n", "hello\n|||0"),
         (b"swt-trace 1\nB 0 1\nE 0 1\nB 1 2\n", "swt: limit 3\n|||5"),
         (b"swt-trace 1\nB 0 1\nE 0 1\nB 1", "|swt: T1 BadLine 4\n||7"),
@@ -269,6 +269,9 @@ fn replays_traces(rt: HostRuntime) {
             "|swt: T2 NotARun 6\n||7",
         ),
         (b"", "|swt: T1 BadLine 1\n||7"),
+        (b"swt-trace 2\nB 0 1\nL\n", "swt: limit 1\n|||5"),
+        (b"swt-trace 2\nB 0 1\nQ\n", "|swt: T3 WrongEnd 3\n||7"),
+        (b"swt-trace 2\nB 0 1\n", "|swt: T1 BadLine 3\n||7"),
     ];
     for (trace, wanted) in rows {
         replays(&rt, rt.alloc(), trace, wanted);
@@ -310,7 +313,7 @@ fn stops_at_a_write(rt: HostRuntime) {
     let line = "run f --trace t";
     let part = "hel|swt: cannot write\n||7";
     does(&rt, rt.alloc(), line, &[Some(HELLO)], (3, 1000), part);
-    let part = "hello\n|swt: cannot write\n|swt-trace 1\nB 0 1\nE |7";
+    let part = "hello\n|swt: cannot write\n|swt-trace 2\nB 0 1\nE |7";
     does(&rt, rt.alloc(), line, &[Some(HELLO)], (6, 20), part);
     let part = "|swt: cannot write\n||7";
     does(&rt, rt.alloc(), "mean f", &[Some(HELLO)], (0, 0), part);

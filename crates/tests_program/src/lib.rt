@@ -29,4 +29,6 @@ mod refusals_tests;
 #[cfg(test)]
 mod stops_tests;
 #[cfg(test)]
+mod strangers_tests;
+#[cfg(test)]
 mod whole_tests;

@@ -7,6 +7,7 @@ use swt_arguments::command::Command;
 use swt_arguments::complaint::{Complaint, first_wrong};
 use swt_arguments::fault::LineFault;
 use swt_arguments::line::Line;
+use swt_arguments::nearest::meant;
 use swt_arguments::request::Request;
 use swt_arguments::word::Word;
 
@@ -84,12 +85,15 @@ fn shown_line(alloc: Global, line: &Line) -> Result<String, AllocError> {
 }
 
 /// Adds the options that several commands have.
-fn add_options(text: &mut String, explain: bool, progress: bool) -> Result<(), AllocError> {
-    if explain {
+fn add_options(text: &mut String, request: &Request) -> Result<(), AllocError> {
+    if request.explain {
         text.push_str(" explain")?;
     }
-    if progress {
+    if request.progress {
         text.push_str(" progress")?;
+    }
+    if request.json {
+        text.push_str(" json")?;
     }
     Ok(())
 }
@@ -97,7 +101,7 @@ fn add_options(text: &mut String, explain: bool, progress: bool) -> Result<(), A
 /// A request in one text.
 fn shown_request(alloc: Global, request: &Request) -> Result<String, AllocError> {
     let mut text = shown_line(alloc, &request.line)?;
-    add_options(&mut text, request.explain, request.progress)?;
+    add_options(&mut text, request)?;
     Ok(text)
 }
 
@@ -150,6 +154,9 @@ run a 1 3 10000000 none | run a
 run a 2 63 0 t | run --trace t --engines 2 a --steps 0 --workers 63
 replay a t | replay a t
 check a explain | check --explain a
+check a json | check a --json
+check a b explain json | check --json a --explain b
+code a explain | code a --explain
 mean a 1000000 explain | mean a --explain
 run a 1 3 1 none explain | run --steps 1 --explain a
 run a 1 3 10000000 none explain progress | run --progress a --explain
@@ -191,7 +198,8 @@ run a --workers -5
 run a --engines 1 --engines 1
 run a --trace
 run a --trace --steps 1
-code a --explain
+check --json a --json
+run a --json
 run --explain a --explain
 run --progress a --progress
 mean a --progress
@@ -215,12 +223,27 @@ fn no_words(rt: HostRuntime) {
 /// Words that a reader of command lines often takes in other ways.
 const OTHER_FORMS: &str = "\
 -- run a
-run -- a
-run a --
-check -- -a
-check -
+run --steps -- 1 a
+run a -- b
+run a -- --explain
+run -- -- a
+check --
+check - -
+check - -- -
+replay - -
 run a --trace -
-run a --steps=1
+run a --trace=-
+run a --trace=-t
+run a --trace=--steps
+run a --trace=--explain t
+run a --steps=
+run a --steps=-1
+run a --steps=1=1
+run a --steps=1 --steps 1
+run a --steps=1 1
+run a --explain=1
+run a --step=1
+run a -steps=1
 run a --step 1
 run a --=1
 run a -s 1
@@ -232,6 +255,29 @@ help run";
 #[test]
 fn other_forms(rt: HostRuntime) {
     are_no_commands(&rt, rt.alloc(), OTHER_FORMS);
+}
+
+/// A value in one word with its option, files behind `--`, and standard input.
+const FORMS: &str = "\
+run a 1 3 1 none | run a --steps=1
+run a 1 3 10000000 a=b | run --trace=a=b a
+run a 2 63 0 t explain | run --engines=2 --trace=t --workers 63 --explain --steps=0 a
+run a 1 3 10000000  | run a --trace=
+mean a 7 | mean --rounds=007 -- a
+run a 1 3 10000000 none | run -- a
+run a 1 3 10000000 none | run a --
+check a -b -- --explain=1 | check a -- -b -- --explain=1
+check a --explain explain | check --explain a -- --explain
+check - | check -
+check - a explain | check - --explain a
+check a - | check a -- -
+replay - t | replay - t
+replay a - | replay a -
+code - dot | code --dot -";
+
+#[test]
+fn forms(rt: HostRuntime) {
+    are_shown(&rt, rt.alloc(), FORMS);
 }
 
 /// Words that look like others, and are names and numbers. In the first row one has no bytes.
@@ -334,7 +380,17 @@ swt: many is no number from 1 to 4294967295 | mean a --rounds many
 swt: --dot stands twice | code a --dot --dot
 swt: b is one file too many for mean | mean a b
 swt: check wants one file or more | check
-swt: replay wants a file and its trace | replay a";
+swt: replay wants a file and its trace | replay a
+swt: -1 is no number from 0 to 4294967295 | run a --steps -1
+swt: -1 is no number from 1 to 63 | run --workers=-1 a
+swt: --steps has no value behind it | run --steps -- a
+swt: --steps has no value behind it | run a --steps=
+swt: --trace has no value behind it | run a --trace -x
+swt: -x is no name for a trace: write ./-x | run a --trace=-x
+swt: - is no name for a trace: write ./- | run a --trace -
+swt: --steps stands twice | run --steps=1 --steps 2 a
+swt: - stands twice | check - a -
+swt: --explain is one file too many for run | run a -- --explain";
 
 #[test]
 fn complaints(rt: HostRuntime) {
@@ -345,6 +401,47 @@ fn complaints(rt: HostRuntime) {
     is_equal(&rt, has_wrong(&rt, rt.alloc(), "run a --trace t"), false);
 }
 
+/// The name that is nearest to the first wrong word of a line.
+fn meant_by(rt: &impl Abort, alloc: Global, line: &str) -> &'static str {
+    let words = words_of(alloc, line).expect(rt, "memory");
+    let wrong = first_wrong(words.as_slice()).expect(rt, "something is wrong");
+    meant(alloc, &wrong).expect(rt, "memory").unwrap_or("none")
+}
+
+const MEANT: &str = "\
+check | chek a
+run | Run a
+none | walk a
+--steps | run a --step 1
+--steps | run a -steps=1
+--explain | run a --explian
+--workers | run a --work 2
+--rounds | mean a --round=3
+none | check a --steps 1
+none | mean a b";
+
+#[test]
+fn nearest_names(rt: HostRuntime) {
+    for row in MEANT.lines() {
+        let (name, line) = parts(&rt, row);
+        is_equal(&rt, (line, meant_by(&rt, rt.alloc(), line)), (line, name));
+    }
+}
+
+/// Whether the whole usage is to be told behind what is wrong with a line.
+fn calls_for_usage(rt: &impl Abort, alloc: Global, line: &str) -> bool {
+    let words = words_of(alloc, line).expect(rt, "memory");
+    let wrong = first_wrong(words.as_slice()).expect(rt, "something is wrong");
+    wrong.wants_usage()
+}
+
+#[test]
+fn calls_for_help(rt: HostRuntime) {
+    holds(&rt, calls_for_usage(&rt, rt.alloc(), "help run"));
+    holds(&rt, calls_for_usage(&rt, rt.alloc(), "run a --help"));
+    is_equal(&rt, calls_for_usage(&rt, rt.alloc(), "walk a"), false);
+}
+
 /// A fault in one text.
 fn fault_text(rt: &impl Abort, alloc: Global, fault: LineFault) -> String {
     format!(in alloc; "{fault}").expect(rt, "memory")
@@ -353,7 +450,7 @@ fn fault_text(rt: &impl Abort, alloc: Global, fault: LineFault) -> String {
 #[test]
 fn usage_has_a_text(rt: HostRuntime) {
     let usage = fault_text(&rt, rt.alloc(), LineFault::Usage);
-    let first = "usage: swt check FILE.. [--explain]\n";
+    let first = "usage: swt check FILE.. [--explain] [--json]\n";
     holds(&rt, usage.as_str().starts_with(first));
 }
 

@@ -3,12 +3,10 @@
 use crate::asserts::{boxed, holds, is_equal};
 use crate::doing::{code_of, known_of, program_of, report_of};
 use board::board::Board;
-use board::{Fault, Statement, Step};
 use board_runs::report::{End, Report};
 use board_runs::turn::finish;
-use meaning_facts::instances::Step as MeantStep;
 use meaning_outcomes::knowledge::Knowledge;
-use meaning_outcomes::order::Statement as MeantStatement;
+use paths::{Fault, Statement};
 use std::alloc::{AllocError, Global};
 use std::process::Abort;
 use swt_command::buffer::Buffer;
@@ -81,22 +79,6 @@ fn is_worked(rt: &impl Abort, alloc: Global, report: &Report, worked: &Worked) -
     are_worked(&report.end, printed.as_slice(), worked) && has_end(rt, alloc, report, worked.ends)
 }
 
-/// These are the same step.
-fn is_step(meant: &MeantStep, step: &Step) -> bool {
-    meant.at == step.offset && meant.key.is_same(&step.key)
-}
-
-/// These are the same statement of the same instance.
-fn is_statement(meant: &MeantStatement, statement: &Statement) -> bool {
-    meant.at == statement.at
-        && meant.path.len() == statement.path.len()
-        && meant
-            .path
-            .iter()
-            .zip(statement.path.iter())
-            .all(|(a, b)| is_step(a, b))
-}
-
 /// These are the same lines, and as many.
 fn same_lines(printed: &Vec<&[u8]>, lines: &Vec<Text>) -> bool {
     printed.len() == lines.len()
@@ -136,12 +118,8 @@ fn has_some_known_lines(
 }
 
 /// These are the same statements, and as many.
-fn same_statements(meant: &Vec<MeantStatement>, blocked: &[Statement]) -> bool {
-    meant.len() == blocked.len()
-        && meant
-            .iter()
-            .zip(blocked.iter())
-            .all(|(a, b)| is_statement(a, b))
+fn same_statements(meant: &Vec<Statement>, blocked: &[Statement]) -> bool {
+    meant.len() == blocked.len() && meant.iter().zip(blocked.iter()).all(|(a, b)| a.is_same(b))
 }
 
 /// These are all known blocked statements, and no other.
@@ -158,9 +136,7 @@ fn knows_no_fault(rt: &impl Abort, known: &Knowledge) -> bool {
 /// The fault is a known one.
 fn is_known_fault(rt: &impl Abort, fault: &Fault, known: &Knowledge) -> bool {
     let faults = known.faults().expect(rt, "memory");
-    faults
-        .iter()
-        .any(|f| is_statement(&f.statement, &fault.statement))
+    faults.iter().any(|f| f.is_same(fault))
 }
 
 /// The quiet report has all that is known of the script.
@@ -506,6 +482,6 @@ fn chosen_order(rt: HostRuntime) {
     let code = code_of(&rt, rt.alloc(), script);
     let report = report_of(&rt, rt.alloc(), &code, &[7, 1], 100);
     tells(&rt, rt.alloc(), &report, b"a\n1\n");
-    let events = b"swt-trace 1\nB 0 1\nE 0 1\nB 1 3\nE 1 3\nB 1 2\nE 1 2\nB 1 4\nE 1 4\n";
+    let events = b"swt-trace 2\nB 0 1\nE 0 1\nB 1 3\nE 1 3\nB 1 2\nE 1 2\nB 1 4\nE 1 4\nQ\n";
     has_events(&rt, rt.alloc(), &report, events);
 }

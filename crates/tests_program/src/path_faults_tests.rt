@@ -3,11 +3,12 @@
 use crate::asserts::{boxed, holds, is_equal, only};
 use flow::name::{Name, Owned};
 use language::tree::Shape;
-use meaning_facts::facts::{Fact, FaultKind, Write};
-use meaning_facts::instances::{Given, MOST_STEPS, Step};
+use meaning_facts::facts::{Fact, Write};
+use meaning_facts::instances::{Given, MOST_STEPS};
 use meaning_facts::learned::Learned;
 use meaning_faults::faults::{add_deep, add_deep_items, add_fault};
 use meaning_faults::site::Site;
+use paths::{FaultKind, Step};
 use std::alloc::Global;
 use std::process::Abort;
 use values::key::Key;
@@ -34,7 +35,7 @@ fn nothing(rt: &impl Abort, alloc: Global) -> Box<Learned> {
 /// Opens a block in an instance, and says which instance that is.
 fn opened(rt: &impl Abort, alloc: Global, learned: &mut Learned, instance: usize) -> usize {
     let step = Step {
-        at: 40,
+        offset: 40,
         key: Key::Number(0),
     };
     learned

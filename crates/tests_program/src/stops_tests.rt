@@ -37,6 +37,8 @@ fn a_trace_is_run_again(rt: HostRuntime) {
     has_events(&rt, rt.alloc(), b"swt-trace 1\nB 0 1\nE 0 1\n", Ok(2));
     let not_a_run = stop(Trouble::NotARun(2));
     has_events(&rt, rt.alloc(), b"swt-trace 1\nE 0 1\n", not_a_run);
+    let wrong_end = stop(Trouble::WrongEnd(3));
+    has_events(&rt, rt.alloc(), b"swt-trace 2\nB 0 1\nQ\n", wrong_end);
     let bad_line = stop(Trouble::BadLine(1));
     has_events(&rt, rt.alloc(), b"no trace\n", bad_line);
 }
@@ -44,5 +46,6 @@ fn a_trace_is_run_again(rt: HostRuntime) {
 #[test]
 fn trouble_has_a_status(rt: HostRuntime) {
     is_equal(&rt, Trouble::NotARun(2).status().number(), 7);
+    is_equal(&rt, Trouble::WrongEnd(2).status().number(), 7);
     is_equal(&rt, Trouble::BadCount.status().number(), 2);
 }

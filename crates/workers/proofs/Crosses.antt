@@ -34,13 +34,19 @@ use Rattle.board_program.specs.contracts.program.Program as program
 use Rattle.board_program.proofs.program.EntryTable.TheSendSync as entry_table
 use Rattle.board_program.proofs.program.BodyTable.TheSendSync as body_table
 use Rattle.board_instances.proofs.item.Item.TheSendSync as item
-use Rattle.board_instances.proofs.place.Fault.TheSendSync as fault
+use Rattle.paths.proofs.faults.Fault.TheSendSync as fault
 use Rattle.board_items.specs.contracts.items.Items as items
 use Rattle.board_changes.proofs.world.World.TheSendSync as world
 use Rattle.board.specs.contracts.state.Core as core
 use Rattle.board.specs.contracts.board.Board as board
 use Rattle.pool_offers.proofs.Offers.TheSendSync as offers
+use Rattle.logbook.proofs.word.Word.TheSendSync as word
+use Rattle.logbook.proofs.tokens.Seen.TheSendSync as seen
 use Rattle.workers.specs.declared.job.Job as jobs
+use Rattle.workers.specs.contracts.begun.Begun as begun
+use Rattle.workers.specs.contracts.begun.Finished as finished
+use Rattle.workers.specs.contracts.book.Book as log
+use Rattle.workers.specs.contracts.book.Front as front
 use Rattle.workers.specs.contracts.desk.Desk as desk
 use Rattle.workers.specs.contracts.floor.Floor as floor
 use Rattle.workers.specs.contracts.hand.Hand as hand
@@ -87,15 +93,28 @@ core_send = search (items_send, world.the_field_send, option.the_field_send, sca
 pub board_send : IsSend (board.the_field).row
 board_send = search (program_send, core_send, event.the_send, answer.the_send, crosses, sendable) depth 60 fits 4000
 
+module _ (J : RattleType) (g : jobs.Ghosts J.Denot) where
+  log_send : IsSend (log.the_field J g).row
+  log_send = search (word.the_send, crosses, sendable) depth 60 fits 4000
+
+  front_send : IsSend (front.the_row J g)
+  front_send = search (seen.the_send, crosses, sendable) depth 60 fits 4000
+
+  begun_send : IsSend (begun.the_row J g)
+  begun_send = search (work_send, front_send, crosses, sendable) depth 60 fits 4000
+
+  finished_send : IsSend (finished.the_row J g)
+  finished_send = search (done_send, front_send, crosses, sendable) depth 60 fits 4000
+
 module _ (J E N : RattleType) (g : jobs.Ghosts J.Denot) (h : ledger.Ghosts E.Denot) (k : ledger.Ghosts N.Denot) where
   desk_send : IsSend (desk.the_row J E N g h k)
-  desk_send = search (board_send, book.the_send, crosses, sendable) depth 60 fits 4000
+  desk_send = search (board_send, log_send, front_send, book.the_send, crosses, sendable) depth 60 fits 4000
 
   pub floor_send : IsSend (floor.the_row J E N g h k)
   floor_send = search (desk_send, crosses, sendable) depth 60 fits 4000
 
   hand_send : IsSend (hand.the_field J E N g h k).row
-  hand_send = search (work_send, done_send, offers.the_field_send, share.the_send, kinds.the_field_send, crosses, sendable) depth 60 fits 4000
+  hand_send = search (begun_send, finished_send, offers.the_field_send, share.the_send, kinds.the_field_send, crosses, sendable) depth 60 fits 4000
 
   pub ended_send : IsSend (ended.the_row J E N g h k)
   ended_send = search (hand_send, crosses, sendable) depth 60 fits 4000

@@ -1,3 +1,5 @@
 mod Added
 mod Crosses
 mod Threads
+mod Adding
+mod Fronts

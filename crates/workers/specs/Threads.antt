@@ -4,6 +4,8 @@ use Rattle.dataflow.specs.Events.{NewlyAt, backs}
 use Rattle.dataflow.specs.Machine.{Back, Begin, End, Event, start}
 use Rattle.dataflow.specs.System.{In}
 use Rattle.board.specs.Board.{Seen}
+use Rattle.board_work.specs.Assigned.{Assigned}
+use Rattle.workers.specs.Begun.{AreItems}
 use Rattle.workers.specs.declared.desk.Stop.{Stop}
 use Rattle.task_code.specs.Code.{Code, Control, Kind, Leaf}
 use Rattle.task_code.specs.Machine.{CodeItem, CodeState, CodeStep}
@@ -30,15 +32,16 @@ module _ (C : Code) (engines workers : ℕ) where
     gives_back : {events : List Event} {news w number : ℕ} {old new : CodeState} {numbers : List ℕ} → RunsTo events news old → CodeStep C old (Back w number) new
         → IsTheirs engines workers w → NewlyAt (code_system C) old new numbers → RunsTo (events ++ Back w number ∷ []) (news + length numbers) new
 
--- what lies under the lock: the board, why the run is to stop, how many items came to be ready, and what the books have
+-- what lies under the lock: the board, why the run is to stop, how many items came to be ready, what the books have, and what was begun
 pub record Kept : Type 0 where
   pub board : Seen
   pub stop : Option Stop
   pub told : ℕ
   pub events : ℕ
   pub news : ℕ
+  pub log : List Assigned
 
--- the board is one of this run, its events and the items that came to be ready are in the books, and no item is given back in a run that goes on
+-- the board is one of this run, its events and the items that came to be ready are in the books, no item is given back in a run that goes on, and what was begun is its items' own
 pub record IsKept (C : Code) (limit engines workers : ℕ) (d : Kept) : Type 0 where
   pub code : d.board.code ≡ C
   pub limit_is : d.board.limit ≡ limit
@@ -48,3 +51,4 @@ pub record IsKept (C : Code) (limit engines workers : ℕ) (d : Kept) : Type 0 w
   pub fits : d.told < 2 ^ 64
   pub runs : RunsTo C engines workers d.board.history d.told d.board.state
   pub no_back : d.stop ≡ None → backs d.board.history ≡ 0
+  pub items : AreItems d.board d.log

@@ -4,12 +4,18 @@ ghost use Rattle.dataflow.specs.Events.{backs};
 ghost use Rattle.dataflow.specs.Machine.{start};
 ghost use Rattle.task_code.specs.System.{code_system};
 ghost use Rattle.task_code.specs.View.{kind_view};
+ghost use Rattle.board.specs.Board.{Accepts, IsItems, IsWorker};
+ghost use Rattle.dataflow.specs.Machine as Machine;
+ghost use Rattle.workers.specs.Begun.{AreItems};
 ghost use Rattle.workers.specs.Threads.{IsPlace, IsTheirs, RunsTo};
 
+use crate::begun::{Begun, Finished};
+use crate::book::{Book as Log, Front, Opened};
 use crate::crowd::Crowds;
 use crate::fresh::{count_fresh, list_fresh};
 use crate::job::Job;
 use board::board::Board;
+use board::laws::work_stays;
 use board::refusal::Refusal;
 use board_work::work::{Done, Work};
 use pool_offers::Fresh;
@@ -19,6 +25,9 @@ use task_code::entry::Kind;
 
 /// So many items may have come to be ready at most; no run of as many events as can be counted comes near it.
 const MOST: u64 = 1 << 62;
+
+/// So much work is known from its begin.
+const MOST_BEGUN: u64 = 1 << 61;
 
 /// Why a run stopped before its end.
 #[derive(Clone, Copy, PartialEq, Eq, Drop)]
@@ -32,6 +41,8 @@ pub enum Stop {
 #[derive(Drop)]
 pub struct Desk<J: Job, E: Ledger, N: Ledger> {
     board: Board,
+    log: Log<J>,
+    front: Front<J>,
     stop: Option<Stop>,
     told: u64,
     events: Book<E>,
@@ -48,21 +59,25 @@ impl<J: Job, E: Ledger, N: Ledger> Model for Desk<J, E, N> {
 
     ghost coded = { Prim.hlevel (codes, expr_code (Prim.hlevel codes), exprs_code (Prim.hlevel codes)) };
 
-    ghost view = { λ d. record { board = d.board; stop = d.stop; told = d.told; events = d.events.total; news = d.news.total } };
+    ghost view = { λ d. record { board = d.board; stop = d.stop; told = d.told; events = d.events.total; news = d.news.total; log = d.front } };
 
-    ghost invariant = { λ d. IsKept J.code J.limit J.engines J.workers (record { board = d.board; stop = d.stop; told = d.told; events = d.events.total; news = d.news.total }) };
+    ghost invariant = { λ d. IsKept J.code J.limit J.engines J.workers (record { board = d.board; stop = d.stop; told = d.told; events = d.events.total; news = d.news.total; log = d.front }) };
 }
 
 impl<J: Job, E: Ledger, N: Ledger> Desk<J, E, N> {
     /// A board before any event, with empty books.
-    pub fn new(board: Board, events: Book<E>, news: Book<N>) -> Desk<J, E, N>
+    pub fn new(board: Board, opened: Opened, events: Book<E>, news: Book<N>) -> Desk<J, E, N>
         requires code { (board.code ≡ J.code) × (board.limit ≡ J.limit) }
         requires some { J.engines + J.workers ≤ 64 }
         requires first { (board.history ≡ []) × (board.state ≡ start (code_system board.code)) }
         requires empty { (events.total ≡ 0) × (news.total ≡ 0) }
+        requires opened { opened.seen.book ≡ J.book }
     {
+        let (log, front) = opened.named::<J>();
         Desk {
             board,
+            log,
+            front,
             stop: None,
             told: 0,
             events,
@@ -101,6 +116,24 @@ impl<J: Job, E: Ledger, N: Ledger> Desk<J, E, N> {
         self.board.lines().len()
     }
 
+    /// Work that has just begun goes into the log. It is known from then on.
+    fn note(&mut self, work: Work) -> Begun<J>
+        requires { IsItems self.old.board work }
+        ensures rest { self.new ≡ record self.old { log = self.new.log } }
+        ensures work { result ≡ work }
+    {
+        let mut front = self.front.again();
+        if front.len() >= MOST_BEGUN {
+            return Begun::unknown(work, front);
+        }
+        if !front.add(&self.log, &work) {
+            return Begun::unknown(work, front);
+        }
+        let begun = Begun::known(work, front.again());
+        self.front = front;
+        begun
+    }
+
     /// The item of the number begins, if it is of the kind and can begin.
     fn begin_this(
         &mut self,
@@ -108,7 +141,7 @@ impl<J: Job, E: Ledger, N: Ledger> Desk<J, E, N> {
         kind: Kind,
         item: u64,
         mine: &mut Share<E>,
-    ) -> Result<Work, Refusal>
+    ) -> Result<Begun<J>, Refusal>
         requires part { 0 < mine.old.parts }
         requires place { IsPlace J.engines J.workers worker (kind_view kind) }
         ensures ok { OnOk result ((mine.new.amount ≡ mine.old.amount + 1) × (mine.new.amount < 2 ^ 64)) }
@@ -118,6 +151,8 @@ impl<J: Job, E: Ledger, N: Ledger> Desk<J, E, N> {
         if self.told >= MOST {
             return Err(Refusal::Stranger);
         }
+        work_stays();
+        let _before = self.board.history();
         let Some(found) = self.board.kind(item) else {
             return Err(Refusal::NotReady);
         };
@@ -129,7 +164,7 @@ impl<J: Job, E: Ledger, N: Ledger> Desk<J, E, N> {
         let Desk { events, .. } = self;
         events.add(mine, 1);
         events.audit(mine);
-        Ok(work)
+        Ok(self.note(work))
     }
 
     /// The item of the number begins, if there is one that is of the kind and can begin, and else the first that can. None can where the
@@ -140,7 +175,7 @@ impl<J: Job, E: Ledger, N: Ledger> Desk<J, E, N> {
         kind: Kind,
         drawn: Option<u64>,
         mine: &mut Share<E>,
-    ) -> Result<Work, Refusal>
+    ) -> Result<Begun<J>, Refusal>
         requires part { 0 < mine.old.parts }
         requires place { IsPlace J.engines J.workers worker (kind_view kind) }
         ensures ok { OnOk result ((mine.new.amount ≡ mine.old.amount + 1) × (mine.new.amount < 2 ^ 64)) }
@@ -164,7 +199,7 @@ impl<J: Job, E: Ledger, N: Ledger> Desk<J, E, N> {
     pub fn end(
         &mut self,
         worker: u8,
-        done: Done,
+        finished: Finished<J>,
         mine: &mut Share<E>,
         news: &mut Share<N>,
         list: &mut Vec<Fresh>,
@@ -178,9 +213,11 @@ impl<J: Job, E: Ledger, N: Ledger> Desk<J, E, N> {
         ensures parts { (mine.new.parts ≡ mine.old.parts) × (news.new.parts ≡ news.old.parts) }
     {
         if self.told >= MOST {
-            return Err((done, Refusal::Stranger));
+            return Err((finished.into_done(), Refusal::Stranger));
         }
-        self.board.end(worker, done)?;
+        work_stays();
+        let _before = self.board.history();
+        end_on(&mut self.board, &self.front, worker, finished)?;
         let Desk {
             board,
             told,
@@ -217,6 +254,8 @@ impl<J: Job, E: Ledger, N: Ledger> Desk<J, E, N> {
         if self.told >= MOST {
             return Err(Refusal::Stranger);
         }
+        work_stays();
+        let _before = self.board.history();
         self.board.back(worker, item)?;
         let Desk {
             board,
@@ -276,4 +315,30 @@ impl<J: Job, E: Ledger, N: Ledger> Desk<J, E, N> {
     {
         &self.board
     }
+}
+
+/// An item of the board ends. What is known from its begin is not looked at.
+fn end_on<J: Job>(
+    board: &mut Board,
+    front: &Front<J>,
+    worker: u8,
+    finished: Finished<J>,
+) -> Result<(), (Done, Refusal)>
+    requires worker { IsWorker worker }
+    requires items { AreItems board.old front.now }
+    ensures accepted { OnOk result (Accepts board.old (Machine.End worker finished.item) board.new) }
+    ensures unchanged { OnErr result (board.new ≡ board.old) }
+{
+    let Finished {
+        done,
+        front: seen,
+        known,
+    } = finished;
+    if !known {
+        return board.end(worker, done);
+    }
+    if !seen.begins(front) {
+        return board.end(worker, done);
+    }
+    board.end_begun(worker, done)
 }

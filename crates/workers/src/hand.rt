@@ -4,11 +4,11 @@ ghost use Rattle.pool.specs.Seats.{view, seat_pool, pool_id};
 ghost use Rattle.task_code.specs.View.{kind_view};
 ghost use Rattle.workers.specs.Threads.{IsPlace};
 
+use crate::begun::{Begun, Finished};
 use crate::floor::Floor;
 use crate::fresh::side_of;
 use crate::job::{Gate, Job};
 use board::refusal::Refusal;
-use board_work::work::{Done, Work};
 use pool::{Pool, PoolSeat};
 use pool_offers::Offers;
 use std::alloc::Global;
@@ -26,8 +26,8 @@ pub struct Hand<J: Job, E: Ledger, N: Ledger> {
     pub events: Share<E>,
     pub news: Share<N>,
     pub tally: u64,
-    pub works: Vec<Work>,
-    pub dones: Vec<Done>,
+    pub works: Vec<Begun<J>>,
+    pub dones: Vec<Finished<J>>,
     pub comes: bool,
     pub of: PhantomData<J>,
     ghost place: { IsPlace J.engines J.workers worker (kind_view kind) },
@@ -118,12 +118,12 @@ impl<J: Job, E: Ledger, N: Ledger> Hand<J, E, N> {
         if dones.reserve(1).is_err() {
             return Err(item);
         }
-        match gate.pass(worker, work) {
-            Ok(done) => {
+        match work.pass(worker, gate) {
+            Some(done) => {
                 dones.push_reserved(done);
                 Ok(())
             }
-            Err(_) => Err(item),
+            None => Err(item),
         }
     }
 
@@ -144,7 +144,7 @@ impl<J: Job, E: Ledger, N: Ledger> Hand<J, E, N> {
     }
 
     /// What was done for the item that it began first and has not ended.
-    pub fn next_done(&mut self) -> Option<Done>
+    pub fn next_done(&mut self) -> Option<Finished<J>>
         ensures { self.new.offers.pending ≡ self.old.offers.pending }
     {
         let Hand { dones, .. } = self;
@@ -152,7 +152,7 @@ impl<J: Job, E: Ledger, N: Ledger> Hand<J, E, N> {
     }
 
     /// Ends an item.
-    pub fn end(&mut self, floor: &mut Floor<J, E, N>, done: Done) -> Result<(), Refusal> {
+    pub fn end(&mut self, floor: &mut Floor<J, E, N>, done: Finished<J>) -> Result<(), Refusal> {
         let worker = self.worker;
         let Floor { desk, crowds } = floor;
         let Hand {

@@ -4,9 +4,10 @@ use board_work::work::{Done, Work};
 use std::alloc::AllocError;
 use std::marker::Brand;
 
-/// Names one run: its code and limit, how many engines and workers it has, and its pool.
+/// Names one run: its code and limit, how many engines and workers it has, its pool, and the book of what was begun.
 pub trait Job {
     ghost use Rattle.std.specs.Prelude.{ℕ};
+    ghost use Rattle.logbook.specs.Pages.{Book};
     ghost use Rattle.pool.specs.Seats.{PoolId};
     ghost use Rattle.task_code.specs.Code.{Code};
 
@@ -19,6 +20,8 @@ pub trait Job {
     ghost workers: { ℕ };
 
     ghost pool: { PoolId };
+
+    ghost book: { Book };
 }
 
 impl Job for Brand {
@@ -34,6 +37,8 @@ impl Job for Brand {
     ghost workers = { 0 };
 
     ghost pool = { no_pool };
+
+    ghost book = { record { number = 0; log_name = 0; cells_name = 0 } };
 }
 
 /// How far a run is.

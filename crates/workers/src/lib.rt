@@ -1,7 +1,9 @@
 //! Runs of code on threads: engines run control items, workers leaf items, over one board under a lock and a pool of numbers outside of it.
 #![tactic(auto)]
 
+mod begun;
 mod bells;
+mod book;
 mod crowd;
 mod desk;
 pub mod fault;

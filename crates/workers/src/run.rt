@@ -8,6 +8,7 @@ ghost use Rattle.board_runs.specs.Report.{Tells};
 ghost use Rattle.workers.specs.Reports.{IsReport};
 
 use crate::bells::Bells;
+use crate::book::Opened;
 use crate::crowd::Crowds;
 use crate::desk::{Desk, Stop};
 use crate::fault::RunFault;
@@ -286,6 +287,7 @@ fn run<
     pool: Pool,
     seats: Vec<PoolSeat>,
     board: Board,
+    opened: Opened,
     events: Blank,
     news: Blank,
     engines: u8,
@@ -297,13 +299,14 @@ fn run<
     requires parts { (events.parts ≡ count) × (news.parts ≡ count) }
     requires pool { pool_id pool ≡ J.pool }
     requires seats { All (λ s. IsSeatOf pool s × (view s ≡ beginner 1)) seats.items }
+    requires opened { opened.seen.book ≡ J.book }
     requires board { (board.code ≡ J.code) × (board.limit ≡ J.limit) × (board.history ≡ []) × (board.state ≡ start (code_system board.code)) }
     ensures report { IfOk result (λ r. IsReport J.code J.limit J.engines J.workers r.0 r.1) }
     ensures fault { IfErr result (λ e. e ≢ RunFault.BadCount) }
 {
     let (event_book, all_events) = events.open::<E>();
     let (news_book, all_news) = news.open::<N>();
-    let desk = Desk::<J, E, N>::new(board, event_book, news_book);
+    let desk = Desk::<J, E, N>::new(board, opened, event_book, news_book);
     let crowds = Crowds::new(engines as usize, count.saturating_sub(engines as usize));
     let mut floor = Mutex::new(Floor { desk, crowds });
     run_on(
@@ -341,6 +344,16 @@ pub fn run_threads<R: Threads + Wait + Sync, G: Gate>(
     let events = Blank::new(count as u64);
     let news = Blank::new(count as u64);
     run::<Brand, Brand, Brand, R, G>(
-        rt, alloc, pool, seats, board, events, news, engines, count, gate,
+        rt,
+        alloc,
+        pool,
+        seats,
+        board,
+        Opened::new(),
+        events,
+        news,
+        engines,
+        count,
+        gate,
     )
 }

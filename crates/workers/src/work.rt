@@ -2,13 +2,13 @@
 ghost use Rattle.std.specs.Prelude.{◌≡◌};
 ghost use Rattle.pool.specs.Seats.{pool_id};
 
+use crate::begun::Finished;
 use crate::bells::Bells;
 use crate::desk::Stop;
 use crate::floor::Floor;
 use crate::hand::{Ended, Hand};
 use crate::job::{Gate, Job};
 use board::refusal::Refusal;
-use board_work::work::Done;
 use pool::Pool;
 use std::alloc::{AllocError, Global};
 use std::sync::ledger::Ledger;
@@ -110,7 +110,7 @@ fn back_under<J: Job, E: Ledger, N: Ledger>(
 fn end_one<J: Job, E: Ledger, N: Ledger>(
     under: &mut Floor<J, E, N>,
     hand: &mut Hand<J, E, N>,
-    done: Done,
+    done: Finished<J>,
 ) -> bool {
     let item = done.item();
     match hand.end(under, done) {

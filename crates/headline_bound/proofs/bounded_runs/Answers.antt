@@ -12,6 +12,6 @@ returns-clause-live g = λ s t tree C same place typed single w I ex nodes clean
     run_live s (core t tree) same C w wf (meaning_knows (core t tree) wf single (same_clean s (core t tree) same clean)) I (scoped t tree place.in_order typed) (values_meant t tree place typed) nodes ex single events st run i m
 
 pub returns-clause-bound : goal.returns-clause-bound
-returns-clause-bound g = λ s t tree C same place typed single w I ex nodes clean bodies loops hb hl events st run.
+returns-clause-bound g = λ s t tree C same place typed single w I ex nodes clean events st run.
     let wf = placed_formed t tree place typed single in
-    run_bound s (core t tree) same C w wf (meaning_knows (core t tree) wf single (same_clean s (core t tree) same clean)) I (scoped t tree place.in_order typed) (values_meant t tree place typed) nodes ex single bodies loops hb hl events st run
+    run_bound s (core t tree) same C w wf (meaning_knows (core t tree) wf single (same_clean s (core t tree) same clean)) I (scoped t tree place.in_order typed) (values_meant t tree place typed) nodes ex single events st run

@@ -1,5 +1,3 @@
-use Rattle.std.proofs.Common.{refl}
-use Rattle.swt_trace.specs.Trace.{TraceText}
 use Rattle.swt_trace.proofs.Lines
 use Rattle.swt_trace.proofs.traces_are_exact.Goals as goal
 
@@ -7,10 +5,10 @@ pub returns-clause-one_meaning : goal.returns-clause-one_meaning
 returns-clause-one_meaning c = Lines.one_meaning
 
 pub returns-clause-one_text : goal.returns-clause-one_text
-returns-clause-one_text c = λ bytes es t. Lines.begins_with bytes es _ t
+returns-clause-one_text c = Lines.one_text
 
 pub returns-clause-written : goal.returns-clause-written
-returns-clause-written c = λ es a few. Lines.begins (TraceText es) es _ a few refl
+returns-clause-written c = Lines.written
 
 pub returns-clause-bad : goal.returns-clause-bad
 returns-clause-bad c = Lines.bad

@@ -16,7 +16,7 @@ returns g c can =
     let first = c.root.new.self in
     let last = c.each_function.new.self in
     script-emits (core_of {A = A} flow) (kinds_of {A = A} flow) (block_declared {A = A} flow.body) (functions_declared {A = A} functions) (length functions) (roots_of functions)
-    start.entries.items first.entries.items last.entries.items start.bodies.items first.bodies.items last.bodies.items
+    start.writer.entries.items first.writer.entries.items last.writer.entries.items start.bodies.items first.bodies.items last.bodies.items
     c.new-found.result.items c.push.new.self.items c.each_function.new.found.items c.append.new.self.items (body_view c.in_ok-main.main) can
     (sym (length-map functions (function_view {A = A}))) (λ few. refl) c.new-emitter.ensures.entries c.new-emitter.ensures.bodies c.new-found.ensures.items
     c.in_ok-main.ensures (ap (map body_view) c.in_ok-push.ensures.items ∙ map-append body_view c.new-found.result.items (c.in_ok-main.main ∷ [])) c.in_ok-each_function.ensures

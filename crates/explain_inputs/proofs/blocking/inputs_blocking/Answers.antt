@@ -3,7 +3,7 @@ use Rattle.std.specs.Prelude.{Option, Some, None, option_map}
 use Rattle.std.specs.Borrow.{Bor}
 use Rattle.language.specs.Meaning.{Known}
 use Rattle.language.specs.Resolved.{core}
-use Rattle.meaning_facts.specs.declared.instances.Step.{Step}
+use Rattle.paths.specs.declared.steps.Step.{Step}
 use Rattle.meaning_facts.specs.Paths.{at_path, path_of, step_view}
 use Rattle.flow_index.specs.declared.site.Site.{Site}
 use Rattle.flow_index.specs.Sites.{site_view}

@@ -4,7 +4,7 @@ use Rattle.std.specs.Prelude.{List}
 use Rattle.std.specs.Borrow.{Bor}
 use Rattle.flow.specs.declared.cell.Outer.{Outer}
 use Rattle.flow.specs.View.{outer_view}
-use Rattle.meaning_facts.specs.Listed.{outers_listed}
+use Rattle.meaning_cells.specs.Listed.{outers_listed}
 use Rattle.explain_inputs.specs.Inputs.{inputs_view, outer_inputs, outers_inputs}
 use Rattle.flow_index.proofs.Adding.{one_more}
 use Rattle.explain_inputs.proofs.input.add_outers.Goals as goal

@@ -1,5 +1,5 @@
 use Rattle.std.proofs.Common.{◌≡◌, ◌++◌, drop}
-use Rattle.meaning_facts.specs.Listed.{outers_listed}
+use Rattle.meaning_cells.specs.Listed.{outers_listed}
 use Rattle.explain_inputs.specs.Inputs.{inputs_view, outers_inputs}
 use Rattle.explain_inputs.proofs.input.add_outers.Given as goal
 

@@ -1,6 +1,6 @@
 use Rattle.std.specs.Prelude.{refl}
 use Rattle.language.specs.Meaning.{Known}
-use Rattle.meaning_facts.specs.Chosen.{key_in}
+use Rattle.meaning_cells.specs.Chosen.{key_in}
 use Rattle.meaning_invariants.specs.Active.{taken_by}
 use Rattle.meaning_invariants.proofs.EndedTurning as law
 use Rattle.meaning_invariants.proofs.ended_laws.what_a_variable_is.Goals as goal

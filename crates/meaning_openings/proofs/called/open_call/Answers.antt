@@ -8,10 +8,10 @@ use Rattle.language.specs.Core as core
 use Rattle.language.specs.Core.{Core}
 use Rattle.language.specs.Places.{most_steps}
 use Rattle.meaning_facts.specs.declared.instances.Given.{Given}
-use Rattle.meaning_facts.specs.declared.instances.Step.{Step}
+use Rattle.paths.specs.declared.steps.Step.{Step}
 use Rattle.meaning_facts.specs.Paths.{path_of}
 use Rattle.meaning_facts.specs.Store.{spots}
-use Rattle.meaning_facts.proofs.Ending.{slice_there}
+use Rattle.meaning_cells.proofs.Ending.{slice_there}
 use Rattle.meaning_invariants.specs.Active.{HasBlock}
 use Rattle.meaning_round.specs.Made.{tasks_of}
 use Rattle.meaning_openings.proofs.Entering.{call_step, one_function, short_path}
@@ -28,7 +28,7 @@ returns-clause-so g c =
     subst (λ (z : List (Function g.row.A.Denot)). slice_get z c.args.call.now.function ≡ Some c.in-Some.function.now) c.deref.ensures.value
     (slice_there c.deref.result.now c.args.call.now.function c.in-Some.function.now c.in-Some.ensures.lookup.3.0 c.in-Some.ensures.lookup.1) in
     let fv : core.Function = function_view {A = A} c.in-Some.function.now in
-    let x : Step = record { at = c.args.call.now.at; key = Key.Number (pos 0) } in
+    let x : Step = record { offset = c.args.call.now.at; key = Key.Number (pos 0) } in
     let given : Given = record { inputs = c.in_ok-places.field-0; outputs = c.in_ok-places-2.field-0; variables = c.new.result } in
     let short : length (path_of c.args.state.now.learned.instances.all.items c.args.instance) < most_steps =
     short_path (length (path_of c.args.state.now.learned.instances.all.items c.args.instance)) (sym c.if-is_deep.false ∙ c.is_deep.ensures) in

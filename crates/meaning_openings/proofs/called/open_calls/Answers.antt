@@ -8,7 +8,7 @@ use Rattle.language.specs.Core as core
 use Rattle.language.specs.Core.{stmt}
 use Rattle.language.specs.Members.{◌∈◌}
 use Rattle.language.specs.Parts.{part_calls, parts}
-use Rattle.meaning_facts.specs.Listed.{calls_listed}
+use Rattle.meaning_cells.specs.Listed.{calls_listed}
 use Rattle.meaning_round.specs.declared.state.Deed.{Deed}
 use Rattle.meaning_round.specs.Standing.{active_of, deed_view}
 use Rattle.meaning_openings.specs.Opening.{HaveBodies}

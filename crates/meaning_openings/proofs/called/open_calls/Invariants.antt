@@ -3,7 +3,7 @@ use Rattle.flow.specs.View.{core_of}
 use Rattle.language.specs.Core.{Core}
 use Rattle.language.specs.Members.{◌∈◌}
 use Rattle.language.specs.WellFormed.{WellFormed}
-use Rattle.meaning_facts.specs.Listed.{calls_listed}
+use Rattle.meaning_cells.specs.Listed.{calls_listed}
 use Rattle.meaning_round.specs.Made.{tasks_of, waiting_of}
 use Rattle.meaning_round.specs.Standing.{active_of}
 use Rattle.meaning_openings.specs.Opening.{HaveBodies, IsGood, IsMore}

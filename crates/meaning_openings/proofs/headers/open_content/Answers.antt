@@ -1,7 +1,7 @@
 use Rattle.std.proofs.Common.{rules, ◌≡◌, true, map}
 use Rattle.std.proofs.lemmas.Result.{on_ok_weaker}
 use Rattle.flow.specs.View.{awaited_view}
-use Rattle.meaning_facts.specs.Chosen.{have_come_in}
+use Rattle.meaning_cells.specs.Chosen.{have_come_in}
 use Rattle.meaning_facts.specs.Sighted.{sight_of}
 use Rattle.meaning_round.specs.Standing.{active_of, content_view}
 use Rattle.meaning_openings.proofs.Moving.{stay_more}

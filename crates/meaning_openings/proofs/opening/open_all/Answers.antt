@@ -8,7 +8,7 @@ use Rattle.meaning_round.specs.Standing.{active_of}
 use Rattle.meaning_round.specs.declared.state.Task.{Task}
 use Rattle.meaning_invariants.specs.Active.{Active}
 use Rattle.std.proofs.lemmas.Option.{slice_get-map}
-use Rattle.meaning_facts.proofs.Ending.{slice_past, slice_there}
+use Rattle.meaning_cells.proofs.Ending.{slice_past, slice_there}
 use Rattle.meaning_openings.proofs.Entering.{more_joins}
 use Rattle.meaning_openings.proofs.Passing.{pass_all, pass_first, pass_next}
 use Rattle.meaning_openings.proofs.opening.open_all.Goals as goal

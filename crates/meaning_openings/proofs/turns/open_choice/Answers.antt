@@ -2,7 +2,7 @@ use Rattle.std.proofs.Common.{rules, arith, ◌≡◌, ◌<◌, ℕ, Some, lengt
 use Rattle.std.proofs.lemmas.Grind.{common_steps}
 use Rattle.flow.specs.View.{action_view, block_view}
 use Rattle.language.specs.Places.{most_steps}
-use Rattle.meaning_facts.specs.Chosen.{block_in, choice_view, count_in}
+use Rattle.meaning_cells.specs.Chosen.{block_in, choice_view, count_in}
 use Rattle.meaning_facts.specs.Paths.{path_of}
 use Rattle.meaning_openings.specs.Opening.{AreTurned}
 use Rattle.meaning_openings.proofs.Entering.{more_joins, short_path}

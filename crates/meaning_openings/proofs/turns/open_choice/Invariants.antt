@@ -3,7 +3,7 @@ use Rattle.flow.specs.View.{action_view}
 use Rattle.language.specs.Core.{Core, stmt}
 use Rattle.language.specs.Members.{◌∈◌}
 use Rattle.language.specs.WellFormed.{WellFormed}
-use Rattle.meaning_facts.specs.Chosen.{choice_view, chosen_in}
+use Rattle.meaning_cells.specs.Chosen.{choice_view, chosen_in}
 use Rattle.meaning_facts.specs.Sighted.{sight_of}
 use Rattle.meaning_invariants.specs.Active.{active}
 use Rattle.meaning_invariants.specs.Opened.{OffsetsApart}

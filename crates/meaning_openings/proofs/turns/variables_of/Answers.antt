@@ -2,7 +2,7 @@ use Rattle.std.proofs.Common.{◌≡◌, ◌<◌, ◌∙◌, IfOk, List, ap, sub
 use Rattle.flow.specs.declared.statement.Action.{Action}
 use Rattle.flow.specs.View.{action_view}
 use Rattle.meaning_facts.specs.declared.instances.Variable.{Variable}
-use Rattle.meaning_facts.specs.Chosen.{choice_view, count_in}
+use Rattle.meaning_cells.specs.Chosen.{choice_view, count_in}
 use Rattle.meaning_invariants.specs.Turns.{turn_variables}
 use Rattle.meaning_openings.proofs.Loops.{each_variables, range_variables}
 use Rattle.meaning_openings.proofs.turns.variables_of.Goals as goal

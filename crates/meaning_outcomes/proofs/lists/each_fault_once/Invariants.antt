@@ -1,7 +1,7 @@
 use Rattle.std.proofs.Common.{◌≡◌, []}
 use Rattle.std.specs.Vec.Iter.{into_iter_items}
 use Rattle.meaning_outcomes.specs.Lists.{each_once}
-use Rattle.meaning_outcomes.specs.Order.{same_fault}
+use Rattle.paths.specs.Order.{same_fault}
 use Rattle.meaning_outcomes.proofs.lists.each_fault_once.Given as goal
 
 abbrev pub invariant-loop-fault : goal.invariant-loop-fault

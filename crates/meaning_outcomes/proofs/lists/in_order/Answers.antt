@@ -3,7 +3,7 @@ use Rattle.std.proofs.lemmas.Fn.{always_returns_same}
 use Rattle.std.proofs.lemmas.Result.{IfOk-weaker}
 use Rattle.std.specs.List.Sorted.{IsSortedBy}
 use Rattle.std.specs.Ordering.{is_lt}
-use Rattle.meaning_outcomes.specs.Order.{statement_below}
+use Rattle.paths.specs.Order.{statement_below}
 use Rattle.meaning_outcomes.proofs.Told.{lists_statements, statement_weak}
 use Rattle.meaning_outcomes.proofs.lists.in_order.Goals as goal
 

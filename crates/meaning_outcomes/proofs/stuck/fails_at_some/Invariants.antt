@@ -1,6 +1,6 @@
 use Rattle.std.proofs.Common.{◌≡◌, map, drop}
 use Rattle.meaning_outcomes.specs.Stuck.{fails_among}
-use Rattle.meaning_facts.specs.Listed.{outers_listed}
+use Rattle.meaning_cells.specs.Listed.{outers_listed}
 use Rattle.meaning_outcomes.proofs.stuck.fails_at_some.Given as goal
 
 abbrev pub invariant-loop-outer : goal.invariant-loop-outer

@@ -5,7 +5,7 @@ use Rattle.flow.specs.declared.statement.Statement.{Statement, out-Statement}
 use Rattle.flow.specs.View.{owned_view, action_view, block_view, block_of, statements_view}
 use Rattle.meaning_invariants.specs.Never.{never_by, never_in}
 use Rattle.meaning_round.specs.Made.{no_calls}
-use Rattle.meaning_facts.proofs.Aims.{view_wait, hit, miss}
+use Rattle.meaning_cells.proofs.Aims.{view_wait, hit, miss}
 use Rattle.meaning_round.proofs.Never.{call_never, waits_never, never_past, never_step, never_whole}
 use Rattle.meaning_round.proofs.ending.+never.Goals as goal
 

@@ -8,10 +8,10 @@ use Rattle.swt_command.proofs.told.told_of.Goals as goal
 
 pub returns : goal.returns
 returns c =
-    let t : Told = record { lines = c.in_ok-lines_sorted.field-0; blocked = c.in_ok-statements_of.field-0; faults = c.in_ok-faults_of.field-0; enough = c.finished.result } in
+    let t : Told = record { lines = c.in_ok-lines_sorted.field-0; blocked = c.in_ok-blocked.blocked; faults = c.in_ok-faults.faults; enough = c.finished.result } in
     let s : Core = core_of c.args.flow.now in
     let w = c.requires.1 in
     let known : IsKnowledgeOf s c.in_ok-known.known = subst (λ (x : Core). IsKnowledgeOf x c.in_ok-known.known) w.is (c.in_ok-known.ensures.known c.requires.0 w.table w.tree w.accepted.reads w.accepted.typed w.accepted.single (sym w.is)) in
-    told_is s c.in_ok-known.known c.args.limit c.in_ok-blocked.blocked.items c.in_ok-faults.faults.items t
+    told_is s c.in_ok-known.known c.args.limit t
     known c.in_ok-known.ensures.within.0 c.in_ok-known.ensures.within.1 (c.in_ok-lines_sorted.ensures.lines s known) c.in_ok-lines_sorted.ensures.sorted
-    (c.in_ok-blocked.ensures s known) (c.in_ok-faults.ensures s known) c.in_ok-statements_of.ensures c.in_ok-faults_of.ensures (sym c.finished.ensures)
+    (c.in_ok-blocked.ensures s known) (c.in_ok-faults.ensures s known) (sym c.finished.ensures)

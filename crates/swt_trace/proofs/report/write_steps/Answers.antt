@@ -1,6 +1,6 @@
 use Rattle.std.proofs.Common.{rules, ◌≡◌, ◌<◌, ◌∙◌, ap, length, get_or, pos}
 use Rattle.std.specs.List.{flat_map}
-use Rattle.board_instances.specs.declared.place.Step.{Step}
+use Rattle.paths.specs.declared.steps.Step.{Step}
 use Rattle.values.specs.declared.key.Key.TheVariants.{Number}
 use Rattle.values.specs.Sinks.{Beginning}
 use Rattle.swt_trace.specs.Report.{step_text}

@@ -3,7 +3,7 @@ use Rattle.pool.specs.Seats.{pool_id}
 use Rattle.workers.proofs.run.run_threads.Given as goal
 
 abbrev pub ghosts-run-J-Job : goal.ghosts-run-J-Job
-ghosts-run-J-Job g a = record { code = a.board.code; limit = a.board.limit; engines = a.engines; workers = a.count - a.engines; pool = pool_id a.pool }
+ghosts-run-J-Job g a = record { code = a.board.code; limit = a.board.limit; engines = a.engines; workers = a.count - a.engines; pool = pool_id a.pool; book = a.opened.seen.book }
 
 abbrev pub ghosts-run-E-Ledger : goal.ghosts-run-E-Ledger
 ghosts-run-E-Ledger g a = record { name = a.events.name; parts = a.events.parts }

@@ -4,7 +4,7 @@ use Rattle.std.proofs.lemmas.Bool.{and_left, and_right}
 use Rattle.board_instances.specs.Openings.{passed_from}
 use Rattle.board_instances.specs.Turns.{IsOpening}
 use Rattle.board_instances.specs.View.{step_view}
-use Rattle.board_instances.specs.declared.place.Step.{Step}
+use Rattle.paths.specs.declared.steps.Step.{Step}
 use Rattle.board_effects.specs.Ended.{code_of, frames_of}
 use Rattle.board_effects.proofs.Blocks.{block_opens, block_passes}
 use Rattle.board_effects.proofs.Values.{ok_map}

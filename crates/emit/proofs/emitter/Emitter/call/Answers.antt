@@ -16,6 +16,6 @@ returns g c =
     let now = c.args.self.now in
     ok-both c.call_alone.result _ _ _
     (λ into. λ few_are.
-    simple-emits (map (kinds_of_function {A = A}) functions) (roots_of functions) s.inputs s.at one.node a now.entries.items c.call_alone.new.entries.items now.bodies.items now.filling c.call_alone.new.filling
+    simple-emits (map (kinds_of_function {A = A}) functions) (roots_of functions) s.inputs s.at one.node a now.writer.entries.items c.call_alone.new.self.entries.items now.bodies.items now.writer.filling c.call_alone.new.self.filling
     few_are (λ bodies room few. into (roots_of functions) one.node bodies room few))
     c.call_alone.ensures.laid c.call_alone.ensures.few

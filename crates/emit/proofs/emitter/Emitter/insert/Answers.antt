@@ -16,6 +16,6 @@ returns g c =
     let now = c.args.self.now in
     ok-both c.insert.result _ _ _
     (λ into. λ few_are. λ priority.
-    simple-emits (map (kinds_of_function {A = A}) functions) (roots_of functions) s.inputs s.at one.node a now.entries.items c.insert.new.entries.items now.bodies.items now.filling c.insert.new.filling
+    simple-emits (map (kinds_of_function {A = A}) functions) (roots_of functions) s.inputs s.at one.node a now.writer.entries.items c.insert.new.self.entries.items now.bodies.items now.writer.filling c.insert.new.self.filling
     (λ l room suits stands. few_are l room suits stands priority) (λ bodies room few. into (roots_of functions) bodies room few priority))
     c.insert.ensures.laid c.insert.ensures.few

@@ -16,6 +16,6 @@ returns g c =
     let now = c.args.self.now in
     ok-both c.own.result _ _ _
     (λ into. λ few_are. λ priority.
-    simple-emits (map (kinds_of_function {A = A}) functions) (roots_of functions) s.inputs s.at one.node a now.entries.items c.own.new.entries.items now.bodies.items now.filling c.own.new.filling
+    simple-emits (map (kinds_of_function {A = A}) functions) (roots_of functions) s.inputs s.at one.node a now.writer.entries.items c.own.new.self.entries.items now.bodies.items now.writer.filling c.own.new.self.filling
     (λ l room suits stands. few_are l room suits stands priority) (λ bodies room few. into (roots_of functions) bodies room few priority))
     c.own.ensures.laid c.own.ensures.few

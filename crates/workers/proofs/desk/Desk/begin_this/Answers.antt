@@ -17,7 +17,7 @@ invariant_of-self-2 g c =
     let old = c.self.inside.board in
     let new = c.begin.new.self in
     let a : Accepts old (Begin c.args.worker c.args.item) new = search rules in
-    let there : (i : CodeItem) × In i old.state.items × (i.number ≡ c.args.item) × (kind_view c.args.kind ≡ task_kind old.code i.task) = search rules in
+    let there : (i : CodeItem) × In i old.state.items × (i.number ≡ c.args.item) × (kind_view c.args.kind ≡ task_kind old.code i.task) = search (rules, c.in-Some.ensures.some, c.if-ne.false) in
     let still : new.newly ≡ [] = search rules in
     let same : kind_view c.args.kind ≡ task_kind C there.0.task = there.3 ∙ ap (λ (x : Code). task_kind x there.0.task) k.code in
     let place = subst (λ (x : Kind). IsPlace g.J.Job.engines g.J.Job.workers c.args.worker x) same c.requires.place in
@@ -31,6 +31,7 @@ invariant_of-self-2 g c =
       fits = k.fits;
       runs = begun C g.J.Job.engines g.J.Job.workers c.args.worker c.args.item c.self.inside.told old new k.code k.runs a still there.0 there.1 there.2 place;
       no_back = λ going. no_back_more old new (Begin c.args.worker c.args.item) a refl (k.no_back going);
+      items = λ work h. c.work_stays.ensures.stays old new c.history-before.ensures.whole c.history-before.ensures.replays (Begin c.args.worker c.args.item) a work (k.items work h);
     }
 
 pub returns-clause-ok : goal.returns-clause-ok
@@ -42,3 +43,6 @@ returns-clause-ok g c =
     let more = counted_more old new (Begin c.args.worker c.args.item) a in
     let amount = c.audit.ensures.amount ∙ c.add.ensures.amount in
     (amount, omega (arith, amount, more, k.counted, c.add.ensures.total, c.audit.ensures.bound, c.history-within.ensures.within, c.history-within.ensures.few))
+
+pub note-requires : goal.note-requires
+note-requires g c = c.work_stays.ensures.begun c.begin.new.self c.history-within.ensures.whole c.history-within.ensures.replays c.args.worker c.in_ok-work.work c.in_ok-work.ensures.work

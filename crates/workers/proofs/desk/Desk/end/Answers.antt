@@ -12,9 +12,9 @@ invariant_of-self-2 g c =
     let k = c.self.invariant in
     let C = g.J.Job.code in
     let old = c.self.inside.board in
-    let new = c.end.new.self in
-    let a : Accepts old (End c.args.worker c.args.done.item) new = search rules in
-    let more = counted_more old new (End c.args.worker c.args.done.item) a in
+    let new = c.end_on.new.board in
+    let a : Accepts old (End c.args.worker c.args.finished.item) new = search rules in
+    let more = counted_more old new (End c.args.worker c.args.finished.item) a in
     record {
       code = a.code ∙ k.code;
       limit_is = a.limit ∙ k.limit_is;
@@ -22,17 +22,18 @@ invariant_of-self-2 g c =
       counted = omega (arith, more, k.counted, c.add.ensures.total, c.audit.ensures.total);
       told_is = omega (arith, k.told_is, c.add-2.ensures.total, c.audit-2.ensures.total);
       fits = omega (arith, c.if-self-ge-MOST.false, c.list_fresh-count.ensures.few);
-      runs = ended C g.J.Job.engines g.J.Job.workers c.args.worker c.args.done.item c.self.inside.told (c.self.inside.told + c.list_fresh-count.result) old new k.code k.runs a c.requires.theirs (ap (λ n. c.self.inside.told + n) c.list_fresh-count.ensures.count);
-      no_back = λ going. no_back_more old new (End c.args.worker c.args.done.item) a refl (k.no_back going);
+      runs = ended C g.J.Job.engines g.J.Job.workers c.args.worker c.args.finished.item c.self.inside.told (c.self.inside.told + c.list_fresh-count.result) old new k.code k.runs a c.requires.theirs (ap (λ n. c.self.inside.told + n) c.list_fresh-count.ensures.count);
+      no_back = λ going. no_back_more old new (End c.args.worker c.args.finished.item) a refl (k.no_back going);
+      items = λ work h. c.work_stays.ensures.stays old new c.history-before.ensures.whole c.history-before.ensures.replays (End c.args.worker c.args.finished.item) a work (k.items work h);
     }
 
 pub returns-clause-ok : goal.returns-clause-ok
 returns-clause-ok g c =
     let k = c.self.invariant in
     let old = c.self.inside.board in
-    let new = c.end.new.self in
-    let a : Accepts old (End c.args.worker c.args.done.item) new = search rules in
-    let more = counted_more old new (End c.args.worker c.args.done.item) a in
+    let new = c.end_on.new.board in
+    let a : Accepts old (End c.args.worker c.args.finished.item) new = search rules in
+    let more = counted_more old new (End c.args.worker c.args.finished.item) a in
     let amount = c.audit.ensures.amount ∙ c.add.ensures.amount in
     (amount, omega (arith, amount, more, k.counted, c.add.ensures.total, c.audit.ensures.bound, c.history-within.ensures.within, c.history-within.ensures.few))
 
@@ -41,3 +42,6 @@ returns-clause-told g c =
     let k = c.self.invariant in
     let amount = c.audit-2.ensures.amount ∙ c.add-2.ensures.amount in
     (amount, omega (arith, amount, k.told_is, c.add-2.ensures.total, c.audit-2.ensures.bound, c.if-self-ge-MOST.false, c.list_fresh-count.ensures.few), c.list_fresh-count.ensures.listed)
+
+pub end_on-requires-clause-items : goal.end_on-requires-clause-items
+end_on-requires-clause-items g c = c.self.invariant.items

@@ -1,4 +1,6 @@
-use Rattle.std.proofs.Common.{arith, ap, sym, ◌∙◌, length, refl}
+use Rattle.std.proofs.Common.{List, arith, ap, sym, subst, ◌∙◌, length, refl}
+use Rattle.dataflow.specs.System.{In}
+use Rattle.board_work.specs.Assigned.{Assigned}
 use Rattle.workers.proofs.Threads.{first}
 use Rattle.workers.proofs.desk.Desk.new.Goals as goal
 
@@ -12,4 +14,5 @@ invariant_of-result g c = record {
   fits = omega arith;
   runs = first g.J.Job.code g.J.Job.engines g.J.Job.workers c.args.board c.requires.code.0 c.requires.first.0 c.requires.first.1;
   no_back = λ e. rw c.requires.first.0 refl;
+  items = λ work h. absurd (subst (λ (log : List Assigned). In work log) c.named-log.ensures h);
 }

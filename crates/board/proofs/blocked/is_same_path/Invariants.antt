@@ -1,6 +1,0 @@
-use Rattle.std.proofs.Common.{◌≡◌, drop}
-use Rattle.board.specs.Stuck.{same_path}
-use Rattle.board.proofs.blocked.is_same_path.Given as goal
-
-abbrev pub invariant-loop-step : goal.invariant-loop-step
-invariant-loop-step l = same_path (drop l.step-index l.one) l.rest ≡ same_path l.one l.other

@@ -1,0 +1,2 @@
+mod Any
+mod Views

@@ -1,9 +1,0 @@
-use Rattle.syntax_trees.specs.View.{tree_of}
-use Rattle.types.specs.Typed.{table_of}
-use Rattle.explain_refusals.proofs.Verdicts.{explains_not_single}
-use Rattle.explain_refusals.proofs.refusal.explained.Goals as goal
-
-pub returns : goal.returns
-returns c =
-    explains_not_single c.args.file.now c.args.text.now c.in_ok-words-in-Err-check-2.words.items (tree_of c.in-Ok.script) (table_of c.in-Ok-check.typed) c.in-Err-check-2.fault
-    c.in-Ok.ensures.read c.in-Ok-check.ensures.typed c.in-Err-check-2.ensures.not_single c.in-Err-check-2.ensures.broken c.in_ok-words-in-Err-check-2.ensures

@@ -1,0 +1,167 @@
+-- What a program has asked of its machine, and what it was answered. The newest comes first.
+use Rattle.std.specs.Prelude.{◌≡◌, ℕ, Bool, true, false, ◌&&◌, List, [], ◌∷◌, ◌++◌, Option, Some, None, option_to_list, option_map, is_some, bytes_eq}
+use Rattle.host.specs.declared.identity.Identity.{Identity}
+use Rattle.host.specs.declared.host.Stream.{Stream}
+use Rattle.host.specs.declared.host.Stream.TheVariants.{Out, Error}
+use Rattle.host.specs.Identities.{is_foreign}
+
+pub data Event : Type 0 where
+  -- the next word of the command line, none behind the last
+  Argument : (word : Option (List ℕ)) → Event
+  -- the links of a name were followed; to this name they lead, none where there is no such file
+  Followed : (name : List ℕ) → Event
+  LedTo : (found : Option (List ℕ)) → Event
+  -- which file a name is, or a stream: none where it is not there
+  Named : (name : List ℕ) (found : Option Identity) → Event
+  Streamed : (stream : Stream) (found : Option Identity) → Event
+  -- a file was opened to be read, and this file it is; some of its bytes came, none at its end
+  Opened : (name : List ℕ) → Event
+  Known : (file : Identity) → Event
+  Got : (bytes : List ℕ) → Event
+  -- it could not be opened; it could not be read further
+  Unopened : (name : List ℕ) → Event
+  Broken : Event
+  -- a new file was made, or one that is there was emptied; bytes went to it; it was given the second name in place of the first; a name was removed
+  Began : (name : List ℕ) → Event
+  Emptied : (name : List ℕ) → Event
+  Put : (bytes : List ℕ) → Event
+  Renamed : (before name : List ℕ) → Event
+  Removed : (name : List ℕ) → Event
+  -- what was asked could not be done
+  Failed : Event
+
+abbrev is_nil : List ℕ → Bool
+is_nil [] = true
+is_nil (b ∷ bs) = false
+
+-- a name that was opened, with the bytes that stand for it, none where it could not be read, and whether its end was met
+pub record Read : Type 0 where
+  pub name : List ℕ
+  pub bytes : Option (List ℕ)
+  pub ended : Bool
+
+-- more bytes came of the last that was opened, and none at its end
+abbrev pub grown : List ℕ → List Read → List Read
+grown bytes [] = []
+grown bytes (r ∷ rs) = record { name = r.name; bytes = option_map (λ before. before ++ bytes) r.bytes; ended = is_nil bytes } ∷ rs
+
+-- no more can come of it
+abbrev pub broken : List Read → List Read
+broken [] = []
+broken (r ∷ rs) = record { name = r.name; bytes = None; ended = false } ∷ rs
+
+-- what was read, the last name first
+abbrev pub reads : List Event → List Read
+reads [] = []
+reads (Opened name ∷ h) = record { name = name; bytes = Some []; ended = false } ∷ reads h
+reads (Got bytes ∷ h) = grown bytes (reads h)
+reads (Unopened name ∷ h) = record { name = name; bytes = None; ended = false } ∷ reads h
+reads (Broken ∷ h) = broken (reads h)
+reads (e ∷ h) = reads h
+
+-- the last of those is a file of this name, of which some bytes came
+abbrev pub IsReading : List ℕ → (before now : List Read) → Type 0
+IsReading name before [] = ⊥
+IsReading name before (r ∷ rs) = (r.name ≡ name) × (is_some r.bytes ≡ true) × (rs ≡ before)
+
+-- which files were opened to be read, in order
+abbrev pub inputs : List Event → List Identity
+inputs [] = []
+inputs (Known file ∷ h) = inputs h ++ (file ∷ [])
+inputs (e ∷ h) = inputs h
+
+-- the words of the command line, in order
+abbrev pub words : List Event → List (List ℕ)
+words [] = []
+words (Argument (Some word) ∷ h) = words h ++ (word ∷ [])
+words (e ∷ h) = words h
+
+-- the same, once no further word is behind them
+abbrev pub asked : List Event → Option (List (List ℕ))
+asked [] = None
+asked (Argument None ∷ h) = Some (words h)
+asked (e ∷ h) = asked h
+
+-- a name whose links were followed, and the name that they lead to
+abbrev pub Link : Type 0
+Link = List ℕ × Option (List ℕ)
+
+-- all of those, the last first
+abbrev pub links : List Event → List Link
+links [] = []
+links (LedTo found ∷ Followed name ∷ h) = (name, found) ∷ links h
+links (e ∷ h) = links h
+
+-- what the machine has told: all words, names behind links, and files
+pub record Learnt : Type 0 where
+  pub asked : Option (List (List ℕ))
+  pub links : List Link
+  pub reads : List Read
+
+abbrev pub learnt : List Event → Learnt
+learnt h = record { asked = asked h; links = links h; reads = reads h }
+
+-- the last piece that was read is the end of its file
+abbrev pub ends : List Event → Bool
+ends (Got bytes ∷ h) = is_nil bytes
+ends _ = false
+
+-- the bytes that went to files that were made
+abbrev pub given : List Event → List ℕ
+given [] = []
+given (Put bytes ∷ h) = given h ++ bytes
+given (e ∷ h) = given h
+
+-- the names that files were given in place of their first ones
+abbrev pub replaced : List Event → List (List ℕ)
+replaced [] = []
+replaced (Renamed before name ∷ h) = name ∷ replaced h
+replaced (e ∷ h) = replaced h
+
+-- a file was made or emptied, named or removed, or written
+abbrev pub changes : List Event → List Event
+changes [] = []
+changes (Began name ∷ h) = Began name ∷ changes h
+changes (Emptied name ∷ h) = Emptied name ∷ changes h
+changes (Put bytes ∷ h) = Put bytes ∷ changes h
+changes (Renamed before name ∷ h) = Renamed before name ∷ changes h
+changes (Removed name ∷ h) = Removed name ∷ changes h
+changes (e ∷ h) = changes h
+
+-- SAFETY OF WHAT IS WRITTEN
+
+-- which file the name is was asked last, and before it which ones both streams are; it is none of those and none that was read
+abbrev pub is_clear : List ℕ → List Event → Bool
+is_clear name (Named asked found ∷ Streamed Error error ∷ Streamed Out out ∷ h) =
+    bytes_eq asked name && is_foreign found (option_to_list out ++ (option_to_list error ++ inputs h))
+is_clear name _ = false
+
+-- the same, and then a new file was made and written
+abbrev pub was_clear : List ℕ → List Event → Bool
+was_clear name (Began beside ∷ h) = is_clear name h
+was_clear name (Put bytes ∷ h) = was_clear name h
+was_clear name (Failed ∷ h) = was_clear name h
+was_clear name _ = false
+
+-- no file is emptied but one of this name, none is replaced but one of this name, and each time it was none that was read, and not that of standard output or standard error
+abbrev pub is_safe : List ℕ → List Event → Bool
+is_safe name [] = true
+is_safe name (Emptied emptied ∷ h) = (bytes_eq emptied name && is_clear name h) && is_safe name h
+is_safe name (Renamed before replaced ∷ h) = (bytes_eq replaced name && was_clear name h) && is_safe name h
+is_safe name (e ∷ h) = is_safe name h
+
+-- the file of this name has what was given: it was given the name, or emptied and then written
+abbrev pub is_kept : List ℕ → List Event → Bool
+is_kept name (Renamed before n ∷ h) = bytes_eq n name
+is_kept name (Emptied n ∷ h) = bytes_eq n name
+is_kept name (Put bytes ∷ h) = is_kept name h
+is_kept name (Failed ∷ h) = is_kept name h
+is_kept name _ = false
+
+-- nothing was learnt, given or made unsafe in between
+pub record Keeps (name : List ℕ) (old new : List Event) : Type 0 where
+  pub learnt_same : learnt new ≡ learnt old
+  pub inputs_same : inputs new ≡ inputs old
+  pub given_same : given new ≡ given old
+  pub replaced_same : replaced new ≡ replaced old
+  pub safe_same : is_safe name old ≡ true → is_safe name new ≡ true

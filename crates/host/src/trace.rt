@@ -1,0 +1,159 @@
+//! A trace on its way to its file.
+ghost use Rattle.std.specs.Prelude.{◌≡◌, ◌≢◌, ◌<◌, [], List, ℕ, true, false, string_bytes, OnOk};
+ghost use Rattle.host.specs.declared.opening.State.TheVariants.{Unopened, Beside, InPlace};
+ghost use Rattle.host.specs.Events.{Learnt, given, inputs, is_kept, is_safe, learnt, replaced, was_clear};
+
+use crate::host::Host;
+use crate::identity::Identity;
+use crate::opening::{State, open_trace};
+use std::marker::{Brand, PhantomData};
+use values::sink::{Sink, SinkFault};
+
+/// What was learnt before the trace, and the name that it is to have. Only contracts see it.
+pub trait Past {
+    ghost learnt: { Learnt };
+
+    ghost place: { List ℕ };
+}
+
+impl Past for Brand {
+    ghost learnt = { learnt [] };
+
+    ghost place = { [] };
+}
+
+/// The file that a trace goes to. It is opened at the first write, beside its place where that is a regular file or nothing, and never
+/// over a file that was read or that a standard stream is.
+#[derive(Drop)]
+pub struct TraceFile<H: Host, K: Past> {
+    host: H,
+    known: Vec<Identity>,
+    place: String,
+    beside: String,
+    state: State,
+    failures: u64,
+    of: PhantomData<K>,
+    ghost past: { learnt (H.history host) ≡ K.learnt },
+    ghost known_are: { known.items ≡ inputs (H.history host) },
+    ghost placed: { string_bytes place ≡ K.place },
+    ghost safe: { is_safe K.place (H.history host) ≡ true },
+    ghost unnamed: { replaced (H.history host) ≡ [] },
+    ghost unopened: { state ≡ Unopened → given (H.history host) ≡ [] },
+    ghost is_beside: { state ≡ Beside → was_clear K.place (H.history host) ≡ true },
+    ghost in_place: { state ≡ InPlace → is_kept K.place (H.history host) ≡ true },
+}
+
+impl<H: Host, K: Past> TraceFile<H, K> {
+    ghost use Rattle.host.specs.TraceFiles.{host_of, failures_of, state_of};
+
+    pub fn new(host: H, known: Vec<Identity>, place: String, beside: String) -> TraceFile<H, K>
+        requires past { learnt (H.history host) ≡ K.learnt }
+        requires known { known.items ≡ inputs (H.history host) }
+        requires place { string_bytes place ≡ K.place }
+        requires safe { is_safe K.place (H.history host) ≡ true }
+        requires unnamed { replaced (H.history host) ≡ [] }
+        requires none { given (H.history host) ≡ [] }
+        ensures history { H.history (host_of result) ≡ H.history host }
+        ensures failures { failures_of result ≡ 0 }
+    {
+        TraceFile {
+            host,
+            known,
+            place,
+            beside,
+            state: State::Unopened,
+            failures: 0,
+            of: PhantomData,
+        }
+    }
+
+    /// Opens the file, where that was not done.
+    fn open(&mut self) -> Result<(), SinkFault>
+        ensures open { OnOk result (state_of self.new ≢ State.Unopened) }
+        ensures given { given (H.history (host_of self.new)) ≡ given (H.history (host_of self.old)) }
+        ensures failures { failures_of self.new ≡ failures_of self.old }
+    {
+        if self.state == State::Unopened {
+            match open_trace(
+                &mut self.host,
+                self.known.as_slice(),
+                self.place.as_str(),
+                self.beside.as_str(),
+            ) {
+                Ok(state) => self.state = state,
+                Err(_) => return Err(SinkFault),
+            }
+        }
+        Ok(())
+    }
+}
+
+impl<H: Host, K: Past> Sink for TraceFile<H, K> {
+    ghost use Rattle.host.specs.TraceFiles.{host_of, failures_of};
+
+    ghost taken = { λ trace. given (H.history (host_of trace)) };
+
+    ghost failures = { λ trace. failures_of trace };
+
+    fn write(&mut self, piece: &[u8]) -> Result<usize, SinkFault> {
+        if piece.is_empty() {
+            return Ok(0);
+        }
+        if self.open().is_err() {
+            self.failures += 1;
+            return Err(SinkFault);
+        }
+        match self.host.put(piece) {
+            Ok(0) => {
+                self.failures += 1;
+                Ok(0)
+            }
+            Ok(n) => Ok(n),
+            Err(_) => {
+                self.failures += 1;
+                Err(SinkFault)
+            }
+        }
+    }
+}
+
+impl<H: Host + Drop, K: Past> TraceFile<H, K> {
+    ghost use Rattle.host.specs.TraceFiles.{host_of, failures_of};
+    ghost use Rattle.host.specs.Traces.{IsKept};
+
+    /// Gives what was written its name, where all of it was, and gives the machine back.
+    pub fn finish(self) -> (bool, H)
+        ensures past { learnt (H.history result.1) ≡ K.learnt }
+        ensures known { inputs (H.history result.1) ≡ inputs (H.history (host_of self)) }
+        ensures safe { is_safe K.place (H.history result.1) ≡ true }
+        ensures given { given (H.history result.1) ≡ given (H.history (host_of self)) }
+        ensures cut { 0 < failures_of self → replaced (H.history result.1) ≡ [] }
+        ensures lost { result.0 ≡ false → failures_of self ≡ 0 }
+        ensures kept { result.0 ≡ true → failures_of self ≡ 0 → IsKept K.place (H.history result.1) }
+    {
+        let TraceFile {
+            mut host,
+            known,
+            place,
+            beside,
+            state,
+            failures,
+            of: _,
+        } = self;
+        let is_kept = match state {
+            State::Unopened | State::InPlace => true,
+            State::Beside => {
+                if failures == 0 && host.rename(beside.as_str(), place.as_str()).is_ok() {
+                    true
+                } else {
+                    let _ = host.remove(beside.as_str());
+                    failures > 0
+                }
+            }
+        };
+        drop(known);
+        drop(place);
+        drop(beside);
+        (is_kept, host)
+    }
+}

@@ -1,0 +1,5 @@
+pub mod Chosen
+pub mod Ending
+pub mod Listed
+pub mod Taking
+pub mod Targeted

@@ -1,6 +1,0 @@
-use Rattle.std.proofs.Common.{◌≡◌, drop}
-use Rattle.meaning_outcomes.specs.Order.{path_below}
-use Rattle.meaning_outcomes.proofs.order.is_path_below.Given as goal
-
-abbrev pub invariant-loop-step : goal.invariant-loop-step
-invariant-loop-step l = path_below (drop l.step-index l.one) l.rest ≡ path_below l.one l.other

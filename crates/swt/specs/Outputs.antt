@@ -1,0 +1,10 @@
+-- What standard output shows: the bytes that it took, and how many of its writes have failed.
+use Rattle.std.specs.Prelude.{ℕ, List}
+use Rattle.host_system.specs.Streams as Streams
+use Rattle.swt.specs.declared.output.Output.{Output}
+
+abbrev pub taken_of : Output → List ℕ
+taken_of output = Streams.taken_of output.stream
+
+abbrev pub failures_of : Output → ℕ
+failures_of output = Streams.failures_of output.stream

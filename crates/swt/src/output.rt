@@ -1,0 +1,125 @@
+//! Standard output, of which the last line is kept where that is wanted.
+ghost use Rattle.std.specs.Prelude.{◌≡◌, []};
+
+use host::host::Stream;
+use host_system::stream::Standard;
+use std::alloc::AllocError;
+use std::io::Error;
+use values::sink::{Sink, SinkFault};
+
+/// The last line of a text that comes in pieces, with the byte that ends it.
+#[derive(Drop)]
+pub struct Tail {
+    wanted: bool,
+    bytes: Vec<u8>,
+    /// Memory for it was refused.
+    lacks: bool,
+}
+
+impl Tail {
+    /// The last line.
+    ///
+    /// # Errors
+    ///
+    /// `AllocError` where memory for it was refused.
+    pub fn line(&self) -> Result<&[u8], AllocError> {
+        if self.lacks {
+            Err(AllocError)
+        } else {
+            Ok(self.bytes.as_slice())
+        }
+    }
+
+    /// Takes a piece.
+    fn keep(&mut self, piece: &[u8]) {
+        if !self.wanted || self.lacks || piece.is_empty() {
+            return;
+        }
+        if self.bytes.as_slice().last() == Some(&b'\n') {
+            self.bytes.clear();
+        }
+        if self.add(piece).is_err() {
+            self.lacks = true;
+        }
+    }
+
+    /// Adds a piece, or the last line that begins in it.
+    fn add(&mut self, piece: &[u8]) -> Result<(), AllocError> {
+        match line_in(piece) {
+            Some(line) => {
+                self.bytes.clear();
+                self.bytes.extend_from_slice(line)
+            }
+            None => self.bytes.extend_from_slice(piece),
+        }
+    }
+}
+
+/// The last line that begins in a piece behind the end of another, if any.
+fn line_in(piece: &[u8]) -> Option<&[u8]> {
+    let mut begin = 0;
+    for place in 0..piece.len() {
+        if piece[place] == b'\n' && place + 1 < piece.len() {
+            begin = place + 1;
+        }
+    }
+    if begin > 0 { piece.get(begin..) } else { None }
+}
+
+/// Standard output, and the last line that went to it.
+#[derive(Drop)]
+pub struct Output<'r> {
+    stream: Standard<'r>,
+    tail: Tail,
+}
+
+impl<'r> Output<'r> {
+    ghost use Rattle.swt.specs.Outputs.{failures_of, taken_of};
+
+    /// Keeps nothing.
+    pub fn new(rt: &'r HostRuntime) -> Output<'r>
+        ensures taken { taken_of result ≡ [] }
+        ensures failures { failures_of result ≡ 0 }
+    {
+        Output {
+            stream: Standard::new(rt, Stream::Out),
+            tail: Tail {
+                wanted: false,
+                bytes: Vec::new(rt.alloc()),
+                lacks: false,
+            },
+        }
+    }
+
+    /// Keeps the last line from now on, where that is wanted.
+    pub fn want(&mut self, wanted: bool)
+        ensures taken { taken_of self.new ≡ taken_of self.old }
+        ensures failures { failures_of self.new ≡ failures_of self.old }
+    {
+        self.tail.wanted = wanted;
+    }
+
+    /// The last line that was kept.
+    pub fn tail(&self) -> &Tail {
+        &self.tail
+    }
+
+    /// Why the last write that failed did, where one failed.
+    pub fn reason(&self) -> Option<&Error> {
+        self.stream.reason()
+    }
+}
+
+impl Sink for Output<'_> {
+    ghost use Rattle.swt.specs.Outputs.{failures_of, taken_of};
+
+    ghost taken = { λ sink. taken_of sink };
+
+    ghost failures = { λ sink. failures_of sink };
+
+    fn write(&mut self, piece: &[u8]) -> Result<usize, SinkFault> {
+        let n = self.stream.write(piece)?;
+        self.tail.keep(&piece[..n]);
+        Ok(n)
+    }
+}

@@ -1,0 +1,5 @@
+pub mod Reads
+pub mod Places
+pub mod Each
+pub mod Ends
+pub mod Process

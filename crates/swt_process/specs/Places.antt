@@ -1,0 +1,23 @@
+-- Where a trace is to stand.
+use Rattle.std.specs.Prelude.{ℕ, List, [], ◌∷◌, Option, Some, None, unwrap_or}
+use Rattle.host.specs.Events.{Link}
+use Rattle.swt_arguments.specs.declared.line.Line.{Line}
+use Rattle.swt_arguments.specs.declared.line.Line.TheVariants.{Check, Mean, Code, Run, Replay}
+
+-- the name that a line has for a trace
+abbrev pub trace_of : Line → Option (List ℕ)
+trace_of (Run file engines workers steps wanted) = wanted
+trace_of (Check names) = None
+trace_of (Mean file rounds) = None
+trace_of (Code file dot) = None
+trace_of (Replay file trace) = None
+
+-- the name of which the links were followed
+abbrev pub name_of : Link → List ℕ
+name_of link = link.0
+
+-- a trace of this name stands where the links lead to, and under the name itself where they lead nowhere
+abbrev pub place_of : Option (List ℕ) → List Link → List ℕ
+place_of None links = []
+place_of (Some name) [] = name
+place_of (Some name) (link ∷ links) = unwrap_or link.1 name

@@ -1,0 +1,123 @@
+//! Files that are checked one after another.
+ghost use Rattle.std.specs.Prelude.{◌≡◌, ◌<◌, [], OnOk};
+ghost use Rattle.host.specs.Events.{asked, changes, inputs, links, reads};
+ghost use Rattle.swt_arguments.specs.declared.line.Line.TheVariants.{Check};
+ghost use Rattle.swt_command.specs.Files.{name_at};
+ghost use Rattle.swt_command.specs.Sinks.{held};
+ghost use Rattle.swt_process.specs.Each.{ChecksEach, IsChecked};
+ghost use Rattle.swt_process.specs.Ends.{Ran};
+
+use crate::files::MAX_SOURCE;
+use bumpalo::Bump;
+use host::host::Host;
+use host::identity::Identity;
+use host::reading::read_file;
+use std::alloc::{AllocError, Global};
+use swt_arguments::word::Word;
+use swt_command::check::{after, check_file};
+use swt_command::trouble::tell;
+use swt_status::refusal::Refusal;
+use swt_status::status::Status;
+use swt_status::stop::Stop;
+use swt_status::trouble::Trouble;
+use values::sink::Sink;
+
+/// Reads each file and says whether it is accepted, up to one that ends it; says why it stops there; and keeps the bytes of one at a time.
+/// The answer is the status of the process.
+pub fn check_files<H: Host, O: Sink, E: Sink>(
+    host: &mut H,
+    alloc: Global,
+    names: &[Word],
+    out: &mut O,
+    err: &mut E,
+) -> u8
+    requires reads { reads (H.history host.old) ≡ [] }
+    requires links { links (H.history host.old) ≡ [] }
+    requires inputs { inputs (H.history host.old) ≡ [] }
+    requires changes { changes (H.history host.old) ≡ [] }
+    requires out { O.failures out.old < u64.MAX }
+    requires err { E.failures err.old < u64.MAX }
+    ensures ran { Ran (Check names.now) (H.history host.new)
+        (held (O.taken out.old) (O.failures out.old)) (held (O.taken out.new) (O.failures out.new))
+        (held (E.taken err.old) (E.failures err.old)) (held (E.taken err.new) (E.failures err.new)) result }
+    ensures asked { asked (H.history host.new) ≡ asked (H.history host.old) }
+{
+    match check_each(host, alloc, names, out) {
+        Ok(status) => status.number(),
+        Err(stop) => {
+            let _ = tell(stop.trouble, name_at(names, stop.place), err);
+            stop.trouble.status().number()
+        }
+    }
+}
+
+/// The name of a place, and no text where there is none.
+fn name_at(names: &[Word], place: usize) -> &str
+    ensures { result.now ≡ name_at names.now place }
+{
+    match names.get(place) {
+        Some(name) => name.as_str(),
+        None => "",
+    }
+}
+
+/// Reads each file and says whether it is accepted.
+///
+/// # Errors
+///
+/// The first file that could not be read, for which memory was refused, or whose line could not be written.
+fn check_each<H: Host, O: Sink>(
+    host: &mut H,
+    alloc: Global,
+    names: &[Word],
+    out: &mut O,
+) -> Result<Status, Stop>
+    requires reads { reads (H.history host.old) ≡ [] }
+    requires inputs { inputs (H.history host.old) ≡ [] }
+    requires out { O.failures out.old < u64.MAX }
+    ensures each { ChecksEach names.now (reads (H.history host.new)) result
+        (held (O.taken out.old) (O.failures out.old)) (held (O.taken out.new) (O.failures out.new)) }
+    ensures asked { asked (H.history host.new) ≡ asked (H.history host.old) }
+    ensures links { links (H.history host.new) ≡ links (H.history host.old) }
+    ensures changes { changes (H.history host.new) ≡ changes (H.history host.old) }
+{
+    let mut known = Vec::new(alloc);
+    let mut status = Status::Done;
+    for place in 0..names.len() {
+        match check_next(host, alloc, &mut known, names[place].as_str(), out) {
+            Ok(refusal) => status = after(refusal, status),
+            Err(trouble) => return Err(Stop { place, trouble }),
+        }
+    }
+    Ok(status)
+}
+
+/// Reads the file of this name, says whether it is accepted, and gives its refusal.
+///
+/// # Errors
+///
+/// `Unread`, `Memory`, or `Unprinted` where the line could not be written.
+fn check_next<H: Host, O: Sink>(
+    host: &mut H,
+    alloc: Global,
+    known: &mut Vec<Identity>,
+    name: &str,
+    out: &mut O,
+) -> Result<Option<Refusal>, Trouble>
+    requires known { known.old.items ≡ inputs (H.history host.old) }
+    requires out { O.failures out.old < u64.MAX }
+    ensures checked { IsChecked name.now (reads (H.history host.old)) (reads (H.history host.new)) result
+        (held (O.taken out.old) (O.failures out.old)) (held (O.taken out.new) (O.failures out.new)) }
+    ensures known { OnOk result (known.new.items ≡ inputs (H.history host.new)) }
+    ensures asked { asked (H.history host.new) ≡ asked (H.history host.old) }
+    ensures links { links (H.history host.new) ≡ links (H.history host.old) }
+    ensures changes { changes (H.history host.new) ≡ changes (H.history host.old) }
+{
+    let file = match read_file(host, alloc, known, name, MAX_SOURCE) {
+        Ok(file) => file,
+        Err(AllocError) => return Err(Trouble::Memory),
+    };
+    let arena = Bump::new(alloc);
+    let files = [file];
+    check_file(alloc, &arena, name, &files, 0, out)
+}

@@ -1,0 +1,68 @@
+//! A command with the file of its trace.
+ghost use Rattle.std.specs.Prelude.{◌≡◌, ◌<◌, [], true, string_bytes};
+ghost use Rattle.host.specs.Events.{changes, inputs, is_safe, learnt};
+ghost use Rattle.swt_command.specs.Files.{contents};
+ghost use Rattle.swt_command.specs.Sinks.{held};
+ghost use Rattle.swt_process.specs.Ends.{Did, is_reported};
+
+use bumpalo::Bump;
+use host::host::Host;
+use host::identity::Identity;
+use host::trace::{Past, TraceFile};
+use std::alloc::Global;
+use std::sync::Wait;
+use std::thread::Threads;
+use swt_arguments::line::Line;
+use swt_command::command::command;
+use swt_command::trouble::tell;
+use swt_status::trouble::Trouble;
+use values::sink::Sink;
+use workers::job::Gate;
+
+/// Whether a command that ends with this number has done what it was to do, and said nothing on standard error.
+fn is_reported(number: u8) -> bool
+    ensures { result ≡ is_reported number }
+{
+    number == 0 || number == 3 || number == 4 || number == 5
+}
+
+/// Does the line's command on these bytes, with a trace that is to stand at the place. The answer is the status and the machine.
+pub fn with_trace<R: Threads + Wait + Sync, G: Gate, H: Host + Drop, K: Past, O: Sink, E: Sink>(
+    rt: &R,
+    alloc: Global,
+    arena: &mut Bump,
+    host: H,
+    known: Vec<Identity>,
+    place: String,
+    beside: String,
+    line: &Line,
+    files: &[Option<Vec<u8>>],
+    gate: &G,
+    out: &mut O,
+    err: &mut E,
+) -> (u8, H)
+    requires past { learnt (H.history host) ≡ K.learnt }
+    requires known { known.items ≡ inputs (H.history host) }
+    requires place { string_bytes place ≡ K.place }
+    requires none { changes (H.history host) ≡ [] }
+    requires out { O.failures out.old < u64.MAX }
+    requires err { E.failures err.old < u64.MAX }
+    ensures past { learnt (H.history result.1) ≡ K.learnt }
+    ensures safe { is_safe K.place (H.history result.1) ≡ true }
+    ensures did { Did line.now (contents files.now) K.place (H.history result.1)
+        (held (O.taken out.old) (O.failures out.old)) (held (O.taken out.new) (O.failures out.new))
+        (held (E.taken err.old) (E.failures err.old)) (held (E.taken err.new) (E.failures err.new)) result.0 }
+{
+    let mut trace = TraceFile::<H, K>::new(host, known, place, beside);
+    let status = command(rt, alloc, arena, line, files, gate, out, err, &mut trace);
+    let (is_kept, host) = trace.finish();
+    if is_kept {
+        return (status, host);
+    }
+    if is_reported(status) {
+        let _ = tell(Trouble::Untraced, "", err);
+        return (Trouble::Untraced.status().number(), host);
+    }
+    // Of a command that stopped there is no trace to be kept.
+    (status, host)
+}

@@ -1,0 +1,7 @@
+-- What a machine in memory was asked and answered.
+use Rattle.std.specs.Prelude.{List}
+use Rattle.host.specs.Events.{Event}
+use Rattle.tests_process.specs.declared.fake.Fake.{Fake}
+
+abbrev pub events_of : Fake → List Event
+events_of fake = fake.log.events
