@@ -76,10 +76,11 @@ words [] = []
 words (Argument (Some word) ∷ h) = words h ++ (word ∷ [])
 words (e ∷ h) = words h
 
--- no word is behind those that were told
-abbrev pub has_all_words : List Event → Bool
-has_all_words (Argument None ∷ h) = true
-has_all_words _ = false
+-- the same, once no further word is behind them
+abbrev pub asked : List Event → Option (List (List ℕ))
+asked [] = None
+asked (Argument None ∷ h) = Some (words h)
+asked (e ∷ h) = asked h
 
 -- a name whose links were followed, and the name that they lead to
 abbrev pub Link : Type 0
@@ -91,14 +92,14 @@ links [] = []
 links (LedTo found ∷ Followed name ∷ h) = (name, found) ∷ links h
 links (e ∷ h) = links h
 
--- what the machine has told: words, names behind links, and files
+-- what the machine has told: all words, names behind links, and files
 pub record Learnt : Type 0 where
-  pub words : List (List ℕ)
+  pub asked : Option (List (List ℕ))
   pub links : List Link
   pub reads : List Read
 
 abbrev pub learnt : List Event → Learnt
-learnt h = record { words = words h; links = links h; reads = reads h }
+learnt h = record { asked = asked h; links = links h; reads = reads h }
 
 -- the last piece that was read is the end of its file
 abbrev pub ends : List Event → Bool

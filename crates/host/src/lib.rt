@@ -4,7 +4,6 @@
 pub mod host;
 pub mod identity;
 pub mod opening;
-pub mod page;
 pub mod reading;
 pub mod record;
 pub mod trace;

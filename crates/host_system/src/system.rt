@@ -45,20 +45,8 @@ impl<'r> System<'r> {
     }
 
     /// Why the last call on a file failed that was to read, make, write or rename it, where one failed.
-    pub fn reason(self) -> Option<Error> {
-        let System {
-            rt: _,
-            words,
-            input,
-            output,
-            reason,
-            log,
-        } = self;
-        drop(words);
-        drop(input);
-        drop(output);
-        drop(log);
-        reason
+    pub fn reason(&self) -> Option<&Error> {
+        self.reason.as_ref()
     }
 }
 

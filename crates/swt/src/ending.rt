@@ -14,18 +14,17 @@ use std::io::{Error, Write};
 use swt_arguments::line::Line;
 use swt_status::status::Status;
 
-/// A command that has ended: its line and its status, what is known of its run, and why standard output or a file failed, where one did.
+/// A command that has ended: its line and its status, what is known of its run, and why standard output failed, where it did.
 #[derive(Clone, Copy, Drop)]
-pub struct Ended<'e, 't> {
+pub struct Ended<'e, 'o, 't> {
     pub line: &'e Line,
     pub status: u8,
     pub teller: &'e Teller<'t>,
-    pub tail: &'e Tail,
-    pub unprinted: Option<&'e Error>,
-    pub reason: Option<&'e Error>,
+    pub tail: &'o Tail,
+    pub unprinted: Option<&'o Error>,
 }
 
-impl Ended<'_, '_> {
+impl Ended<'_, '_, '_> {
     /// Whether it ended with this status.
     fn is(self, status: Status) -> bool {
         self.status == status.number()
@@ -38,9 +37,11 @@ impl Ended<'_, '_> {
 }
 
 /// Says on standard error what is to be said of a command that ended so: of refusals, of blocked statements, of faults, of a limit, and of
-/// what could not be done. Where memory was refused for it, that is said, once, and the status stays.
-pub fn explain_ending(rt: &HostRuntime, kept: &mut Kept<'_>, ended: Ended<'_, '_>) {
-    if ended.is_told() && say_ending(rt, kept, ended).is_err() {
+/// what could not be done, with the reason why a call on a file failed, where one did. Where memory was refused for it, that is said, once,
+/// and the status stays.
+pub fn explain_ending(kept: &mut Kept<'_>, ended: Ended<'_, '_, '_>, reason: Option<&Error>) {
+    let rt = kept.runtime();
+    if ended.is_told() && say_ending(rt, kept, ended, reason).is_err() {
         let _ = eprintln!(rt; "swt: no memory");
     }
 }
@@ -48,13 +49,14 @@ pub fn explain_ending(rt: &HostRuntime, kept: &mut Kept<'_>, ended: Ended<'_, '_
 fn say_ending(
     rt: &HostRuntime,
     kept: &mut Kept<'_>,
-    ended: Ended<'_, '_>,
+    ended: Ended<'_, '_, '_>,
+    reason: Option<&Error>,
 ) -> Result<(), AllocError> {
     if ended.is(Status::Refused) {
         kept.tell_refusal();
     } else if !kept.tells_json() {
         let mut text = Vec::new(rt.alloc());
-        add_end(rt.alloc(), kept, ended, &mut text)?;
+        add_end(rt.alloc(), kept, ended, reason, &mut text)?;
         // Where this can't be written, the status says enough.
         let _ = rt.stderr().write_all(text.as_slice());
     }
@@ -69,13 +71,14 @@ fn say_ending(
 fn add_end(
     alloc: Global,
     kept: &Kept<'_>,
-    ended: Ended<'_, '_>,
+    ended: Ended<'_, '_, '_>,
+    reason: Option<&Error>,
     text: &mut Vec<u8>,
 ) -> Result<(), AllocError> {
     if ended.is(Status::Usage) {
         explain_count(ended.line, text)
     } else if ended.is(Status::Failed) {
-        add_trouble(alloc, kept, ended, text)
+        add_trouble(alloc, kept, ended, reason, text)
     } else {
         add_ending(alloc, kept, ended, text)
     }
@@ -85,11 +88,12 @@ fn add_end(
 fn add_trouble(
     alloc: Global,
     kept: &Kept<'_>,
-    ended: Ended<'_, '_>,
+    ended: Ended<'_, '_, '_>,
+    reason: Option<&Error>,
     text: &mut Vec<u8>,
 ) -> Result<(), AllocError> {
     if let Some(name) = kept.unread() {
-        return explain_unread(alloc, name, ended.reason, text);
+        return explain_unread(alloc, name, reason, text);
     }
     if let Some(error) = ended.unprinted {
         return explain_unwritten(alloc, "standard output", error, text);
@@ -104,7 +108,7 @@ fn add_trouble(
         Line::Run {
             trace: Some(trace),
             ..
-        } => match ended.reason {
+        } => match reason {
             Some(error) => explain_unwritten(alloc, trace.as_str(), error, text),
             None if ended.tail.line()?.is_empty() => Ok(()),
             None => explain_same_file(trace.as_str(), text),
@@ -117,7 +121,7 @@ fn add_trouble(
 fn add_ending(
     alloc: Global,
     kept: &Kept<'_>,
-    ended: Ended<'_, '_>,
+    ended: Ended<'_, '_, '_>,
     text: &mut Vec<u8>,
 ) -> Result<(), AllocError> {
     let Some((name, script)) = kept.first() else {
@@ -142,7 +146,7 @@ fn add_ending(
 fn explain_limit(
     alloc: Global,
     kept: &Kept<'_>,
-    ended: Ended<'_, '_>,
+    ended: Ended<'_, '_, '_>,
     text: &mut Vec<u8>,
 ) -> Result<(), AllocError> {
     let Some((name, script)) = kept.first() else {

@@ -1,13 +1,13 @@
 //! The system, of which what is read is kept.
-ghost use Rattle.std.specs.Prelude.{◌≡◌};
-ghost use Rattle.host_system.specs.Systems as Systems;
+ghost use Rattle.std.specs.Prelude.{◌≡◌, []};
 
+use crate::ending::{Ended, explain_ending};
 use crate::kept::Kept;
 use host::host::{ArgumentFault, Host, HostFault, Stream};
 use host::identity::Identity;
 use host_system::system::System;
 use std::alloc::AllocError;
-use std::io::Error;
+use swt_arguments::request::Request;
 
 /// The system, and what was read of files. What is kept takes memory; where that is refused it is let go, and the calls are done all the same.
 #[derive(Drop)]
@@ -19,16 +19,28 @@ pub struct Keeper<'r> {
 impl<'r> Keeper<'r> {
     ghost use Rattle.swt.specs.Keepers.{events_of};
 
-    pub fn new(system: System<'r>, kept: Kept<'r>) -> Keeper<'r>
-        ensures { events_of result ≡ Systems.events_of system.entry }
+    /// Before the first call. Nothing is kept.
+    pub fn new(rt: &'r HostRuntime) -> Keeper<'r>
+        ensures { events_of result ≡ [] }
     {
-        Keeper { system, kept }
+        Keeper {
+            system: System::new(rt),
+            kept: Kept::new(rt),
+        }
     }
 
-    /// What was read, and why the last call on a file failed, where one failed.
-    pub fn end(self) -> (Kept<'r>, Option<Error>) {
-        let Keeper { system, kept } = self;
-        (kept, system.reason())
+    /// Keeps from now on what is wanted of files for what is asked for.
+    pub fn want(&mut self, request: &Request)
+        ensures { events_of self.new ≡ events_of self.old }
+    {
+        self.kept.want(request);
+    }
+
+    /// Says on standard error what is to be said of a command that ended so.
+    pub fn explain(&mut self, ended: Ended<'_, '_, '_>)
+        ensures { events_of self.new ≡ events_of self.old }
+    {
+        explain_ending(&mut self.kept, ended, self.system.reason());
     }
 }
 

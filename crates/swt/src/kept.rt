@@ -49,15 +49,26 @@ pub struct Kept<'r> {
 }
 
 impl<'r> Kept<'r> {
-    /// Before the first file, for what is asked for.
-    pub fn new(rt: &'r HostRuntime, request: &Request) -> Kept<'r> {
+    /// Nothing.
+    pub fn new(rt: &'r HostRuntime) -> Kept<'r> {
         Kept {
             rt,
-            wanted: Wanted::by(request),
-            json: request.json,
+            wanted: Wanted::Nothing,
+            json: false,
             sources: Vec::new(rt.alloc()),
             lacks: false,
         }
+    }
+
+    /// Keeps from now on what is wanted for what is asked for.
+    pub fn want(&mut self, request: &Request) {
+        self.wanted = Wanted::by(request);
+        self.json = request.json;
+    }
+
+    /// Where standard error is.
+    pub fn runtime(&self) -> &'r HostRuntime {
+        self.rt
     }
 
     /// Whether refusals are told as JSON.

@@ -1,9 +1,17 @@
 //! `swt`: checks, explains and runs scripts of a profile of Swift/T. Called without words it says how it is called.
 #![tactic(auto)]
 
-ghost use Rattle.std.specs.Prelude.{◌≡◌, []};
-ghost use Rattle.host.specs.Events.{changes, inputs, links, reads};
-ghost use Rattle.host_system.specs.Systems.{events_of};
+ghost use Rattle.std.specs.Prelude.{◌≡◌, ◌<◌, ◌⊎◌, []};
+ghost use Rattle.host.specs.Events.{asked, changes, inputs, links, reads};
+ghost use Rattle.swt_arguments.specs.declared.fault.LineFault.TheVariants.{Usage};
+ghost use Rattle.swt_command.specs.Sinks.{Given, held};
+ghost use Rattle.swt_command.specs.Troubles.{trouble_line};
+ghost use Rattle.swt_status.specs.declared.trouble.Trouble.TheVariants.{Memory};
+ghost use Rattle.swt_process.specs.Ends.{Ends};
+ghost use Rattle.swt_process.specs.Process.{IsProcess};
+ghost use Rattle.swt.specs.Keepers.{events_of};
+ghost use Rattle.swt.specs.Outputs.{failures_of, taken_of};
+ghost use Rattle.host_system.specs.Streams as Streams;
 
 mod ending;
 mod explain;
@@ -14,14 +22,12 @@ mod output;
 mod progress;
 mod troubles;
 
-use crate::ending::{Ended, explain_ending};
+use crate::ending::Ended;
 use crate::keeper::Keeper;
-use crate::kept::Kept;
 use crate::output::Output;
 use crate::progress::Teller;
 use host::host::Stream;
 use host_system::stream::Standard;
-use host_system::system::System;
 use std::alloc::AllocError;
 use std::process::{self, ExitCode};
 use std::sync::Wait;
@@ -32,24 +38,43 @@ use swt_arguments::line::Line;
 use swt_arguments::nearest::meant;
 use swt_arguments::request::Request;
 use swt_arguments::word::Word;
+use swt_command::trouble::tell;
 use swt_process::program::program;
 use swt_process::words::read_words;
 use swt_status::status::Status;
+use swt_status::trouble::Trouble;
 
 fn main(rt: HostRuntime) -> ExitCode {
-    ExitCode::from(obey(&rt, &rt))
+    let mut out = Output::new(&rt);
+    let mut err = Standard::new(&rt, Stream::Error);
+    let (status, _host) = obey(&rt, &rt, Keeper::new(&rt), &mut out, &mut err);
+    ExitCode::from(status)
 }
 
-/// Does what the words of the command line ask for. The answer is the status of the process.
-fn obey<R: Threads + Wait + Sync>(rt: &HostRuntime, threads: &R) -> u8 {
-    let mut system = System::new(rt);
-    let words = match read_words(&mut system, rt.alloc()) {
+/// Does what the words of the command line ask for. The answer is the status of the process, and the system.
+fn obey<'r, R: Threads + Wait + Sync>(
+    rt: &'r HostRuntime,
+    threads: &R,
+    host: Keeper<'r>,
+    out: &mut Output<'r>,
+    err: &mut Standard<'r>,
+) -> (u8, Keeper<'r>)
+    requires none { events_of host ≡ [] }
+    requires out { failures_of out.old < u64.MAX }
+    requires err { Streams.failures_of err.old < u64.MAX }
+    ensures { IsProcess (events_of result.1)
+        (held (taken_of out.old) (failures_of out.old)) (held (taken_of out.new) (failures_of out.new))
+        (held (Streams.taken_of err.old) (Streams.failures_of err.old)) (held (Streams.taken_of err.new) (Streams.failures_of err.new))
+        result.0 }
+{
+    let mut host = host;
+    let words = match read_words(&mut host, rt.alloc()) {
         Ok(words) => words,
-        Err(fault) => return say_unread(rt, &[], fault),
+        Err(fault) => return (decline(rt, &[], fault, err), host),
     };
     match Request::read(rt.alloc(), words.as_slice()) {
-        Ok(request) => perform(rt, threads, system, &request),
-        Err(fault) => say_unread(rt, words.as_slice(), fault),
+        Ok(request) => perform(rt, threads, host, &request, out, err),
+        Err(fault) => (decline(rt, words.as_slice(), fault, err), host),
     }
 }
 
@@ -57,43 +82,40 @@ fn obey<R: Threads + Wait + Sync>(rt: &HostRuntime, threads: &R) -> u8 {
 fn perform<'r, R: Threads + Wait + Sync>(
     rt: &'r HostRuntime,
     threads: &R,
-    system: System<'r>,
+    host: Keeper<'r>,
     request: &Request,
-) -> u8
-    requires reads { reads (events_of system) ≡ [] }
-    requires links { links (events_of system) ≡ [] }
-    requires inputs { inputs (events_of system) ≡ [] }
-    requires changes { changes (events_of system) ≡ [] }
+    out: &mut Output<'r>,
+    err: &mut Standard<'r>,
+) -> (u8, Keeper<'r>)
+    requires reads { reads (events_of host) ≡ [] }
+    requires links { links (events_of host) ≡ [] }
+    requires inputs { inputs (events_of host) ≡ [] }
+    requires changes { changes (events_of host) ≡ [] }
+    requires out { failures_of out.old < u64.MAX }
+    requires err { Streams.failures_of err.old < u64.MAX }
+    ensures ends { Ends request.now.line (events_of result.1)
+        (held (taken_of out.old) (failures_of out.old)) (held (taken_of out.new) (failures_of out.new))
+        (held (Streams.taken_of err.old) (Streams.failures_of err.old)) (held (Streams.taken_of err.new) (Streams.failures_of err.new))
+        result.0 }
+    ensures asked { asked (events_of result.1) ≡ asked (events_of host.entry) }
 {
+    let mut host = host;
     let line = &request.line;
     let teller = Teller::new(rt, request.progress, most_steps(line));
-    let host = Keeper::new(system, Kept::new(rt, request));
-    let mut out = Output::new(rt, request.explain);
-    let mut err = Standard::new(rt, Stream::Error);
+    host.want(request);
+    out.want(request.explain);
     let number = process::id(rt.process());
-    let (status, host) = program(
-        threads,
-        rt.alloc(),
-        host,
-        number,
-        line,
-        &teller,
-        &mut out,
-        &mut err,
-    );
-    let (mut kept, reason) = host.end();
+    let (status, mut host) = program(threads, rt.alloc(), host, number, line, &teller, out, err);
     if request.explain || request.json {
-        let ended = Ended {
+        host.explain(Ended {
             line,
             status,
             teller: &teller,
             tail: out.tail(),
             unprinted: out.reason(),
-            reason: reason.as_ref(),
-        };
-        explain_ending(rt, &mut kept, ended);
+        });
     }
-    status
+    (status, host)
 }
 
 /// The most events that the line's run may have.
@@ -105,38 +127,49 @@ fn most_steps(line: &Line) -> u32 {
 }
 
 /// Says why the words are no request, and gives the status of that.
-fn say_unread(rt: &HostRuntime, words: &[Word], fault: LineFault) -> u8 {
+fn decline(rt: &HostRuntime, words: &[Word], fault: LineFault, err: &mut Standard<'_>) -> u8
+    requires { Streams.failures_of err.old < u64.MAX }
+    ensures { ((result ≡ 2) × (fault ≡ Usage)) ⊎ ((result ≡ 6)
+        × Given (held (Streams.taken_of err.old) (Streams.failures_of err.old)) (trouble_line Memory [])
+        (held (Streams.taken_of err.new) (Streams.failures_of err.new))) }
+{
     match fault {
-        LineFault::Usage => say_usage(rt, words),
-        LineFault::Memory => say_no_memory(rt),
+        LineFault::Usage => match say_usage(rt, words) {
+            Ok(()) => Status::Usage.number(),
+            Err(AllocError) => say_no_memory(err),
+        },
+        LineFault::Memory => say_no_memory(err),
     }
 }
 
 /// Says that memory was refused, and gives the status of that.
-fn say_no_memory(rt: &HostRuntime) -> u8 {
-    let _ = eprintln!(rt; "swt: no memory");
+fn say_no_memory(err: &mut Standard<'_>) -> u8
+    requires { Streams.failures_of err.old < u64.MAX }
+    ensures six { result ≡ 6 }
+    ensures said { Given (held (Streams.taken_of err.old) (Streams.failures_of err.old)) (trouble_line Memory [])
+        (held (Streams.taken_of err.new) (Streams.failures_of err.new)) }
+{
+    let _ = tell(Trouble::Memory, "", err);
     Status::Memory.number()
 }
 
-/// Says which of the words is wrong, and which was meant, and gives the status of that. Where there are no words, or they ask
-/// for help, it says how the program is called.
-fn say_usage(rt: &HostRuntime, words: &[Word]) -> u8 {
+/// Says which of the words is wrong, and which was meant. Where there are no words, or they ask for help, it says how the program is called.
+fn say_usage(rt: &HostRuntime, words: &[Word]) -> Result<(), AllocError> {
     // Where this can't be written, the status says enough.
     let Some(wrong) = first_wrong(words) else {
         let _ = eprintln!(rt; "{}", LineFault::Usage);
-        return Status::Usage.number();
+        return Ok(());
     };
-    match meant(rt.alloc(), &wrong) {
-        Ok(Some(name)) => {
+    match meant(rt.alloc(), &wrong)? {
+        Some(name) => {
             let _ = eprintln!(rt; "{wrong}: did you mean {name}?");
         }
-        Ok(None) => {
+        None => {
             let _ = eprintln!(rt; "{wrong}");
         }
-        Err(AllocError) => return say_no_memory(rt),
     }
     if wrong.wants_usage() {
         let _ = eprintln!(rt; "{}", LineFault::Usage);
     }
-    Status::Usage.number()
+    Ok(())
 }

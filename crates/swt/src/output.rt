@@ -76,19 +76,27 @@ pub struct Output<'r> {
 impl<'r> Output<'r> {
     ghost use Rattle.swt.specs.Outputs.{failures_of, taken_of};
 
-    /// Keeps the last line where that is wanted.
-    pub fn new(rt: &'r HostRuntime, wanted: bool) -> Output<'r>
+    /// Keeps nothing.
+    pub fn new(rt: &'r HostRuntime) -> Output<'r>
         ensures taken { taken_of result ≡ [] }
         ensures failures { failures_of result ≡ 0 }
     {
         Output {
             stream: Standard::new(rt, Stream::Out),
             tail: Tail {
-                wanted,
+                wanted: false,
                 bytes: Vec::new(rt.alloc()),
                 lacks: false,
             },
         }
+    }
+
+    /// Keeps the last line from now on, where that is wanted.
+    pub fn want(&mut self, wanted: bool)
+        ensures taken { taken_of self.new ≡ taken_of self.old }
+        ensures failures { failures_of self.new ≡ failures_of self.old }
+    {
+        self.tail.wanted = wanted;
     }
 
     /// The last line that was kept.

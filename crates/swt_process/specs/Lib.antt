@@ -2,3 +2,4 @@ pub mod Reads
 pub mod Places
 pub mod Each
 pub mod Ends
+pub mod Process

@@ -1,6 +1,6 @@
 //! Files that are checked one after another.
 ghost use Rattle.std.specs.Prelude.{◌≡◌, ◌<◌, [], OnOk};
-ghost use Rattle.host.specs.Events.{changes, inputs, links, reads};
+ghost use Rattle.host.specs.Events.{asked, changes, inputs, links, reads};
 ghost use Rattle.swt_arguments.specs.declared.line.Line.TheVariants.{Check};
 ghost use Rattle.swt_command.specs.Files.{name_at};
 ghost use Rattle.swt_command.specs.Sinks.{held};
@@ -37,9 +37,10 @@ pub fn check_files<H: Host, O: Sink, E: Sink>(
     requires changes { changes (H.history host.old) ≡ [] }
     requires out { O.failures out.old < u64.MAX }
     requires err { E.failures err.old < u64.MAX }
-    ensures { Ran (Check names.now) (H.history host.new)
+    ensures ran { Ran (Check names.now) (H.history host.new)
         (held (O.taken out.old) (O.failures out.old)) (held (O.taken out.new) (O.failures out.new))
         (held (E.taken err.old) (E.failures err.old)) (held (E.taken err.new) (E.failures err.new)) result }
+    ensures asked { asked (H.history host.new) ≡ asked (H.history host.old) }
 {
     match check_each(host, alloc, names, out) {
         Ok(status) => status.number(),
@@ -76,6 +77,7 @@ fn check_each<H: Host, O: Sink>(
     requires out { O.failures out.old < u64.MAX }
     ensures each { ChecksEach names.now (reads (H.history host.new)) result
         (held (O.taken out.old) (O.failures out.old)) (held (O.taken out.new) (O.failures out.new)) }
+    ensures asked { asked (H.history host.new) ≡ asked (H.history host.old) }
     ensures links { links (H.history host.new) ≡ links (H.history host.old) }
     ensures changes { changes (H.history host.new) ≡ changes (H.history host.old) }
 {
@@ -107,6 +109,7 @@ fn check_next<H: Host, O: Sink>(
     ensures checked { IsChecked name.now (reads (H.history host.old)) (reads (H.history host.new)) result
         (held (O.taken out.old) (O.failures out.old)) (held (O.taken out.new) (O.failures out.new)) }
     ensures known { OnOk result (known.new.items ≡ inputs (H.history host.new)) }
+    ensures asked { asked (H.history host.new) ≡ asked (H.history host.old) }
     ensures links { links (H.history host.new) ≡ links (H.history host.old) }
     ensures changes { changes (H.history host.new) ≡ changes (H.history host.old) }
 {

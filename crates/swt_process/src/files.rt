@@ -1,6 +1,6 @@
 //! Reading the files of a line.
 ghost use Rattle.std.specs.Prelude.{◌≡◌, ◌<◌, [], reverse, IfOk, OnOk};
-ghost use Rattle.host.specs.Events.{changes, inputs, links, reads};
+ghost use Rattle.host.specs.Events.{asked, changes, inputs, links, reads};
 ghost use Rattle.swt_command.specs.Files.{contents};
 ghost use Rattle.swt_process.specs.Reads.{AreRead, most_at};
 
@@ -48,6 +48,7 @@ pub fn read_files<H: Host>(
     requires known { known.old.items ≡ inputs (H.history host.old) }
     ensures read { IfOk result (λ files. AreRead line.now names.now (contents files.items) (reverse (reads (H.history host.new)))) }
     ensures known { OnOk result (known.new.items ≡ inputs (H.history host.new)) }
+    ensures asked { asked (H.history host.new) ≡ asked (H.history host.old) }
     ensures links { links (H.history host.new) ≡ links (H.history host.old) }
     ensures changes { changes (H.history host.new) ≡ changes (H.history host.old) }
 {

@@ -1,6 +1,6 @@
 //! Where a trace is to stand.
 ghost use Rattle.std.specs.Prelude.{◌≡◌, [], map, option_map, option_to_list, string_bytes, IfOk};
-ghost use Rattle.host.specs.Events.{changes, inputs, links, reads};
+ghost use Rattle.host.specs.Events.{asked, changes, inputs, links, reads};
 ghost use Rattle.swt_process.specs.Places.{name_of, place_of, trace_of};
 
 use host::host::Host;
@@ -31,6 +31,7 @@ pub fn find_place<H: Host>(host: &mut H, alloc: Global, line: &Line) -> Result<S
     requires none { links (H.history host.old) ≡ [] }
     ensures place { IfOk result (λ place. string_bytes place ≡ place_of (trace_of line.now) (links (H.history host.new))) }
     ensures asked { IfOk result (λ place. map name_of (links (H.history host.new)) ≡ option_to_list (trace_of line.now)) }
+    ensures words { asked (H.history host.new) ≡ asked (H.history host.old) }
     ensures reads { reads (H.history host.new) ≡ reads (H.history host.old) }
     ensures inputs { inputs (H.history host.new) ≡ inputs (H.history host.old) }
     ensures changes { changes (H.history host.new) ≡ changes (H.history host.old) }

@@ -1,6 +1,6 @@
 //! The program, from a line on.
 ghost use Rattle.std.specs.Prelude.{◌≡◌, ◌<◌, [], map, option_to_list, reverse, string_bytes, IfOk};
-ghost use Rattle.host.specs.Events.{changes, inputs, links, reads};
+ghost use Rattle.host.specs.Events.{asked, changes, inputs, links, reads};
 ghost use Rattle.swt_arguments.specs.Lines.{files_of};
 ghost use Rattle.swt_command.specs.Files.{contents};
 ghost use Rattle.swt_command.specs.Sinks.{held};
@@ -48,6 +48,7 @@ fn read<H: Host>(
     ensures known { IfOk result (λ input. input.known.items ≡ inputs (H.history host.new)) }
     ensures place { IfOk result (λ input. string_bytes input.place ≡ place_of (trace_of line.now) (links (H.history host.new))) }
     ensures asked { IfOk result (λ input. map name_of (links (H.history host.new)) ≡ option_to_list (trace_of line.now)) }
+    ensures words { asked (H.history host.new) ≡ asked (H.history host.old) }
     ensures changes { changes (H.history host.new) ≡ [] }
 {
     let names = line.files(alloc)?;
@@ -84,9 +85,10 @@ pub fn program<R: Threads + Wait + Sync, G: Gate, H: Host + Drop, O: Sink, E: Si
     requires changes { changes (H.history host) ≡ [] }
     requires out { O.failures out.old < u64.MAX }
     requires err { E.failures err.old < u64.MAX }
-    ensures { Ends line.now (H.history result.1)
+    ensures ends { Ends line.now (H.history result.1)
         (held (O.taken out.old) (O.failures out.old)) (held (O.taken out.new) (O.failures out.new))
         (held (E.taken err.old) (E.failures err.old)) (held (E.taken err.new) (E.failures err.new)) result.0 }
+    ensures asked { asked (H.history result.1) ≡ asked (H.history host) }
 {
     let mut host = host;
     match line {
@@ -115,9 +117,10 @@ fn on_files<R: Threads + Wait + Sync, G: Gate, H: Host + Drop, O: Sink, E: Sink>
     requires changes { changes (H.history host) ≡ [] }
     requires out { O.failures out.old < u64.MAX }
     requires err { E.failures err.old < u64.MAX }
-    ensures { Ends line.now (H.history result.1)
+    ensures ends { Ends line.now (H.history result.1)
         (held (O.taken out.old) (O.failures out.old)) (held (O.taken out.new) (O.failures out.new))
         (held (E.taken err.old) (E.failures err.old)) (held (E.taken err.new) (E.failures err.new)) result.0 }
+    ensures asked { asked (H.history result.1) ≡ asked (H.history host) }
 {
     let mut host = host;
     match read(alloc, &mut host, process, line) {

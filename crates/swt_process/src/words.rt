@@ -1,7 +1,7 @@
 //! The words of the command line.
-ghost use Rattle.std.specs.Prelude.{◌≡◌, [], Some, None, true, false, IfErr, IfOk, OnOk, OnErr};
-ghost use Rattle.host.specs.Events.{changes, has_all_words, inputs, links, reads, words};
-ghost use Rattle.swt_arguments.specs.Requests.{request_of};
+ghost use Rattle.std.specs.Prelude.{◌≡◌, [], Some, None, IfErr, IfOk, OnErr};
+ghost use Rattle.host.specs.Events.{asked, changes, inputs, links, reads};
+ghost use Rattle.swt_process.specs.Process.{requested};
 
 use host::host::{ArgumentFault, Host};
 use std::alloc::Global;
@@ -19,10 +19,8 @@ const MOST_WORDS: u32 = 16_777_216;
 /// `Usage` where they are no request or no texts, and `Memory` where memory that was asked for was refused.
 pub fn read_request<H: Host>(host: &mut H, alloc: Global) -> Result<Request, LineFault>
     requires { H.history host.old ≡ [] }
-    ensures all { OnOk result (has_all_words (H.history host.new) ≡ true) }
-    ensures request { IfOk result (λ request. request_of (words (H.history host.new)) ≡ Some request) }
-    ensures usage { IfErr result (λ fault. fault ≡ LineFault.Usage → has_all_words (H.history host.new) ≡ true
-        → request_of (words (H.history host.new)) ≡ None) }
+    ensures request { IfOk result (λ request. requested (H.history host.new) ≡ Some request) }
+    ensures usage { IfErr result (λ fault. fault ≡ LineFault.Usage → requested (H.history host.new) ≡ None) }
     ensures reads { reads (H.history host.new) ≡ [] }
     ensures links { links (H.history host.new) ≡ [] }
     ensures inputs { inputs (H.history host.new) ≡ [] }
@@ -39,9 +37,8 @@ pub fn read_request<H: Host>(host: &mut H, alloc: Global) -> Result<Request, Lin
 /// `Usage` where a word is no text, and `Memory` where memory that was asked for was refused.
 pub fn read_words<H: Host>(host: &mut H, alloc: Global) -> Result<Vec<Word>, LineFault>
     requires { H.history host.old ≡ [] }
-    ensures words { IfOk result (λ all. words (H.history host.new) ≡ all.items) }
-    ensures all { OnOk result (has_all_words (H.history host.new) ≡ true) }
-    ensures some { OnErr result (has_all_words (H.history host.new) ≡ false) }
+    ensures words { IfOk result (λ all. asked (H.history host.new) ≡ Some all.items) }
+    ensures some { OnErr result (asked (H.history host.new) ≡ None) }
     ensures reads { reads (H.history host.new) ≡ [] }
     ensures links { links (H.history host.new) ≡ [] }
     ensures inputs { inputs (H.history host.new) ≡ [] }

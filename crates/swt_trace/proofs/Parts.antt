@@ -39,6 +39,21 @@ texts_next f (x ∷ xs) (suc i) d l = ap (λ ys. f x ++ ys) (texts_next f xs i d
 pub in_texts : {X : Type 0} (f : X → List ℕ) (xs : List X) (i : ℕ) (d : X) (old mid new part : List ℕ) → i < length xs → mid ≡ old ++ flat_map f (take i xs) → part ≡ f (get_or xs i d) → Beginning mid part new → Beginning old (flat_map f xs) new
 in_texts f xs i d old mid new part l m p b = beginning_in old mid new (flat_map f xs) (flat_map f (take i xs)) part (flat_map f (drop (suc i) xs)) (texts_at f xs i d l ∙ ap (λ ys. flat_map f (take i xs) ++ (ys ++ flat_map f (drop (suc i) xs))) (sym p)) m b
 
+-- a beginning of the texts up to a place and of the one there is one of all texts
+pub in_front_texts : {X : Type 0} (f : X → List ℕ) (xs : List X) (i : ℕ) (d : X) (old new part : List ℕ) → i < length xs → part ≡ f (get_or xs i d)
+    → Beginning old (flat_map f (take i xs) ++ part) new → Beginning old (flat_map f xs) new
+in_front_texts f xs i d old new part l p b =
+    beginning_in old old new (flat_map f xs) [] (flat_map f (take i xs) ++ part) (flat_map f (drop (suc i) xs))
+    (texts_at f xs i d l ∙ ap (λ ys. flat_map f (take i xs) ++ (ys ++ flat_map f (drop (suc i) xs))) (sym p) ∙ sym (append_assoc (flat_map f (take i xs)) part (flat_map f (drop (suc i) xs))))
+    (sym (append-nil old)) b
+
+-- the texts up to a place with the one there are those up to the next
+pub texts_so_far : {X : Type 0} (f : X → List ℕ) (xs : List X) (i : ℕ) (d : X) (part : List ℕ) → i < length xs → part ≡ f (get_or xs i d)
+    → flat_map f (take i xs) ++ part ≡ flat_map f (take (i + 1) xs)
+texts_so_far f xs i d part l p =
+    let next : suc i ≡ i + 1 = omega arith in
+    ap (λ ys. flat_map f (take i xs) ++ ys) p ∙ sym (texts_next f xs i d l) ∙ ap (λ k. flat_map f (take k xs)) next
+
 -- what is written once the text at a place is
 pub next_text : {X : Type 0} (f : X → List ℕ) (xs : List X) (i : ℕ) (d : X) (old mid new part : List ℕ) → i < length xs → mid ≡ old ++ flat_map f (take i xs) → part ≡ f (get_or xs i d) → new ≡ mid ++ part → new ≡ old ++ flat_map f (take (i + 1) xs)
 next_text f xs i d old mid new part l m p n =

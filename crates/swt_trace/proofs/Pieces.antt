@@ -51,15 +51,21 @@ lines_next (f ∷ es) (suc i) d l =
     ap (λ xs. event_line f xs) (lines_next es i d (omega (arith, l)))
     ∙ sym (line_more f (event_lines (take i es) []) (event_line (get_or es i d) []))
 
--- what is written once the next line is
-pub next_written : (old mid new : List ℕ) (es : List Event) (i : ℕ) (d : Event) → i < length es → mid ≡ old ++ (first_line ended ++ event_lines (take i es) []) → new ≡ mid ++ event_line (get_or es i d) [] → new ≡ old ++ (first_line ended ++ event_lines (take (i + 1) es) [])
-next_written old mid new es i d l m n =
+-- the first line and the lines up to a place, with the line there, are those up to the next
+pub lines_so_far : (es : List Event) (i : ℕ) (d : Event) → i < length es
+    → (first_line ended ++ event_lines (take i es) []) ++ event_line (get_or es i d) [] ≡ first_line ended ++ event_lines (take (i + 1) es) []
+lines_so_far es i d l =
     let next : i + 1 ≡ suc i = omega arith in
-    n ∙ ap (λ xs. xs ++ event_line (get_or es i d) []) m
-    ∙ append_assoc old (first_line ended ++ event_lines (take i es) []) (event_line (get_or es i d) [])
-    ∙ ap (λ xs. old ++ xs) (append_assoc (first_line ended) (event_lines (take i es) []) (event_line (get_or es i d) []))
-    ∙ ap (λ xs. old ++ (first_line ended ++ xs)) (sym (lines_next es i d l))
-    ∙ ap (λ k. old ++ (first_line ended ++ event_lines (take k es) [])) (sym next)
+    append_assoc (first_line ended) (event_lines (take i es) []) (event_line (get_or es i d) [])
+    ∙ ap (λ xs. first_line ended ++ xs) (sym (lines_next es i d l))
+    ∙ ap (λ k. first_line ended ++ event_lines (take k es) []) (sym next)
+
+-- a beginning of these is one of all
+pub in_front_lines : (es : List Event) (i : ℕ) (d : Event) (old new : List ℕ) → i < length es
+    → Beginning old ((first_line ended ++ event_lines (take i es) []) ++ event_line (get_or es i d) []) new → Beginning old (first_line ended ++ event_lines es []) new
+in_front_lines es i d old new l b =
+    let front = first_line ended ++ event_lines (take i es) [] in let line = event_line (get_or es i d) [] in let rest = event_lines (drop (suc i) es) [] in
+    beginning_in old old new (first_line ended ++ event_lines es []) [] (front ++ line) rest (trace_at es i d l ∙ sym (append_assoc front line rest)) (sym (append-nil old)) b
 
 -- a beginning of the lines of a trace, and of its last line behind them, is one of the trace
 pub in_lines : (old new : List ℕ) (es : List Event) (d : Ending) → Beginning old (first_line ended ++ event_lines es []) new → Beginning old (TraceText es (Some d)) new

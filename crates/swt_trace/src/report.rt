@@ -5,6 +5,7 @@
 //! each step from the outermost on.
 ghost use Rattle.std.specs.Prelude.{◌≡◌, ◌<◌, ◌≤◌, ◌+◌, ◌++◌, ◌∷◌, [], length, codes, decimal, OnOk, OnErr};
 ghost use Rattle.std.specs.List.{flat_map};
+ghost use Rattle.pages.specs.Pages.{OnPage};
 ghost use Rattle.values.specs.Sinks.{Beginning};
 ghost use Rattle.paths.specs.Names.{fault_name};
 ghost use Rattle.swt_trace.specs.Report.{ReportText, text_line, key_text, step_text, path_text, statement_text, blocked_line, fault_line, limit_line, end_text};
@@ -13,6 +14,7 @@ use crate::fault::WriteFault;
 use arrayvec::ArrayString;
 use board_runs::report::{End, Report};
 use itoa::Buffer;
+use pages::Page;
 use paths::{Fault, FaultKind, Statement, Step};
 use values::key::Key;
 use values::sink::{Sink, SinkFault, write_all};
@@ -47,7 +49,7 @@ pub fn write_report<W: Sink>(report: &Report, sink: &mut W) -> Result<(), WriteF
     Ok(())
 }
 
-/// Writes the lines that were printed.
+/// Writes the lines that were printed, many a write.
 ///
 /// # Errors
 ///
@@ -59,22 +61,25 @@ pub fn write_lines<W: Sink>(lines: &Vec<Text>, sink: &mut W) -> Result<(), SinkF
     ensures failed { OnErr result (W.failures sink.old < W.failures sink.new) }
     ensures none_failed { OnOk result (W.failures sink.new ≡ W.failures sink.old) }
 {
+    let mut page = Page::new();
     for line in lines {
-        write_line(line.as_bytes(), sink)?;
+        put_line(line.as_bytes(), &mut page, sink)?;
     }
+    page.empty(sink)?;
     Ok(())
 }
 
-/// Writes a line and the byte 10.
-fn write_line<W: Sink>(line: &[u8], sink: &mut W) -> Result<(), SinkFault>
+/// Puts a line and the byte 10 behind what waits.
+fn put_line<W: Sink>(line: &[u8], page: &mut Page, sink: &mut W) -> Result<(), SinkFault>
     requires { W.failures sink.old < u64.MAX }
-    ensures ok { OnOk result (W.taken sink.new ≡ W.taken sink.old ++ text_line line.now) }
-    ensures err { OnErr result (Beginning (W.taken sink.old) (text_line line.now) (W.taken sink.new)) }
+    ensures ok { OnOk result (OnPage (W.taken sink.old) (W.taken sink.new) page.new (page.old ++ text_line line.now)) }
+    ensures err { OnErr result (Beginning (W.taken sink.old) (page.old ++ text_line line.now) (W.taken sink.new)) }
     ensures failed { OnErr result (W.failures sink.old < W.failures sink.new) }
     ensures none_failed { OnOk result (W.failures sink.new ≡ W.failures sink.old) }
 {
-    write_all(sink, line)?;
-    write_all(sink, b"\n")
+    page.put(sink, line)?;
+    page.put(sink, b"\n")?;
+    Ok(())
 }
 
 /// Writes what follows the lines.

@@ -1,5 +1,6 @@
 //! Writing a trace.
 ghost use Rattle.std.specs.Prelude.{◌≡◌, ◌<◌, ◌++◌, ◌∷◌, [], length, decimal, OnOk, OnErr};
+ghost use Rattle.pages.specs.Pages.{OnPage};
 ghost use Rattle.values.specs.Sinks.{Beginning};
 ghost use Rattle.swt_trace.specs.Report.{TraceOf, ending_of};
 ghost use Rattle.swt_trace.specs.Trace.{ended, ending_line, event_line, event_lines, first_line};
@@ -9,13 +10,14 @@ use crate::fault::WriteFault;
 use arrayvec::ArrayString;
 use board_runs::report::{End, Report};
 use itoa::Buffer;
+use pages::Page;
 use task_code::event::Event;
 use values::sink::{Sink, SinkFault, write_all};
 
 /// The most bytes of an event's line: a letter, three digits of a worker, twenty of an item, two spaces and the byte 10.
 const LONGEST_LINE: usize = 27;
 
-/// Writes the trace of the report, of version 2, a line a write where the sink takes it whole.
+/// Writes the trace of the report, of version 2, many lines a write.
 ///
 /// # Errors
 ///
@@ -40,10 +42,12 @@ fn write_events<W: Sink>(events: &[Event], sink: &mut W) -> Result<(), SinkFault
     ensures failed { OnErr result (W.failures sink.old < W.failures sink.new) }
     ensures none_failed { OnOk result (W.failures sink.new ≡ W.failures sink.old) }
 {
-    write_all(sink, b"swt-trace 2\n")?;
+    let mut page = Page::new();
+    page.put(sink, b"swt-trace 2\n")?;
     for event in events {
-        write_event(event, sink)?;
+        put_event(event, &mut page, sink)?;
     }
+    page.empty(sink)?;
     Ok(())
 }
 
@@ -58,11 +62,11 @@ fn write_ending<W: Sink>(end: &End, sink: &mut W) -> Result<(), SinkFault>
     write_all(sink, Ending::of(end).line())
 }
 
-/// Writes an event's line.
-fn write_event<W: Sink>(event: &Event, sink: &mut W) -> Result<(), SinkFault>
+/// Puts an event's line behind what waits.
+fn put_event<W: Sink>(event: &Event, page: &mut Page, sink: &mut W) -> Result<(), SinkFault>
     requires { W.failures sink.old < u64.MAX }
-    ensures ok { OnOk result (W.taken sink.new ≡ W.taken sink.old ++ event_line event.now []) }
-    ensures err { OnErr result (Beginning (W.taken sink.old) (event_line event.now []) (W.taken sink.new)) }
+    ensures ok { OnOk result (OnPage (W.taken sink.old) (W.taken sink.new) page.new (page.old ++ event_line event.now [])) }
+    ensures err { OnErr result (Beginning (W.taken sink.old) (page.old ++ event_line event.now []) (W.taken sink.new)) }
     ensures failed { OnErr result (W.failures sink.old < W.failures sink.new) }
     ensures none_failed { OnOk result (W.failures sink.new ≡ W.failures sink.old) }
 {
@@ -72,7 +76,7 @@ fn write_event<W: Sink>(event: &Event, sink: &mut W) -> Result<(), SinkFault>
         Event::Back { worker, item } => ("K ", *worker, *item),
     };
     let line = line_of(letter, worker, item);
-    write_all(sink, line.as_str().as_bytes())
+    page.put(sink, line.as_str().as_bytes())
 }
 
 /// The line of a letter with its space, a worker and an item.

@@ -11,6 +11,7 @@ loop-place-init g c = record {
   judging = at_first c.args.names.now (reads (g.H.Host.history c.args.host.now)) (held (g.O.Sink.taken c.args.out.now) (g.O.Sink.failures c.args.out.now)) c.requires.reads;
   failures = refl;
   known = c.new-known.ensures.items ∙ sym c.requires.inputs;
+  asked = refl;
   links = refl;
   changes = refl;
 }
@@ -34,6 +35,7 @@ loop-place-preserved g c =
           c.loop-place-test.true (c.as_str.ensures ∙ c.index-names-place.is) c.in-Ok.ensures.checked);
       failures = said.1.1 ∙ inv.failures;
       known = c.in-Ok.ensures.known;
+      asked = c.check_next.ensures.asked ∙ inv.asked;
       links = c.check_next.ensures.links ∙ inv.links;
       changes = c.check_next.ensures.changes ∙ inv.changes;
     }

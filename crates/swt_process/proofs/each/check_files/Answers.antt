@@ -8,15 +8,15 @@ use Rattle.swt_command.proofs.Sinks.{given}
 use Rattle.swt_process.proofs.InTurn.{check_ran}
 use Rattle.swt_process.proofs.each.check_files.Goals as goal
 
-pub returns-in-Ok : goal.returns-in-Ok
-returns-in-Ok g c =
+pub returns-in-Ok-clause-ran : goal.returns-in-Ok-clause-ran
+returns-in-Ok-clause-ran g c =
     check_ran c.args.names.now (g.H.Host.history c.check_each.new.host) (Ok c.in-Ok.status) (held (g.O.Sink.taken c.args.out.now) (g.O.Sink.failures c.args.out.now))
     (held (g.O.Sink.taken c.check_each.new.out) (g.O.Sink.failures c.check_each.new.out)) (held (g.E.Sink.taken c.args.err.now) (g.E.Sink.failures c.args.err.now))
     (held (g.E.Sink.taken c.args.err.now) (g.E.Sink.failures c.args.err.now)) c.number.result c.in-Ok.ensures.each refl c.number.ensures (c.check_each.ensures.links ∙ c.requires.links)
     (c.check_each.ensures.changes ∙ c.requires.changes)
 
-pub returns-in-Err : goal.returns-in-Err
-returns-in-Err g c =
+pub returns-in-Err-clause-ran : goal.returns-in-Err-clause-ran
+returns-in-Err-clause-ran g c =
     let old : Held = held (g.E.Sink.taken c.args.err.now) (g.E.Sink.failures c.args.err.now) in
     let new : Held = held (g.E.Sink.taken c.tell.new.err) (g.E.Sink.failures c.tell.new.err) in
     let stop = c.in-Err.stop in

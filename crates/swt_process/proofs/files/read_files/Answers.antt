@@ -23,6 +23,7 @@ loop-place-preserved g c =
           c.in_ok-file.ensures.read);
       count = rw (pushed, length-append) (omega (arith, inv.count));
       known = c.in_ok-file.ensures.known;
+      asked = c.read_file.ensures.asked ∙ inv.asked;
       links = c.read_file.ensures.links ∙ inv.links;
       changes = c.read_file.ensures.changes ∙ inv.changes;
     }

@@ -1,10 +1,11 @@
-use Rattle.std.proofs.Common.{◌≡◌, ◌++◌, take}
+use Rattle.std.proofs.Common.{◌≡◌, take}
 use Rattle.std.specs.List.{flat_map}
+use Rattle.pages.specs.Pages.{OnPage}
 use Rattle.swt_trace.specs.Report.{text_line}
 use Rattle.swt_trace.proofs.report.write_lines.Given as goal
 
 abbrev pub invariant-loop-line : goal.invariant-loop-line
 invariant-loop-line g l = record {
-  taken : g.W.Sink.taken l.sink ≡ g.W.Sink.taken l.fn.sink ++ flat_map text_line (take l.line-index l.lines.items);
+  on_page : OnPage (g.W.Sink.taken l.fn.sink) (g.W.Sink.taken l.sink) l.page (flat_map text_line (take l.line-index l.lines.items));
   failures : g.W.Sink.failures l.sink ≡ g.W.Sink.failures l.fn.sink;
 }

@@ -1,27 +1,59 @@
-use Rattle.std.proofs.Common.{rules, arith, ◌++◌, [], refl, append-nil, take, drop, suc}
+use Rattle.std.proofs.Common.{rules, ◌≡◌, ◌++◌, ◌∙◌, [], refl, sym, subst, ℕ, List, append-nil, take, arith}
+use Rattle.std.proofs.lemmas.Grind.{common_steps}
+use Rattle.task_code.specs.declared.event.Event.{Event}
 use Rattle.task_code.specs.declared.event.Event.TheVariants.{Begin}
 use Rattle.values.specs.Sinks.{Beginning}
+use Rattle.pages.specs.Pages.{OnPage}
+use Rattle.pages.proofs.Beginnings.{lost, lost_behind, more_on_page}
 use Rattle.swt_trace.specs.Trace.{ended, event_lines, first_line}
-use Rattle.swt_trace.proofs.Pieces.{beginning_in, trace_at, next_written}
+use Rattle.swt_trace.proofs.Pieces.{beginning_in, in_front_lines, lines_so_far}
 use Rattle.swt_trace.proofs.write.write_events.Goals as goal
 
-pub returns-in_err-write_all-clause-err : goal.returns-in_err-write_all-clause-err
-returns-in_err-write_all-clause-err g c =
-    let b : Beginning (g.W.Sink.taken c.args.sink.now) (first_line ended ++ event_lines c.args.events.now []) (g.W.Sink.taken c.write_all.new.sink) =
-    beginning_in _ (g.W.Sink.taken c.args.sink.now) _ _ [] (first_line ended) (event_lines c.args.events.now []) refl (search (rules, append-nil)) c.in_err-write_all.ensures.err in
+pub returns-in_err-put-clause-err : goal.returns-in_err-put-clause-err
+returns-in_err-put-clause-err g c =
+    let es = c.args.events.now in let old = g.W.Sink.taken c.args.sink.now in let new = g.W.Sink.taken c.put.new.sink in
+    let b : Beginning old (first_line ended ++ event_lines es []) new =
+    beginning_in old old new (first_line ended ++ event_lines es []) [] (first_line ended) (event_lines es []) refl (sym (append-nil old))
+    (subst (λ (page : List ℕ). Beginning old (page ++ first_line ended) new) c.new-page.ensures c.in_err-put.ensures.err) in
     search (rules, b)
 
-pub returns-in_err-write_event-clause-err : goal.returns-in_err-write_event-clause-err
-returns-in_err-write_event-clause-err g c =
-    let es = c.args.events.now in
-    let i = c.loop-event.event-index in
-    let b : Beginning (g.W.Sink.taken c.args.sink.now) (first_line ended ++ event_lines es []) (g.W.Sink.taken c.write_event.new.sink) =
-    beginning_in _ (g.W.Sink.taken c.loop-event.sink) _ _ (first_line ended ++ event_lines (take i es) []) _ (event_lines (drop (suc i) es) [])
-    (trace_at es i (Begin 0 0) c.loop-event-test.true) c.loop-event.invariant.taken c.in_err-write_event.ensures.err in
+pub loop-event-init : goal.loop-event-init
+loop-event-init g c =
+    let old = g.W.Sink.taken c.args.sink.now in let new = g.W.Sink.taken c.put.new.sink in
+    let at_first : OnPage old new c.put.new.self (first_line ended) =
+    subst (λ (page : List ℕ). OnPage old new c.put.new.self (page ++ first_line ended)) c.new-page.ensures c.in_ok-put.ensures.ok in
+    record {
+      on_page = subst (λ (t : List ℕ). OnPage old new c.put.new.self t) (sym (append-nil (first_line ended))) at_first;
+      failures = c.in_ok-put.ensures.none_failed;
+    }
+
+pub returns-in_err-put_event-clause-err : goal.returns-in_err-put_event-clause-err
+returns-in_err-put_event-clause-err g c =
+    let es = c.args.events.now in let i = c.loop-event.event-index in
+    let old = g.W.Sink.taken c.args.sink.now in let new = g.W.Sink.taken c.put_event.new.sink in
+    let b : Beginning old (first_line ended ++ event_lines es []) new =
+    in_front_lines es i (Begin 0 0) old new c.loop-event-test.true
+    (lost_behind old (g.W.Sink.taken c.loop-event.sink) new c.loop-event.page (first_line ended ++ event_lines (take i es) []) _ c.loop-event.invariant.on_page
+    c.in_err-put_event.ensures.err) in
     search (rules, b)
 
 pub loop-event-preserved : goal.loop-event-preserved
-loop-event-preserved g c = record {
-  taken = next_written (g.W.Sink.taken c.args.sink.now) (g.W.Sink.taken c.loop-event.sink) (g.W.Sink.taken c.write_event.new.sink) c.args.events.now c.loop-event.event-index (Begin 0 0) c.loop-event-test.true c.loop-event.invariant.taken c.in_ok-write_event.ensures.ok;
-  failures = grind (arith, c.loop-event.invariant.failures, c.in_ok-write_event.ensures.none_failed);
-}
+loop-event-preserved g c =
+    let es = c.args.events.now in let i = c.loop-event.event-index in
+    let old = g.W.Sink.taken c.args.sink.now in let new = g.W.Sink.taken c.put_event.new.sink in
+    record {
+      on_page = subst (λ (t : List ℕ). OnPage old new c.put_event.new.page t) (lines_so_far es i (Begin 0 0) c.loop-event-test.true)
+          (more_on_page old (g.W.Sink.taken c.loop-event.sink) new c.loop-event.page c.put_event.new.page (first_line ended ++ event_lines (take i es) []) _
+          c.loop-event.invariant.on_page c.in_ok-put_event.ensures.ok);
+      failures = c.in_ok-put_event.ensures.none_failed ∙ c.loop-event.invariant.failures;
+    }
+
+pub returns-in_err-empty-clause-err : goal.returns-in_err-empty-clause-err
+returns-in_err-empty-clause-err g c =
+    let es = c.args.events.now in let i = c.loop-event.event-index in
+    let old = g.W.Sink.taken c.args.sink.now in let new = g.W.Sink.taken c.empty.new.sink in
+    let all : take i es ≡ es = grind (arith, common_steps) in
+    let b : Beginning old (first_line ended ++ event_lines es []) new =
+    subst (λ (xs : List Event). Beginning old (first_line ended ++ event_lines xs []) new) all
+    (lost old (g.W.Sink.taken c.loop-event.sink) new c.loop-event.page (first_line ended ++ event_lines (take i es) []) c.loop-event.invariant.on_page c.in_err-empty.ensures.err) in
+    search (rules, b)

@@ -1,6 +1,6 @@
 //! Bytes on their way to a sink.
 ghost use Rattle.std.specs.Prelude.{◌≡◌, ◌<◌, ◌≤◌, ◌+◌, ◌++◌, [], length, OnOk, OnErr};
-ghost use Rattle.host.specs.Pages.{OnPage};
+ghost use Rattle.pages.specs.Pages.{OnPage};
 ghost use Rattle.values.specs.Sinks.{Beginning};
 
 use std::marker::Model;

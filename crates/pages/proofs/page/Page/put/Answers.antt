@@ -1,7 +1,7 @@
 use Rattle.std.proofs.Common.{rules, ◌++◌}
 use Rattle.values.specs.Sinks.{Beginning}
-use Rattle.host.proofs.Beginnings.{second_part}
-use Rattle.host.proofs.page.Page.put.Goals as goal
+use Rattle.pages.proofs.Beginnings.{second_part}
+use Rattle.pages.proofs.page.Page.put.Goals as goal
 
 pub returns-in_err-write_all-clause-err : goal.returns-in_err-write_all-clause-err
 returns-in_err-write_all-clause-err g c =
