@@ -20,7 +20,6 @@ use flow::cell::{Call, Outer, Part};
 use flow::name::Name;
 use flow::script::Function;
 use flow::statement::{Action, Block, Header, Range, Statement, Variable};
-use language::tree::Shape;
 use std::alloc::{AllocError, Allocator};
 use std::mem;
 use task_code::code::Opener;
@@ -49,7 +48,7 @@ fn declare<A: Allocator>(filling: &mut Filling, variable: &Variable<A>) -> Resul
 {
     filling.makes.push(Made {
         node: variable.node,
-        array: variable.shape == Shape::Array,
+        array: variable.is_array(),
     })?;
     Ok(())
 }

@@ -7,6 +7,7 @@ use Rattle.std.proofs.lemmas.Grind.{flat_map-append}
 use Rattle.language.specs.Core.{Block, wait, stmt}
 use Rattle.language.specs.Core as core
 use Rattle.language.specs.Resolved.{awaited_as}
+use Rattle.language.specs.declared.tree.Keys.{Keys}
 use Rattle.language.specs.declared.tree.Shape.{Shape}
 use Rattle.language.specs.declared.tree.Shape.TheVariants as Shapes
 use Rattle.flow.specs.View.{awaited_view, name_view, waits_around}
@@ -55,22 +56,22 @@ each_mapped V P (x ∷ xs) h = (h.0, each_mapped V P xs h.1)
 abbrev pub blank_name : Named
 blank_name = record { up = 0; what = Owned.Local 0; shape = Shapes.Scalar }
 
-by_shape : (k : ℕ) (x : core.Name) (r : code.Name) (s : Shape) → (s ≡ Shapes.Array → r ≡ name_as k true x) → (s ≡ Shapes.Scalar → r ≡ name_as k false x) → need_named r ≡ awaited_need k (awaited_as s x)
-by_shape k x r Shapes.Array f g = ap need_named (f refl) ∙ closed_named k x
+by_shape : (k : ℕ) (x : core.Name) (r : code.Name) (s : Shape) → ((κ : Keys) → s ≡ Shapes.Array κ → r ≡ name_as k true x) → (s ≡ Shapes.Scalar → r ≡ name_as k false x) → need_named r ≡ awaited_need k (awaited_as s x)
+by_shape k x r (Shapes.Array κ) f g = ap need_named (f κ refl) ∙ closed_named k x
 by_shape k x r Shapes.Scalar f g = ap need_named (g refl) ∙ stored_named k x
 
 room_of : (k : ℕ) (x : core.Name) (s : Shape) → AwaitedRoom k (awaited_as s x) → NameRoom k x
-room_of k x Shapes.Array h = h
+room_of k x (Shapes.Array κ) h = h
 room_of k x Shapes.Scalar h = h
 
-array_scalar : Shapes.Array ≡ Shapes.Scalar → ⊥
-array_scalar e = cc
+array_scalar : (κ : Keys) → Shapes.Array κ ≡ Shapes.Scalar → ⊥
+array_scalar κ e = cc
 
-pub array_awaited : (k : ℕ) (n : Named) (r : code.Name) → n.shape ≡ Shapes.Array → (NameRoom k (name_view n) → r ≡ name_as k true (name_view n)) → AwaitedRoom k (awaited_view n) → need_named r ≡ awaited_need k (awaited_view n)
-array_awaited k n r is f room = by_shape k (name_view n) r n.shape (λ e. f (room_of k (name_view n) n.shape room)) (λ e. absurd (array_scalar (sym is ∙ e)))
+pub array_awaited : {κ : Keys} (k : ℕ) (n : Named) (r : code.Name) → n.shape ≡ Shapes.Array κ → (NameRoom k (name_view n) → r ≡ name_as k true (name_view n)) → AwaitedRoom k (awaited_view n) → need_named r ≡ awaited_need k (awaited_view n)
+array_awaited {κ} k n r is f room = by_shape k (name_view n) r n.shape (λ ι e. f (room_of k (name_view n) n.shape room)) (λ e. absurd (array_scalar κ (sym is ∙ e)))
 
 pub scalar_awaited : (k : ℕ) (n : Named) (r : code.Name) → n.shape ≡ Shapes.Scalar → (NameRoom k (name_view n) → r ≡ name_as k false (name_view n)) → AwaitedRoom k (awaited_view n) → need_named r ≡ awaited_need k (awaited_view n)
-scalar_awaited k n r is f room = by_shape k (name_view n) r n.shape (λ e. absurd (array_scalar (sym e ∙ is))) (λ e. f (room_of k (name_view n) n.shape room))
+scalar_awaited k n r is f room = by_shape k (name_view n) r n.shape (λ κ e. absurd (array_scalar κ (sym e ∙ is))) (λ e. f (room_of k (name_view n) n.shape room))
 
 abbrev pub waited : ℕ → List Named → List Need
 waited k ns = map (awaited_need k) (map awaited_view ns)

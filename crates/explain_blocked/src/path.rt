@@ -90,11 +90,9 @@ fn opener<'t, 'a, A: Allocator>(scene: &Scene<'t, 'a, A>, at: usize) -> Option<&
 }
 
 fn say_branch(out: &mut Vec<u8>, key: &Key) -> Result<(), AllocError> {
-    let Key::Number(number) = key;
-    if *number == 0 {
-        say(out, "in the if at ")
-    } else {
-        say(out, "in the else of the if at ")
+    match key {
+        Key::Number(0) => say(out, "in the if at "),
+        _ => say(out, "in the else of the if at "),
     }
 }
 

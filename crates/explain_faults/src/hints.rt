@@ -10,7 +10,7 @@ const BOTH_SIDES: &str =
     "hint: && and || work out both of their sides: test the one in an if, and the other in an if inside of it\n";
 
 const DEPTH: &str =
-    "hint: with an if in it a function calls itself 255 times at most: what goes on longer goes on along an array, s[i] = s[i - 1] + ..\n";
+    "hint: with an if in it a function calls itself 1023 times at most: what goes on longer goes on along an array, s[i] = s[i - 1] + ..\n";
 
 const ONCE: &str =
     "hint: each turn writes an element of its own, A[i] = ..; what several turns have for one key goes into an array with a key for each turn\n";

@@ -5,6 +5,7 @@ use paths::{FaultKind, Step};
 use std::alloc::{AllocError, Global};
 use values::key::Key;
 use values::number;
+use values::text::{Bytes, Text};
 
 /// What the line of a fault begins with.
 const START: &[u8] = b"swt: fault ";
@@ -84,23 +85,82 @@ fn offset_of(digits: &[u8]) -> Option<usize> {
     usize::try_from(number).ok()
 }
 
-/// The steps of a path as `/4.1/9.-3`; none of `/`.
+/// The steps of a path as `/4.1/9.-3/7."a"`; none of `/`.
 fn steps_of(alloc: Global, path: &[u8]) -> Result<Vec<Step>, AllocError> {
     let mut steps = Vec::new(alloc);
     let mut rest = path;
     for _ in 0..path.len() {
-        let (step, behind) = cut(rest, b'/');
+        let Some((step, behind)) = step_in(alloc, rest)? else {
+            break;
+        };
+        steps.push(step)?;
         rest = behind;
-        if let Some(step) = step_of(step) {
-            steps.push(step)?;
-        }
     }
     Ok(steps)
 }
 
-fn step_of(step: &[u8]) -> Option<Step> {
-    let (at, key) = cut(step, b'.');
-    let at = offset_of(at)?;
-    let key = Key::Number(number::parse(key).ok()?);
-    Some(Step { offset: at, key })
+/// The step at the front, and what stands behind it.
+fn step_in(alloc: Global, path: &[u8]) -> Result<Option<(Step, &[u8])>, AllocError> {
+    let [b'/', rest @ ..] = path else {
+        return Ok(None);
+    };
+    let (at, rest) = cut(rest, b'.');
+    let Some(offset) = offset_of(at) else {
+        return Ok(None);
+    };
+    if let [b'"', text @ ..] = rest {
+        let (text, behind) = text_in(alloc, text)?;
+        let key = Key::Text(text);
+        return Ok(Some((Step { offset, key }, behind)));
+    }
+    let length = key_length(rest);
+    match number::parse(&rest[..length]) {
+        Ok(number) => {
+            let key = Key::Number(number);
+            Ok(Some((Step { offset, key }, &rest[length..])))
+        }
+        Err(_) => Ok(None),
+    }
+}
+
+/// How many bytes stand before the next step.
+fn key_length(bytes: &[u8]) -> usize {
+    let mut length = 0;
+    for byte in bytes {
+        if *byte == b'/' {
+            break;
+        }
+        length += 1;
+    }
+    length
+}
+
+/// The text that is spelled up to a quote, and what stands behind that.
+fn text_in(alloc: Global, bytes: &[u8]) -> Result<(Text, &[u8]), AllocError> {
+    let mut text = Bytes::new(alloc);
+    let mut rest = bytes;
+    for _ in 0..bytes.len() {
+        match rest {
+            [b'"', behind @ ..] => return Ok((Text::new(alloc, text)?, behind)),
+            [b'\\', byte, behind @ ..] => {
+                text.push(escaped(*byte))?;
+                rest = behind;
+            }
+            [byte, behind @ ..] => {
+                text.push(*byte)?;
+                rest = behind;
+            }
+            [] => {}
+        }
+    }
+    Ok((Text::new(alloc, text)?, rest))
+}
+
+/// The byte that a letter behind a `\` stands for.
+fn escaped(byte: u8) -> u8 {
+    match byte {
+        b'n' => b'\n',
+        b't' => b'\t',
+        other => other,
+    }
 }

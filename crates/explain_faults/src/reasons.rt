@@ -26,7 +26,7 @@ pub fn plain_of(kind: FaultKind) -> &'static str {
         FaultKind::NoElement => "an array is closed and has no element that is read",
         FaultKind::ElementTwice => "an element is written twice",
         FaultKind::BadStep => "the step of a range is less than 1",
-        FaultKind::TooDeep => "a block or a call would stand inside of 512 others",
+        FaultKind::TooDeep => "a block or a call would stand inside of 2048 others",
         FaultKind::NotANumber => "a text is no whole number",
         FaultKind::AssertFailed => "what is asserted is not true",
     }

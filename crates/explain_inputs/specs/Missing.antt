@@ -34,7 +34,7 @@ is_once (v ∷ u ∷ vs) = false
 abbrev pub element_seen : Sight → Name → Option Value → Bool
 element_seen g a (Some (One (Scalar.Number z))) = is_once (g.writes a (Key.Number z))
 element_seen g a (Some (One (Scalar.Truth b))) = false
-element_seen g a (Some (One (Scalar.Text t))) = false
+element_seen g a (Some (One (Scalar.Text t))) = is_once (g.writes a (Key.Text t))
 element_seen g a (Some (Many es)) = false
 element_seen g a None = false
 

@@ -6,8 +6,8 @@ use explain_names::mention::{Mention, Sort};
 use lexer::token::Span;
 use std::alloc::Allocator;
 use syntax_trees::tree::{
-    Base, Block, Call, Decl, Expr, ExprKind, Item, Name, Operator, Prefix, Range, Right, Script,
-    Shape, Source, Stmt, StmtKind,
+    Base, Block, Call, Decl, Expr, ExprKind, Item, Keys, Name, Operator, Prefix, Range, Right,
+    Script, Shape, Source, Stmt, StmtKind,
 };
 
 /// An expression that has another type than the one that is wanted.
@@ -46,6 +46,14 @@ fn one(base: Base) -> Sort {
     Sort {
         base,
         shape: Shape::Scalar,
+    }
+}
+
+/// The type of an index of an array.
+fn index_of(array: Sort) -> Sort {
+    match array.shape {
+        Shape::Array(keys) => one(keys.base()),
+        Shape::Scalar => one(Base::Int),
     }
 }
 
@@ -138,8 +146,8 @@ fn in_write<A: Allocator>(
     found: &mut Option<Mismatch>,
 ) {
     want_array(search, name, Wish::Element, found);
-    demand(search, index, one(Base::Int), found);
     if let Some(array) = sort_of_name(search, name) {
+        demand(search, index, index_of(array), found);
         demand(search, value, one(array.base), found);
     }
 }
@@ -157,10 +165,11 @@ fn in_right<A: Allocator>(
             for element in &list.elements {
                 demand(search, element, one(wanted.base), found);
             }
-            if wanted.shape == Shape::Scalar && list.first == search.at {
+            let numbered = Shape::Array(Keys::Numbers);
+            if wanted.shape != numbered && list.first == search.at {
                 let array = Sort {
                     base: wanted.base,
-                    shape: Shape::Array,
+                    shape: numbered,
                 };
                 note(found, array, Wish::Sort(wanted));
             }
@@ -284,7 +293,11 @@ fn in_form<A: Allocator>(search: &Search<A>, kind: &ExprKind<A>, found: &mut Opt
         ExprKind::Number(_) | ExprKind::Text(_) | ExprKind::Truth(_) | ExprKind::Variable(_) => {}
         ExprKind::Element(name, index) => {
             want_array(search, name, Wish::Element, found);
-            demand(search, index, one(Base::Int), found);
+            let wanted = match sort_of_name(search, name) {
+                Some(array) => index_of(array),
+                None => one(Base::Int),
+            };
+            demand(search, index, wanted, found);
         }
         ExprKind::Call(name, arguments) => in_arguments(search, name, arguments, found),
         ExprKind::Prefixed(prefix, operand) => {
@@ -329,7 +342,7 @@ fn judge_compared<A: Allocator>(
     for operand in operands {
         if operand.first == search.at {
             if let Some(sort) = sort_of(search, operand) {
-                if sort.shape == Shape::Array {
+                if sort.shape != Shape::Scalar {
                     note(found, sort, Wish::Compared);
                 }
             }

@@ -10,7 +10,7 @@ use explain_names::mentions::{function_around, mentions_around};
 use explain_names::refused::Refused;
 use lexer::token::Span;
 use std::alloc::{AllocError, Allocator};
-use syntax_trees::tree::{Base, Function, Shape};
+use syntax_trees::tree::{Base, Function, Keys, Shape};
 use types::fault::TypeFault;
 
 /// What is said of a script that is not well typed.
@@ -94,13 +94,13 @@ fn hint_of_mismatch(mismatch: Mismatch) -> &'static str {
 /// What to write instead of an expression of one type where another one is wanted.
 fn hint_of_sorts(found: Sort, wanted: Sort) -> &'static str {
     match (found.shape, wanted.shape) {
-        (Shape::Array, Shape::Scalar) => {
+        (Shape::Array(_), Shape::Scalar) => {
             "an element of an array is A[i], and size(A) is how many there are"
         }
-        (Shape::Scalar, Shape::Array) => {
+        (Shape::Scalar, Shape::Array(_)) => {
             "an array is written whole, int A[] = [1, 2];, or by its elements, A[0] = 1;"
         }
-        (Shape::Array, Shape::Array) => {
+        (Shape::Array(_), Shape::Array(_)) => {
             "make each element anew in a loop: foreach v, i in A { B[i] = fromint(v); }"
         }
         (Shape::Scalar, Shape::Scalar) => hint_of_bases(found.base, wanted.base),
@@ -126,9 +126,12 @@ fn add_sort(out: &mut Vec<u8>, sort: Sort) -> Result<(), AllocError> {
         (Shape::Scalar, Base::Int) => "an int",
         (Shape::Scalar, Base::Text) => "a string",
         (Shape::Scalar, Base::Boolean) => "a boolean",
-        (Shape::Array, Base::Int) => "an array of int",
-        (Shape::Array, Base::Text) => "an array of string",
-        (Shape::Array, Base::Boolean) => "an array of boolean",
+        (Shape::Array(Keys::Numbers), Base::Int) => "an array of int",
+        (Shape::Array(Keys::Numbers), Base::Text) => "an array of string",
+        (Shape::Array(Keys::Numbers), Base::Boolean) => "an array of boolean",
+        (Shape::Array(Keys::Texts), Base::Int) => "an array of int by strings",
+        (Shape::Array(Keys::Texts), Base::Text) => "an array of string by strings",
+        (Shape::Array(Keys::Texts), Base::Boolean) => "an array of boolean by strings",
     };
     out.extend_from_slice(words.as_bytes())
 }

@@ -130,10 +130,9 @@ fn turn_of<A: Allocator>(
         value: choice.value(i)?,
     })?;
     if let Some(key) = key {
-        let Key::Number(number) = key_at(choice, i)?;
         variables.push(Variable {
             node: key.node,
-            value: Scalar::Number(number),
+            value: key_at(choice, i)?.scalar()?,
         })?;
     }
     Ok(variables)

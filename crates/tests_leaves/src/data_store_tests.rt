@@ -6,7 +6,7 @@ use data_store::refusal::Refusal;
 use data_store::store::{DatumNo, Shape, Store};
 use std::alloc::Global;
 use std::process::Abort;
-use values::key::Key;
+use values::key::{Key, KeyRef};
 use values::value::Scalar;
 
 /// A store without data.
@@ -70,8 +70,8 @@ fn order_of(map: &values::map::Map) -> i64 {
     let mut sum = 0i64;
     for element in map.elements() {
         place = place.wrapping_add(1);
-        match element.key {
-            Key::Number(n) => sum = sum.wrapping_add(n.wrapping_mul(place)),
+        if let Key::Number(n) = &element.key {
+            sum = sum.wrapping_add(n.wrapping_mul(place));
         }
     }
     sum
@@ -144,7 +144,7 @@ fn insert_four(rt: &impl Abort, store: &mut Store, d: DatumNo)
 fn number_under(store: &Store, d: DatumNo, key: i64) -> Option<i64>
     requires { IsArrayAt store.now d }
 {
-    number(store.element(d, &Key::Number(key)))
+    number(store.element(d, KeyRef::Number(key)))
 }
 
 /// The three elements have their keys.

@@ -267,23 +267,23 @@ fn long_loop(rt: HostRuntime) {
     holds(&rt, runs_to(&rt, rt.alloc(), script, wanted.as_slice(), 0));
 }
 
-/// Adds 511 of these steps, and the end of a line, to a text.
+/// Adds 2,047 of these steps, and the end of a line, to a text.
 fn add_steps(text: &mut String, step: &str) -> Result<(), AllocError> {
-    for _ in 1..512u32 {
+    for _ in 1..2048u32 {
         text.push_str(step)?;
     }
     text.push_str("\n")?;
     Ok(())
 }
 
-/// What is said of a fault at the 512th step of a path, by its offset with the first step, and the others.
+/// What is said of a fault at the 2,048th step of a path, by its offset with the first step, and the others.
 fn too_deep_at(alloc: Global, first: &str, others: &str) -> Result<String, AllocError> {
     let mut text = format!(in alloc; "swt: fault F6 TooDeep {first}")?;
     add_steps(&mut text, others)?;
     Ok(text)
 }
 
-/// The script has a fault at the 512th step of its path, of which the first step and the others are these.
+/// The script has a fault at the 2,048th step of its path, of which the first step and the others are these.
 fn is_too_deep<R: Threads + Wait + Sync + Abort>(
     rt: &R,
     alloc: Global,
@@ -298,7 +298,7 @@ fn is_too_deep<R: Threads + Wait + Sync + Abort>(
     );
 }
 
-/// A function that calls itself without end has a fault at the 512th step of its path.
+/// A function that calls itself without end has a fault at the 2,048th step of its path.
 #[test]
 fn too_deep(rt: HostRuntime) {
     let script = b"(int r) f(int n) { r = f(n + 1); } printf(\"%i\", f(0));";
