@@ -1,6 +1,7 @@
 //! What is emitted for a script, and what every run of it owes, whatever names its data have. Nothing here runs: each function has an empty body, and its contract is a law.
 ghost use Rattle.dataflow.specs.Machine.{Event};
 ghost use Rattle.dataflow.specs.Names.{IsFresh, IsNaming, NamedState, NamedStep, NamedSteps, named_start};
+ghost use Rattle.code_alike.specs.Alike.{AreAlike};
 ghost use Rattle.code_rules.specs.Emitted.{IsEmitted};
 ghost use Rattle.code_rules.specs.Laying.{Kinds};
 ghost use Rattle.compile.specs.Compiled.{IsCompiled};
@@ -37,4 +38,9 @@ pub fn every_naming_of_scripts<N>()
         (old : NamedState (code_system code) N) → IsNaming (code_system code) N old.names old.state.places →
         (event : Event) (new : CodeState) → CodeStep code old.state event new →
         (named : NamedState (code_system code) N) × (named.state ≡ new) × NamedStep (code_system code) N old event named }
+{}
+
+/// The code of a text is pinned: two codes of one text, whoever laid them, have the same bodies, and entry by entry they do the same with the same rights.
+pub fn codes_of_a_text_are_alike()
+    ensures { (src : List ℕ) (C D : Code) → IsCompiled src C → IsCompiled src D → AreAlike C D }
 {}

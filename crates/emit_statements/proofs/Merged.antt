@@ -18,7 +18,7 @@ use Rattle.task_code.specs.Code as code
 use Rattle.task_code.specs.Code.{Need, Wait}
 use Rattle.task_code.specs.declared.entry.Entry.{Entry as Made}
 use Rattle.code_rules.specs.CodeNames.{awaited_need, each_once, name_as}
-use Rattle.code_rules.specs.Laying.{Headers, one_header, more_headers}
+use Rattle.code_rules.specs.Laying.{Headers, is_one_wait, one_header, more_headers}
 use Rattle.code_rules.specs.Room.{AwaitedRoom, BlockRoom, Each, NameRoom}
 use Rattle.emit_cells.specs.Wanted.{Noted, Notes, need_named}
 use Rattle.emit_cells.specs.declared.needs.Wanted.{Wanted}
@@ -114,9 +114,9 @@ pub inner_room : {A : Type 0} (k : ℕ) (hs : List (Header A)) (b : Block) → B
 inner_room k [] b room = tt
 inner_room k (h ∷ hs) b room = (room.0.0, inner_room k hs b room.0.1)
 
-merged_headers : {A : Type 0} (k at n : ℕ) (ns : List Named) (hs : List (Header A)) (b : Block) → Headers k (stmt at n (wait (map awaited_view ns) (waits_around hs b))) (header_of k at ns ∷ inner_headers k hs) b
-merged_headers k at n ns [] b = one_header refl
-merged_headers k at n ns (h ∷ hs) b = more_headers (merged_headers k h.at h.node h.names.items hs b) refl
+merged_headers : {A : Type 0} (k at n : ℕ) (ns : List Named) (hs : List (Header A)) (b : Block) → is_one_wait b ≡ false → Headers k (stmt at n (wait (map awaited_view ns) (waits_around hs b))) (header_of k at ns ∷ inner_headers k hs) b
+merged_headers k at n ns [] b lone = one_header lone refl
+merged_headers k at n ns (h ∷ hs) b lone = more_headers (merged_headers k h.at h.node h.names.items hs b lone) refl
 
 -- the own entry
 pub wait_added : {A : Type 0} (s : Standing) (n : ℕ) (names : List Named) (inner : List (Header A)) (b : Block) (body : ℕ) (hs : List code.Header) (ks : List Wanted) (old new : List Made) → s.priority ≡ pos 0
@@ -124,7 +124,7 @@ pub wait_added : {A : Type 0} (s : Standing) (n : ℕ) (names : List Named) (inn
     → WaitAddedAs s.inputs s.at n (wait (map awaited_view names) (waits_around inner b)) b body old new
 wait_added s n names inner b body hs ks old new priority noted are adds = record {
   headers = header_of s.inputs s.at names ∷ inner_headers s.inputs inner;
-  merged = merged_headers s.inputs s.at n names inner b;
+  merged = λ lone. merged_headers s.inputs s.at n names inner b lone;
   entry = made s (record { node = n; mark = s.at }) (each_once (waited s.inputs names ++ needs_in (inner_headers s.inputs inner))) (Wait hs body);
   is = adds (waited s.inputs names ++ needs_in (inner_headers s.inputs inner)) noted;
   own = record { at_is = refl; priority_is = priority; needs_is = refl; act_is = ap (λ l. Wait l body) are };
