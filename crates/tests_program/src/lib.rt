@@ -31,4 +31,6 @@ mod stops_tests;
 #[cfg(test)]
 mod strangers_tests;
 #[cfg(test)]
+mod text_keys_tests;
+#[cfg(test)]
 mod whole_tests;
