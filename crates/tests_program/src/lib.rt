@@ -7,6 +7,8 @@ mod arena_tests;
 #[cfg(test)]
 mod asserts;
 #[cfg(test)]
+mod beginnings_tests;
+#[cfg(test)]
 mod code_tests;
 #[cfg(test)]
 mod command_tests;
@@ -34,3 +36,5 @@ mod strangers_tests;
 mod text_keys_tests;
 #[cfg(test)]
 mod whole_tests;
+#[cfg(test)]
+mod writes_tests;
