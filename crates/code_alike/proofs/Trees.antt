@@ -75,10 +75,12 @@ part_call (calls d ∷ ps) first = first
 part_call (calls d ∷ ps) (later m) = later (part_call ps m)
 
 own_cell : {at n : ℕ} (a : Action) {c : Cell} (sts : List Stmt) → stmt at n a ∈ sts → c ∈ part_cells (own_parts a) → c ∈ flat_map cells sts
+own_cell a [] i m = elim i [ ]
 own_cell a (st ∷ sts) first m = to_left (part_cells (parts a)) (flat_map cells sts) (part_cell (parts a) (part_of_stmt a (cell_part (own_parts a) m)))
 own_cell a (st ∷ sts) (later i) m = to_right (cells st) (flat_map cells sts) (own_cell a sts i m)
 
 own_call : {at n : ℕ} (a : Action) {c : Call} (sts : List Stmt) → stmt at n a ∈ sts → c ∈ part_calls (own_parts a) → c ∈ calls_among sts
+own_call a [] i m = elim i [ ]
 own_call a (st ∷ sts) first m = to_left (part_calls (parts a)) (calls_among sts) (part_call (parts a) (part_of_stmt a (call_part (own_parts a) m)))
 own_call a (st ∷ sts) (later i) m = to_right (stmt_calls st) (calls_among sts) (own_call a sts i m)
 
