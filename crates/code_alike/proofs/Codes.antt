@@ -1,11 +1,10 @@
 -- Codes that are laid for one core do the same, and where they have the rights that their entries lead to and no others, they are alike.
-use Rattle.std.proofs.Common.{◌≡◌, inl, inr, ℕ, zero, suc, ◌+◌, Bool, true, false, nat_eq, List, [], ◌∷◌, ◌++◌, map, length, refl, sym, ap, ap₂, ◌∙◌, subst, Option, None, Some}
-use Rattle.std.specs.Prelude.{◌↔◌}
+use Rattle.std.proofs.Common.{◌≡◌, inl, inr, ℕ, zero, suc, Bool, true, false, nat_eq, List, [], ◌∷◌, ◌++◌, map, length, refl, sym, ap, ap₂, ◌∙◌, subst}
 use Rattle.std.specs.List.{flat_map}
 use Rattle.dataflow.specs.System.{In}
-use Rattle.language.specs.Core.{stmt, Action, Block, Stmt, Function, Core}
-use Rattle.language.specs.Members.{◌∈◌, first, later}
-use Rattle.language.specs.Parts.{blocks_below, blocks_of, function_blocks, script_blocks, script_stmts}
+use Rattle.language.specs.Core.{stmt, Action, Block, Function, Core}
+use Rattle.language.specs.Members.{◌∈◌, first}
+use Rattle.language.specs.Parts.{blocks_of, function_blocks, script_blocks, script_stmts}
 use Rattle.language.proofs.Members.{to_left, to_right}
 use Rattle.language_laws.specs.TypedValues.{own_parts}
 use Rattle.task_code.specs.Code as code
@@ -17,7 +16,7 @@ use Rattle.code_rules.specs.Emitted.{HasRights, ReadsStand}
 use Rattle.code_rules.specs.Laying.{Kinds, Laying, LaysFunctions, LaysScript, Suits, bare, no_function, one_function}
 use Rattle.code_alike.specs.Alike.{AllDoSame, AreAlike, DoSame, HaveSameRights, OpensAtMark, StoresAtNode}
 use Rattle.code_alike.proofs.Parts.{ArePinned}
-use Rattle.code_alike.proofs.Blocks.{AsShape, Both, SameLaying, block_pinned}
+use Rattle.code_alike.proofs.Blocks.{AsShape, SameLaying, block_pinned}
 
 -- FUNCTIONS AND SCRIPTS
 
@@ -172,7 +171,7 @@ module _ (C D : Code) (bodies : C.bodies ≡ D.bodies) (entries : AllDoSame C.en
       through i j b w r inner (subst (λ (a : Act). In {X = Way × ℕ} (w, b) (ways a)) (same_at i).act way) (subst (λ (x : Body). In j x.entries) (body_same b) there) (leads_move own same j inner led)
       (λ d. out (declared_back b inner d)) (seen_moves i w b inner r way seen)
 
-same_back : (es fs : List Entry) → AllDoSame es fs → AllDoSame fs es
+pub same_back : (es fs : List Entry) → AllDoSame es fs → AllDoSame fs es
 same_back [] [] h = tt
 same_back [] (f ∷ fs) h = absurd h
 same_back (e ∷ es) [] h = absurd h
