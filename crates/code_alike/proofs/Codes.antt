@@ -172,7 +172,7 @@ module _ (C D : Code) (bodies : C.bodies ≡ D.bodies) (entries : AllDoSame C.en
       through i j b w r inner (subst (λ (a : Act). In {X = Way × ℕ} (w, b) (ways a)) (same_at i).act way) (subst (λ (x : Body). In j x.entries) (body_same b) there) (leads_move own same j inner led)
       (λ d. out (declared_back b inner d)) (seen_moves i w b inner r way seen)
 
-same_back : (es fs : List Entry) → AllDoSame es fs → AllDoSame fs es
+pub same_back : (es fs : List Entry) → AllDoSame es fs → AllDoSame fs es
 same_back [] [] h = tt
 same_back [] (f ∷ fs) h = absurd h
 same_back (e ∷ es) [] h = absurd h

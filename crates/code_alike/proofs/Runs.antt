@@ -39,7 +39,7 @@ module _ (C D : Code) (same : (at k : ℕ) (b : Bool) → argument C at k b ≡ 
   place_same : (p : List Places.Step) (r : Name) → place_at C p r ≡ place_at D p r
   place_same p r = resolve_same p r.up r.owned
 
-  input_same : (p : List Places.Step) (n : Need) → inputs_at C p n ≡ inputs_at D p n
+  pub input_same : (p : List Places.Step) (n : Need) → inputs_at C p n ≡ inputs_at D p n
   input_same p (code.Stored r) = ap (λ (z : Place). Rattle.task_code.specs.System.scalar_input z) (place_same p r)
   input_same p (code.Closed r) = ap (λ (z : Place). Rattle.task_code.specs.System.whole_input z) (place_same p r)
   input_same p (code.At a r) = ap₂ (λ (y z : Place). Rattle.task_code.specs.System.element_input y z) (place_same p a) (place_same p r)
@@ -124,7 +124,7 @@ module _ (C D : Code) (same : (at k : ℕ) (b : Bool) → argument C at k b ≡ 
 -- TASKS
 
 -- tasks of one code that are as those of another
-record SameTasks (C D : Code) : Type 0 where
+pub record SameTasks (C D : Code) : Type 0 where
   inputs : (t : Task) → task_inputs C t ≡ task_inputs D t
   effect : (t : Task) (xs : List (Answer Key Scalar)) → task_effect C t xs ≡ task_effect D t xs
   reads : (t : Task) (a : Place) → In a (task_reads D t) → In a (task_reads C t)
@@ -182,7 +182,7 @@ module _ (C D : Code) (al : AreAlike C D) where
   writes_back Main a h = h
   writes_back (Item i p c) a h = moved_name C D arguments p a (entry C i).writes (entry D i).writes (λ r m. ((al.rights i).writes r).1 m) h
 
-  tasks_same : SameTasks C D
+  pub tasks_same : SameTasks C D
   tasks_same = record { inputs = task_inputs_same; effect = task_effects; reads = reads_back; writes = writes_back }
 
 -- STEPS
@@ -198,7 +198,7 @@ module _ (C D : Code) (h : SameTasks C D) where
   element_moves s a k (inl x) = inl x
   element_moves s a k (inr c) = inr (closed_moves c)
 
-  known_moves : (s : CodeState) (n : Input Place Key) → IsKnown (code_system C) s n → IsKnown (code_system D) s n
+  pub known_moves : (s : CodeState) (n : Input Place Key) → IsKnown (code_system C) s n → IsKnown (code_system D) s n
   known_moves s (StoredScalar d) x = x
   known_moves s (ClosedArray a) x = closed_moves x
   known_moves s (ElementOf a k) x = element_moves s a k x

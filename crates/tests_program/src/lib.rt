@@ -7,6 +7,8 @@ mod arena_tests;
 #[cfg(test)]
 mod asserts;
 #[cfg(test)]
+mod beginnings_tests;
+#[cfg(test)]
 mod code_tests;
 #[cfg(test)]
 mod command_tests;
@@ -32,3 +34,5 @@ mod stops_tests;
 mod strangers_tests;
 #[cfg(test)]
 mod whole_tests;
+#[cfg(test)]
+mod writes_tests;
