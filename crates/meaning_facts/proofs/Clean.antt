@@ -24,7 +24,7 @@ both false b h = absurd (cc (h))
 pair_same : (p : ℕ × ℕ) → same_pair p p ≡ true
 pair_same p = rw (eq-eqb p.0 p.0 refl) (eq-eqb p.1 p.1 refl)
 
-pub pair_eq : (p q : ℕ × ℕ) → same_pair p q ≡ true → p ≡ q
+pair_eq : (p q : ℕ × ℕ) → same_pair p q ≡ true → p ≡ q
 pair_eq p q h =
     let b = both (nat_eq p.0 q.0) (nat_eq p.1 q.1) h in
     λ i. (eqb-true p.0 q.0 b.0 i, eqb-true p.1 q.1 b.1 i)

@@ -1,7 +1,6 @@
 -- Instances stay a tree where one is opened, and each is found at its path.
 use Rattle.std.specs.Prelude.{◌≡◌, ◌⊎◌, ℕ, zero, suc, ◌+◌, ◌<◌, ◌≤◌, Bool, true, false, ◌&&◌, List, [], ◌∷◌, ◌++◌, length, map, nat_eq, Option, Some, None, cond, slice_get, if◌then◌else◌, ℤ, refl}
-use Rattle.std.specs.HashMap.{HashMap, get}
-use Rattle.std.specs.Str.{bytes_eq}
+use Rattle.std.specs.HashMap.{get}
 use Rattle.std.proofs.Common.{inl, inr, sym, ap, ◌∙◌, subst, arith, length-append}
 use Rattle.std.proofs.lemmas.Bool.{cases_Bool, cases_lt, cases_order, eqb-true, eq-eqb}
 use Rattle.std.proofs.lemmas.List.{get_or_append_left}
@@ -18,7 +17,6 @@ use Rattle.meaning_facts.specs.declared.instances.Instance.{Instance}
 use Rattle.meaning_facts.specs.declared.instances.Instances.{Instances}
 use Rattle.meaning_facts.specs.Paths.{step_view, path_in, path_of, same_step, same_turn, named_in, child_at, IsChild, IsOpened, IsOpen, IsTree}
 use Rattle.meaning_facts.specs.Store.{same_pair, parent_in, parent_of, inputs_in, inputs_of, outputs_in, outputs_of, variables_in, variables_of}
-use Rattle.meaning_facts.proofs.Clean.{pair_eq}
 
 -- THE FIRST INSTANCE
 
@@ -94,7 +92,7 @@ and_false : (b : Bool) → b && false ≡ false
 and_false true = refl
 and_false false = refl
 
--- one more under a number, or under a text
+-- one more under a number
 module _ (t u : Instances) (p at number : ℕ) where
   pub turn_noted : (z : ℤ) → ((q : ℕ × ℕ × ℤ) → get same_turn u.opened q ≡ cond (same_turn (p, at, z) q) (Some number) (get same_turn t.opened q)) → u.named ≡ t.named
       → (i a : ℕ) (k : Key) → child_at u i a k ≡ (if same_step (p, at, Number z) (i, a, k) then Some number else child_at t i a k)
@@ -102,33 +100,6 @@ module _ (t u : Instances) (p at number : ℕ) where
   turn_noted z put n i a (Text bytes) =
       ap (λ m. named_in (get same_pair m (i, a)) bytes) n
       ∙ ap (λ (b : Bool). if b then Some number else child_at t i a (Text bytes)) (sym (and_false (nat_eq p i && nat_eq at a)))
-
-  pub text_noted : (text : List ℕ)
-      → ((other : ℕ × ℕ) (bytes : List ℕ) → named_in (get same_pair u.named other) bytes ≡ (if same_pair (p, at) other && bytes_eq text bytes then Some number else named_in (get same_pair t.named other) bytes))
-      → u.opened ≡ t.opened → (i a : ℕ) (k : Key) → child_at u i a k ≡ (if same_step (p, at, Text text) (i, a, k) then Some number else child_at t i a k)
-  text_noted text put o i a (Text bytes) = put (i, a) bytes
-  text_noted text put o i a (Number y) =
-      ap (λ m. get same_turn m (i, a, y)) o
-      ∙ ap (λ (b : Bool). if b then Some number else child_at t i a (Number y)) (sym (and_false (nat_eq p i && nat_eq at a)))
-
--- a child that is noted under a text: the table of the step is taken out, gets one more, and is put back
-module _ {S R : Type 0} (step : ℕ × ℕ) (text : List ℕ) (number : ℕ) (m taken put : HashMap (ℕ × ℕ) (HashMap (List ℕ) ℕ S) R) (old new : HashMap (List ℕ) ℕ S)
-    (out : (q : ℕ × ℕ) → get same_pair taken q ≡ cond (same_pair step q) None (get same_pair m q))
-    (found : (bytes : List ℕ) → get bytes_eq old bytes ≡ named_in (get same_pair m step) bytes)
-    (more : (bytes : List ℕ) → get bytes_eq new bytes ≡ cond (bytes_eq text bytes) (Some number) (get bytes_eq old bytes))
-    (back : (q : ℕ × ℕ) → get same_pair put q ≡ cond (same_pair step q) (Some new) (get same_pair taken q)) where
-  named_by : (q : ℕ × ℕ) (bytes : List ℕ) (b : Bool) → same_pair step q ≡ b
-      → named_in (get same_pair put q) bytes ≡ (if b && bytes_eq text bytes then Some number else named_in (get same_pair m q) bytes)
-  named_by q bytes true e =
-      ap (λ o. named_in o bytes) (back q ∙ ap (λ (b : Bool). cond b (Some new) (get same_pair taken q)) e) ∙ more bytes
-      ∙ ap (λ (o : Option ℕ). cond (bytes_eq text bytes) (Some number) o) (found bytes ∙ ap (λ (p : ℕ × ℕ). named_in (get same_pair m p) bytes) (pair_eq step q e))
-  named_by q bytes false e =
-      ap (λ o. named_in o bytes)
-      (back q ∙ ap (λ (b : Bool). cond b (Some new) (get same_pair taken q)) e ∙ out q ∙ ap (λ (b : Bool). cond b None (get same_pair m q)) e)
-
-  pub named_noted : (q : ℕ × ℕ) (bytes : List ℕ)
-      → named_in (get same_pair put q) bytes ≡ (if same_pair step q && bytes_eq text bytes then Some number else named_in (get same_pair m q) bytes)
-  named_noted q bytes = named_by q bytes (same_pair step q) refl
 
 module _ (t u : Instances) (p : ℕ) (s : Step) (g : Given) (o : IsOpen t p s g u) where
   pub count : length u.all.items ≡ length t.all.items + 1
