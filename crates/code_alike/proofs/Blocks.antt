@@ -1,5 +1,5 @@
 -- Layings of one block do the same, entry by entry, and have the same bodies.
-use Rattle.std.proofs.Common.{◌≡◌, ℕ, suc, ◌+◌, Bool, true, false, List, [], ◌∷◌, ◌++◌, length, refl, sym, ap, ap₂, ◌∙◌, subst, Option, None, Some}
+use Rattle.std.proofs.Common.{◌≡◌, ℕ, suc, ◌+◌, Bool, true, false, List, [], ◌∷◌, ◌++◌, length, refl, sym, ap, ap₂, ◌∙◌, subst, None, Some}
 use Rattle.std.specs.Prelude.{ℤ, pos}
 use Rattle.std.specs.List.{flat_map}
 use Rattle.language.specs.Core as Co
@@ -9,13 +9,12 @@ use Rattle.language.specs.Parts.{block_list, part_calls, script_blocks, script_s
 use Rattle.language.proofs.Blocks.{inner_block, among_script}
 use Rattle.language.proofs.Members.{to_left, to_right}
 use Rattle.language_laws.specs.TypedValues.{own_parts}
-use Rattle.task_code.specs.Code as code
-use Rattle.task_code.specs.Code.{Variable, Header, Entry, Body, Act, ByStep, ByWait, If, Need, Range, Each, Wait, loop_variables}
+use Rattle.task_code.specs.Code.{Variable, Header, Entry, Body, ByStep, ByWait, If, Need, Range, Each, Wait, loop_variables}
 use Rattle.code_rules.specs.CodeNames.{each_once, header, over}
 use Rattle.code_rules.specs.IsCodeOf.{Layout, IsEntry, IsSimple, fill_act, own_expr, own_needs, own_priority, seen, simple_act, step_expr}
 use Rattle.code_rules.specs.Emitted.{ReadsStand}
-use Rattle.code_rules.specs.Laying.{Kinds, Laying, IndexesStand, LaysParts, PlainAs, Suits, code_of, counted, with_bodies, with_entry, next_body, is_one_wait, is_wait_alone, Headers, one_header, more_headers, LaysStmt, declares, calls_alone, simple, branch, branches, range_loop, array_loop, waits, LaysBlock, no_statement, one_statement}
-use Rattle.code_alike.specs.Alike.{AllDoSame, DoSame, OpensAtMark, StoresAtNode}
+use Rattle.code_rules.specs.Laying.{Kinds, Laying, IndexesStand, LaysParts, PlainAs, Suits, code_of, counted, with_bodies, with_entry, next_body, is_wait_alone, Headers, one_header, more_headers, LaysStmt, declares, calls_alone, simple, branch, branches, range_loop, array_loop, waits, LaysBlock, no_statement, one_statement}
+use Rattle.code_alike.specs.Alike.{AllDoSame, DoSame, OpensAtMark}
 use Rattle.code_layout.proofs.Adding.{header_block}
 use Rattle.code_alike.proofs.Parts.{ArePinned, parts_same, same-append, same-length, same_entry}
 

@@ -1,11 +1,10 @@
 -- Codes that are laid for one core do the same, and where they have the rights that their entries lead to and no others, they are alike.
-use Rattle.std.proofs.Common.{◌≡◌, inl, inr, ℕ, zero, suc, ◌+◌, Bool, true, false, nat_eq, List, [], ◌∷◌, ◌++◌, map, length, refl, sym, ap, ap₂, ◌∙◌, subst, Option, None, Some}
-use Rattle.std.specs.Prelude.{◌↔◌}
+use Rattle.std.proofs.Common.{◌≡◌, inl, inr, ℕ, zero, suc, Bool, true, false, nat_eq, List, [], ◌∷◌, ◌++◌, map, length, refl, sym, ap, ap₂, ◌∙◌, subst}
 use Rattle.std.specs.List.{flat_map}
 use Rattle.dataflow.specs.System.{In}
-use Rattle.language.specs.Core.{stmt, Action, Block, Stmt, Function, Core}
-use Rattle.language.specs.Members.{◌∈◌, first, later}
-use Rattle.language.specs.Parts.{blocks_below, blocks_of, function_blocks, script_blocks, script_stmts}
+use Rattle.language.specs.Core.{stmt, Action, Block, Function, Core}
+use Rattle.language.specs.Members.{◌∈◌, first}
+use Rattle.language.specs.Parts.{blocks_of, function_blocks, script_blocks, script_stmts}
 use Rattle.language.proofs.Members.{to_left, to_right}
 use Rattle.language_laws.specs.TypedValues.{own_parts}
 use Rattle.task_code.specs.Code as code
@@ -17,7 +16,7 @@ use Rattle.code_rules.specs.Emitted.{HasRights, ReadsStand}
 use Rattle.code_rules.specs.Laying.{Kinds, Laying, LaysFunctions, LaysScript, Suits, bare, no_function, one_function}
 use Rattle.code_alike.specs.Alike.{AllDoSame, AreAlike, DoSame, HaveSameRights, OpensAtMark, StoresAtNode}
 use Rattle.code_alike.proofs.Parts.{ArePinned}
-use Rattle.code_alike.proofs.Blocks.{AsShape, Both, SameLaying, block_pinned}
+use Rattle.code_alike.proofs.Blocks.{AsShape, SameLaying, block_pinned}
 
 -- FUNCTIONS AND SCRIPTS
 

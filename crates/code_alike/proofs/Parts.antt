@@ -1,9 +1,8 @@
 -- What the entries of parts do is pinned by the parts: two layings of them do the same, entry by entry.
-use Rattle.std.proofs.Common.{◌≡◌, ◌⊎◌, inl, inr, ℕ, zero, suc, ◌+◌, Bool, true, false, List, [], ◌∷◌, ◌++◌, length, refl, sym, ap, ◌∙◌, subst, arith, append_assoc, Option, Some, None}
+use Rattle.std.proofs.Common.{◌≡◌, ◌⊎◌, inl, inr, ℕ, suc, Bool, true, false, List, [], ◌∷◌, ◌++◌, length, refl, sym, ap, ◌∙◌, subst, append_assoc, Some}
 use Rattle.std.specs.Prelude.{ℤ, slice_get}
 use Rattle.dataflow.specs.System.{In}
-use Rattle.values.specs.declared.value.Scalar.{Scalar}
-use Rattle.language.specs.Core.{Owned, local, input, output, Name, here, Expr, literal, name, whole, operator, Form, compute, read, Cell, Call, Part, inner, calls}
+use Rattle.language.specs.Core.{Owned, local, input, output, Name, here, literal, name, whole, operator, Form, compute, read, Cell, Call, Part, inner, calls}
 use Rattle.language.specs.Members.{◌∈◌, first, later}
 use Rattle.language.specs.Parts.{part_calls, part_cells}
 use Rattle.task_code.specs.Code as code

@@ -1,5 +1,5 @@
 -- Codes that are alike have the same runs, the same quiet states and the same blocked statements.
-use Rattle.std.proofs.Common.{◌≡◌, ◌⊎◌, inl, inr, ℕ, zero, suc, Bool, true, false, List, [], ◌∷◌, ◌++◌, map, refl, sym, ap, ap₂, ◌∙◌, subst, Option, None, Some}
+use Rattle.std.proofs.Common.{◌≡◌, inl, inr, ℕ, zero, suc, Bool, List, [], ◌∷◌, ◌++◌, map, refl, sym, ap, ap₂, ◌∙◌, subst, Option, None, Some}
 use Rattle.std.specs.List.{flat_map}
 use Rattle.dataflow.specs.System.{In, Answer, Found, Missing, Content, Input, StoredScalar, ClosedArray, ElementOf, ElementAt, Effect, Opening, Outcome, Good, Bad}
 use Rattle.dataflow.specs.Machine.{Event, Begin, End, Back, IsElementKnown, IsKnown, ClosedByRights, Free, LacksKey, HasContent, SeesElement, Sees, SeesAll, Leaves, After, Begins, Backs, Ends, Step, Steps, Quiet}
@@ -13,9 +13,8 @@ use Rattle.task_code.specs.Effects.{Item, Main, Task, block, effect_at, instance
 use Rattle.task_code.specs.Machine.{CodeItem, CodeState}
 use Rattle.task_code.specs.Places.{Constant, Datum, Nowhere, Place, place_at, resolve}
 use Rattle.task_code.specs.Places as Places
-use Rattle.task_code.specs.Runs.{Blocked, FaultAt, FirstUnknown, IsBlockedAt, IsHeaderKnown}
 use Rattle.task_code.specs.System.{answered, code_system, data_among, inputs_at, literal_at, literal_need, task_effect, task_inputs, task_reads, task_writes, with_answer}
-use Rattle.code_alike.specs.Alike.{AllDoSame, AreAlike, DoSame, OpensAtMark, StoresAtNode}
+use Rattle.code_alike.specs.Alike.{AreAlike, DoSame, OpensAtMark, StoresAtNode}
 use Rattle.code_alike.proofs.Codes.{argument_same, body_same, same_at}
 
 -- PLACES

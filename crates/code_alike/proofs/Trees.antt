@@ -1,12 +1,12 @@
 -- Codes that are emitted for one tree, placed and well typed, are alike.
-use Rattle.std.proofs.Common.{◌≡◌, inl, inr, ℕ, zero, suc, Bool, List, [], ◌∷◌, ◌++◌, map, length, refl, sym, ap, ◌∙◌, subst, Option, None, Some, arith}
+use Rattle.std.proofs.Common.{◌≡◌, inl, inr, ℕ, zero, suc, Bool, List, [], ◌∷◌, ◌++◌, map, length, refl, sym, ap, ◌∙◌, subst, Some, arith}
 use Rattle.std.specs.Prelude.{slice_get}
 use Rattle.std.specs.List.{flat_map}
 use Rattle.dataflow.specs.System.{Distinct, In}
 use Rattle.language.specs.Core as Co
 use Rattle.language.specs.Core.{Name, here, Cell, Call, Part, inner, calls, Stmt, stmt, Action, call_alone, Block, Function, Core}
 use Rattle.language.specs.Members.{◌∈◌, first, later}
-use Rattle.language.specs.Parts.{block_list, blocks_below, blocks_inside, blocks_of, calls_among, cells, function_blocks, part_calls, part_cells, parts, script_blocks, script_stmts, stmt_calls}
+use Rattle.language.specs.Parts.{blocks_below, blocks_inside, calls_among, cells, function_blocks, part_calls, part_cells, parts, script_blocks, script_stmts, stmt_calls}
 use Rattle.language.specs.Resolved.{core}
 use Rattle.language.specs.Scopes.{Typ, Scope, Signature, signatures}
 use Rattle.language.specs.Table.{Table}
@@ -30,11 +30,11 @@ use Rattle.code_alike.proofs.Parts.{ArePinned, HasKinds}
 use Rattle.code_alike.proofs.Codes.{alike, script_pinned}
 use Rattle.code_whole.specs.Described.{DeclaredIn, KindsOf, is_array_shape, kinds_of_signature}
 use Rattle.code_whole.proofs.Accepted.{declared_kinds}
-use Rattle.code_whole.proofs.Arguments.{comes_length, get_map, out_type}
+use Rattle.code_whole.proofs.Arguments.{comes_length, get_map}
 use Rattle.code_whole.proofs.Lookup.{call_comes, lookup}
 use Rattle.code_whole.proofs.Offsets.{accepted_calls}
 use Rattle.code_whole.proofs.Openings.{part_of_stmt}
-use Rattle.code_whole.proofs.Scoping.{CallComes, Hidden, InScopes, InputsCome, OutputsCome, StmtComes, no_output_comes, output_comes, scoped_choose, scoped_declaration, scoped_end, scoped_loop, scoped_plain, scoped_wait, scoped_when}
+use Rattle.code_whole.proofs.Scoping.{Hidden, InScopes, OutputsCome, no_output_comes, output_comes, scoped_choose, scoped_declaration, scoped_end, scoped_loop, scoped_plain, scoped_wait, scoped_when}
 use Rattle.code_whole.proofs.Settling.{ScriptScoped, scopes_of}
 
 -- MEMBERS
@@ -75,10 +75,12 @@ part_call (calls d ∷ ps) first = first
 part_call (calls d ∷ ps) (later m) = later (part_call ps m)
 
 own_cell : {at n : ℕ} (a : Action) {c : Cell} (sts : List Stmt) → stmt at n a ∈ sts → c ∈ part_cells (own_parts a) → c ∈ flat_map cells sts
+own_cell a [] i m = elim i [ ]
 own_cell a (st ∷ sts) first m = to_left (part_cells (parts a)) (flat_map cells sts) (part_cell (parts a) (part_of_stmt a (cell_part (own_parts a) m)))
 own_cell a (st ∷ sts) (later i) m = to_right (cells st) (flat_map cells sts) (own_cell a sts i m)
 
 own_call : {at n : ℕ} (a : Action) {c : Call} (sts : List Stmt) → stmt at n a ∈ sts → c ∈ part_calls (own_parts a) → c ∈ calls_among sts
+own_call a [] i m = elim i [ ]
 own_call a (st ∷ sts) first m = to_left (part_calls (parts a)) (calls_among sts) (part_call (parts a) (part_of_stmt a (call_part (own_parts a) m)))
 own_call a (st ∷ sts) (later i) m = to_right (stmt_calls st) (calls_among sts) (own_call a sts i m)
 

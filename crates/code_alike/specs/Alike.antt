@@ -1,7 +1,7 @@
 -- Codes that do the same: they differ only in what a listing alone shows, and in how rights are listed.
 use Rattle.std.specs.Prelude.{◌≡◌, ◌↔◌, ℕ, List, [], ◌∷◌}
 use Rattle.dataflow.specs.System.{In}
-use Rattle.task_code.specs.Code.{Name, Act, Cell, Read, Call, If, Range, Each, Entry, Body, Code, entry}
+use Rattle.task_code.specs.Code.{Name, Act, Cell, Read, Call, If, Range, Each, Entry, Code, entry}
 
 -- its value is stored at the entry's node
 abbrev pub StoresAtNode : Act → Type 0

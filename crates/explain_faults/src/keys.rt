@@ -9,8 +9,13 @@ use values::map::Element;
 /// The most keys that are told one by one.
 const MOST: usize = 8;
 
-/// Adds the keys of elements, which rise: from the first to the last where none is left out between them, and else one by one.
-pub fn say_keys(out: &mut Vec<u8>, elements: &[Element]) -> Result<(), AllocError> {
+/// Adds the keys of elements, which rise: from the first to the last where none is left out between them, and else one by one those
+/// that are next to a wanted one.
+pub fn say_keys(
+    out: &mut Vec<u8>,
+    elements: &[Element],
+    wanted: Option<&Key>,
+) -> Result<(), AllocError> {
     let (Some(first), Some(last)) = (elements.first(), elements.last()) else {
         return say(out, "no elements");
     };
@@ -24,7 +29,7 @@ pub fn say_keys(out: &mut Vec<u8>, elements: &[Element]) -> Result<(), AllocErro
         say(out, " to ")?;
         say_key(out, &last.key)
     } else {
-        say_each(out, elements)
+        say_each(out, elements, first_shown(elements, wanted))
     }
 }
 
@@ -39,19 +44,41 @@ fn is_span(first: &Key, last: &Key, count: usize) -> bool {
     }
 }
 
-fn say_each(out: &mut Vec<u8>, elements: &[Element]) -> Result<(), AllocError> {
-    for i in 0..elements.len() {
-        if i >= MOST {
-            say(out, " and ")?;
-            say_count(out, elements.len() - i)?;
-            return say(out, " more");
+/// Where the keys begin that are told: so that as many are below a wanted one as above it, where there are that many.
+fn first_shown(elements: &[Element], wanted: Option<&Key>) -> usize {
+    let Some(wanted) = wanted else {
+        return 0;
+    };
+    let mut below: usize = 0;
+    for element in elements {
+        if !element.key.is_below(wanted) {
+            break;
         }
-        if i > 0 {
+        below = below.saturating_add(1);
+    }
+    let last = elements.len().saturating_sub(MOST);
+    below.saturating_sub(MOST / 2).min(last)
+}
+
+/// Adds the keys of elements from a place on.
+fn say_each(out: &mut Vec<u8>, elements: &[Element], first: usize) -> Result<(), AllocError> {
+    let mut told: usize = 0;
+    for i in first..elements.len() {
+        if told >= MOST {
+            break;
+        }
+        if told > 0 {
             say(out, ", ")?;
         }
         say_key(out, &elements[i].key)?;
+        told = told.saturating_add(1);
     }
-    Ok(())
+    if told == elements.len() {
+        return Ok(());
+    }
+    say(out, " and ")?;
+    say_count(out, elements.len().saturating_sub(told))?;
+    say(out, " more")
 }
 
 /// Adds `[3]` or `["a"]`.

@@ -11,12 +11,12 @@ use board_instances::packed::PackedSlot;
 use board_instances::placing::{go_on, place_all};
 use board_instances::turns::{Site, push_block, push_elements, push_range};
 use board_program::spot::Spot;
-use paths::Step;
 use std::alloc::{AllocError, Global};
 use std::process::Abort;
-use values::key::Key;
+use values::key::{Key, KeyRef};
 use values::map::Element;
 use values::range::Range;
+use values::text::Text;
 use values::value::Scalar;
 
 fn open(rt: &impl Abort, alloc: Global) -> Box<Opened> {
@@ -25,14 +25,6 @@ fn open(rt: &impl Abort, alloc: Global) -> Box<Opened> {
 
 fn around(world: &Opened) -> Around<'_> {
     world.view().around()
-}
-
-/// A step by the number 40.
-fn way(key: i64) -> Step {
-    Step {
-        offset: 40,
-        key: Key::Number(key),
-    }
 }
 
 /// The variable stands for the first datum, and what lies outside for nothing.
@@ -200,10 +192,20 @@ fn keeps_the_step(rt: &impl Abort) {
     assert!(rt; Way::none().step().expect(rt, "memory").is_none());
 }
 
+/// A step to a text is kept with all of its bytes.
+fn keeps_the_text(rt: &impl Abort, alloc: Global) {
+    let text = Text::from_slice(alloc, b"a\n").expect(rt, "memory");
+    let kept = Way::to(40, KeyRef::Text(&text)).expect(rt, "memory");
+    let step = kept.step().expect(rt, "memory").expect(rt, "a step");
+    let is_text = matches!(&step.key, Key::Text(key) if key.as_bytes() == b"a\n");
+    assert!(rt; step.offset == 40 && is_text);
+}
+
 #[test]
 fn an_instance_keeps_what_is_around_it(rt: HostRuntime) {
     keeps_the_outer(&rt);
     keeps_the_step(&rt);
+    keeps_the_text(&rt, rt.alloc());
 }
 
 /// The last turn has the range's last number and its place, and a step by that place.

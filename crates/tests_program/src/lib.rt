@@ -33,6 +33,8 @@ mod stops_tests;
 #[cfg(test)]
 mod strangers_tests;
 #[cfg(test)]
+mod text_keys_tests;
+#[cfg(test)]
 mod whole_tests;
 #[cfg(test)]
 mod writes_tests;

@@ -39,10 +39,10 @@ fn try_script<A: Allocator + Clone>(
     alloc: &A,
     script: &Script<A>,
 ) -> io::Result<()> {
-    let Some(typed) = typed(rt, machine, script)? else {
+    let Some(typed) = typed_of(rt, machine, script)? else {
         return wrong(rt, "no types");
     };
-    let Some(single) = single(rt, machine, script, &typed)? else {
+    let Some(single) = single_of(rt, machine, script, &typed)? else {
         return wrong(rt, "not singly assigned");
     };
     if folded(rt, machine, alloc, script)?.is_none() {
@@ -51,9 +51,13 @@ fn try_script<A: Allocator + Clone>(
     if merged(rt, alloc, script, &typed, &single)?.is_none() {
         wrong(rt, "no flow")?;
     }
-    match known(rt, machine, script, &typed, &single)? {
-        Some(known) if known.finished => Ok(()),
-        _ => wrong(rt, "no meaning"),
+    let Some(known) = known_of(rt, machine, script, &typed, &single)? else {
+        return wrong(rt, "no meaning");
+    };
+    if known.finished {
+        Ok(())
+    } else {
+        wrong(rt, "a meaning that is not whole")
     }
 }
 
@@ -74,7 +78,7 @@ fn read<A: Allocator + Clone>(
 }
 
 /// What the names of a tree are.
-fn typed<A: Allocator>(
+fn typed_of<A: Allocator>(
     rt: &HostRuntime,
     machine: Global,
     script: &Script<A>,
@@ -90,7 +94,7 @@ fn typed<A: Allocator>(
 }
 
 /// That a tree is singly assigned.
-fn single<A: Allocator>(
+fn single_of<A: Allocator>(
     rt: &HostRuntime,
     machine: Global,
     script: &Script<A>,
@@ -178,7 +182,7 @@ fn merged<A: Allocator + Clone>(
 }
 
 /// What a script means.
-fn known<A: Allocator + Clone>(
+fn known_of<A: Allocator + Clone>(
     rt: &HostRuntime,
     machine: Global,
     script: &Script<A>,

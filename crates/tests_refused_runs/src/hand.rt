@@ -1,4 +1,6 @@
 //! A board that is moved by hand: its items are begun, computed and ended one after another, and given back where memory was refused.
+ghost use Rattle.board.specs.Board.{IsWorker};
+ghost use Rattle.board_runs.specs.Report.{IsOver};
 
 use crate::told::{note, print_report, wrong};
 use board_runs::report::report_of;
@@ -86,7 +88,7 @@ fn try_item(rt: &HostRuntime, board: &mut Board, item: u64) -> io::Result<()> {
 
 /// Begins, computes and ends an item on a worker. Where memory was refused the item can begin again.
 fn done_on(rt: &HostRuntime, board: &mut Board, worker: u8, item: u64) -> io::Result<bool>
-    requires { worker < 64 }
+    requires { IsWorker worker }
 {
     let before = views(board);
     let work = match board.begin(worker, item) {
@@ -122,7 +124,7 @@ fn done_on(rt: &HostRuntime, board: &mut Board, worker: u8, item: u64) -> io::Re
 
 /// Gives an item back that runs on the worker.
 fn given_back(rt: &HostRuntime, board: &mut Board, worker: u8, item: u64) -> io::Result<bool>
-    requires { worker < 64 }
+    requires { IsWorker worker }
 {
     match board.back(worker, item) {
         Ok(()) => Ok(false),
@@ -133,11 +135,18 @@ fn given_back(rt: &HostRuntime, board: &mut Board, worker: u8, item: u64) -> io:
     }
 }
 
-/// The report of a board on which nothing is left to be done.
+/// The report of a board, where nothing is left to be done on it.
 fn reported(rt: &HostRuntime, alloc: Global, board: &Board) -> io::Result<Option<Report>> {
     if board.is_going() && !board.is_quiet() {
         return Ok(None);
     }
+    told(rt, alloc, board)
+}
+
+/// The report of a board on which nothing is left to be done.
+fn told(rt: &HostRuntime, alloc: Global, board: &Board) -> io::Result<Option<Report>>
+    requires { IsOver board.now }
+{
     for _ in 0..TRIES {
         match report_of(alloc, board) {
             Ok(report) => return Ok(Some(report)),

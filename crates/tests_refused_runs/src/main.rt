@@ -1,9 +1,10 @@
 //! Each call on the way from a script to its runs, made again where memory was refused to it: what came of the refused call, and that the next one
 //! succeeds.
 //!
-//! Each word names a script. Without refusals each of its calls is made once, and standard output has four reports: of a board that is moved by
-//! hand, of a run on one thread, of its trace run again, and of a run on threads. A refused call is named on standard error; standard output
-//! stays the same, but for what is found wrong, where a line begins with `wrong`.
+//! Each word names a script, but for `threads`: the scripts behind it are run on threads, and those before it otherwise. Without refusals each
+//! call is made once, and standard output has three reports: of a board that is moved by hand, of a run on one thread, and of its trace run
+//! again; or that of the run on threads. A refused call is named on standard error; standard output stays the same, but for what is found
+//! wrong, where a line begins with `wrong`.
 #![tactic(auto)]
 
 mod front;
@@ -21,27 +22,34 @@ use std::{env, io};
 use swt_library::scripts::Code;
 
 fn main(rt: HostRuntime) -> io::Result<()> {
+    let mut on_threads = false;
     for word in env::args(&rt)?.skip(1) {
         println!(rt; "{word}")?;
-        match script_of(word.as_str()) {
-            Some(script) => try_script(&rt, &rt, rt.alloc(), script)?,
-            None => told::wrong(&rt, "no script has this name")?,
+        match word.as_str() {
+            "threads" => on_threads = true,
+            name => try_name(&rt, &rt, rt.alloc(), name, on_threads)?,
         }
     }
     Ok(())
 }
 
-/// Makes all calls for a script.
-fn try_script<R: Threads + Wait + Sync>(
+/// Makes the calls for the script of a name.
+fn try_name<R: Threads + Wait + Sync>(
     rt: &HostRuntime,
     threads: &R,
     alloc: Global,
-    script: &[u8],
+    name: &str,
+    on_threads: bool,
 ) -> io::Result<()> {
-    front::try_stages(rt, alloc, &alloc, script)?;
-    try_in_arena(rt, alloc, script)?;
+    let Some(script) = script_of(name) else {
+        return told::wrong(rt, "no script has this name");
+    };
+    if !on_threads {
+        front::try_stages(rt, alloc, &alloc, script)?;
+        try_in_arena(rt, alloc, script)?;
+    }
     match front::compiled(rt, alloc, &alloc, script)? {
-        Some(code) => try_code(rt, threads, alloc, &code),
+        Some(code) => run_code(rt, threads, alloc, &code, on_threads),
         None => told::wrong(rt, "no code"),
     }
 }
@@ -52,14 +60,17 @@ fn try_in_arena(rt: &HostRuntime, alloc: Global, script: &[u8]) -> io::Result<()
     front::try_stages(rt, alloc, &&arena, script)
 }
 
-/// Makes all calls for code.
-fn try_code<R: Threads + Wait + Sync>(
+/// Runs code on threads, or otherwise.
+fn run_code<R: Threads + Wait + Sync>(
     rt: &HostRuntime,
     threads: &R,
     alloc: Global,
     code: &Code,
+    on_threads: bool,
 ) -> io::Result<()> {
+    if on_threads {
+        return runs::try_threads(rt, threads, alloc, code);
+    }
     hand::try_board(rt, alloc, code)?;
-    runs::try_one_thread(rt, alloc, code)?;
-    runs::try_threads(rt, threads, alloc, code)
+    runs::try_one_thread(rt, alloc, code)
 }
