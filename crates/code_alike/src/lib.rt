@@ -1,4 +1,5 @@
-//! What is pinned of the code of a script: two codes of one tree do the same, entry by entry. Nothing here runs: each function has an empty body, and its contract is a law.
+//! What is pinned of the code of a script: two codes of one tree do the same, entry by entry. Nothing here runs: each function has
+//! an empty body, and its contract is a law.
 #![tactic(auto)]
 
 ghost use Rattle.code_alike.specs.Alike.{AllDoSame, AreAlike};
@@ -20,10 +21,12 @@ pub fn rights_are_pinned()
     ensures { (C D : Code) → C.bodies ≡ D.bodies → AllDoSame C.entries D.entries → HasRights C → HasRights D → AreAlike C D }
 {}
 
-/// Two codes that are emitted for the core of one tree, placed and well typed, have the same bodies, and entry by entry the same act, needs, offset and priority, the same mark where blocks are opened under it, the same
-/// node where a value is stored there, and the same rights.
+/// Two codes that are emitted for the core of one tree, placed and well typed, have the same bodies, and entry by entry the same act,
+/// needs, offset and priority, the same mark where blocks are opened under it, the same node where a value is stored there, and the
+/// same rights.
 pub fn codes_of_a_tree_are_alike()
-    ensures { (t : Table) (tree : Tree) (fs gs : List Kinds) (ds es : List (ℕ × Bool)) (C D : Code) → IsPlaced tree → WellTyped tree t → KindsOf fs tree → KindsOf gs tree → DeclaredIn ds tree → DeclaredIn es tree
+    ensures { (t : Table) (tree : Tree) (fs gs : List Kinds) (ds es : List (ℕ × Bool)) (C D : Code) → IsPlaced tree → WellTyped tree t
+        → KindsOf fs tree → KindsOf gs tree → DeclaredIn ds tree → DeclaredIn es tree
         → IsEmitted (core t tree) fs ds C → IsEmitted (core t tree) gs es D → AreAlike C D }
 {}
 

@@ -1,8 +1,7 @@
 -- Two codes of one text are alike.
-use Rattle.std.proofs.Common.{◌≡◌, ℕ, Bool, List, sym, subst}
+use Rattle.std.proofs.Common.{◌≡◌, ℕ, List, subst}
 use Rattle.language.specs.Core.{Core}
 use Rattle.language.specs.Resolved.{core}
-use Rattle.language.specs.Table.{Table}
 use Rattle.language.specs.Tree.{Tree}
 use Rattle.language.specs.Typing.{WellTyped}
 use Rattle.language_laws.proofs.OneCore.{one_core}

@@ -90,8 +90,8 @@ fn lay_script<A: Allocator>(alloc: Global, flow: &Flow<A>) -> Result<Laid, Alloc
     })
 }
 
-/// The code of a flow in which no `wait` is left that could be merged: an entry for each cell, call and statement, and a body for each block. Body 0 is the script, then come its
-/// functions, then inner blocks.
+/// The code of a flow in which no `wait` is left that could be merged: an entry for each cell, call and statement, and a body for
+/// each block. Body 0 is the script, then come its functions, then inner blocks.
 ///
 /// # Errors
 ///

@@ -119,7 +119,8 @@ impl Emitter {
         statement: Own,
         action: &Action<A>,
     ) -> Result<(), AllocError>
-        ensures { OnOk result (EmitsMerged functions.now.items statement (action_view action.now) (action_seen action.now).merged (action_declared action.now) self.old self.new) }
+        ensures { OnOk result (EmitsMerged functions.now.items statement (action_view action.now)
+            (action_seen action.now).merged (action_declared action.now) self.old self.new) }
     {
         match action {
             Action::Declare(variable) => declare(&mut self.writer.filling, variable),

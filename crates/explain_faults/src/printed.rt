@@ -90,58 +90,60 @@ fn steps_of(alloc: Global, path: &[u8]) -> Result<Vec<Step>, AllocError> {
     let mut steps = Vec::new(alloc);
     let mut rest = path;
     for _ in 0..path.len() {
-        let Some((step, behind)) = step_in(alloc, rest)? else {
-            break;
-        };
-        steps.push(step)?;
+        let (step, behind) = cut_step(rest);
         rest = behind;
+        if let Some(step) = step_of(alloc, step)? {
+            steps.push(step)?;
+        }
     }
     Ok(steps)
 }
 
-/// The step at the front, and what stands behind it.
-fn step_in(alloc: Global, path: &[u8]) -> Result<Option<(Step, &[u8])>, AllocError> {
-    let [b'/', rest @ ..] = path else {
-        return Ok(None);
-    };
-    let (at, rest) = cut(rest, b'.');
+/// What stands before the first `/` that no text holds, and what stands behind it.
+fn cut_step(path: &[u8]) -> (&[u8], &[u8]) {
+    let mut in_text = false;
+    let mut is_spelled = false;
+    for i in 0..path.len() {
+        let byte = path[i];
+        if byte == b'/' && !in_text {
+            return (&path[..i], &path[i + 1..]);
+        }
+        if byte == b'"' && !is_spelled {
+            in_text = !in_text;
+        }
+        is_spelled = byte == b'\\' && !is_spelled;
+    }
+    (path, &[])
+}
+
+fn step_of(alloc: Global, step: &[u8]) -> Result<Option<Step>, AllocError> {
+    let (at, key) = cut(step, b'.');
     let Some(offset) = offset_of(at) else {
         return Ok(None);
     };
-    if let [b'"', text @ ..] = rest {
-        let (text, behind) = text_in(alloc, text)?;
-        let key = Key::Text(text);
-        return Ok(Some((Step { offset, key }, behind)));
+    match key_of(alloc, key)? {
+        Some(key) => Ok(Some(Step { offset, key })),
+        None => Ok(None),
     }
-    let length = key_length(rest);
-    match number::parse(&rest[..length]) {
-        Ok(number) => {
-            let key = Key::Number(number);
-            Ok(Some((Step { offset, key }, &rest[length..])))
-        }
+}
+
+fn key_of(alloc: Global, key: &[u8]) -> Result<Option<Key>, AllocError> {
+    if let [b'"', text @ ..] = key {
+        return Ok(Some(Key::Text(text_of(alloc, text)?)));
+    }
+    match number::parse(key) {
+        Ok(number) => Ok(Some(Key::Number(number))),
         Err(_) => Ok(None),
     }
 }
 
-/// How many bytes stand before the next step.
-fn key_length(bytes: &[u8]) -> usize {
-    let mut length = 0;
-    for byte in bytes {
-        if *byte == b'/' {
-            break;
-        }
-        length += 1;
-    }
-    length
-}
-
-/// The text that is spelled up to a quote, and what stands behind that.
-fn text_in(alloc: Global, bytes: &[u8]) -> Result<(Text, &[u8]), AllocError> {
+/// The text that is spelled up to a quote.
+fn text_of(alloc: Global, bytes: &[u8]) -> Result<Text, AllocError> {
     let mut text = Bytes::new(alloc);
     let mut rest = bytes;
     for _ in 0..bytes.len() {
         match rest {
-            [b'"', behind @ ..] => return Ok((Text::new(alloc, text)?, behind)),
+            [b'"', ..] => break,
             [b'\\', byte, behind @ ..] => {
                 text.push(escaped(*byte))?;
                 rest = behind;
@@ -150,10 +152,10 @@ fn text_in(alloc: Global, bytes: &[u8]) -> Result<(Text, &[u8]), AllocError> {
                 text.push(*byte)?;
                 rest = behind;
             }
-            [] => {}
+            [] => break,
         }
     }
-    Ok((Text::new(alloc, text)?, rest))
+    Text::new(alloc, text)
 }
 
 /// The byte that a letter behind a `\` stands for.

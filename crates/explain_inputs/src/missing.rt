@@ -101,7 +101,7 @@ fn is_written(learned: &Learned, instance: usize, array: Name, index: u32) -> bo
 
 /// Whether an array has one write of this key.
 fn is_once(learned: &Learned, array: Place, key: KeyRef<'_>) -> bool
-    ensures { result ≡ is_once (writes_under (writes_at learned.now.facts array) (key_seen key)) }
+    ensures { result ≡ is_once (writes_under (writes_at learned.now.facts array) (key_seen key.entry)) }
 {
     match learned.facts.written(array, key) {
         Written::Once(_) => true,

@@ -1,7 +1,6 @@
 -- Instances stay a tree where one is opened, and each is found at its path.
 use Rattle.std.specs.Prelude.{◌≡◌, ◌⊎◌, ℕ, zero, suc, ◌+◌, ◌<◌, ◌≤◌, Bool, true, false, ◌&&◌, List, [], ◌∷◌, ◌++◌, length, map, nat_eq, Option, Some, None, cond, slice_get, if◌then◌else◌, ℤ, refl}
 use Rattle.std.specs.HashMap.{get}
-use Rattle.std.specs.Str.{bytes_eq}
 use Rattle.std.proofs.Common.{inl, inr, sym, ap, ◌∙◌, subst, arith, length-append}
 use Rattle.std.proofs.lemmas.Bool.{cases_Bool, cases_lt, cases_order, eqb-true, eq-eqb}
 use Rattle.std.proofs.lemmas.List.{get_or_append_left}
@@ -93,7 +92,7 @@ and_false : (b : Bool) → b && false ≡ false
 and_false true = refl
 and_false false = refl
 
--- one more under a number, or under a text
+-- one more under a number
 module _ (t u : Instances) (p at number : ℕ) where
   pub turn_noted : (z : ℤ) → ((q : ℕ × ℕ × ℤ) → get same_turn u.opened q ≡ cond (same_turn (p, at, z) q) (Some number) (get same_turn t.opened q)) → u.named ≡ t.named
       → (i a : ℕ) (k : Key) → child_at u i a k ≡ (if same_step (p, at, Number z) (i, a, k) then Some number else child_at t i a k)
@@ -101,14 +100,6 @@ module _ (t u : Instances) (p at number : ℕ) where
   turn_noted z put n i a (Text bytes) =
       ap (λ m. named_in (get same_pair m (i, a)) bytes) n
       ∙ ap (λ (b : Bool). if b then Some number else child_at t i a (Text bytes)) (sym (and_false (nat_eq p i && nat_eq at a)))
-
-  pub text_noted : (text : List ℕ)
-      → ((other : ℕ × ℕ) (bytes : List ℕ) → named_in (get same_pair u.named other) bytes ≡ (if same_pair (p, at) other && bytes_eq text bytes then Some number else named_in (get same_pair t.named other) bytes))
-      → u.opened ≡ t.opened → (i a : ℕ) (k : Key) → child_at u i a k ≡ (if same_step (p, at, Text text) (i, a, k) then Some number else child_at t i a k)
-  text_noted text put o i a (Text bytes) = put (i, a) bytes
-  text_noted text put o i a (Number y) =
-      ap (λ m. get same_turn m (i, a, y)) o
-      ∙ ap (λ (b : Bool). if b then Some number else child_at t i a (Number y)) (sym (and_false (nat_eq p i && nat_eq at a)))
 
 module _ (t u : Instances) (p : ℕ) (s : Step) (g : Given) (o : IsOpen t p s g u) where
   pub count : length u.all.items ≡ length t.all.items + 1

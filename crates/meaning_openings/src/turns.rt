@@ -129,10 +129,12 @@ fn turn_of<A: Allocator>(
         node,
         value: choice.value(i)?,
     })?;
-    if let Some(key) = key {
+    if let Some(turn) = key {
+        let key = key_at(choice, i)?;
+        let value = key.scalar()?;
         variables.push(Variable {
-            node: key.node,
-            value: key_at(choice, i)?.scalar()?,
+            node: turn.node,
+            value,
         })?;
     }
     Ok(variables)

@@ -12,6 +12,6 @@ use Rattle.swt_library.specs.Words.{line_of}
 pub line_given : (words texts : List (List ℕ)) (request : Request) → words ≡ texts → request_of words ≡ Some request → line_of texts ≡ Some request.line
 line_given words texts request same given = ap line_of (sym same) ∙ ap (option_map (λ (r : Request). r.line)) given
 
-pub line_refused : (words texts : List (List ℕ)) (fault : LineFault) → words ≡ texts → Answers (request_of words) (Err {T = Request} fault) → Answers (line_of texts) (Err {T = Line} fault)
+pub line_refused : (words texts : List (List ℕ)) (fault : LineFault) → words ≡ texts → Answers (request_of words) (Err fault) → Answers (line_of texts) (Err fault)
 line_refused words texts Usage same given = ap line_of (sym same) ∙ ap (option_map (λ (r : Request). r.line)) given
 line_refused words texts Memory same given = given

@@ -18,7 +18,7 @@ use std::thread::Threads;
 use swt_trace::fault::ReplayFault;
 use workers::fault::RunFault;
 use workers::job::Gate;
-use workers::run::PoolCount;
+use workers::run::{self, PoolCount};
 
 /// A board over the code, before any event, which accepts so many events at most.
 ///
@@ -69,7 +69,7 @@ pub fn run_threads<R: Threads + Wait + Sync, G: Gate>(
     ensures report { IfOk result (λ r. IsReport code.now.program limit engines workers r.0 r.1) }
     ensures count { (result ≡ Err RunFault.BadCount) ↔ ((engines ≡ 0) ⊎ ((workers ≡ 0) ⊎ (64 < engines + workers))) }
 {
-    workers::run::run_threads(rt, alloc, &code.program, engines, workers, limit, gate)
+    run::run_threads(rt, alloc, &code.program, engines, workers, limit, gate)
 }
 
 /// Runs the events of a trace on the code, and reports that run. Its limit is the number of events.

@@ -1,5 +1,5 @@
 -- A report of a run of code is one of every code that is alike, but for its program.
-use Rattle.std.proofs.Common.{◌≡◌, ◌≤◌, ◌⊎◌, inl, inr, ℕ, Bool, List, [], ◌∷◌, refl, sym, ap, ◌∙◌, subst}
+use Rattle.std.proofs.Common.{◌≡◌, ◌≤◌, ◌⊎◌, inl, inr, ℕ, Bool, List, [], ◌∷◌, refl, sym, ap, ◌∙◌, subst, Some}
 use Rattle.dataflow.specs.System.{In, Input}
 use Rattle.dataflow.specs.Machine.{Event, Fault, IsKnown}
 use Rattle.values.specs.declared.key.Key.{Key}
@@ -24,10 +24,10 @@ use Rattle.code_alike.proofs.Codes.{argument_same, same_at, same_back}
 use Rattle.code_alike.proofs.Runs.{input_same, known_moves, quiet_alike, runs_alike, tasks_same}
 use Rattle.compile.specs.Compiled.{IsCompiled}
 use Rattle.compile.proofs.Alike.{text_alike}
-use Rattle.swt_trace.specs.Replay.{ReplaysTo}
-use Rattle.swt_trace.specs.Report.{TraceOf}
-use Rattle.swt_trace.specs.Trace.{most_events}
-use Rattle.swt_trace.proofs.Again.{same_again}
+use Rattle.swt_trace.specs.Replay.{IsFirstNoStep, IsTraceOf, IsWrongEnd, ReplaysTo}
+use Rattle.swt_trace.specs.Report.{TraceOf, ending_of}
+use Rattle.swt_trace.specs.Trace.{IsFirstBad, most_events}
+use Rattle.swt_trace.proofs.Again.{its_trace, not_bad, not_refused, not_wrong, same_again}
 use Rattle.swt_replays.specs.Same.{TellSame, of_code}
 
 -- what is known in a state of code
@@ -134,7 +134,22 @@ reports_alike C D al limit r p =
 pub told_same : (D : Code) (r s : Report) → SameReport (of_code D r) s → TellSame r s
 told_same D r s x = record { history = x.history; lines = x.lines; end = x.end; blocked = x.blocked; tallies = x.tallies }
 
-pub replayed_same : (src : List ℕ) (C D : Code) (limit : ℕ) (r s : Report) → IsCompiled src C → IsCompiled src D → limit ≤ most_events → Reports C limit r → ReplaysTo D (TraceOf r) s → TellSame r s
-replayed_same src C D limit r s x y few p z =
-    told_same D r s
-    (same_again D (TraceOf r) (of_code D r) (record { limit = limit; few = few; reports = reports_alike C D (text_alike src C D x y) limit r p; text = refl }) y.whole s z)
+module _ (src : List ℕ) (C D : Code) (limit : ℕ) (r : Report) (x : IsCompiled src C) (y : IsCompiled src D) (few : limit ≤ most_events) (p : Reports C limit r) where
+  too : Reports D limit (of_code D r)
+  too = reports_alike C D (text_alike src C D x y) limit r p
+
+  of_report : IsTraceOf D (TraceOf r) (of_code D r)
+  of_report = record { limit = limit; few = few; reports = too; text = refl }
+
+  pub replayed_same : (s : Report) → ReplaysTo D (TraceOf r) s → TellSame r s
+  replayed_same s z = told_same D r s (same_again D (TraceOf r) (of_code D r) of_report y.whole s z)
+
+  -- the trace is not refused
+  pub never_bad : (n : ℕ) → IsFirstBad (TraceOf r) n → ⊥
+  never_bad n z = not_bad D (TraceOf r) (of_code D r) of_report n z
+
+  pub never_refused : (n : ℕ) → IsFirstNoStep D (TraceOf r) n → ⊥
+  never_refused n z = not_refused D y.whole (TraceOf r) limit (of_code D r) (Some (ending_of r.end)) (its_trace D (TraceOf r) (of_code D r) of_report) too n z
+
+  pub never_wrong : (n : ℕ) → IsWrongEnd D (TraceOf r) n → ⊥
+  never_wrong n z = not_wrong D y.whole (TraceOf r) limit (of_code D r) (Some (ending_of r.end)) (its_trace D (TraceOf r) (of_code D r) of_report) too refl n z

@@ -123,7 +123,7 @@ both files later steps out out_new trace trace_new again again_new n m few x emp
     let one : y.src ≡ x.src = one_some y.src x.src (sym y.read ∙ script ∙ x.read) in
     let compiled : IsCompiled x.src y.code = subst (λ (src : List ℕ). IsCompiled src y.code) one y.compiled in
     let replays : ReplaysTo y.code (TraceOf x.report) y.report = subst (λ (bs : List ℕ). ReplaysTo y.code bs y.report) bytes y.replays in
-    let same : TellSame x.report y.report = replayed_same x.src x.code y.code steps x.report y.report x.compiled compiled few x.reports replays in (
+    let same : TellSame x.report y.report = replayed_same x.src x.code y.code steps x.report x.compiled compiled few x.reports y.report replays in (
       record { text = ReportText x.report; first = x.printed; second = subst (λ (text : List ℕ). Took again text again_new) (sym (one_text x.report y.report same)) y.printed },
       x.number_is ∙ ap number_of (one_status x.report y.report same) ∙ sym y.number_is,
     )

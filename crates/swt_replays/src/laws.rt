@@ -10,9 +10,9 @@ ghost use Rattle.swt_command.specs.Owes.{Owes};
 ghost use Rattle.swt_command.specs.Sinks.{Held};
 ghost use Rattle.swt_replays.specs.Same.{IsOfReport, PrintOneText, TellSame, of_code};
 ghost use Rattle.swt_status.specs.Statuses.{report_status};
-ghost use Rattle.swt_trace.specs.Replay.{ReplaysTo};
+ghost use Rattle.swt_trace.specs.Replay.{IsFirstNoStep, IsWrongEnd, ReplaysTo};
 ghost use Rattle.swt_trace.specs.Report.{ReportText, TraceOf};
-ghost use Rattle.swt_trace.specs.Trace.{most_events};
+ghost use Rattle.swt_trace.specs.Trace.{IsFirstBad, most_events};
 ghost use Rattle.task_code.specs.Code.{Code};
 
 /// A report of a run of code is one of every code that is alike, but for its program.
@@ -20,11 +20,17 @@ pub fn alike_codes_are_reported_alike()
     ensures { (C D : Code) → AreAlike C D → (limit : ℕ) (r : Report) → Reports C limit r → Reports D limit (of_code D r) }
 {}
 
-/// The trace of a run of a script's code, run again on whatever code the script is compiled to then, gives a report that tells the same; and two
-/// reports that tell the same have one text and one status.
+/// The trace of a run of a script's code, run again on whatever code the script is compiled to then, gives a report that tells the same; none of its
+/// lines is bad or no step, and its end is that of the run. Two reports that tell the same have one text and one status.
 pub fn replays_tell_the_same()
-    ensures same { (src : List ℕ) (C D : Code) (limit : ℕ) (r s : Report) → IsCompiled src C → IsCompiled src D → limit ≤ most_events
-        → Reports C limit r → ReplaysTo D (TraceOf r) s → TellSame r s }
+    ensures same { (src : List ℕ) (C D : Code) (limit : ℕ) (r : Report) → IsCompiled src C → IsCompiled src D → limit ≤ most_events → Reports C limit r
+        → (s : Report) → ReplaysTo D (TraceOf r) s → TellSame r s }
+    ensures not_bad { (src : List ℕ) (C D : Code) (limit : ℕ) (r : Report) → IsCompiled src C → IsCompiled src D → limit ≤ most_events → Reports C limit r
+        → (n : ℕ) → IsFirstBad (TraceOf r) n → ⊥ }
+    ensures no_step { (src : List ℕ) (C D : Code) (limit : ℕ) (r : Report) → IsCompiled src C → IsCompiled src D → limit ≤ most_events → Reports C limit r
+        → (n : ℕ) → IsFirstNoStep D (TraceOf r) n → ⊥ }
+    ensures its_end { (src : List ℕ) (C D : Code) (limit : ℕ) (r : Report) → IsCompiled src C → IsCompiled src D → limit ≤ most_events → Reports C limit r
+        → (n : ℕ) → IsWrongEnd D (TraceOf r) n → ⊥ }
     ensures text { (r s : Report) → TellSame r s → ReportText r ≡ ReportText s }
     ensures status { (r s : Report) → TellSame r s → report_status r ≡ report_status s }
 {}

@@ -197,7 +197,7 @@ fn keeps_the_text(rt: &impl Abort, alloc: Global) {
     let text = Text::from_slice(alloc, b"a\n").expect(rt, "memory");
     let kept = Way::to(40, KeyRef::Text(&text)).expect(rt, "memory");
     let step = kept.step().expect(rt, "memory").expect(rt, "a step");
-    let is_text = matches!(&step.key, Key::Text(key) if key.as_bytes() == b"a\n");
+    let is_text = matches!(&step.key, Key::Text(key) if key.as_bytes() == b"a\n".as_slice());
     assert!(rt; step.offset == 40 && is_text);
 }
 

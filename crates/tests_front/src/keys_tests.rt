@@ -41,7 +41,7 @@ fn comes_back(rt: &impl Abort, scalar: Scalar) -> Scalar {
 fn scalars_are_keys(rt: HostRuntime) {
     let text = Text::from_slice(rt.alloc(), b"a\"b").expect(&rt, "memory");
     let again = comes_back(&rt, Scalar::Text(text));
-    assert!(rt; matches!(again, Scalar::Text(text) if text.as_bytes() == b"a\"b"));
+    assert!(rt; matches!(again, Scalar::Text(text) if text.as_bytes() == b"a\"b".as_slice()));
     let number = comes_back(&rt, Scalar::Number(-3));
     assert!(rt; matches!(number, Scalar::Number(-3)));
 }
@@ -63,7 +63,11 @@ fn folded(alloc: Global, first: u8, other: u8) -> Result<Key, AllocError> {
 fn is_seen(rt: &impl Abort, key: &Key, other: &Key) {
     let seen: KeyRef<'_> = key.as_ref();
     is_equal(rt, seen.mark(), key.mark());
-    is_equal(rt, (seen.is_same(key.as_ref()), seen.is_same(other.as_ref())), (true, false));
+    is_equal(
+        rt,
+        (seen.is_same(key.as_ref()), seen.is_same(other.as_ref())),
+        (true, false),
+    );
 }
 
 #[test]

@@ -216,8 +216,16 @@ fn has_two_texts(rt: &impl Abort, alloc: Global, store: &mut Store, d: DatumNo)
     requires { IsArrayAt store.old d }
 {
     is_equal(rt, store.size(d), 2);
-    is_equal(rt, number_at_text(store, d, &text(rt, alloc, b"longname1")), Some(10));
-    is_equal(rt, number_at_text(store, d, &text(rt, alloc, b"longname")), None);
+    is_equal(
+        rt,
+        number_at_text(store, d, &text(rt, alloc, b"longname1")),
+        Some(10),
+    );
+    is_equal(
+        rt,
+        number_at_text(store, d, &text(rt, alloc, b"longname")),
+        None,
+    );
     is_equal(rt, number_under(store, d, 1), None);
     let map = store.whole(d).expect(rt, "memory");
     is_equal(rt, first_number(&map), Some(10));

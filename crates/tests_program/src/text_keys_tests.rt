@@ -116,6 +116,7 @@ fn every_order_of_texts(rt: HostRuntime) {
         ends: &[b""],
         has_faults: false,
     };
-    let script = b"int A[string]; A[\"b\"] = 1; A[\"a\"] = 2; foreach v, k in A { printf(\"%s %i\", k, v); }";
+    let script =
+        b"int A[string]; A[\"b\"] = 1; A[\"a\"] = 2; foreach v, k in A { printf(\"%s %i\", k, v); }";
     always(&rt, rt.alloc(), script, &turns);
 }
