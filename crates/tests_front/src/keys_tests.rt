@@ -41,7 +41,7 @@ fn comes_back(rt: &impl Abort, scalar: Scalar) -> Scalar {
 fn scalars_are_keys(rt: HostRuntime) {
     let text = Text::from_slice(rt.alloc(), b"a\"b").expect(&rt, "memory");
     let again = comes_back(&rt, Scalar::Text(text));
-    assert!(rt; matches!(again, Scalar::Text(text) if text.as_bytes() == b"a\"b".as_slice()));
+    assert!(rt; matches!(&again, Scalar::Text(text) if text.as_bytes() == b"a\"b".as_slice()));
     let number = comes_back(&rt, Scalar::Number(-3));
     assert!(rt; matches!(number, Scalar::Number(-3)));
 }

@@ -1,4 +1,4 @@
-use Rattle.std.proofs.Common.{rules, ◌≡◌, ◌∙◌, refl, ap, [], ◌∷◌, ◌++◌, append_assoc}
+use Rattle.std.proofs.Common.{rules, ◌∙◌, refl, ap, [], ◌∷◌, ◌++◌, append_assoc}
 use Rattle.std.specs.List.{flat_map}
 use Rattle.values.specs.Sinks.{Beginning}
 use Rattle.swt_trace.specs.Report.{quoted, spelled}

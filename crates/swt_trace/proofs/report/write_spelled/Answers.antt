@@ -1,4 +1,4 @@
-use Rattle.std.proofs.Common.{rules, ◌≡◌, ◌∙◌, ap, get_or}
+use Rattle.std.proofs.Common.{rules, refl, ◌∙◌}
 use Rattle.std.specs.List.{flat_map}
 use Rattle.values.specs.Sinks.{Beginning}
 use Rattle.swt_trace.specs.Report.{spelled}
@@ -7,15 +7,13 @@ use Rattle.swt_trace.proofs.report.write_spelled.Goals as goal
 
 pub returns-in_err-write_byte-clause-err : goal.returns-in_err-write_byte-clause-err
 returns-in_err-write_byte-clause-err g c =
-    let p : spelled c.byte-item.result ≡ spelled (get_or c.args.bytes.now c.loop-byte.byte-index c.byte-item.result) = ap spelled (cc) in
     let b : Beginning (g.W.Sink.taken c.args.sink.now) (flat_map spelled c.args.bytes.now) (g.W.Sink.taken c.write_byte.new.sink) =
-    in_texts spelled c.args.bytes.now c.loop-byte.byte-index c.byte-item.result _ (g.W.Sink.taken c.loop-byte.sink) _ _ c.loop-byte-test.true c.loop-byte.invariant.taken p c.in_err-write_byte.ensures.err in
+    in_texts spelled c.args.bytes.now c.loop-byte.byte-index 0 _ (g.W.Sink.taken c.loop-byte.sink) _ _ c.loop-byte-test.true c.loop-byte.invariant.taken refl c.in_err-write_byte.ensures.err in
     search (rules, b)
 
 pub loop-byte-preserved : goal.loop-byte-preserved
 loop-byte-preserved g c =
-    let p : spelled c.byte-item.result ≡ spelled (get_or c.args.bytes.now c.loop-byte.byte-index c.byte-item.result) = ap spelled (cc) in
     record {
-      taken = next_text spelled c.args.bytes.now c.loop-byte.byte-index c.byte-item.result _ (g.W.Sink.taken c.loop-byte.sink) _ _ c.loop-byte-test.true c.loop-byte.invariant.taken p c.in_ok-write_byte.ensures.ok;
+      taken = next_text spelled c.args.bytes.now c.loop-byte.byte-index 0 _ (g.W.Sink.taken c.loop-byte.sink) _ _ c.loop-byte-test.true c.loop-byte.invariant.taken refl c.in_ok-write_byte.ensures.ok;
       failures = c.in_ok-write_byte.ensures.none_failed ∙ c.loop-byte.invariant.failures;
     }
