@@ -16,7 +16,7 @@ use swt_arguments::word::Word;
 /// # Errors
 ///
 /// `Usage` where they are no line, or a call for help; or `Memory`.
-#[tactic(auto, using(crate::proofs::Words::line_given, crate::proofs::Words::line_refused))]
+#[tactic(auto, using(crate::proofs::Lines::line_given, crate::proofs::Lines::line_refused))]
 pub fn read(alloc: Global, words: Vec<String>) -> Result<Line, LineFault>
     ensures line { Answers (line_of (map string_bytes words.items)) result }
     ensures in_range { IfOk result IsInRange }
