@@ -1,12 +1,15 @@
 /* An allocator that refuses: loaded in front of the C library's, it refuses the request whose number is in the environment as REFUSE_AT, or
    all from the one in REFUSE_FROM on, counted from 1. At its first refusal it writes a byte to the descriptor in REFUSE_TELL, so that who
-   runs the program knows whether anything was refused. As the C library's own does, it sets errno, by which starting a thread tells want of
-   memory from what cannot be. It uses no header, so that any compiler makes it. */
+   runs the program knows whether anything was refused. At the end it writes to the descriptor in REFUSE_LEFT how many blocks were not given
+   back. As the C library's own does, it sets errno, by which starting a thread tells want of memory from what cannot be. It uses no header,
+   so that any compiler makes it. */
 typedef unsigned long size;
 
 extern void *__libc_malloc(size);
 extern void *__libc_calloc(size, size);
 extern void *__libc_realloc(void *, size);
+extern void *__libc_memalign(size, size);
+extern void __libc_free(void *);
 extern char *getenv(const char *);
 extern long atol(const char *);
 extern long write(int, const void *, size);
@@ -15,7 +18,7 @@ extern int *__errno_location(void);
 /* ENOMEM. */
 static const int no_memory = 12;
 
-static long requests, refusals, at, from, tell;
+static long requests, refusals, blocks, at, from, tell;
 static int known;
 
 static long number(const char *name) {
@@ -39,6 +42,51 @@ static int refused(void) {
     return 1;
 }
 
-void *malloc(size bytes) { return refused() ? 0 : __libc_malloc(bytes); }
-void *calloc(size many, size bytes) { return refused() ? 0 : __libc_calloc(many, bytes); }
-void *realloc(void *old, size bytes) { return refused() ? 0 : __libc_realloc(old, bytes); }
+static void *counted(void *made) {
+    if (made)
+        __atomic_add_fetch(&blocks, 1, __ATOMIC_SEQ_CST);
+    return made;
+}
+
+void *malloc(size bytes) { return refused() ? 0 : counted(__libc_malloc(bytes)); }
+void *calloc(size many, size bytes) { return refused() ? 0 : counted(__libc_calloc(many, bytes)); }
+void *memalign(size place, size bytes) { return refused() ? 0 : counted(__libc_memalign(place, bytes)); }
+void *aligned_alloc(size place, size bytes) { return memalign(place, bytes); }
+
+int posix_memalign(void **made, size place, size bytes) {
+    void *found = memalign(place, bytes);
+    if (!found)
+        return no_memory;
+    *made = found;
+    return 0;
+}
+
+void free(void *old) {
+    if (old)
+        __atomic_sub_fetch(&blocks, 1, __ATOMIC_SEQ_CST);
+    __libc_free(old);
+}
+
+/* With no bytes it gives back, which is never refused. */
+void *realloc(void *old, size bytes) {
+    if (old && !bytes) {
+        free(old);
+        return 0;
+    }
+    if (refused())
+        return 0;
+    return old ? __libc_realloc(old, bytes) : counted(__libc_malloc(bytes));
+}
+
+__attribute__((destructor)) static void left(void) {
+    long where = number("REFUSE_LEFT"), many = blocks < 0 ? -blocks : blocks, place = 24;
+    char text[24];
+    if (!where)
+        return;
+    do
+        text[--place] = (char)('0' + many % 10);
+    while ((many /= 10) > 0);
+    if (blocks < 0)
+        text[--place] = '-';
+    write((int)where, text + place, (size)(24 - place));
+}

@@ -186,7 +186,7 @@ form_faults x (u ∷ us) = cond (same u.of x && not (is_kind u.kind read)) (othe
 
 -- a scalar that is read and not assigned
 abbrev pub never_faults : Shape → Owned → Span → List Use → List AssignFault
-never_faults Array x at us = []
+never_faults (Array κ) x at us = []
 never_faults Scalar x at us = cond (is_used read x us && not (is_used named x us)) (NeverAssigned at ∷ []) []
 
 abbrev pub output_faults : Owned → Span → List Use → List AssignFault

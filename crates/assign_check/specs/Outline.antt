@@ -54,7 +54,7 @@ use_of t k w = uses (record { kind = k; of = (t.name_of w.number).what; span = w
 -- an array's name as it stands is no read of a scalar
 abbrev pub reading : Shape → Table → Word → List Step
 reading Scalar t w = use_of t read w ∷ []
-reading Array t w = []
+reading (Array κ) t w = []
 
 abbrev pub name_read : Table → Word → List Step
 name_read t w = reading (t.shape_of w.number) t w

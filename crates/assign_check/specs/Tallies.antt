@@ -47,7 +47,7 @@ abbrev pub other_form : Tally → Option Span
 other_form t = cond t.named_first t.written t.named
 
 abbrev pub never_faults : Shape → Span → Tally → List AssignFault
-never_faults Array at t = []
+never_faults (Array κ) at t = []
 never_faults Scalar at t = cond (t.read && is_none t.named) (NeverAssigned at ∷ []) []
 
 abbrev pub output_faults : Span → Tally → List AssignFault

@@ -39,7 +39,7 @@ pub fn read_name<A: Allocator>(
 {
     match typed.shape(name.number) {
         Shape::Scalar => add_use(typed, Kind::Read, name, steps),
-        Shape::Array => Ok(()),
+        Shape::Array(_) => Ok(()),
     }
 }
 

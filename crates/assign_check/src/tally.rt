@@ -107,7 +107,7 @@ fn note_never(shape: Shape, at: Span, tally: Tally, best: &mut Option<AssignFaul
     ensures { best.new ≡ faults.first_among best.old (tallies.never_faults shape at tally) }
 {
     match shape {
-        Shape::Array => {}
+        Shape::Array(_) => {}
         Shape::Scalar => {
             if tally.read && tally.named.is_none() {
                 note(best, AssignFault::NeverAssigned(at));

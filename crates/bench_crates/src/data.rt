@@ -7,7 +7,7 @@ use data_store::store::{DatumNo, Shape, Store};
 use std::alloc::{AllocError, Global};
 use std::io;
 use std::time::{Clock, Instant};
-use values::key::Key;
+use values::key::{Key, KeyRef};
 use values::value::Scalar;
 
 /// Makes so many scalars with a value each, which one may read.
@@ -60,8 +60,8 @@ fn find_all(store: &Store, d: DatumNo, count: u64, scattered: bool) -> u64
 {
     let mut found = 0u64;
     for number in 0..count {
-        let key = Key::Number(key_of(number, scattered));
-        if store.element(d, &key).is_some() {
+        let key = KeyRef::Number(key_of(number, scattered));
+        if store.element(d, key).is_some() {
             found = found.wrapping_add(1);
         }
     }

@@ -7,7 +7,6 @@ use smallvec::SmallVec;
 use std::alloc::{AllocError, Global};
 use std::io;
 use std::time::{Clock, Instant};
-use values::key::Key;
 
 // The array whose elements are waited for, above the numbers of all scalars.
 const ARRAY: u64 = 1 << 40;
@@ -16,7 +15,7 @@ const ARRAY: u64 = 1 << 40;
 const AGAIN: u64 = (1 << 41) + 100_003;
 
 fn element(number: u64) -> Input {
-    Input::Element(ARRAY, Key::Number((number & 0xffff_ffff) as i64))
+    Input::Element(ARRAY, number & 0xffff_ffff)
 }
 
 /// A scalar and an element of the array.

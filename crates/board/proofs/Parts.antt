@@ -1,7 +1,6 @@
 -- What an item does that ends well, as its change to instances and data.
-use Rattle.std.proofs.Common.{◌≡◌, ℕ, ◌≤◌, false, List, [], length, refl, Option, Some}
+use Rattle.std.proofs.Common.{◌≡◌, ℕ, false, List, [], refl, Option}
 use Rattle.std.specs.Prelude.{if◌then◌else◌}
-use Rattle.data_store.specs.Stores.{Store, array_at}
 use Rattle.board_history.specs.Ending.{job_stores, printed}
 use Rattle.board_history.specs.Fields.{Counted, Frame, Job}
 use Rattle.board_history.proofs.Tests.{yes_no}
@@ -9,11 +8,10 @@ use Rattle.task_code.specs.Code.{Code}
 use Rattle.task_code.specs.Compute.{Computed}
 use Rattle.board_program.specs.Spots.{layout_of}
 use Rattle.board_program.specs.Tables.{is_place}
-use Rattle.board_effects.specs.Effects as Effects
 use Rattle.board_effects.specs.Effects.{GoesWell, IsEffect, lines_in}
 use Rattle.board_effects.specs.declared.effect.Effect.{Effect}
 use Rattle.board_effects.specs.declared.effect.Effect.TheVariants.{Fails, Inserts, Opens, Passes, Prints, Puts, Stores}
-use Rattle.board_changes.specs.World.{CanStore, target_of, values_of}
+use Rattle.board_changes.specs.World.{target_of, values_of}
 use Rattle.board.specs.Changing.{change_of, line_list, line_of}
 use Rattle.board.specs.Ending.{is_fault}
 use Rattle.board.proofs.WorldEnded.{OpensAs}
@@ -56,22 +54,3 @@ change_prints C fs cs j x (Inserts n es) g = g.lines
 change_prints C fs cs j x (Prints v) g = g.lines
 change_prints C fs cs j x Passes g = g.lines
 change_prints C fs cs j x (Opens o) g = g.lines
-
--- an array has room for what is put into it
-abbrev pub HasRoomFor : Effect → Store → Type 0
-HasRoomFor (Fails f) s = Unit {0}
-HasRoomFor (Stores d v) s = Unit {0}
-HasRoomFor (Puts d k v) s = (n : ℕ) → d ≡ Some n → 1 ≤ (array_at s n).room
-HasRoomFor (Inserts d es) s = (n : ℕ) → d ≡ Some n → length es.items ≤ (array_at s n).room
-HasRoomFor (Prints v) s = Unit {0}
-HasRoomFor Passes s = Unit {0}
-HasRoomFor (Opens o) s = Unit {0}
-
-pub change_fits : (e : Effect) (s : Store) → HasRoomFor e s → Effects.CanStore e s → CanStore (change_of e) s
-change_fits (Fails f) s r h = tt
-change_fits (Stores d v) s r h = h
-change_fits (Puts d k v) s r h = λ n q. h n q (r n q)
-change_fits (Inserts d es) s r h = λ n q. h n q (r n q)
-change_fits (Prints v) s r h = tt
-change_fits Passes s r h = tt
-change_fits (Opens o) s r h = tt

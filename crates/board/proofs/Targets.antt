@@ -1,5 +1,5 @@
 -- The array into which an item stores takes the elements, where room was made.
-use Rattle.std.proofs.Common.{◌≡◌, refl, ℕ, ◌≤◌, true, List, [], ◌∷◌, ◌++◌, length, vec_len, Option, Some, None, arith}
+use Rattle.std.proofs.Common.{◌≡◌, refl, ℕ, true, List, [], ◌∷◌, ◌++◌, Option, Some, None}
 use Rattle.std.specs.Prelude.{IsSomeAnd}
 use Rattle.dataflow.specs.Machine.{End, Event, SeesAll}
 use Rattle.dataflow.specs.System.{Answer}
@@ -51,10 +51,7 @@ module _ (C : Code) (I : IsCode C) (es : List Event) (F : Fields) (x : Stands C 
   change_takes (To.Fails f) g r = tt
   change_takes (To.Stores d v) g r = can_store C I es F x w n t reached row row_is xs known store cells (To.Stores d v) g
   change_takes (To.Puts d k v) g r = λ m h. can_store C I es F x w n t reached row row_is xs known store cells (To.Puts d k v) g m h (r m h (target_keyed row.job refl (To.Puts d k v) g ((k, v) ∷ []) g.computed m h))
-  change_takes (To.Inserts d ys) g r = λ m h. can_store C I es F x w n t reached row row_is xs known store cells (To.Inserts d ys) g m h (fits (length ys.items) (vec_len ys) _ ys.ok.0 (r m h (target_keyed row.job refl (To.Inserts d ys) g (pairs ys.items) g.computed m h)))
-    where
-      fits : (a b m : ℕ) → b ≡ a → b ≤ m → a ≤ m
-      fits a b m e h = omega (arith, e, h)
+  change_takes (To.Inserts d ys) g r = λ m h. can_store C I es F x w n t reached row row_is xs known store cells (To.Inserts d ys) g m h (r m h (target_keyed row.job refl (To.Inserts d ys) g (pairs ys.items) g.computed m h))
   change_takes (To.Prints v) g r = tt
   change_takes To.Passes g r = tt
   change_takes (To.Opens o) g r = tt

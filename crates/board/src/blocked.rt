@@ -105,25 +105,35 @@ fn in_order(alloc: Global, statements: Vec<Statement>) -> Result<Vec<Statement>,
 
 impl Core {
     /// Whether what is waited for is known.
-    fn is_need_known(&self, program: &Program, at: usize, body: u32, need: &Need) -> bool
-        ensures { result ≡ misses_none (wanted_missed program.now (cells_view self.now.world.store.cells) (led_slot (frames_view self.now.world.instances.slots) at) (wanted_in program.now body (need_view need.now))) }
+    fn is_need_known(
+        &self,
+        program: &Program,
+        at: usize,
+        body: u32,
+        need: &Need,
+    ) -> Result<bool, AllocError>
+        ensures { IfOk result (λ yes. yes ≡ misses_none (wanted_missed program.now (cells_view self.now.world.store.cells) (led_slot (frames_view self.now.world.instances.slots) at) (wanted_in program.now body (need_view need.now)))) }
     {
-        match self.view(program, at).missing(&program.wanted(body, need)) {
-            Some(_) => false,
-            None => true,
-        }
+        let wanted = program.wanted(body, need)?;
+        Ok(self.view(program, at).missing(&wanted).is_none())
     }
 
     /// Whether all that a header waits for is known.
-    fn is_header_known(&self, program: &Program, at: usize, body: u32, header: &Header) -> bool
-        ensures { result ≡ is_header_known program.now (frames_view self.now.world.instances.slots) (cells_view self.now.world.store.cells) at body (header_view header.now).needs }
+    fn is_header_known(
+        &self,
+        program: &Program,
+        at: usize,
+        body: u32,
+        header: &Header,
+    ) -> Result<bool, AllocError>
+        ensures { IfOk result (λ yes. yes ≡ is_header_known program.now (frames_view self.now.world.instances.slots) (cells_view self.now.world.store.cells) at body (header_view header.now).needs) }
     {
         for need in &header.needs {
-            if !self.is_need_known(program, at, body, need) {
-                return false;
+            if !self.is_need_known(program, at, body, need)? {
+                return Ok(false);
             }
         }
-        true
+        Ok(true)
     }
 
     /// The offset of the first header that waits for something unknown.
@@ -133,50 +143,62 @@ impl Core {
         at: usize,
         body: u32,
         headers: &[Header],
-    ) -> Option<usize>
-        ensures { result ≡ first_unknown program.now (frames_view self.now.world.instances.slots) (cells_view self.now.world.store.cells) at body (map header_view headers.now) }
+    ) -> Result<Option<usize>, AllocError>
+        ensures { IfOk result (λ found. found ≡ first_unknown program.now (frames_view self.now.world.instances.slots) (cells_view self.now.world.store.cells) at body (map header_view headers.now)) }
     {
         for header in headers {
-            if !self.is_header_known(program, at, body, header) {
-                return Some(header.at);
+            if !self.is_header_known(program, at, body, header)? {
+                return Ok(Some(header.at));
             }
         }
-        None
+        Ok(None)
     }
 
     /// The offset where the statement of an act is blocked, whose own offset this is.
-    fn offset_of(&self, program: &Program, instance: usize, own: usize, act: &Act) -> Option<usize>
-        ensures { result ≡ blocked_offset program.now (frames_view self.now.world.instances.slots) (cells_view self.now.world.store.cells) instance own (act_view act.now) }
+    fn offset_of(
+        &self,
+        program: &Program,
+        instance: usize,
+        own: usize,
+        act: &Act,
+    ) -> Result<Option<usize>, AllocError>
+        ensures { IfOk result (λ found. found ≡ blocked_offset program.now (frames_view self.now.world.instances.slots) (cells_view self.now.world.store.cells) instance own (act_view act.now)) }
     {
         match act {
             Act::Wait(headers, _) => match body_at(&self.world.instances, instance) {
                 Some(body) => self.first_unknown(program, instance, body, headers.as_slice()),
-                None => None,
+                None => Ok(None),
             },
-            act if counts(act) => Some(own),
-            _ => None,
+            act if counts(act) => Ok(Some(own)),
+            _ => Ok(None),
         }
     }
 
     /// The instance and the offset where the item's statement is blocked.
-    fn blocked_at(&self, program: &Program, item: Item) -> Option<(usize, usize)>
-        ensures { option_map (λ (p : ℕ × ℕ). at_place p.1 (path_in (frames_view self.now.world.instances.slots) p.0)) result ≡ blocked_row program.now (frames_view self.now.world.instances.slots) (cells_view self.now.world.store.cells) (row_view item) }
+    fn blocked_at(
+        &self,
+        program: &Program,
+        item: Item,
+    ) -> Result<Option<(usize, usize)>, AllocError>
+        ensures { IfOk result (λ found. option_map (λ (p : ℕ × ℕ). at_place p.1 (path_in (frames_view self.now.world.instances.slots) p.0)) found ≡ blocked_row program.now (frames_view self.now.world.instances.slots) (cells_view self.now.world.store.cells) (row_view item)) }
     {
         if item.mark() == Mark::Over {
-            return None;
+            return Ok(None);
         }
         match item.job() {
-            Job::Script => None,
+            Job::Script => Ok(None),
             Job::Does {
                 instance,
                 entry,
                 chunk: _,
             } => match program.code().entry(entry) {
                 Some(found) => {
-                    let at = self.offset_of(program, instance, found.at, &found.act)?;
-                    Some((instance, at))
+                    match self.offset_of(program, instance, found.at, &found.act)? {
+                        Some(at) => Ok(Some((instance, at))),
+                        None => Ok(None),
+                    }
                 }
-                None => None,
+                None => Ok(None),
             },
         }
     }
@@ -187,7 +209,7 @@ impl Core {
     {
         let mut statements = Vec::new(self.alloc);
         for item in &self.items.rows {
-            if let Some((instance, at)) = self.blocked_at(program, item.item()) {
+            if let Some((instance, at)) = self.blocked_at(program, item.item())? {
                 statements.push(Statement {
                     at,
                     path: path_of(self.alloc, &self.world.instances, instance)?,

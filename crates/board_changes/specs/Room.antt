@@ -1,10 +1,13 @@
 -- Room for an End, which is made before anything is changed.
-use Rattle.std.specs.Prelude.{◌≡◌, ◌≤◌, ℕ, true, length, vec_len, Option, Some}
+use Rattle.std.specs.Prelude.{◌≡◌, ℕ, true, List, [], ◌∷◌, length, Option, Some}
+use Rattle.values.specs.Maps.{element}
+use Rattle.values.specs.declared.map.Element.{Element}
 use Rattle.dataflow.specs.System.{In}
 use Rattle.data_store.specs.Stores.{Store, array_at, at}
 use Rattle.board_history.specs.Fields.{Job}
 use Rattle.task_code.specs.Code.{Code}
 use Rattle.board_data.specs.Data.{AreRising, is_keyed}
+use Rattle.board_data.specs.Stored.{HasPlacesFor}
 use Rattle.board_data.specs.View.{cells_view}
 use Rattle.board_instances.specs.declared.opening.Opening.{Opening}
 use Rattle.board_changes.specs.Filled.{HasSlots}
@@ -13,16 +16,16 @@ use Rattle.board_changes.specs.declared.world.Change.{Change}
 use Rattle.board_changes.specs.declared.world.Change.TheVariants as Changes
 use Rattle.board_changes.specs.declared.world.World.{World}
 
--- an array has room for so many elements
-abbrev pub HasPlaces : Option ℕ → ℕ → Store → Type 0
-HasPlaces target n s = (d : ℕ) → target ≡ Some d → is_keyed (at s d) ≡ true → n ≤ (array_at s d).room
+-- an array, where there is one, has room for elements under keys of the kinds of these
+abbrev pub HasPlaces : Option ℕ → List Element → Store → Type 0
+HasPlaces target es s = (d : ℕ) → target ≡ Some d → is_keyed (at s d) ≡ true → HasPlacesFor es (array_at s d)
 
 -- the array into which a change stores has room for the elements
 abbrev pub TakesMore : Change → Store → Type 0
 TakesMore Changes.Nothing s = Unit {0}
 TakesMore (Changes.Value d v) s = Unit {0}
-TakesMore (Changes.Element d k v) s = HasPlaces d 1 s
-TakesMore (Changes.Elements d es) s = HasPlaces d (vec_len es) s
+TakesMore (Changes.Element d k v) s = HasPlaces d (element k v ∷ []) s
+TakesMore (Changes.Elements d es) s = HasPlaces d es.items s
 TakesMore (Changes.Opens o) s = Unit {0}
 
 -- what is opened has slots for its own data, and a loop that goes on has a next chunk

@@ -1,9 +1,11 @@
 //! Room for what the end of an item does, which is made before anything is changed.
 ghost use Rattle.std.specs.Prelude.{◌≡◌, ◌+◌, ◌≤◌, vec_len, vec_capacity, OnErr, OnOk};
+ghost use Rattle.board_data.specs.Data.{AreRising};
+ghost use Rattle.board_data.specs.View.{cells_view};
 ghost use Rattle.board_instances.specs.View.{job_view};
 ghost use Rattle.std.specs.Bool.{OnTrue};
 ghost use Rattle.board_changes.specs.Opened.{IsShort};
-ghost use Rattle.board_changes.specs.Room.{OnlyRoom, OpensWell, TakesMore};
+ghost use Rattle.board_changes.specs.Room.{HasPlaces, OnlyRoom, OpensWell, TakesMore};
 ghost use Rattle.board_changes.specs.World.{CanOpen, HasRoomToEnd, closes_of, goes_on, holds_of, told_by};
 ghost use Rattle.board_changes.specs.declared.world.Change.TheVariants.{Opens as OpensAll};
 
@@ -13,8 +15,10 @@ use board_data::data;
 use board_instances::item::{Job, PackedItem};
 use board_instances::opening::Openings;
 use board_program::program::Program;
+use data_store::store::Store;
 use rules::input::Input;
 use std::alloc::AllocError;
+use values::map::Element;
 
 /// So many data, or instances, have numbers of 32 bits. More than that are more than memory has room for.
 const MOST: usize = 4_294_967_296;
@@ -73,6 +77,18 @@ fn closed_by(program: &Program, job: Job, change: &Change) -> usize
     }
 }
 
+/// Room for elements in an array, under keys of their kinds.
+fn room_for_all(store: &mut Store, d: Option<usize>, elements: &[Element]) -> Result<(), AllocError>
+    ensures places { OnOk result (HasPlaces d elements.now store.new) }
+    ensures cells { cells_view store.new.cells ≡ cells_view store.old.cells }
+    ensures rising { AreRising store.old → AreRising store.new }
+{
+    for one in elements {
+        data::reserve(store, d, one.key.as_ref(), elements.len())?;
+    }
+    Ok(())
+}
+
 impl World {
     /// Room for instances that are opened, with their data and items.
     fn room_to_open(
@@ -123,8 +139,10 @@ impl World {
         match change {
             Change::Nothing => Ok(()),
             Change::Value(_, _) => Ok(()),
-            Change::Element(d, _, _) => data::reserve(&mut self.store, *d, 1),
-            Change::Elements(d, elements) => data::reserve(&mut self.store, *d, elements.len()),
+            Change::Element(d, key, _) => data::reserve(&mut self.store, *d, key.as_ref(), 1),
+            Change::Elements(d, elements) => {
+                room_for_all(&mut self.store, *d, elements.as_slice())
+            }
             Change::Opens(openings) => self.room_to_open(rows, program, job, openings),
         }
     }

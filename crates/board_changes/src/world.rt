@@ -29,7 +29,6 @@ use board_data::{holding, storing};
 use board_instances::instance::{Instance, leave};
 use board_instances::item::{Job, PackedItem};
 use board_instances::opening::{Inputs, Openings};
-use board_program::key::copy_key;
 use board_program::program::Program;
 use board_program::spot::Spot;
 use data_store::store::Store;
@@ -98,7 +97,7 @@ fn tell_elements(
 {
     if let Some(d) = target {
         for one in elements {
-            known.push(Input::Element(d as u64, copy_key(&one.key)))?;
+            known.push(Input::Element(d as u64, one.key.mark()))?;
         }
     }
     Ok(())
@@ -187,7 +186,7 @@ impl World {
         ensures succeeds { vec_len known.old + 1 ≤ vec_capacity known.old → IsOk result }
     {
         if let Some(d) = target {
-            known.push(Input::Element(d as u64, copy_key(&key)))?;
+            known.push(Input::Element(d as u64, key.mark()))?;
         }
         storing::store_element(&mut self.store, target, key, value);
         Ok(())

@@ -2,7 +2,7 @@
 ghost use Rattle.std.specs.Prelude.{◌≡◌, IfOk};
 ghost use Rattle.values.specs.Ranges.{range_count};
 ghost use Rattle.values.specs.Values.{scalar_of};
-ghost use Rattle.task_code.specs.Compute.{eval, put, branched, ranged, turns_or, read, content, pairs, key_of as key_spelled, answer_at, leaf_result, InOperation, Fails as Failed, Inserts as Inserted, Turns as Turned};
+ghost use Rattle.task_code.specs.Compute.{eval, put, branched, ranged, turns_or, read, content, pairs, answer_at, leaf_result, InOperation, Fails as Failed, Inserts as Inserted, Turns as Turned};
 ghost use Rattle.task_code.specs.View.{act_view, expr_view};
 ghost use Rattle.board_compute.specs.View.{answers_view, computed_view};
 ghost use Rattle.board_compute.specs.Outcome.{control_result, result_in, control_in};
@@ -24,7 +24,7 @@ pub enum EntryFault {
     InOperation(OpFault),
     /// A closed array has no such element.
     NoElement,
-    /// A path would have more than 512 steps.
+    /// A path would have more steps than it may have.
     TooDeep,
 }
 
@@ -178,19 +178,13 @@ fn written(
         Err(fault) => return Ok(fails(fault)),
     };
     match evaluate(alloc, right, answers)? {
-        Ok(right) => Ok(Computed::Puts(key_of(&index), into_scalar(right))),
+        Ok(right) => Ok(Computed::Puts(Key::of(into_scalar(index)), into_scalar(right))),
         Err(fault) => Ok(fails(fault)),
     }
 }
 
-/// The key that a value is, else 0.
-fn key_of(value: &Value) -> Key
-    ensures { result ≡ key_spelled (scalar_of value.now) }
-{
-    Key::Number(value.number())
-}
-
 /// The scalar that a value is, else 0. A text is not counted anew.
+#[inline(always)]
 pub fn into_scalar(value: Value) -> Scalar
     ensures { result ≡ scalar_of value }
 {

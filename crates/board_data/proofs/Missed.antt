@@ -18,8 +18,12 @@ module _ {X Y : Type 0} (f : X → List Y) where
   step xs i d h = ap (flat_map f) (drop-cons xs i d h) ∙ ap (λ n. f (get_or xs i d) ++ flat_map f (drop n xs)) (sym (add-one i))
 
   -- with one need more done
-  pub missed_next : (all before now : List Y) (xs : List X) (i : ℕ) (d : X) → i < length xs → before ++ flat_map f (drop i xs) ≡ all → now ≡ before ++ f (get_or xs i d) → now ++ flat_map f (drop (i + 1) xs) ≡ all
-  missed_next all before now xs i d h b n = ap (λ ys. ys ++ flat_map f (drop (i + 1) xs)) n ∙ append_assoc before (f (get_or xs i d)) (flat_map f (drop (i + 1) xs)) ∙ ap (λ ys. before ++ ys) (sym (step xs i d h)) ∙ b
+  pub missed_next : (all before now : List Y) (xs : List X) (i : ℕ) (x : X) → i < length xs → x ≡ get_or xs i x → before ++ flat_map f (drop i xs) ≡ all → now ≡ before ++ f x → now ++ flat_map f (drop (i + 1) xs) ≡ all
+  missed_next all before now xs i x h is b n =
+      ap (λ ys. ys ++ flat_map f (drop (i + 1) xs)) (n ∙ ap (λ y. before ++ f y) is)
+      ∙ append_assoc before (f (get_or xs i x)) (flat_map f (drop (i + 1) xs))
+      ∙ ap (λ ys. before ++ ys) (sym (step xs i x h))
+      ∙ b
 
   -- and all of them
   pub missed_end : (all now : List Y) (xs : List X) (i : ℕ) → length xs ≤ i → now ++ flat_map f (drop i xs) ≡ all → now ≡ all

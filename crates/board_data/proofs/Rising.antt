@@ -16,12 +16,13 @@ use Rattle.board_instances.specs.Names.{datum_of}
 use Rattle.board_instances.specs.declared.instance.Slot.{Slot}
 use Rattle.values.specs.Maps.{found, rising}
 use Rattle.values.specs.declared.key.Key.{Key}
+use Rattle.values.specs.declared.map.Element.{Element}
 use Rattle.values.specs.declared.value.Scalar.{Scalar}
 use Rattle.values.proofs.Maps.{rising-inserted}
 use Rattle.board_data.specs.Data.{AreRising, closes, fits, given, held, is_unset}
 use Rattle.board_data.specs.Holds.{closing, held_at}
 use Rattle.board_data.specs.Made.{Makes, new_datum, started}
-use Rattle.board_data.proofs.Changes.{set_elsewhere, set_here, set_nowhere}
+use Rattle.board_data.proofs.Changes.{set_elsewhere, set_here, set_nowhere, with_elements}
 use Rattle.board_data.proofs.Given.{call_at, give_step}
 use Rattle.board_data.proofs.Closed.{all_closing, step}
 use Rattle.board_data.proofs.Held.{hold_step}
@@ -74,7 +75,7 @@ pub insert_rises : (d : ℕ) (k : Key) (v : Scalar) (s t : Store) →
     (t ≡ s) ⊎ (IsArrayAt s d × (0 < (datum s d).writes) × (found k (array_at s d).elements ≡ None) × (t ≡ changed d (with_array (with_element k v)) s)) → AreRising s → AreRising t
 insert_rises d k v s t c r = elim c [
   | inl e ↦ subst AreRising (sym e) r
-  | inr h ↦ subst AreRising (sym h.3) (keeps s d (option_map (with_array (with_element k v))) refl (λ x i. rising-inserted k v (array_in x.content).elements i) r)
+  | inr h ↦ subst AreRising (sym h.3) (keeps s d (option_map (with_array (with_element k v))) refl (λ x i. subst (λ (es : List Element). rising es ≡ true) (sym (with_elements k v (array_in x.content))) (rising-inserted k v (array_in x.content).elements i)) r)
 ]
 
 -- a datum is made, or none

@@ -1,9 +1,9 @@
 -- What is stored.
-use Rattle.std.proofs.Common.{◌≡◌, ◌≢◌, ◌⊎◌, ◌∙◌, refl, sym, ap, subst, inl, inr, ℕ, suc, ◌<◌, ◌≤◌, ◌-◌, List, [], ◌∷◌, length, option_map, Option, Some, None, Bool, true, false, ◌&&◌, arith}
+use Rattle.std.proofs.Common.{◌≡◌, ◌≢◌, ◌⊎◌, ◌∙◌, refl, sym, ap, subst, inl, inr, ℕ, suc, ◌<◌, ◌≤◌, List, [], ◌∷◌, length, option_map, Option, Some, None, Bool, true, false, ◌&&◌, arith}
 use Rattle.std.specs.Prelude.{if◌then◌else◌, nat_eq}
 use Rattle.std.proofs.lemmas.Bool.{cases_eq, cases_Bool, eqb-true}
 use Rattle.dataflow.specs.System.{In}
-use Rattle.data_store.specs.Arrays.{Array, with_element}
+use Rattle.data_store.specs.Arrays.{Array, room_for, with_element}
 use Rattle.data_store.specs.Data.{IsArray, array_in, with_array, with_value}
 use Rattle.data_store.specs.Stores.{IsArrayAt, Store, array_at, at, changed, datum}
 use Rattle.data_store.specs.declared.datum.Content.{Content}
@@ -22,7 +22,7 @@ use Rattle.values.proofs.Maps.{found-inserted_other}
 use Rattle.board_data.specs.Data.{given, is_keyed, is_unset}
 use Rattle.board_data.specs.Stored.{StoresIn, Takes}
 use Rattle.board_data.specs.View.{content_view}
-use Rattle.board_data.proofs.Changes.{set_elsewhere, set_here, set_nowhere}
+use Rattle.board_data.proofs.Changes.{room_less, set_elsewhere, set_here, set_nowhere, with_elements}
 use Rattle.board_data.proofs.Given.{differ}
 use Rattle.board_data.proofs.Steps.{one_by_one}
 
@@ -185,13 +185,10 @@ module _ (d : ℕ) where
       record {
         is_array = subst (λ c. Rattle.std.specs.Prelude.IsSomeAnd c (λ x. IsArray x.content)) (sym now) tt;
         is_open = subst (λ n. 0 < n) (sym (writes_are (put_in e s) new now)) (subst (λ n. 0 < n) (writes_are s x y.2) t.is_open);
-        has_room = less (length es) a.room (array_at (put_in e s) d).room (subst (λ (b : Array). suc (length es) ≤ b.room) (array_is s x a y.2 y.3) t.has_room) (ap (λ (b : Array). b.room) is);
+        has_room = λ f i. subst (λ (b : Array). length es ≤ room_for f.key b) (sym is) (room_less f.key e.key e.value a (length es) (subst (λ (b : Array). suc (length es) ≤ room_for f.key b) (array_is s x a y.2 y.3) (t.has_room f (inr i))));
         apart = rising_rest e es t.apart;
-        unused = λ f i. ap (λ (b : Array). found f.key b.elements) is ∙ found-inserted_other e.key f.key e.value a.elements (below_differs e.key f.key (below_rest e f es t.apart i)) ∙ sym (ap (λ (b : Array). found f.key b.elements) (array_is s x a y.2 y.3)) ∙ t.unused f (inr i);
+        unused = λ f i. ap (λ (b : Array). found f.key b.elements) is ∙ ap (found f.key) (with_elements e.key e.value a) ∙ found-inserted_other e.key f.key e.value a.elements (below_differs e.key f.key (below_rest e f es t.apart i)) ∙ sym (ap (λ (b : Array). found f.key b.elements) (array_is s x a y.2 y.3)) ∙ t.unused f (inr i);
       }
-    where
-      less : (n r q : ℕ) → suc n ≤ r → q ≡ r - 1 → n ≤ q
-      less n r q h e = omega (arith, h, e)
 
   -- all of them
   put_elsewhere : (es : List Element) (s : Store) (e : ℕ) → e ≢ d → at (one_by_one put_in es s) e ≡ at s e
@@ -215,13 +212,13 @@ module _ (d : ℕ) where
         r.1,
         (
           (λ p i. elim (r.2.0 p i) [
-            | inl j ↦ elim (inserted_only e.key e.value a.elements p j) [ inl g ↦ inl g | inr g ↦ elim g [ inl w ↦ inr (inl w) | inr w ↦ absurd w ] ]
+            | inl j ↦ elim (inserted_only e.key e.value a.elements p (subst (λ (xs : List Element). In p (pairs xs)) (with_elements e.key e.value a) j)) [ inl g ↦ inl g | inr g ↦ elim g [ inl w ↦ inr (inl w) | inr w ↦ absurd w ] ]
             | inr j ↦ inr (inr j)
           ]),
           (λ p i. r.2.1 p (elim i [
-            | inl j ↦ inl (inserted_all e.key e.value a.elements p none j)
+            | inl j ↦ inl (subst (λ (xs : List Element). In p (pairs xs)) (sym (with_elements e.key e.value a)) (inserted_all e.key e.value a.elements p none j))
             | inr j ↦ elim j [
-              | inl w ↦ inl (let P : Key × Scalar → Type 0 = λ z. In z (pairs (inserted e.key e.value a.elements)) in subst P (sym w) (inserted_new e.key e.value a.elements))
+              | inl w ↦ inl (subst (λ (xs : List Element). In p (pairs xs)) (sym (with_elements e.key e.value a)) (let P : Key × Scalar → Type 0 = λ z. In z (pairs (inserted e.key e.value a.elements)) in subst P (sym w) (inserted_new e.key e.value a.elements)))
               | inr w ↦ inr w
             ]
           ])),
@@ -241,9 +238,9 @@ module _ (d : ℕ) where
           (OfArray r.0, r.1, subst (λ c. ContentAfter (content_view c) (pairs es) (content_view (OfArray r.0))) (sym q) (pairs r.0.elements, refl, r.2.0, r.2.1))
 
   -- one by one, as far as they are taken
-  pub step_stored : (e : Element) (es : List Element) (s t u : Store) → Takes d (e ∷ es) s → one_by_one put_in (e ∷ es) s ≡ u → (IsArrayAt s d → 0 < (datum s d).writes → found e.key (array_at s d).elements ≡ None → 0 < (array_at s d).room → t ≡ changed d (with_array (with_element e.key e.value)) s) → Takes d es t × (one_by_one put_in es t ≡ u)
+  pub step_stored : (e : Element) (es : List Element) (s t u : Store) → Takes d (e ∷ es) s → one_by_one put_in (e ∷ es) s ≡ u → (IsArrayAt s d → 0 < (datum s d).writes → found e.key (array_at s d).elements ≡ None → 0 < room_for e.key (array_at s d) → t ≡ changed d (with_array (with_element e.key e.value)) s) → Takes d es t × (one_by_one put_in es t ≡ u)
   step_stored e es s t u k o step =
-      let q = step k.is_array k.is_open (k.unused e (inl refl)) (some (length es) (array_at s d).room k.has_room) in
+      let q = step k.is_array k.is_open (k.unused e (inl refl)) (some (length es) (room_for e.key (array_at s d)) (k.has_room e (inl refl))) in
       (subst (λ z. Takes d es z) (sym q) (takes_next e es s k), ap (one_by_one put_in es) q ∙ o)
     where
       some : (n r : ℕ) → suc n ≤ r → 0 < r

@@ -1,7 +1,8 @@
 -- What the calls of a store come to that ask nothing of their caller.
 use Rattle.std.specs.Prelude.{◌≡◌, ℕ, List, ◌+◌, ◌^◌, Bool, true, false, ◌&&◌, ◌==◌, Option, Some, None, nat_lt, if◌then◌else◌}
 use Rattle.data_store.specs.Data.{with_array, with_holds, with_value, without_read, without_write}
-use Rattle.data_store.specs.Arrays.{with_room}
+use Rattle.data_store.specs.Arrays.{with_room_for}
+use Rattle.values.specs.declared.key.Key.{Key}
 use Rattle.data_store.specs.Stores.{Store, array_at, at, changed, datum, given_up}
 use Rattle.data_store.specs.declared.datum.Content.{Content}
 use Rattle.data_store.specs.declared.datum.Content.TheVariants.{OfArray, OfScalar}
@@ -63,10 +64,10 @@ abbrev pub closes : Option Datum → Bool
 closes None = false
 closes (Some x) = is_keyed (Some x) && (x.writes == 1)
 
--- an array has room for so many elements
-abbrev pub roomy : Option ℕ → ℕ → Store → Store
-roomy None n s = s
-roomy (Some d) n s = if is_keyed (at s d) then changed d (with_array (with_room n)) s else s
+-- an array has room for so many elements under keys of this one's kind
+abbrev pub roomy : Option ℕ → Key → ℕ → Store → Store
+roomy None k n s = s
+roomy (Some d) k n s = if is_keyed (at s d) then changed d (with_array (with_room_for k n)) s else s
 
 -- the elements of an array, where there is one
 abbrev pub listed_at : Store → ℕ → Option (List Element)

@@ -99,7 +99,7 @@ fn is_array(store: &Store, d: usize) -> bool
 fn has(store: &Store, d: usize, one: &Element) -> bool
     ensures { result ≡ option_eq scalar_eq (found one.now.key (array_at store.now d).elements) (Some one.now.value) }
 {
-    match element(store, d, &one.key) {
+    match element(store, d, one.key.as_ref()) {
         Some(scalar) => is_same(scalar, &one.value),
         None => false,
     }

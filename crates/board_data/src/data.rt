@@ -1,7 +1,8 @@
 //! Calls of a store that ask nothing of their caller: what is not there has no value and takes none.
 
 ghost use Rattle.std.specs.Prelude.{◌≡◌, ◌<◌, ◌⊎◌, None, option_copied, IfOk, OnErr, OnOk, length};
-ghost use Rattle.data_store.specs.Arrays.{with_element};
+ghost use Rattle.values.specs.Keys.{key_seen};
+ghost use Rattle.data_store.specs.Arrays.{room_for, with_element};
 ghost use Rattle.data_store.specs.Data.{with_array};
 ghost use Rattle.data_store.specs.Stores.{array_at, at, changed, datum, value_at, IsArrayAt};
 ghost use Rattle.values.specs.Maps.{found};
@@ -9,7 +10,7 @@ ghost use Rattle.board_data.specs.Data.{closes, given, held, is_closed_at, liste
 
 use data_store::store::{Shape, Store};
 use std::alloc::AllocError;
-use values::key::Key;
+use values::key::{Key, KeyRef};
 use values::map::Map;
 use values::value::Scalar;
 
@@ -24,8 +25,9 @@ pub fn value(store: &Store, d: usize) -> Option<&Scalar>
 }
 
 /// The element of an array under a key.
-pub fn element<'a>(store: &'a Store, d: usize, key: &Key) -> Option<&'a Scalar>
-    ensures { option_copied result ≡ found key.now (array_at store.now d).elements }
+#[inline(always)]
+pub fn element<'a>(store: &'a Store, d: usize, key: KeyRef<'_>) -> Option<&'a Scalar>
+    ensures { option_copied result ≡ found (key_seen key.entry) (array_at store.now d).elements }
 {
     match store.shape(d) {
         Some(Shape::Keyed) => store.element(d, key),
@@ -72,7 +74,7 @@ pub fn put(store: &mut Store, d: usize, value: Scalar)
 
 /// Gives an array an element. One that nobody may write, or that has this key, takes none; there is room for it.
 pub fn insert(store: &mut Store, d: usize, key: Key, value: Scalar)
-    ensures took { IsArrayAt store.old d → 0 < (datum store.old d).writes → found key (array_at store.old d).elements ≡ None → 0 < (array_at store.old d).room → store.new ≡ changed d (with_array (with_element key value)) store.old }
+    ensures took { IsArrayAt store.old d → 0 < (datum store.old d).writes → found key (array_at store.old d).elements ≡ None → 0 < room_for key (array_at store.old d) → store.new ≡ changed d (with_array (with_element key value)) store.old }
     ensures exact { (store.new ≡ store.old) ⊎ (IsArrayAt store.old d × (0 < (datum store.old d).writes) × (found key (array_at store.old d).elements ≡ None) × (store.new ≡ changed d (with_array (with_element key value)) store.old)) }
 {
     if let Some(Shape::Keyed) = store.shape(d) {
@@ -114,13 +116,18 @@ pub fn close_writer(store: &mut Store, d: usize) -> bool
     closes
 }
 
-/// Makes the next so many inserts into an array succeed.
-pub fn reserve(store: &mut Store, d: Option<usize>, n: usize) -> Result<(), AllocError>
-    ensures ok { OnOk result (store.new ≡ roomy d n store.old) }
+/// Makes the next so many inserts into an array under keys of this one's kind succeed.
+pub fn reserve(
+    store: &mut Store,
+    d: Option<usize>,
+    key: KeyRef<'_>,
+    n: usize,
+) -> Result<(), AllocError>
+    ensures ok { OnOk result (store.new ≡ roomy d (key_seen key.entry) n store.old) }
     ensures err { OnErr result (store.new ≡ store.old) }
 {
     match d {
-        Some(d) if matches!(store.shape(d), Some(Shape::Keyed)) => store.reserve(d, n),
+        Some(d) if matches!(store.shape(d), Some(Shape::Keyed)) => store.reserve_for(d, key, n),
         _ => Ok(()),
     }
 }

@@ -4,7 +4,7 @@ ghost use Rattle.std.specs.List.{flat_map};
 ghost use Rattle.smallvec.specs.SmallVec.{HasRoomFor};
 ghost use Rattle.board_history.specs.Fields.{fixed_in, literal};
 ghost use Rattle.task_code.specs.Code.{arguments};
-ghost use Rattle.task_code.specs.Compute.{key_of};
+ghost use Rattle.values.specs.Keys.{key_of, key_seen};
 ghost use Rattle.task_code.specs.View.{act_view};
 ghost use Rattle.board_history.specs.Needs.{array_missed, element_missed, index_missed, scalar_missed};
 ghost use Rattle.board_instances.specs.Names.{datum_of, led_slot};
@@ -15,7 +15,6 @@ ghost use Rattle.board_data.specs.Wanted.{element_in, is_nil, scalar_in, value_m
 use crate::data::{element, is_closed, value};
 use board_instances::instance::{Instance, Slot, datum_at, slot_at};
 use board_instances::opening::{Around, Inputs};
-use board_program::key::copy_key;
 use board_program::program::{Program, Wanted};
 use board_program::spot::Spot;
 use data_store::store::Store;
@@ -24,7 +23,7 @@ use slab::Slab;
 use std::alloc::AllocError;
 use task_code::code::Code;
 use task_code::entry::{Act, Argument};
-use values::key::Key;
+use values::key::KeyRef;
 use values::value::Scalar;
 
 /// Where an instance finds what its names stand for.
@@ -67,16 +66,6 @@ fn literal_of(act: &Act, place: usize) -> Option<&Scalar>
             }
         }
         _ => None,
-    }
-}
-
-/// The key that a scalar is.
-fn key_of(scalar: &Scalar) -> Key
-    ensures { result ≡ key_of scalar.now }
-{
-    match scalar {
-        Scalar::Number(n) => Key::Number(*n),
-        _ => Key::Number(0),
     }
 }
 
@@ -127,15 +116,15 @@ fn missing_array(store: &Store, slot: Slot) -> Option<Input>
 
 /// What an element waits for.
 #[tactic(auto, using(crate::proofs::Cells::shut_there, crate::proofs::Cells::element_there))]
-fn missing_element(store: &Store, slot: Slot, key: &Key) -> Option<Input>
-    ensures { wants_in result ≡ element_missed (cells_view store.now.cells) (slot_view slot) key.now }
+fn missing_element(store: &Store, slot: Slot, key: KeyRef<'_>) -> Option<Input>
+    ensures { wants_in result ≡ element_missed (cells_view store.now.cells) (slot_view slot) (key_seen key.entry) }
 {
     match slot {
         Slot::Datum(d) => {
             if element(store, d, key).is_some() || is_closed(store, d) {
                 None
             } else {
-                Some(Input::Element(d as u64, copy_key(key)))
+                Some(Input::Element(d as u64, key.mark()))
             }
         }
         _ => None,
@@ -150,11 +139,11 @@ fn missing_at(code: &Code, store: &Store, array: usize, index: Slot) -> Option<I
     match index {
         Slot::Absent => None,
         Slot::Datum(i) => match value(store, i) {
-            Some(scalar) => missing_element(store, Slot::Datum(array), &key_of(scalar)),
+            Some(scalar) => missing_element(store, Slot::Datum(array), KeyRef::of(scalar)),
             None => Some(Input::Whole(i as u64)),
         },
         Slot::Literal(call, place) => match literal(code, call, place) {
-            Some(scalar) => missing_element(store, Slot::Datum(array), &key_of(scalar)),
+            Some(scalar) => missing_element(store, Slot::Datum(array), KeyRef::of(scalar)),
             None => None,
         },
     }
@@ -210,10 +199,10 @@ impl<'a> View<'a> {
             Wanted::Stored(spot) => self.scalar(*spot),
             Wanted::Closed(_) => None,
             Wanted::At(array, index) => {
-                let key = key_of(self.scalar(*index)?);
-                element(self.store, self.datum(*array)?, &key)
+                let key = KeyRef::of(self.scalar(*index)?);
+                element(self.store, self.datum(*array)?, key)
             }
-            Wanted::AtKey(array, key) => element(self.store, self.datum(*array)?, key),
+            Wanted::AtKey(array, key) => element(self.store, self.datum(*array)?, key.as_ref()),
         }
     }
 
@@ -229,7 +218,11 @@ impl<'a> View<'a> {
                 let d = self.datum(*array)?;
                 missing_at(self.program.code(), self.store, d, self.slot(*index))
             }
-            Wanted::AtKey(array, key) => missing_element(self.store, self.slot(*array), key),
+            Wanted::AtKey(array, key) => missing_element(
+                self.store,
+                self.slot(*array),
+                key.as_ref(),
+            ),
         }
     }
 

@@ -36,7 +36,7 @@ use Rattle.board_program.specs.Spots.{layout_of}
 use Rattle.board_program.specs.Tables.{is_place}
 use Rattle.board_data.proofs.Cells.{cell_there, element_there}
 use Rattle.board_data.specs.Data.{is_keyed}
-use Rattle.board_data.specs.Stored.{IsScalarTarget, Takes}
+use Rattle.board_data.specs.Stored.{HasPlacesFor, IsScalarTarget, Takes}
 use Rattle.board_data.specs.View.{cell_view, cells_view, content_view}
 use Rattle.board_effects.specs.Effects.{CanStore, GoesWell, IsEffect, IsTarget, target_in, values_in}
 use Rattle.board_effects.specs.declared.effect.Effect.{Effect}
@@ -150,7 +150,7 @@ module _ (C : Code) (I : IsCode C) (es : List Event) (F : Fields) (x : Stands C 
         )
 
   -- what goes well takes its elements
-  takes : (j : Job) → row.job ≡ j → (e : Effect) → GoesWell C F.frames F.cells j (of_job j) e → (ys : List Element) → of_job j ≡ Inserts (pairs ys) → values_in e ≡ pairs ys → (d : ℕ) → target_in e ≡ Some d → length ys ≤ (array_at store d).room → Takes d ys store
+  takes : (j : Job) → row.job ≡ j → (e : Effect) → GoesWell C F.frames F.cells j (of_job j) e → (ys : List Element) → of_job j ≡ Inserts (pairs ys) → values_in e ≡ pairs ys → (d : ℕ) → target_in e ≡ Some d → HasPlacesFor ys (array_at store d) → Takes d ys store
   takes Script is e g ys q vs d td room = absurd (g.leads d td)
   takes (Does k i c) is e g ys q vs d td room =
       let z = array_there k i c is d (g.leads d td) (pairs ys) q in

@@ -19,7 +19,7 @@ use Rattle.board_program.specs.Tables.{IsEntryTable, is_place}
 use Rattle.board_program.specs.declared.program.EntryTable.{EntryTable}
 use Rattle.data_store.specs.Stores.{Store, array_at}
 use Rattle.values.specs.Maps.{element}
-use Rattle.board_data.specs.Stored.{IsScalarTarget, Takes}
+use Rattle.board_data.specs.Stored.{HasPlacesFor, IsScalarTarget, Takes}
 use Rattle.board_data.specs.Wanted.{FewSlots}
 use Rattle.board_instances.specs.View.{step_view}
 use Rattle.paths.specs.declared.faults.FaultKind.{FaultKind}
@@ -60,8 +60,8 @@ lines_in _ = []
 -- the data take what is stored: a scalar is one, and an array may be written, has none of the keys, and, where it has room, takes the elements
 abbrev pub CanStore : Effect → Store → Type 0
 CanStore (Stores d v) s = IsScalarTarget d s
-CanStore (Puts d k v) s = (n : ℕ) → d ≡ Some n → 1 ≤ (array_at s n).room → Takes n (element k v ∷ []) s
-CanStore (Inserts d es) s = (n : ℕ) → d ≡ Some n → length es.items ≤ (array_at s n).room → Takes n es.items s
+CanStore (Puts d k v) s = (n : ℕ) → d ≡ Some n → HasPlacesFor (element k v ∷ []) (array_at s n) → Takes n (element k v ∷ []) s
+CanStore (Inserts d es) s = (n : ℕ) → d ≡ Some n → HasPlacesFor es.items (array_at s n) → Takes n es.items s
 CanStore _ s = Unit {0}
 
 -- what is stored is what was computed

@@ -3,8 +3,9 @@ ghost use Rattle.std.specs.Prelude.{◌≡◌, ◌+◌, ◌*◌, ◌^◌, ◌<�
 ghost use Rattle.board_history.specs.Fields.{path_of, slot_at, Script, Counted, Frame};
 ghost use Rattle.task_code.specs.Code.{Loop as PureLoop, loop_of};
 ghost use Rattle.task_code.specs.Compute.{Computed, Opens as OpensOne, TooDeep, Takes, Turns, pairs, range_turns};
-ghost use Rattle.task_code.specs.Places.{Step as PureStep};
 ghost use Rattle.board_instances.specs.View.{step_view};
+ghost use Rattle.values.specs.Limits.{most_steps};
+ghost use Rattle.values.specs.declared.key.Key.TheVariants.{Number as number_key};
 ghost use Rattle.board_effects.specs.Effects.{IsEffect};
 ghost use Rattle.board_effects.specs.Ended.{act_of, code_of, frames_of, Ends, IsEnded, FailsWith, IsLoop, IsScriptList, OpensBlock, OpensList};
 ghost use Rattle.dataflow.specs.Machine.{OfTask};
@@ -14,23 +15,23 @@ use crate::effect::{Effect, Ended};
 use crate::spare::spare_lists;
 use board_chunks::{are_left, chunk_of};
 use board_instances::opening::{Around, Opening, Openings, outermost};
+use board_instances::outer::Way;
 use board_instances::turns::{Site, push_block, push_elements, push_range};
 use board_program::program::Program;
-use paths::{FaultKind, Step};
+use paths::FaultKind;
 use std::alloc::{AllocError, Global};
 use task_code::entry::Act;
-use values::key::Key;
 use values::map::Map;
 use values::range::Range;
 
 /// How many steps a path has at most.
-const MOST_STEPS: u32 = 512;
+const MOST_STEPS: u32 = 2048;
 
 impl<'a> Ended<'a> {
     /// Whether it may open no block by one more step.
     #[inline(always)]
     fn is_too_deep(self) -> bool
-        ensures { IsEnded self.entry → result ≡ nat_le 512 (length (path_of (frames_of self.entry) self.entry.view.at)) }
+        ensures { IsEnded self.entry → result ≡ nat_le most_steps (length (path_of (frames_of self.entry) self.entry.view.at)) }
     {
         match self.view.instances.get(self.view.at) {
             Some(around) => around.depth >= MOST_STEPS,
@@ -47,13 +48,10 @@ impl<'a> Ended<'a> {
 
     /// The step to a block that it opens.
     #[inline(always)]
-    fn step(self, key: Key) -> Option<Step>
-        ensures { option_map step_view result ≡ Some (record { offset = self.entry.entry.now.mark; key = key }) }
+    fn step(self, number: i64) -> Way
+        ensures { IsEnded self.entry → option_map step_view result ≡ Some (record { offset = self.entry.entry.now.mark; key = number_key number }) }
     {
-        Some(Step {
-            offset: self.entry.mark,
-            key,
-        })
+        Way::to_number(self.table.mark, number)
     }
 
     /// It opens these instances of a body.
@@ -74,13 +72,13 @@ impl<'a> Ended<'a> {
 
     /// It opens one block, where it is not one that goes on.
     #[inline(always)]
-    fn opens(self, body: u32, way: Option<Step>) -> Result<Effect, AllocError>
+    fn opens(self, body: u32, way: Way) -> Result<Effect, AllocError>
         ensures { IsEnded self.entry → (x : Computed) → OpensBlock self.entry x body (option_map step_view way) → IfOk result (Ends self.entry x) }
     {
         if self.chunk > 0 {
             return Ok(Effect::Passes);
         }
-        if way.is_some() && self.is_too_deep() {
+        if way.is_step() && self.is_too_deep() {
             return self.fails_too_deep();
         }
         let site = Site {
@@ -91,7 +89,7 @@ impl<'a> Ended<'a> {
                 at: self.view.at,
             },
             body,
-            offset: self.entry.mark,
+            offset: self.table.mark,
         };
         let mut list = Vec::with_capacity(self.alloc, 1)?;
         push_block(
@@ -112,10 +110,10 @@ impl<'a> Ended<'a> {
             return Ok(Effect::Passes);
         };
         if truth {
-            return self.opens(*then, self.step(Key::Number(0)));
+            return self.opens(*then, self.step(0));
         }
         match other {
-            Some(other) => self.opens(*other, self.step(Key::Number(1))),
+            Some(other) => self.opens(*other, self.step(1)),
             None => Ok(Effect::Passes),
         }
     }
@@ -125,12 +123,12 @@ impl<'a> Ended<'a> {
         ensures { IsEnded self.entry → enters_block (act_of self.entry) ≡ true → IfOk result (Ends self.entry OpensOne) }
     {
         match &self.entry.act {
-            Act::Wait(_, body) => self.opens(*body, None),
+            Act::Wait(_, body) => self.opens(*body, Way::none()),
             Act::Call {
                 body,
                 inputs: _,
                 outputs: _,
-            } => self.opens(*body, self.step(Key::Number(0))),
+            } => self.opens(*body, self.step(0)),
             _ => Ok(Effect::Passes),
         }
     }
@@ -161,7 +159,7 @@ impl<'a> Ended<'a> {
                 at: self.view.at,
             },
             body,
-            offset: self.entry.mark,
+            offset: self.table.mark,
         };
         let mut list = Vec::with_capacity(self.alloc, end.saturating_sub(first) as usize)?;
         push_range(site, &mut list, range, first, end)?;
@@ -185,7 +183,7 @@ impl<'a> Ended<'a> {
                 at: self.view.at,
             },
             body,
-            offset: self.entry.mark,
+            offset: self.table.mark,
         };
         let mut list = Vec::with_capacity(self.alloc, end.saturating_sub(first) as usize)?;
         push_elements(site, &mut list, &elements[first as usize..end as usize])?;

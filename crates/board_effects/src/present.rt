@@ -7,7 +7,6 @@ ghost use Rattle.values.specs.declared.map.Element.{Element as AnElement};
 ghost use Rattle.board_data.specs.View.{cells_view};
 
 use board_data::data::element;
-use board_program::key::copy_key;
 use data_store::store::Store;
 use std::alloc::{AllocError, Global};
 use values::key::Key;
@@ -18,7 +17,7 @@ use values::map::Element;
 pub(crate) fn has_key(store: &Store, d: usize, key: &Key) -> bool
     ensures { result ≡ has (cell_element key.now (slot_at (cells_view store.now.cells) d)) }
 {
-    element(store, d, key).is_some()
+    element(store, d, key.as_ref()).is_some()
 }
 
 /// Whether it has an element under one of these keys.
@@ -41,7 +40,7 @@ pub(crate) fn copied(alloc: Global, elements: &[Element]) -> Result<Vec<Element>
     copies.reserve_exact(elements.len())?;
     for one in elements {
         copies.push(Element {
-            key: copy_key(&one.key),
+            key: one.key.share()?,
             value: one.value.share()?,
         })?;
     }

@@ -6,7 +6,6 @@ use Rattle.task_code.specs.Compute.{Elements, EntryFault}
 use Rattle.task_code.specs.Effects.{Item, Main, Task}
 use Rattle.task_code.specs.Machine.{CodeItem}
 use Rattle.task_code.specs.Places.{Step}
-use Rattle.values.specs.declared.key.Key.{Key}
 use Rattle.values.specs.declared.value.Scalar.{Scalar}
 
 -- the value under a key of a slab
@@ -62,7 +61,7 @@ pub record Counted : Type 0 where
 -- what an item waits for: a scalar that is stored or an array that is closed, or an element
 pub data Want (D : Type 0) : Type 0 where
   Whole : D → Want D
-  AnElement : D → Key → Want D
+  AnElement : D → (mark : ℕ) → Want D
 
 -- an item that waits, and what it misses, in the order of its inputs
 pub record Waiter : Type 0 where

@@ -18,6 +18,7 @@ use Rattle.task_code.specs.Effects.{Item, Main, Task, left_at, only, turns_of}
 use Rattle.task_code.specs.Machine.{CodeItem, CodeState, Enabled}
 use Rattle.task_code.specs.Places.{Constant, Datum, Nowhere, Place, Step, place_array, place_at}
 use Rattle.task_code.specs.System.{code_system, task_inputs, task_kind, task_priority}
+use Rattle.values.specs.Keys.{mark_of}
 use Rattle.values.specs.declared.key.Key.{Key}
 use Rattle.values.specs.declared.value.Scalar.{Scalar}
 
@@ -30,10 +31,10 @@ abbrev pub array_wanted : {D : Type 0} → Bool → D → List (Want D)
 array_wanted true a = []
 array_wanted false a = Whole a ∷ []
 
-abbrev pub element_wanted : {D : Type 0} → Option Scalar → Bool → D → Key → List (Want D)
-element_wanted (Some v) closed a k = []
-element_wanted None true a k = []
-element_wanted None false a k = AnElement a k ∷ []
+abbrev pub element_wanted : {D : Type 0} → Option Scalar → Bool → D → (mark : ℕ) → List (Want D)
+element_wanted (Some v) closed a m = []
+element_wanted None true a m = []
+element_wanted None false a m = AnElement a m ∷ []
 
 -- a want by the key of a datum is the want of its place, and so in order
 abbrev pub WantStands : List (ℕ × Place) → Want ℕ → Want Place → Type 0
@@ -49,12 +50,12 @@ AllStand names _ _ = ⊥
 module _ (C : Code) where
   abbrev pub keyed_wanted : CodeState → Place → Place → Option Scalar → List (Want Place)
   keyed_wanted s a d None = Whole d ∷ []
-  keyed_wanted s a d (Some v) = element_wanted (value_at (code_system C) code_tests s.stored a (key_of v)) (is_closed (code_system C) code_tests s a) a (key_of v)
+  keyed_wanted s a d (Some v) = element_wanted (value_at (code_system C) code_tests s.stored a (key_of v)) (is_closed (code_system C) code_tests s a) a (mark_of (key_of v))
 
   abbrev pub wanted : CodeState → Input Place Key → List (Want Place)
   wanted s (StoredScalar d) = scalar_wanted (value_at (code_system C) code_tests s.stored d only) d
   wanted s (ClosedArray a) = array_wanted (is_closed (code_system C) code_tests s a) a
-  wanted s (ElementOf a k) = element_wanted (value_at (code_system C) code_tests s.stored a k) (is_closed (code_system C) code_tests s a) a k
+  wanted s (ElementOf a k) = element_wanted (value_at (code_system C) code_tests s.stored a k) (is_closed (code_system C) code_tests s a) a (mark_of k)
   wanted s (ElementAt a d) = keyed_wanted s a d (value_at (code_system C) code_tests s.stored d only)
 
   -- all that a task waits for now, in the order of its inputs

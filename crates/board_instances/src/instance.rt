@@ -120,7 +120,8 @@ fn push_step(
     let Some(instance) = instances.get(at) else {
         return Ok(None);
     };
-    if let Some(step) = instance.way.step() {
+    let way = instance.way.step()?;
+    if let Some(step) = way {
         steps.push(step)?;
     }
     Ok(instance.parent.key())

@@ -9,7 +9,6 @@ use crate::instance::{INLINE_SLOTS, Instance, Slot, Slots, slot_at};
 use crate::outer::{Outer, Way};
 use crate::packed::PackedSlot;
 use board_program::program::{Passed, Program};
-use paths::Step;
 use rules::input::Input;
 use slab::Slab;
 use smallvec::SmallVec;
@@ -123,12 +122,13 @@ fn one_more(count: u32) -> Result<u32, AllocError>
 }
 
 /// How many steps a path has with this one.
-fn depth_of(depth: u32, way: &Option<Step>) -> Result<u32, AllocError>
+fn depth_of(depth: u32, way: &Way) -> Result<u32, AllocError>
     ensures { IfOk result (λ more. more ≡ depth + steps_in (option_map step_view way.now)) }
 {
-    match way {
-        Some(_) => one_more(depth),
-        None => Ok(depth),
+    if way.is_step() {
+        one_more(depth)
+    } else {
+        Ok(depth)
     }
 }
 
@@ -142,7 +142,7 @@ pub fn inner(
     alloc: Global,
     around: Around<'_>,
     number: u32,
-    way: Option<Step>,
+    way: Way,
     arguments: (u32, &[Passed]),
 ) -> Result<Option<Instance>, AllocError>
     ensures some { IfOk result (λ found. IfSome found (λ instance. IsInner around.entry.program.now (frames_view around.entry.instances.now.slots) around.entry.at number (option_map step_view way) (passed_from (frames_view around.entry.instances.now.slots) around.entry.at arguments.entry.0 0 arguments.entry.1.now) (frame_view instance))) }
@@ -163,7 +163,7 @@ pub fn inner(
         level: one_more(outer.level)?,
         depth,
         body: number,
-        way: Way::of(way)?,
+        way,
         live: body.entries.len(),
         slots,
     }))

@@ -1,15 +1,16 @@
 //! What an instance keeps of the one around it and of the step that leads to it, in as few words as that takes.
-ghost use Rattle.std.specs.Prelude.{◌≡◌, None, Some, IfOk};
+ghost use Rattle.std.specs.Prelude.{◌≡◌, None, Some, is_some, IfOk};
+ghost use Rattle.values.specs.Keys.{key_seen};
+ghost use Rattle.values.specs.declared.key.Key.TheVariants.{Number as number_key};
 
 use paths::Step;
 use std::alloc::AllocError;
 use std::marker::Model;
-use values::key::Key;
+use values::key::{Key, KeyRef};
+use values::text::Text;
 
-// No instance has this key, and no step this offset.
+// No instance has this key.
 const NO_KEY: u32 = 4_294_967_295;
-
-const NO_OFFSET: usize = 18_446_744_073_709_551_615;
 
 /// The key of the instance around one, if there is one, in half a word.
 #[derive(Drop)]
@@ -61,9 +62,16 @@ impl Outer {
 
 /// The last step of a path, if it has one of its own, in two words.
 #[derive(Drop)]
+enum Kept {
+    Nothing,
+    ToNumber(u32, i64),
+    ToText(u32, Text),
+}
+
+/// The last step of a path, if it has one of its own.
+#[derive(Drop)]
 pub struct Way {
-    offset: usize,
-    number: i64,
+    kept: Kept,
 }
 
 impl Model for Way {
@@ -73,7 +81,7 @@ impl Model for Way {
 
     ghost Value = { Option Step };
 
-    ghost view = { λ a. step_in a.offset a.number };
+    ghost view = { λ a. step_in a.kept };
 }
 
 impl Way {
@@ -82,39 +90,61 @@ impl Way {
         ensures { result ≡ None }
     {
         Way {
-            offset: NO_OFFSET,
-            number: 0,
+            kept: Kept::Nothing,
         }
     }
 
-    /// This step, if there is one. A text with a greater offset than that is more than memory has room for.
+    /// A step to the key of this number.
+    #[inline(always)]
+    pub fn to_number(offset: u32, number: i64) -> Way
+        ensures { result ≡ Some (record { offset = offset; key = number_key number }) }
+    {
+        Way {
+            kept: Kept::ToNumber(offset, number),
+        }
+    }
+
+    /// A step to this key.
     ///
     /// # Errors
     ///
-    /// `AllocError` where the offset is too great.
-    pub fn of(step: Option<Step>) -> Result<Way, AllocError>
-        ensures { IfOk result (λ way. way ≡ step) }
+    /// `AllocError` where a text has too many owners to count.
+    #[inline(always)]
+    pub fn to(offset: u32, key: KeyRef<'_>) -> Result<Way, AllocError>
+        ensures { IfOk result (λ way. way ≡ Some (record { offset = offset; key = key_seen key.entry })) }
     {
-        let Some(Step { offset, key }) = step else {
-            return Ok(Way::none());
-        };
-        if offset == NO_OFFSET {
-            return Err(AllocError);
-        }
         match key {
-            Key::Number(number) => Ok(Way { offset, number }),
+            KeyRef::Number(number) => Ok(Way::to_number(offset, number)),
+            KeyRef::Text(text) => Ok(Way {
+                kept: Kept::ToText(offset, text.share()?),
+            }),
         }
     }
 
-    pub fn step(&self) -> Option<Step>
-        ensures { result ≡ self.now }
+    /// Whether there is a step.
+    #[inline(always)]
+    pub fn is_step(&self) -> bool
+        ensures { result ≡ is_some self.now }
     {
-        if self.offset == NO_OFFSET {
-            return None;
+        !matches!(self.kept, Kept::Nothing)
+    }
+
+    /// # Errors
+    ///
+    /// `AllocError` where a text has too many owners to count.
+    pub fn step(&self) -> Result<Option<Step>, AllocError>
+        ensures { IfOk result (λ step. step ≡ self.now) }
+    {
+        match &self.kept {
+            Kept::Nothing => Ok(None),
+            Kept::ToNumber(offset, number) => Ok(Some(Step {
+                offset: *offset as usize,
+                key: Key::Number(*number),
+            })),
+            Kept::ToText(offset, text) => Ok(Some(Step {
+                offset: *offset as usize,
+                key: Key::Text(text.share()?),
+            })),
         }
-        Some(Step {
-            offset: self.offset,
-            key: Key::Number(self.number),
-        })
     }
 }

@@ -2,21 +2,21 @@
 ghost use Rattle.std.specs.Prelude.{◌≡◌, ◌<◌, ◌-◌, ◌++◌, ◌∷◌, [], IsSome, OnOk, length, min, pos, option_map};
 ghost use Rattle.board_history.specs.Fields.{slot_at as slot_of};
 ghost use Rattle.task_code.specs.Code.{body as body_of};
-ghost use Rattle.task_code.specs.Compute.{key_scalar, pairs, range_turns};
+ghost use Rattle.task_code.specs.Compute.{pairs, range_turns};
 ghost use Rattle.values.specs.Ranges.{value_in};
 ghost use Rattle.values.specs.declared.key.Key.TheVariants.{Number as number_key};
 ghost use Rattle.values.specs.declared.value.Scalar.TheVariants.{Number};
 ghost use Rattle.board_instances.specs.Openings.{passed_from};
 ghost use Rattle.board_instances.specs.Turns.{AddsTurns, IsOpening};
 ghost use Rattle.board_instances.specs.View.{frames_view, step_view};
+ghost use Rattle.values.specs.Keys.{key_seen};
 ghost use Rattle.board_instances.specs.declared.opening.Opening.{Opening as AnOpening};
 
 use crate::opening::{Around, Opening, inner};
-use board_program::key::copy_key;
+use crate::outer::Way;
 use board_program::program::Passed;
-use paths::Step;
 use std::alloc::{AllocError, Global};
-use values::key::Key;
+use values::key::KeyRef;
 use values::map::Element;
 use values::range::Range;
 use values::value::Scalar;
@@ -27,7 +27,7 @@ pub struct Site<'a> {
     pub alloc: Global,
     pub around: Around<'a>,
     pub body: u32,
-    pub offset: usize,
+    pub offset: u32,
 }
 
 /// Adds an instance of the body, with the values of a turn's variables, unless the body has no entries.
@@ -38,7 +38,7 @@ pub struct Site<'a> {
 pub fn push_block(
     site: Site<'_>,
     list: &mut Vec<Opening>,
-    way: Option<Step>,
+    way: Way,
     arguments: (u32, &[Passed]),
     values: (Option<Scalar>, Option<Scalar>),
 ) -> Result<(), AllocError>
@@ -64,32 +64,21 @@ pub fn push_block(
     Ok(())
 }
 
-/// The key as a turn's variable has it.
-fn scalar_of(key: &Key) -> Scalar
-    ensures { result ≡ key_scalar key.now }
-{
-    match key {
-        Key::Number(number) => Scalar::Number(*number),
-    }
-}
-
 /// Adds an instance for a turn of a loop.
+#[inline(always)]
 fn push_turn(
     site: Site<'_>,
     list: &mut Vec<Opening>,
-    key: Key,
+    key: KeyRef<'_>,
     value: Scalar,
 ) -> Result<(), AllocError>
     ensures added { OnOk result (0 < length (body_of site.entry.around.program.now site.entry.body).entries → IsSome (slot_of (frames_view site.entry.around.instances.now.slots) site.entry.around.at) →
-        AddsTurns site.entry.around.program.now (frames_view site.entry.around.instances.now.slots) site.entry.around.at site.entry.body site.entry.offset ((key, value) ∷ []) list.old.items list.new.items) }
+        AddsTurns site.entry.around.program.now (frames_view site.entry.around.instances.now.slots) site.entry.around.at site.entry.body site.entry.offset ((key_seen key.entry, value) ∷ []) list.old.items list.new.items) }
     ensures none { OnOk result (length (body_of site.entry.around.program.now site.entry.body).entries ≡ 0 → list.new.items ≡ list.old.items) }
 {
-    let turn = scalar_of(&key);
-    let way = Step {
-        offset: site.offset,
-        key,
-    };
-    push_block(site, list, Some(way), (0, &[]), (Some(value), Some(turn)))?;
+    let turn = key.scalar()?;
+    let way = Way::to(site.offset, key)?;
+    push_block(site, list, way, (0, &[]), (Some(value), Some(turn)))?;
     Ok(())
 }
 
@@ -108,7 +97,7 @@ pub fn push_elements(
     ensures none { OnOk result (length (body_of site.entry.around.program.now site.entry.body).entries ≡ 0 → list.new.items ≡ list.old.items) }
 {
     for one in elements {
-        push_turn(site, list, copy_key(&one.key), one.value.share()?)?;
+        push_turn(site, list, one.key.as_ref(), one.value.share()?)?;
     }
     Ok(())
 }
@@ -129,7 +118,12 @@ fn push_number(
     let Ok(key) = i64::try_from(n) else {
         return Err(AllocError);
     };
-    push_turn(site, list, Key::Number(key), Scalar::Number(range.value(n)))?;
+    push_turn(
+        site,
+        list,
+        KeyRef::Number(key),
+        Scalar::Number(range.value(n)),
+    )?;
     Ok(())
 }
 

@@ -2,7 +2,6 @@
 #![tactic(auto)]
 
 mod bodies;
-pub mod key;
 pub mod laws;
 mod naming;
 pub mod places;

@@ -52,6 +52,8 @@ pub enum Passed {
 /// What is worked out of an entry.
 #[derive(Drop)]
 pub struct EntryTable {
+    /// The offset that the paths of the blocks that it opens have.
+    pub mark: u32,
     pub kind: Kind,
     pub priority: i32,
     pub needs: SmallVec<Wanted, 1>,
@@ -126,21 +128,21 @@ fn kind_of(code: &Code, number: u32) -> Kind
 }
 
 /// What a need comes to, by where its names lead from the body.
-fn wanted_of(code: &Code, leads: &Leads, body: u32, need: &Need) -> Wanted
+fn wanted_of(code: &Code, leads: &Leads, body: u32, need: &Need) -> Result<Wanted, AllocError>
     requires { IsLeads code.now leads.now }
-    ensures { result ≡ wanted_in code.now body (need_view need.now) }
+    ensures { IfOk result (λ wanted. wanted ≡ wanted_in code.now body (need_view need.now)) }
 {
     match need {
-        Need::Stored(name) => Wanted::Stored(leads.spot_in(code, body, *name)),
-        Need::Closed(name) => Wanted::Closed(leads.spot_in(code, body, *name)),
-        Need::At(array, index) => Wanted::At(
+        Need::Stored(name) => Ok(Wanted::Stored(leads.spot_in(code, body, *name))),
+        Need::Closed(name) => Ok(Wanted::Closed(leads.spot_in(code, body, *name))),
+        Need::At(array, index) => Ok(Wanted::At(
             leads.spot_in(code, body, *array),
             leads.spot_in(code, body, *index),
-        ),
-        Need::AtKey(array, key) => Wanted::AtKey(
+        )),
+        Need::AtKey(array, key) => Ok(Wanted::AtKey(
             leads.spot_in(code, body, *array),
-            crate::key::copy_key(key),
-        ),
+            key.share()?,
+        )),
     }
 }
 
@@ -200,7 +202,7 @@ fn needs_of(
 {
     let mut wanted = SmallVec::with_capacity(alloc, needs.len())?;
     for need in needs {
-        wanted.push(wanted_of(code, leads, body, need))?;
+        wanted.push(wanted_of(code, leads, body, need)?)?;
     }
     Ok(wanted)
 }
@@ -383,7 +385,11 @@ fn entry_table(
     requires there { entry_view entry.now ≡ entry_at code.now number }
     ensures { IfOk result (λ table. IsEntryTable code.now body number table) }
 {
+    let Ok(mark) = u32::try_from(entry.mark) else {
+        return Err(AllocError);
+    };
     Ok(EntryTable {
+        mark,
         kind: kind_of(code, number),
         priority: entry.priority,
         needs: needs_of(alloc, code, leads, body, entry.needs.as_slice())?,
@@ -545,8 +551,12 @@ impl Program {
     }
 
     /// What the need comes to, seen from the body.
-    pub fn wanted(&self, body: u32, need: &Need) -> Wanted
-        ensures { result ≡ wanted_in self.now body (need_view need.now) }
+    ///
+    /// # Errors
+    ///
+    /// `AllocError` where a text has too many owners to count.
+    pub fn wanted(&self, body: u32, need: &Need) -> Result<Wanted, AllocError>
+        ensures { IfOk result (λ wanted. wanted ≡ wanted_in self.now body (need_view need.now)) }
     {
         wanted_of(&self.laid.code, &self.laid.leads, body, need)
     }

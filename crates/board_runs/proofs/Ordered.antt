@@ -24,7 +24,7 @@ one_first : (p q : List Step) → path_below p q ≡ true → path_below q p ≡
 one_first p q h k = path_order.not_own p (path_order.chain p q p h k)
 
 -- a path is told by what it stands for
-same_path : (p q : List Step) → path_view p ≡ path_view q → p ≡ q
+pub same_path : (p q : List Step) → path_view p ≡ path_view q → p ≡ q
 same_path [] [] e = refl
 same_path [] (t ∷ q) e = absurd (cc (e))
 same_path (s ∷ p) [] e = absurd (cc (e))

@@ -8,7 +8,6 @@ use board::{Fault, Statement, Step};
 use board_program::program::Program;
 use std::alloc::{AllocError, Global};
 use task_code::event::Event;
-use values::key::Key;
 use values::text::Text;
 use values::value::Scalar;
 
@@ -170,21 +169,9 @@ fn steps(alloc: Global, path: &Vec<Step>) -> Result<Vec<Step>, AllocError>
 {
     let mut copies = Vec::new(alloc);
     for step in path {
-        copies.push(Step {
-            offset: step.offset,
-            key: same_key(&step.key),
-        })?;
+        copies.push(step.share()?)?;
     }
     Ok(copies)
-}
-
-/// The same key.
-fn same_key(key: &Key) -> Key
-    ensures { result ≡ key.now }
-{
-    match key {
-        Key::Number(number) => Key::Number(*number),
-    }
 }
 
 /// The texts of lines.

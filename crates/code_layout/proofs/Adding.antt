@@ -58,7 +58,7 @@ pub within-stmts : (v : Stmt → ℕ) (st : Stmt) (b : Block) → within v (stmt
 within-stmts v st b = let a = total-among v (blocks_in st) (blocks_below b) in omega arith
 
 pub header_few : (v : Stmt → ℕ) {k : ℕ} {st : Stmt} {hs : List Header} {b : Block} → Headers k st hs b → within v b ≤ inside v st
-header_few v (one_header {b = b} e) = let a = within-of v b in omega arith
+header_few v (one_header {b = b} lone e) = let a = within-of v b in omega arith
 header_few v (more_headers {st = st} {b = b} h e) =
     let r = header_few v h in
     let a = within-of v (stmts st no_stmts) in
@@ -67,7 +67,7 @@ header_few v (more_headers {st = st} {b = b} h e) =
 
 -- the content of the innermost of merged waits is a block of the script
 pub header_block : (c : Core) {k : ℕ} {st : Stmt} {hs : List Header} {b : Block} → Headers k st hs b → (B : Block) → B ∈ script_blocks c → st ∈ block_list B → b ∈ script_blocks c
-header_block c (one_header e) B m i = inner_block c m i first
+header_block c (one_header lone e) B m i = inner_block c m i first
 header_block c (more_headers {at = at} {n = n} {st = st} h e) B m i = header_block c h (stmts st no_stmts) (inner_block c m i first) first
 
 outer_fewer : (v : Part → ℕ) (o : Outer) → total v (o.parts ++ own_cell o.cell o.cell.form) ≤ total v (o.parts ++ inner o.cell ∷ [])

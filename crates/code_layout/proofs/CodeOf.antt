@@ -148,7 +148,7 @@ module _ {s : Core} {fs : List Kinds} {ds : List (ℕ × Bool)} {C : Code} {l : 
   Smaller m = (b : Block) (k : ℕ) (us : List Variable) (o : Opener) (t : ℕ) → block_weight b < m → AllScalars us → StandsFor k b us o t → BodyAs C l k b t
 
   wait_is : {k t : ℕ} {o : Opener} {st : Stmt} {hs : List Header} {b : Block} (m : ℕ) → Smaller m → stmt_weight st ≤ m → Headers k st hs b → StandsFor k b [] o t → WaitAs C l k st hs t
-  wait_is {k} {t} {o} m rec w (one_header {b = b} e) st = one_wait (rec b k [] o t (omega arith) scalars_none st) e
+  wait_is {k} {t} {o} m rec w (one_header {b = b} lone e) st = one_wait (rec b k [] o t (omega arith) scalars_none st) e
   wait_is m rec w (more_headers hd e) st = merged (wait_is m rec (omega arith) hd st) e
 
   stmt_is : {k : ℕ} {st : Stmt} {es : List ℕ} {vs : List Variable} (m : ℕ) → Smaller m → stmt_weight st ≤ m → ((at n : ℕ) (a : Action) → stmt at n a ≡ st → Suits l a) → StmtLaid C l h.table k st es vs → StmtAs C l k st es

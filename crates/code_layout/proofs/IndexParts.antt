@@ -84,7 +84,7 @@ operand_stands n (ps, compute e) h = h.0
 operand_stands n (ps, read a i) h = stand_inner n ps (read a i) h
 
 shape_stands : (n : ℕ) (sh : Shape) (t : Table) (w : Word) (f : Formed) → BothStand f.0 f.1 → IndexesStand (variable_or_cell sh t w n f).0
-shape_stands n Shape.Array t w f h = nothing_stands
+shape_stands n (Shape.Array κ) t w f h = nothing_stands
 shape_stands n Shape.Scalar t w f h = cell_stands n f h
 
 argument_stands : (t : Table) (e : Expression) (f : Formed) → BothStand f.0 f.1 → IndexesStand (as_argument t e f).0
@@ -155,14 +155,14 @@ assign_stands t x e = own_stands (number_of e) (form_of t e).0 (form_of t e).1 (
 
 plain_stands : (t : Table) (x : Name) (a : Shape) (e : Expression) → OwnStand (plain_right t x a e)
 plain_stands t x Shape.Scalar e = assign_stands t x e
-plain_stands t x Shape.Array (expression nd (number z)) = assign_stands t x (expression nd (number z))
-plain_stands t x Shape.Array (expression nd (text b)) = assign_stands t x (expression nd (text b))
-plain_stands t x Shape.Array (expression nd (truth b)) = assign_stands t x (expression nd (truth b))
-plain_stands t x Shape.Array (expression nd (variable w)) = nothing_stands
-plain_stands t x Shape.Array (expression nd (element w i)) = assign_stands t x (expression nd (element w i))
-plain_stands t x Shape.Array (expression nd (call w es)) = assign_stands t x (expression nd (call w es))
-plain_stands t x Shape.Array (expression nd (prefixed p e)) = assign_stands t x (expression nd (prefixed p e))
-plain_stands t x Shape.Array (expression nd (chain os es)) = assign_stands t x (expression nd (chain os es))
+plain_stands t x (Shape.Array κ) (expression nd (number z)) = assign_stands t x (expression nd (number z))
+plain_stands t x (Shape.Array κ) (expression nd (text b)) = assign_stands t x (expression nd (text b))
+plain_stands t x (Shape.Array κ) (expression nd (truth b)) = assign_stands t x (expression nd (truth b))
+plain_stands t x (Shape.Array κ) (expression nd (variable w)) = nothing_stands
+plain_stands t x (Shape.Array κ) (expression nd (element w i)) = assign_stands t x (expression nd (element w i))
+plain_stands t x (Shape.Array κ) (expression nd (call w es)) = assign_stands t x (expression nd (call w es))
+plain_stands t x (Shape.Array κ) (expression nd (prefixed p e)) = assign_stands t x (expression nd (prefixed p e))
+plain_stands t x (Shape.Array κ) (expression nd (chain os es)) = assign_stands t x (expression nd (chain os es))
 
 call_right_stands : (t : Table) (x : Name) (e : Expression) (w : Word) (es : Expressions) (c : Callee) → OwnStand (call_right t x e w es c)
 call_right_stands t x e w es (composite i) = stand_call (arguments_of t es).0 (call_to w i (arguments_of t es).1 (x ∷ [])) (arguments_stand t es)

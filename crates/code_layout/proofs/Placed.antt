@@ -18,7 +18,7 @@ use Rattle.code_layout.proofs.Tables.{block_grows, Sits, sits_left, sits_right, 
 
 -- where merged waits stand, the content of the innermost one stands
 header_scope : (c : Core) {k q : ℕ} {st : Stmt} {hs : List Header} {b : Block} → Headers q st hs b → (B : Block) → InScope c k B → st ∈ block_list B → InScope c k b
-header_scope c (one_header e) B sc i = in_wait sc i
+header_scope c (one_header lone e) B sc i = in_wait sc i
 header_scope c (more_headers {st = st} h e) B sc i = header_scope c h (stmts st no_stmts) (in_wait sc i) first
 
 module _ (c : Core) (C : Code) (l : Layout) (whole : List Row) (suits : (at n : ℕ) (a : Action) → stmt at n a ∈ script_stmts c → Suits l a) (stands : ReadsStand c) (same : C.bodies ≡ bodies_in whole) where

@@ -149,9 +149,22 @@ next_body roots s = roots + length s.bodies
 abbrev pub IsOwnEntry : Entry → (at : ℕ) → ℕ → Action → (Layout → Act) → Type 0
 IsOwnEntry e at k a act = (l : Layout) → Suits l a → IsEntry e at (own_priority a) (own_needs l k a) (act l)
 
--- the waits that are merged, one in another, and the content of the innermost
+-- the statement does nothing but wait; and a block is exactly one such statement
+abbrev pub is_wait : Action → Bool
+is_wait (wait ns b) = true
+is_wait _ = false
+
+abbrev pub is_wait_alone : Stmt → Block → Bool
+is_wait_alone (stmt at n a) no_stmts = is_wait a
+is_wait_alone st (stmts other b) = false
+
+abbrev pub is_one_wait : Block → Bool
+is_one_wait no_stmts = false
+is_one_wait (stmts st b) = is_wait_alone st b
+
+-- the waits that are merged, one in another as far as a content is exactly one `wait`, and the content of the innermost
 pub data Headers (k : ℕ) : Stmt → List Header → Block → Type 0 where
-  one_header : {at n : ℕ} {ns : List Awaited} {b : Block} {hs : List Header} → hs ≡ header k at ns ∷ [] → Headers k (stmt at n (wait ns b)) hs b
+  one_header : {at n : ℕ} {ns : List Awaited} {b : Block} {hs : List Header} → is_one_wait b ≡ false → hs ≡ header k at ns ∷ [] → Headers k (stmt at n (wait ns b)) hs b
   more_headers : {at n : ℕ} {ns : List Awaited} {st : Stmt} {gs hs : List Header} {b : Block} → Headers k st gs b → hs ≡ header k at ns ∷ gs
       → Headers k (stmt at n (wait ns (stmts st no_stmts))) hs b
 

@@ -78,7 +78,7 @@ module _ (fs : List Signature) (type_of : ℕ → Typ) (f : Signature) (k W : �
     operands_room (join_has h) = all_room h
     operands_room (from_int_has h) = all_room h
     operands_room (to_int_has h) = all_room h
-    operands_room {depth} (size_has {a} b h) = (name_room depth a _ h, tt)
+    operands_room {depth} (size_has {a} κ b h) = (name_room depth a _ h, tt)
     operands_room (printf_has h) = each_room h
     operands_room (assert_has c m) = (expr_room c, (expr_room m, tt))
 
@@ -97,7 +97,7 @@ module _ (fs : List Signature) (type_of : ℕ → Typ) (f : Signature) (k W : �
   form_room (computes {e} h) le = (expr_room h, few e le)
   form_room {depth} (copies {a} h) le = (name_room depth a _ h, few (whole a) le)
   form_room (lists {es} h) le = (all_room h, few (operator op.literal es) le)
-  form_room {depth} (reads {a} h i) le = name_room depth a _ h
+  form_room {depth} (reads {a} κ h i) le = name_room depth a _ h
 
   -- a called function is one of the script's
   called_room : (depth : ℕ) (c : Call) → CallHas fs type_of f depth c → c.function + 1 < 2 ^ 32
@@ -118,7 +118,7 @@ module _ (fs : List Signature) (type_of : ℕ → Typ) (f : Signature) (k W : �
 
   awaited_room : {depth : ℕ} {x : Awaited} → AwaitedHas fs type_of f depth x → AwaitedRoom k x
   awaited_room {depth} (awaits_one {x} b h) = name_room depth x _ h
-  awaited_room {depth} (awaits_many {x} b h) = name_room depth x _ h
+  awaited_room {depth} (awaits_many {x} κ b h) = name_room depth x _ h
 
   all_awaited : (depth : ℕ) (xs : List Awaited) → ((x : Awaited) → x ∈ xs → AwaitedHas fs type_of f depth x) → Each (AwaitedRoom k) xs
   all_awaited depth [] h = tt
@@ -140,7 +140,7 @@ module _ (fs : List Signature) (type_of : ℕ → Typ) (f : Signature) (k W : �
     action_room depth (call_alone p ps c) os (of_call hs h) le lb = let a = append ps (calls c ∷ []) in (parts_room depth ps hs (omega arith), (called_room depth c h, (names_room h.inputs, names_room h.outputs)))
     action_room depth (assign x o) os (of_assign h t) le lb = (name_room depth x _ h, outer_room depth o [] (os o first) le)
     action_room depth (fill x o) os (of_fill h t) le lb = (name_room depth x _ h, outer_room depth o [] (os o first) le)
-    action_room depth (insert x i o) os (of_insert h t u) le lb =
+    action_room depth (insert x i o) os (of_insert κ h t u) le lb =
         let q = behind i (o.parts ++ inner o.cell ∷ []) in
         (name_room depth x _ h, (outer_room depth i (o.parts ++ inner o.cell ∷ []) (os i first) le, outer_room depth o [] (os o (later first)) (omega arith)))
     action_room depth (print p o) os h le lb = outer_room depth o [] (os o first) le
@@ -158,7 +158,7 @@ module _ (fs : List Signature) (type_of : ℕ → Typ) (f : Signature) (k W : �
           outer_room depth lo (hi.parts ++ inner hi.cell ∷ (st.parts ++ inner st.cell ∷ [])) (os lo first) le,
           (outer_room depth hi (st.parts ++ inner st.cell ∷ []) (os hi (later first)) (omega arith), (outer_room depth st [] (os st (later (later first))) (omega arith), (let z = within b in block_room (suc depth) b h (omega arith)))),
         )
-    action_room depth (each x v y b) os (of_each h t u g) le lb = (name_room depth x _ h, (let z = within b in block_room (suc depth) b g (omega arith)))
+    action_room depth (each x v y b) os (of_each κ h t u g) le lb = (name_room depth x _ h, (let z = within b in block_room (suc depth) b g (omega arith)))
     action_room depth (wait ns b) os (of_wait h g) le lb = (all_awaited depth ns h, (let z = within b in block_room depth b g (omega arith)))
 
 -- FUNCTIONS

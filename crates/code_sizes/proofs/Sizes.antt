@@ -62,7 +62,7 @@ operand_parts m (ps, compute e) = omega arith
 operand_parts m (ps, read a i) = let c = cell_parts m (ps, read a i) in omega arith
 
 shape_parts : (m : ℕ) (sh : Shape) (t : Table) (w : Word) (f : Formed) → weight (variable_or_cell sh t w m f).0 ≤ weight f.0 + form_names f.1 + 1
-shape_parts m Shape.Array t w f = omega arith
+shape_parts m (Shape.Array κ) t w f = omega arith
 shape_parts m Shape.Scalar t w f = let c = cell_parts m f in omega arith
 
 argument_parts : (t : Table) (e : Expression) (f : Formed) → weight (as_argument t e f).0 ≤ weight f.0 + form_names f.1 + 1
@@ -179,24 +179,24 @@ right_parts t x sh (value (expression nd (call w es))) = by (t.callee_of w.numbe
     by : (c : Callee) → weight (parts (call_right t x (expression nd (call w es)) w es c)) ≤ 2 * right_size (value (expression nd (call w es)))
     by (composite i) = let e = composite_parts (pos 0) w i (arguments_of t es) (x ∷ []) in let q = arguments_parts t es in omega arith
     by (built_in b) = assign_parts t x (expression nd (call w es))
-right_parts t x Shape.Array (value (expression nd (variable w))) = omega arith
+right_parts t x (Shape.Array κ) (value (expression nd (variable w))) = omega arith
 right_parts t x Shape.Scalar (value (expression nd (variable w))) = assign_parts t x (expression nd (variable w))
 right_parts t x sh (list nd es) =
     let h = operands_parts t (expressions_of es) in
     let s = expressions_size-expressions_of es in
     let q = outer_computed nd.number op.literal (operands_of t (expressions_of es)) in
     omega arith
-right_parts t x Shape.Array (value (expression nd (number z))) = assign_parts t x (expression nd (number z))
+right_parts t x (Shape.Array κ) (value (expression nd (number z))) = assign_parts t x (expression nd (number z))
 right_parts t x Shape.Scalar (value (expression nd (number z))) = assign_parts t x (expression nd (number z))
-right_parts t x Shape.Array (value (expression nd (text bytes))) = assign_parts t x (expression nd (text bytes))
+right_parts t x (Shape.Array κ) (value (expression nd (text bytes))) = assign_parts t x (expression nd (text bytes))
 right_parts t x Shape.Scalar (value (expression nd (text bytes))) = assign_parts t x (expression nd (text bytes))
-right_parts t x Shape.Array (value (expression nd (truth b))) = assign_parts t x (expression nd (truth b))
+right_parts t x (Shape.Array κ) (value (expression nd (truth b))) = assign_parts t x (expression nd (truth b))
 right_parts t x Shape.Scalar (value (expression nd (truth b))) = assign_parts t x (expression nd (truth b))
-right_parts t x Shape.Array (value (expression nd (element w i))) = assign_parts t x (expression nd (element w i))
+right_parts t x (Shape.Array κ) (value (expression nd (element w i))) = assign_parts t x (expression nd (element w i))
 right_parts t x Shape.Scalar (value (expression nd (element w i))) = assign_parts t x (expression nd (element w i))
-right_parts t x Shape.Array (value (expression nd (prefixed p e))) = assign_parts t x (expression nd (prefixed p e))
+right_parts t x (Shape.Array κ) (value (expression nd (prefixed p e))) = assign_parts t x (expression nd (prefixed p e))
 right_parts t x Shape.Scalar (value (expression nd (prefixed p e))) = assign_parts t x (expression nd (prefixed p e))
-right_parts t x Shape.Array (value (expression nd (chain os es))) = assign_parts t x (expression nd (chain os es))
+right_parts t x (Shape.Array κ) (value (expression nd (chain os es))) = assign_parts t x (expression nd (chain os es))
 right_parts t x Shape.Scalar (value (expression nd (chain os es))) = assign_parts t x (expression nd (chain os es))
 
 several_parts : (m : ℕ) (t : Table) (w : Word) (es : Expressions) (xs : List Name) (c : Callee) → weight (parts (several t m w es xs c)) ≤ 3 + 2 * expressions_size es

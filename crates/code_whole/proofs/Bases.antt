@@ -188,7 +188,7 @@ module _ {s : Core} {fs : List Kinds} {ds : List (ℕ × Bool)} (C : Code) (l : 
 
   headers_read : {k : ℕ} {st : Stmt} {hs : List Header} {c : Block} (at n : ℕ) (ns : List Awaited) (d : Block) (g : Scope) → Headers k st hs c → st ≡ stmt at n (wait ns d) → ((x : Awaited) → x ∈ ns → AwaitedSeen g x) → InScopes sigs type_of g d
       → (h : Header) (m : Need) (r : code.Name) → In h hs → In m h.needs → In r (needed m) → Awaits k g r
-  headers_read {k} at n ns d g (one_header {at = at'} {ns = ns'} {hs = hs} e) q f i h m r j u v =
+  headers_read {k} at n ns d g (one_header {at = at'} {ns = ns'} {hs = hs} lone e) q f i h m r j u v =
       let same : ns' ≡ ns = (wait_same q).0 in
       let is : h ≡ header k at' ns' = only (subst (λ (z : List Header). In h z) e j) in
       awaited_reads k g ns f m r (subst (λ (z : List Awaited). In m (map (awaited_need k) z)) same (subst (λ (z : Header). In m z.needs) is u)) v
@@ -198,7 +198,7 @@ module _ {s : Core} {fs : List Kinds} {ds : List (ℕ × Bool)} (C : Code) (l : 
       same = wait_same q
 
       rest : {hs' : List Header} {c : Block} (u' : Stmt) → Headers k u' hs' c → st ≡ u' → In h hs' → ((at1 n1 : ℕ) (ns1 : List Awaited) (d1 : Block) → st ≡ stmt at1 n1 (wait ns1 d1) → ((x : Awaited) → x ∈ ns1 → AwaitedSeen g x) → InScopes sigs type_of g d1 → Awaits k g r) → Awaits k g r
-      rest u' (one_header {at = a1} {n = n1} {ns = ns1} {b = b1} z) o p rec =
+      rest u' (one_header {at = a1} {n = n1} {ns = ns1} {b = b1} lone z) o p rec =
           let w = one_wait sigs type_of (subst (λ (x : Stmt). InScopes sigs type_of g (stmts x no_stmts)) o (subst (λ (x : Block). InScopes sigs type_of g x) (sym same.1) i)) in
           rec a1 n1 ns1 b1 o w.comes.own w.content
       rest u' (more_headers {at = a1} {n = n1} {ns = ns1} {st = s1} y' z) o p rec =

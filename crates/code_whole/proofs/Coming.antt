@@ -122,8 +122,8 @@ module _ (fs : List Signature) (t : Table) (g : Scope) where
           let q = scalar_argument h (expression_comes h) (left_sub ps (arguments_of t es).0 s) in
           let k = arguments_come r (right_sub ps (arguments_of t es).0 s) in
           (both_come ps (arguments_of t es).0 q.0 k.0, cell_comes refl (q.1).1 (q.1).2 k.1)
-      arguments_come (rules.array_argument {nd = nd} {w = w} {es = es} {b = b} {τs = τs} h r) s =
-          subst (λ (sh : Shape). ArgumentsCome ((variable_or_cell sh t w nd.number (form_of t (expression nd (variable w)))).0 ++ (arguments_of t es).0, (variable_or_cell sh t w nd.number (form_of t (expression nd (variable w)))).1 ∷ (arguments_of t es).1) (many_of b ∷ τs)) (sym h.shaped)
+      arguments_come (rules.array_argument {nd = nd} {w = w} {es = es} {κ = κ} {b = b} {τs = τs} h r) s =
+          subst (λ (sh : Shape). ArgumentsCome ((variable_or_cell sh t w nd.number (form_of t (expression nd (variable w)))).0 ++ (arguments_of t es).0, (variable_or_cell sh t w nd.number (form_of t (expression nd (variable w)))).1 ∷ (arguments_of t es).1) (many_of κ b ∷ τs)) (sym h.shaped)
           (λ z. (let k = arguments_come r z in (k.0, array_comes refl (seen_as h) k.1))) s
 
       pub builtin_comes : {f : Builtin} {es : Expressions} {b : Base} (w : Word) (xs : Arguments) → BuiltinType fs t g f es b → FormedComes (call_form t w (built_in f) es xs (operands_of t es))
@@ -140,4 +140,4 @@ module _ (fs : List Signature) (t : Table) (g : Scope) where
     pub printed_come : {es : Expressions} {bs : List Typ} → ArgumentTypes fs t g es bs → ((τ : Typ) → τ ∈ bs → is_array_shape τ.shape ≡ false) → OperandsCome (operands_of t es)
     printed_come rules.no_argument k s = (none_come, tt)
     printed_come (rules.scalar_argument {e = e} {es = es} h r) k s = and_comes e es (expression_comes h) (printed_come r (λ τ m. k τ (later m))) s
-    printed_come (rules.array_argument {b = b} h r) k s = absurd (let q = k (many_of b) first in cc (q))
+    printed_come (rules.array_argument {κ = κ} {b = b} h r) k s = absurd (let q = k (many_of κ b) first in cc (q))

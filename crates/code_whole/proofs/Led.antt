@@ -117,7 +117,7 @@ module _ {s : Core} {fs : List Kinds} {ds : List (ℕ × Bool)} (C : Code) (l : 
         pub kept : (d : Bool) (w : Owned) → Q d c w → Q d b w
 
       pub content : {k : ℕ} {st : Stmt} {hs : List Header} {c : Block} (at n : ℕ) (ns : List Awaited) (d b : Block) (g : Scope) → Headers k st hs c → st ≡ stmt at n (wait ns d) → st ∈ block_list b → InScopes sigs type_of g d → Content g b c
-      content at n ns d b g (one_header {at = at'} {n = n'} {ns = ns'} {b = c} e) q m i =
+      content at n ns d b g (one_header {at = at'} {n = n'} {ns = ns'} {b = c} lone e) q m i =
           record { scoped_in = subst (λ (z : Block). InScopes sigs type_of g z) (sym (content_same q)) i; kept = λ f w h. K.inside b _ _ _ _ f w m first h }
         where
           content_same : stmt at' n' (wait ns' c) ≡ stmt at n (wait ns d) → c ≡ d
@@ -131,7 +131,7 @@ module _ {s : Core} {fs : List Kinds} {ds : List (ℕ × Bool)} (C : Code) (l : 
 
           by : {k : ℕ} {hs : List Header} {c : Block} (u : Stmt) → Headers k u hs c → st ≡ u → InScopes sigs type_of g (stmts st no_stmts)
               → ((at' n' : ℕ) (ns' : List Awaited) (d' : Block) → st ≡ stmt at' n' (wait ns' d') → InScopes sigs type_of g d' → Content g (stmts st no_stmts) c) → Content g b c
-          by u (one_header {at = a1} {n = n1} {ns = ns1} {b = b1} z) e i rec =
+          by u (one_header {at = a1} {n = n1} {ns = ns1} {b = b1} lone z) e i rec =
               let w = one_wait sigs type_of (subst (λ (x : Stmt). InScopes sigs type_of g (stmts x no_stmts)) e i) in
               let r = rec a1 n1 ns1 b1 e w.content in
               record { scoped_in = r.scoped_in; kept = λ f o x. K.inside b _ _ _ _ f o m first (r.kept f o x) }

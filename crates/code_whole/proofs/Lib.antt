@@ -1,15 +1,15 @@
 mod Needs
 mod Roles
 mod Shapes
-mod Openings
+pub mod Openings
 mod Standings
-mod Scoping
+pub mod Scoping
 mod Coming
 mod Stating
-mod Settling
-mod Lookup
+pub mod Settling
+pub mod Lookup
 mod Made
-mod Arguments
+pub mod Arguments
 mod Led
 mod Bases
 mod Fields

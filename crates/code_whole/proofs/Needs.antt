@@ -151,7 +151,7 @@ header_more k at ns gs hs f e h i = by (subst (λ (z : List Header). In h z) e i
     by (inr j) = f h j
 
 pub headers_fine : {k : ℕ} {st : Stmt} {hs : List Header} {b : Block} → Headers k st hs b → HeadersFine hs
-headers_fine {k} (one_header {at = at} {ns = ns} {hs = hs} e) = header_more k at ns [] hs (λ h i. absurd i) e
+headers_fine {k} (one_header {at = at} {ns = ns} {hs = hs} lone e) = header_more k at ns [] hs (λ h i. absurd i) e
 headers_fine {k} (more_headers {at = at} {ns = ns} {gs = gs} {hs = hs} h e) = header_more k at ns gs hs (headers_fine h) e
 
 pub headers_flat : (hs : List Header) → HeadersFine hs → AllFine (flat_map (λ h. h.needs) hs)

@@ -37,7 +37,7 @@ second_role : (t : Table) (v k : Word) (o : Over) (d : Block) → k.number ∈ r
 second_role t v k (T.array w) d = later first
 second_role t v k (T.range low high step) d = later first
 
-loop_sees : (t : Table) (v : Word) (u : Option Word) (o : Over) (d : Block) (g h : Scope) (b : Base) → LoopScope g v b u h → LoopSees g (loop_action t v u o d) h
+loop_sees : {γ : Base} (t : Table) (v : Word) (u : Option Word) (o : Over) (d : Block) (g h : Scope) (b : Base) → LoopScope g v b u γ h → LoopSees g (loop_action t v u o d) h
 loop_sees t v None o d g h b (rules.value_only (rules.fresh free)) x i = elim (split_in i) [
   | inl e ↦ inr (record { node = v.number; is = ap (λ (z : Visible). z.refers_to) e; role = first_role t v None o d; shape = ap (λ (z : Visible). is_array_shape z.type.shape) e })
   | inr j ↦ inl j

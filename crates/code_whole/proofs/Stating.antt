@@ -93,7 +93,7 @@ module _ (fs : List Signature) (t : Table) (g : Scope) where
   right_comes x s (rules.of_scalar h) = scalar_right x s h
   right_comes x s (rules.of_copy {nd = nd} {w = w} r) = fill_comes x nd.number ([], compute (whole (refers t w))) s (λ all z. (none_come fs t g all, seen_as fs t g r))
   right_comes x s (rules.of_list {nd = nd} {es = es} h) = fill_comes x nd.number (computes op.literal (operands_of t (expressions_of es))) s (λ all. all_come fs t g all h)
-  right_comes x s (rules.of_array_call {nd = nd} {w = w} {es = es} {f = f} {b = b} c h e) = called_right x nd w es f (many_of b) s c h e
+  right_comes x s (rules.of_array_call {nd = nd} {w = w} {es = es} {f = f} {κ = κ} {b = b} c h e) = called_right x nd w es f (many_of κ b) s c h e
 
   pub write_comes : (x : Name) {i e : Expression} {b c : Base} → SeesAs g x true → HasType fs t g i b → HasType fs t g e c → Plain (insert x (outer t i) (outer t e))
   write_comes x {i = i} {e = e} s h r =
@@ -175,12 +175,12 @@ module _ (fs : List Signature) (t : Table) (g : Scope) where
         own = tt;
       }
 
-  pub loop_comes : (v : Word) (u : Option Word) (o : Over) (d : Block) {b : Base} → SourceType fs t g o b → Fit (loop_action t v u o d)
+  pub loop_comes : (v : Word) (u : Option Word) (o : Over) (d : Block) {b c : Base} → SourceType fs t g o b c → Fit (loop_action t v u o d)
   loop_comes v u (T.array w) d (rules.of_elements r) = record { parts = none_come fs t g []; own = seen_as fs t g r }
   loop_comes v u (T.range low high step) d (rules.of_range h r q) = range_comes low high step v.number (option_map (λ x. x.number) u) d h r q
 
   awaited_comes : (sh : Shape) (x : Name) → SeesAs g x (is_array_shape sh) → AwaitedSeen g (awaited_as sh x)
-  awaited_comes Shape.Array x h = h
+  awaited_comes (Shape.Array κ) x h = h
   awaited_comes Shape.Scalar x h = h
 
   all_awaited : {ws : List Word} {τs : List Typ} → ReferAll t g ws τs → (x : Awaited) → x ∈ map (awaited t) ws → AwaitedSeen g x

@@ -10,7 +10,7 @@ use Rattle.code_rules.specs.Laying.{Kinds}
 
 abbrev pub is_array_shape : Shape → Bool
 is_array_shape Scalar = false
-is_array_shape Array = true
+is_array_shape (Array κ) = true
 
 abbrev pub kinds_of_signature : Signature → Kinds
 kinds_of_signature f = (map (λ (τ : Typ). is_array_shape τ.shape) f.inputs, map (λ (τ : Typ). is_array_shape τ.shape) f.outputs)

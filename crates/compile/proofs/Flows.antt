@@ -20,7 +20,7 @@ use Rattle.compile.specs.Compiled.{IsFlowFor}
 
 same_shape : (s : Shape) → is_array s ≡ is_array_shape s
 same_shape Shape.Scalar = refl
-same_shape Shape.Array = refl
+same_shape (Shape.Array κ) = refl
 
 map_same : {X Y : Type 0} (f g : X → Y) → ((x : X) → f x ≡ g x) → (xs : List X) → map f xs ≡ map g xs
 map_same f g h [] = refl

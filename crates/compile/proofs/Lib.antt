@@ -3,3 +3,4 @@ pub mod Flows
 pub mod Runs
 pub mod Scripts
 pub mod Sizes
+pub mod Alike

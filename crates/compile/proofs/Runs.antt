@@ -83,17 +83,17 @@ module _ (src : List ℕ) (t : Table) (tree : Tree) (a : IsAccepted src t tree) 
   folds_single : SinglyAssigned (core t (folded_tree tree))
   folds_single = singly_assigned (core t tree) (core t (folded_tree tree)) folds_same a.single
 
-kinds_stay : (fs : List Kinds) (tree : Tree) → KindsOf fs tree → KindsOf fs (folded_tree tree)
+pub kinds_stay : (fs : List Kinds) (tree : Tree) → KindsOf fs tree → KindsOf fs (folded_tree tree)
 kinds_stay fs tree k = k ∙ ap (λ (xs : List Signature). map kinds_of_signature xs) (sym (signatures_stay tree))
 
 kinds_back : (fs : List Kinds) (tree : Tree) → KindsOf fs (folded_tree tree) → KindsOf fs tree
 kinds_back fs tree k = k ∙ ap (λ (xs : List Signature). map kinds_of_signature xs) (signatures_stay tree)
 
 -- declared among these
-abbrev DeclaredAmong : List (ℕ × Bool) → List Declaration → Type 0
+abbrev pub DeclaredAmong : List (ℕ × Bool) → List Declaration → Type 0
 DeclaredAmong ds xs = (n : ℕ) (b : Bool) → ◌∈◌ {X = ℕ × Bool} (n, b) ds → (d : Declaration) × d ∈ xs × (d.name.number ≡ n) × (is_array_shape d.shape ≡ b)
 
-declared_stay : (ds : List (ℕ × Bool)) (tree : Tree) → DeclaredIn ds tree → DeclaredIn ds (folded_tree tree)
+pub declared_stay : (ds : List (ℕ × Bool)) (tree : Tree) → DeclaredIn ds tree → DeclaredIn ds (folded_tree tree)
 declared_stay ds tree h = subst (DeclaredAmong ds) (sym (tree_declares tree)) h
 
 declared_back : (ds : List (ℕ × Bool)) (tree : Tree) → DeclaredIn ds (folded_tree tree) → DeclaredIn ds tree

@@ -1,6 +1,8 @@
-//! What is emitted for a script, and what every run of it owes, whatever names its data have. Nothing here runs: each function has an empty body, and its contract is a law.
+//! What is emitted for a script, and what every run of it owes, whatever names its data have. Nothing here runs: each function has
+//! an empty body, and its contract is a law.
 ghost use Rattle.dataflow.specs.Machine.{Event};
 ghost use Rattle.dataflow.specs.Names.{IsFresh, IsNaming, NamedState, NamedStep, NamedSteps, named_start};
+ghost use Rattle.code_alike.specs.Alike.{AreAlike};
 ghost use Rattle.code_rules.specs.Emitted.{IsEmitted};
 ghost use Rattle.code_rules.specs.Laying.{Kinds};
 ghost use Rattle.compile.specs.Compiled.{IsCompiled};
@@ -20,11 +22,13 @@ ghost use Rattle.code_whole.specs.Described.{DeclaredIn, KindsOf};
 /// Code that is laid by the rules for the core of the fold of a script that a text reads as, with the rights that its entries lead to and no
 /// others, is the text's code: every run of it owes to the script what the headline says, and keeps all that `IsCompiled` says.
 pub fn emitted_code_is_compiled()
-    ensures { (src : List ℕ) (t : Table) (tree : Tree) (fs : List Kinds) (ds : List (ℕ × Bool)) (code : Code) → IsAccepted src t tree → KindsOf fs tree → DeclaredIn ds tree → IsEmitted (core t (folded_tree tree)) fs ds code → IsCompiled src code }
+    ensures { (src : List ℕ) (t : Table) (tree : Tree) (fs : List Kinds) (ds : List (ℕ × Bool)) (code : Code) → IsAccepted src t tree
+        → KindsOf fs tree → DeclaredIn ds tree → IsEmitted (core t (folded_tree tree)) fs ds code → IsCompiled src code }
 {}
 
-/// What every run of a script's code owes to the script, it owes for every choice of names of its data, each new datum taking any name that is not in use: where the script writes no key
-/// twice each state agrees with it, and a state that is quiet without fault has all of its meaning. And no step wants for names: from any supply of fresh ones each can be taken.
+/// What every run of a script's code owes to the script, it owes for every choice of names of its data, each new datum taking any
+/// name that is not in use: where the script writes no key twice each state agrees with it, and a state that is quiet without fault
+/// has all of its meaning. And no step wants for names: from any supply of fresh ones each can be taken.
 pub fn every_naming_of_scripts<N>()
     ensures agrees { (src : List ℕ) (code : Code) (w : IsCompiled src code) → Clean (core w.table w.tree) →
         (events : List Event) (st : NamedState (code_system code) N) →
@@ -37,4 +41,10 @@ pub fn every_naming_of_scripts<N>()
         (old : NamedState (code_system code) N) → IsNaming (code_system code) N old.names old.state.places →
         (event : Event) (new : CodeState) → CodeStep code old.state event new →
         (named : NamedState (code_system code) N) × (named.state ≡ new) × NamedStep (code_system code) N old event named }
+{}
+
+/// The code of a text is pinned: two codes of one text, whoever laid them, have the same bodies, and entry by entry they do the same
+/// with the same rights.
+pub fn codes_of_a_text_are_alike()
+    ensures { (src : List ℕ) (C D : Code) → IsCompiled src C → IsCompiled src D → AreAlike C D }
 {}

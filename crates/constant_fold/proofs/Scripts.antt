@@ -5,6 +5,7 @@ use Rattle.std.proofs.lemmas.Option.{none-some, same_Some}
 use Rattle.values.specs.Operators as op
 use Rattle.values.specs.Operators.{Operation}
 use Rattle.language.specs.declared.tree.Base.{Base}
+use Rattle.language.specs.declared.tree.Keys.TheVariants.{Numbers}
 use Rattle.language.specs.declared.tree.Shape.{Shape}
 use Rattle.language.specs.Core.{Name, here, Outer, Block}
 use Rattle.language.specs.Resolved.{refers, computes, call_right, composite_call, outer, outer_of, right_of, call_action, several, loop_action, block_of, block_in, with_statement, script_block, functions_of, core, operands_of, arguments_of, format_of}
@@ -55,8 +56,8 @@ module _ (t : Table) (fs : List Signature) (unnamed : (n : ℕ) (f : Signature) 
   right_same : {g : Scope} {r : RightSide} {τ : Typ} (x : Name) → RightType fs t g r τ → SameAction (right_of t x τ.shape r) (right_of t x τ.shape (folded_right r))
   right_same x (of_scalar {e} h) = scalar_right e x h
   right_same x (of_copy {nd} {w} r) = same_fill (outer_itself _)
-  right_same x (of_list {nd} {es} h) = list_right x Shape.Array nd es h
-  right_same x (of_array_call {nd} {w} {es} c h e) = call_right_same x Shape.Array nd w es c h
+  right_same x (of_list {nd} {es} h) = list_right x (Shape.Array Numbers) nd es h
+  right_same x (of_array_call {nd} {w} {es} {κ} c h e) = call_right_same x (Shape.Array κ) nd w es c h
 
   -- STATEMENTS
 
@@ -102,7 +103,7 @@ module _ (t : Table) (fs : List Signature) (unnamed : (n : ℕ) (f : Signature) 
   step_same no_step = same.no_step
   step_same {g} (a_step {e} h) = same.a_step (outer_same t e (folds t fs g unnamed h))
 
-  loop_same : {g : Scope} {o : Over} {b : Base} {c d : Block} (v : Word) (k : Option Word) → SourceType fs t g o b → SameBlock c d → SameAction (loop_action t v k o c) (loop_action t v k (folded_over o) d)
+  loop_same : {g : Scope} {o : Over} {b γ : Base} {c d : Block} (v : Word) (k : Option Word) → SourceType fs t g o b γ → SameBlock c d → SameAction (loop_action t v k o c) (loop_action t v k (folded_over o) d)
   loop_same v k (of_elements r) m = same_each m
   loop_same {g} v k (of_range {low} {high} h l s) m = same_range (outer_same t low (folds t fs g unnamed h)) (outer_same t high (folds t fs g unnamed l)) (step_same s) m
 

@@ -195,7 +195,7 @@ module _ (fs : List Signature) (t : Table) where
     step_typed no_step = no_step
     step_typed (a_step h) = a_step (typed h)
 
-    source_typed : {g : Scope} {o : Over} {b : Base} → SourceType fs t g o b → SourceType fs t g (folded_over o) b
+    source_typed : {g : Scope} {o : Over} {b c : Base} → SourceType fs t g o b c → SourceType fs t g (folded_over o) b c
     source_typed (of_elements r) = of_elements r
     source_typed (of_range h k s) = of_range (typed h) (typed k) (step_typed s)
 

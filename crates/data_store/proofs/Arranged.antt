@@ -1,47 +1,33 @@
--- Pairs in any order as elements by rising key.
-use Rattle.std.proofs.Common.{◌≡◌, ◌∙◌, sym, ap, subst, inl, inr, ℕ, suc, ◌<◌, ◌≤◌, ◌+◌, ◌-◌, List, [], ◌∷◌, ◌++◌, length, map, get_or, None, Some, true, false, arith, rules, refl}
-use Rattle.std.specs.Prelude.{Option, IsTrue, ℤ, All, is_some, max, if◌then◌else◌}
+-- Elements in any order by rising key.
+use Rattle.std.proofs.Common.{◌≡◌, ◌∙◌, sym, ap, subst, inl, inr, ℕ, zero, suc, ◌<◌, ◌≤◌, ◌+◌, ◌-◌, List, [], ◌∷◌, length, map, get_or, None, Some, true, false, arith, rules, refl}
+use Rattle.std.specs.Prelude.{Bool, Option, IsTrue, All, max, if◌then◌else◌}
 use Rattle.std.specs.Cmp.{IsStrictWeakOrder}
 use Rattle.std.specs.List.{IsDistinct, AllByRecursion}
 use Rattle.std.specs.List.Sorted.{IsPermutation, IsSortedBy}
-use Rattle.std.specs.Map.{lookup}
-use Rattle.std.specs.Ordering.{int_eq}
 use Rattle.std.proofs.lemmas.Bool.{cases_Bool}
 use Rattle.std.proofs.lemmas.Grind.{common_steps}
-use Rattle.std.proofs.lemmas.Int.{ints}
-use Rattle.std.proofs.lemmas.Cmp.{int_eq_equiv}
-use Rattle.std.proofs.lemmas.Bool.Decides.{Decides-int_eq}
-use Rattle.std.proofs.lemmas.Map.Entries.{lookup_from_place}
-use Rattle.std.proofs.lemmas.Option.{slice_get-get_or}
 use Rattle.std.proofs.lemmas.Map.Keys.{IsDistinct-head, IsDistinct-tail, IsDistinct-IsPermutation}
-use Rattle.std.proofs.lemmas.List.Elements.{All-map}
 use Rattle.std.proofs.lemmas.List.Sorted.{IsPermutation-map, All-permutation, length_permutation}
 use Rattle.values.specs.declared.key.Key.{Key}
-use Rattle.values.specs.declared.key.Key.TheVariants.{Number}
 use Rattle.values.specs.declared.map.Element.{Element}
 use Rattle.values.specs.declared.value.Scalar.{Scalar}
 use Rattle.values.specs.Keys.{key_below, same_key}
 use Rattle.values.specs.Maps.{rising, found, inserted, element}
 use Rattle.values.proofs.Keys.{key_below-trans, key_below-asymmetric, same_key-refl, same_key-eq, same_key-other, key_below-other, below_differs, above_differs}
 use Rattle.values.proofs.Maps.{found-none, rising-tail, rising-first, rising-inserted, found-inserted, found-inserted_other}
-use Rattle.data_store.specs.Arrays.{Array, arranged, element_of, IsKept, with_room, with_element}
-use Rattle.data_store.specs.Filled.{IsPut}
+use Rattle.data_store.specs.Arrays.{Table, arranged, IsKept, with_places, with_entry}
 
--- what a key finds among them is what it finds in the table
-pub found_arranged : (q : ℤ) (es : List (ℤ × Scalar)) → found (Number q) (arranged es) ≡ lookup (int_eq q) es
-found_arranged q [] = refl
-found_arranged q (e ∷ es) = elim (cases_Bool (int_eq q e.0)) [
-  | inl same ↦ rw (same, same_key-eq (Number q) (Number e.0) same) (found-inserted (Number e.0) e.1 (arranged es))
-  | inr other ↦ rw other (found-inserted_other (Number e.0) (Number q) e.1 (arranged es) (same_key-other (Number q) (Number e.0) other) ∙ found_arranged q es)
+-- what a key finds in rising order is what it finds first in any order
+pub found_arranged : (k : Key) (es : List Element) → found k (arranged es) ≡ found k es
+found_arranged k [] = refl
+found_arranged k (e ∷ es) = elim (cases_Bool (same_key e.key k)) [
+  | inl same ↦ rw same (subst (λ j. found j (inserted e.key e.value (arranged es)) ≡ Some e.value) (same_key-eq e.key k same) (found-inserted e.key e.value (arranged es)))
+  | inr other ↦ rw other (found-inserted_other e.key k e.value (arranged es) other ∙ found_arranged k es)
 ]
 
--- the same of a key that stands for that number
-pub found_by_key : (key : Key) (k : ℤ) (es : List (ℤ × Scalar)) → key ≡ Number k → found key (arranged es) ≡ lookup (int_eq k) es
-found_by_key key k es is = subst (λ j. found j (arranged es) ≡ lookup (int_eq k) es) (sym is) (found_arranged k es)
-
-pub rising_arranged : (es : List (ℤ × Scalar)) → IsTrue (rising (arranged es))
+pub rising_arranged : (es : List Element) → IsTrue (rising (arranged es))
 rising_arranged [] = search rules
-rising_arranged (e ∷ es) = rising-inserted (Number e.0) e.1 (arranged es) (rising_arranged es)
+rising_arranged (e ∷ es) = rising-inserted e.key e.value (arranged es) (rising_arranged es)
 
 pub length_inserted : (k : Key) (v : Scalar) (es : List Element) → found k es ≡ None → length (inserted k v es) ≡ length es + 1
 length_inserted k v [] h = omega arith
@@ -148,28 +134,25 @@ rising_sorted (e ∷ f ∷ es) u h =
     let up : key_below e.key f.key ≡ true = key_below-other f.key e.key (same_key-other e.key f.key apart) (h 0 1 e refl (omega arith)) in
     rw up (rising_sorted (f ∷ es) (IsDistinct-tail same_key e.key (map (λ x. x.key) (f ∷ es)) u) (λ i j d q l. h (suc i) (suc j) d (ap suc q) (omega arith)))
 
-apart_from : (n : ℤ) (es : List (ℤ × Scalar)) → AllByRecursion (λ m. int_eq n m ≡ false) (map (λ e. e.0) es) → AllByRecursion (λ k. same_key (Number n) k ≡ false) (map (λ e. e.key) (map element_of es))
-apart_from n [] a = tt
-apart_from n (e ∷ es) a = (a.0, apart_from n es a.1)
-
--- keys that differ in the table differ as keys of elements
-pub distinct_elements : (es : List (ℤ × Scalar)) → IsDistinct int_eq (map (λ e. e.0) es) → IsDistinct same_key (map (λ e. e.key) (map element_of es))
-unfolding IsDistinct
-distinct_elements [] u = tt
-distinct_elements (e ∷ es) u = (apart_from e.0 es u.0, distinct_elements es u.1)
-
 pub comes_before_orders : IsStrictWeakOrder (λ (a : Element) (b : Element). key_below a.key b.key)
 comes_before_orders = record { one_way = λ a b h. key_below-asymmetric a.key b.key h; chain = λ a b c p q. chain_of a.key b.key c.key p q } where
+  both_ways : (b : Bool) → b ≡ true → b ≡ false → ⊥
+  both_ways b p q = true_false (sym p ∙ q) where
+    true_false : true ≡ false → ⊥
+    true_false e = cc
+
+  not_between : (a b c : Key) → key_below a b ≡ false → key_below b c ≡ false → key_below a c ≡ true → ⊥
+  not_between a b c p q low = elim (cases_Bool (same_key a b)) [
+    | inl same ↦ both_ways (key_below b c) (subst (λ k. key_below k c ≡ true) (same_key-eq a b same) low) q
+    | inr other ↦ both_ways (key_below b c) (key_below-trans b a c (key_below-other a b other p) low) q
+  ]
+
   chain_of : (a b c : Key) → key_below a b ≡ false → key_below b c ≡ false → key_below a c ≡ false
-  chain_of (Number a) (Number b) (Number c) p q = grind (arith, ints)
+  chain_of a b c p q = elim (cases_Bool (key_below a c)) [ inl low ↦ absurd (not_between a b c p q low) | inr high ↦ high ]
 
 all_by_recursion : {X : Type 0} (P : X → Type 0) (xs : List X) → All P xs → AllByRecursion P xs
 all_by_recursion P [] a = tt
 all_by_recursion P (x ∷ xs) a = (a 0 x (omega arith), all_by_recursion P xs (λ j d l. a (suc j) d (omega arith)))
-
-length_elements : (es : List (ℤ × Scalar)) → length (map element_of es) ≡ length es
-length_elements [] = refl
-length_elements (e ∷ es) = ap suc (length_elements es)
 
 same_key_flips : (x y : Key) → same_key x y ≡ same_key y x
 same_key_flips x y = elim (cases_Bool (same_key x y)) [
@@ -200,99 +183,94 @@ length_inserted_most k v (e ∷ es) = elim (cases_Bool (same_key e.key k)) [
   ]
 ]
 
-length_arranged_most : (es : List (ℤ × Scalar)) → length (arranged es) ≤ length es
+length_arranged_most : (es : List Element) → length (arranged es) ≤ length es
 length_arranged_most [] = omega arith
-length_arranged_most (e ∷ es) = omega (arith, length_arranged_most es, length_inserted_most (Number e.0) e.1 (arranged es))
+length_arranged_most (e ∷ es) = omega (arith, length_arranged_most es, length_inserted_most e.key e.value (arranged es))
 
 none_some_pair : {X : Type 0} (v : Scalar) → ◌≡◌ {A = Option Scalar} (Some v) None → X
 none_some_pair v e = absurd (cc)
 
 -- a key that finds nothing is none of the keys
-apart_all : (n : ℤ) (es : List (ℤ × Scalar)) → lookup (int_eq n) es ≡ None → AllByRecursion (λ m. int_eq n m ≡ false) (map (λ e. e.0) es)
-apart_all n [] h = tt
-apart_all n (e ∷ es) h = elim (cases_Bool (int_eq n e.0)) [
-  | inl same ↦ let h' = rw same at h in none_some_pair e.1 h'
-  | inr other ↦ let h' = rw other at h in (other, apart_all n es h')
+apart_all : (k : Key) (es : List Element) → found k es ≡ None → AllByRecursion (λ m. same_key k m ≡ false) (map (λ e. e.key) es)
+apart_all k [] h = tt
+apart_all k (e ∷ es) h = elim (cases_Bool (same_key e.key k)) [
+  | inl same ↦ let h' = rw same at h in none_some_pair e.value h'
+  | inr other ↦ let h' = rw other at h in (same_key-other e.key k other, apart_all k es h')
 ]
 
-map_both : (es fs : List (ℤ × Scalar)) → map element_of es ++ map element_of fs ≡ map element_of (es ++ fs)
-map_both [] fs = refl
-map_both (e ∷ es) fs = ap (λ xs. element_of e ∷ xs) (map_both es fs)
+apart_at : (k : Key) (es : List Element) → AllByRecursion (λ m. same_key k m ≡ false) (map (λ e. e.key) es) → (j : ℕ) (d : Element) → j < length es → same_key k (get_or es j d).key ≡ false
+apart_at k [] a j d l = absurd (omega (arith, l))
+apart_at k (e ∷ es) a zero d l = a.0
+apart_at k (e ∷ es) a (suc j) d l = apart_at k es a.1 j d (omega (arith, l))
 
--- pairs that are listed one behind the other
-pub listed_both : (es fs : List (ℤ × Scalar)) (xs ys zs : List Element) → xs ≡ [] → ys ≡ xs ++ map element_of es → zs ≡ ys ++ map element_of fs → zs ≡ map element_of (es ++ fs)
-listed_both es fs xs ys zs none first second =
-    second ∙ ap (λ (us : List Element). us ++ map element_of fs) (first ∙ ap (λ (us : List Element). us ++ map element_of es) none) ∙ map_both es fs
-
--- where no pair is lost, the keys differ
-pub distinct_arranged : (es : List (ℤ × Scalar)) → length (arranged es) ≡ length es → IsDistinct int_eq (map (λ e. e.0) es)
+-- where no element is lost, the keys differ
+distinct_arranged : (es : List Element) → length (arranged es) ≡ length es → IsDistinct same_key (map (λ e. e.key) es)
 unfolding IsDistinct
 distinct_arranged [] l = tt
 distinct_arranged (e ∷ es) l =
-    let most = length_inserted_most (Number e.0) e.1 (arranged es) in
+    let most = length_inserted_most e.key e.value (arranged es) in
     let short : length (arranged es) ≡ length es = omega (arith, l, most, length_arranged_most es) in
-    let longer : length (inserted (Number e.0) e.1 (arranged es)) ≡ length (arranged es) + 1 = omega (arith, l, short) in
-    (apart_all e.0 es (sym (found_arranged e.0 es) ∙ absent_if_longer (Number e.0) e.1 (arranged es) (rising_arranged es) longer), distinct_arranged es short)
+    let longer : length (inserted e.key e.value (arranged es)) ≡ length (arranged es) + 1 = omega (arith, l, short) in
+    (apart_all e.key es (sym (found_arranged e.key es) ∙ absent_if_longer e.key e.value (arranged es) (rising_arranged es) longer), distinct_arranged es short)
 
--- and each pair is found by its key
-each_found : (es : List (ℤ × Scalar)) → IsDistinct int_eq (map (λ e. e.0) es) → All (λ e. lookup (int_eq e.0) es ≡ Some e.1) es
-each_found es u k d l = lookup_from_place int_eq_equiv es k (get_or es k d).0 (get_or es k d).1 u (slice_get-get_or es k d l)
+-- and each element is found by its key
+each_found : (es : List Element) → IsDistinct same_key (map (λ e. e.key) es) → All (λ e. found e.key es ≡ Some e.value) es
+each_found [] u j d l = absurd (omega (arith, l))
+each_found (e ∷ es) u zero d l = found_here e es
+each_found (e ∷ es) u (suc j) d l =
+    found_behind (get_or es j d).key e es (apart_at e.key es (IsDistinct-head same_key e.key (map (λ x. x.key) es) u) j d (omega (arith, l)))
+    ∙ each_found es (IsDistinct-tail same_key e.key (map (λ x. x.key) es) u) j d (omega (arith, l))
 
 -- what a sort by keys makes of elements whose keys differ
-pub sorted_is_arranged : (es : List (ℤ × Scalar)) (xs ys : List Element) → xs ≡ map element_of es → IsPermutation xs ys → IsSortedBy (λ (a : Element) (b : Element). key_below a.key b.key) ys → length (arranged es) ≡ length es → ys ≡ arranged es
-sorted_is_arranged es xs ys e moved up l =
-    let u : IsDistinct int_eq (map (λ e. e.0) es) = distinct_arranged es l in
-    let f : All (λ e. lookup (int_eq e.0) es ≡ Some e.1) es = each_found es u in
-    let p : IsPermutation (map element_of es) ys = subst (λ zs. IsPermutation zs ys) e moved in
+pub sorted_is_arranged : (es ys : List Element) → IsPermutation es ys → IsSortedBy (λ (a : Element) (b : Element). key_below a.key b.key) ys → length (arranged es) ≡ length es → ys ≡ arranged es
+sorted_is_arranged es ys p up l =
+    let u : IsDistinct same_key (map (λ x. x.key) es) = distinct_arranged es l in
     let apart : IsDistinct same_key (map (λ x. x.key) ys) =
-    IsDistinct-IsPermutation same_key same_key_flips (map (λ x. x.key) (map element_of es)) (map (λ x. x.key) ys) (IsPermutation-map (λ x. x.key) (map element_of es) ys p) (distinct_elements es u) in
+    IsDistinct-IsPermutation same_key same_key_flips (map (λ x. x.key) es) (map (λ x. x.key) ys) (IsPermutation-map (λ x. x.key) es ys p) u in
     let finds : All (λ (x : Element). found x.key (arranged es) ≡ Some x.value) ys =
-    All-permutation (λ (x : Element). found x.key (arranged es) ≡ Some x.value) (map element_of es) ys p
-    (All-map (λ (x : Element). found x.key (arranged es) ≡ Some x.value) element_of es (λ k d m. found_arranged (get_or es k d).0 es ∙ f k d m)) in
+    All-permutation (λ (x : Element). found x.key (arranged es) ≡ Some x.value) es ys p (λ k d m. found_arranged (get_or es k d).key es ∙ each_found es u k d m) in
     same_found_in ys (arranged es)
     (rising_sorted ys apart (λ i j d q m. subst (λ n. key_below (get_or ys n d).key (get_or ys i d).key ≡ false) (add_one i ∙ sym q) (up i d (omega arith) (omega (arith, m, q)))))
-    (rising_arranged es) (length_permutation (map element_of es) ys p ∙ length_elements es ∙ sym l) (all_by_recursion (λ x. found x.key (arranged es) ≡ Some x.value) ys finds) where
+    (rising_arranged es) (length_permutation es ys p ∙ sym l) (all_by_recursion (λ x. found x.key (arranged es) ≡ Some x.value) ys finds) where
       add_one : (i : ℕ) → i + 1 ≡ suc i
       add_one i = omega arith
 
--- one more pair is one more element
-pub arranged_more : (k : ℤ) (v : Scalar) (es fs : List (ℤ × Scalar)) → ((q : ℤ) → lookup (int_eq q) fs ≡ (if int_eq k q then Some v else lookup (int_eq q) es)) → arranged fs ≡ inserted (Number k) v (arranged es)
-arranged_more k v es fs h = same_found (arranged fs) (inserted (Number k) v (arranged es)) (rising_arranged fs) (rising-inserted (Number k) v (arranged es) (rising_arranged es)) finds where
-  finds : (j : Key) → found j (arranged fs) ≡ found j (inserted (Number k) v (arranged es))
-  finds (Number q) = elim (cases_Bool (int_eq k q)) [
+-- one more is found under its key, and nothing else has changed
+abbrev pub FindsMore : Key → Scalar → List Element → List Element → Type 0
+FindsMore k v es fs = (j : Key) → found j fs ≡ (if same_key k j then Some v else found j es)
+
+-- one more element
+pub arranged_more : (k : Key) (v : Scalar) (es fs : List Element) → FindsMore k v es fs → arranged fs ≡ inserted k v (arranged es)
+arranged_more k v es fs h = same_found (arranged fs) (inserted k v (arranged es)) (rising_arranged fs) (rising-inserted k v (arranged es) (rising_arranged es)) finds where
+  finds : (j : Key) → found j (arranged fs) ≡ found j (inserted k v (arranged es))
+  finds j = elim (cases_Bool (same_key k j)) [
     | inl same ↦
-        let e : Number k ≡ Number q = same_key-eq (Number k) (Number q) same in
-        found_arranged q fs ∙ h q ∙ rw same (subst (λ j. Some v ≡ found j (inserted (Number k) v (arranged es))) e (sym (found-inserted (Number k) v (arranged es))))
-    | inr other ↦
-        found_arranged q fs ∙ h q ∙ rw other (sym (found-inserted_other (Number k) (Number q) v (arranged es) other ∙ found_arranged q es))
+        found_arranged j fs ∙ h j ∙ rw same (subst (λ i. Some v ≡ found i (inserted k v (arranged es))) (same_key-eq k j same) (sym (found-inserted k v (arranged es))))
+    | inr other ↦ found_arranged j fs ∙ h j ∙ rw other (sym (found-inserted_other k j v (arranged es) other ∙ found_arranged j es))
   ]
 
--- the same pairs in another order are the same elements
-pub arranged_same : (es fs : List (ℤ × Scalar)) → ((q : ℤ) → lookup (int_eq q) fs ≡ lookup (int_eq q) es) → arranged fs ≡ arranged es
-arranged_same es fs h = same_found (arranged fs) (arranged es) (rising_arranged fs) (rising_arranged es) finds where
-  finds : (j : Key) → found j (arranged fs) ≡ found j (arranged es)
-  finds (Number q) = found_arranged q fs ∙ h q ∙ sym (found_arranged q es)
+-- the same elements in another order
+pub arranged_same : (es fs : List Element) → ((j : Key) → found j fs ≡ found j es) → arranged fs ≡ arranged es
+arranged_same es fs h = same_found (arranged fs) (arranged es) (rising_arranged fs) (rising_arranged es) (λ j. found_arranged j fs ∙ h j ∙ sym (found_arranged j es))
 
--- with one more pair they are kept too, with one place less of the room
-pub kept_more : {spare less room : ℕ} {sorted : Option (List Element)} (key : Key) (k : ℤ) (v : Scalar) (es fs : List (ℤ × Scalar)) → IsKept es spare sorted room → key ≡ Number k → found key (arranged es) ≡ None → IsPut k v es fs → spare ≤ less + 1 → IsKept fs less None (room - 1)
-kept_more key k v es fs kept is absent put s =
-    let absent' : found (Number k) (arranged es) ≡ None = subst (λ j. found j (arranged es) ≡ None) is absent in
-    let more : arranged fs ≡ inserted (Number k) v (arranged es) = arranged_more k v es fs put.finds in
+-- with one more element they are kept too, with one place less of the room
+pub kept_more : {spare less room : ℕ} {sorted : Option (List Element)} (k : Key) (v : Scalar) (es fs : List Element) → IsKept es spare sorted room → found k (arranged es) ≡ None → FindsMore k v es fs → length fs ≡ length es + 1 → spare ≤ less + 1 → IsKept fs less None (room - 1)
+kept_more k v es fs kept absent finds long s =
     record {
-      counted = omega (arith, ap length more, length_inserted (Number k) v (arranged es) absent', kept.counted, put.longer);
+      counted = omega (arith, ap length (arranged_more k v es fs finds), length_inserted k v (arranged es) absent, kept.counted, long);
       in_order = tt;
       has_room = omega (arith, kept.has_room, s);
     }
 
--- and so they are with the same pairs
-pub kept_same : {spare more room : ℕ} {sorted : Option (List Element)} (es fs : List (ℤ × Scalar)) → IsKept es spare sorted room → ((q : ℤ) → lookup (int_eq q) fs ≡ lookup (int_eq q) es) → length fs ≡ length es → (n : ℕ) → n ≤ more → IsKept fs more None n
+-- and so they are in another order
+pub kept_same : {spare more room : ℕ} {sorted : Option (List Element)} (es fs : List Element) → IsKept es spare sorted room → ((j : Key) → found j fs ≡ found j es) → length fs ≡ length es → (n : ℕ) → n ≤ more → IsKept fs more None n
 kept_same es fs kept h long n s =
     record { counted = omega (arith, ap length (arranged_same es fs h), kept.counted, long); in_order = tt; has_room = s }
 
-pub room_grown : (new old : List Element) (n room : ℕ) → new ≡ old → room < n → ◌≡◌ {A = Array} (record { elements = new; room = n }) (with_room n (record { elements = old; room = room }))
+pub room_grown : (new old : List Element) (n room : ℕ) → new ≡ old → room < n → ◌≡◌ {A = Table} (record { entries = new; places = n }) (with_places n (record { entries = old; places = room }))
 room_grown new old n room e l =
     let m : n ≡ max room n = omega (arith, l) in
-    subst (λ r. ◌≡◌ {A = Array} (record { elements = new; room = n }) (record { elements = old; room = r })) m (ap (λ es. record { elements = es; room = n }) e)
+    subst (λ r. ◌≡◌ {A = Table} (record { entries = new; places = n }) (record { entries = old; places = r })) m (ap (λ es. record { entries = es; places = n }) e)
 
-pub element_added : (key : Key) (v : Scalar) (new old : List Element) (less room : ℕ) → new ≡ inserted key v old → less ≡ room - 1 → ◌≡◌ {A = Array} (record { elements = new; room = less }) (with_element key v (record { elements = old; room = room }))
-element_added key v new old less room e l = subst (λ r. ◌≡◌ {A = Array} (record { elements = new; room = less }) (record { elements = inserted key v old; room = r })) l (ap (λ es. record { elements = es; room = less }) e)
+pub element_added : (k : Key) (v : Scalar) (new old : List Element) (less room : ℕ) → new ≡ inserted k v old → less ≡ room - 1 → ◌≡◌ {A = Table} (record { entries = new; places = less }) (with_entry k v (record { entries = old; places = room }))
+element_added k v new old less room e l = subst (λ r. ◌≡◌ {A = Table} (record { entries = new; places = less }) (record { entries = inserted k v old; places = r })) l (ap (λ es. record { entries = es; places = less }) e)

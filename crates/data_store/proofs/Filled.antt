@@ -1,15 +1,15 @@
 -- What slots in a row find, and what slots and a table find together.
-use Rattle.std.proofs.Common.{◌≡◌, ◌∙◌, sym, ap, subst, inl, inr, ℕ, zero, suc, ◌<◌, ◌≤◌, ◌+◌, List, [], ◌∷◌, ◌++◌, length, length-append, None, Some, true, false, arith, rules, refl}
+use Rattle.std.proofs.Common.{◌≡◌, ◌∙◌, sym, ap, subst, inl, inr, ℕ, zero, suc, ◌<◌, ◌≤◌, ◌+◌, List, [], ◌∷◌, ◌++◌, length, length-append, None, Some, true, false, arith, refl}
 use Rattle.std.specs.Prelude.{Option, ℤ, pos, negsuc, Bool, is_some, slice_set, slice_index_or, if◌then◌else◌}
 use Rattle.std.specs.Option.{option_or}
 use Rattle.std.specs.Map.{lookup}
 use Rattle.std.specs.Ordering.{int_eq}
-use Rattle.std.proofs.lemmas.Bool.{cases_Bool}
+use Rattle.std.proofs.lemmas.Bool.{cases_Bool, cases_lt}
 use Rattle.std.proofs.lemmas.Int.{ints}
 use Rattle.std.proofs.lemmas.List.{get_or-set_other, get_or-set_same}
 use Rattle.values.specs.declared.value.Scalar.{Scalar}
 use Rattle.values.specs.declared.key.Key.TheVariants.{Number}
-use Rattle.values.proofs.Keys.{same_key-refl, same_key-eq}
+use Rattle.values.proofs.Keys.{same_key-eq}
 use Rattle.data_store.specs.Filled.{filled, IsPut}
 
 pos_same : (m n : ℕ) → m ≡ n → int_eq (pos m) (pos n) ≡ true
@@ -87,9 +87,17 @@ finds_more j v xs l (negsuc m) = at_no_place m (slice_set xs j (Some v)) ∙ sym
 pub found_at : (key : ℤ) (j : ℕ) (r : Option Scalar) (xs : List (Option Scalar)) → key ≡ pos j → r ≡ slice_index_or xs j None → r ≡ lookup (int_eq key) (filled 0 xs)
 found_at key j r xs is at = subst (λ k. r ≡ lookup (int_eq k) (filled 0 xs)) (sym is) (at ∙ sym (at_place j xs))
 
-pub found_nowhere : (key : ℤ) (xs : List (Option Scalar)) → ((j : ℕ) → key ≡ pos j → ⊥) → None ≡ lookup (int_eq key) (filled 0 xs)
-found_nowhere (pos n) xs h = absurd (h n refl)
-found_nowhere (negsuc n) xs h = sym (at_no_place n xs)
+behind_all : (j : ℕ) (xs : List (Option Scalar)) → length xs ≤ j → slice_index_or xs j None ≡ None
+behind_all j [] l = refl
+behind_all zero (x ∷ xs) l = absurd (omega (arith, l))
+behind_all (suc j) (x ∷ xs) l = behind_all j xs (omega (arith, l))
+
+pub found_nowhere : (most : ℕ) (key : ℤ) (xs : List (Option Scalar)) → ((j : ℕ) → j < most → key ≡ pos j → ⊥) → length xs ≤ most → None ≡ lookup (int_eq key) (filled 0 xs)
+found_nowhere most (pos n) xs h l = elim (cases_lt n most) [
+  | inl less ↦ absurd (h n less refl)
+  | inr more ↦ sym (at_place n xs ∙ behind_all n xs (omega (arith, l, more)))
+]
+found_nowhere most (negsuc n) xs h l = sym (at_no_place n xs)
 
 put_in_slot : (key : ℤ) (j : ℕ) (v : Scalar) (xs : List (Option Scalar)) → key ≡ pos j → j < length xs → lookup (int_eq key) (filled 0 xs) ≡ None → IsPut key v (filled 0 xs) (filled 0 (slice_set xs j (Some v)))
 put_in_slot key j v xs is l absent =

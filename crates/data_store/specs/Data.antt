@@ -81,5 +81,5 @@ RefusesPut x _ = ⊥
 abbrev pub RefusesInsert : Key → Datum → Refusal → Type 0
 RefusesInsert k x Closed = x.writes ≡ 0
 RefusesInsert k x ElementTwice = (0 < x.writes) × IsSome (found k (array_in x.content).elements)
-RefusesInsert k x Memory = (0 < x.writes) × (found k (array_in x.content).elements ≡ None) × ((array_in x.content).room ≡ 0)
+RefusesInsert k x Memory = (0 < x.writes) × (found k (array_in x.content).elements ≡ None) × (arrays.room_for k (array_in x.content) ≡ 0)
 RefusesInsert k x AlreadySet = ⊥

@@ -1,13 +1,14 @@
 //! One datum: what it holds, and its two counts.
 ghost use Rattle.std.specs.Prelude.{◌≡◌, ◌+◌, ◌<◌, ◌≤◌, ◌^◌, None, length, IfErr, IfOk, IsOk, OnOk, OnErr, option_copied};
 ghost use Rattle.values.specs.Maps.{found};
-ghost use Rattle.data_store.specs.Arrays.{with_element, with_room};
+ghost use Rattle.values.specs.Keys.{key_seen};
+ghost use Rattle.data_store.specs.Arrays.{room_for, with_element, with_room, with_room_for};
 ghost use Rattle.data_store.specs.Data.{nothing, shape_of, IsScalar, IsArray, value_of, array_in, with_value, with_array, with_holds, without_read, without_write, is_spent, RefusesPut, RefusesInsert};
 
 use crate::elements::Elements;
 use crate::refusal::Refusal;
 use std::alloc::{AllocError, Global};
-use values::key::Key;
+use values::key::{Key, KeyRef};
 use values::map::Map;
 use values::value::Scalar;
 
@@ -55,8 +56,9 @@ impl Content {
         }
     }
 
-    pub fn element(&self, key: &Key) -> Option<&Scalar>
-        ensures { option_copied result ≡ found key.now (array_in self.now).elements }
+    #[inline(always)]
+    pub fn element(&self, key: KeyRef<'_>) -> Option<&Scalar>
+        ensures { option_copied result ≡ found (key_seen key.entry) (array_in self.now).elements }
     {
         match self {
             Content::OfArray(elements) => elements.get(key),
@@ -110,6 +112,7 @@ impl Datum {
         }
     }
 
+    #[inline(always)]
     pub fn insert(&mut self, alloc: Global, key: Key, value: Scalar) -> Result<(), Refusal>
         requires { IsArray self.old.content }
         ensures ok { OnOk result ((0 < self.old.writes) × (found key (array_in self.old.content).elements ≡ None) × (self.new ≡ with_array (with_element key value) self.old)) }
@@ -121,7 +124,7 @@ impl Datum {
         }
         match &mut self.content {
             Content::OfArray(elements) => {
-                if elements.get(&key).is_some() {
+                if elements.get(key.as_ref()).is_some() {
                     return Err(Refusal::ElementTwice);
                 }
                 match elements.insert(alloc, key, value) {
@@ -136,11 +139,28 @@ impl Datum {
     pub fn reserve(&mut self, alloc: Global, n: usize) -> Result<(), AllocError>
         requires { IsArray self.old.content }
         ensures ok { OnOk result (self.new ≡ with_array (with_room n) self.old) }
-        ensures succeeds { n ≤ (array_in self.old.content).room → IsOk result }
-        ensures err { OnErr result (self.new ≡ self.old) }
+        ensures succeeds { n ≤ (array_in self.old.content).room → n ≤ (array_in self.old.content).text_room → IsOk result }
     {
         match &mut self.content {
             Content::OfArray(elements) => elements.reserve(alloc, n),
+            Content::OfScalar(_) => unreachable!(),
+        }
+    }
+
+    #[inline(always)]
+    pub fn reserve_for(
+        &mut self,
+        alloc: Global,
+        key: KeyRef<'_>,
+        n: usize,
+    ) -> Result<(), AllocError>
+        requires { IsArray self.old.content }
+        ensures ok { OnOk result (self.new ≡ with_array (with_room_for (key_seen key.entry) n) self.old) }
+        ensures succeeds { n ≤ room_for (key_seen key.entry) (array_in self.old.content) → IsOk result }
+        ensures err { OnErr result (self.new ≡ self.old) }
+    {
+        match &mut self.content {
+            Content::OfArray(elements) => elements.reserve_for(alloc, key, n),
             Content::OfScalar(_) => unreachable!(),
         }
     }

@@ -1,193 +1,104 @@
-//! The elements of an array: found by their keys in slots or in a hash table, and listed by rising key once they are asked for.
-ghost use Rattle.std.specs.Prelude.{◌≡◌, ◌<◌, ◌≤◌, ◌+◌, ◌++◌, None, length, map, IfOk, IsOk, OnOk, OnErr, option_copied};
-ghost use Rattle.std.specs.HashMap.{spare};
-ghost use Rattle.std.specs.Map.{lookup};
-ghost use Rattle.std.specs.Ordering.{int_eq, is_lt};
-ghost use Rattle.values.specs.Keys.{key_below};
+//! The elements of an array, those under numbers and those under texts each by themselves: an array of a script has keys of one kind.
+ghost use Rattle.std.specs.Prelude.{◌≡◌, ◌<◌, ◌≤◌, ◌+◌, ◌^◌, ◌++◌, None, length, IfOk, IsOk, OnOk, OnErr, option_copied};
+ghost use Rattle.values.specs.Keys.{key_seen};
 ghost use Rattle.values.specs.Maps.{found};
-ghost use Rattle.data_store.specs.Arrays.{arranged, element_of, empty, with_element, with_room};
-ghost use Rattle.data_store.specs.Filled.{IsPut};
+ghost use Rattle.data_store.specs.Arrays.{empty, limited, room_for, table_of, with_element, with_entry, with_places, with_room, with_room_for, AreParted};
 
-use crate::slots::Slots;
+use crate::named::Named;
+use crate::numbered::Index;
 use std::alloc::{AllocError, Global};
-use std::cmp::Ordering;
-use std::collections::HashMap;
 use std::marker::Model;
-use values::key::Key;
+use values::key::{Key, KeyRef};
 use values::map::{Element, Map};
+use values::text::Text;
 use values::value::Scalar;
-
-/// The elements, with a list of them that is made when it is first asked for.
-#[derive(Drop)]
-pub struct Index {
-    // The elements under small keys, as long as there is memory for their slots.
-    slots: Slots,
-    // The others. It has spare places for all the room, so that an element without a slot finds one.
-    by_key: HashMap<i64, Scalar>,
-    // All elements, from the first call of `whole` to the next insert.
-    sorted: Option<Map>,
-    room: usize,
-}
-
-impl Model for Index {
-    ghost use Rattle.std.specs.Prelude.{◌++◌};
-    ghost use Rattle.std.specs.HashMap.{spare};
-    ghost use Rattle.data_store.specs.Arrays.{Array, arranged, IsKept};
-
-    ghost Value = { Array };
-
-    ghost view = { λ a. record { elements = arranged (a.slots ++ a.by_key.entries); room = a.room } };
-
-    ghost invariant = { λ a. IsKept (a.slots ++ a.by_key.entries) (spare a.by_key) a.sorted a.room };
-}
-
-impl Index {
-    pub fn new(alloc: Global) -> Index
-        ensures { result ≡ empty }
-    {
-        Index {
-            slots: Slots::new(alloc),
-            by_key: HashMap::new(alloc),
-            sorted: None,
-            room: 0,
-        }
-    }
-
-    pub fn len(&self) -> usize
-        ensures { result ≡ length self.now.elements }
-    {
-        self.slots.len() + self.by_key.len()
-    }
-
-    pub fn get(&self, key: &Key) -> Option<&Scalar>
-        ensures { option_copied result ≡ found key.now self.now.elements }
-    {
-        let n = number(key);
-        match self.slots.get(n) {
-            Some(value) => Some(value),
-            None => self.by_key.get(&n),
-        }
-    }
-
-    pub fn reserve(&mut self, n: usize) -> Result<(), AllocError>
-        ensures ok { OnOk result (self.new ≡ with_room n self.old) }
-        ensures succeeds { n ≤ self.old.room → IsOk result }
-        ensures err { OnErr result (self.new ≡ self.old) }
-    {
-        if self.room < n {
-            self.by_key.reserve(n)?;
-            self.sorted = None;
-            self.room = n;
-        }
-        Ok(())
-    }
-
-    pub fn insert(&mut self, key: Key, value: Scalar) -> Result<(), AllocError>
-        requires { found key self.old.elements ≡ None }
-        ensures ok { OnOk result (self.new ≡ with_element key value self.old) }
-        ensures succeeds { 0 < self.old.room → IsOk result }
-        ensures err { OnErr result (self.new ≡ self.old) }
-    {
-        put(&mut self.slots, &mut self.by_key, number(&key), value)?;
-        self.sorted = None;
-        self.room = self.room.saturating_sub(1);
-        Ok(())
-    }
-
-    pub fn listed(&self, alloc: Global) -> Result<Map, AllocError>
-        ensures { IfOk result (λ map. map ≡ self.now.elements) }
-    {
-        if let Some(map) = &self.sorted {
-            return map.share();
-        }
-        Map::new(alloc, sorted(alloc, &self.slots, &self.by_key)?)
-    }
-
-    pub fn whole(&mut self, alloc: Global) -> Result<Map, AllocError>
-        ensures whole { IfOk result (λ map. map ≡ self.old.elements) }
-        ensures same { self.new ≡ self.old }
-    {
-        if let Some(map) = &self.sorted {
-            return map.share();
-        }
-        let map = Map::new(alloc, sorted(alloc, &self.slots, &self.by_key)?)?;
-        let shared = map.share()?;
-        self.sorted = Some(map);
-        Ok(shared)
-    }
-}
 
 /// The elements of an array, which have no table before the first is put in or room is asked for.
 #[derive(Drop)]
 pub struct Elements {
-    index: Option<Box<Index>>,
+    numbers: Option<Box<Index>>,
+    texts: Option<Box<Named>>,
 }
 
 impl Model for Elements {
-    ghost use Rattle.data_store.specs.Arrays.{Array, array_of};
+    ghost use Rattle.data_store.specs.Arrays.{Array, table_of, together, AreParted};
 
     ghost Value = { Array };
 
-    ghost view = { λ a. array_of a.index };
+    ghost view = { λ a. together (table_of a.numbers) (table_of a.texts) };
+
+    ghost invariant = { λ a. AreParted (table_of a.numbers).entries (table_of a.texts).entries };
 }
 
 impl Elements {
     pub fn new() -> Elements
         ensures { result ≡ empty }
     {
-        Elements { index: None }
+        Elements {
+            numbers: None,
+            texts: None,
+        }
     }
 
     pub fn len(&self) -> usize
         ensures { result ≡ length self.now.elements }
     {
-        match &self.index {
-            Some(index) => index.len(),
-            None => 0,
-        }
+        count_numbers(&self.numbers) + count_texts(&self.texts)
     }
 
-    pub fn get(&self, key: &Key) -> Option<&Scalar>
-        ensures { option_copied result ≡ found key.now self.now.elements }
+    #[inline(always)]
+    pub fn get(&self, key: KeyRef<'_>) -> Option<&Scalar>
+        ensures { option_copied result ≡ found (key_seen key.entry) self.now.elements }
     {
-        match &self.index {
-            Some(index) => index.get(key),
-            None => None,
+        match key {
+            KeyRef::Number(n) => under_number(&self.numbers, n),
+            KeyRef::Text(text) => under_text(&self.texts, text),
         }
     }
 
     /// Makes the next `n` calls of `insert` succeed.
     pub fn reserve(&mut self, alloc: Global, n: usize) -> Result<(), AllocError>
         ensures ok { OnOk result (self.new ≡ with_room n self.old) }
-        ensures succeeds { n ≤ self.old.room → IsOk result }
+        ensures succeeds { n ≤ self.old.room → n ≤ self.old.text_room → IsOk result }
         ensures err { OnErr result (self.new ≡ self.old) }
     {
-        match &mut self.index {
-            Some(index) => index.reserve(n),
-            None if n == 0 => Ok(()),
-            None => {
-                let mut index = Box::new(alloc, Index::new(alloc))?;
-                index.reserve(n)?;
-                self.index = Some(index);
-                Ok(())
-            }
+        let promised = places(&self.numbers);
+        reserve_numbers(&mut self.numbers, alloc, n)?;
+        if let Err(refused) = reserve_texts(&mut self.texts, alloc, n) {
+            limit(&mut self.numbers, promised);
+            return Err(refused);
+        }
+        Ok(())
+    }
+
+    /// Makes the next `n` calls of `insert` with a key of this one's kind succeed.
+    #[inline(always)]
+    pub fn reserve_for(
+        &mut self,
+        alloc: Global,
+        key: KeyRef<'_>,
+        n: usize,
+    ) -> Result<(), AllocError>
+        ensures ok { OnOk result (self.new ≡ with_room_for (key_seen key.entry) n self.old) }
+        ensures succeeds { n ≤ room_for (key_seen key.entry) self.old → IsOk result }
+        ensures err { OnErr result (self.new ≡ self.old) }
+    {
+        match key {
+            KeyRef::Number(_) => reserve_numbers(&mut self.numbers, alloc, n),
+            KeyRef::Text(_) => reserve_texts(&mut self.texts, alloc, n),
         }
     }
 
+    #[inline(always)]
     pub fn insert(&mut self, alloc: Global, key: Key, value: Scalar) -> Result<(), AllocError>
         requires { found key self.old.elements ≡ None }
         ensures ok { OnOk result (self.new ≡ with_element key value self.old) }
-        ensures succeeds { 0 < self.old.room → IsOk result }
+        ensures succeeds { 0 < room_for key self.old → IsOk result }
         ensures err { OnErr result (self.new ≡ self.old) }
     {
-        match &mut self.index {
-            Some(index) => index.insert(key, value),
-            None => {
-                let mut index = Box::new(alloc, Index::new(alloc))?;
-                index.insert(key, value)?;
-                self.index = Some(index);
-                Ok(())
-            }
+        match key {
+            Key::Number(n) => insert_number(&mut self.numbers, alloc, n, value),
+            Key::Text(text) => insert_text(&mut self.texts, alloc, text, value),
         }
     }
 
@@ -195,9 +106,13 @@ impl Elements {
     pub fn listed(&self, alloc: Global) -> Result<Map, AllocError>
         ensures { IfOk result (λ map. map ≡ self.now.elements) }
     {
-        match &self.index {
-            Some(index) => index.listed(alloc),
-            None => Map::new(alloc, Vec::new(alloc)),
+        match (&self.numbers, &self.texts) {
+            (None, None) => Map::new(alloc, Vec::new(alloc)),
+            (Some(index), None) => index.listed(alloc),
+            (None, Some(named)) => named.listed(alloc),
+            (Some(index), Some(named)) => {
+                joined(alloc, index.listed(alloc)?, named.listed(alloc)?)
+            }
         }
     }
 
@@ -206,80 +121,180 @@ impl Elements {
         ensures whole { IfOk result (λ map. map ≡ self.old.elements) }
         ensures same { self.new ≡ self.old }
     {
-        match &mut self.index {
-            Some(index) => index.whole(alloc),
-            None => Map::new(alloc, Vec::new(alloc)),
+        match (&mut self.numbers, &mut self.texts) {
+            (None, None) => Map::new(alloc, Vec::new(alloc)),
+            (Some(index), None) => index.whole(alloc),
+            (None, Some(named)) => named.whole(alloc),
+            (Some(index), Some(named)) => joined(alloc, index.whole(alloc)?, named.whole(alloc)?),
         }
     }
 }
 
-fn number(key: &Key) -> i64
-    ensures { key.now ≡ Key.Number result }
+fn count_numbers(numbers: &Option<Box<Index>>) -> usize
+    ensures len { result ≡ length (table_of numbers.now).entries }
+    ensures small { result < 2 ^ 63 + 2 ^ 32 }
 {
-    match key {
-        Key::Number(n) => *n,
+    match numbers {
+        Some(index) => index.len(),
+        None => 0,
     }
 }
 
-// Puts in an element under a key that has none: into a slot, if there is one for it, and else into the table.
-fn put(
-    slots: &mut Slots,
-    by_key: &mut HashMap<i64, Scalar>,
-    key: i64,
-    value: Scalar,
-) -> Result<(), AllocError>
-    requires { lookup (int_eq key) (slots.old ++ by_key.old.entries) ≡ None }
-    ensures ok { OnOk result (IsPut key value (slots.old ++ by_key.old.entries) (slots.new ++ by_key.new.entries)) }
-    ensures succeeds { 0 < spare by_key.old → IsOk result }
-    ensures spare { spare by_key.old ≤ spare by_key.new + 1 }
-    ensures err { OnErr result ((slots.new ≡ slots.old) × (by_key.new.entries ≡ by_key.old.entries)) }
+fn count_texts(texts: &Option<Box<Named>>) -> usize
+    ensures len { result ≡ length (table_of texts.now).entries }
+    ensures small { result ≤ 2 ^ 62 }
 {
-    match slots.put(key, value) {
-        None => Ok(()),
-        Some(value) => {
-            by_key.insert(key, value)?;
+    match texts {
+        Some(named) => named.len(),
+        None => 0,
+    }
+}
+
+#[inline(always)]
+fn under_number(numbers: &Option<Box<Index>>, n: i64) -> Option<&Scalar>
+    ensures { option_copied result ≡ found (Key.Number n) (table_of numbers.now).entries }
+{
+    match numbers {
+        Some(index) => index.get(n),
+        None => None,
+    }
+}
+
+#[inline(always)]
+fn under_text<'a>(texts: &'a Option<Box<Named>>, text: &Text) -> Option<&'a Scalar>
+    ensures { option_copied result ≡ found (Key.Text text.now) (table_of texts.now).entries }
+{
+    match texts {
+        Some(named) => named.get(text),
+        None => None,
+    }
+}
+
+// How many further elements under numbers are sure to find memory.
+fn places(numbers: &Option<Box<Index>>) -> usize
+    ensures { result ≡ (table_of numbers.now).places }
+{
+    match numbers {
+        Some(index) => index.places(),
+        None => 0,
+    }
+}
+
+// Takes back what was promised to elements under numbers, but for so many.
+fn limit(numbers: &mut Option<Box<Index>>, places: usize)
+    requires { places ≤ (table_of numbers.old).places }
+    ensures { table_of numbers.new ≡ limited places (table_of numbers.old) }
+{
+    if let Some(index) = numbers {
+        index.limit(places);
+    }
+}
+
+#[inline(always)]
+fn reserve_numbers(
+    numbers: &mut Option<Box<Index>>,
+    alloc: Global,
+    n: usize,
+) -> Result<(), AllocError>
+    ensures ok { OnOk result (table_of numbers.new ≡ with_places n (table_of numbers.old)) }
+    ensures succeeds { n ≤ (table_of numbers.old).places → IsOk result }
+    ensures err { OnErr result (table_of numbers.new ≡ table_of numbers.old) }
+{
+    match numbers {
+        Some(index) => index.reserve(n),
+        None if n == 0 => Ok(()),
+        None => {
+            let mut index = Box::new(alloc, Index::new(alloc))?;
+            index.reserve(n)?;
+            *numbers = Some(index);
             Ok(())
         }
     }
 }
 
-// The elements in slots and in a table, by rising key.
-fn sorted(
-    alloc: Global,
-    slots: &Slots,
-    by_key: &HashMap<i64, Scalar>,
-) -> Result<Vec<Element>, AllocError>
-    requires { length (arranged (slots.now ++ by_key.now.entries)) ≡ length (slots.now ++ by_key.now.entries) }
-    ensures { IfOk result (λ list. list.items ≡ arranged (slots.now ++ by_key.now.entries)) }
+#[inline(never)]
+fn reserve_texts(texts: &mut Option<Box<Named>>, alloc: Global, n: usize) -> Result<(), AllocError>
+    ensures ok { OnOk result (table_of texts.new ≡ with_places n (table_of texts.old)) }
+    ensures succeeds { n ≤ (table_of texts.old).places → IsOk result }
+    ensures err { OnErr result (table_of texts.new ≡ table_of texts.old) }
 {
-    let mut list = Vec::with_capacity(alloc, slots.len() + by_key.len())?;
-    slots.append_to(&mut list)?;
-    append_to(&mut list, by_key)?;
-    list.sort_unstable_by(|a, b| order(a, b));
-    Ok(list)
+    match texts {
+        Some(named) => named.reserve(n),
+        None if n == 0 => Ok(()),
+        None => {
+            let mut named = Box::new(alloc, Named::new(alloc))?;
+            named.reserve(n)?;
+            *texts = Some(named);
+            Ok(())
+        }
+    }
 }
 
-// Adds the elements of a table to the end of the list, as they come.
-fn append_to(list: &mut Vec<Element>, by_key: &HashMap<i64, Scalar>) -> Result<(), AllocError>
-    ensures { OnOk result (list.new.items ≡ list.old.items ++ map element_of by_key.now.entries) }
+#[inline(always)]
+fn insert_number(
+    numbers: &mut Option<Box<Index>>,
+    alloc: Global,
+    n: i64,
+    value: Scalar,
+) -> Result<(), AllocError>
+    requires { found (Key.Number n) (table_of numbers.old).entries ≡ None }
+    ensures ok { OnOk result (table_of numbers.new ≡ with_entry (Key.Number n) value (table_of numbers.old)) }
+    ensures succeeds { 0 < (table_of numbers.old).places → IsOk result }
+    ensures err { OnErr result (table_of numbers.new ≡ table_of numbers.old) }
 {
-    for (key, value) in by_key {
+    match numbers {
+        Some(index) => index.insert(n, value),
+        None => {
+            let mut index = Box::new(alloc, Index::new(alloc))?;
+            index.insert(n, value)?;
+            *numbers = Some(index);
+            Ok(())
+        }
+    }
+}
+
+#[inline(never)]
+fn insert_text(
+    texts: &mut Option<Box<Named>>,
+    alloc: Global,
+    text: Text,
+    value: Scalar,
+) -> Result<(), AllocError>
+    requires { found (Key.Text text) (table_of texts.old).entries ≡ None }
+    ensures ok { OnOk result (table_of texts.new ≡ with_entry (Key.Text text) value (table_of texts.old)) }
+    ensures succeeds { 0 < (table_of texts.old).places → IsOk result }
+    ensures err { OnErr result (table_of texts.new ≡ table_of texts.old) }
+{
+    match texts {
+        Some(named) => named.insert(text, value),
+        None => {
+            let mut named = Box::new(alloc, Named::new(alloc))?;
+            named.insert(text, value)?;
+            *texts = Some(named);
+            Ok(())
+        }
+    }
+}
+
+// The elements under numbers, and behind them those under texts.
+fn joined(alloc: Global, numbers: Map, texts: Map) -> Result<Map, AllocError>
+    requires { AreParted numbers texts }
+    ensures { IfOk result (λ map. map ≡ numbers ++ texts) }
+{
+    let mut list = Vec::new(alloc);
+    append(&mut list, numbers.elements())?;
+    append(&mut list, texts.elements())?;
+    Map::new(alloc, list)
+}
+
+fn append(list: &mut Vec<Element>, elements: &[Element]) -> Result<(), AllocError>
+    ensures { OnOk result (list.new.items ≡ list.old.items ++ elements.now) }
+{
+    for element in elements {
         list.push(Element {
-            key: Key::Number(*key),
-            value: value.share()?,
+            key: element.key.share()?,
+            value: element.value.share()?,
         })?;
     }
     Ok(())
-}
-
-fn order(a: &Element, b: &Element) -> Ordering
-    ensures { is_lt result ≡ key_below a.now.key b.now.key }
-{
-    if a.key.is_below(&b.key) {
-        Ordering::Less
-    } else if b.key.is_below(&a.key) {
-        Ordering::Greater
-    } else {
-        Ordering::Equal
-    }
 }

@@ -8,6 +8,9 @@
 
 mod datum;
 mod elements;
+mod named;
+mod numbered;
+mod order;
 pub mod refusal;
 mod slots;
 pub mod store;

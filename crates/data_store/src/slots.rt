@@ -1,9 +1,9 @@
 //! The elements of an array under small keys, each in the slot of its key.
-ghost use Rattle.std.specs.Prelude.{◌≡◌, ◌≢◌, ℕ, pos, MatchOption, slice_index_or, ◌++◌, ◌∷◌, ◌<◌, ◌^◌, [], None, length, map, vec_len, IfNone, IfSome, OnOk, option_copied};
+ghost use Rattle.std.specs.Prelude.{◌≡◌, ◌≢◌, ℕ, pos, MatchOption, slice_index_or, ◌++◌, ◌∷◌, ◌<◌, ◌≤◌, ◌^◌, [], None, length, map, vec_len, IfNone, IfSome, OnOk, option_copied};
 ghost use Rattle.std.specs.Bool.{OnTrue};
 ghost use Rattle.std.specs.Map.{lookup};
 ghost use Rattle.std.specs.Ordering.{int_eq};
-ghost use Rattle.data_store.specs.Arrays.{element_of};
+ghost use Rattle.data_store.specs.Arrays.{number_element};
 ghost use Rattle.data_store.specs.Filled.{filled, IsPut};
 
 use std::alloc::{AllocError, Global};
@@ -15,7 +15,7 @@ use values::value::Scalar;
 // So many slots there may be before the first is taken.
 const FEW: usize = 64;
 
-/// Elements under keys from 0 on. So the keys 0, 1, 2 and so on lie side by side, in whatever order they come.
+/// Elements under keys from 0 on, below 2 ^ 32. So the keys 0, 1, 2 and so on lie side by side, in whatever order they come.
 #[derive(Drop)]
 pub struct Slots {
     slots: Vec<Option<Scalar>>,
@@ -24,7 +24,7 @@ pub struct Slots {
 }
 
 impl Model for Slots {
-    ghost use Rattle.std.specs.Prelude.{◌≡◌, ℤ, List, length};
+    ghost use Rattle.std.specs.Prelude.{◌≡◌, ◌≤◌, ◌^◌, ℤ, List, length};
     ghost use Rattle.values.specs.declared.value.Scalar.{Scalar};
     ghost use Rattle.data_store.specs.Filled.{filled};
 
@@ -32,7 +32,7 @@ impl Model for Slots {
 
     ghost view = { λ a. filled 0 a.slots.items };
 
-    ghost invariant = { λ a. a.len ≡ length (filled 0 a.slots.items) };
+    ghost invariant = { λ a. (a.len ≡ length (filled 0 a.slots.items)) × (length a.slots.items ≤ 2 ^ 32) };
 }
 
 impl Slots {
@@ -47,7 +47,7 @@ impl Slots {
 
     pub fn len(&self) -> usize
         ensures len { result ≡ length self.now }
-        ensures small { result < 2 ^ 63 }
+        ensures small { result ≤ 2 ^ 32 }
     {
         self.len
     }
@@ -80,7 +80,7 @@ impl Slots {
 
     /// Adds all to the end of the list, by rising key.
     pub fn append_to(&self, list: &mut Vec<Element>) -> Result<(), AllocError>
-        ensures { OnOk result (list.new.items ≡ list.old.items ++ map element_of self.now) }
+        ensures { OnOk result (list.new.items ≡ list.old.items ++ map number_element self.now) }
     {
         for place in 0..self.slots.len() {
             append(list, place, &self.slots[place])?;
@@ -89,11 +89,14 @@ impl Slots {
     }
 }
 
-// The place of a key's slot, and none of a negative key.
+// The place of a key's slot, and none of a negative key or one of 2 ^ 32 or more.
 fn place_of(key: i64) -> Option<usize>
-    ensures { MatchOption result ((j : ℕ) → key ≢ pos j) (λ j. key ≡ pos j) }
+    ensures { MatchOption result ((j : ℕ) → j < 2 ^ 32 → key ≢ pos j) (λ j. (j < 2 ^ 32) × (key ≡ pos j)) }
 {
-    usize::try_from(key).ok()
+    match u32::try_from(key) {
+        Ok(place) => Some(place as usize),
+        Err(_) => None,
+    }
 }
 
 // What the slot at a place holds.
@@ -110,6 +113,7 @@ fn at(slots: &[Option<Scalar>], place: usize) -> Option<&Scalar>
 #[tactic(auto, using(crate::proofs::Filled::one_slot_more))]
 fn make_slot(slots: &mut Vec<Option<Scalar>>, taken: usize, place: usize) -> bool
     ensures same { filled 0 slots.new.items ≡ filled 0 slots.old.items }
+    ensures few { place < 2 ^ 32 → vec_len slots.old ≤ 2 ^ 32 → vec_len slots.new ≤ 2 ^ 32 }
     ensures there { OnTrue result (place < vec_len slots.new) }
 {
     if place / 2 > taken.saturating_add(FEW / 2) {
@@ -126,7 +130,7 @@ fn make_slot(slots: &mut Vec<Option<Scalar>>, taken: usize, place: usize) -> boo
 // Adds what a slot holds to the end of the list.
 fn append(list: &mut Vec<Element>, place: usize, slot: &Option<Scalar>) -> Result<(), AllocError>
     requires { place < 2 ^ 63 }
-    ensures { OnOk result (list.new.items ≡ list.old.items ++ map element_of (filled place (slot.now ∷ []))) }
+    ensures { OnOk result (list.new.items ≡ list.old.items ++ map number_element (filled place (slot.now ∷ []))) }
 {
     if let Some(value) = slot {
         list.push(Element {

@@ -1,5 +1,6 @@
 //! Data under numbers.
 ghost use Rattle.std.specs.Prelude.{◌≡◌, ◌+◌, ◌<◌, ◌≤◌, ◌^◌, ◌==◌, ◌↔◌, None, IsSome, length, IfErr, IfOk, IsOk, IsTrue, OnOk, OnErr, option_copied};
+ghost use Rattle.values.specs.Keys.{key_seen};
 ghost use Rattle.values.specs.Maps.{found};
 ghost use Rattle.data_store.specs.Arrays as arrays;
 ghost use Rattle.data_store.specs.Arrays.{with_element};
@@ -12,7 +13,7 @@ use crate::refusal::Refusal;
 use slab::Slab;
 use std::alloc::{AllocError, Global};
 use std::marker::Model;
-use values::key::Key;
+use values::key::{Key, KeyRef};
 use values::map::Map;
 use values::value::Scalar;
 
@@ -100,6 +101,7 @@ impl Store {
     }
 
     /// Gives an array an element.
+    #[inline(always)]
     pub fn insert(&mut self, d: DatumNo, key: Key, value: Scalar) -> Result<(), Refusal>
         requires { IsArrayAt self.old d }
         ensures ok { OnOk result ((0 < (datum self.old d).writes) × (found key (array_at self.old d).elements ≡ None) × (self.new ≡ changed d (with_array (with_element key value)) self.old)) }
@@ -114,11 +116,23 @@ impl Store {
     pub fn reserve(&mut self, d: DatumNo, n: usize) -> Result<(), AllocError>
         requires { IsArrayAt self.old d }
         ensures ok { OnOk result (self.new ≡ changed d (with_array (arrays.with_room n)) self.old) }
-        ensures succeeds { n ≤ (array_at self.old d).room → IsOk result }
-        ensures err { OnErr result (self.new ≡ self.old) }
+        ensures succeeds { n ≤ (array_at self.old d).room → n ≤ (array_at self.old d).text_room → IsOk result }
     {
         let alloc = self.alloc;
         self.cells[d].reserve(alloc, n)
+    }
+
+    /// Makes the next `n` calls of `insert` into an array with a key of this one's kind meet no refusal of memory, whatever lies between
+    /// them.
+    #[inline(always)]
+    pub fn reserve_for(&mut self, d: DatumNo, key: KeyRef<'_>, n: usize) -> Result<(), AllocError>
+        requires { IsArrayAt self.old d }
+        ensures ok { OnOk result (self.new ≡ changed d (with_array (arrays.with_room_for (key_seen key.entry) n)) self.old) }
+        ensures succeeds { n ≤ arrays.room_for (key_seen key.entry) (array_at self.old d) → IsOk result }
+        ensures err { OnErr result (self.new ≡ self.old) }
+    {
+        let alloc = self.alloc;
+        self.cells[d].reserve_for(alloc, key, n)
     }
 
     /// The value of a scalar, once there is one.
@@ -130,9 +144,10 @@ impl Store {
     }
 
     /// The element of an array under a key, closed or not.
-    pub fn element(&self, d: DatumNo, key: &Key) -> Option<&Scalar>
+    #[inline(always)]
+    pub fn element(&self, d: DatumNo, key: KeyRef<'_>) -> Option<&Scalar>
         requires { IsArrayAt self.now d }
-        ensures { option_copied result ≡ found key.now (array_at self.now d).elements }
+        ensures { option_copied result ≡ found (key_seen key.entry) (array_at self.now d).elements }
     {
         self.cells[d].content.element(key)
     }

@@ -1,6 +1,6 @@
 -- Statements and blocks that are laid one after another, or one inside another.
 use Rattle.std.proofs.Common.{◌≡◌, ℕ, suc, ◌+◌, ◌≤◌, ◌<◌, ◌^◌, Bool, List, [], ◌∷◌, ◌++◌, map, drop, get_or, length, refl, sym, ap, ◌∙◌, subst, arith, append_assoc, append-nil}
-use Rattle.std.specs.Prelude.{OnOk, Result, Ok, Err}
+use Rattle.std.specs.Prelude.{IsTrue, OnOk, Result, Ok, Err}
 use Rattle.std.proofs.lemmas.List.{length-map, drop_more, drop_all}
 use Rattle.language.specs.Core.{Stmt, stmt, Action, declare, Block, no_stmts, stmts}
 use Rattle.language.specs.Members.{first}
@@ -9,6 +9,7 @@ use Rattle.language_laws.specs.TypedValues.{own_parts}
 use Rattle.flow.specs.declared.statement.Statement.{Statement}
 use Rattle.flow.specs.Shapes.{statement_declared, together}
 use Rattle.flow.specs.View.{block_of, statement_view}
+use Rattle.task_code.proofs.Equal.{true_and}
 use Rattle.task_code.specs.Code as code
 use Rattle.task_code.specs.Code.{Variable}
 use Rattle.task_code.specs.View.{body_view, entry_view, variable_view}
@@ -19,6 +20,7 @@ use Rattle.code_rules.specs.Laying.{IndexesStand, Kinds, LaysBlock, LaysStmt, Su
 use Rattle.code_rules.specs.Room.{ActionRoom}
 use Rattle.emit_statements.specs.Into.{LaysInto, laying}
 use Rattle.emit_statements.specs.declared.filling.Filling.{Filling}
+use Rattle.wait_merge.specs.Merged.{all_merged, statement_seen}
 use Rattle.emit.specs.Emits.{EmitsBlock, EmitsStmt, Lays, State, state, with_inner}
 use Rattle.emit.proofs.Fitting.{first-in, fits-part, others-in, size-first}
 
@@ -73,7 +75,7 @@ emits-as fs roots k a b ds es s t e q h = subst (λ (x : Stmt). EmitsStmt fs roo
 
 module _ {A : Type 0} (fs : List Kinds) (roots k : ℕ) where
   abbrev pub EmitsRest : List (Statement A) → State → State → Type 0
-  EmitsRest ss s t = EmitsBlock fs roots k (block_of (map statement_view ss)) (together (map statement_declared ss)) s t
+  EmitsRest ss s t = IsTrue (all_merged (map statement_seen ss)) → EmitsBlock fs roots k (block_of (map statement_view ss)) (together (map statement_declared ss)) s t
 
   -- where the rest is laid from here on, the whole is
   pub record WalksOn (all rest : List (Statement A)) (from here : State) : Type 0 where
@@ -83,15 +85,15 @@ module _ {A : Type 0} (fs : List Kinds) (roots k : ℕ) where
   walked-none all s = record { walks = λ t h. h }
 
   pub walked-one : (all ss : List (Statement A)) (i : ℕ) (one : Statement A) (from s t : State) → i < length ss → one ≡ get_or ss i one → WalksOn all (drop i ss) from s
-      → EmitsStmt fs roots k (statement_view one) (statement_declared one) s t → WalksOn all (drop (i + 1) ss) from t
+      → (IsTrue (statement_seen one).merged → EmitsStmt fs roots k (statement_view one) (statement_declared one) s t) → WalksOn all (drop (i + 1) ss) from t
   walked-one all ss i one from s t below is before here =
       let e : drop i ss ≡ one ∷ drop (i + 1) ss = drop_more ss i one below ∙ ap (λ x. x ∷ drop (i + 1) ss) (sym is) in
       record {
-        walks = λ u rest. before.walks u (subst (λ xs. EmitsRest xs s u) (sym e) (one-more fs roots k (statement_view one) (block_of (map statement_view (drop (i + 1) ss))) (statement_declared one) (together (map statement_declared (drop (i + 1) ss))) s t u here rest));
+        walks = λ u rest. before.walks u (subst (λ xs. EmitsRest xs s u) (sym e) (λ m. let both = true_and (statement_seen one).merged (all_merged (map statement_seen (drop (i + 1) ss))) m in one-more fs roots k (statement_view one) (block_of (map statement_view (drop (i + 1) ss))) (statement_declared one) (together (map statement_declared (drop (i + 1) ss))) s t u (here both.0) (rest both.1)));
       }
 
   pub walked-all : (all ss : List (Statement A)) (i : ℕ) (from s : State) → length ss ≤ i → WalksOn all (drop i ss) from s → EmitsRest all from s
-  walked-all all ss i from s done before = before.walks s (subst (λ xs. EmitsRest xs s s) (sym (drop_all i ss done)) (no-more fs roots k s))
+  walked-all all ss i from s done before = before.walks s (subst (λ xs. EmitsRest xs s s) (sym (drop_all i ss done)) (λ m. no-more fs roots k s))
 
 -- STATEMENTS WITHOUT BLOCKS
 

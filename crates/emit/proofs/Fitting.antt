@@ -58,15 +58,15 @@ size-both b d = size-among (b ∷ blocks_below b) (d ∷ blocks_below d)
 
 -- the content of the innermost of merged waits
 pub size-inside : {k : ℕ} {st : Stmt} {hs : List Header} {b : Block} → Headers k st hs b → stmts_size (stmts_within b) ≤ stmts_size (stmts_among (blocks_in st))
-size-inside (one_header {b = b} e) = omega arith
+size-inside (one_header {b = b} lone e) = omega arith
 size-inside (more_headers {st = st} h e) = let a = size-inside h in let d = size-first st no_stmts in omega arith
 
 pub inside-in : {k : ℕ} {st : Stmt} {hs : List Header} {b : Block} → Headers k st hs b → (x : Stmt) → x ∈ stmts_within b → x ∈ stmts_among (blocks_in st)
-inside-in (one_header e) x m = m
+inside-in (one_header lone e) x m = m
 inside-in (more_headers {st = st} h e) x m = first-in st no_stmts (later (inside-in h x m))
 
 pub inside-room : {k : ℕ} {st : Stmt} {hs : List Header} {b : Block} → Headers k st hs b → StmtRoom k st → BlockRoom k b
-inside-room (one_header e) room = room.1
+inside-room (one_header lone e) room = room.1
 inside-room (more_headers h e) room = inside-room h room.1.0
 
 -- FITTING

@@ -1,11 +1,13 @@
 -- Functions, one after another, and whole scripts.
 use Rattle.std.proofs.Common.{◌≡◌, ℕ, suc, ◌+◌, ◌≤◌, ◌<◌, ◌^◌, Bool, List, [], ◌∷◌, ◌++◌, map, drop, get_or, length, refl, sym, ap, ap₂, ◌∙◌, subst, arith, append_assoc, append-nil}
+use Rattle.std.specs.Prelude.{IsTrue}
 use Rattle.std.proofs.lemmas.List.{drop_more, drop_all}
 use Rattle.language.specs.Core.{Block, Function, Core}
 use Rattle.language.specs.Parts.{blocks_of, function_blocks, script_stmts, stmts_among, stmts_within}
 use Rattle.flow.specs.declared.script.Function.{Function as Found}
 use Rattle.flow.specs.Shapes.{block_declared, functions_declared}
 use Rattle.flow.specs.View.{function_view}
+use Rattle.task_code.proofs.Equal.{true_and}
 use Rattle.task_code.specs.Code as code
 use Rattle.task_code.specs.Code.{ByCalls, ByMain, Opener, Variable}
 use Rattle.task_code.specs.View.{body_view, variable_view}
@@ -16,6 +18,7 @@ use Rattle.emit_rights.specs.Granted.{laid_code}
 use Rattle.code_layout.proofs.Layouts.{layout_of, layout_suits}
 use Rattle.emit_statements.specs.Into.{laying}
 use Rattle.emit_statements.specs.declared.filling.Filling.{Filling}
+use Rattle.wait_merge.specs.Merged.{block_seen, functions_merged}
 use Rattle.emit.specs.Emits.{CanBeEmitted, EmitsBlock, EmitsBody, EmitsFirst, EmitsFunctions, Fits, Lays, LaysBodies, LaysFirst, state}
 use Rattle.emit.proofs.Bare.{bared, block-bare, functions-bare}
 use Rattle.emit.proofs.Fitting.{among-left, among-right, fits-part, size-among}
@@ -81,22 +84,22 @@ functions-none fs roots s old = record { lays = λ l room fits. record { bodies 
 
 module _ {A : Type 0} (fs : List Kinds) (roots : ℕ) where
   abbrev pub EmitsOthers : List (Found A) → Laying → Laying → List Opened → List Opened → Type 0
-  EmitsOthers gs s t old new = EmitsFunctions fs roots (map function_view gs) (functions_declared gs) s t old new
+  EmitsOthers gs s t old new = IsTrue (functions_merged gs) → EmitsFunctions fs roots (map function_view gs) (functions_declared gs) s t old new
 
   -- where the rest is laid from here on, all are
   pub record FunctionsOn (all rest : List (Found A)) (s t : Laying) (old mid : List Opened) : Type 0 where
     pub walks : (u : Laying) (new : List Opened) → EmitsOthers rest t u mid new → EmitsOthers all s u old new
 
   pub functions-step : (all gs : List (Found A)) (i : ℕ) (f : Found A) (s t u : Laying) (old mid new : List Opened) → i < length gs → f ≡ get_or gs i f → FunctionsOn all (drop i gs) s t old mid
-      → EmitsFirst fs roots (function_view f) (block_declared f.body) t u mid new → FunctionsOn all (drop (i + 1) gs) s u old new
+      → (IsTrue (block_seen f.body).merged → EmitsFirst fs roots (function_view f) (block_declared f.body) t u mid new) → FunctionsOn all (drop (i + 1) gs) s u old new
   functions-step all gs i f s t u old mid new below is before here =
       let e : drop i gs ≡ f ∷ drop (i + 1) gs = drop_more gs i f below ∙ ap (λ x. x ∷ drop (i + 1) gs) (sym is) in
       record {
-        walks = λ v last rest. before.walks v last (subst (λ xs. EmitsOthers xs t v mid last) (sym e) (functions-more fs roots (function_view f) (map function_view (drop (i + 1) gs)) (block_declared f.body) (functions_declared (drop (i + 1) gs)) t u v mid new last here rest));
+        walks = λ v last rest. before.walks v last (subst (λ xs. EmitsOthers xs t v mid last) (sym e) (λ m. let both = true_and (block_seen f.body).merged (functions_merged (drop (i + 1) gs)) m in functions-more fs roots (function_view f) (map function_view (drop (i + 1) gs)) (block_declared f.body) (functions_declared (drop (i + 1) gs)) t u v mid new last (here both.0) (rest both.1)));
       }
 
   pub functions-end : (all gs : List (Found A)) (i : ℕ) (s t : Laying) (old new : List Opened) → length gs ≤ i → FunctionsOn all (drop i gs) s t old new → EmitsOthers all s t old new
-  functions-end all gs i s t old new done before = before.walks t new (subst (λ xs. EmitsOthers xs t t new new) (sym (drop_all i gs done)) (functions-none fs roots t new))
+  functions-end all gs i s t old new done before = before.walks t new (subst (λ xs. EmitsOthers xs t t new new) (sym (drop_all i gs done)) (λ m. functions-none fs roots t new))
 
 -- SCRIPTS
 

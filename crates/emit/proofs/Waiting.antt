@@ -1,6 +1,6 @@
 -- Waits, with those that are merged with them.
 use Rattle.std.proofs.Common.{◌≡◌, ℕ, ◌+◌, ◌<◌, ◌^◌, Bool, List, [], ◌∷◌, ◌++◌, map, length, refl, sym, ap, ap₂, ◌∙◌, subst, arith}
-use Rattle.std.specs.Prelude.{pos}
+use Rattle.std.specs.Prelude.{false, pos}
 use Rattle.std.specs.List.{flat_map}
 use Rattle.std.proofs.lemmas.List.{length-map}
 use Rattle.language.specs.Core.{Awaited, stmt, wait, Block}
@@ -13,7 +13,7 @@ use Rattle.task_code.specs.declared.entry.Entry.{Entry as Made}
 use Rattle.task_code.specs.declared.code.Body.{Body as Opened}
 use Rattle.code_rules.specs.CodeNames.{each_once}
 use Rattle.code_rules.specs.IsCodeOf.{IsEntry}
-use Rattle.code_rules.specs.Laying.{Kinds, LaysBlock, next_body, waits}
+use Rattle.code_rules.specs.Laying.{Kinds, LaysBlock, is_one_wait, next_body, waits}
 use Rattle.code_rules.specs.Room.{ActionRoom}
 use Rattle.emit_statements.specs.Into.{laying}
 use Rattle.emit_statements.specs.declared.filling.Filling.{Filling}
@@ -23,17 +23,17 @@ use Rattle.emit.proofs.Fitting.{fits-part, inside-in, inside-room, size-inside}
 use Rattle.emit.proofs.Opening.{one-more-long, body-is, own-number, own-first, own-none}
 
 pub wait-emits : (fs : List Kinds) (roots k at n : ℕ) (ns : List Awaited) (c b : Block) (ds : List (ℕ × Bool)) (E1 E2 E3 : List Made) (B0 B2 B3 : List Opened) (F1 F2 I0 I1 : Filling) (body number : ℕ)
-    → I0.entries.items ≡ [] → I0.makes.items ≡ []
+    → is_one_wait b ≡ false → I0.entries.items ≡ [] → I0.makes.items ≡ []
     → EmitsBlock fs roots k b ds (state E1 B0 I0) (state E2 B2 I1)
     → (roots + length B2 < 2 ^ 32 → body ≡ roots + length B2)
     → Numbered number (length E2) F1 F2
     → (ActionRoom k (wait ns c) → WaitAddedAs k at n (wait ns c) b body E2 E3)
     → map body_view B3 ≡ map body_view B2 ++ record { opener = ByWait number; makes = map variable_view I1.makes.items; entries = I1.entries.items } ∷ []
     → EmitsStmt fs roots k (stmt at n (wait ns c)) ds (state E1 B0 F1) (state E3 B3 F2)
-wait-emits fs roots k at n ns c b ds E1 E2 E3 B0 B2 B3 F1 F2 I0 I1 body number none nil inner body_is numbered own_as made = record {
+wait-emits fs roots k at n ns c b ds E1 E2 E3 B0 B2 B3 F1 F2 I0 I1 body number lone none nil inner body_is numbered own_as made = record {
   lays = λ l room fits. (
       let own = own_as room in
-      let merged = own.merged in
+      let merged = own.merged lone in
       let size = size-inside merged in
       let fe = fits.entries in
       let fb = fits.bodies in

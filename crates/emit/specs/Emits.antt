@@ -1,5 +1,5 @@
 -- What laying a statement or a block into the block around it owes.
-use Rattle.std.specs.Prelude.{◌≡◌, ℕ, pos, ◌+◌, ◌*◌, ◌^◌, ◌≤◌, ◌<◌, Bool, List, [], ◌∷◌, ◌++◌, map, length}
+use Rattle.std.specs.Prelude.{◌≡◌, ℕ, pos, ◌+◌, ◌*◌, ◌^◌, ◌≤◌, ◌<◌, Bool, IsTrue, List, [], ◌∷◌, ◌++◌, map, length}
 use Rattle.language.specs.Core.{Stmt, stmt, Action, Block, Function, Core}
 use Rattle.flow.specs.declared.script.Function.{Function as Found}
 use Rattle.flow.specs.declared.statement.Block.{Block as Inner}
@@ -21,6 +21,7 @@ use Rattle.code_rules.specs.Room.{BlockRoom, CoreRoom, StmtRoom, Each, FunctionR
 use Rattle.emit_statements.specs.Into.{laying}
 use Rattle.emit_statements.specs.declared.filling.Filling.{Filling}
 use Rattle.emit_statements.specs.declared.own.Statement.{Statement as Own}
+use Rattle.wait_merge.specs.Merged.{all_merged, block_seen, functions_merged, statement_seen}
 use Rattle.emit.specs.declared.emitter.Emitter.{Emitter}
 
 -- what is laid so far, with the numbers and the data that the block around has
@@ -120,18 +121,18 @@ laying_of e = laying e.writer.entries.items (map body_view e.bodies.items)
 abbrev pub roots_of : {X : Type 0} → List X → ℕ
 roots_of fs = length fs + 1
 
--- in a script with these functions
+-- in a script with these functions, where no `wait` is left that could be merged
 module _ {A : Type 0} (functions : List (Found A)) where
   -- a block, some statements and one, in a function with k inputs
   abbrev pub EmitsInner : ℕ → Inner A → State → State → Type 0
-  EmitsInner k b s t = EmitsBlock (map kinds_of_function functions) (roots_of functions) k (block_view b) (block_declared b) s t
+  EmitsInner k b s t = IsTrue (block_seen b).merged → EmitsBlock (map kinds_of_function functions) (roots_of functions) k (block_view b) (block_declared b) s t
 
   abbrev pub EmitsStatements : ℕ → List (Statement A) → State → State → Type 0
   EmitsStatements k ss s t =
-      EmitsBlock (map kinds_of_function functions) (roots_of functions) k (block_of (map statement_view ss)) (together (map statement_declared ss)) s t
+      IsTrue (all_merged (map statement_seen ss)) → EmitsBlock (map kinds_of_function functions) (roots_of functions) k (block_of (map statement_view ss)) (together (map statement_declared ss)) s t
 
   abbrev pub EmitsOne : ℕ → Statement A → State → State → Type 0
-  EmitsOne k one s t = EmitsStmt (map kinds_of_function functions) (roots_of functions) k (statement_view one) (statement_declared one) s t
+  EmitsOne k one s t = IsTrue (statement_seen one).merged → EmitsStmt (map kinds_of_function functions) (roots_of functions) k (statement_view one) (statement_declared one) s t
 
   -- a statement that does this and declares these
   abbrev pub EmitsAs : Own → Action → List (ℕ × Bool) → Emitter → Emitter → Type 0
@@ -146,16 +147,20 @@ module _ {A : Type 0} (functions : List (Found A)) where
   abbrev pub EmitsAction : Own → Action → List (ℕ × Bool) → Emitter → Emitter → Type 0
   EmitsAction one a ds s t = one.standing.priority ≡ pos 0 → EmitsAs one a ds s t
 
+  -- one with blocks, of which it is told whether their waits are merged
+  abbrev pub EmitsMerged : Own → Action → Bool → List (ℕ × Bool) → Emitter → Emitter → Type 0
+  EmitsMerged one a merged ds s t = IsTrue merged → EmitsAction one a ds s t
+
   -- a block of a function's own, or the script's
   abbrev pub EmitsRoot : ℕ → Inner A → Opener → Emitter → Emitter → code.Body → Type 0
   EmitsRoot k b o s t made =
-      EmitsBody (map kinds_of_function functions) (roots_of functions) k (block_view b) (block_declared b) o (laying_of s) (laying_of t) made
+      IsTrue (block_seen b).merged → EmitsBody (map kinds_of_function functions) (roots_of functions) k (block_view b) (block_declared b) o (laying_of s) (laying_of t) made
 
   -- a function, and all functions
   abbrev pub EmitsFunction : Found A → Emitter → Emitter → List Body → List Body → Type 0
   EmitsFunction f s t old new =
-      EmitsFirst (map kinds_of_function functions) (roots_of functions) (function_view f) (block_declared f.body) (laying_of s) (laying_of t) old new
+      IsTrue (block_seen f.body).merged → EmitsFirst (map kinds_of_function functions) (roots_of functions) (function_view f) (block_declared f.body) (laying_of s) (laying_of t) old new
 
   abbrev pub EmitsAll : Emitter → Emitter → List Body → List Body → Type 0
   EmitsAll s t old new =
-      EmitsFunctions (map kinds_of_function functions) (roots_of functions) (map function_view functions) (functions_declared functions) (laying_of s) (laying_of t) old new
+      IsTrue (functions_merged functions) → EmitsFunctions (map kinds_of_function functions) (roots_of functions) (map function_view functions) (functions_declared functions) (laying_of s) (laying_of t) old new

@@ -7,6 +7,7 @@ ghost use Rattle.code_rules.specs.Emitted.{CallsOnce, CellsOnce, IsEmitted, Read
 ghost use Rattle.code_rules.specs.Laying.{LaysScript};
 ghost use Rattle.code_rules.specs.Room.{CoreRoom};
 ghost use Rattle.emit_rights.specs.Granted.{laid_code};
+ghost use Rattle.wait_merge.specs.Merged.{IsMerged};
 ghost use Rattle.emit.specs.Emits.{CanBeEmitted, EmitsAll, EmitsFunction, EmitsRoot};
 
 use crate::body::{body, empty};
@@ -74,7 +75,7 @@ struct Laid {
 
 /// Lays a script: its own block, then its functions; inner blocks stand behind them.
 fn lay_script<A: Allocator>(alloc: Global, flow: &Flow<A>) -> Result<Laid, AllocError>
-    ensures { IfOk result (λ laid. CanBeEmitted (core_of flow.now)
+    ensures { IfOk result (λ laid. CanBeEmitted (core_of flow.now) → IsMerged flow.now
         → LaysScript (core_of flow.now) (kinds_of flow.now) (declared_of flow.now) (laid_code laid.bodies.items laid.entries.items)) }
 {
     let mut emitter = Emitter::new(alloc);
@@ -89,13 +90,14 @@ fn lay_script<A: Allocator>(alloc: Global, flow: &Flow<A>) -> Result<Laid, Alloc
     })
 }
 
-/// The code of a flow: an entry for each cell, call and statement, and a body for each block. Body 0 is the script, then come its
-/// functions, then inner blocks.
+/// The code of a flow in which no `wait` is left that could be merged: an entry for each cell, call and statement, and a body for
+/// each block. Body 0 is the script, then come its functions, then inner blocks.
 ///
 /// # Errors
 ///
 /// `AllocError` where memory that was asked for was refused.
 pub fn emit<A: Allocator>(alloc: Global, flow: &Flow<A>) -> Result<Draft, AllocError>
+    requires merged { IsMerged flow.now }
     requires calls { CallsOnce (core_of flow.now) }
     requires cells { CellsOnce (core_of flow.now) }
     requires reads { ReadsStand (core_of flow.now) }

@@ -1,5 +1,5 @@
 //! Statements and blocks.
-ghost use Rattle.std.specs.Prelude.{◌≡◌, ◌∷◌, ◌++◌, [], map, option_map, IfOk, OnOk};
+ghost use Rattle.std.specs.Prelude.{◌≡◌, ◌&&◌, ◌∷◌, ◌++◌, [], map, not, option_map, IfOk, OnOk};
 ghost use Rattle.language.specs.Core as core;
 ghost use Rattle.flow.specs.Shapes.{action_declared, block_declared, is_array};
 ghost use Rattle.flow.specs.View.{action_view, awaited_view, block_view, call_view, name_view, outer_view, parts_view, waits_around};
@@ -7,7 +7,8 @@ ghost use Rattle.task_code.specs.View.{variable_view};
 ghost use Rattle.code_rules.specs.IsCodeOf.{own_priority};
 ghost use Rattle.emit_statements.specs.Blocks.{range_action};
 ghost use Rattle.emit_statements.specs.Doing.{action_of};
-ghost use Rattle.emit.specs.Emits.{EmitsAction, EmitsInner, EmitsOne, EmitsOwn, EmitsStatements, state_of, state_with};
+ghost use Rattle.wait_merge.specs.Merged.{action_seen, block_seen};
+ghost use Rattle.emit.specs.Emits.{EmitsAction, EmitsInner, EmitsMerged, EmitsOne, EmitsOwn, EmitsStatements, state_of, state_with};
 
 use crate::body::{add_body, empty};
 use crate::emitter::Emitter;
@@ -20,7 +21,6 @@ use flow::cell::{Call, Outer, Part};
 use flow::name::Name;
 use flow::script::Function;
 use flow::statement::{Action, Block, Header, Range, Statement, Variable};
-use language::tree::Shape;
 use std::alloc::{AllocError, Allocator};
 use std::mem;
 use task_code::code::Opener;
@@ -49,7 +49,7 @@ fn declare<A: Allocator>(filling: &mut Filling, variable: &Variable<A>) -> Resul
 {
     filling.makes.push(Made {
         node: variable.node,
-        array: variable.shape == Shape::Array,
+        array: variable.is_array(),
     })?;
     Ok(())
 }
@@ -119,7 +119,8 @@ impl Emitter {
         statement: Own,
         action: &Action<A>,
     ) -> Result<(), AllocError>
-        ensures { OnOk result (EmitsAction functions.now.items statement (action_view action.now) (action_declared action.now) self.old self.new) }
+        ensures { OnOk result (EmitsMerged functions.now.items statement (action_view action.now)
+            (action_seen action.now).merged (action_declared action.now) self.old self.new) }
     {
         match action {
             Action::Declare(variable) => declare(&mut self.writer.filling, variable),
@@ -239,8 +240,8 @@ impl Emitter {
         condition: &Outer<A>,
         then: &Block<A>,
     ) -> Result<(), AllocError>
-        ensures { OnOk result (EmitsAction functions.now.items statement (core.when (outer_view condition.now) (block_view then.now))
-            (block_declared then.now) self.old self.new) }
+        ensures { OnOk result (EmitsMerged functions.now.items statement (core.when (outer_view condition.now) (block_view then.now))
+            (block_seen then.now).merged (block_declared then.now) self.old self.new) }
     {
         let alloc = self.writer.alloc;
         let standing = statement.standing;
@@ -261,8 +262,8 @@ impl Emitter {
         then: &Block<A>,
         other: &Block<A>,
     ) -> Result<(), AllocError>
-        ensures { OnOk result (EmitsAction functions.now.items statement (core.choose (outer_view condition.now) (block_view then.now) (block_view other.now))
-            (block_declared then.now ++ block_declared other.now) self.old self.new) }
+        ensures { OnOk result (EmitsMerged functions.now.items statement (core.choose (outer_view condition.now) (block_view then.now) (block_view other.now))
+            ((block_seen then.now).merged && (block_seen other.now).merged) (block_declared then.now ++ block_declared other.now) self.old self.new) }
     {
         let alloc = self.writer.alloc;
         let standing = statement.standing;
@@ -290,9 +291,9 @@ impl Emitter {
         turn: &Option<Variable<A>>,
         body: &Block<A>,
     ) -> Result<(), AllocError>
-        ensures { OnOk result (EmitsAction functions.now.items statement (range_action range.now value.now.node
+        ensures { OnOk result (EmitsMerged functions.now.items statement (range_action range.now value.now.node
             (option_map (λ v. v.node) turn.now) (block_view body.now))
-            (block_declared body.now) self.old self.new) }
+            (block_seen body.now).merged (block_declared body.now) self.old self.new) }
     {
         let alloc = self.writer.alloc;
         let standing = statement.standing;
@@ -315,9 +316,9 @@ impl Emitter {
         key: &Option<Variable<A>>,
         body: &Block<A>,
     ) -> Result<(), AllocError>
-        ensures { OnOk result (EmitsAction functions.now.items statement (core.each (name_view array) value.now.node
+        ensures { OnOk result (EmitsMerged functions.now.items statement (core.each (name_view array) value.now.node
             (option_map (λ v. v.node) key.now) (block_view body.now))
-            (block_declared body.now) self.old self.new) }
+            (block_seen body.now).merged (block_declared body.now) self.old self.new) }
     {
         let alloc = self.writer.alloc;
         let variables = loop_filling(alloc, value, key)?;
@@ -339,9 +340,9 @@ impl Emitter {
         inner: &Vec<Header<A>, A>,
         content: &Block<A>,
     ) -> Result<(), AllocError>
-        ensures { OnOk result (EmitsAction functions.now.items statement (core.wait (map awaited_view names.now.items)
+        ensures { OnOk result (EmitsMerged functions.now.items statement (core.wait (map awaited_view names.now.items)
             (waits_around inner.now.items (block_view content.now)))
-            (block_declared content.now) self.old self.new) }
+            (not (block_seen content.now).wait && (block_seen content.now).merged) (block_declared content.now) self.old self.new) }
     {
         let alloc = self.writer.alloc;
         let inside = self.block(functions, statement.standing.inputs, empty(alloc), content)?;

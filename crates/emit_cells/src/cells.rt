@@ -16,7 +16,7 @@ use flow::expression::Expr;
 use indexmap::IndexMap;
 use std::alloc::{AllocError, Allocator, Global};
 use task_code::entry::{Argument, Name, Need};
-use values::key::Key;
+use values::key::KeyRef;
 use values::value::Scalar;
 
 // WHAT IS HANDED OVER
@@ -134,32 +134,25 @@ fn share(found: &Argument) -> Result<Argument, AllocError>
 }
 
 /// The element of an array at the index that the cell of a node has.
-pub fn element(passed: &IndexMap<u32, Argument>, array: Name, index: u32) -> Need
-    ensures { (a : PureArgument) → handed_in passed.now index ≡ Some a → code_view.need_view result ≡ element_at (code_view.name_view array) a }
+pub fn element(
+    passed: &IndexMap<u32, Argument>,
+    array: Name,
+    index: u32,
+) -> Result<Need, AllocError>
+    ensures { IfOk result (λ need. (a : PureArgument) → handed_in passed.now index ≡ Some a → code_view.need_view need ≡ element_at (code_view.name_view array) a) }
 {
     match passed.get(&index) {
-        None => Need::At(array, own(index)),
+        None => Ok(Need::At(array, own(index))),
         Some(found) => element_of(array, found),
     }
 }
 
 /// The element of an array at what is handed over for an index.
-fn element_of(array: Name, index: &Argument) -> Need
-    ensures { code_view.need_view result ≡ element_at (code_view.name_view array) (code_view.argument_view index.now) }
+fn element_of(array: Name, index: &Argument) -> Result<Need, AllocError>
+    ensures { IfOk result (λ need. code_view.need_view need ≡ element_at (code_view.name_view array) (code_view.argument_view index.now)) }
 {
     match index {
-        Argument::Named(name) => Need::At(array, *name),
-        Argument::Fixed(value) => Need::AtKey(array, key_of(value)),
-    }
-}
-
-/// The key that a scalar is; one that is no number counts as 0.
-fn key_of(value: &Scalar) -> Key
-    ensures { result ≡ key_of value.now }
-{
-    match value {
-        Scalar::Number(n) => Key::Number(*n),
-        Scalar::Truth(_) => Key::Number(0),
-        Scalar::Text(_) => Key::Number(0),
+        Argument::Named(name) => Ok(Need::At(array, *name)),
+        Argument::Fixed(value) => Ok(Need::AtKey(array, KeyRef::of(value).share()?)),
     }
 }

@@ -23,7 +23,6 @@ use flow::name::Name;
 use flow::script::Function;
 use flow::statement::Variable;
 use indexmap::{IndexMap, IndexSet};
-use language::tree::Shape;
 use std::alloc::{AllocError, Allocator, Global};
 use task_code::entry::{Act, Argument, Entry, Name as Used, Need};
 
@@ -83,7 +82,7 @@ pub fn add_cell<A: Allocator>(
     match &cell.form {
         Form::Compute(expr) => add_computed(alloc, entries, standing, shown, expr),
         Form::Read { array, index } => {
-            let need = element(passed, named(standing.inputs, *array, true), *index);
+            let need = element(passed, named(standing.inputs, *array, true), *index)?;
             add_read(alloc, entries, standing, shown, need)
         }
     }
@@ -97,10 +96,7 @@ fn is_array_at<A: Allocator>(variables: &Vec<Variable<A>, A>, number: usize) -> 
 {
     match variables.get(number) {
         None => false,
-        Some(variable) => match variable.shape {
-            Shape::Array => true,
-            Shape::Scalar => false,
-        },
+        Some(variable) => variable.is_array(),
     }
 }
 

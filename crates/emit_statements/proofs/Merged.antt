@@ -7,6 +7,7 @@ use Rattle.std.proofs.lemmas.Grind.{flat_map-append}
 use Rattle.language.specs.Core.{Block, wait, stmt}
 use Rattle.language.specs.Core as core
 use Rattle.language.specs.Resolved.{awaited_as}
+use Rattle.language.specs.declared.tree.Keys.{Keys}
 use Rattle.language.specs.declared.tree.Shape.{Shape}
 use Rattle.language.specs.declared.tree.Shape.TheVariants as Shapes
 use Rattle.flow.specs.View.{awaited_view, name_view, waits_around}
@@ -17,7 +18,7 @@ use Rattle.task_code.specs.Code as code
 use Rattle.task_code.specs.Code.{Need, Wait}
 use Rattle.task_code.specs.declared.entry.Entry.{Entry as Made}
 use Rattle.code_rules.specs.CodeNames.{awaited_need, each_once, name_as}
-use Rattle.code_rules.specs.Laying.{Headers, one_header, more_headers}
+use Rattle.code_rules.specs.Laying.{Headers, is_one_wait, one_header, more_headers}
 use Rattle.code_rules.specs.Room.{AwaitedRoom, BlockRoom, Each, NameRoom}
 use Rattle.emit_cells.specs.Wanted.{Noted, Notes, need_named}
 use Rattle.emit_cells.specs.declared.needs.Wanted.{Wanted}
@@ -55,22 +56,22 @@ each_mapped V P (x ∷ xs) h = (h.0, each_mapped V P xs h.1)
 abbrev pub blank_name : Named
 blank_name = record { up = 0; what = Owned.Local 0; shape = Shapes.Scalar }
 
-by_shape : (k : ℕ) (x : core.Name) (r : code.Name) (s : Shape) → (s ≡ Shapes.Array → r ≡ name_as k true x) → (s ≡ Shapes.Scalar → r ≡ name_as k false x) → need_named r ≡ awaited_need k (awaited_as s x)
-by_shape k x r Shapes.Array f g = ap need_named (f refl) ∙ closed_named k x
+by_shape : (k : ℕ) (x : core.Name) (r : code.Name) (s : Shape) → ((κ : Keys) → s ≡ Shapes.Array κ → r ≡ name_as k true x) → (s ≡ Shapes.Scalar → r ≡ name_as k false x) → need_named r ≡ awaited_need k (awaited_as s x)
+by_shape k x r (Shapes.Array κ) f g = ap need_named (f κ refl) ∙ closed_named k x
 by_shape k x r Shapes.Scalar f g = ap need_named (g refl) ∙ stored_named k x
 
 room_of : (k : ℕ) (x : core.Name) (s : Shape) → AwaitedRoom k (awaited_as s x) → NameRoom k x
-room_of k x Shapes.Array h = h
+room_of k x (Shapes.Array κ) h = h
 room_of k x Shapes.Scalar h = h
 
-array_scalar : Shapes.Array ≡ Shapes.Scalar → ⊥
-array_scalar e = cc
+array_scalar : (κ : Keys) → Shapes.Array κ ≡ Shapes.Scalar → ⊥
+array_scalar κ e = cc
 
-pub array_awaited : (k : ℕ) (n : Named) (r : code.Name) → n.shape ≡ Shapes.Array → (NameRoom k (name_view n) → r ≡ name_as k true (name_view n)) → AwaitedRoom k (awaited_view n) → need_named r ≡ awaited_need k (awaited_view n)
-array_awaited k n r is f room = by_shape k (name_view n) r n.shape (λ e. f (room_of k (name_view n) n.shape room)) (λ e. absurd (array_scalar (sym is ∙ e)))
+pub array_awaited : {κ : Keys} (k : ℕ) (n : Named) (r : code.Name) → n.shape ≡ Shapes.Array κ → (NameRoom k (name_view n) → r ≡ name_as k true (name_view n)) → AwaitedRoom k (awaited_view n) → need_named r ≡ awaited_need k (awaited_view n)
+array_awaited {κ} k n r is f room = by_shape k (name_view n) r n.shape (λ ι e. f (room_of k (name_view n) n.shape room)) (λ e. absurd (array_scalar κ (sym is ∙ e)))
 
 pub scalar_awaited : (k : ℕ) (n : Named) (r : code.Name) → n.shape ≡ Shapes.Scalar → (NameRoom k (name_view n) → r ≡ name_as k false (name_view n)) → AwaitedRoom k (awaited_view n) → need_named r ≡ awaited_need k (awaited_view n)
-scalar_awaited k n r is f room = by_shape k (name_view n) r n.shape (λ e. absurd (array_scalar (sym e ∙ is))) (λ e. f (room_of k (name_view n) n.shape room))
+scalar_awaited k n r is f room = by_shape k (name_view n) r n.shape (λ κ e. absurd (array_scalar κ (sym e ∙ is))) (λ e. f (room_of k (name_view n) n.shape room))
 
 abbrev pub waited : ℕ → List Named → List Need
 waited k ns = map (awaited_need k) (map awaited_view ns)
@@ -113,9 +114,9 @@ pub inner_room : {A : Type 0} (k : ℕ) (hs : List (Header A)) (b : Block) → B
 inner_room k [] b room = tt
 inner_room k (h ∷ hs) b room = (room.0.0, inner_room k hs b room.0.1)
 
-merged_headers : {A : Type 0} (k at n : ℕ) (ns : List Named) (hs : List (Header A)) (b : Block) → Headers k (stmt at n (wait (map awaited_view ns) (waits_around hs b))) (header_of k at ns ∷ inner_headers k hs) b
-merged_headers k at n ns [] b = one_header refl
-merged_headers k at n ns (h ∷ hs) b = more_headers (merged_headers k h.at h.node h.names.items hs b) refl
+merged_headers : {A : Type 0} (k at n : ℕ) (ns : List Named) (hs : List (Header A)) (b : Block) → is_one_wait b ≡ false → Headers k (stmt at n (wait (map awaited_view ns) (waits_around hs b))) (header_of k at ns ∷ inner_headers k hs) b
+merged_headers k at n ns [] b lone = one_header lone refl
+merged_headers k at n ns (h ∷ hs) b lone = more_headers (merged_headers k h.at h.node h.names.items hs b lone) refl
 
 -- the own entry
 pub wait_added : {A : Type 0} (s : Standing) (n : ℕ) (names : List Named) (inner : List (Header A)) (b : Block) (body : ℕ) (hs : List code.Header) (ks : List Wanted) (old new : List Made) → s.priority ≡ pos 0
@@ -123,7 +124,7 @@ pub wait_added : {A : Type 0} (s : Standing) (n : ℕ) (names : List Named) (inn
     → WaitAddedAs s.inputs s.at n (wait (map awaited_view names) (waits_around inner b)) b body old new
 wait_added s n names inner b body hs ks old new priority noted are adds = record {
   headers = header_of s.inputs s.at names ∷ inner_headers s.inputs inner;
-  merged = merged_headers s.inputs s.at n names inner b;
+  merged = λ lone. merged_headers s.inputs s.at n names inner b lone;
   entry = made s (record { node = n; mark = s.at }) (each_once (waited s.inputs names ++ needs_in (inner_headers s.inputs inner))) (Wait hs body);
   is = adds (waited s.inputs names ++ needs_in (inner_headers s.inputs inner)) noted;
   own = record { at_is = refl; priority_is = priority; needs_is = refl; act_is = ap (λ l. Wait l body) are };

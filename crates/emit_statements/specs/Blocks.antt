@@ -1,5 +1,5 @@
 -- What is laid for a statement that has blocks, but for the blocks themselves.
-use Rattle.std.specs.Prelude.{◌≡◌, ◌<◌, ◌≤◌, ◌+◌, ◌^◌, ℕ, suc, ℤ, pos, length, List, [], ◌∷◌, ◌++◌, map, Option, None, Some, option_map, option_to_list}
+use Rattle.std.specs.Prelude.{◌≡◌, ◌<◌, ◌≤◌, ◌+◌, ◌^◌, ℕ, suc, ℤ, pos, false, length, List, [], ◌∷◌, ◌++◌, map, Option, None, Some, option_map, option_to_list}
 use Rattle.std.specs.List.{flat_map}
 use Rattle.values.specs.declared.value.Scalar.TheVariants.{Number}
 use Rattle.language.specs.Core.{Action, Block, Expr, Outer, Part, literal, range, stmt}
@@ -18,7 +18,7 @@ use Rattle.flow.specs.declared.statement.Range.{Range as Ranged}
 use Rattle.flow.specs.declared.statement.Variable.{Variable}
 use Rattle.code_rules.specs.CodeNames.{each_once, header, over}
 use Rattle.code_rules.specs.IsCodeOf.{IsEntry, Layout, own_needs, seen, step_expr}
-use Rattle.code_rules.specs.Laying.{Headers, IndexesStand, IsOwnEntry, Kinds, Laying, LaysParts, PlainAs, data_in}
+use Rattle.code_rules.specs.Laying.{Headers, is_one_wait, IndexesStand, IsOwnEntry, Kinds, Laying, LaysParts, PlainAs, data_in}
 use Rattle.code_rules.specs.Room.{AwaitedRoom, Each}
 use Rattle.emit_cells.specs.declared.entries.Standing.{Standing}
 use Rattle.emit_statements.specs.Into.{laying}
@@ -79,10 +79,10 @@ pub record OwnAddedAs (k at : ℕ) (a : Action) (act : Layout → Act) (old new 
   pub own : IsOwnEntry entry at k a act
   pub mark_is : entry.mark ≡ at
 
--- so does that of waits, merged one in another round this content
+-- so does that of waits, merged one in another round this content, which is not one `wait` more
 pub record WaitAddedAs (k at node : ℕ) (a : Action) (b : Block) (body : ℕ) (old new : List Made) : Type 0 where
   pub headers : List code.Header
-  pub merged : Headers k (stmt at node a) headers b
+  pub merged : is_one_wait b ≡ false → Headers k (stmt at node a) headers b
   pub entry : Entry
   pub is : map entry_view new ≡ map entry_view old ++ entry ∷ []
   pub own : IsEntry entry at (pos 0) (each_once (flat_map (λ h. h.needs) headers)) (Wait headers body)

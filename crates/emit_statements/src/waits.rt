@@ -25,7 +25,7 @@ fn awaited(inputs: usize, name: Name) -> Used
     ensures { AwaitedRoom inputs (awaited_view name) → need_named (code_view.name_view result) ≡ awaited_need inputs (awaited_view name) }
 {
     match name.shape {
-        Shape::Array => named(inputs, name, true),
+        Shape::Array(_) => named(inputs, name, true),
         Shape::Scalar => named(inputs, name, false),
     }
 }

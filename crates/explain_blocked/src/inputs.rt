@@ -2,14 +2,15 @@
 
 use crate::scene::{Scene, Stand};
 use crate::sites::{opens_blocks, word_of};
+use crate::words::say_scalar;
 use crate::writers::Writer;
 use explain_inputs::input::{Input, add_form};
 use explain_inputs::missing::missing_of;
-use explain_text::words::{say, say_number, say_place};
+use explain_text::words::{say, say_place};
 use flow::name::{Name, Owned};
 use meaning_facts::facts::Place;
 use std::alloc::{AllocError, Allocator};
-use values::value::{Scalar, Value};
+use values::value::Value;
 
 /// Adds what a statement waits for, of its inputs that are not known, and why each is not known. Whether anything was added.
 pub fn say_inputs<'t, 'a, A: Allocator>(
@@ -77,11 +78,11 @@ fn say_input<'t, 'a, A: Allocator>(
                 node: index,
             };
             match scene.known.learned.facts.value(cell) {
-                Some(Value::One(Scalar::Number(number))) => {
+                Some(Value::One(key)) => {
                     say(out, "for ")?;
                     say_name(scene, out, stand.function, array)?;
                     say(out, "[")?;
-                    say_number(out, *number)?;
+                    say_scalar(out, key)?;
                     say(out, "]")
                 }
                 _ => {

@@ -2,7 +2,7 @@
 
 use crate::scene::Scene;
 use crate::sites::action_of;
-use crate::words::say_scalar;
+use crate::words::{say_scalar, say_text};
 use explain_text::words::{say, say_count, say_place};
 use flow::statement::{Action, Variable};
 use meaning_facts::facts::Place;
@@ -76,8 +76,8 @@ fn say_step<'t, 'a, A: Allocator>(
         return say_place(out, scene.text, step.offset);
     }
     match opener(scene, step.offset) {
-        Some(Action::Range { value, .. }) => say_turn(scene, out, instance, value)?,
-        Some(Action::Each { value, .. }) => say_turn(scene, out, instance, value)?,
+        Some(Action::Range { value, .. }) => say_turn(scene, out, instance, value, &step.key)?,
+        Some(Action::Each { value, .. }) => say_turn(scene, out, instance, value, &step.key)?,
         Some(Action::Choose { .. }) => say_branch(out, &step.key)?,
         _ => say(out, "in the if at ")?,
     }
@@ -90,20 +90,19 @@ fn opener<'t, 'a, A: Allocator>(scene: &Scene<'t, 'a, A>, at: usize) -> Option<&
 }
 
 fn say_branch(out: &mut Vec<u8>, key: &Key) -> Result<(), AllocError> {
-    let Key::Number(number) = key;
-    if *number == 0 {
-        say(out, "in the if at ")
-    } else {
-        say(out, "in the else of the if at ")
+    match key {
+        Key::Number(0) => say(out, "in the if at "),
+        _ => say(out, "in the else of the if at "),
     }
 }
 
-/// Adds which turn of a loop an instance is, by the loop's value.
+/// Adds which turn of a loop an instance is, by the loop's value, and by its key where that is a text.
 fn say_turn<'t, 'a, A: Allocator>(
     scene: &Scene<'t, 'a, A>,
     out: &mut Vec<u8>,
     instance: usize,
     value: &Variable<A>,
+    key: &Key,
 ) -> Result<(), AllocError> {
     say(out, "turn ")?;
     out.extend_from_slice(value.name.as_slice())?;
@@ -114,6 +113,10 @@ fn say_turn<'t, 'a, A: Allocator>(
     if let Some(scalar) = scene.known.learned.instances.variable(place) {
         say(out, " = ")?;
         say_scalar(out, scalar)?;
+    }
+    if let Key::Text(text) = key {
+        say(out, " under ")?;
+        say_text(out, text.as_bytes())?;
     }
     say(out, " of the loop at ")
 }

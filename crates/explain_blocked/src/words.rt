@@ -18,7 +18,7 @@ pub fn say_scalar(out: &mut Vec<u8>, scalar: &Scalar) -> Result<(), AllocError> 
 }
 
 /// Adds a text in quotes, cut where it is long.
-fn say_text(out: &mut Vec<u8>, bytes: &[u8]) -> Result<(), AllocError> {
+pub fn say_text(out: &mut Vec<u8>, bytes: &[u8]) -> Result<(), AllocError> {
     out.push(b'"')?;
     say_bytes(out, bytes, SHOWN)?;
     out.push(b'"')?;

@@ -1,8 +1,9 @@
 //! Faults, as a person reads of them.
 
 use crate::hints::say_hint;
+use crate::near_keys::say_near_key;
 use crate::printed::Printed;
-use crate::reasons::{plain_of, say_reason};
+use crate::reasons::{say_plain, say_reason};
 use explain_blocked::path::{say_path, say_steps};
 use explain_blocked::scene::Scene;
 use explain_inputs::blocking::instance_at;
@@ -164,11 +165,14 @@ fn add_fault<'t, 'a, A: Allocator>(
     say(out, fact.kind.name())?;
     say(out, ": ")?;
     if !say_reason(scene, out, fact)? {
-        say(out, plain_of(fact.kind))?;
+        say_plain(out, fact.kind)?;
     }
     say(out, "\n")?;
     add_mark(out, scene.text, mark_of(scene, fact))?;
     say_path(scene, out, fact.place.instance)?;
+    if say_near_key(scene, out, fact)? {
+        return Ok(());
+    }
     say_hint(out, scene.text, fact.kind, fact.at)
 }
 
@@ -196,7 +200,7 @@ fn add_plain<'t, 'a, A: Allocator>(
     say_start(out, file, scene.text, printed.at)?;
     say(out, printed.kind.name())?;
     say(out, ": ")?;
-    say(out, plain_of(printed.kind))?;
+    say_plain(out, printed.kind)?;
     say(out, "\n")?;
     add_mark(out, scene.text, printed.at)?;
     let inner = printed.inner_first(scene.alloc)?;

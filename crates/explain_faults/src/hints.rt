@@ -1,16 +1,17 @@
 //! What to write instead of what had a fault.
 
-use explain_text::words::say;
+use explain_text::words::{say, say_count};
 use lexer::lexer::Lexer;
 use lexer::token::TokenKind;
+use meaning_facts::instances::MOST_STEPS;
 use paths::FaultKind;
 use std::alloc::AllocError;
 
 const BOTH_SIDES: &str =
     "hint: && and || work out both of their sides: test the one in an if, and the other in an if inside of it\n";
 
-const DEPTH: &str =
-    "hint: with an if in it a function calls itself 255 times at most: what goes on longer goes on along an array, s[i] = s[i - 1] + ..\n";
+/// How often a function calls itself at most, where each call stands in a branch: both are steps, and the first call is none of itself.
+const CALLS: usize = MOST_STEPS / 2 - 1;
 
 const ONCE: &str =
     "hint: each turn writes an element of its own, A[i] = ..; what several turns have for one key goes into an array with a key for each turn\n";
@@ -35,9 +36,18 @@ pub fn say_hint(
         FaultKind::NoElement if has_negative_key(text, at) => say(out, NEGATIVE),
         FaultKind::ElementTwice => say(out, ONCE),
         FaultKind::BadStep => say(out, UPWARDS),
-        FaultKind::TooDeep => say(out, DEPTH),
+        FaultKind::TooDeep => say_depth(out),
         _ => Ok(()),
     }
+}
+
+fn say_depth(out: &mut Vec<u8>) -> Result<(), AllocError> {
+    say(out, "hint: with an if in it a function calls itself ")?;
+    say_count(out, CALLS)?;
+    say(
+        out,
+        " times at most: what goes on longer goes on along an array, s[i] = s[i - 1] + ..\n",
+    )
 }
 
 /// Whether the statement at an offset has an `&&` or `||` before its end or its block.

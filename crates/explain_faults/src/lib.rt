@@ -5,6 +5,7 @@ pub mod faults;
 mod hints;
 mod keys;
 pub mod limits;
+mod near_keys;
 mod operations;
 mod parts;
 pub mod printed;

@@ -5,6 +5,7 @@ use paths::{FaultKind, Step};
 use std::alloc::{AllocError, Global};
 use values::key::Key;
 use values::number;
+use values::text::{Bytes, Text};
 
 /// What the line of a fault begins with.
 const START: &[u8] = b"swt: fault ";
@@ -84,23 +85,84 @@ fn offset_of(digits: &[u8]) -> Option<usize> {
     usize::try_from(number).ok()
 }
 
-/// The steps of a path as `/4.1/9.-3`; none of `/`.
+/// The steps of a path as `/4.1/9.-3/7."a"`; none of `/`.
 fn steps_of(alloc: Global, path: &[u8]) -> Result<Vec<Step>, AllocError> {
     let mut steps = Vec::new(alloc);
     let mut rest = path;
     for _ in 0..path.len() {
-        let (step, behind) = cut(rest, b'/');
+        let (step, behind) = cut_step(rest);
         rest = behind;
-        if let Some(step) = step_of(step) {
+        if let Some(step) = step_of(alloc, step)? {
             steps.push(step)?;
         }
     }
     Ok(steps)
 }
 
-fn step_of(step: &[u8]) -> Option<Step> {
+/// What stands before the first `/` that no text holds, and what stands behind it.
+fn cut_step(path: &[u8]) -> (&[u8], &[u8]) {
+    let mut in_text = false;
+    let mut is_spelled = false;
+    for i in 0..path.len() {
+        let byte = path[i];
+        if byte == b'/' && !in_text {
+            return (&path[..i], &path[i + 1..]);
+        }
+        if byte == b'"' && !is_spelled {
+            in_text = !in_text;
+        }
+        is_spelled = byte == b'\\' && !is_spelled;
+    }
+    (path, &[])
+}
+
+fn step_of(alloc: Global, step: &[u8]) -> Result<Option<Step>, AllocError> {
     let (at, key) = cut(step, b'.');
-    let at = offset_of(at)?;
-    let key = Key::Number(number::parse(key).ok()?);
-    Some(Step { offset: at, key })
+    let Some(offset) = offset_of(at) else {
+        return Ok(None);
+    };
+    match key_of(alloc, key)? {
+        Some(key) => Ok(Some(Step { offset, key })),
+        None => Ok(None),
+    }
+}
+
+fn key_of(alloc: Global, key: &[u8]) -> Result<Option<Key>, AllocError> {
+    if let [b'"', text @ ..] = key {
+        return Ok(Some(Key::Text(text_of(alloc, text)?)));
+    }
+    match number::parse(key) {
+        Ok(number) => Ok(Some(Key::Number(number))),
+        Err(_) => Ok(None),
+    }
+}
+
+/// The text that is spelled up to a quote.
+fn text_of(alloc: Global, bytes: &[u8]) -> Result<Text, AllocError> {
+    let mut text = Bytes::new(alloc);
+    let mut rest = bytes;
+    for _ in 0..bytes.len() {
+        match rest {
+            [b'"', ..] => break,
+            [b'\\', byte, behind @ ..] => {
+                text.push(escaped(*byte))?;
+                rest = behind;
+            }
+            [byte, behind @ ..] => {
+                text.push(*byte)?;
+                rest = behind;
+            }
+            [] => break,
+        }
+    }
+    Text::new(alloc, text)
+}
+
+/// The byte that a letter behind a `\` stands for.
+fn escaped(byte: u8) -> u8 {
+    match byte {
+        b'n' => b'\n',
+        b't' => b'\t',
+        other => other,
+    }
 }

@@ -7,29 +7,37 @@ use explain_blocked::path::say_steps;
 use explain_blocked::scene::Scene;
 use explain_blocked::sites::action_of;
 use explain_blocked::words::say_scalar;
-use explain_text::words::{say, say_place};
+use explain_text::words::{say, say_count, say_place};
 use flow::cell::{Form, Outer};
 use flow::name::Name;
 use flow::statement::{Action, Range};
 use flow_index::site::Site;
 use meaning_facts::facts::{FaultFact, Place, Write};
+use meaning_facts::instances::MOST_STEPS;
 use paths::FaultKind;
 use std::alloc::{AllocError, Allocator};
-use values::key::Key;
+use values::key::{Key, KeyRef};
 use values::value::Value;
 
-/// What a fault is, without any value.
-pub fn plain_of(kind: FaultKind) -> &'static str {
-    match kind {
+/// Adds what a fault is, without any value.
+pub fn say_plain(out: &mut Vec<u8>, kind: FaultKind) -> Result<(), AllocError> {
+    let words = match kind {
         FaultKind::Overflow => "a number or a range is too large",
         FaultKind::DivideByZero => "something is divided by 0",
         FaultKind::NoElement => "an array is closed and has no element that is read",
         FaultKind::ElementTwice => "an element is written twice",
         FaultKind::BadStep => "the step of a range is less than 1",
-        FaultKind::TooDeep => "a block or a call would stand inside of 512 others",
+        FaultKind::TooDeep => return say_too_deep(out),
         FaultKind::NotANumber => "a text is no whole number",
         FaultKind::AssertFailed => "what is asserted is not true",
-    }
+    };
+    say(out, words)
+}
+
+fn say_too_deep(out: &mut Vec<u8>) -> Result<(), AllocError> {
+    say(out, "a block or a call would stand inside of ")?;
+    say_count(out, MOST_STEPS)?;
+    say(out, " others")
 }
 
 /// Adds why there is a fault. Whether anything was added.
@@ -80,15 +88,32 @@ fn say_missing<'t, 'a, A: Allocator>(
     say_name(scene, out, spot.function, *array)?;
     say(out, " has no element ")?;
     let node = *index;
-    say_value(scene, out, Place { instance, node })?;
+    let cell = Place { instance, node };
+    say_value(scene, out, cell)?;
     say(out, ": it is closed and has ")?;
+    let wanted = key_at(scene, cell)?;
     let place = learned.instances.place(instance, *array);
     let elements = learned.facts.elements(scene.alloc, place)?;
-    say_keys(out, elements.elements())?;
+    say_keys(out, elements.elements(), wanted.as_ref())?;
     Ok(true)
 }
 
-fn say_name<'t, 'a, A: Allocator>(
+/// The key that a cell's value is.
+fn key_at<'t, 'a, A: Allocator>(
+    scene: &Scene<'t, 'a, A>,
+    cell: Place,
+) -> Result<Option<Key>, AllocError> {
+    let Some(value) = scene.known.learned.facts.value(cell) else {
+        return Ok(None);
+    };
+    match KeyRef::of_value(value) {
+        Some(key) => Ok(Some(key.share()?)),
+        None => Ok(None),
+    }
+}
+
+/// Adds the name of an array.
+pub fn say_name<'t, 'a, A: Allocator>(
     scene: &Scene<'t, 'a, A>,
     out: &mut Vec<u8>,
     function: Option<usize>,

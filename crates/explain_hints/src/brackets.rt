@@ -90,7 +90,7 @@ fn length(around: &Around<'_>) -> Option<Advice> {
             || is_type(around.found.kind))
     {
         return Advice::here(
-            "an array has whole numbers as its keys, and no length of its own: int A[];",
+            "an array has no length of its own: int A[]; is keyed by numbers, int A[string]; by text",
         );
     }
     if opener == TokenKind::OpenRound

@@ -6,7 +6,7 @@ use Rattle.values.specs.declared.value.Scalar.{Scalar}
 use Rattle.values.specs.declared.value.Value.{Value}
 use Rattle.values.specs.declared.value.Value.TheVariants.{One, Many}
 use Rattle.language.specs.Core.{Core, Name}
-use Rattle.language.specs.Facts.{Knowledge, a_number, IsKey, OneWrite}
+use Rattle.language.specs.Facts.{Knowledge, a_number, a_text, IsKey, OneWrite}
 use Rattle.language.specs.Meaning.{Known}
 use Rattle.language.specs.Places.{Path, place}
 use Rattle.language.specs.Reads.{Reads}
@@ -42,8 +42,10 @@ module _ (s : Core) (K : Knowledge) (path : Path) (g : Sight) (sees : Sees s K p
   element_so a i (Some (One (Scalar.Number z))) q e =
       let one = once_of (g.writes a (Key.Number z)) e in
       is_written (sees.cell_so i (One (Scalar.Number z)) q) a_number (sees.once_so a (Key.Number z) one.0 one.1)
+  element_so a i (Some (One (Scalar.Text t))) q e =
+      let one = once_of (g.writes a (Key.Text t)) e in
+      is_written (sees.cell_so i (One (Scalar.Text t)) q) a_text (sees.once_so a (Key.Text t) one.0 one.1)
   element_so a i (Some (One (Scalar.Truth b))) q e = absurd (cc (e))
-  element_so a i (Some (One (Scalar.Text t))) q e = absurd (cc (e))
   element_so a i (Some (Many es)) q e = absurd (cc (e))
   element_so a i None q e = absurd (cc (e))
 
@@ -54,6 +56,7 @@ module _ (s : Core) (K : Knowledge) (path : Path) (g : Sight) (sees : Sees s K p
 
   element_all : (a : Name) (u : Value) (k : Key) (v : Scalar) → IsKey u k → OneWrite K (place s path a) k v → element_seen g a (Some u) ≡ true
   element_all a _ _ v (a_number {z = z}) w = ap is_once (sees.once_all a (Key.Number z) v w)
+  element_all a _ _ v (a_text {bytes = t}) w = ap is_once (sees.once_all a (Key.Text t) v w)
 
   there_all : (x : Input) → IsThere s K path x → is_seen g x ≡ true
   there_all _ (has_value {x = x} {v = v} h) = ap is_some (sees.scalar_all x v h)

@@ -3,7 +3,7 @@ use Rattle.std.specs.Prelude.{ℕ, Bool, true, false, List, [], ◌∷◌, ◌++
 use Rattle.values.specs.declared.key.Key.{Key}
 use Rattle.values.specs.declared.value.Scalar.{Scalar}
 use Rattle.values.specs.declared.value.Value.{Value}
-use Rattle.values.specs.declared.value.Value.TheVariants.{One, Many}
+use Rattle.values.specs.Keys.{value_key}
 use Rattle.language.specs.Core.{Core, Name}
 use Rattle.language.specs.Facts.{Knowledge, value, IsKey, OneWrite}
 use Rattle.language.specs.Meaning.{Closed, HasValue}
@@ -31,11 +31,13 @@ is_once [] = false
 is_once (v ∷ []) = true
 is_once (v ∷ u ∷ vs) = false
 
+abbrev pub once_under : Sight → Name → Option Key → Bool
+once_under g a (Some k) = is_once (g.writes a k)
+once_under g a None = false
+
+-- an element by the value of the index
 abbrev pub element_seen : Sight → Name → Option Value → Bool
-element_seen g a (Some (One (Scalar.Number z))) = is_once (g.writes a (Key.Number z))
-element_seen g a (Some (One (Scalar.Truth b))) = false
-element_seen g a (Some (One (Scalar.Text t))) = false
-element_seen g a (Some (Many es)) = false
+element_seen g a (Some v) = once_under g a (value_key v)
 element_seen g a None = false
 
 abbrev pub is_seen : Sight → Input → Bool

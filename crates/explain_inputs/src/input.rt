@@ -71,7 +71,7 @@ fn awaited(name: Name) -> Input
     ensures { input_view result ≡ awaited_input (awaited_view name) }
 {
     match name.shape {
-        Shape::Array => Input::Array(name),
+        Shape::Array(_) => Input::Array(name),
         Shape::Scalar => Input::Scalar(name),
     }
 }

@@ -1,6 +1,6 @@
 //! Which inputs are not known.
 ghost use Rattle.std.specs.Prelude.{◌≡◌, ◌<◌, ◌++◌, ℕ, List, length, IfOk, OnOk};
-ghost use Rattle.values.specs.declared.key.Key.{Key};
+ghost use Rattle.values.specs.Keys.{key_seen};
 ghost use Rattle.language.specs.Meaning.{Known};
 ghost use Rattle.language.specs.Reads.{Reads};
 ghost use Rattle.language.specs.Resolved.{core};
@@ -21,8 +21,7 @@ use meaning_facts::facts::{Place, Written};
 use meaning_facts::learned::Learned;
 use meaning_outcomes::knowledge::Knowledge;
 use std::alloc::{AllocError, Global};
-use values::key::Key;
-use values::value::{Scalar, Value};
+use values::key::KeyRef;
 
 /// Those of the inputs of a statement in an instance that are not known, in their order.
 ///
@@ -91,19 +90,20 @@ fn is_written(learned: &Learned, instance: usize, array: Name, index: u32) -> bo
         instance,
         node: index,
     };
-    match learned.facts.value(cell) {
-        Some(Value::One(Scalar::Number(number))) => {
-            is_once(learned, learned.instances.place(instance, array), *number)
-        }
-        _ => false,
+    let Some(value) = learned.facts.value(cell) else {
+        return false;
+    };
+    match KeyRef::of_value(value) {
+        Some(key) => is_once(learned, learned.instances.place(instance, array), key),
+        None => false,
     }
 }
 
 /// Whether an array has one write of this key.
-fn is_once(learned: &Learned, array: Place, number: i64) -> bool
-    ensures { result ≡ is_once (writes_under (writes_at learned.now.facts array) (Key.Number number)) }
+fn is_once(learned: &Learned, array: Place, key: KeyRef<'_>) -> bool
+    ensures { result ≡ is_once (writes_under (writes_at learned.now.facts array) (key_seen key.entry)) }
 {
-    match learned.facts.written(array, &Key::Number(number)) {
+    match learned.facts.written(array, key) {
         Written::Once(_) => true,
         Written::Never => false,
         Written::Twice => false,

@@ -27,9 +27,9 @@ abbrev pub declaration_mentions : Declaration → Option RightSide → List Ment
 declaration_mentions d None = declared_as Declared d ∷ []
 declaration_mentions d (Some r) = declared_as Declared d ∷ declared_as Assigned d ∷ []
 
-abbrev pub key_mentions : Option Word → List Mention
-key_mentions None = []
-key_mentions (Some k) = mention Given (Some whole_number) k ∷ []
+abbrev pub key_mentions : Option Sort → Option Word → List Mention
+key_mentions s None = []
+key_mentions s (Some k) = mention Given s k ∷ []
 
 abbrev mutual
   pub mentions_in : Statement → List Mention
@@ -43,7 +43,7 @@ abbrev mutual
   command_mentions (calls p c) = []
   command_mentions (choice e b) = body_mentions b
   command_mentions (choice_else e b d) = body_mentions b ++ body_mentions d
-  command_mentions (loop v k o b) = mention Given (value_sort o) v ∷ (key_mentions k ++ body_mentions b)
+  command_mentions (loop v k o b) = mention Given (value_sort o) v ∷ (key_mentions (value_sort o) k ++ body_mentions b)
   command_mentions (waits ws b) = body_mentions b
 
   pub body_mentions : Body → List Mention

@@ -10,7 +10,7 @@ use syntax_trees::tree::{
     Base, Block, Decl, Function, Item, Name, Right, Script, Shape, Source, Stmt, StmtKind,
 };
 
-/// The type of a range's values, and of keys.
+/// The type of a range's values and of their numbers.
 const WHOLE_NUMBER: Sort = Sort {
     base: Base::Int,
     shape: Shape::Scalar,
@@ -150,7 +150,7 @@ fn declaration<A: Allocator>(
     }
 }
 
-/// The type of a loop's value, where it stands at the loop.
+/// The type of a loop's value, and that of its key, where they stand at the loop.
 fn value_sort<A: Allocator>(source: &Source<A>) -> Option<Sort>
     ensures { result ≡ specs.value_sort (over_of source.now) }
 {
@@ -161,12 +161,16 @@ fn value_sort<A: Allocator>(source: &Source<A>) -> Option<Sort>
 }
 
 /// Adds the place of a loop's key, where it has one.
-fn key<A: Allocator>(name: &Option<Name<A>>, mentions: &mut Vec<Mention>) -> Result<(), AllocError>
-    ensures { OnOk result (mentions.new.items ≡ mentions.old.items ++ specs.key_mentions (option_map word_of name.now)) }
+fn key<A: Allocator>(
+    name: &Option<Name<A>>,
+    sort: Option<Sort>,
+    mentions: &mut Vec<Mention>,
+) -> Result<(), AllocError>
+    ensures { OnOk result (mentions.new.items ≡ mentions.old.items ++ specs.key_mentions sort (option_map word_of name.now)) }
 {
     match name {
         None => Ok(()),
-        Some(name) => add(Kind::Given, Some(WHOLE_NUMBER), name, mentions),
+        Some(name) => add(Kind::Given, sort, name, mentions),
     }
 }
 
@@ -212,7 +216,7 @@ fn command<A: Allocator>(kind: &StmtKind<A>, mentions: &mut Vec<Mention>) -> Res
         StmtKind::Foreach(header, body) => {
             let sort = value_sort(&header.source);
             add(Kind::Given, sort, &header.value, mentions)?;
-            key(&header.key, mentions)?;
+            key(&header.key, sort, mentions)?;
             block(body, mentions)
         }
         StmtKind::Wait(_, body) => block(body, mentions),

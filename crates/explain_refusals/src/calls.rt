@@ -63,7 +63,7 @@ pub fn count_behind(text: &[u8], at: usize) -> usize {
     }
 }
 
-/// The array that the loop goes over whose value's name ends at an offset.
+/// The array that the loop goes over whose value's or key's name ends at an offset.
 pub fn looped_array(text: &[u8], at: usize) -> Option<&[u8]> {
     let mut lexer = Lexer::behind(text, at.min(text.len()));
     let mut token = next_token(&mut lexer)?;
@@ -80,6 +80,19 @@ pub fn looped_array(text: &[u8], at: usize) -> Option<&[u8]> {
     } else {
         None
     }
+}
+
+/// Whether a `,` stands right before what begins at an offset.
+pub fn is_behind_comma(text: &[u8], at: usize) -> bool {
+    let mut lexer = Lexer::behind(text, 0);
+    let mut last = TokenKind::End;
+    for _ in 0..text.len() {
+        match next_token(&mut lexer) {
+            Some(token) if token.span.from < at => last = token.kind,
+            _ => break,
+        }
+    }
+    last == TokenKind::Comma
 }
 
 /// Whether a name stands between an offset and the next `;`.

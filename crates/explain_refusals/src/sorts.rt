@@ -1,13 +1,13 @@
 //! What type an expression has, and what is wanted of it where it stands.
 
-use crate::calls::looped_array;
+use crate::calls::{is_behind_comma, looped_array};
 use explain_names::lookup::{Wanted, bytes_at, function_named, last_before};
 use explain_names::mention::{Mention, Sort};
 use lexer::token::Span;
 use std::alloc::Allocator;
 use syntax_trees::tree::{
-    Base, Block, Call, Decl, Expr, ExprKind, Item, Name, Operator, Prefix, Range, Right, Script,
-    Shape, Source, Stmt, StmtKind,
+    Base, Block, Call, Decl, Expr, ExprKind, Item, Keys, Name, Operator, Prefix, Range, Right,
+    Script, Shape, Source, Stmt, StmtKind,
 };
 
 /// An expression that has another type than the one that is wanted.
@@ -22,6 +22,10 @@ pub struct Mismatch {
 pub enum Wish {
     /// A type.
     Sort(Sort),
+    /// A key of an array of this type, whose name stands there.
+    Key(Sort, Span),
+    /// An array of this type, whose elements are not written by a literal.
+    Literal(Sort),
     /// An array that has elements.
     Element,
     /// An array that a loop goes over.
@@ -42,10 +46,18 @@ pub struct Search<'a, A: Allocator> {
 }
 
 /// A scalar of a type.
-fn one(base: Base) -> Sort {
+pub fn one(base: Base) -> Sort {
     Sort {
         base,
         shape: Shape::Scalar,
+    }
+}
+
+/// What keys an array has; numbers, where it is none.
+pub fn keys_of(array: Sort) -> Keys {
+    match array.shape {
+        Shape::Array(keys) => keys,
+        Shape::Scalar => Keys::Numbers,
     }
 }
 
@@ -138,8 +150,8 @@ fn in_write<A: Allocator>(
     found: &mut Option<Mismatch>,
 ) {
     want_array(search, name, Wish::Element, found);
-    demand(search, index, one(Base::Int), found);
     if let Some(array) = sort_of_name(search, name) {
+        demand_key(search, name, index, array, found);
         demand(search, value, one(array.base), found);
     }
 }
@@ -157,12 +169,17 @@ fn in_right<A: Allocator>(
             for element in &list.elements {
                 demand(search, element, one(wanted.base), found);
             }
-            if wanted.shape == Shape::Scalar && list.first == search.at {
+            let numbered = Shape::Array(Keys::Numbers);
+            if wanted.shape != numbered && list.first == search.at {
                 let array = Sort {
                     base: wanted.base,
-                    shape: Shape::Array,
+                    shape: numbered,
                 };
-                note(found, array, Wish::Sort(wanted));
+                let wish = match wanted.shape {
+                    Shape::Array(Keys::Texts) => Wish::Literal(wanted),
+                    _ => Wish::Sort(wanted),
+                };
+                note(found, array, wish);
             }
         }
     }
@@ -252,6 +269,37 @@ fn demand<A: Allocator>(
     judge(search, value, wanted, found);
 }
 
+/// Looks in an index of an array of a type.
+#[cycle(expr)]
+fn demand_key<A: Allocator>(
+    search: &Search<A>,
+    name: &Name<A>,
+    index: &Expr<A>,
+    array: Sort,
+    found: &mut Option<Mismatch>,
+) {
+    in_form(search, &index.kind, found);
+    judge_key(search, name, index, array, found);
+}
+
+/// Takes down that an index has another type than the keys of its array, where it stands at the place and is the first.
+fn judge_key<A: Allocator>(
+    search: &Search<A>,
+    name: &Name<A>,
+    index: &Expr<A>,
+    array: Sort,
+    found: &mut Option<Mismatch>,
+) {
+    if index.first != search.at {
+        return;
+    }
+    if let Some(sort) = sort_of(search, index) {
+        if sort != one(keys_of(array).base()) {
+            note(found, sort, Wish::Key(array, name.span));
+        }
+    }
+}
+
 /// Takes down that an expression has another type than is wanted, where it stands at the place and is the first.
 fn judge<A: Allocator>(
     search: &Search<A>,
@@ -284,7 +332,10 @@ fn in_form<A: Allocator>(search: &Search<A>, kind: &ExprKind<A>, found: &mut Opt
         ExprKind::Number(_) | ExprKind::Text(_) | ExprKind::Truth(_) | ExprKind::Variable(_) => {}
         ExprKind::Element(name, index) => {
             want_array(search, name, Wish::Element, found);
-            demand(search, index, one(Base::Int), found);
+            match sort_of_name(search, name) {
+                Some(array) => demand_key(search, name, index, array, found),
+                None => demand(search, index, one(Base::Int), found),
+            }
         }
         ExprKind::Call(name, arguments) => in_arguments(search, name, arguments, found),
         ExprKind::Prefixed(prefix, operand) => {
@@ -329,7 +380,7 @@ fn judge_compared<A: Allocator>(
     for operand in operands {
         if operand.first == search.at {
             if let Some(sort) = sort_of(search, operand) {
-                if sort.shape == Shape::Array {
+                if sort.shape != Shape::Scalar {
                     note(found, sort, Wish::Compared);
                 }
             }
@@ -453,15 +504,20 @@ fn converted(format: &[u8], place: usize) -> Option<Sort> {
     None
 }
 
-/// The type of a variable: the one that stands at its declaration, or that of the elements of the array that its loop goes over.
+/// The type of a variable: the one that stands at its declaration, or that of the elements or of the keys of the array that its loop goes over.
 fn sort_of_name<A: Allocator>(search: &Search<A>, name: &Name<A>) -> Option<Sort> {
     let declared = declaration_of(search, bytes_at(search.text, name.span), name.span.from)?;
     match declared.sort {
         Some(sort) => Some(sort),
         None => {
             let array = looped_array(search.text, declared.at.to)?;
-            let source = declaration_of(search, array, declared.at.from)?;
-            Some(one(source.sort?.base))
+            let source = declaration_of(search, array, declared.at.from)?.sort?;
+            let is_key = is_behind_comma(search.text, declared.at.from);
+            Some(one(if is_key {
+                keys_of(source).base()
+            } else {
+                source.base
+            }))
         }
     }
 }

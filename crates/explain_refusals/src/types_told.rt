@@ -2,7 +2,7 @@
 
 use crate::counts_told::{add_count, hint_of_built_in, hint_of_count};
 use crate::names_told::{told_of_no_function, told_of_unknown};
-use crate::sorts::{Mismatch, Search, Wish, first_mismatch};
+use crate::sorts::{Mismatch, Search, Wish, first_mismatch, keys_of, one};
 use crate::told::{Hint, Note, Told, note_of};
 use explain_names::lookup::{Wanted, bytes_at, function_named, place_before};
 use explain_names::mention::Sort;
@@ -10,7 +10,7 @@ use explain_names::mentions::{function_around, mentions_around};
 use explain_names::refused::Refused;
 use lexer::token::Span;
 use std::alloc::{AllocError, Allocator};
-use syntax_trees::tree::{Base, Function, Shape};
+use syntax_trees::tree::{Base, Function, Keys, Shape};
 use types::fault::TypeFault;
 
 /// What is said of a script that is not well typed.
@@ -59,20 +59,24 @@ fn told_of_mismatch<A: Allocator>(refused: &Refused<'_, A>, at: Span) -> Result<
         Some(mismatch) => {
             let mut told = Told::plain(refused.alloc, "this is ")?;
             add_sort(&mut told.sentence, mismatch.found)?;
-            add_wish(&mut told.sentence, mismatch.wanted)?;
-            let hint = Hint::plain(refused.alloc, hint_of_mismatch(mismatch))?;
+            add_wish(&mut told.sentence, refused.text, mismatch.wanted)?;
+            let hint = hint_of_mismatch(refused, mismatch)?;
             Ok(told.with(hint))
         }
     }
 }
 
 /// Adds what is wanted, in words.
-fn add_wish(out: &mut Vec<u8>, wanted: Wish) -> Result<(), AllocError> {
+fn add_wish(out: &mut Vec<u8>, text: &[u8], wanted: Wish) -> Result<(), AllocError> {
     out.extend_from_slice(b", and ")?;
     match wanted {
-        Wish::Sort(sort) => {
+        Wish::Sort(sort) | Wish::Literal(sort) => {
             out.extend_from_slice(b"wanted is ")?;
             add_sort(out, sort)
+        }
+        Wish::Key(array, name) => {
+            out.extend_from_slice(bytes_at(text, name))?;
+            out.extend_from_slice(words_of_keys(keys_of(array)).as_bytes())
         }
         Wish::Element | Wish::Size => out.extend_from_slice(b"wanted is an array"),
         Wish::Loop => out.extend_from_slice(b"wanted is an array or a range"),
@@ -80,27 +84,80 @@ fn add_wish(out: &mut Vec<u8>, wanted: Wish) -> Result<(), AllocError> {
     }
 }
 
+fn words_of_keys(keys: Keys) -> &'static str {
+    match keys {
+        Keys::Numbers => " is keyed by numbers",
+        Keys::Texts => " is keyed by text",
+    }
+}
+
 /// What to write instead of an expression of another type.
-fn hint_of_mismatch(mismatch: Mismatch) -> &'static str {
-    match mismatch.wanted {
+fn hint_of_mismatch<A: Allocator>(
+    refused: &Refused<'_, A>,
+    mismatch: Mismatch,
+) -> Result<Option<Hint>, AllocError> {
+    let words = match mismatch.wanted {
+        Wish::Key(array, name) => return hint_of_key(refused, mismatch.found, array, name),
         Wish::Element => "an array alone has elements: int A[]; A[0] = 1;",
         Wish::Loop => "foreach goes over a range, as [1:n], or over an array by its name",
         Wish::Size => "size counts the elements of an array; a string has no length",
         Wish::Compared => "compare their elements, one by one: A[i] == B[i]",
+        Wish::Literal(_) => {
+            "the values of a literal have the keys 0, 1, 2: write the elements, each under its text: A[\"a\"] = 1;"
+        }
         Wish::Sort(wanted) => hint_of_sorts(mismatch.found, wanted),
+    };
+    Hint::plain(refused.alloc, words)
+}
+
+/// What to write instead of a key of another type, of an array of this name and type.
+fn hint_of_key<A: Allocator>(
+    refused: &Refused<'_, A>,
+    found: Sort,
+    array: Sort,
+    name: Span,
+) -> Result<Option<Hint>, AllocError> {
+    let name = bytes_at(refused.text, name);
+    let keys = keys_of(array);
+    match (found.shape, found.base, keys) {
+        (Shape::Scalar, Base::Int, Keys::Texts) => {
+            let behind = "[\"1\"]; a number n becomes a key by fromint(n)";
+            Hint::named(refused.alloc, "", name, behind)
+        }
+        (Shape::Scalar, Base::Text, Keys::Numbers) => {
+            let before = type_of(array.base);
+            let behind = "[string]; has texts as its keys, and toint(s) reads a number";
+            Hint::named(refused.alloc, before, name, behind)
+        }
+        _ => Hint::plain(refused.alloc, hint_of_sorts(found, one(keys.base()))),
+    }
+}
+
+/// What the declaration of an array begins with.
+fn type_of(base: Base) -> &'static str {
+    match base {
+        Base::Int => "int ",
+        Base::Text => "string ",
+        Base::Boolean => "boolean ",
     }
 }
 
 /// What to write instead of an expression of one type where another one is wanted.
 fn hint_of_sorts(found: Sort, wanted: Sort) -> &'static str {
     match (found.shape, wanted.shape) {
-        (Shape::Array, Shape::Scalar) => {
+        (Shape::Array(_), Shape::Scalar) => {
             "an element of an array is A[i], and size(A) is how many there are"
         }
-        (Shape::Scalar, Shape::Array) => {
+        (Shape::Scalar, Shape::Array(_)) => {
             "an array is written whole, int A[] = [1, 2];, or by its elements, A[0] = 1;"
         }
-        (Shape::Array, Shape::Array) => {
+        (Shape::Array(Keys::Numbers), Shape::Array(Keys::Texts)) => {
+            "make each element anew in a loop: foreach v, k in A { B[fromint(k)] = v; }"
+        }
+        (Shape::Array(Keys::Texts), Shape::Array(Keys::Numbers)) => {
+            "an array by numbers has no texts as its keys: declare it as the other one is, int B[string];"
+        }
+        (Shape::Array(_), Shape::Array(_)) => {
             "make each element anew in a loop: foreach v, i in A { B[i] = fromint(v); }"
         }
         (Shape::Scalar, Shape::Scalar) => hint_of_bases(found.base, wanted.base),
@@ -126,9 +183,12 @@ fn add_sort(out: &mut Vec<u8>, sort: Sort) -> Result<(), AllocError> {
         (Shape::Scalar, Base::Int) => "an int",
         (Shape::Scalar, Base::Text) => "a string",
         (Shape::Scalar, Base::Boolean) => "a boolean",
-        (Shape::Array, Base::Int) => "an array of int",
-        (Shape::Array, Base::Text) => "an array of string",
-        (Shape::Array, Base::Boolean) => "an array of boolean",
+        (Shape::Array(Keys::Numbers), Base::Int) => "an array of int",
+        (Shape::Array(Keys::Numbers), Base::Text) => "an array of string",
+        (Shape::Array(Keys::Numbers), Base::Boolean) => "an array of boolean",
+        (Shape::Array(Keys::Texts), Base::Int) => "an array of int keyed by text",
+        (Shape::Array(Keys::Texts), Base::Text) => "an array of string keyed by text",
+        (Shape::Array(Keys::Texts), Base::Boolean) => "an array of boolean keyed by text",
     };
     out.extend_from_slice(words.as_bytes())
 }

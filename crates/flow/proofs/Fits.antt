@@ -93,7 +93,7 @@ functions_step A n fs i d l = ap (λ (z : List (Function A)). list_all (function
 
 shape_name : (s : Shape) (x : core.Name) → awaited_name (awaited_as s x) ≡ x
 shape_name Shape.Scalar x = refl
-shape_name Shape.Array x = refl
+shape_name (Shape.Array κ) x = refl
 
 pub awaited_names : (xs : List Name) → map awaited_name (map awaited_view xs) ≡ names_view xs
 awaited_names [] = refl

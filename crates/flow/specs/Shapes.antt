@@ -11,7 +11,7 @@ use Rattle.flow.specs.declared.script.Function.{Function}
 use Rattle.flow.specs.declared.script.Flow.{Flow}
 
 abbrev pub is_array : Shape → Bool
-is_array Shape.Array = true
+is_array (Shape.Array κ) = true
 is_array Shape.Scalar = false
 
 -- variables by their nodes, each an array or not

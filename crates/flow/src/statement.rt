@@ -14,6 +14,21 @@ pub struct Variable<A: Allocator> {
     pub name: Vec<u8, A>,
 }
 
+impl<A: Allocator> Variable<A> {
+    ghost use Rattle.std.specs.Prelude.{◌≡◌};
+    ghost use Rattle.flow.specs.Shapes.{is_array};
+
+    /// Whether it is an array.
+    pub fn is_array(&self) -> bool
+        ensures { result ≡ is_array self.now.shape }
+    {
+        match self.shape {
+            Shape::Array(_) => true,
+            Shape::Scalar => false,
+        }
+    }
+}
+
 /// A `wait` inside of another one, with nothing beside it there: the offset of its first token, its node, and what it waits
 /// for.
 #[derive(Drop)]

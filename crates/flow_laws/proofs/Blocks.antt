@@ -3,7 +3,6 @@ use Rattle.std.specs.Prelude.{◌≡◌, ℕ, zero, suc, ◌+◌, ◌<◌, List,
 use Rattle.std.specs.List.{flat_map}
 use Rattle.std.proofs.Common.{inl, inr, sym, subst, arith}
 use Rattle.language.specs.declared.tree.Base.{Base}
-use Rattle.language.specs.declared.tree.Base.TheVariants.{Int}
 use Rattle.language.specs.declared.tree.Shape.{Shape}
 use Rattle.language.specs.Tree as T
 use Rattle.language.specs.Tree.{Word, Declaration, Over, Statement, statement, choice, choice_else, loop, waits, Body, body, Statements, no_statements, and_statement, Composite, Tree, import, function, single, expressions_of}
@@ -80,12 +79,12 @@ turn_of u = option_map (λ (x : Word). x.number) u
 abbrev loop_owner : Word → Option Word → Block → Owner
 loop_owner v u d = opened_owner (record { variables = v.number ∷ option_to_list (turn_of u); block = d })
 
-loop_stands : (v : Word) (u : Option Word) (d : Block) (g h : Scope) (b : Base) (os : List Owner) → LoopScope g v b u h → ScopeStands g os → ScopeStands h (loop_owner v u d ∷ os)
+loop_stands : {γ : Base} (v : Word) (u : Option Word) (d : Block) (g h : Scope) (b : Base) (os : List Owner) → LoopScope g v b u γ h → ScopeStands g os → ScopeStands h (loop_owner v u d ∷ os)
 loop_stands v None d g h b os (rules.value_only (rules.fresh free)) k =
     let o = loop_owner v None d in own_stands (deeper g) v (one_of b) o os first (deeper_stands g o os k)
-loop_stands v (Some u) d g h b os (rules.with_key (rules.fresh free) (rules.fresh other)) k =
+loop_stands {γ} v (Some u) d g h b os (rules.with_key (rules.fresh free) (rules.fresh other)) k =
     let o = loop_owner v (Some u) d in
-    own_stands (own v (one_of b) ∷ deeper g) u (one_of Int) o os (later first) (own_stands (deeper g) v (one_of b) o os first (deeper_stands g o os k))
+    own_stands (own v (one_of b) ∷ deeper g) u (one_of γ) o os (later first) (own_stands (deeper g) v (one_of b) o os first (deeper_stands g o os k))
 
 own_seen : (g : Scope) (w : Word) (τ : Typ) → Sees (own w τ ∷ g) (here w.number)
 own_seen g w τ = record { variable = own w τ; visible = first; is = refl }

@@ -42,7 +42,7 @@ module _ (fs : List Signature) (t : Table) (g : Scope) where
   argument (expression nd (variable w)) h = by (t.shape_of w.number)
     where
       by : (sh : Shape) → Knows g (variable_or_cell sh t w nd.number (form_of t (expression nd (variable w)))).0 ((variable_or_cell sh t w nd.number (form_of t (expression nd (variable w)))).1 ∷ [])
-      by Shape.Array = h
+      by (Shape.Array κ) = h
       by Shape.Scalar = cell g (form_of t (expression nd (variable w))).0 nd.number (form_of t (expression nd (variable w))).1 h
   argument (expression nd (number z)) h = cell g (form_of t (expression nd (number z))).0 nd.number (form_of t (expression nd (number z))).1 h
   argument (expression nd (text z)) h = cell g (form_of t (expression nd (text z))).0 nd.number (form_of t (expression nd (text z))).1 h

@@ -160,12 +160,12 @@ module _ (fs : List Signature) (t : Table) (g : Scope) where
       let qs = outer_parts (outer t high ∷ outer t step ∷ []) in
       of_knows (outer_parts (outer t low ∷ outer t high ∷ outer t step ∷ [])) [] (before_cells qs h (before_cells ps r (before_cells [] q (nothing g))))
 
-  pub loop_fits : (v : Word) (u : Option Word) (o : Over) (d : Block) {b : Base} → SourceType fs t g o b → Fit (loop_action t v u o d)
+  pub loop_fits : (v : Word) (u : Option Word) (o : Over) (d : Block) {b c : Base} → SourceType fs t g o b c → Fit (loop_action t v u o d)
   loop_fits v u (T.array w) d (rules.of_elements r) = of_knows [] (refers t w ∷ []) (one g (refers t w) (seen fs t g r))
   loop_fits v u (T.range low high step) d (rules.of_range h r q) = range_fits low high step v.number (option_map (λ x. x.number) u) d h r q
 
   name_awaited : (sh : Shape) (x : Name) → awaited_name (awaited_as sh x) ≡ x
-  name_awaited Shape.Array x = refl
+  name_awaited (Shape.Array κ) x = refl
   name_awaited Shape.Scalar x = refl
 
   awaited_known : {ws : List Word} {τs : List Typ} → ReferAll t g ws τs → Knows g [] (map awaited_name (map (awaited t) ws))

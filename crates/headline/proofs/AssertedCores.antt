@@ -22,14 +22,14 @@ Applied a = Unit {0}
 
 plain_applied : (t : Table) (x : Name) (a : Shape) (e : Expression) → Applied (plain_right t x a e)
 plain_applied t x Shape.Scalar e = tt
-plain_applied t x Shape.Array (expression nd (number z)) = tt
-plain_applied t x Shape.Array (expression nd (text b)) = tt
-plain_applied t x Shape.Array (expression nd (truth b)) = tt
-plain_applied t x Shape.Array (expression nd (variable w)) = tt
-plain_applied t x Shape.Array (expression nd (element w i)) = tt
-plain_applied t x Shape.Array (expression nd (call w es)) = tt
-plain_applied t x Shape.Array (expression nd (prefixed p e)) = tt
-plain_applied t x Shape.Array (expression nd (chain os es)) = tt
+plain_applied t x (Shape.Array κ) (expression nd (number z)) = tt
+plain_applied t x (Shape.Array κ) (expression nd (text b)) = tt
+plain_applied t x (Shape.Array κ) (expression nd (truth b)) = tt
+plain_applied t x (Shape.Array κ) (expression nd (variable w)) = tt
+plain_applied t x (Shape.Array κ) (expression nd (element w i)) = tt
+plain_applied t x (Shape.Array κ) (expression nd (call w es)) = tt
+plain_applied t x (Shape.Array κ) (expression nd (prefixed p e)) = tt
+plain_applied t x (Shape.Array κ) (expression nd (chain os es)) = tt
 
 call_right_applied : (t : Table) (x : Name) (e : Expression) (w : Word) (es : Expressions) (c : Callee) → Applied (call_right t x e w es c)
 call_right_applied t x e w es (composite i) = tt

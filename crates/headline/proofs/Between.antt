@@ -7,7 +7,7 @@ use Rattle.values.specs.declared.value.Scalar.{Scalar}
 use Rattle.values.specs.declared.value.Value.{Value}
 use Rattle.values.specs.declared.value.Value.TheVariants.{One, Many}
 use Rattle.language.specs.Core.{Form, Cell, Stmt, Core}
-use Rattle.language.specs.Facts.{Fault, Fact, value, element, a_number, Knowledge, OneWriter}
+use Rattle.language.specs.Facts.{Fault, Fact, value, element, a_number, a_text, Knowledge, OneWriter}
 use Rattle.language.specs.Meaning.{New, cell_value, cell_fault, assigned, filled, inserted, printed, bad_range, too_deep_header, too_deep_call, written_twice, LiveStmt, Gives, Comes, before, now, ComeAll, none_comes, next_comes, HasValue, Known}
 use Rattle.language.specs.Members.{◌∈◌}
 use Rattle.language.specs.Parts.{cells}
@@ -98,6 +98,7 @@ module _ (s : Core) (wf : WellFormed s) (single : SinglyAssigned s) (n : ℕ) (H
       kept : {f : Fact} → New s (Known s r) f → ((p : Place) (v : Value) → f ≡ value p v → P v) → (x : New s H f) × RightKnown s H x
       kept (assigned {c = c} l g) q = (assigned (stmt l) (comes g), right _ _ _ _ l (outer_in c.parts c.cell) g (q _ _ refl))
       kept (inserted {i = i} {c = c} l g a_number m) q = (inserted (stmt l) (comes g) a_number (comes m), (right _ _ _ _ l (index_in i c) g (one _), right _ _ _ _ l (right_in i c) m (one _)))
+      kept (inserted {i = i} {c = c} l g a_text m) q = (inserted (stmt l) (comes g) a_text (comes m), (right _ _ _ _ l (index_in i c) g (one _), right _ _ _ _ l (right_in i c) m (one _)))
       kept (printed {c = c} l g) q = (printed (stmt l) (comes g), right _ _ _ _ l (outer_in c.parts c.cell) g (one _))
       kept (filled l g i) q = (filled (stmt l) (comes g) i, tt)
       kept (cell_value l i g) q = (cell_value (stmt l) i (gives g), tt)

@@ -72,7 +72,7 @@ prints_node (code.Wait hs b) x v h = absurd h
 pub item_parts : {i j c c' : ℕ} {p q : List Step} → Item i p c ≡ Item j q c' → (i ≡ j) × (p ≡ q) × (c ≡ c')
 item_parts h = (cc (h), cc (h), cc (h))
 
-at_most : (n : ℕ) → n ≤ 512 → (n < 512) ⊎ (n ≡ 512)
+at_most : (n : ℕ) → n ≤ most_steps → (n < most_steps) ⊎ (n ≡ most_steps)
 at_most n h = grind arith
 
 module _ (s : Core) (C : Code) (w : IsCodeOf s C) (K : Knowledge) (wf : WellFormed s) (kn : Knows s K) (I : IsCode C) (sc : Scoped s) (ty : TypedValues s K) (nodes : NodesOnce C) (sound : (f : Fault) (at : ℕ) (path : Path) → Faults K f at path → ⊥) where

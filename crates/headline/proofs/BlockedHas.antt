@@ -12,7 +12,7 @@ use Rattle.values.specs.Ranges.{range_count}
 use Rattle.values.specs.Values.{number_of}
 use Rattle.language.specs.Core as Co
 use Rattle.language.specs.Core.{Name, Form, compute, read, Cell, Outer, Stmt, stmt, Action, assign, fill, insert, print, assert, when, choose, range, each, Block, Core}
-use Rattle.language.specs.Facts.{value, Knowledge, no_cell, next_cell, a_number}
+use Rattle.language.specs.Facts.{value, Knowledge, no_cell, next_cell}
 use Rattle.language.specs.Meaning.{ValueUnder, Gives, LiveStmt, in_block, computed, cells_known, source_closed, cell_value, inserted, printed, before}
 use Rattle.language.specs.Members.{◌∈◌, first, later}
 use Rattle.language.specs.Openings.{in_turns, one_way, two_ways}
@@ -132,9 +132,9 @@ module _ (s : Core) (C : Code) (w : IsCodeOf s C) (K : Knowledge) (wf : WellForm
       by (Ok v) (Ok u) q q' =
           let kj = cell_known_by s C w K wf kn I sc ty ch i c there e f at n (insert x j o) j.cell m (index_in j o) ms nq (λ z h. subst (λ (l : List Need). In z l) mq (in_once z _ (in_left z e1 _ h))) v q in
           let ko = cell_known_by s C w K wf kn I sc ty ch i c there e f at n (insert x j o) o.cell m (right_in j o) ms nq (λ z h. subst (λ (l : List Need). In z l) mq (in_once z _ (in_right z e1 _ (in_left z e2 _ h)))) u q' in
-          let tj = ty.insert_number (script_path p) at n x j o v (stmt_in s (live m)) kj in
+          let tj = ty.insert_key (script_path p) at n x j o v (stmt_in s (live m)) kj in
           let to = ty.cell_one (script_path p) at n (insert x j o) o.cell u (stmt_in s (live m)) (to_right j.parts _ (later (to_right o.parts _ first))) ko in
-          (_, to.0, kn.shut _ (inserted (live m) (before (subst (λ (y : Value). K (value (script_path p, j.cell.node) y)) tj.1 kj)) a_number (before (subst (λ (y : Value). K (value (script_path p, o.cell.node) y)) to.1 ko))))
+          (_, to.0, kn.shut _ (inserted (live m) (before kj) tj.2 (before (subst (λ (y : Value). K (value (script_path p, o.cell.node) y)) to.1 ko))))
 
   pub simple_has : (at n : ℕ) (a : Action) → IsSimple a → stmt at n a ∈ block_list b → IsEntry (entry C i) at (own_priority a) (own_needs w.layout k a) (simple_act w.layout k (own_needs w.layout k a) a) → Has n a
   simple_has at n (assign x o) z m en = own_value o (own_needs w.layout k (assign x o)) m (outer_in o.parts o.cell) en.needs_is (λ z j. in_once z _ (in_left z _ [] j)) (ap (λ (z : Act). work_out z ys) en.act_is)

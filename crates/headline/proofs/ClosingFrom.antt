@@ -11,8 +11,7 @@ use Rattle.values.specs.declared.value.Scalar.{Scalar}
 use Rattle.values.specs.declared.value.Value.{Value}
 use Rattle.language.specs.Core as Co
 use Rattle.language.specs.Core.{Owned, local, input, output, Name, Cell, Call, Part, Outer, Awaited, Stmt, stmt, Action, declare, call_alone, assign, fill, insert, print, assert, when, choose, range, each, wait, Block, stmts, no_stmts, Function, Core}
-use Rattle.language.specs.Facts.{value, element, Knowledge, IsKey, a_number}
-use Rattle.values.specs.declared.value.Scalar.TheVariants.{Number}
+use Rattle.language.specs.Facts.{value, element, Knowledge}
 use Rattle.values.specs.declared.value.Value.TheVariants.{One}
 use Rattle.language.specs.Parts.{script_stmts}
 use Rattle.code_rules.specs.IsCodeOf.{Layout}
@@ -30,7 +29,7 @@ use Rattle.language_laws.proofs.Declared.{declared, live_block, header_of, outpu
 use Rattle.language.proofs.Members.{split_in, either}
 use Rattle.task_code.specs.Code as code
 use Rattle.task_code.specs.Code.{Variable, Local, Parameter, Header, Act, Way, InPlace, Through, Loop, Code, entry, body, ways, loop_of, targets as code_targets, stored_of, is_array_name, is_array_owned}
-use Rattle.task_code.specs.Compute.{Computed, Opens as OpensIt}
+use Rattle.task_code.specs.Compute.{Computed, Opens as OpensIt, key_of}
 use Rattle.task_code.specs.Effects.{Task, Item, block, effect_at, instances, turns_of, left_at, is_some_list, rest, rest_if, step_at}
 use Rattle.task_code.specs.Places as CodePlaces
 use Rattle.task_code.specs.Places.{Step, Datum, place_at}
@@ -69,6 +68,7 @@ use Rattle.headline.proofs.Readings.{same_array}
 use Rattle.headline.proofs.Rights.{only_one, fill_stored}
 use Rattle.headline.proofs.Roles.{PartOf, OwnAs, own_simple, own_branch, own_branches, own_range, own_each, own_wait, find_role, parts_of}
 use Rattle.headline.proofs.Targets.{uses_block, uses_is_target, NoneInside, none_inner, none_output, OnlyAt, only_declared, none_declared, only_output, only_header, only_wait}
+use Rattle.headline.proofs.KeysOf.{key_as}
 
 -- NAMES BACK
 
@@ -167,9 +167,9 @@ instance_way (code.Wait hs b) mark p c x q h = ((InPlace, b), inl refl)
 
 -- the values of the index and of the right side of an element that is written
 pub record WrittenCells (K : Knowledge) (path : Path) (i o : Outer) (key : Key) (v : Scalar) : Type 0 where
-  pub number : ℤ
-  pub key_is : key ≡ Key.Number number
-  pub index : K (value (path, i.cell.node) (One (Number number)))
+  pub scalar : Scalar
+  pub key_is : key_of scalar ≡ key
+  pub index : K (value (path, i.cell.node) (One scalar))
   pub right : K (value (path, o.cell.node) (One v))
 
 pub written_cells : (s : Core) (wf : WellFormed s) (K : Knowledge) (kn : Backs s K) {path : Path} {at n : ℕ} {x : Name} {i o : Outer} {key : Key} {v : Scalar} → stmt at n (insert x i o) ∈ script_stmts s → K (element (place s path x) key (path, n) v) → WrittenCells K path i o key v
@@ -182,11 +182,11 @@ written_cells s wf K kn {path} {at} {n} {x} {i} {o} {key} {v} there_is kv = elim
     by_key a ki ko =
         let same = wf.writers.insert_once a.at n at a.array x a.index i a.right o (subst (λ (z : ℕ). stmt a.at z (insert a.array a.index a.right) ∈ script_stmts s) (ap (λ (z : Place). z.1) a.writer_is) (stmt_in s a.live)) there_is in
         let pq : a.path ≡ path = ap (λ (z : Place). z.0) a.writer_is in
-        by a.is_key (λ h. subst (λ (z : Path). K (value (z, i.cell.node) a.index_value)) pq (subst (λ (z : Outer). K (value (a.path, z.cell.node) a.index_value)) same.0 h)) ki
+        by (key_as a.is_key) (λ h. subst (λ (z : Path). K (value (z, i.cell.node) a.index_value)) pq (subst (λ (z : Outer). K (value (a.path, z.cell.node) a.index_value)) same.0 h)) ki
         (subst (λ (z : Path). K (value (z, o.cell.node) (One v))) pq (subst (λ (z : Outer). K (value (a.path, z.cell.node) (One v))) same.1 ko))
       where
-        by : {u : Value} {key : Key} → IsKey u key → (K (value (a.path, a.index.cell.node) u) → K (value (path, i.cell.node) u)) → K (value (a.path, a.index.cell.node) u) → K (value (path, o.cell.node) (One v)) → WrittenCells K path i o key v
-        by (a_number {z = num}) f ki ko = record { number = num; key_is = refl; index = f ki; right = ko }
+        by : {u : Value} {key : Key} → (x : Scalar) × (u ≡ One x) × (key_of x ≡ key) → (K (value (a.path, a.index.cell.node) u) → K (value (path, i.cell.node) u)) → K (value (a.path, a.index.cell.node) u) → K (value (path, o.cell.node) (One v)) → WrittenCells K path i o key v
+        by x f ki ko = record { scalar = x.0; key_is = x.2; index = subst (λ (z : Value). K (value (path, i.cell.node) z)) x.1 (f ki); right = ko }
 
 -- a header's entry opens bodies
 own_way : {C : Code} {l : Layout} {k j at n : ℕ} {a : Action} → OwnAs C l k (stmt at n a) j → Branches a → (y : Way × ℕ) × In y (ways (entry C j).act)

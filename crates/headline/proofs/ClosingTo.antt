@@ -14,7 +14,7 @@ use Rattle.values.specs.declared.value.Value.TheVariants.{One, Many}
 use Rattle.values.specs.Ranges.{range_count, value_in}
 use Rattle.values.specs.Values.{truth_of, number_of}
 use Rattle.language.specs.Core.{Owned, local, input, output, Name, Expr, Form, compute, read, Cell, Call, Part, Outer, Stmt, stmt, Action, declare, call_alone, assign, fill, insert, print, assert, when, choose, range, each, wait, Block, stmts, no_stmts, Function, Core}
-use Rattle.language.specs.Facts.{value, Knowledge, no_cell, next_cell, a_number}
+use Rattle.language.specs.Facts.{value, Knowledge, no_cell, next_cell}
 use Rattle.language.specs.Meaning as Mn
 use Rattle.language.specs.Meaning.{IsTarget, Finished, no_target, value_known, write_known, body_finished, blocks_finished, content_finished, closed, ValueUnder, computed, LiveStmt, in_block, Ready, cells_known, source_closed, names_known, cell_value, inserted, before}
 use Rattle.language.specs.Members.{◌∈◌, first, later}
@@ -386,9 +386,9 @@ module _ (s : Core) (C : Code) (w : IsCodeOf s C) (K : Knowledge) (wf : WellForm
         by (Ok v) (Ok u) q q' =
             let kj = cell_known_by s C w K wf kn I sc ty ch i 0 there d.effect d.fact.reading at n (insert x j o) j.cell m (index_in j o) ms nq (λ z h. subst (λ (l : List Need). In z l) mq (in_once z _ (in_left z e1 _ h))) v q in
             let ko = cell_known_by s C w K wf kn I sc ty ch i 0 there d.effect d.fact.reading at n (insert x j o) o.cell m (right_in j o) ms nq (λ z h. subst (λ (l : List Need). In z l) mq (in_once z _ (in_right z e1 _ (in_left z e2 _ h)))) u q' in
-            let tj = ty.insert_number (script_path p) at n x j o v (stmt_in s (live m)) kj in
+            let tj = ty.insert_key (script_path p) at n x j o v (stmt_in s (live m)) kj in
             let to = ty.cell_one (script_path p) at n (insert x j o) o.cell u (stmt_in s (live m)) (to_right j.parts _ (later (to_right o.parts _ first))) ko in
-            write_known (kn.shut _ (inserted (live m) (before (subst (λ (y : Value). K (value (script_path p, j.cell.node) y)) tj.1 kj)) a_number (before (subst (λ (y : Value). K (value (script_path p, o.cell.node) y)) to.1 ko))))
+            write_known (kn.shut _ (inserted (live m) (before kj) tj.2 (before (subst (λ (y : Value). K (value (script_path p, o.cell.node) y)) to.1 ko))))
 
     assign_finished : {at n : ℕ} {x : Name} {o : Outer} {E : code.Expr} → stmt at n (assign x o) ∈ block_list b → (entry C i).act ≡ code.Set (name_as k false x) E → Finished s K what (script_path p) (stmt at n (assign x o))
     assign_finished {at} {n} {x} {o} m aq = no_target (λ tg. by (only_one tg))

@@ -9,13 +9,12 @@ use Rattle.values.specs.declared.fault.OpFault.{OpFault}
 use Rattle.values.specs.declared.key.Key.{Key}
 use Rattle.values.specs.declared.map.Element.{Element}
 use Rattle.values.specs.declared.value.Scalar.{Scalar}
-use Rattle.values.specs.declared.value.Scalar.TheVariants.{Number}
 use Rattle.values.specs.declared.value.Value.{Value}
 use Rattle.values.specs.declared.value.Value.TheVariants.{One, Many}
 use Rattle.values.specs.Maps.{element as entry_of}
 use Rattle.values.specs.Operators.{literal}
 use Rattle.language.specs.Core.{Name, Expr, Exprs, whole, operator, Form, compute, Outer, stmt, fill, insert, Block, Core}
-use Rattle.language.specs.Facts.{value, element, Knowledge, IsKey, a_number, Elements}
+use Rattle.language.specs.Facts.{value, element, Knowledge, Elements}
 use Rattle.language.specs.Meaning.{ValueUnder, of_literal, of_name, of_array, of_operator, Gives, Comes, before, now, Closed, New}
 use Rattle.language.specs.Members.{◌∈◌, first, later}
 use Rattle.language.specs.Parts.{cells, block_list}
@@ -26,7 +25,7 @@ use Rattle.language.proofs.Members.{split_in}
 use Rattle.language_laws.proofs.Sources.{outer_in, index_in, right_in, cell_gives, FillElement, InsertElement}
 use Rattle.task_code.specs.Code as code
 use Rattle.task_code.specs.Code.{Variable, Need, Act, Code, entry, body}
-use Rattle.task_code.specs.Compute.{Computed, Inserts, filled, put, content, answer_at, in_key_order, pairs, eval}
+use Rattle.task_code.specs.Compute.{Computed, Inserts, filled, put, content, answer_at, in_key_order, key_of, pairs, eval}
 use Rattle.task_code.specs.Compute as Compute
 use Rattle.task_code.specs.Effects.{Item, effect_at, stores, inserted_at, steps_on}
 use Rattle.task_code.specs.Places.{Step, Datum, place_at}
@@ -54,6 +53,7 @@ use Rattle.headline.proofs.Means.{chain_scope, means, covering_writes}
 use Rattle.headline.proofs.Readings.{IsSame, same_array, name_stands, gives_all, all_in_order, in_element}
 use Rattle.headline.proofs.TurnsFrom.{turns_stored}
 use Rattle.headline.proofs.WrittenFrom.{path_same, StmtLive, stmt_live, leaf_deep, nothing_behind, scalars_from}
+use Rattle.headline.proofs.KeysOf.{key_as}
 
 many_same : {x y : List Element} → ◌≡◌ {A = Result Value OpFault} (Ok (Many x)) (Ok (Many y)) → x ≡ y
 many_same h = cc
@@ -91,10 +91,10 @@ module _ (s : Core) (C : Code) (w : IsCodeOf s C) (K : Knowledge) (wf : WellForm
 
   module _ {p : List Step} {t k : ℕ} {b : Block} (ch : Chain s C w.layout K p t k b) (j : ℕ) (there : In j (body C t).entries) where
     -- what a write of one element works out
-    pub put_works : {y : Name} {ix o : Outer} {at at' n : ℕ} {pr : ℤ} {z : ℤ} {x : Scalar} → stmt at' n (insert y ix o) ∈ block_list b
+    pub put_works : {y : Name} {ix o : Outer} {at at' n : ℕ} {pr : ℤ} {z x : Scalar} → stmt at' n (insert y ix o) ∈ block_list b
         → (ms : List Need) → own_needs w.layout k (insert y ix o) ≡ ms → IsEntry (entry C j) at pr ms (code.Put (name_as k true y) (over k ms (seen w.layout ix.cell)) (over k ms (seen w.layout o.cell)))
-        → K (value (script_path p, ix.cell.node) (One (Number z))) → K (value (script_path p, o.cell.node) (One x)) → Works s C w K wf kn I sc ch j there (Inserts ((Key.Number z, x) ∷ []))
-    put_works {y} {ix} {o} {z = num} {x = x} m ms mq en ki ko =
+        → K (value (script_path p, ix.cell.node) (One z)) → K (value (script_path p, o.cell.node) (One x)) → Works s C w K wf kn I sc ch j there (Inserts ((key_of z, x) ∷ []))
+    put_works {y} {ix} {o} {z = key} {x = x} m ms mq en ki ko =
         let vi = cell_seen s C w K wf kn I sc ch j there ix.cell m (index_in ix o) ki in
         let vo = cell_seen s C w K wf kn I sc ch j there o.cell m (right_in ix o) ko in
         let es = seen w.layout ix.cell ∷ seen w.layout o.cell ∷ [] in
@@ -196,15 +196,15 @@ module _ (s : Core) (C : Code) (w : IsCodeOf s C) (K : Knowledge) (wf : WellForm
             (stores_as _ _ act refl) q v key x va pq (in_element o'.0 (entry_of key x) (subst (λ (l : List Element). entry_of key x ∈ l) (sym o'.2) i))
 
     -- ONE ELEMENT
-    put_out : {y : Name} {ix o : Outer} {at at' n : ℕ} {pr : ℤ} {z : ℤ} {x : Scalar} → stmt at' n (insert y ix o) ∈ block_list b → IsIn k y
+    put_out : {y : Name} {ix o : Outer} {at at' n : ℕ} {pr : ℤ} {z x : Scalar} → stmt at' n (insert y ix o) ∈ block_list b → IsIn k y
         → (ms : List Need) → own_needs w.layout k (insert y ix o) ≡ ms → IsEntry (entry C j) at pr ms (code.Put (name_as k true y) (over k ms (seen w.layout ix.cell)) (over k ms (seen w.layout o.cell)))
-        → K (value (script_path p, ix.cell.node) (One (Number z))) → K (value (script_path p, o.cell.node) (One x))
-        → (q : List Step) (v : Variable) → v.array ≡ true → place s (script_path p) y ≡ script_place q v → By j p q v (Key.Number z) x
-    put_out {y} {ix} {o} {z = num} {x = x} m gy ms mq en ki ko q v va pq =
+        → K (value (script_path p, ix.cell.node) (One z)) → K (value (script_path p, o.cell.node) (One x))
+        → (q : List Step) (v : Variable) → v.array ≡ true → place s (script_path p) y ≡ script_place q v → By j p q v (key_of z) x
+    put_out {y} {ix} {o} {z = index} {x = x} m gy ms mq en ki ko q v va pq =
         let z = put_works ch j there m ms mq en ki ko in
-        let f = fact_of s C w K wf kn I sc ch j there z.answers 0 (Inserts ((Key.Number num, x) ∷ [])) z.computed tt (leaf_deep s C w K wf kn I sc (entry C j).act p _ (ap steps_on en.act_is)) in
-        insert_out y gy (I.stores j (name_as k true y) (subst (λ (a : Act). In (name_as k true y) (code.targets_of (entry C j).node a)) (sym en.act_is) (inl refl))) ((Key.Number num, x) ∷ []) f
-        (stores_as _ _ en.act_is refl) q v (Key.Number num) x va pq (inl refl)
+        let f = fact_of s C w K wf kn I sc ch j there z.answers 0 (Inserts ((key_of index, x) ∷ [])) z.computed tt (leaf_deep s C w K wf kn I sc (entry C j).act p _ (ap steps_on en.act_is)) in
+        insert_out y gy (I.stores j (name_as k true y) (subst (λ (a : Act). In (name_as k true y) (code.targets_of (entry C j).node a)) (sym en.act_is) (inl refl))) ((key_of index, x) ∷ []) f
+        (stores_as _ _ en.act_is refl) q v (key_of index) x va pq (inl refl)
 
   -- ALL ELEMENTS
   from_fill : (q : List Step) (v : Variable) (key : Key) (u : Place) (x : Scalar) → v.array ≡ true → FillElement s K (script_place q v) key u x → StoredBy u q v key x
@@ -248,7 +248,7 @@ module _ (s : Core) (C : Code) (w : IsCodeOf s C) (K : Knowledge) (wf : WellForm
               copy_out sl.chain sl.alive j there a.array a.right b (ap (own_form (a.right).cell.node) f) (scp.in_targets a.array first) (subst (FormIn sl.k) f (scp.in_cells (a.right).cell cm)) en (under f) q v key x va place_eq a.there
 
   from_insert : (q : List Step) (v : Variable) (key : Key) (u : Place) (x : Scalar) → v.array ≡ true → (z : InsertElement s K (script_place q v) key u x) → K (value (z.path, z.index.cell.node) z.index_value) → K (value (z.path, z.right.cell.node) (One x)) → StoredBy u q v key x
-  from_insert q v key u x va a known_index known_right = by_key a.is_key known_index
+  from_insert q v key u x va a known_index known_right = by_key (key_as a.is_key)
     where
       ci : (a.index).cell ∈ cells (stmt a.at a.node (insert a.array a.index a.right))
       ci = index_in a.index a.right
@@ -265,16 +265,16 @@ module _ (s : Core) (C : Code) (w : IsCodeOf s C) (K : Knowledge) (wf : WellForm
       place_eq : place s (script_path sl.p) a.array ≡ script_place q v
       place_eq = ap (λ (z : Path). place s z a.array) sl.path_is ∙ a.array_is
 
-      by_key : {i : Value} {key : Key} → IsKey i key → K (value (a.path, (a.index).cell.node) i) → StoredBy u q v key x
-      by_key (a_number {z = num}) comes = by_entry (sl.entries).as_stmt (sl.entries).among
+      by_key : (r : (i : Scalar) × (a.index_value ≡ One i) × (key_of i ≡ key)) → StoredBy u q v key x
+      by_key (index, index_is, is_key) = subst (λ (k : Key). StoredBy u q v k x) is_key (by_entry (sl.entries).as_stmt (sl.entries).among)
         where
-          ki : K (value (script_path sl.p, (a.index).cell.node) (One (Number num)))
-          ki = subst (λ (z : Path). K (value (z, (a.index).cell.node) (One (Number num)))) (sym sl.path_is) comes
+          ki : K (value (script_path sl.p, (a.index).cell.node) (One index))
+          ki = subst (λ (z : Path). K (value (z, (a.index).cell.node) (One index))) (sym sl.path_is) (subst (λ (z : Value). K (value (a.path, (a.index).cell.node) z)) index_is known_index)
 
           ko : K (value (script_path sl.p, (a.right).cell.node) (One x))
           ko = subst (λ (z : Path). K (value (z, (a.right).cell.node) (One x))) (sym sl.path_is) known_right
 
-          by_entry : {js : List ℕ} → StmtAs C w.layout sl.k (stmt a.at a.node (insert a.array a.index a.right)) js → ((j : ℕ) → In j js → In j (body C sl.t).entries) → StoredBy u q v (Key.Number num) x
+          by_entry : {js : List ℕ} → StmtAs C w.layout sl.k (stmt a.at a.node (insert a.array a.index a.right)) js → ((j : ℕ) → In j js → In j (body C sl.t).entries) → StoredBy u q v (key_of index) x
           by_entry (simple j {is = is} z op as' en nd eq) sub =
               let there = sub j (subst (λ (l : List ℕ). In j l) (sym eq) (in_right' is)) in
               (j, sl.p, put_out sl.chain sl.alive j there sl.there (scp.in_elements a.array first) _ refl en ki ko q v va place_eq, (λ i. (sl.path_is i, nd i)) ∙ a.writer_is)

@@ -59,11 +59,11 @@ path_length : (p : List Step) → length (script_path p) ≡ length p
 path_length [] = refl
 path_length (t ∷ p) = ap suc (path_length p)
 
-below_so : (n : ℕ) → n < 512 → nat_le 512 n ≡ false
+below_so : (n : ℕ) → n < most_steps → nat_le most_steps n ≡ false
 below_so n h = grind arith
 
 pub not_too_deep : (a : code.Act) (p : List Step) (ss : List (ℕ × List Step)) → length (script_path p) < most_steps → is_too_deep a p ss ≡ false
-not_too_deep a p ss h = ap (λ (b : Bool). b && (steps_on a && is_some_list ss)) (below_so (length p) (subst (λ (n : ℕ). n < 512) (path_length p) h))
+not_too_deep a p ss h = ap (λ (b : Bool). b && (steps_on a && is_some_list ss)) (below_so (length p) (subst (λ (n : ℕ). n < most_steps) (path_length p) h))
 
 module _ (s : Core) (C : Code) (w : IsCodeOf s C) (K : Knowledge) (wf : WellFormed s) (kn : Backs s K) (I : IsCode C) (sc : Scoped s) where
   -- a known cell has its value as it is seen

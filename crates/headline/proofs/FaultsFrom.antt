@@ -15,7 +15,7 @@ use Rattle.values.specs.Operators.{literal as list_of}
 use Rattle.values.specs.Ranges.{range_count, value_in}
 use Rattle.language.specs.Core as Co
 use Rattle.language.specs.Core.{Name, Expr, literal, name, whole, operator, Form, compute, read, Cell, Call, Part, inner, Outer, Awaited, Stmt, stmt, Action, assign, fill, insert, print, assert, when, choose, range, each, wait, Block, Function, Core}
-use Rattle.language.specs.Facts.{Fault, Fact, value, element, fault, Knowledge, IsKey, a_number, KnownAll, no_cell, next_cell}
+use Rattle.language.specs.Facts.{Fault, Fact, value, element, fault, Knowledge, KnownAll, no_cell, next_cell}
 use Rattle.language.specs.Meaning as Mn
 use Rattle.language.specs.Meaning.{ValueUnder, of_literal, of_name, of_array, of_operator, Gives, computed, faulty, found, missing, Comes, ComeAll, none_comes, next_comes, LiveStmt, in_block, Ready, cells_known, source_closed, names_known, New, cell_value, cell_fault, assigned, filled, inserted, printed, bad_range, too_deep_header, too_deep_call, written_twice}
 use Rattle.language.specs.Members.{◌∈◌, first, later}
@@ -34,7 +34,7 @@ use Rattle.task_code.proofs.Rights.{loop_instances}
 use Rattle.headline.proofs.HeaderWorks.{CallFound}
 use Rattle.headline.proofs.Readings.{in_element}
 use Rattle.task_code.specs.Compute as Compute
-use Rattle.task_code.specs.Compute.{Computed, Fails, Turns, Elements, turns_or, range_turns, EntryFault, InOperation, NoElement, TooDeep, given, filled as filled_by, eval}
+use Rattle.task_code.specs.Compute.{Computed, Fails, Turns, Elements, turns_or, range_turns, EntryFault, InOperation, NoElement, TooDeep, given, filled as filled_by, eval, key_of}
 use Rattle.task_code.specs.Effects.{Task, Item, chunk, step_at, effect_at, instances, is_too_deep, steps_on, outcome_of}
 use Rattle.task_code.specs.Places as CodePlaces
 use Rattle.task_code.specs.Places.{Step, Datum}
@@ -57,12 +57,13 @@ use Rattle.headline.proofs.Means.{chain_live, chain_body, chain_scope}
 use Rattle.headline.proofs.Roles.{cell_among}
 use Rattle.headline.proofs.CellsOf.{IsPlain, is_literal, is_name, WorksOwn, of_assign, of_fill, of_print, of_assert, OwnCell, find_any}
 use Rattle.headline.proofs.WrittenFrom.{CellFound, StmtLive, stmt_live, nothing_behind, own_scope, index_answer}
+use Rattle.headline.proofs.KeysOf.{key_as}
 
 path_length : (p : List Step) → length (script_path p) ≡ length p
 path_length [] = refl
 path_length (t ∷ p) = ap suc (path_length p)
 
-past : (n : ℕ) → n ≡ 512 → nat_le 512 n ≡ true
+past : (n : ℕ) → n ≡ most_steps → nat_le most_steps n ≡ true
 past n h = grind arith
 
 -- no effect where the path would be too long
@@ -215,18 +216,18 @@ module _ (s : Core) (C : Code) (w : IsCodeOf s C) (K : Knowledge) (wf : WellForm
                 where
                   reads : {r : Result Value Fault} → Gives s K path (read y i) r → r ≡ Err f → ⊥
                   reads (found kv ik one) e = absurd (cc (e))
-                  reads (missing {k = key} kv ik cl none) e = by_key kv ik cl none
+                  reads (missing {k = key} kv ik cl none) e = by_key kv (key_as ik) cl none
                     where
-                      by_key : {u : Value} {key : Key} → K (value (path, i) u) → IsKey u key → Mn.Closed s K (place s path y) → ((d : Place) (v : Scalar) → K (element (place s path y) key d v) → ⊥) → ⊥
-                      by_key kv (a_number {z = num}) cl none =
+                      by_key : {u : Value} {key : Key} → K (value (path, i) u) → (v : Scalar) × (u ≡ One v) × (key_of v ≡ key) → Mn.Closed s K (place s path y) → ((d : Place) (v : Scalar) → K (element (place s path y) key d v) → ⊥) → ⊥
+                      by_key {key = key} kv (index, index_is, is_key) cl none =
                           let scp = sc.statements sl.k sl.block (stmt at n a) (chain_scope s C w.layout K wf.names I sc sl.chain) sl.there in
                           let fe : c.form ≡ read y i = ap (λ (y : Cell). y.form) (sym (part_cell q)) in
                           let live' = subst (λ (z : Path). LiveStmt s K z (stmt at n a)) (sym sl.path_is) live in
-                          let kv' = subst (λ (z : Path). K (value (z, i) (One (Number num)))) (sym sl.path_is) kv in
-                          let lacks : (d : List Step) (v : Variable) → place s (script_path sl.p) y ≡ script_place d v → Lacks s K (script_place d v) (Key.Number num) =
-                          (λ d v e. (let e' : place s path y ≡ script_place d v = ap (λ (z : Path). place s z y) (sym sl.path_is) ∙ e in record { closed = subst (λ (z : Place). Mn.Closed s K z) e' cl; none = λ u x h. none u x (subst (λ (z : Place). K (element z (Key.Number num) u x)) (sym e') h) })) in
+                          let kv' = subst (λ (z : Path). K (value (z, i) (One index))) (sym sl.path_is) (subst (λ (z : Value). K (value (path, i) z)) index_is kv) in
+                          let lacks : (d : List Step) (v : Variable) → place s (script_path sl.p) y ≡ script_place d v → Lacks s K (script_place d v) key =
+                          (λ d v e. (let e' : place s path y ≡ script_place d v = ap (λ (z : Path). place s z y) (sym sl.path_is) ∙ e in record { closed = subst (λ (z : Place). Mn.Closed s K z) e' cl; none = λ u x h. none u x (subst (λ (z : Place). K (element z key u x)) (sym e') h) })) in
                           read_fails sl.chain sl.alive cf.number inside en
-                          (index_answer s C w K wf (backs s K kn) I sc sl.chain sl.alive cf.number inside Missing (Number num) live' cf.cells_in scp ia (subst (λ (l : List Need). In need l) (sym en.needs_is) (inl refl)) (subst (FormIn sl.k) fe scoped) kv' refl lacks)
+                          (index_answer s C w K wf (backs s K kn) I sc sl.chain sl.alive cf.number inside Missing index live' cf.cells_in scp ia (subst (λ (l : List Need). In need l) (sym en.needs_is) (inl refl)) (subst (FormIn sl.k) fe scoped) kv' is_key lacks)
               by_part (a_call ca) q = absurd (cc (q))
 
   -- WHERE A STATEMENT STANDS

@@ -9,7 +9,7 @@ use Rattle.dataflow.proofs.Lists.{in_left, in_right, in_unmap}
 use Rattle.values.specs.declared.fault.OpFault.{OpFault}
 use Rattle.values.specs.declared.key.Key.{Key}
 use Rattle.values.specs.declared.value.Scalar.{Scalar}
-use Rattle.values.specs.declared.value.Scalar.TheVariants.{Number, Truth}
+use Rattle.values.specs.declared.value.Scalar.TheVariants.{Truth}
 use Rattle.values.specs.declared.value.Value.{Value}
 use Rattle.values.specs.declared.value.Value.TheVariants.{One}
 use Rattle.values.specs.Operators.{literal, evaluated}
@@ -17,7 +17,7 @@ use Rattle.values.specs.Ranges.{range_count}
 use Rattle.values.specs.Values.{number_of, truth_of}
 use Rattle.language.specs.Core as Co
 use Rattle.language.specs.Core.{here, Name, Expr, Form, compute, read, Cell, Call, Part, Outer, Stmt, stmt, Action, fill, insert, when, choose, range, each, wait, Block, Core}
-use Rattle.language.specs.Facts.{value, fault, Knowledge, KnownAll, no_cell, next_cell, IsKey, a_number}
+use Rattle.language.specs.Facts.{value, fault, Knowledge, KnownAll, no_cell, next_cell, IsKey}
 use Rattle.language.specs.Meaning.{ValueUnder, of_literal, of_name, LiveStmt, in_block, computed, missing, cell_value, cell_fault, bad_range, too_deep_header, too_deep_call, ComeAll, none_comes, next_comes, before, Ready, cells_known, source_closed}
 use Rattle.language.specs.Members.{◌∈◌, first, later}
 use Rattle.language.specs.Openings.{Bounds, bounds, one_way, two_ways, in_turns, Opens, then_alone, then_first, else_second, turn, item}
@@ -58,6 +58,7 @@ use Rattle.headline.proofs.Readings.{name_stands, says_script, same_array, to_sc
 use Rattle.headline.proofs.Roles.{parts_of, PartOf, OwnAs, own_simple, own_branch, own_branches, own_range, own_each, own_wait, RoleIn, find_role, cell_among}
 use Rattle.headline.proofs.Transfer.{fault_read}
 use Rattle.headline.proofs.Readings.{cell_has}
+use Rattle.headline.proofs.KeysOf.{key_of_is}
 
 -- a fault of a computation is an operation's
 abbrev OpOnly : Computed → Type 0
@@ -163,17 +164,11 @@ no_opens h = absurd (cc (h))
 none_some : {u : ℕ} → ◌≡◌ {A = Option ℕ} None (Some u) → ⊥
 none_some h = absurd (cc (h))
 
-number_key : (v : Scalar) (z : ℤ) → One v ≡ One (Number z) → (key : Key) → IsKey (One v) key → key_of v ≡ key
-number_key v z e key h = sym (key_is h refl)
-  where
-    key_is : {u : Value} {key : Key} → IsKey u key → u ≡ One v → key ≡ key_of v
-    key_is (a_number {z = y}) q = ap (λ (n : ℤ). Key.Number n) (ap number_of q)
-
 path_length : (p : List Step) → length (script_path p) ≡ length p
 path_length [] = refl
 path_length (t ∷ p) = ap suc (path_length p)
 
-at_least : (n : ℕ) → nat_le 512 n ≡ true → 512 ≤ n
+at_least : (n : ℕ) → nat_le most_steps n ≡ true → most_steps ≤ n
 at_least n h = grind arith
 
 two_true : (a b : Bool) → (a && b) ≡ true → (a ≡ true) × (b ≡ true)
@@ -327,19 +322,16 @@ module _ (s : Core) (C : Code) (w : IsCodeOf s C) (K : Knowledge) (wf : WellForm
         → In need (entry C i).needs → IsIn k a → Ans s C K p need Missing → ReadLacks a ix
     lacking {st} {all} {a} {ix} {n = n} sm sub cm (at_literal {v = v} im pl) m g h =
         let kv = kn.shut _ (cell_value (live sm) (sub _ im) (computed of_literal)) in
-        let z = ty.index_number (script_path p) st n ix a (One v) (stmt_in s (live sm)) cm kv in
-        record { index = One v; index_known = kv; lacks = λ key q. subst (λ (y : Key). Lacks s K (place s (script_path p) a) y) (number_key v z.0 z.1 key q) (lacks_there a (array_place a g _ m (inl refl)) (key_of v) h) }
+        record { index = One v; index_known = kv; lacks = λ key q. subst (λ (y : Key). Lacks s K (place s (script_path p) a) y) (key_of_is q) (lacks_there a (array_place a g _ m (inl refl)) (key_of v) h) }
     lacking {st} {all} {a} {ix} {n = n} sm sub cm (at_name {x = y} im pl) m g h =
         let scp = sc.statements k b st (chain_scope s C w.layout K wf.names I sc ch) sm in
         let hv = to_script s wf K kn C w.layout (name_stands s wf K (backs s K kn) C w.layout I sc ch i there false y _ (scp.in_cells _ (sub _ im)) m (inr (inl refl))) h.0 h.1 in
         let kv = kn.shut _ (cell_value (live sm) (sub _ im) (computed (of_name hv))) in
-        let z = ty.index_number (script_path p) st n ix a (One h.0) (stmt_in s (live sm)) cm kv in
-        record { index = One h.0; index_known = kv; lacks = λ key q. subst (λ (y : Key). Lacks s K (place s (script_path p) a) y) (number_key h.0 z.0 z.1 key q) (lacks_there a (array_place a g _ m (inl refl)) (key_of h.0) h.2) }
+        record { index = One h.0; index_known = kv; lacks = λ key q. subst (λ (y : Key). Lacks s K (place s (script_path p) a) y) (key_of_is q) (lacks_there a (array_place a g _ m (inl refl)) (key_of h.0) h.2) }
     lacking {st} {all} {a} {n = n} sm sub cm (at_datum {c = d} im pl) m g h =
         let hv = to_script s wf K kn C w.layout (name_stands s wf K (backs s K kn) C w.layout I sc ch i there false (here d.node) _ (λ i e. absurd (cc (e))) m (inr (inl refl))) h.0 h.1 in
         let kv = cell_has s wf K hv (script_path p) st d (stmt_in s (live sm)) (sub d im) (place_here s (script_path p) d.node) in
-        let z = ty.index_number (script_path p) st n d.node a (One h.0) (stmt_in s (live sm)) cm kv in
-        record { index = One h.0; index_known = kv; lacks = λ key q. subst (λ (y : Key). Lacks s K (place s (script_path p) a) y) (number_key h.0 z.0 z.1 key q) (lacks_there a (array_place a g _ m (inl refl)) (key_of h.0) h.2) }
+        record { index = One h.0; index_known = kv; lacks = λ key q. subst (λ (y : Key). Lacks s K (place s (script_path p) a) y) (key_of_is q) (lacks_there a (array_place a g _ m (inl refl)) (key_of h.0) h.2) }
 
     read_fails : {at : ℕ} {pr : ℤ} {n m ix at' : ℕ} {a : Action} {y : Name} {all : List Part} {need : Need} {f : EntryFault} → stmt at' m a ∈ block_list b → record { node = n; form = read y ix } ∈ cells (stmt at' m a) → ((d : Cell) → d ∈ part_cells all → d ∈ cells (stmt at' m a))
         → IndexAs C w.layout k all y ix need → IsEntry (entry C i) at pr (need ∷ []) code.Read → at ≡ at' → X ≡ Fails f → IsIt f
@@ -358,10 +350,9 @@ module _ (s : Core) (C : Code) (w : IsCodeOf s C) (K : Knowledge) (wf : WellForm
         lacks_it : Ans s C K p need Missing → IsIt NoElement
         lacks_it an =
             let r = lacking sm sub cm ia need_in g an in
-            let z = ty.index_number (script_path p) (stmt at' m a) n ix y r.index (stmt_in s (live sm)) cm r.index_known in
-            let ik : IsKey r.index (Key.Number z.0) = subst (λ (u : Value). IsKey u (Key.Number z.0)) (sym z.1) a_number in
-            let l = r.lacks (Key.Number z.0) ik in
-            put_at NoElement n (en.at_is ∙ e) (kn.shut _ (cell_fault (live sm) cm (missing r.index_known ik l.closed l.none)))
+            let z = ty.index_key (script_path p) (stmt at' m a) n ix y r.index (stmt_in s (live sm)) cm r.index_known in
+            let l = r.lacks (key_of z.0) z.2 in
+            put_at NoElement n (en.at_is ∙ e) (kn.shut _ (cell_fault (live sm) cm (missing r.index_known z.2 l.closed l.none)))
 
         by : (zs : List Got) → AnsAll s C K p (need ∷ []) zs → Compute.read (answer_at zs 0) ≡ Fails f → IsIt f
         by [] al q = absurd al
@@ -378,7 +369,7 @@ module _ (s : Core) (C : Code) (w : IsCodeOf s C) (K : Knowledge) (wf : WellForm
 
     deep_here : is_too_deep (entry C i).act p (instances (entry C i).act (entry C i).mark p c X) ≡ true → Deep
     deep_here h =
-        let a = two_true (nat_le 512 (length p)) _ h in
+        let a = two_true (nat_le most_steps (length p)) _ h in
         let d = two_true (steps_on (entry C i).act) _ a.1 in
         let q = member (instances (entry C i).act (entry C i).mark p c X) d.1 in
         let le = at_least (length p) a.0 in

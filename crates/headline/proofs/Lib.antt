@@ -9,6 +9,7 @@ pub mod Roles
 pub mod Opening
 pub mod NoFault
 pub mod LiveTo
+pub mod KeysOf
 pub mod Facts
 pub mod HeaderWorks
 pub mod LiveBy

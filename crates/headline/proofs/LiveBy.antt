@@ -309,7 +309,7 @@ module _ (s : Core) (C : Code) (w : IsCodeOf s C) (K : Knowledge) (wf : WellForm
           fact : fd.Fact (Item j p 0) (effect_at C j p 0 OpensIt)
           fact = fd.yields j 0 p _ (alive j there) (λ x h. (all x h).1)
               (fact_of s C w K wf kn I sc ch j there z 0 OpensIt (ap (λ (a : Act). compute a (answered C p (entry C j).needs z.answers)) en.act_is) tt
-              (subst (λ (a : Act). is_too_deep a p (instances a (entry C j).mark p 0 OpensIt) ≡ false) (sym en.act_is) (no_step (nat_le 512 (length p)))))
+              (subst (λ (a : Act). is_too_deep a p (instances a (entry C j).mark p 0 OpensIt) ≡ false) (sym en.act_is) (no_step (nat_le most_steps (length p)))))
             where
               no_step : (b : Bool) → (b && false) ≡ false
               no_step true = refl

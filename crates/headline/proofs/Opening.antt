@@ -64,7 +64,7 @@ both_so : (a b : Bool) → a ≡ true → b ≡ true → (a && b) ≡ true
 both_so true b h q = q
 both_so false b h q = absurd (cc (h))
 
-below : (n : ℕ) → nat_le 512 n ≡ false → n < 512
+below : (n : ℕ) → nat_le most_steps n ≡ false → n < most_steps
 below n h = grind arith
 
 path_length : (p : List Step) → length (script_path p) ≡ length p
@@ -73,8 +73,8 @@ path_length (t ∷ p) = ap suc (path_length p)
 
 pub depth_below : (a : code.Act) (p : List Step) (s : ℕ × List Step) (ss : List (ℕ × List Step)) → steps_on a ≡ true → In s ss → is_too_deep a p ss ≡ false → length (script_path p) < most_steps
 depth_below a p s ss st i h =
-    let q = below (length p) (not_both (nat_le 512 (length p)) (steps_on a && is_some_list ss) h (both_so (steps_on a) (is_some_list ss) st (some_list s ss i))) in
-    subst (λ (n : ℕ). n < 512) (sym (path_length p)) q
+    let q = below (length p) (not_both (nat_le most_steps (length p)) (steps_on a && is_some_list ss) h (both_so (steps_on a) (is_some_list ss) st (some_list s ss i))) in
+    subst (λ (n : ℕ). n < most_steps) (sym (path_length p)) q
 
 -- ARRAYS ARE DATA
 

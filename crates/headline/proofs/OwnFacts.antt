@@ -27,7 +27,7 @@ use Rattle.code_rules.proofs.Given.{gives_value}
 use Rattle.values.specs.Operators.{literal}
 use Rattle.task_code.specs.Code as code
 use Rattle.task_code.specs.Code.{Need, Header, Act, If, Code, entry, body, Way, Through, InPlace, Loop, ways, loop_of}
-use Rattle.task_code.specs.Compute.{Computed, Inserts, eval, filled, content, answer_at, Takes, Turns, Opens as OpensIt, Elements, compute, turns_or, range_turns, pairs, elements, in_key_order}
+use Rattle.task_code.specs.Compute.{Computed, Inserts, eval, filled, content, answer_at, Takes, Turns, Opens as OpensIt, Elements, compute, turns_or, range_turns, pairs, elements, in_key_order, key_of}
 use Rattle.task_code.specs.Effects.{Item, stores, inserted_at, instances, is_too_deep, steps_on, chunk, effect_at, step_at, at_first}
 use Rattle.task_code.specs.Places.{Step, Datum, place_at}
 use Rattle.task_code.specs.Places as CodePlaces
@@ -57,7 +57,7 @@ use Rattle.headline.proofs.Roles.{OwnAs, own_simple, own_branch, own_branches, o
 
 -- no path is too long for blocks that are not there
 never_deep : (a : Act) (p : List Step) (ss : List (ℕ × List Step)) → ((q : ℕ × List Step) → In q ss → length (script_path p) < most_steps) → is_too_deep a p ss ≡ false
-never_deep a p [] h = none (nat_le 512 (length p)) (steps_on a)
+never_deep a p [] h = none (nat_le most_steps (length p)) (steps_on a)
   where
     none : (b d : Bool) → (b && (d && false)) ≡ false
     none true true = refl
@@ -252,21 +252,21 @@ module _ (s : Core) (C : Code) (w : IsCodeOf s C) (K : Knowledge) (wf : WellForm
             copy vu = by_expr (Co.whole a) (ap (own_form o.cell.node) f) vu g (λ ys. Inserts (content (answer_at ys 0))) (λ ys. refl) (λ ys. refl) (copied vu refl refl) (λ X. refl)
 
     -- ONE ELEMENT
-    one_element : {a u : Place} {key : Key} {v : Scalar} (num : ℤ) → key ≡ Key.Number num → K (element a key u v) → (l : Key) (y : Scalar) → In {X = Key × Scalar} (l, y) ((Key.Number num, v) ∷ []) → K (element a l u y)
-    one_element {a} {u} {key} num q kv l y (inl e) = subst (λ (z : Key). K (element a z u y)) (q ∙ sym (ap (λ (z : Key × Scalar). z.0) e)) (subst (λ (z : Scalar). K (element a key u z)) (sym (ap (λ (z : Key × Scalar). z.1) e)) kv)
-    one_element num q kv l y (inr z) = absurd z
+    one_element : {a u : Place} {key : Key} {v : Scalar} (other : Key) → other ≡ key → K (element a key u v) → (l : Key) (y : Scalar) → In {X = Key × Scalar} (l, y) ((other, v) ∷ []) → K (element a l u y)
+    one_element {a} {u} {key} other q kv l y (inl e) = subst (λ (z : Key). K (element a z u y)) (sym q ∙ sym (ap (λ (z : Key × Scalar). z.0) e)) (subst (λ (z : Scalar). K (element a key u z)) (sym (ap (λ (z : Key × Scalar). z.1) e)) kv)
+    one_element other q kv l y (inr z) = absurd z
 
     inserts : (at n : ℕ) (x : Name) (i o : Outer) (key : Key) (v : Scalar) → stmt at n (insert x i o) ∈ block_list b → IsEntry (entry C j) at (pos 0) (own_needs w.layout k (insert x i o)) (simple_act w.layout k (own_needs w.layout k (insert x i o)) (insert x i o))
         → K (element (place s (script_path p) x) key (script_path p, n) v) → (c : Computed) × ReadsAs s C w K wf kn I sc j p 0 c × KnownWrites s C w K wf kn I sc j p 0 c
     inserts at n x i o key v m en kv =
         let r = written_cells s wf K kn (stmt_in s (in_block (chain_live s C w.layout K wf.names I sc ch) m)) kv in
-        let xs = (Key.Number r.number, v) ∷ [] in
+        let xs = (key_of r.scalar, v) ∷ [] in
         let z = put_works s C w K wf kn I sc ch j there m _ refl en r.index r.right in
         let right = I.stores j (name_as k true x) (subst (λ (a : Act). In (name_as k true x) (code.targets_of (entry C j).node a)) (sym en.act_is) (inl refl)) in
         let g = (sc.statements k b (stmt at n (insert x i o)) (chain_scope s C w.layout K wf.names I sc ch) m).in_elements x first in (
           Inserts xs,
           fact_of s C w K wf kn I sc ch j there z.answers 0 (Inserts xs) z.computed tt (leaf_deep s C w K wf kn I sc (entry C j).act p _ (ap steps_on en.act_is)),
-          insert_known x right g xs (λ l y h. ((script_path p, n), one_element r.number r.key_is kv l y h))
+          insert_known x right g xs (λ l y h. ((script_path p, n), one_element (key_of r.scalar) r.key_is kv l y h))
               (ap (λ (a : Act). stores C a (entry C j).node (entry C j).mark p 0 (Inserts xs)) en.act_is),
         )
 

@@ -11,7 +11,7 @@ use Rattle.values.specs.declared.value.Scalar.TheVariants.{Number}
 use Rattle.values.specs.declared.value.Value.{Value}
 use Rattle.values.specs.Ranges.{value_in}
 use Rattle.language.specs.Core.{Stmt, stmt, Action, Block, Core}
-use Rattle.language.specs.Facts.{Knowledge, key_value}
+use Rattle.language.specs.Facts.{Knowledge}
 use Rattle.language.specs.Meaning.{in_block, Ready}
 use Rattle.language.specs.Members.{◌∈◌}
 use Rattle.language.specs.Parts.{block_list}
@@ -38,6 +38,7 @@ use Rattle.headline.proofs.LiveBy.{Feed, Where, at_body, between, ReadyFed, AllA
 use Rattle.headline.proofs.LiveFrom.{by_answers, no_need, live_from}
 use Rattle.headline.proofs.Means.{chain_body}
 use Rattle.headline.proofs.WrittenFrom.{path_same, TurnsStored}
+use Rattle.language_accepted.proofs.Values.{key_same}
 
 -- what a loop stores are its turns' variables
 pub loop_stores : (C : Code) (a : Act) (l : Loop) (node mark : ℕ) (p : List Step) (c : ℕ) (x : Computed) → loop_of a ≡ Some l → stores C a node mark p c x ≡ flat_map (bound l mark p) (chunk c (turns_of x))
@@ -59,9 +60,6 @@ in_flat : {A B : Type 0} (f : A → List B) (x : A) (y : B) (xs : List A) → In
 in_flat f x y [] h i = absurd h
 in_flat f x y (z ∷ xs) (inl e) i = in_left y (f z) (flat_map f xs) (subst (λ u. In y (f u)) e i)
 in_flat f x y (z ∷ xs) (inr h) i = in_right y (f z) (flat_map f xs) (in_flat f x y xs h i)
-
-pub key_same : (k : Key) → key_scalar k ≡ key_value k
-key_same (Key.Number z) = refl
 
 module _ (s : Core) (C : Code) (w : IsCodeOf s C) (K : Knowledge) (wf : WellFormed s) (kn : Backs s K) (I : IsCode C) (sc : Scoped s) (fd : Feed s C w K wf kn I sc) (G : Task → Effect Task CodePlaces.Place Key Scalar → Type 0)
     (counts : (j c : ℕ) (p : List Step) (e : Effect Task CodePlaces.Place Key Scalar) → Live (code_system C) fd.Fact (Item j p c) → fd.Fact (Item j p c) e → G (Item j p c) e) where

@@ -16,7 +16,7 @@ use Rattle.values.specs.Operators.{literal}
 use Rattle.values.specs.Ranges.{range_count, value_in}
 use Rattle.values.specs.Values.{scalar_of, number_of, elements_of}
 use Rattle.language.specs.Core.{Name, Expr, Exprs, whole, operator, Form, compute, Outer, Stmt, stmt, Action, fill, insert, range, each, Block, Core}
-use Rattle.language.specs.Facts.{value, element, Knowledge, a_number, KnownAll, no_cell, next_cell}
+use Rattle.language.specs.Facts.{value, element, Knowledge, KnownAll, no_cell, next_cell}
 use Rattle.language.specs.Meaning.{ValueUnder, of_array, Gives, computed, now, before, filled, inserted, LiveStmt, in_block, HasValue, in_turn, Ready, cells_known, source_closed}
 use Rattle.language.specs.Members.{◌∈◌, first, later}
 use Rattle.language.specs.Openings.{Bounds, bounds, Opens, in_turns, turn, item, InTurn, range_value, range_turn, each_value, each_key}
@@ -50,7 +50,7 @@ use Rattle.headline.proofs.HeaderWorks.{outer_among}
 use Rattle.headline.proofs.LiveTo.{Fact, value_of, says, answers_all, cell_known_by, range_known, bounds_two, bounds_three, listed_in, ok_step, depth}
 use Rattle.headline.proofs.Means.{chain_live, chain_scope, means, covering_writes}
 use Rattle.headline.proofs.Readings.{IsSame, same_array, element_in}
-use Rattle.headline.proofs.TurnsFrom.{key_same}
+use Rattle.language_accepted.proofs.Values.{key_same}
 use Rattle.headline.proofs.WrittenTo.{IsKnown}
 
 -- elements that are stored
@@ -247,11 +247,11 @@ module _ (s : Core) (C : Code) (w : IsCodeOf s C) (K : Knowledge) (wf : WellForm
         let e2 = wanted k (seen w.layout o.cell) in
         let ki = cell_known_by s C w K wf kn I sc ty ch i c there e f at n (insert y ix o) ix.cell sm (index_in ix o) ms en.needs_is (λ z j. subst (λ (l : List Need). In z l) mq (in_once z _ (in_left z e1 _ j))) r.index r.index_is in
         let ko = cell_known_by s C w K wf kn I sc ty ch i c there e f at n (insert y ix o) o.cell sm (right_in ix o) ms en.needs_is (λ z j. subst (λ (l : List Need). In z l) mq (in_once z _ (in_right z e1 _ (in_left z e2 [] j)))) r.right r.right_is in
-        let num = ty.insert_number (script_path p) at n y ix o r.index (stmt_in s lv) ki in
+        let index = ty.insert_key (script_path p) at n y ix o r.index (stmt_in s lv) ki in
         let one = ty.cell_one (script_path p) at n (insert y ix o) o.cell r.right (stmt_in s lv) (outer_among (ix ∷ o ∷ []) o (later first)) ko in
-        element_ours y (scp.in_elements y first) (inl refl) refl tt en.act_is nd x (Key.Number num.0) one.0 r.place_is
-        (r.key_is ∙ ap (λ (z : Value). key_of (scalar_of z)) num.1) (r.value_is ∙ ap scalar_of one.1)
-        (kn.shut _ (inserted lv (before (subst (λ (z : Value). K (value (script_path p, ix.cell.node) z)) num.1 ki)) a_number (before (subst (λ (z : Value). K (value (script_path p, o.cell.node) z)) one.1 ko))))
+        element_ours y (scp.in_elements y first) (inl refl) refl tt en.act_is nd x (key_of index.0) one.0 r.place_is
+        (r.key_is ∙ ap (λ (z : Value). key_of (scalar_of z)) index.1) (r.value_is ∙ ap scalar_of one.1)
+        (kn.shut _ (inserted lv (before ki) index.2 (before (subst (λ (z : Value). K (value (script_path p, o.cell.node) z)) one.1 ko))))
 
     -- A LOOP'S VARIABLES
     turn_ours : {at n v : ℕ} {y : Option ℕ} {a : Action} {vs : List Value} {d : Block} (t' : ℕ) (u : Key × Scalar) → stmt at n a ∈ block_list b → (entry C i).mark ≡ at → Ready s K (script_path p) a vs → Opens a vs u.0 d → length (script_path p) < most_steps

@@ -10,7 +10,7 @@ use Rattle.values.specs.declared.value.Value.{Value}
 use Rattle.values.specs.declared.value.Value.TheVariants.{One}
 use Rattle.language.specs.Core as Co
 use Rattle.language.specs.Core.{Name, here, Expr, name, Form, compute, read, Cell, Outer, Part, Stmt, stmt, Action, assign, fill, insert, print, assert, when, choose, range, each, wait, Block, Core}
-use Rattle.language.specs.Facts.{value, Knowledge, IsKey, OneWrite, a_number, Fault}
+use Rattle.language.specs.Facts.{value, Knowledge, IsKey, OneWrite, Fault}
 use Rattle.language.specs.Meaning.{ValueUnder, of_name, LiveStmt, in_block, HasValue, stored, in_turn, Gives, Ready, New, found, missing}
 use Rattle.language.specs.Members.{◌∈◌, first}
 use Rattle.language.specs.Parts.{parts, cells, block_list, script_stmts, part_cells}
@@ -33,7 +33,6 @@ use Rattle.task_code.proofs.Places.{declared_at}
 use Rattle.headline.specs.Headline.{script_path, script_place}
 use Rattle.code_rules.proofs.Given.{gives_value}
 use Rattle.headline.proofs.Readings.{name_stands, to_code, same_array, name_inv, literal_inv}
-use Rattle.values.specs.declared.value.Scalar.TheVariants.{Number}
 use Rattle.headline.specs.Backs.{RightKnown, Backs}
 use Rattle.headline.specs.Inclusions.{Facts}
 use Rattle.headline.specs.Chains.{Chain, Stands, same, plain, constant, HasElement}
@@ -49,6 +48,7 @@ use Rattle.headline.proofs.LiveBy.{at_body, between}
 use Rattle.headline.proofs.LiveFrom.{Alive, Where, live_from}
 use Rattle.headline.proofs.Means.{chain_body, chain_scope, means, covering_writes}
 use Rattle.headline.proofs.Roles.{among_cells, part_of_stmt}
+use Rattle.headline.proofs.KeysOf.{key_as}
 
 -- paths of the code are paths of the script
 pub path_same : (p q : List Step) → script_path p ≡ script_path q → p ≡ q
@@ -181,7 +181,7 @@ module _ (s : Core) (C : Code) (w : IsCodeOf s C) (K : Knowledge) (wf : WellForm
   no_step false b = refl
 
   pub leaf_deep : (a : Act) (p : List Step) (ss : List (ℕ × List Step)) → steps_on a ≡ false → is_too_deep a p ss ≡ false
-  leaf_deep a p ss h = ap (λ (z : Bool). nat_le 512 (length p) && (z && is_some_list ss)) h ∙ no_step (nat_le 512 (length p)) (is_some_list ss)
+  leaf_deep a p ss h = ap (λ (z : Bool). nat_le most_steps (length p) && (z && is_some_list ss)) h ∙ no_step (nat_le most_steps (length p)) (is_some_list ss)
 
   compute_same : {x y : Expr} → compute x ≡ compute y → x ≡ y
   compute_same h = cc
@@ -343,8 +343,11 @@ module _ (s : Core) (C : Code) (w : IsCodeOf s C) (K : Knowledge) (wf : WellForm
 
   pub read_stored : {path : Path} {st : Stmt} {n i : ℕ} {y : Name} {u : Scalar} {ix : Value} {key : Key} → LiveStmt s K path st → record { node = n; form = read y i } ∈ cells st → w.layout.plain n ≡ false
       → K (value (path, i) ix) → IsKey ix key → OneWrite K (place s path y) key u → (p : List Step) × (script_path p ≡ path) × Written (code_system C) (Facts s C K) (Datum p (scalar n)) only u
-  read_stored {path} {st} {n} {i} {y} {u} live cm pl kv (a_number {z = num}) one = from_live (stmt_live live _ cm)
+  read_stored {path} {st} {n} {i} {y} {u} {ix} {key} live cm pl kv ik one = from_live (stmt_live live _ cm)
     where
+      index : (v : Scalar) × (ix ≡ One v) × (key_of v ≡ key)
+      index = key_as ik
+
       from_live : StmtLive path st → (p : List Step) × (script_path p ≡ path) × Written (code_system C) (Facts s C K) (Datum p (scalar n)) only u
       from_live sl = (sl.p, sl.path_is, by_cell (find_cell C w.layout (record { node = n; form = read y i }) sl.entries.as_stmt cm pl))
         where
@@ -361,10 +364,10 @@ module _ (s : Core) (C : Code) (w : IsCodeOf s C) (K : Knowledge) (wf : WellForm
                   let ia' = subst (λ (m : ℕ). IndexAs C w.layout sl.k cf.all y m need) e.1 (subst (λ (x : Name). IndexAs C w.layout sl.k cf.all x i' need) e.0 ia) in
                   let there = (sl.entries).among cf.number cf.there in
                   let live' = subst (λ (z : Path). LiveStmt s K z st) (sym sl.path_is) live in
-                  let kv' = subst (λ (z : Path). K (value (z, i) (One (Number num)))) (sym sl.path_is) kv in
-                  let one' = subst (λ (z : Path). OneWrite K (place s z y) (Key.Number num) u) (sym sl.path_is) one in
+                  let kv' = subst (λ (z : Path). K (value (z, i) (One index.0))) (sym sl.path_is) (subst (λ (z : Value). K (value (path, i) z)) index.1 kv) in
+                  let one' = subst (λ (z : Path). OneWrite K (place s z y) key u) (sym sl.path_is) one in
                   read_fact sl.chain sl.alive cf.number there cf.node_is en
-                  (index_answer sl.chain sl.alive cf.number there (Found u) (Number num) live' cf.cells_in scp ia' (subst (λ (l : List Need). In need l) (sym en.needs_is) (inl refl)) (scp.in_cells _ cm) kv' refl (λ q d e. subst (λ (z : Place). OneWrite K z (Key.Number num) u) e one'))
+                  (index_answer sl.chain sl.alive cf.number there (Found u) index.0 live' cf.cells_in scp ia' (subst (λ (l : List Need). In need l) (sym en.needs_is) (inl refl)) (scp.in_cells _ cm) kv' index.2 (λ q d e. subst (λ (z : Place). OneWrite K z key u) e one'))
               by_part (a_call ca) q = absurd (cc (q))
 
   -- a datum that a live body makes

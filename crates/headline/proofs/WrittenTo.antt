@@ -8,11 +8,10 @@ use Rattle.values.specs.declared.key.Key.{Key}
 use Rattle.values.specs.declared.value.Scalar.{Scalar}
 use Rattle.values.specs.declared.value.Value.{Value}
 use Rattle.values.specs.declared.value.Value.TheVariants.{One}
-use Rattle.values.specs.declared.value.Scalar.TheVariants.{Number}
-use Rattle.values.specs.Values.{scalar_of, number_of}
+use Rattle.values.specs.Values.{scalar_of}
 use Rattle.language.specs.Core as Co
 use Rattle.language.specs.Core.{Name, here, Expr, name, Form, compute, read, Cell, Outer, Part, Stmt, stmt, Action, assign, fill, insert, print, assert, Block, Core}
-use Rattle.language.specs.Facts.{value, Knowledge, IsKey, a_number, OneWrite}
+use Rattle.language.specs.Facts.{value, Knowledge, IsKey, OneWrite}
 use Rattle.language.specs.Meaning.{ValueUnder, of_literal, of_name, found, LiveStmt, in_block, HasValue, stored, Gives, Comes, before, now, computed, cell_value, assigned}
 use Rattle.language.specs.Members.{◌∈◌, first}
 use Rattle.language.specs.Parts.{cells, block_list, script_stmts, part_cells}
@@ -45,6 +44,7 @@ use Rattle.headline.proofs.Means.{chain_live, chain_scope, means, covering_write
 use Rattle.headline.proofs.Opening.{name_value}
 use Rattle.headline.proofs.Readings.{IsSame, same_array, name_stands, to_script, cell_has}
 use Rattle.headline.proofs.Roles.{cell_among, part_of_stmt}
+use Rattle.headline.proofs.KeysOf.{key_of_is}
 
 -- a scalar that is stored
 record StoredValue (d : CodePlaces.Place) (r : Result Value OpFault) (w : Write CodePlaces.Place Key Scalar) : Type 0 where
@@ -155,34 +155,25 @@ module _ (s : Core) (C : Code) (w : IsCodeOf s C) (K : Knowledge) (wf : WellForm
     element_there a z key x h =
         subst (λ (pl : Place). OneWrite K pl key x) (sym z.place_is) (subst (λ (d : CodePlaces.Place). HasElement s K d key (Found x)) z.is h)
 
-    number_key : (v : Scalar) (z : ℤ) → One v ≡ One (Number z) → (key : Key) → IsKey (One v) key → key_of v ≡ key
-    number_key v z e key h = sym (key_is h refl)
-      where
-        key_is : {u : Value} {key : Key} → IsKey u key → u ≡ One v → key ≡ key_of v
-        key_is (a_number {z = y}) q = ap (λ (n : ℤ). Key.Number n) (ap number_of q)
-
     index_of : {st : Stmt} {all : List Part} {a : Name} {ix : ℕ} {need : Need} {x : Scalar} {n : ℕ} → st ∈ block_list b → ((d : Cell) → d ∈ part_cells all → d ∈ cells st) → record { node = n; form = read a ix } ∈ cells st → IndexAs C w.layout k all a ix need
         → In need (entry C i).needs → IsIn k a → Ans s C K p need (Found x) → ReadOf st a ix x
     index_of {st} {all} {a} {ix} {x = x} {n = n} sm sub cm (at_literal {v = v} im pl) m g h =
         let lv = in_block (chain_live s C w.layout K wf.names I sc ch) sm in
         let kv = kn.shut _ (cell_value lv (sub _ im) (computed of_literal)) in
-        let ty' = ty.index_number (script_path p) st n ix a (One v) (stmt_in s lv) cm kv in
-        record { index = One v; index_known = kv; element = λ key q. subst (λ (y : Key). OneWrite K (place s (script_path p) a) y x) (number_key v ty'.0 ty'.1 key q) (element_there a (array_place a g _ m (inl refl)) (key_of v) x h) }
+        record { index = One v; index_known = kv; element = λ key q. subst (λ (y : Key). OneWrite K (place s (script_path p) a) y x) (key_of_is q) (element_there a (array_place a g _ m (inl refl)) (key_of v) x h) }
     index_of {st} {all} {a} {ix} {x = x} {n = n} sm sub cm (at_name {x = y} im pl) m g h =
         let lv = in_block (chain_live s C w.layout K wf.names I sc ch) sm in
         let scp = sc.statements k b st (chain_scope s C w.layout K wf.names I sc ch) sm in
         let v = h.0 in
         let hv = to_script s wf K kn C w.layout (name_stands s wf K (backs s K kn) C w.layout I sc ch i there false y _ (scp.in_cells _ (sub _ im)) m (inr (inl refl))) v h.1 in
         let kv = kn.shut _ (cell_value lv (sub _ im) (computed (of_name hv))) in
-        let ty' = ty.index_number (script_path p) st n ix a (One v) (stmt_in s lv) cm kv in
-        record { index = One v; index_known = kv; element = λ key q. subst (λ (y : Key). OneWrite K (place s (script_path p) a) y x) (number_key v ty'.0 ty'.1 key q) (element_there a (array_place a g _ m (inl refl)) (key_of v) x h.2) }
+        record { index = One v; index_known = kv; element = λ key q. subst (λ (y : Key). OneWrite K (place s (script_path p) a) y x) (key_of_is q) (element_there a (array_place a g _ m (inl refl)) (key_of v) x h.2) }
     index_of {st} {all} {a} {x = x} {n = n} sm sub cm (at_datum {c = d} im pl) m g h =
         let lv = in_block (chain_live s C w.layout K wf.names I sc ch) sm in
         let v = h.0 in
         let hv = to_script s wf K kn C w.layout (name_stands s wf K (backs s K kn) C w.layout I sc ch i there false (here d.node) _ (λ i e. absurd (cc (e))) m (inr (inl refl))) v h.1 in
         let kv = cell_has s wf K hv (script_path p) st d (stmt_in s lv) (sub d im) (place_here s (script_path p) d.node) in
-        let ty' = ty.index_number (script_path p) st n d.node a (One v) (stmt_in s lv) cm kv in
-        record { index = One v; index_known = kv; element = λ key q. subst (λ (y : Key). OneWrite K (place s (script_path p) a) y x) (number_key v ty'.0 ty'.1 key q) (element_there a (array_place a g _ m (inl refl)) (key_of v) x h.2) }
+        record { index = One v; index_known = kv; element = λ key q. subst (λ (y : Key). OneWrite K (place s (script_path p) a) y x) (key_of_is q) (element_there a (array_place a g _ m (inl refl)) (key_of v) x h.2) }
 
     pub read_written : {at : ℕ} {pr : ℤ} {n m ix at' : ℕ} {a : Action} {y : Name} {all : List Part} {need : Need} → stmt at' m a ∈ block_list b → Co.inner (record { node = n; form = read y ix }) ∈ own_parts a → ((d : Cell) → d ∈ part_cells all → d ∈ cells (stmt at' m a))
         → (entry C i).node ≡ n → IndexAs C w.layout k all y ix need → IsEntry (entry C i) at pr (need ∷ []) code.Read → (x : Write CodePlaces.Place Key Scalar) → Stores x → IsKnown x
@@ -205,9 +196,8 @@ module _ (s : Core) (C : Code) (w : IsCodeOf s C) (K : Knowledge) (wf : WellForm
         finish : (v : Scalar) → Ans s C K p need (Found v) → x.place ≡ place_at C p (code.here (scalar (entry C i).node)) → x.key ≡ only → x.value ≡ v → IsKnown x
         finish v an pq kq vq =
             let r = index_of sm sub cm ia need_in g an in
-            let ty' = ty.index_number (script_path p) (stmt at' m a) n ix y r.index (stmt_in s lv) cm r.index_known in
-            let ik : IsKey r.index (Key.Number ty'.0) = subst (λ (u : Value). IsKey u (Key.Number ty'.0)) (sym ty'.1) a_number in
-            let kv = kn.shut _ (cell_value lv cm (found r.index_known ik (r.element (Key.Number ty'.0) ik))) in
+            let z = ty.index_key (script_path p) (stmt at' m a) n ix y r.index (stmt_in s lv) cm r.index_known in
+            let kv = kn.shut _ (cell_value lv cm (found r.index_known z.2 (r.element (key_of z.0) z.2))) in
             (p, scalar n, pq ∙ declared_at C p (scalar (entry C i).node) ∙ ap (λ (z : ℕ). Datum p (scalar z)) nd, (kq, stored (subst (λ (u : Scalar). K (value (script_path p, n) (One u))) (sym vq) kv)))
 
         one_write : (d : CodePlaces.Place) (v : Scalar) → In x (record { place = d; key = only; value = v } ∷ []) → (x.place ≡ d) × (x.key ≡ only) × (x.value ≡ v)

@@ -126,7 +126,7 @@ operand_part n m (ps, compute e) = omega arith
 operand_part n m (ps, read a i) = let e = cell_part n m (ps, read a i) in omega arith
 
 shape_part : (n m : ℕ) (sh : Shape) (t : Table) (w : Word) (f : Formed) → part_times n (variable_or_cell sh t w m f).0 ≤ part_times n f.0 + hit n m
-shape_part n m Shape.Array t w f = omega arith
+shape_part n m (Shape.Array κ) t w f = omega arith
 shape_part n m Shape.Scalar t w f = let e = cell_part n m f in omega arith
 
 argument_part : (n : ℕ) (t : Table) (e : Expression) (f : Formed) → part_times n (as_argument t e f).0 ≤ part_times n f.0 + hit n (number_of e)

@@ -32,10 +32,12 @@ Knowledge = Fact → Type 0
 -- a value that is a key
 pub data IsKey : Value → Key → Type 0 where
   a_number : {z : ℤ} → IsKey (One (Scalar.Number z)) (Key.Number z)
+  a_text : {bytes : List ℕ} → IsKey (One (Scalar.Text bytes)) (Key.Text bytes)
 
 -- a key as a value
 abbrev pub key_value : Key → Scalar
 key_value (Key.Number z) = Scalar.Number z
+key_value (Key.Text bytes) = Scalar.Text bytes
 
 -- a key has one write, and it has this value
 pub record OneWrite (K : Knowledge) (a : Place) (k : Key) (v : Scalar) : Type 0 where

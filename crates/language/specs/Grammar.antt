@@ -6,13 +6,15 @@ use Rattle.lexer.specs.Bytes.{decimal, escaped_byte}
 use Rattle.language.specs.declared.tree.Operator.{Operator}
 use Rattle.language.specs.declared.tree.Prefix.TheVariants as Prefix
 use Rattle.language.specs.declared.tree.Base.{Base}
+use Rattle.language.specs.declared.tree.Keys.{Keys}
+use Rattle.language.specs.declared.tree.Keys.TheVariants.{Numbers, Texts}
 use Rattle.language.specs.declared.tree.Shape.{Shape}
 use Rattle.language.specs.Tree.{Word, Node, Expression, expression, Form, number, text, truth, variable, element, call, prefixed, chain, expressions_of, Declaration, RightSide, value, list, Calling, Over, array, range, Statement, statement, no_statements, and_statement, Command, declare, assign, write, assign_all, calls, loop, waits, Body, body, statements_of, Part, import, function, single, Tree}
 use Rattle.language.specs.Tree.{choice_of}
 use Rattle.language.specs.declared.tree.Level.{Level}
 use Rattle.lexer.specs.declared.token.TokenKind.TheVariants as Kind
 use Rattle.language.specs.Kinds.{operator_of, base_of, level_of, repeats}
-use Rattle.language.specs.Rules.{Place, Rule, The, ◌⋆◌, ◌▹◌, ◌◃◌, Nothing, Never, Many, Maybe, AtMostOne, Perhaps, Made, Commas, Round, Square, Curly, Deeper}
+use Rattle.language.specs.Rules.{Place, Rule, The, ◌⋆◌, ◌▹◌, ◌◃◌, Never, Many, Maybe, AtMostOne, Perhaps, Made, Commas, Round, Square, Curly, Deeper}
 
 -- the first token's place
 abbrev pub first_of : List Lexeme → Span
@@ -120,13 +122,22 @@ abbrev pub IsType : Rule Base
 IsType s b u = (t : Lexeme) × The t.kind s t u × (base_of t.kind ≡ Some b)
 
 -- with brackets an array, without a scalar
-abbrev pub shape_of : {A : Type 0} → Option A → Shape
+abbrev pub shape_of : Option Keys → Shape
 shape_of None = Shape.Scalar
-shape_of (Some x) = Shape.Array
+shape_of (Some κ) = Shape.Array κ
 
--- type name [ "[" "]" ]
+-- between the brackets `string`, or nothing
+abbrev pub keys_of : {A : Type 0} → Option A → Keys
+keys_of None = Numbers
+keys_of (Some x) = Texts
+
+-- [ "string" ]
+abbrev pub AreKeys : Rule Keys
+AreKeys = Made (λ s x u. keys_of x) (Maybe (The Kind.String))
+
+-- type name [ "[" [ "string" ] "]" ]
 abbrev pub IsDecl : ℕ → Rule Declaration
-IsDecl depth = Made (λ s x u. record { base = x.0; name = x.1.0; shape = shape_of x.1.1 }) (IsType ⋆ (IsName ⋆ Maybe (Square (Deeper (λ d. Nothing) depth))))
+IsDecl depth = Made (λ s x u. record { base = x.0; name = x.1.0; shape = shape_of x.1.1 }) (IsType ⋆ (IsName ⋆ Maybe (Square (Deeper (λ d. AreKeys) depth))))
 
 -- "(" [ decls ] ")"
 abbrev pub AreParameters : ℕ → Rule (List Declaration)

@@ -8,6 +8,13 @@ use Rattle.lexer.specs.contracts.token.TokenKind as kinds
 use Rattle.language.specs.contracts.tree.Level as levels
 use Rattle.language.specs.declared.tree.Operator.{Operator}
 use Rattle.language.specs.declared.tree.Base.{Base}
+use Rattle.language.specs.declared.tree.Keys.{Keys}
+use Rattle.language.specs.declared.tree.Keys.TheVariants.{Numbers, Texts}
+
+-- the type of an index of an array under such keys
+abbrev pub base_of_keys : Keys → Base
+base_of_keys Numbers = Base.Int
+base_of_keys Texts = Base.Text
 
 -- whether two kinds of tokens are one
 abbrev pub same : TokenKind → TokenKind → Bool

@@ -1,6 +1,7 @@
 -- Paths and places: which block instance is meant, and where the datum of a name lies. States docs/LANGUAGE.md: Blocks and paths; Calls.
 use Rattle.std.specs.Prelude.{ℕ, zero, suc, List, [], ◌∷◌}
 use Rattle.values.specs.declared.key.Key.{Key}
+pub use Rattle.values.specs.Limits.{most_steps}
 use Rattle.language.specs.Core.{Core, Name, Owned, local, input, output}
 use Rattle.language.specs.Parts.{call_at, input_name, output_name}
 
@@ -11,10 +12,6 @@ Step = ℕ × Key
 -- a path: the steps from the script to a block instance, the innermost step first (docs/LANGUAGE.md, Blocks and paths)
 abbrev pub Path : Type 0
 Path = List Step
-
--- the most steps of a path (docs/LANGUAGE.md, Limits)
-abbrev pub most_steps : ℕ
-most_steps = 512
 
 -- a place: a path with a node
 abbrev pub Place : Type 0

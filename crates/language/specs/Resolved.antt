@@ -102,7 +102,7 @@ abbrev pub with_operand : List Part × Expr → Operands → Operands
 with_operand (ps, e) (qs, es) = (ps ++ qs, also e es)
 
 abbrev pub variable_or_cell : Shape → Table → Word → ℕ → Formed → List Part × Name
-variable_or_cell Shape.Array t w n f = ([], refers t w)
+variable_or_cell (Shape.Array κ) t w n f = ([], refers t w)
 variable_or_cell Shape.Scalar t w n f = (as_cell n f, here n)
 
 -- an argument of a composite call: an array's name, else a cell
@@ -172,7 +172,7 @@ composite_call p w i (ps, xs) os = call_alone p ps (call_to w i xs os)
 
 -- a scalar gets a value, an array the elements of another
 abbrev pub plain_right : Table → Name → Shape → Expression → Action
-plain_right t x Shape.Array (expression nd (variable w)) = fill x (outer_of nd.number ([], compute (whole (refers t w))))
+plain_right t x (Shape.Array κ) (expression nd (variable w)) = fill x (outer_of nd.number ([], compute (whole (refers t w))))
 plain_right t x a e = assign x (outer t e)
 
 -- a composite call as a right side is a call alone
@@ -201,7 +201,7 @@ several t n w es xs (composite i) = composite_call (pos 0) w i (arguments_of t e
 several t n w es xs (built_in b) = assign (first_name xs) (outer_of n (call_form t w (built_in b) es ([], []) (operands_of t es)))
 
 abbrev pub awaited_as : Shape → Name → Awaited
-awaited_as Shape.Array x = Awaited.array x
+awaited_as (Shape.Array κ) x = Awaited.array x
 awaited_as Shape.Scalar x = Awaited.scalar x
 
 abbrev pub awaited : Table → Word → Awaited

@@ -1,6 +1,7 @@
 -- Types of variables and functions, and which of them are visible where. States docs/LANGUAGE.md: Types.
 use Rattle.std.specs.Prelude.{◌≡◌, ℕ, suc, List, [], ◌∷◌, map, Some, slice_get}
 use Rattle.language.specs.declared.tree.Base.{Base}
+use Rattle.language.specs.declared.tree.Keys.{Keys}
 use Rattle.language.specs.declared.tree.Shape.{Shape}
 use Rattle.language.specs.declared.tree.Shape.TheVariants.{Scalar, Array}
 use Rattle.language.specs.Tree.{Word, Declaration, Composite, Tree, import, function, single}
@@ -16,8 +17,8 @@ pub record Typ : Type 0 where
 abbrev pub one_of : Base → Typ
 one_of b = record { base = b; shape = Scalar }
 
-abbrev pub many_of : Base → Typ
-many_of b = record { base = b; shape = Array }
+abbrev pub many_of : Keys → Base → Typ
+many_of κ b = record { base = b; shape = Array κ }
 
 abbrev pub declared_type : Declaration → Typ
 declared_type d = record { base = d.base; shape = d.shape }

@@ -6,7 +6,10 @@ use Rattle.lexer.specs.declared.token.Span.{Span}
 use Rattle.language.specs.declared.tree.Base.{Base}
 use Rattle.language.specs.declared.tree.Base.TheVariants.{Int, Text, Boolean}
 use Rattle.language.specs.declared.tree.Operator.{Operator}
+use Rattle.language.specs.declared.tree.Keys.{Keys}
+use Rattle.language.specs.declared.tree.Keys.TheVariants.{Numbers}
 use Rattle.language.specs.declared.tree.Prefix.{Prefix}
+use Rattle.language.specs.Kinds.{base_of_keys}
 use Rattle.language.specs.Tree.{Word, Node, Declaration, Expression, expression, number, text, truth, variable, element, call, prefixed, chain, Expressions, no_expressions, and_expression, expressions_of, RightSide, value, list, Calling, Over, array, range, Statement, statement, declare, assign, write, assign_all, calls, choice, choice_else, loop, waits, Body, body, Statements, no_statements, and_statement, Composite, Tree, import, function, single}
 use Rattle.language.specs.Core.{Owned, input, output}
 use Rattle.language.specs.Table.{Table, Builtin, strcat, fromint, toint, size, printf, assert}
@@ -44,7 +47,7 @@ mutual
     of_text : {nd : Node} {bytes : List ℕ} → HasType fs t g (expression nd (text bytes)) Text
     of_truth : {nd : Node} {b : Bool} → HasType fs t g (expression nd (truth b)) Boolean
     of_variable : {nd : Node} {w : Word} {b : Base} → Refers g t w (one_of b) → HasType fs t g (expression nd (variable w)) b
-    of_element : {nd : Node} {w : Word} {i : Expression} {b : Base} → Refers g t w (many_of b) → HasType fs t g i Int
+    of_element : {nd : Node} {w : Word} {i : Expression} {κ : Keys} {b : Base} → Refers g t w (many_of κ b) → HasType fs t g i (base_of_keys κ)
         → HasType fs t g (expression nd (element w i)) b
     of_prefixed : {nd : Node} {p : Prefix} {e : Expression} {b : Base} → Prefixes p b → HasType fs t g e b
         → HasType fs t g (expression nd (prefixed p e)) b
@@ -67,8 +70,8 @@ mutual
     no_argument : ArgumentTypes fs t g no_expressions []
     scalar_argument : {e : Expression} {es : Expressions} {b : Base} {τs : List Typ} → HasType fs t g e b → ArgumentTypes fs t g es τs
         → ArgumentTypes fs t g (and_expression e es) (one_of b ∷ τs)
-    array_argument : {nd : Node} {w : Word} {es : Expressions} {b : Base} {τs : List Typ} → Refers g t w (many_of b) → ArgumentTypes fs t g es τs
-        → ArgumentTypes fs t g (and_expression (expression nd (variable w)) es) (many_of b ∷ τs)
+    array_argument : {nd : Node} {w : Word} {es : Expressions} {κ : Keys} {b : Base} {τs : List Typ} → Refers g t w (many_of κ b) → ArgumentTypes fs t g es τs
+        → ArgumentTypes fs t g (and_expression (expression nd (variable w)) es) (many_of κ b ∷ τs)
 
   -- the built-in functions that are expressions
   pub data BuiltinType (fs : List Signature) (t : Table) (g : Scope) : Builtin → Expressions → Base → Type 0 where
@@ -76,7 +79,7 @@ mutual
         → BuiltinType fs t g strcat (and_expression e es) Text
     of_fromint : {e : Expression} → HasType fs t g e Int → BuiltinType fs t g fromint (and_expression e no_expressions) Text
     of_toint : {e : Expression} → HasType fs t g e Text → BuiltinType fs t g toint (and_expression e no_expressions) Int
-    of_size : {nd : Node} {w : Word} {b : Base} → Refers g t w (many_of b)
+    of_size : {nd : Node} {w : Word} {κ : Keys} {b : Base} → Refers g t w (many_of κ b)
         → BuiltinType fs t g size (and_expression (expression nd (variable w)) no_expressions) Int
 
   -- all have one type
@@ -97,10 +100,10 @@ wanted (Piece.Text ∷ ps) = one_of Text ∷ wanted ps
 -- a right side has a type
 pub data RightType (fs : List Signature) (t : Table) (g : Scope) : RightSide → Typ → Type 0 where
   of_scalar : {e : Expression} {b : Base} → HasType fs t g e b → RightType fs t g (value e) (one_of b)
-  of_copy : {nd : Node} {w : Word} {b : Base} → Refers g t w (many_of b) → RightType fs t g (value (expression nd (variable w))) (many_of b)
-  of_list : {nd : Node} {es : List Expression} {b : Base} → AllHaveType fs t g (expressions_of es) b → RightType fs t g (list nd es) (many_of b)
-  of_array_call : {nd : Node} {w : Word} {es : Expressions} {f : Signature} {b : Base} → Calls fs t w f → ArgumentTypes fs t g es f.inputs
-      → f.outputs ≡ many_of b ∷ [] → RightType fs t g (value (expression nd (call w es))) (many_of b)
+  of_copy : {nd : Node} {w : Word} {κ : Keys} {b : Base} → Refers g t w (many_of κ b) → RightType fs t g (value (expression nd (variable w))) (many_of κ b)
+  of_list : {nd : Node} {es : List Expression} {b : Base} → AllHaveType fs t g (expressions_of es) b → RightType fs t g (list nd es) (many_of Numbers b)
+  of_array_call : {nd : Node} {w : Word} {es : Expressions} {f : Signature} {κ : Keys} {b : Base} → Calls fs t w f → ArgumentTypes fs t g es f.inputs
+      → f.outputs ≡ many_of κ b ∷ [] → RightType fs t g (value (expression nd (call w es))) (many_of κ b)
 
 -- names refer to variables of these types
 pub data ReferAll (t : Table) (g : Scope) : List Word → List Typ → Type 0 where
@@ -111,21 +114,21 @@ pub data ReferAll (t : Table) (g : Scope) : List Word → List Typ → Type 0 wh
 pub data Declares : Scope → Word → Typ → Scope → Type 0 where
   fresh : {g : Scope} {w : Word} {τ : Typ} → ¬ IsVisible g w.text → Declares g w τ (own w τ ∷ g)
 
--- the scope of a loop's body: its value, and its key where it has one
-pub data LoopScope : Scope → Word → Base → Option Word → Scope → Type 0 where
-  value_only : {g h : Scope} {v : Word} {b : Base} → Declares (deeper g) v (one_of b) h → LoopScope g v b None h
-  with_key : {g h i : Scope} {v k : Word} {b : Base} → Declares (deeper g) v (one_of b) h → Declares h k (one_of Int) i → LoopScope g v b (Some k) i
+-- the scope of a loop's body: its value, and its key where it has one, of these types
+pub data LoopScope : Scope → Word → Base → Option Word → Base → Scope → Type 0 where
+  value_only : {g h : Scope} {v : Word} {b c : Base} → Declares (deeper g) v (one_of b) h → LoopScope g v b None c h
+  with_key : {g h i : Scope} {v k : Word} {b c : Base} → Declares (deeper g) v (one_of b) h → Declares h k (one_of c) i → LoopScope g v b (Some k) c i
 
 -- a missing step has the type that a step needs
 pub data StepType (fs : List Signature) (t : Table) (g : Scope) : Option Expression → Type 0 where
   no_step : StepType fs t g None
   a_step : {e : Expression} → HasType fs t g e Int → StepType fs t g (Some e)
 
--- what a loop goes over gives values of a type
-pub data SourceType (fs : List Signature) (t : Table) (g : Scope) : Over → Base → Type 0 where
-  of_elements : {w : Word} {b : Base} → Refers g t w (many_of b) → SourceType fs t g (array w) b
+-- what a loop goes over gives values of a type, under keys of a type
+pub data SourceType (fs : List Signature) (t : Table) (g : Scope) : Over → Base → Base → Type 0 where
+  of_elements : {w : Word} {κ : Keys} {b : Base} → Refers g t w (many_of κ b) → SourceType fs t g (array w) b (base_of_keys κ)
   of_range : {low high : Expression} {step : Option Expression} → HasType fs t g low Int → HasType fs t g high Int → StepType fs t g step
-      → SourceType fs t g (range low high step) Int
+      → SourceType fs t g (range low high step) Int Int
 
 -- a call that is a statement: of a function without outputs, of printf with a format, or of assert
 pub data CallTyped (fs : List Signature) (t : Table) (g : Scope) : Word → List Expression → Type 0 where
@@ -146,8 +149,8 @@ mutual
         → RightType fs t h r (declared_type d) → StatementTyped fs t g (statement nd (declare d (Some r))) h
     assignment : {g : Scope} {nd : Node} {w : Word} {r : RightSide} {τ : Typ} → Refers g t w τ → RightType fs t g r τ
         → StatementTyped fs t g (statement nd (assign w r)) g
-    element_write : {g : Scope} {nd : Node} {w : Word} {i e : Expression} {b : Base} → Refers g t w (many_of b)
-        → HasType fs t g i Int → HasType fs t g e b → StatementTyped fs t g (statement nd (write w i e)) g
+    element_write : {g : Scope} {nd : Node} {w : Word} {i e : Expression} {κ : Keys} {b : Base} → Refers g t w (many_of κ b)
+        → HasType fs t g i (base_of_keys κ) → HasType fs t g e b → StatementTyped fs t g (statement nd (write w i e)) g
     several : {g : Scope} {nd : Node} {ws : List Word} {c : Calling} {f : Signature} → ReferAll t g ws f.outputs → Calls fs t c.name f
         → ArgumentTypes fs t g (expressions_of c.arguments) f.inputs → StatementTyped fs t g (statement nd (assign_all ws c)) g
     several_builtin : {g : Scope} {nd : Node} {w : Word} {c : Calling} {f : Builtin} {b : Base} → Refers g t w (one_of b) → CallsBuiltin t c.name f
@@ -158,8 +161,8 @@ mutual
         → StatementTyped fs t g (statement nd (choice c b)) g
     if_else_statement : {g : Scope} {nd : Node} {c : Expression} {b d : Body} → HasType fs t g c Boolean → BodyTyped fs t (deeper g) b
         → BodyTyped fs t (deeper g) d → StatementTyped fs t g (statement nd (choice_else c b d)) g
-    loop_statement : {g h : Scope} {nd : Node} {v : Word} {k : Option Word} {o : Over} {b : Body} {β : Base}
-        → SourceType fs t g o β → LoopScope g v β k h → BodyTyped fs t h b → StatementTyped fs t g (statement nd (loop v k o b)) g
+    loop_statement : {g h : Scope} {nd : Node} {v : Word} {k : Option Word} {o : Over} {b : Body} {β γ : Base}
+        → SourceType fs t g o β γ → LoopScope g v β k γ h → BodyTyped fs t h b → StatementTyped fs t g (statement nd (loop v k o b)) g
     wait_statement : {g : Scope} {nd : Node} {ws : List Word} {τs : List Typ} {b : Body} → ReferAll t g ws τs → BodyTyped fs t g b
         → StatementTyped fs t g (statement nd (waits ws b)) g
 

@@ -82,9 +82,33 @@ pub enum Base {
     Boolean,
 }
 
+/// What the elements of an array stand under.
+#[derive(Clone, Copy, Debug, PartialEq, Eq)]
+pub enum Keys {
+    /// `int x[]`
+    Numbers,
+    /// `int x[string]`
+    Texts,
+}
+
+impl Keys {
+    ghost use Rattle.std.specs.Prelude.{◌≡◌};
+    ghost use Rattle.language.specs.Kinds.{base_of_keys};
+
+    /// The type of an index.
+    pub fn base(self) -> Base
+        ensures { result ≡ base_of_keys self }
+    {
+        match self {
+            Keys::Numbers => Base::Int,
+            Keys::Texts => Base::Text,
+        }
+    }
+}
+
 /// Whether a variable is a scalar or an array.
 #[derive(Clone, Copy, Debug, PartialEq, Eq)]
 pub enum Shape {
     Scalar,
-    Array,
+    Array(Keys),
 }

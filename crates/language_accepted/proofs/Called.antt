@@ -7,8 +7,8 @@ use Rattle.lexer.specs.Items.{Lexeme}
 use Rattle.language.specs.declared.tree.Level.{Level}
 use Rattle.language.specs.declared.tree.Operator.{Operator}
 use Rattle.language.specs.Kinds.{repeats}
-use Rattle.language.specs.Rules.{Place, Rule, The, ◌⋆◌, ◌▹◌, ◌◃◌, Nothing, Never, Many, Maybe, AtMostOne, Perhaps, Made, Commas, Round, Square, Curly, Deeper, cons}
-use Rattle.language.specs.Grammar.{IsName, IsOperator, chained, Repeated, IsChain, IsExprOver, AreArguments, IsUnaryOver, a_not, a_negative, a_number, a_string, a_true, a_false, a_name, an_element, a_call, a_parenthesis, IsUnary, IsExpr, IsType, IsDecl, AreParameters, AreNames, IsCall, IsRight, a_value, a_list, IsPrio, IsSmall, IsPriority, IsRange, IsSource, an_array, a_range, IsElse, a_block, IsModule, io, assert, string, IsStmtOver, a_declaration, an_assignment, a_write, many_assigned, an_if, a_foreach, a_wait, IsBlockOver, IsStmt, IsBlock, IsPart, an_import, a_function, a_statement, first_of}
+use Rattle.language.specs.Rules.{Place, Rule, The, ◌⋆◌, ◌▹◌, ◌◃◌, Never, Many, Maybe, AtMostOne, Perhaps, Made, Commas, Round, Square, Curly, Deeper, cons}
+use Rattle.language.specs.Grammar.{IsName, IsOperator, chained, Repeated, IsChain, IsExprOver, AreArguments, IsUnaryOver, a_not, a_negative, a_number, a_string, a_true, a_false, a_name, an_element, a_call, a_parenthesis, IsUnary, IsExpr, IsType, keys_of, AreKeys, IsDecl, AreParameters, AreNames, IsCall, IsRight, a_value, a_list, IsPrio, IsSmall, IsPriority, IsRange, IsSource, an_array, a_range, IsElse, a_block, IsModule, io, assert, string, IsStmtOver, a_declaration, an_assignment, a_write, many_assigned, an_if, a_foreach, a_wait, IsBlockOver, IsStmt, IsBlock, IsPart, an_import, a_function, a_statement, first_of}
 use Rattle.language.specs.Tree.{Word, Expression, expressions_of, RightSide, Calling, Over, Statement, Body, statements_of, Part, Tree, import, function, single}
 use Rattle.language.specs.Tree.{choice_of}
 use Rattle.language.proofs.Tested.{flat}
@@ -214,15 +214,15 @@ c_expr depth = c_expr_over (IsUnary depth) (c_unary depth)
 c_type : Counts IsType none_of
 c_type n s x u h = c_the (h.0).kind n s h.0 u h.1
 
-c_nothing : Counts Nothing none_of
-c_nothing n s x u h = stays n h
+c_keys : Counts AreKeys none_of
+c_keys = c_made (λ s x u. keys_of x) (Maybe (The Kind.String)) (maybe_numbers none_of) none_of (λ n s a u. omega arith) (c_maybe (The Kind.String) none_of (c_the Kind.String))
 
 c_decl : (depth : ℕ) → Counts (IsDecl depth) none_of
 c_decl depth n s x u h =
-    c_less (IsType ⋆ (IsName ⋆ Maybe (Square (Deeper (λ d. Nothing) depth)))) (λ x. [] ++ ([] ++ maybe_numbers none_of x.1.1))
-    (c_both IsType (IsName ⋆ Maybe (Square (Deeper (λ d. Nothing) depth))) none_of (λ x. [] ++ maybe_numbers none_of x.1) c_type
-    (c_both IsName (Maybe (Square (Deeper (λ d. Nothing) depth))) none_of (maybe_numbers none_of) c_name
-    (c_maybe (Square (Deeper (λ d. Nothing) depth)) none_of (c_square (Deeper (λ d. Nothing) depth) none_of (c_deeper (λ d. Nothing) none_of (λ d. c_nothing) depth)))))
+    c_less (IsType ⋆ (IsName ⋆ Maybe (Square (Deeper (λ d. AreKeys) depth)))) (λ x. [] ++ ([] ++ maybe_numbers none_of x.1.1))
+    (c_both IsType (IsName ⋆ Maybe (Square (Deeper (λ d. AreKeys) depth))) none_of (λ x. [] ++ maybe_numbers none_of x.1) c_type
+    (c_both IsName (Maybe (Square (Deeper (λ d. AreKeys) depth))) none_of (maybe_numbers none_of) c_name
+    (c_maybe (Square (Deeper (λ d. AreKeys) depth)) none_of (c_square (Deeper (λ d. AreKeys) depth) none_of (c_deeper (λ d. AreKeys) none_of (λ d. c_keys) depth)))))
     n s h.0 u h.1
 
 c_right : (depth : ℕ) → Counts (IsRight depth) right_offsets

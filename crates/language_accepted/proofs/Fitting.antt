@@ -60,7 +60,7 @@ module _ (fs : List Signature) (t : Table) (k : ℕ) where
       (parts_both (as_operand (number_of e) (form_of t e)).0 (operands_of t es).0 q.0 g.0, (q.1, g.1))
 
   shape_fits : (sh : Shape) (w : Word) (m : ℕ) (f : Formed) → FormedFits f → IsIn k (refers t w) → PartsFit fs k (variable_or_cell sh t w m f).0 × IsIn k (variable_or_cell sh t w m f).1
-  shape_fits Shape.Array w m f h i = (none_fit, i)
+  shape_fits (Shape.Array κ) w m f h i = (none_fit, i)
   shape_fits Shape.Scalar w m f h i = (cell_fits m f h, local_in m)
 
   argument_fits : (e : Expression) → FormedFits (form_of t e) → PartsFit fs k (as_argument t e (form_of t e)).0 × IsIn k (as_argument t e (form_of t e)).1
@@ -110,7 +110,7 @@ module _ (fs : List Signature) (t : Table) (k : ℕ) where
       expression_fits rules.of_text = (none_fit, tt)
       expression_fits rules.of_truth = (none_fit, tt)
       expression_fits (rules.of_variable {w = w} {b = b} r) = (none_fit, refers_in w (one_of b) r)
-      expression_fits (rules.of_element {w = w} {i = i} {b = b} r h) = (cell_fits (number_of i) (form_of t i) (expression_fits h), refers_in w (many_of b) r)
+      expression_fits (rules.of_element {w = w} {i = i} {κ = κ} {b = b} r h) = (cell_fits (number_of i) (form_of t i) (expression_fits h), refers_in w (many_of κ b) r)
       expression_fits (rules.of_prefixed {e = e} p h) = let q = operand_fits (number_of e) (form_of t e) (expression_fits h) in (q.0, (q.1, tt))
       expression_fits (rules.of_chain {e = e} {es = es} h r) = and_fits e es (expression_fits h) (rest_fits r)
       expression_fits (rules.of_call {w = w} {es = es} {f = f} c h e) =
@@ -126,14 +126,14 @@ module _ (fs : List Signature) (t : Table) (k : ℕ) where
       pub arguments_fit : {es : Expressions} {τs : List Typ} → ArgumentTypes fs t g es τs → ArgumentsFit (arguments_of t es) τs
       arguments_fit rules.no_argument = record { before = none_fit; named = no_names; many = refl }
       arguments_fit (rules.scalar_argument {e = e} {es = es} {b = b} {τs = τs} h r) = with_fits e es (one_of b) τs (expression_fits h) (arguments_fit r)
-      arguments_fit (rules.array_argument {nd = nd} {w = w} {es = es} {b = b} {τs = τs} h r) =
-          with_fits (expression nd (variable w)) es (many_of b) τs (none_fit, refers_in w (many_of b) h) (arguments_fit r)
+      arguments_fit (rules.array_argument {nd = nd} {w = w} {es = es} {κ = κ} {b = b} {τs = τs} h r) =
+          with_fits (expression nd (variable w)) es (many_of κ b) τs (none_fit, refers_in w (many_of κ b) h) (arguments_fit r)
 
       pub builtin_fits : {f : Builtin} {es : Expressions} {b : Base} (w : Word) (xs : Arguments) → BuiltinType fs t g f es b → FormedFits (call_form t w (built_in f) es xs (operands_of t es))
       builtin_fits w xs (rules.of_strcat h) = all_fit h
       builtin_fits w xs (rules.of_fromint {e = e} h) = and_fits e no_expressions (expression_fits h) (none_fit, tt)
       builtin_fits w xs (rules.of_toint {e = e} h) = and_fits e no_expressions (expression_fits h) (none_fit, tt)
-      builtin_fits w xs (rules.of_size {w = a} {b = b} r) = (none_fit, (refers_in a (many_of b) r, tt))
+      builtin_fits w xs (rules.of_size {w = a} {κ = κ} {b = b} r) = (none_fit, (refers_in a (many_of κ b) r, tt))
 
       pub all_fit : {es : Expressions} {b : Base} → AllHaveType fs t g es b → OperandsFit (operands_of t es)
       all_fit rules.none_left = (none_fit, tt)
@@ -143,7 +143,7 @@ module _ (fs : List Signature) (t : Table) (k : ℕ) where
     printed_fits : {es : Expressions} {τs : List Typ} → ArgumentTypes fs t g es τs → OperandsFit (operands_of t es)
     printed_fits rules.no_argument = (none_fit, tt)
     printed_fits (rules.scalar_argument {e = e} {es = es} h r) = and_fits e es (expression_fits h) (printed_fits r)
-    printed_fits (rules.array_argument {nd = nd} {w = w} {es = es} {b = b} h r) = and_fits (expression nd (variable w)) es (none_fit, refers_in w (many_of b) h) (printed_fits r)
+    printed_fits (rules.array_argument {nd = nd} {w = w} {es = es} {κ = κ} {b = b} h r) = and_fits (expression nd (variable w)) es (none_fit, refers_in w (many_of κ b) h) (printed_fits r)
 
     -- STATEMENTS
 
@@ -204,9 +204,9 @@ module _ (fs : List Signature) (t : Table) (k : ℕ) where
 
     pub right_fits : (x : Name) {r : RightSide} {τ : Typ} → Sees g x → RightType fs t g r τ → Fit (right_of t x τ.shape r)
     right_fits x s (rules.of_scalar h) = scalar_right x s h
-    right_fits x s (rules.of_copy {nd = nd} {w = w} {b = b} r) = fill_fits x nd.number ([], compute (whole (refers t w))) s (none_fit, refers_in w (many_of b) r)
+    right_fits x s (rules.of_copy {nd = nd} {w = w} {κ = κ} {b = b} r) = fill_fits x nd.number ([], compute (whole (refers t w))) s (none_fit, refers_in w (many_of κ b) r)
     right_fits x s (rules.of_list {nd = nd} {es = es} h) = fill_fits x nd.number (computes op.literal (operands_of t (expressions_of es))) s (all_fit h)
-    right_fits x s (rules.of_array_call {nd = nd} {w = w} {es = es} {f = f} {b = b} c h e) = called_right x nd w es f (many_of b) s c h e
+    right_fits x s (rules.of_array_call {nd = nd} {w = w} {es = es} {f = f} {κ = κ} {b = b} c h e) = called_right x nd w es f (many_of κ b) s c h e
 
     pub write_fits : (x : Name) {i e : Expression} {b c : Base} → Sees g x → HasType fs t g i b → HasType fs t g e c → Fit (insert x (outer t i) (outer t e))
     write_fits x {i = i} {e = e} s h r = record {
@@ -280,19 +280,19 @@ module _ (fs : List Signature) (t : Table) (k : ℕ) where
       waits = none_awaited;
     }
 
-    pub loop_fits : (v : Word) (u : Option Word) (o : Over) (d : Block) {b : Base} → SourceType fs t g o b → Fit (loop_action t v u o d)
-    loop_fits v u (T.array w) d (rules.of_elements {b = b} r) = record {
+    pub loop_fits : (v : Word) (u : Option Word) (o : Over) (d : Block) {b c : Base} → SourceType fs t g o b c → Fit (loop_action t v u o d)
+    loop_fits v u (T.array w) d (rules.of_elements {κ = κ} {b = b} r) = record {
       among = among;
       named = none_seen;
       written = none_seen;
       inside = none_fit;
-      over = one_named (refers t w) (refers_in w (many_of b) r);
+      over = one_named (refers t w) (refers_in w (many_of κ b) r);
       waits = none_awaited;
     }
     loop_fits v u (T.range low high step) d (rules.of_range h r q) = range_fits low high step v.number (option_map (λ x. x.number) u) d h r q
 
     awaited_in : (sh : Shape) (x : Name) → IsIn k x → AwaitedIn k (awaited_as sh x)
-    awaited_in Shape.Array x h = h
+    awaited_in (Shape.Array κ) x h = h
     awaited_in Shape.Scalar x h = h
 
     all_awaited : {ws : List Word} {τs : List Typ} → ReferAll t g ws τs → (x : Awaited) → x ∈ map (awaited t) ws → AwaitedIn k x

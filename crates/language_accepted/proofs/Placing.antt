@@ -3,7 +3,6 @@ use Rattle.std.specs.List.{flat_map}
 use Rattle.std.specs.Prelude.{◌≡◌, ℕ, suc, ◌<◌, ◌≤◌, ℤ, List, [], ◌∷◌, ◌++◌, map, Option, Some, None, refl}
 use Rattle.std.proofs.Common.{inl, inr, sym, ap, ◌∙◌, subst, arith}
 use Rattle.language.specs.declared.tree.Base.{Base}
-use Rattle.language.specs.declared.tree.Base.TheVariants.{Int}
 use Rattle.language.specs.declared.tree.Shape.{Shape}
 use Rattle.language.specs.Tree as T
 use Rattle.language.specs.Tree.{Word, Node, Declaration, Expression, expression, number, text, truth, variable, element, call, prefixed, chain, Expressions, expressions_of, value, list, RightSide, Over, Statement, statement, choice, choice_else, loop, waits, Body, body, Statements, no_statements, and_statement, Composite, Tree, import, function, single}
@@ -68,18 +67,18 @@ second_role : (t : Table) (v k : Word) (o : Over) (d : Block) → k.number ∈ r
 second_role t v k (T.array w) d = later first
 second_role t v k (T.range low high step) d = later first
 
-loop_in : (k : ℕ) (v : Word) (u : Option Word) (g h : Scope) (b : Base) → LoopScope g v b u h → AreIn k g → AreIn k h
+loop_in : {γ : Base} (k : ℕ) (v : Word) (u : Option Word) (g h : Scope) (b : Base) → LoopScope g v b u γ h → AreIn k g → AreIn k h
 loop_in k v None g h b (rules.value_only (rules.fresh free)) a = own_in k (deeper g) (own v (one_of b)) v.number refl (deeper_in k g a)
-loop_in k v (Some u) g h b (rules.with_key (rules.fresh free) (rules.fresh other)) a =
-    own_in k (own v (one_of b) ∷ deeper g) (own u (one_of Int)) u.number refl (own_in k (deeper g) (own v (one_of b)) v.number refl (deeper_in k g a))
+loop_in {γ} k v (Some u) g h b (rules.with_key (rules.fresh free) (rules.fresh other)) a =
+    own_in k (own v (one_of b) ∷ deeper g) (own u (one_of γ)) u.number refl (own_in k (deeper g) (own v (one_of b)) v.number refl (deeper_in k g a))
 
 -- a key's number, where there is a key
 abbrev KeyBelow : Option Word → ℕ → Type 0
 KeyBelow None m = Unit {0}
 KeyBelow (Some w) m = w.number < m
 
-loop_sees : (t : Table) (m : ℕ) (v : Word) (u : Option Word) (o : Over) (d : Block) (g h : Scope) (b : Base) → v.number < m → KeyBelow u m
-    → LoopScope g v b u h → LoopSees g (loop_action t v u o d) m h
+loop_sees : {γ : Base} (t : Table) (m : ℕ) (v : Word) (u : Option Word) (o : Over) (d : Block) (g h : Scope) (b : Base) → v.number < m → KeyBelow u m
+    → LoopScope g v b u γ h → LoopSees g (loop_action t v u o d) m h
 loop_sees t m v None o d g h b less low (rules.value_only (rules.fresh free)) x i = elim (split_in i) [
   | inl e ↦ inr (record { node = v.number; is = ap (λ (z : Visible). z.refers_to) e; role = first_role t v None o d; less = less })
   | inr j ↦ inl j
@@ -105,20 +104,20 @@ right_plain t x sh (value (expression nd (call w es))) = by (t.callee_of w.numbe
     by : (c : Callee) → IsPlain (call_right t x (expression nd (call w es)) w es c)
     by (composite i) = tt
     by (built_in b) = tt
-right_plain t x Shape.Array (value (expression nd (variable w))) = tt
+right_plain t x (Shape.Array κ) (value (expression nd (variable w))) = tt
 right_plain t x Shape.Scalar (value (expression nd (variable w))) = tt
 right_plain t x sh (list nd es) = tt
-right_plain t x Shape.Array (value (expression nd (number z))) = tt
+right_plain t x (Shape.Array κ) (value (expression nd (number z))) = tt
 right_plain t x Shape.Scalar (value (expression nd (number z))) = tt
-right_plain t x Shape.Array (value (expression nd (text bytes))) = tt
+right_plain t x (Shape.Array κ) (value (expression nd (text bytes))) = tt
 right_plain t x Shape.Scalar (value (expression nd (text bytes))) = tt
-right_plain t x Shape.Array (value (expression nd (truth b))) = tt
+right_plain t x (Shape.Array κ) (value (expression nd (truth b))) = tt
 right_plain t x Shape.Scalar (value (expression nd (truth b))) = tt
-right_plain t x Shape.Array (value (expression nd (element w i))) = tt
+right_plain t x (Shape.Array κ) (value (expression nd (element w i))) = tt
 right_plain t x Shape.Scalar (value (expression nd (element w i))) = tt
-right_plain t x Shape.Array (value (expression nd (prefixed p e))) = tt
+right_plain t x (Shape.Array κ) (value (expression nd (prefixed p e))) = tt
 right_plain t x Shape.Scalar (value (expression nd (prefixed p e))) = tt
-right_plain t x Shape.Array (value (expression nd (chain os es))) = tt
+right_plain t x (Shape.Array κ) (value (expression nd (chain os es))) = tt
 right_plain t x Shape.Scalar (value (expression nd (chain os es))) = tt
 
 several_plain : (t : Table) (m : ℕ) (w : Word) (es : Expressions) (xs : List Name) (c : Callee) → IsPlain (several t m w es xs c)

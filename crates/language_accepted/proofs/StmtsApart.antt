@@ -62,20 +62,20 @@ right_head at m t x sh (value (expression nd (call w es))) = by (t.callee_of w.n
     by : (c : Callee) → declared_head (stmt at m (call_right t x (expression nd (call w es)) w es c)) ≡ []
     by (composite i) = refl
     by (built_in b) = refl
-right_head at m t x Shape.Array (value (expression nd (variable w))) = refl
+right_head at m t x (Shape.Array κ) (value (expression nd (variable w))) = refl
 right_head at m t x Shape.Scalar (value (expression nd (variable w))) = refl
 right_head at m t x sh (list nd es) = refl
-right_head at m t x Shape.Array (value (expression nd (number z))) = refl
+right_head at m t x (Shape.Array κ) (value (expression nd (number z))) = refl
 right_head at m t x Shape.Scalar (value (expression nd (number z))) = refl
-right_head at m t x Shape.Array (value (expression nd (text bytes))) = refl
+right_head at m t x (Shape.Array κ) (value (expression nd (text bytes))) = refl
 right_head at m t x Shape.Scalar (value (expression nd (text bytes))) = refl
-right_head at m t x Shape.Array (value (expression nd (truth b))) = refl
+right_head at m t x (Shape.Array κ) (value (expression nd (truth b))) = refl
 right_head at m t x Shape.Scalar (value (expression nd (truth b))) = refl
-right_head at m t x Shape.Array (value (expression nd (element w i))) = refl
+right_head at m t x (Shape.Array κ) (value (expression nd (element w i))) = refl
 right_head at m t x Shape.Scalar (value (expression nd (element w i))) = refl
-right_head at m t x Shape.Array (value (expression nd (prefixed p e))) = refl
+right_head at m t x (Shape.Array κ) (value (expression nd (prefixed p e))) = refl
 right_head at m t x Shape.Scalar (value (expression nd (prefixed p e))) = refl
-right_head at m t x Shape.Array (value (expression nd (chain os es))) = refl
+right_head at m t x (Shape.Array κ) (value (expression nd (chain os es))) = refl
 right_head at m t x Shape.Scalar (value (expression nd (chain os es))) = refl
 
 declared_pair : (n at m v : ℕ) (t : Table) (x : Name) (sh : Shape) (r : RightSide) → times n (declared_head (stmt at m (declare v))) + times n (declared_head (stmt at m (right_of t x sh r))) ≤ hit n m

@@ -95,7 +95,7 @@ module _ (fs : List Signature) (type_of : ℕ → Typ) where
     | inr i ↦ elim (split_in i) [ inl q ↦ subst (BlockHas fs type_of f (suc depth)) (sym q) g | inr j ↦ elim j [ ] ]
   ]
   header_has {f} {depth} {a = range lo hi st x t b} (of_range cs v u h) m = elim (split_in m) [ inl q ↦ subst (BlockHas fs type_of f (suc depth)) (sym q) h | inr i ↦ elim i [ ] ]
-  header_has {f} {depth} {a = each x v t b} (of_each s w u h) m = elim (split_in m) [ inl q ↦ subst (BlockHas fs type_of f (suc depth)) (sym q) h | inr i ↦ elim i [ ] ]
+  header_has {f} {depth} {a = each x v t b} (of_each κ s w u h) m = elim (split_in m) [ inl q ↦ subst (BlockHas fs type_of f (suc depth)) (sym q) h | inr i ↦ elim i [ ] ]
   header_has {a = Action.declare v} h m = elim m [ ]
   header_has {a = Action.call_alone p ps c} h m = elim m [ ]
   header_has {a = Action.assign x o} h m = elim m [ ]

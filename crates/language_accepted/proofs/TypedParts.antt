@@ -4,9 +4,11 @@ use Rattle.std.proofs.Common.{inl, inr, sym, subst}
 use Rattle.values.specs.Operators as op
 use Rattle.language.specs.declared.tree.Base.{Base}
 use Rattle.language.specs.declared.tree.Base.TheVariants.{Int, Text, Boolean}
+use Rattle.language.specs.declared.tree.Keys.{Keys}
 use Rattle.language.specs.declared.tree.Operator.{Operator}
 use Rattle.language.specs.declared.tree.Prefix.{Prefix}
 use Rattle.language.specs.declared.tree.Shape.{Shape}
+use Rattle.language.specs.Kinds.{base_of_keys}
 use Rattle.language.specs.Tree.{Word, Expression, expression, number, text, truth, variable, element, call, prefixed, chain, Expressions, no_expressions, and_expression}
 use Rattle.language.specs.Core.{Name, here, Expr, Exprs, also, compute, read, Part, inner, calls}
 use Rattle.language.specs.Members.{◌∈◌, first, later}
@@ -60,12 +62,12 @@ module _ (fs : List Signature) (type_of : ℕ → Typ) (f : Signature) (depth : 
   pub shape_has : (sh : Shape) (t : Table) (w : Word) (n : ℕ) (o : Formed) (b : Base) → sh ≡ Shape.Scalar → type_of n ≡ one_of b → FormedHas o b
       → PartsHave fs type_of f depth (variable_or_cell sh t w n o).0 × NameHas fs type_of f depth (variable_or_cell sh t w n o).1 (one_of b)
   shape_has Shape.Scalar t w n o b s e h = (cell_has n o b e h, e)
-  shape_has Shape.Array t w n o b s e h = absurd (cc (s))
+  shape_has (Shape.Array κ) t w n o b s e h = absurd (cc (s))
 
-  pub array_has : (sh : Shape) (t : Table) (w : Word) (n : ℕ) (o : Formed) (b : Base) → sh ≡ Shape.Array → NameHas fs type_of f depth (refers t w) (many_of b)
-      → PartsHave fs type_of f depth (variable_or_cell sh t w n o).0 × NameHas fs type_of f depth (variable_or_cell sh t w n o).1 (many_of b)
-  array_has Shape.Array t w n o b s h = (none_have, h)
-  array_has Shape.Scalar t w n o b s h = absurd (cc (s))
+  pub array_has : (sh : Shape) (t : Table) (w : Word) (n : ℕ) (o : Formed) (κ : Keys) (b : Base) → sh ≡ Shape.Array κ → NameHas fs type_of f depth (refers t w) (many_of κ b)
+      → PartsHave fs type_of f depth (variable_or_cell sh t w n o).0 × NameHas fs type_of f depth (variable_or_cell sh t w n o).1 (many_of κ b)
+  array_has (Shape.Array ι) t w n o κ b s h = (none_have, h)
+  array_has Shape.Scalar t w n o κ b s h = absurd (cc (s))
 
   pub outer_has : (n : ℕ) (o : Formed) (τ : Typ) → type_of n ≡ τ → PartsHave fs type_of f depth o.0 → FormHas fs type_of f depth o.1 τ → OuterHas fs type_of f depth (outer_of n o)
   outer_has n o τ e h g = record { before = h; cell = subst (FormHas fs type_of f depth o.1) (sym e) g }
@@ -177,8 +179,11 @@ module _ (fs : List Signature) (t : Table) (f : Signature) (depth : ℕ) (g : Sc
     expression_typed (rules.of_truth {nd = nd}) = noted nd.number (one_of Boolean) (always (λ type_of s. (none_have fs type_of f depth, types.computes (types.literal_has types.a_truth))))
     expression_typed (rules.of_variable {nd = nd} {w = w} {b = b} r) =
         noted nd.number (one_of b) (passed w.number (always (λ type_of s. (none_have fs type_of f depth, types.computes (types.name_has {x = refers t w} (refers_has type_of r s))))))
-    expression_typed (rules.of_element {nd = nd} {w = w} {i = i} {b = b} r h) =
-        noted nd.number (one_of b) (passed w.number (and_so (expression_typed h) (λ type_of q s. (cell_has fs type_of f depth (number_of i) (form_of t i) Int q.0 (q.1 s), types.reads (refers_has type_of r s) q.0))))
+    expression_typed (rules.of_element {nd = nd} {w = w} {i = i} {κ = κ} {b = b} r h) =
+        noted nd.number (one_of b) (passed w.number (and_so (expression_typed h) (λ type_of q s. (
+          cell_has fs type_of f depth (number_of i) (form_of t i) (base_of_keys κ) q.0 (q.1 s),
+          types.reads {a = refers t w} κ (refers_has type_of r s) q.0,
+        ))))
     expression_typed (rules.of_prefixed {nd = nd} {e = e} {b = b} p h) =
         noted nd.number (one_of b) (and_so (expression_typed h) (λ type_of q s. (
         let r = operand_has fs type_of f depth (number_of e) (form_of t e) b q.0 (q.1 s) in
@@ -204,8 +209,8 @@ module _ (fs : List Signature) (t : Table) (f : Signature) (depth : ℕ) (g : Sc
         let a = scalar_fits type_of h q.0.0 (q.0.1 s) in
         let x = q.1 s in
         (both_have fs type_of f depth (as_argument t e (form_of t e)).0 (arguments_of t es).0 a.0 x.0, one_name a.1 x.1)))
-    arguments_typed (rules.array_argument {nd = nd} {w = w} {es = es} {b = b} {τs = τs} h r) = passed nd.number (passed w.number (and_so (arguments_typed r) (λ type_of q s. (
-        let a = array_has fs type_of f depth (t.shape_of w.number) t w nd.number (form_of t (expression nd (variable w))) b h.shaped (refers_has type_of h s) in
+    arguments_typed (rules.array_argument {nd = nd} {w = w} {es = es} {κ = κ} {b = b} {τs = τs} h r) = passed nd.number (passed w.number (and_so (arguments_typed r) (λ type_of q s. (
+        let a = array_has fs type_of f depth (t.shape_of w.number) t w nd.number (form_of t (expression nd (variable w))) κ b h.shaped (refers_has type_of h s) in
         let x = q s in
         (both_have fs type_of f depth (as_argument t (expression nd (variable w)) (form_of t (expression nd (variable w)))).0 (arguments_of t es).0 a.0 x.0, one_name a.1 x.1)))))
 
@@ -213,7 +218,7 @@ module _ (fs : List Signature) (t : Table) (f : Signature) (depth : ℕ) (g : Sc
     builtin_typed (rules.of_strcat h) = and_so (all_typed h) (λ type_of q w xs s. (let o = q s in (o.0, types.computes (types.operator_has (types.join_has o.1)))))
     builtin_typed (rules.of_fromint {e = e} h) = and_so (one_operand e no_expressions Int (expression_typed h) no_operands) (λ type_of q w xs s. (let o = q s in (o.0, types.computes (types.operator_has (types.from_int_has o.1)))))
     builtin_typed (rules.of_toint {e = e} h) = and_so (one_operand e no_expressions Text (expression_typed h) no_operands) (λ type_of q w xs s. (let o = q s in (o.0, types.computes (types.operator_has (types.to_int_has o.1)))))
-    builtin_typed (rules.of_size {nd = nd} {w = a} {b = b} r) = passed nd.number (passed a.number (always (λ type_of w xs s. (none_have fs type_of f depth, types.computes (types.operator_has (types.size_has b (refers_has type_of r s)))))))
+    builtin_typed (rules.of_size {nd = nd} {w = a} {κ = κ} {b = b} r) = passed nd.number (passed a.number (always (λ type_of w xs s. (none_have fs type_of f depth, types.computes (types.operator_has (types.size_has κ b (refers_has type_of r s)))))))
 
     pub all_typed : {es : Expressions} {b : Base} → AllHaveType fs t g es b → NodesTyped (expressions_numbers es) (OperandsFit es b)
     all_typed rules.none_left = no_operands
@@ -225,4 +230,4 @@ module _ (fs : List Signature) (t : Table) (f : Signature) (depth : ℕ) (g : Sc
   printed_typed one rules.no_argument = always (λ type_of s. (none_have fs type_of f depth, no_other))
   printed_typed one (rules.scalar_argument {e = e} {es = es} {b = b} h r) =
       and_so (joined (expression_typed h) (printed_typed (λ τ m. one τ (later m)) r)) (λ type_of q s. other_has fs type_of f depth t e es b q.0.0 (q.0.1 s) (q.1 s))
-  printed_typed one (rules.array_argument {b = b} h r) = let e : Shape.Array ≡ Shape.Scalar = one (many_of b) first in absurd (cc (e))
+  printed_typed one (rules.array_argument {κ = κ} {b = b} h r) = let e : Shape.Array κ ≡ Shape.Scalar = one (many_of κ b) first in absurd (cc (e))

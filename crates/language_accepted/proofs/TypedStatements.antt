@@ -5,7 +5,10 @@ use Rattle.values.specs.declared.format.Piece.{Piece}
 use Rattle.values.specs.Operators as op
 use Rattle.language.specs.declared.tree.Base.{Base}
 use Rattle.language.specs.declared.tree.Base.TheVariants.{Int, Text, Boolean}
+use Rattle.language.specs.declared.tree.Keys.{Keys}
+use Rattle.language.specs.declared.tree.Keys.TheVariants.{Numbers}
 use Rattle.language.specs.declared.tree.Shape.{Shape}
+use Rattle.language.specs.Kinds.{base_of_keys}
 use Rattle.language.specs.Tree as T
 use Rattle.language.specs.Tree.{Word, Node, Declaration, Expression, expression, number, text, truth, variable, element, call, prefixed, chain, Expressions, no_expressions, and_expression, expressions_of, RightSide, value, list, Calling, Over, Statement, statement, Command, choice, choice_else, loop, waits, Body, body, Statements, no_statements, and_statement}
 use Rattle.language.specs.Core.{Owned, local, input, output, Name, here, whole, compute, Cell, Outer, Awaited, Action, declare, assign, fill, stmt, Block, stmts}
@@ -65,9 +68,9 @@ module _ (fs : List Signature) (type_of : ℕ → Typ) (f : Signature) where
   assign_has : (depth n : ℕ) (o : Formed) (b : Base) (x : Name) → type_of n ≡ one_of b → FormedHas fs type_of f depth o b → NameHas fs type_of f depth x (one_of b) → Stmt depth (assign x (outer_of n o))
   assign_has depth n o b x e h s = record { outer = one_outer depth (outer_of n o) (outer_has fs type_of f depth n o (one_of b) e h.0 h.1); action = types.of_assign {x = x} {o = outer_of n o} s e }
 
-  fill_has : (depth n : ℕ) (o : Formed) (b : Base) (x : Name) → type_of n ≡ many_of b → PartsHave fs type_of f depth o.0 → FormHas fs type_of f depth o.1 (many_of b) → NameHas fs type_of f depth x (many_of b)
+  fill_has : (depth n : ℕ) (o : Formed) (κ : Keys) (b : Base) (x : Name) → type_of n ≡ many_of κ b → PartsHave fs type_of f depth o.0 → FormHas fs type_of f depth o.1 (many_of κ b) → NameHas fs type_of f depth x (many_of κ b)
       → Stmt depth (fill x (outer_of n o))
-  fill_has depth n o b x e h g s = record { outer = one_outer depth (outer_of n o) (outer_has fs type_of f depth n o (many_of b) e h g); action = types.of_fill {x = x} {o = outer_of n o} s e }
+  fill_has depth n o κ b x e h g s = record { outer = one_outer depth (outer_of n o) (outer_has fs type_of f depth n o (many_of κ b) e h g); action = types.of_fill {x = x} {o = outer_of n o} s e }
 
   composite_has : (depth : ℕ) {t : Table} (p : ℤ) (w : Word) (called : Signature) (xs : Arguments) (os : List Name) (c : Calls fs t w called) → NamesHave fs type_of f depth os called.outputs
       → ArgumentsHave fs type_of f depth xs called.inputs → Stmt depth (composite_call p w c.place xs os)
@@ -111,12 +114,12 @@ module _ (fs : List Signature) (t : Table) (f : Signature) (depth : ℕ) (g : Sc
 
   pub right_typed : (x : Name) {r : RightSide} {τ : Typ} → RightType fs t g r τ → NodesTyped (right_numbers r) (RightHas x τ r)
   right_typed x (rules.of_scalar h) = scalar_right x h
-  right_typed x (rules.of_copy {nd = nd} {w = w} {b = b} r) = and_so (noted nd.number (many_of b) (passed w.number nothing)) (λ type_of q s k.
-      fill_has fs type_of f depth nd.number ([], compute (whole (refers t w))) b x q.0 (λ p m. elim m [ ]) (types.copies (refers_has fs t f depth g type_of r s)) k)
-  right_typed x (rules.of_list {nd = nd} {es = es} {b = b} h) = and_so (noted nd.number (many_of b) (all_typed fs t f depth g h)) (λ type_of q s k. (
+  right_typed x (rules.of_copy {nd = nd} {w = w} {κ = κ} {b = b} r) = and_so (noted nd.number (many_of κ b) (passed w.number nothing)) (λ type_of q s k.
+      fill_has fs type_of f depth nd.number ([], compute (whole (refers t w))) κ b x q.0 (λ p m. elim m [ ]) (types.copies (refers_has fs t f depth g type_of r s)) k)
+  right_typed x (rules.of_list {nd = nd} {es = es} {b = b} h) = and_so (noted nd.number (many_of Numbers b) (all_typed fs t f depth g h)) (λ type_of q s k. (
       let o = q.1 s in
-      fill_has fs type_of f depth nd.number (computes op.literal (operands_of t (expressions_of es))) b x q.0 o.0 (types.lists o.1) k))
-  right_typed x (rules.of_array_call {nd = nd} {w = w} {es = es} {f = called} {b = b} c h e) = called_right x nd w es called (many_of b) c h e
+      fill_has fs type_of f depth nd.number (computes op.literal (operands_of t (expressions_of es))) Numbers b x q.0 o.0 (types.lists o.1) k))
+  right_typed x (rules.of_array_call {nd = nd} {w = w} {es = es} {f = called} {κ = κ} {b = b} c h e) = called_right x nd w es called (many_of κ b) c h e
 
   names_have : (type_of : ℕ → Typ) {ws : List Word} {τs : List Typ} → ReferAll t g ws τs → Sees type_of → NamesHave fs type_of f depth (map (refers t) ws) τs
   names_have type_of rules.no_name s = no_name
@@ -131,7 +134,7 @@ module _ (fs : List Signature) (t : Table) (f : Signature) (depth : ℕ) (g : Sc
     where
       by : (b : Base) (sh : Shape) → NameHas fs type_of f depth (refers t w) (record { base = b; shape = sh }) → AwaitedHas fs type_of f depth (awaited_as sh (refers t w))
       by b Shape.Scalar h = types.awaits_one b h
-      by b Shape.Array h = types.awaits_many b h
+      by b (Shape.Array κ) h = types.awaits_many κ b h
 
   wanted_one : (ps : List Piece) (τ : Typ) → τ ∈ wanted ps → τ.shape ≡ Shape.Scalar
   wanted_one [] τ m = elim m [ ]
@@ -159,10 +162,10 @@ module _ (fs : List Signature) (t : Table) (f : Signature) (depth : ℕ) (g : Sc
 
   -- LOOPS
 
-  -- what a loop goes over
-  abbrev OverHas : Over → Base → (ℕ → Typ) → Type 0
-  OverHas (T.array w) β type_of = NameHas fs type_of f depth (refers t w) (many_of β)
-  OverHas (T.range low high step) β type_of = (β ≡ Int) × ((o : Outer) → o ∈ (outer t low ∷ outer t high ∷ option_to_list (option_map (outer t) step)) → OuterHas fs type_of f depth o × (type_of o.cell.node ≡ one_of Int))
+  -- what a loop goes over gives values of a type, under keys of a type
+  abbrev OverHas : Over → Base → Base → (ℕ → Typ) → Type 0
+  OverHas (T.array w) β γ type_of = (κ : Keys) × (γ ≡ base_of_keys κ) × NameHas fs type_of f depth (refers t w) (many_of κ β)
+  OverHas (T.range low high step) β γ type_of = (β ≡ Int) × (γ ≡ Int) × ((o : Outer) → o ∈ (outer t low ∷ outer t high ∷ option_to_list (option_map (outer t) step)) → OuterHas fs type_of f depth o × (type_of o.cell.node ≡ one_of Int))
 
   number_outer : (type_of : ℕ → Typ) (e : Expression) → ExpressionHas fs t f depth g e Int type_of → Sees type_of → OuterHas fs type_of f depth (outer t e) × (type_of (outer t e).cell.node ≡ one_of Int)
   number_outer type_of e h s = let r = h.1 s in (outer_has fs type_of f depth (number_of e) (form_of t e) (one_of Int) h.0 r.0 r.1, h.0)
@@ -175,10 +178,11 @@ module _ (fs : List Signature) (t : Table) (f : Signature) (depth : ℕ) (g : Sc
     | inr i ↦ elim i [ ]
   ])
 
-  source_typed : {o : Over} {β : Base} → SourceType fs t g o β → NodesTyped (over_numbers o) (λ type_of. Sees type_of → OverHas o β type_of)
-  source_typed (rules.of_elements {w = w} r) = passed w.number (always (λ type_of s. refers_has fs t f depth g type_of r s))
+  source_typed : {o : Over} {β γ : Base} → SourceType fs t g o β γ → NodesTyped (over_numbers o) (λ type_of. Sees type_of → OverHas o β γ type_of)
+  source_typed (rules.of_elements {w = w} {κ = κ} r) = passed w.number (always (λ type_of s. (κ, refl, refers_has fs t f depth g type_of r s)))
   source_typed (rules.of_range {low = low} {high = high} {step = step} h k r) =
       and_so (joined (expression_typed fs t f depth g h) (joined (expression_typed fs t f depth g k) (step_typed r))) (λ type_of q s. (
+        refl,
         refl,
         λ o m. elim (split_in m) [
           | inl e ↦ subst (λ (z : Outer). OuterHas fs type_of f depth z × (type_of z.cell.node ≡ one_of Int)) (sym e) (number_outer type_of low q.0 s)
@@ -193,25 +197,28 @@ module _ (fs : List Signature) (t : Table) (f : Signature) (depth : ℕ) (g : Sc
   in_cells [] m = elim m [ ]
   in_cells (o ∷ os) m = elim (split_in m) [ inl e ↦ (o, first, sym e) | inr i ↦ (let r = in_cells os i in (r.0, later r.1, r.2)) ]
 
-  loop_has : (type_of : ℕ → Typ) (v : Word) (k : Option Word) (o : Over) (β : Base) (b : Block) → OverHas o β type_of → type_of v.number ≡ one_of β → TurnHas fs type_of f (option_map (λ (x : Word). x.number) k)
+  loop_has : (type_of : ℕ → Typ) (v : Word) (k : Option Word) (o : Over) (β γ : Base) (b : Block) → OverHas o β γ type_of → type_of v.number ≡ one_of β → TurnHas fs type_of f γ (option_map (λ (x : Word). x.number) k)
       → BlockHas fs type_of f (suc depth) b → StmtHas fs type_of f depth (loop_action t v k o b)
-  loop_has type_of v k (T.array w) β b h e u r = record { outer = no_outers fs type_of f depth; action = types.of_each {a = refers t w} h e u r }
-  loop_has type_of v k (T.range low high step) β b h e u r = record {
-    outer = λ o m. (h.1 o m).0;
-    action = types.of_range (λ c m. (let q = in_cells (outer t low ∷ outer t high ∷ option_to_list (option_map (outer t) step)) m in subst (λ (z : Cell). type_of z.node ≡ one_of Int) q.2 (h.1 q.0 q.1).1))
-        (e ∙ ap (λ (z : Base). one_of z) h.0) u r;
+  loop_has type_of v k (T.array w) β γ b h e u r = record {
+    outer = no_outers fs type_of f depth;
+    action = types.of_each {a = refers t w} h.0 h.2 e (subst (λ (z : Base). TurnHas fs type_of f z (option_map (λ (x : Word). x.number) k)) h.1 u) r;
+  }
+  loop_has type_of v k (T.range low high step) β γ b h e u r = record {
+    outer = λ o m. (h.2 o m).0;
+    action = types.of_range (λ c m. (let q = in_cells (outer t low ∷ outer t high ∷ option_to_list (option_map (outer t) step)) m in subst (λ (z : Cell). type_of z.node ≡ one_of Int) q.2 (h.2 q.0 q.1).1))
+        (e ∙ ap (λ (z : Base). one_of z) h.0) (subst (λ (z : Base). TurnHas fs type_of f z (option_map (λ (x : Word). x.number) k)) h.1 u) r;
   }
 
 -- what a loop's body sees
 module _ (fs : List Signature) (t : Table) (f : Signature) where
-  loop_scope : (depth : ℕ) {g h : Scope} {v : Word} {β : Base} {k : Option Word} → LoopScope g v β k h → (type_of : ℕ → Typ) → type_of v.number ≡ one_of β → TurnHas fs type_of f (option_map (λ (x : Word). x.number) k)
+  loop_scope : (depth : ℕ) {g h : Scope} {v : Word} {β γ : Base} {k : Option Word} → LoopScope g v β k γ h → (type_of : ℕ → Typ) → type_of v.number ≡ one_of β → TurnHas fs type_of f γ (option_map (λ (x : Word). x.number) k)
       → ScopeHas fs type_of f depth g → ScopeHas fs type_of f (suc depth) h
   loop_scope depth {g} (rules.value_only d) type_of e u s = own_has fs type_of f (suc depth) d e (deeper_has fs type_of f depth g s)
   loop_scope depth {g} (rules.with_key {k = k} d c) type_of e u s = own_has fs type_of f (suc depth) c (u k.number refl) (own_has fs type_of f (suc depth) d e (deeper_has fs type_of f depth g s))
 
-  key_typed : (k : Option Word) → NodesTyped (maybe_numbers word_numbers k) (λ type_of. TurnHas fs type_of f (option_map (λ (x : Word). x.number) k))
-  key_typed None = always (λ type_of n e. absurd (cc (e)))
-  key_typed (Some k) = and_so (noted k.number (one_of Int) nothing) (λ type_of q n e. (let same : k.number ≡ n = cc (e) in subst (λ (m : ℕ). type_of m ≡ one_of Int) same q.0))
+  key_typed : (γ : Base) (k : Option Word) → NodesTyped (maybe_numbers word_numbers k) (λ type_of. TurnHas fs type_of f γ (option_map (λ (x : Word). x.number) k))
+  key_typed γ None = always (λ type_of n e. absurd (cc (e)))
+  key_typed γ (Some k) = and_so (noted k.number (one_of γ) nothing) (λ type_of q n e. (let same : k.number ≡ n = cc (e) in subst (λ (m : ℕ). type_of m ≡ one_of γ) same q.0))
 
   -- STATEMENTS
 
@@ -256,7 +263,7 @@ module _ (fs : List Signature) (t : Table) (f : Signature) where
             (subst (λ (z : Shape). StmtHas fs type_of f depth (right_of t (refers t w) z r)) (sym refers_to.shaped) (q s (refers_has fs t f depth g type_of refers_to s))) rest,
       ),
     ))))
-    statement_typed depth {g} (rules.element_write {nd = nd} {w = w} {i = i} {e = e} {b = β} refers_to index right) =
+    statement_typed depth {g} (rules.element_write {nd = nd} {w = w} {i = i} {e = e} {κ = κ} {b = β} refers_to index right) =
         passed nd.number (passed w.number (and_so (joined (expression_typed fs t f depth g index) (expression_typed fs t f depth g right)) (λ type_of q. (
           none_declared type_of,
           λ s. (
@@ -264,8 +271,8 @@ module _ (fs : List Signature) (t : Table) (f : Signature) where
               let o = q.1.1 s in (
                 s,
                 λ b rest. put fs type_of f nd.first.from nd.number (record {
-                  outer = two_outers fs type_of f depth (outer t i) (outer t e) (outer_has fs type_of f depth (number_of i) (form_of t i) (one_of Int) q.0.0 p.0 p.1) (outer_has fs type_of f depth (number_of e) (form_of t e) (one_of β) q.1.0 o.0 o.1);
-                  action = types.of_insert {x = refers t w} {i = outer t i} {o = outer t e} (refers_has fs t f depth g type_of refers_to s) q.0.0 q.1.0;
+                  outer = two_outers fs type_of f depth (outer t i) (outer t e) (outer_has fs type_of f depth (number_of i) (form_of t i) (one_of (base_of_keys κ)) q.0.0 p.0 p.1) (outer_has fs type_of f depth (number_of e) (form_of t e) (one_of β) q.1.0 o.0 o.1);
+                  action = types.of_insert {x = refers t w} {i = outer t i} {o = outer t e} κ (refers_has fs t f depth g type_of refers_to s) q.0.0 q.1.0;
                 }) rest,
               )),
         ))))
@@ -316,13 +323,13 @@ module _ (fs : List Signature) (t : Table) (f : Signature) where
                 }) rest,
               )),
         )))
-    statement_typed depth {g} (rules.loop_statement {h = inner} {nd = nd} {v = v} {k = k} {o = o} {b = d} {β = β} source scope typed) =
-        passed nd.number (and_so (noted v.number (one_of β) (joined (key_typed k) (joined (source_typed fs t f depth g source) (body_typed (suc depth) typed)))) (λ type_of q. (
+    statement_typed depth {g} (rules.loop_statement {h = inner} {nd = nd} {v = v} {k = k} {o = o} {b = d} {β = β} {γ = γ} source scope typed) =
+        passed nd.number (and_so (noted v.number (one_of β) (joined (key_typed γ k) (joined (source_typed fs t f depth g source) (body_typed (suc depth) typed)))) (λ type_of q. (
           q.1.1.1.0,
           λ s. (
             s,
             λ b rest. put fs type_of f nd.first.from nd.number
-                (loop_has fs t f depth g type_of v k o β (block_of t d) (q.1.1.0 s) q.0 q.1.0 (q.1.1.1.1 (loop_scope depth scope type_of q.0 q.1.0 s))) rest,
+                (loop_has fs t f depth g type_of v k o β γ (block_of t d) (q.1.1.0 s) q.0 q.1.0 (q.1.1.1.1 (loop_scope depth scope type_of q.0 q.1.0 s))) rest,
           ),
         )))
     statement_typed depth {g} (rules.wait_statement {nd = nd} {ws = ws} {τs = τs} {b = d} names typed) =

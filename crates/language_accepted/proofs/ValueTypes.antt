@@ -5,9 +5,14 @@ use Rattle.values.specs.declared.value.Scalar.{Scalar}
 use Rattle.values.specs.declared.value.Scalar.TheVariants.{Number, Text, Truth}
 use Rattle.values.specs.declared.value.Value.{Value}
 use Rattle.values.specs.declared.value.Value.TheVariants.{One}
+use Rattle.values.specs.Keys.{key_of}
 use Rattle.language.specs.declared.tree.Base.{Base}
+use Rattle.language.specs.declared.tree.Keys.{Keys}
+use Rattle.language.specs.declared.tree.Keys.TheVariants.{Numbers, Texts}
+use Rattle.language.specs.Kinds.{base_of_keys}
 use Rattle.language.specs.Core.{Name, Stmt, Form, compute, read, Cell, inner, calls, Action, declare, call_alone, assign, fill, insert, print, assert, Outer, stmt, when, choose, range, each, wait, Block, Core}
-use Rattle.language.specs.Facts.{Fact, value, Knowledge, KnownAll, no_cell, next_cell}
+use Rattle.language.specs.Facts as keys
+use Rattle.language.specs.Facts.{Fact, value, Knowledge, IsKey, KnownAll, no_cell, next_cell}
 use Rattle.language.specs.Members.{◌∈◌, first, later}
 use Rattle.language.specs.Openings.{Bounds, bounds}
 use Rattle.language.specs.Parts.{cells, outer_cells, outer_parts, script_stmts}
@@ -21,11 +26,13 @@ use Rattle.language_accepted.proofs.Typed.{StmtHas, cell_has, stmt_placed}
 is_truth : {v : Value} → OfType v (one_of Base.Boolean) → (t : Bool) × (v ≡ One (Truth t))
 is_truth (one_scalar (a_truth {b = b})) = (b, refl)
 
-is_number : {v : Value} → OfType v (one_of Base.Int) → (z : ℤ) × (v ≡ One (Number z))
-is_number (one_scalar (a_number {z = z})) = (z, refl)
-
 is_text : {v : Value} → OfType v (one_of Base.Text) → (bytes : List ℕ) × (v ≡ One (Text bytes))
 is_text (one_scalar (a_text {bytes = bytes})) = (bytes, refl)
+
+-- an index is a number or a text
+is_key : {v : Value} (κ : Keys) → OfType v (one_of (base_of_keys κ)) → (u : Scalar) × (v ≡ One u) × IsKey v (key_of u)
+is_key Numbers (one_scalar (a_number {z = z})) = (Number z, refl, keys.a_number)
+is_key Texts (one_scalar (a_text {bytes = bytes})) = (Text bytes, refl, keys.a_text)
 
 is_scalar : {v : Value} {b : Base} → OfType v (one_of b) → (u : Scalar) × (v ≡ One u)
 is_scalar (one_scalar {v = u} h) = (u, refl)
@@ -42,10 +49,10 @@ module _ (fs : List Signature) (type_of : ℕ → Typ) (f : Signature) (depth : 
   IsOne n = (b : Base) × (type_of n ≡ one_of b)
 
   read_one : {a : Name} {i : ℕ} {τ : Typ} → FormHas fs type_of f depth (read a i) τ → (b : Base) × (τ ≡ one_of b)
-  read_one (reads {b = b} h e) = (b, refl)
+  read_one (reads κ {b = b} h e) = (b, refl)
 
-  pub read_index : {a : Name} {i : ℕ} {τ : Typ} → FormHas fs type_of f depth (read a i) τ → type_of i ≡ one_of Base.Int
-  read_index (reads h e) = e
+  pub read_index : {a : Name} {i : ℕ} {τ : Typ} → FormHas fs type_of f depth (read a i) τ → (κ : Keys) × (type_of i ≡ one_of (base_of_keys κ))
+  read_index (reads κ h e) = (κ, e)
 
   same_cell : {c d : Cell} → inner c ≡ inner d → c ≡ d
   same_cell e = cc
@@ -86,8 +93,8 @@ module _ (fs : List Signature) (type_of : ℕ → Typ) (f : Signature) (depth : 
   part_one (insert x i o) {c} h m = by h.action
     where
       by : ActionHas fs type_of f depth (insert x i o) → IsOne c.node
-      by (of_insert {b = b} u e g) = outers_one (i ∷ o ∷ []) (λ z k. elim (split_in k) [
-        | inl q ↦ subst (λ (y : Outer). OuterHas fs type_of f depth y × IsOne y.cell.node) (sym q) (h.outer i first, (Base.Int, e))
+      by (of_insert κ {b = b} u e g) = outers_one (i ∷ o ∷ []) (λ z k. elim (split_in k) [
+        | inl q ↦ subst (λ (y : Outer). OuterHas fs type_of f depth y × IsOne y.cell.node) (sym q) (h.outer i first, (base_of_keys κ, e))
         | inr j ↦ one_outer o (h.outer o (later first)) (b, g) z j
       ]) m
   part_one (when o b) {c} h m = by h.action
@@ -127,8 +134,8 @@ module _ (fs : List Signature) (type_of : ℕ → Typ) (s : Core) (has : HasType
     range_bounds = λ path at n x lo hi st t b vs m k. range_has path lo hi st x t b vs (stmt_placed fs type_of s has m).typed.action k;
     cell_one = λ path at n a c v m i k. (let q = stmt_placed fs type_of s has m in let r = part_one fs type_of q.signature q.depth a q.typed i in is_scalar {b = r.0} (of_node path c.node v (one_of r.0) r.1 k));
     assign_one = λ path at n x o v m k. (let r = assign_cell (stmt_placed fs type_of s has m).typed.action in is_scalar {b = r.0} (of_node path o.cell.node v (one_of r.0) r.1 k));
-    index_number = λ path st n i a v m c k. is_number (of_node path i v (one_of Base.Int) (index st m c) k);
-    insert_number = λ path at n a i o v m k. is_number (of_node path i.cell.node v (one_of Base.Int) (insert_cell (stmt_placed fs type_of s has m).typed.action) k);
+    index_key = λ path st n i a v m c k. (let r = index st m c in is_key r.0 (of_node path i v (one_of (base_of_keys r.0)) r.1 k));
+    insert_key = λ path at n a i o v m k. (let r = insert_cell (stmt_placed fs type_of s has m).typed.action in is_key r.0 (of_node path i.cell.node v (one_of (base_of_keys r.0)) r.1 k));
     print_text = λ path at n p o v m k. is_text (of_node path o.cell.node v (one_of Base.Text) (print_cell (stmt_placed fs type_of s has m).typed.action) k);
   }
     where
@@ -141,13 +148,13 @@ module _ (fs : List Signature) (type_of : ℕ → Typ) (s : Core) (has : HasType
       assign_cell : {g : Signature} {depth : ℕ} {x : Name} {o : Outer} → ActionHas fs type_of g depth (assign x o) → (b : Base) × (type_of o.cell.node ≡ one_of b)
       assign_cell (of_assign {b = b} h e) = (b, e)
 
-      insert_cell : {g : Signature} {depth : ℕ} {x : Name} {i o : Outer} → ActionHas fs type_of g depth (insert x i o) → type_of i.cell.node ≡ one_of Base.Int
-      insert_cell (of_insert h e r) = e
+      insert_cell : {g : Signature} {depth : ℕ} {x : Name} {i o : Outer} → ActionHas fs type_of g depth (insert x i o) → (κ : Keys) × (type_of i.cell.node ≡ one_of (base_of_keys κ))
+      insert_cell (of_insert κ h e r) = (κ, e)
 
       print_cell : {g : Signature} {depth : ℕ} {p : ℤ} {o : Outer} → ActionHas fs type_of g depth (print p o) → type_of o.cell.node ≡ one_of Base.Text
       print_cell (of_print e) = e
 
-      index : (st : Stmt) {n i : ℕ} {a : Name} → st ∈ script_stmts s → record { node = n; form = read a i } ∈ cells st → type_of i ≡ one_of Base.Int
+      index : (st : Stmt) {n i : ℕ} {a : Name} → st ∈ script_stmts s → record { node = n; form = read a i } ∈ cells st → (κ : Keys) × (type_of i ≡ one_of (base_of_keys κ))
       index (stmt at m act) {n} {i} {a} j c =
           let q = stmt_placed fs type_of s has j in
           read_index fs type_of q.signature q.depth (cell_has fs type_of act {c = record { node = n; form = read a i }} q.typed c)

@@ -8,6 +8,7 @@ use Rattle.values.specs.declared.map.Element.{Element}
 use Rattle.values.specs.declared.value.Scalar.{Scalar}
 use Rattle.values.specs.declared.value.Value.{Value}
 use Rattle.values.specs.declared.value.Value.TheVariants.{One, Many}
+use Rattle.values.specs.Keys.{key_scalar}
 use Rattle.values.specs.Maps.{element as entry}
 use Rattle.values.specs.Numbers.{fits}
 use Rattle.values.specs.Operators as op
@@ -15,17 +16,20 @@ use Rattle.values.specs.Operators.{Operation, all_values, with_value, on_all, ye
 use Rattle.values.specs.Values.{is_text, scalar_of, first as first_value}
 use Rattle.language.specs.declared.tree.Base.{Base}
 use Rattle.language.specs.declared.tree.Base.TheVariants.{Int, Text, Boolean}
+use Rattle.language.specs.declared.tree.Keys.{Keys}
+use Rattle.language.specs.declared.tree.Keys.TheVariants.{Numbers, Texts}
+use Rattle.language.specs.Kinds.{base_of_keys}
 use Rattle.language.specs.Core.{Name, Expr, Exprs, Form, Cell, Call, Outer, Stmt, stmt, Action, assign, fill, insert, Block, Core}
-use Rattle.language.specs.Facts.{Fact, value, element, Knowledge, Elements, key_value}
+use Rattle.language.specs.Facts.{Fact, value, element, Knowledge, IsKey, a_number, a_text, Elements, key_value}
 use Rattle.language.specs.Meaning.{HasValue, stored, in_turn, Ready, cells_known, source_closed, ValueUnder, of_literal, of_name, of_array, of_operator, ValuesUnder, no_operand, operand, Gives, computed, found, Comes, before, now, in_block, New, cell_value, cell_fault, assigned, filled, inserted, printed, bad_range, too_deep_header, too_deep_call, written_twice, Known, Meaning}
 use Rattle.language.specs.Members.{◌∈◌, first, later}
-use Rattle.language.specs.Openings.{InTurn, range_value, range_turn, each_value, each_key}
+use Rattle.language.specs.Openings.{Opens, turn, item, InTurn, range_value, range_turn, each_value, each_key}
 use Rattle.language.specs.Parts.{block_list, script_blocks, stmt_calls, call_at}
 use Rattle.language.specs.Places.{Path, Place, place}
 use Rattle.language.specs.Scopes.{Typ, one_of, many_of, Signature}
 use Rattle.language.proofs.Members.{split_in}
 use Rattle.language_accepted.specs.Types as types
-use Rattle.language_accepted.specs.Types.{OfBase, OfType, one_scalar, many_scalars, NameHas, ExprHas, literal_has, name_has, operator_has, OperatorHas, AllHave, none_left, one_more, FormHas, computes, copies, lists, reads, ActionHas, of_assign, of_fill, of_insert, of_range, of_each, FactHas, HasTypes, TypedAt}
+use Rattle.language_accepted.specs.Types.{OfBase, OfKeys, OfType, one_scalar, many_scalars, NameHas, ExprHas, literal_has, name_has, operator_has, OperatorHas, AllHave, none_left, one_more, FormHas, computes, copies, lists, reads, ActionHas, of_assign, of_fill, of_insert, of_range, of_each, OfElement, of_array, FactHas, HasTypes, TypedAt}
 use Rattle.language_accepted.proofs.Typed.{StmtHas, stmt_has, cell_has, live_stands}
 
 -- VALUES OF A TYPE
@@ -33,8 +37,23 @@ use Rattle.language_accepted.proofs.Typed.{StmtHas, stmt_has, cell_has, live_sta
 pub one_base : {v : Scalar} {τ : Typ} → OfType (One v) τ → OfBase v τ.base
 one_base (one_scalar h) = h
 
-key_number : (k : Key) → OfType (One (key_value k)) (one_of Int)
-key_number (Key.Number z) = one_scalar types.a_number
+-- a key as a scalar and as a value
+pub key_same : (k : Key) → key_scalar k ≡ key_value k
+key_same (Key.Number z) = refl
+key_same (Key.Text bytes) = refl
+
+-- a key is a value of the type that its array's keys have
+key_has : {k : Key} {κ : Keys} → OfKeys k κ → OfType (One (key_value k)) (one_of (base_of_keys κ))
+key_has types.of_numbers = one_scalar types.a_number
+key_has types.of_texts = one_scalar types.a_text
+
+value_has_key : {v : Value} {k : Key} {κ : Keys} → OfType v (one_of (base_of_keys κ)) → IsKey v k → OfKeys k κ
+value_has_key {κ = Numbers} (one_scalar types.a_number) a_number = types.of_numbers
+value_has_key {κ = Texts} (one_scalar types.a_text) a_text = types.of_texts
+
+-- an element of an array of a type
+element_base : {k : Key} {v : Scalar} {κ : Keys} {b : Base} → OfElement k v (many_of κ b) → OfKeys k κ × OfBase v b
+element_base (of_array h g) = (h, g)
 
 -- all values are scalars of a type
 data AllOf (b : Base) : List Value → Type 0 where
@@ -73,18 +92,18 @@ numbers_first : {vs : List Value} → AllOf Int vs → is_text (first_value vs) 
 numbers_first none_of = refl
 numbers_first (more_of h r) = number_no_text h
 
-numbered_have : {b : Base} (k : ℕ) {vs : List Value} → AllOf b vs → (e : Element) → e ∈ op.numbered k vs → OfBase e.value b
+numbered_have : {b : Base} (k : ℕ) {vs : List Value} → AllOf b vs → (e : Element) → e ∈ op.numbered k vs → OfKeys e.key Numbers × OfBase e.value b
 numbered_have k none_of e m = elim m [ ]
 numbered_have {b} k (more_of {v = v} h r) e m = elim (split_in m) [
-  | inl q ↦ subst (λ (z : Element). OfBase z.value b) (sym q) (scalar_base h)
+  | inl q ↦ subst (λ (z : Element). OfKeys z.key Numbers × OfBase z.value b) (sym q) (types.of_numbers, scalar_base h)
   | inr i ↦ numbered_have (suc k) r e i
 ]
   where
     scalar_base : {x : Value} → OfType x (one_of b) → OfBase (scalar_of x) b
     scalar_base (one_scalar g) = g
 
-list_value : {b : Base} {vs : List Value} (w : Bool) {v : Value} → AllOf b vs → (if w then Ok (Many (op.numbered 0 vs)) else Err Overflow) ≡ Ok v → OfType v (many_of b)
-list_value {b} {vs} true h e = let same : Many (op.numbered 0 vs) ≡ _ = cc (e) in subst (λ (x : Value). OfType x (many_of b)) same (many_scalars (numbered_have 0 h))
+list_value : {b : Base} {vs : List Value} (w : Bool) {v : Value} → AllOf b vs → (if w then Ok (Many (op.numbered 0 vs)) else Err Overflow) ≡ Ok v → OfType v (many_of Numbers b)
+list_value {b} {vs} true h e = let same : Many (op.numbered 0 vs) ≡ _ = cc (e) in subst (λ (x : Value). OfType x (many_of Numbers b)) same (many_scalars (numbered_have 0 h))
 list_value false h e = absurd (cc (e))
 
 with_values : {b : Base} (v : Value) (r : Result (List Value) OpFault) (vs : List Value) → OfType v (one_of b) → ((ws : List Value) → r ≡ Ok ws → AllOf b ws) → with_value v r ≡ Ok vs → AllOf b vs
@@ -99,25 +118,28 @@ module _ (fs : List Signature) (type_of : ℕ → Typ) (s : Core) (has : HasType
   module _ (K : Knowledge) (facts : FactsHave K) where
     -- NAMES
 
-    known_element : (a : Place) (b : Base) (k : Key) (w : Place) (v : Scalar) → type_of a.1 ≡ many_of b → K (element a k w v) → OfBase v b
-    known_element a b k w v e h = subst (λ (z : Typ). OfBase v z.base) e (facts (element a k w v) h)
+    known_element : (a : Place) (κ : Keys) (b : Base) (k : Key) (w : Place) (v : Scalar) → type_of a.1 ≡ many_of κ b → K (element a k w v) → OfKeys k κ × OfBase v b
+    known_element a κ b k w v e h = element_base (subst (OfElement k v) e (facts (element a k w v) h))
 
-    elements_have : (a : Place) (b : Base) {es : List Element} → type_of a.1 ≡ many_of b → Elements K a es → (e : Element) → e ∈ es → OfBase e.value b
-    elements_have a b q h e m = let r = h.written e.key e.value m in known_element a b e.key r.0 e.value q r.1
+    elements_have : (a : Place) (κ : Keys) (b : Base) {es : List Element} → type_of a.1 ≡ many_of κ b → Elements K a es → (e : Element) → e ∈ es → OfKeys e.key κ × OfBase e.value b
+    elements_have a κ b q h e m = let r = h.written e.key e.value m in known_element a κ b e.key r.0 e.value q r.1
 
     -- what a loop's variable is in a turn
-    turn_has : {path : Path} {c : Block} {x : ℕ} {header : Action} {vs : List Value} {k : Key} {v : Scalar}
-        → (q : TypedAt fs type_of s path c) → InTurn header vs k x v → ActionHas fs type_of q.signature q.depth header → Ready s K path header vs → OfType (One v) (type_of x)
-    turn_has {v = v} q (range_value e w) (of_range cs h t d) r = subst (OfType (One v)) (sym h) (subst (λ (z : Scalar). OfType (One z) (one_of Int)) (sym w) (one_scalar types.a_number))
-    turn_has {v = v} q (range_turn {t = y} {k = k} w) (of_range cs h t d) r = subst (OfType (One v)) (sym (t y refl)) (subst (λ (z : Scalar). OfType (One z) (one_of Int)) (sym w) (key_number k))
-    turn_has {path} {v = v} q (each_value {k = k} m) (of_each {a = a} {β = β} g h t d) (source_closed cl el) =
-        subst (OfType (One v)) (sym h) (one_scalar (elements_have (place s path a) β (q.names a (many_of β) g) el (entry k v) m))
-    turn_has q (each_value m) (of_each g h t d) (cells_known u x) = elim x [ ]
-    turn_has {v = v} q (each_key {t = y} {k = k} w) (of_each g h t d) r = subst (OfType (One v)) (sym (t y refl)) (subst (λ (z : Scalar). OfType (One z) (one_of Int)) (sym w) (key_number k))
+    turn_has : {path : Path} {c : Block} {x : ℕ} {header : Action} {vs : List Value} {k : Key} {d : Block} {v : Scalar}
+        → (q : TypedAt fs type_of s path c) → InTurn header vs k x v → Opens header vs k d → ActionHas fs type_of q.signature q.depth header → Ready s K path header vs → OfType (One v) (type_of x)
+    turn_has {v = v} q (range_value e w) o (of_range cs h t d) r = subst (OfType (One v)) (sym h) (subst (λ (z : Scalar). OfType (One z) (one_of Int)) (sym w) (one_scalar types.a_number))
+    turn_has {v = v} q (range_turn {t = y} w) (turn f g l) (of_range cs h t d) r = subst (OfType (One v)) (sym (t y refl)) (subst (λ (z : Scalar). OfType (One z) (one_of Int)) (sym w) (one_scalar types.a_number))
+    turn_has {path} {v = v} q (each_value {k = k} m) o (of_each {a = a} κ {β = β} g h t d) (source_closed cl el) =
+        subst (OfType (One v)) (sym h) (one_scalar (elements_have (place s path a) κ β (q.names a (many_of κ β) g) el (entry k v) m).1)
+    turn_has q (each_value m) o (of_each κ g h t d) (cells_known u x) = elim x [ ]
+    turn_has {path} {v = v} q (each_key {t = y} {k = k} w) (item {v = u} m) (of_each {a = a} κ {β = β} g h t d) (source_closed cl el) =
+        let same = (elements_have (place s path a) κ β (q.names a (many_of κ β) g) el (entry k u) m).0 in
+        subst (OfType (One v)) (sym (t y refl)) (subst (λ (z : Scalar). OfType (One z) (one_of (base_of_keys κ))) (sym w) (key_has same))
+    turn_has q (each_key w) o (of_each κ g h t d) (cells_known u x) = elim x [ ]
 
     value_at : {p : Place} {v : Scalar} → HasValue s K p v → OfType (One v) (type_of p.1)
     value_at {p} (stored {v = v} h) = facts (value p (One v)) h
-    value_at (in_turn {c = c} {at = at} {n = n} l i r o t d) = let q = live_stands fs type_of s has found_by l in turn_has q t (stmt_has fs type_of c q.typed i).action r
+    value_at (in_turn {c = c} {at = at} {n = n} l i r o t d) = let q = live_stands fs type_of s has found_by l in turn_has q t o (stmt_has fs type_of c q.typed i).action r
 
     -- EXPRESSIONS
 
@@ -150,7 +172,7 @@ module _ (fs : List Signature) (type_of : ℕ → Typ) (s : Core) (has : HasType
         operator_value (types.join_has h) us (Ok ws) p e = a_text_value _ e
         operator_value (types.from_int_has h) us (Ok ws) p e = a_text_value _ e
         operator_value (types.to_int_has h) us (Ok ws) p e = whole_number _ e
-        operator_value (types.size_has b h) us (Ok ws) p e = whole_number _ e
+        operator_value (types.size_has κ b h) us (Ok ws) p e = whole_number _ e
         operator_value (types.printf_has h) us (Ok ws) p e = a_text_value _ e
         operator_value (types.assert_has h g) us (Ok ws) p e = asserted _ e
 
@@ -170,13 +192,13 @@ module _ (fs : List Signature) (type_of : ℕ → Typ) (s : Core) (has : HasType
       -- what a cell gives
       pub gives_has : {form : Form} {τ : Typ} {v : Value} → FormHas fs type_of q.signature q.depth form τ → Gives s K path form (Ok v) → OfType v τ
       gives_has (computes h) (computed u) = value_has h u
-      gives_has (copies {a = a} {b = b} h) (computed (of_array cl el)) = many_scalars (elements_have (place s path a) b (q.names a (many_of b) h) el)
+      gives_has (copies {a = a} {κ = κ} {b = b} h) (computed (of_array cl el)) = many_scalars (elements_have (place s path a) κ b (q.names a (many_of κ b) h) el)
       gives_has {v = v} (lists {es = es} {b = b} h) (computed (of_operator {rs = rs} us e)) = by (all_values rs) refl e
         where
-          by : (r : Result (List Value) OpFault) → all_values rs ≡ r → on_all op.literal r ≡ Ok v → OfType v (many_of b)
+          by : (r : Result (List Value) OpFault) → all_values rs ≡ r → on_all op.literal r ≡ Ok v → OfType v (many_of Numbers b)
           by (Ok ws) p k = list_value (fits (pos (length ws))) (operands_have h us ws p) k
           by (Err f) p k = absurd (cc (k))
-      gives_has (reads {a = a} {b = b} h i) (found {k = k} {v = v} u y w) = one_scalar (known_element (place s path a) b k w.writer v (q.names a (many_of b) h) w.write)
+      gives_has (reads {a = a} κ {b = b} h i) (found {k = k} {v = v} u y w) = one_scalar (known_element (place s path a) κ b k w.writer v (q.names a (many_of κ b) h) w.write).1
 
       comes_has : {o : Cell} {v : Value} → FormHas fs type_of q.signature q.depth o.form (type_of o.node) → Comes s K path o v → OfType v (type_of o.node)
       comes_has {o} {v} h (before k) = facts (value (path, o.node) v) k
@@ -204,26 +226,26 @@ module _ (fs : List Signature) (type_of : ℕ → Typ) (s : Core) (has : HasType
         filled_has q a c es h (comes_has q (h.outer c first).cell o) k v m
       where
         filled_has : {b : Block} (q : TypedAt fs type_of s path b) (a : Name) (c : Outer) (es : List Element) → StmtHas fs type_of q.signature q.depth (fill a c) → OfType (Many es) (type_of c.cell.node) → (k : Key) (v : Scalar) → entry k v ∈ es
-            → OfBase v (type_of (place s path a).1).base
+            → OfElement k v (type_of (place s path a).1)
         filled_has q a c es h g k v m = by h.action
           where
-            of_many : {τ : Typ} → OfType (Many es) τ → OfBase v τ.base
-            of_many (many_scalars r) = r (entry k v) m
+            of_many : {τ : Typ} → OfType (Many es) τ → OfElement k v τ
+            of_many (many_scalars r) = let o = r (entry k v) m in of_array o.0 o.1
 
-            by : ActionHas fs type_of q.signature q.depth (fill a c) → OfBase v (type_of (place s path a).1).base
-            by (of_fill {b = β} u e) = subst (λ (z : Typ). OfBase v z.base) (e ∙ sym (q.names a (many_of β) u)) (of_many g)
-    new_has (inserted {path = path} {a = a} {i = i} {c = c} {v = v} (in_block {b = b} l j) k y o) =
+            by : ActionHas fs type_of q.signature q.depth (fill a c) → OfElement k v (type_of (place s path a).1)
+            by (of_fill {κ = κ} {b = β} u e) = subst (OfElement k v) (e ∙ sym (q.names a (many_of κ β) u)) (of_many g)
+    new_has (inserted {path = path} {a = a} {i = i} {c = c} {u = x} {k = k} {v = v} (in_block {b = b} l j) n y o) =
         let q = live_stands fs type_of s has found_by l in
         let h = stmt_has fs type_of b q.typed j in
-        inserted_has q a i c v h (comes_has q (h.outer c (later first)).cell o)
+        inserted_has q a i c h (comes_has q (h.outer i first).cell n) (comes_has q (h.outer c (later first)).cell o)
       where
-        inserted_has : {b : Block} (q : TypedAt fs type_of s path b) (a : Name) (i c : Outer) (v : Scalar) → StmtHas fs type_of q.signature q.depth (insert a i c) → OfType (One v) (type_of c.cell.node)
-            → OfBase v (type_of (place s path a).1).base
-        inserted_has q a i c v h g = by h.action
+        inserted_has : {b : Block} (q : TypedAt fs type_of s path b) (a : Name) (i c : Outer) → StmtHas fs type_of q.signature q.depth (insert a i c) → OfType x (type_of i.cell.node)
+            → OfType (One v) (type_of c.cell.node) → OfElement k v (type_of (place s path a).1)
+        inserted_has q a i c h m g = by h.action
           where
-            by : ActionHas fs type_of q.signature q.depth (insert a i c) → OfBase v (type_of (place s path a).1).base
-            by (of_insert {b = β} u e f) =
-                subst (λ (z : Typ). OfBase v z.base) (sym (q.names a (many_of β) u)) (one_base (subst (OfType (One v)) f g))
+            by : ActionHas fs type_of q.signature q.depth (insert a i c) → OfElement k v (type_of (place s path a).1)
+            by (of_insert κ {b = β} u e f) =
+                subst (OfElement k v) (sym (q.names a (many_of κ β) u)) (of_array (value_has_key {κ = κ} (subst (OfType x) e m) y) (one_base (subst (OfType (One v)) f g)))
     new_has (cell_fault l m g) = tt
     new_has (printed l k) = tt
     new_has (bad_range l k e f) = tt

@@ -10,6 +10,10 @@ use Rattle.values.specs.declared.value.Value.{Value}
 use Rattle.values.specs.declared.value.Value.TheVariants.{One, Many}
 use Rattle.values.specs.Operators as op
 use Rattle.values.specs.Operators.{Operation}
+use Rattle.values.specs.declared.key.Key.{Key}
+use Rattle.language.specs.declared.tree.Keys.{Keys}
+use Rattle.language.specs.declared.tree.Keys.TheVariants.{Numbers, Texts}
+use Rattle.language.specs.Kinds.{base_of_keys}
 use Rattle.language.specs.declared.tree.Base.{Base}
 use Rattle.language.specs.declared.tree.Base.TheVariants.{Int, Text, Boolean}
 use Rattle.language.specs.Core.{Owned, local, input, output, Name, Expr, literal, name, whole, operator, Exprs, none, also, Form, compute, read, Cell, Call, Part, inner, calls, Outer, Awaited, scalar, array, stmt, Action, declare, call_alone, assign, fill, insert, print, assert, when, choose, range, each, wait, Block, no_stmts, stmts, Function, Core}
@@ -30,10 +34,15 @@ pub data OfBase : Scalar → Base → Type 0 where
   a_text : {bytes : List ℕ} → OfBase (Scalar.Text bytes) Text
   a_truth : {b : Bool} → OfBase (Scalar.Truth b) Boolean
 
+-- a key of an array under numbers or texts
+pub data OfKeys : Key → Keys → Type 0 where
+  of_numbers : {z : ℤ} → OfKeys (Key.Number z) Numbers
+  of_texts : {bytes : List ℕ} → OfKeys (Key.Text bytes) Texts
+
 -- a value of a type
 pub data OfType : Value → Typ → Type 0 where
   one_scalar : {v : Scalar} {b : Base} → OfBase v b → OfType (One v) (one_of b)
-  many_scalars : {es : List Element} {b : Base} → ((e : Element) → e ∈ es → OfBase e.value b) → OfType (Many es) (many_of b)
+  many_scalars : {es : List Element} {κ : Keys} {b : Base} → ((e : Element) → e ∈ es → OfKeys e.key κ × OfBase e.value b) → OfType (Many es) (many_of κ b)
 
 -- the script's block has neither inputs nor outputs
 abbrev pub no_signature : Signature
@@ -76,7 +85,7 @@ module _ (fs : List Signature) (type_of : ℕ → Typ) (f : Signature) where
       join_has : {es : Exprs} → AllHave depth es Text → OperatorHas depth op.join es Text
       from_int_has : {es : Exprs} → AllHave depth es Int → OperatorHas depth op.from_int es Text
       to_int_has : {es : Exprs} → AllHave depth es Text → OperatorHas depth op.to_int es Int
-      size_has : {a : Name} (b : Base) → NameHas depth a (many_of b) → OperatorHas depth op.size (also (whole a) none) Int
+      size_has : {a : Name} (κ : Keys) (b : Base) → NameHas depth a (many_of κ b) → OperatorHas depth op.size (also (whole a) none) Int
       printf_has : {ps : List Piece} {es : Exprs} → EachHas depth es → OperatorHas depth (op.printf ps) es Text
       assert_has : {c m : Expr} → ExprHas depth c Boolean → ExprHas depth m Text → OperatorHas depth op.assert (also c (also m none)) Boolean
 
@@ -93,9 +102,9 @@ module _ (fs : List Signature) (type_of : ℕ → Typ) (f : Signature) where
   -- what a cell is gives a value of a type
   pub data FormHas (depth : ℕ) : Form → Typ → Type 0 where
     computes : {e : Expr} {b : Base} → ExprHas depth e b → FormHas depth (compute e) (one_of b)
-    copies : {a : Name} {b : Base} → NameHas depth a (many_of b) → FormHas depth (compute (whole a)) (many_of b)
-    lists : {es : Exprs} {b : Base} → AllHave depth es b → FormHas depth (compute (operator op.literal es)) (many_of b)
-    reads : {a : Name} {i : ℕ} {b : Base} → NameHas depth a (many_of b) → type_of i ≡ one_of Int → FormHas depth (read a i) (one_of b)
+    copies : {a : Name} {κ : Keys} {b : Base} → NameHas depth a (many_of κ b) → FormHas depth (compute (whole a)) (many_of κ b)
+    lists : {es : Exprs} {b : Base} → AllHave depth es b → FormHas depth (compute (operator op.literal es)) (many_of Numbers b)
+    reads : {a : Name} {i : ℕ} (κ : Keys) {b : Base} → NameHas depth a (many_of κ b) → type_of i ≡ one_of (base_of_keys κ) → FormHas depth (read a i) (one_of b)
 
   -- a call hands over what the called function's inputs and outputs are
   pub record CallHas (depth : ℕ) (c : Call) : Type 0 where
@@ -121,11 +130,11 @@ module _ (fs : List Signature) (type_of : ℕ → Typ) (f : Signature) where
 
   pub data AwaitedHas (depth : ℕ) : Awaited → Type 0 where
     awaits_one : {x : Name} (b : Base) → NameHas depth x (one_of b) → AwaitedHas depth (scalar x)
-    awaits_many : {x : Name} (b : Base) → NameHas depth x (many_of b) → AwaitedHas depth (array x)
+    awaits_many : {x : Name} (κ : Keys) (b : Base) → NameHas depth x (many_of κ b) → AwaitedHas depth (array x)
 
   -- the variable for the number or the key of a turn
-  abbrev pub TurnHas : Option ℕ → Type 0
-  TurnHas turn = (t : ℕ) → turn ≡ Some t → type_of t ≡ one_of Int
+  abbrev pub TurnHas : Base → Option ℕ → Type 0
+  TurnHas β turn = (t : ℕ) → turn ≡ Some t → type_of t ≡ one_of β
 
   mutual
     pub data BlockHas : ℕ → Block → Type 0 where
@@ -137,16 +146,16 @@ module _ (fs : List Signature) (type_of : ℕ → Typ) (f : Signature) where
       of_declare : {depth v : ℕ} → ActionHas depth (declare v)
       of_call : {depth : ℕ} {p : ℤ} {ps : List Part} {c : Call} → PartsHave depth ps → CallHas depth c → ActionHas depth (call_alone p ps c)
       of_assign : {depth : ℕ} {x : Name} {o : Outer} {b : Base} → NameHas depth x (one_of b) → type_of o.cell.node ≡ one_of b → ActionHas depth (assign x o)
-      of_fill : {depth : ℕ} {x : Name} {o : Outer} {b : Base} → NameHas depth x (many_of b) → type_of o.cell.node ≡ many_of b → ActionHas depth (fill x o)
-      of_insert : {depth : ℕ} {x : Name} {i o : Outer} {b : Base} → NameHas depth x (many_of b) → type_of i.cell.node ≡ one_of Int → type_of o.cell.node ≡ one_of b → ActionHas depth (insert x i o)
+      of_fill : {depth : ℕ} {x : Name} {o : Outer} {κ : Keys} {b : Base} → NameHas depth x (many_of κ b) → type_of o.cell.node ≡ many_of κ b → ActionHas depth (fill x o)
+      of_insert : {depth : ℕ} {x : Name} {i o : Outer} (κ : Keys) {b : Base} → NameHas depth x (many_of κ b) → type_of i.cell.node ≡ one_of (base_of_keys κ) → type_of o.cell.node ≡ one_of b → ActionHas depth (insert x i o)
       of_print : {depth : ℕ} {p : ℤ} {o : Outer} → type_of o.cell.node ≡ one_of Text → ActionHas depth (print p o)
       of_assert : {depth : ℕ} {p : ℤ} {o : Outer} → type_of o.cell.node ≡ one_of Boolean → ActionHas depth (assert p o)
       of_when : {depth : ℕ} {c : Outer} {b : Block} → type_of c.cell.node ≡ one_of Boolean → BlockHas (suc depth) b → ActionHas depth (when c b)
       of_choose : {depth : ℕ} {c : Outer} {b d : Block} → type_of c.cell.node ≡ one_of Boolean → BlockHas (suc depth) b → BlockHas (suc depth) d → ActionHas depth (choose c b d)
       of_range : {depth x : ℕ} {lo hi : Outer} {st : Option Outer} {turn : Option ℕ} {b : Block}
-          → ((c : Cell) → c ∈ outer_cells (range lo hi st x turn b) → type_of c.node ≡ one_of Int) → type_of x ≡ one_of Int → TurnHas turn → BlockHas (suc depth) b
+          → ((c : Cell) → c ∈ outer_cells (range lo hi st x turn b) → type_of c.node ≡ one_of Int) → type_of x ≡ one_of Int → TurnHas Int turn → BlockHas (suc depth) b
           → ActionHas depth (range lo hi st x turn b)
-      of_each : {depth x : ℕ} {a : Name} {turn : Option ℕ} {b : Block} {β : Base} → NameHas depth a (many_of β) → type_of x ≡ one_of β → TurnHas turn → BlockHas (suc depth) b
+      of_each : {depth x : ℕ} {a : Name} {turn : Option ℕ} {b : Block} (κ : Keys) {β : Base} → NameHas depth a (many_of κ β) → type_of x ≡ one_of β → TurnHas (base_of_keys κ) turn → BlockHas (suc depth) b
           → ActionHas depth (each a x turn b)
       of_wait : {depth : ℕ} {ns : List Awaited} {b : Block} → ((x : Awaited) → x ∈ ns → AwaitedHas depth x) → BlockHas depth b → ActionHas depth (wait ns b)
 
@@ -158,10 +167,14 @@ pub record FunctionHas (fs : List Signature) (type_of : ℕ → Typ) (i : ℕ) (
   pub outputs : length signature.outputs ≡ f.outputs
   pub body : BlockHas fs type_of signature 0 f.body
 
+-- an element of an array of a type
+pub data OfElement : Key → Scalar → Typ → Type 0 where
+  of_array : {k : Key} {v : Scalar} {κ : Keys} {b : Base} → OfKeys k κ → OfBase v b → OfElement k v (many_of κ b)
+
 -- what is known of a node has its type
 abbrev pub FactHas : (ℕ → Typ) → Fact → Type 0
 FactHas type_of (value p v) = OfType v (type_of p.1)
-FactHas type_of (element a k w v) = OfBase v (type_of a.1).base
+FactHas type_of (element a k w v) = OfElement k v (type_of a.1)
 FactHas type_of (line w bytes) = Unit {0}
 FactHas type_of (fault f at p) = Unit {0}
 

@@ -52,7 +52,7 @@ pub fn accepted_types()
     ensures { (t : Table) (tree : Tree) → IsPlaced tree → WellTyped tree t → Types t tree }
 {}
 
-/// No value of a wrong type ever comes, singly assigned or not: conditions are truths, bounds and indices are numbers, `printf` gives a text,
+/// No value of a wrong type ever comes, singly assigned or not: conditions are truths, bounds are numbers, an index is a number or a text, `printf` gives a text,
 /// and a cell that is no whole right side of an array gives a scalar.
 pub fn accepted_values()
     ensures rounds { (t : Table) (tree : Tree) → IsPlaced tree → WellTyped tree t → (n : ℕ) → TypedValues (core t tree) (Known (core t tree) n) }

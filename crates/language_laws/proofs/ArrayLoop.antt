@@ -11,7 +11,7 @@ use Rattle.values.specs.declared.value.Value.TheVariants.{One, Many}
 use Rattle.values.specs.Maps.{element as entry}
 use Rattle.language.specs.Core.{local, here, Name, Call, Outer, Awaited, Stmt, stmt, Action, fill, insert, each, wait, Block, Core}
 use Rattle.language_laws.specs.HeaderExamples as example
-use Rattle.language.specs.Facts.{value, element, line, IsKey, a_number, key_value, OneWriter, Elements}
+use Rattle.language.specs.Facts.{value, element, line, IsKey, a_number, a_text, key_value, OneWriter, Elements}
 use Rattle.language.specs.Meaning.{Live, script, opened, waited, called, Closed, closed, Finished, no_target, value_known, write_known, blocks_finished, Ready, cells_known, source_closed, HasValue, stored, in_turn, of_literal, of_name, of_array, of_operator, no_operand, operand, computed, found, now, LiveStmt, in_block, cell_value, inserted, printed, Known, Meaning}
 use Rattle.language.specs.Members.{◌∈◌, first, later}
 use Rattle.language.specs.Openings.{Opens, item, each_value, each_key}
@@ -130,9 +130,13 @@ fill_in_turn n {path} {k} {at} {m} {x} {c} (in_block l i) e = elim (live_at n l)
 
 key_of : {u : Value} {k l : Key} → IsKey u k → u ≡ One (key_value l) → k ≡ l
 key_of {l = Key.Number z} a_number h = let e : _ ≡ _ = cc (h) in ap Key.Number e
+key_of {l = Key.Number z} a_text h = absurd (cc (h))
+key_of {l = Key.Text bytes} a_number h = absurd (cc (h))
+key_of {l = Key.Text bytes} a_text h = let e : _ ≡ _ = cc (h) in ap Key.Text e
 
 is_key : (k : Key) → IsKey (One (key_value k)) k
 is_key (Key.Number z) = a_number
+is_key (Key.Text bytes) = a_text
 
 turn_live : (n : ℕ) {vs : List Value} {k : Key} → Ready S (Known S n) [] header vs → Opens header vs k body → Live S (Known S n) (turn_path k) body
 turn_live n r o = opened script (later (later (later first))) r o (omega arith)

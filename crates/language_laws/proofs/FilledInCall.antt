@@ -13,7 +13,7 @@ use Rattle.values.specs.Maps.{element as entry}
 use Rattle.values.specs.Ranges.{range_count, value_in}
 use Rattle.language.specs.Core.{local, output, Name, here, Call, Outer, Awaited, Stmt, stmt, Action, fill, insert, wait, Block, Function, Core}
 use Rattle.language_laws.specs.HeaderExamples as example
-use Rattle.language.specs.Facts.{value, element, line, IsKey, a_number, OneWriter, Elements, no_cell, next_cell}
+use Rattle.language.specs.Facts.{value, element, line, IsKey, a_number, a_text, OneWriter, Elements, no_cell, next_cell}
 use Rattle.language.specs.Meaning.{Live, script, opened, waited, called, Closed, closed, Finished, no_target, write_known, body_finished, blocks_finished, Ready, cells_known, HasValue, stored, in_turn, of_literal, of_name, of_array, of_operator, no_operand, operand, computed, found, now, LiveStmt, in_block, cell_value, inserted, printed, Known, Meaning}
 use Rattle.language.specs.Members.{◌∈◌, first, later}
 use Rattle.language.specs.Openings.{Bounds, bounds, in_turns, Opens, turn, range_value}
@@ -178,6 +178,7 @@ data Writer : Key → Place → Type 0 where
 
 key_of : {u : Value} {k : Key} {i : ℕ} → IsKey u k → i < 4 → u ≡ One (Number (value_in (pos 0) (pos 1) i)) → k ≡ Key.Number (pos i)
 key_of {i = i} a_number l h = let e : _ ≡ _ = cc (h) in ap Key.Number (e ∙ the_number i l)
+key_of a_text l h = absurd (cc (h))
 
 fill_main : {at m : ℕ} {x : Name} {c : Outer} {A : Type 0} → stmt at m (fill x c) ∈ block_list S.body → A
 fill_main (later (later (later m))) = elim m [ ]

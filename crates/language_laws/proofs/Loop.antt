@@ -15,7 +15,7 @@ use Rattle.values.specs.Ranges.{range_count, value_in}
 use Rattle.language.specs.Core.{local, Name, operator, compute, read, Call, inner, Outer, Awaited, Stmt, stmt, Action, fill, insert, range, wait, Block, Core}
 use Rattle.language_laws.specs.Examples as example
 use Rattle.language_laws.specs.Examples.{plain, num, variable, two, block_of}
-use Rattle.language.specs.Facts.{Fact, value, element, line, IsKey, a_number, OneWrite, no_cell, next_cell}
+use Rattle.language.specs.Facts.{Fact, value, element, line, IsKey, a_number, a_text, OneWrite, no_cell, next_cell}
 use Rattle.language.specs.Meaning.{Live, script, opened, waited, called, Ready, cells_known, HasValue, stored, in_turn, of_literal, of_name, of_operator, no_operand, operand, computed, found, now, LiveStmt, in_block, cell_value, inserted, printed, Known}
 use Rattle.language.specs.Members.{◌∈◌, first, later}
 use Rattle.language.specs.Openings.{Bounds, bounds, in_turns, Opens, turn, range_value}
@@ -156,6 +156,7 @@ fill_there (later h) = elim h [ ]
 
 key_of : {u : Value} {k : Key} {z : ℤ} → IsKey u k → u ≡ One (Number z) → k ≡ Key.Number z
 key_of a_number h = let e : _ ≡ _ = cc (h) in ap Key.Number e
+key_of a_text h = absurd (cc (h))
 
 zero_known : Known S 1 (value ([], 5) (One (Number (pos 0))))
 zero_known = inr (cell_value (in_block script (later first)) first (computed of_literal))

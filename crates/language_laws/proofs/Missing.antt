@@ -43,7 +43,7 @@ no_fill (later (later (later h))) = elim h [ ]
 
 -- what the one insertion writes
 written : {at n : ℕ} {a : Name} {i c : Outer} {path : Path} {u : Value} {k : Key} → stmt at n (insert a i c) ∈ script_stmts M → Comes M (Known M 0) path i.cell u → IsKey u k → (k ≡ Key.Number (pos 0)) × (n ≡ 3)
-written (later first) (before h) a_number = absurd h
+written (later first) (before h) is = absurd h
 written (later first) (now (computed of_literal)) a_number = (refl, refl)
 written (later (later (later h))) x q = elim h [ ]
 

@@ -5,6 +5,7 @@ use Rattle.values.specs.Operators as op
 use Rattle.language.specs.declared.tree.Base.{Base}
 use Rattle.language.specs.declared.tree.Operator.{Operator}
 use Rattle.language.specs.declared.tree.Shape.{Shape}
+use Rattle.language.specs.Kinds.{base_of_keys}
 use Rattle.language.specs.Core as C
 use Rattle.language.specs.Core.{Owned, input, Name, here, literal, name, whole, none, also, compute, read, Part, Outer, Block, no_stmts, stmts}
 use Rattle.language.specs.Members.{◌∈◌, first, later}
@@ -107,11 +108,11 @@ built_same {b = b} {c = c} p q = builtin_same b c (sym p.same ∙ q.same)
 
 -- a variable's name or its cell
 abbrev argument_of : Shape → Name → ℕ → List Part × Name
-argument_of Shape.Array x n = ([], x)
+argument_of (Shape.Array κ) x n = ([], x)
 argument_of Shape.Scalar x n = (as_cell n ([], compute (name x)), here n)
 
 argument_is : (h : Shape) (t : Table) (w : Word) (n : ℕ) → variable_or_cell h t w n ([], compute (name (refers t w))) ≡ argument_of h (refers t w) n
-argument_is Shape.Array t w n = refl
+argument_is (Shape.Array κ) t w n = refl
 argument_is Shape.Scalar t w n = refl
 
 module _ (fs : List Signature) (named : Named fs) (g : Scope) (apart : Apart g) (t u : Table) where
@@ -218,22 +219,22 @@ module _ (fs : List Signature) (named : Named fs) (g : Scope) (apart : Apart g) 
       ∙ sym (ap (λ (c : Callee). call_right u x (expression nd (call w es)) w es c) q)
 
   variable_right : (nd : Node) {w : Word} {τ σ : Typ} (x : Name) (a : Shape) → Refers g t w τ → Refers g u w σ → right_of t x a (value (expression nd (variable w))) ≡ right_of u x a (value (expression nd (variable w)))
-  variable_right nd x Shape.Array r q = ap (λ (y : Name). C.fill x (outer_of nd.number ([], compute (whole y)))) (refers_same g apart t u r q)
+  variable_right nd x (Shape.Array κ) r q = ap (λ (y : Name). C.fill x (outer_of nd.number ([], compute (whole y)))) (refers_same g apart t u r q)
   variable_right nd x Shape.Scalar r q = ap (λ (y : Name). C.assign x (outer_of nd.number ([], compute (name y)))) (refers_same g apart t u r q)
 
   value_same : {e : Expression} {b c : Base} (x : Name) (a : Shape) → HasType fs t g e b → HasType fs u g e c → right_of t x a (value e) ≡ right_of u x a (value e)
-  value_same x Shape.Array of_number of_number = refl
+  value_same x (Shape.Array κ) of_number of_number = refl
   value_same x Shape.Scalar of_number of_number = refl
-  value_same x Shape.Array of_text of_text = refl
+  value_same x (Shape.Array κ) of_text of_text = refl
   value_same x Shape.Scalar of_text of_text = refl
-  value_same x Shape.Array of_truth of_truth = refl
+  value_same x (Shape.Array κ) of_truth of_truth = refl
   value_same x Shape.Scalar of_truth of_truth = refl
   value_same x a (of_variable {nd = nd} r) (of_variable q) = variable_right nd x a r q
-  value_same x Shape.Array (of_element {nd = nd} r h) (of_element q k) = ap (λ (o : Outer). C.assign x o) (outer_same (of_element {nd = nd} r h) (of_element q k))
+  value_same x (Shape.Array κ) (of_element {nd = nd} r h) (of_element q k) = ap (λ (o : Outer). C.assign x o) (outer_same (of_element {nd = nd} r h) (of_element q k))
   value_same x Shape.Scalar (of_element {nd = nd} r h) (of_element q k) = ap (λ (o : Outer). C.assign x o) (outer_same (of_element {nd = nd} r h) (of_element q k))
-  value_same x Shape.Array (of_prefixed {nd = nd} y h) (of_prefixed z k) = ap (λ (o : Outer). C.assign x o) (outer_same (of_prefixed {nd = nd} y h) (of_prefixed z k))
+  value_same x (Shape.Array κ) (of_prefixed {nd = nd} y h) (of_prefixed z k) = ap (λ (o : Outer). C.assign x o) (outer_same (of_prefixed {nd = nd} y h) (of_prefixed z k))
   value_same x Shape.Scalar (of_prefixed {nd = nd} y h) (of_prefixed z k) = ap (λ (o : Outer). C.assign x o) (outer_same (of_prefixed {nd = nd} y h) (of_prefixed z k))
-  value_same x Shape.Array (of_chain {nd = nd} h rs) (of_chain k qs) = ap (λ (o : Outer). C.assign x o) (outer_same (of_chain {nd = nd} h rs) (of_chain k qs))
+  value_same x (Shape.Array κ) (of_chain {nd = nd} h rs) (of_chain k qs) = ap (λ (o : Outer). C.assign x o) (outer_same (of_chain {nd = nd} h rs) (of_chain k qs))
   value_same x Shape.Scalar (of_chain {nd = nd} h rs) (of_chain k qs) = ap (λ (o : Outer). C.assign x o) (outer_same (of_chain {nd = nd} h rs) (of_chain k qs))
   value_same x a (of_call {nd = nd} {w = w} {es = es} c as' o) (of_call d bs p) = called_right w es nd x c.named d.named (place_same fs named t u c d) (arguments_same as' bs)
   value_same x a (of_call c as' o) (of_builtin d b) = no_builtin fs named t u c d
@@ -307,22 +308,26 @@ module _ (fs : List Signature) (named : Named fs) (g : Scope) (apart : Apart g) 
 
   -- LOOPS
 
+  abbrev index_type : Shape → Base
+  index_type Shape.Scalar = Base.Int
+  index_type (Shape.Array κ) = base_of_keys κ
+
   step_same : {o : Option Expression} → StepType fs t g o → StepType fs u g o → option_map (outer t) o ≡ option_map (outer u) o
   step_same no_step no_step = refl
   step_same (a_step h) (a_step k) = ap (λ (x : Outer). Some x) (outer_same h k)
 
-  loop_same : {o : Over} {b c : Base} (v : Word) (k : Option Word) {x y : Block} → SourceType fs t g o b → SourceType fs u g o c → x ≡ y → (b ≡ c) × (loop_action t v k o x ≡ loop_action u v k o y)
+  loop_same : {o : Over} {b c i j : Base} (v : Word) (k : Option Word) {x y : Block} → SourceType fs t g o b i → SourceType fs u g o c j → x ≡ y → (b ≡ c) × (i ≡ j) × (loop_action t v k o x ≡ loop_action u v k o y)
   loop_same v k (of_elements r) (of_elements q) e =
-      (ap (λ (z : Typ). z.base) (type_same g apart t u r q), λ l. C.each (refers_same g apart t u r q l) v.number (option_map (λ (x : Word). x.number) k) (e l))
+      (ap (λ (z : Typ). z.base) (type_same g apart t u r q), ap (λ (z : Typ). index_type z.shape) (type_same g apart t u r q), λ l. C.each (refers_same g apart t u r q l) v.number (option_map (λ (x : Word). x.number) k) (e l))
   loop_same v k (of_range h i s) (of_range h' i' s') e =
-      (refl, λ l. C.range (outer_same h h' l) (outer_same i i' l) (step_same s s' l) v.number (option_map (λ (x : Word). x.number) k) (e l))
+      (refl, refl, λ l. C.range (outer_same h h' l) (outer_same i i' l) (step_same s s' l) v.number (option_map (λ (x : Word). x.number) k) (e l))
 
 -- STATEMENTS
 
 declares_same : {g h i : Scope} {w : Word} {τ : Typ} → Apart g → Declares g w τ h → Declares g w τ i → (h ≡ i) × Apart h
 declares_same {g} a (fresh {w = w} {τ = τ} n) (fresh m) = (refl, more_apart (own w τ) g a n)
 
-scope_same : {g h i : Scope} {v : Word} {b : Base} {k : Option Word} → Apart g → LoopScope g v b k h → LoopScope g v b k i → (h ≡ i) × Apart h
+scope_same : {g h i : Scope} {v : Word} {b c : Base} {k : Option Word} → Apart g → LoopScope g v b k c h → LoopScope g v b k c i → (h ≡ i) × Apart h
 scope_same {g} a (value_only d) (value_only e) = declares_same (deeper_apart g a) d e
 scope_same {g} a (with_key (fresh {w = w} {τ = τ} n) d) (with_key (fresh m) e) = declares_same (more_apart (own w τ) (deeper g) (deeper_apart g a) n) d e
 
@@ -358,11 +363,12 @@ module _ (fs : List Signature) (named : Named fs) (t u : Table) where
         (refl, a, λ b d e l. stmts (stmt_of nd (C.when (outer_same fs named g a t u h k l) (body_same (deeper_apart g a) x y l))) (e l))
     statement_same {g} a (if_else_statement {nd = nd} h x z) (if_else_statement k y v) =
         (refl, a, λ b d e l. stmts (stmt_of nd (C.choose (outer_same fs named g a t u h k l) (body_same (deeper_apart g a) x y l) (body_same (deeper_apart g a) z v l))) (e l))
-    statement_same {g} a (loop_statement {nd = nd} {v = v} {k = k} {o = o} {b = b} s x z) (loop_statement {h = h'} {β = β'} s' x' z') =
-        let bases = (loop_same fs named g a t u {o = o} v k {x = no_stmts} {y = no_stmts} s s' refl).0 in
-        let scopes = scope_same a x (subst (λ (β : Base). LoopScope g v β k h') (sym bases) x') in
+    statement_same {g} a (loop_statement {nd = nd} {v = v} {k = k} {o = o} {b = b} {β = β} s x z) (loop_statement {h = h'} {γ = γ'} s' x' z') =
+        let bases = loop_same fs named g a t u {o = o} v k {x = no_stmts} {y = no_stmts} s s' refl in
+        let with_values = subst (λ (z : Base). LoopScope g v z k γ' h') (sym bases.0) x' in
+        let scopes = scope_same a x (subst (λ (z : Base). LoopScope g v β k z h') (sym bases.1) with_values) in
         let bodies = body_same scopes.1 z (subst (λ (i : Scope). BodyTyped fs u i b) (sym scopes.0) z') in
-        (refl, a, λ c d e l. stmts (stmt_of nd ((loop_same fs named g a t u {o = o} v k s s' bodies).1 l)) (e l))
+        (refl, a, λ c d e l. stmts (stmt_of nd ((loop_same fs named g a t u {o = o} v k s s' bodies).2 l)) (e l))
     statement_same {g} a (wait_statement {nd = nd} rs x) (wait_statement qs y) =
         (refl, a, λ b d e l. stmts (stmt_of nd (C.wait (awaited_same fs named g a t u rs qs l) (body_same a x y l))) (e l))
 

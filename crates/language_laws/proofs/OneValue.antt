@@ -12,7 +12,7 @@ use Rattle.values.specs.Maps.{rising}
 use Rattle.values.specs.Operators.{evaluated}
 use Rattle.values.specs.Ranges.{value_in}
 use Rattle.language.specs.Core.{Name, Expr, Exprs, Form, Stmt, stmt, Action, each, Block, Core}
-use Rattle.language.specs.Facts.{Fault, operation, value, element, Knowledge, IsKey, a_number, Elements}
+use Rattle.language.specs.Facts.{Fault, operation, value, element, Knowledge, IsKey, a_number, a_text, Elements}
 use Rattle.language.specs.Meaning.{Ready, cells_known, source_closed, in_block, HasValue, stored, in_turn, ValueUnder, of_literal, of_name, of_array, of_operator, ValuesUnder, no_operand, operand, Gives, computed, faulty, found, missing}
 use Rattle.language_laws.proofs.Declared.{stmt_in}
 use Rattle.language.specs.Members.{◌∈◌}
@@ -162,6 +162,9 @@ ok_err h = absurd (cc (h))
 
 pub key_same : {v u : Value} {k l : Key} → IsKey v k → IsKey u l → v ≡ u → k ≡ l
 key_same a_number a_number h = let e : _ ≡ _ = cc (h) in ap Key.Number e
+key_same a_number a_text h = absurd (cc (h))
+key_same a_text a_number h = absurd (cc (h))
+key_same a_text a_text h = let e : _ ≡ _ = cc (h) in ap Key.Text e
 
 -- a cell has one value or fault, also as knowledge grows
 module _ (s : Core) (w : NamesFound s) (apart : LoopsApart s) (K K' : Knowledge) (g : OneEach s K') (l : Later s K K') (l' : Later s K' K') where

@@ -27,20 +27,20 @@ right_no_block t x sh (value (expression nd (call w es))) = by (t.callee_of w.nu
     by : (c : Callee) → blocks_inside (call_right t x (expression nd (call w es)) w es c) ≡ []
     by (composite i) = refl
     by (built_in b) = refl
-right_no_block t x Shape.Array (value (expression nd (variable w))) = refl
+right_no_block t x (Shape.Array κ) (value (expression nd (variable w))) = refl
 right_no_block t x Shape.Scalar (value (expression nd (variable w))) = refl
 right_no_block t x sh (list nd es) = refl
-right_no_block t x Shape.Array (value (expression nd (number z))) = refl
+right_no_block t x (Shape.Array κ) (value (expression nd (number z))) = refl
 right_no_block t x Shape.Scalar (value (expression nd (number z))) = refl
-right_no_block t x Shape.Array (value (expression nd (text bytes))) = refl
+right_no_block t x (Shape.Array κ) (value (expression nd (text bytes))) = refl
 right_no_block t x Shape.Scalar (value (expression nd (text bytes))) = refl
-right_no_block t x Shape.Array (value (expression nd (truth b))) = refl
+right_no_block t x (Shape.Array κ) (value (expression nd (truth b))) = refl
 right_no_block t x Shape.Scalar (value (expression nd (truth b))) = refl
-right_no_block t x Shape.Array (value (expression nd (element w i))) = refl
+right_no_block t x (Shape.Array κ) (value (expression nd (element w i))) = refl
 right_no_block t x Shape.Scalar (value (expression nd (element w i))) = refl
-right_no_block t x Shape.Array (value (expression nd (prefixed p e))) = refl
+right_no_block t x (Shape.Array κ) (value (expression nd (prefixed p e))) = refl
 right_no_block t x Shape.Scalar (value (expression nd (prefixed p e))) = refl
-right_no_block t x Shape.Array (value (expression nd (chain os es))) = refl
+right_no_block t x (Shape.Array κ) (value (expression nd (chain os es))) = refl
 right_no_block t x Shape.Scalar (value (expression nd (chain os es))) = refl
 
 pub several_no_block : (t : Table) (m : ℕ) (w : Word) (es : Expressions) (xs : List Name) (c : Callee) → blocks_inside (several t m w es xs c) ≡ []

@@ -23,20 +23,20 @@ fill_right at m t x sh (value (expression nd (call w es))) = by (t.callee_of w.n
     by : (c : Callee) → fill_fine (stmt at m (call_right t x (expression nd (call w es)) w es c)) ≡ true
     by (composite i) = refl
     by (built_in b) = refl
-fill_right at m t x Shape.Array (value (expression nd (variable w))) = refl
+fill_right at m t x (Shape.Array κ) (value (expression nd (variable w))) = refl
 fill_right at m t x Shape.Scalar (value (expression nd (variable w))) = refl
 fill_right at m t x sh (list nd es) = refl
-fill_right at m t x Shape.Array (value (expression nd (number z))) = refl
+fill_right at m t x (Shape.Array κ) (value (expression nd (number z))) = refl
 fill_right at m t x Shape.Scalar (value (expression nd (number z))) = refl
-fill_right at m t x Shape.Array (value (expression nd (text bytes))) = refl
+fill_right at m t x (Shape.Array κ) (value (expression nd (text bytes))) = refl
 fill_right at m t x Shape.Scalar (value (expression nd (text bytes))) = refl
-fill_right at m t x Shape.Array (value (expression nd (truth b))) = refl
+fill_right at m t x (Shape.Array κ) (value (expression nd (truth b))) = refl
 fill_right at m t x Shape.Scalar (value (expression nd (truth b))) = refl
-fill_right at m t x Shape.Array (value (expression nd (element w i))) = refl
+fill_right at m t x (Shape.Array κ) (value (expression nd (element w i))) = refl
 fill_right at m t x Shape.Scalar (value (expression nd (element w i))) = refl
-fill_right at m t x Shape.Array (value (expression nd (prefixed p e))) = refl
+fill_right at m t x (Shape.Array κ) (value (expression nd (prefixed p e))) = refl
 fill_right at m t x Shape.Scalar (value (expression nd (prefixed p e))) = refl
-fill_right at m t x Shape.Array (value (expression nd (chain os es))) = refl
+fill_right at m t x (Shape.Array κ) (value (expression nd (chain os es))) = refl
 fill_right at m t x Shape.Scalar (value (expression nd (chain os es))) = refl
 
 fill_several : (at m k : ℕ) (t : Table) (w : Word) (es : Expressions) (xs : List Name) (c : Callee) → fill_fine (stmt at m (several t k w es xs c)) ≡ true
@@ -94,7 +94,7 @@ fine_operand m (ps, compute e) h = h
 fine_operand m (ps, read a i) h = fine_cell m (ps, read a i) h
 
 fine_shape : (m : ℕ) (sh : Shape) (t : Table) (w : Word) (f : Formed) → Fine f.0 → Fine (variable_or_cell sh t w m f).0
-fine_shape m Shape.Array t w f h = refl
+fine_shape m (Shape.Array κ) t w f h = refl
 fine_shape m Shape.Scalar t w f h = fine_cell m f h
 
 fine_argument : (t : Table) (e : Expression) (f : Formed) → Fine f.0 → Fine (as_argument t e f).0
@@ -153,20 +153,20 @@ hidden_right at m t x sh (value (expression nd (call w es))) = by (t.callee_of w
     by : (c : Callee) → hidden_fine (stmt at m (call_right t x (expression nd (call w es)) w es c)) ≡ true
     by (composite i) = fine_arguments t es
     by (built_in b) = fine_assign at m t x (expression nd (call w es))
-hidden_right at m t x Shape.Array (value (expression nd (variable w))) = refl
+hidden_right at m t x (Shape.Array κ) (value (expression nd (variable w))) = refl
 hidden_right at m t x Shape.Scalar (value (expression nd (variable w))) = fine_assign at m t x (expression nd (variable w))
 hidden_right at m t x sh (list nd es) = fine_one (outer_of nd.number (computes op.literal (operands_of t (expressions_of es)))) (fine_operands t (expressions_of es))
-hidden_right at m t x Shape.Array (value (expression nd (number z))) = fine_assign at m t x (expression nd (number z))
+hidden_right at m t x (Shape.Array κ) (value (expression nd (number z))) = fine_assign at m t x (expression nd (number z))
 hidden_right at m t x Shape.Scalar (value (expression nd (number z))) = fine_assign at m t x (expression nd (number z))
-hidden_right at m t x Shape.Array (value (expression nd (text bytes))) = fine_assign at m t x (expression nd (text bytes))
+hidden_right at m t x (Shape.Array κ) (value (expression nd (text bytes))) = fine_assign at m t x (expression nd (text bytes))
 hidden_right at m t x Shape.Scalar (value (expression nd (text bytes))) = fine_assign at m t x (expression nd (text bytes))
-hidden_right at m t x Shape.Array (value (expression nd (truth b))) = fine_assign at m t x (expression nd (truth b))
+hidden_right at m t x (Shape.Array κ) (value (expression nd (truth b))) = fine_assign at m t x (expression nd (truth b))
 hidden_right at m t x Shape.Scalar (value (expression nd (truth b))) = fine_assign at m t x (expression nd (truth b))
-hidden_right at m t x Shape.Array (value (expression nd (element w i))) = fine_assign at m t x (expression nd (element w i))
+hidden_right at m t x (Shape.Array κ) (value (expression nd (element w i))) = fine_assign at m t x (expression nd (element w i))
 hidden_right at m t x Shape.Scalar (value (expression nd (element w i))) = fine_assign at m t x (expression nd (element w i))
-hidden_right at m t x Shape.Array (value (expression nd (prefixed p e))) = fine_assign at m t x (expression nd (prefixed p e))
+hidden_right at m t x (Shape.Array κ) (value (expression nd (prefixed p e))) = fine_assign at m t x (expression nd (prefixed p e))
 hidden_right at m t x Shape.Scalar (value (expression nd (prefixed p e))) = fine_assign at m t x (expression nd (prefixed p e))
-hidden_right at m t x Shape.Array (value (expression nd (chain os es))) = fine_assign at m t x (expression nd (chain os es))
+hidden_right at m t x (Shape.Array κ) (value (expression nd (chain os es))) = fine_assign at m t x (expression nd (chain os es))
 hidden_right at m t x Shape.Scalar (value (expression nd (chain os es))) = fine_assign at m t x (expression nd (chain os es))
 
 hidden_several : (at m k : ℕ) (t : Table) (w : Word) (es : Expressions) (xs : List Name) (c : Callee) → hidden_fine (stmt at m (several t k w es xs c)) ≡ true

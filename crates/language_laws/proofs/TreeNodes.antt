@@ -128,20 +128,20 @@ assign_times n t x e = let h = outer_times n t e in let q = one_outer n (outer t
 
 right_times : (n : ℕ) (t : Table) (x : Name) (sh : Shape) (r : RightSide) → whole_times n (right_of t x sh r) ≤ times n (right_numbers r)
 right_times n t x sh (value (expression nd (call w es))) = call_right_times n t x nd w es (t.callee_of w.number)
-right_times n t x Shape.Array (value (expression nd (variable w))) = omega arith
+right_times n t x (Shape.Array κ) (value (expression nd (variable w))) = omega arith
 right_times n t x Shape.Scalar (value (expression nd (variable w))) = assign_times n t x (expression nd (variable w))
 right_times n t x sh (list nd es) = let h = operands_part n t (expressions_of es) in let q = one_outer n (outer_of nd.number (computes op.literal (operands_of t (expressions_of es)))) in omega arith
-right_times n t x Shape.Array (value (expression nd (number z))) = assign_times n t x (expression nd (number z))
+right_times n t x (Shape.Array κ) (value (expression nd (number z))) = assign_times n t x (expression nd (number z))
 right_times n t x Shape.Scalar (value (expression nd (number z))) = assign_times n t x (expression nd (number z))
-right_times n t x Shape.Array (value (expression nd (text bytes))) = assign_times n t x (expression nd (text bytes))
+right_times n t x (Shape.Array κ) (value (expression nd (text bytes))) = assign_times n t x (expression nd (text bytes))
 right_times n t x Shape.Scalar (value (expression nd (text bytes))) = assign_times n t x (expression nd (text bytes))
-right_times n t x Shape.Array (value (expression nd (truth b))) = assign_times n t x (expression nd (truth b))
+right_times n t x (Shape.Array κ) (value (expression nd (truth b))) = assign_times n t x (expression nd (truth b))
 right_times n t x Shape.Scalar (value (expression nd (truth b))) = assign_times n t x (expression nd (truth b))
-right_times n t x Shape.Array (value (expression nd (element w i))) = assign_times n t x (expression nd (element w i))
+right_times n t x (Shape.Array κ) (value (expression nd (element w i))) = assign_times n t x (expression nd (element w i))
 right_times n t x Shape.Scalar (value (expression nd (element w i))) = assign_times n t x (expression nd (element w i))
-right_times n t x Shape.Array (value (expression nd (prefixed p e))) = assign_times n t x (expression nd (prefixed p e))
+right_times n t x (Shape.Array κ) (value (expression nd (prefixed p e))) = assign_times n t x (expression nd (prefixed p e))
 right_times n t x Shape.Scalar (value (expression nd (prefixed p e))) = assign_times n t x (expression nd (prefixed p e))
-right_times n t x Shape.Array (value (expression nd (chain os es))) = assign_times n t x (expression nd (chain os es))
+right_times n t x (Shape.Array κ) (value (expression nd (chain os es))) = assign_times n t x (expression nd (chain os es))
 right_times n t x Shape.Scalar (value (expression nd (chain os es))) = assign_times n t x (expression nd (chain os es))
 
 after_times : (n : ℕ) (t : Table) (es : Expressions) → part_times n (operands_of t (after_first es)).0 ≤ times n (expressions_numbers es)

@@ -101,7 +101,7 @@ operand_at n m (ps, compute e) = refl
 operand_at n m (ps, read a i) = cell_at n m (ps, read a i)
 
 shape_at : (n m : ℕ) (sh : Shape) (t : Table) (w : Word) (f : Formed) → at_times n (variable_or_cell sh t w m f).0 ≤ at_times n f.0
-shape_at n m Shape.Array t w f = omega arith
+shape_at n m (Shape.Array κ) t w f = omega arith
 shape_at n m Shape.Scalar t w f = let e = cell_at n m f in omega arith
 
 argument_at : (n : ℕ) (t : Table) (e : Expression) (f : Formed) → at_times n (as_argument t e f).0 ≤ at_times n f.0
@@ -192,20 +192,20 @@ right_at n t x sh (value (expression nd (call w es))) = by (t.callee_of w.number
     by : (c : Callee) → own_at n (call_right t x (expression nd (call w es)) w es c) ≤ hit n w.span.from + times n (expressions_offsets es)
     by (composite i) = let e = composite_at n (pos 0) w i (arguments_of t es) (x ∷ []) in let q = arguments_at n t es in omega arith
     by (built_in b) = assign_at n t x (expression nd (call w es))
-right_at n t x Shape.Array (value (expression nd (variable w))) = omega arith
+right_at n t x (Shape.Array κ) (value (expression nd (variable w))) = omega arith
 right_at n t x Shape.Scalar (value (expression nd (variable w))) = assign_at n t x (expression nd (variable w))
 right_at n t x sh (list nd es) = let h = operands_at n t (expressions_of es) in let q = one_at n (outer_of nd.number (computes op.literal (operands_of t (expressions_of es)))) in omega arith
-right_at n t x Shape.Array (value (expression nd (number z))) = assign_at n t x (expression nd (number z))
+right_at n t x (Shape.Array κ) (value (expression nd (number z))) = assign_at n t x (expression nd (number z))
 right_at n t x Shape.Scalar (value (expression nd (number z))) = assign_at n t x (expression nd (number z))
-right_at n t x Shape.Array (value (expression nd (text bytes))) = assign_at n t x (expression nd (text bytes))
+right_at n t x (Shape.Array κ) (value (expression nd (text bytes))) = assign_at n t x (expression nd (text bytes))
 right_at n t x Shape.Scalar (value (expression nd (text bytes))) = assign_at n t x (expression nd (text bytes))
-right_at n t x Shape.Array (value (expression nd (truth b))) = assign_at n t x (expression nd (truth b))
+right_at n t x (Shape.Array κ) (value (expression nd (truth b))) = assign_at n t x (expression nd (truth b))
 right_at n t x Shape.Scalar (value (expression nd (truth b))) = assign_at n t x (expression nd (truth b))
-right_at n t x Shape.Array (value (expression nd (element w i))) = assign_at n t x (expression nd (element w i))
+right_at n t x (Shape.Array κ) (value (expression nd (element w i))) = assign_at n t x (expression nd (element w i))
 right_at n t x Shape.Scalar (value (expression nd (element w i))) = assign_at n t x (expression nd (element w i))
-right_at n t x Shape.Array (value (expression nd (prefixed p e))) = assign_at n t x (expression nd (prefixed p e))
+right_at n t x (Shape.Array κ) (value (expression nd (prefixed p e))) = assign_at n t x (expression nd (prefixed p e))
 right_at n t x Shape.Scalar (value (expression nd (prefixed p e))) = assign_at n t x (expression nd (prefixed p e))
-right_at n t x Shape.Array (value (expression nd (chain os es))) = assign_at n t x (expression nd (chain os es))
+right_at n t x (Shape.Array κ) (value (expression nd (chain os es))) = assign_at n t x (expression nd (chain os es))
 right_at n t x Shape.Scalar (value (expression nd (chain os es))) = assign_at n t x (expression nd (chain os es))
 
 several_at : (n m : ℕ) (t : Table) (w : Word) (es : Expressions) (xs : List Name) (c : Callee) → own_at n (several t m w es xs c) ≤ hit n w.span.from + times n (expressions_offsets es)

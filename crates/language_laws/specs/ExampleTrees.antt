@@ -1,6 +1,7 @@
 -- The trees of the scripts of Examples, with the tables of their names.
 use Rattle.std.specs.Prelude.{ℕ, ◌+◌, pos, false, nat_eq, List, [], ◌∷◌, length, Some, None, codes, if◌then◌else◌}
 use Rattle.language.specs.declared.tree.Base.TheVariants as Base
+use Rattle.language.specs.declared.tree.Keys.TheVariants as Keys
 use Rattle.language.specs.declared.tree.Operator.TheVariants as Operator
 use Rattle.language.specs.declared.tree.Shape.{Shape}
 use Rattle.language.specs.Core.{Name, local, input, output, here}
@@ -21,7 +22,7 @@ looked_up default (p ∷ ps) n = if nat_eq p.0 n then p.1 else looked_up default
 
 abbrev pub array_at : List ℕ → ℕ → Shape
 array_at [] n = Shape.Scalar
-array_at (m ∷ ms) n = if nat_eq m n then Shape.Array else array_at ms n
+array_at (m ∷ ms) n = if nat_eq m n then Shape.Array Keys.Numbers else array_at ms n
 
 -- a table by what it has at each number: what names refer to, which of them are arrays, what is called
 abbrev pub table_of : List (ℕ × Name) → List ℕ → List (ℕ × Callee) → Table
@@ -43,7 +44,7 @@ table_of_read_before_assignment = table_of ((6, record { up = 0; what = local 2 
 -- int A[]; A[0] = 1; foreach i in [1:2] { A[i] = A[i-1] * 2; } printf("%i", A[2]);
 abbrev pub tree_of_loop_reads_what_it_writes : Tree
 tree_of_loop_reads_what_it_writes =
-    single (statement (at 1 0 3 8) (declare (record { base = Base.Int; name = (word 2 4 (codes "A")); shape = Shape.Array }) None))
+    single (statement (at 1 0 3 8) (declare (record { base = Base.Int; name = (word 2 4 (codes "A")); shape = Shape.Array Keys.Numbers }) None))
     ∷ single (statement (at 3 9 10 18) (write (word 4 9 (codes "A")) (expression (at 5 11 12 12) (number (pos 0))) (expression (at 6 16 17 17) (number (pos 1)))))
     ∷ single (statement (at 7 19 26 60) (loop (word 8 27 (codes "i")) None (range (expression (at 9 33 34 34) (number (pos 1))) (expression (at 10 35 36 36) (number (pos 2))) None) (body 38 (statements_of ((statement (at 11 40 41 58) (write (word 12 40 (codes "A")) (expression (at 13 42 43 43) (variable (word 14 42 (codes "i")))) (expression (at 15 47 48 57) (chain (Operator.Times ∷ []) (expressions_of ((expression (at 16 47 48 53) (element (word 17 47 (codes "A")) (expression (at 18 49 50 52) (chain (Operator.Minus ∷ []) (expressions_of ((expression (at 19 49 50 50) (variable (word 20 49 (codes "i")))) ∷ (expression (at 21 51 52 52) (number (pos 1))) ∷ [])))))) ∷ (expression (at 22 56 57 57) (number (pos 2))) ∷ [])))))) ∷ [])))))
     ∷ single (statement (at 23 61 67 80) (calls (pos 0) (record { node = (at 24 61 67 79); name = (word 25 61 (codes "printf")); arguments = ((expression (at 26 68 72 72) (text (codes "%i"))) ∷ (expression (at 27 74 75 78) (element (word 28 74 (codes "A")) (expression (at 29 76 77 77) (number (pos 2))))) ∷ []) })))
@@ -55,7 +56,7 @@ table_of_loop_reads_what_it_writes = table_of ((4, record { up = 0; what = local
 -- int A[]; A[0] = 1; A[0] = 2;
 abbrev pub tree_of_key_written_twice : Tree
 tree_of_key_written_twice =
-    single (statement (at 1 0 3 8) (declare (record { base = Base.Int; name = (word 2 4 (codes "A")); shape = Shape.Array }) None))
+    single (statement (at 1 0 3 8) (declare (record { base = Base.Int; name = (word 2 4 (codes "A")); shape = Shape.Array Keys.Numbers }) None))
     ∷ single (statement (at 3 9 10 18) (write (word 4 9 (codes "A")) (expression (at 5 11 12 12) (number (pos 0))) (expression (at 6 16 17 17) (number (pos 1)))))
     ∷ single (statement (at 7 19 20 28) (write (word 8 19 (codes "A")) (expression (at 9 21 22 22) (number (pos 0))) (expression (at 10 26 27 27) (number (pos 2)))))
     ∷ []
@@ -66,7 +67,7 @@ table_of_key_written_twice = table_of ((4, record { up = 0; what = local 2 }) �
 -- int A[]; A[0] = 1; printf("%i", A[3]);
 abbrev pub tree_of_missing_element : Tree
 tree_of_missing_element =
-    single (statement (at 1 0 3 8) (declare (record { base = Base.Int; name = (word 2 4 (codes "A")); shape = Shape.Array }) None))
+    single (statement (at 1 0 3 8) (declare (record { base = Base.Int; name = (word 2 4 (codes "A")); shape = Shape.Array Keys.Numbers }) None))
     ∷ single (statement (at 3 9 10 18) (write (word 4 9 (codes "A")) (expression (at 5 11 12 12) (number (pos 0))) (expression (at 6 16 17 17) (number (pos 1)))))
     ∷ single (statement (at 7 19 25 38) (calls (pos 0) (record { node = (at 8 19 25 37); name = (word 9 19 (codes "printf")); arguments = ((expression (at 10 26 30 30) (text (codes "%i"))) ∷ (expression (at 11 32 33 36) (element (word 12 32 (codes "A")) (expression (at 13 34 35 35) (number (pos 3))))) ∷ []) })))
     ∷ []
@@ -103,7 +104,7 @@ table_of_fault_beside_unknown = table_of ((6, record { up = 0; what = local 2 })
 -- int A[]; int y; int z; y = z; z = y; A[0] = 1; printf("%i", A[1 %/ 0] + y);
 abbrev pub tree_of_fault_in_index : Tree
 tree_of_fault_in_index =
-    single (statement (at 1 0 3 8) (declare (record { base = Base.Int; name = (word 2 4 (codes "A")); shape = Shape.Array }) None))
+    single (statement (at 1 0 3 8) (declare (record { base = Base.Int; name = (word 2 4 (codes "A")); shape = Shape.Array Keys.Numbers }) None))
     ∷ single (statement (at 3 9 12 15) (declare (record { base = Base.Int; name = (word 4 13 (codes "y")); shape = Shape.Scalar }) None))
     ∷ single (statement (at 5 16 19 22) (declare (record { base = Base.Int; name = (word 6 20 (codes "z")); shape = Shape.Scalar }) None))
     ∷ single (statement (at 7 23 24 29) (assign (word 8 23 (codes "y")) (value (expression (at 9 27 28 28) (variable (word 10 27 (codes "z")))))))
@@ -174,8 +175,8 @@ table_of_nested_waits = table_of ((9, record { up = 0; what = local 5 }) ∷ (11
 -- (int B[]) g(int m) { foreach i in [0:m-1] { B[i] = i*i; } } int C[]; C = g(4); printf("%i %i", size(C), C[3]);
 abbrev pub tree_of_filled_in_a_call : Tree
 tree_of_filled_in_a_call =
-    function (record { node = (at 1 0 1 59); outputs = ((record { base = Base.Int; name = (word 2 5 (codes "B")); shape = Shape.Array }) ∷ []); name = (word 3 10 (codes "g")); inputs = ((record { base = Base.Int; name = (word 4 16 (codes "m")); shape = Shape.Scalar }) ∷ []); body = (body 19 (statements_of ((statement (at 5 21 28 57) (loop (word 6 29 (codes "i")) None (range (expression (at 7 35 36 36) (number (pos 0))) (expression (at 8 37 38 40) (chain (Operator.Minus ∷ []) (expressions_of ((expression (at 9 37 38 38) (variable (word 10 37 (codes "m")))) ∷ (expression (at 11 39 40 40) (number (pos 1))) ∷ [])))) None) (body 42 (statements_of ((statement (at 12 44 45 55) (write (word 13 44 (codes "B")) (expression (at 14 46 47 47) (variable (word 15 46 (codes "i")))) (expression (at 16 51 52 54) (chain (Operator.Times ∷ []) (expressions_of ((expression (at 17 51 52 52) (variable (word 18 51 (codes "i")))) ∷ (expression (at 19 53 54 54) (variable (word 20 53 (codes "i")))) ∷ [])))))) ∷ []))))) ∷ []))) })
-    ∷ single (statement (at 21 60 63 68) (declare (record { base = Base.Int; name = (word 22 64 (codes "C")); shape = Shape.Array }) None))
+    function (record { node = (at 1 0 1 59); outputs = ((record { base = Base.Int; name = (word 2 5 (codes "B")); shape = Shape.Array Keys.Numbers }) ∷ []); name = (word 3 10 (codes "g")); inputs = ((record { base = Base.Int; name = (word 4 16 (codes "m")); shape = Shape.Scalar }) ∷ []); body = (body 19 (statements_of ((statement (at 5 21 28 57) (loop (word 6 29 (codes "i")) None (range (expression (at 7 35 36 36) (number (pos 0))) (expression (at 8 37 38 40) (chain (Operator.Minus ∷ []) (expressions_of ((expression (at 9 37 38 38) (variable (word 10 37 (codes "m")))) ∷ (expression (at 11 39 40 40) (number (pos 1))) ∷ [])))) None) (body 42 (statements_of ((statement (at 12 44 45 55) (write (word 13 44 (codes "B")) (expression (at 14 46 47 47) (variable (word 15 46 (codes "i")))) (expression (at 16 51 52 54) (chain (Operator.Times ∷ []) (expressions_of ((expression (at 17 51 52 52) (variable (word 18 51 (codes "i")))) ∷ (expression (at 19 53 54 54) (variable (word 20 53 (codes "i")))) ∷ [])))))) ∷ []))))) ∷ []))) })
+    ∷ single (statement (at 21 60 63 68) (declare (record { base = Base.Int; name = (word 22 64 (codes "C")); shape = Shape.Array Keys.Numbers }) None))
     ∷ single (statement (at 23 69 70 78) (assign (word 24 69 (codes "C")) (value (expression (at 25 73 74 77) (call (word 26 73 (codes "g")) (expressions_of ((expression (at 27 75 76 76) (number (pos 4))) ∷ [])))))))
     ∷ single (statement (at 28 79 85 110) (calls (pos 0) (record { node = (at 29 79 85 109); name = (word 30 79 (codes "printf")); arguments = ((expression (at 31 86 93 93) (text (codes "%i %i"))) ∷ (expression (at 32 95 99 102) (call (word 33 95 (codes "size")) (expressions_of ((expression (at 34 100 101 101) (variable (word 35 100 (codes "C")))) ∷ [])))) ∷ (expression (at 36 104 105 108) (element (word 37 104 (codes "C")) (expression (at 38 106 107 107) (number (pos 3))))) ∷ []) })))
     ∷ []

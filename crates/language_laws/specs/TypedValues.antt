@@ -1,11 +1,12 @@
 -- What typing gives of the values that a script knows: conditions are truths, bounds are numbers.
 use Rattle.std.specs.Prelude.{◌≡◌, ℕ, ℤ, Bool, Option, Some, List, [], ◌∷◌, ◌++◌}
 use Rattle.values.specs.declared.value.Scalar.{Scalar}
-use Rattle.values.specs.declared.value.Scalar.TheVariants.{Number, Text, Truth}
+use Rattle.values.specs.declared.value.Scalar.TheVariants.{Text, Truth}
 use Rattle.values.specs.declared.value.Value.{Value}
 use Rattle.values.specs.declared.value.Value.TheVariants.{One}
 use Rattle.language.specs.Core.{Name, Stmt, Form, compute, read, Cell, Part, inner, Action, assign, fill, insert, print, assert, Outer, stmt, when, choose, range, Block, Core}
-use Rattle.language.specs.Facts.{value, Knowledge, KnownAll}
+use Rattle.language.specs.Facts.{value, IsKey, Knowledge, KnownAll}
+use Rattle.values.specs.Keys.{key_of}
 use Rattle.language.specs.Members.{◌∈◌}
 use Rattle.language.specs.Openings.{Bounds, bounds}
 use Rattle.language.specs.Parts.{cells, outer_cells, parts, script_stmts}
@@ -35,8 +36,8 @@ pub record TypedValues (s : Core) (K : Knowledge) : Type 0 where
   -- a cell that is no whole right side of an array gives a scalar
   pub cell_one : (path : Path) (at n : ℕ) (a : Action) (c : Cell) (v : Value) → stmt at n a ∈ script_stmts s → inner c ∈ own_parts a → K (value (path, c.node) v) → (u : Scalar) × (v ≡ One u)
   pub assign_one : (path : Path) (at n : ℕ) (x : Name) (o : Outer) (v : Value) → stmt at n (assign x o) ∈ script_stmts s → K (value (path, o.cell.node) v) → (u : Scalar) × (v ≡ One u)
-  -- an index is a number
-  pub index_number : (path : Path) (st : Stmt) (n i : ℕ) (a : Name) (v : Value) → st ∈ script_stmts s → record { node = n; form = read a i } ∈ cells st → K (value (path, i) v) → (z : ℤ) × (v ≡ One (Number z))
-  pub insert_number : (path : Path) (at n : ℕ) (a : Name) (i o : Outer) (v : Value) → stmt at n (insert a i o) ∈ script_stmts s → K (value (path, i.cell.node) v) → (z : ℤ) × (v ≡ One (Number z))
+  -- an index is a number or a text
+  pub index_key : (path : Path) (st : Stmt) (n i : ℕ) (a : Name) (v : Value) → st ∈ script_stmts s → record { node = n; form = read a i } ∈ cells st → K (value (path, i) v) → (u : Scalar) × (v ≡ One u) × IsKey v (key_of u)
+  pub insert_key : (path : Path) (at n : ℕ) (a : Name) (i o : Outer) (v : Value) → stmt at n (insert a i o) ∈ script_stmts s → K (value (path, i.cell.node) v) → (u : Scalar) × (v ≡ One u) × IsKey v (key_of u)
   -- printf gives a text
   pub print_text : (path : Path) (at n : ℕ) (p : ℤ) (o : Outer) (v : Value) → stmt at n (print p o) ∈ script_stmts s → K (value (path, o.cell.node) v) → (bytes : List ℕ) × (v ≡ One (Text bytes))

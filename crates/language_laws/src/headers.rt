@@ -1,6 +1,6 @@
 //! What small scripts with loops and conditions mean. Each function does nothing; its contract says of one script of `specs/HeaderExamples` what it prints or where it is at fault.
 
-ghost use Rattle.std.specs.Prelude.{◌≡◌, ℕ, [], ◌∷◌, codes, length};
+ghost use Rattle.std.specs.Prelude.{◌≡◌, ℕ, ◌-◌, [], ◌∷◌, codes, length};
 ghost use Rattle.values.specs.declared.fault.OpFault.TheVariants.{BadStep};
 ghost use Rattle.values.specs.declared.value.Scalar.{Scalar};
 ghost use Rattle.language_laws.specs.Examples.{calls_without_end};
@@ -8,23 +8,23 @@ ghost use Rattle.language_laws.specs.HeaderExamples.{nested_calls, no_step, head
 ghost use Rattle.language.specs.Facts.{operation, too_deep};
 ghost use Rattle.language.specs.Meaning.{HasValue, Meaning};
 ghost use Rattle.language.specs.Outcomes.{Faults, Lines};
-ghost use Rattle.language.specs.Places.{Path};
+ghost use Rattle.language.specs.Places.{Path, most_steps};
 
 /// `foreach i in [5:1:0] { }`: a step of 0 is a fault, though the range would have no value.
 pub fn an_empty_range_has_its_step_tested()
     ensures { Faults (Meaning no_step) (operation BadStep) 0 [] }
 {}
 
-/// `(int r) f(int n) { if (true) { } r = f(n + 1); } printf("%i", f(0));`: in the body that the last call may open, at a path of 512 steps, the condition is at fault.
+/// `(int r) f(int n) { if (true) { } r = f(n + 1); } printf("%i", f(0));`: in the body that the last call may open, at a path of `most_steps` steps, the condition is at fault.
 pub fn a_header_at_the_longest_path_is_too_deep()
-    ensures length { length (nested_calls 62 37 511) ≡ 512 }
-    ensures fault { Faults (Meaning headers_without_end) too_deep 19 (nested_calls 62 37 511) }
+    ensures length { length (nested_calls 62 37 (most_steps - 1)) ≡ most_steps }
+    ensures fault { Faults (Meaning headers_without_end) too_deep 19 (nested_calls 62 37 (most_steps - 1)) }
 {}
 
-/// `(int r) f(int n) { r = f(n + 1); } printf("%i", f(0));`: the call in the body at a path of 512 steps is at fault.
+/// `(int r) f(int n) { r = f(n + 1); } printf("%i", f(0));`: the call in the body at a path of `most_steps` steps is at fault.
 pub fn a_call_at_the_longest_path_is_too_deep()
-    ensures length { length (nested_calls 48 23 511) ≡ 512 }
-    ensures fault { Faults (Meaning calls_without_end) too_deep 19 (nested_calls 48 23 511) }
+    ensures length { length (nested_calls 48 23 (most_steps - 1)) ≡ most_steps }
+    ensures fault { Faults (Meaning calls_without_end) too_deep 19 (nested_calls 48 23 (most_steps - 1)) }
 {}
 
 /// `int A[] = [7]; if (false) { foreach v in A { } }`: no turn of the loop is live, so `v` has no value at any path.

@@ -41,7 +41,7 @@ pub fn a_scalar_is_at_a_live_block()
     ensures { (s : Core) → WellFormed s → SinglyAssigned s → (p : Place) (v : Scalar) → HasValue s (Meaning s) p v → (b : Block) × Live s (Meaning s) p.0 b }
 {}
 
-/// No block is live at a path of more than 512 steps.
+/// No block is live at a path of more steps than `most_steps`.
 pub fn live_paths_are_bounded()
     ensures { (s : Core) (path : Path) (b : Block) → Live s (Meaning s) path b → length path ≤ most_steps }
 {}

@@ -28,7 +28,7 @@ abbrev pub calling : Arguments → Word → ℕ → List Name → List core.Part
 calling (ps, xs) w i os = (ps, call_to w i xs os)
 
 abbrev pub array_if : Shape → Name → Option Name
-array_if Shape.Array x = Some x
+array_if (Shape.Array κ) x = Some x
 array_if Shape.Scalar x = None
 
 -- the variable that an expression is the name of, and only where it is an array

@@ -285,7 +285,7 @@ pub fn array_named<A: Allocator>(typed: &Typed, kind: &ExprKind<A>) -> Option<Na
         return None;
     };
     match typed.shape(name.number) {
-        Shape::Array => Some(refer(typed, name)),
+        Shape::Array(_) => Some(refer(typed, name)),
         Shape::Scalar => None,
     }
 }

@@ -124,7 +124,7 @@ fn of_value<A: Allocator + Clone>(
             Callee::BuiltIn(_) => assign(alloc, typed, target, expr),
         },
         ExprKind::Variable(name) => match target.shape {
-            Shape::Array => filled(
+            Shape::Array(_) => filled(
                 alloc,
                 target,
                 expr.number,

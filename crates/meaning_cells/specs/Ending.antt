@@ -1,9 +1,8 @@
 -- What is left before a block is finished for a variable, by what instances see: which blocks are to be finished with it, where each statement in which the variable is a target has done its part.
 use Rattle.std.specs.Prelude.{◌≡◌, ℕ, zero, suc, pos, Bool, true, false, not, List, [], ◌∷◌, ◌++◌, length, map, nat_le, is_some, Option, Some, None, slice_get, if◌then◌else◌}
 use Rattle.values.specs.declared.key.Key.{Key}
-use Rattle.values.specs.declared.value.Scalar.{Scalar}
 use Rattle.values.specs.declared.value.Value.{Value}
-use Rattle.values.specs.declared.value.Value.TheVariants.{One, Many}
+use Rattle.values.specs.Keys.{value_key}
 use Rattle.language.specs.Core.{Owned, output, Name, Call, Stmt, stmt, Action, call_alone, fill, insert, when, choose, range, each, wait, Block, no_stmts, stmts, Function, Core}
 use Rattle.language.specs.Members.{◌∈◌}
 use Rattle.language.specs.Places.{most_steps}
@@ -49,12 +48,13 @@ abbrev pub where_aimed : Bool → Goals → Goals
 where_aimed true gs = gs
 where_aimed false gs = Some []
 
--- the statement of an instance and a node has written the element of the array under the number
+abbrev pub inserted_under : Learned → ℕ → Name → (node : ℕ) → Option Key → Bool
+inserted_under l i a n (Some k) = is_written_in (writes_at l.facts (spot l.instances.all.items i a)) k (record { instance = i; node = n })
+inserted_under l i a n None = false
+
+-- the statement of an instance and a node has written the element of the array under the value of the index
 abbrev pub inserted_by : Learned → ℕ → Name → (node : ℕ) → Option Value → Bool
-inserted_by l i a n (Some (One (Scalar.Number z))) = is_written_in (writes_at l.facts (spot l.instances.all.items i a)) (Key.Number z) (record { instance = i; node = n })
-inserted_by l i a n (Some (One (Scalar.Truth t))) = false
-inserted_by l i a n (Some (One (Scalar.Text t))) = false
-inserted_by l i a n (Some (Many es)) = false
+inserted_by l i a n (Some v) = inserted_under l i a n (value_key v)
 inserted_by l i a n None = false
 
 abbrev pub is_inserted_in : Learned → ℕ → Name → (index node : ℕ) → Bool

@@ -282,7 +282,7 @@ fn has_come(learned: &Learned, instance: usize, name: Name) -> bool
     ensures { result ≡ has_come_in (sight_of learned.now instance) (awaited_view name) }
 {
     match name.shape {
-        Shape::Array => learned.is_closed(learned.instances.place(instance, name)),
+        Shape::Array(_) => learned.is_closed(learned.instances.place(instance, name)),
         Shape::Scalar => learned.scalar(instance, name).is_some(),
     }
 }

@@ -17,8 +17,7 @@ use flow::statement::{Action, Block, Header, Statement};
 use meaning_facts::facts::Place;
 use meaning_facts::learned::Learned;
 use std::alloc::{AllocError, Allocator, Global};
-use values::key::Key;
-use values::value::{Scalar, Value};
+use values::key::{Key, KeyRef};
 
 /// A block in an instance, whose statements are to be finished for a variable.
 #[derive(Drop)]
@@ -393,10 +392,11 @@ pub fn is_inserted(learned: &Learned, array: Name, index: u32, writer: Place) ->
         instance: writer.instance,
         node: index,
     };
-    match learned.facts.value(cell) {
-        Some(Value::One(Scalar::Number(number))) => learned
-            .facts
-            .is_written_by(place, &Key::Number(*number), writer),
-        _ => false,
+    let Some(value) = learned.facts.value(cell) else {
+        return false;
+    };
+    match KeyRef::of_value(value) {
+        Some(key) => learned.facts.is_written_by(place, key, writer),
+        None => false,
     }
 }

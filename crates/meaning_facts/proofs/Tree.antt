@@ -1,27 +1,28 @@
 -- Instances stay a tree where one is opened, and each is found at its path.
-use Rattle.std.specs.Prelude.{◌≡◌, ◌⊎◌, ℕ, zero, suc, ◌+◌, ◌<◌, ◌≤◌, Bool, true, false, ◌&&◌, List, [], ◌∷◌, ◌++◌, length, map, nat_eq, Option, Some, None, slice_get, if◌then◌else◌, refl}
-use Rattle.std.specs.Ordering.{int_eq}
+use Rattle.std.specs.Prelude.{◌≡◌, ◌⊎◌, ℕ, zero, suc, ◌+◌, ◌<◌, ◌≤◌, Bool, true, false, ◌&&◌, List, [], ◌∷◌, ◌++◌, length, map, nat_eq, Option, Some, None, cond, slice_get, if◌then◌else◌, ℤ, refl}
+use Rattle.std.specs.HashMap.{get}
 use Rattle.std.proofs.Common.{inl, inr, sym, ap, ◌∙◌, subst, arith, length-append}
 use Rattle.std.proofs.lemmas.Bool.{cases_Bool, cases_lt, cases_order, eqb-true, eq-eqb}
 use Rattle.std.proofs.lemmas.List.{get_or_append_left}
 use Rattle.std.proofs.lemmas.Option.{slice_get-get_or, slice_get_past}
 use Rattle.std.proofs.Math.Seq.{get_or-append_seam}
 use Rattle.values.specs.declared.key.Key.{Key}
-use Rattle.values.specs.declared.key.Key.TheVariants.{Number}
+use Rattle.values.specs.declared.key.Key.TheVariants.{Number, Text}
+use Rattle.values.specs.Keys.{same_key}
 use Rattle.values.proofs.Keys.{same_key-eq, same_key-refl}
 use Rattle.language.specs.Places.{Path, most_steps}
 use Rattle.meaning_facts.specs.declared.instances.Given.{Given}
 use Rattle.paths.specs.declared.steps.Step.{Step}
 use Rattle.meaning_facts.specs.declared.instances.Instance.{Instance}
 use Rattle.meaning_facts.specs.declared.instances.Instances.{Instances}
-use Rattle.meaning_facts.specs.Paths.{step_view, path_in, path_of, key_number, same_step, child_at, IsChild, IsOpened, IsOpen, IsTree}
-use Rattle.meaning_facts.specs.Store.{parent_in, parent_of, inputs_in, inputs_of, outputs_in, outputs_of, variables_in, variables_of}
+use Rattle.meaning_facts.specs.Paths.{step_view, path_in, path_of, same_step, same_turn, named_in, child_at, IsChild, IsOpened, IsOpen, IsTree}
+use Rattle.meaning_facts.specs.Store.{same_pair, parent_in, parent_of, inputs_in, inputs_of, outputs_in, outputs_of, variables_in, variables_of}
 
 -- THE FIRST INSTANCE
 
 pub one_is_tree : (t : Instances) (n : Instance) → t.all.items ≡ n ∷ [] → n.parent ≡ 0 → n.path.items ≡ [] → n.given.inputs.items ≡ [] → n.given.outputs.items ≡ [] → n.given.variables.items ≡ []
-    → t.opened.entries ≡ [] → IsTree t
-one_is_tree t n e p q i o v m = record {
+    → t.opened.entries ≡ [] → t.named.entries ≡ [] → IsTree t
+one_is_tree t n e p q i o v m w = record {
   rooted = subst (λ (z : List Instance). 0 < length z) (sym e) (omega arith);
   root_path = ap (λ (z : List Instance). path_of z 0) e ∙ ap (map step_view) q;
   root_parent = ap (λ (z : List Instance). parent_of z 0) e ∙ p;
@@ -34,7 +35,8 @@ one_is_tree t n e p q i o v m = record {
 }
   where
     nothing : (j at : ℕ) (k : Key) (l : ℕ) → child_at t j at k ≡ Some l → ⊥
-    nothing j at k l h = let x : None ≡ Some l = rw m at h in absurd (cc (x))
+    nothing j at (Number z) l h = let x : None ≡ Some l = rw m at h in absurd (cc (x))
+    nothing j at (Text bytes) l h = let x : None ≡ Some l = rw w at h in absurd (cc (x))
 
     few : (j : ℕ) → 0 < j → j < length t.all.items → ⊥
     few j l b = let x : length t.all.items ≡ 1 = ap length e in omega arith
@@ -72,14 +74,32 @@ pub record IsSameStep (p i at a : ℕ) (k l : Key) : Type 0 where
   pub at_same : at ≡ a
   pub key_same : k ≡ l
 
-pub same_step_is : (p i at a : ℕ) (k l : Key) → same_step (p, at, key_number k) (i, a, key_number l) ≡ true → IsSameStep p i at a k l
-same_step_is p i at a (Number x) (Number y) h =
-    let b = both (nat_eq p i && nat_eq at a) (int_eq x y) h in
+pub same_step_is : (p i at a : ℕ) (k l : Key) → same_step (p, at, k) (i, a, l) ≡ true → IsSameStep p i at a k l
+same_step_is p i at a k l h =
+    let b = both (nat_eq p i && nat_eq at a) (same_key k l) h in
     let c = both (nat_eq p i) (nat_eq at a) b.0 in
-    record { parent_same = eqb-true p i c.0; at_same = eqb-true at a c.1; key_same = same_key-eq (Number x) (Number y) b.1 }
+    record { parent_same = eqb-true p i c.0; at_same = eqb-true at a c.1; key_same = same_key-eq k l b.1 }
 
-pub step_itself : (p at : ℕ) (k : Key) → same_step (p, at, key_number k) (p, at, key_number k) ≡ true
-step_itself p at (Number x) = rw (eq-eqb p p refl) (rw (eq-eqb at at refl) (same_key-refl (Number x)))
+pub step_itself : (p at : ℕ) (k : Key) → same_step (p, at, k) (p, at, k) ≡ true
+step_itself p at k = rw (eq-eqb p p refl) (rw (eq-eqb at at refl) (same_key-refl k))
+
+-- what is opened is found by both tables alone
+pub same_child : (t u : Instances) → u.opened ≡ t.opened → u.named ≡ t.named → (i at : ℕ) (k : Key) → child_at u i at k ≡ child_at t i at k
+same_child t u o n i at (Number z) = ap (λ m. get same_turn m (i, at, z)) o
+same_child t u o n i at (Text bytes) = ap (λ m. named_in (get same_pair m (i, at)) bytes) n
+
+and_false : (b : Bool) → b && false ≡ false
+and_false true = refl
+and_false false = refl
+
+-- one more under a number
+module _ (t u : Instances) (p at number : ℕ) where
+  pub turn_noted : (z : ℤ) → ((q : ℕ × ℕ × ℤ) → get same_turn u.opened q ≡ cond (same_turn (p, at, z) q) (Some number) (get same_turn t.opened q)) → u.named ≡ t.named
+      → (i a : ℕ) (k : Key) → child_at u i a k ≡ (if same_step (p, at, Number z) (i, a, k) then Some number else child_at t i a k)
+  turn_noted z put n i a (Number y) = put (i, a, y)
+  turn_noted z put n i a (Text bytes) =
+      ap (λ m. named_in (get same_pair m (i, a)) bytes) n
+      ∙ ap (λ (b : Bool). if b then Some number else child_at t i a (Text bytes)) (sym (and_false (nat_eq p i && nat_eq at a)))
 
 module _ (t u : Instances) (p : ℕ) (s : Step) (g : Given) (o : IsOpen t p s g u) where
   pub count : length u.all.items ≡ length t.all.items + 1
@@ -107,13 +127,13 @@ module _ (t u : Instances) (p : ℕ) (s : Step) (g : Given) (o : IsOpen t p s g 
   found_itself =
       o.found p s.offset s.key ∙ ap (λ (b : Bool). if b then Some (length t.all.items) else child_at t p s.offset s.key) (step_itself p s.offset s.key)
 
-  pub found_other : (i at : ℕ) (k : Key) → same_step (p, s.offset, key_number s.key) (i, at, key_number k) ≡ false → child_at u i at k ≡ child_at t i at k
+  pub found_other : (i at : ℕ) (k : Key) → same_step (p, s.offset, s.key) (i, at, k) ≡ false → child_at u i at k ≡ child_at t i at k
   found_other i at k h = o.found i at k ∙ ap (λ (b : Bool). if b then Some (length t.all.items) else child_at t i at k) h
 
   module _ (h : IsTree t) (within : p < length t.all.items) (lacks : child_at t p s.offset s.key ≡ None) (fits : length (path_of t.all.items p) < most_steps) where
     -- what was found is found
     pub found_stays : (i at : ℕ) (k : Key) (j : ℕ) → child_at t i at k ≡ Some j → child_at u i at k ≡ Some j
-    found_stays i at k j e = elim (cases_Bool (same_step (p, s.offset, key_number s.key) (i, at, key_number k))) [
+    found_stays i at k j e = elim (cases_Bool (same_step (p, s.offset, s.key) (i, at, k))) [
       | inl same ↦
           let x = same_step_is p i s.offset at s.key k same in
           let none : child_at t i at k ≡ None = subst (λ (z : ℕ). child_at t z at k ≡ None) x.parent_same (subst (λ (z : ℕ). child_at t p z k ≡ None) x.at_same (subst (λ (z : Key). child_at t p s.offset z ≡ None) x.key_same lacks)) in
@@ -138,7 +158,7 @@ module _ (t u : Instances) (p : ℕ) (s : Step) (g : Given) (o : IsOpen t p s g 
     }
 
     pub opens : (i at : ℕ) (k : Key) (j : ℕ) → child_at u i at k ≡ Some j → IsChild u.all.items i at k j
-    opens i at k j e = elim (cases_Bool (same_step (p, s.offset, key_number s.key) (i, at, key_number k))) [
+    opens i at k j e = elim (cases_Bool (same_step (p, s.offset, s.key) (i, at, k))) [
       | inl same ↦
           let x = same_step_is p i s.offset at s.key k same in
           let number : Some (length t.all.items) ≡ Some j = sym (o.found i at k ∙ ap (λ (b : Bool). if b then Some (length t.all.items) else child_at t i at k) same) ∙ e in

@@ -1,16 +1,18 @@
 -- The paths of a program's instances: each stands one step behind the one that opened it, and is found again by its steps.
 use Rattle.std.specs.Prelude.{◌≡◌, ℕ, ◌<◌, ◌≤◌, ℤ, Bool, ◌&&◌, List, [], ◌∷◌, ◌++◌, length, map, nat_eq, Option, Some, None, slice_get, if◌then◌else◌}
-use Rattle.std.specs.HashMap.{get}
+use Rattle.std.specs.HashMap.{HashMap, get}
 use Rattle.std.specs.Ordering.{int_eq}
+use Rattle.std.specs.Str.{bytes_eq}
 use Rattle.values.specs.declared.key.Key.{Key}
-use Rattle.values.specs.declared.key.Key.TheVariants.{Number}
+use Rattle.values.specs.declared.key.Key.TheVariants.{Number, Text}
+use Rattle.values.specs.Keys.{same_key}
 use Rattle.language.specs.Places.{Path, most_steps}
 use Rattle.language.specs.Places.{Step as PathStep}
 use Rattle.paths.specs.declared.steps.Step.{Step}
 use Rattle.meaning_facts.specs.declared.instances.Given.{Given}
 use Rattle.meaning_facts.specs.declared.instances.Instance.{Instance}
 use Rattle.meaning_facts.specs.declared.instances.Instances.{Instances}
-use Rattle.meaning_facts.specs.Store.{parent_of, inputs_of, outputs_of, variables_of}
+use Rattle.meaning_facts.specs.Store.{same_pair, parent_of, inputs_of, outputs_of, variables_of}
 
 abbrev pub step_view : Step → PathStep
 step_view s = (s.offset, s.key)
@@ -23,15 +25,23 @@ path_in None = []
 abbrev pub path_of : List Instance → ℕ → Path
 path_of ns i = path_in (slice_get ns i)
 
-abbrev pub key_number : Key → ℤ
-key_number (Number z) = z
+-- a step behind the same instance, at the same offset and under the same key
+abbrev pub same_step : ℕ × ℕ × Key → ℕ × ℕ × Key → Bool
+same_step p q = (nat_eq p.0 q.0 && nat_eq p.1 q.1) && same_key p.2 q.2
 
-abbrev pub same_step : ℕ × ℕ × ℤ → ℕ × ℕ × ℤ → Bool
-same_step p q = (nat_eq p.0 q.0 && nat_eq p.1 q.1) && int_eq p.2 q.2
+-- the same, under a number
+abbrev pub same_turn : ℕ × ℕ × ℤ → ℕ × ℕ × ℤ → Bool
+same_turn p q = (nat_eq p.0 q.0 && nat_eq p.1 q.1) && int_eq p.2 q.2
+
+-- the instance that is opened under a text, among those at an offset
+abbrev pub named_in : {S : Type 0} → Option (HashMap (List ℕ) ℕ S) → List ℕ → Option ℕ
+named_in None bytes = None
+named_in (Some children) bytes = get bytes_eq children bytes
 
 -- the instance that another one has opened under a step
 abbrev pub child_at : Instances → ℕ → (at : ℕ) → Key → Option ℕ
-child_at t i at k = get same_step t.opened (i, at, key_number k)
+child_at t i at (Number z) = get same_turn t.opened (i, at, z)
+child_at t i at (Text bytes) = named_in (get same_pair t.named (i, at)) bytes
 
 abbrev pub child_behind : Instances → Option ℕ → (at : ℕ) → Key → Option ℕ
 child_behind t (Some i) at k = child_at t i at k
@@ -81,4 +91,4 @@ pub record IsOpen (t : Instances) (parent : ℕ) (s : Step) (g : Given) (u : Ins
   pub parent_is : made.parent ≡ parent
   pub path_is : map step_view made.path.items ≡ step_view s ∷ path_of t.all.items parent
   pub given_is : made.given ≡ g
-  pub found : (i at : ℕ) (k : Key) → child_at u i at k ≡ (if same_step (parent, s.offset, key_number s.key) (i, at, key_number k) then Some (length t.all.items) else child_at t i at k)
+  pub found : (i at : ℕ) (k : Key) → child_at u i at k ≡ (if same_step (parent, s.offset, s.key) (i, at, k) then Some (length t.all.items) else child_at t i at k)

@@ -2,6 +2,7 @@
 //! are known, and the first fault in reading order is its fault.
 ghost use Rattle.std.specs.Prelude.{◌≡◌, Some, false, IfOk, option_map};
 ghost use Rattle.values.specs.Formats.{pieces};
+ghost use Rattle.values.specs.Keys.{key_seen};
 ghost use Rattle.values.specs.Op.{operation_of};
 ghost use Rattle.values.specs.Operators.{evaluated};
 ghost use Rattle.language.specs.Resolved.{pieces_or_none};
@@ -18,10 +19,10 @@ use paths::FaultKind;
 use std::alloc::{AllocError, Allocator, Global};
 use values::fault::OpFault;
 use values::format::{Format, FormatFault};
-use values::key::Key;
+use values::key::KeyRef;
 use values::op::Op;
 use values::text::Text;
-use values::value::{Scalar, Value};
+use values::value::Value;
 
 /// The value or the fault of a cell.
 pub type Outcome = Result<Value, FaultKind>;
@@ -48,12 +49,11 @@ impl Learned {
                     node: *index,
                 };
                 match self.facts.value(index) {
-                    Some(Value::One(Scalar::Number(number))) => self.element(
-                        instance,
-                        *array,
-                        &Key::Number(*number),
-                    ),
-                    _ => Ok(None),
+                    Some(value) => match KeyRef::of_value(value) {
+                        Some(key) => self.element(instance, *array, key),
+                        None => Ok(None),
+                    },
+                    None => Ok(None),
                 }
             }
         }
@@ -64,9 +64,9 @@ impl Learned {
         &self,
         instance: usize,
         array: Name,
-        key: &Key,
+        key: KeyRef<'_>,
     ) -> Result<Option<Outcome>, AllocError>
-        ensures { IfOk result (λ r. outcome_view r ≡ element_come ((sight_of self.now instance).writes (name_view array) key.now) ((sight_of self.now instance).closed (name_view array))) }
+        ensures { IfOk result (λ r. outcome_view r ≡ element_come ((sight_of self.now instance).writes (name_view array) (key_seen key.entry)) ((sight_of self.now instance).closed (name_view array))) }
     {
         let place = self.instances.place(instance, array);
         match self.facts.written(place, key) {

@@ -3,6 +3,7 @@ ghost use Rattle.std.specs.Prelude.{◌≡◌, ◌↔◌, [], not, option_copied
 ghost use Rattle.std.specs.HashMap.{get, IsUnique};
 ghost use Rattle.meaning_steps.specs.Kept.{several_in};
 ghost use Rattle.meaning_facts.specs.Added.{HasSame, IsAdded, IsNothing, is_new, with_write};
+ghost use Rattle.values.specs.Keys.{key_seen};
 ghost use Rattle.values.specs.Maps.{rising};
 ghost use Rattle.language.specs.Facts.{operation};
 ghost use Rattle.meaning_facts.specs.Keeping.{has_some, some_fault_at};
@@ -13,7 +14,7 @@ use paths::FaultKind;
 use std::alloc::{AllocError, Global};
 use std::collections::{HashMap, HashSet};
 use values::fault::OpFault;
-use values::key::Key;
+use values::key::{Key, KeyRef};
 use values::map::{Element, Map, place_of};
 use values::text::Text;
 use values::value::{Scalar, Value};
@@ -143,22 +144,22 @@ impl Facts {
     }
 
     /// What is written under a key of an array.
-    pub fn written(&self, array: Place, key: &Key) -> Written<'_>
-        ensures { WrittenAs result (writes_under (writes_at self.now array) key.now) }
+    pub fn written(&self, array: Place, key: KeyRef<'_>) -> Written<'_>
+        ensures { WrittenAs result (writes_under (writes_at self.now array) (key_seen key.entry)) }
     {
         written_in(self.writes_of(array), key)
     }
 
     /// Whether a statement has written a key of an array.
-    pub fn is_written_by(&self, array: Place, key: &Key, writer: Place) -> bool
-        ensures { result ≡ is_written_in (writes_at self.now array) key.now writer }
+    pub fn is_written_by(&self, array: Place, key: KeyRef<'_>, writer: Place) -> bool
+        ensures { result ≡ is_written_in (writes_at self.now array) (key_seen key.entry) writer }
     {
         has_writer(self.writes_of(array), key, writer)
     }
 
     /// Whether a key of an array has two writers.
-    pub fn is_written_twice(&self, array: Place, key: &Key) -> bool
-        ensures { result ≡ several_in (writes_under (writes_at self.now array) key.now) }
+    pub fn is_written_twice(&self, array: Place, key: KeyRef<'_>) -> bool
+        ensures { result ≡ several_in (writes_under (writes_at self.now array) (key_seen key.entry)) }
     {
         match self.written(array, key) {
             Written::Twice => true,
@@ -290,11 +291,11 @@ impl Facts {
 }
 
 /// What is written under a key by these writes.
-fn written_in<'w>(writes: &'w [Write], key: &Key) -> Written<'w>
-    ensures { WrittenAs result (writes_under writes.now key.now) }
+fn written_in<'w>(writes: &'w [Write], key: KeyRef<'_>) -> Written<'w>
+    ensures { WrittenAs result (writes_under writes.now (key_seen key.entry)) }
 {
     for i in 0..writes.len() {
-        if writes[i].key.is_same(key) {
+        if writes[i].key.as_ref().is_same(key) {
             return if has_key(&writes[i + 1..], key) {
                 Written::Twice
             } else {
@@ -306,11 +307,11 @@ fn written_in<'w>(writes: &'w [Write], key: &Key) -> Written<'w>
 }
 
 /// Whether one of these writes has this key and writer.
-fn has_writer(writes: &[Write], key: &Key, writer: Place) -> bool
-    ensures { result ≡ is_written_in writes.now key.now writer }
+fn has_writer(writes: &[Write], key: KeyRef<'_>, writer: Place) -> bool
+    ensures { result ≡ is_written_in writes.now (key_seen key.entry) writer }
 {
     for write in writes {
-        if write.key.is_same(key) && write.writer.is_same(writer) {
+        if write.key.as_ref().is_same(key) && write.writer.is_same(writer) {
             return true;
         }
     }
@@ -318,11 +319,11 @@ fn has_writer(writes: &[Write], key: &Key, writer: Place) -> bool
 }
 
 /// Whether one of these writes has this key.
-fn has_key(writes: &[Write], key: &Key) -> bool
-    ensures { result ≡ has_key_in writes.now key.now }
+fn has_key(writes: &[Write], key: KeyRef<'_>) -> bool
+    ensures { result ≡ has_key_in writes.now (key_seen key.entry) }
 {
     for write in writes {
-        if write.key.is_same(key) {
+        if write.key.as_ref().is_same(key) {
             return true;
         }
     }
@@ -367,7 +368,7 @@ fn put_behind(writes: &mut Vec<Write>, write: Write) -> Result<bool, AllocError>
     ensures put { OnOk result (writes.new.items ≡ with_write writes.old.items write) }
     ensures new { IfOk result (λ new. new ≡ not (is_written_in writes.old.items write.key write.writer)) }
 {
-    if has_writer(writes.as_slice(), &write.key, write.writer) {
+    if has_writer(writes.as_slice(), write.key.as_ref(), write.writer) {
         return Ok(false);
     }
     writes.push(write)?;
@@ -379,7 +380,7 @@ fn are_apart(writes: &[Write]) -> bool
     ensures { result ≡ one_writer_in writes.now }
 {
     for i in 0..writes.len() {
-        if has_key(&writes[i + 1..], &writes[i].key) {
+        if has_key(&writes[i + 1..], writes[i].key.as_ref()) {
             return false;
         }
     }

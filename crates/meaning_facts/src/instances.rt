@@ -1,11 +1,14 @@
 //! Block instances: their paths, and where names lie.
-ghost use Rattle.std.specs.Prelude.{◌≡◌, ◌<◌, ◌∷◌, None, length, map, nat_le, option_copied, IfOk, OnOk};
+ghost use Rattle.std.specs.Prelude.{◌≡◌, ◌&&◌, ◌<◌, ◌∷◌, ℕ, List, None, Some, if◌then◌else◌, cond, length, map, nat_le, option_copied, IfOk, OnOk};
+ghost use Rattle.std.specs.HashMap.{get};
+ghost use Rattle.std.specs.Str.{bytes_eq};
+ghost use Rattle.values.specs.declared.key.Key.{Key as StepKey};
 ghost use Rattle.flow.specs.View.{name_view, names_view, owned_view};
 ghost use Rattle.language.specs.Core.{Core};
 ghost use Rattle.language.specs.Places.{Path, place, most_steps};
-ghost use Rattle.meaning_facts.specs.Paths.{child_at, key_number, path_of, step_view, IsNone, IsOpen, IsTree};
+ghost use Rattle.meaning_facts.specs.Paths.{child_at, named_in, path_of, same_step, step_view, IsNone, IsOpen, IsTree};
 ghost use Rattle.meaning_facts.specs.Stands.{Stands, IsPlace};
-ghost use Rattle.meaning_facts.specs.Store.{spot, spots, outward, parent_of, owner_spot, given_at, variable_in, variables_of, inputs_of, outputs_of};
+ghost use Rattle.meaning_facts.specs.Store.{same_pair, spot, spots, outward, parent_of, owner_spot, given_at, variable_in, variables_of, inputs_of, outputs_of};
 
 use crate::facts::Place;
 use flow::name::{Name, Owned};
@@ -13,6 +16,7 @@ use paths::Step;
 use std::alloc::{AllocError, Global};
 use std::collections::HashMap;
 use values::key::Key;
+use values::text::Text;
 use values::value::Scalar;
 
 /// A variable of a loop, by its node, and what it is in a turn.
@@ -42,11 +46,13 @@ pub struct Instance {
 #[derive(Drop)]
 pub struct Instances {
     pub all: Vec<Instance>,
+    // By the one that opened it and its step: those behind numbers, and those behind texts.
     opened: HashMap<(usize, usize, i64), usize>,
+    named: HashMap<(usize, usize), HashMap<Text, usize>>,
 }
 
 /// The most steps of a path.
-pub const MOST_STEPS: usize = 512;
+pub const MOST_STEPS: usize = 2048;
 
 impl Given {
     /// Nothing.
@@ -77,6 +83,7 @@ impl Instances {
         Ok(Instances {
             all,
             opened: HashMap::new(alloc),
+            named: HashMap::new(alloc),
         })
     }
 
@@ -101,7 +108,13 @@ impl Instances {
     pub fn child(&self, parent: usize, at: usize, key: &Key) -> Option<usize>
         ensures { result ≡ child_at self.now parent at key.now }
     {
-        self.opened.get(&(parent, at, number_of(key))).copied()
+        match key {
+            Key::Number(number) => self.opened.get(&(parent, at, *number)).copied(),
+            Key::Text(text) => match self.named.get(&(parent, at)) {
+                Some(children) => children.get(text).copied(),
+                None => None,
+            },
+        }
     }
 
     /// Opens an instance. Its number.
@@ -118,8 +131,7 @@ impl Instances {
             → length (path_of self.old.all.items parent) < most_steps → IsTree self.new) }
     {
         let number = self.all.len();
-        let key = number_of(&step.key);
-        self.opened.insert((parent, step.offset, key), number)?;
+        self.note(alloc, parent, step.offset, &step.key, number)?;
         let path = path_behind(alloc, self.path(parent), step)?;
         self.all.push(Instance {
             parent,
@@ -127,6 +139,34 @@ impl Instances {
             given,
         })?;
         Ok(number)
+    }
+
+    /// Notes the instance that another one opens under a step.
+    fn note(
+        &mut self,
+        alloc: Global,
+        parent: usize,
+        at: usize,
+        key: &Key,
+        number: usize,
+    ) -> Result<(), AllocError>
+        ensures all { OnOk result (self.new.all ≡ self.old.all) }
+        ensures found { OnOk result ((i a : ℕ) (k : StepKey) → child_at self.new i a k
+            ≡ (if same_step (parent, at, key.now) (i, a, k) then Some number else child_at self.old i a k)) }
+    {
+        match key {
+            Key::Number(turn) => {
+                self.opened.insert((parent, at, *turn), number)?;
+                Ok(())
+            }
+            Key::Text(text) => note_named(
+                &mut self.named,
+                alloc,
+                (parent, at),
+                text.share()?,
+                number,
+            ),
+        }
     }
 
     /// What the variable of a loop is in the turn that an instance is.
@@ -228,12 +268,36 @@ impl Instances {
     }
 }
 
-/// The number that a key is.
-fn number_of(key: &Key) -> i64
-    ensures { result ≡ key_number key.now }
+/// Notes the instance that is opened under a text.
+fn note_named(
+    named: &mut HashMap<(usize, usize), HashMap<Text, usize>>,
+    alloc: Global,
+    step: (usize, usize),
+    text: Text,
+    number: usize,
+) -> Result<(), AllocError>
+    ensures { OnOk result ((other : ℕ × ℕ) (bytes : List ℕ) → named_in (get same_pair named.new other) bytes
+        ≡ (if same_pair step other && bytes_eq text bytes then Some number else named_in (get same_pair named.old other) bytes)) }
 {
-    let Key::Number(number) = key;
-    *number
+    let mut children = take_named(named, alloc, step);
+    children.insert(text, number)?;
+    named.insert(step, children)?;
+    Ok(())
+}
+
+/// Takes out the instances that are opened under texts at an offset of another one.
+fn take_named(
+    named: &mut HashMap<(usize, usize), HashMap<Text, usize>>,
+    alloc: Global,
+    step: (usize, usize),
+) -> HashMap<Text, usize>
+    ensures left { (other : ℕ × ℕ) → get same_pair named.new other ≡ cond (same_pair step other) None (get same_pair named.old other) }
+    ensures taken { (bytes : List ℕ) → get bytes_eq result bytes ≡ named_in (get same_pair named.old step) bytes }
+{
+    match named.remove(&step) {
+        Some(children) => children,
+        None => HashMap::new(alloc),
+    }
 }
 
 /// What the variable of a node is among these.

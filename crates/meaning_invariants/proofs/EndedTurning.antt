@@ -9,6 +9,7 @@ use Rattle.values.specs.declared.value.Scalar.{Scalar}
 use Rattle.values.specs.declared.value.Scalar.TheVariants.{Number}
 use Rattle.values.specs.declared.value.Value.{Value}
 use Rattle.values.specs.declared.value.Value.TheVariants.{Many}
+use Rattle.values.specs.Keys.{key_scalar}
 use Rattle.values.specs.Maps.{rising, element as entry}
 use Rattle.values.specs.Ranges.{range_count, value_in}
 use Rattle.language.specs.Core.{Name, Outer, Stmt, stmt, Action, range, each, Block, Core}
@@ -19,6 +20,7 @@ use Rattle.language.specs.Parts.{outer_cells, script_stmts}
 use Rattle.language.specs.Places.{Path}
 use Rattle.language.specs.WellFormed.{LoopsApart, Role, range_value_role, range_turn_role, each_value_role, each_key_role}
 use Rattle.language_laws.proofs.Rising.{rising_once}
+use Rattle.language_accepted.proofs.Values.{key_same}
 use Rattle.meaning_steps.specs.Environment.{Sight}
 use Rattle.meaning_steps.specs.Taken.{Taken, ReadyBy, by_cells, by_source}
 use Rattle.meaning_facts.specs.declared.instances.Variable.{Variable}
@@ -87,7 +89,7 @@ module _ (s : Core) (loops : LoopsApart s) (at n : ℕ) where
   in_range lo hi st x t b vs r count m p i k e y v (range_value {r = r'} {i = j} q h) =
       found_first y (Number (value_in r.low r.step i)) (key_variable t (Key.Number (pos i))) ∙ ap Some (sym (range_turn_is vs r r' i j v (Key.Number (pos j)) p q e refl h))
   in_range lo hi st x t b vs r count m p i k e y v (range_turn h) =
-      found_next x y (Number (value_in r.low r.step i)) (key_value (Key.Number (pos i))) (apart_range lo hi st x y b m) ∙ ap (λ (z : Key). Some (key_value z)) e ∙ ap Some (sym h)
+      found_next x y (Number (value_in r.low r.step i)) (key_scalar (Key.Number (pos i))) (apart_range lo hi st x y b m) ∙ ap (λ (z : Key). Some (key_scalar z)) e ∙ ap Some (key_same k ∙ sym h)
 
   in_each : (a : Name) (x : ℕ) (t : Option ℕ) (b : Block) (es : List Element) → stmt at n (each a x t b) ∈ script_stmts s → IsTrue (rising es)
       → (i : ℕ) → i < length es → (k : Key) → key_in (items es) i ≡ k → (y : ℕ) (v : Scalar) → InTurn (each a x t b) (Many es ∷ []) k y v
@@ -99,7 +101,7 @@ module _ (s : Core) (loops : LoopsApart s) (at n : ℕ) where
       let same : r.found.value ≡ v = rising_once es order r.found.key r.found.value v r.among other in
       found_first y (item_value (slice_get es i)) (key_variable t (item_key (slice_get es i))) ∙ ap (λ (z : Option Element). Some (item_value z)) r.there ∙ ap Some same
   in_each a x t b es m order i l k e y v (each_key h) =
-      found_next x y (item_value (slice_get es i)) (key_value (item_key (slice_get es i))) (apart_each a x y b m) ∙ ap (λ (z : Key). Some (key_value z)) e ∙ ap Some (sym h)
+      found_next x y (item_value (slice_get es i)) (key_scalar (item_key (slice_get es i))) (apart_each a x y b m) ∙ ap (λ (z : Key). Some (key_scalar z)) e ∙ ap Some (key_same k ∙ sym h)
 
   -- WHAT A VARIABLE IS IN A TURN
   module _ (K : Knowledge) (T : Taken) (path : Path) (g : Sight) (sees : SeesBy s K T path g) where
@@ -142,8 +144,8 @@ found_one x y u v vs h = by (nat_eq x y) refl h
     by false e q = inr q
 
 key_found : (t : Option ℕ) (k : Key) (y : ℕ) (v : Scalar) → variable_in (key_variable t k) y ≡ Some v → KeyAt t k y v
-key_found (Some t) k y v h = elim (found_one t y (key_value k) v [] h) [
-  | inl g ↦ record { key_node = t; key_is = refl; node_is = g.node_is; value_is = g.value_is }
+key_found (Some t) k y v h = elim (found_one t y (key_scalar k) v [] h) [
+  | inl g ↦ record { key_node = t; key_is = refl; node_is = g.node_is; value_is = sym (key_same k) ∙ g.value_is }
   | inr q ↦ absurd (cc (q))
 ]
 key_found None k y v h = absurd (cc (h))

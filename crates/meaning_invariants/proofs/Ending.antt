@@ -5,9 +5,8 @@ use Rattle.std.proofs.lemmas.Bool.Decides.{nat_tests}
 use Rattle.values.specs.declared.key.Key.{Key}
 use Rattle.values.specs.declared.value.Scalar.{Scalar}
 use Rattle.values.specs.declared.value.Value.{Value}
-use Rattle.values.specs.declared.value.Value.TheVariants.{One}
 use Rattle.language.specs.Core.{Owned, output, Name, Part, Call, calls, Stmt, stmt, Action, call_alone, fill, insert, when, choose, range, each, wait, Block, Function, Core}
-use Rattle.language.specs.Facts.{Knowledge, IsKey, a_number, value, element}
+use Rattle.language.specs.Facts.{Knowledge, IsKey, a_number, a_text, value, element}
 use Rattle.language.specs.Meaning.{IsTarget}
 use Rattle.language.specs.Members.{◌∈◌, first}
 use Rattle.language.specs.Openings.{Branches, Opens}
@@ -140,13 +139,17 @@ module _ (s : Core) (K : Knowledge) (l : Learned) (ls : List Active) (placed : I
 
   -- an element
 
+  inserted_key : (i n : ℕ) (x : Name) {u : Value} {key : Key} → IsKey u key → inserted_by l i x n (Some u) ≡ (past_of l i).written x key n
+  inserted_key i n x a_number = refl
+  inserted_key i n x a_text = refl
+
   done_write : (i n : ℕ) (x : Name) (node : ℕ) (key : Key) (u : Value) (v : Scalar) → Within i → IsKey u key → K (value (At i, node) u) → K (element (place s (At i) x) key (At i, n) v)
       → is_inserted_in l i x node n ≡ true
-  done_write i n x node key u v within (a_number {z = z}) k w =
-      let seen : value_at l.facts (record { instance = i; node = node }) ≡ Some (One (Scalar.Number z)) = (sight i within).cell_all node (One (Scalar.Number z)) k in
-      let told : (kept_of l).written (place s (At i) x) (Key.Number z) (At i, n) ≡ true = keeps.written_all (place s (At i) x) (Key.Number z) (At i, n) v w in
-      let written : (past_of l i).written x (Key.Number z) n ≡ true = subst (λ (m : Past). m.written x (Key.Number z) n ≡ true) (sym (recalls_kept s l placed i within)) told in
-      ap (inserted_by l i x n) seen ∙ written
+  done_write i n x node key u v within is k w =
+      let seen : value_at l.facts (record { instance = i; node = node }) ≡ Some u = (sight i within).cell_all node u k in
+      let told : (kept_of l).written (place s (At i) x) key (At i, n) ≡ true = keeps.written_all (place s (At i) x) key (At i, n) v w in
+      let written : (past_of l i).written x key n ≡ true = subst (λ (m : Past). m.written x key n ≡ true) (sym (recalls_kept s l placed i within)) told in
+      ap (inserted_by l i x n) seen ∙ inserted_key i n x is ∙ written
 
   -- STATEMENTS
   pub done_statement : {a : Owned} {path : Path} {st : Stmt} → FinishedBy s K (taken_by l ls) a path st → (i : ℕ) → Within i → At i ≡ path → active i st ∈ ls → AllDone s l (statement_goals s l i a st)

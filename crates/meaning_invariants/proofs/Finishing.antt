@@ -65,8 +65,8 @@ module _ (s : Core) (K : Knowledge) (l : Learned) (ls : List Active) (placed : I
   by_insert : (i at n : ℕ) (a : Owned) (x : Name) (k c : Outer) → i < length l.instances.all.items → (o : Option Value) → inserted_by l i x n o ≡ true
       → FinishedBy s K (taken_by l ls) a (At i) (stmt at n (insert x k c))
   by_insert i at n a x k c within (Some (One (Scalar.Number z))) e = by_write i at n a x k c (Key.Number z) within e
+  by_insert i at n a x k c within (Some (One (Scalar.Text t))) e = by_write i at n a x k c (Key.Text t) within e
   by_insert i at n a x k c within (Some (One (Scalar.Truth t))) e = absurd (cc (e))
-  by_insert i at n a x k c within (Some (One (Scalar.Text t))) e = absurd (cc (e))
   by_insert i at n a x k c within (Some (Many es)) e = absurd (cc (e))
   by_insert i at n a x k c within None e = absurd (cc (e))
 

@@ -16,7 +16,7 @@ use Rattle.paths.specs.declared.steps.Step.{Step}
 use Rattle.meaning_facts.specs.declared.instances.Variable.{Variable}
 use Rattle.meaning_facts.specs.declared.learned.Learned.{Learned}
 use Rattle.meaning_facts.specs.Keeping.{IsPlaced}
-use Rattle.meaning_facts.specs.Paths.{path_of, child_at, key_number, same_step, IsOpen, IsTree}
+use Rattle.meaning_facts.specs.Paths.{path_of, child_at, same_step, IsOpen, IsTree}
 use Rattle.meaning_facts.specs.Sighted.{closed_at, scalar_at, sight_of}
 use Rattle.meaning_facts.specs.Store.{elements_from, given_at, spot, value_at, variable_in, variables_in, variables_of, writes_at, writes_under}
 use Rattle.meaning_facts.proofs.Keeping.{name_located, sight_is}
@@ -110,7 +110,7 @@ module _ (s : Core) (K : Knowledge) (levels : ℕ) (l : Learned) (ls : List Acti
         (subst (λ (vs : List Variable). Origin s K (path_of t.all.items j) at k (variable_in vs)) (sym (ap variables_in (stays t u i x g o c h.within))) (far.origins j at k c e))
 
     origins_now : (j at : ℕ) (k : Key) (c : ℕ) → child_at u j at k ≡ Some c → FromAt j at k c
-    origins_now j at k c e = elim (cases_Bool (same_step (i, x.offset, key_number x.key) (j, at, key_number k))) [
+    origins_now j at k c e = elim (cases_Bool (same_step (i, x.offset, x.key) (j, at, k))) [
       | inl same ↦
           let z = same_step_is i j x.offset at x.key k same in
           let number : Some (length t.all.items) ≡ Some c = sym (o.found j at k ∙ ap (λ (b : Bool). if b then Some (length t.all.items) else child_at t j at k) same) ∙ e in

@@ -1,13 +1,13 @@
 -- What the variables of a loop are in a turn.
 use Rattle.std.specs.Prelude.{ℕ, List, [], ◌∷◌, Option, Some, None}
 use Rattle.values.specs.declared.key.Key.{Key}
+use Rattle.values.specs.Keys.{key_scalar}
 use Rattle.language.specs.Core.{Action, range, each}
-use Rattle.language.specs.Facts.{key_value}
 use Rattle.meaning_facts.specs.declared.instances.Variable.{Variable}
 use Rattle.meaning_cells.specs.Chosen.{Chosen, key_in, value_at_turn}
 
 abbrev pub key_variable : Option ℕ → Key → List Variable
-key_variable (Some t) k = record { node = t; value = key_value k } ∷ []
+key_variable (Some t) k = record { node = t; value = key_scalar k } ∷ []
 key_variable None k = []
 
 -- the one for the value, then the one for the number or key of the turn

@@ -129,11 +129,12 @@ fn turn_of<A: Allocator>(
         node,
         value: choice.value(i)?,
     })?;
-    if let Some(key) = key {
-        let Key::Number(number) = key_at(choice, i)?;
+    if let Some(turn) = key {
+        let key = key_at(choice, i)?;
+        let value = key.scalar()?;
         variables.push(Variable {
-            node: key.node,
-            value: Scalar::Number(number),
+            node: turn.node,
+            value,
         })?;
     }
     Ok(variables)

@@ -6,7 +6,7 @@ use Rattle.values.specs.declared.value.Scalar.{Scalar}
 use Rattle.values.specs.declared.value.Value.{Value}
 use Rattle.values.specs.declared.value.Value.TheVariants.{One, Many}
 use Rattle.language.specs.Core.{Core, Name, Cell, Awaited, scalar, array, stmt, Action, declare, call_alone, assign, fill, insert, print, assert, when, choose, range, each, wait, Block}
-use Rattle.language.specs.Facts.{Fault, element, fault, Knowledge, IsKey, a_number}
+use Rattle.language.specs.Facts.{Fault, element, fault, Knowledge, IsKey, a_number, a_text}
 use Rattle.language.specs.Meaning.{Closed, Come, scalar_known, array_closed, HasValue, LiveStmt, Ready, cells_known, source_closed, names_known}
 use Rattle.language.specs.Members.{◌∈◌, first, later}
 use Rattle.language.specs.Openings.{Branches}
@@ -189,13 +189,14 @@ module _ (s : Core) (K : Knowledge) (l : Learned) (tree : IsTree l.instances) (h
 
     inserted_so : (a : Name) (n : ℕ) (o : Option Value) → inserted_by l i a n o ≡ true → (k : Key) × (v : Scalar) × K (element (place s path a) k (path, n) v)
     inserted_so a n (Some (One (Scalar.Number z))) e = let r = recalls.written_so a (Key.Number z) n e in (Key.Number z, r.0, r.1)
+    inserted_so a n (Some (One (Scalar.Text t))) e = let r = recalls.written_so a (Key.Text t) n e in (Key.Text t, r.0, r.1)
     inserted_so a n (Some (One (Scalar.Truth b))) e = absurd (cc (e))
-    inserted_so a n (Some (One (Scalar.Text t))) e = absurd (cc (e))
     inserted_so a n (Some (Many es)) e = absurd (cc (e))
     inserted_so a n None e = absurd (cc (e))
 
     inserted_all : (a : Name) (n : ℕ) (u : Value) (k : Key) (v : Scalar) → IsKey u k → K (element (place s path a) k (path, n) v) → inserted_by l i a n (Some u) ≡ true
     inserted_all a n u k v (a_number {z = z}) x = recalls.written_all a (Key.Number z) n v x
+    inserted_all a n u k v (a_text {bytes = t}) x = recalls.written_all a (Key.Text t) n v x
 
     -- OWN FACTS
 

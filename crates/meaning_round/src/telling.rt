@@ -1,6 +1,7 @@
 //! What a round adds of a live statement, with the values of its outermost cells.
 ghost use Rattle.std.specs.Prelude.{◌≡◌, ◌++◌, ◌∷◌, [], OnOk, Some, map, option_map, option_to_list, pos, true};
 ghost use Rattle.flow.specs.View.{action_view, name_view, outer_view, part_view};
+ghost use Rattle.values.specs.Keys.{key_seen};
 ghost use Rattle.language.specs.Core as core;
 ghost use Rattle.language.specs.Parts.{cells, outer_parts, part_calls, parts};
 ghost use Rattle.meaning_steps.specs.News.{comes_all, key_in, one_in, some_call, with_value};
@@ -20,7 +21,7 @@ use meaning_faults::faults::{add_deep, add_deep_items, add_fault};
 use meaning_faults::site::Site;
 use paths::FaultKind;
 use std::alloc::{AllocError, Allocator, Global};
-use values::key::Key;
+use values::key::KeyRef;
 use values::map::Element;
 use values::value::{Scalar, Value};
 
@@ -115,7 +116,14 @@ fn add_elements(
     ensures inside { OnOk result (StayInside learned.now.instances.all.items site.instance news.old.items news.new.items) }
 {
     for element in elements {
-        add_element(learned, site, array, &element.key, &element.value, news)?;
+        add_element(
+            learned,
+            site,
+            array,
+            element.key.as_ref(),
+            &element.value,
+            news,
+        )?;
     }
     Ok(())
 }
@@ -152,13 +160,16 @@ fn add_pair(
         ≡ facts_view learned.now.instances.all.items news.old.items ++ inserted_news learned.now site (name_view array) (key_in index) (one_in right)) }
     ensures inside { OnOk result (StayInside learned.now.instances.all.items site.instance news.old.items news.new.items) }
 {
-    let Some(Value::One(Scalar::Number(number))) = index else {
+    let Some(index) = index else {
+        return Ok(());
+    };
+    let Some(key) = KeyRef::of_value(&index) else {
         return Ok(());
     };
     let Some(Value::One(value)) = right else {
         return Ok(());
     };
-    add_element(learned, site, array, &Key::Number(number), &value, news)
+    add_element(learned, site, array, key, &value, news)
 }
 
 /// Adds a write of a key, or where it is known and another statement has written the key, the fault.
@@ -166,12 +177,12 @@ fn add_element(
     learned: &Learned,
     site: Site,
     array: Name,
-    key: &Key,
+    key: KeyRef<'_>,
     value: &Scalar,
     news: &mut Vec<Fact>,
 ) -> Result<(), AllocError>
     ensures told { OnOk result (facts_view learned.now.instances.all.items news.new.items
-        ≡ facts_view learned.now.instances.all.items news.old.items ++ element_news learned.now site (name_view array) key.now value.now) }
+        ≡ facts_view learned.now.instances.all.items news.old.items ++ element_news learned.now site (name_view array) (key_seen key.entry) value.now) }
     ensures inside { OnOk result (StayInside learned.now.instances.all.items site.instance news.old.items news.new.items) }
 {
     let place = learned.instances.place(site.instance, array);

@@ -10,7 +10,7 @@ use Rattle.values.specs.declared.value.Value.TheVariants.{One, Many}
 use Rattle.values.specs.Maps.{element as entry}
 use Rattle.values.specs.Ranges.{range_count}
 use Rattle.language.specs.Core.{Name, Cell, Call, Part, inner, calls, Outer, Stmt, stmt, Action, declare, call_alone, assign, fill, insert, print, assert, when, choose, range, each, wait, Block, Core}
-use Rattle.language.specs.Facts.{Fault, operation, element_twice, too_deep, Fact, value, element, line, fault, Knowledge, IsKey, a_number, KnownAll, no_cell, next_cell}
+use Rattle.language.specs.Facts.{Fault, operation, element_twice, too_deep, Fact, value, element, line, fault, Knowledge, IsKey, a_number, a_text, KnownAll, no_cell, next_cell}
 use Rattle.language.specs.Meaning.{Ready, cells_known, source_closed, names_known, Gives, Comes, before, now, ComeAll, none_comes, next_comes, LiveStmt, New, cell_value, cell_fault, assigned, filled, inserted, printed, bad_range, too_deep_header, too_deep_call, written_twice}
 use Rattle.language.specs.Members.{◌∈◌, first, later}
 use Rattle.language.specs.Openings.{Bounds, bounds, Opens, then_alone, then_first, else_second, turn, item}
@@ -153,13 +153,14 @@ opens_found (item i) = item_some i
 
 key_there : (o : Option Value) (k : Key) → key_in o ≡ Some k → (u : Value) × (o ≡ Some u) × IsKey u k
 key_there (Some (One (Scalar.Number z))) k h = (One (Scalar.Number z), refl, subst (λ (j : Key). IsKey (One (Scalar.Number z)) j) (some_same h) a_number)
+key_there (Some (One (Scalar.Text t))) k h = (One (Scalar.Text t), refl, subst (λ (j : Key). IsKey (One (Scalar.Text t)) j) (some_same h) a_text)
 key_there (Some (One (Scalar.Truth t))) k h = absurd (cc (h))
-key_there (Some (One (Scalar.Text t))) k h = absurd (cc (h))
 key_there (Some (Many es)) k h = absurd (cc (h))
 key_there None k h = absurd (cc (h))
 
 key_found : {u : Value} {k : Key} → IsKey u k → key_in (Some u) ≡ Some k
 key_found a_number = refl
+key_found a_text = refl
 
 one_there : (o : Option Value) (v : Scalar) → one_in o ≡ Some v → o ≡ Some (One v)
 one_there (Some (One u)) v h = ap (λ (z : Scalar). Some (One z)) (some_same h)

@@ -60,20 +60,20 @@ right_plain t x sh (value (expression nd (call w es))) = by (t.callee_of w.numbe
     by : (c : Callee) → is_declaration (call_right t x (expression nd (call w es)) w es c) ≡ false
     by (composite i) = refl
     by (built_in b) = refl
-right_plain t x Shape.Array (value (expression nd (variable w))) = refl
+right_plain t x (Shape.Array κ) (value (expression nd (variable w))) = refl
 right_plain t x Shape.Scalar (value (expression nd (variable w))) = refl
 right_plain t x sh (list nd es) = refl
-right_plain t x Shape.Array (value (expression nd (number z))) = refl
+right_plain t x (Shape.Array κ) (value (expression nd (number z))) = refl
 right_plain t x Shape.Scalar (value (expression nd (number z))) = refl
-right_plain t x Shape.Array (value (expression nd (text bytes))) = refl
+right_plain t x (Shape.Array κ) (value (expression nd (text bytes))) = refl
 right_plain t x Shape.Scalar (value (expression nd (text bytes))) = refl
-right_plain t x Shape.Array (value (expression nd (truth b))) = refl
+right_plain t x (Shape.Array κ) (value (expression nd (truth b))) = refl
 right_plain t x Shape.Scalar (value (expression nd (truth b))) = refl
-right_plain t x Shape.Array (value (expression nd (element w i))) = refl
+right_plain t x (Shape.Array κ) (value (expression nd (element w i))) = refl
 right_plain t x Shape.Scalar (value (expression nd (element w i))) = refl
-right_plain t x Shape.Array (value (expression nd (prefixed p e))) = refl
+right_plain t x (Shape.Array κ) (value (expression nd (prefixed p e))) = refl
 right_plain t x Shape.Scalar (value (expression nd (prefixed p e))) = refl
-right_plain t x Shape.Array (value (expression nd (chain os es))) = refl
+right_plain t x (Shape.Array κ) (value (expression nd (chain os es))) = refl
 right_plain t x Shape.Scalar (value (expression nd (chain os es))) = refl
 
 module _ (d o : ℕ → Bool) (apart : (at : ℕ) → d at ≡ true → o at ≡ true → ⊥) where

@@ -1,5 +1,5 @@
 -- What expressions and cells come to by what is seen is just what the meaning's rules give them.
-use Rattle.std.specs.Prelude.{◌≡◌, ℕ, ℤ, Bool, true, false, List, [], ◌∷◌, Option, Some, None, Result, Ok, Err, refl}
+use Rattle.std.specs.Prelude.{◌≡◌, ℕ, Bool, true, false, List, [], ◌∷◌, Option, Some, None, Result, Ok, Err, refl}
 use Rattle.std.proofs.Common.{sym, ap, ◌∙◌, subst}
 use Rattle.values.specs.declared.fault.OpFault.{OpFault}
 use Rattle.values.specs.declared.key.Key.{Key}
@@ -9,7 +9,7 @@ use Rattle.values.specs.declared.value.Value.{Value}
 use Rattle.values.specs.declared.value.Value.TheVariants.{One, Many}
 use Rattle.values.specs.Operators.{Operation}
 use Rattle.language.specs.Core.{Name, Expr, Exprs, literal, name, whole, operator, none, also, Form, compute, read, Core}
-use Rattle.language.specs.Facts.{Fault, Knowledge, IsKey, a_number}
+use Rattle.language.specs.Facts.{Fault, Knowledge, IsKey, a_number, a_text}
 use Rattle.language.specs.Meaning.{ValueUnder, of_literal, of_name, of_array, of_operator, ValuesUnder, no_operand, operand, Gives, computed, faulty, found, missing}
 use Rattle.language.specs.Places.{Path}
 use Rattle.meaning_steps.specs.Environment.{Sight, Sees, Come, one_come, many_come, with_come, operated, worked, worked_all, as_outcome, element_come, read_come, outcome}
@@ -66,19 +66,17 @@ module _ (s : Core) (K : Knowledge) (path : Path) (g : Sight) (h : Sees s K path
   compute_so e (Some (Err f)) r k q = subst (λ (z : Result Value Fault). Gives s K path (compute e) z) (some_same q) (faulty (worked_so e (Err f) k))
   compute_so e None r k q = absurd (cc (q))
 
-  element_so : (a : Name) (i : ℕ) (z : ℤ) (ws : List Scalar) (c : Bool) (r : Result Value Fault) → g.cell i ≡ Some (One (Scalar.Number z)) → g.writes a (Key.Number z) ≡ ws → g.closed a ≡ c
+  element_so : (a : Name) (i : ℕ) (u : Value) (key : Key) (ws : List Scalar) (c : Bool) (r : Result Value Fault) → g.cell i ≡ Some u → IsKey u key → g.writes a key ≡ ws → g.closed a ≡ c
       → element_come ws c ≡ Some r → Gives s K path (read a i) r
-  element_so a i z (v ∷ []) c r k w d q =
-      subst (λ (y : Result Value Fault). Gives s K path (read a i) y) (some_same q) (found (h.cell_so i (One (Scalar.Number z)) k) a_number (h.once_so a (Key.Number z) v w))
-  element_so a i z [] true r k w d q =
-      subst (λ (y : Result Value Fault). Gives s K path (read a i) y) (some_same q) (missing (h.cell_so i (One (Scalar.Number z)) k) a_number (h.closed_so a d) (h.never_so a (Key.Number z) w))
-  element_so a i z [] false r k w d q = absurd (cc (q))
-  element_so a i z (v ∷ u ∷ vs) c r k w d q = absurd (cc (q))
+  element_so a i u key (v ∷ []) c r k is w d q = subst (λ (y : Result Value Fault). Gives s K path (read a i) y) (some_same q) (found (h.cell_so i u k) is (h.once_so a key v w))
+  element_so a i u key [] true r k is w d q = subst (λ (y : Result Value Fault). Gives s K path (read a i) y) (some_same q) (missing (h.cell_so i u k) is (h.closed_so a d) (h.never_so a key w))
+  element_so a i u key [] false r k is w d q = absurd (cc (q))
+  element_so a i u key (v ∷ x ∷ vs) c r k is w d q = absurd (cc (q))
 
   read_so : (a : Name) (i : ℕ) (c : Option Value) (r : Result Value Fault) → g.cell i ≡ c → read_come g a c ≡ Some r → Gives s K path (read a i) r
-  read_so a i (Some (One (Scalar.Number z))) r k q = element_so a i z (g.writes a (Key.Number z)) (g.closed a) r k refl refl q
+  read_so a i (Some (One (Scalar.Number z))) r k q = element_so a i (One (Scalar.Number z)) (Key.Number z) (g.writes a (Key.Number z)) (g.closed a) r k a_number refl refl q
+  read_so a i (Some (One (Scalar.Text t))) r k q = element_so a i (One (Scalar.Text t)) (Key.Text t) (g.writes a (Key.Text t)) (g.closed a) r k a_text refl refl q
   read_so a i (Some (One (Scalar.Truth b))) r k q = absurd (cc (q))
-  read_so a i (Some (One (Scalar.Text t))) r k q = absurd (cc (q))
   read_so a i (Some (Many es)) r k q = absurd (cc (q))
   read_so a i None r k q = absurd (cc (q))
 
@@ -89,6 +87,7 @@ module _ (s : Core) (K : Knowledge) (path : Path) (g : Sight) (h : Sees s K path
 
   key_seen : {u : Value} {k : Key} → IsKey u k → (a : Name) (i : ℕ) → g.cell i ≡ Some u → outcome g (read a i) ≡ element_come (g.writes a k) (g.closed a)
   key_seen a_number a i e = ap (read_come g a) e
+  key_seen a_text a i e = ap (read_come g a) e
 
   -- AND ALL THAT IT HAS
   pub outcome_is : {f : Form} {r : Result Value Fault} → Gives s K path f r → outcome g f ≡ Some r

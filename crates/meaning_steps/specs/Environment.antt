@@ -6,6 +6,7 @@ use Rattle.values.specs.declared.map.Element.{Element}
 use Rattle.values.specs.declared.value.Scalar.{Scalar}
 use Rattle.values.specs.declared.value.Value.{Value}
 use Rattle.values.specs.declared.value.Value.TheVariants.{One, Many}
+use Rattle.values.specs.Keys.{value_key}
 use Rattle.values.specs.Operators.{Operation, evaluated}
 use Rattle.language.specs.Core.{Name, Expr, Exprs, literal, name, whole, operator, none, also, Form, compute, read, Core}
 use Rattle.language.specs.Facts.{Fault, operation, no_element, value, element, Knowledge, Elements, OneWrite}
@@ -84,11 +85,13 @@ element_come [] true = Some (Err no_element)
 element_come [] false = None
 element_come (v ∷ u ∷ vs) c = None
 
+abbrev pub element_under : Sight → Name → Option Key → Outcome
+element_under g a (Some k) = element_come (g.writes a k) (g.closed a)
+element_under g a None = None
+
+-- an element by the value of the index
 abbrev pub read_come : Sight → Name → Option Value → Outcome
-read_come g a (Some (One (Scalar.Number z))) = element_come (g.writes a (Key.Number z)) (g.closed a)
-read_come g a (Some (One (Scalar.Truth b))) = None
-read_come g a (Some (One (Scalar.Text t))) = None
-read_come g a (Some (Many es)) = None
+read_come g a (Some v) = element_under g a (value_key v)
 read_come g a None = None
 
 abbrev pub outcome : Sight → Form → Outcome

@@ -6,6 +6,7 @@ use Rattle.values.specs.declared.map.Element.{Element}
 use Rattle.values.specs.declared.value.Scalar.{Scalar}
 use Rattle.values.specs.declared.value.Value.{Value}
 use Rattle.values.specs.declared.value.Value.TheVariants.{One, Many}
+use Rattle.values.specs.Keys.{value_key}
 use Rattle.values.specs.Maps.{element as entry}
 use Rattle.values.specs.Ranges.{range_count}
 use Rattle.language.specs.Core.{Name, Cell, Call, Outer, Stmt, stmt, Action, assign, fill, insert, print, when, choose, range, each, Core}
@@ -95,10 +96,7 @@ filled_told s m path at n a (Some (One v)) = []
 filled_told s m path at n a None = []
 
 abbrev pub key_in : Option Value → Option Key
-key_in (Some (One (Scalar.Number z))) = Some (Key.Number z)
-key_in (Some (One (Scalar.Truth t))) = None
-key_in (Some (One (Scalar.Text t))) = None
-key_in (Some (Many es)) = None
+key_in (Some v) = value_key v
 key_in None = None
 
 abbrev pub one_in : Option Value → Option Scalar

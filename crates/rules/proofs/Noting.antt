@@ -1,16 +1,10 @@
 -- Slots that are noted, and slots that shrink.
 use Rattle.std.proofs.Common.{arith, ◌≡◌, ◌≢◌, ◌⊎◌, inl, inr, ℕ, suc, zero, ◌+◌, ◌*◌, ◌<◌, ◌≤◌, ◌%◌, ◌^◌, ◌==◌, ◌||◌, Bool, true, false, not, cond, nat_eq, count_by, is_some, List, [], ◌∷◌, length, filter, take, get_or, Option, Some, None, refl, sym, ap, subst, ◌∙◌, Contains}
-use Rattle.std.specs.Prelude.{ℤ}
 use Rattle.std.specs.List.{list_any}
-use Rattle.std.specs.Ordering.{int_eq}
 use Rattle.std.proofs.lemmas.Bool.{cases_eq, cases_lt, cases_Bool, or_cases, and_parts}
-use Rattle.std.proofs.lemmas.Int.{ints}
 use Rattle.std.proofs.lemmas.List.{get_or_past}
 use Rattle.std.proofs.lemmas.List.Folds.{list_any_more}
 use Rattle.std.proofs.lemmas.List.Sums.{sum_by-cons}
-use Rattle.values.specs.Keys.{same_key}
-use Rattle.values.specs.declared.key.Key.{Key}
-use Rattle.values.specs.declared.key.Key.TheVariants.{Number}
 use Rattle.rules.specs.declared.input.Input.{Input}
 use Rattle.rules.specs.declared.input.Input.TheVariants.{Whole, Element}
 use Rattle.rules.specs.declared.places.Note.{Note}
@@ -18,7 +12,7 @@ use Rattle.rules.specs.Inputs.{covers}
 use Rattle.rules.specs.Waiting.{Waiting, is_ready, with_known}
 use Rattle.rules.specs.Slots.{after_slot, unless_item, is_idle, AllBusy, IsSettled, Shrinks}
 use Rattle.slab.specs.Slab.{Slab}
-use Rattle.rules.specs.Places.{Noted, IsKept, Grows, IsNoted, IsFound, IsAt, is_at, needs, slot_needs, address, datum, key_bits}
+use Rattle.rules.specs.Places.{Noted, IsKept, Grows, IsNoted, IsFound, IsAt, is_at, needs, slot_needs, address, datum}
 
 pub true_false : true ≡ false → ⊥
 true_false e = cc
@@ -29,9 +23,6 @@ or_first x y e = rw e refl
 or_second : (x y : Bool) → y ≡ true → (x || y) ≡ true
 or_second true y e = refl
 or_second false y e = e
-
-int_sound : (p q : ℤ) → int_eq p q ≡ true → p ≡ q
-int_sound p q h = grind (arith, ints)
 
 nat_sound : (m n : ℕ) → nat_eq m n ≡ true → m ≡ n
 nat_sound m n h = grind arith
@@ -118,9 +109,6 @@ count_next slots at =
     let e : suc at ≡ at + 1 = omega arith in
     subst (λ m. count_by is_some (take m slots) ≡ count_by is_some (take at slots) + cond (is_some (get_or slots at None)) 1 0) e (count_more slots at)
 
-same_bits : (k l : Key) → same_key k l ≡ true → key_bits k ≡ key_bits l
-same_bits (Number a) (Number b) h = ap (λ z. key_bits (Number z)) (int_sound a b h)
-
 equal_at : (a b : ℕ) → a ≡ b → nat_eq b a ≡ true
 equal_at a b e = subst (λ m. nat_eq m a ≡ true) e (nat_itself a)
 
@@ -130,9 +118,8 @@ covers_at (Whole a) (Whole b) h = or_first _ _ (equal_at (a % 2 ^ 32) (b % 2 ^ 3
 covers_at (Whole a) (Element b k) h = or_second _ _ (equal_at (a % 2 ^ 32) (b % 2 ^ 32) (ap (λ d. d % 2 ^ 32) (nat_sound a b h)))
 covers_at (Element a k) (Whole b) h = absurd (true_false (sym h))
 covers_at (Element a k) (Element b l) h =
-    let parts = and_parts (nat_eq a b) (same_key k l) h in
-    or_first _ _ (equal_at (address (Element a k)) (address (Element b l))
-    (ap (λ d. (d * 11400714819323198485 % 2 ^ 64 + key_bits k) % 2 ^ 64 % 2 ^ 32) (nat_sound a b parts.0) ∙ ap (λ m. (b * 11400714819323198485 % 2 ^ 64 + m) % 2 ^ 64 % 2 ^ 32) (same_bits k l parts.1)))
+    let parts = and_parts (nat_eq a b) (nat_eq k l) h in
+    or_first _ _ (equal_at (address (Element a k)) (address (Element b l)) (λ i. address (Element (nat_sound a b parts.0 i) (nat_sound k l parts.1 i))))
 
 or_false : (x y : Bool) → (x || y) ≡ false → (x ≡ false) × (y ≡ false)
 or_false true y h = absurd (true_false h)

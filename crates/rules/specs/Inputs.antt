@@ -1,12 +1,11 @@
 -- What becomes known with an input.
 use Rattle.std.specs.Prelude.{Bool, false, ◌==◌, ◌&&◌}
-use Rattle.values.specs.Keys.{same_key}
 use Rattle.rules.specs.declared.input.Input.{Input}
 use Rattle.rules.specs.declared.input.Input.TheVariants.{Whole, Element}
 
--- once i is known, so is j: they are the same, or i is a closed array and j one of its elements
+-- once i is known, so is j: they are the same, or i is a closed array and j one of its elements; elements are told by their marks
 abbrev pub covers : Input → Input → Bool
 covers (Whole a) (Whole b) = a == b
 covers (Whole a) (Element b k) = a == b
 covers (Element a k) (Whole b) = false
-covers (Element a k) (Element b l) = (a == b) && same_key k l
+covers (Element a k) (Element b l) = (a == b) && (k == l)

@@ -1,6 +1,5 @@
 -- What a waiter keeps of its inputs.
 use Rattle.std.specs.Prelude.{List, [], ◌∷◌}
-use Rattle.values.specs.declared.key.Key.TheVariants.{Number}
 use Rattle.rules.specs.declared.input.Input.{Input}
 use Rattle.rules.specs.declared.input.Input.TheVariants.{Whole, Element}
 use Rattle.rules.specs.declared.missing.Missing.{Missing}
@@ -12,11 +11,11 @@ use Rattle.rules.specs.declared.missing.Listed.TheVariants as Lists
 abbrev pub inputs_in : Missing → List Input
 inputs_in Nothing = []
 inputs_in (OneWhole a) = Whole a ∷ []
-inputs_in (OneElement a k) = Element a (Number k) ∷ []
+inputs_in (OneElement a k) = Element a k ∷ []
 inputs_in (TwoWholes a b) = Whole a ∷ Whole b ∷ []
-inputs_in (WholeAndElement a b l) = Whole a ∷ Element b (Number l) ∷ []
-inputs_in (ElementAndWhole a k b) = Element a (Number k) ∷ Whole b ∷ []
-inputs_in (TwoElements a k b l) = Element a (Number k) ∷ Element b (Number l) ∷ []
+inputs_in (WholeAndElement a b l) = Whole a ∷ Element b l ∷ []
+inputs_in (ElementAndWhole a k b) = Element a k ∷ Whole b ∷ []
+inputs_in (TwoElements a k b l) = Element a k ∷ Element b l ∷ []
 inputs_in (More list) = list.items
 
 -- the inputs, in their order

@@ -1,19 +1,12 @@
 -- Where the items that wait for an input are found.
 use Rattle.std.specs.Prelude.{◌≡◌, ◌≢◌, ◌⊎◌, ℕ, ◌+◌, ◌-◌, ◌*◌, ◌<◌, ◌≤◌, ◌%◌, ◌^◌, ◌==◌, ◌||◌, Bool, true, false, List, length, Option, Some, None, slice_index_or, Contains}
 use Rattle.std.specs.List.{list_any}
-use Rattle.std.specs.Int.{w64, cast_unsigned}
-use Rattle.values.specs.declared.key.Key.{Key}
-use Rattle.values.specs.declared.key.Key.TheVariants.{Number}
 use Rattle.rules.specs.declared.input.Input.{Input}
 use Rattle.rules.specs.declared.input.Input.TheVariants.{Whole, Element}
 use Rattle.rules.specs.declared.places.Note.{Note}
 use Rattle.slab.specs.Slab.{Slab, slab_len}
 use Rattle.rules.specs.Slots.{AllBusy}
 use Rattle.rules.specs.Waiting.{Waiting}
-
--- the bits of a key
-abbrev pub key_bits : Key → ℕ
-key_bits (Number n) = cast_unsigned w64 n
 
 -- the low 32 bits of the datum of an input
 abbrev pub datum : Input → ℕ
@@ -23,7 +16,7 @@ datum (Element d k) = d % 2 ^ 32
 -- the number under which those that wait for an input are noted
 abbrev pub address : Input → ℕ
 address (Whole d) = d % 2 ^ 32
-address (Element d k) = (d * 11400714819323198485 % 2 ^ 64 + key_bits k) % 2 ^ 64 % 2 ^ 32
+address (Element d k) = (d * 11400714819323198485 % 2 ^ 64 + k) % 2 ^ 64 % 2 ^ 32
 
 -- who misses the input is noted at this address
 abbrev pub is_at : ℕ → Input → Bool

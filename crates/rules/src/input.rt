@@ -3,8 +3,6 @@ ghost use Rattle.std.specs.Prelude.{◌≡◌, ◌%◌, ◌^◌};
 ghost use Rattle.rules.specs.Inputs.{covers};
 ghost use Rattle.rules.specs.Places.{address, datum, is_at};
 
-use values::key::Key;
-
 // Lays the elements of one array far from those of another.
 const SPREAD: u64 = 11_400_714_819_323_198_485;
 
@@ -13,8 +11,8 @@ const SPREAD: u64 = 11_400_714_819_323_198_485;
 pub enum Input {
     /// A datum as a whole: a scalar that is stored, or an array that is closed.
     Whole(u64),
-    /// The element of an array under a key.
-    Element(u64, Key),
+    /// An element of an array under a key of this mark.
+    Element(u64, u64),
 }
 
 impl Default for Input {
@@ -32,7 +30,7 @@ impl Input {
             (Input::Whole(a), Input::Whole(b)) => *a == *b,
             (Input::Whole(a), Input::Element(b, _)) => *a == *b,
             (Input::Element(_, _), Input::Whole(_)) => false,
-            (Input::Element(a, k), Input::Element(b, l)) => *a == *b && k.is_same(l),
+            (Input::Element(a, k), Input::Element(b, l)) => *a == *b && *k == *l,
         }
     }
 
@@ -42,9 +40,7 @@ impl Input {
     {
         match self {
             Input::Whole(datum) => low(*datum),
-            Input::Element(datum, Key::Number(n)) => {
-                low(datum.wrapping_mul(SPREAD).wrapping_add(n.cast_unsigned()))
-            }
+            Input::Element(datum, mark) => low(datum.wrapping_mul(SPREAD).wrapping_add(*mark)),
         }
     }
 

@@ -1,28 +1,25 @@
 //! What an item misses, in few words.
 ghost use Rattle.std.specs.Prelude.{◌≡◌, ◌≢◌, ◌<◌, Vec, [], ◌∷◌, ◌==◌, not, length, filter};
 ghost use Rattle.std.specs.Global.{Global};
-ghost use Rattle.values.specs.declared.key.Key.TheVariants.{Number};
 ghost use Rattle.rules.specs.declared.input.Input.{Input};
-ghost use Rattle.rules.specs.declared.input.Input.TheVariants.{Element};
 ghost use Rattle.rules.specs.declared.missing.Missing.TheVariants.{More};
 ghost use Rattle.rules.specs.Inputs.{covers};
 ghost use Rattle.rules.specs.Missing.{inputs_in, inputs_of};
 
 use crate::input::Input;
 use smallvec::SmallVec;
-use values::key::Key;
 
 /// The inputs that an item misses, in their order: one or two in as few words as that takes, a datum by its number and an element by
-/// those of its array and its key, and more in a list.
+/// those of its array and its mark, and more in a list.
 #[derive(Drop)]
 pub enum Missing {
     Nothing,
     OneWhole(u64),
-    OneElement(u64, i64),
+    OneElement(u64, u64),
     TwoWholes(u64, u64),
-    WholeAndElement(u64, u64, i64),
-    ElementAndWhole(u64, i64, u64),
-    TwoElements(u64, i64, u64, i64),
+    WholeAndElement(u64, u64, u64),
+    ElementAndWhole(u64, u64, u64),
+    TwoElements(u64, u64, u64, u64),
     More(Vec<Input>),
 }
 
@@ -42,7 +39,7 @@ fn one(input: &Input) -> Missing
 {
     match input {
         Input::Whole(a) => Missing::OneWhole(*a),
-        Input::Element(a, Key::Number(k)) => Missing::OneElement(*a, *k),
+        Input::Element(a, k) => Missing::OneElement(*a, *k),
     }
 }
 
@@ -53,15 +50,9 @@ fn two(first: &Input, second: &Input) -> Missing
 {
     match (first, second) {
         (Input::Whole(a), Input::Whole(b)) => Missing::TwoWholes(*a, *b),
-        (Input::Whole(a), Input::Element(b, Key::Number(l))) => {
-            Missing::WholeAndElement(*a, *b, *l)
-        }
-        (Input::Element(a, Key::Number(k)), Input::Whole(b)) => {
-            Missing::ElementAndWhole(*a, *k, *b)
-        }
-        (Input::Element(a, Key::Number(k)), Input::Element(b, Key::Number(l))) => {
-            Missing::TwoElements(*a, *k, *b, *l)
-        }
+        (Input::Whole(a), Input::Element(b, l)) => { Missing::WholeAndElement(*a, *b, *l) }
+        (Input::Element(a, k), Input::Whole(b)) => { Missing::ElementAndWhole(*a, *k, *b) }
+        (Input::Element(a, k), Input::Element(b, l)) => { Missing::TwoElements(*a, *k, *b, *l) }
     }
 }
 
@@ -147,11 +138,20 @@ impl Missing {
         match self {
             Missing::Nothing => Listed::Nothing,
             Missing::OneWhole(a) => Listed::One(Input::Whole(*a)),
-            Missing::OneElement(a, k) => Listed::One(element(*a, *k)),
+            Missing::OneElement(a, k) => Listed::One(Input::Element(*a, *k)),
             Missing::TwoWholes(a, b) => Listed::Two(Input::Whole(*a), Input::Whole(*b)),
-            Missing::WholeAndElement(a, b, l) => Listed::Two(Input::Whole(*a), element(*b, *l)),
-            Missing::ElementAndWhole(a, k, b) => Listed::Two(element(*a, *k), Input::Whole(*b)),
-            Missing::TwoElements(a, k, b, l) => Listed::Two(element(*a, *k), element(*b, *l)),
+            Missing::WholeAndElement(a, b, l) => Listed::Two(
+                Input::Whole(*a),
+                Input::Element(*b, *l),
+            ),
+            Missing::ElementAndWhole(a, k, b) => Listed::Two(
+                Input::Element(*a, *k),
+                Input::Whole(*b),
+            ),
+            Missing::TwoElements(a, k, b, l) => Listed::Two(
+                Input::Element(*a, *k),
+                Input::Element(*b, *l),
+            ),
             Missing::More(list) => Listed::More(list.as_slice()),
         }
     }
@@ -165,16 +165,16 @@ impl Missing {
         match self {
             Missing::Nothing => Missing::Nothing,
             Missing::OneWhole(a) => left_of_one(input, &Input::Whole(*a)),
-            Missing::OneElement(a, k) => left_of_one(input, &element(*a, *k)),
+            Missing::OneElement(a, k) => left_of_one(input, &Input::Element(*a, *k)),
             Missing::TwoWholes(a, b) => left_of_two(input, &Input::Whole(*a), &Input::Whole(*b)),
             Missing::WholeAndElement(a, b, l) => {
-                left_of_two(input, &Input::Whole(*a), &element(*b, *l))
+                left_of_two(input, &Input::Whole(*a), &Input::Element(*b, *l))
             }
             Missing::ElementAndWhole(a, k, b) => {
-                left_of_two(input, &element(*a, *k), &Input::Whole(*b))
+                left_of_two(input, &Input::Element(*a, *k), &Input::Whole(*b))
             }
             Missing::TwoElements(a, k, b, l) => {
-                left_of_two(input, &element(*a, *k), &element(*b, *l))
+                left_of_two(input, &Input::Element(*a, *k), &Input::Element(*b, *l))
             }
             Missing::More(_) => unreachable!(),
         }
@@ -190,12 +190,4 @@ impl Missing {
         }
         *self = self.left(input);
     }
-}
-
-/// The element under the number.
-#[inline(always)]
-fn element(array: u64, number: i64) -> Input
-    ensures { result ≡ Element array (Number number) }
-{
-    Input::Element(array, Key::Number(number))
 }

@@ -53,7 +53,7 @@ one_more C [] e first old new same step = (new, subst (λ (x : CodeState). CodeS
 one_more C (x ∷ events) e first old new (mid, here, rest) step = (mid, here, one_more C events e mid old new rest step)
 
 -- a run by engines and workers is a run
-is_run : (C : Code) (engines workers : ℕ) (events : List Event) (n : ℕ) (st : CodeState) → RunsTo C engines workers events n st → Run C events st
+pub is_run : (C : Code) (engines workers : ℕ) (events : List Event) (n : ℕ) (st : CodeState) → RunsTo C engines workers events n st → Run C events st
 is_run C e k _ _ _ nothing = refl
 is_run C e k _ _ _ (begins {events = events} {news = n} {w = w} {number = i} {old = old} {new = new} runs step item there is place newly) = one_more C events (Begin w i) (start (code_system C)) old new (is_run C e k events n old runs) step
 is_run C e k _ _ _ (ends {events = events} {news = n} {w = w} {number = i} {old = old} {new = new} runs step theirs newly) = one_more C events (Over w i) (start (code_system C)) old new (is_run C e k events n old runs) step

@@ -62,7 +62,7 @@ pub fn mean_prints_the_meaning()
         → Owes (Mean file rounds) files out out_new err err_new trace trace_new number → (number ≡ 0) ⊎ ((number ≡ 3) ⊎ (number ≡ 4)) → PrintsMeaning files rounds out out_new }
 {}
 
-/// The status of a process tells its cause: 0 that all is done, 1 that the text of a file is refused, 2 that the line asks for
+/// The number that `command` answers tells its cause: 0 that all is done, 1 that the text of a file is refused, 2 that the line asks for
 /// engines and workers that there cannot be, 3 that there is a fault, 4 that statements are blocked, 5 that there were as many
 /// events or rounds as were allowed, 6 that it was stopped for want of memory, 7 that a file, a trace, a write or a thread
 /// failed. It is 7 wherever a write of what is printed or traced failed, and wherever the first file cannot be read.

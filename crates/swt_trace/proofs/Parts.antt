@@ -1,7 +1,13 @@
 -- A text that is written in parts.
 use Rattle.std.proofs.Common.{◌≡◌, ◌∙◌, sym, ap, refl, ℕ, zero, suc, ◌+◌, ◌<◌, List, [], ◌∷◌, ◌++◌, length, get_or, take, drop, arith, append-nil, append_assoc, Result, Ok, Err, OnErr}
+use Rattle.std.specs.Fmt.{decimal, signed_decimal}
 use Rattle.std.specs.List.{flat_map}
+use Rattle.std.specs.Prelude.{ℤ}
+use Rattle.paths.specs.declared.steps.Step.{Step}
 use Rattle.values.specs.Sinks.{Beginning}
+use Rattle.values.specs.declared.key.Key.{Key}
+use Rattle.values.specs.declared.key.Key.TheVariants.{Number, Text}
+use Rattle.swt_trace.specs.Report.{key_text, quoted, step_text}
 use Rattle.swt_trace.proofs.Pieces.{beginning_in}
 
 -- a beginning of the first part is one of the whole
@@ -61,3 +67,10 @@ next_text f xs i d old mid new part l m p n =
     n ∙ ap (λ ys. ys ++ part) m ∙ append_assoc old (flat_map f (take i xs)) part
     ∙ ap (λ ys. old ++ (flat_map f (take i xs) ++ ys)) p
     ∙ ap (λ ys. old ++ ys) (sym (texts_next f xs i d l)) ∙ ap (λ k. old ++ flat_map f (take k xs)) next
+
+-- the text of a step, by the kind of its key
+pub number_step : (s : Step) (z : ℤ) → s.key ≡ Number z → 47 ∷ decimal s.offset ++ 46 ∷ signed_decimal z ≡ step_text s
+number_step s z e = ap (λ (k : Key). 47 ∷ decimal s.offset ++ 46 ∷ key_text k) (sym e)
+
+pub text_step : (s : Step) (bytes : List ℕ) → s.key ≡ Text bytes → (47 ∷ decimal s.offset ++ 46 ∷ []) ++ quoted bytes ≡ step_text s
+text_step s bytes e = ap (λ xs. 47 ∷ xs) (append_assoc (decimal s.offset) (46 ∷ []) (quoted bytes)) ∙ ap (λ (k : Key). 47 ∷ decimal s.offset ++ 46 ∷ key_text k) (sym e)

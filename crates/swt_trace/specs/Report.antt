@@ -1,5 +1,5 @@
 -- The texts of reports, and of their traces.
-use Rattle.std.specs.Prelude.{ℕ, List, [], ◌∷◌, ◌++◌, length, codes, Some}
+use Rattle.std.specs.Prelude.{ℕ, ◌==◌, List, [], ◌∷◌, ◌++◌, length, codes, Some, if◌then◌else◌}
 use Rattle.std.specs.List.{flat_map}
 use Rattle.std.specs.Fmt.{decimal, signed_decimal}
 use Rattle.paths.specs.declared.faults.Fault.{Fault}
@@ -10,7 +10,7 @@ use Rattle.board_runs.specs.declared.report.End.{End}
 use Rattle.board_runs.specs.declared.report.End.TheVariants as Ends
 use Rattle.board_runs.specs.declared.report.Report.{Report}
 use Rattle.values.specs.declared.key.Key.{Key}
-use Rattle.values.specs.declared.key.Key.TheVariants.{Number}
+use Rattle.values.specs.declared.key.Key.TheVariants.{Number, Text}
 use Rattle.swt_trace.specs.declared.ending.Ending.{Ending}
 use Rattle.swt_trace.specs.declared.ending.Ending.TheVariants as Named
 use Rattle.swt_trace.specs.Trace.{TraceText}
@@ -19,9 +19,20 @@ use Rattle.swt_trace.specs.Trace.{TraceText}
 abbrev pub text_line : List ℕ → List ℕ
 text_line bytes = bytes ++ 10 ∷ []
 
--- a key in decimal, with `-` below 0
+-- a byte of a text, as a string of a script spells it: 10, 9, `\` and `"` behind a `\`
+abbrev pub spelled : ℕ → List ℕ
+spelled b =
+    if b == 10 then 92 ∷ 110 ∷ []
+    else (if b == 9 then 92 ∷ 116 ∷ [] else (if b == 92 then 92 ∷ 92 ∷ [] else (if b == 34 then 92 ∷ 34 ∷ [] else b ∷ [])))
+
+-- a text between quotes
+abbrev pub quoted : List ℕ → List ℕ
+quoted bytes = 34 ∷ flat_map spelled bytes ++ 34 ∷ []
+
+-- a number in decimal, with `-` below 0, or a text between quotes
 abbrev pub key_text : Key → List ℕ
 key_text (Number z) = signed_decimal z
+key_text (Text bytes) = quoted bytes
 
 -- `/node.key`
 abbrev pub step_text : Step → List ℕ

@@ -2,13 +2,14 @@
 //!
 //! Its text has each line that the run printed, in the order of printing. Then come the statements that are blocked where
 //! the run ended quiet, the fault where it met one, or else the limit. A path is `/` for the script, or `/node.key` for
-//! each step from the outermost on.
+//! each step from the outermost on. A key that is a text stands between quotes, as a string of a script spells it.
 ghost use Rattle.std.specs.Prelude.{◌≡◌, ◌<◌, ◌≤◌, ◌+◌, ◌++◌, ◌∷◌, [], length, codes, decimal, OnOk, OnErr};
+ghost use Rattle.std.specs.Fmt.{signed_decimal};
 ghost use Rattle.std.specs.List.{flat_map};
 ghost use Rattle.pages.specs.Pages.{OnPage};
 ghost use Rattle.values.specs.Sinks.{Beginning};
 ghost use Rattle.paths.specs.Names.{fault_name};
-ghost use Rattle.swt_trace.specs.Report.{ReportText, text_line, key_text, step_text, path_text, statement_text, blocked_line, fault_line, limit_line, end_text};
+ghost use Rattle.swt_trace.specs.Report.{ReportText, text_line, quoted, spelled, step_text, path_text, statement_text, blocked_line, fault_line, limit_line, end_text};
 
 use crate::fault::WriteFault;
 use arrayvec::ArrayString;
@@ -226,23 +227,97 @@ fn write_steps<W: Sink>(steps: &Vec<Step>, sink: &mut W) -> Result<(), SinkFault
     ensures none_failed { OnOk result (W.failures sink.new ≡ W.failures sink.old) }
 {
     for step in steps {
-        let text = text_of_step(step);
-        write_all(sink, text.as_str().as_bytes())?;
+        write_step(step, sink)?;
     }
     Ok(())
 }
 
-/// The text of a step.
-fn text_of_step(step: &Step) -> ArrayString<LONGEST_STEP>
-    ensures { result.bytes ≡ step_text step.now }
+/// Writes a step.
+fn write_step<W: Sink>(step: &Step, sink: &mut W) -> Result<(), SinkFault>
+    requires { W.failures sink.old < u64.MAX }
+    ensures ok { OnOk result (W.taken sink.new ≡ W.taken sink.old ++ step_text step.now) }
+    ensures err { OnErr result (Beginning (W.taken sink.old) (step_text step.now) (W.taken sink.new)) }
+    ensures failed { OnErr result (W.failures sink.old < W.failures sink.new) }
+    ensures none_failed { OnOk result (W.failures sink.new ≡ W.failures sink.old) }
+{
+    match &step.key {
+        Key::Number(number) => {
+            let text = text_to_number(step.offset, *number);
+            write_all(sink, text.as_str().as_bytes())
+        }
+        Key::Text(key) => {
+            let start = start_of_step(step.offset);
+            write_all(sink, start.as_str().as_bytes())?;
+            write_quoted(key.as_bytes(), sink)
+        }
+    }
+}
+
+/// The text of a step to a number.
+fn text_to_number(offset: usize, number: i64) -> ArrayString<LONGEST_STEP>
+    ensures { result.bytes ≡ 47 ∷ decimal offset ++ 46 ∷ signed_decimal number }
 {
     let mut text = ArrayString::new();
     let mut buffer = Buffer::new();
     text.push_str("/");
-    text.push_str(buffer.format(step.offset));
+    text.push_str(buffer.format(offset));
     text.push_str(".");
-    match &step.key {
-        Key::Number(number) => text.push_str(buffer.format(*number)),
-    }
+    text.push_str(buffer.format(number));
     text
+}
+
+/// What the text of a step begins with.
+fn start_of_step(offset: usize) -> ArrayString<LONGEST_STEP>
+    ensures { result.bytes ≡ 47 ∷ decimal offset ++ 46 ∷ [] }
+{
+    let mut text = ArrayString::new();
+    let mut buffer = Buffer::new();
+    text.push_str("/");
+    text.push_str(buffer.format(offset));
+    text.push_str(".");
+    text
+}
+
+/// Writes a text between quotes, as a string of a script spells it.
+fn write_quoted<W: Sink>(bytes: &[u8], sink: &mut W) -> Result<(), SinkFault>
+    requires { W.failures sink.old < u64.MAX }
+    ensures ok { OnOk result (W.taken sink.new ≡ W.taken sink.old ++ quoted bytes.now) }
+    ensures err { OnErr result (Beginning (W.taken sink.old) (quoted bytes.now) (W.taken sink.new)) }
+    ensures failed { OnErr result (W.failures sink.old < W.failures sink.new) }
+    ensures none_failed { OnOk result (W.failures sink.new ≡ W.failures sink.old) }
+{
+    write_all(sink, b"\"")?;
+    write_spelled(bytes, sink)?;
+    write_all(sink, b"\"")
+}
+
+/// Writes the bytes of a text, as a string of a script spells them.
+fn write_spelled<W: Sink>(bytes: &[u8], sink: &mut W) -> Result<(), SinkFault>
+    requires { W.failures sink.old < u64.MAX }
+    ensures ok { OnOk result (W.taken sink.new ≡ W.taken sink.old ++ flat_map spelled bytes.now) }
+    ensures err { OnErr result (Beginning (W.taken sink.old) (flat_map spelled bytes.now) (W.taken sink.new)) }
+    ensures failed { OnErr result (W.failures sink.old < W.failures sink.new) }
+    ensures none_failed { OnOk result (W.failures sink.new ≡ W.failures sink.old) }
+{
+    for byte in bytes {
+        write_byte(*byte, sink)?;
+    }
+    Ok(())
+}
+
+/// Writes a byte of a text, as a string of a script spells it.
+fn write_byte<W: Sink>(byte: u8, sink: &mut W) -> Result<(), SinkFault>
+    requires { W.failures sink.old < u64.MAX }
+    ensures ok { OnOk result (W.taken sink.new ≡ W.taken sink.old ++ spelled byte) }
+    ensures err { OnErr result (Beginning (W.taken sink.old) (spelled byte) (W.taken sink.new)) }
+    ensures failed { OnErr result (W.failures sink.old < W.failures sink.new) }
+    ensures none_failed { OnOk result (W.failures sink.new ≡ W.failures sink.old) }
+{
+    match byte {
+        b'\n' => write_all(sink, b"\\n"),
+        b'\t' => write_all(sink, b"\\t"),
+        b'\\' => write_all(sink, b"\\\\"),
+        b'"' => write_all(sink, b"\\\""),
+        _ => write_all(sink, &[byte]),
+    }
 }

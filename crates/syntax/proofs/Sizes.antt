@@ -14,8 +14,8 @@ use Rattle.lexer.proofs.Items.{only_tokens, spans_rise}
 use Rattle.lexer.specs.declared.token.TokenKind.{TokenKind}
 use Rattle.lexer.specs.declared.token.TokenKind.TheVariants as Kind
 use Rattle.language.specs.Kinds.{repeats}
-use Rattle.language.specs.Rules.{Place, Rule, The, ◌⋆◌, ◌▹◌, ◌◃◌, Nothing, Never, Many, Maybe, AtMostOne, Perhaps, Made, cons, Commas, Round, Square, Deeper}
-use Rattle.language.specs.Grammar.{first_of, node, word, chained, shape_of, signed, IsName, IsOperator, Repeated, IsChain, IsExprOver, AreArguments, IsUnaryOver, a_not, a_negative, a_number, a_string, a_true, a_false, a_name, an_element, a_call, a_parenthesis, IsUnary, IsExpr, IsType, IsDecl, AreParameters, AreNames, IsCall, IsRight, a_value, a_list, IsRange, IsSource, an_array, a_range}
+use Rattle.language.specs.Rules.{Place, Rule, The, ◌⋆◌, ◌▹◌, ◌◃◌, Never, Many, Maybe, AtMostOne, Perhaps, Made, cons, Commas, Round, Square, Deeper}
+use Rattle.language.specs.Grammar.{first_of, node, word, chained, shape_of, keys_of, signed, IsName, IsOperator, Repeated, IsChain, IsExprOver, AreArguments, IsUnaryOver, a_not, a_negative, a_number, a_string, a_true, a_false, a_name, an_element, a_call, a_parenthesis, IsUnary, IsExpr, IsType, AreKeys, IsDecl, AreParameters, AreNames, IsCall, IsRight, a_value, a_list, IsRange, IsSource, an_array, a_range}
 use Rattle.language.specs.Grammar.{IsPrio, IsSmall, IsPriority, IsElse, a_block, IsStmtOver, a_declaration, an_assignment, a_write, many_assigned, an_if, a_foreach, a_wait, IsBlockOver, IsStmt, IsModule, io, assert, string, IsPart, an_import, a_function, a_statement, IsScript}
 use Rattle.language.specs.Numbered.{expression_size, expressions_size, word_size, declaration_size, right_size, calling_size, option_size, over_size, statement_size, command_size, body_size, statements_size, part_size, tree_size}
 
@@ -67,9 +67,6 @@ made_fits make g one less = record { fits = λ s b u (a, first, is). fewer (one.
 
 pub less_fits : {A : Type 0} {f : A → ℕ} {R : Rule A} (g : A → ℕ) → Fits f R → ((a : A) → g a ≤ f a) → Fits g R
 less_fits g one less = record { fits = λ s a u is. fewer (one.fits s a u is) (less a) }
-
-pub nothing_fits : Fits (λ a. 0) Nothing
-nothing_fits = record { fits = λ s a u is. none s u is }
 
 pub never_fits : {A : Type 0} (f : A → ℕ) → Fits f Never
 never_fits f = record { fits = λ s a u is. absurd is }
@@ -188,10 +185,13 @@ expr_fits depth = over_fits (depth_fits depth)
 type_fits : Fits (λ b. 2) IsType
 type_fits = record { fits = λ s b u (t, here, base). (the_fits t.kind).fits s t u here }
 
+keys_fits : Fits (λ κ. 0) AreKeys
+keys_fits = made_fits (λ s x u. keys_of x) (λ κ. 0) (maybe_fits (the_fits Kind.String)) (λ s x u. omega arith)
+
 decl_fits : (depth : ℕ) → Fits (λ d. 4) (IsDecl depth)
 decl_fits depth =
     made_fits (λ s x u. record { base = x.0; name = x.1.0; shape = shape_of x.1.1 }) (λ d. 4)
-    (both_fits type_fits (both_fits name_fits (maybe_fits (between_fits Kind.OpenSquare Kind.CloseSquare (deeper_fits (λ d. nothing_fits) depth))))) (λ s x u. omega arith)
+    (both_fits type_fits (both_fits name_fits (maybe_fits (between_fits Kind.OpenSquare Kind.CloseSquare (deeper_fits (λ d. keys_fits) depth))))) (λ s x u. omega arith)
 
 parameters_fits : (depth : ℕ) → Fits (λ ds. 4 + sum_by declaration_size ds) (AreParameters depth)
 parameters_fits depth =

@@ -9,6 +9,7 @@ use Rattle.values.specs.declared.value.Scalar.{Scalar}
 use Rattle.values.specs.declared.value.Scalar.TheVariants.{Number}
 use Rattle.values.specs.declared.value.Value.{Value}
 use Rattle.values.specs.declared.value.Value.TheVariants.{One, Many}
+pub use Rattle.values.specs.Keys.{key_of, key_scalar}
 use Rattle.values.specs.Maps.{rising}
 use Rattle.values.specs.Ranges.{range_count, value_in}
 use Rattle.values.specs.Values.{number_of, truth_of, scalar_of, elements_of}
@@ -35,13 +36,6 @@ pairs es = map (λ (e : Element). (e.key, e.value)) es
 -- the order in which elements are listed: by rising keys
 abbrev pub in_key_order : Elements → Bool
 in_key_order xs = rising (elements xs)
-
--- the key that a scalar is, and the scalar that a key is
-abbrev pub key_of : Scalar → Key
-key_of v = number_key (number_of (One v))
-
-abbrev pub key_scalar : Key → Scalar
-key_scalar (number_key z) = Number z
 
 -- the answer to the need of a number
 abbrev pub answer_at : List (Answer Key Scalar) → ℕ → Option (Answer Key Scalar)

@@ -8,6 +8,7 @@ use Rattle.task_code.specs.Places.{Datum, Place, Step, place_at}
 use Rattle.values.specs.declared.key.Key.{Key}
 use Rattle.values.specs.declared.key.Key.TheVariants.{Number as number_key}
 use Rattle.values.specs.declared.value.Scalar.{Scalar}
+use Rattle.values.specs.Limits.{most_steps}
 
 -- the task that opens the script, or an entry in a block's instance; a loop's chunk c begins at its turn 64 c, and other entries have the chunk 0 alone
 pub data Task : Type 0 where
@@ -128,9 +129,9 @@ steps_on (Range l h s w) = true
 steps_on (Each w) = true
 steps_on _ = false
 
--- a path has at most 512 steps
+-- a path has at most so many steps
 abbrev pub is_too_deep : Act → List Step → List (ℕ × List Step) → Bool
-is_too_deep a p ss = nat_le 512 (length p) && (steps_on a && is_some_list ss)
+is_too_deep a p ss = nat_le most_steps (length p) && (steps_on a && is_some_list ss)
 
 -- an effect, or TooDeep in its place
 abbrev pub limited : Bool → Effect Task Place Key Scalar → Outcome Task Place Key Scalar EntryFault

@@ -4,7 +4,6 @@ ghost use Rattle.board_program.specs.Program.{IsLeads};
 
 use crate::asserts::is_equal;
 use crate::worlds::FIRST;
-use board_program::key::copy_key;
 use board_program::places::places_among;
 use board_program::program::{Own, Program, Wanted};
 use board_program::spot::Leads;
@@ -80,7 +79,9 @@ fn asserts_wants(rt: &impl Abort, program: &Program) {
 
 /// An element of the variable is wanted of the first slot, under its key.
 fn element_is_wanted(rt: &impl Abort, program: &Program) {
-    let wanted = program.wanted(0, &Need::AtKey(NAME, Key::Number(7)));
+    let wanted = program
+        .wanted(0, &Need::AtKey(NAME, Key::Number(7)))
+        .expect(rt, "memory");
     assert!(rt; matches!(wanted, Wanted::AtKey(Some(FIRST), Key::Number(7))));
 }
 
@@ -179,5 +180,4 @@ fn a_block_has_its_places(rt: HostRuntime) {
     body_has_a_place(&rt, &leads);
     first_has_the_place(&rt, rt.alloc());
     assert!(rt; leads.places(1).is_none());
-    assert!(rt; matches!(copy_key(&Key::Number(-3)), Key::Number(-3)));
 }

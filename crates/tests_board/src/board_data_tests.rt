@@ -18,7 +18,7 @@ use rules::input::Input;
 use smallvec::SmallVec;
 use std::alloc::{AllocError, Global};
 use std::process::Abort;
-use values::key::Key;
+use values::key::{Key, KeyRef};
 use values::map::Element;
 use values::value::Scalar;
 
@@ -37,7 +37,7 @@ fn element(key: i64, n: i64) -> Element {
 fn with_array(alloc: Global) -> Result<Store, AllocError> {
     let mut store = Store::new(alloc);
     let array = store.new_cell(Shape::Keyed, 2, 1)?;
-    data::reserve(&mut store, Some(array), 3)?;
+    data::reserve(&mut store, Some(array), KeyRef::Number(0), 3)?;
     Ok(store)
 }
 
@@ -48,7 +48,7 @@ fn put_three(rt: &impl Abort, store: &mut Store, x: usize) {
     store_value(store, Some(x), number(5));
     store_value(store, None, number(6));
     assert!(rt; matches!(data::value(store, x), Some(Scalar::Number(4))));
-    assert!(rt; data::element(store, x, &Key::Number(0)).is_none());
+    assert!(rt; data::element(store, x, KeyRef::Number(0)).is_none());
 }
 
 #[test]
@@ -69,7 +69,7 @@ fn fill_array(rt: &impl Abort, alloc: Global, store: &mut Store) {
 /// The array has three elements, and one of them under 2.
 fn array_is_filled(rt: &impl Abort, store: &Store) {
     is_equal(rt, data::size(store, 0), 3);
-    let found = data::element(store, 0, &Key::Number(2));
+    let found = data::element(store, 0, KeyRef::Number(2));
     assert!(rt; matches!(found, Some(Scalar::Number(3))));
 }
 

@@ -11,12 +11,12 @@ use board_instances::packed::PackedSlot;
 use board_instances::placing::{go_on, place_all};
 use board_instances::turns::{Site, push_block, push_elements, push_range};
 use board_program::spot::Spot;
-use paths::Step;
 use std::alloc::{AllocError, Global};
 use std::process::Abort;
-use values::key::Key;
+use values::key::{Key, KeyRef};
 use values::map::Element;
 use values::range::Range;
+use values::text::Text;
 use values::value::Scalar;
 
 fn open(rt: &impl Abort, alloc: Global) -> Box<Opened> {
@@ -25,14 +25,6 @@ fn open(rt: &impl Abort, alloc: Global) -> Box<Opened> {
 
 fn around(world: &Opened) -> Around<'_> {
     world.view().around()
-}
-
-/// A step by the number 40.
-fn way(key: i64) -> Step {
-    Step {
-        offset: 40,
-        key: Key::Number(key),
-    }
 }
 
 /// The variable stands for the first datum, and what lies outside for nothing.
@@ -141,7 +133,7 @@ fn outermost_lies_in_none(rt: &impl Abort, alloc: Global, world: &Opened) {
 
 /// An instance that lies in the script's, a step further.
 fn inner_lies_in_first(rt: &impl Abort, alloc: Global, world: &Opened) {
-    let found = inner(alloc, around(world), 0, Some(way(7)), (0, &[]));
+    let found = inner(alloc, around(world), 0, Way::to_number(40, 7), (0, &[]));
     let inside = found.expect(rt, "memory").expect(rt, "an instance");
     is_equal(rt, (inside.level, inside.depth, inside.live), (1, 1, 2));
     is_equal(rt, inside.parent.key(), Some(0));
@@ -149,7 +141,7 @@ fn inner_lies_in_first(rt: &impl Abort, alloc: Global, world: &Opened) {
 
 /// There is no instance of a body that is not.
 fn no_body_has_none(rt: &impl Abort, alloc: Global, world: &Opened) {
-    let none = inner(alloc, around(world), 1, None, (0, &[]));
+    let none = inner(alloc, around(world), 1, Way::none(), (0, &[]));
     assert!(rt; none.expect(rt, "memory").is_none());
 }
 
@@ -174,7 +166,7 @@ fn site(world: &Opened, alloc: Global) -> Site<'_> {
 fn turns(alloc: Global, world: &Opened) -> Result<Vec<Opening>, AllocError> {
     let mut list = Vec::new(alloc);
     let values = (None, None);
-    push_block(site(world, alloc), &mut list, None, (0, &[]), values)?;
+    push_block(site(world, alloc), &mut list, Way::none(), (0, &[]), values)?;
     let one = Element {
         key: Key::Number(3),
         value: Scalar::Truth(true),
@@ -194,23 +186,38 @@ fn keeps_the_outer(rt: &impl Abort) {
 
 /// A step is kept, and that there is none.
 fn keeps_the_step(rt: &impl Abort) {
-    let kept = Way::of(Some(way(3))).expect(rt, "an offset");
-    let step = kept.step().expect(rt, "a step");
+    let kept = Way::to_number(40, 3);
+    let step = kept.step().expect(rt, "memory").expect(rt, "a step");
     assert!(rt; step.offset == 40 && matches!(step.key, Key::Number(3)));
-    assert!(rt; Way::none().step().is_none());
+    assert!(rt; Way::none().step().expect(rt, "memory").is_none());
+}
+
+/// A step to a text is kept with all of its bytes.
+fn keeps_the_text(rt: &impl Abort, alloc: Global) {
+    let text = Text::from_slice(alloc, b"a\n").expect(rt, "memory");
+    let kept = Way::to(40, KeyRef::Text(&text)).expect(rt, "memory");
+    let step = kept.step().expect(rt, "memory").expect(rt, "a step");
+    let is_text = matches!(&step.key, Key::Text(key) if key.as_bytes() == b"a\n".as_slice());
+    assert!(rt; step.offset == 40 && is_text);
 }
 
 #[test]
 fn an_instance_keeps_what_is_around_it(rt: HostRuntime) {
     keeps_the_outer(&rt);
     keeps_the_step(&rt);
+    keeps_the_text(&rt, rt.alloc());
 }
 
 /// The last turn has the range's last number and its place, and a step by that place.
 fn is_last_turn(rt: &impl Abort, last: &Opening) {
     assert!(rt; matches!(&last.value, Some(Scalar::Number(9))));
     assert!(rt; matches!(&last.turn, Some(Scalar::Number(2))));
-    let way = last.instance.way.step().expect(rt, "a step");
+    let way = last
+        .instance
+        .way
+        .step()
+        .expect(rt, "memory")
+        .expect(rt, "a step");
     assert!(rt; way.offset == 40 && matches!(way.key, Key::Number(2)));
 }
 

@@ -6,7 +6,7 @@ use flow::expression::{Expr, Operation};
 use flow::name::{Name, Owned};
 use flow::script::Function;
 use flow::statement::{Block, Statement, Variable};
-use language::tree::Shape;
+use language::tree::{Keys, Shape};
 use std::alloc::{AllocError, Global};
 use values::op::Sign;
 
@@ -24,7 +24,7 @@ pub fn array(node: u32) -> Name {
     Name {
         up: 0,
         what: Owned::Local(node),
-        shape: Shape::Array,
+        shape: Shape::Array(Keys::Numbers),
     }
 }
 

@@ -154,7 +154,8 @@ fn an_element_is_at_its_index(rt: HostRuntime) {
     let parts = element_parts(rt.alloc()).expect(&rt, "memory");
     let passed = passed_parts(&rt, rt.alloc(), &parts);
     is_equal(&rt, handed_number(&rt, &passed, 3), Some(6));
-    holds(&rt, is_sixth(&element_need(&passed, datum(1, true), 3)));
+    let need = element_need(&passed, datum(1, true), 3).expect(&rt, "memory");
+    holds(&rt, is_sixth(&need));
 }
 
 /// The entry of an element, in a box.

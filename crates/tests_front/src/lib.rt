@@ -8,6 +8,8 @@ mod assign_check_tests;
 #[cfg(test)]
 mod flows;
 #[cfg(test)]
+mod keys_tests;
+#[cfg(test)]
 mod lexer_tests;
 #[cfg(test)]
 mod literals_tests;

@@ -19,6 +19,7 @@ accepted | (int B[]) g(int m) { foreach i in [0:m-1] { B[i] = i*i; } } int C[]; 
 accepted | int x = 1; int y; int z; y = z; z = y; wait (x) { wait (y) { printf("q"); } }
 accepted | foreach v, k in [10:20:5] { printf("%i %i", k, v); } foreach v in A { } () f() { }
 accepted | import io; import string; import assert; @prio=-5 printf("b"); @prio=1000000 f();
+accepted | int A[string]; A["x"] = 1; (int B[string]) f(string C[string]) { B = A; } foreach v, k in A { }
 accepted | int A[] = [3, 1]; if (a == b && !c || d <= -e) { } else if (f) { x = [1]; } else { }"#;
 
 #[test]
@@ -30,7 +31,9 @@ const REFUSED: &str = r#"P2 Unexpected 19 20 | printf("%i", 1 < 2 < 3);
 L3 OpenString 7 9 | printf("a
 P2 Unexpected 7 10 | import mpe;
 L1 BadByte 0 1 | #
-P2 Unexpected 6 12 | int A[string];
+P2 Unexpected 6 9 | int A[int];
+P2 Unexpected 13 19 | int A[string string];
+P2 Unexpected 12 12 | int A[string
 P2 Unexpected 6 13 | @prio=1000001 f();
 P2 Unexpected 7 14 | @prio=-1000001 f();
 P2 Unexpected 1 5 | @prie=1 f();

@@ -2,7 +2,7 @@
 
 use crate::asserts::is_equal;
 use crate::rows::are_judged;
-use language::tree::Shape;
+use language::tree::{Keys, Shape};
 use lexer::token::Span;
 use std::alloc::Global;
 use std::process::Abort;
@@ -37,9 +37,27 @@ Y6 NotAFunction 0 3 | foo(1);
 Y6 NotAFunction 7 8 | int x; f();
 Y6 NotAFunction 8 9 | int x = g(1);"#;
 
+// A literal under texts is met behind its elements, at its `[`.
+const KEYS: &str = r#"Y3 Mismatch 16 17 | int A[string] = [1];
+Y3 Mismatch 17 20 | int A[string] = ["a"];
+Y3 Mismatch 17 18 | int A[string]; A[1] = 1;
+Y3 Mismatch 11 14 | int A[]; A["x"] = 1;
+Y3 Mismatch 25 26 | int A[string]; int x = A[0];
+Y3 Mismatch 25 26 | int A[string]; int B[] = A;
+Y3 Mismatch 25 26 | int A[]; int B[string] = A;
+Y3 Mismatch 60 61 | (int r) f(int A[string]) { r = A["a"]; } int B[]; int x = f(B);
+Y3 Mismatch 49 50 | (int A[string]) g() { A["a"] = 1; } int B[]; B = g();
+Y3 Mismatch 43 44 | int A[string]; foreach v, k in A { int n = k; }
+Y3 Mismatch 35 36 | foreach v, k in [1:3] { string s = k; }"#;
+
 #[test]
 fn refused_scripts(rt: HostRuntime) {
     are_judged(&rt, rt.alloc(), REFUSED);
+}
+
+#[test]
+fn keys_of_another_type(rt: HostRuntime) {
+    are_judged(&rt, rt.alloc(), KEYS);
 }
 
 const ACCEPTED: &str = r#"accepted | printf("hello");
@@ -48,6 +66,8 @@ accepted | int A[] = [3, 1]; foreach v, k in A { printf("%i %i", k, v); } printf
 accepted | string s = strcat("a", fromint(toint("7"))); boolean b = s == "a7" || !(1 < 2); assert(b, s);
 accepted | foreach v, k in [10:20:5] { printf("%i %i", k, v); } int x = 1; wait (x) { @prio=5 printf("%%"); }
 accepted | (int a, int b) two(int n) { a = n + 1; b = a * 2; } int p; int q; (p, q) = two(3); printf("%i %i", p, q);
+accepted | int A[string]; A["" + "x"] = 1; int B[string] = A; foreach v, k in B { printf("%s%i%i", k, v, A[k]); } printf("%i", size(A)); wait (A) { }
+accepted | (int A[string]) g(int B[string]) { A = B; } int A[string]; A["a"] = 1; int B[string] = g(A); printf("%i", B["a"]);
 accepted | (int r) f(int A[]) { r = A[0]; } int B[] = [7]; int f = f(B); if (f >= 0) { printf("%i", f); } else { }"#;
 
 #[test]
@@ -93,7 +113,7 @@ fn what_names_are(rt: HostRuntime) {
         what: Owned::Local(14),
     };
     refers(&rt, &typed, 26, outer);
-    is_equal(&rt, typed.shape(10), Shape::Array);
+    is_equal(&rt, typed.shape(10), Shape::Array(Keys::Numbers));
     is_equal(&rt, typed.shape(26), Shape::Scalar);
 }
 
@@ -112,7 +132,7 @@ fn settled(number: u32, meaning: Meaning) -> Settled {
 
 #[test]
 fn what_was_settled_last_holds(rt: HostRuntime) {
-    let variable = Meaning::Variable(own(Owned::Input(4)), Shape::Array);
+    let variable = Meaning::Variable(own(Owned::Input(4)), Shape::Array(Keys::Numbers));
     let settled = [
         settled(3, Meaning::Called(Callee::Function(1))),
         settled(1, variable),

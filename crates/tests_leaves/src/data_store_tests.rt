@@ -6,7 +6,8 @@ use data_store::refusal::Refusal;
 use data_store::store::{DatumNo, Shape, Store};
 use std::alloc::Global;
 use std::process::Abort;
-use values::key::Key;
+use values::key::{Key, KeyRef};
+use values::text::Text;
 use values::value::Scalar;
 
 /// A store without data.
@@ -70,8 +71,8 @@ fn order_of(map: &values::map::Map) -> i64 {
     let mut sum = 0i64;
     for element in map.elements() {
         place = place.wrapping_add(1);
-        match element.key {
-            Key::Number(n) => sum = sum.wrapping_add(n.wrapping_mul(place)),
+        if let Key::Number(n) = &element.key {
+            sum = sum.wrapping_add(n.wrapping_mul(place));
         }
     }
     sum
@@ -144,7 +145,7 @@ fn insert_four(rt: &impl Abort, store: &mut Store, d: DatumNo)
 fn number_under(store: &Store, d: DatumNo, key: i64) -> Option<i64>
     requires { IsArrayAt store.now d }
 {
-    number(store.element(d, &Key::Number(key)))
+    number(store.element(d, KeyRef::Number(key)))
 }
 
 /// The three elements have their keys.
@@ -171,6 +172,79 @@ fn elements_come_by_rising_key(rt: HostRuntime) {
     insert_four(&rt, &mut store, d);
     has_three(&rt, &store, d);
     whole_rises(&rt, &mut store, d);
+}
+
+/// An insert of this number under this text ends so.
+fn inserts_at_text(
+    rt: &impl Abort,
+    store: &mut Store,
+    d: DatumNo,
+    text: Text,
+    n: i64,
+    end: Result<(), Refusal>,
+)
+    requires { IsArrayAt store.old d }
+    ensures { IsArrayAt store.new d }
+{
+    is_equal(rt, store.insert(d, Key::Text(text), Scalar::Number(n)), end);
+}
+
+fn text(rt: &impl Abort, alloc: Global, bytes: &[u8]) -> Text {
+    Text::from_slice(alloc, bytes).expect(rt, "memory")
+}
+
+/// Elements under two texts that begin alike, and one more under the first.
+fn insert_three_texts(rt: &impl Abort, alloc: Global, store: &mut Store, d: DatumNo)
+    requires { IsArrayAt store.old d }
+    ensures { IsArrayAt store.new d }
+{
+    inserts_at_text(rt, store, d, text(rt, alloc, b"longname2"), 20, Ok(()));
+    inserts_at_text(rt, store, d, text(rt, alloc, b"longname1"), 10, Ok(()));
+    let again = Err(Refusal::ElementTwice);
+    inserts_at_text(rt, store, d, text(rt, alloc, b"longname2"), 21, again);
+}
+
+/// The number under a text.
+fn number_at_text(store: &Store, d: DatumNo, text: &Text) -> Option<i64>
+    requires { IsArrayAt store.now d }
+{
+    number(store.element(d, KeyRef::Text(text)))
+}
+
+/// The two elements have their texts, and stand in the order of these.
+fn has_two_texts(rt: &impl Abort, alloc: Global, store: &mut Store, d: DatumNo)
+    requires { IsArrayAt store.old d }
+{
+    is_equal(rt, store.size(d), 2);
+    is_equal(
+        rt,
+        number_at_text(store, d, &text(rt, alloc, b"longname1")),
+        Some(10),
+    );
+    is_equal(
+        rt,
+        number_at_text(store, d, &text(rt, alloc, b"longname")),
+        None,
+    );
+    is_equal(rt, number_under(store, d, 1), None);
+    let map = store.whole(d).expect(rt, "memory");
+    is_equal(rt, first_number(&map), Some(10));
+}
+
+/// The number of the first element.
+fn first_number(map: &values::map::Map) -> Option<i64> {
+    match map.elements().first() {
+        Some(element) => number(Some(&element.value)),
+        None => None,
+    }
+}
+
+#[test]
+fn texts_are_keys_by_all_their_bytes(rt: HostRuntime) {
+    let mut store = no_data(&rt, rt.alloc());
+    let d = array(&rt, &mut store, 1);
+    insert_three_texts(&rt, rt.alloc(), &mut store, d);
+    has_two_texts(&rt, rt.alloc(), &mut store, d);
 }
 
 /// A closed array refuses an element, and room may be laid by in it.

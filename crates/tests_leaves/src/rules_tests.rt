@@ -6,7 +6,6 @@ use rules::listing::Rules;
 use smallvec::SmallVec;
 use std::alloc::{AllocError, Global};
 use std::process::Abort;
-use values::key::Key;
 
 /// Rules for which no item waits.
 fn no_rules(rt: &impl Abort, alloc: Global) -> Box<Rules> {
@@ -14,7 +13,7 @@ fn no_rules(rt: &impl Abort, alloc: Global) -> Box<Rules> {
 }
 
 fn element(datum: u64, key: i64) -> Input {
-    Input::Element(datum, Key::Number(key))
+    Input::Element(datum, key.cast_unsigned())
 }
 
 /// Lets an item wait for inputs, and says whether it need not.

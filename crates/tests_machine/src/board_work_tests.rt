@@ -102,7 +102,9 @@ fn scalar_text(rt: &impl Abort, alloc: Global, scalar: &Scalar) -> String {
 fn map_text(rt: &impl Abort, alloc: Global, map: &Map) -> String {
     let mut text = String::new(alloc);
     for element in map.elements() {
-        let Key::Number(key) = &element.key;
+        let Key::Number(key) = &element.key else {
+            continue;
+        };
         let value = scalar_text(rt, alloc, &element.value);
         let piece = format!(in alloc; "[{key}]={value}").expect(rt, "memory");
         text.push_str(piece.as_str()).expect(rt, "memory");

@@ -4,9 +4,13 @@
 #[cfg(test)]
 mod asserts;
 #[cfg(test)]
+mod beginnings_tests;
+#[cfg(test)]
 mod board_tests;
 #[cfg(test)]
 mod board_work_tests;
+#[cfg(test)]
+mod given_back_tests;
 #[cfg(test)]
 mod ref_counting_tests;
 #[cfg(test)]

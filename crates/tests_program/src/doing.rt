@@ -137,7 +137,10 @@ fn file_of(alloc: Global, source: &Option<&[u8]>) -> Result<Option<Vec<u8>>, All
 }
 
 /// Files in memory.
-fn files_of(alloc: Global, sources: &[Option<&[u8]>]) -> Result<Vec<Option<Vec<u8>>>, AllocError> {
+pub(crate) fn files_of(
+    alloc: Global,
+    sources: &[Option<&[u8]>],
+) -> Result<Vec<Option<Vec<u8>>>, AllocError> {
     let mut files = Vec::new(alloc);
     for source in sources {
         files.push(file_of(alloc, source)?)?;

@@ -7,6 +7,8 @@ mod arena_tests;
 #[cfg(test)]
 mod asserts;
 #[cfg(test)]
+mod beginnings_tests;
+#[cfg(test)]
 mod code_tests;
 #[cfg(test)]
 mod command_tests;
@@ -31,4 +33,8 @@ mod stops_tests;
 #[cfg(test)]
 mod strangers_tests;
 #[cfg(test)]
+mod text_keys_tests;
+#[cfg(test)]
 mod whole_tests;
+#[cfg(test)]
+mod writes_tests;

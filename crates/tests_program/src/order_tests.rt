@@ -28,10 +28,10 @@ fn sorted_lines<'a>(alloc: Global, report: &'a Report) -> Result<Vec<&'a [u8]>, 
 /// What the runs of a script have: its lines, sorted by bytes, and what is said behind them of one that ends quiet; or, where it
 /// has faults, one of these, and some of its lines.
 #[derive(Clone, Copy)]
-struct Worked {
-    lines: &'static [&'static [u8]],
-    ends: &'static [&'static [u8]],
-    has_faults: bool,
+pub struct Worked {
+    pub lines: &'static [&'static [u8]],
+    pub ends: &'static [&'static [u8]],
+    pub has_faults: bool,
 }
 
 /// All that the report says.
@@ -366,7 +366,7 @@ fn every_order_of_scalars(rt: HostRuntime) {
 }
 
 /// Every order of the script comes to this and to what it means, and there is more than one order.
-fn always(rt: &impl Abort, alloc: Global, script: &[u8], worked: &Worked) {
+pub fn always(rt: &impl Abort, alloc: Global, script: &[u8], worked: &Worked) {
     let known = known_of(rt, alloc, script, 100);
     let meant = Meant {
         known: &known,

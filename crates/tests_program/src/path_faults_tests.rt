@@ -2,7 +2,7 @@
 
 use crate::asserts::{boxed, holds, is_equal, only};
 use flow::name::{Name, Owned};
-use language::tree::Shape;
+use language::tree::{Keys, Shape};
 use meaning_facts::facts::{Fact, Write};
 use meaning_facts::instances::{Given, MOST_STEPS};
 use meaning_facts::learned::Learned;
@@ -109,7 +109,7 @@ fn told_of_items(rt: &impl Abort, alloc: Global, learned: &Learned, site: Site) 
     let name = Name {
         up: 0,
         what: Owned::Local(ARRAY),
-        shape: Shape::Array,
+        shape: Shape::Array(Keys::Numbers),
     };
     let mut news = Vec::new(alloc);
     add_deep_items(learned, alloc, site, name, &mut news).expect(rt, "memory");

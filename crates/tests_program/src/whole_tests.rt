@@ -37,7 +37,7 @@ fn is_same(again: &Done, run: &Done, status: u8) -> bool {
 
 /// Whether a run of the script prints these lines in some order, says nothing, and ends with this status, and its trace run again
 /// prints the same.
-fn runs_to<R: Threads + Wait + Sync + Abort>(
+pub fn runs_to<R: Threads + Wait + Sync + Abort>(
     rt: &R,
     alloc: Global,
     script: &[u8],
@@ -64,7 +64,11 @@ fn first_other<R: Threads + Wait + Sync + Abort>(
 }
 
 /// Each of these scripts runs to what stands beside it.
-fn run_to<R: Threads + Wait + Sync + Abort>(rt: &R, alloc: Global, rows: &[(&[u8], &[u8], u8)]) {
+pub fn run_to<R: Threads + Wait + Sync + Abort>(
+    rt: &R,
+    alloc: Global,
+    rows: &[(&[u8], &[u8], u8)],
+) {
     is_equal(rt, first_other(rt, alloc, rows), None);
 }
 
@@ -88,7 +92,7 @@ const BRANCHES: [(&[u8], &[u8], u8); 4] = [
     ),
 ];
 
-/// Calls, also in a chain of 256.
+/// Calls, also in a chain that is as long as can be: 1,024 of them, each in a branch.
 const CALLS: [(&[u8], &[u8], u8); 3] = [
     (
         b"(int r) fib(int n) { if (n < 2) { r = n; } else { r = fib(n-1) + fib(n-2); } } printf(\"%i\", fib(10));",
@@ -101,7 +105,7 @@ const CALLS: [(&[u8], &[u8], u8); 3] = [
         0,
     ),
     (
-        b"(int r) f(int n) { if (n == 0) { r = 0; } else { r = f(n - 1); } } printf(\"%i\", f(255));",
+        b"(int r) f(int n) { if (n == 0) { r = 0; } else { r = f(n - 1); } } printf(\"%i\", f(1023));",
         b"0\n",
         0,
     ),
@@ -267,23 +271,23 @@ fn long_loop(rt: HostRuntime) {
     holds(&rt, runs_to(&rt, rt.alloc(), script, wanted.as_slice(), 0));
 }
 
-/// Adds 511 of these steps, and the end of a line, to a text.
+/// Adds 2,047 of these steps, and the end of a line, to a text.
 fn add_steps(text: &mut String, step: &str) -> Result<(), AllocError> {
-    for _ in 1..512u32 {
+    for _ in 1..2048u32 {
         text.push_str(step)?;
     }
     text.push_str("\n")?;
     Ok(())
 }
 
-/// What is said of a fault at the 512th step of a path, by its offset with the first step, and the others.
+/// What is said of a fault at the 2,048th step of a path, by its offset with the first step, and the others.
 fn too_deep_at(alloc: Global, first: &str, others: &str) -> Result<String, AllocError> {
     let mut text = format!(in alloc; "swt: fault F6 TooDeep {first}")?;
     add_steps(&mut text, others)?;
     Ok(text)
 }
 
-/// The script has a fault at the 512th step of its path, of which the first step and the others are these.
+/// The script has a fault at the 2,048th step of its path, of which the first step and the others are these.
 fn is_too_deep<R: Threads + Wait + Sync + Abort>(
     rt: &R,
     alloc: Global,
@@ -298,7 +302,7 @@ fn is_too_deep<R: Threads + Wait + Sync + Abort>(
     );
 }
 
-/// A function that calls itself without end has a fault at the 512th step of its path.
+/// A function that calls itself without end has a fault at the 2,048th step of its path.
 #[test]
 fn too_deep(rt: HostRuntime) {
     let script = b"(int r) f(int n) { r = f(n + 1); } printf(\"%i\", f(0));";

@@ -22,47 +22,47 @@ use Rattle.types.specs.Agrees.{Agrees, scope_of}
 use Rattle.types.specs.Scripts.{checked}
 use Rattle.types.specs.Expressions.{count, whole, elements, arguments, builtin_type}
 
--- an array's name
-abbrev pub NamesArrayForm : Table → Scope → Form → Base → Type 0
-NamesArrayForm t g (variable w) b = Refers g t w (many_of b)
-NamesArrayForm t g (number z) b = ⊥
-NamesArrayForm t g (text bytes) b = ⊥
-NamesArrayForm t g (truth v) b = ⊥
-NamesArrayForm t g (element w i) b = ⊥
-NamesArrayForm t g (call w es) b = ⊥
-NamesArrayForm t g (prefixed p e) b = ⊥
-NamesArrayForm t g (chain os es) b = ⊥
+-- the name of an array of this type
+abbrev pub NamesArrayForm : Table → Scope → Form → Typ → Type 0
+NamesArrayForm t g (variable w) τ = Refers g t w τ
+NamesArrayForm t g (number z) τ = ⊥
+NamesArrayForm t g (text bytes) τ = ⊥
+NamesArrayForm t g (truth v) τ = ⊥
+NamesArrayForm t g (element w i) τ = ⊥
+NamesArrayForm t g (call w es) τ = ⊥
+NamesArrayForm t g (prefixed p e) τ = ⊥
+NamesArrayForm t g (chain os es) τ = ⊥
 
-abbrev pub NamesArray : Table → Scope → Expression → Base → Type 0
-NamesArray t g (expression nd f) b = NamesArrayForm t g f b
+abbrev pub NamesArray : Table → Scope → Expression → Typ → Type 0
+NamesArray t g (expression nd f) τ = NamesArrayForm t g f τ
 
 -- a call of a function of the script whose one output is of this type
 abbrev pub CallGives : List Signature → Table → Scope → Word → Expressions → Typ → Type 0
 CallGives fs t g w es τ = (f : Signature) × Calls fs t w f × ArgumentTypes fs t g es f.inputs × (f.outputs ≡ τ ∷ [])
 
--- an array's name, or a call that gives an array
-abbrev pub GivesArrayForm : List Signature → Table → Scope → Form → Base → Type 0
-GivesArrayForm fs t g (variable w) b = Refers g t w (many_of b)
-GivesArrayForm fs t g (call w es) b = CallGives fs t g w es (many_of b)
-GivesArrayForm fs t g (number z) b = ⊥
-GivesArrayForm fs t g (text bytes) b = ⊥
-GivesArrayForm fs t g (truth v) b = ⊥
-GivesArrayForm fs t g (element w i) b = ⊥
-GivesArrayForm fs t g (prefixed p e) b = ⊥
-GivesArrayForm fs t g (chain os es) b = ⊥
+-- the name of an array of this type, or a call that gives one
+abbrev pub GivesArrayForm : List Signature → Table → Scope → Form → Typ → Type 0
+GivesArrayForm fs t g (variable w) τ = Refers g t w τ
+GivesArrayForm fs t g (call w es) τ = CallGives fs t g w es τ
+GivesArrayForm fs t g (number z) τ = ⊥
+GivesArrayForm fs t g (text bytes) τ = ⊥
+GivesArrayForm fs t g (truth v) τ = ⊥
+GivesArrayForm fs t g (element w i) τ = ⊥
+GivesArrayForm fs t g (prefixed p e) τ = ⊥
+GivesArrayForm fs t g (chain os es) τ = ⊥
 
-abbrev pub GivesArray : List Signature → Table → Scope → Expression → Base → Type 0
-GivesArray fs t g (expression nd f) b = GivesArrayForm fs t g f b
+abbrev pub GivesArray : List Signature → Table → Scope → Expression → Typ → Type 0
+GivesArray fs t g (expression nd f) τ = GivesArrayForm fs t g f τ
 
 -- an expression of a type: of a scalar's, or an array's name or a call that gives an array
 abbrev pub WholeType : List Signature → Table → Scope → Expression → Shape → Base → Type 0
 WholeType fs t g e Scalar b = HasType fs t g e b
-WholeType fs t g e Array b = GivesArray fs t g e b
+WholeType fs t g e (Array κ) b = GivesArray fs t g e (many_of κ b)
 
 -- what fits an input: a scalar, or an array's name
 abbrev pub Fits : List Signature → Table → Scope → Expression → Shape → Base → Type 0
 Fits fs t g e Scalar b = HasType fs t g e b
-Fits fs t g e Array b = NamesArray t g e b
+Fits fs t g e (Array κ) b = NamesArray t g e (many_of κ b)
 
 -- an expression whose type is found has that type by the rules
 abbrev pub WholeSound : Type 0

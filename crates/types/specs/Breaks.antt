@@ -7,7 +7,9 @@ use Rattle.types.specs.declared.fault.TypeFault.{TypeFault}
 use Rattle.types.specs.declared.fault.TypeFault.TheVariants.{Unknown, Declared, Mismatch, WrongCount, BadFormat, NotAFunction}
 use Rattle.language.specs.declared.tree.Base.{Base}
 use Rattle.language.specs.declared.tree.Base.TheVariants.{Int, Boolean}
-use Rattle.language.specs.declared.tree.Shape.TheVariants.{Scalar}
+use Rattle.language.specs.declared.tree.Keys.{Keys}
+use Rattle.language.specs.declared.tree.Keys.TheVariants.{Texts}
+use Rattle.language.specs.declared.tree.Shape.TheVariants.{Scalar, Array}
 use Rattle.language.specs.declared.tree.Operator.{Operator}
 use Rattle.language.specs.declared.tree.Prefix.{Prefix}
 use Rattle.language.specs.Core.{Owned, input, output}
@@ -15,6 +17,7 @@ use Rattle.language.specs.Members.{◌∈◌}
 use Rattle.language.specs.Table.{Table, Builtin, builtin_text, strcat, fromint, toint, size, printf, assert}
 use Rattle.language.specs.Tree as tree
 use Rattle.language.specs.Tree.{Word, Node, Declaration, Expression, expression, text, variable, element, prefixed, chain, Expressions, no_expressions, and_expression, expressions_of, RightSide, value, list, Calling, Over, array, range, Statement, statement, Command, declare, assign, write, assign_all, choice, choice_else, loop, waits, Body, body, Statements, no_statements, and_statement, Composite, Tree, import, function, single}
+use Rattle.language.specs.Kinds.{base_of_keys}
 use Rattle.language.specs.Scopes.{Typ, one_of, many_of, declared_type, Visible, Scope, deeper, own, IsVisible, Signature, signatures, IsBuiltinName}
 use Rattle.language.specs.Typing.{Operates, Prefixes, wanted, WellTyped}
 use Rattle.types.specs.Outcomes.{refused}
@@ -94,6 +97,7 @@ pub data Broken (fs : List Signature) (g : Scope) : Thing → TypeFault → Type
   wrong_type : {e : Expression} {want : Want} {τ : Typ} → Gives fs g e τ → ¬ Meets want e τ → Broken fs g (expects want e) (Mismatch (first_of e))
   no_array : {w : Word} {b : Base} → OfType g w (one_of b) → Broken fs g (as_array w) (Mismatch w.span)
   literal_for_scalar : {nd : Node} {τ : Typ} → τ.shape ≡ Scalar → Broken fs g (literal nd τ) (Mismatch nd.first)
+  literal_under_texts : {nd : Node} {τ : Typ} → τ.shape ≡ Array Texts → Broken fs g (literal nd τ) (Mismatch nd.first)
   other_outputs : {w : Word} {ws : List Word} {τs σs : List Typ} → Outputs fs w.text τs → OfTypes g ws σs → length τs ≡ length σs → τs ≢ σs
       → Broken fs g (outputs_to w ws) (Mismatch w.span)
   no_chain : {e : Expression} → Broken fs g (uneven e) (Mismatch (first_of e))
@@ -106,7 +110,8 @@ mutual
     its_name : {nd : Node} {w : Word} → B g (used w) → InExpression fs B g (expression nd (variable w))
     its_array : {nd : Node} {w : Word} {i : Expression} → B g (used w) → InExpression fs B g (expression nd (element w i))
     its_elements : {nd : Node} {w : Word} {i : Expression} → B g (as_array w) → InExpression fs B g (expression nd (element w i))
-    its_index : {nd : Node} {w : Word} {i : Expression} → InWanted fs B g (of_type (one_of Int)) i → InExpression fs B g (expression nd (element w i))
+    its_index : {nd : Node} {w : Word} {i : Expression} {κ : Keys} {b : Base} → OfType g w (many_of κ b) → InWanted fs B g (of_type (one_of (base_of_keys κ))) i
+        → InExpression fs B g (expression nd (element w i))
     its_operand : {nd : Node} {p : Prefix} {e : Expression} {b : Base} → Prefixes p b → InWanted fs B g (of_type (one_of b)) e
         → InExpression fs B g (expression nd (prefixed p e))
     no_operands : {nd : Node} {os : List Operator} → B g (uneven (expression nd (chain os no_expressions))) → InExpression fs B g (expression nd (chain os no_expressions))
@@ -158,14 +163,14 @@ pub data InOver (fs : List Signature) (B : Scope → Thing → Type 0) (g : Scop
   to_high : {low high : Expression} {step : Option Expression} → InWanted fs B g (of_type (one_of Int)) high → InOver fs B g (range low high step)
   by_step : {low high step : Expression} → InWanted fs B g (of_type (one_of Int)) step → InOver fs B g (range low high (Some step))
 
--- the type of the values that a loop goes over
-pub data Values : Scope → Over → Base → Type 0 where
-  of_array : {g : Scope} {w : Word} {b : Base} → OfType g w (many_of b) → Values g (array w) b
-  of_range : {g : Scope} {low high : Expression} {step : Option Expression} → Values g (range low high step) Int
+-- the types of the values and of the keys that a loop goes over
+pub data Values : Scope → Over → Base → Base → Type 0 where
+  of_array : {g : Scope} {w : Word} {κ : Keys} {b : Base} → OfType g w (many_of κ b) → Values g (array w) b (base_of_keys κ)
+  of_range : {g : Scope} {low high : Expression} {step : Option Expression} → Values g (range low high step) Int Int
 
-abbrev pub with_key : Scope → Option Word → Scope
-with_key g None = g
-with_key g (Some k) = own k (one_of Int) ∷ g
+abbrev pub with_key : Scope → Option Word → Base → Scope
+with_key g None c = g
+with_key g (Some k) c = own k (one_of c) ∷ g
 
 -- the scope behind a statement
 abbrev pub behind_command : Scope → Command → Scope
@@ -191,8 +196,9 @@ mutual
     its_right : {g : Scope} {w : Word} {r : RightSide} {τ : Typ} → OfType g w τ → InRight fs B g τ r → InCommand fs B g (assign w r)
     its_written : {g : Scope} {w : Word} {i e : Expression} → B g (used w) → InCommand fs B g (write w i e)
     its_written_array : {g : Scope} {w : Word} {i e : Expression} → B g (as_array w) → InCommand fs B g (write w i e)
-    its_place : {g : Scope} {w : Word} {i e : Expression} → InWanted fs B g (of_type (one_of Int)) i → InCommand fs B g (write w i e)
-    its_element : {g : Scope} {w : Word} {i e : Expression} {b : Base} → OfType g w (many_of b) → InWanted fs B g (of_type (one_of b)) e → InCommand fs B g (write w i e)
+    its_place : {g : Scope} {w : Word} {i e : Expression} {κ : Keys} {b : Base} → OfType g w (many_of κ b) → InWanted fs B g (of_type (one_of (base_of_keys κ))) i
+        → InCommand fs B g (write w i e)
+    its_element : {g : Scope} {w : Word} {i e : Expression} {κ : Keys} {b : Base} → OfType g w (many_of κ b) → InWanted fs B g (of_type (one_of b)) e → InCommand fs B g (write w i e)
     its_targets : {g : Scope} {ws : List Word} {c : Calling} → InWords B g ws → InCommand fs B g (assign_all ws c)
     its_called : {g : Scope} {ws : List Word} {c : Calling} → B g (call c.name (expressions_of c.arguments) (giving (length ws))) → InCommand fs B g (assign_all ws c)
     its_outputs : {g : Scope} {ws : List Word} {c : Calling} → B g (outputs_to c.name ws) → InCommand fs B g (assign_all ws c)
@@ -209,7 +215,7 @@ mutual
     its_value : {g : Scope} {v : Word} {k : Option Word} {o : Over} {b : Body} → B (deeper g) (introduced v) → InCommand fs B g (loop v k o b)
     its_key : {g : Scope} {v k : Word} {o : Over} {b : Body} → ((τ : Typ) → B (own v τ ∷ deeper g) (introduced k)) → InCommand fs B g (loop v (Some k) o b)
     its_source : {g : Scope} {v : Word} {k : Option Word} {o : Over} {b : Body} → InOver fs B g o → InCommand fs B g (loop v k o b)
-    its_loop : {g : Scope} {v : Word} {k : Option Word} {o : Over} {b : Body} → (β : Base) → Values g o β → InBody fs B (with_key (own v (one_of β) ∷ deeper g) k) b
+    its_loop : {g : Scope} {v : Word} {k : Option Word} {o : Over} {b : Body} → (β γ : Base) → Values g o β γ → InBody fs B (with_key (own v (one_of β) ∷ deeper g) k γ) b
         → InCommand fs B g (loop v k o b)
     its_awaited : {g : Scope} {ws : List Word} {b : Body} → InWords B g ws → InCommand fs B g (waits ws b)
     its_waiting : {g : Scope} {ws : List Word} {b : Body} → InBody fs B g b → InCommand fs B g (waits ws b)

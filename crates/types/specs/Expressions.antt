@@ -4,9 +4,12 @@ use Rattle.lexer.specs.declared.token.Span.{Span}
 use Rattle.types.specs.declared.fault.TypeFault.TheVariants.{Mismatch, WrongCount}
 use Rattle.types.specs.declared.typed.Callee.TheVariants.{BuiltIn}
 use Rattle.types.specs.declared.typed.Builtin.{Builtin}
+use Rattle.types.specs.declared.typed.Elements.{Elements}
 use Rattle.types.specs.declared.typed.Builtin.TheVariants as Named
 use Rattle.language.specs.declared.tree.Base.{Base}
 use Rattle.language.specs.declared.tree.Base.TheVariants.{Int, Text, Boolean}
+use Rattle.language.specs.declared.tree.Keys.{Keys}
+use Rattle.language.specs.declared.tree.Keys.TheVariants.{Numbers, Texts}
 use Rattle.language.specs.declared.tree.Shape.{Shape}
 use Rattle.language.specs.declared.tree.Shape.TheVariants.{Scalar, Array}
 use Rattle.language.specs.declared.tree.Operator.{Operator}
@@ -14,6 +17,7 @@ use Rattle.language.specs.declared.tree.Operator.TheVariants as Sign
 use Rattle.language.specs.declared.tree.Prefix.{Prefix}
 use Rattle.language.specs.declared.tree.Prefix.TheVariants as Before
 use Rattle.language.specs.Tree.{Expression, expression, Form, number, text, truth, variable, element, call, prefixed, chain, Expressions, no_expressions, and_expression}
+use Rattle.language.specs.Kinds.{base_of_keys}
 use Rattle.language.specs.Scopes.{Typ, one_of, Signature}
 use Rattle.types.specs.Known.{Around}
 use Rattle.types.specs.Outcomes.{refused, got, Check, ◌>>=◌}
@@ -27,9 +31,14 @@ same_base Text Text = true
 same_base Boolean Boolean = true
 same_base b c = false
 
+abbrev pub same_keys : Keys → Keys → Bool
+same_keys Numbers Numbers = true
+same_keys Texts Texts = true
+same_keys κ ι = false
+
 abbrev pub same_shape : Shape → Shape → Bool
 same_shape Scalar Scalar = true
-same_shape Array Array = true
+same_shape (Array κ) (Array ι) = same_keys κ ι
 same_shape s r = false
 
 -- a type that is the wanted one
@@ -42,16 +51,17 @@ has_type found wanted at settled =
 
 abbrev pub scalar_by : Shape → Base → Span → Check Base
 scalar_by Scalar b at settled = got b settled
-scalar_by Array b at settled = refused (Mismatch at)
+scalar_by (Array κ) b at settled = refused (Mismatch at)
 
 abbrev pub scalar : Typ → Span → Check Base
 scalar τ at = scalar_by τ.shape τ.base at
 
-abbrev pub elements_by : Shape → Base → Span → Check Base
+-- what an array gives: the types of its elements and of an index
+abbrev pub elements_by : Shape → Base → Span → Check Elements
 elements_by Scalar b at settled = refused (Mismatch at)
-elements_by Array b at settled = got b settled
+elements_by (Array κ) b at settled = got (record { value = b; key = base_of_keys κ }) settled
 
-abbrev pub elements_of : Typ → Span → Check Base
+abbrev pub elements_of : Typ → Span → Check Elements
 elements_of τ at = elements_by τ.shape τ.base at
 
 -- what an operator gives of two operands of a type
@@ -125,23 +135,23 @@ named_form f = false
 abbrev pub named : Expression → Bool
 named (expression nd f) = named_form f
 
--- an array's name, with the type of its elements
-abbrev pub array_name : Typ → Expression → Check Base
+-- an array's name, with what it gives
+abbrev pub array_name : Typ → Expression → Check Elements
 array_name τ e settled = cond (named e) (elements_of τ (first_of e) settled) (refused (Mismatch (first_of e)))
 
 -- an argument of a type that is found fits an input of another: for an array it is an array's name
-abbrev pub fits_by : Shape → Typ → Base → Expression → Check (Unit {0})
-fits_by Scalar τ b e settled = scalar τ (first_of e) settled >>= λ c. has_base c b (first_of e)
-fits_by Array τ b e settled = array_name τ e settled >>= λ c. has_base c b (first_of e)
+abbrev pub fits_by : Shape → Typ → Typ → Expression → Check (Unit {0})
+fits_by Scalar τ σ e settled = scalar τ (first_of e) settled >>= λ c. has_base c σ.base (first_of e)
+fits_by (Array κ) τ σ e settled = array_name τ e settled >>= λ given. has_type τ σ (first_of e)
 
 abbrev pub fits : Typ → Typ → Expression → Check (Unit {0})
-fits found input e = fits_by input.shape found input.base e
+fits found input e = fits_by input.shape found input e
 
 -- the type that a built-in function of one argument gives
 abbrev pub of_one : Builtin → Typ → Expression → Span → Check Base
 of_one Named.FromInt τ e at settled = (scalar τ (first_of e) settled >>= λ c. has_base c Int (first_of e)) >>= λ u. got Text
 of_one Named.ToInt τ e at settled = (scalar τ (first_of e) settled >>= λ c. has_base c Text (first_of e)) >>= λ u. got Int
-of_one Named.Size τ e at settled = array_name τ e settled >>= λ c. got Int
+of_one Named.Size τ e at settled = array_name τ e settled >>= λ given. got Int
 of_one Named.Strcat τ e at settled = refused (WrongCount at)
 of_one Named.Printf τ e at settled = refused (WrongCount at)
 of_one Named.Assert τ e at settled = refused (WrongCount at)
@@ -191,7 +201,7 @@ unfoldable mutual
   whole_form fs g (truth b) at settled = got (one_of Boolean) settled
   whole_form fs g (variable w) at settled = refer g w settled
   whole_form fs g (element w i) at settled =
-      (refer g w settled >>= λ τ. elements_of τ w.span) >>= λ b s. expected fs g i Int s >>= λ u. got (one_of b)
+      (refer g w settled >>= λ τ. elements_of τ w.span) >>= λ given s. expected fs g i given.key s >>= λ u. got (one_of given.value)
   whole_form fs g (prefixed p e) at settled = expected fs g e (base_of p) settled >>= λ u. got (one_of (base_of p))
   whole_form fs g (chain os es) at settled = chained fs g es os at settled >>= λ b. got (one_of b)
   whole_form fs g (call w es) at settled =

@@ -8,9 +8,12 @@ use Rattle.types.specs.declared.fault.TypeFault.TheVariants.{Declared, Mismatch,
 use Rattle.types.specs.declared.typed.Owned.TheVariants.{Local}
 use Rattle.types.specs.declared.typed.Callee.TheVariants.{BuiltIn}
 use Rattle.types.specs.declared.typed.Builtin.{Builtin}
+use Rattle.types.specs.declared.typed.Elements.{Elements}
 use Rattle.types.specs.declared.typed.Builtin.TheVariants as Named
 use Rattle.language.specs.declared.tree.Base.{Base}
 use Rattle.language.specs.declared.tree.Base.TheVariants.{Int, Text, Boolean}
+use Rattle.language.specs.declared.tree.Keys.{Keys}
+use Rattle.language.specs.declared.tree.Keys.TheVariants.{Numbers, Texts}
 use Rattle.language.specs.declared.tree.Shape.{Shape}
 use Rattle.language.specs.declared.tree.Shape.TheVariants.{Scalar, Array}
 use Rattle.language.specs.Tree.{Word, Node, Expression, expression, Form, number, text, truth, variable, element, call, prefixed, chain, expressions_of, RightSide, value, list, Calling, Over, array, range, Statement, statement, Command, declare, assign, write, assign_all, calls, choice, choice_else, loop, waits, Body, body, Statements, no_statements, and_statement}
@@ -23,9 +26,13 @@ use Rattle.types.specs.Expressions.{has_type, elements_of, first_of, either, who
 
 -- RIGHT SIDES
 
--- an array literal: its target is an array, and its elements have the type of the target's; with a scalar target they are compared with nothing
+abbrev pub under_numbers : Keys → Span → Check (Unit {0})
+under_numbers Numbers at settled = got tt settled
+under_numbers Texts at settled = refused (Mismatch at)
+
+-- an array literal: its target is an array under numbers, and its elements have the type of the target's; with a scalar target they are compared with nothing
 abbrev pub literal_by : Shape → List Signature → Around → Base → List Expression → Node → Check (Unit {0})
-literal_by Array fs g b es nd settled = elements fs g (expressions_of es) (Some b) settled
+literal_by (Array κ) fs g b es nd settled = elements fs g (expressions_of es) (Some b) settled >>= λ u. under_numbers κ nd.first
 literal_by Scalar fs g b es nd settled = elements fs g (expressions_of es) None settled >>= λ u s. refused (Mismatch nd.first)
 
 -- a right side of the type of its target
@@ -110,11 +117,11 @@ abbrev pub step_of : List Signature → Around → Option Expression → Check (
 step_of fs g None settled = got tt settled
 step_of fs g (Some e) settled = expected fs g e Int settled
 
--- what a loop goes over, with the type of the values that it gives
-abbrev pub source : List Signature → Around → Over → Check Base
+-- what a loop goes over, with the types of the values and of the keys that it gives
+abbrev pub source : List Signature → Around → Over → Check Elements
 source fs g (array w) settled = refer g w settled >>= λ τ. elements_of τ w.span
 source fs g (range low high step) settled =
-    expected fs g low Int settled >>= λ u s. expected fs g high Int s >>= λ u s. step_of fs g step s >>= λ u. got Int
+    expected fs g low Int settled >>= λ u s. expected fs g high Int s >>= λ u s. step_of fs g step s >>= λ u. got (record { value = Int; key = Int })
 
 -- variables of a loop that are not visible, and have two names
 abbrev pub fresh_key : Around → Word → Option Word → Check (Unit {0})
@@ -133,12 +140,12 @@ abbrev pub declared : Around → Word → Typ → Around
 declared g w τ = added g w (Local w.number) τ
 
 -- the scope of a loop's body
-abbrev pub with_key : Around → Option Word → Around
-with_key g None = g
-with_key g (Some k) = declared g k (one_of Int)
+abbrev pub with_key : Around → Option Word → Base → Around
+with_key g None c = g
+with_key g (Some k) c = declared g k (one_of c)
 
-abbrev pub loop_scope : Around → Word → Option Word → Base → Around
-loop_scope g v k b = with_key (declared (inside g) v (one_of b)) k
+abbrev pub loop_scope : Around → Word → Option Word → Elements → Around
+loop_scope g v k given = with_key (declared (inside g) v (one_of given.value)) k given.key
 
 -- STATEMENTS
 
@@ -152,14 +159,14 @@ unfoldable mutual
       fresh g d.name settled >>= λ u s. initial fs (declared g d.name (declared_type d)) r (declared_type d) s >>= λ u. got (declared g d.name (declared_type d))
   commanded fs g (assign w r) settled = refer g w settled >>= λ τ s. right fs g r τ s >>= λ u. got g
   commanded fs g (write w i e) settled =
-      (refer g w settled >>= λ τ. elements_of τ w.span) >>= λ b s. expected fs g i Int s >>= λ u s. expected fs g e b s >>= λ u. got g
+      (refer g w settled >>= λ τ. elements_of τ w.span) >>= λ given s. expected fs g i given.key s >>= λ u s. expected fs g e given.value s >>= λ u. got g
   commanded fs g (assign_all ws c) settled = refer_all g ws settled >>= λ τs s. several fs g c τs s >>= λ u. got g
   commanded fs g (calls p c) settled = call_alone fs g c settled >>= λ u. got g
   commanded fs g (choice e b) settled = expected fs g e Boolean settled >>= λ u s. enclosed fs (inside g) b s >>= λ u. got g
   commanded fs g (choice_else e b d) settled =
       expected fs g e Boolean settled >>= λ u s. enclosed fs (inside g) b s >>= λ u s. enclosed fs (inside g) d s >>= λ u. got g
   commanded fs g (loop v k o b) settled =
-      fresh_variables g v k settled >>= λ u s. source fs g o s >>= λ β s. enclosed fs (loop_scope g v k β) b s >>= λ u. got g
+      fresh_variables g v k settled >>= λ u s. source fs g o s >>= λ given s. enclosed fs (loop_scope g v k given) b s >>= λ u. got g
   commanded fs g (waits ws b) settled = refer_all g ws settled >>= λ τs s. enclosed fs g b s >>= λ u. got g
 
   -- the statements of a block, whose variables are not visible behind it

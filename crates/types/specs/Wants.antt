@@ -4,6 +4,7 @@ use Rattle.values.specs.declared.format.Piece.{Piece}
 use Rattle.values.specs.Formats.{pieces}
 use Rattle.language.specs.declared.tree.Base.{Base}
 use Rattle.language.specs.declared.tree.Base.TheVariants.{Int, Text, Boolean}
+use Rattle.language.specs.declared.tree.Keys.{Keys}
 use Rattle.language.specs.declared.tree.Shape.{Shape}
 use Rattle.language.specs.declared.tree.Shape.TheVariants.{Scalar, Array}
 use Rattle.language.specs.declared.tree.Operator.{Operator}
@@ -45,7 +46,7 @@ pub data Gives (fs : List Signature) (g : Scope) : Expression → Typ → Type 0
   gives_text : {nd : Node} {bytes : List ℕ} → Gives fs g (expression nd (text bytes)) (one_of Text)
   gives_truth : {nd : Node} {b : Bool} → Gives fs g (expression nd (truth b)) (one_of Boolean)
   gives_variable : {nd : Node} {w : Word} {τ : Typ} → OfType g w τ → Gives fs g (expression nd (variable w)) τ
-  gives_element : {nd : Node} {w : Word} {i : Expression} {b : Base} → OfType g w (many_of b) → Gives fs g (expression nd (element w i)) (one_of b)
+  gives_element : {nd : Node} {w : Word} {i : Expression} {κ : Keys} {b : Base} → OfType g w (many_of κ b) → Gives fs g (expression nd (element w i)) (one_of b)
   gives_prefixed : {nd : Node} {p : Prefix} {e : Expression} {b : Base} → Prefixes p b → Gives fs g (expression nd (prefixed p e)) (one_of b)
   gives_chain : {nd : Node} {o : Operator} {os : List Operator} {e : Expression} {es : Expressions} {b c : Base} → Gives fs g e (one_of b) → Operates o b c
       → Gives fs g (expression nd (chain (o ∷ os) (and_expression e es))) (one_of c)
@@ -57,8 +58,8 @@ pub data Gives (fs : List Signature) (g : Scope) : Expression → Typ → Type 0
 pub data Want : Type 0 where
   of_type : Typ → Want
   anything : Want
-  -- the name of an array, with elements of a type or of any
-  array_of : Base → Want
+  -- the name of an array, with elements of a type under such keys, or of any under any
+  array_of : Keys → Base → Want
   any_array : Want
   -- a scalar of a type that the operator behind it takes and for which it gives this one
   before : Operator → Base → Want
@@ -70,8 +71,8 @@ IsName e = (nd : Node) × (w : Word) × (e ≡ expression nd (variable w))
 abbrev pub Meets : Want → Expression → Typ → Type 0
 Meets (of_type σ) e τ = τ ≡ σ
 Meets anything e τ = Unit {0}
-Meets (array_of b) e τ = IsName e × (τ ≡ many_of b)
-Meets any_array e τ = IsName e × (τ.shape ≡ Array)
+Meets (array_of κ b) e τ = IsName e × (τ ≡ many_of κ b)
+Meets any_array e τ = IsName e × (κ : Keys) × (τ.shape ≡ Array κ)
 Meets (before o c) e τ = (b : Base) × (τ ≡ one_of b) × Operates o b c
 
 -- the same of each
@@ -82,7 +83,7 @@ each w (and_expression e es) = w ∷ each w es
 -- of an argument for an input
 abbrev pub argument_by : Shape → Base → Want
 argument_by Scalar b = of_type (one_of b)
-argument_by Array b = array_of b
+argument_by (Array κ) b = array_of κ b
 
 abbrev pub argument : Typ → Want
 argument τ = argument_by τ.shape τ.base
@@ -90,7 +91,7 @@ argument τ = argument_by τ.shape τ.base
 -- of an element of an array literal, by the type of its target: of one that stands for a scalar nothing
 abbrev pub element_by : Shape → Base → Want
 element_by Scalar b = anything
-element_by Array b = of_type (one_of b)
+element_by (Array κ) b = of_type (one_of b)
 
 abbrev pub element_of : Typ → Want
 element_of τ = element_by τ.shape τ.base

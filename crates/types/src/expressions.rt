@@ -13,7 +13,7 @@ use crate::fault::TypeFault;
 use crate::functions::{called, function_called};
 use crate::scope::{Scope, refer};
 use crate::signatures::Functions;
-use crate::typed::{Builtin, Callee, Settled, VariableType};
+use crate::typed::{Builtin, Callee, Elements, Settled, VariableType};
 use lexer::token::Span;
 use std::alloc::Allocator;
 use syntax_trees::tree::{Base, Expr, ExprKind, Name, Operator, Shape};
@@ -46,16 +46,19 @@ pub fn scalar(found: VariableType, at: Span) -> Result<Base, TypeFault>
 {
     match found.shape {
         Shape::Scalar => Ok(found.base),
-        Shape::Array => Err(TypeFault::Mismatch(at)),
+        Shape::Array(_) => Err(TypeFault::Mismatch(at)),
     }
 }
 
-/// The type of the elements of an array; a scalar is refused.
-pub fn elements_of(found: VariableType, at: Span) -> Result<Base, TypeFault>
-    ensures { Judges (λ b. b) result (checks.elements_of (type_of found) at) }
+/// What an array gives; a scalar is refused.
+pub fn elements_of(found: VariableType, at: Span) -> Result<Elements, TypeFault>
+    ensures { Judges (λ given. given) result (checks.elements_of (type_of found) at) }
 {
     match found.shape {
-        Shape::Array => Ok(found.base),
+        Shape::Array(keys) => Ok(Elements {
+            value: found.base,
+            key: keys.base(),
+        }),
         Shape::Scalar => Err(TypeFault::Mismatch(at)),
     }
 }
@@ -91,9 +94,9 @@ fn form<A: Allocator>(
         ExprKind::Truth(_) => Ok(one_of(Base::Boolean)),
         ExprKind::Variable(name) => refer(scope, settled, name),
         ExprKind::Element(name, index) => {
-            let base = elements_of(refer(scope, settled, name)?, name.span)?;
-            expect(functions, scope, settled, index, Base::Int)?;
-            Ok(one_of(base))
+            let given = elements_of(refer(scope, settled, name)?, name.span)?;
+            expect(functions, scope, settled, index, given.key)?;
+            Ok(one_of(given.value))
         }
         ExprKind::Call(name, given) => call(functions, scope, settled, name, given, at),
         ExprKind::Prefixed(prefix, operand) => {
@@ -347,7 +350,7 @@ fn of_one<A: Allocator>(
             Ok(Base::Int)
         }
         Builtin::Size => {
-            let _base = array_name(found, argument)?;
+            let _given = array_name(found, argument)?;
             Ok(Base::Int)
         }
         Builtin::Strcat | Builtin::Printf | Builtin::Assert => Err(TypeFault::WrongCount(at)),
@@ -397,16 +400,18 @@ fn fits<A: Allocator>(
 ) -> Result<(), TypeFault>
     ensures { Judges (λ _. tt) result (checks.fits (type_of found) (type_of input) (expression_view argument.now)) }
 {
-    let base = match input.shape {
-        Shape::Scalar => scalar(found, argument.first)?,
-        Shape::Array => array_name(found, argument)?,
-    };
-    same_base(base, input.base, argument.first)
+    match input.shape {
+        Shape::Scalar => same_base(scalar(found, argument.first)?, input.base, argument.first),
+        Shape::Array(_) => {
+            let _given = array_name(found, argument)?;
+            same_type(found, input, argument.first)
+        }
+    }
 }
 
-/// The type of the elements of an array, of which an expression is the name.
-fn array_name<A: Allocator>(found: VariableType, value: &Expr<A>) -> Result<Base, TypeFault>
-    ensures { Judges (λ b. b) result (checks.array_name (type_of found) (expression_view value.now)) }
+/// What an array gives, of which an expression is the name.
+fn array_name<A: Allocator>(found: VariableType, value: &Expr<A>) -> Result<Elements, TypeFault>
+    ensures { Judges (λ given. given) result (checks.array_name (type_of found) (expression_view value.now)) }
 {
     match &value.kind {
         ExprKind::Variable(_) => elements_of(found, value.first),

@@ -20,12 +20,12 @@ use crate::fault::TypeFault;
 use crate::functions::{called, declared, function_called};
 use crate::scope::{Scope, add, declare, fresh, refer, same_text};
 use crate::signatures::Functions;
-use crate::typed::{Builtin, Callee, Owned, Settled, VariableType};
+use crate::typed::{Builtin, Callee, Elements, Owned, Settled, VariableType};
 use lexer::token::Span;
 use std::alloc::{AllocError, Allocator, Global};
 use syntax_trees::tree::{
-    Base, Block, Call, Decl, Expr, ExprKind, Header, ListOf, Name, Range, Right, Shape, Source,
-    Stmt, StmtKind,
+    Base, Block, Call, Decl, Expr, ExprKind, Header, Keys, ListOf, Name, Range, Right, Shape,
+    Source, Stmt, StmtKind,
 };
 use values::format::{Format, FormatFault, Piece};
 
@@ -48,7 +48,7 @@ fn right<A: Allocator>(
     }
 }
 
-/// An array literal: its elements have the type of the target's, and the target is an array. With a scalar target they are compared
+/// An array literal: its elements have the type of the target's, and the target is an array under numbers. With a scalar target they are compared
 /// with nothing, before the literal is refused.
 fn literal<A: Allocator>(
     functions: &Functions,
@@ -60,11 +60,24 @@ fn literal<A: Allocator>(
     ensures { Gives (λ _. tt) result settled.new.items (steps.right (signatures_of functions.now) (around_of scope.now) (list_of list.now) (type_of target) settled.old.items) }
 {
     match target.shape {
-        Shape::Array => elements(functions, scope, settled, &list.elements, Some(target.base)),
+        Shape::Array(keys) => {
+            elements(functions, scope, settled, &list.elements, Some(target.base))?;
+            under_numbers(keys, list.first)
+        }
         Shape::Scalar => {
             elements(functions, scope, settled, &list.elements, None)?;
             Err(TypeFault::Mismatch(list.first))
         }
+    }
+}
+
+/// Refuses keys that are no numbers.
+fn under_numbers(keys: Keys, at: Span) -> Result<(), TypeFault>
+    ensures { Judges (λ _. tt) result (steps.under_numbers keys at) }
+{
+    match keys {
+        Keys::Numbers => Ok(()),
+        Keys::Texts => Err(TypeFault::Mismatch(at)),
     }
 }
 
@@ -274,37 +287,40 @@ fn wanted(alloc: Global, format: &Format) -> Result<Vec<VariableType>, AllocErro
     Ok(types)
 }
 
-/// What a loop goes over, with the type of the values that it gives.
+/// What a loop goes over, with the types of the values and of the keys that it gives to its body.
 fn source<A: Allocator>(
     functions: &Functions,
     scope: &Scope,
     settled: &mut Vec<Settled>,
     source: &Source<A>,
-) -> Result<Base, TypeFault>
-    ensures { Gives (λ b. b) result settled.new.items (steps.source (signatures_of functions.now) (around_of scope.now) (over_of source.now) settled.old.items) }
+) -> Result<Elements, TypeFault>
+    ensures { Gives (λ given. given) result settled.new.items (steps.source (signatures_of functions.now) (around_of scope.now) (over_of source.now) settled.old.items) }
 {
     match source {
         Source::Array(name) => elements_of(refer(scope, settled, name)?, name.span),
         Source::Range(over) => {
-            let base = range(functions, scope, settled, over)?;
-            Ok(base)
+            let given = range(functions, scope, settled, over)?;
+            Ok(given)
         }
     }
 }
 
-/// The bounds and the step of a range, which are numbers, as its values are.
+/// The bounds and the step of a range, which are numbers, as its values and its keys are.
 fn range<A: Allocator>(
     functions: &Functions,
     scope: &Scope,
     settled: &mut Vec<Settled>,
     range: &Range<A>,
-) -> Result<Base, TypeFault>
-    ensures { Gives (λ b. b) result settled.new.items (steps.source (signatures_of functions.now) (around_of scope.now) (range_of range.now) settled.old.items) }
+) -> Result<Elements, TypeFault>
+    ensures { Gives (λ given. given) result settled.new.items (steps.source (signatures_of functions.now) (around_of scope.now) (range_of range.now) settled.old.items) }
 {
     expect(functions, scope, settled, &range.low, Base::Int)?;
     expect(functions, scope, settled, &range.high, Base::Int)?;
     step(functions, scope, settled, &range.step)?;
-    Ok(Base::Int)
+    Ok(Elements {
+        value: Base::Int,
+        key: Base::Int,
+    })
 }
 
 /// The step of a range, where it has one.
@@ -349,17 +365,17 @@ fn add_variables<A: Allocator>(
     scope: &mut Scope,
     value: &Name<A>,
     key: &Option<Name<A>>,
-    base: Base,
+    given: Elements,
 ) -> Result<(), AllocError>
     requires { (settled : List Settled) → steps.fresh_variables (around_of scope.old) (word_of value.now) (option_map word_of key.now) settled ≡ got tt settled }
-    ensures { OnOk result (around_of scope.new ≡ steps.with_key (steps.declared (around_of scope.old) (word_of value.now) (scopes.one_of base)) (option_map word_of key.now)) }
+    ensures { OnOk result (around_of scope.new ≡ steps.with_key (steps.declared (around_of scope.old) (word_of value.now) (scopes.one_of given.value)) (option_map word_of key.now) given.key) }
 {
     add(
         alloc,
         scope,
         value,
         Owned::Local(value.number),
-        one_of(base),
+        one_of(given.value),
     )?;
     if let Some(key) = key {
         add(
@@ -367,7 +383,7 @@ fn add_variables<A: Allocator>(
             scope,
             key,
             Owned::Local(key.number),
-            one_of(Base::Int),
+            one_of(given.key),
         )?;
     }
     Ok(())
@@ -488,9 +504,9 @@ fn write<A: Allocator>(
 ) -> Result<(), TypeFault>
     ensures { Gives (λ _. around_of scope.now) result settled.new.items (steps.commanded (signatures_of functions.now) (around_of scope.now) (trees.write (word_of name.now) (expression_view index.now) (expression_view value.now)) settled.old.items) }
 {
-    let base = elements_of(refer(scope, settled, name)?, name.span)?;
-    expect(functions, scope, settled, index, Base::Int)?;
-    expect(functions, scope, settled, value, base)?;
+    let given = elements_of(refer(scope, settled, name)?, name.span)?;
+    expect(functions, scope, settled, index, given.key)?;
+    expect(functions, scope, settled, value, given.value)?;
     Ok(())
 }
 
@@ -563,10 +579,10 @@ fn repetition<A: Allocator>(
     ensures { Gives (λ _. around_of scope.new) result settled.new.items (steps.commanded (signatures_of functions.now) (around_of scope.old) (trees.loop (word_of header.now.value) (option_map word_of header.now.key) (over_of header.now.source) (body_view body.now)) settled.old.items) }
 {
     fresh_variables(scope, &header.value, &header.key)?;
-    let base = source(functions, scope, settled, &header.source)?;
+    let given = source(functions, scope, settled, &header.source)?;
     let visible = scope.names.len();
     scope.blocks.push(visible)?;
-    add_variables(alloc, scope, &header.value, &header.key, base)?;
+    add_variables(alloc, scope, &header.value, &header.key, given)?;
     block(alloc, functions, scope, settled, body)?;
     leave(scope, visible);
     Ok(())

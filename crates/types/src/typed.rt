@@ -45,6 +45,13 @@ pub struct VariableType {
     pub shape: Shape,
 }
 
+/// What an array gives under its keys: the type of its elements, and that of an index.
+#[derive(Clone, Copy)]
+pub struct Elements {
+    pub value: Base,
+    pub key: Base,
+}
+
 /// What a name is.
 #[derive(Clone, Copy, Debug, PartialEq, Eq)]
 pub enum Meaning {

@@ -138,3 +138,9 @@ inserted-parted k es i r l point none v =
     let here : found_at k (slice_get es i) ≡ None = sym (found-parted k es i r l point) ∙ none in
     inserted-gap k v es i l (λ j d m. point.0 j d (omega arith) m)
     (λ d m. key_below-other (get_or es i d).key k (at-none k es i d m here) (point.1 i d (omega arith) m))
+
+-- where the key itself stands, its scalar is found
+pub found-there : (k : Key) (es : List Element) (i : ℕ) (d : Element) → i < length es → (get_or es i d).key ≡ k → found_at k (slice_get es i) ≡ Some (get_or es i d).value
+found-there k [] i d l h = absurd (omega arith)
+found-there k (e ∷ es) zero d l h = let same : same_key e.key k ≡ true = rw h (same_key-refl k) in rw same refl
+found-there k (e ∷ es) (suc i) d l h = found-there k es i d (omega arith) h

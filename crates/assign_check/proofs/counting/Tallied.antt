@@ -178,7 +178,7 @@ given_form t x (u ∷ us) is = step (same u.of x) u.kind u.span (λ t' is'. give
 -- ALL
 
 never : (s : Shape) (at : Span) (x : Owned) (us : List Use) → never_faults s at (tally_from unused x us) ≡ faults.never_faults s x at us
-never Array at x us = refl
+never (Array κ) at x us = refl
 never Scalar at x us = ap₂ (λ (a b : Bool). cond (a && b) (NeverAssigned at ∷ []) []) (is_read x us) (is_named x us)
 
 unassigned : (a b : Bool) (at : Span) → cond (not a && not b) (OutputUnassigned at ∷ []) [] ≡ cond (a || b) [] (OutputUnassigned at ∷ [])

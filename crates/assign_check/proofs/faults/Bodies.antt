@@ -2,6 +2,7 @@
 use Rattle.std.specs.Prelude.{◌≡◌, ◌⊎◌, []}
 use Rattle.std.specs.List.{flat_map}
 use Rattle.std.proofs.Common.{inl, inr, sym, subst}
+use Rattle.language.specs.declared.tree.Keys.{Keys}
 use Rattle.language.specs.declared.tree.Shape.TheVariants.{Array}
 use Rattle.language.specs.Core.{Owned}
 use Rattle.language.specs.Members.{◌∈◌, first}
@@ -93,7 +94,7 @@ up i h = record { use_there = h.use_there; there = uses_up i h.there; kind = h.k
 home : {k : Kind} {o b : Outline} {d : Declared} → IsScoped o → BlockIn b o → HasStep (declares d) b → Used k d.what (uses_in o) → HasUse k d.what b
 home s i h u = record { use_there = u.use_there; there = body_home s (λ v j l. elim j [ ]) i h u.there u.is; kind = u.kind; is = u.is }
 
-not_read : {o b : Outline} {d : Declared} → IsScoped o → BlockIn b o → HasStep (declares d) b → HasUse read d.what b → d.shape ≡ Array → ⊥
+not_read : {o b : Outline} {d : Declared} {κ : Keys} → IsScoped o → BlockIn b o → HasStep (declares d) b → HasUse read d.what b → d.shape ≡ Array κ → ⊥
 not_read s i h u e = body_unread s (λ v j l. elim j [ ]) i h e u.there u.is u.kind
 
 -- THE CLAUSES
@@ -109,7 +110,7 @@ pub used_well : (o : Outline) → IsScoped o → flat_map (variable_faults (uses
 used_well o s none d b i h =
     let f = fine d.role d.shape d.what d.span (uses_in o) (none_each (variable_faults (uses_in o)) (declared_in o) none d (declared_up i h)) in
     record {
-      assigned = λ g r. home s i h (f.assigned g (not_read s i h r) (up i r));
+      assigned = λ g r. home s i h (f.assigned g (λ κ e. not_read s i h r e) (up i r));
       one_form = λ g n w. f.one_form g (up i n) (up i w);
       given_form = λ g w. f.given_form g (up i w);
       output_assigned = λ e. elim (f.output_assigned e) [ inl u ↦ inl (home s i h u) | inr u ↦ inr (home s i h u) ];

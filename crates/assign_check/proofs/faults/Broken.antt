@@ -49,7 +49,7 @@ turned false h = refl
 -- A SCALAR THAT IS READ
 
 never_broken : (o : Outline) (d : Declared) (s : Shape) (f : AssignFault) → d ∈ declared_in o → (d.role ≡ given → ⊥) → d.shape ≡ s → f ∈ never_faults s d.what d.span (uses_in o) → BreaksIn o f
-never_broken o d Array f there role shape i = elim i [ ]
+never_broken o d (Array κ) f there role shape i = elim i [ ]
 never_broken o d Scalar f there role shape i =
     let r = only_if (is_used read d.what (uses_in o) && not (is_used named d.what (uses_in o))) (NeverAssigned d.span) f i in
     let uses = both_true (is_used read d.what (uses_in o)) (not (is_used named d.what (uses_in o))) r.0 in

@@ -35,7 +35,7 @@ is_unused_when : (k : Kind) (x : Owned) (us : List Use) → (Used k x us → ⊥
 is_unused_when k x us h = elim (used_or k x us) [ inl p ↦ absurd (h p.0) | inr p ↦ p.1 ]
 
 never_found : (s : Shape) (x : Owned) (at : Span) (us : List Use) → s ≡ Scalar → Used read x us → (Used named x us → ⊥) → NeverAssigned at ∈ never_faults s x at us
-never_found Array x at us e r n = absurd (cc (e))
+never_found (Array κ) x at us e r n = absurd (cc (e))
 never_found Scalar x at us e r n =
     subst (λ (b : Bool). NeverAssigned at ∈ cond b (NeverAssigned at ∷ []) []) (sym (and_true (is_used_when read x us r) (ap not (is_unused_when named x us n)))) first
 

@@ -2,6 +2,7 @@
 use Rattle.std.specs.Prelude.{◌≡◌, ◌⊎◌, Bool, true, false, not, ◌&&◌, ◌||◌, cond, List, [], ◌∷◌, ◌++◌, refl}
 use Rattle.std.proofs.Common.{inl, inr, sym, ap, ◌∙◌}
 use Rattle.lexer.specs.declared.token.Span.{Span}
+use Rattle.language.specs.declared.tree.Keys.{Keys}
 use Rattle.language.specs.declared.tree.Shape.{Shape}
 use Rattle.language.specs.declared.tree.Shape.TheVariants.{Scalar, Array}
 use Rattle.language.specs.Core.{Owned}
@@ -175,13 +176,13 @@ one_form x us h = elim (used_or named x us) [
 
 -- what single assignment asks of a variable's uses
 pub record Fine (r : Role) (s : Shape) (x : Owned) (us : List Use) : Type 0 where
-  pub assigned : (r ≡ given → ⊥) → (s ≡ Array → ⊥) → Used read x us → Used named x us
+  pub assigned : (r ≡ given → ⊥) → ((κ : Keys) → s ≡ Array κ → ⊥) → Used read x us → Used named x us
   pub one_form : (r ≡ given → ⊥) → Used named x us → Used written x us → ⊥
   pub given_form : r ≡ given → Used written x us → ⊥
   pub output_assigned : r ≡ result → Used named x us ⊎ Used written x us
 
-never_none : (s : Shape) (x : Owned) (at : Span) (us : List Use) → never_faults s x at us ≡ [] → (s ≡ Array → ⊥) → Used read x us → Used named x us
-never_none Array x at us h n r = absurd (n refl)
+never_none : (s : Shape) (x : Owned) (at : Span) (us : List Use) → never_faults s x at us ≡ [] → ((κ : Keys) → s ≡ Array κ → ⊥) → Used read x us → Used named x us
+never_none (Array κ) x at us h n r = absurd (n κ refl)
 never_none Scalar x at us h n r = elim (used_or named x us) [
   | inl p ↦ p.0
   | inr p ↦ elim (used_or read x us) [
@@ -193,12 +194,12 @@ never_none Scalar x at us h n r = elim (used_or named x us) [
   ]
 ]
 
-never_clean : (s : Shape) (x : Owned) (at : Span) (us : List Use) → ((s ≡ Array → ⊥) → Used read x us → Used named x us) → never_faults s x at us ≡ []
-never_clean Array x at us h = refl
+never_clean : (s : Shape) (x : Owned) (at : Span) (us : List Use) → (((κ : Keys) → s ≡ Array κ → ⊥) → Used read x us → Used named x us) → never_faults s x at us ≡ []
+never_clean (Array κ) x at us h = refl
 never_clean Scalar x at us h = elim (used_or read x us) [
   | inl p ↦ elim (used_or named x us) [
     | inl q ↦ ap (λ (b : Bool). cond b (NeverAssigned at ∷ []) []) (ap (λ (b : Bool). b && not (is_used named x us)) p.1 ∙ ap not q.1)
-    | inr q ↦ absurd (q.0 (h (λ e. absurd (cc (e))) p.0))
+    | inr q ↦ absurd (q.0 (h (λ κ e. absurd (cc (e))) p.0))
   ]
   | inr p ↦ ap (λ (b : Bool). cond (b && not (is_used named x us)) (NeverAssigned at ∷ []) []) p.1
 ]

@@ -1,6 +1,7 @@
 -- Outlines whose uses are of visible variables, and whose declarations and statements have numbers in reading order.
 use Rattle.std.specs.Prelude.{◌≡◌, ℕ, suc, ◌≤◌, List, [], ◌∷◌}
 use Rattle.lexer.specs.declared.token.Span.{Span}
+use Rattle.language.specs.declared.tree.Keys.{Keys}
 use Rattle.language.specs.declared.tree.Shape.{Shape}
 use Rattle.language.specs.declared.tree.Shape.TheVariants.{Array}
 use Rattle.language.specs.Core.{Owned, local}
@@ -17,7 +18,7 @@ pub record Sees (vs : List Seen) (u : Use) : Type 0 where
   pub variable : Seen
   pub visible : variable ∈ vs
   pub is : variable.what ≡ u.of
-  pub scalar : variable.shape ≡ Array → u.kind ≡ read → ⊥
+  pub scalar : (κ : Keys) → variable.shape ≡ Array κ → u.kind ≡ read → ⊥
 
 abbrev pub seen : Declared → Seen
 seen d = record { what = d.what; shape = d.shape }

@@ -4,7 +4,7 @@ use Rattle.std.specs.Prelude.{suc, map, Option, Some, None, option_map, sum_by}
 use Rattle.std.proofs.lemmas.List.{append_assoc}
 use Rattle.lexer.specs.declared.token.Span.{Span}
 use Rattle.language.specs.declared.tree.Base.{Base}
-use Rattle.language.specs.declared.tree.Base.TheVariants.{Int, Boolean}
+use Rattle.language.specs.declared.tree.Base.TheVariants.{Boolean}
 use Rattle.language.specs.declared.tree.Shape.{Shape}
 use Rattle.language.specs.declared.tree.Shape.TheVariants.{Scalar}
 use Rattle.language.specs.Core.{Owned, local, input, output}
@@ -12,6 +12,7 @@ use Rattle.language.specs.Members.{◌∈◌, first, later}
 use Rattle.language.specs.Table.{Table}
 use Rattle.language.specs.Tree.{Word, Node, Declaration, expressions_of, Calling, Statement, statement, declare, assign, write, assign_all, calls, choice, choice_else, loop, waits, Body, body, Statements, no_statements, and_statement, Composite, import, function, single, Tree}
 use Rattle.language.specs.Numbered.{expression_size, word_size, option_size, over_size, statement_size, body_size, statements_size, composite_size, part_size, declaration_size, numbered_word, numbered_node, numbered_each, numbered_expression, numbered_declaration, numbered_right, numbered_calling, numbered_over, numbered_statement, numbered_body, numbered_statements, numbered_composite, numbered}
+use Rattle.language.specs.Kinds.{base_of_keys}
 use Rattle.language.specs.Scopes.{one_of, many_of, declared_type, Visible, Scope, deeper, own, Signature, signatures}
 use Rattle.language.specs.Typing as rules
 use Rattle.language.specs.Typing.{Declares, LoopScope, StatementTyped, StatementsTyped, BodyTyped, Parameters, FunctionTyped, PartsTyped, WellTyped}
@@ -56,7 +57,7 @@ named_is_no_read is = absurd (cc)
 
 -- a target that was declared just before it
 own_target : (vs : List Seen) (d : Declared) (sp : Span) → Sees (seen d ∷ vs) (record { kind = named; of = d.what; span = sp })
-own_target vs d sp = record { variable = seen d; visible = first; is = refl; scalar = λ shape is. named_is_no_read is }
+own_target vs d sp = record { variable = seen d; visible = first; is = refl; scalar = λ κ shape is. named_is_no_read is }
 
 -- STATEMENTS
 
@@ -65,16 +66,16 @@ leaf : (vs : List Seen) (h : Scope) (n m to : ℕ) (xs ys : List Step) → Knows
 leaf vs h n m to xs ys knows seeing less behind = behind_uses vs n to xs ys seeing (scoped_from vs n m to (outlined ys) less (behind vs knows))
 
 -- a body behind the variables of its loop
-loop_scoped : (t : Table) (n m : ℕ) (v : Word) (k : Option Word) (g h : Scope) (b : Base) (ys : List Step) (to : ℕ) (vs : List Seen) → Knows vs g
-    → LoopScope g (numbered_word n v) b (option_map (numbered_word (n + 1)) k) h → n + 1 + option_size word_size k ≤ m → Behind h m (outlined ys) to
+loop_scoped : (t : Table) (n m : ℕ) (v : Word) (k : Option Word) (g h : Scope) (b c : Base) (ys : List Step) (to : ℕ) (vs : List Seen) → Knows vs g
+    → LoopScope g (numbered_word n v) b (option_map (numbered_word (n + 1)) k) c h → n + 1 + option_size word_size k ≤ m → Behind h m (outlined ys) to
     → Scoped vs n (outlined (loop_variable (numbered_word n v) ∷ (key_variable (option_map (numbered_word (n + 1)) k) ++ ys))) to
-loop_scoped t n m v None g h b ys to vs knows (rules.value_only (rules.fresh free)) less behind =
+loop_scoped t n m v None g h b c ys to vs knows (rules.value_only (rules.fresh free)) less behind =
     scoped_declaration {d = loop_declared n v} refl (λ e. result_is_not_given e refl) (omega arith)
     (scoped_from (seen (loop_declared n v) ∷ vs) (suc n) m to (outlined ys) (omega arith)
     (behind (seen (loop_declared n v) ∷ vs) (declared_known vs (deeper g) (own (numbered_word n v) (one_of b)) (loop_declared n v) refl refl (knows_deeper vs g knows))))
-loop_scoped t n m v (Some k) g h b ys to vs knows (rules.with_key (rules.fresh free) (rules.fresh other)) less behind =
+loop_scoped t n m v (Some k) g h b c ys to vs knows (rules.with_key (rules.fresh free) (rules.fresh other)) less behind =
     let one = declared_known vs (deeper g) (own (numbered_word n v) (one_of b)) (loop_declared n v) refl refl (knows_deeper vs g knows) in
-    let two = declared_known (seen (loop_declared n v) ∷ vs) (own (numbered_word n v) (one_of b) ∷ deeper g) (own (numbered_word (n + 1) k) (one_of Int)) (loop_declared (n + 1) k) refl refl one in
+    let two = declared_known (seen (loop_declared n v) ∷ vs) (own (numbered_word n v) (one_of b) ∷ deeper g) (own (numbered_word (n + 1) k) (one_of c)) (loop_declared (n + 1) k) refl refl one in
     scoped_declaration {d = loop_declared n v} refl (λ e. result_is_not_given e refl) (omega arith)
     (scoped_declaration {d = loop_declared (n + 1) k} refl (λ e. result_is_not_given e refl) (omega arith)
     (scoped_from (seen (loop_declared (n + 1) k) ∷ seen (loop_declared n v) ∷ vs) (suc (n + 1)) m to (outlined ys) (omega arith) (behind (seen (loop_declared (n + 1) k) ∷ seen (loop_declared n v) ∷ vs) two)))
@@ -116,12 +117,12 @@ mutual
       leaf vs g n (n + statement_size (statement nd (assign w r))) to (use_of t named (numbered_word (n + 1) w) ∷ read_right t (numbered_right (n + 1 + 1) r)) ys knows
       (seeing_both vs (use_of t named (numbered_word (n + 1) w) ∷ []) (read_right t (numbered_right (n + 1 + 1) r)) (sees_named vs g t (numbered_word (n + 1) w) τ knows refers)
       (right_seen vs fs t g (numbered_right (n + 1 + 1) r) τ knows typed)) (omega arith) behind
-  statement_scoped fs t n (statement nd (write w i e)) g h ys to vs knows (rules.element_write {b = b} refers index right) behind =
+  statement_scoped fs t n (statement nd (write w i e)) g h ys to vs knows (rules.element_write {κ = κ} {b = b} refers index right) behind =
       let is = numbered_expression (n + 1 + 1) i in
       let es = numbered_expression (n + 1 + 1 + expression_size i) e in
       leaf vs g n (n + statement_size (statement nd (write w i e))) to (use_of t written (numbered_word (n + 1) w) ∷ (read_in t is ++ read_in t es)) ys knows
-      (seeing_both vs (use_of t written (numbered_word (n + 1) w) ∷ []) (read_in t is ++ read_in t es) (sees_written vs g t (numbered_word (n + 1) w) (many_of b) knows refers)
-      (seeing_both vs (read_in t is) (read_in t es) (expression_seen vs fs t g is Int knows index) (expression_seen vs fs t g es b knows right))) (omega arith) behind
+      (seeing_both vs (use_of t written (numbered_word (n + 1) w) ∷ []) (read_in t is ++ read_in t es) (sees_written vs g t (numbered_word (n + 1) w) (many_of κ b) knows refers)
+      (seeing_both vs (read_in t is) (read_in t es) (expression_seen vs fs t g is (base_of_keys κ) knows index) (expression_seen vs fs t g es b knows right))) (omega arith) behind
   statement_scoped fs t n (statement nd (assign_all ws c)) g h ys to vs knows typed behind =
       let us = numbered_each numbered_word word_size (n + 1) ws in
       let d = numbered_calling (n + 1 + sum_by word_size ws) c in
@@ -148,15 +149,15 @@ mutual
       (scoped_from vs (suc n) m k (outlined (body_steps t (numbered_body m b))) (omega arith) (body_scoped fs t m b (deeper g) vs (knows_deeper vs g knows) typed))
       (body_scoped fs t k d (deeper g) vs (knows_deeper vs g knows) other)
       (scoped_from vs (k + body_size d) (n + statement_size (statement nd (choice_else e b d))) to (outlined ys) (omega arith) (behind vs knows)))
-  statement_scoped fs t n (statement nd (loop v k o b)) g h ys to vs knows (rules.loop_statement {h = inner} {β = β} source scope typed) behind =
+  statement_scoped fs t n (statement nd (loop v k o b)) g h ys to vs knows (rules.loop_statement {h = inner} {β = β} {γ = γ} source scope typed) behind =
       let p = n + 1 + 1 + option_size word_size k in
       let m = p + over_size o in
       let bs = body_steps t (numbered_body m b) in
       behind_uses_and vs n to (read_over t (numbered_over p o)) ys (repeats n (outlined (loop_variable (numbered_word (n + 1) v) ∷ (key_variable (option_map (numbered_word (n + 1 + 1)) k) ++ bs))))
-      (source_seen vs fs t g (numbered_over p o) β knows source)
+      (source_seen vs fs t g (numbered_over p o) β γ knows source)
       (scoped_loop {m = m + body_size b} (omega arith)
       (scoped_from vs (suc n) (n + 1) (m + body_size b) (outlined (loop_variable (numbered_word (n + 1) v) ∷ (key_variable (option_map (numbered_word (n + 1 + 1)) k) ++ bs))) (omega arith)
-      (loop_scoped t (n + 1) m v k g inner β bs (m + body_size b) vs knows scope (omega arith) (λ us more. body_scoped fs t m b inner us more typed)))
+      (loop_scoped t (n + 1) m v k g inner β γ bs (m + body_size b) vs knows scope (omega arith) (λ us more. body_scoped fs t m b inner us more typed)))
       (scoped_from vs (m + body_size b) (n + statement_size (statement nd (loop v k o b))) to (outlined ys) (omega arith) (behind vs knows)))
   statement_scoped fs t n (statement nd (waits ws b)) g h ys to vs knows (rules.wait_statement {τs = τs} names typed) behind =
       let us = numbered_each numbered_word word_size (n + 1) ws in

@@ -128,7 +128,7 @@ module _ (Taken : ℕ → Type 0) (fs : List Signature) (t : Table) (g : Scope) 
   step_reads no_step k = match_none (λ x p. no_parts p)
   step_reads (a_step {e = e} h) k = last_outer (number_of e) (form_of t e) (reading_of Taken fs t g h k)
 
-  pub loop_reads : {o : Over} {b : Base} (v : Word) (i : Option Word) (d : Block) → SourceType fs t g o b → Counted Taken (over_numbers o)
+  pub loop_reads : {o : Over} {b c : Base} (v : Word) (i : Option Word) (d : Block) → SourceType fs t g o b c → Counted Taken (over_numbers o)
       → Match Taken (read_over t o) (λ z. ReadHere z (loop_action t v i o d))
   loop_reads v i d (of_elements r) k = match_none (λ x p. elim p [ inl h ↦ no_parts h | inr z ↦ z ])
   loop_reads v i d (of_range {low = low} {high = high} {step = step} l h s) k =
@@ -153,7 +153,7 @@ abbrev InNames : Owned → List Awaited → Type 0
 InNames x ns = (y : Name) × (scalar y ∈ ns) × (y.what ≡ x)
 
 one_name : {Taken : ℕ → Type 0} (t : Table) (w : Word) (s : Shape) → Match Taken (reading s t w) (λ x. InNames x (awaited_as s (refers t w) ∷ []))
-one_name {Taken} t w Array = match_none (λ x p. elim p.1 [ later m ↦ elim m [ ] ])
+one_name {Taken} t w (Array κ) = match_none (λ x p. elim p.1 [ later m ↦ elim m [ ] ])
 one_name {Taken} t w Scalar = match_use t w (refers t w, first, refl) (λ x p. one p)
   where
     one : {x : Owned} → InNames x (scalar (refers t w) ∷ []) → (refers t w).what ≡ x

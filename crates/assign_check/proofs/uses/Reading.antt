@@ -5,6 +5,7 @@ use Rattle.values.specs.Operators.{Operation}
 use Rattle.values.specs.declared.format.Piece.{Piece}
 use Rattle.language.specs.declared.tree.Base.{Base}
 use Rattle.language.specs.declared.tree.Operator.{Operator}
+use Rattle.language.specs.declared.tree.Keys.{Keys}
 use Rattle.language.specs.declared.tree.Shape.{Shape}
 use Rattle.language.specs.declared.tree.Shape.TheVariants.{Scalar, Array}
 use Rattle.language.specs.Core.{Owned, local, Name, here, Expr, name, whole, operator, none, also, Form, compute, read, Call, Part, inner, calls}
@@ -75,7 +76,7 @@ pub match_name : {Taken : ℕ → Type 0} (t : Table) (w : Word) {P : Owned → 
 match_name {Taken} t w {P} e p f = subst (λ (s : Shape). Match Taken (reading s t w) P) (sym e) (match_use t w p f)
 
 -- an array's name reads no scalar
-pub match_array : {Taken : ℕ → Type 0} (t : Table) (w : Word) {P : Owned → Type 0} → t.shape_of w.number ≡ Array → ((x : Owned) → P x → ⊥) → Match Taken (name_read t w) P
+pub match_array : {Taken : ℕ → Type 0} (t : Table) (w : Word) {P : Owned → Type 0} {κ : Keys} → t.shape_of w.number ≡ Array κ → ((x : Owned) → P x → ⊥) → Match Taken (name_read t w) P
 match_array {Taken} t w {P} e f = subst (λ (s : Shape). Match Taken (reading s t w) P) (sym e) (match_none f)
 
 -- PARTS
@@ -254,7 +255,7 @@ no_whole : {x : Owned} {y : Name} {o : Operation} {A : Type 0} → Reads x (oper
 no_whole (an_operand (the_first r)) = elim r [ ]
 no_whole (an_operand (a_later r)) = elim r [ ]
 
-array_cell : (t : Table) (nd : Node) (w : Word) → t.shape_of w.number ≡ Array → as_argument t (expression nd (variable w)) (form_of t (expression nd (variable w))) ≡ ([], refers t w)
+array_cell : {κ : Keys} (t : Table) (nd : Node) (w : Word) → t.shape_of w.number ≡ Array κ → as_argument t (expression nd (variable w)) (form_of t (expression nd (variable w))) ≡ ([], refers t w)
 array_cell t nd w e = ap (λ (s : Shape). variable_or_cell s t w nd.number (form_of t (expression nd (variable w)))) e
 
 match_none_behind : {Taken : ℕ → Type 0} {rs : List Step} {P : Owned → Type 0} → Match Taken rs P → Match Taken (rs ++ []) P

@@ -3,6 +3,7 @@ use Rattle.std.proofs.Common.{◌≡◌, ℕ, List, [], ◌∷◌, ◌++◌, ref
 use Rattle.std.specs.Prelude.{map, Option}
 use Rattle.language.specs.declared.tree.Base.{Base}
 use Rattle.language.specs.declared.tree.Operator.{Operator}
+use Rattle.language.specs.declared.tree.Keys.{Keys}
 use Rattle.language.specs.declared.tree.Shape.{Shape}
 use Rattle.language.specs.declared.tree.Shape.TheVariants.{Scalar, Array}
 use Rattle.language.specs.Members.{◌∈◌, first, later}
@@ -36,13 +37,13 @@ known vs g v first (knows_one one more) = one
 known vs g v (later {xs = h} there) (knows_one one more) = known vs h v there more
 
 -- a name that refers to a variable is that of a visible one
-pub sees : (vs : List Seen) (g : Scope) (t : Table) (w : Word) (τ : Typ) (k : Kind) → Knows vs g → Refers g t w τ → (τ.shape ≡ Array → k ≡ read → ⊥)
+pub sees : (vs : List Seen) (g : Scope) (t : Table) (w : Word) (τ : Typ) (k : Kind) → Knows vs g → Refers g t w τ → ((κ : Keys) → τ.shape ≡ Array κ → k ≡ read → ⊥)
     → Sees vs (record { kind = k; of = (t.name_of w.number).what; span = w.span })
 sees vs g t w τ k knows r no_array = record {
   variable = seen_as r.variable;
   visible = known vs g r.variable r.visible knows;
   is = sym (ap (λ x. x.what) r.named);
-  scalar = λ shape is. no_array (sym (ap (λ y. y.shape) r.typed) ∙ shape) is;
+  scalar = λ κ shape is. no_array κ (sym (ap (λ y. y.shape) r.typed) ∙ shape) is;
 }
 
 -- steps that are uses of visible variables
@@ -74,28 +75,28 @@ written_is_no_read is = absurd (cc)
 -- TARGETS
 
 pub sees_named : (vs : List Seen) (g : Scope) (t : Table) (w : Word) (τ : Typ) → Knows vs g → Refers g t w τ → Seeing vs (use_of t named w ∷ [])
-sees_named vs g t w τ knows r = sees_one (sees vs g t w τ named knows r (λ shape is. named_is_no_read is)) sees_none
+sees_named vs g t w τ knows r = sees_one (sees vs g t w τ named knows r (λ κ shape is. named_is_no_read is)) sees_none
 
 pub sees_written : (vs : List Seen) (g : Scope) (t : Table) (w : Word) (τ : Typ) → Knows vs g → Refers g t w τ → Seeing vs (use_of t written w ∷ [])
-sees_written vs g t w τ knows r = sees_one (sees vs g t w τ written knows r (λ shape is. written_is_no_read is)) sees_none
+sees_written vs g t w τ knows r = sees_one (sees vs g t w τ written knows r (λ κ shape is. written_is_no_read is)) sees_none
 
 pub sees_all_named : (vs : List Seen) (g : Scope) (t : Table) (ws : List Word) (τs : List Typ) → Knows vs g → ReferAll t g ws τs → Seeing vs (map (use_of t named) ws)
 sees_all_named vs g t ws τs knows rules.no_name = sees_none
 sees_all_named vs g t ws τs knows (rules.one_name {w = w} {ws = us} {τ = τ} {τs = σs} r more) =
-    sees_one (sees vs g t w τ named knows r (λ shape is. named_is_no_read is)) (sees_all_named vs g t us σs knows more)
+    sees_one (sees vs g t w τ named knows r (λ κ shape is. named_is_no_read is)) (sees_all_named vs g t us σs knows more)
 
 -- READS
 
 reading_seen : (vs : List Seen) (t : Table) (w : Word) (h : Shape) → (h ≡ Scalar → Sees vs (record { kind = read; of = (t.name_of w.number).what; span = w.span })) → Seeing vs (reading h t w)
 reading_seen vs t w Scalar how = sees_one (how refl) sees_none
-reading_seen vs t w Array how = sees_none
+reading_seen vs t w (Array κ) how = sees_none
 
-scalar_is_no_array : Scalar ≡ Array → ⊥
-scalar_is_no_array is = absurd (cc)
+scalar_is_no_array : (κ : Keys) → Scalar ≡ Array κ → ⊥
+scalar_is_no_array κ is = absurd (cc)
 
 pub name_seen : (vs : List Seen) (g : Scope) (t : Table) (w : Word) (τ : Typ) → Knows vs g → Refers g t w τ → Seeing vs (name_read t w)
 name_seen vs g t w τ knows r =
-    reading_seen vs t w (t.shape_of w.number) (λ scalar. sees vs g t w τ read knows r (λ shape is. scalar_is_no_array (sym scalar ∙ r.shaped ∙ shape)))
+    reading_seen vs t w (t.shape_of w.number) (λ scalar. sees vs g t w τ read knows r (λ κ shape is. scalar_is_no_array κ (sym scalar ∙ r.shaped ∙ shape)))
 
 pub names_seen : (vs : List Seen) (g : Scope) (t : Table) (ws : List Word) (τs : List Typ) → Knows vs g → ReferAll t g ws τs → Seeing vs (read_names t ws)
 names_seen vs g t ws τs knows rules.no_name = sees_none
@@ -124,14 +125,14 @@ mutual
   arguments_seen vs fs t g es τs knows rules.no_argument = sees_none
   arguments_seen vs fs t g es τs knows (rules.scalar_argument {e = x} {es = xs} {τs = σs} one rest) =
       seeing_both vs (read_in t x) (read_all t xs) (expression_seen vs fs t g x _ knows one) (arguments_seen vs fs t g xs σs knows rest)
-  arguments_seen vs fs t g es τs knows (rules.array_argument {w = w} {es = xs} {b = b} {τs = σs} r rest) =
-      seeing_both vs (name_read t w) (read_all t xs) (name_seen vs g t w (many_of b) knows r) (arguments_seen vs fs t g xs σs knows rest)
+  arguments_seen vs fs t g es τs knows (rules.array_argument {w = w} {es = xs} {κ = κ} {b = b} {τs = σs} r rest) =
+      seeing_both vs (name_read t w) (read_all t xs) (name_seen vs g t w (many_of κ b) knows r) (arguments_seen vs fs t g xs σs knows rest)
 
   pub builtin_seen : (vs : List Seen) (fs : List Signature) (t : Table) (g : Scope) (f : Builtin) (es : Expressions) (b : Base) → Knows vs g → BuiltinType fs t g f es b → Seeing vs (read_all t es)
   builtin_seen vs fs t g f es b knows (rules.of_strcat {e = x} {es = xs} all) = all_seen vs fs t g _ _ knows all
   builtin_seen vs fs t g f es b knows (rules.of_fromint {e = x} one) = seeing_both vs (read_in t x) [] (expression_seen vs fs t g x _ knows one) sees_none
   builtin_seen vs fs t g f es b knows (rules.of_toint {e = x} one) = seeing_both vs (read_in t x) [] (expression_seen vs fs t g x _ knows one) sees_none
-  builtin_seen vs fs t g f es b knows (rules.of_size {w = w} {b = c} r) = seeing_both vs (name_read t w) [] (name_seen vs g t w (many_of c) knows r) sees_none
+  builtin_seen vs fs t g f es b knows (rules.of_size {w = w} {κ = κ} {b = c} r) = seeing_both vs (name_read t w) [] (name_seen vs g t w (many_of κ c) knows r) sees_none
 
   pub all_seen : (vs : List Seen) (fs : List Signature) (t : Table) (g : Scope) (es : Expressions) (b : Base) → Knows vs g → AllHaveType fs t g es b → Seeing vs (read_all t es)
   all_seen vs fs t g es b knows rules.none_left = sees_none
@@ -142,7 +143,7 @@ mutual
 
 pub right_seen : (vs : List Seen) (fs : List Signature) (t : Table) (g : Scope) (r : RightSide) (τ : Typ) → Knows vs g → RightType fs t g r τ → Seeing vs (read_right t r)
 right_seen vs fs t g r τ knows (rules.of_scalar {e = x} one) = expression_seen vs fs t g x _ knows one
-right_seen vs fs t g r τ knows (rules.of_copy {w = w} {b = b} one) = name_seen vs g t w (many_of b) knows one
+right_seen vs fs t g r τ knows (rules.of_copy {w = w} {κ = κ} {b = b} one) = name_seen vs g t w (many_of κ b) knows one
 right_seen vs fs t g r τ knows (rules.of_list {es = es} all) = all_seen vs fs t g (expressions_of es) _ knows all
 right_seen vs fs t g r τ knows (rules.of_array_call {es = es} {f = f} calls fit gives) = arguments_seen vs fs t g es f.inputs knows fit
 
@@ -150,9 +151,9 @@ step_seen : (vs : List Seen) (fs : List Signature) (t : Table) (g : Scope) (o : 
 step_seen vs fs t g o knows rules.no_step = sees_none
 step_seen vs fs t g o knows (rules.a_step {e = x} one) = expression_seen vs fs t g x _ knows one
 
-pub source_seen : (vs : List Seen) (fs : List Signature) (t : Table) (g : Scope) (o : Over) (b : Base) → Knows vs g → SourceType fs t g o b → Seeing vs (read_over t o)
-source_seen vs fs t g o b knows (rules.of_elements r) = sees_none
-source_seen vs fs t g o b knows (rules.of_range {low = low} {high = high} {step = step} one two three) =
+pub source_seen : (vs : List Seen) (fs : List Signature) (t : Table) (g : Scope) (o : Over) (b c : Base) → Knows vs g → SourceType fs t g o b c → Seeing vs (read_over t o)
+source_seen vs fs t g o b c knows (rules.of_elements r) = sees_none
+source_seen vs fs t g o b c knows (rules.of_range {low = low} {high = high} {step = step} one two three) =
     seeing_both vs (read_in t low ++ read_in t high) (read_step t step)
     (seeing_both vs (read_in t low) (read_in t high) (expression_seen vs fs t g low _ knows one) (expression_seen vs fs t g high _ knows two)) (step_seen vs fs t g step knows three)
 

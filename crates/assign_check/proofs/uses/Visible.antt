@@ -3,6 +3,7 @@ use Rattle.std.specs.Prelude.{◌≡◌, ◌⊎◌, ℕ, suc, ◌≤◌, Bool, t
 use Rattle.std.proofs.Common.{inl, inr, sym, ap, ◌∙◌, subst, arith}
 use Rattle.std.proofs.lemmas.Bool.{ltb-true, ltb-false, lt-ltb, le-ltb}
 use Rattle.lexer.specs.declared.token.Span.{Span}
+use Rattle.language.specs.declared.tree.Keys.{Keys}
 use Rattle.language.specs.declared.tree.Shape.{Shape}
 use Rattle.language.specs.declared.tree.Shape.TheVariants.{Array}
 use Rattle.language.specs.Core.{Owned, local, input, output}
@@ -305,17 +306,17 @@ shaped_on (placed_loop le all p) a sh = sh
 shaped_on (placed_wait all p) a sh = sh
 
 mutual
-  seen_unread : {vs : List Seen} {from to : ℕ} {o : Outline} {u : Use} {x : Owned} → Placed vs from o to → Among x vs → Shaped x Array vs → u ∈ uses_in o → u.of ≡ x → u.kind ≡ read → ⊥
+  seen_unread : {vs : List Seen} {from to : ℕ} {o : Outline} {u : Use} {x : Owned} {κ : Keys} → Placed vs from o to → Among x vs → Shaped x (Array κ) vs → u ∈ uses_in o → u.of ≡ x → u.kind ≡ read → ⊥
   seen_unread (placed_end le) a sh i e k = elim i [ ]
   seen_unread (placed_on {s = s} {o = o} ps po) a sh i e k = elim (either (uses_at s) (uses_in o) i) [
     | inl j ↦ step_unread ps a sh j e k
     | inr j ↦ seen_unread po (among_on ps a) (shaped_on ps a sh) j e k
   ]
 
-  step_unread : {vs ws : List Seen} {from k : ℕ} {s : Step} {u : Use} {x : Owned} → StepPlaced vs from s ws k → Among x vs → Shaped x Array vs → u ∈ uses_at s → u.of ≡ x → u.kind ≡ read → ⊥
+  step_unread : {vs ws : List Seen} {from k : ℕ} {s : Step} {u : Use} {x : Owned} {κ : Keys} → StepPlaced vs from s ws k → Among x vs → Shaped x (Array κ) vs → u ∈ uses_at s → u.of ≡ x → u.kind ≡ read → ⊥
   step_unread (placed_declaration h g le n) a sh i e k = elim i [ ]
   step_unread (placed_use h g) a sh i e k = elim (split_in i) [
-    | inl q ↦ h.scalar (sh h.variable h.visible (h.is ∙ ap (λ (z : Use). z.of) (sym q) ∙ e)) (ap (λ (z : Use). z.kind) (sym q) ∙ k)
+    | inl q ↦ h.scalar _ (sh h.variable h.visible (h.is ∙ ap (λ (z : Use). z.of) (sym q) ∙ e)) (ap (λ (z : Use). z.kind) (sym q) ∙ k)
     | inr j ↦ elim j [ ]
   ]
   step_unread (placed_split {p = p} {q = q} le all pp pq) a sh i e k = elim (either (uses_in p) (uses_in q) i) [
@@ -325,12 +326,12 @@ mutual
   step_unread (placed_loop le all p) a sh i e k = seen_unread p a sh i e k
   step_unread (placed_wait all p) a sh i e k = seen_unread p a sh i e k
 
-array_here : {vs : List Seen} (d : Declared) → Apart d.what vs → d.shape ≡ Array → Shaped d.what Array (seen d ∷ vs)
+array_here : {vs : List Seen} {κ : Keys} (d : Declared) → Apart d.what vs → d.shape ≡ Array κ → Shaped d.what (Array κ) (seen d ∷ vs)
 array_here d n e v i q = shaped_first d n v i q ∙ e
 
 mutual
   -- a declared array is not read in its block
-  unread : {vs : List Seen} {from to : ℕ} {o b : Outline} {d : Declared} {u : Use} → Placed vs from o to → BlockIn b o → HasStep (declares d) b → d.shape ≡ Array → u ∈ uses_in b
+  unread : {vs : List Seen} {from to : ℕ} {o b : Outline} {d : Declared} {u : Use} {κ : Keys} → Placed vs from o to → BlockIn b o → HasStep (declares d) b → d.shape ≡ Array κ → u ∈ uses_in b
       → u.of ≡ d.what → u.kind ≡ read → ⊥
   unread (placed_end le) j h t i e k = absurd (nothing_in j h)
   unread (placed_on (placed_declaration {d = d} f g le n) po) the_block first_step t i e k = seen_unread po (among_first refl) (array_here d n t) i e k
@@ -341,7 +342,7 @@ mutual
   unread (placed_on ps po) (in_a_step first_step j) h t i e k = step_array_unread ps j h t i e k
   unread (placed_on ps po) (in_a_step (later_step l) j) h t i e k = unread po (in_a_step l j) h t i e k
 
-  step_array_unread : {vs ws : List Seen} {from k : ℕ} {s : Step} {b : Outline} {d : Declared} {u : Use} → StepPlaced vs from s ws k → BlockOf b s → HasStep (declares d) b → d.shape ≡ Array
+  step_array_unread : {vs ws : List Seen} {from k : ℕ} {s : Step} {b : Outline} {d : Declared} {u : Use} {κ : Keys} → StepPlaced vs from s ws k → BlockOf b s → HasStep (declares d) b → d.shape ≡ Array κ
       → u ∈ uses_in b → u.of ≡ d.what → u.kind ≡ read → ⊥
   step_array_unread (placed_declaration f g le n) j h t i e k = elim j [ ]
   step_array_unread (placed_use f g) j h t i e k = elim j [ ]
@@ -378,11 +379,11 @@ body_home (behind_parameters {from = from} s) n (in_a_step g j) h i e = uses_hom
 body_home (a_parameter l r f s) n (in_a_step first_step j) h i e = elim j [ ]
 body_home (a_parameter {d = d} l r f s) n (in_a_step (later_step g) j) h i e = body_home s (no_locals_more d l n) (in_a_step g j) h i e
 
-seen_body_unread : {vs : List Seen} {o : Outline} {u : Use} {x : Owned} → ScopedBody vs o → NoLocals vs → Among x vs → Shaped x Array vs → u ∈ uses_in o → u.of ≡ x → u.kind ≡ read → ⊥
+seen_body_unread : {vs : List Seen} {o : Outline} {u : Use} {x : Owned} {κ : Keys} → ScopedBody vs o → NoLocals vs → Among x vs → Shaped x (Array κ) vs → u ∈ uses_in o → u.of ≡ x → u.kind ≡ read → ⊥
 seen_body_unread (behind_parameters {from = from} s) n a sh i e k = seen_unread (placed (no_locals from n) s) a sh i e k
 seen_body_unread (a_parameter {d = d} l r f s) n a sh i e k = seen_body_unread s (no_locals_more d l n) (among_more a) (shaped_more d (apart_from f) a sh) i e k
 
-pub body_unread : {vs : List Seen} {o b : Outline} {d : Declared} {u : Use} → ScopedBody vs o → NoLocals vs → BlockIn b o → HasStep (declares d) b → d.shape ≡ Array → u ∈ uses_in b
+pub body_unread : {vs : List Seen} {o b : Outline} {d : Declared} {u : Use} {κ : Keys} → ScopedBody vs o → NoLocals vs → BlockIn b o → HasStep (declares d) b → d.shape ≡ Array κ → u ∈ uses_in b
     → u.of ≡ d.what → u.kind ≡ read → ⊥
 body_unread (behind_parameters {from = from} s) n j h t i e k = unread (placed (no_locals from n) s) j h t i e k
 body_unread (a_parameter {d = d} l r f s) n the_block first_step t i e k = seen_body_unread s (no_locals_more d l n) (among_first refl) (array_here d (apart_from f) t) i e k

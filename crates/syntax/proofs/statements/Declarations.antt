@@ -9,12 +9,12 @@ use Rattle.lexer.specs.Items.{Lexeme}
 use Rattle.lexer.specs.declared.token.TokenKind.{TokenKind}
 use Rattle.lexer.specs.declared.token.TokenKind.TheVariants as Kind
 use Rattle.language.specs.Kinds.{same, base_of}
-use Rattle.language.specs.Rules.{Place, behind, Rule, The, ◌⋆◌, ◌▹◌, Nothing, Made, Maybe, Commas, Round, Square, Deeper}
-use Rattle.language.specs.Grammar.{node, IsName, IsExpr, AreArguments, IsType, shape_of, IsDecl, AreParameters, AreNames, IsCall, IsRight, a_value, a_list, IsPrio, IsSmall, IsPriority, signed, IsRange, IsSource, an_array, a_range}
+use Rattle.language.specs.Rules.{Place, behind, Rule, The, ◌⋆◌, ◌▹◌, Made, Maybe, Commas, Round, Square, Deeper}
+use Rattle.language.specs.Grammar.{node, IsName, IsExpr, AreArguments, IsType, shape_of, keys_of, AreKeys, IsDecl, AreParameters, AreNames, IsCall, IsRight, a_value, a_list, IsPrio, IsSmall, IsPriority, signed, IsRange, IsSource, an_array, a_range}
 use Rattle.syntax.specs.Readers.{got, kind_of, kind_at, at, the, ◌▸◌, made}
-use Rattle.syntax.specs.Reading.{is_some, base_over, at_type, read_name, read_type, read_brackets, read_decl, read_decls, read_parameters, read_words, read_names, read_expr, read_exprs, read_arguments, read_index, read_test, read_call, read_elements, read_right, spells, read_prio, read_small, read_priority, bounds_over, read_range, read_source}
+use Rattle.syntax.specs.Reading.{is_some, base_over, at_type, read_name, read_type, read_keys, read_brackets, read_decl, read_decls, read_parameters, read_words, read_names, read_expr, read_exprs, read_arguments, read_index, read_test, read_call, read_elements, read_right, spells, read_prio, read_small, read_priority, bounds_over, read_range, read_source}
 use Rattle.syntax.proofs.spellings.Spelling.{spells_true}
-use Rattle.syntax.proofs.combining.Combine.{Law, Any, Tests, Begins, Stops, Sound, got_value, got_place, kind_the, same_kind, the_law, both_law, both_last_law, drop_law, made_law, rule_law, nothing_law, sound_as, sound_choose, choose_first, choose_second, begins_the, not_kind, maybe_law, commas_law, perhaps_law, tests_at, bracket_law, checked_law}
+use Rattle.syntax.proofs.combining.Combine.{Law, Any, Tests, Begins, Stops, Sound, got_value, got_place, kind_the, same_kind, the_law, both_law, both_last_law, drop_law, made_law, rule_law, sound_as, sound_choose, choose_first, choose_second, begins_the, not_kind, maybe_law, commas_law, perhaps_law, tests_at, bracket_law, checked_law}
 use Rattle.syntax.proofs.expressions.Expressions.{Ends, ends_of, name_law, expr_law, starts_expr, expr_begins, arguments_over_law}
 
 -- TYPES
@@ -58,9 +58,15 @@ type_begins s b u (t, here, base) = ap names_type (kind_the t.kind s t u here) �
 
 -- DECLARATIONS
 
-pub brackets_law : (depth : ℕ) → Law 1 (read_brackets depth) (Square (Deeper (λ d. Nothing) depth)) Any
+keys_law : Law 0 read_keys AreKeys (Stops Any (λ k. same k Kind.String))
+unfolding read_keys
+keys_law =
+    made_law (λ s x u. keys_of x)
+    (maybe_law (tests_at Kind.String) (the_law Kind.String) (λ s t u is. same_kind (kind_at s) Kind.String (kind_the Kind.String s t u is)))
+
+pub brackets_law : (depth : ℕ) → Law 1 (read_brackets depth) (Square (Deeper (λ d. AreKeys) depth)) Any
 unfolding read_brackets
-brackets_law depth = bracket_law Kind.OpenSquare Kind.CloseSquare (λ d. nothing_law) tt depth
+brackets_law depth = bracket_law Kind.OpenSquare Kind.CloseSquare (λ d. keys_law) (tt, refl) depth
 
 -- no brackets follow a declaration
 abbrev pub After_decl : TokenKind → Type 0

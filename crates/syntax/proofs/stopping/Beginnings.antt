@@ -11,17 +11,17 @@ use Rattle.language.specs.declared.tree.Level.{Level}
 use Rattle.language.specs.declared.tree.Prefix.{Prefix}
 use Rattle.language.specs.Kinds.{same, operator_of, base_of, repeats}
 use Rattle.language.specs.Tree.{Expression, Form, number, text, truth, variable, element, call, prefixed, expressions_of, value, list, array, range}
-use Rattle.language.specs.Rules.{Place, behind, Rule, The, ◌⋆◌, ◌▹◌, Nothing, Maybe, Perhaps, Made, cons, Commas, Round, Square}
-use Rattle.language.specs.Grammar.{node, spans, word, number_of, spelled, chained, shape_of, signed, IsName, IsOperator, Repeated, IsChain, IsExprOver, AreArguments, IsUnaryOver, a_not, a_negative, a_number, a_string, a_true, a_false, a_name, an_element, a_call, a_parenthesis, IsUnary, IsExpr, IsType, IsDecl, AreParameters, AreNames, IsCall, IsRight, a_value, a_list, IsPrio, IsSmall, IsPriority, IsSource, an_array, a_range}
+use Rattle.language.specs.Rules.{Place, behind, Rule, The, ◌⋆◌, ◌▹◌, Maybe, Perhaps, Made, cons, Commas, Round, Square}
+use Rattle.language.specs.Grammar.{node, spans, word, number_of, spelled, chained, shape_of, keys_of, signed, IsName, IsOperator, Repeated, IsChain, IsExprOver, AreArguments, IsUnaryOver, a_not, a_negative, a_number, a_string, a_true, a_false, a_name, an_element, a_call, a_parenthesis, IsUnary, IsExpr, IsType, AreKeys, IsDecl, AreParameters, AreNames, IsCall, IsRight, a_value, a_list, IsPrio, IsSmall, IsPriority, IsSource, an_array, a_range}
 use Rattle.syntax.specs.declared.stop.Stop.{Stop}
 use Rattle.syntax.specs.declared.stop.Stop.TheVariants.{AtEnd, Unexpected}
 use Rattle.syntax.specs.Readers.{refused, got, Reader, kind_of, kind_at, second_at, at, second, cond, the, ◌∗◌, made, perhaps, many, once, checked}
-use Rattle.syntax.specs.Reading.{at_operator, read_operator, operands, chain_over, expr_over, read_name, read_unary, read_expr, read_exprs, read_arguments, read_index, read_test, read_named, read_prefixed, read_literal, read_form, base_over, read_type, read_brackets, read_decl, read_decls, read_parameters, read_words, read_names, read_call, read_elements, read_right, is_prio, read_prio, read_small, read_priority, bounds_over, read_range, read_source}
+use Rattle.syntax.specs.Reading.{at_operator, read_operator, operands, chain_over, expr_over, read_name, read_unary, read_expr, read_exprs, read_arguments, read_index, read_test, read_named, read_prefixed, read_literal, read_form, base_over, read_type, read_keys, read_brackets, read_decl, read_decls, read_parameters, read_words, read_names, read_call, read_elements, read_right, is_prio, read_prio, read_small, read_priority, bounds_over, read_range, read_source}
 use Rattle.syntax.proofs.combining.Combine.{tests_at}
 use Rattle.syntax.proofs.expressions.Expressions.{operates, tests_operator, operator_law, op_yes}
 use Rattle.syntax.proofs.statements.Declarations.{type_law, spells_is}
 use Rattle.syntax.proofs.expressions.Forms.{form_same, prefix_zero, prefix_deep}
-use Rattle.syntax.proofs.stopping.Prefixes.{before_of, Opens, Comes, Halts, At, Looks, wider, token, Spells, spells_to, spells_both, spells_drop, spells_made, spells_one, spells_nil, spells_zero, spells_none, spells_no, token_looks, made_looks, both_here, both_looks, drop_looks, none_of_all, last_both_looks, nothing_looks, choose_at, choose_second_at, never_at, maybe_looks, many_here, once_here, commas_looks, perhaps_looks, The_checked, checked_looks, level, level_looks, alike_looks, wider_looks, bracket_looks}
+use Rattle.syntax.proofs.stopping.Prefixes.{before_of, Opens, Comes, Halts, At, Looks, wider, token, Spells, spells_to, spells_both, spells_drop, spells_made, spells_one, spells_nil, spells_zero, spells_no, token_looks, made_looks, both_here, both_looks, drop_looks, none_of_all, last_both_looks, choose_at, choose_second_at, never_at, maybe_looks, many_here, once_here, commas_looks, perhaps_looks, The_checked, checked_looks, level, level_looks, alike_looks, wider_looks, bracket_looks}
 
 -- EXPRESSIONS
 
@@ -224,9 +224,16 @@ type_looks {I} = record { here = λ s. record { gives = λ a u h. gives s a u h;
         subst (Halts none_of_all (λ (i : I) v. base_over (base_of (kind_at v)) v) (Spells IsType) s) is
         ([], t, us, rest, refl, type_word, λ i ws. (Unexpected t.span, ap (λ m. base_over m (before_of s.before (t ∷ ws))) none), λ first. refl)
 
-brackets_looks : (n : ℕ) → Looks true (λ x. same x Kind.OpenSquare) (read_brackets n) read_brackets (Spells (Square Nothing))
+keys_looks : {I : Type 0} → Looks {I = I} false none_of_all read_keys (λ i. read_keys) (Spells AreKeys)
+unfolding read_keys
+keys_looks = made_looks (λ s x u. keys_of x) (maybe_looks {T'' = none_of_all} (tests_at Kind.String) (token_looks Kind.String) (λ k is other. refl))
+
+keys_word : (cs : List Lexeme) × Spells AreKeys cs
+keys_word = ([], spells_made (λ s x u. keys_of x) [] (spells_no (The Kind.String) [] refl))
+
+brackets_looks : (n : ℕ) → Looks true (λ x. same x Kind.OpenSquare) (read_brackets n) read_brackets (Spells (Square AreKeys))
 unfolding read_brackets
-brackets_looks n = bracket_looks {R = Nothing} Kind.OpenSquare Kind.CloseSquare n ([], spells_none [] refl) (λ d is. nothing_looks)
+brackets_looks n = bracket_looks {R = AreKeys} Kind.OpenSquare Kind.CloseSquare n keys_word (λ d is. keys_looks)
 
 pub decl_looks : (n : ℕ) → Looks true none_of_all (read_decl n) read_decl (Spells (IsDecl (suc (suc n))))
 unfolding read_decl

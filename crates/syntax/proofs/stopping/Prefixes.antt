@@ -5,10 +5,10 @@ use Rattle.lexer.specs.Items.{Lexeme}
 use Rattle.lexer.specs.declared.token.TokenKind.{TokenKind}
 use Rattle.lexer.specs.declared.token.TokenKind.TheVariants as Kind
 use Rattle.language.specs.Kinds.{same}
-use Rattle.language.specs.Rules.{Place, behind, Rule, The, ◌⋆◌, ◌▹◌, ◌◃◌, Nothing, Many, Maybe, AtMostOne, Perhaps, Made, cons, Commas}
+use Rattle.language.specs.Rules.{Place, behind, Rule, The, ◌⋆◌, ◌▹◌, ◌◃◌, Many, Maybe, AtMostOne, Perhaps, Made, cons, Commas}
 use Rattle.syntax.specs.declared.stop.Stop.{Stop}
 use Rattle.syntax.specs.declared.stop.Stop.TheVariants.{AtEnd, Unexpected, TooNested, Memory}
-use Rattle.syntax.specs.Readers.{Read, refused, got, Reader, ◌>>=◌, kind_of, tail_of, kind_at, second_at, stop_of, cond, choose, next_of, the, ◌∗◌, ◌▸◌, ◌◂◌, made, nothing, never, maybe, perhaps, many_over, many, once, commas, at, bracket, checked}
+use Rattle.syntax.specs.Readers.{Read, refused, got, Reader, ◌>>=◌, kind_of, tail_of, kind_at, second_at, stop_of, cond, choose, next_of, the, ◌∗◌, ◌▸◌, ◌◂◌, made, never, maybe, perhaps, many_over, many, once, commas, at, bracket, checked}
 use Rattle.syntax.proofs.combining.Combine.{Tests, bind_got, got_place, the_law, checked_law, tests_at}
 use Rattle.syntax.proofs.expressions.Forms.{bracket_zero, bracket_deep}
 
@@ -296,9 +296,6 @@ spells_made {R = R} make cs one = spells_to {R = R} {Q = Made make R} (λ s a u 
 pub spells_one : (k : TokenKind) (cs : List Lexeme) → One k cs → Spells (The k) cs
 spells_one k cs (t, kind, is) = subst (Spells (The k)) (sym is) (record { each = λ b ws. (t, t.span.to, (ws, kind, refl, refl)) })
 
-pub spells_none : (cs : List Lexeme) → cs ≡ [] → Spells Nothing cs
-spells_none cs is = subst (Spells Nothing) (sym is) (record { each = λ b ws. (tt, b, refl) })
-
 pub spells_nil : {A : Type 0} (R : Rule A) → Spells (Many R) []
 spells_nil R = record { each = λ b ws. ([], b, refl) }
 
@@ -398,9 +395,6 @@ last_keep_looks {r' = r'} {q' = q'} one two = record {
       (λ a v h. map_at (λ x b u. a) (λ j x b u. j.1.1) v (alike refl (λ j w. inr (j.0, refl)) (two.here v))) two.some spells_keep (λ is. inr is) (λ h. refl) (inr (λ h. refl));
   some = (one.some.0 ++ two.some.0, spells_keep one.some.0 two.some.0 one.some.1 two.some.1);
 }
-
-pub nothing_looks : {I : Type 0} → Looks {I = I} false none_of_all nothing (λ i. nothing) (Spells Nothing)
-nothing_looks = record { here = λ s. wider {T' = none_of_all} spells_none (λ h. h) (done_at tt (λ i. tt) s); some = ([], spells_none [] refl) }
 
 -- ALTERNATIVES
 

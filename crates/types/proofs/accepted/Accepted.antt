@@ -7,17 +7,20 @@ use Rattle.std.specs.Prelude.{codes}
 use Rattle.lexer.specs.declared.token.Span.{Span}
 use Rattle.types.specs.declared.fault.TypeFault.TheVariants.{Mismatch, WrongCount}
 use Rattle.types.specs.declared.typed.Settled.{Settled}
+use Rattle.types.specs.declared.typed.Elements.{Elements}
 use Rattle.types.specs.declared.typed.Meaning.TheVariants.{Called}
 use Rattle.types.specs.declared.typed.Callee.TheVariants.{Function, BuiltIn}
 use Rattle.types.specs.declared.typed.Builtin.{Builtin}
 use Rattle.types.specs.declared.typed.Builtin.TheVariants as Named
 use Rattle.language.specs.declared.tree.Base.{Base}
 use Rattle.language.specs.declared.tree.Base.TheVariants.{Int, Text, Boolean}
+use Rattle.language.specs.declared.tree.Keys.{Keys}
 use Rattle.language.specs.declared.tree.Shape.{Shape}
 use Rattle.language.specs.declared.tree.Shape.TheVariants.{Scalar, Array}
 use Rattle.language.specs.declared.tree.Operator.{Operator}
 use Rattle.language.specs.Tree.{Word, Node, Expression, expression, Form, number, text, truth, variable, element, call, prefixed, chain, Expressions, no_expressions, and_expression}
 use Rattle.language.specs.Table.{Table, builtin_text}
+use Rattle.language.specs.Kinds.{base_of_keys}
 use Rattle.language.specs.Scopes.{Typ, one_of, many_of, Scope, Signature, Refers, CallsBuiltin}
 use Rattle.language.specs.Typing as rules
 use Rattle.language.specs.Typing.{HasType, RestType, ArgumentTypes, BuiltinType, AllHaveType}
@@ -27,9 +30,9 @@ use Rattle.types.specs.Outcomes.{refused, got, ◌>>=◌}
 use Rattle.types.specs.Names.{refer, builtin_of, called, settles, missing, found, find, counted, function_called}
 use Rattle.types.specs.Agrees.{Agrees, scope_of}
 use Rattle.types.specs.Accepted.{NamesArray, CallGives, GivesArray, WholeType, Fits}
-use Rattle.types.specs.Expressions.{has_base, scalar, elements_of, gives, base_of, given_or, given_by, takes, first_given, first_of, count, has_wanted, named, array_name, fits_by, fits, of_one, builtin_by, output_of, either, whole, typed, expected, whole_form, chained, further, elements, arguments, only, builtin_type}
+use Rattle.types.specs.Expressions.{has_base, has_type, scalar, elements_of, gives, base_of, given_or, given_by, takes, first_given, first_of, count, has_wanted, named, array_name, fits_by, fits, of_one, builtin_by, output_of, either, whole, typed, expected, whole_form, chained, further, elements, arguments, only, builtin_type}
 use Rattle.types.proofs.settled.Settling.{agrees_last, refer_sound, call_sound, same_text}
-use Rattle.types.proofs.accepted.Typing.{bind_got, has_base_got, scalar_got, elements_got, gives_sound, prefix_sound}
+use Rattle.types.proofs.accepted.Typing.{bind_got, has_base_got, has_type_got, scalar_got, elements_got, gives_sound, prefix_sound}
 
 abbrev made : Base → Shape → Typ
 made b h = record { base = b; shape = h }
@@ -53,66 +56,67 @@ given_got o b c at s s' is =
       | Some d ↦ λ some here. let same : d ≡ c = cc in (gives_sound o b c (some ∙ ap Some same), cc)
     ] refl is
 
-pub array_name_got : (τ : Typ) (e : Expression) (b : Base) (s s' : List Settled) → array_name τ e s ≡ got b s' → (named e ≡ true) × (τ ≡ many_of b) × (s ≡ s')
-array_name_got τ e b s s' is =
-    elim (named e) as (λ v. named e ≡ v → cond v (elements_of τ (first_of e) s) (refused (Mismatch (first_of e))) ≡ got b s' → (named e ≡ true) × (τ ≡ many_of b) × (s ≡ s')) [
-      | true ↦ λ it_is here. let r = elements_got τ (first_of e) s s' b here in (it_is, r.0, r.1)
+pub array_name_got : (τ : Typ) (e : Expression) (a : Elements) (s s' : List Settled) → array_name τ e s ≡ got a s' → (named e ≡ true) × (κ : Keys) × (τ ≡ many_of κ a.value) × (s ≡ s')
+array_name_got τ e a s s' is =
+    elim (named e) as (λ v. named e ≡ v → cond v (elements_of τ (first_of e) s) (refused (Mismatch (first_of e))) ≡ got a s' → (named e ≡ true) × (κ : Keys) × (τ ≡ many_of κ a.value) × (s ≡ s')) [
+      | true ↦ λ it_is here. let r = elements_got τ (first_of e) s s' a here in (it_is, r.0, r.1, r.3)
       | false ↦ λ other refusal. absurd (cc)
     ] refl is
 
 -- the name of an array, of what has an array's type
-pub names_array : (fs : List Signature) (t : Table) (g : Scope) (e : Expression) (b : Base) → named e ≡ true → GivesArray fs t g e b → NamesArray t g e b
-names_array fs t g (expression nd (variable w)) b is gives = gives
-names_array fs t g (expression nd (number z)) b is gives = absurd (cc)
-names_array fs t g (expression nd (text z)) b is gives = absurd (cc)
-names_array fs t g (expression nd (truth z)) b is gives = absurd (cc)
-names_array fs t g (expression nd (element w i)) b is gives = absurd (cc)
-names_array fs t g (expression nd (call w es)) b is gives = absurd (cc)
-names_array fs t g (expression nd (prefixed p e)) b is gives = absurd (cc)
-names_array fs t g (expression nd (chain os es)) b is gives = absurd (cc)
+pub names_array : (fs : List Signature) (t : Table) (g : Scope) (e : Expression) (σ : Typ) → named e ≡ true → GivesArray fs t g e σ → NamesArray t g e σ
+names_array fs t g (expression nd (variable w)) σ is gives = gives
+names_array fs t g (expression nd (number z)) σ is gives = absurd (cc)
+names_array fs t g (expression nd (text z)) σ is gives = absurd (cc)
+names_array fs t g (expression nd (truth z)) σ is gives = absurd (cc)
+names_array fs t g (expression nd (element w i)) σ is gives = absurd (cc)
+names_array fs t g (expression nd (call w es)) σ is gives = absurd (cc)
+names_array fs t g (expression nd (prefixed p e)) σ is gives = absurd (cc)
+names_array fs t g (expression nd (chain os es)) σ is gives = absurd (cc)
 
 -- what has a scalar's type
 pub scalar_sound : (fs : List Signature) (t : Table) (g : Scope) (e : Expression) (τ : Typ) (b : Base) → τ ≡ one_of b → WholeType fs t g e τ.shape τ.base → HasType fs t g e b
 scalar_sound fs t g e τ b same has = subst (λ (σ : Typ). WholeType fs t g e σ.shape σ.base) same has
 
-pub array_sound : (fs : List Signature) (t : Table) (g : Scope) (e : Expression) (τ : Typ) (b : Base) → named e ≡ true → τ ≡ many_of b → WholeType fs t g e τ.shape τ.base → NamesArray t g e b
-array_sound fs t g e τ b is same has = names_array fs t g e b is (subst (λ (σ : Typ). WholeType fs t g e σ.shape σ.base) same has)
+pub array_sound : (fs : List Signature) (t : Table) (g : Scope) (e : Expression) (τ : Typ) (κ : Keys) (b : Base) → named e ≡ true → τ ≡ many_of κ b → WholeType fs t g e τ.shape τ.base
+    → NamesArray t g e (many_of κ b)
+array_sound fs t g e τ κ b is same has = names_array fs t g e (many_of κ b) is (subst (λ (σ : Typ). WholeType fs t g e σ.shape σ.base) same has)
 
 -- a name of a variable, of its type
 pub name_type : (fs : List Signature) (t : Table) (g : Scope) (nd : Node) (w : Word) (h : Shape) (b : Base) → Refers g t w (made b h) → WholeType fs t g (expression nd (variable w)) h b
 name_type fs t g nd w Scalar b refers = rules.of_variable refers
-name_type fs t g nd w Array b refers = refers
+name_type fs t g nd w (Array κ) b refers = refers
 
 -- a call of a function, of its output's type
 pub call_type : (fs : List Signature) (t : Table) (g : Scope) (nd : Node) (w : Word) (es : Expressions) (h : Shape) (b : Base)
     → CallGives fs t g w es (made b h) → WholeType fs t g (expression nd (call w es)) h b
 call_type fs t g nd w es Scalar b gives = rules.of_call gives.1 gives.2 gives.3
-call_type fs t g nd w es Array b gives = gives
+call_type fs t g nd w es (Array κ) b gives = gives
 
-pub fits_sound : (fs : List Signature) (t : Table) (g : Scope) (e : Expression) (τ : Typ) (h : Shape) (b : Base) (s s' : List Settled)
-    → fits_by h τ b e s ≡ got (tt {0}) s' → (s ≡ s') × (WholeType fs t g e τ.shape τ.base → Fits fs t g e h b)
-fits_sound fs t g e τ Scalar b s s' is =
-    let one = bind_got (scalar τ (first_of e) s) (λ c. has_base c b (first_of e)) (tt {0}) s' is in
+pub fits_sound : (fs : List Signature) (t : Table) (g : Scope) (e : Expression) (τ σ : Typ) (h : Shape) (s s' : List Settled)
+    → σ.shape ≡ h → fits_by h τ σ e s ≡ got (tt {0}) s' → (s ≡ s') × (WholeType fs t g e τ.shape τ.base → Fits fs t g e h σ.base)
+fits_sound fs t g e τ σ Scalar s s' shape is =
+    let one = bind_got (scalar τ (first_of e) s) (λ c. has_base c σ.base (first_of e)) (tt {0}) s' is in
     let type = scalar_got τ (first_of e) s one.1 one.0 one.2 in
-    let base = has_base_got one.0 b (first_of e) one.1 s' one.3 in
-    (type.1 ∙ base.1, λ has. scalar_sound fs t g e τ b (type.0 ∙ ap one_of base.0) has)
-fits_sound fs t g e τ Array b s s' is =
-    let one = bind_got (array_name τ e s) (λ c. has_base c b (first_of e)) (tt {0}) s' is in
-    let type = array_name_got τ e one.0 s one.1 one.2 in
-    let base = has_base_got one.0 b (first_of e) one.1 s' one.3 in
-    (type.2 ∙ base.1, λ has. array_sound fs t g e τ b type.0 (type.1 ∙ ap many_of base.0) has)
+    let base = has_base_got one.0 σ.base (first_of e) one.1 s' one.3 in
+    (type.1 ∙ base.1, λ has. scalar_sound fs t g e τ σ.base (type.0 ∙ ap one_of base.0) has)
+fits_sound fs t g e τ σ (Array κ) s s' shape is =
+    let one = bind_got (array_name τ e s) (λ a. has_type τ σ (first_of e)) (tt {0}) s' is in
+    let name = array_name_got τ e one.0 s one.1 one.2 in
+    let type = has_type_got τ σ (first_of e) one.1 s' one.3 in
+    (name.3 ∙ type.1, λ has. array_sound fs t g e τ κ σ.base name.0 (type.0 ∙ ap (made σ.base) shape) has)
 
 pub one_argument : (fs : List Signature) (t : Table) (g : Scope) (e : Expression) (es : Expressions) (h : Shape) (b : Base) (τs : List Typ)
     → Fits fs t g e h b → ArgumentTypes fs t g es τs → ArgumentTypes fs t g (and_expression e es) (made b h ∷ τs)
 one_argument fs t g e es Scalar b τs fit others = rules.scalar_argument fit others
-one_argument fs t g (expression nd (variable w)) es Array b τs fit others = rules.array_argument fit others
-one_argument fs t g (expression nd (number z)) es Array b τs fit others = absurd fit
-one_argument fs t g (expression nd (text z)) es Array b τs fit others = absurd fit
-one_argument fs t g (expression nd (truth z)) es Array b τs fit others = absurd fit
-one_argument fs t g (expression nd (element w i)) es Array b τs fit others = absurd fit
-one_argument fs t g (expression nd (call w ds)) es Array b τs fit others = absurd fit
-one_argument fs t g (expression nd (prefixed p e)) es Array b τs fit others = absurd fit
-one_argument fs t g (expression nd (chain os ds)) es Array b τs fit others = absurd fit
+one_argument fs t g (expression nd (variable w)) es (Array κ) b τs fit others = rules.array_argument fit others
+one_argument fs t g (expression nd (number z)) es (Array κ) b τs fit others = absurd fit
+one_argument fs t g (expression nd (text z)) es (Array κ) b τs fit others = absurd fit
+one_argument fs t g (expression nd (truth z)) es (Array κ) b τs fit others = absurd fit
+one_argument fs t g (expression nd (element w i)) es (Array κ) b τs fit others = absurd fit
+one_argument fs t g (expression nd (call w ds)) es (Array κ) b τs fit others = absurd fit
+one_argument fs t g (expression nd (prefixed p e)) es (Array κ) b τs fit others = absurd fit
+one_argument fs t g (expression nd (chain os ds)) es (Array κ) b τs fit others = absurd fit
 
 -- the operators of a chain with the operands behind the first one; no operator and no operand are none
 abbrev Rests : List Signature → Table → Scope → List Operator → Expressions → Base → Base → Type 0
@@ -127,15 +131,15 @@ rest_more fs t g o [] e (and_expression d ds) b c op has rest = absurd rest
 rest_more fs t g o (p ∷ os) e es b c op has rest = rules.next_operand op has rest
 
 -- an array's name is what `size` takes
-size_type : (fs : List Signature) (t : Table) (g : Scope) (e : Expression) (b : Base) → NamesArray t g e b → BuiltinType fs t g (builtin_name Named.Size) (and_expression e no_expressions) Int
-size_type fs t g (expression nd (variable w)) b is = rules.of_size is
-size_type fs t g (expression nd (number z)) b is = absurd is
-size_type fs t g (expression nd (text z)) b is = absurd is
-size_type fs t g (expression nd (truth z)) b is = absurd is
-size_type fs t g (expression nd (element w i)) b is = absurd is
-size_type fs t g (expression nd (call w ds)) b is = absurd is
-size_type fs t g (expression nd (prefixed p e)) b is = absurd is
-size_type fs t g (expression nd (chain os ds)) b is = absurd is
+size_type : (fs : List Signature) (t : Table) (g : Scope) (e : Expression) (κ : Keys) (b : Base) → NamesArray t g e (many_of κ b) → BuiltinType fs t g (builtin_name Named.Size) (and_expression e no_expressions) Int
+size_type fs t g (expression nd (variable w)) κ b is = rules.of_size is
+size_type fs t g (expression nd (number z)) κ b is = absurd is
+size_type fs t g (expression nd (text z)) κ b is = absurd is
+size_type fs t g (expression nd (truth z)) κ b is = absurd is
+size_type fs t g (expression nd (element w i)) κ b is = absurd is
+size_type fs t g (expression nd (call w ds)) κ b is = absurd is
+size_type fs t g (expression nd (prefixed p e)) κ b is = absurd is
+size_type fs t g (expression nd (chain os ds)) κ b is = absurd is
 
 pub of_one_sound : (fs : List Signature) (t : Table) (g : Scope) (f : Builtin) (τ : Typ) (e : Expression) (at : Span) (b : Base) (s s' : List Settled)
     → of_one f τ e at s ≡ got b s' → (s ≡ s') × (WholeType fs t g e τ.shape τ.base → BuiltinType fs t g (builtin_name f) (and_expression e no_expressions) b)
@@ -158,12 +162,12 @@ of_one_sound fs t g Named.ToInt τ e at b s s' is =
     let end : all.1 ≡ s' = cc in
     (type.1 ∙ base.1 ∙ end, λ has. subst (λ (c : Base). BuiltinType fs t g (builtin_name Named.ToInt) (and_expression e no_expressions) c) same (rules.of_toint (scalar_sound fs t g e τ Text (type.0 ∙ ap one_of base.0) has)))
 of_one_sound fs t g Named.Size τ e at b s s' is =
-    let one = bind_got (array_name τ e s) (λ c. got Int) b s' is in
+    let one = bind_got (array_name τ e s) (λ a. got Int) b s' is in
     let type = array_name_got τ e one.0 s one.1 one.2 in
     let given : got Int one.1 ≡ got b s' = one.3 in
     let same : Int ≡ b = cc in
     let end : one.1 ≡ s' = cc in
-    (type.2 ∙ end, λ has. subst (λ (c : Base). BuiltinType fs t g (builtin_name Named.Size) (and_expression e no_expressions) c) same (size_type fs t g e one.0 (array_sound fs t g e τ one.0 type.0 type.1 has)))
+    (type.3 ∙ end, λ has. subst (λ (c : Base). BuiltinType fs t g (builtin_name Named.Size) (and_expression e no_expressions) c) same (size_type fs t g e type.1 one.0.value (array_sound fs t g e τ type.1 one.0.value type.0 type.2 has)))
 of_one_sound fs t g Named.Strcat τ e at b s s' is = absurd (cc)
 of_one_sound fs t g Named.Printf τ e at b s s' is = absurd (cc)
 of_one_sound fs t g Named.Assert τ e at b s s' is = absurd (cc)
@@ -304,15 +308,16 @@ mutual
       let refers = refer_sound g t w τ s s' is all in
       (refers.0, name_type fs t (scope_of g) nd w τ.shape τ.base refers.1)
   form_sound fs g t nd (element w i) τ s s' is all =
-      let two = bind_got (refer g w s >>= λ τ. elements_of τ w.span) (λ b s. expected fs g i Int s >>= λ u. got (one_of b)) τ s' is in
-      let three = bind_got (expected fs g i Int two.1) (λ u. got (one_of two.0)) τ s' two.3 in
+      let two = bind_got (refer g w s >>= λ τ. elements_of τ w.span) (λ a s. expected fs g i a.key s >>= λ u. got (one_of a.value)) τ s' is in
+      let three = bind_got (expected fs g i two.0.key two.1) (λ u. got (one_of two.0.value)) τ s' two.3 in
       let one = bind_got (refer g w s) (λ τ. elements_of τ w.span) two.0 two.1 two.2 in
       let type = elements_got one.0 w.span one.1 two.1 two.0 one.3 in
       let end : three.1 ≡ s' = cc in
-      let index = expected_sound fs g t i Int two.1 three.1 three.2 (kept t three.1 s' end all) in
-      let refers = refer_sound g t w one.0 s one.1 one.2 (kept t one.1 two.1 type.1 index.0) in
-      let is_array : Refers (scope_of g) t w (many_of two.0) = subst (Refers (scope_of g) t w) type.0 refers.1 in
-      let whole_type = known (λ (σ : Typ). WholeType fs t (scope_of g) (expression nd (element w i)) σ.shape σ.base) t (one_of two.0) τ three.1 s' three.3 all (rules.of_element is_array index.1) in
+      let index = expected_sound fs g t i two.0.key two.1 three.1 three.2 (kept t three.1 s' end all) in
+      let refers = refer_sound g t w one.0 s one.1 one.2 (kept t one.1 two.1 type.3 index.0) in
+      let is_array : Refers (scope_of g) t w (many_of type.0 two.0.value) = subst (Refers (scope_of g) t w) type.1 refers.1 in
+      let key : HasType fs t (scope_of g) i (base_of_keys type.0) = subst (HasType fs t (scope_of g) i) (sym type.2) index.1 in
+      let whole_type = known (λ (σ : Typ). WholeType fs t (scope_of g) (expression nd (element w i)) σ.shape σ.base) t (one_of two.0.value) τ three.1 s' three.3 all (rules.of_element is_array key) in
       (refers.0, whole_type.1)
   form_sound fs g t nd (prefixed p e) τ s s' is all =
       let one = bind_got (expected fs g e (base_of p) s) (λ u. got (one_of (base_of p))) τ s' is in
@@ -368,7 +373,7 @@ mutual
       let one = bind_got (whole fs g e s) (λ found. fits found τ e) (tt {0}) two.1 two.2 in
       let fewer : count es ≡ length τs = omega arith in
       let others = arguments_sound fs g t es τs at two.1 s' two.3 all fewer in
-      let fit = fits_sound fs t (scope_of g) e one.0 τ.shape τ.base one.1 two.1 one.3 in
+      let fit = fits_sound fs t (scope_of g) e one.0 τ τ.shape one.1 two.1 refl one.3 in
       let type = whole_sound fs g t e one.0 s one.1 one.2 (kept t one.1 two.1 fit.0 others.0) in
       (type.0, one_argument fs t (scope_of g) e es τ.shape τ.base τs (fit.1 type.1) others.1)
 

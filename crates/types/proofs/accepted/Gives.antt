@@ -119,13 +119,13 @@ mutual
   form_gives fs g nd (truth z) τ s s' is = let same : one_of Boolean ≡ τ = cc in subst (Gives fs (scope_of g) (expression nd (truth z))) same gives_truth
   form_gives fs g nd (variable w) τ s s' is = gives_variable (refer_type g w τ s s' is)
   form_gives fs g nd (element w i) τ s s' is =
-      let one = bind_got (refer g w s >>= λ τ. elements_of τ w.span) (λ b r. expected fs g i Int r >>= λ u. got (one_of b)) τ s' is in
+      let one = bind_got (refer g w s >>= λ τ. elements_of τ w.span) (λ a r. expected fs g i a.key r >>= λ u. got (one_of a.value)) τ s' is in
       let name = bind_got (refer g w s) (λ τ. elements_of τ w.span) one.0 one.1 one.2 in
-      let two = bind_got (expected fs g i Int one.1) (λ u. got (one_of one.0)) τ s' one.3 in
+      let two = bind_got (expected fs g i one.0.key one.1) (λ u. got (one_of one.0.value)) τ s' one.3 in
       let type = elements_got name.0 w.span name.1 one.1 one.0 name.3 in
-      let last : got (one_of one.0) two.1 ≡ got τ s' = two.3 in
-      let same : one_of one.0 ≡ τ = cc in
-      subst (Gives fs (scope_of g) (expression nd (element w i))) same (gives_element (subst (OfType (scope_of g) w) type.0 (refer_type g w name.0 s name.1 name.2)))
+      let last : got (one_of one.0.value) two.1 ≡ got τ s' = two.3 in
+      let same : one_of one.0.value ≡ τ = cc in
+      subst (Gives fs (scope_of g) (expression nd (element w i))) same (gives_element (subst (OfType (scope_of g) w) type.1 (refer_type g w name.0 s name.1 name.2)))
   form_gives fs g nd (prefixed p e) τ s s' is =
       let one = bind_got (expected fs g e (base_of p) s) (λ u. got (one_of (base_of p))) τ s' is in
       let last : got (one_of (base_of p)) one.1 ≡ got τ s' = one.3 in

@@ -7,6 +7,7 @@ use Rattle.values.specs.Formats.{pieces}
 use Rattle.lexer.specs.declared.token.Span.{Span}
 use Rattle.types.specs.declared.fault.TypeFault.TheVariants.{Declared, Mismatch, WrongCount}
 use Rattle.types.specs.declared.typed.Settled.{Settled}
+use Rattle.types.specs.declared.typed.Elements.{Elements}
 use Rattle.types.specs.declared.typed.Owned.TheVariants.{Local}
 use Rattle.types.specs.declared.typed.Meaning.TheVariants.{Called}
 use Rattle.types.specs.declared.typed.Callee.TheVariants.{BuiltIn}
@@ -14,6 +15,8 @@ use Rattle.types.specs.declared.typed.Builtin.{Builtin}
 use Rattle.types.specs.declared.typed.Builtin.TheVariants as Named
 use Rattle.language.specs.declared.tree.Base.{Base}
 use Rattle.language.specs.declared.tree.Base.TheVariants.{Int, Text, Boolean}
+use Rattle.language.specs.declared.tree.Keys.{Keys}
+use Rattle.language.specs.declared.tree.Keys.TheVariants.{Numbers, Texts}
 use Rattle.language.specs.declared.tree.Shape.{Shape}
 use Rattle.language.specs.declared.tree.Shape.TheVariants.{Scalar, Array}
 use Rattle.language.specs.Tree.{Word, Node, Declaration, Expression, expression, number, text, truth, variable, element, call, prefixed, chain, Expressions, no_expressions, and_expression, expressions_of, RightSide, value, list, Calling, Over, array, range, Statement, statement, Command, declare, assign, write, assign_all, calls, choice, choice_else, loop, waits, Body, body, Statements, no_statements, and_statement}
@@ -25,36 +28,17 @@ use Rattle.types.specs.Known.{Around}
 use Rattle.types.specs.Typed.{builtin_name}
 use Rattle.types.specs.Outcomes.{refused, got, ◌>>=◌}
 use Rattle.types.specs.Names.{refer, fresh, builtin_of, called, settles, function_called}
-use Rattle.types.specs.Expressions.{same_base, same_shape, has_type, elements_of, first_of, count, either, whole, expected, elements, arguments, builtin_type}
-use Rattle.types.specs.Statements.{literal_by, right, initial, refer_all, same_types, only_target, several, format_by, print, builtin_statement, call_alone, step_of, source, fresh_key, fresh_variables, inside, declared, loop_scope, stated, commanded, enclosed, in_order}
+use Rattle.types.specs.Expressions.{has_type, elements_of, first_of, count, either, whole, expected, elements, arguments, builtin_type}
+use Rattle.types.specs.Statements.{under_numbers, literal_by, right, initial, refer_all, same_types, only_target, several, format_by, print, builtin_statement, call_alone, step_of, source, fresh_key, fresh_variables, inside, declared, loop_scope, stated, commanded, enclosed, in_order}
 use Rattle.types.specs.Agrees.{Agrees, scope_of}
 use Rattle.types.specs.Accepted.{WholeType, Fits}
 use Rattle.types.proofs.settled.Settling.{refer_sound, call_sound}
-use Rattle.types.proofs.accepted.Typing.{bind_got, base_same, elements_got}
+use Rattle.types.proofs.accepted.Typing.{bind_got, has_type_got, elements_got}
 use Rattle.types.proofs.accepted.Accepted.{kept, call_counted, builtin_called, whole_sound, expected_sound, arguments_sound, elements_sound, builtin_sound}
 use Rattle.types.proofs.visible.Sight.{Inside, inside_more, inside_added, scope_declared, scope_inside, none_first, other_text, fresh_got}
 
 abbrev made : Base → Shape → Typ
 made b h = record { base = b; shape = h }
-
--- TYPES
-
-pub shape_same : (h k : Shape) → same_shape h k ≡ true → h ≡ k
-shape_same Scalar Scalar is = refl
-shape_same Scalar Array is = absurd (cc)
-shape_same Array Scalar is = absurd (cc)
-shape_same Array Array is = refl
-
-pub has_type_got : (τ σ : Typ) (at : Span) (s s' : List Settled) → has_type τ σ at s ≡ got (tt {0}) s' → (τ ≡ σ) × (s ≡ s')
-has_type_got τ σ at s s' is =
-    elim (same_base τ.base σ.base) as (λ v. same_base τ.base σ.base ≡ v → cond v (cond (same_shape τ.shape σ.shape) (got (tt {0}) s) (refused (Mismatch at))) (refused (Mismatch at)) ≡ got (tt {0}) s' → (τ ≡ σ) × (s ≡ s')) [
-      | true ↦ λ base here.
-          elim (same_shape τ.shape σ.shape) as (λ v. same_shape τ.shape σ.shape ≡ v → cond v (got (tt {0}) s) (refused (Mismatch at)) ≡ got (tt {0}) s' → (τ ≡ σ) × (s ≡ s')) [
-            | true ↦ λ shape here. (ap₂ made (base_same τ.base σ.base base) (shape_same τ.shape σ.shape shape), cc)
-            | false ↦ λ other here. absurd (cc)
-          ] refl here
-      | false ↦ λ other here. absurd (cc)
-    ] refl is
 
 pub count_of : (es : List Expression) → count (expressions_of es) ≡ length es
 count_of [] = refl
@@ -64,20 +48,26 @@ count_of (e ∷ es) = ap suc (count_of es)
 
 right_type : (fs : List Signature) (t : Table) (g : Scope) (e : Expression) (h : Shape) (b : Base) → WholeType fs t g e h b → RightType fs t g (value e) (made b h)
 right_type fs t g e Scalar b has = rules.of_scalar has
-right_type fs t g (expression nd (variable w)) Array b has = rules.of_copy has
-right_type fs t g (expression nd (call w es)) Array b has = rules.of_array_call has.1 has.2 has.3
-right_type fs t g (expression nd (number z)) Array b has = absurd has
-right_type fs t g (expression nd (text z)) Array b has = absurd has
-right_type fs t g (expression nd (truth z)) Array b has = absurd has
-right_type fs t g (expression nd (element w i)) Array b has = absurd has
-right_type fs t g (expression nd (prefixed p e)) Array b has = absurd has
-right_type fs t g (expression nd (chain os es)) Array b has = absurd has
+right_type fs t g (expression nd (variable w)) (Array κ) b has = rules.of_copy has
+right_type fs t g (expression nd (call w es)) (Array κ) b has = rules.of_array_call has.1 has.2 has.3
+right_type fs t g (expression nd (number z)) (Array κ) b has = absurd has
+right_type fs t g (expression nd (text z)) (Array κ) b has = absurd has
+right_type fs t g (expression nd (truth z)) (Array κ) b has = absurd has
+right_type fs t g (expression nd (element w i)) (Array κ) b has = absurd has
+right_type fs t g (expression nd (prefixed p e)) (Array κ) b has = absurd has
+right_type fs t g (expression nd (chain os es)) (Array κ) b has = absurd has
+
+pub numbers_got : (κ : Keys) (at : Span) (s s' : List Settled) → under_numbers κ at s ≡ got (tt {0}) s' → (κ ≡ Numbers) × (s ≡ s')
+numbers_got Numbers at s s' is = (refl, cc)
+numbers_got Texts at s s' is = absurd (cc)
 
 literal_sound : (fs : List Signature) (g : Around) (t : Table) (h : Shape) (b : Base) (es : List Expression) (nd : Node) (s s' : List Settled)
     → literal_by h fs g b es nd s ≡ got (tt {0}) s' → Agrees t s' → Agrees t s × RightType fs t (scope_of g) (list nd es) (made b h)
-literal_sound fs g t Array b es nd s s' is all =
-    let has = elements_sound fs g t (expressions_of es) b s s' is all in
-    (has.0, rules.of_list has.1)
+literal_sound fs g t (Array κ) b es nd s s' is all =
+    let one = bind_got (elements fs g (expressions_of es) (Some b) s) (λ u. under_numbers κ nd.first) (tt {0}) s' is in
+    let keys = numbers_got κ nd.first one.1 s' one.3 in
+    let has = elements_sound fs g t (expressions_of es) b s one.1 one.2 (kept t one.1 s' keys.1 all) in
+    (has.0, subst (λ (ι : Keys). RightType fs t (scope_of g) (list nd es) (made b (Array ι))) (sym keys.0) (rules.of_list has.1))
 literal_sound fs g t Scalar b es nd s s' is all =
     let one = bind_got (elements fs g (expressions_of es) None s) (λ u r. refused (Mismatch nd.first)) (tt {0}) s' is in
     absurd (cc (one.3))
@@ -264,47 +254,50 @@ step_sound : (fs : List Signature) (g : Around) (t : Table) (e : Option Expressi
 step_sound fs g t None s s' is all = (kept t s s' (cc) all, rules.no_step)
 step_sound fs g t (Some e) s s' is all = let has = expected_sound fs g t e Int s s' is all in (has.0, rules.a_step has.1)
 
-source_sound : (fs : List Signature) (g : Around) (t : Table) (o : Over) (b : Base) (s s' : List Settled)
-    → source fs g o s ≡ got b s' → Agrees t s' → Agrees t s × SourceType fs t (scope_of g) o b
-source_sound fs g t (array w) b s s' is all =
-    let one = bind_got (refer g w s) (λ τ. elements_of τ w.span) b s' is in
-    let type = elements_got one.0 w.span one.1 s' b one.3 in
-    let refers = refer_sound g t w one.0 s one.1 one.2 (kept t one.1 s' type.1 all) in
-    (refers.0, rules.of_elements (subst (Refers (scope_of g) t w) type.0 refers.1))
-source_sound fs g t (range low high step) b s s' is all =
-    let one = bind_got (expected fs g low Int s) (λ u r. expected fs g high Int r >>= λ u r. step_of fs g step r >>= λ u. got Int) b s' is in
-    let two = bind_got (expected fs g high Int one.1) (λ u r. step_of fs g step r >>= λ u. got Int) b s' one.3 in
-    let three = bind_got (step_of fs g step two.1) (λ u. got Int) b s' two.3 in
+abbrev pub numbers : Elements
+numbers = record { value = Int; key = Int }
+
+source_sound : (fs : List Signature) (g : Around) (t : Table) (o : Over) (a : Elements) (s s' : List Settled)
+    → source fs g o s ≡ got a s' → Agrees t s' → Agrees t s × SourceType fs t (scope_of g) o a.value a.key
+source_sound fs g t (array w) a s s' is all =
+    let one = bind_got (refer g w s) (λ τ. elements_of τ w.span) a s' is in
+    let type = elements_got one.0 w.span one.1 s' a one.3 in
+    let refers = refer_sound g t w one.0 s one.1 one.2 (kept t one.1 s' type.3 all) in
+    (refers.0, subst (λ (c : Base). SourceType fs t (scope_of g) (array w) a.value c) type.2 (rules.of_elements (subst (Refers (scope_of g) t w) type.1 refers.1)))
+source_sound fs g t (range low high step) a s s' is all =
+    let one = bind_got (expected fs g low Int s) (λ u r. expected fs g high Int r >>= λ u r. step_of fs g step r >>= λ u. got numbers) a s' is in
+    let two = bind_got (expected fs g high Int one.1) (λ u r. step_of fs g step r >>= λ u. got numbers) a s' one.3 in
+    let three = bind_got (step_of fs g step two.1) (λ u. got numbers) a s' two.3 in
     let end : three.1 ≡ s' = cc in
-    let same : Int ≡ b = cc in
-    let a = step_sound fs g t step two.1 three.1 three.2 (kept t three.1 s' end all) in
-    let h = expected_sound fs g t high Int one.1 two.1 two.2 a.0 in
+    let same : numbers ≡ a = cc in
+    let last = step_sound fs g t step two.1 three.1 three.2 (kept t three.1 s' end all) in
+    let h = expected_sound fs g t high Int one.1 two.1 two.2 last.0 in
     let l = expected_sound fs g t low Int s one.1 one.2 h.0 in
-    (l.0, subst (SourceType fs t (scope_of g) (range low high step)) same (rules.of_range l.1 h.1 a.1))
+    (l.0, subst (λ (x : Elements). SourceType fs t (scope_of g) (range low high step) x.value x.key) same (rules.of_range l.1 h.1 last.1))
 
 declares : (g : Around) (w : Word) (τ : Typ) → ¬ IsVisible (scope_of g) w.text → Declares (scope_of g) w τ (scope_of (declared g w τ))
 declares g w τ new = subst (Declares (scope_of g) w τ) (sym (scope_declared g w τ)) (rules.fresh new)
 
-loop_with : (g : Around) (v : Word) (k : Option Word) (b : Base) (s s' : List Settled) → Inside g → ¬ IsVisible (scope_of (inside g)) v.text → fresh_key g v k s ≡ got (tt {0}) s'
-    → LoopScope (scope_of g) v b k (scope_of (loop_scope g v k b)) × (s ≡ s')
-loop_with g v None b s s' low new is =
-    (rules.value_only (subst (λ (x : Scope). Declares x v (one_of b) (scope_of (declared (inside g) v (one_of b)))) (scope_inside g low) (declares (inside g) v (one_of b) new)), cc)
-loop_with g v (Some k) b s s' low new is =
+loop_with : (g : Around) (v : Word) (k : Option Word) (a : Elements) (s s' : List Settled) → Inside g → ¬ IsVisible (scope_of (inside g)) v.text → fresh_key g v k s ≡ got (tt {0}) s'
+    → LoopScope (scope_of g) v a.value k a.key (scope_of (loop_scope g v k a)) × (s ≡ s')
+loop_with g v None a s s' low new is =
+    (rules.value_only (subst (λ (x : Scope). Declares x v (one_of a.value) (scope_of (declared (inside g) v (one_of a.value)))) (scope_inside g low) (declares (inside g) v (one_of a.value) new)), cc)
+loop_with g v (Some k) a s s' low new is =
     let one = bind_got (fresh g k s) (λ u r. cond (bytes_eq k.text v.text) (refused (Declared k.span)) (got (tt {0}) r)) (tt {0}) s' is in
     let key = fresh_got (inside g) k s one.1 one.2 in
-    elim (bytes_eq k.text v.text) as (λ q. bytes_eq k.text v.text ≡ q → cond q (refused (Declared k.span)) (got (tt {0}) one.1) ≡ got (tt {0}) s' → LoopScope (scope_of g) v b (Some k) (scope_of (loop_scope g v (Some k) b)) × (s ≡ s')) [
+    elim (bytes_eq k.text v.text) as (λ q. bytes_eq k.text v.text ≡ q → cond q (refused (Declared k.span)) (got (tt {0}) one.1) ≡ got (tt {0}) s' → LoopScope (scope_of g) v a.value (Some k) a.key (scope_of (loop_scope g v (Some k) a)) × (s ≡ s')) [
       | true ↦ λ same here. absurd (cc)
       | false ↦ λ other here.
           let end : one.1 ≡ s' = cc in
           let apart = other_text k.text v.text other in
-          let unseen : ¬ IsVisible (scope_of (declared (inside g) v (one_of b))) k.text =
-          subst (λ (x : Scope). ¬ IsVisible x k.text) (sym (scope_declared (inside g) v (one_of b))) (none_first (own v (one_of b)) (scope_of (inside g)) k.text (λ e. apart (sym e)) key.0) in
-          (rules.with_key (subst (λ (x : Scope). Declares x v (one_of b) (scope_of (declared (inside g) v (one_of b)))) (scope_inside g low) (declares (inside g) v (one_of b) new)) (declares (declared (inside g) v (one_of b)) k (one_of Int) unseen), key.1 ∙ end)
+          let unseen : ¬ IsVisible (scope_of (declared (inside g) v (one_of a.value))) k.text =
+          subst (λ (x : Scope). ¬ IsVisible x k.text) (sym (scope_declared (inside g) v (one_of a.value))) (none_first (own v (one_of a.value)) (scope_of (inside g)) k.text (λ e. apart (sym e)) key.0) in
+          (rules.with_key (subst (λ (x : Scope). Declares x v (one_of a.value) (scope_of (declared (inside g) v (one_of a.value)))) (scope_inside g low) (declares (inside g) v (one_of a.value) new)) (declares (declared (inside g) v (one_of a.value)) k (one_of a.key) unseen), key.1 ∙ end)
     ] refl one.3
 
-pub loop_inside : (g : Around) (v : Word) (k : Option Word) (b : Base) → Inside g → Inside (loop_scope g v k b)
-loop_inside g v None b low = inside_added (inside g) v (Local v.number) (one_of b) (inside_more g low)
-loop_inside g v (Some k) b low = inside_added (declared (inside g) v (one_of b)) k (Local k.number) (one_of Int) (inside_added (inside g) v (Local v.number) (one_of b) (inside_more g low))
+pub loop_inside : (g : Around) (v : Word) (k : Option Word) (a : Elements) → Inside g → Inside (loop_scope g v k a)
+loop_inside g v None a low = inside_added (inside g) v (Local v.number) (one_of a.value) (inside_more g low)
+loop_inside g v (Some k) a low = inside_added (declared (inside g) v (one_of a.value)) k (Local k.number) (one_of a.key) (inside_added (inside g) v (Local v.number) (one_of a.value) (inside_more g low))
 
 -- STATEMENTS
 
@@ -355,18 +348,19 @@ mutual
             (refers.0, same.2 (rules.assignment refers.1 has.1)),
       )
   commanded_sound fs g h t nd (write w i e) s s' low is =
-      let one = bind_got (refer g w s >>= λ τ. elements_of τ w.span) (λ b r. expected fs g i Int r >>= λ u r. expected fs g e b r >>= λ u. got g) h s' is in
+      let one = bind_got (refer g w s >>= λ τ. elements_of τ w.span) (λ a r. expected fs g i a.key r >>= λ u r. expected fs g e a.value r >>= λ u. got g) h s' is in
       let name = bind_got (refer g w s) (λ τ. elements_of τ w.span) one.0 one.1 one.2 in
-      let two = bind_got (expected fs g i Int one.1) (λ u r. expected fs g e one.0 r >>= λ u. got g) h s' one.3 in
-      let three = bind_got (expected fs g e one.0 two.1) (λ u. got g) h s' two.3 in
+      let two = bind_got (expected fs g i one.0.key one.1) (λ u r. expected fs g e one.0.value r >>= λ u. got g) h s' one.3 in
+      let three = bind_got (expected fs g e one.0.value two.1) (λ u. got g) h s' two.3 in
       let type = elements_got name.0 w.span name.1 one.1 one.0 name.3 in
       let same = same_scope fs t g h (statement nd (write w i e)) three.1 s' three.3 low in (
         same.0,
         λ all.
-            let has = expected_sound fs g t e one.0 two.1 three.1 three.2 (same.1 all) in
-            let index = expected_sound fs g t i Int one.1 two.1 two.2 has.0 in
-            let refers = refer_sound g t w name.0 s name.1 name.2 (kept t name.1 one.1 type.1 index.0) in
-            (refers.0, same.2 (rules.element_write (subst (Refers (scope_of g) t w) type.0 refers.1) index.1 has.1)),
+            let has = expected_sound fs g t e one.0.value two.1 three.1 three.2 (same.1 all) in
+            let index = expected_sound fs g t i one.0.key one.1 two.1 two.2 has.0 in
+            let refers = refer_sound g t w name.0 s name.1 name.2 (kept t name.1 one.1 type.3 index.0) in
+            let key = subst (HasType fs t (scope_of g) i) (sym type.2) index.1 in
+            (refers.0, same.2 (rules.element_write (subst (Refers (scope_of g) t w) type.1 refers.1) key has.1)),
       )
   commanded_sound fs g h t nd (assign_all ws c) s s' low is =
       let one = bind_got (refer_all g ws s) (λ τs r. several fs g c τs r >>= λ u. got g) h s' is in
@@ -409,8 +403,8 @@ mutual
             (has.0, same.2 (rules.if_else_statement has.1 (subst (λ (x : Scope). BodyTyped fs t x b) (scope_inside g low) content.1) (subst (λ (x : Scope). BodyTyped fs t x d) (scope_inside g low) other.1))),
       )
   commanded_sound fs g h t nd (loop v k o b) s s' low is =
-      let one = bind_got (fresh_variables g v k s) (λ u r. source fs g o r >>= λ β r. enclosed fs (loop_scope g v k β) b r >>= λ u. got g) h s' is in
-      let two = bind_got (source fs g o one.1) (λ β r. enclosed fs (loop_scope g v k β) b r >>= λ u. got g) h s' one.3 in
+      let one = bind_got (fresh_variables g v k s) (λ u r. source fs g o r >>= λ a r. enclosed fs (loop_scope g v k a) b r >>= λ u. got g) h s' is in
+      let two = bind_got (source fs g o one.1) (λ a r. enclosed fs (loop_scope g v k a) b r >>= λ u. got g) h s' one.3 in
       let three = bind_got (enclosed fs (loop_scope g v k two.0) b two.1) (λ u. got g) h s' two.3 in
       let names = bind_got (fresh g v s) (λ u. fresh_key g v k) (tt {0}) one.1 one.2 in
       let new = fresh_got (inside g) v s names.1 names.2 in

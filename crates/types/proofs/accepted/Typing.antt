@@ -1,21 +1,25 @@
 -- What the check finds of an expression is what the typing rules say.
-use Rattle.std.proofs.Common.{◌≡◌, true, false, List, refl, ap₂, subst}
+use Rattle.std.proofs.Common.{◌≡◌, true, false, List, refl, ap, ap₂, subst}
 use Rattle.std.specs.Prelude.{Some, cond}
 use Rattle.lexer.specs.declared.token.Span.{Span}
 use Rattle.types.specs.declared.fault.TypeFault.TheVariants.{Mismatch}
 use Rattle.types.specs.declared.typed.Settled.{Settled}
+use Rattle.types.specs.declared.typed.Elements.{Elements}
 use Rattle.language.specs.declared.tree.Base.{Base}
 use Rattle.language.specs.declared.tree.Base.TheVariants.{Int, Text, Boolean}
+use Rattle.language.specs.declared.tree.Keys.{Keys}
+use Rattle.language.specs.declared.tree.Keys.TheVariants.{Numbers, Texts}
 use Rattle.language.specs.declared.tree.Shape.{Shape}
 use Rattle.language.specs.declared.tree.Shape.TheVariants.{Scalar, Array}
 use Rattle.language.specs.declared.tree.Operator.{Operator}
 use Rattle.language.specs.declared.tree.Operator.TheVariants as Sign
 use Rattle.language.specs.declared.tree.Prefix.{Prefix}
 use Rattle.language.specs.declared.tree.Prefix.TheVariants as Before
+use Rattle.language.specs.Kinds.{base_of_keys}
 use Rattle.language.specs.Scopes.{Typ, one_of, many_of}
 use Rattle.language.specs.Typing as rules
 use Rattle.types.specs.Outcomes.{Outcome, refused, got, Check, ◌>>=◌}
-use Rattle.types.specs.Expressions.{same_base, has_base, scalar, scalar_by, elements_of, elements_by, gives, base_of, number_only, truth_only, sum_of}
+use Rattle.types.specs.Expressions.{same_base, same_keys, same_shape, has_base, has_type, scalar, scalar_by, elements_of, elements_by, gives, base_of, number_only, truth_only, sum_of}
 
 -- an answer of two checks in a row comes from an answer of the first and one of the second
 pub bind_got : {A B : Type 0} (o : Outcome A) (k : A → Check B) (b : B) (s : List Settled) → (o >>= k) ≡ got b s
@@ -48,14 +52,40 @@ pub scalar_got : (τ : Typ) (at : Span) (s s' : List Settled) (b : Base) → sca
 scalar_got τ at s s' b is =
     elim τ.shape as (λ h. τ.shape ≡ h → scalar_by h τ.base at s ≡ got b s' → (τ ≡ one_of b) × (s ≡ s')) [
       | Scalar ↦ λ shape here. let base : τ.base ≡ b = cc in (ap₂ made base shape, cc)
-      | Array ↦ λ shape here. absurd (cc)
+      | Array κ ↦ λ shape here. absurd (cc)
     ] refl is
 
-pub elements_got : (τ : Typ) (at : Span) (s s' : List Settled) (b : Base) → elements_of τ at s ≡ got b s' → (τ ≡ many_of b) × (s ≡ s')
-elements_got τ at s s' b is =
-    elim τ.shape as (λ h. τ.shape ≡ h → elements_by h τ.base at s ≡ got b s' → (τ ≡ many_of b) × (s ≡ s')) [
+-- what an array gives is what its type says
+pub elements_got : (τ : Typ) (at : Span) (s s' : List Settled) (a : Elements) → elements_of τ at s ≡ got a s' → (κ : Keys) × (τ ≡ many_of κ a.value) × (base_of_keys κ ≡ a.key) × (s ≡ s')
+elements_got τ at s s' a is =
+    elim τ.shape as (λ h. τ.shape ≡ h → elements_by h τ.base at s ≡ got a s' → (κ : Keys) × (τ ≡ many_of κ a.value) × (base_of_keys κ ≡ a.key) × (s ≡ s')) [
       | Scalar ↦ λ shape here. absurd (cc)
-      | Array ↦ λ shape here. let base : τ.base ≡ b = cc in (ap₂ made base shape, cc)
+      | Array κ ↦ λ shape here.
+          let same : ◌≡◌ {A = Elements} (record { value = τ.base; key = base_of_keys κ }) a = cc in
+          (κ, ap₂ made (ap (λ (x : Elements). x.value) same) shape, ap (λ (x : Elements). x.key) same, cc)
+    ] refl is
+
+keys_same : (κ ι : Keys) → same_keys κ ι ≡ true → κ ≡ ι
+keys_same Numbers Numbers is = refl
+keys_same Numbers Texts is = absurd (cc)
+keys_same Texts Numbers is = absurd (cc)
+keys_same Texts Texts is = refl
+
+pub shape_same : (h k : Shape) → same_shape h k ≡ true → h ≡ k
+shape_same Scalar Scalar is = refl
+shape_same Scalar (Array ι) is = absurd (cc)
+shape_same (Array κ) Scalar is = absurd (cc)
+shape_same (Array κ) (Array ι) is = ap Array (keys_same κ ι is)
+
+pub has_type_got : (τ σ : Typ) (at : Span) (s s' : List Settled) → has_type τ σ at s ≡ got (tt {0}) s' → (τ ≡ σ) × (s ≡ s')
+has_type_got τ σ at s s' is =
+    elim (same_base τ.base σ.base) as (λ v. same_base τ.base σ.base ≡ v → cond v (cond (same_shape τ.shape σ.shape) (got (tt {0}) s) (refused (Mismatch at))) (refused (Mismatch at)) ≡ got (tt {0}) s' → (τ ≡ σ) × (s ≡ s')) [
+      | true ↦ λ base here.
+          elim (same_shape τ.shape σ.shape) as (λ v. same_shape τ.shape σ.shape ≡ v → cond v (got (tt {0}) s) (refused (Mismatch at)) ≡ got (tt {0}) s' → (τ ≡ σ) × (s ≡ s')) [
+            | true ↦ λ shape here. (ap₂ made (base_same τ.base σ.base base) (shape_same τ.shape σ.shape shape), cc)
+            | false ↦ λ other here. absurd (cc)
+          ] refl here
+      | false ↦ λ other here. absurd (cc)
     ] refl is
 
 pub number_gives : (o : Operator) (c d b : Base) → rules.Operates o Int d → number_only d b ≡ Some c → rules.Operates o b c

@@ -13,6 +13,8 @@ use Rattle.types.specs.declared.typed.Builtin.{Builtin}
 use Rattle.types.specs.declared.typed.Builtin.TheVariants as Named
 use Rattle.language.specs.declared.tree.Base.{Base}
 use Rattle.language.specs.declared.tree.Base.TheVariants.{Int, Text}
+use Rattle.language.specs.declared.tree.Keys.{Keys}
+use Rattle.language.specs.declared.tree.Keys.TheVariants.{Numbers, Texts}
 use Rattle.language.specs.declared.tree.Shape.{Shape}
 use Rattle.language.specs.declared.tree.Shape.TheVariants.{Scalar, Array}
 use Rattle.language.specs.declared.tree.Operator.{Operator}
@@ -27,11 +29,11 @@ use Rattle.types.specs.Typed.{builtin_name}
 use Rattle.types.specs.Outcomes.{Outcome, refused, got, Check, ◌>>=◌}
 use Rattle.types.specs.Names.{seen, referred, refer, free, fresh, builtin_of, called, settles, missing, found, find, find_from, counted, function_called}
 use Rattle.types.specs.Agrees.{visible_at, scope_of}
-use Rattle.types.specs.Expressions.{same_base, has_base, scalar, scalar_by, elements_of, elements_by, gives, base_of, given_or, given_by, takes, first_given, first_of, count, has_wanted, named, array_name, fits_by, fits, of_one, builtin_by, output_of, either, whole, typed, expected, whole_form, chained, further, elements, arguments, only, builtin_type}
+use Rattle.types.specs.Expressions.{same_base, same_keys, same_shape, has_base, has_type, scalar, scalar_by, elements_of, elements_by, gives, base_of, given_or, given_by, takes, first_given, first_of, count, has_wanted, named, array_name, fits_by, fits, of_one, builtin_by, output_of, either, whole, typed, expected, whole_form, chained, further, elements, arguments, only, builtin_type}
 use Rattle.types.specs.Wants.{OfType, Gives, Want, of_type, anything, any_array, before, IsName, Meets, each, argument_by, argument, Takes, function_takes, builtin_takes, strcat_takes, fromint_takes, toint_takes, size_takes}
 use Rattle.types.specs.Breaks.{Purpose, giving, outputs_for, Thing, used, introduced, call, expects, as_array, uneven, BuiltinCounts, Broken, unknown, visible_before, wrong_count, wrong_count_of_builtin, no_function, wrong_type, no_array, no_chain, InExpression, its_name, its_array, its_elements, its_index, its_operand, no_operands, no_operators, first_operand, in_first_operand, its_operands, its_call, its_arguments, InOperands, its_operator, next_operand, behind_operand, too_few, too_many, InWanted, itself, within, InExpressions, first_expression, later_expression}
-use Rattle.types.proofs.accepted.Accepted.{given_got, array_name_got, call_counted, builtin_named}
-use Rattle.types.proofs.accepted.Typing.{same_self, bind_got, scalar_got, gives_complete, prefix_sound}
+use Rattle.types.proofs.accepted.Accepted.{given_got, call_counted, builtin_named}
+use Rattle.types.proofs.accepted.Typing.{same_self, bind_got, scalar_got, elements_got, gives_complete, prefix_sound}
 use Rattle.types.proofs.accepted.Gives.{refer_type, found_in, function_found, whole_gives, typed_gives, form_gives, expected_gives}
 use Rattle.types.proofs.settled.Settling.{seen_in}
 use Rattle.types.proofs.visible.Sight.{other_text, none_visible, unseen_onto}
@@ -58,8 +60,26 @@ base_apart b c other same = let it : same_base b c ≡ true = subst (λ x. same_
 pub other_base : (b c : Base) → b ≢ c → one_of b ≢ one_of c
 other_base b c other same = other (ap (λ (x : Typ). x.base) same)
 
-pub array_apart : (τ : Typ) (b : Base) → τ.shape ≡ Array → τ ≢ one_of b
-array_apart τ b shape same = let it : τ.shape ≡ Scalar = ap (λ (x : Typ). x.shape) same in absurd (cc)
+pub array_apart : (τ : Typ) (b : Base) → τ.shape ≢ Scalar → τ ≢ one_of b
+array_apart τ b shape same = shape (ap (λ (x : Typ). x.shape) same)
+
+keys_self : (κ : Keys) → same_keys κ κ ≡ true
+keys_self Numbers = refl
+keys_self Texts = refl
+
+shape_self : (h : Shape) → same_shape h h ≡ true
+shape_self Scalar = refl
+shape_self (Array κ) = keys_self κ
+
+pub has_type_refused : (τ σ : Typ) (at : Span) (s : List Settled) (y : TypeFault) → has_type τ σ at s ≡ refused y → (Mismatch at ≡ y) × (τ ≢ σ)
+has_type_refused τ σ at s y is =
+    elim (same_base τ.base σ.base) as (λ v. same_base τ.base σ.base ≡ v → cond v (cond (same_shape τ.shape σ.shape) (got (tt {0}) s) (refused (Mismatch at))) (refused (Mismatch at)) ≡ refused y → (Mismatch at ≡ y) × (τ ≢ σ)) [
+      | true ↦ λ bases here. elim (same_shape τ.shape σ.shape) as (λ v. same_shape τ.shape σ.shape ≡ v → cond v (got (tt {0}) s) (refused (Mismatch at)) ≡ refused y → (Mismatch at ≡ y) × (τ ≢ σ)) [
+        | true ↦ λ shapes here. absurd (cc)
+        | false ↦ λ other here. (cc, λ same. let it : same_shape τ.shape σ.shape ≡ true = subst (λ (x : Typ). same_shape τ.shape x.shape ≡ true) same (shape_self τ.shape) in absurd (cc))
+      ] refl here
+      | false ↦ λ other here. (cc, λ same. let it : same_base τ.base σ.base ≡ true = subst (λ (x : Typ). same_base τ.base x.base ≡ true) same (same_self τ.base) in absurd (cc))
+    ] refl is
 
 has_base_refused : (b c : Base) (at : Span) (s : List Settled) (y : TypeFault) → has_base b c at s ≡ refused y → (Mismatch at ≡ y) × (b ≢ c)
 has_base_refused b c at s y is =
@@ -68,18 +88,18 @@ has_base_refused b c at s y is =
       | false ↦ λ other here. (cc, base_apart b c other)
     ] refl is
 
-scalar_refused : (τ : Typ) (at : Span) (s : List Settled) (y : TypeFault) → scalar τ at s ≡ refused y → (Mismatch at ≡ y) × (τ.shape ≡ Array)
+scalar_refused : (τ : Typ) (at : Span) (s : List Settled) (y : TypeFault) → scalar τ at s ≡ refused y → (Mismatch at ≡ y) × (τ.shape ≢ Scalar)
 scalar_refused τ at s y is =
-    elim τ.shape as (λ h. scalar_by h τ.base at s ≡ refused y → (Mismatch at ≡ y) × (h ≡ Array)) [
+    elim τ.shape as (λ h. scalar_by h τ.base at s ≡ refused y → (Mismatch at ≡ y) × (h ≢ Scalar)) [
       | Scalar ↦ λ here. absurd (cc)
-      | Array ↦ λ here. (cc, refl)
+      | Array κ ↦ λ here. (cc, λ same. absurd (cc))
     ] is
 
 pub elements_refused : (τ : Typ) (at : Span) (s : List Settled) (y : TypeFault) → elements_of τ at s ≡ refused y → (Mismatch at ≡ y) × (τ.shape ≡ Scalar)
 elements_refused τ at s y is =
     elim τ.shape as (λ h. elements_by h τ.base at s ≡ refused y → (Mismatch at ≡ y) × (h ≡ Scalar)) [
       | Scalar ↦ λ here. (cc, refl)
-      | Array ↦ λ here. absurd (cc)
+      | Array κ ↦ λ here. absurd (cc)
     ] is
 
 -- a scalar of a type that is wanted
@@ -118,20 +138,19 @@ name_refused τ e s y is =
     elim (named e) as (λ v. named e ≡ v → cond v (elements_of τ (first_of e) s) (refused (Mismatch (first_of e))) ≡ refused y → (Mismatch (first_of e) ≡ y) × (¬ Meets any_array e τ)) [
       | true ↦ λ it_is here.
           let it = elements_refused τ (first_of e) s y here in
-          (it.0, λ meets. let scalar : τ.shape ≡ Scalar = it.1 in let array : τ.shape ≡ Array = meets.1 in absurd (cc))
+          (it.0, λ meets. let scalar : τ.shape ≡ Scalar = it.1 in let array : τ.shape ≡ Array meets.1 = meets.2 in absurd (cc))
       | false ↦ λ other here. (cc, λ meets. let it : named e ≡ true = is_name e meets.0 in absurd (cc))
     ] refl is
 
-pub fits_refused : (h : Shape) (τ : Typ) (b : Base) (e : Expression) (s : List Settled) (y : TypeFault) → fits_by h τ b e s ≡ refused y
-    → (Mismatch (first_of e) ≡ y) × (¬ Meets (argument_by h b) e τ)
-fits_refused Scalar τ b e s y is = type_refused τ b (first_of e) s y is
-fits_refused Array τ b e s y is =
-    elim (bind_refused (array_name τ e s) (λ c. has_base c b (first_of e)) y is) [
-      | inl a ↦ let it = name_refused τ e s y a in (it.0, λ meets. it.1 (meets.0, ap (λ (x : Typ). x.shape) meets.1))
+pub fits_refused : (h : Shape) (τ σ : Typ) (e : Expression) (s : List Settled) (y : TypeFault) → σ.shape ≡ h → fits_by h τ σ e s ≡ refused y
+    → (Mismatch (first_of e) ≡ y) × (¬ Meets (argument_by h σ.base) e τ)
+fits_refused Scalar τ σ e s y shape is = type_refused τ σ.base (first_of e) s y is
+fits_refused (Array κ) τ σ e s y shape is =
+    elim (bind_refused (array_name τ e s) (λ a. has_type τ σ (first_of e)) y is) [
+      | inl a ↦ let it = name_refused τ e s y a in (it.0, λ meets. it.1 (meets.0, κ, ap (λ (x : Typ). x.shape) meets.1))
       | inr a ↦
-          let it = has_base_refused a.0 b (first_of e) a.1 y a.3 in
-          let type = array_name_got τ e a.0 s a.1 a.2 in
-          (it.0, λ meets. it.1 (ap (λ (x : Typ). x.base) (sym type.1 ∙ meets.1)))
+          let it = has_type_refused τ σ (first_of e) a.1 y a.3 in
+          (it.0, λ meets. it.1 (meets.1 ∙ sym (ap (made σ.base) shape)))
     ]
 
 -- an expression that gives another type than what is wanted of it
@@ -290,7 +309,7 @@ element_want (Some b) = of_type (one_of b)
 
 -- an expression that is no scalar
 abbrev NoScalar : List Signature → TypeFault → Scope → Expression → Type 0
-NoScalar fs y g e = (τ : Typ) × Gives fs g e τ × (Mismatch (first_of e) ≡ y) × (τ.shape ≡ Array)
+NoScalar fs y g e = (τ : Typ) × Gives fs g e τ × (Mismatch (first_of e) ≡ y) × (τ.shape ≢ Scalar)
 
 no_operand_broken : (fs : List Signature) (g : Scope) (e : Expression) (o : Operator) (y : TypeFault) → NoScalar fs y g e → (c : Base) → Broken fs g (expects (before o c) e) y
 no_operand_broken fs g e o y it c = type_broken fs g e (before o c) it.0 y it.1 (it.2, λ meets. array_apart it.0 meets.0 it.3 meets.1)
@@ -304,7 +323,7 @@ operator_apart e o b c other meets =
 wanted_refused : (τ : Typ) (o : Option Base) (e : Expression) (s : List Settled) (y : TypeFault) → has_wanted τ o (first_of e) s ≡ refused y
     → (Mismatch (first_of e) ≡ y) × (¬ Meets (element_want o) e τ)
 wanted_refused τ None e s y is = absurd (cc)
-wanted_refused τ (Some b) e s y is = fits_refused Scalar τ b e s y is
+wanted_refused τ (Some b) e s y is = type_refused τ b (first_of e) s y is
 
 mutual
   unfolding whole typed expected whole_form chained further elements arguments only
@@ -344,13 +363,17 @@ mutual
   form_broken fs g nd (truth b) s y is = absurd (cc)
   form_broken fs g nd (variable w) s y is = its_name (refer_broken fs g w s y is)
   form_broken fs g nd (element w i) s y is =
-      elim (bind_refused (refer g w s >>= λ τ. elements_of τ w.span) (λ b r. expected fs g i Int r >>= λ u. got (one_of b)) y is) [
+      elim (bind_refused (refer g w s >>= λ τ. elements_of τ w.span) (λ a r. expected fs g i a.key r >>= λ u. got (one_of a.value)) y is) [
         | inl c ↦ elim (bind_refused (refer g w s) (λ τ. elements_of τ w.span) y c) [
           | inl a ↦ its_array (refer_broken fs g w s y a)
           | inr a ↦ its_elements (array_broken fs (scope_of g) w a.0 y (refer_type g w a.0 s a.1 a.2) (elements_refused a.0 w.span a.1 y a.3))
         ]
-        | inr c ↦ elim (bind_refused (expected fs g i Int c.1) (λ u. got (one_of c.0)) y c.3) [
-          | inl a ↦ its_index (expected_broken fs g i Int c.1 y a)
+        | inr c ↦ elim (bind_refused (expected fs g i c.0.key c.1) (λ u. got (one_of c.0.value)) y c.3) [
+          | inl a ↦
+              let name = bind_got (refer g w s) (λ τ. elements_of τ w.span) c.0 c.1 c.2 in
+              let type = elements_got name.0 w.span name.1 c.1 c.0 name.3 in
+              its_index (subst (OfType (scope_of g) w) type.1 (refer_type g w name.0 s name.1 name.2))
+              (subst (λ (z : Base). InWanted fs (Breaking fs y) (scope_of g) (of_type (one_of z)) i) (sym type.2) (expected_broken fs g i c.0.key c.1 y a))
           | inr a ↦ absurd (let here = a.3 in cc)
         ]
       ]
@@ -459,7 +482,7 @@ mutual
       elim (bind_refused (whole fs g e s >>= λ x. fits x τ e) (λ u. arguments fs g es τs at) y is) [
         | inl c ↦ elim (bind_refused (whole fs g e s) (λ x. fits x τ e) y c) [
           | inl a ↦ first_expression (within (whole_broken fs g e s y a))
-          | inr a ↦ first_expression (itself (type_broken fs (scope_of g) e (argument τ) a.0 y (whole_gives fs g e a.0 s a.1 a.2) (fits_refused τ.shape a.0 τ.base e a.1 y a.3)))
+          | inr a ↦ first_expression (itself (type_broken fs (scope_of g) e (argument τ) a.0 y (whole_gives fs g e a.0 s a.1 a.2) (fits_refused τ.shape a.0 τ e a.1 y refl a.3)))
         ]
         | inr a ↦ later_expression (arguments_broken fs g es τs at a.1 y fewer a.3)
       ]

@@ -8,6 +8,7 @@ use Rattle.lexer.specs.declared.token.Span.{Span}
 use Rattle.types.specs.declared.fault.TypeFault.{TypeFault}
 use Rattle.types.specs.declared.fault.TypeFault.TheVariants.{Declared, Mismatch, WrongCount, BadFormat}
 use Rattle.types.specs.declared.typed.Settled.{Settled}
+use Rattle.types.specs.declared.typed.Elements.{Elements}
 use Rattle.types.specs.declared.typed.Owned.TheVariants.{Local}
 use Rattle.types.specs.declared.typed.Meaning.TheVariants.{Called}
 use Rattle.types.specs.declared.typed.Callee.TheVariants.{BuiltIn}
@@ -15,6 +16,8 @@ use Rattle.types.specs.declared.typed.Builtin.{Builtin}
 use Rattle.types.specs.declared.typed.Builtin.TheVariants as Named
 use Rattle.language.specs.declared.tree.Base.{Base}
 use Rattle.language.specs.declared.tree.Base.TheVariants.{Int, Text, Boolean}
+use Rattle.language.specs.declared.tree.Keys.{Keys}
+use Rattle.language.specs.declared.tree.Keys.TheVariants.{Numbers, Texts}
 use Rattle.language.specs.declared.tree.Shape.{Shape}
 use Rattle.language.specs.declared.tree.Shape.TheVariants.{Scalar, Array}
 use Rattle.language.specs.Members.{first, later}
@@ -27,40 +30,36 @@ use Rattle.types.specs.Typed.{builtin_name}
 use Rattle.types.specs.Outcomes.{Outcome, refused, got, ◌>>=◌}
 use Rattle.types.specs.Names.{refer, fresh, builtin_of, called, settles, function_called}
 use Rattle.types.specs.Agrees.{scope_of}
-use Rattle.types.specs.Expressions.{same_base, same_shape, has_type, elements_of, first_of, count, either, whole, expected, elements, arguments, builtin_type}
-use Rattle.types.specs.Statements.{literal_by, right, initial, refer_all, same_types, only_target, several, format_by, print, builtin_statement, call_alone, step_of, source, fresh_key, fresh_variables, inside, declared, loop_scope, stated, commanded, enclosed, in_order}
+use Rattle.types.specs.Expressions.{has_type, elements_of, first_of, count, either, whole, expected, elements, arguments, builtin_type}
+use Rattle.types.specs.Statements.{under_numbers, literal_by, right, initial, refer_all, same_types, only_target, several, format_by, print, builtin_statement, call_alone, step_of, source, fresh_key, fresh_variables, inside, declared, loop_scope, stated, commanded, enclosed, in_order}
 use Rattle.types.specs.Wants.{OfType, OfTypes, no_names, and_name, Outputs, of_function, of_builtin, of_type, argument, function_takes, builtin_takes, printf_takes, assert_takes}
-use Rattle.types.specs.Breaks.{giving, alone, introduced, call, literal, outputs_to, BuiltinCounts, IsFormat, whole_of, Broken, wrong_count_of_conversions, no_format, literal_for_scalar, other_outputs, visible_before, itself, within, later_expression, InWords, first_word, later_word, InRight, in_value, the_list, in_list, InOver, looped_name, looped_array, from_low, to_high, by_step, Values, of_array, of_range, with_key, behind_command, behind, InCommand, its_declaration, its_initial, its_target, its_right, its_written, its_written_array, its_place, its_element, its_targets, its_called, its_outputs, its_inputs, called_alone, inputs_alone, its_condition, its_branch, either_condition, either_branch, other_branch, its_value, its_key, its_source, its_loop, its_awaited, its_waiting, InBody, in_braces, InStatements, first_statement, later_statement}
+use Rattle.types.specs.Breaks.{giving, alone, introduced, call, literal, outputs_to, BuiltinCounts, IsFormat, whole_of, Broken, wrong_count_of_conversions, no_format, literal_for_scalar, literal_under_texts, other_outputs, visible_before, InWanted, itself, within, later_expression, InWords, first_word, later_word, InRight, in_value, the_list, in_list, InOver, looped_name, looped_array, from_low, to_high, by_step, Values, of_array, of_range, with_key, behind_command, behind, InCommand, its_declaration, its_initial, its_target, its_right, its_written, its_written_array, its_place, its_element, its_targets, its_called, its_outputs, its_inputs, called_alone, inputs_alone, its_condition, its_branch, either_condition, either_branch, other_branch, its_value, its_key, its_source, its_loop, its_awaited, its_waiting, InBody, in_braces, InStatements, first_statement, later_statement}
 use Rattle.types.proofs.accepted.Accepted.{call_counted, builtin_named}
 use Rattle.types.proofs.settled.Settling.{same_text}
-use Rattle.types.proofs.accepted.Typing.{same_self, bind_got, elements_got}
+use Rattle.types.proofs.accepted.Typing.{bind_got, elements_got}
 use Rattle.types.proofs.visible.Sight.{Inside, inside_more, inside_added, scope_declared, scope_inside}
-use Rattle.types.proofs.accepted.Stated.{count_of, only_got, loop_inside}
+use Rattle.types.proofs.accepted.Stated.{numbers, count_of, only_got, loop_inside}
 use Rattle.types.proofs.accepted.Gives.{refer_type, function_found, builtin_value, whole_gives}
-use Rattle.types.proofs.answered.Breaks.{bind_refused, Breaking, elements_refused, type_broken, array_broken, refer_broken, fresh_visible, fresh_broken, different, function_broken, builtin_broken, CallBroken, whole_broken, expected_broken, elements_broken, arguments_broken, builtin_value_broken}
+use Rattle.types.proofs.answered.Breaks.{bind_refused, Breaking, has_type_refused, elements_refused, type_broken, array_broken, refer_broken, fresh_visible, fresh_broken, different, function_broken, builtin_broken, CallBroken, whole_broken, expected_broken, elements_broken, arguments_broken, builtin_value_broken}
 
 -- RIGHT SIDES
 
 abbrev made : Base → Shape → Typ
 made b h = record { base = b; shape = h }
 
-shape_self : (h : Shape) → same_shape h h ≡ true
-shape_self Scalar = refl
-shape_self Array = refl
-
-has_type_refused : (τ σ : Typ) (at : Span) (s : List Settled) (y : TypeFault) → has_type τ σ at s ≡ refused y → (Mismatch at ≡ y) × (τ ≢ σ)
-has_type_refused τ σ at s y is =
-    elim (same_base τ.base σ.base) as (λ v. same_base τ.base σ.base ≡ v → cond v (cond (same_shape τ.shape σ.shape) (got (tt {0}) s) (refused (Mismatch at))) (refused (Mismatch at)) ≡ refused y → (Mismatch at ≡ y) × (τ ≢ σ)) [
-      | true ↦ λ bases here. elim (same_shape τ.shape σ.shape) as (λ v. same_shape τ.shape σ.shape ≡ v → cond v (got (tt {0}) s) (refused (Mismatch at)) ≡ refused y → (Mismatch at ≡ y) × (τ ≢ σ)) [
-        | true ↦ λ shapes here. absurd (cc)
-        | false ↦ λ other here. (cc, λ same. let it : same_shape τ.shape σ.shape ≡ true = subst (λ (x : Typ). same_shape τ.shape x.shape ≡ true) same (shape_self τ.shape) in absurd (cc))
-      ] refl here
-      | false ↦ λ other here. (cc, λ same. let it : same_base τ.base σ.base ≡ true = subst (λ (x : Typ). same_base τ.base x.base ≡ true) same (same_self τ.base) in absurd (cc))
-    ] refl is
+numbers_refused : (κ : Keys) (at : Span) (s : List Settled) (y : TypeFault) → under_numbers κ at s ≡ refused y → (Mismatch at ≡ y) × (κ ≡ Texts)
+numbers_refused Numbers at s y is = absurd (cc)
+numbers_refused Texts at s y is = (cc, refl)
 
 literal_broken : (fs : List Signature) (g : Around) (h : Shape) (b : Base) (es : List Expression) (nd : Node) (s : List Settled) (y : TypeFault) → literal_by h fs g b es nd s ≡ refused y
     → InRight fs (Breaking fs y) (scope_of g) (made b h) (list nd es)
-literal_broken fs g Array b es nd s y is = in_list (elements_broken fs g (expressions_of es) (Some b) s y is)
+literal_broken fs g (Array κ) b es nd s y is =
+    elim (bind_refused (elements fs g (expressions_of es) (Some b) s) (λ u. under_numbers κ nd.first) y is) [
+      | inl a ↦ in_list (elements_broken fs g (expressions_of es) (Some b) s y a)
+      | inr a ↦
+          let it = numbers_refused κ nd.first a.1 y a.3 in
+          the_list (subst (Broken fs (scope_of g) (literal nd (made b (Array κ)))) it.0 (literal_under_texts (ap Array it.1)))
+    ]
 literal_broken fs g Scalar b es nd s y is =
     elim (bind_refused (elements fs g (expressions_of es) None s) (λ u r. refused (Mismatch nd.first)) y is) [
       | inl a ↦ in_list (elements_broken fs g (expressions_of es) None s y a)
@@ -274,18 +273,18 @@ alone_broken fs g c s y is =
 
 -- LOOPS
 
-source_values : (fs : List Signature) (g : Around) (o : Over) (b : Base) (s s' : List Settled) → source fs g o s ≡ got b s' → Values (scope_of g) o b
-source_values fs g (array w) b s s' is =
-    let one = bind_got (refer g w s) (λ τ. elements_of τ w.span) b s' is in
-    let type = elements_got one.0 w.span one.1 s' b one.3 in
-    of_array (subst (OfType (scope_of g) w) type.0 (refer_type g w one.0 s one.1 one.2))
-source_values fs g (range low high step) b s s' is =
-    let one = bind_got (expected fs g low Int s) (λ u r. expected fs g high Int r >>= λ u r. step_of fs g step r >>= λ u. got Int) b s' is in
-    let two = bind_got (expected fs g high Int one.1) (λ u r. step_of fs g step r >>= λ u. got Int) b s' one.3 in
-    let three = bind_got (step_of fs g step two.1) (λ u. got Int) b s' two.3 in
-    let last : got Int three.1 ≡ got b s' = three.3 in
-    let same : Int ≡ b = cc in
-    subst (Values (scope_of g) (range low high step)) same of_range
+source_values : (fs : List Signature) (g : Around) (o : Over) (a : Elements) (s s' : List Settled) → source fs g o s ≡ got a s' → Values (scope_of g) o a.value a.key
+source_values fs g (array w) a s s' is =
+    let one = bind_got (refer g w s) (λ τ. elements_of τ w.span) a s' is in
+    let type = elements_got one.0 w.span one.1 s' a one.3 in
+    subst (λ (c : Base). Values (scope_of g) (array w) a.value c) type.2 (of_array (subst (OfType (scope_of g) w) type.1 (refer_type g w one.0 s one.1 one.2)))
+source_values fs g (range low high step) a s s' is =
+    let one = bind_got (expected fs g low Int s) (λ u r. expected fs g high Int r >>= λ u r. step_of fs g step r >>= λ u. got numbers) a s' is in
+    let two = bind_got (expected fs g high Int one.1) (λ u r. step_of fs g step r >>= λ u. got numbers) a s' one.3 in
+    let three = bind_got (step_of fs g step two.1) (λ u. got numbers) a s' two.3 in
+    let last : got numbers three.1 ≡ got a s' = three.3 in
+    let same : numbers ≡ a = cc in
+    subst (λ (x : Elements). Values (scope_of g) (range low high step) x.value x.key) same of_range
 
 step_broken : (fs : List Signature) (g : Around) (low high : Expression) (e : Option Expression) (s : List Settled) (y : TypeFault) → step_of fs g e s ≡ refused y
     → InOver fs (Breaking fs y) (scope_of g) (range low high e)
@@ -299,11 +298,11 @@ source_broken fs g (array w) s y is =
       | inr a ↦ looped_array (array_broken fs (scope_of g) w a.0 y (refer_type g w a.0 s a.1 a.2) (elements_refused a.0 w.span a.1 y a.3))
     ]
 source_broken fs g (range low high step) s y is =
-    elim (bind_refused (expected fs g low Int s) (λ u r. expected fs g high Int r >>= λ u r. step_of fs g step r >>= λ u. got Int) y is) [
+    elim (bind_refused (expected fs g low Int s) (λ u r. expected fs g high Int r >>= λ u r. step_of fs g step r >>= λ u. got numbers) y is) [
       | inl a ↦ from_low (expected_broken fs g low Int s y a)
-      | inr c ↦ elim (bind_refused (expected fs g high Int c.1) (λ u r. step_of fs g step r >>= λ u. got Int) y c.3) [
+      | inr c ↦ elim (bind_refused (expected fs g high Int c.1) (λ u r. step_of fs g step r >>= λ u. got numbers) y c.3) [
         | inl a ↦ to_high (expected_broken fs g high Int c.1 y a)
-        | inr d ↦ elim (bind_refused (step_of fs g step d.1) (λ u. got Int) y d.3) [
+        | inr d ↦ elim (bind_refused (step_of fs g step d.1) (λ u. got numbers) y d.3) [
           | inl a ↦ step_broken fs g low high step d.1 y a
           | inr a ↦ absurd (let here = a.3 in cc)
         ]
@@ -339,11 +338,11 @@ variables_broken fs g v k o b s y low is =
       | inr a ↦ key_broken fs g v k o b a.1 y low a.3
     ]
 
-loop_scope_is : (g : Around) (v : Word) (k : Option Word) (b : Base) → Inside g → scope_of (loop_scope g v k b) ≡ with_key (own v (one_of b) ∷ deeper (scope_of g)) k
-loop_scope_is g v None b low = scope_declared (inside g) v (one_of b) ∙ ap (λ (x : Scope). own v (one_of b) ∷ x) (scope_inside g low)
-loop_scope_is g v (Some k) b low =
-    scope_declared (declared (inside g) v (one_of b)) k (one_of Int)
-    ∙ ap (λ (x : Scope). own k (one_of Int) ∷ x) (scope_declared (inside g) v (one_of b) ∙ ap (λ (x : Scope). own v (one_of b) ∷ x) (scope_inside g low))
+loop_scope_is : (g : Around) (v : Word) (k : Option Word) (a : Elements) → Inside g → scope_of (loop_scope g v k a) ≡ with_key (own v (one_of a.value) ∷ deeper (scope_of g)) k a.key
+loop_scope_is g v None a low = scope_declared (inside g) v (one_of a.value) ∙ ap (λ (x : Scope). own v (one_of a.value) ∷ x) (scope_inside g low)
+loop_scope_is g v (Some k) a low =
+    scope_declared (declared (inside g) v (one_of a.value)) k (one_of a.key)
+    ∙ ap (λ (x : Scope). own k (one_of a.key) ∷ x) (scope_declared (inside g) v (one_of a.value) ∙ ap (λ (x : Scope). own v (one_of a.value) ∷ x) (scope_inside g low))
 
 -- STATEMENTS
 
@@ -365,9 +364,9 @@ command_left fs g h (assign w r) s s' low is =
     let one = bind_got (refer g w s) (λ τ r'. right fs g r τ r' >>= λ u. got g) h s' is in
     same_left (right fs g r one.0 one.1) g h s' low one.3
 command_left fs g h (write w i e) s s' low is =
-    let one = bind_got (refer g w s >>= λ τ. elements_of τ w.span) (λ b r. expected fs g i Int r >>= λ u r. expected fs g e b r >>= λ u. got g) h s' is in
-    let two = bind_got (expected fs g i Int one.1) (λ u r. expected fs g e one.0 r >>= λ u. got g) h s' one.3 in
-    same_left (expected fs g e one.0 two.1) g h s' low two.3
+    let one = bind_got (refer g w s >>= λ τ. elements_of τ w.span) (λ a r. expected fs g i a.key r >>= λ u r. expected fs g e a.value r >>= λ u. got g) h s' is in
+    let two = bind_got (expected fs g i one.0.key one.1) (λ u r. expected fs g e one.0.value r >>= λ u. got g) h s' one.3 in
+    same_left (expected fs g e one.0.value two.1) g h s' low two.3
 command_left fs g h (assign_all ws c) s s' low is =
     let one = bind_got (refer_all g ws s) (λ τs r. several fs g c τs r >>= λ u. got g) h s' is in
     same_left (several fs g c one.0 one.1) g h s' low one.3
@@ -380,8 +379,8 @@ command_left fs g h (choice_else e b d) s s' low is =
     let two = bind_got (enclosed fs (inside g) b one.1) (λ u r. enclosed fs (inside g) d r >>= λ u. got g) h s' one.3 in
     same_left (enclosed fs (inside g) d two.1) g h s' low two.3
 command_left fs g h (loop v k o b) s s' low is =
-    let one = bind_got (fresh_variables g v k s) (λ u r. source fs g o r >>= λ β r. enclosed fs (loop_scope g v k β) b r >>= λ u. got g) h s' is in
-    let two = bind_got (source fs g o one.1) (λ β r. enclosed fs (loop_scope g v k β) b r >>= λ u. got g) h s' one.3 in
+    let one = bind_got (fresh_variables g v k s) (λ u r. source fs g o r >>= λ a r. enclosed fs (loop_scope g v k a) b r >>= λ u. got g) h s' is in
+    let two = bind_got (source fs g o one.1) (λ a r. enclosed fs (loop_scope g v k a) b r >>= λ u. got g) h s' one.3 in
     same_left (enclosed fs (loop_scope g v k two.0) b two.1) g h s' low two.3
 command_left fs g h (waits ws b) s s' low is =
     let one = bind_got (refer_all g ws s) (λ τs r. enclosed fs g b r >>= λ u. got g) h s' is in
@@ -412,18 +411,22 @@ mutual
         ]
       ]
   command_broken fs g (write w i e) s y low is =
-      elim (bind_refused (refer g w s >>= λ τ. elements_of τ w.span) (λ b r. expected fs g i Int r >>= λ u r. expected fs g e b r >>= λ u. got g) y is) [
+      elim (bind_refused (refer g w s >>= λ τ. elements_of τ w.span) (λ a r. expected fs g i a.key r >>= λ u r. expected fs g e a.value r >>= λ u. got g) y is) [
         | inl c ↦ elim (bind_refused (refer g w s) (λ τ. elements_of τ w.span) y c) [
           | inl a ↦ its_written (refer_broken fs g w s y a)
           | inr a ↦ its_written_array (array_broken fs (scope_of g) w a.0 y (refer_type g w a.0 s a.1 a.2) (elements_refused a.0 w.span a.1 y a.3))
         ]
-        | inr c ↦ elim (bind_refused (expected fs g i Int c.1) (λ u r. expected fs g e c.0 r >>= λ u. got g) y c.3) [
-          | inl a ↦ its_place (expected_broken fs g i Int c.1 y a)
-          | inr d ↦ elim (bind_refused (expected fs g e c.0 d.1) (λ u. got g) y d.3) [
+        | inr c ↦ elim (bind_refused (expected fs g i c.0.key c.1) (λ u r. expected fs g e c.0.value r >>= λ u. got g) y c.3) [
+          | inl a ↦
+              let name = bind_got (refer g w s) (λ τ. elements_of τ w.span) c.0 c.1 c.2 in
+              let type = elements_got name.0 w.span name.1 c.1 c.0 name.3 in
+              its_place (subst (OfType (scope_of g) w) type.1 (refer_type g w name.0 s name.1 name.2))
+              (subst (λ (z : Base). InWanted fs (Breaking fs y) (scope_of g) (of_type (one_of z)) i) (sym type.2) (expected_broken fs g i c.0.key c.1 y a))
+          | inr d ↦ elim (bind_refused (expected fs g e c.0.value d.1) (λ u. got g) y d.3) [
             | inl a ↦
                 let name = bind_got (refer g w s) (λ τ. elements_of τ w.span) c.0 c.1 c.2 in
                 let type = elements_got name.0 w.span name.1 c.1 c.0 name.3 in
-                its_element (subst (OfType (scope_of g) w) type.0 (refer_type g w name.0 s name.1 name.2)) (expected_broken fs g e c.0 d.1 y a)
+                its_element (subst (OfType (scope_of g) w) type.1 (refer_type g w name.0 s name.1 name.2)) (expected_broken fs g e c.0.value d.1 y a)
             | inr a ↦ absurd (let here = a.3 in cc)
           ]
         ]
@@ -464,12 +467,12 @@ mutual
         ]
       ]
   command_broken fs g (loop v k o b) s y low is =
-      elim (bind_refused (fresh_variables g v k s) (λ u r. source fs g o r >>= λ β r. enclosed fs (loop_scope g v k β) b r >>= λ u. got g) y is) [
+      elim (bind_refused (fresh_variables g v k s) (λ u r. source fs g o r >>= λ a r. enclosed fs (loop_scope g v k a) b r >>= λ u. got g) y is) [
         | inl a ↦ variables_broken fs g v k o b s y low a
-        | inr c ↦ elim (bind_refused (source fs g o c.1) (λ β r. enclosed fs (loop_scope g v k β) b r >>= λ u. got g) y c.3) [
+        | inr c ↦ elim (bind_refused (source fs g o c.1) (λ a r. enclosed fs (loop_scope g v k a) b r >>= λ u. got g) y c.3) [
           | inl a ↦ its_source (source_broken fs g o c.1 y a)
           | inr d ↦ elim (bind_refused (enclosed fs (loop_scope g v k d.0) b d.1) (λ u. got g) y d.3) [
-            | inl a ↦ its_loop d.0 (source_values fs g o d.0 c.1 d.1 d.2)
+            | inl a ↦ its_loop d.0.value d.0.key (source_values fs g o d.0 c.1 d.1 d.2)
                 (subst (λ (x : Scope). InBody fs (Breaking fs y) x b) (loop_scope_is g v k d.0 low) (enclosed_broken fs (loop_scope g v k d.0) b d.1 y (loop_inside g v k d.0 low) a))
             | inr a ↦ absurd (let here = a.3 in cc)
           ]

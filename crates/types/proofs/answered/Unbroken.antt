@@ -3,12 +3,16 @@ use Rattle.std.proofs.Common.{◌≡◌, ℕ, List, [], ◌∷◌, length, map, 
 use Rattle.std.specs.Prelude.{Option, Some, zero, suc, slice_get}
 use Rattle.types.specs.declared.fault.TypeFault.{TypeFault}
 use Rattle.language.specs.declared.tree.Base.{Base}
+use Rattle.language.specs.declared.tree.Base.TheVariants.{Int}
+use Rattle.language.specs.declared.tree.Keys.{Keys}
+use Rattle.language.specs.declared.tree.Shape.{Shape}
 use Rattle.language.specs.declared.tree.Shape.TheVariants.{Scalar, Array}
 use Rattle.language.specs.declared.tree.Operator.{Operator}
 use Rattle.language.specs.Members.{◌∈◌, first, later}
 use Rattle.language.specs.Tree.{Word, Node, Expression, expression, number, text, truth, variable, element, prefixed, chain, Expressions, no_expressions, and_expression}
 use Rattle.language.specs.Tree as tree
 use Rattle.language.specs.Table.{Table, Builtin, builtin_text, strcat, fromint, toint, size, printf, assert}
+use Rattle.language.specs.Kinds.{base_of_keys}
 use Rattle.language.specs.Scopes.{Typ, one_of, many_of, Visible, Scope, Signature, Refers, Calls, CallsBuiltin, IsBuiltinName}
 use Rattle.language.specs.Typing as rules
 use Rattle.language.specs.Typing.{Operates, HasType, RestType, ArgumentTypes, BuiltinType, AllHaveType}
@@ -33,6 +37,14 @@ refers_type r = (r.variable, r.visible, r.same, r.typed)
 
 pub type_once : (g : Scope) (w : Word) (τ σ : Typ) → Clear g → OfType g w τ → OfType g w σ → τ ≡ σ
 type_once g w τ σ clear a b = sym a.3 ∙ clear a.0 b.0 a.1 b.1 (a.2 ∙ sym b.2) ∙ b.3
+
+-- the type of an index of what has a type
+abbrev index_by : Shape → Base
+index_by Scalar = Int
+index_by (Array κ) = base_of_keys κ
+
+abbrev pub index_of : Typ → Base
+index_of τ = index_by τ.shape
 
 in_at : (fs : List Signature) (p : ℕ) (f : Signature) → slice_get fs p ≡ Some f → f ∈ fs
 in_at [] p f is = absurd (cc)
@@ -106,7 +118,8 @@ gives_once fs g (expression nd (number z)) τ σ one clear gives_number gives_nu
 gives_once fs g (expression nd (text z)) τ σ one clear gives_text gives_text = refl
 gives_once fs g (expression nd (truth z)) τ σ one clear gives_truth gives_truth = refl
 gives_once fs g (expression nd (variable w)) τ σ one clear (gives_variable a) (gives_variable b) = type_once g w τ σ clear a b
-gives_once fs g (expression nd (element w i)) τ σ one clear (gives_element {b = b} x) (gives_element {b = c} y) = ap one_of (ap (λ (x : Typ). x.base) (type_once g w (many_of b) (many_of c) clear x y))
+gives_once fs g (expression nd (element w i)) τ σ one clear (gives_element {κ = κ} {b = b} x) (gives_element {κ = ι} {b = c} y) =
+    ap one_of (ap (λ (x : Typ). x.base) (type_once g w (many_of κ b) (many_of ι c) clear x y))
 gives_once fs g (expression nd (prefixed p e)) τ σ one clear (gives_prefixed {b = b} x) (gives_prefixed {b = c} y) = ap one_of (sym (base_complete p b x) ∙ base_complete p c y)
 gives_once fs g (expression nd (chain [] ds)) τ σ one clear x y = elim x [ ]
 gives_once fs g (expression nd (chain (o ∷ os) no_expressions)) τ σ one clear x y = elim x [ ]
@@ -140,10 +153,10 @@ has_gives (rules.of_builtin {f = f} calls given) = gives_call (of_builtin f call
 pub name_holds : {fs : List Signature} {t : Table} {g : Scope} {w : Word} {τ : Typ} {y : TypeFault} → Refers g t w τ → ¬ Broken fs g (used w) y
 name_holds refers (unknown hidden) = hidden (refers.variable, refers.visible, refers.same)
 
-pub array_holds : {fs : List Signature} {t : Table} {g : Scope} {w : Word} {b : Base} {y : TypeFault} → Clear g → Refers g t w (many_of b) → ¬ Broken fs g (as_array w) y
-array_holds {g = g} {w = w} {b = b} clear refers (no_array {b = c} it) =
-    let same = type_once g w (many_of b) (one_of c) clear (refers_type refers) it in
-    let shape : Array ≡ Scalar = ap (λ (x : Typ). x.shape) same in absurd (cc)
+pub array_holds : {fs : List Signature} {t : Table} {g : Scope} {w : Word} {κ : Keys} {b : Base} {y : TypeFault} → Clear g → Refers g t w (many_of κ b) → ¬ Broken fs g (as_array w) y
+array_holds {g = g} {w = w} {κ = κ} {b = b} clear refers (no_array {b = c} it) =
+    let same = type_once g w (many_of κ b) (one_of c) clear (refers_type refers) it in
+    let shape : Array κ ≡ Scalar = ap (λ (x : Typ). x.shape) same in absurd (cc)
 
 pub want_holds : {fs : List Signature} {g : Scope} {e : Expression} {want : Want} {τ : Typ} {y : TypeFault} → OneOfAName fs → Clear g → Gives fs g e τ → Meets want e τ → ¬ Broken fs g (expects want e) y
 want_holds {fs} {g} {e} {want} {τ} one clear it meets (wrong_type {τ = σ} other not) = not (subst (Meets want e) (gives_once fs g e τ σ one clear it other) meets)
@@ -208,8 +221,9 @@ mutual
   expression_holds one clear (rules.of_variable refers) (its_name x) = name_holds refers x
   expression_holds one clear (rules.of_element refers index) (its_array x) = name_holds refers x
   expression_holds one clear (rules.of_element refers index) (its_elements x) = array_holds clear refers x
-  expression_holds one clear (rules.of_element refers index) (its_index (itself x)) = want_holds one clear (has_gives index) refl x
-  expression_holds one clear (rules.of_element refers index) (its_index (within x)) = expression_holds one clear index x
+  expression_holds {g = g} one clear (rules.of_element {w = w} {κ = κ} {b = b} refers index) (its_index {κ = ι} {b = c} it (itself x)) =
+      want_holds one clear (has_gives index) (ap one_of (ap index_of (type_once g w (many_of κ b) (many_of ι c) clear (refers_type refers) it))) x
+  expression_holds one clear (rules.of_element refers index) (its_index it (within x)) = expression_holds one clear index x
   expression_holds one clear (rules.of_prefixed {p = p} {b = b} rule has) (its_operand {b = c} rule' (itself x)) =
       want_holds one clear (has_gives has) (ap one_of (sym (base_complete p b rule) ∙ base_complete p c rule')) x
   expression_holds one clear (rules.of_prefixed rule has) (its_operand rule' (within x)) = expression_holds one clear has x
@@ -264,7 +278,7 @@ mutual
   taken_hold one clear (rules.of_toint has) toint_takes (first_expression (itself x)) = want_holds one clear (has_gives has) refl x
   taken_hold one clear (rules.of_toint has) toint_takes (first_expression (within x)) = expression_holds one clear has x
   taken_hold one clear (rules.of_toint has) toint_takes (later_expression x) = elim x [ ]
-  taken_hold one clear (rules.of_size {nd = nd} {w = w} refers) size_takes (first_expression (itself x)) = want_holds one clear (gives_variable (refers_type refers)) ((nd, w, refl), refl) x
+  taken_hold one clear (rules.of_size {nd = nd} {w = w} {κ = κ} refers) size_takes (first_expression (itself x)) = want_holds one clear (gives_variable (refers_type refers)) ((nd, w, refl), κ, refl) x
   taken_hold one clear (rules.of_size refers) size_takes (first_expression (within (its_name x))) = name_holds refers x
   taken_hold one clear (rules.of_size refers) size_takes (later_expression x) = elim x [ ]
 

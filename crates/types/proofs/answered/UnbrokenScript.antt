@@ -5,7 +5,7 @@ use Rattle.values.specs.declared.format.Piece.{Piece}
 use Rattle.values.specs.Formats.{pieces}
 use Rattle.types.specs.declared.fault.TypeFault.{TypeFault}
 use Rattle.language.specs.declared.tree.Base.{Base}
-use Rattle.language.specs.declared.tree.Base.TheVariants.{Int, Text, Boolean}
+use Rattle.language.specs.declared.tree.Base.TheVariants.{Text, Boolean}
 use Rattle.language.specs.Core as core
 use Rattle.language.specs.Core.{Owned}
 use Rattle.language.specs.Members.{◌∈◌, first, later}
@@ -17,11 +17,11 @@ use Rattle.language.specs.Typing as rules
 use Rattle.language.specs.Typing.{RightType, ReferAll, SourceType, CallTyped, StatementTyped, StatementsTyped, BodyTyped, Parameters, FunctionTyped, PartsTyped, wanted}
 use Rattle.types.specs.Expressions.{count}
 use Rattle.types.specs.Wants.{OfTypes, no_names, and_name, Outputs, of_function, of_builtin, gives_text, gives_variable, gives_call, Want, argument, BuiltinTakes, printf_takes, assert_takes, Takes}
-use Rattle.types.specs.Breaks.{alone, introduced, call, outputs_to, BuiltinCounts, Broken, visible_before, named_before, named_as_builtin, wrong_count, wrong_count_of_builtin, wrong_count_of_conversions, no_format, no_function, literal_for_scalar, other_outputs, its_name, its_call, its_arguments, itself, within, InExpressions, first_expression, later_expression, InWords, first_word, later_word, InRight, in_value, the_list, in_list, InOver, looped_name, looped_array, from_low, to_high, by_step, Values, of_array, of_range, behind, InCommand, its_declaration, its_initial, its_target, its_right, its_written, its_written_array, its_place, its_element, its_targets, its_called, its_outputs, its_inputs, called_alone, inputs_alone, its_condition, its_branch, either_condition, either_branch, other_branch, its_value, its_key, its_source, its_loop, its_awaited, its_waiting, InBody, in_braces, InStatements, first_statement, later_statement, with_parameters, parameter, InParameters, first_parameter, later_parameter, InFunction, in_outputs, in_name, in_inputs, in_body, InParts, in_function, in_statement, behind_import, behind_function, behind_statement, BreaksNothing}
+use Rattle.types.specs.Breaks.{alone, introduced, call, outputs_to, BuiltinCounts, Broken, visible_before, named_before, named_as_builtin, wrong_count, wrong_count_of_builtin, wrong_count_of_conversions, no_format, no_function, literal_for_scalar, literal_under_texts, other_outputs, its_name, its_call, its_arguments, itself, within, InExpressions, first_expression, later_expression, InWords, first_word, later_word, InRight, in_value, the_list, in_list, InOver, looped_name, looped_array, from_low, to_high, by_step, Values, of_array, of_range, behind, InCommand, its_declaration, its_initial, its_target, its_right, its_written, its_written_array, its_place, its_element, its_targets, its_called, its_outputs, its_inputs, called_alone, inputs_alone, its_condition, its_branch, either_condition, either_branch, other_branch, its_value, its_key, its_source, its_loop, its_awaited, its_waiting, InBody, in_braces, InStatements, first_statement, later_statement, with_parameters, parameter, InParameters, first_parameter, later_parameter, InFunction, in_outputs, in_name, in_inputs, in_body, InParts, in_function, in_statement, behind_import, behind_function, behind_statement, BreaksNothing}
 use Rattle.types.proofs.answered.Breaks.{Breaking}
 use Rattle.types.proofs.answered.BreaksScript.{refusal_names}
 use Rattle.types.specs.Accepted.{ScriptRefused}
-use Rattle.types.proofs.answered.Unbroken.{OneOfAName, many_arguments, Clear, refers_type, type_once, called_in, no_builtin_in, builtin_once, some_once, outputs_once, builtin_value_of, name_holds, array_holds, want_holds, call_holds, value_holds, value_counts, wanted_holds, arguments_hold, inputs_hold, elements_hold, values_hold, values_taken}
+use Rattle.types.proofs.answered.Unbroken.{OneOfAName, many_arguments, Clear, index_of, refers_type, type_once, called_in, no_builtin_in, builtin_once, some_once, outputs_once, builtin_value_of, name_holds, array_holds, want_holds, call_holds, value_holds, value_counts, wanted_holds, arguments_hold, inputs_hold, elements_hold, values_hold, values_taken}
 
 -- SCOPES
 
@@ -59,6 +59,7 @@ right_holds one clear (rules.of_scalar has) (in_value x) = wanted_holds one clea
 right_holds one clear (rules.of_copy refers) (in_value (itself x)) = want_holds one clear (gives_variable (refers_type refers)) refl x
 right_holds one clear (rules.of_copy refers) (in_value (within (its_name x))) = name_holds refers x
 right_holds one clear (rules.of_list all) (the_list (literal_for_scalar shape)) = absurd (cc)
+right_holds one clear (rules.of_list all) (the_list (literal_under_texts shape)) = absurd (cc)
 right_holds one clear (rules.of_list all) (in_list x) = elements_hold one clear all x
 right_holds one clear (rules.of_array_call {f = f} calls given outs) (in_value (itself x)) = want_holds one clear (gives_call (of_function f (called_in calls) calls.same outs)) refl x
 right_holds one clear (rules.of_array_call calls given outs) (in_value (within (its_call x))) = call_holds one calls (sym (many_arguments given), ap length outs) x
@@ -123,16 +124,17 @@ alone_inputs_hold one clear (rules.assert_called calls c m) takes x = asserted_h
 
 -- LOOPS
 
-over_holds : {fs : List Signature} {t : Table} {g : Scope} {o : Over} {b : Base} {y : TypeFault} → OneOfAName fs → Clear g → SourceType fs t g o b → ¬ InOver fs (Breaking fs y) g o
+over_holds : {fs : List Signature} {t : Table} {g : Scope} {o : Over} {b c : Base} {y : TypeFault} → OneOfAName fs → Clear g → SourceType fs t g o b c → ¬ InOver fs (Breaking fs y) g o
 over_holds one clear (rules.of_elements refers) (looped_name x) = name_holds refers x
 over_holds one clear (rules.of_elements refers) (looped_array x) = array_holds clear refers x
 over_holds one clear (rules.of_range low high step) (from_low x) = wanted_holds one clear low refl x
 over_holds one clear (rules.of_range low high step) (to_high x) = wanted_holds one clear high refl x
 over_holds one clear (rules.of_range low high (rules.a_step has)) (by_step x) = wanted_holds one clear has refl x
 
-values_once : {fs : List Signature} {t : Table} {g : Scope} {o : Over} {b c : Base} → Clear g → SourceType fs t g o b → Values g o c → c ≡ b
-values_once {g = g} clear (rules.of_elements {w = w} {b = b} refers) (of_array {b = c} it) = ap (λ (x : Typ). x.base) (type_once g w (many_of c) (many_of b) clear it (refers_type refers))
-values_once clear (rules.of_range low high step) of_range = refl
+values_once : {fs : List Signature} {t : Table} {g : Scope} {o : Over} {b c β γ : Base} → Clear g → SourceType fs t g o b c → Values g o β γ → (β ≡ b) × (γ ≡ c)
+values_once {g = g} clear (rules.of_elements {w = w} {κ = κ} {b = b} refers) (of_array {κ = ι} {b = β} it) =
+    let same = type_once g w (many_of ι β) (many_of κ b) clear it (refers_type refers) in (ap (λ (x : Typ). x.base) same, ap index_of same)
+values_once clear (rules.of_range low high step) of_range = (refl, refl)
 
 -- STATEMENTS
 
@@ -162,9 +164,10 @@ mutual
       right_holds one clear typed (subst (λ (z : Typ). InRight fs (Breaking fs y) g z r) (type_once g w σ τ clear it (refers_type refers)) x)
   command_holds one clear (rules.element_write refers i e) (its_written x) = name_holds refers x
   command_holds one clear (rules.element_write refers i e) (its_written_array x) = array_holds clear refers x
-  command_holds one clear (rules.element_write refers i e) (its_place x) = wanted_holds one clear i refl x
-  command_holds {g = g} one clear (rules.element_write {w = w} {b = b} refers i e) (its_element {b = c} it x) =
-      wanted_holds one clear e (ap one_of (ap (λ (z : Typ). z.base) (type_once g w (many_of b) (many_of c) clear (refers_type refers) it))) x
+  command_holds {g = g} one clear (rules.element_write {w = w} {κ = κ} {b = b} refers i e) (its_place {κ = ι} {b = c} it x) =
+      wanted_holds one clear i (ap one_of (ap index_of (type_once g w (many_of κ b) (many_of ι c) clear (refers_type refers) it))) x
+  command_holds {g = g} one clear (rules.element_write {w = w} {κ = κ} {b = b} refers i e) (its_element {κ = ι} {b = c} it x) =
+      wanted_holds one clear e (ap one_of (ap (λ (z : Typ). z.base) (type_once g w (many_of κ b) (many_of ι c) clear (refers_type refers) it))) x
   command_holds one clear (rules.several refers calls given) (its_targets x) = words_hold refers x
   command_holds one clear (rules.several refers calls given) (its_called x) = call_holds one calls (sym (many_arguments given), many_words refers) x
   command_holds one clear (rules.several {f = f} refers calls given) (its_outputs x) = outputs_hold one clear (of_function f (called_in calls) calls.same refl) refers x
@@ -186,12 +189,14 @@ mutual
   command_holds one clear (rules.loop_statement source (rules.with_key (rules.fresh hidden) key) b) (its_value (visible_before v)) = hidden v
   command_holds one clear (rules.loop_statement {β = β} source (rules.with_key (rules.fresh hidden) (rules.fresh apart)) b) (its_key x) = apart (key_seen (x (one_of β)))
   command_holds one clear (rules.loop_statement source scope b) (its_source x) = over_holds one clear source x
-  command_holds {fs} {g = g} {y = y} one clear (rules.loop_statement {v = v} {b = b} {β = β} source (rules.value_only (rules.fresh hidden)) typed) (its_loop c values x) =
+  command_holds {fs} {g = g} {y = y} one clear (rules.loop_statement {v = v} {b = b} {β = β} source (rules.value_only (rules.fresh hidden)) typed) (its_loop c d values x) =
       body_holds one (clear_more (deeper g) (own v (one_of β)) (clear_deeper g clear) hidden) typed
-      (subst (λ (z : Base). InBody fs (Breaking fs y) (own v (one_of z) ∷ deeper g) b) (values_once clear source values) x)
-  command_holds {fs} {g = g} {y = y} one clear (rules.loop_statement {v = v} {b = b} {β = β} source (rules.with_key {k = k} (rules.fresh hidden) (rules.fresh apart)) typed) (its_loop c values x) =
-      body_holds one (clear_more (own v (one_of β) ∷ deeper g) (own k (one_of Int)) (clear_more (deeper g) (own v (one_of β)) (clear_deeper g clear) hidden) apart) typed
-      (subst (λ (z : Base). InBody fs (Breaking fs y) (own k (one_of Int) ∷ own v (one_of z) ∷ deeper g) b) (values_once clear source values) x)
+      (subst (λ (z : Base). InBody fs (Breaking fs y) (own v (one_of z) ∷ deeper g) b) (values_once clear source values).0 x)
+  command_holds {fs} {g = g} {y = y} one clear (rules.loop_statement {v = v} {b = b} {β = β} {γ = γ} source (rules.with_key {k = k} (rules.fresh hidden) (rules.fresh apart)) typed) (its_loop c d values x) =
+      let same = values_once clear source values in
+      body_holds one (clear_more (own v (one_of β) ∷ deeper g) (own k (one_of γ)) (clear_more (deeper g) (own v (one_of β)) (clear_deeper g clear) hidden) apart) typed
+      (subst (λ (z : Base). InBody fs (Breaking fs y) (own k (one_of γ) ∷ own v (one_of z) ∷ deeper g) b) same.0
+      (subst (λ (z : Base). InBody fs (Breaking fs y) (own k (one_of z) ∷ own v (one_of c) ∷ deeper g) b) same.1 x))
   command_holds one clear (rules.wait_statement refers b) (its_awaited x) = words_hold refers x
   command_holds one clear (rules.wait_statement refers b) (its_waiting x) = body_holds one clear b x
 

@@ -8,6 +8,7 @@ use Rattle.values.specs.Formats.{pieces}
 use Rattle.lexer.specs.declared.token.Span.{Span}
 use Rattle.types.specs.declared.fault.TypeFault.TheVariants.{Declared, Mismatch, WrongCount}
 use Rattle.types.specs.declared.typed.Settled.{Settled}
+use Rattle.types.specs.declared.typed.Elements.{Elements}
 use Rattle.types.specs.declared.typed.Meaning.TheVariants.{Called}
 use Rattle.types.specs.declared.typed.Owned.{Owned}
 use Rattle.types.specs.declared.typed.Owned.TheVariants.{Input, Output}
@@ -26,11 +27,11 @@ use Rattle.types.specs.Outcomes.{refused, got, ◌>>=◌}
 use Rattle.types.specs.Names.{refer, fresh, added, builtin_of, called, settles, function_called, missing, found, find}
 use Rattle.types.specs.Rising.{Rises, none_settled}
 use Rattle.types.specs.Expressions.{has_type, elements_of, first_of, either, whole, expected, elements, arguments, only, builtin_type}
-use Rattle.types.specs.Statements.{literal_by, right, initial, refer_all, same_types, only_target, several, format_by, conversions, print, builtin_statement, call_alone, step_of, source, fresh_key, fresh_variables, inside, declared, loop_scope, stated, commanded, enclosed, in_order}
+use Rattle.types.specs.Statements.{under_numbers, literal_by, right, initial, refer_all, same_types, only_target, several, format_by, conversions, print, builtin_statement, call_alone, step_of, source, fresh_key, fresh_variables, inside, declared, loop_scope, stated, commanded, enclosed, in_order}
 use Rattle.types.specs.Scripts.{parameters, name_by, name_of, function_checked, parts_checked, checked}
-use Rattle.types.proofs.accepted.Typing.{bind_got, elements_got}
+use Rattle.types.proofs.accepted.Typing.{bind_got, has_type_got, elements_got}
 use Rattle.types.proofs.visible.Sight.{fresh_got}
-use Rattle.types.proofs.accepted.Stated.{has_type_got, only_got}
+use Rattle.types.proofs.accepted.Stated.{numbers_got, numbers, only_got}
 use Rattle.types.proofs.settled.Rising.{rises_on, rises_same, settles_rises, refer_rises, function_rises, builtin_rises, whole_rises, expected_rises, arguments_rises, elements_rises, only_rises}
 
 -- LISTS OF EXPRESSIONS
@@ -65,7 +66,9 @@ list_only fs g n es f at b s s' is rises =
 
 literal_rises : (fs : List Signature) (g : Around) (n : ℕ) (h : Shape) (b : Base) (es : List Expression) (nd : Node) (s s' : List Settled)
     → literal_by h fs g b (numbered_each numbered_expression expression_size n es) nd s ≡ got (tt {0}) s' → Rises n s → Rises (n + sum_by expression_size es) s'
-literal_rises fs g n Array b es nd s s' is rises = list_elements fs g n es (Some b) s s' is rises
+literal_rises fs g n (Array κ) b es nd s s' is rises =
+    let one = bind_got (elements fs g (expressions_of (numbered_each numbered_expression expression_size n es)) (Some b) s) (λ u. under_numbers κ nd.first) (tt {0}) s' is in
+    rises_same (n + sum_by expression_size es) one.1 s' (numbers_got κ nd.first one.1 s' one.3).1 (list_elements fs g n es (Some b) s one.1 one.2 rises)
 literal_rises fs g n Scalar b es nd s s' is rises =
     let one = bind_got (elements fs g (expressions_of (numbered_each numbered_expression expression_size n es)) None s) (λ u r. refused (Mismatch nd.first)) (tt {0}) s' is in
     absurd (cc (one.3))
@@ -203,19 +206,19 @@ step_rises : (fs : List Signature) (g : Around) (n : ℕ) (e : Option Expression
 step_rises fs g n None s s' is rises = rises_same (n + 0) s s' (cc) (rises_on (n + 0) rises (omega arith))
 step_rises fs g n (Some e) s s' is rises = expected_rises fs g n e Int s s' is rises
 
-source_rises : (fs : List Signature) (g : Around) (n : ℕ) (o : Over) (b : Base) (s s' : List Settled)
-    → source fs g (numbered_over n o) s ≡ got b s' → Rises n s → Rises (n + over_size o) s'
-source_rises fs g n (array w) b s s' is rises =
-    let one = bind_got (refer g (numbered_word n w) s) (λ τ. elements_of τ w.span) b s' is in
-    let type = elements_got one.0 w.span one.1 s' b one.3 in
-    rises_same (n + 1) one.1 s' type.1 (refer_rises g w n one.0 s one.1 one.2 rises)
-source_rises fs g n (range low high step) b s s' is rises =
+source_rises : (fs : List Signature) (g : Around) (n : ℕ) (o : Over) (a : Elements) (s s' : List Settled)
+    → source fs g (numbered_over n o) s ≡ got a s' → Rises n s → Rises (n + over_size o) s'
+source_rises fs g n (array w) a s s' is rises =
+    let one = bind_got (refer g (numbered_word n w) s) (λ τ. elements_of τ w.span) a s' is in
+    let type = elements_got one.0 w.span one.1 s' a one.3 in
+    rises_same (n + 1) one.1 s' type.3 (refer_rises g w n one.0 s one.1 one.2 rises)
+source_rises fs g n (range low high step) a s s' is rises =
     let n₂ = n + expression_size low in
     let n₃ = n + expression_size low + expression_size high in
     let last = option_map (numbered_expression n₃) step in
-    let one = bind_got (expected fs g (numbered_expression n low) Int s) (λ u r. expected fs g (numbered_expression n₂ high) Int r >>= λ u r. step_of fs g last r >>= λ u. got Int) b s' is in
-    let two = bind_got (expected fs g (numbered_expression n₂ high) Int one.1) (λ u r. step_of fs g last r >>= λ u. got Int) b s' one.3 in
-    let three = bind_got (step_of fs g last two.1) (λ u. got Int) b s' two.3 in
+    let one = bind_got (expected fs g (numbered_expression n low) Int s) (λ u r. expected fs g (numbered_expression n₂ high) Int r >>= λ u r. step_of fs g last r >>= λ u. got numbers) a s' is in
+    let two = bind_got (expected fs g (numbered_expression n₂ high) Int one.1) (λ u r. step_of fs g last r >>= λ u. got numbers) a s' one.3 in
+    let three = bind_got (step_of fs g last two.1) (λ u. got numbers) a s' two.3 in
     let end : three.1 ≡ s' = cc in
     let l = expected_rises fs g n low Int s one.1 one.2 rises in
     let h = expected_rises fs g n₂ high Int one.1 two.1 two.2 l in
@@ -261,15 +264,15 @@ mutual
       let all = right_rises fs g (n + 1) r one.0 one.1 two.1 two.2 (refer_rises g w n one.0 s one.1 one.2 rises) in
       rises_same (n + (1 + right_size r)) two.1 s' end (rises_on (n + (1 + right_size r)) all (omega arith))
   commanded_rises fs g h n (write w i e) s s' is rises =
-      let one = bind_got (refer g (numbered_word n w) s >>= λ τ. elements_of τ w.span) (λ b r. expected fs g (numbered_expression (n + 1) i) Int r >>= λ u r. expected fs g (numbered_expression (n + 1 + expression_size i) e) b r >>= λ u. got g) h s' is in
+      let one = bind_got (refer g (numbered_word n w) s >>= λ τ. elements_of τ w.span) (λ a r. expected fs g (numbered_expression (n + 1) i) a.key r >>= λ u r. expected fs g (numbered_expression (n + 1 + expression_size i) e) a.value r >>= λ u. got g) h s' is in
       let name = bind_got (refer g (numbered_word n w) s) (λ τ. elements_of τ w.span) one.0 one.1 one.2 in
-      let two = bind_got (expected fs g (numbered_expression (n + 1) i) Int one.1) (λ u r. expected fs g (numbered_expression (n + 1 + expression_size i) e) one.0 r >>= λ u. got g) h s' one.3 in
-      let three = bind_got (expected fs g (numbered_expression (n + 1 + expression_size i) e) one.0 two.1) (λ u. got g) h s' two.3 in
+      let two = bind_got (expected fs g (numbered_expression (n + 1) i) one.0.key one.1) (λ u r. expected fs g (numbered_expression (n + 1 + expression_size i) e) one.0.value r >>= λ u. got g) h s' one.3 in
+      let three = bind_got (expected fs g (numbered_expression (n + 1 + expression_size i) e) one.0.value two.1) (λ u. got g) h s' two.3 in
       let end : three.1 ≡ s' = cc in
       let type = elements_got name.0 w.span name.1 one.1 one.0 name.3 in
-      let refers = rises_same (n + 1) name.1 one.1 type.1 (refer_rises g w n name.0 s name.1 name.2 rises) in
-      let index = expected_rises fs g (n + 1) i Int one.1 two.1 two.2 refers in
-      let all = expected_rises fs g (n + 1 + expression_size i) e one.0 two.1 three.1 three.2 index in
+      let refers = rises_same (n + 1) name.1 one.1 type.3 (refer_rises g w n name.0 s name.1 name.2 rises) in
+      let index = expected_rises fs g (n + 1) i one.0.key one.1 two.1 two.2 refers in
+      let all = expected_rises fs g (n + 1 + expression_size i) e one.0.value two.1 three.1 three.2 index in
       rises_same (n + (1 + expression_size i + expression_size e)) three.1 s' end (rises_on (n + (1 + expression_size i + expression_size e)) all (omega arith))
   commanded_rises fs g h n (assign_all ws c) s s' is rises =
       let n₂ = n + sum_by word_size ws in
@@ -304,8 +307,8 @@ mutual
       let key = option_map (numbered_word (n + 1)) k in
       let n₂ = n + 1 + option_size word_size k in
       let n₃ = n + 1 + option_size word_size k + over_size o in
-      let one = bind_got (fresh_variables g w key s) (λ u r. source fs g (numbered_over n₂ o) r >>= λ β r. enclosed fs (loop_scope g w key β) (numbered_body n₃ b) r >>= λ u. got g) h s' is in
-      let two = bind_got (source fs g (numbered_over n₂ o) one.1) (λ β r. enclosed fs (loop_scope g w key β) (numbered_body n₃ b) r >>= λ u. got g) h s' one.3 in
+      let one = bind_got (fresh_variables g w key s) (λ u r. source fs g (numbered_over n₂ o) r >>= λ a r. enclosed fs (loop_scope g w key a) (numbered_body n₃ b) r >>= λ u. got g) h s' is in
+      let two = bind_got (source fs g (numbered_over n₂ o) one.1) (λ a r. enclosed fs (loop_scope g w key a) (numbered_body n₃ b) r >>= λ u. got g) h s' one.3 in
       let three = bind_got (enclosed fs (loop_scope g w key two.0) (numbered_body n₃ b) two.1) (λ u. got g) h s' two.3 in
       let end : three.1 ≡ s' = cc in
       let names = variables_end g w key s one.1 one.2 in

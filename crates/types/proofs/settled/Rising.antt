@@ -130,13 +130,13 @@ mutual
   form_rises fs g n (truth z) at τ s s' is rises = rises_same (n + 0) s s' (cc) (rises_on (n + 0) rises (omega arith))
   form_rises fs g n (variable w) at τ s s' is rises = refer_rises g w n τ s s' is rises
   form_rises fs g n (element w i) at τ s s' is rises =
-      let two = bind_got (refer g (numbered_word n w) s >>= λ τ. elements_of τ w.span) (λ b s. expected fs g (numbered_expression (n + 1) i) Int s >>= λ u. got (one_of b)) τ s' is in
-      let three = bind_got (expected fs g (numbered_expression (n + 1) i) Int two.1) (λ u. got (one_of two.0)) τ s' two.3 in
+      let two = bind_got (refer g (numbered_word n w) s >>= λ τ. elements_of τ w.span) (λ a s. expected fs g (numbered_expression (n + 1) i) a.key s >>= λ u. got (one_of a.value)) τ s' is in
+      let three = bind_got (expected fs g (numbered_expression (n + 1) i) two.0.key two.1) (λ u. got (one_of two.0.value)) τ s' two.3 in
       let one = bind_got (refer g (numbered_word n w) s) (λ τ. elements_of τ w.span) two.0 two.1 two.2 in
       let type = elements_got one.0 w.span one.1 two.1 two.0 one.3 in
       let end : three.1 ≡ s' = cc in
-      let name = rises_same (n + 1) one.1 two.1 type.1 (refer_rises g w n one.0 s one.1 one.2 rises) in
-      rises_same (n + (1 + expression_size i)) three.1 s' end (rises_on (n + (1 + expression_size i)) (expected_rises fs g (n + 1) i Int two.1 three.1 three.2 name) (omega arith))
+      let name = rises_same (n + 1) one.1 two.1 type.3 (refer_rises g w n one.0 s one.1 one.2 rises) in
+      rises_same (n + (1 + expression_size i)) three.1 s' end (rises_on (n + (1 + expression_size i)) (expected_rises fs g (n + 1) i two.0.key two.1 three.1 three.2 name) (omega arith))
   form_rises fs g n (prefixed p e) at τ s s' is rises =
       let one = bind_got (expected fs g (numbered_expression n e) (base_of p) s) (λ u. got (one_of (base_of p))) τ s' is in
       let end : one.1 ≡ s' = cc in
@@ -180,7 +180,7 @@ mutual
   arguments_rises fs g n (and_expression e es) (τ ∷ τs) at s s' is rises =
       let two = bind_got (whole fs g (numbered_expression n e) s >>= λ found. fits found τ (numbered_expression n e)) (λ u. arguments fs g (numbered_expressions (n + expression_size e) es) τs at) (tt {0}) s' is in
       let one = bind_got (whole fs g (numbered_expression n e) s) (λ found. fits found τ (numbered_expression n e)) (tt {0}) two.1 two.2 in
-      let fit = fits_sound fs no_table [] (numbered_expression n e) one.0 τ.shape τ.base one.1 two.1 one.3 in
+      let fit = fits_sound fs no_table [] (numbered_expression n e) one.0 τ τ.shape one.1 two.1 refl one.3 in
       let first = rises_same (n + expression_size e) one.1 two.1 fit.0 (whole_rises fs g n e one.0 s one.1 one.2 rises) in
       rises_on (n + (expression_size e + expressions_size es)) (arguments_rises fs g (n + expression_size e) es τs at two.1 s' two.3 first) (omega arith)
 

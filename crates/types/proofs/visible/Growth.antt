@@ -61,9 +61,9 @@ commanded_grown fs g h (assign w r) s s' is =
     let one = bind_got (refer g w s) (λ τ r'. right fs g r τ r' >>= λ u. got g) h s' is in
     same_grown (right fs g r one.0 one.1) g h s' one.3
 commanded_grown fs g h (write w i e) s s' is =
-    let one = bind_got (refer g w s >>= λ τ. elements_of τ w.span) (λ b r. expected fs g i Int r >>= λ u r. expected fs g e b r >>= λ u. got g) h s' is in
-    let two = bind_got (expected fs g i Int one.1) (λ u r. expected fs g e one.0 r >>= λ u. got g) h s' one.3 in
-    same_grown (expected fs g e one.0 two.1) g h s' two.3
+    let one = bind_got (refer g w s >>= λ τ. elements_of τ w.span) (λ a r. expected fs g i a.key r >>= λ u r. expected fs g e a.value r >>= λ u. got g) h s' is in
+    let two = bind_got (expected fs g i one.0.key one.1) (λ u r. expected fs g e one.0.value r >>= λ u. got g) h s' one.3 in
+    same_grown (expected fs g e one.0.value two.1) g h s' two.3
 commanded_grown fs g h (assign_all ws c) s s' is =
     let one = bind_got (refer_all g ws s) (λ τs r. several fs g c τs r >>= λ u. got g) h s' is in
     same_grown (several fs g c one.0 one.1) g h s' one.3
@@ -76,8 +76,8 @@ commanded_grown fs g h (choice_else e b d) s s' is =
     let two = bind_got (enclosed fs (inside g) b one.1) (λ u r. enclosed fs (inside g) d r >>= λ u. got g) h s' one.3 in
     same_grown (enclosed fs (inside g) d two.1) g h s' two.3
 commanded_grown fs g h (loop v k o b) s s' is =
-    let one = bind_got (fresh_variables g v k s) (λ u r. source fs g o r >>= λ β r. enclosed fs (loop_scope g v k β) b r >>= λ u. got g) h s' is in
-    let two = bind_got (source fs g o one.1) (λ β r. enclosed fs (loop_scope g v k β) b r >>= λ u. got g) h s' one.3 in
+    let one = bind_got (fresh_variables g v k s) (λ u r. source fs g o r >>= λ a r. enclosed fs (loop_scope g v k a) b r >>= λ u. got g) h s' is in
+    let two = bind_got (source fs g o one.1) (λ a r. enclosed fs (loop_scope g v k a) b r >>= λ u. got g) h s' one.3 in
     same_grown (enclosed fs (loop_scope g v k two.0) b two.1) g h s' two.3
 commanded_grown fs g h (waits ws b) s s' is =
     let one = bind_got (refer_all g ws s) (λ τs r. enclosed fs g b r >>= λ u. got g) h s' is in

@@ -1,6 +1,9 @@
 use Rattle.compile.proofs.Runs.{compiled, flow_calls, flow_cells, flow_reads, flow_room, flow_size}
 use Rattle.compile.proofs.compile.with_flow.Goals as goal
 
+pub emit-requires-clause-merged : goal.emit-requires-clause-merged
+emit-requires-clause-merged g c = ((c.in_ok-flow.ensures.flow).3).merged
+
 pub emit-requires-clause-calls : goal.emit-requires-clause-calls
 emit-requires-clause-calls g c = flow_calls {A = g.row.A.Denot} c.args.src.now c.in_ok-flow.flow c.in_ok-flow.ensures.flow
 

@@ -17,7 +17,7 @@ granted-requires-clause-few_entries g c =
     let r = c.requires in
     let laid = c.in_ok-laid.laid in
     let can : CanBeEmitted (core_of {A = A} flow) = record { calls = r.calls; cells = r.cells; reads = r.reads; room = r.room; size = r.size } in
-    let few = laid_small (core_of {A = A} flow) (kinds_of {A = A} flow) (declared_of {A = A} flow) (laid_code laid.bodies.items laid.entries.items) (c.in_ok-laid.ensures can) r.cells r.reads in
+    let few = laid_small (core_of {A = A} flow) (kinds_of {A = A} flow) (declared_of {A = A} flow) (laid_code laid.bodies.items laid.entries.items) (c.in_ok-laid.ensures can r.merged) r.cells r.reads in
     let long = length-map laid.entries.items entry_view in
     let size = r.size in
     omega (arith, few, long, size)
@@ -29,7 +29,7 @@ granted-requires-clause-few_bodies g c =
     let r = c.requires in
     let laid = c.in_ok-laid.laid in
     let can : CanBeEmitted (core_of {A = A} flow) = record { calls = r.calls; cells = r.cells; reads = r.reads; room = r.room; size = r.size } in
-    let few = few_bodies (core_of {A = A} flow) (kinds_of {A = A} flow) (declared_of {A = A} flow) (laid_code laid.bodies.items laid.entries.items) (c.in_ok-laid.ensures can) in
+    let few = few_bodies (core_of {A = A} flow) (kinds_of {A = A} flow) (declared_of {A = A} flow) (laid_code laid.bodies.items laid.entries.items) (c.in_ok-laid.ensures can r.merged) in
     let long = length-map laid.bodies.items body_view in
     let size = r.size in
     omega (arith, few, long, size)
@@ -41,4 +41,4 @@ granted-requires-clause-marks g c =
     let r = c.requires in
     let laid = c.in_ok-laid.laid in
     let can : CanBeEmitted (core_of {A = A} flow) = record { calls = r.calls; cells = r.cells; reads = r.reads; room = r.room; size = r.size } in
-    laid_marks (core_of {A = A} flow) (kinds_of {A = A} flow) (declared_of {A = A} flow) (laid_code laid.bodies.items laid.entries.items) (c.in_ok-laid.ensures can) r.cells r.reads r.calls
+    laid_marks (core_of {A = A} flow) (kinds_of {A = A} flow) (declared_of {A = A} flow) (laid_code laid.bodies.items laid.entries.items) (c.in_ok-laid.ensures can r.merged) r.cells r.reads r.calls

@@ -3,15 +3,18 @@ use Rattle.std.proofs.lemmas.List.{length-map, map-append}
 use Rattle.flow.specs.Shapes.{block_declared, functions_declared, kinds_of}
 use Rattle.flow.specs.View.{core_of, function_view}
 use Rattle.task_code.specs.View.{body_view}
+use Rattle.task_code.proofs.Equal.{true_and}
+use Rattle.wait_merge.specs.Merged.{block_seen, functions_merged}
 use Rattle.emit.specs.Emits.{roots_of}
 use Rattle.emit.proofs.Scripts.{script-emits}
 use Rattle.emit.proofs.script.lay_script.Goals as goal
 
 pub returns : goal.returns
-returns g c can =
+returns g c can merged =
     let A = g.row.A.Denot in
     let flow = c.args.flow.now in
     let functions = flow.functions.items in
+    let both = true_and (block_seen {A = A} flow.body).merged (functions_merged {A = A} functions) merged in
     let start = c.new-emitter.result in
     let first = c.root.new.self in
     let last = c.each_function.new.self in
@@ -19,5 +22,5 @@ returns g c can =
     start.writer.entries.items first.writer.entries.items last.writer.entries.items start.bodies.items first.bodies.items last.bodies.items
     c.new-found.result.items c.push.new.self.items c.each_function.new.found.items c.append.new.self.items (body_view c.in_ok-main.main) can
     (sym (length-map functions (function_view {A = A}))) (λ few. refl) c.new-emitter.ensures.entries c.new-emitter.ensures.bodies c.new-found.ensures.items
-    c.in_ok-main.ensures (ap (map body_view) c.in_ok-push.ensures.items ∙ map-append body_view c.new-found.result.items (c.in_ok-main.main ∷ [])) c.in_ok-each_function.ensures
+    (c.in_ok-main.ensures both.0) (ap (map body_view) c.in_ok-push.ensures.items ∙ map-append body_view c.new-found.result.items (c.in_ok-main.main ∷ [])) (c.in_ok-each_function.ensures both.1)
     (ap (map body_view) c.in_ok-append.ensures.items ∙ map-append body_view c.each_function.new.found.items last.bodies.items)

@@ -21,8 +21,8 @@ returns-in-Compute g c =
     (computed_added fs s.inputs all s (record { node = cell.node; mark = cell.at }) (expr_view {A = A} c.in-Compute.expr) c.args.entries.now.items c.add_computed.new.entries.items told (adds (subst (FormRoom s.inputs) is room))))
     c.add_computed.ensures
 
-pub returns-in-Read : goal.returns-in-Read
-returns-in-Read g c =
+pub returns-in_ok-need-in-Read : goal.returns-in_ok-need-in-Read
+returns-in_ok-need-in-Read g c =
     let A = g.row.A.Denot in
     let s = c.args.standing in
     let cell = c.args.cell.now in
@@ -30,7 +30,7 @@ returns-in-Read g c =
     on_ok_weaker c.add_read.result
     (λ adds. λ fs all passed room there told.
     subst (λ (f : Form). Added fs s.inputs all s.at s.priority (inner (record { node = cell.node; form = f }) ∷ []) c.args.entries.now.items c.add_read.new.entries.items) (sym is)
-    (read_added fs s.inputs all c.args.passed.now s (record { node = cell.node; mark = cell.at }) c.in-Read.index (name_view c.in-Read.array) (code_view.need_view c.element-need.result) c.args.entries.now.items c.add_read.new.entries.items passed told
+    (read_added fs s.inputs all c.args.passed.now s (record { node = cell.node; mark = cell.at }) c.in-Read.index (name_view c.in-Read.array) (code_view.need_view c.in_ok-need-in-Read.need) c.args.entries.now.items c.add_read.new.entries.items passed told
     (subst (λ (f : Form). inner (record { node = cell.node; form = f }) ∈ all) is there)
-    (λ a h. c.element-need.ensures a h ∙ ap (λ r. element_at r a) (c.named.ensures (subst (FormRoom s.inputs) is room))) adds))
+    (λ a h. c.in_ok-need-in-Read.ensures a h ∙ ap (λ r. element_at r a) (c.named.ensures (subst (FormRoom s.inputs) is room))) adds))
     c.add_read.ensures

@@ -1,4 +1,5 @@
 use Rattle.std.proofs.Common.{◌≡◌, ◌<◌, ◌++◌, length, get_or, ap, ◌∙◌, rules, arith}
+use Rattle.values.specs.declared.key.Key.{Key}
 use Rattle.values.specs.declared.map.Element.{Element}
 use Rattle.flow.specs.View.{name_view}
 use Rattle.meaning_faults.specs.Viewed.{facts_view}
@@ -18,6 +19,7 @@ loop-element-preserved c =
       told = elements_step l t a c.args.elements.now c.loop-element.element-index c.element-item.result
           (facts_view ns c.args.news.now.items) (facts_view ns c.loop-element.news.items) (facts_view ns c.add_element.new.news.items)
           within c.loop-element.invariant.told
-          (c.in_ok-add_element.ensures.told ∙ ap (λ (z : Element). facts_view ns c.loop-element.news.items ++ element_news l t a z.key z.value) item);
+          (c.in_ok-add_element.ensures.told ∙ ap (λ (z : Key). facts_view ns c.loop-element.news.items ++ element_news l t a z c.element-item.result.value) c.as_ref.ensures
+          ∙ ap (λ (z : Element). facts_view ns c.loop-element.news.items ++ element_news l t a z.key z.value) item);
       inside = λ h a. c.in_ok-add_element.ensures.inside h (c.loop-element.invariant.inside h a);
     }

@@ -9,7 +9,7 @@ use Rattle.board_effects.specs.Ended.{code_of, frames_of}
 use Rattle.board_effects.proofs.Blocks.{block_opens, block_passes}
 use Rattle.board_effects.proofs.Values.{ok_map}
 use Rattle.board_effects.proofs.effect.Ended.opens.Goals as goal
-use Rattle.board_effects.proofs.effect.Ended.opens.Goals.{else-is_some-via-then-is_some+else-is_too_deep, else-is_some-via-else-is_some}
+use Rattle.board_effects.proofs.effect.Ended.opens.Goals.{else-is_step-via-then-is_step+else-is_too_deep, else-is_step-via-else-is_step}
 
 same_step : (o : Option Step) → is_some (option_map step_view o) ≡ is_some o
 same_step None = refl
@@ -29,8 +29,8 @@ returns c = λ w x r.
     )))
     (λ e. c.in_ok-push_block.ensures.none e ∙ c.in_ok-list.ensures.items)
     (omega (arith, c.if-self-gt0.false))
-    (elim c.else-is_some.branch [
-      | else-is_some-via-then-is_some+else-is_too_deep y ↦ and_right _ _ (sym (y.is_too_deep.ensures w) ∙ y.if-is_too_deep.false)
-      | else-is_some-via-else-is_some y ↦ and_left _ _ (same_step c.args.way ∙ sym c.is_some.ensures ∙ y.if-is_some.false)
+    (elim c.else-is_step.branch [
+      | else-is_step-via-then-is_step+else-is_too_deep y ↦ and_right _ _ (sym (y.is_too_deep.ensures w) ∙ y.if-is_too_deep.false)
+      | else-is_step-via-else-is_step y ↦ and_left _ _ (same_step c.args.way ∙ sym c.is_step.ensures ∙ y.if-is_step.false)
     ]))
     c.opens_list.ensures

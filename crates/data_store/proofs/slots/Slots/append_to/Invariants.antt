@@ -1,8 +1,8 @@
 use Rattle.std.proofs.Common.{◌≡◌, ◌++◌, map, drop}
-use Rattle.data_store.specs.Arrays.{element_of}
+use Rattle.data_store.specs.Arrays.{number_element}
 use Rattle.data_store.specs.Filled.{filled}
 use Rattle.data_store.proofs.slots.Slots.append_to.Given as goal
 
 abbrev pub invariant-loop-place : goal.invariant-loop-place
 invariant-loop-place l =
-    l.list.items ++ map element_of (filled l.place (drop l.place l.self-inside.slots.items)) ≡ l.initial.list.items ++ map element_of (filled 0 l.self-inside.slots.items)
+    l.list.items ++ map number_element (filled l.place (drop l.place l.self-inside.slots.items)) ≡ l.initial.list.items ++ map number_element (filled 0 l.self-inside.slots.items)

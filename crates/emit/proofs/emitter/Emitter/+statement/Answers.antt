@@ -18,7 +18,9 @@ use Rattle.emit.proofs.Emitting.{ok-both, declare-emits, emits-as, walked-all, w
 use Rattle.emit.proofs.Branching.{branch-emits, branches-emit}
 use Rattle.emit.proofs.Looping.{each-emits, range-emits}
 use Rattle.emit.proofs.Waiting.{wait-emits}
-use Rattle.emit.proofs.Views.{see_declare}
+use Rattle.emit.proofs.Views.{lone_and, see_declare}
+use Rattle.task_code.proofs.Equal.{true_and}
+use Rattle.wait_merge.specs.Merged.{block_seen}
 use Rattle.emit.proofs.emitter.Emitter.+statement.Goals as goal
 
 pub each_statement-loop-one-init : goal.each_statement-loop-one-init
@@ -43,13 +45,13 @@ when-returns g t c =
     let s = c.args.statement.standing in
     let o = outer_view {A = A} c.args.condition.now in
     on_ok_weaker c.add_body.result
-    (λ made. λ priority.
+    (λ made. λ merged. λ priority.
     branch-emits (map (kinds_of_function {A = A}) c.args.functions.now.items) (roots_of c.args.functions.now.items) s.inputs s.at c.args.statement.node o (block_view {A = A} c.args.then.now) (block_declared {A = A} c.args.then.now)
     c.args.self.now.writer.entries.items c.condition_parts.new.self.entries.items c.block.new.self.writer.entries.items c.add_branch.new.self.entries.items
     c.args.self.now.bodies.items c.block.new.self.bodies.items c.add_body.new.bodies.items
     c.args.self.now.writer.filling c.condition_parts.new.self.filling c.add_branch.new.self.filling c.empty.result c.in_ok-inside.inside c.next_body-body.result c.in_ok-number.number
     (parts-zero (map (kinds_of_function {A = A}) c.args.functions.now.items) s (outer_parts (o ∷ [])) c.args.self.now.writer.entries.items c.condition_parts.new.self.entries.items c.args.self.now.writer.filling c.condition_parts.new.self.filling (OuterRoom s.inputs o) priority c.in_ok-condition_parts.ensures.laid)
-    c.in_ok-condition_parts.ensures.few c.empty.ensures.entries c.empty.ensures.makes c.in_ok-inside.ensures.laid c.next_body-body.ensures (numbered-in c.in_ok-inside.ensures.around c.in_ok-number.ensures.number)
+    c.in_ok-condition_parts.ensures.few c.empty.ensures.entries c.empty.ensures.makes (c.in_ok-inside.ensures.laid merged) c.next_body-body.ensures (numbered-in c.in_ok-inside.ensures.around c.in_ok-number.ensures.number)
     (λ room. c.in_ok-number.ensures.one (block_view {A = A} c.args.then.now) room priority refl) made)
     c.add_body.ensures
 
@@ -62,14 +64,15 @@ choose-returns g t c =
     let o = outer_view {A = A} c.args.condition.now in
     let b = block_view {A = A} c.args.then.now in
     let d = block_view {A = A} c.args.other.now in
+    let both = true_and (block_seen {A = A} c.args.then.now).merged (block_seen {A = A} c.args.other.now).merged in
     on_ok_weaker c.add_body-2.result
-    (λ made. λ priority.
+    (λ made. λ merged. λ priority.
     branches-emit fs (roots_of c.args.functions.now.items) s.inputs s.at n o b d (block_declared {A = A} c.args.then.now) (block_declared {A = A} c.args.other.now)
     c.args.self.now.writer.entries.items c.condition_parts.new.self.entries.items c.block.new.self.writer.entries.items c.block-2.new.self.writer.entries.items c.add_branch.new.self.entries.items
     c.args.self.now.bodies.items c.block.new.self.bodies.items c.block-2.new.self.bodies.items c.add_body.new.bodies.items c.add_body-2.new.bodies.items
     c.args.self.now.writer.filling c.condition_parts.new.self.filling c.add_branch.new.self.filling c.empty.result c.in_ok-inside.inside c.empty-2.result c.in_ok-outside.outside c.next_body-body.result c.next.result c.in_ok-number.number
     (parts-zero fs s (outer_parts (o ∷ [])) c.args.self.now.writer.entries.items c.condition_parts.new.self.entries.items c.args.self.now.writer.filling c.condition_parts.new.self.filling (OuterRoom s.inputs o) priority c.in_ok-condition_parts.ensures.laid)
-    c.in_ok-condition_parts.ensures.few c.empty.ensures.entries c.empty.ensures.makes c.in_ok-inside.ensures.laid c.empty-2.ensures.entries c.empty-2.ensures.makes c.in_ok-outside.ensures.laid
+    c.in_ok-condition_parts.ensures.few c.empty.ensures.entries c.empty.ensures.makes (c.in_ok-inside.ensures.laid (both merged).0) c.empty-2.ensures.entries c.empty-2.ensures.makes (c.in_ok-outside.ensures.laid (both merged).1)
     c.next_body-body.ensures c.next.ensures (numbered-in (c.in_ok-outside.ensures.around ∙ c.in_ok-inside.ensures.around) c.in_ok-number.ensures.number)
     (λ room. c.in_ok-number.ensures.two b d c.next.result room priority refl) c.in_ok-add_body.ensures made)
     c.add_body-2.ensures
@@ -88,7 +91,7 @@ range-returns g t c =
     let y = option_map (λ (v : Variable A). v.node) c.args.turn.now in
     let b = block_view {A = A} c.args.body.now in
     on_ok_weaker c.add_body.result
-    (λ made. λ priority.
+    (λ made. λ merged. λ priority.
     let parts = parts-zero fs s (outer_parts (lo ∷ hi ∷ option_to_list st)) c.args.self.now.writer.entries.items c.range_parts.new.self.entries.items c.args.self.now.writer.filling c.range_parts.new.self.filling (OuterRoom s.inputs lo × OuterRoom s.inputs hi × StepRoom s.inputs st) priority
     (λ bodies room few. c.in_ok-range_parts.ensures.laid bodies room.0 room.1 room.2 few) in
     range-emits fs (roots_of c.args.functions.now.items) s.inputs s.at n lo hi st x y b (block_declared {A = A} c.args.body.now)
@@ -96,7 +99,7 @@ range-returns g t c =
     c.args.self.now.bodies.items c.block.new.self.bodies.items c.add_body.new.bodies.items
     c.args.self.now.writer.filling c.range_parts.new.self.filling c.add_range.new.self.filling c.in_ok-variables.variables c.in_ok-inside.inside c.next_body.result c.in_ok-number.number (loop_view c.loop_of-turns.result)
     (λ bodies low high step few. parts bodies (low, high, step) few)
-    c.in_ok-range_parts.ensures.few c.in_ok-variables.ensures.entries c.in_ok-variables.ensures.makes c.in_ok-inside.ensures.laid c.next_body.ensures c.loop_of-turns.ensures (numbered-in c.in_ok-inside.ensures.around c.in_ok-number.ensures.number)
+    c.in_ok-range_parts.ensures.few c.in_ok-variables.ensures.entries c.in_ok-variables.ensures.makes (c.in_ok-inside.ensures.laid merged) c.next_body.ensures c.loop_of-turns.ensures (numbered-in c.in_ok-inside.ensures.around c.in_ok-number.ensures.number)
     (λ low high step. c.in_ok-number.ensures.entry x y b low high step priority) made)
     c.add_body.ensures
 
@@ -110,12 +113,12 @@ each-returns g t c =
     let y = option_map (λ (v : Variable A). v.node) c.args.key.now in
     let b = block_view {A = A} c.args.body.now in
     on_ok_weaker c.add_body.result
-    (λ made. λ priority.
+    (λ made. λ merged. λ priority.
     each-emits fs (roots_of c.args.functions.now.items) s.inputs s.at n (name_view c.args.array) x y b (block_declared {A = A} c.args.body.now)
     c.args.self.now.writer.entries.items c.block.new.self.writer.entries.items c.add_each.new.self.entries.items
     c.args.self.now.bodies.items c.block.new.self.bodies.items c.add_body.new.bodies.items
     c.args.self.now.writer.filling c.add_each.new.self.filling c.in_ok-variables.variables c.in_ok-inside.inside c.next_body.result c.in_ok-number.number (loop_view c.loop_of-turns.result)
-    c.in_ok-variables.ensures.entries c.in_ok-variables.ensures.makes c.in_ok-inside.ensures.laid c.next_body.ensures c.loop_of-turns.ensures (numbered-in c.in_ok-inside.ensures.around c.in_ok-number.ensures.number)
+    c.in_ok-variables.ensures.entries c.in_ok-variables.ensures.makes (c.in_ok-inside.ensures.laid merged) c.next_body.ensures c.loop_of-turns.ensures (numbered-in c.in_ok-inside.ensures.around c.in_ok-number.ensures.number)
     (λ room. c.in_ok-number.ensures.entry x y b room priority) made)
     c.add_body.ensures
 
@@ -126,13 +129,14 @@ wait-returns g t c =
     let s = c.args.statement.standing in
     let n = c.args.statement.node in
     let b = block_view {A = A} c.args.content.now in
+    let both = lone_and {A = A} c.args.content.now in
     on_ok_weaker c.add_body.result
-    (λ made. λ priority.
+    (λ made. λ merged. λ priority.
     wait-emits fs (roots_of c.args.functions.now.items) s.inputs s.at n (map awaited_view c.args.names.now.items) (waits_around c.args.inner.now.items b) b (block_declared {A = A} c.args.content.now)
     c.args.self.now.writer.entries.items c.block.new.self.writer.entries.items c.add_wait.new.self.entries.items
     c.args.self.now.bodies.items c.block.new.self.bodies.items c.add_body.new.bodies.items
     c.args.self.now.writer.filling c.add_wait.new.self.filling c.empty.result c.in_ok-inside.inside c.next_body-body.result c.in_ok-number.number
-    c.empty.ensures.entries c.empty.ensures.makes c.in_ok-inside.ensures.laid c.next_body-body.ensures (numbered-in c.in_ok-inside.ensures.around c.in_ok-number.ensures.number)
+    (both merged).0 c.empty.ensures.entries c.empty.ensures.makes (c.in_ok-inside.ensures.laid (both merged).1) c.next_body-body.ensures (numbered-in c.in_ok-inside.ensures.around c.in_ok-number.ensures.number)
     (λ room. c.in_ok-number.ensures.entry b room priority) made)
     c.add_body.ensures
 
@@ -145,7 +149,7 @@ action-returns-in-Declare g t c =
     let v = c.in-Declare.variable in
     let seen = see_declare v in
     ok-both c.declare.result _ _ _
-    (λ entries. λ makes. λ priority.
+    (λ entries. λ makes. λ merged. λ priority.
     emits-as fs (roots_of c.args.functions.now.items) s.inputs _ _ _ _ _ _ (ap (λ x. core.stmt s.at n (action_view {A = A} x)) c.in-Declare.is ∙ ap (core.stmt s.at n) seen.view) (ap (action_declared {A = A}) c.in-Declare.is ∙ seen.tells)
     (declare-emits fs (roots_of c.args.functions.now.items) s.inputs s.at n v.node (is_array v.shape) c.args.self.now.writer.entries.items c.args.self.now.bodies.items c.args.self.now.writer.filling c.declare.new.filling entries makes))
     c.declare.ensures.entries c.declare.ensures.makes

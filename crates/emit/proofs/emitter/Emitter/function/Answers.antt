@@ -13,6 +13,6 @@ returns g c =
     let A = g.row.A.Denot in
     let functions = c.args.functions.now.items in
     let found = c.args.found.now.items in
-    function-emits (map (kinds_of_function {A = A}) functions) (roots_of functions) (function_view {A = A} c.args.function.now) (block_declared {A = A} c.args.function.now.body) c.len-inputs.result
+    λ merged. function-emits (map (kinds_of_function {A = A}) functions) (roots_of functions) (function_view {A = A} c.args.function.now) (block_declared {A = A} c.args.function.now.body) c.len-inputs.result
     (laying_of c.args.self.now) (laying_of c.root.new.self) found c.push.new.self.items (body_view c.in_ok-made.made)
-    (grind (arith, common_steps)) c.in_ok-made.ensures (ap (map body_view) c.in_ok-push.ensures.items ∙ map-append body_view found (c.in_ok-made.made ∷ []))
+    (grind (arith, common_steps)) (c.in_ok-made.ensures merged) (ap (map body_view) c.in_ok-push.ensures.items ∙ map-append body_view found (c.in_ok-made.made ∷ []))

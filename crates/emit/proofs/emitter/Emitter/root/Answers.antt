@@ -12,6 +12,6 @@ returns g c =
     let functions = c.args.functions.now.items in
     let old = c.args.self.now in
     let new = c.block.new.self in
-    body-emits (map (kinds_of_function {A = A}) functions) (roots_of functions) c.args.inputs (block_view {A = A} c.args.block.now) (block_declared {A = A} c.args.block.now) (opener_view c.args.opener)
+    λ merged. body-emits (map (kinds_of_function {A = A}) functions) (roots_of functions) c.args.inputs (block_view {A = A} c.args.block.now) (block_declared {A = A} c.args.block.now) (opener_view c.args.opener)
     old.writer.entries.items new.writer.entries.items old.bodies.items new.bodies.items c.empty-nothing.result c.in_ok-filling.filling (body_view c.body.result)
-    c.empty-nothing.ensures.makes c.empty-nothing.ensures.entries c.in_ok-filling.ensures.laid c.body.ensures
+    c.empty-nothing.ensures.makes c.empty-nothing.ensures.entries (c.in_ok-filling.ensures.laid merged) c.body.ensures

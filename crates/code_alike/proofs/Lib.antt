@@ -1,0 +1,5 @@
+pub mod Parts
+pub mod Blocks
+pub mod Codes
+pub mod Trees
+pub mod Runs
