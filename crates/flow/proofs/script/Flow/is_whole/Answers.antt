@@ -1,7 +1,7 @@
 use Rattle.std.proofs.Common.{sym, ◌∙◌}
 use Rattle.flow.specs.View.{core_of}
 use Rattle.flow.proofs.Decided.{test_whole, whole_test}
-use Rattle.flow.proofs.whole.Flow.is_whole.Goals as goal
+use Rattle.flow.proofs.script.Flow.is_whole.Goals as goal
 
 pub returns : goal.returns
 returns g c =
