@@ -2,7 +2,7 @@
 
 use crate::advice::Advice;
 use crate::around::Around;
-use crate::kinds::{begins_statement, closes, ends_expression, is_plain};
+use crate::kinds::{begins_statement, closes, ends_expression, is_plain, is_type};
 use lexer::token::{Span, TokenKind};
 
 /// Where a bracket is not closed, or was not opened.
@@ -105,6 +105,8 @@ fn semicolon(around: &Around<'_>) -> Option<Advice> {
         )
     } else if around.is_on_new_line || is_end {
         Advice::of("a ; is missing", behind)
+    } else if is_type(around.first.kind) && around.second.span == around.last.span {
+        Advice::of("a = is missing (a name is one word, as my_name)", behind)
     } else if around.found.kind == TokenKind::Text && around.last.kind == TokenKind::Text {
         Advice::here("strings are joined by +: \"a\" + \"b\"")
     } else if is_plain(around.found.kind) {
@@ -118,6 +120,9 @@ fn semicolon(around: &Around<'_>) -> Option<Advice> {
 fn between(around: &Around<'_>) -> Option<Advice> {
     if around.found.kind == TokenKind::Text && around.last.kind == TokenKind::Text {
         return Advice::here("strings are joined by +: \"a\" + \"b\"");
+    }
+    if around.opener_before.kind == TokenKind::In {
+        return Advice::here("a range is [0:9]");
     }
     if is_plain(around.found.kind) {
         return Advice::here("a , or an operator is missing before this");
