@@ -53,7 +53,9 @@ fn assign(around: &Around<'_>) -> Option<Advice> {
     if around.first.kind == TokenKind::Foreach {
         return Advice::here("write foreach i in [0:9] { .. }");
     }
-    if around.second.kind == TokenKind::Assign || around.third.kind == TokenKind::Assign {
+    let is_second = around.second.kind == TokenKind::Assign
+        || around.third.kind == TokenKind::Assign;
+    if is_second && !is_type(around.last.kind) {
         return Advice::here(match around.first.kind {
             TokenKind::Boolean => COMPARED,
             _ => "one variable an assignment: y = 3; x = y;",
@@ -127,7 +129,7 @@ fn comma(around: &Around<'_>) -> Option<Advice> {
 fn listed(around: &Around<'_>) -> Option<Advice> {
     let is_in_number = around.last.kind == TokenKind::Number
         && around.last.span.to == around.found.span.from
-        && goes_on(around, TokenKind::Number);
+        && (goes_on(around, TokenKind::Number) || around.next.kind == TokenKind::End);
     if is_in_number {
         return Advice::here("a number has digits alone: 1000 for 1,000");
     }
@@ -213,7 +215,7 @@ fn changed(around: &Around<'_>) -> Option<Advice> {
     let joins = is_arithmetic(found) || found == TokenKind::And || found == TokenKind::Or;
     if joins && goes_on(around, TokenKind::Assign) {
         return Advice::here(
-            "a variable has one value: int y = x + 3; what goes on from turn to turn is an array: s[i] = s[i - 1] + 3",
+            "a variable has one value: int y = x + 3; in a loop each turn writes an element of its own, A[i] = 3;, and sums go on: s[i] = s[i - 1] + 3",
         );
     }
     let twice = (found == TokenKind::Plus || found == TokenKind::Minus) && goes_on(around, found);
