@@ -2,7 +2,7 @@
 
 use crate::advice::Advice;
 use crate::around::Around;
-use crate::kinds::{begins_value, is_type, wants_value};
+use crate::kinds::{begins_value, is_plain, is_type, wants_value};
 use lexer::token::TokenKind;
 
 const NAMED: &str = "give the array a name first: int A[] = [1, 2]; and then f(A)";
@@ -26,6 +26,10 @@ fn square(around: &Around<'_>) -> Option<Advice> {
     match around.last.kind {
         TokenKind::Int | TokenKind::String | TokenKind::Boolean => {
             Advice::here("the brackets stand behind the name: int A[];")
+        }
+        TokenKind::CloseSquare
+            if around.before_last.kind == TokenKind::OpenSquare && is_plain(around.next.kind) => {
+            Advice::here("a = stands before the values: int A[] = [1, 2];")
         }
         TokenKind::CloseSquare => Advice::here("arrays have one index: A[i * n + j]"),
         TokenKind::CloseRound => {
@@ -54,11 +58,17 @@ fn curly(around: &Around<'_>) -> Option<Advice> {
         TokenKind::CloseSquare if is_type(around.first.kind) => {
             Advice::here(listed(around.next.kind))
         }
-        TokenKind::Name => Advice::here(
+        TokenKind::Name if is_alone(around) => Advice::here(
             "an element is A[0], and a call f(x); a block stands behind if, foreach or wait, or behind the head of a function",
         ),
         _ => None,
     }
+}
+
+/// Whether a bracket stands in no other one, or right behind a name.
+fn is_alone(around: &Around<'_>) -> bool {
+    around.last.span.to == around.found.span.from
+        || matches!(around.opener.kind, TokenKind::OpenCurly | TokenKind::End)
 }
 
 /// Where values stand in curly brackets, of which the first is of this kind.
@@ -81,6 +91,11 @@ fn round(around: &Around<'_>) -> Option<Advice> {
         return Advice::here(
             "foreach goes over an array by its name: int A[] = f(3); foreach v in A { .. }",
         );
+    }
+    let is_element = around.last.kind == TokenKind::CloseSquare
+        && around.closed.span == around.first.span;
+    if around.is_on_new_line || is_element {
+        return None;
     }
     match around.last.kind {
         kind if is_type(kind) => Advice::here(
@@ -120,7 +135,11 @@ fn end_of_square(around: &Around<'_>) -> Option<Advice> {
 
 /// Where something stands in the brackets of a declaration, or a type in those of an expression.
 fn length(around: &Around<'_>) -> Option<Advice> {
-    if around.opener.kind != TokenKind::OpenSquare || around.opener.span != around.last.span {
+    let is_length = is_plain(around.found.kind) || is_type(around.found.kind);
+    if !is_length
+        || around.opener.kind != TokenKind::OpenSquare
+        || around.opener.span != around.last.span
+    {
         return None;
     }
     let is_declared = is_type(around.first.kind) && around.opener_before.span == around.second.span;

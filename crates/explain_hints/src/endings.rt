@@ -2,7 +2,9 @@
 
 use crate::advice::Advice;
 use crate::around::Around;
-use crate::kinds::{begins_value, is_arithmetic, is_form, is_plain, is_type, wants_value};
+use crate::kinds::{
+    begins_value, ends_expression, is_arithmetic, is_form, is_plain, is_type, wants_value,
+};
 use lexer::token::TokenKind;
 
 /// Where a statement is empty, or ends before its value, or where an `else` has no `if`.
@@ -29,7 +31,12 @@ pub fn ending(around: &Around<'_>) -> Option<Advice> {
             "a statement has no value: assign the variable in it, in each of its branches",
         );
     }
-    if found == TokenKind::If && is_plain(around.last.kind) && !around.is_on_new_line {
+    let is_declared = is_type(around.first.kind) && around.second.span == around.last.span;
+    if found == TokenKind::If
+        && is_plain(around.last.kind)
+        && !is_declared
+        && !around.is_on_new_line
+    {
         return Advice::here(
             "an if stands in front, with a block: if (x > 0) { y = 1; } else { y = 2; }",
         );
@@ -44,10 +51,15 @@ pub fn ending(around: &Around<'_>) -> Option<Advice> {
 
 /// Whether something else stands before a call than its priority.
 fn is_priority(around: &Around<'_>) -> bool {
-    let is_behind = around.first.kind == TokenKind::At
+    let is_there = around.second.span == around.last.span
+        || around.third.span == around.last.span
+        || around.last.kind != TokenKind::CloseRound && !is_plain(around.found.kind);
+    let is_first = around.first.kind == TokenKind::At
         && around.opener.kind != TokenKind::OpenRound
-        && around.last.kind != TokenKind::CloseRound;
-    is_behind || around.found.kind == TokenKind::At || around.last.kind == TokenKind::At
+        && is_there;
+    is_first
+        || around.found.kind == TokenKind::At && !ends_expression(around.last.kind)
+        || around.last.kind == TokenKind::At
 }
 
 /// Whether a statement begins as a value, and ends or goes on as one.
@@ -84,8 +96,8 @@ fn empty(around: &Around<'_>) -> Option<Advice> {
 
 /// Where a call has no brackets, or types stand in them or in a value.
 fn called(around: &Around<'_>) -> Option<Advice> {
-    let is_behind_name = around.first.kind == TokenKind::Name
-        && around.first.span == around.last.span;
+    let is_behind_name = around.last.kind == TokenKind::Name
+        && (around.first.span == around.last.span || around.first.kind == TokenKind::At);
     if is_behind_name && !around.is_on_new_line && is_plain(around.found.kind) {
         return Advice::here(
             "what a function is called with stands in brackets, f(x);, and a variable is assigned by =: x = 3;",

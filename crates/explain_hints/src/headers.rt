@@ -2,7 +2,7 @@
 
 use crate::advice::Advice;
 use crate::around::Around;
-use crate::kinds::{is_type, is_word};
+use crate::kinds::{begins_statement, ends_expression, is_arithmetic, is_plain, is_type, is_word};
 use lexer::token::TokenKind;
 
 const HEAD: &str = "a function begins with its outputs: (int r) f(int n) { r = n; }";
@@ -61,7 +61,9 @@ fn is_source_end(around: &Around<'_>) -> bool {
     around.last.kind == TokenKind::CloseSquare && around.opener.kind != TokenKind::OpenRound
         || around.last.kind == TokenKind::Name
             && around.before_last.kind == TokenKind::In
-            && (around.is_on_new_line || around.found.kind == TokenKind::Name)
+            && (around.is_on_new_line
+                || around.found.kind == TokenKind::Name
+                || begins_statement(around.found.kind))
 }
 
 /// Where what stands behind `if`, `wait` or `foreach` has another form.
@@ -99,14 +101,24 @@ fn source(around: &Around<'_>) -> Option<Advice> {
 
 /// Where `wait` has something else than names in its brackets.
 fn waited(around: &Around<'_>) -> Option<Advice> {
-    if around.opener.kind == TokenKind::OpenRound && around.opener_before.kind == TokenKind::Wait {
+    if around.opener.kind == TokenKind::OpenRound
+        && around.opener_before.kind == TokenKind::Wait
+        && around.found.kind != TokenKind::OpenCurly
+    {
         return Advice::here("wait takes variables by their names: int x = A[0]; wait (x) { .. }");
     }
-    if around.first.kind == TokenKind::Foreach
-        && around.second.span == around.last.span
-        && around.found.kind != TokenKind::In
-    {
-        return Advice::here("write foreach i in [0:9] { .. }");
+    if around.first.kind != TokenKind::Foreach {
+        return None;
+    }
+    let is_key = around.found.kind != TokenKind::Comma
+        && around.third.kind == TokenKind::Comma
+        && around.third.span == around.before_last.span;
+    if (is_key || around.second.span == around.last.span) && around.found.kind != TokenKind::In {
+        return Advice::here("write foreach i in [0:9] { .. }, or foreach v, k in A { .. }");
+    }
+    let is_source = around.before_last.kind == TokenKind::In && around.last.kind == TokenKind::Name;
+    if is_source && (is_arithmetic(around.found.kind) || around.found.kind == TokenKind::Colon) {
+        return Advice::here("foreach goes over a range, as [0:9], or over an array by its name");
     }
     None
 }
@@ -117,7 +129,7 @@ pub fn word_as_name(around: &Around<'_>) -> Option<Advice> {
         return Advice::here("this is a word of the language: take another name");
     }
     let is_behind_type = is_type(around.first.kind) && around.first.span != around.last.span;
-    if is_behind_type && is_word(around.last.kind) {
+    if is_behind_type && is_word(around.last.kind) && !is_plain(around.last.kind) {
         return Advice::of(
             "take another name for the word of the language",
             around.last.span,
@@ -132,6 +144,7 @@ pub fn function(around: &Around<'_>) -> Option<Advice> {
     if found == TokenKind::OpenRound
         && is_type(around.first.kind)
         && around.second.span == around.last.span
+        && !around.is_on_new_line
     {
         let is_head = is_type(around.next.kind) || around.next.kind == TokenKind::CloseRound;
         return Advice::here(if is_head {
@@ -192,7 +205,9 @@ fn headed(around: &Around<'_>) -> Option<Advice> {
         && around.last.kind == TokenKind::CloseRound
         && !around.is_on_new_line
     {
-        return Advice::here("each output has its type: (int r) f(int n) { r = n; }");
+        return Advice::here(
+            "each output has its type, (int r) f(int n) { r = n; }, and a call's are taken by a =: (x, y) = f(1);",
+        );
     }
     None
 }
@@ -200,7 +215,7 @@ fn headed(around: &Around<'_>) -> Option<Advice> {
 /// Where something is wrong among the outputs or the inputs of a function.
 fn listed(around: &Around<'_>) -> Option<Advice> {
     match around.found.kind {
-        TokenKind::Name if around.last.kind == TokenKind::Name => {
+        kind if ends_expression(around.last.kind) && (kind == TokenKind::Name || is_type(kind)) => {
             Advice::here("a , or a ) is missing before this")
         }
         TokenKind::Name => Advice::here(

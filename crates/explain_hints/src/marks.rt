@@ -15,6 +15,8 @@ const JOINED: &str = "strings are joined by +: \"a\" + \"b\"";
 
 const UNEQUAL: &str = "unequal is !=";
 
+const UNCLOSED: &str = "a ) is missing for the (";
+
 const POWERS: &str = "there are no powers: x * x, or a function that multiplies";
 
 /// Where a sign is none of this language, or stands where another one is wanted.
@@ -37,9 +39,13 @@ fn assign(around: &Around<'_>) -> Option<Advice> {
         return Some(advice);
     }
     if around.opener.kind == TokenKind::OpenSquare
-        && around.opener_before.span == around.first.span
+        && (around.opener_before.span == around.first.span
+            || around.opener.span == around.last.span)
     {
         return None;
+    }
+    if around.opener.kind == TokenKind::OpenRound && around.opener.span == around.first.span {
+        return Advice::of(UNCLOSED, around.opener.span);
     }
     if around.last.kind == TokenKind::Equal
         || around.opener.kind == TokenKind::OpenSquare
@@ -55,7 +61,7 @@ fn assign(around: &Around<'_>) -> Option<Advice> {
     }
     let is_second = around.second.kind == TokenKind::Assign
         || around.third.kind == TokenKind::Assign;
-    if is_second && !is_type(around.last.kind) {
+    if is_second && !is_type(around.last.kind) && around.first.kind != TokenKind::At {
         return Advice::here(match around.first.kind {
             TokenKind::Boolean => COMPARED,
             _ => "one variable an assignment: y = 3; x = y;",
@@ -104,6 +110,9 @@ fn behind_brackets(around: &Around<'_>) -> Option<Advice> {
 fn comma(around: &Around<'_>) -> Option<Advice> {
     match around.last.kind {
         TokenKind::Comma => return Advice::here("there is one , too many"),
+        TokenKind::OpenSquare if is_type(around.next.kind) => {
+            return Advice::of("a ] is missing for the [", around.opener.span);
+        }
         TokenKind::OpenRound | TokenKind::OpenSquare => {
             return Advice::here("something is missing before the ,");
         }
@@ -120,6 +129,9 @@ fn comma(around: &Around<'_>) -> Option<Advice> {
             Advice::here("conditions are joined by && and ||")
         }
         (TokenKind::OpenRound, TokenKind::Assign) => Advice::here(SQUARE),
+        (TokenKind::OpenRound, kind) if begins_value(kind) => {
+            Advice::of(UNCLOSED, around.opener.span)
+        }
         (TokenKind::OpenRound | TokenKind::OpenSquare, _) => None,
         _ => listed(around),
     }
@@ -147,7 +159,7 @@ fn listed(around: &Around<'_>) -> Option<Advice> {
     if around.first.span == around.last.span && around.first.kind == TokenKind::Name {
         return Advice::here("several outputs are taken in brackets: (x, y) = f(1);");
     }
-    Advice::here("a statement ends with a ;, and a , stands in brackets alone")
+    Advice::here("a , stands in brackets alone: a statement ends with a ;, and a ( may be missing")
 }
 
 fn colon(around: &Around<'_>) -> Option<Advice> {

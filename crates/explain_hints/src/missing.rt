@@ -105,8 +105,15 @@ fn semicolon(around: &Around<'_>) -> Option<Advice> {
         )
     } else if around.is_on_new_line || is_end {
         Advice::of("a ; is missing", behind)
-    } else if is_type(around.first.kind) && around.second.span == around.last.span {
-        Advice::of("a = is missing (a name is one word, as my_name)", behind)
+    } else if is_target(around) {
+        Advice::of(
+            match around.found.kind {
+                TokenKind::Name if is_type(around.first.kind) =>
+                    "a = is missing (a name is one word, as my_name)",
+                _ => "a = is missing",
+            },
+            behind,
+        )
     } else if around.found.kind == TokenKind::Text && around.last.kind == TokenKind::Text {
         Advice::here("strings are joined by +: \"a\" + \"b\"")
     } else if is_plain(around.found.kind) {
@@ -114,6 +121,15 @@ fn semicolon(around: &Around<'_>) -> Option<Advice> {
     } else {
         None
     }
+}
+
+/// Whether a variable that is declared, or an element, stands before the token.
+fn is_target(around: &Around<'_>) -> bool {
+    let is_declared = is_type(around.first.kind) && around.second.span == around.last.span;
+    let is_element = around.first.kind == TokenKind::Name
+        && around.last.kind == TokenKind::CloseSquare
+        && around.closed.span == around.first.span;
+    is_declared || is_element
 }
 
 /// Where a `,` or an operator is missing in brackets.

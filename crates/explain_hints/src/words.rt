@@ -903,7 +903,7 @@ pub fn two_names(around: &Around<'_>) -> Option<Advice> {
             "a function begins with its outputs, (int r) f(int n) { r = n; }, and is called by its name alone: f(3);"
         }
         _ => {
-            "no statement begins with two names: a declaration begins with int, string or boolean, and what a function is called with stands in brackets"
+            "no statement begins with two names: a declaration begins with int, string or boolean, a value stands behind a =, and a call has brackets"
         }
     })
 }
