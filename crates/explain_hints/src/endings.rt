@@ -3,7 +3,7 @@
 use crate::advice::Advice;
 use crate::around::Around;
 use crate::kinds::{
-    begins_value, ends_expression, is_arithmetic, is_form, is_plain, is_type, wants_value,
+    begins_value, ends_expression, is_arithmetic, is_form, is_plain, is_type, opens, wants_value,
 };
 use lexer::token::TokenKind;
 
@@ -135,6 +135,11 @@ pub fn value(around: &Around<'_>) -> Option<Advice> {
     }
     if is_type(around.last.kind) {
         return Advice::of("a name is missing behind the type", around.last.span);
+    }
+    if wants_value(around.found.kind)
+        && (around.found.span == around.first.span || opens(around.last.kind))
+    {
+        return Advice::here("something is missing before this sign");
     }
     None
 }

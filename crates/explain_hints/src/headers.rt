@@ -62,7 +62,7 @@ fn is_source_end(around: &Around<'_>) -> bool {
         || around.last.kind == TokenKind::Name
             && around.before_last.kind == TokenKind::In
             && (around.is_on_new_line
-                || around.found.kind == TokenKind::Name
+                || matches!(around.found.kind, TokenKind::Name | TokenKind::Semicolon)
                 || begins_statement(around.found.kind))
 }
 
