@@ -135,13 +135,11 @@ fn base_of_name<A: Allocator>(
         name.span.from,
     );
     match declared {
-        Some(
-            Mention {
-                sort: Some(sort),
-                ..
-            },
-        ) => sort.base,
-        _ => Base::Int,
+        Some(mention) => match mention.sort {
+            Some(sort) => sort.base,
+            None => Base::Int,
+        },
+        None => Base::Int,
     }
 }
 

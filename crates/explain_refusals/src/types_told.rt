@@ -107,24 +107,20 @@ fn hint_of_mismatch<A: Allocator>(
     mismatch: Mismatch,
     at: Span,
 ) -> Result<Option<Hint>, AllocError> {
+    let is_printed = is_printed(refused.alloc, refused.text, at.from)?;
     let words = match mismatch.wanted {
         Wish::Key(array, name) => return hint_of_key(refused, mismatch.found, array, name),
         Wish::Element => "an array alone has elements: int A[]; A[0] = 1;",
         Wish::Loop => "foreach goes over a range, as [1:n], or over an array by its name",
         Wish::Size => "size counts the elements of an array; a string has no length",
         Wish::Compared => "compare their elements, one by one: A[i] == B[i]",
-        Wish::Literal(
-            Sort {
-                shape: Shape::Scalar,
-                ..
-            },
-        ) => "brackets stand behind the name of an array: int A[] = [1, 2];",
+        Wish::Literal(wanted) if wanted.shape == Shape::Scalar => {
+            "brackets stand behind the name of an array: int A[] = [1, 2];"
+        }
         Wish::Literal(_) => {
             "the values of a literal have the keys 0, 1, 2: write the elements, each under its text: A[\"a\"] = 1;"
         }
-        Wish::Sort(wanted)
-            if are_printed(mismatch.found, wanted)
-                && is_printed(refused.alloc, refused.text, at.from)? => {
+        Wish::Sort(wanted) if is_printed && are_printed(mismatch.found, wanted) => {
             "%i prints a number, and %s a string"
         }
         Wish::Sort(wanted) => hint_of_sorts(mismatch.found, wanted),
