@@ -13,11 +13,22 @@ pub fn say_name<'a, A: Allocator>(
     function: Option<usize>,
     name: Name,
 ) -> Result<(), AllocError> {
-    if let Some(bytes) = index.name(function, name) {
+    say_owned(index, text, out, function, name.what)
+}
+
+/// The same of what a name is in the block that owns it.
+pub fn say_owned<'a, A: Allocator>(
+    index: &Index<'a, A>,
+    text: &[u8],
+    out: &mut Vec<u8>,
+    function: Option<usize>,
+    owned: Owned,
+) -> Result<(), AllocError> {
+    if let Some(bytes) = index.owned_name(function, owned) {
         out.extend_from_slice(bytes)?;
         return Ok(());
     }
-    match name.what {
+    match owned {
         Owned::Local(node) => match index.giving_at(node) {
             Some(at) => say_call(index, text, out, at),
             None => say(out, "a value"),
