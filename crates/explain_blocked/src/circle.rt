@@ -69,7 +69,7 @@ fn say_links<'l, 't, 'a, A: Allocator>(
             continue;
         }
         if told >= MOST {
-            say_more(list, out, &circle[i..end])?;
+            say_more(list, out, circle, i, end)?;
             break;
         }
         say(out, " waits for ")?;
@@ -81,15 +81,17 @@ fn say_links<'l, 't, 'a, A: Allocator>(
     say_link(list, out, circle, end)
 }
 
-/// Adds how many variables there are besides, of which the last waits for the first.
+/// Adds how many variables there are from one place of the circle to another, of which the last waits for the first of all.
 fn say_more<'l, 't, 'a, A: Allocator>(
     list: &List<'l, 't, 'a, A>,
     out: &mut Vec<u8>,
-    rest: &[usize],
+    circle: &[usize],
+    from: usize,
+    to: usize,
 ) -> Result<(), AllocError> {
     let mut count: usize = 0;
-    for node in rest {
-        if !list.waits.is_statement(*node) {
+    for i in from..to {
+        if !list.waits.is_statement(node_at(circle, i)) {
             count = count.saturating_add(1);
         }
     }

@@ -123,7 +123,10 @@ impl Items {
     ) -> Result<(), AllocError> {
         match &entry.act {
             Act::Cell(_) => self.store(Place::Of(item.block, entry.node), scalar),
-            Act::Set(name, _) => self.store(self.place(code, item.block, *name), scalar),
+            Act::Set(name, _) => {
+                let place = self.place(code, item.block, *name);
+                self.store(place, scalar)
+            }
             _ => Ok(()),
         }
     }

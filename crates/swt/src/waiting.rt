@@ -49,7 +49,8 @@ fn say_item_waits(
         Some(item) => item.block,
         None => 0,
     };
-    for need in &view.items.missing(view.code, number)? {
+    let missing = view.items.missing(view.code, number)?;
+    for need in &missing {
         match inner_item(view, block, *need) {
             Some(inner) if waits(view, inner)? => queue.push(inner)?,
             Some(inner) => {
