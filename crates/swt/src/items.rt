@@ -303,9 +303,13 @@ impl Items {
             return Given::Nothing;
         };
         match call_in(code, found.call) {
-            Some(Act::Call {
-                inputs, outputs, ..
-            }) => given_among(found.outer, inputs.as_slice(), outputs.as_slice(), place),
+            Some(
+                Act::Call {
+                    inputs,
+                    outputs,
+                    ..
+                },
+            ) => given_among(found.outer, inputs.as_slice(), outputs.as_slice(), place),
             _ => Given::Nothing,
         }
     }

@@ -37,11 +37,7 @@ pub struct Words {
 }
 
 /// Words on the item of the first event that is no step.
-pub fn words_on(
-    alloc: Global,
-    script: Traced<'_>,
-    refused: NoStep,
-) -> Result<Words, AllocError> {
+pub fn words_on(alloc: Global, script: Traced<'_>, refused: NoStep) -> Result<Words, AllocError> {
     let mut words = Words {
         statement: Vec::new(alloc),
         waits: Vec::new(alloc),
@@ -108,12 +104,7 @@ fn none_but_memory(refusal: Refusal) -> Result<(), AllocError> {
     }
 }
 
-fn compute(
-    board: &mut Board,
-    items: &mut Items,
-    worker: u8,
-    work: Work,
-) -> Result<(), AllocError>
+fn compute(board: &mut Board, items: &mut Items, worker: u8, work: Work) -> Result<(), AllocError>
     requires { IsWorker worker }
 {
     match work.compute() {
@@ -126,12 +117,7 @@ fn compute(
 }
 
 /// Ends an item, also among those that are followed, where that meets no fault.
-fn end(
-    board: &mut Board,
-    items: &mut Items,
-    worker: u8,
-    done: Done,
-) -> Result<(), AllocError>
+fn end(board: &mut Board, items: &mut Items, worker: u8, done: Done) -> Result<(), AllocError>
     requires { IsWorker worker }
 {
     let number = done.item();
@@ -164,10 +150,21 @@ fn add_words(
         }
     }
     let at = entry.at.min(script.text.len());
-    add_place(&mut words.statement, script.file, position_of(script.text, at))?;
+    add_place(
+        &mut words.statement,
+        script.file,
+        position_of(script.text, at),
+    )?;
     if refused.why == WhyNot::Waits {
         let code = board.code();
-        add_waits(alloc, script.text, code, items, refused.item, &mut words.waits)
+        add_waits(
+            alloc,
+            script.text,
+            code,
+            items,
+            refused.item,
+            &mut words.waits,
+        )
     } else {
         Ok(())
     }
