@@ -16,6 +16,13 @@ use Rattle.meaning_facts.specs.declared.firsts.Firsts.{Firsts}
 use Rattle.meaning_facts.specs.Indexed.{again, first_at, first_in, has_key_in, one_further, one_writer_in, IsIndexed}
 use Rattle.meaning_facts.specs.Store.{is_written_in, same_place, writes_under}
 
+-- the first of all, where another one comes, or none
+abbrev alone : Bool → First
+alone b = record { at = 0; is_several = b }
+
+abbrev behind : First → First
+behind f = record { at = suc f.at; is_several = f.is_several }
+
 -- BEFORE THE FIRST
 
 further_none : (o : Option First) → one_further o ≡ None → o ≡ None
@@ -26,7 +33,7 @@ pub first_none : (ws : List Write) (k : Key) → first_in ws k ≡ None → has_
 first_none [] k e = refl
 first_none (w ∷ ws) k e = by (same_key w.key k) (first_none ws k) e
   where
-    by : (b : Bool) → (first_in ws k ≡ None → has_key_in ws k ≡ false) → (if b then Some (record { at = 0; is_several = has_key_in ws k }) else one_further (first_in ws k)) ≡ None
+    by : (b : Bool) → (first_in ws k ≡ None → has_key_in ws k ≡ false) → (if b then Some (alone (has_key_in ws k)) else one_further (first_in ws k)) ≡ None
         → b || has_key_in ws k ≡ false
     by true r h = absurd (cc (h))
     by false r h = r (further_none (first_in ws k) h)
@@ -39,7 +46,7 @@ first_some (w ∷ ws) k f e = by (same_key w.key k) (first_some ws k) e
     further (Some g) r h = r g refl
     further None r h = absurd (cc (h))
 
-    by : (b : Bool) → ((g : First) → first_in ws k ≡ Some g → has_key_in ws k ≡ true) → (if b then Some (record { at = 0; is_several = has_key_in ws k }) else one_further (first_in ws k)) ≡ Some f
+    by : (b : Bool) → ((g : First) → first_in ws k ≡ Some g → has_key_in ws k ≡ true) → (if b then Some (alone (has_key_in ws k)) else one_further (first_in ws k)) ≡ Some f
         → b || has_key_in ws k ≡ true
     by true r h = refl
     by false r h = further (first_in ws k) r h
@@ -77,24 +84,21 @@ pub record IsFirst (ws : List Write) (k : Key) (f : First) : Type 0 where
   pub several : f.is_several ≡ has_key_in (drop (suc f.at) ws) k
   pub under : (d : Write) → writes_under ws k ≡ (get_or ws f.at d).value ∷ writes_under (drop (suc f.at) ws) k
   pub written : (p : Place) (d : Write) → is_written_in ws k p ≡ same_place (get_or ws f.at d).writer p || is_written_in (drop (suc f.at) ws) k p
-  pub behind : (p : Place) → is_written_in ws k p ≡ is_written_in (drop f.at ws) k p
 
-first_here : (w : Write) (ws : List Write) (k : Key) → same_key w.key k ≡ true → IsFirst (w ∷ ws) k (record { at = 0; is_several = has_key_in ws k })
+first_here : (w : Write) (ws : List Write) (k : Key) → same_key w.key k ≡ true → IsFirst (w ∷ ws) k (alone (has_key_in ws k))
 first_here w ws k e = record {
   within = omega arith;
   several = refl;
   under = λ d. ap (λ (b : Bool). if b then w.value ∷ writes_under ws k else writes_under ws k) e;
   written = λ p d. ap (λ (b : Bool). (b && same_place w.writer p) || is_written_in ws k p) e;
-  behind = λ p. refl;
 }
 
-first_behind : (w : Write) (ws : List Write) (k : Key) (f : First) → same_key w.key k ≡ false → IsFirst ws k f → IsFirst (w ∷ ws) k (record { at = suc f.at; is_several = f.is_several })
+first_behind : (w : Write) (ws : List Write) (k : Key) (f : First) → same_key w.key k ≡ false → IsFirst ws k f → IsFirst (w ∷ ws) k (behind f)
 first_behind w ws k f e h = record {
   within = let l = h.within in omega (arith, l);
   several = h.several;
   under = λ d. ap (λ (b : Bool). if b then w.value ∷ writes_under ws k else writes_under ws k) e ∙ h.under d;
   written = λ p d. ap (λ (b : Bool). (b && same_place w.writer p) || is_written_in ws k p) e ∙ h.written p d;
-  behind = λ p. ap (λ (b : Bool). (b && same_place w.writer p) || is_written_in ws k p) e ∙ h.behind p;
 }
 
 pub first_is : (ws : List Write) (k : Key) (f : First) → first_in ws k ≡ Some f → IsFirst ws k f
@@ -102,12 +106,12 @@ first_is [] k f e = absurd (cc (e))
 first_is (w ∷ ws) k f e = by (same_key w.key k) refl (first_is ws k) e
   where
     further : (o : Option First) → ((g : First) → o ≡ Some g → IsFirst ws k g) → same_key w.key k ≡ false → one_further o ≡ Some f → IsFirst (w ∷ ws) k f
-    further (Some g) r q h = subst (λ (z : First). IsFirst (w ∷ ws) k z) (cc (h)) (first_behind w ws k g q (r g refl))
+    further (Some g) r q h = let e : behind g ≡ f = cc (h) in subst (λ (z : First). IsFirst (w ∷ ws) k z) e (first_behind w ws k g q (r g refl))
     further None r q h = absurd (cc (h))
 
     by : (b : Bool) → same_key w.key k ≡ b → ((g : First) → first_in ws k ≡ Some g → IsFirst ws k g)
-        → (if b then Some (record { at = 0; is_several = has_key_in ws k }) else one_further (first_in ws k)) ≡ Some f → IsFirst (w ∷ ws) k f
-    by true q r h = subst (λ (z : First). IsFirst (w ∷ ws) k z) (cc (h)) (first_here w ws k q)
+        → (if b then Some (alone (has_key_in ws k)) else one_further (first_in ws k)) ≡ Some f → IsFirst (w ∷ ws) k f
+    by true q r h = let e : alone (has_key_in ws k) ≡ f = cc (h) in subst (λ (z : First). IsFirst (w ∷ ws) k z) e (first_here w ws k q)
     by false q r h = further (first_in ws k) r q h
 
 pub one_under : (ws : List Write) (k : Key) (f : First) (d : Write) → first_in ws k ≡ Some f → f.is_several ≡ false → writes_under ws k ≡ (get_or ws f.at d).value ∷ []
@@ -158,23 +162,23 @@ further_again n (Some f) = refl
 further_again n None = refl
 
 more_same : (ws : List Write) (w : Write) (k : Key) → same_key w.key k ≡ true → first_in (ws ++ w ∷ []) k ≡ Some (again (length ws) (first_in ws k))
-more_same [] w k e = ap (λ (b : Bool). if b then Some (record { at = 0; is_several = false }) else None) e
+more_same [] w k e = ap (λ (b : Bool). if b then Some (alone false) else None) e
 more_same (x ∷ ws) w k e = by (same_key x.key k) (has_more ws w k ∙ ap (λ (b : Bool). b || has_key_in ws k) e) (more_same ws w k e)
   where
     by : (b : Bool) → has_key_in (ws ++ w ∷ []) k ≡ true → first_in (ws ++ w ∷ []) k ≡ Some (again (length ws) (first_in ws k))
-        → (if b then Some (record { at = 0; is_several = has_key_in (ws ++ w ∷ []) k }) else one_further (first_in (ws ++ w ∷ []) k))
-            ≡ Some (again (suc (length ws)) (if b then Some (record { at = 0; is_several = has_key_in ws k }) else one_further (first_in ws k)))
-    by true h r = ap (λ (z : Bool). Some (record { at = 0; is_several = z })) h
+        → (if b then Some (alone (has_key_in (ws ++ w ∷ []) k)) else one_further (first_in (ws ++ w ∷ []) k))
+        ≡ Some (again (suc (length ws)) (if b then Some (alone (has_key_in ws k)) else one_further (first_in ws k)))
+    by true h r = ap (λ (z : Bool). Some (alone z)) h
     by false h r = ap one_further r ∙ further_again (length ws) (first_in ws k)
 
 more_other : (ws : List Write) (w : Write) (k : Key) → same_key w.key k ≡ false → first_in (ws ++ w ∷ []) k ≡ first_in ws k
-more_other [] w k e = ap (λ (b : Bool). if b then Some (record { at = 0; is_several = false }) else None) e
+more_other [] w k e = ap (λ (b : Bool). if b then Some (alone false) else None) e
 more_other (x ∷ ws) w k e = by (same_key x.key k) (has_more ws w k ∙ ap (λ (b : Bool). b || has_key_in ws k) e) (more_other ws w k e)
   where
     by : (b : Bool) → has_key_in (ws ++ w ∷ []) k ≡ has_key_in ws k → first_in (ws ++ w ∷ []) k ≡ first_in ws k
-        → (if b then Some (record { at = 0; is_several = has_key_in (ws ++ w ∷ []) k }) else one_further (first_in (ws ++ w ∷ []) k))
-            ≡ (if b then Some (record { at = 0; is_several = has_key_in ws k }) else one_further (first_in ws k))
-    by true h r = ap (λ (z : Bool). Some (record { at = 0; is_several = z })) h
+        → (if b then Some (alone (has_key_in (ws ++ w ∷ []) k)) else one_further (first_in (ws ++ w ∷ []) k))
+        ≡ (if b then Some (alone (has_key_in ws k)) else one_further (first_in ws k))
+    by true h r = ap (λ (z : Bool). Some (alone z)) h
     by false h r = ap one_further r
 
 first_more : (ws : List Write) (w : Write) (k : Key) → first_in (ws ++ w ∷ []) k ≡ (if same_key w.key k then Some (again (length ws) (first_in ws w.key)) else first_in ws k)
@@ -209,7 +213,7 @@ pub indexed_more : (ws : List Write) (w : Write) (fs gs : Firsts) (b : Bool) (f 
     → ((k : Key) → first_at gs k ≡ (if same_key w.key k then Some f else first_at fs k)) → IsIndexed (ws ++ w ∷ []) gs (b && not f.is_several)
 indexed_more ws w fs gs b f h e put =
     let is : f ≡ again (length ws) (first_in ws w.key) = e ∙ ap (again (length ws)) (h.firsts w.key) in record {
-  firsts = λ k. put k ∙ ap (λ (z : First). if same_key w.key k then Some z else first_at fs k) is
-      ∙ ap (λ (z : Option First). if same_key w.key k then Some (again (length ws) (first_in ws w.key)) else z) (h.firsts k) ∙ sym (first_more ws w k);
-  apart = ap (λ (z : First). b && not z.is_several) is ∙ ap (λ (z : Bool). b && not z) (again_several ws w.key (length ws)) ∙ ap (λ (z : Bool). z && not (has_key_in ws w.key)) h.apart ∙ sym (apart_more ws w);
-}
+      firsts = λ k. put k ∙ ap (λ (z : First). if same_key w.key k then Some z else first_at fs k) is
+          ∙ ap (λ (z : Option First). if same_key w.key k then Some (again (length ws) (first_in ws w.key)) else z) (h.firsts k) ∙ sym (first_more ws w k);
+      apart = ap (λ (z : First). b && not z.is_several) is ∙ ap (λ (z : Bool). b && not z) (again_several ws w.key (length ws)) ∙ ap (λ (z : Bool). z && not (has_key_in ws w.key)) h.apart ∙ sym (apart_more ws w);
+    }

@@ -1,5 +1,5 @@
 //! The writes of an array, to be found by their keys.
-ghost use Rattle.std.specs.Prelude.{◌≡◌, ◌++◌, ◌∷◌, [], drop, not, IfOk, OnOk};
+ghost use Rattle.std.specs.Prelude.{◌≡◌, ◌++◌, ◌∷◌, ◌&&◌, [], not, IfOk, OnOk};
 ghost use Rattle.meaning_facts.specs.Added.{with_write};
 ghost use Rattle.meaning_facts.specs.Indexed.{again, one_writer_in};
 ghost use Rattle.meaning_facts.specs.Store.{is_written_in, WrittenAs, writes_under};
@@ -66,12 +66,7 @@ impl Writes {
     {
         match self.firsts.get(key) {
             None => false,
-            Some(first) if first.is_several => has_writer(
-                self.all.as_slice(),
-                first.at,
-                key,
-                writer,
-            ),
+            Some(first) if first.is_several => has_writer(self.all.as_slice(), key, writer),
             Some(first) => self.all[first.at].writer.is_same(writer),
         }
     }
@@ -101,7 +96,7 @@ impl Writes {
         self.all.reserve(1)?;
         let first = with_another(self.firsts.get(write.key.as_ref()), self.all.len());
         self.firsts.put(&write.key, first)?;
-        self.is_apart = self.is_apart && !first.is_several;
+        self.is_apart = stays_apart(self.is_apart, first);
         self.all.push(write)?;
         Ok(())
     }
@@ -123,12 +118,18 @@ fn with_another(first: Option<First>, len: usize) -> First
     }
 }
 
-/// Whether one of these writes has this key and writer, but for the first so many.
-fn has_writer(writes: &[Write], from: usize, key: KeyRef<'_>, writer: Place) -> bool
-    ensures { result ≡ is_written_in (drop from writes.now) (key_seen key.entry) writer }
+/// Whether no two writes have one key, where this is the first of the last one's.
+fn stays_apart(is_apart: bool, first: First) -> bool
+    ensures { result ≡ is_apart && not first.is_several }
 {
-    for i in from..writes.len() {
-        let write = &writes[i];
+    is_apart && !first.is_several
+}
+
+/// Whether one of these writes has this key and writer.
+fn has_writer(writes: &[Write], key: KeyRef<'_>, writer: Place) -> bool
+    ensures { result ≡ is_written_in writes.now (key_seen key.entry) writer }
+{
+    for write in writes {
         if write.key.as_ref().is_same(key) && write.writer.is_same(writer) {
             return true;
         }

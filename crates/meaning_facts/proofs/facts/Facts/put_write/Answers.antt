@@ -12,9 +12,9 @@ use Rattle.meaning_facts.proofs.facts.Facts.put_write.Goals as goal
 pub returns-in-Some-clause-added : goal.returns-in-Some-clause-added
 returns-in-Some-clause-added c =
     let k = c.args.self.now in
-    let u = c.put.new.writes in
+    let u = c.put.new.self in
     let there : get same_pair c.args.self.now.writes (c.args.array.instance, c.args.array.node) ≡ Some c.in-Some.writes.now = search rules in
-    let put : (q : ℕ × ℕ) → get same_pair (c.get_mut.follows.lender c.put.new.writes) q ≡ cond (same_pair (c.args.array.instance, c.args.array.node) q) (Some c.put.new.writes) (get same_pair c.args.self.now.writes q) = λ q. (let h = ((c.get_mut.follows.holds c.put.new.writes).3 (search rules)).0 q in search rules) in
+    let put : (q : ℕ × ℕ) → get same_pair (c.get_mut.follows.lender c.put.new.self) q ≡ cond (same_pair (c.args.array.instance, c.args.array.node) q) (Some c.put.new.self) (get same_pair c.args.self.now.writes q) = λ q. (let h = ((c.get_mut.follows.holds c.put.new.self).3 (search rules)).0 q in search rules) in
     IfOk-weaker c.put.result (λ (r : Bool). u ≡ with_write c.in-Some.writes.now c.args.write) (λ (r : Bool). IsAdded k (Is.Element c.args.array c.args.write) (record { values = k.values; writes = c.get_mut.follows.lender u; lines = k.lines; faults = k.faults }))
     (λ r e. write_added k (record { values = k.values; writes = c.get_mut.follows.lender u; lines = k.lines; faults = k.faults }) c.args.array c.args.write c.in-Some.writes.now u there e put refl refl refl)
     c.put.ensures.put

@@ -1,4 +1,4 @@
-use Rattle.std.proofs.Common.{rules, ◌≡◌, ◌∙◌, None, Some, sym, ap}
+use Rattle.std.proofs.Common.{rules, ◌≡◌, ◌∙◌, List, None, Some, arith, sym, ap}
 use Rattle.values.specs.Keys.{key_seen}
 use Rattle.meaning_facts.specs.declared.facts.Write.{Write}
 use Rattle.meaning_facts.specs.Indexed.{first_in}
@@ -8,24 +8,22 @@ use Rattle.meaning_facts.proofs.writes.Writes.is_written_by.Goals as goal
 
 pub index-requires : goal.index-requires
 index-requires c =
-    let k = key_seen c.args.key in
-    let there : first_in c.self.inside.all.items (key_seen c.args.key) ≡ Some c.in-Some.first = sym (c.self.invariant.firsts k) ∙ sym c.get.ensures ∙ c.in-Some.is in
-    (first_is c.self.inside.all.items k c.in-Some.first there).within
+    let there : first_in c.self.inside.all.items (key_seen c.args.key) ≡ Some c.in-Some.first = sym (c.self.invariant.firsts (key_seen c.args.key)) ∙ sym c.get.ensures ∙ c.in-Some.is in
+    let within = (first_is c.self.inside.all.items (key_seen c.args.key) c.in-Some.first there).within in
+    omega (arith, within, c.self.inside.all.ok.0)
 
 pub returns-in-None : goal.returns-in-None
 returns-in-None c =
-    let k = key_seen c.args.key in
-    let absent : first_in c.self.inside.all.items (key_seen c.args.key) ≡ None = sym (c.self.invariant.firsts k) ∙ sym c.get.ensures ∙ c.in-None.is in
-    rw (← c.self.view_is) (sym (none_written c.self.inside.all.items k c.args.writer (first_none c.self.inside.all.items k absent)))
+    let absent : first_in c.self.inside.all.items (key_seen c.args.key) ≡ None = sym (c.self.invariant.firsts (key_seen c.args.key)) ∙ sym c.get.ensures ∙ c.in-None.is in
+    rw (← c.self.view_is) (sym (none_written c.self.inside.all.items (key_seen c.args.key) c.args.writer (first_none c.self.inside.all.items (key_seen c.args.key) absent)))
 
 pub returns-in-Some : goal.returns-in-Some
 returns-in-Some c =
-    let k = key_seen c.args.key in
-    let there : first_in c.self.inside.all.items (key_seen c.args.key) ≡ Some c.in-Some.first = sym (c.self.invariant.firsts k) ∙ sym c.get.ensures ∙ c.in-Some.is in
-    rw (← c.self.view_is) (?)
+    let list : c.as_slice.result.now ≡ c.self.inside.all.items = search rules in
+    rw (← c.self.view_is) (c.has_writer.ensures ∙ ap (λ (z : List Write). is_written_in z (key_seen c.args.key) c.args.writer) list)
 
 pub returns-in-Some-2 : goal.returns-in-Some-2
 returns-in-Some-2 c =
-    let k = key_seen c.args.key in
-    let there : first_in c.self.inside.all.items (key_seen c.args.key) ≡ Some c.in-Some.first = sym (c.self.invariant.firsts k) ∙ sym c.get.ensures ∙ c.in-Some.is in
-    rw (← c.self.view_is) (?)
+    let there : first_in c.self.inside.all.items (key_seen c.args.key) ≡ Some c.in-Some.first = sym (c.self.invariant.firsts (key_seen c.args.key)) ∙ sym c.get.ensures ∙ c.in-Some.is in
+    rw (← c.self.view_is) (c.is_same.ensures ∙ ap (λ (z : Write). same_place z.writer c.args.writer) c.index.ensures
+    ∙ sym (one_written c.self.inside.all.items (key_seen c.args.key) c.in-Some.first c.index.result.now c.args.writer there c.if-first.false))
