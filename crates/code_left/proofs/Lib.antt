@@ -1,0 +1,3 @@
+mod Holders
+mod Sourced
+mod Left

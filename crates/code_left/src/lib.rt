@@ -1,0 +1,30 @@
+//! What is left where a run of a script's code ends quiet: a blocked statement, or nothing at all. Nothing here runs: each function has an empty body, and its contract is a law.
+#![tactic(auto)]
+
+ghost use Rattle.std.specs.Prelude.{◌≡◌, ℕ, List, []};
+ghost use Rattle.dataflow.specs.System.{In};
+ghost use Rattle.dataflow.specs.Machine.{Event};
+ghost use Rattle.task_code.specs.Code.{Code};
+ghost use Rattle.task_code.specs.Exact.{IsExact};
+ghost use Rattle.task_code.specs.Machine.{CodeItem, CodeState, IsTidy, Quiet, Run};
+ghost use Rattle.task_code.specs.Places.{Step};
+ghost use Rattle.task_code.specs.Runs.{Blocked};
+ghost use Rattle.task_code.specs.Whole.{IsCode};
+ghost use Rattle.code_left.specs.Sources.{CellsFollow, FindsSources};
+
+/// In a quiet state without fault of whole code with exact rights, where each scalar that can be read has a source and cells follow the cells that they need: where any item is left, a statement is blocked.
+pub fn left_items()
+    ensures { (C : Code) → IsCode C → IsExact C → FindsSources C → CellsFollow C
+        → (events : List Event) (s : CodeState) → Run C events s → Quiet C s
+        → (i : CodeItem) → In i s.items → (at : ℕ) × (path : List Step) × Blocked C s at path }
+{}
+
+/// So where no statement is blocked, no item is left, and no datum, if those that are free have left.
+pub fn nothing_left()
+    ensures items { (C : Code) → IsCode C → IsExact C → FindsSources C → CellsFollow C
+        → (events : List Event) (s : CodeState) → Run C events s → Quiet C s
+        → ((at : ℕ) (path : List Step) → Blocked C s at path → ⊥) → s.items ≡ [] }
+    ensures data { (C : Code) → IsCode C → IsExact C → FindsSources C → CellsFollow C
+        → (events : List Event) (s : CodeState) → Run C events s → Quiet C s
+        → ((at : ℕ) (path : List Step) → Blocked C s at path → ⊥) → IsTidy C s → s.places ≡ [] }
+{}
