@@ -31,7 +31,7 @@ use Rattle.code_left.specs.Sources.{CellsFollow, FindsSources, is_cell}
 use Rattle.code_left.proofs.Holders.{HasScalars, IsAwaited, IsScalarOrNone, all_known_is, open_input}
 use Rattle.code_left.proofs.Sourced.{among_in, makes_data, shape, sourced}
 
-any_in : {X : Type 0} (f : X → Bool) (xs : List X) → list_any f xs ≡ true → (x : X) × In x xs × (f x ≡ true)
+pub any_in : {X : Type 0} (f : X → Bool) (xs : List X) → list_any f xs ≡ true → (x : X) × In x xs × (f x ≡ true)
 any_in f [] h = absurd (cc)
 any_in {X} f (y ∷ ys) h = by (or_true (f y) (list_any f ys) h) (any_in f ys)
   where
