@@ -1,4 +1,3 @@
-use Rattle.std.specs.Prelude.{◌≡◌, ℕ, List, []}
 use Rattle.task_code.specs.System.{code_system}
 use Rattle.dataflow.specs.History.{log_of}
 use Rattle.dataflow.proofs.Keeping.{data_exact}
