@@ -68,7 +68,10 @@ fn first_alike<'t, 'a, A: Allocator>(
     listed: &[Waiting<'t, 'a, A>],
     number: usize,
 ) -> Result<usize, AllocError> {
-    let at = listed[number].site.at();
+    let Some(waiting) = listed.get(number) else {
+        return Ok(number);
+    };
+    let at = waiting.site.at();
     if !by_offset.contains_key(&at) {
         by_offset.insert(at, Vec::new(alloc))?;
     }

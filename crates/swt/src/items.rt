@@ -398,7 +398,7 @@ impl Items {
         for i in 0..self.items.len() {
             let item = &self.items[i];
             if !item.is_over && makes(code, item, place) {
-                return Some(i as u64 + 1);
+                return Some((i as u64).saturating_add(1));
             }
         }
         None

@@ -69,8 +69,11 @@ fn take_all(
         Err(TraceFault::Memory) => return Err(AllocError),
         Err(_) => return Ok(()),
     };
-    for i in 0..script.count.min(events.len()) {
-        take(board, items, events[i])?;
+    for i in 0..script.count {
+        match events.get(i) {
+            Some(event) => take(board, items, *event)?,
+            None => break,
+        }
     }
     Ok(())
 }
