@@ -60,13 +60,3 @@ fn an_item_that_comes_back_prints_once(rt: HostRuntime) {
     is_equal(&rt, board.history().len(), 2_004);
     assert!(&rt; board.is_quiet() && prints_hello(&board));
 }
-
-/// An item that was given back is no worker's: the second Back is refused, and adds no event.
-#[test]
-fn an_item_is_given_back_once(rt: HostRuntime) {
-    let mut board = hello_board(&rt, rt.alloc());
-    is_equal(&rt, board.perform(0, 1), Ok(true));
-    is_equal(&rt, comes_back(&mut board, 63), Ok(()));
-    is_equal(&rt, board.back(63, 2), Err(Refusal::NotYours));
-    is_equal(&rt, board.history().len(), 4);
-}

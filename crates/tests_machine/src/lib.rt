@@ -16,8 +16,6 @@ mod ref_counting_tests;
 #[cfg(test)]
 mod runs_tests;
 #[cfg(test)]
-mod stops_tests;
-#[cfg(test)]
 mod swt_trace_tests;
 #[cfg(test)]
 mod task_code_tests;

@@ -10,8 +10,6 @@ const HELLO: &[u8] = b"printf(\"hello\");";
 
 const TRACE: &[u8] = b"swt-trace 1\nB 0 1\nE 0 1\nB 1 2\nE 1 2\n";
 
-const ENDED: &[u8] = b"swt-trace 2\nB 0 1\nE 0 1\nB 1 2\nE 1 2\nQ\n";
-
 /// What is printed and said of a beginning of a trace, and the status.
 fn replays<R: Threads + Wait + Sync + Abort>(rt: &R, alloc: Global, trace: &[u8], wanted: &str) {
     let done = perform(rt, alloc, "replay f t", &[Some(HELLO), Some(trace)], WIDE);
@@ -32,16 +30,4 @@ fn beginnings_of_a_trace_are_answered(rt: HostRuntime) {
         replays(&rt, rt.alloc(), &TRACE[..length], wanted.as_str());
     }
     replays(&rt, rt.alloc(), TRACE, "hello\n|||0");
-}
-
-/// One of version 2 names no end: its last line is bad, or the one that is not there.
-#[test]
-fn beginnings_without_an_end_are_refused(rt: HostRuntime) {
-    is_equal(&rt, ENDED.len(), 38);
-    for length in 0..38 {
-        let wanted = format!(in rt.alloc(); "|swt: T1 BadLine {}\n||7", (length / 6).max(1));
-        let wanted = wanted.expect(&rt, "memory");
-        replays(&rt, rt.alloc(), &ENDED[..length], wanted.as_str());
-    }
-    replays(&rt, rt.alloc(), ENDED, "hello\n|||0");
 }

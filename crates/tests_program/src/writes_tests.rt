@@ -1,8 +1,6 @@
 //! Sinks that stop: at each byte of what a command prints or traces, by a write that fails or by one that takes nothing.
-ghost use Rattle.std.specs.Prelude.{◌≡◌};
-
-use crate::asserts::{boxed, holds, is_equal};
-use crate::doing::{Done, Small, WIDE, command_of, files_of, perform};
+use crate::asserts::is_equal;
+use crate::doing::{Small, WIDE, command_of, files_of, perform};
 use bumpalo::Bump;
 use std::alloc::Global;
 use std::process::Abort;
@@ -21,74 +19,56 @@ const TRACE: &[u8] = b"swt-trace 1\nB 0 1\nE 0 1\n";
 
 const CANNOT: &[u8] = b"swt: cannot write\n";
 
-/// A sink that takes at most so many bytes a write, and so many writes. Then it takes nothing, or it fails.
+/// A sink that takes one byte a write, and nothing once it has no room, without an error.
 #[derive(Drop)]
-struct Tired {
+struct Idle {
     bytes: Vec<u8>,
-    at_once: usize,
-    writes: usize,
-    silent: bool,
+    room: usize,
     failures: u64,
 }
 
-/// A sink that takes one byte a write, so many times, and then nothing, without an error.
-fn idle_behind(alloc: Global, writes: usize) -> Tired
-    ensures { result.failures ≡ 0 }
-{
-    Tired {
-        bytes: Vec::new(alloc),
-        at_once: 1,
-        writes,
-        silent: true,
-        failures: 0,
+impl Idle {
+    ghost use Rattle.std.specs.Prelude.{◌≡◌};
+
+    fn new(alloc: Global, room: usize) -> Idle
+        ensures { result.failures ≡ 0 }
+    {
+        Idle {
+            bytes: Vec::new(alloc),
+            room,
+            failures: 0,
+        }
     }
 }
 
-/// A sink that takes all that it is given, so many times, and then fails.
-fn failing_behind(alloc: Global, writes: usize) -> Tired
-    ensures { result.failures ≡ 0 }
-{
-    Tired {
-        bytes: Vec::new(alloc),
-        at_once: 100_000,
-        writes,
-        silent: false,
-        failures: 0,
-    }
-}
-
-impl Sink for Tired {
+impl Sink for Idle {
     ghost taken = { λ sink. sink.bytes.items };
 
     ghost failures = { λ sink. sink.failures };
 
     fn write(&mut self, piece: &[u8]) -> Result<usize, SinkFault> {
-        if piece.is_empty() {
+        let Some(first) = piece.first() else {
             return Ok(0);
-        }
-        let n = piece.len().min(self.at_once);
-        if n > 0 && self.writes > 0 && self.bytes.extend_from_slice(&piece[..n]).is_ok() {
-            self.writes -= 1;
-            return Ok(n);
+        };
+        if self.bytes.len() < self.room && self.bytes.push(*first).is_ok() {
+            return Ok(1);
         }
         self.failures += 1;
-        if self.silent { Ok(0) } else { Err(SinkFault) }
+        Ok(0)
     }
 }
 
-/// What the command of a line does with these sinks.
-fn done_into<R: Threads + Wait + Sync>(
+/// What a command prints into a sink that takes nothing behind so many bytes, what it says, and its status.
+fn idles<R: Threads + Wait + Sync>(
     rt: &R,
     alloc: Global,
     line: &Line,
     files: &[Option<Vec<u8>>],
-    sinks: (Tired, Tired),
-) -> Done
-    requires out { sinks.0.failures ≡ 0 }
-    requires trace { sinks.1.failures ≡ 0 }
-{
-    let (mut out, mut trace) = sinks;
+    room: usize,
+) -> (Vec<u8>, Vec<u8>, u8) {
+    let mut out = Idle::new(alloc, room);
     let mut err = Small::new(alloc, 1000);
+    let mut trace = Small::new(alloc, 0);
     let status = command(
         rt,
         alloc,
@@ -100,29 +80,7 @@ fn done_into<R: Threads + Wait + Sync>(
         &mut err,
         &mut trace,
     );
-    Done {
-        out: out.bytes,
-        err: err.bytes,
-        trace: trace.bytes,
-        status,
-    }
-}
-
-/// What a command does with these sinks.
-fn perform_into<R: Threads + Wait + Sync + Abort>(
-    rt: &R,
-    alloc: Global,
-    line: &str,
-    sources: &[Option<&[u8]>],
-    sinks: (Tired, Tired),
-) -> Box<Done>
-    requires out { sinks.0.failures ≡ 0 }
-    requires trace { sinks.1.failures ≡ 0 }
-{
-    let files = files_of(alloc, sources).expect(rt, "memory");
-    let request = command_of(rt, alloc, line);
-    let done = done_into(rt, alloc, &request.line, files.as_slice(), sinks);
-    boxed(rt, alloc, done)
+    (out.bytes, err.bytes, status)
 }
 
 /// A command that cannot print more than so many bytes, since a write takes nothing, says so.
@@ -134,46 +92,11 @@ fn stops_at_nothing<R: Threads + Wait + Sync + Abort>(
     whole: &[u8],
     room: usize,
 ) {
-    let sinks = (idle_behind(alloc, room), idle_behind(alloc, 0));
-    let done = perform_into(rt, alloc, line, sources, sinks);
-    is_equal(rt, Some(done.out.as_slice()), whole.get(..room));
-    is_equal(rt, (done.err.as_slice(), done.status), (CANNOT, 7));
-}
-
-/// A command whose write fails behind so many prints a beginning and says so, or it has printed all. It says which.
-fn stops_at_a_write<R: Threads + Wait + Sync + Abort>(
-    rt: &R,
-    alloc: Global,
-    line: &str,
-    sources: &[Option<&[u8]>],
-    own: &Done,
-    writes: usize,
-) -> bool {
-    let sinks = (failing_behind(alloc, writes), idle_behind(alloc, 0));
-    let done = perform_into(rt, alloc, line, sources, sinks);
-    holds(rt, own.out.starts_with(done.out.as_slice()));
-    let stopped = done.out.len() < own.out.len();
-    if stopped {
-        is_equal(rt, (done.err.as_slice(), done.status), (CANNOT, 7));
-    } else {
-        is_equal(rt, done.status, own.status);
-    }
-    stopped
-}
-
-/// A command stops at each of its writes, until none fails.
-fn stops_at_each_write<R: Threads + Wait + Sync + Abort>(
-    rt: &R,
-    alloc: Global,
-    line: &str,
-    sources: &[Option<&[u8]>],
-) {
-    let own = perform(rt, alloc, line, sources, WIDE);
-    for writes in 0..own.out.len() {
-        if !stops_at_a_write(rt, alloc, line, sources, &own, writes) {
-            return;
-        }
-    }
+    let files = files_of(alloc, sources).expect(rt, "memory");
+    let request = command_of(rt, alloc, line);
+    let (out, err, status) = idles(rt, alloc, &request.line, files.as_slice(), room);
+    is_equal(rt, Some(out.as_slice()), whole.get(..room));
+    is_equal(rt, (err.as_slice(), status), (CANNOT, 7));
 }
 
 /// A command that cannot print more than so many bytes, since a write fails, says so.
@@ -210,20 +133,11 @@ fn what_is_printed_stops_at_each_byte(rt: HostRuntime) {
     let one = [Some(STUCK)];
     for line in ["run f", "mean f", "code f", "code f --dot", "check f"] {
         stops_at_each_byte(&rt, rt.alloc(), line, &one);
-        stops_at_each_write(&rt, rt.alloc(), line, &one);
     }
     let two = [Some(HELLO), Some(TRACE)];
     for line in ["replay f t", "check f g"] {
         stops_at_each_byte(&rt, rt.alloc(), line, &two);
-        stops_at_each_write(&rt, rt.alloc(), line, &two);
     }
-}
-
-/// The report is out, the trace has this beginning, and it is said that no more could be written.
-fn has_stopped(rt: &impl Abort, done: &Done, trace: Option<&[u8]>) {
-    is_equal(rt, done.out.as_slice(), b"hello\n".as_slice());
-    is_equal(rt, Some(done.trace.as_slice()), trace);
-    is_equal(rt, (done.err.as_slice(), done.status), (CANNOT, 7));
 }
 
 #[test]
@@ -234,9 +148,8 @@ fn a_trace_stops_at_each_byte(rt: HostRuntime) {
     is_equal(&rt, own.trace.len(), 38);
     for room in 0..own.trace.len() {
         let done = perform(&rt, rt.alloc(), line, &sources, (1000, room));
-        has_stopped(&rt, &done, own.trace.get(..room));
-        let sinks = (idle_behind(rt.alloc(), 1000), idle_behind(rt.alloc(), room));
-        let done = perform_into(&rt, rt.alloc(), line, &sources, sinks);
-        has_stopped(&rt, &done, own.trace.get(..room));
+        is_equal(&rt, done.out.as_slice(), b"hello\n".as_slice());
+        is_equal(&rt, Some(done.trace.as_slice()), own.trace.get(..room));
+        is_equal(&rt, (done.err.as_slice(), done.status), (CANNOT, 7));
     }
 }
