@@ -10,6 +10,9 @@ use values::map::Map;
 use values::range::Range;
 use values::value::{Scalar, Value};
 
+/// The greatest whole number, and so the greatest key of a turn.
+const GREATEST: u64 = 9_223_372_036_854_775_807;
+
 /// An item: its entry, but of the script's opening, its block, and from which chunk of turns on it opens them.
 #[derive(Clone, Copy, Drop)]
 pub struct Item {
@@ -205,7 +208,7 @@ impl Items {
     ) -> Result<(), AllocError> {
         let (first, end) = chunk_of(item.chunk, range.count);
         for turn in first..end {
-            if turn < range.count {
+            if turn < range.count && turn <= GREATEST {
                 let value = Scalar::Number(range.value(turn));
                 let key = Scalar::Number(turn as i64);
                 self.open_turn(code, item, turns, &value, &key)?;
