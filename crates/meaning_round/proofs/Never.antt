@@ -15,7 +15,7 @@ use Rattle.flow.specs.declared.statement.Header.{Header}
 use Rattle.flow.specs.declared.statement.Range.{Range}
 use Rattle.flow.specs.declared.statement.Statement.{Statement, out-Statement}
 use Rattle.flow.specs.declared.statement.Variable.{Variable}
-use Rattle.flow.specs.View.{call_view, name_view, outer_view, parts_view, waits_around, action_view, block_view, block_of, statement_view, statements_view}
+use Rattle.flow.specs.View.{call_view, name_view, outer_view, parts_view, waits_around, action_view, block_view, block_of, statements_view}
 use Rattle.meaning_cells.specs.Targeted.{same_owned}
 use Rattle.meaning_cells.proofs.Aims.{view_statement}
 use Rattle.meaning_invariants.specs.Never.{never, never_by, never_in, some_output}

@@ -1,4 +1,4 @@
-use Rattle.std.proofs.Common.{rules, List, ℕ, ◌≡◌, ◌<◌, ◌≤◌, ◌+◌, length, false, get_or, drop, sym, ap, subst, ◌∙◌}
+use Rattle.std.proofs.Common.{rules, List, ℕ, ◌≡◌, ◌<◌, ◌≤◌, ◌+◌, length, get_or, drop, sym, ap, subst, ◌∙◌}
 use Rattle.std.proofs.lemmas.Result.{on_ok_weaker}
 use Rattle.std.specs.Prelude.{Bool, ◌&&◌, ◌||◌, nat_eq, OnOk}
 use Rattle.std.specs.HashSet.{contains}
