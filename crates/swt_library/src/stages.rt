@@ -2,6 +2,8 @@
 ghost use Rattle.std.specs.Prelude.{◌≡◌, ◌≢◌, ◌≤◌, ◌++◌, [], ℕ, List, Some, false, map, IfOk, IfErr};
 ghost use Rattle.assign_check.specs.Breaks.{Breaks, IsTyped};
 ghost use Rattle.assign_check.specs.Faults as faults;
+ghost use Rattle.code_rules.specs.Emitted.{IsEmitted};
+ghost use Rattle.compile.specs.Accepted.{IsUnfit};
 ghost use Rattle.compile.specs.Compiled.{IsCompiled, IsFoldedFlowOf};
 ghost use Rattle.flow.specs.Shapes.{declared_of, kinds_of};
 ghost use Rattle.flow.specs.View.{core_of};
@@ -20,7 +22,8 @@ use crate::scripts::Code;
 use assign_check::fault::AssignFault;
 use board_program::program::Program;
 use code_listing::text::listing;
-use compile::compile::Compiled;
+use compile::compile::{Compiled, read_folded};
+use compile::fault::CompileFault;
 pub use constant_fold::fold;
 use flow::script::Flow;
 use meaning_outcomes::knowledge::Knowledge;
@@ -81,6 +84,24 @@ pub fn lower<A: Allocator + Clone>(
     lowering::lower(alloc, script, typed)
 }
 
+/// The flow of a text's script, folded, lowered and merged: all stages up to the rights. It lies in `alloc`, as its tree does until the answer.
+///
+/// # Errors
+///
+/// The refusal of the first stage that refuses the text, or want of memory.
+pub fn flow_of<A: Allocator + Clone>(
+    machine: Global,
+    alloc: A,
+    src: &[u8],
+) -> Result<Flow<A>, CompileFault>
+    ensures flow { IfOk result (λ flow. IsFoldedFlowOf src.now flow) }
+    ensures of_script { IfOk result IsOfScript }
+    ensures unfit { IfErr result (λ fault. IsUnfit src.now fault) }
+{
+    let flow = read_folded(machine, alloc, src)?;
+    Ok(flow)
+}
+
 /// The flow of an accepted script, folded, lowered and merged, with its code, in which each entry has its rights.
 ///
 /// # Errors
@@ -89,6 +110,7 @@ pub fn lower<A: Allocator + Clone>(
 pub fn rights<A: Allocator>(machine: Global, flow: Flow<A>) -> Result<Compiled<A>, AllocError>
     requires { IsOfScript flow }
     ensures flow { IfOk result (λ counted. counted.flow ≡ flow) }
+    ensures emitted { IfOk result (λ counted. IsEmitted (core_of flow) (kinds_of flow) (declared_of flow) counted.code) }
     ensures code { IfOk result (λ counted. (src : List ℕ) → IsFoldedFlowOf src flow → IsCompiled src counted.code) }
 {
     match emit::emit(machine, &flow) {

@@ -1,12 +1,12 @@
 //! The calls from a script's bytes to its code and to its meaning.
 
-use crate::told::{note, wrong};
+use crate::told::{note, print_listing, wrong};
 use std::alloc::{Allocator, Global};
 use std::io;
 use swt_library::scripts::{Code, compile};
 use swt_library::stages::{self, Single};
 use swt_library::{
-    AssignFault, CompileFault, Flow, Knowledge, ParseFault, Script, TypeFault, Typed,
+    AssignFault, CompileFault, Compiled, Flow, Knowledge, ParseFault, Script, TypeFault, Typed,
 };
 
 /// So often a call is made at most.
@@ -15,7 +15,7 @@ const TRIES: u32 = 2;
 /// The most rounds of a meaning.
 const ROUNDS: u32 = 1_000_000;
 
-/// Makes each call on the way to the code, with trees and flows in `alloc`.
+/// Makes each call on the way to the meaning and to the code, and prints the code's listing. Trees and flows lie in `alloc`.
 pub fn try_stages<A: Allocator + Clone>(
     rt: &HostRuntime,
     machine: Global,
@@ -26,8 +26,33 @@ pub fn try_stages<A: Allocator + Clone>(
         Some(script) => try_script(rt, machine, alloc, &script)?,
         None => wrong(rt, "no tree")?,
     }
+    match counted(rt, machine, alloc, src)? {
+        Some(counted) => try_counted(rt, machine, &counted),
+        None => wrong(rt, "no rights"),
+    }
+}
+
+/// Makes code of a script with trees and flows in `alloc`, and prints its listing.
+pub fn try_compile<A: Allocator + Clone>(
+    rt: &HostRuntime,
+    machine: Global,
+    alloc: &A,
+    src: &[u8],
+) -> io::Result<()> {
     match compiled(rt, machine, alloc, src)? {
-        Some(_) => Ok(()),
+        Some(code) => print_listing(rt, &code),
+        None => wrong(rt, "no code"),
+    }
+}
+
+/// Makes code of a flow whose entries have their rights, and prints its listing.
+fn try_counted<A: Allocator>(
+    rt: &HostRuntime,
+    machine: Global,
+    counted: &Compiled<A>,
+) -> io::Result<()> {
+    match emitted(rt, machine, counted)? {
+        Some(code) => print_listing(rt, &code),
         None => wrong(rt, "no code"),
     }
 }
@@ -193,6 +218,41 @@ fn known_of<A: Allocator + Clone>(
         match stages::rounds(machine, script, typed, single, ROUNDS) {
             Ok(known) => return Ok(Some(known)),
             Err(_) => note(rt, "rounds")?,
+        }
+    }
+    Ok(None)
+}
+
+/// The flow of a text with its rights. A refused call has let go of the flow that it was handed.
+fn counted<A: Allocator + Clone>(
+    rt: &HostRuntime,
+    machine: Global,
+    alloc: &A,
+    src: &[u8],
+) -> io::Result<Option<Compiled<A>>> {
+    for _ in 0..TRIES {
+        match stages::flow_of(machine, alloc.clone()?, src) {
+            Ok(flow) => match stages::rights(machine, flow) {
+                Ok(counted) => return Ok(Some(counted)),
+                Err(_) => note(rt, "rights")?,
+            },
+            Err(CompileFault::Memory) => note(rt, "flow_of")?,
+            Err(_) => return Ok(None),
+        }
+    }
+    Ok(None)
+}
+
+/// The code of a flow whose entries have their rights.
+fn emitted<A: Allocator>(
+    rt: &HostRuntime,
+    machine: Global,
+    counted: &Compiled<A>,
+) -> io::Result<Option<Code>> {
+    for _ in 0..TRIES {
+        match stages::emit(machine, counted) {
+            Ok(code) => return Ok(Some(code)),
+            Err(_) => note(rt, "emit")?,
         }
     }
     Ok(None)

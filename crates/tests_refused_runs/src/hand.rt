@@ -8,7 +8,7 @@ use std::alloc::Global;
 use std::io;
 use swt_library::runs::new_board;
 use swt_library::scripts::Code;
-use swt_library::{Board, Kind, Refusal, Report};
+use swt_library::{Board, Kind, Refusal, Report, Work};
 
 /// So often a call is made at most.
 const TRIES: u8 = 3;
@@ -91,27 +91,37 @@ fn done_on(rt: &HostRuntime, board: &mut Board, worker: u8, item: u64) -> io::Re
     requires { IsWorker worker }
 {
     let before = views(board);
-    let work = match board.begin(worker, item) {
-        Ok(work) => work,
+    match board.begin(worker, item) {
+        Ok(work) => ended_on(rt, board, worker, work),
         Err(refusal) => {
             note(rt, "begin")?;
             if refusal != Refusal::Memory || views(board) != before {
                 wrong(rt, "a refused begin")?;
             }
-            return Ok(false);
+            Ok(false)
         }
-    };
+    }
+}
+
+/// Computes and ends the work of an item that was begun on the worker. Where memory was refused it gives the item back.
+fn ended_on(rt: &HostRuntime, board: &mut Board, worker: u8, work: Work) -> io::Result<bool>
+    requires { IsWorker worker }
+{
+    let item = work.item();
     match work.compute() {
-        Ok(done) => match board.end(worker, done) {
-            Ok(()) => Ok(true),
-            Err((done, refusal)) => {
-                note(rt, "end")?;
-                if refusal != Refusal::Memory || done.item() != item {
-                    wrong(rt, "a refused end")?;
+        Ok(done) => {
+            let before = views(board);
+            match board.end(worker, done) {
+                Ok(()) => Ok(true),
+                Err((done, refusal)) => {
+                    note(rt, "end")?;
+                    if refusal != Refusal::Memory || done.item() != item || views(board) != before {
+                        wrong(rt, "a refused end")?;
+                    }
+                    given_back(rt, board, worker, item)
                 }
-                given_back(rt, board, worker, item)
             }
-        },
+        }
         Err((work, _)) => {
             note(rt, "compute")?;
             if work.item() != item {

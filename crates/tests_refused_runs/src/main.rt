@@ -1,10 +1,10 @@
 //! Each call on the way from a script to its runs, made again where memory was refused to it: what came of the refused call, and that the next one
 //! succeeds.
 //!
-//! Each word names a script, but for `threads`: the scripts behind it are run on threads, and those before it otherwise. Without refusals each
-//! call is made once, and standard output has three reports: of a board that is moved by hand, of a run on one thread, and of its trace run
-//! again; or that of the run on threads. A refused call is named on standard error; standard output stays the same, but for what is found
-//! wrong, where a line begins with `wrong`.
+//! A word names a script, or the part of the way that the scripts behind it go: `stages`, `arena`, `runs` or `threads`. Without refusals each call
+//! is made once, and standard output has the listing of the code that `stages` or `arena` makes; of `runs` three reports: of a board that is moved by
+//! hand, of a run on one thread, and of its trace run again; and of `threads` that of the run. A refused call is named on standard error; standard
+//! output stays the same, but for what is found wrong, where a line begins with `wrong`.
 #![tactic(auto)]
 
 mod front;
@@ -21,43 +21,76 @@ use std::thread::Threads;
 use std::{env, io};
 use swt_library::scripts::Code;
 
+/// A part of the way from a script to its runs.
+#[derive(Clone, Copy, Debug, PartialEq, Eq)]
+enum Part {
+    Stages,
+    Arena,
+    Runs,
+    Threads,
+}
+
+impl Part {
+    /// The part of a name, where there is one.
+    fn of(name: &str) -> Option<Part> {
+        match name {
+            "stages" => Some(Part::Stages),
+            "arena" => Some(Part::Arena),
+            "runs" => Some(Part::Runs),
+            "threads" => Some(Part::Threads),
+            _ => None,
+        }
+    }
+}
+
 fn main(rt: HostRuntime) -> io::Result<()> {
-    let mut on_threads = false;
+    let mut part = Part::Stages;
     for word in env::args(&rt)?.skip(1) {
         println!(rt; "{word}")?;
-        match word.as_str() {
-            "threads" => on_threads = true,
-            name => try_name(&rt, &rt, rt.alloc(), name, on_threads)?,
+        match Part::of(word.as_str()) {
+            Some(named) => part = named,
+            None => try_name(&rt, &rt, rt.alloc(), word.as_str(), part)?,
         }
     }
     Ok(())
 }
 
-/// Makes the calls for the script of a name.
+/// Makes the calls of a part for the script of a name.
 fn try_name<R: Threads + Wait + Sync>(
     rt: &HostRuntime,
     threads: &R,
     alloc: Global,
     name: &str,
-    on_threads: bool,
+    part: Part,
 ) -> io::Result<()> {
     let Some(script) = script_of(name) else {
         return told::wrong(rt, "no script has this name");
     };
-    if !on_threads {
-        front::try_stages(rt, alloc, &alloc, script)?;
-        try_in_arena(rt, alloc, script)?;
-    }
-    match front::compiled(rt, alloc, &alloc, script)? {
-        Some(code) => run_code(rt, threads, alloc, &code, on_threads),
-        None => told::wrong(rt, "no code"),
+    match part {
+        Part::Stages => front::try_stages(rt, alloc, &alloc, script),
+        Part::Arena => try_in_arena(rt, alloc, script),
+        Part::Runs | Part::Threads => try_runs(rt, threads, alloc, script, part),
     }
 }
 
-/// Makes the calls that make trees, with the trees in an arena.
+/// Makes code of a script with its tree and its flow in an arena.
 fn try_in_arena(rt: &HostRuntime, alloc: Global, script: &[u8]) -> io::Result<()> {
     let arena = Bump::new(alloc);
-    front::try_stages(rt, alloc, &&arena, script)
+    front::try_compile(rt, alloc, &&arena, script)
+}
+
+/// Makes code of a script and runs it.
+fn try_runs<R: Threads + Wait + Sync>(
+    rt: &HostRuntime,
+    threads: &R,
+    alloc: Global,
+    script: &[u8],
+    part: Part,
+) -> io::Result<()> {
+    match front::compiled(rt, alloc, &alloc, script)? {
+        Some(code) => run_code(rt, threads, alloc, &code, part),
+        None => told::wrong(rt, "no code"),
+    }
 }
 
 /// Runs code on threads, or otherwise.
@@ -66,9 +99,9 @@ fn run_code<R: Threads + Wait + Sync>(
     threads: &R,
     alloc: Global,
     code: &Code,
-    on_threads: bool,
+    part: Part,
 ) -> io::Result<()> {
-    if on_threads {
+    if part == Part::Threads {
         return runs::try_threads(rt, threads, alloc, code);
     }
     hand::try_board(rt, alloc, code)?;

@@ -3,6 +3,7 @@
 use host::host::Stream;
 use host_system::stream::Standard;
 use std::io;
+use swt_library::scripts::Code;
 use swt_library::{Report, write_report};
 
 /// Says that memory was refused to a call.
@@ -21,5 +22,14 @@ pub fn print_report(rt: &HostRuntime, report: &Report) -> io::Result<()> {
     match write_report(report, &mut out) {
         Ok(()) => Ok(()),
         Err(_) => wrong(rt, "a report that is not written"),
+    }
+}
+
+/// Prints a listing. It takes no memory.
+pub fn print_listing(rt: &HostRuntime, code: &Code) -> io::Result<()> {
+    let mut out = Standard::new(rt, Stream::Out);
+    match code.listing(&mut out) {
+        Ok(()) => Ok(()),
+        Err(_) => wrong(rt, "a listing that is not written"),
     }
 }

@@ -27,3 +27,6 @@ of-requires-clause-few g c = (compiled {A = g.row.A.Denot} c.requires.src c.args
 
 pub returns-in-Ok-clause-code : goal.returns-in-Ok-clause-code
 returns-in-Ok-clause-code g c = rw c.of.ensures (λ src is. compiled {A = g.row.A.Denot} src c.args.flow is c.in-Ok.draft c.in-Ok.ensures)
+
+pub returns-in-Ok-clause-emitted : goal.returns-in-Ok-clause-emitted
+returns-in-Ok-clause-emitted g c = rw c.of.ensures c.in-Ok.ensures
