@@ -3,6 +3,7 @@
 #![tactic(auto)]
 
 pub mod commands;
+pub mod laws;
 pub mod runs;
 pub mod scripts;
 pub mod stages;

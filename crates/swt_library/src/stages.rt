@@ -22,6 +22,7 @@ use crate::scripts::Code;
 use assign_check::fault::AssignFault;
 use board_program::program::Program;
 use code_listing::text::listing;
+pub use compile::check::{Accepted, accept};
 use compile::compile::{Compiled, read_folded};
 use compile::fault::CompileFault;
 pub use constant_fold::fold;
