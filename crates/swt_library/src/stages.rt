@@ -54,12 +54,15 @@ pub fn check_single<A: Allocator>(
     typed: &Typed,
 ) -> Result<Single, AssignFault>
     ensures accepted { IfOk result (λ _. faults.faults (table_of typed.now) (tree_of script.now) ≡ []) }
-    ensures refused { IfErr result (λ fault. fault ≢ AssignFault.Memory → faults.first_fault (faults.faults (table_of typed.now) (tree_of script.now)) ≡ Some fault) }
-
+    ensures refused { IfErr result (λ fault. fault ≢ AssignFault.Memory
+        → faults.first_fault (faults.faults (table_of typed.now) (tree_of script.now)) ≡ Some fault) }
     ensures single { IfOk result (λ _. IsTyped (table_of typed.now) (tree_of script.now) → SinglyAssigned (core (table_of typed.now) (tree_of script.now))) }
-    ensures not_single { IfErr result (λ fault. fault ≢ AssignFault.Memory → IsTyped (table_of typed.now) (tree_of script.now) → ¬ SinglyAssigned (core (table_of typed.now) (tree_of script.now))) }
-    ensures broken { IfErr result (λ fault. fault ≢ AssignFault.Memory → IsTyped (table_of typed.now) (tree_of script.now) → Breaks (table_of typed.now) (tree_of script.now) fault) }
-    ensures none_before { IfErr result (λ fault. fault ≢ AssignFault.Memory → IsTyped (table_of typed.now) (tree_of script.now) → (other : AssignFault) → Breaks (table_of typed.now) (tree_of script.now) other → faults.precedes other fault ≡ false) }
+    ensures not_single { IfErr result (λ fault. fault ≢ AssignFault.Memory → IsTyped (table_of typed.now) (tree_of script.now)
+        → ¬ SinglyAssigned (core (table_of typed.now) (tree_of script.now))) }
+    ensures broken { IfErr result (λ fault. fault ≢ AssignFault.Memory → IsTyped (table_of typed.now) (tree_of script.now)
+        → Breaks (table_of typed.now) (tree_of script.now) fault) }
+    ensures none_before { IfErr result (λ fault. fault ≢ AssignFault.Memory → IsTyped (table_of typed.now) (tree_of script.now)
+        → (other : AssignFault) → Breaks (table_of typed.now) (tree_of script.now) other → faults.precedes other fault ≡ false) }
 {
     match assign_check::check(alloc, script, typed) {
         Ok(()) => Ok(Single),
@@ -79,7 +82,8 @@ pub fn lower<A: Allocator + Clone>(
     _single: &Single,
 ) -> Result<Flow<A>, AllocError>
     ensures core { IfOk result (λ flow. core_of flow ≡ core (table_of typed.now) (tree_of script.now)) }
-    ensures declared { IfOk result (λ flow. declared_of flow ≡ flagged (own_declarations (tree_of script.now)) ++ flagged (function_declarations (tree_of script.now))) }
+    ensures declared { IfOk result (λ flow.
+        declared_of flow ≡ flagged (own_declarations (tree_of script.now)) ++ flagged (function_declarations (tree_of script.now))) }
     ensures kinds { IfOk result (λ flow. kinds_of flow ≡ map kinds_of_signature (signatures (tree_of script.now))) }
 {
     lowering::lower(alloc, script, typed)
