@@ -12,6 +12,7 @@ ghost use Rattle.workers.specs.Reports.{IsReport};
 use crate::scripts::Code;
 use board::board::Board;
 use board_runs::report::Report;
+pub use board_runs::report::report_of;
 use std::alloc::{AllocError, Global};
 use std::sync::Wait;
 use std::thread::Threads;

@@ -3,10 +3,9 @@ ghost use Rattle.board.specs.Board.{IsWorker};
 ghost use Rattle.board_runs.specs.Report.{IsOver};
 
 use crate::told::{note, print_report, wrong};
-use board_runs::report::report_of;
 use std::alloc::Global;
 use std::io;
-use swt_library::runs::new_board;
+use swt_library::runs::{new_board, report_of};
 use swt_library::scripts::Code;
 use swt_library::{Board, Kind, Refusal, Report, Work};
 
