@@ -1,9 +1,8 @@
 -- A line is what the words ask for, but for how it is to be told.
-use Rattle.std.specs.Prelude.{◌≡◌, ℕ, List, Option, Some, Err, option_map}
+use Rattle.std.specs.Prelude.{◌≡◌, ℕ, List, Some, Err, option_map}
 use Rattle.std.proofs.Common.{ap, sym, ◌∙◌}
 use Rattle.swt_arguments.specs.declared.fault.LineFault.{LineFault}
 use Rattle.swt_arguments.specs.declared.fault.LineFault.TheVariants.{Usage, Memory}
-use Rattle.swt_arguments.specs.declared.line.Line.{Line}
 use Rattle.swt_arguments.specs.declared.request.Request.{Request}
 use Rattle.swt_arguments.specs.Requests.{request_of}
 use Rattle.swt_arguments.specs.Words.{Answers}
