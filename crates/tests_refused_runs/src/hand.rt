@@ -19,7 +19,7 @@ const FIRST: u8 = 4;
 const LIMIT: u32 = 1_000_000;
 
 /// What a board shows without taking memory.
-#[derive(Clone, Copy, Debug, PartialEq, Eq)]
+#[derive(Clone, Copy, PartialEq, Eq)]
 struct Views {
     events: usize,
     lines: usize,

@@ -22,12 +22,12 @@ use std::{env, io};
 use swt_library::scripts::Code;
 
 /// A part of the way from a script to its runs.
-#[derive(Clone, Copy, Debug, PartialEq, Eq)]
+#[derive(Clone, Copy, PartialEq, Eq)]
 enum Part {
     Stages,
     Arena,
     Runs,
-    Threads,
+    OnThreads,
 }
 
 impl Part {
@@ -37,7 +37,7 @@ impl Part {
             "stages" => Some(Part::Stages),
             "arena" => Some(Part::Arena),
             "runs" => Some(Part::Runs),
-            "threads" => Some(Part::Threads),
+            "threads" => Some(Part::OnThreads),
             _ => None,
         }
     }
@@ -69,7 +69,7 @@ fn try_name<R: Threads + Wait + Sync>(
     match part {
         Part::Stages => front::try_stages(rt, alloc, &alloc, script),
         Part::Arena => try_in_arena(rt, alloc, script),
-        Part::Runs | Part::Threads => try_runs(rt, threads, alloc, script, part),
+        Part::Runs | Part::OnThreads => try_runs(rt, threads, alloc, script, part),
     }
 }
 
@@ -101,7 +101,7 @@ fn run_code<R: Threads + Wait + Sync>(
     code: &Code,
     part: Part,
 ) -> io::Result<()> {
-    if part == Part::Threads {
+    if part == Part::OnThreads {
         return runs::try_threads(rt, threads, alloc, code);
     }
     hand::try_board(rt, alloc, code)?;
