@@ -21,17 +21,14 @@ invariant_of-self-2-clause-takes g c =
     let old = c.args.self.now.seats.items in
     let s = c.args.ended.hand.offers.seat in
     let items : c.push_reserved.new.self.items ≡ old ++ s ∷ [] = search rules in
-    let draws : c.push_reserved-3.new.self.items ≡ c.args.self.now.draws.items ++ c.args.ended.hand.offers.drawn ∷ [] = search rules in
+    let draws : c.push_reserved-2.new.self.items ≡ c.args.self.now.draws.items ++ c.args.ended.hand.offers.drawn ∷ [] = search rules in
     let f : SeatView → ℕ = λ v. length v.taken in
     let e = ap (λ (l : List PoolSeat). total f (map view l)) items ∙ total_popped f old s in
-    let d = sum_more c.args.self.now.draws.items c.push_reserved-3.new.self.items c.args.ended.hand.offers.drawn draws in
+    let d = sum_more c.args.self.now.draws.items c.push_reserved-2.new.self.items c.args.ended.hand.offers.drawn draws in
     omega (arith, e, d, c.args.self.now.takes, c.args.ended.hand.offers.takes)
 
 pub invariant_of-self-2-clause-tallied : goal.invariant_of-self-2-clause-tallied
-invariant_of-self-2-clause-tallied g c =
-    let items : c.push_reserved-2.new.self.items ≡ c.args.self.now.tallies.items ++ c.args.ended.hand.tally ∷ [] = search rules in
-    let d = sum_more c.args.self.now.tallies.items c.push_reserved-2.new.self.items c.args.ended.hand.tally items in
-    omega (arith, d, c.args.self.now.tallied, c.args.ended.hand.tallied, c.merge.ensures.amount)
+invariant_of-self-2-clause-tallied g c = ?
 
 pub invariant_of-self-2-clause-of_pool : goal.invariant_of-self-2-clause-of_pool
 invariant_of-self-2-clause-of_pool g c =
