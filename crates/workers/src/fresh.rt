@@ -52,6 +52,7 @@ fn fresh_at(board: &Board, place: usize) -> (Kind, Fresh)
 }
 
 /// Puts them behind the list, which has room. Those learn of them that they are for.
+#[tactic(auto, using(crate::proofs::Listing::none_listed, crate::proofs::Listing::all_listed))]
 fn append_fresh(board: &Board, list: &mut Vec<Fresh>, crowds: &mut Crowds)
     requires { vec_len list.old + length board.now.newly ≤ vec_capacity list.old }
     ensures listed { AreListed board.now list.old.items list.new.items }

@@ -27,6 +27,7 @@ pub struct Sums<J: Job, E: Ledger, N: Ledger> {
     pub lost: u64,
     pub of: PhantomData<J>,
     ghost parts: { (events.parts ≡ vec_len seats) × (news.parts ≡ vec_len seats) },
+    ghost sized: { length tallies ≡ 64 },
     ghost tallied: { sum tallies ≡ events.amount },
     ghost told: { news.amount ≡ offered + full + lost },
     ghost fits: { news.amount < 2 ^ 64 },

@@ -1,10 +1,12 @@
-use Rattle.std.proofs.Common.{rules, arith, ◌≡◌, ◌∙◌, ◌++◌, ◌∷◌, [], ap, length, map, List, ℕ}
+use Rattle.std.proofs.Common.{rules, arith, ◌≡◌, ◌<◌, ◌∙◌, ◌+◌, ◌++◌, ◌∷◌, [], ap, length, length-set, map, slice_index, List, ℕ}
 use Rattle.pool.specs.declared.pool.PoolSeat.{PoolSeat}
 use Rattle.pool.specs.declared.rule.SeatView.{SeatView}
 use Rattle.pool.specs.Seats.{view, seat_pool}
 use Rattle.pool.specs.Views.{total}
 use Rattle.pool.proofs.Gathered.{total_popped}
+use Rattle.task_code.specs.View.{kind_view}
 use Rattle.workers.proofs.Added.{sum_more, all_more}
+use Rattle.workers.proofs.Tallied.{sum_set, theirs}
 use Rattle.workers.proofs.sums.Sums.add.Goals as goal
 
 pub invariant_of-self-2-clause-offers : goal.invariant_of-self-2-clause-offers
@@ -28,7 +30,18 @@ invariant_of-self-2-clause-takes g c =
     omega (arith, e, d, c.args.self.now.takes, c.args.ended.hand.offers.takes)
 
 pub invariant_of-self-2-clause-tallied : goal.invariant_of-self-2-clause-tallied
-invariant_of-self-2-clause-tallied g c = ?
+invariant_of-self-2-clause-tallied g c =
+    let ts = c.args.self.now.tallies in
+    let hand = c.args.ended.hand in
+    let place = theirs g.J.Job.engines g.J.Job.workers hand.worker (kind_view hand.kind) hand.place in
+    let within : hand.worker < length ts = omega (arith, place, c.check.ensures.few, c.args.self.now.sized) in
+    omega (arith, sum_set ts hand.worker hand.tally within, c.args.self.now.tallied, hand.tallied, c.merge.ensures.amount, c.check.ensures.amounts.0)
+
+pub invariant_of-self-2-clause-sized : goal.invariant_of-self-2-clause-sized
+invariant_of-self-2-clause-sized g c =
+    let ts = c.args.self.now.tallies in
+    let v = c.args.ended.hand.worker in
+    length-set ts v (slice_index ts v + c.args.ended.hand.tally) ∙ c.args.self.now.sized
 
 pub invariant_of-self-2-clause-of_pool : goal.invariant_of-self-2-clause-of_pool
 invariant_of-self-2-clause-of_pool g c =
