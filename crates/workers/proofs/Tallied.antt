@@ -38,12 +38,10 @@ tallied_step {H} number count ts new h items rest w all within split is before =
     let parts : sum_by f items ≡ f h + sum_by f rest = ap (sum_by f) split ∙ sum_by-cons f h rest in
     tallied_more ts new (number h) (count h) w (sum_by f rest) all within is (ap (λ (n : ℕ). slice_index ts w + n) (sym parts) ∙ before)
 
-pub tallied_all : {H : Type 0} (number count : H → ℕ) (ts : List ℕ) (items : List H) (w all : ℕ) → items ≡ []
+pub tallied_all : {H : Type 0} (number count : H → ℕ) (ts : List ℕ) (items : List H) (w all : ℕ) → length items ≡ 0
     → slice_index ts w + sum_by (λ x. if nat_eq (number x) w then count x else 0) items ≡ all → slice_index ts w ≡ all
-tallied_all {H} number count ts items w all none before =
-    let f : H → ℕ = λ (x : H). if nat_eq (number x) w then count x else 0 in
-    let left : sum_by f items ≡ 0 = ap (sum_by f) none in
-    omega (arith, left, before)
+tallied_all number count ts [] w all none before = omega (arith, before)
+tallied_all number count ts (x ∷ xs) w all none before = absurd (omega (arith, none))
 
 -- what is added at one place comes to the sum
 pub sum_set : (ts : List ℕ) (v t : ℕ) → v < length ts → sum (slice_set ts v (slice_index ts v + t)) ≡ sum ts + t

@@ -1,4 +1,4 @@
-use Rattle.std.proofs.Common.{rules, arith, ◌≡◌, ◌+◌, ◌<◌, ◌∷◌, [], length}
+use Rattle.std.proofs.Common.{rules, arith, ◌≡◌, ◌+◌, ◌<◌, ◌∷◌, length}
 use Rattle.std.specs.Vec.Iter.{into_iter_items, into_iter_len}
 use Rattle.workers.specs.declared.hand.Ended.{Ended}
 use Rattle.workers.proofs.Tallied.{tallied_all, tallied_step}
@@ -20,5 +20,5 @@ loop-hand-preserved g c =
 pub returns-clause-own : goal.returns-clause-own
 returns-clause-own g c =
     let H : Type 0 = Ended g.row.J.Denot g.row.E.Denot g.row.N.Denot g.J.Job in
-    let none : into_iter_items c.loop-hand.hand-iterator ≡ [] = search rules in
+    let none : length (into_iter_items c.loop-hand.hand-iterator) ≡ 0 = search rules in
     λ w lt. tallied_all {H = H} (λ h. h.hand.worker) (λ h. h.hand.tally) c.loop-hand.sums.tallies (into_iter_items c.loop-hand.hand-iterator) w _ none (c.loop-hand.invariant.own w lt)
