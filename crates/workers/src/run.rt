@@ -175,6 +175,7 @@ fn counted(offered: u64, full: u64, draws: &[u64], holes: &[u64; 96]) -> PoolCou
     requires { offered ≡ sum draws.now + count_by (λ n. nat_lt 0 n) holes.now }
     ensures offers { (result.offered ≡ offered) × (result.full ≡ full) }
     ensures draws { (result.drawn ≡ sum draws.now) × (result.left ≡ count_by (λ n. nat_lt 0 n) holes.now) }
+    ensures drawn { offered ≡ result.drawn + result.left }
     ensures few { result.left ≤ 96 }
 {
     PoolCount {

@@ -1,4 +1,4 @@
-use Rattle.std.proofs.Common.{rules, arith, ◌≡◌, ◌+◌, subst, None, ℕ}
+use Rattle.std.proofs.Common.{rules, arith, ◌≡◌, ◌∙◌, ◌+◌, subst, None, ℕ}
 use Rattle.board_runs.specs.Report.{Tells}
 use Rattle.workers.specs.Threads.{RunsTo}
 use Rattle.workers.proofs.Threads.{is_run, newly_told}
@@ -14,7 +14,6 @@ returns-clause-report g c =
     let stopped : c.close-board.result.1 ≡ None = search rules in
     let none_lost : s.lost ≡ 0 = search rules in
     let offers = c.counted-count.ensures.offers in
-    let draws = c.counted-count.ensures.draws in
     let p = c.counted-count.result in
     let count : s.news.amount ≡ p.offered + p.full = omega (arith, s.told, none_lost, offers.0, offers.1) in
     let run : RunsTo C e k b.history (p.offered + p.full) b.state = subst (λ (n : ℕ). RunsTo C e k b.history n b.state) count c.close-board.ensures.run in
@@ -30,6 +29,6 @@ returns-clause-report g c =
       no_back = c.close-board.ensures.no_back stopped;
       tells = tells;
       tallies = tells.tallies.each;
-      drawn = omega (arith, offers.0, draws.0, draws.1, s.offers, s.takes, c.close-rest.ensures.count);
+      drawn = offers.0 ∙ c.counted-count.ensures.drawn;
       few_left = c.counted-count.ensures.few;
     }
