@@ -1,7 +1,6 @@
 //! What a thread has: its number and kind, a seat at the pool, its shares of the books and its counts.
 ghost use Rattle.std.specs.Prelude.{◌≡◌, ◌+◌, length};
 ghost use Rattle.pool.specs.Seats.{view, seat_pool, pool_id};
-ghost use Rattle.task_code.specs.View.{kind_view};
 ghost use Rattle.workers.specs.Threads.{IsPlace};
 
 use crate::begun::{Begun, Finished};
@@ -30,7 +29,7 @@ pub struct Hand<J: Job, E: Ledger, N: Ledger> {
     pub dones: Vec<Finished<J>>,
     pub comes: bool,
     pub of: PhantomData<J>,
-    ghost place: { IsPlace J.engines J.workers worker (kind_view kind) },
+    ghost place: { IsPlace J.engines J.workers worker kind },
     ghost of_pool: { seat_pool offers.seat ≡ J.pool },
     ghost one_each: { (events.parts ≡ 1) × (news.parts ≡ 1) },
     ghost tallied: { events.amount ≡ tally },
@@ -47,7 +46,7 @@ impl<J: Job, E: Ledger, N: Ledger> Hand<J, E, N> {
         events: Share<E>,
         news: Share<N>,
     ) -> Hand<J, E, N>
-        requires place { IsPlace J.engines J.workers worker (kind_view kind) }
+        requires place { IsPlace J.engines J.workers worker kind }
         requires seat { (seat_pool seat ≡ J.pool) × (length (view seat).offered ≡ 0) × (length (view seat).taken ≡ 0) }
         requires shares { (events.parts ≡ 1) × (news.parts ≡ 1) × (events.amount ≡ 0) × (news.amount ≡ 0) }
         ensures { result.offers.pending ≡ 0 }
