@@ -17,7 +17,6 @@ ghost use Rattle.board.specs.Ready.{AreReady, HasKind, IsFirst, IsNext, IsReady}
 ghost use Rattle.board.specs.Blocked.{AreBlocked, IsFaultOf};
 ghost use Rattle.dataflow.specs.System.{In};
 
-use crate::laws::work_stays;
 use crate::refusal::Refusal;
 use crate::state::Core;
 use board_compute::answer::Answer;
@@ -196,8 +195,6 @@ impl Board {
         ensures handed_back { IfErr result (λ e. e.0 ≡ done) }
         ensures unchanged { OnErr result (self.new ≡ self.old) }
     {
-        work_stays();
-        let _events = self.history();
         self.end_begun(worker, done)
     }
 
