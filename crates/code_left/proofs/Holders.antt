@@ -3,7 +3,7 @@ use Rattle.std.proofs.Common.{◌≡◌, ◌⊎◌, inl, inr, false, List, [], �
 use Rattle.dataflow.specs.System.{In, tasks_of, reads_of, Input, StoredScalar, ClosedArray, ElementOf, ElementAt, Opening, Effect, Good, System}
 use Rattle.dataflow.specs.Facts.{Live, live_main, live_opened, Made, Comes}
 use Rattle.dataflow.specs.Laws.{Can, Laws}
-use Rattle.dataflow.specs.Log.{Logged, Ended, Waits, Stored, Ready, IsNew, IsLog, log_start, log_step}
+use Rattle.dataflow.specs.Log.{Logged, Ended, Waits, Stored, Ready, IsLog, log_start, log_step}
 use Rattle.dataflow.specs.Machine.{Item, State, ClosedByRights, Holds, IsElementKnown, IsKnown}
 use Rattle.dataflow.proofs.Frozen.{Within, live_grows, written_grows}
 use Rattle.dataflow.proofs.Settled.{Settled, can_of_comes, live_valid}

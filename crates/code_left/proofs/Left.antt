@@ -1,9 +1,8 @@
 -- Where an item is left in a quiet state, a statement is blocked.
 use Rattle.std.proofs.Common.{◌≡◌, ◌⊎◌, inl, inr, ℕ, zero, suc, ◌<◌, Bool, true, false, List, [], ◌∷◌, map, refl, sym, ap, ◌∙◌, subst, Option, None, Some, arith}
-use Rattle.std.specs.Prelude.{◌&&◌, not, length}
+use Rattle.std.specs.Prelude.{not, length}
 use Rattle.std.specs.List.{flat_map, list_all, list_any}
-use Rattle.dataflow.specs.System.{In, Input, StoredScalar, ClosedArray, ElementOf, ElementAt, reads_of, Effect, Opening}
-use Rattle.dataflow.specs.Laws.{Can}
+use Rattle.dataflow.specs.System.{In, Input}
 use Rattle.dataflow.specs.Log.{Logged}
 use Rattle.dataflow.specs.Machine.{IsKnown}
 use Rattle.dataflow.proofs.Follows.{Follows}
@@ -11,8 +10,7 @@ use Rattle.dataflow.proofs.Lists.{in_unmap}
 use Rattle.dataflow.proofs.Runs.{run_settled}
 use Rattle.dataflow.proofs.Settled.{live_valid}
 use Rattle.values.specs.declared.key.Key.{Key}
-use Rattle.values.specs.declared.value.Scalar.{Scalar}
-use Rattle.task_code.specs.Code.{Act, Argument, Assert, At, AtKey, Call, Cell, Closed, Code, Copy, Each, Entry, Fill, Fixed, Header, If, Local, Name, Named, Need, Owned, Parameter, Print, Put, Range, Read, Set, Stored, Variable, Wait, Way, argument, arguments, call_at, entry, here, is_array_name, is_array_owned, scalar, stored_of, targets, targets_of, ways}
+use Rattle.task_code.specs.Code.{Act, Argument, Assert, At, AtKey, Call, Cell, Closed, Code, Copy, Each, Entry, Fill, Fixed, Header, If, Local, Name, Named, Need, Owned, Parameter, Print, Put, Range, Read, Set, Stored, Variable, Wait, Way, argument, arguments, call_at, entry, here, is_array_name, is_array_owned, scalar, targets, targets_of, ways}
 use Rattle.task_code.specs.Effects.{Item, Main, Task}
 use Rattle.task_code.specs.Exact.{IsExact, Leads, itself, needs_of, through}
 use Rattle.task_code.specs.Machine.{CodeItem, CodeLog, CodeState, Quiet}
@@ -21,7 +19,7 @@ use Rattle.task_code.specs.Runs.{Blocked, FirstUnknown, IsBlockedAt, IsHeaderKno
 use Rattle.task_code.specs.Shape.{fits_kinds, has_headers, has_shape, is_none, is_same_plain}
 use Rattle.task_code.specs.System.{code_system, element_input, inputs_at, key_input, scalar_input, task_inputs, task_reads, task_writes, whole_input}
 use Rattle.task_code.specs.Whole.{IsCode}
-use Rattle.task_code.proofs.Checked.{not_true, or_true}
+use Rattle.task_code.proofs.Checked.{or_true}
 use Rattle.task_code.proofs.Counted.{gather_in}
 use Rattle.task_code.proofs.Equal.{every_in, name_sound, true_and}
 use Rattle.task_code.proofs.Kept.{code_laws}

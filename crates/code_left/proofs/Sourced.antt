@@ -1,5 +1,5 @@
 -- Whole code whose scalars have sources, as a system: what an item stores or opens, it hands the right on.
-use Rattle.std.proofs.Common.{◌≡◌, ◌⊎◌, inl, inr, ℕ, zero, suc, Bool, true, false, List, [], ◌∷◌, map, refl, sym, ap, ◌∙◌, subst, Option, None, Some}
+use Rattle.std.proofs.Common.{◌≡◌, ◌⊎◌, inl, inr, ℕ, Bool, true, false, List, [], ◌∷◌, map, refl, sym, ap, ◌∙◌, subst, Option, None, Some}
 use Rattle.std.specs.Prelude.{◌&&◌, Result, Ok, Err, pos}
 use Rattle.std.specs.List.{flat_map, list_all}
 use Rattle.dataflow.specs.System.{In, Answer, Found, Missing, Content, Bad, Effect, Good, Opening, Outcome, Write}
@@ -14,7 +14,7 @@ use Rattle.values.specs.declared.value.Scalar.{Scalar}
 use Rattle.values.specs.declared.value.Value.{Value}
 use Rattle.task_code.specs.Code.{Act, Assert, ByCalls, ByMain, ByStep, ByWait, Call, Calling, Cell, Code, Copy, Each, Fill, If, InPlace, Loop, Name, Need, Opener, Print, Put, Range, Read, Set, Through, Variable, Wait, Way, body, entry, here, is_array_name, loop_of, loop_variables, scalar, stored_of, turn_variables, ways}
 use Rattle.task_code.specs.Compute.{Computed, EntryFault, Fails, Gives, Inserts, Opens, Takes, Turns, answer_at, branched, compute, eval, given, key_scalar, read}
-use Rattle.task_code.specs.Effects.{Item, Main, Task, block, bound, branch_instances, chunk, effect_at, instances, is_too_deep, limited, only, outcome_of, rest, step_at, stored_at, stores, turn_bound, turns_of}
+use Rattle.task_code.specs.Effects.{Item, Main, Task, block, bound, branch_instances, chunk, effect_at, instances, is_too_deep, only, outcome_of, rest, step_at, stored_at, stores, turn_bound, turns_of}
 use Rattle.task_code.specs.Places.{Datum, Place, Step, place_array, place_at}
 use Rattle.task_code.specs.Shape.{fits_kinds, has_shape}
 use Rattle.task_code.specs.System.{answered, code_system, data_among, task_reads, task_writes}

@@ -1,10 +1,10 @@
 -- The test of sources and of cells is right.
-use Rattle.std.proofs.Common.{◌≡◌, ◌⊎◌, inl, inr, ℕ, zero, suc, ◌<◌, Bool, true, false, List, [], ◌∷◌, refl, sym, ◌∙◌, subst, Option, None, Some, arith}
+use Rattle.std.proofs.Common.{◌≡◌, ◌⊎◌, inl, inr, ℕ, zero, suc, ◌<◌, true, false, List, [], ◌∷◌, refl, sym, ◌∙◌, subst, Option, None, Some, arith}
 use Rattle.std.specs.Prelude.{◌&&◌, ◌||◌, not, nat_lt}
 use Rattle.std.specs.List.{list_all, list_any}
 use Rattle.dataflow.specs.System.{In}
 use Rattle.task_code.specs.Code.{Argument, Body, ByCalls, ByMain, ByStep, ByWait, Calling, Code, Entry, Fixed, InPlace, Local, Loop, Name, Named, Opener, Owned, Parameter, Through, Variable, Way, argument, blank_body, blank_entry, body, entry, here, is_array_name, loop_of, loop_variables, scalar, stored_of, ways}
-use Rattle.task_code.specs.Check.{every_at, is_seen, name_in, variable_in}
+use Rattle.task_code.specs.Check.{every_at, is_seen, name_in}
 use Rattle.task_code.specs.Exact.{needs_of}
 use Rattle.task_code.specs.Whole.{Seen}
 use Rattle.task_code.proofs.Checked.{every_at_sound, in_name_in, name_in_sound, not_true, or_true, variable_in_sound}

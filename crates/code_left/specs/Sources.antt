@@ -1,7 +1,7 @@
 -- What tells of code that whatever waits for ever waits for a statement: each scalar that can be read is stored by somebody, and cells wait for cells before them.
 use Rattle.std.specs.Prelude.{◌≡◌, ◌⊎◌, ℕ, ◌<◌, Bool, true, false, Some}
 use Rattle.dataflow.specs.System.{In}
-use Rattle.task_code.specs.Code.{Variable, Name, Loop, Act, Cell, Read, Call, Set, Fill, Copy, Put, Print, Assert, If, Range, Each, Wait, ByStep, Code, Way, entry, body, here, scalar, is_array_name, stored_of, loop_of, loop_variables, ways}
+use Rattle.task_code.specs.Code.{Variable, Name, Loop, Act, Cell, Read, Call, If, Wait, ByStep, Code, Way, entry, body, here, scalar, is_array_name, stored_of, loop_of, loop_variables, ways}
 use Rattle.task_code.specs.Whole.{Seen}
 use Rattle.task_code.specs.Exact.{needs_of}
 

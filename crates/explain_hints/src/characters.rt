@@ -180,7 +180,10 @@ fn on_sign(before: &[u8], byte: u8, rest: &[u8]) -> Option<&'static str> {
         b'%' if rest.starts_with(b"%=") => {
             Some("a variable has one value, and the remainder is %%: int y = x %% 3;")
         }
-        b'%' | b'\'' if matches!(last_sign(before), b' ' | b'\n' | b'\r') => {
+        b'%' if last_sign(before) == b'"' => {
+            Some("what is filled in stands behind the format: printf(\"n = %i\", n);")
+        }
+        b'%' | b'\'' if matches!(last_sign(before), b' ' | b'\n' | b'\r' | b';' | b'{' | b'}') => {
             Some("a comment begins with //, and a string stands between \"")
         }
         b'~' if rest.starts_with(b"~=") => Some("unequal is !="),

@@ -41,7 +41,10 @@ pub fn ending(around: &Around<'_>) -> Option<Advice> {
             "an if stands in front, with a block: if (x > 0) { y = 1; } else { y = 2; }",
         );
     }
-    if found == TokenKind::In && around.first.kind != TokenKind::Foreach {
+    if found == TokenKind::In
+        && ends_expression(around.last.kind)
+        && around.first.kind != TokenKind::Foreach
+    {
         return Advice::here(
             "nothing tells whether an element is there: keep in a second array which are",
         );
@@ -139,7 +142,12 @@ pub fn value(around: &Around<'_>) -> Option<Advice> {
     if wants_value(around.found.kind)
         && (around.found.span == around.first.span || opens(around.last.kind))
     {
-        return Advice::here("something is missing before this sign");
+        return Advice::here(match around.found.kind {
+            TokenKind::Times => {
+                "something is missing before this sign; a comment ends with the first */ behind its /*"
+            }
+            _ => "something is missing before this sign",
+        });
     }
     None
 }

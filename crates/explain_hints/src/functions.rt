@@ -642,7 +642,7 @@ pub fn on_function(name: &[u8]) -> Option<&'static str> {
 }
 
 /// Variables that are not there, and what is there instead.
-static VARIABLES: [Row; 21] = [
+static VARIABLES: [Row; 27] = [
     Row {
         word: "True",
         words: "write true",
@@ -726,6 +726,30 @@ static VARIABLES: [Row; 21] = [
     Row {
         word: "pi",
         words: "there are whole numbers alone: scale them, as 31416 for 3.1416",
+    },
+    Row {
+        word: "ture",
+        words: "write true",
+    },
+    Row {
+        word: "treu",
+        words: "write true",
+    },
+    Row {
+        word: "tru",
+        words: "write true",
+    },
+    Row {
+        word: "flase",
+        words: "write false",
+    },
+    Row {
+        word: "fasle",
+        words: "write false",
+    },
+    Row {
+        word: "fals",
+        words: "write false",
     },
 ];
 

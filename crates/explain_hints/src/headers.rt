@@ -2,7 +2,9 @@
 
 use crate::advice::Advice;
 use crate::around::Around;
-use crate::kinds::{begins_statement, ends_expression, is_arithmetic, is_plain, is_type, is_word};
+use crate::kinds::{
+    begins_statement, closes, ends_expression, is_arithmetic, is_plain, is_type, is_word,
+};
 use lexer::token::TokenKind;
 
 const HEAD: &str = "a function begins with its outputs: (int r) f(int n) { r = n; }";
@@ -194,6 +196,9 @@ fn headed(around: &Around<'_>) -> Option<Advice> {
         };
     }
     let is_target = around.opener.span == around.first.span;
+    if is_target && is_type(around.found.kind) {
+        return Advice::here("a type stands before its name: (int r) f(int n) { r = n; }");
+    }
     if is_target
         && (around.found.kind == TokenKind::OpenSquare || around.last.kind == TokenKind::Comma)
     {
@@ -222,6 +227,9 @@ fn listed(around: &Around<'_>) -> Option<Advice> {
             "each output and input has its type: (int r, int s) f(int n, string t) { .. }",
         ),
         TokenKind::Assign => Advice::here("an input has no value of its own: each call gives one"),
+        TokenKind::Semicolon if is_type(around.next.kind) => {
+            Advice::here("a , stands between outputs, and between inputs")
+        }
         _ => None,
     }
 }
@@ -232,6 +240,7 @@ fn behind_outputs(around: &Around<'_>) -> Option<Advice> {
         TokenKind::Name => {
             Advice::here("a function's inputs stand in brackets: (int r) f(int n) { r = n; }")
         }
+        TokenKind::CloseRound if closes(around.found.kind) => None,
         TokenKind::CloseRound if around.closed.kind == TokenKind::Name => Advice::here(BODY),
         TokenKind::CloseRound => Advice::here(match around.found.kind {
             TokenKind::OpenRound => {

@@ -17,6 +17,9 @@ const UNEQUAL: &str = "unequal is !=";
 
 const UNCLOSED: &str = "a ) is missing for the (";
 
+const ARROW: &str =
+    "there is no ->: an array has elements, A[i], and a call's value is assigned, x = f(3);";
+
 const POWERS: &str = "there are no powers: x * x, or a function that multiplies";
 
 /// Where a sign is none of this language, or stands where another one is wanted.
@@ -211,9 +214,7 @@ fn operator(around: &Around<'_>) -> Option<Advice> {
         (TokenKind::Less, TokenKind::Less) | (TokenKind::Greater, TokenKind::Greater) => {
             Advice::here("there are no operators on bits: multiply by 2, or divide by it with %/")
         }
-        (TokenKind::Minus, TokenKind::Greater) => {
-            Advice::here("there is no ->: an array has elements, A[i], and a function outputs")
-        }
+        (TokenKind::Minus, TokenKind::Greater) => { Advice::here(ARROW) }
         (TokenKind::Plus, TokenKind::Plus) if around.before_last.kind == TokenKind::Text => {
             Advice::here(JOINED)
         }
@@ -240,6 +241,9 @@ fn changed(around: &Around<'_>) -> Option<Advice> {
         return Advice::here(
             "a variable has one value: int j = i + 1; a loop counts by itself, foreach i in [0:9] { .. }, and sums go along an array: s[i] = s[i - 1] + 1",
         );
+    }
+    if found == TokenKind::Minus && goes_on(around, TokenKind::Greater) {
+        return Advice::here(ARROW);
     }
     if found == TokenKind::Times && goes_on(around, TokenKind::Times) {
         return Advice::here(POWERS);

@@ -117,7 +117,13 @@ fn semicolon(around: &Around<'_>) -> Option<Advice> {
     } else if around.found.kind == TokenKind::Text && around.last.kind == TokenKind::Text {
         Advice::here("strings are joined by +: \"a\" + \"b\"")
     } else if is_plain(around.found.kind) {
-        Advice::of("a ; or an operator is missing", behind)
+        Advice::of(
+            match around.last.kind {
+                TokenKind::Name => "a ;, an operator or the ( of a call is missing",
+                _ => "a ; or an operator is missing",
+            },
+            behind,
+        )
     } else {
         None
     }

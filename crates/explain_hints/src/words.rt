@@ -21,6 +21,8 @@ const ELSE_IF: &str = "write else if (x > 0) { .. }";
 
 const PLAIN: &str = "every variable is assigned once, so it is declared plainly: int n = 4;";
 
+const RETURNED: &str = "a function assigns its outputs: (int r) f(int n) { r = n; }";
+
 const BLOCKS: &str = "a block stands between { and }";
 
 const PRINTED: &str = "write printf(\"%s\", s); or printf(\"%i\", n);";
@@ -37,7 +39,7 @@ const ONE_FILE: &str =
     "a script is one file: there are no structures, types, files or packages of its own";
 
 /// Words that begin a statement elsewhere, and none here.
-static FIRST_WORDS: [Row; 111] = [
+static FIRST_WORDS: [Row; 121] = [
     Row {
         word: "for",
         words: LOOP,
@@ -68,7 +70,7 @@ static FIRST_WORDS: [Row; 111] = [
     },
     Row {
         word: "break",
-        words: ENDLESS,
+        words: "all turns of a loop run at once, and none ends it: put what is left out into an if",
     },
     Row {
         word: "continue",
@@ -164,7 +166,7 @@ static FIRST_WORDS: [Row; 111] = [
     },
     Row {
         word: "return",
-        words: "a function assigns its outputs: (int r) f(int n) { r = n; }",
+        words: RETURNED,
     },
     Row {
         word: "def",
@@ -481,6 +483,46 @@ static FIRST_WORDS: [Row; 111] = [
     Row {
         word: "goto",
         words: ENDLESS,
+    },
+    Row {
+        word: "whlie",
+        words: ENDLESS,
+    },
+    Row {
+        word: "wihle",
+        words: ENDLESS,
+    },
+    Row {
+        word: "wile",
+        words: ENDLESS,
+    },
+    Row {
+        word: "retrun",
+        words: RETURNED,
+    },
+    Row {
+        word: "retunr",
+        words: RETURNED,
+    },
+    Row {
+        word: "retrn",
+        words: RETURNED,
+    },
+    Row {
+        word: "swich",
+        words: CASES,
+    },
+    Row {
+        word: "swtich",
+        words: CASES,
+    },
+    Row {
+        word: "REM",
+        words: "a comment begins with //",
+    },
+    Row {
+        word: "rem",
+        words: "a comment begins with //",
     },
 ];
 
