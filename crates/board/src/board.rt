@@ -537,10 +537,7 @@ fn number_at(numbers: &Vec<u64>, place: usize) -> Option<u64>
 }
 
 /// The numbers of listed items.
-fn numbers_of(
-    alloc: Global,
-    listed: &[(Kind, i32, u64)],
-) -> Result<Vec<u64>, AllocError>
+fn numbers_of(alloc: Global, listed: &[(Kind, i32, u64)]) -> Result<Vec<u64>, AllocError>
     ensures { IfOk result (λ numbers. numbers.items ≡ map (λ (l : AKind × ℤ × ℕ). l.2) listed.now) }
 {
     let mut numbers = Vec::new(alloc);

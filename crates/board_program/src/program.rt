@@ -117,7 +117,6 @@ pub struct Program {
     laid: Arc<Laid>,
 }
 
-
 /// What a need comes to, by where its names lead from the body.
 fn wanted_of(code: &Code, leads: &Leads, body: u32, need: &Need) -> Result<Wanted, AllocError>
     requires { IsLeads code.now leads.now }

@@ -5,7 +5,6 @@ use Rattle.values.specs.declared.value.Scalar.{Scalar}
 use Rattle.values.specs.declared.value.Scalar.TheVariants.{Number}
 use Rattle.values.specs.Values.{same_truth}
 use Rattle.values.specs.Operators.{Operation}
-
 -- engines run control items, workers run leaf items
 pub use Rattle.work_queue.specs.declared.entry.Kind.{Kind}
 pub use Rattle.work_queue.specs.declared.entry.Kind.TheVariants.{Control, Leaf}

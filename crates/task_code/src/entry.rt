@@ -6,7 +6,6 @@ ghost use Rattle.task_code.specs.Code.{kind_of};
 use crate::expr::Expr;
 use values::key::Key;
 use values::value::Scalar;
-
 pub use work_queue::entry::Kind;
 
 /// What has a datum in each instance of its block: the node of the source that it belongs to, and whether it is an array.
