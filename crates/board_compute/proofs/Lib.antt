@@ -1,3 +1,2 @@
-mod Chains
 mod Answered
 pub mod Comparisons

@@ -1,4 +1,3 @@
-pub mod Chains
 pub mod View
 pub mod Outcome
 pub mod Same

@@ -5,7 +5,6 @@
 mod assignments_told;
 mod calls;
 mod counts_told;
-mod declared;
 mod names_told;
 pub mod refusal;
 mod sorts;

@@ -24,7 +24,7 @@ pub enum Wish {
     Sort(Sort),
     /// A key of an array of this type, whose name stands there.
     Key(Sort, Span),
-    /// A value of this type, which no literal of an array is.
+    /// An array of this type, whose elements are not written by a literal.
     Literal(Sort),
     /// An array that has elements.
     Element,
@@ -175,7 +175,11 @@ fn in_right<A: Allocator>(
                     base: wanted.base,
                     shape: numbered,
                 };
-                note(found, array, Wish::Literal(wanted));
+                let wish = match wanted.shape {
+                    Shape::Array(Keys::Texts) => Wish::Literal(wanted),
+                    _ => Wish::Sort(wanted),
+                };
+                note(found, array, wish);
             }
         }
     }

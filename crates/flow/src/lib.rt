@@ -14,3 +14,5 @@ mod scopes;
 pub mod script;
 pub mod statement;
 pub mod whole;
+
+pub use whole::is_whole;

@@ -1,5 +1,4 @@
 pub mod Core
-pub mod Distinct
 pub mod Facts
 pub mod Grammar
 pub mod Kinds

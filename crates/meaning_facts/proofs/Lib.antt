@@ -1,5 +1,4 @@
 pub mod Stored
-pub mod Indexed
 pub mod Fronts
 pub mod Standing
 pub mod Adding

@@ -1,4 +1,3 @@
-pub mod Indexed
 pub mod Kinds
 pub mod Store
 pub mod Sighted

@@ -1,4 +1,0 @@
-mod Holders
-mod Sourced
-mod Left
-mod Tested
