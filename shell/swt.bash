@@ -7,11 +7,11 @@ _swt() {
   case $command in
     "") words="check mean code run replay help explain --version --fresh --plain --unproved" ;;
     help) words="check mean code run replay" ;;
-    check) words="--explain --json" ;;
-    mean) words="--rounds --explain" ;;
-    code) words="--dot --explain" ;;
-    run) words="--engines --workers --steps --trace --explain --progress" ;;
-    replay) words="--explain" ;;
+    check) words="--explain --explain=all --json" ;;
+    mean) words="--rounds --explain --explain=all" ;;
+    code) words="--dot --explain --explain=all" ;;
+    run) words="--engines --workers --steps --trace --explain --explain=all --progress" ;;
+    replay) words="--explain --explain=all" ;;
   esac
   case $before in --rounds|--engines|--workers|--steps) return ;; --trace) words="" ;; esac
   if [[ -z $command || $command == help || $word == -* ]]; then

@@ -17,5 +17,6 @@ complete -c swt -n '__fish_seen_subcommand_from run' -l workers -x -d 'threads t
 complete -c swt -n '__fish_seen_subcommand_from run' -l steps -x -d 'so many starts and ends of tasks at most: 0 to 4294967295, or 10000000'
 complete -c swt -n '__fish_seen_subcommand_from run' -l trace -r -d 'writes what the run did, for replay; never over the script'
 complete -c swt -n '__fish_seen_subcommand_from check mean code run replay' -l explain -d 'says on standard error what each refusal, fault and blocked statement means'
+complete -c swt -n '__fish_seen_subcommand_from check mean code run replay' -a --explain=all -d 'the same, and tells each blocked statement, in the order of the lines printed'
 complete -c swt -n '__fish_seen_subcommand_from check' -l json -d 'says on standard error what each refusal means, as lines of JSON'
 complete -c swt -n '__fish_seen_subcommand_from run' -l progress -d 'says once a second on standard error how far the run is'

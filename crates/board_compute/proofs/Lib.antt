@@ -1,2 +1,3 @@
+mod Chains
 mod Answered
 pub mod Comparisons

@@ -1,3 +1,4 @@
+pub mod Chains
 pub mod View
 pub mod Outcome
 pub mod Same

@@ -1,15 +1,17 @@
 //! Expressions of numbers alone, which are worked out with no value in between.
 ghost use Rattle.std.specs.Prelude.{◌≡◌, ◌∷◌, [], Ok, IfSome, Some};
 ghost use Rattle.dataflow.specs.System.{Found};
-ghost use Rattle.task_code.specs.Compute.{answer_at, eval};
-ghost use Rattle.task_code.specs.View.{expr_view, operation_view};
-ghost use Rattle.values.specs.Operators.{applied};
+ghost use Rattle.task_code.specs.Compute.{answer_at, eval, evals};
+ghost use Rattle.task_code.specs.View.{expr_view, exprs_view, operation_view};
+ghost use Rattle.values.specs.Operators.{added, all_values, applied, evaluated, scaled};
 ghost use Rattle.values.specs.declared.value.Scalar.TheVariants.{Number};
 ghost use Rattle.values.specs.declared.value.Value.TheVariants.{One};
+ghost use Rattle.board_compute.specs.Chains.{chain_from};
 ghost use Rattle.board_compute.specs.View.{answers_view};
 
 use crate::answer::{Answer, answer_to};
 use task_code::expr::{Expr, Operator};
+use values::op::{Factor, Sign};
 use values::value::{Scalar, Value};
 
 /// The number that answers the need at this place, if a number does.
@@ -22,24 +24,8 @@ fn number_at(answers: &[Answer], place: u32) -> Option<i64>
     }
 }
 
-/// The number that a sum or a product of two numbers comes to. None for another operator, and where there is a fault.
-fn combined(operator: &Operator, x: i64, y: i64) -> Option<i64>
-    ensures { IfSome result (λ n. applied (operation_view operator.now) (One (Number x) ∷ One (Number y) ∷ []) ≡ Ok (One (Number n))) }
-{
-    match operator {
-        Operator::Sum(signs) => match signs.as_slice() {
-            [sign] => sign.applied_to(x, y).ok(),
-            _ => None,
-        },
-        Operator::Product(factors) => match factors.as_slice() {
-            [factor] => factor.applied_to(x, y).ok(),
-            _ => None,
-        },
-        _ => None,
-    }
-}
-
-/// The number that an expression comes to, if it is made of numbers by sums and products of two. None where there is a fault.
+/// The number that an expression comes to, if it is made of numbers by sums and products. None where there is a fault.
+#[cycle(number)]
 fn number_of(expr: &Expr, answers: &[Answer]) -> Option<i64>
     ensures { IfSome result (λ n. eval (answers_view answers.now) (expr_view expr.now) ≡ Ok (One (Number n))) }
 {
@@ -48,42 +34,92 @@ fn number_of(expr: &Expr, answers: &[Answer]) -> Option<i64>
         Expr::Constant(_) => None,
         Expr::Need(place) => number_at(answers, *place),
         Expr::Operation(operator, operands) => match operands.as_slice() {
-            [one, other] => {
-                let x = number_of(one, answers)?;
-                let y = number_of(other, answers)?;
-                combined(operator, x, y)
-            }
-            _ => None,
+            [first, rest @ ..] => match operator {
+                Operator::Sum(signs) => {
+                    let start = number_of(first, answers)?;
+                    sum_from(start, signs.as_slice(), rest, answers)
+                }
+                Operator::Product(factors) => {
+                    let start = number_of(first, answers)?;
+                    product_from(start, factors.as_slice(), rest, answers)
+                }
+                _ => None,
+            },
+            [] => None,
         },
     }
 }
 
-/// What an operator gives for two numbers, if it is one of sums, products and comparisons. None where there is a fault.
-fn operated(operator: &Operator, x: i64, y: i64) -> Option<Value>
+/// The number that a sum comes to that has come to `start`, with these operands left. None where one is no number, where
+/// there is a fault, and where signs are missing.
+#[cycle(number)]
+fn sum_from(start: i64, signs: &[Sign], rest: &[Expr], answers: &[Answer]) -> Option<i64>
+    ensures { IfSome result (λ n. chain_from added start signs.now (all_values (evals (answers_view answers.now) (exprs_view rest.now))) ≡ Ok n) }
+{
+    if rest.len() > signs.len() {
+        return None;
+    }
+    let mut total = start;
+    for place in 0..rest.len() {
+        let next = number_of(&rest[place], answers)?;
+        total = signs[place].applied_to(total, next).ok()?;
+    }
+    Some(total)
+}
+
+/// The same of a product.
+#[cycle(number)]
+fn product_from(start: i64, factors: &[Factor], rest: &[Expr], answers: &[Answer]) -> Option<i64>
+    ensures { IfSome result (λ n. chain_from scaled start factors.now (all_values (evals (answers_view answers.now) (exprs_view rest.now))) ≡ Ok n) }
+{
+    if rest.len() > factors.len() {
+        return None;
+    }
+    let mut total = start;
+    for place in 0..rest.len() {
+        let next = number_of(&rest[place], answers)?;
+        total = factors[place].applied_to(total, next).ok()?;
+    }
+    Some(total)
+}
+
+/// What a comparison gives for two numbers. None of another operator.
+fn compared(operator: &Operator, x: i64, y: i64) -> Option<Value>
     ensures { IfSome result (λ v. applied (operation_view operator.now) (One (Number x) ∷ One (Number y) ∷ []) ≡ Ok v) }
 {
     match operator {
         Operator::Compare(order) => Some(Value::from_truth(order.holds(x, y))),
         Operator::Equal => Some(Value::from_truth(x == y)),
         Operator::Unequal => Some(Value::from_truth(x != y)),
-        _ => Some(Value::from_number(combined(operator, x, y)?)),
+        _ => None,
     }
 }
 
-/// The value of an expression that is made of numbers by sums, products and comparisons of two. None of any other, and where
-/// there is a fault.
+/// The value of a comparison of two expressions that come to numbers. None of any other, and where there is a fault.
+fn value_of_comparison(operator: &Operator, operands: &[Expr], answers: &[Answer]) -> Option<Value>
+    ensures { IfSome result (λ v. evaluated (operation_view operator.now) (evals (answers_view answers.now) (exprs_view operands.now)) ≡ Ok v) }
+{
+    match operands {
+        [one, other] => {
+            let x = number_of(one, answers)?;
+            let y = number_of(other, answers)?;
+            compared(operator, x, y)
+        }
+        _ => None,
+    }
+}
+
+/// The value of an expression that is made of numbers by sums and products, or that compares two such. None of any other,
+/// and where there is a fault.
 #[inline(always)]
 pub(crate) fn value_of_numbers(expr: &Expr, answers: &[Answer]) -> Option<Value>
     ensures { IfSome result (λ v. eval (answers_view answers.now) (expr_view expr.now) ≡ Ok v) }
 {
     match expr {
-        Expr::Operation(operator, operands) => match operands.as_slice() {
-            [one, other] => {
-                let x = number_of(one, answers)?;
-                let y = number_of(other, answers)?;
-                operated(operator, x, y)
-            }
-            _ => None,
+        Expr::Operation(operator, operands) => match operator {
+            Operator::Sum(_) => Some(Value::from_number(number_of(expr, answers)?)),
+            Operator::Product(_) => Some(Value::from_number(number_of(expr, answers)?)),
+            _ => value_of_comparison(operator, operands.as_slice(), answers),
         },
         _ => Some(Value::from_number(number_of(expr, answers)?)),
     }

@@ -4,7 +4,8 @@ use Rattle.std.specs.List.{flat_map}
 use Rattle.std.proofs.lemmas.Bool.{eqb-true}
 use Rattle.dataflow.specs.System.{In, Distinct}
 use Rattle.language.specs.Members.{◌∈◌, first, later}
-use Rattle.language.proofs.Tested.{has, distinct, both, has_in, self_eq}
+use Rattle.language.proofs.Tested.{both, has_in, self_eq}
+use Rattle.language.specs.Distinct.{has, distinct}
 
 -- MEMBERS
 

@@ -3,7 +3,8 @@ use Rattle.std.proofs.Common.{◌≡◌, ℕ, zero, suc, ◌+◌, ◌≤◌, Boo
 use Rattle.std.specs.List.{flat_map}
 use Rattle.language.specs.Core.{Owned, local, input, output, Name, Cell, Call, Part, inner, calls, Stmt, stmt, Action, declare, call_alone, assign, fill, insert, print, assert, when, choose, range, each, wait, Block, Core}
 use Rattle.language.specs.Parts.{parts, part_cells, part_calls, cells, block_list, script_blocks, stmts_among, script_stmts}
-use Rattle.language.proofs.Tested.{distinct, flat, declared_of, cell_nodes, roles_of, hidden_of, hidden_calls, local_node, name_nodes, nodes, block_nodes}
+use Rattle.language.proofs.Tested.{flat, declared_of, cell_nodes, roles_of, hidden_of, hidden_calls, local_node, name_nodes, nodes, block_nodes}
+use Rattle.language.specs.Distinct.{distinct}
 use Rattle.language_laws.specs.TypedValues.{own_parts}
 use Rattle.code_rules.specs.Emitted.{CellsOnce}
 use Rattle.task_code.specs.Code.{Variable}

@@ -4,7 +4,8 @@ use Rattle.language.specs.Core.{Name, here, Cell, Call, Part, inner, calls, stmt
 use Rattle.language.specs.Members.{◌∈◌, first, later}
 use Rattle.language.specs.Parts.{parts, part_cells, script_blocks, script_stmts}
 use Rattle.language.proofs.Members.{split_in, to_left, to_right}
-use Rattle.language.proofs.Tested.{distinct, distinct_right, distinct_apart, flat, flat_in, flat_once, block_nodes, action_nodes, declared_of, cell_nodes, roles_of, hidden_of, hidden_calls, name_nodes, declared_apart, hidden_distinct, stmt_once, stmt_distinct}
+use Rattle.language.proofs.Tested.{distinct_right, distinct_apart, flat, flat_in, flat_once, block_nodes, action_nodes, declared_of, cell_nodes, roles_of, hidden_of, hidden_calls, name_nodes, declared_apart, hidden_distinct, stmt_once, stmt_distinct}
+use Rattle.language.specs.Distinct.{distinct}
 use Rattle.language_laws.specs.TypedValues.{own_parts}
 use Rattle.code_whole.proofs.Scoping.{before}
 use Rattle.code_whole.proofs.Openings.{part_of_stmt, call_among}

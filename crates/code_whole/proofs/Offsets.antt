@@ -9,7 +9,8 @@ use Rattle.language_accepted.specs.Placed.{IsPlaced}
 use Rattle.language.specs.Resolved.{core}
 use Rattle.language.specs.Table.{Table}
 use Rattle.language.specs.Tree.{Tree}
-use Rattle.language.proofs.Tested.{distinct, flat, both, has, has_in}
+use Rattle.language.proofs.Tested.{flat, both, has_in}
+use Rattle.language.specs.Distinct.{distinct, has}
 use Rattle.language_laws.proofs.TestedNames.{offset}
 use Rattle.language_laws.proofs.TreeOffsets.{offsets_once}
 use Rattle.code_rules.specs.Emitted.{CallsOnce}

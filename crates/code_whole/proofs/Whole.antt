@@ -10,7 +10,8 @@ use Rattle.language.specs.Scopes.{Typ, Signature}
 use Rattle.language.specs.Single.{SinglyAssigned, IsSimple, IsNamed, Owns, declared_here, an_output, StmtWay, simple, range_way, each_way, an_input}
 use Rattle.language.specs.WellFormed.{header_blocks}
 use Rattle.language.proofs.Blocks.{among}
-use Rattle.language.proofs.Tested.{distinct, flat, block_nodes, cell_nodes, roles_of, hidden_of, with_turn}
+use Rattle.language.proofs.Tested.{flat, block_nodes, cell_nodes, roles_of, hidden_of, with_turn}
+use Rattle.language.specs.Distinct.{distinct}
 use Rattle.language_laws.proofs.OneAssign.{function_in}
 use Rattle.language_laws.proofs.Ways.{times_of, times_two, block_way}
 use Rattle.language_laws.specs.Scoped.{Scoped}

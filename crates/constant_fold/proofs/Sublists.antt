@@ -3,9 +3,9 @@ use Rattle.std.specs.Prelude.{◌≡◌, ℕ, ◌≤◌, ◌<◌, true, List, []
 use Rattle.std.proofs.Common.{arith}
 use Rattle.std.specs.List.{flat_map}
 use Rattle.language.specs.Numbers.{option_numbers}
-use Rattle.language.proofs.Tested.{distinct}
+use Rattle.language.specs.Distinct.{distinct}
 use Rattle.language.proofs.TreeNumbers.{times, few_distinct, distinct_few}
-use Rattle.language_laws.proofs.TreeNodes.{maybe_numbers}
+use Rattle.language_laws.specs.Offsets.{maybe_numbers}
 use Rattle.language_accepted.specs.Placed.{Rise}
 
 -- the members of one list, in their order, with some taken out

@@ -64,7 +64,7 @@ impl Index {
     {
         match self.slots.get(n) {
             Some(value) => Some(value),
-            None => self.by_key.get(&n),
+            None => in_table(&self.by_key, n),
         }
     }
 
@@ -129,6 +129,17 @@ impl Index {
         self.sorted = Some(map);
         Ok(shared)
     }
+}
+
+// The scalar under a key of a table. One that is empty, as it is where all keys have slots, is not hashed for.
+#[inline(always)]
+fn in_table(by_key: &HashMap<i64, Scalar>, key: i64) -> Option<&Scalar>
+    ensures { option_copied result ≡ lookup (int_eq key) by_key.now.entries }
+{
+    if by_key.is_empty() {
+        return None;
+    }
+    by_key.get(&key)
 }
 
 // Puts in an element under a key that has none: into a slot, if there is one for it, and else into the table.

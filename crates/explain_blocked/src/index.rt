@@ -185,9 +185,14 @@ impl<'a, A: Allocator> Index<'a, A> {
         None
     }
 
+    /// The number of the function that is called at an offset.
+    pub fn called_at(&self, at: usize) -> Option<usize> {
+        self.tables.called.get(&at).copied()
+    }
+
     /// The name of the function that is called at an offset.
     pub fn function_at(&self, at: usize) -> Option<&'a [u8]> {
-        let i = *self.tables.called.get(&at)?;
+        let i = self.called_at(at)?;
         let function = self.flow.functions.get(i)?;
         Some(function.name.as_slice())
     }
@@ -212,7 +217,12 @@ impl<'a, A: Allocator> Index<'a, A> {
 
     /// What a name in a function, or in the script's own blocks, is called; none where it is a cell, or what a call gives.
     pub fn name(&self, function: Option<usize>, name: Name) -> Option<&'a [u8]> {
-        match name.what {
+        self.owned_name(function, name.what)
+    }
+
+    /// The same of what a name is in the block that owns it.
+    pub fn owned_name(&self, function: Option<usize>, owned: Owned) -> Option<&'a [u8]> {
+        match owned {
             Owned::Local(node) => self.variable_name(node),
             Owned::Input(i) => {
                 let function = self.flow.functions.get(function?)?;

@@ -1,5 +1,6 @@
 //! What a statement waits for, in words.
 
+use crate::names::say_name;
 use crate::scene::{Scene, Stand};
 use crate::sites::{opens_blocks, word_of};
 use crate::words::say_scalar;
@@ -7,10 +8,11 @@ use crate::writers::Writer;
 use explain_inputs::input::{Input, add_form};
 use explain_inputs::missing::missing_of;
 use explain_text::words::{say, say_place};
+use flow::cell::Cell;
 use flow::name::{Name, Owned};
 use meaning_facts::facts::Place;
 use std::alloc::{AllocError, Allocator};
-use values::value::Value;
+use values::value::{Scalar, Value};
 
 /// Adds what a statement waits for, of its inputs that are not known, and why each is not known. Whether anything was added.
 pub fn say_inputs<'t, 'a, A: Allocator>(
@@ -43,7 +45,7 @@ fn has_input(inputs: &[Input], wanted: Input) -> bool {
 }
 
 /// Whether an input is a cell of the statement itself.
-fn is_own_cell<'t, 'a, A: Allocator>(scene: &Scene<'t, 'a, A>, input: Input) -> bool {
+pub fn is_own_cell<'t, 'a, A: Allocator>(scene: &Scene<'t, 'a, A>, input: Input) -> bool {
     match input {
         Input::Scalar(
             Name {
@@ -55,7 +57,7 @@ fn is_own_cell<'t, 'a, A: Allocator>(scene: &Scene<'t, 'a, A>, input: Input) -> 
     }
 }
 
-/// Adds an input by its name.
+/// Adds an input by its name, as what is waited for.
 fn say_input<'t, 'a, A: Allocator>(
     scene: &Scene<'t, 'a, A>,
     out: &mut Vec<u8>,
@@ -63,70 +65,66 @@ fn say_input<'t, 'a, A: Allocator>(
     input: Input,
 ) -> Result<(), AllocError> {
     match input {
-        Input::Scalar(name) => {
+        Input::Scalar(_) => {
             say(out, "for ")?;
-            say_name(scene, out, stand.function, name)
+            say_wanted(scene, out, stand, input)
         }
-        Input::Array(name) => {
+        Input::Array(_) => {
             say(out, "until ")?;
-            say_name(scene, out, stand.function, name)?;
+            say_wanted(scene, out, stand, input)?;
             say(out, " is closed")
         }
-        Input::Element { array, index } => {
-            let cell = Place {
-                instance: stand.instance,
-                node: index,
-            };
-            match scene.known.learned.facts.value(cell) {
-                Some(Value::One(key)) => {
-                    say(out, "for ")?;
-                    say_name(scene, out, stand.function, array)?;
-                    say(out, "[")?;
-                    say_scalar(out, key)?;
-                    say(out, "]")
-                }
-                _ => {
-                    say(out, "for an element of ")?;
-                    say_name(scene, out, stand.function, array)?;
-                    say(out, " whose index is not known")
-                }
+        Input::Element { index, .. } => {
+            say(out, "for ")?;
+            say_wanted(scene, out, stand, input)?;
+            if key_of(scene, stand, index).is_some() {
+                Ok(())
+            } else {
+                say(out, " whose index is not known")
             }
         }
     }
 }
 
-/// Adds what a name is called; of what a call in an expression gives, where that call stands.
-fn say_name<'t, 'a, A: Allocator>(
+/// Adds an input by its name alone.
+pub fn say_wanted<'t, 'a, A: Allocator>(
     scene: &Scene<'t, 'a, A>,
     out: &mut Vec<u8>,
-    function: Option<usize>,
-    name: Name,
+    stand: Stand,
+    input: Input,
 ) -> Result<(), AllocError> {
-    if let Some(bytes) = scene.index.name(function, name) {
-        out.extend_from_slice(bytes)?;
-        return Ok(());
-    }
-    match name.what {
-        Owned::Local(node) => match scene.index.giving_at(node) {
-            Some(at) => say_call(scene, out, at),
-            None => say(out, "a value"),
+    match input {
+        Input::Scalar(name) => say_name(scene.index, scene.text, out, stand.function, name),
+        Input::Array(name) => say_name(scene.index, scene.text, out, stand.function, name),
+        Input::Element { array, index } => match key_of(scene, stand, index) {
+            Some(key) => {
+                say_name(scene.index, scene.text, out, stand.function, array)?;
+                say(out, "[")?;
+                say_scalar(out, key)?;
+                say(out, "]")
+            }
+            None => {
+                say(out, "an element of ")?;
+                say_name(scene.index, scene.text, out, stand.function, array)
+            }
         },
-        _ => say(out, "a value"),
     }
 }
 
-/// Adds what a call gives.
-fn say_call<'t, 'a, A: Allocator>(
-    scene: &Scene<'t, 'a, A>,
-    out: &mut Vec<u8>,
-    at: usize,
-) -> Result<(), AllocError> {
-    say(out, "what ")?;
-    if let Some(function) = scene.index.function_at(at) {
-        out.extend_from_slice(function)?;
+/// The index that a cell has, where it is known.
+fn key_of<'k, 't, 'a, A: Allocator>(
+    scene: &'k Scene<'t, 'a, A>,
+    stand: Stand,
+    index: u32,
+) -> Option<&'k Scalar> {
+    let cell = Place {
+        instance: stand.instance,
+        node: index,
+    };
+    match scene.known.learned.facts.value(cell) {
+        Some(Value::One(key)) => Some(key),
+        _ => None,
     }
-    say(out, " gives, called at ")?;
-    say_place(out, scene.text, at)
 }
 
 /// Adds why an input is not known, in brackets, where there is something to say.
@@ -164,9 +162,7 @@ fn say_given<'t, 'a, A: Allocator>(
     };
     say(out, " (given at ")?;
     say_place(out, scene.text, spot.cell.at)?;
-    let mut inputs = Vec::new(scene.alloc);
-    add_form(&mut inputs, &spot.cell.form)?;
-    let missing = missing_of(scene.alloc, scene.known, place.instance, inputs.as_slice())?;
+    let missing = missing_in_cell(scene, place.instance, spot.cell)?;
     let stand = Stand {
         at: spot.cell.at,
         function: spot.function,
@@ -174,6 +170,17 @@ fn say_given<'t, 'a, A: Allocator>(
     };
     say_waiting(scene, out, stand, missing.as_slice())?;
     say(out, ")")
+}
+
+/// What a cell waits for in an instance.
+pub fn missing_in_cell<'t, 'a, A: Allocator>(
+    scene: &Scene<'t, 'a, A>,
+    instance: usize,
+    cell: &Cell<A>,
+) -> Result<Vec<Input>, AllocError> {
+    let mut inputs = Vec::new(scene.alloc);
+    add_form(&mut inputs, &cell.form)?;
+    missing_of(scene.alloc, scene.known, instance, inputs.as_slice())
 }
 
 /// Adds what an argument waits for, by names alone.

@@ -24,6 +24,8 @@ pub struct Writer {
 #[derive(Drop)]
 pub struct Writers {
     found: HashMap<(usize, u32), Vec<Writer>>,
+    /// The numbers of all blocked statements that would write a variable.
+    blocked: HashMap<(usize, u32), Vec<usize>>,
 }
 
 /// Where a statement stands: its instance, and how many blocks lie between it and the one that is blocked.
@@ -32,6 +34,8 @@ struct Stand {
     instance: usize,
     depth: usize,
     writer: Writer,
+    /// Its number among the blocked statements, where it is blocked.
+    number: Option<usize>,
 }
 
 impl Writers {
@@ -42,28 +46,40 @@ impl Writers {
     ) -> Result<Writers, AllocError> {
         let mut writers = Writers {
             found: HashMap::new(alloc),
+            blocked: HashMap::new(alloc),
         };
-        for stuck in &known.stuck {
+        for number in 0..known.stuck.len() {
+            let stuck = known.stuck[number];
+            let writer = Writer {
+                at: stuck.at,
+                blocked: true,
+            };
             writers.note(
                 alloc,
                 known,
                 index,
-                stuck.instance,
-                Writer {
-                    at: stuck.at,
-                    blocked: true,
+                Stand {
+                    instance: stuck.instance,
+                    depth: 0,
+                    writer,
+                    number: Some(number),
                 },
             )?;
         }
         for fault in known.learned.facts.faults.iter() {
+            let writer = Writer {
+                at: fault.at,
+                blocked: false,
+            };
             writers.note(
                 alloc,
                 known,
                 index,
-                fault.place.instance,
-                Writer {
-                    at: fault.at,
-                    blocked: false,
+                Stand {
+                    instance: fault.place.instance,
+                    depth: 0,
+                    writer,
+                    number: None,
                 },
             )?;
         }
@@ -78,22 +94,24 @@ impl Writers {
         }
     }
 
+    /// The numbers of the blocked statements that would write the variable at a place.
+    pub fn blocked_at(&self, place: Place) -> &[usize] {
+        match self.blocked.get(&(place.instance, place.node)) {
+            Some(numbers) => numbers.as_slice(),
+            None => &[],
+        }
+    }
+
     /// Notes what a statement would write.
     fn note<'a, A: Allocator>(
         &mut self,
         alloc: Global,
         known: &Knowledge,
         index: &Index<'a, A>,
-        instance: usize,
-        writer: Writer,
+        stand: Stand,
     ) -> Result<(), AllocError> {
-        let Some(site) = index.site(writer.at) else {
+        let Some(site) = index.site(stand.writer.at) else {
             return Ok(());
-        };
-        let stand = Stand {
-            instance,
-            depth: 0,
-            writer,
         };
         match &site.form {
             Form::Inner(_, _, content) => self.note_block(alloc, &known.learned, stand, *content),
@@ -129,6 +147,7 @@ impl Writers {
             instance: stand.instance,
             depth: stand.depth.saturating_add(1),
             writer: stand.writer,
+            number: stand.number,
         };
         match action {
             Action::Assign { target, .. } => self.note_name(alloc, learned, stand, *target),
@@ -181,7 +200,26 @@ impl Writers {
             shape: name.shape,
         };
         let place = learned.instances.place(stand.instance, seen);
-        self.add(alloc, (place.instance, place.node), stand.writer)
+        let key = (place.instance, place.node);
+        if let Some(number) = stand.number {
+            self.add_number(alloc, key, number)?;
+        }
+        self.add(alloc, key, stand.writer)
+    }
+
+    fn add_number(
+        &mut self,
+        alloc: Global,
+        key: (usize, u32),
+        number: usize,
+    ) -> Result<(), AllocError> {
+        if !self.blocked.contains_key(&key) {
+            self.blocked.insert(key, Vec::new(alloc))?;
+        }
+        match self.blocked.get_mut(&key) {
+            Some(numbers) => add_last(numbers, number),
+            None => Ok(()),
+        }
     }
 
     fn add(&mut self, alloc: Global, key: (usize, u32), writer: Writer) -> Result<(), AllocError> {
@@ -193,6 +231,14 @@ impl Writers {
             None => Ok(()),
         }
     }
+}
+
+/// Adds a number, unless it is the last one.
+fn add_last(numbers: &mut Vec<usize>, number: usize) -> Result<(), AllocError> {
+    if numbers.last().copied() != Some(number) {
+        numbers.push(number)?;
+    }
+    Ok(())
 }
 
 /// Adds a statement, unless it is there or there are enough of them.

@@ -29,6 +29,15 @@ pub enum WhyNot {
     Waits,
 }
 
+/// What is told of an event that is no step: the item with the reason, and in words, where they are known, of which statement the item is
+/// and what it waits for.
+#[derive(Clone, Copy, Drop)]
+pub struct Told<'w> {
+    pub step: NoStep,
+    pub statement: &'w [u8],
+    pub waits: &'w [u8],
+}
+
 /// Adds what is said of the first line that no trace has there:
 /// `FILE:2:1: T1 BadLine: ..`, the line with its bytes marked, and what a trace has there.
 ///
@@ -113,7 +122,8 @@ pub fn add_wrong_end(
     )
 }
 
-/// Adds what is said of the first line whose event is no step of the script, with the reason where it is known.
+/// Adds what is said of the first line whose event is no step of the script, and why it is none:
+/// `FILE:7:1: T2 NotARun: item 4, of the statement at order.swift:3:1, waits for y`.
 ///
 /// # Errors
 ///
@@ -123,12 +133,12 @@ pub fn add_no_step(
     file: &str,
     trace: &[u8],
     line: usize,
-    refused: NoStep,
+    told: &Told<'_>,
 ) -> Result<(), AllocError> {
     let at = line_at(trace, line);
     say_start(out, file, trace, at.from)?;
     say(out, "T2 NotARun: ")?;
-    say_no_step(out, refused)?;
+    say_no_step(out, told)?;
     say(out, "\n")?;
     add_quote(out, trace, at)?;
     say(
@@ -137,25 +147,45 @@ pub fn add_no_step(
     )
 }
 
-fn say_no_step(out: &mut Vec<u8>, refused: NoStep) -> Result<(), AllocError> {
-    if refused.why == WhyNot::Faulty {
+fn say_no_step(out: &mut Vec<u8>, told: &Told<'_>) -> Result<(), AllocError> {
+    if told.step.why == WhyNot::Faulty {
         return say(
             out,
             "the script has met a fault before, behind which nothing begins",
         );
     }
     say(out, "item ")?;
-    say_item(out, refused.item)?;
-    match refused.why {
+    say_item(out, told.step.item)?;
+    say_statement(out, told.statement)?;
+    match told.step.why {
         WhyNot::Faulty | WhyNot::Absent => say(out, " is not there yet"),
         WhyNot::Over => say(out, " has ended before"),
         WhyNot::Idle => say(out, " does not run"),
-        WhyNot::Waits => say(out, " waits for what is not known yet"),
+        WhyNot::Waits => say_waits(out, told.waits),
         WhyNot::Runs(thread) => {
             say(out, " runs on thread ")?;
             say_count(out, thread as usize)
         }
     }
+}
+
+/// Adds where the item's statement stands.
+fn say_statement(out: &mut Vec<u8>, place: &[u8]) -> Result<(), AllocError> {
+    if place.is_empty() {
+        return Ok(());
+    }
+    say(out, ", of the statement at ")?;
+    out.extend_from_slice(place)?;
+    say(out, ",")
+}
+
+fn say_waits(out: &mut Vec<u8>, waits: &[u8]) -> Result<(), AllocError> {
+    if waits.is_empty() {
+        return say(out, " waits for what is not known yet");
+    }
+    say(out, " waits ")?;
+    out.extend_from_slice(waits)?;
+    Ok(())
 }
 
 fn say_item(out: &mut Vec<u8>, item: u64) -> Result<(), AllocError> {

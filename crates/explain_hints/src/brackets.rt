@@ -2,7 +2,7 @@
 
 use crate::advice::Advice;
 use crate::around::Around;
-use crate::kinds::{is_type, wants_value};
+use crate::kinds::{begins_value, is_plain, is_type, wants_value};
 use lexer::token::TokenKind;
 
 const NAMED: &str = "give the array a name first: int A[] = [1, 2]; and then f(A)";
@@ -14,14 +14,22 @@ pub fn bracket(around: &Around<'_>) -> Option<Advice> {
         TokenKind::OpenCurly => curly(around),
         TokenKind::OpenRound => round(around),
         TokenKind::CloseSquare => end_of_square(around),
-        _ => length(around),
+        TokenKind::CloseRound => end_of_round(around),
+        _ => length(around).or(cast(around)),
     }
 }
 
 fn square(around: &Around<'_>) -> Option<Advice> {
+    if around.found.span == around.first.span {
+        return Advice::here("several outputs are taken in round brackets: (x, y) = f(1);");
+    }
     match around.last.kind {
         TokenKind::Int | TokenKind::String | TokenKind::Boolean => {
             Advice::here("the brackets stand behind the name: int A[];")
+        }
+        TokenKind::CloseSquare
+            if around.before_last.kind == TokenKind::OpenSquare && is_plain(around.next.kind) => {
+            Advice::here("a = stands before the values: int A[] = [1, 2];")
         }
         TokenKind::CloseSquare => Advice::here("arrays have one index: A[i * n + j]"),
         TokenKind::CloseRound => {
@@ -45,12 +53,31 @@ fn curly(around: &Around<'_>) -> Option<Advice> {
     }
     match around.last.kind {
         TokenKind::Assign | TokenKind::OpenRound | TokenKind::Comma | TokenKind::In => {
-            Advice::here("the values of an array stand in square brackets: int A[] = [1, 2];")
+            Advice::here(listed(around.next.kind))
         }
         TokenKind::CloseSquare if is_type(around.first.kind) => {
-            Advice::here("the values of an array stand in square brackets: int A[] = [1, 2];")
+            Advice::here(listed(around.next.kind))
         }
+        TokenKind::Name if is_alone(around) => Advice::here(
+            "an element is A[0], and a call f(x); a block stands behind if, foreach or wait, or behind the head of a function",
+        ),
         _ => None,
+    }
+}
+
+/// Whether a bracket stands in no other one, or right behind a name.
+fn is_alone(around: &Around<'_>) -> bool {
+    around.last.span.to == around.found.span.from
+        || matches!(around.opener.kind, TokenKind::OpenCurly | TokenKind::End)
+}
+
+/// Where values stand in curly brackets, of which the first is of this kind.
+fn listed(first: TokenKind) -> &'static str {
+    match first {
+        TokenKind::Text => {
+            "the values of an array stand in square brackets, [\"a\", \"b\"]; elements with texts as keys are written one by one: A[\"a\"] = 1;"
+        }
+        _ => "the values of an array stand in square brackets: int A[] = [1, 2];",
     }
 }
 
@@ -65,7 +92,32 @@ fn round(around: &Around<'_>) -> Option<Advice> {
             "foreach goes over an array by its name: int A[] = f(3); foreach v in A { .. }",
         );
     }
-    None
+    let is_element = around.last.kind == TokenKind::CloseSquare
+        && around.closed.span == around.first.span;
+    if around.is_on_new_line || is_element {
+        return None;
+    }
+    match around.last.kind {
+        kind if is_type(kind) => Advice::here(
+            "outputs are taken by names that are declared before: int x; int y; (x, y) = f(1);",
+        ),
+        TokenKind::CloseRound | TokenKind::CloseSquare | TokenKind::Number => {
+            Advice::here("a function goes by its name alone, f(3), and times is *: 3 * (4)")
+        }
+        _ => None,
+    }
+}
+
+/// Where nothing stands in round brackets.
+fn end_of_round(around: &Around<'_>) -> Option<Advice> {
+    if around.last.kind != TokenKind::OpenRound {
+        return None;
+    }
+    match around.opener_before.kind {
+        TokenKind::If => Advice::here("a condition is missing in the brackets: if (x > 0) { .. }"),
+        kind if begins_value(kind) => Advice::here("a value is missing in the brackets"),
+        _ => None,
+    }
 }
 
 fn end_of_square(around: &Around<'_>) -> Option<Advice> {
@@ -83,22 +135,30 @@ fn end_of_square(around: &Around<'_>) -> Option<Advice> {
 
 /// Where something stands in the brackets of a declaration, or a type in those of an expression.
 fn length(around: &Around<'_>) -> Option<Advice> {
-    let opener = around.opener.kind;
-    if opener == TokenKind::OpenSquare
-        && around.opener.span == around.last.span
-        && (is_type(around.first.kind) && around.opener_before.span == around.second.span
-            || is_type(around.found.kind))
+    let is_length = is_plain(around.found.kind) || is_type(around.found.kind);
+    if !is_length
+        || around.opener.kind != TokenKind::OpenSquare
+        || around.opener.span != around.last.span
     {
+        return None;
+    }
+    let is_declared = is_type(around.first.kind) && around.opener_before.span == around.second.span;
+    let is_in_head = is_type(around.second.kind) && around.outer.kind == TokenKind::OpenRound;
+    if is_declared || is_in_head || is_type(around.found.kind) {
         return Advice::here(
             "an array has no length of its own: int A[]; is keyed by numbers, int A[string]; by text",
         );
     }
-    if opener == TokenKind::OpenRound
-        && is_type(around.found.kind)
-        && around.opener.span == around.last.span
+    None
+}
+
+/// Where a type stands before a value, or in brackets before it.
+fn cast(around: &Around<'_>) -> Option<Advice> {
+    let is_called = around.next.kind == TokenKind::OpenRound && begins_value(around.last.kind);
+    let is_in_brackets = around.last.kind == TokenKind::OpenRound
         && (wants_value(around.opener_before.kind)
-            || around.opener_before.kind == TokenKind::Comma)
-    {
+            || around.opener_before.kind == TokenKind::Comma);
+    if is_type(around.found.kind) && (is_called || is_in_brackets) {
         return Advice::here("there are no casts: toint(s) reads a number, fromint(n) writes one");
     }
     None

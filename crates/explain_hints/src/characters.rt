@@ -1,5 +1,6 @@
 //! Bytes that begin no token.
 
+use crate::literals::last_sign;
 use std::alloc::{AllocError, Global};
 
 /// Characters past ASCII that stand for one of it, by the bytes that they begin with.
@@ -171,7 +172,21 @@ fn first_character(text: &[u8]) -> &[u8] {
 /// What is said of an ASCII byte that begins no token.
 fn on_sign(before: &[u8], byte: u8, rest: &[u8]) -> Option<&'static str> {
     match byte {
+        b'.' | b'&' if last_sign(before) == b'"' => Some("strings are joined by +: \"a\" + \"b\""),
         b'.' => Some(on_point(before, rest)),
+        b'/' if rest.starts_with(b"/=") => Some(
+            "a variable has one value: int y = x %/ 3;, and unequal is !=",
+        ),
+        b'%' if rest.starts_with(b"%=") => {
+            Some("a variable has one value, and the remainder is %%: int y = x %% 3;")
+        }
+        b'%' if last_sign(before) == b'"' => {
+            Some("what is filled in stands behind the format: printf(\"n = %i\", n);")
+        }
+        b'%' | b'\'' if matches!(last_sign(before), b' ' | b'\n' | b'\r' | b';' | b'{' | b'}') => {
+            Some("a comment begins with //, and a string stands between \"")
+        }
+        b'~' if rest.starts_with(b"~=") => Some("unequal is !="),
         b'/' => Some(
             "whole numbers are divided by %/, and %% is the remainder; a comment begins with //",
         ),
@@ -188,7 +203,9 @@ fn on_sign(before: &[u8], byte: u8, rest: &[u8]) -> Option<&'static str> {
         ),
         b'~' => Some("not is !, and there are no operators on bits"),
         b'$' => Some("a variable goes by its name alone"),
-        b'\\' => Some("a statement goes on over ends of lines by itself, up to its ;"),
+        b'\\' => Some(
+            "a statement goes on over ends of lines by itself, up to its ;, and whole numbers are divided by %/",
+        ),
         0..=31 | 127 => Some("this is a control character, which no editor shows: leave it out"),
         _ => None,
     }
@@ -198,7 +215,9 @@ fn on_sign(before: &[u8], byte: u8, rest: &[u8]) -> Option<&'static str> {
 fn on_point(before: &[u8], rest: &[u8]) -> &'static str {
     let is_number = matches!(before.last(), Some(b'0'..=b'9'))
         || matches!(rest.get(1), Some(b'0'..=b'9'));
-    if rest.starts_with(b"..") {
+    if rest.starts_with(b"...") {
+        "nothing is left out: each input and each value stands there"
+    } else if rest.starts_with(b"..") {
         "a range is [0:9]"
     } else if is_number {
         "there are whole numbers alone: scale them, as 1500 for 1.5; a range is [0:9]"

@@ -2,7 +2,9 @@
 
 use crate::advice::Advice;
 use crate::around::Around;
-use crate::kinds::{is_arithmetic, is_form, is_plain, is_type, wants_value};
+use crate::kinds::{
+    begins_value, ends_expression, is_arithmetic, is_form, is_plain, is_type, opens, wants_value,
+};
 use lexer::token::TokenKind;
 
 /// Where a statement is empty, or ends before its value, or where an `else` has no `if`.
@@ -16,9 +18,7 @@ pub fn ending(around: &Around<'_>) -> Option<Advice> {
             "an else stands right behind the } of its if: if (x > 0) { .. } else { .. }",
         );
     }
-    let is_behind_priority = around.first.kind == TokenKind::At
-        && around.before_last.kind == TokenKind::Assign;
-    if found == TokenKind::At || around.last.kind == TokenKind::At || is_behind_priority {
+    if is_priority(around) {
         return Advice::here("@prio=5 before a call is the one thing that an @ begins");
     }
     if is_value(around) {
@@ -26,21 +26,54 @@ pub fn ending(around: &Around<'_>) -> Option<Advice> {
             "a value is no statement: assign it, int y = x + 1;, or print it, printf(\"%i\", x + 1); a comment begins with //",
         );
     }
-    if is_form(found) && (wants_value(around.last.kind) || is_in_brackets(around)) {
+    if is_form(found) && begins_value(around.last.kind) {
         return Advice::here(
             "a statement has no value: assign the variable in it, in each of its branches",
+        );
+    }
+    let is_declared = is_type(around.first.kind) && around.second.span == around.last.span;
+    if found == TokenKind::If
+        && is_plain(around.last.kind)
+        && !is_declared
+        && !around.is_on_new_line
+    {
+        return Advice::here(
+            "an if stands in front, with a block: if (x > 0) { y = 1; } else { y = 2; }",
+        );
+    }
+    if found == TokenKind::In
+        && ends_expression(around.last.kind)
+        && around.first.kind != TokenKind::Foreach
+    {
+        return Advice::here(
+            "nothing tells whether an element is there: keep in a second array which are",
         );
     }
     called(around)
 }
 
+/// Whether something else stands before a call than its priority.
+fn is_priority(around: &Around<'_>) -> bool {
+    let is_there = around.second.span == around.last.span
+        || around.third.span == around.last.span
+        || around.last.kind != TokenKind::CloseRound && !is_plain(around.found.kind);
+    let is_first = around.first.kind == TokenKind::At
+        && around.opener.kind != TokenKind::OpenRound
+        && is_there;
+    is_first
+        || around.found.kind == TokenKind::At && !ends_expression(around.last.kind)
+        || around.last.kind == TokenKind::At
+}
+
 /// Whether a statement begins as a value, and ends or goes on as one.
 fn is_value(around: &Around<'_>) -> bool {
     let found = around.found.kind;
-    let is_first = around.found.span == around.first.span;
-    if is_first {
+    if around.found.span == around.first.span {
         return found != TokenKind::Name
             && (is_plain(found) || found == TokenKind::Minus || found == TokenKind::Not);
+    }
+    if around.first.kind == TokenKind::OpenRound && around.first.span == around.last.span {
+        return is_plain(found);
     }
     let is_closed = matches!(
         around.last.kind,
@@ -55,13 +88,6 @@ fn is_value(around: &Around<'_>) -> bool {
             && goes_on
 }
 
-fn is_in_brackets(around: &Around<'_>) -> bool {
-    matches!(
-        around.last.kind,
-        TokenKind::OpenRound | TokenKind::Comma | TokenKind::OpenSquare
-    )
-}
-
 /// Where a statement has nothing but its `;`.
 fn empty(around: &Around<'_>) -> Option<Advice> {
     if around.last.kind == TokenKind::CloseCurly {
@@ -71,20 +97,30 @@ fn empty(around: &Around<'_>) -> Option<Advice> {
     }
 }
 
-/// Where a call has no brackets, or types stand in them.
+/// Where a call has no brackets, or types stand in them or in a value.
 fn called(around: &Around<'_>) -> Option<Advice> {
-    let is_behind_name = around.first.kind == TokenKind::Name
-        && around.first.span == around.last.span;
+    let is_behind_name = around.last.kind == TokenKind::Name
+        && (around.first.span == around.last.span || around.first.kind == TokenKind::At);
     if is_behind_name && !around.is_on_new_line && is_plain(around.found.kind) {
-        return Advice::here("what a function is called with stands in brackets: f(x);");
+        return Advice::here(
+            "what a function is called with stands in brackets, f(x);, and a variable is assigned by =: x = 3;",
+        );
     }
-    if is_type(around.found.kind)
-        && around.opener.kind == TokenKind::OpenRound
-        && around.opener_before.kind == TokenKind::Name
-    {
-        return Advice::here("what a function is called with has no types: f(x)");
+    if !is_type(around.found.kind) {
+        return None;
     }
-    None
+    match (around.opener.kind, around.opener_before.kind) {
+        (TokenKind::OpenRound, TokenKind::If) => {
+            Advice::here("a condition declares nothing: int x = 3; if (x == 3) { .. }")
+        }
+        (TokenKind::OpenRound, TokenKind::Name) => {
+            Advice::here("what a function is called with has no types: f(x)")
+        }
+        _ if wants_value(around.last.kind) => {
+            Advice::here("a type begins a declaration, and no value: int x = 3;")
+        }
+        _ => None,
+    }
 }
 
 /// Where a value is missing behind an operator.
@@ -99,6 +135,19 @@ pub fn value(around: &Around<'_>) -> Option<Advice> {
     }
     if around.last.kind == TokenKind::Comma {
         return Advice::of("something is missing behind the ,", around.last.span);
+    }
+    if is_type(around.last.kind) {
+        return Advice::of("a name is missing behind the type", around.last.span);
+    }
+    if wants_value(around.found.kind)
+        && (around.found.span == around.first.span || opens(around.last.kind))
+    {
+        return Advice::here(match around.found.kind {
+            TokenKind::Times => {
+                "something is missing before this sign; a comment ends with the first */ behind its /*"
+            }
+            _ => "something is missing before this sign",
+        });
     }
     None
 }

@@ -17,8 +17,15 @@ const RECKONED: &str =
 
 const OUTSIDE: &str = "a script reads no files, words or settings: what it is to know stands in it";
 
+const CHECKED: &str = "assert tells what has to hold: assert(x == 1, \"x is 1\");";
+
+const GROWN: &str = "an element is written by its key: A[i] = 3;";
+
+const ORDERED: &str =
+    "all that can run runs at once, and what has to come after x stands in wait (x) { .. }";
+
 /// Functions that are not there, and what is there instead.
-static FUNCTIONS: [Row; 52] = [
+static FUNCTIONS: [Row; 152] = [
     Row {
         word: "trace",
         words: PRINTED,
@@ -227,6 +234,406 @@ static FUNCTIONS: [Row; 52] = [
         word: "random",
         words: "every run of a script comes to the same: reckon numbers from a seed, (seed * 75 + 74) %% 65537",
     },
+    Row {
+        word: "tracef",
+        words: PRINTED,
+    },
+    Row {
+        word: "printi",
+        words: PRINTED,
+    },
+    Row {
+        word: "prints",
+        words: PRINTED,
+    },
+    Row {
+        word: "write",
+        words: PRINTED,
+    },
+    Row {
+        word: "writeln",
+        words: PRINTED,
+    },
+    Row {
+        word: "disp",
+        words: PRINTED,
+    },
+    Row {
+        word: "display",
+        words: PRINTED,
+    },
+    Row {
+        word: "cat",
+        words: PRINTED,
+    },
+    Row {
+        word: "cout",
+        words: PRINTED,
+    },
+    Row {
+        word: "say",
+        words: PRINTED,
+    },
+    Row {
+        word: "int2str",
+        words: MADE,
+    },
+    Row {
+        word: "num2str",
+        words: MADE,
+    },
+    Row {
+        word: "itos",
+        words: MADE,
+    },
+    Row {
+        word: "inttostring",
+        words: MADE,
+    },
+    Row {
+        word: "stoi",
+        words: READ,
+    },
+    Row {
+        word: "parse",
+        words: READ,
+    },
+    Row {
+        word: "str2num",
+        words: READ,
+    },
+    Row {
+        word: "int",
+        words: READ,
+    },
+    Row {
+        word: "size_of",
+        words: COUNTED,
+    },
+    Row {
+        word: "sizeof",
+        words: COUNTED,
+    },
+    Row {
+        word: "numel",
+        words: COUNTED,
+    },
+    Row {
+        word: "length_of",
+        words: COUNTED,
+    },
+    Row {
+        word: "join",
+        words: STRINGS,
+    },
+    Row {
+        word: "strip",
+        words: STRINGS,
+    },
+    Row {
+        word: "trim",
+        words: STRINGS,
+    },
+    Row {
+        word: "upper",
+        words: STRINGS,
+    },
+    Row {
+        word: "lower",
+        words: STRINGS,
+    },
+    Row {
+        word: "toupper",
+        words: STRINGS,
+    },
+    Row {
+        word: "tolower",
+        words: STRINGS,
+    },
+    Row {
+        word: "uppercase",
+        words: STRINGS,
+    },
+    Row {
+        word: "lowercase",
+        words: STRINGS,
+    },
+    Row {
+        word: "substr_",
+        words: STRINGS,
+    },
+    Row {
+        word: "strcmp",
+        words: STRINGS,
+    },
+    Row {
+        word: "equals",
+        words: STRINGS,
+    },
+    Row {
+        word: "startswith",
+        words: STRINGS,
+    },
+    Row {
+        word: "indexof",
+        words: STRINGS,
+    },
+    Row {
+        word: "mod",
+        words: RECKONED,
+    },
+    Row {
+        word: "floor",
+        words: RECKONED,
+    },
+    Row {
+        word: "ceil",
+        words: RECKONED,
+    },
+    Row {
+        word: "round",
+        words: RECKONED,
+    },
+    Row {
+        word: "exp",
+        words: RECKONED,
+    },
+    Row {
+        word: "sqr",
+        words: RECKONED,
+    },
+    Row {
+        word: "square",
+        words: RECKONED,
+    },
+    Row {
+        word: "gcd",
+        words: RECKONED,
+    },
+    Row {
+        word: "rand",
+        words: "every run of a script comes to the same: reckon numbers from a seed, (seed * 75 + 74) %% 65537",
+    },
+    Row {
+        word: "randint",
+        words: "every run of a script comes to the same: reckon numbers from a seed, (seed * 75 + 74) %% 65537",
+    },
+    Row {
+        word: "seed",
+        words: "every run of a script comes to the same: reckon numbers from a seed, (seed * 75 + 74) %% 65537",
+    },
+    Row {
+        word: "quit",
+        words: "a run ends when all is done, or at an assert that is not true",
+    },
+    Row {
+        word: "stop",
+        words: "a run ends when all is done, or at an assert that is not true",
+    },
+    Row {
+        word: "abort",
+        words: "a run ends when all is done, or at an assert that is not true",
+    },
+    Row {
+        word: "error",
+        words: "a run ends when all is done, or at an assert that is not true",
+    },
+    Row {
+        word: "throw",
+        words: "a run ends when all is done, or at an assert that is not true",
+    },
+    Row {
+        word: "raise",
+        words: "a run ends when all is done, or at an assert that is not true",
+    },
+    Row {
+        word: "assertEqual",
+        words: CHECKED,
+    },
+    Row {
+        word: "assert_eq",
+        words: CHECKED,
+    },
+    Row {
+        word: "assertTrue",
+        words: CHECKED,
+    },
+    Row {
+        word: "check",
+        words: CHECKED,
+    },
+    Row {
+        word: "require",
+        words: CHECKED,
+    },
+    Row {
+        word: "expect",
+        words: CHECKED,
+    },
+    Row {
+        word: "append",
+        words: GROWN,
+    },
+    Row {
+        word: "push",
+        words: GROWN,
+    },
+    Row {
+        word: "add",
+        words: GROWN,
+    },
+    Row {
+        word: "push_back",
+        words: GROWN,
+    },
+    Row {
+        word: "insert",
+        words: GROWN,
+    },
+    Row {
+        word: "extend",
+        words: GROWN,
+    },
+    Row {
+        word: "array",
+        words: "an array is declared by int A[]; and has what is written to it",
+    },
+    Row {
+        word: "list",
+        words: "an array is declared by int A[]; and has what is written to it",
+    },
+    Row {
+        word: "vector",
+        words: "an array is declared by int A[]; and has what is written to it",
+    },
+    Row {
+        word: "sleep",
+        words: ORDERED,
+    },
+    Row {
+        word: "wait_for",
+        words: ORDERED,
+    },
+    Row {
+        word: "fork",
+        words: ORDERED,
+    },
+    Row {
+        word: "spawn",
+        words: ORDERED,
+    },
+    Row {
+        word: "parallel",
+        words: ORDERED,
+    },
+    Row {
+        word: "open",
+        words: OUTSIDE,
+    },
+    Row {
+        word: "fopen",
+        words: OUTSIDE,
+    },
+    Row {
+        word: "readline",
+        words: OUTSIDE,
+    },
+    Row {
+        word: "readln",
+        words: OUTSIDE,
+    },
+    Row {
+        word: "gets",
+        words: OUTSIDE,
+    },
+    Row {
+        word: "scanf",
+        words: OUTSIDE,
+    },
+    Row {
+        word: "stdin",
+        words: OUTSIDE,
+    },
+    Row {
+        word: "file",
+        words: OUTSIDE,
+    },
+    Row {
+        word: "system",
+        words: OUTSIDE,
+    },
+    Row {
+        word: "exec",
+        words: OUTSIDE,
+    },
+    Row {
+        word: "run",
+        words: OUTSIDE,
+    },
+    Row {
+        word: "time",
+        words: OUTSIDE,
+    },
+    Row {
+        word: "now",
+        words: OUTSIDE,
+    },
+    Row {
+        word: "date",
+        words: OUTSIDE,
+    },
+    Row {
+        word: "clock",
+        words: OUTSIDE,
+    },
+    Row {
+        word: "sort",
+        words: "write it as a loop: foreach v, i in A { B[i] = v * 2; }",
+    },
+    Row {
+        word: "reverse",
+        words: "write it as a loop: foreach v, i in A { B[i] = v * 2; }",
+    },
+    Row {
+        word: "map",
+        words: "write it as a loop: foreach v, i in A { B[i] = v * 2; }",
+    },
+    Row {
+        word: "filter",
+        words: "write it as a loop: foreach v, i in A { B[i] = v * 2; }",
+    },
+    Row {
+        word: "reduce",
+        words: "write it as a loop: foreach v, i in A { B[i] = v * 2; }",
+    },
+    Row {
+        word: "keys",
+        words: "foreach has the keys beside the values: foreach v, k in A { .. }",
+    },
+    Row {
+        word: "has",
+        words: "an element that is read has to be there: keep in a second array which are",
+    },
+    Row {
+        word: "isset",
+        words: "an element that is read has to be there: keep in a second array which are",
+    },
+    Row {
+        word: "has_key",
+        words: "an element that is read has to be there: keep in a second array which are",
+    },
+    Row {
+        word: "if_else",
+        words: "write if (x > 0) { y = 1; } else { y = 2; }",
+    },
+    Row {
+        word: "iff",
+        words: "write if (x > 0) { y = 1; } else { y = 2; }",
+    },
+    Row {
+        word: "ifelse",
+        words: "write if (x > 0) { y = 1; } else { y = 2; }",
+    },
 ];
 
 /// What is there instead of a function of another language.
@@ -235,7 +642,7 @@ pub fn on_function(name: &[u8]) -> Option<&'static str> {
 }
 
 /// Variables that are not there, and what is there instead.
-static VARIABLES: [Row; 8] = [
+static VARIABLES: [Row; 27] = [
     Row {
         word: "True",
         words: "write true",
@@ -267,6 +674,82 @@ static VARIABLES: [Row; 8] = [
     Row {
         word: "None",
         words: "every variable has a value: take one that stands for none, as -1 or \"\"",
+    },
+    Row {
+        word: "yes",
+        words: "write true",
+    },
+    Row {
+        word: "on",
+        words: "write true",
+    },
+    Row {
+        word: "no",
+        words: "write false",
+    },
+    Row {
+        word: "off",
+        words: "write false",
+    },
+    Row {
+        word: "undefined",
+        words: "every variable has a value: take one that stands for none, as -1 or \"\"",
+    },
+    Row {
+        word: "nan",
+        words: "every variable has a value: take one that stands for none, as -1 or \"\"",
+    },
+    Row {
+        word: "NaN",
+        words: "every variable has a value: take one that stands for none, as -1 or \"\"",
+    },
+    Row {
+        word: "argc",
+        words: OUTSIDE,
+    },
+    Row {
+        word: "argv",
+        words: OUTSIDE,
+    },
+    Row {
+        word: "args",
+        words: OUTSIDE,
+    },
+    Row {
+        word: "stdin",
+        words: OUTSIDE,
+    },
+    Row {
+        word: "PI",
+        words: "there are whole numbers alone: scale them, as 31416 for 3.1416",
+    },
+    Row {
+        word: "pi",
+        words: "there are whole numbers alone: scale them, as 31416 for 3.1416",
+    },
+    Row {
+        word: "ture",
+        words: "write true",
+    },
+    Row {
+        word: "treu",
+        words: "write true",
+    },
+    Row {
+        word: "tru",
+        words: "write true",
+    },
+    Row {
+        word: "flase",
+        words: "write false",
+    },
+    Row {
+        word: "fasle",
+        words: "write false",
+    },
+    Row {
+        word: "fals",
+        words: "write false",
     },
 ];
 

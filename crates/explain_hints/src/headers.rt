@@ -2,8 +2,14 @@
 
 use crate::advice::Advice;
 use crate::around::Around;
-use crate::kinds::{is_type, is_word};
+use crate::kinds::{
+    begins_statement, closes, ends_expression, is_arithmetic, is_plain, is_type, is_word,
+};
 use lexer::token::TokenKind;
+
+const HEAD: &str = "a function begins with its outputs: (int r) f(int n) { r = n; }";
+
+const BODY: &str = "a function has its block right behind its inputs: (int r) f(int n) { r = n; }";
 
 /// Where a module is not there, or an import has another form.
 pub fn import(around: &Around<'_>) -> Option<Advice> {
@@ -30,7 +36,10 @@ pub fn block(around: &Around<'_>) -> Option<Advice> {
         return None;
     }
     if around.last.kind == TokenKind::Else {
-        return Advice::here("a { is missing: both branches are blocks, else { .. }");
+        return Advice::here(match around.found.kind {
+            TokenKind::OpenRound => "write else if (x > 0) { .. }",
+            _ => "a { is missing: both branches are blocks, else { .. }",
+        });
     }
     if around.last.kind == TokenKind::CloseRound {
         match around.closed.kind {
@@ -54,16 +63,19 @@ fn is_source_end(around: &Around<'_>) -> bool {
     around.last.kind == TokenKind::CloseSquare && around.opener.kind != TokenKind::OpenRound
         || around.last.kind == TokenKind::Name
             && around.before_last.kind == TokenKind::In
-            && (around.is_on_new_line || around.found.kind == TokenKind::Name)
+            && (around.is_on_new_line
+                || matches!(around.found.kind, TokenKind::Name | TokenKind::Semicolon)
+                || begins_statement(around.found.kind))
 }
 
 /// Where what stands behind `if`, `wait` or `foreach` has another form.
 pub fn form(around: &Around<'_>) -> Option<Advice> {
     match around.last.kind {
         TokenKind::If => Advice::here("a condition stands in brackets: if (x > 0) { .. }"),
-        TokenKind::Wait => {
-            Advice::here("what is waited for stands in brackets: wait (x) { .. }")
-        }
+        TokenKind::Wait => Advice::here(match around.next.kind {
+            TokenKind::OpenRound => "all of an array is waited for by its name: wait (A) { .. }",
+            _ => "what is waited for stands in brackets: wait (x) { .. }",
+        }),
         TokenKind::Foreach => looped(around),
         TokenKind::In => source(around),
         _ => waited(around),
@@ -91,14 +103,24 @@ fn source(around: &Around<'_>) -> Option<Advice> {
 
 /// Where `wait` has something else than names in its brackets.
 fn waited(around: &Around<'_>) -> Option<Advice> {
-    if around.opener.kind == TokenKind::OpenRound && around.opener_before.kind == TokenKind::Wait {
+    if around.opener.kind == TokenKind::OpenRound
+        && around.opener_before.kind == TokenKind::Wait
+        && around.found.kind != TokenKind::OpenCurly
+    {
         return Advice::here("wait takes variables by their names: int x = A[0]; wait (x) { .. }");
     }
-    if around.first.kind == TokenKind::Foreach
-        && around.second.span == around.last.span
-        && around.found.kind != TokenKind::In
-    {
-        return Advice::here("write foreach i in [0:9] { .. }");
+    if around.first.kind != TokenKind::Foreach {
+        return None;
+    }
+    let is_key = around.found.kind != TokenKind::Comma
+        && around.third.kind == TokenKind::Comma
+        && around.third.span == around.before_last.span;
+    if (is_key || around.second.span == around.last.span) && around.found.kind != TokenKind::In {
+        return Advice::here("write foreach i in [0:9] { .. }, or foreach v, k in A { .. }");
+    }
+    let is_source = around.before_last.kind == TokenKind::In && around.last.kind == TokenKind::Name;
+    if is_source && (is_arithmetic(around.found.kind) || around.found.kind == TokenKind::Colon) {
+        return Advice::here("foreach goes over a range, as [0:9], or over an array by its name");
     }
     None
 }
@@ -109,7 +131,7 @@ pub fn word_as_name(around: &Around<'_>) -> Option<Advice> {
         return Advice::here("this is a word of the language: take another name");
     }
     let is_behind_type = is_type(around.first.kind) && around.first.span != around.last.span;
-    if is_behind_type && is_word(around.last.kind) {
+    if is_behind_type && is_word(around.last.kind) && !is_plain(around.last.kind) {
         return Advice::of(
             "take another name for the word of the language",
             around.last.span,
@@ -124,10 +146,14 @@ pub fn function(around: &Around<'_>) -> Option<Advice> {
     if found == TokenKind::OpenRound
         && is_type(around.first.kind)
         && around.second.span == around.last.span
+        && !around.is_on_new_line
     {
-        return Advice::here(
-            "a function's outputs stand before it in brackets, and it assigns them: (int r) f(int n) { r = n; }",
-        );
+        let is_head = is_type(around.next.kind) || around.next.kind == TokenKind::CloseRound;
+        return Advice::here(if is_head {
+            "a function's outputs stand before it in brackets, and it assigns them: (int r) f(int n) { r = n; }"
+        } else {
+            "an array is declared by int A[];, and a value stands behind a =: int x = 3;"
+        });
     }
     if is_type(found)
         && around.last.span == around.first.span
@@ -142,14 +168,16 @@ pub fn function(around: &Around<'_>) -> Option<Advice> {
         return headed(around);
     }
     if is_called(around) {
-        return Advice::here("a function begins with its outputs: (int r) f(int n) { r = n; }");
+        return Advice::here(HEAD);
     }
     None
 }
 
 /// Whether a statement begins as a call, and goes on as a function would.
 fn is_called(around: &Around<'_>) -> bool {
+    let is_declared = matches!(around.next.kind, TokenKind::Name | TokenKind::OpenSquare);
     let in_brackets = is_type(around.found.kind)
+        && is_declared
         && around.opener.kind == TokenKind::OpenRound
         && around.opener_before.span == around.first.span;
     let behind = around.found.kind == TokenKind::OpenCurly
@@ -161,19 +189,19 @@ fn is_called(around: &Around<'_>) -> bool {
 /// Where something is wrong behind the outputs of a function, or in a list of targets.
 fn headed(around: &Around<'_>) -> Option<Advice> {
     if is_type(around.second.kind) {
-        if around.found.kind == TokenKind::Semicolon || around.found.kind == TokenKind::Assign {
-            return Advice::here(
-                "a function has its block right behind its inputs: (int r) f(int n) { r = n; }",
-            );
-        }
-        if around.found.kind == TokenKind::Name && around.opener.kind == TokenKind::OpenRound {
-            return Advice::here(
-                "each output and input has its type: (int r, int s) f(int n, string t) { .. }",
-            );
-        }
-        return None;
+        return match around.opener.kind {
+            TokenKind::OpenRound => listed(around),
+            TokenKind::OpenSquare => None,
+            _ => behind_outputs(around),
+        };
     }
-    if around.opener.span == around.first.span && around.found.kind == TokenKind::OpenSquare {
+    let is_target = around.opener.span == around.first.span;
+    if is_target && is_type(around.found.kind) {
+        return Advice::here("a type stands before its name: (int r) f(int n) { r = n; }");
+    }
+    if is_target
+        && (around.found.kind == TokenKind::OpenSquare || around.last.kind == TokenKind::Comma)
+    {
         return Advice::here(
             "outputs are taken by names alone: int x; int y; (x, y) = f(1); A[0] = x;",
         );
@@ -182,7 +210,44 @@ fn headed(around: &Around<'_>) -> Option<Advice> {
         && around.last.kind == TokenKind::CloseRound
         && !around.is_on_new_line
     {
-        return Advice::here("each output has its type: (int r) f(int n) { r = n; }");
+        return Advice::here(
+            "each output has its type, (int r) f(int n) { r = n; }, and a call's are taken by a =: (x, y) = f(1);",
+        );
     }
     None
+}
+
+/// Where something is wrong among the outputs or the inputs of a function.
+fn listed(around: &Around<'_>) -> Option<Advice> {
+    match around.found.kind {
+        kind if ends_expression(around.last.kind) && (kind == TokenKind::Name || is_type(kind)) => {
+            Advice::here("a , or a ) is missing before this")
+        }
+        TokenKind::Name => Advice::here(
+            "each output and input has its type: (int r, int s) f(int n, string t) { .. }",
+        ),
+        TokenKind::Assign => Advice::here("an input has no value of its own: each call gives one"),
+        TokenKind::Semicolon if is_type(around.next.kind) => {
+            Advice::here("a , stands between outputs, and between inputs")
+        }
+        _ => None,
+    }
+}
+
+/// Where something is wrong behind the outputs of a function.
+fn behind_outputs(around: &Around<'_>) -> Option<Advice> {
+    match around.last.kind {
+        TokenKind::Name => {
+            Advice::here("a function's inputs stand in brackets: (int r) f(int n) { r = n; }")
+        }
+        TokenKind::CloseRound if closes(around.found.kind) => None,
+        TokenKind::CloseRound if around.closed.kind == TokenKind::Name => Advice::here(BODY),
+        TokenKind::CloseRound => Advice::here(match around.found.kind {
+            TokenKind::OpenRound => {
+                "a function has a name between its outputs and its inputs: (int r) f(int n) { r = n; }"
+            }
+            _ => "names that take outputs are declared before: int x; int y; (x, y) = f(1);",
+        }),
+        _ => None,
+    }
 }

@@ -77,6 +77,15 @@ pub fn wants_value(kind: TokenKind) -> bool {
         )
 }
 
+/// Whether a value begins behind a token of this kind.
+pub fn begins_value(kind: TokenKind) -> bool {
+    wants_value(kind)
+        || matches!(
+            kind,
+            TokenKind::OpenRound | TokenKind::OpenSquare | TokenKind::Comma
+        )
+}
+
 /// Whether a token of this kind opens a bracket.
 pub fn opens(kind: TokenKind) -> bool {
     matches!(

@@ -30,13 +30,18 @@ fn has_others(number: &[u8]) -> bool {
 /// Whether the last byte before an offset that is no space is a `-`.
 fn is_negative(text: &[u8], at: usize) -> bool {
     let (before, _) = text.split_at(at.min(text.len()));
+    last_sign(before) == b'-'
+}
+
+/// The last byte of a text that is no space; a space where there is none.
+pub fn last_sign(text: &[u8]) -> u8 {
     let mut last = b' ';
-    for byte in before {
+    for byte in text {
         if *byte != b' ' {
             last = *byte;
         }
     }
-    last == b'-'
+    last
 }
 
 /// What to write instead of a string that its line leaves open.

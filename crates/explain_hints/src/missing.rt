@@ -2,7 +2,7 @@
 
 use crate::advice::Advice;
 use crate::around::Around;
-use crate::kinds::{begins_statement, closes, ends_expression, is_plain};
+use crate::kinds::{begins_statement, closes, ends_expression, is_plain, is_type};
 use lexer::token::{Span, TokenKind};
 
 /// Where a bracket is not closed, or was not opened.
@@ -105,19 +105,46 @@ fn semicolon(around: &Around<'_>) -> Option<Advice> {
         )
     } else if around.is_on_new_line || is_end {
         Advice::of("a ; is missing", behind)
+    } else if is_target(around) {
+        Advice::of(
+            match around.found.kind {
+                TokenKind::Name if is_type(around.first.kind) =>
+                    "a = is missing (a name is one word, as my_name)",
+                _ => "a = is missing",
+            },
+            behind,
+        )
     } else if around.found.kind == TokenKind::Text && around.last.kind == TokenKind::Text {
         Advice::here("strings are joined by +: \"a\" + \"b\"")
     } else if is_plain(around.found.kind) {
-        Advice::of("a ; or an operator is missing", behind)
+        Advice::of(
+            match around.last.kind {
+                TokenKind::Name => "a ;, an operator or the ( of a call is missing",
+                _ => "a ; or an operator is missing",
+            },
+            behind,
+        )
     } else {
         None
     }
+}
+
+/// Whether a variable that is declared, or an element, stands before the token.
+fn is_target(around: &Around<'_>) -> bool {
+    let is_declared = is_type(around.first.kind) && around.second.span == around.last.span;
+    let is_element = around.first.kind == TokenKind::Name
+        && around.last.kind == TokenKind::CloseSquare
+        && around.closed.span == around.first.span;
+    is_declared || is_element
 }
 
 /// Where a `,` or an operator is missing in brackets.
 fn between(around: &Around<'_>) -> Option<Advice> {
     if around.found.kind == TokenKind::Text && around.last.kind == TokenKind::Text {
         return Advice::here("strings are joined by +: \"a\" + \"b\"");
+    }
+    if around.opener_before.kind == TokenKind::In {
+        return Advice::here("a range is [0:9]");
     }
     if is_plain(around.found.kind) {
         return Advice::here("a , or an operator is missing before this");

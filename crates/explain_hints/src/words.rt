@@ -19,13 +19,27 @@ const DEFINED: &str = "a function begins with its outputs: (int r) f(int n) { r 
 
 const ELSE_IF: &str = "write else if (x > 0) { .. }";
 
-const DECLARED: &str = "a declaration begins with int, string or boolean: int x = 1;";
+const PLAIN: &str = "every variable is assigned once, so it is declared plainly: int n = 4;";
+
+const RETURNED: &str = "a function assigns its outputs: (int r) f(int n) { r = n; }";
+
+const BLOCKS: &str = "a block stands between { and }";
+
+const PRINTED: &str = "write printf(\"%s\", s); or printf(\"%i\", n);";
+
+const NUMBER: &str = "there are whole numbers alone: scale them, as 1500 for 1.5, and write int";
+
+const TEXTS: &str = "write int A[string]; for an array keyed by text, without the word";
+
+const ARRAY: &str = "write int A[]; for an array, without the word";
+
+const ORDERED: &str = "signs compare: == and != all, and < <= > >= numbers";
 
 const ONE_FILE: &str =
     "a script is one file: there are no structures, types, files or packages of its own";
 
 /// Words that begin a statement elsewhere, and none here.
-static FIRST_WORDS: [Row; 44] = [
+static FIRST_WORDS: [Row; 121] = [
     Row {
         word: "for",
         words: LOOP,
@@ -56,7 +70,7 @@ static FIRST_WORDS: [Row; 44] = [
     },
     Row {
         word: "break",
-        words: ENDLESS,
+        words: "all turns of a loop run at once, and none ends it: put what is left out into an if",
     },
     Row {
         word: "continue",
@@ -104,15 +118,15 @@ static FIRST_WORDS: [Row; 44] = [
     },
     Row {
         word: "const",
-        words: "every variable is assigned once, so it is declared plainly: int n = 4;",
+        words: PLAIN,
     },
     Row {
         word: "final",
-        words: "every variable is assigned once, so it is declared plainly: int n = 4;",
+        words: PLAIN,
     },
     Row {
         word: "static",
-        words: "every variable is assigned once, so it is declared plainly: int n = 4;",
+        words: PLAIN,
     },
     Row {
         word: "type",
@@ -152,7 +166,7 @@ static FIRST_WORDS: [Row; 44] = [
     },
     Row {
         word: "return",
-        words: "a function assigns its outputs: (int r) f(int n) { r = n; }",
+        words: RETURNED,
     },
     Row {
         word: "def",
@@ -171,149 +185,613 @@ static FIRST_WORDS: [Row; 44] = [
         words: DEFINED,
     },
     Row {
-        word: "var",
-        words: DECLARED,
-    },
-    Row {
-        word: "let",
-        words: DECLARED,
-    },
-    Row {
-        word: "auto",
-        words: DECLARED,
-    },
-    Row {
         word: "try",
         words: "a fault ends the run: test before, with an if",
     },
     Row {
         word: "print",
-        words: "write printf(\"%s\", s); or printf(\"%i\", n);",
+        words: PRINTED,
     },
     Row {
         word: "println",
-        words: "write printf(\"%s\", s); or printf(\"%i\", n);",
+        words: PRINTED,
     },
     Row {
         word: "echo",
-        words: "write printf(\"%s\", s); or printf(\"%i\", n);",
+        words: PRINTED,
     },
     Row {
         word: "pragma",
         words: "there are no settings in a script",
     },
+    Row {
+        word: "forall",
+        words: LOOP,
+    },
+    Row {
+        word: "parallel",
+        words: LOOP,
+    },
+    Row {
+        word: "parfor",
+        words: LOOP,
+    },
+    Row {
+        word: "foreach_",
+        words: LOOP,
+    },
+    Row {
+        word: "each",
+        words: LOOP,
+    },
+    Row {
+        word: "end",
+        words: BLOCKS,
+    },
+    Row {
+        word: "endif",
+        words: BLOCKS,
+    },
+    Row {
+        word: "endfor",
+        words: BLOCKS,
+    },
+    Row {
+        word: "endwhile",
+        words: BLOCKS,
+    },
+    Row {
+        word: "fi",
+        words: BLOCKS,
+    },
+    Row {
+        word: "done",
+        words: BLOCKS,
+    },
+    Row {
+        word: "begin",
+        words: BLOCKS,
+    },
+    Row {
+        word: "then",
+        words: BLOCKS,
+    },
+    Row {
+        word: "unless",
+        words: "write if (!(x > 0)) { .. }",
+    },
+    Row {
+        word: "when",
+        words: "write if (x > 0) { .. }; what has to come after x stands in wait (x) { .. }",
+    },
+    Row {
+        word: "given",
+        words: "write if (x > 0) { .. }; what has to come after x stands in wait (x) { .. }",
+    },
+    Row {
+        word: "select",
+        words: "write if (x > 0) { .. }; what has to come after x stands in wait (x) { .. }",
+    },
+    Row {
+        word: "otherwise",
+        words: CASES,
+    },
+    Row {
+        word: "cout",
+        words: PRINTED,
+    },
+    Row {
+        word: "cerr",
+        words: PRINTED,
+    },
+    Row {
+        word: "std",
+        words: PRINTED,
+    },
+    Row {
+        word: "write",
+        words: PRINTED,
+    },
+    Row {
+        word: "writeln",
+        words: PRINTED,
+    },
+    Row {
+        word: "puts",
+        words: PRINTED,
+    },
+    Row {
+        word: "disp",
+        words: PRINTED,
+    },
+    Row {
+        word: "display",
+        words: PRINTED,
+    },
+    Row {
+        word: "Print",
+        words: PRINTED,
+    },
+    Row {
+        word: "Println",
+        words: PRINTED,
+    },
+    Row {
+        word: "printline",
+        words: PRINTED,
+    },
+    Row {
+        word: "use",
+        words: ONE_FILE,
+    },
+    Row {
+        word: "module",
+        words: ONE_FILE,
+    },
+    Row {
+        word: "extern",
+        words: ONE_FILE,
+    },
+    Row {
+        word: "namespace",
+        words: ONE_FILE,
+    },
+    Row {
+        word: "require",
+        words: ONE_FILE,
+    },
+    Row {
+        word: "call",
+        words: "a function is called by its name alone: f(3);",
+    },
+    Row {
+        word: "delete",
+        words: "nothing is taken away: a variable and an element have one value",
+    },
+    Row {
+        word: "del",
+        words: "nothing is taken away: a variable and an element have one value",
+    },
+    Row {
+        word: "free",
+        words: "nothing is taken away: a variable and an element have one value",
+    },
+    Row {
+        word: "throw",
+        words: "a fault ends the run: test before, with an if, or say what has to hold: assert(x > 0, \"x is positive\");",
+    },
+    Row {
+        word: "raise",
+        words: "a fault ends the run: test before, with an if, or say what has to hold: assert(x > 0, \"x is positive\");",
+    },
+    Row {
+        word: "catch",
+        words: "a fault ends the run: test before, with an if, or say what has to hold: assert(x > 0, \"x is positive\");",
+    },
+    Row {
+        word: "except",
+        words: "a fault ends the run: test before, with an if, or say what has to hold: assert(x > 0, \"x is positive\");",
+    },
+    Row {
+        word: "panic",
+        words: "a fault ends the run: test before, with an if, or say what has to hold: assert(x > 0, \"x is positive\");",
+    },
+    Row {
+        word: "async",
+        words: "all that can run runs at once: what has to come after x stands in wait (x) { .. }",
+    },
+    Row {
+        word: "await",
+        words: "all that can run runs at once: what has to come after x stands in wait (x) { .. }",
+    },
+    Row {
+        word: "spawn",
+        words: "all that can run runs at once: what has to come after x stands in wait (x) { .. }",
+    },
+    Row {
+        word: "sync",
+        words: "all that can run runs at once: what has to come after x stands in wait (x) { .. }",
+    },
+    Row {
+        word: "sub",
+        words: DEFINED,
+    },
+    Row {
+        word: "proc",
+        words: DEFINED,
+    },
+    Row {
+        word: "procedure",
+        words: DEFINED,
+    },
+    Row {
+        word: "subroutine",
+        words: DEFINED,
+    },
+    Row {
+        word: "method",
+        words: DEFINED,
+    },
+    Row {
+        word: "lambda",
+        words: DEFINED,
+    },
+    Row {
+        word: "public",
+        words: DEFINED,
+    },
+    Row {
+        word: "private",
+        words: DEFINED,
+    },
+    Row {
+        word: "export",
+        words: DEFINED,
+    },
+    Row {
+        word: "inline",
+        words: DEFINED,
+    },
+    Row {
+        word: "template",
+        words: DEFINED,
+    },
+    Row {
+        word: "mutable",
+        words: PLAIN,
+    },
+    Row {
+        word: "mut",
+        words: PLAIN,
+    },
+    Row {
+        word: "val",
+        words: PLAIN,
+    },
+    Row {
+        word: "local",
+        words: PLAIN,
+    },
+    Row {
+        word: "my",
+        words: PLAIN,
+    },
+    Row {
+        word: "our",
+        words: PLAIN,
+    },
+    Row {
+        word: "dim",
+        words: PLAIN,
+    },
+    Row {
+        word: "DIM",
+        words: PLAIN,
+    },
+    Row {
+        word: "volatile",
+        words: PLAIN,
+    },
+    Row {
+        word: "register",
+        words: PLAIN,
+    },
+    Row {
+        word: "pass",
+        words: "a block may be empty: { }",
+    },
+    Row {
+        word: "goto",
+        words: ENDLESS,
+    },
+    Row {
+        word: "whlie",
+        words: ENDLESS,
+    },
+    Row {
+        word: "wihle",
+        words: ENDLESS,
+    },
+    Row {
+        word: "wile",
+        words: ENDLESS,
+    },
+    Row {
+        word: "retrun",
+        words: RETURNED,
+    },
+    Row {
+        word: "retunr",
+        words: RETURNED,
+    },
+    Row {
+        word: "retrn",
+        words: RETURNED,
+    },
+    Row {
+        word: "swich",
+        words: CASES,
+    },
+    Row {
+        word: "swtich",
+        words: CASES,
+    },
+    Row {
+        word: "REM",
+        words: "a comment begins with //",
+    },
+    Row {
+        word: "rem",
+        words: "a comment begins with //",
+    },
 ];
 
 /// Words that are types elsewhere, and none here.
-static TYPES: [Row; 26] = [
+static TYPES: [Row; 65] = [
     Row {
         word: "float",
-        words: "there are whole numbers alone, of type int: scale them, as 1500 for 1.5",
+        words: NUMBER,
     },
     Row {
         word: "double",
-        words: "there are whole numbers alone, of type int: scale them, as 1500 for 1.5",
+        words: NUMBER,
     },
     Row {
         word: "real",
-        words: "there are whole numbers alone, of type int: scale them, as 1500 for 1.5",
+        words: NUMBER,
     },
     Row {
         word: "bool",
-        words: "the type is boolean",
+        words: "write boolean",
     },
     Row {
         word: "Bool",
-        words: "the type is boolean",
+        words: "write boolean",
     },
     Row {
         word: "Boolean",
-        words: "the type is boolean",
+        words: "write boolean",
     },
     Row {
         word: "logical",
-        words: "the type is boolean",
+        words: "write boolean",
     },
     Row {
         word: "Int",
-        words: "the type is int",
+        words: "write int",
     },
     Row {
         word: "Integer",
-        words: "the type is int",
+        words: "write int",
     },
     Row {
         word: "integer",
-        words: "the type is int",
+        words: "write int",
     },
     Row {
         word: "long",
-        words: "the type is int",
+        words: "write int",
     },
     Row {
         word: "short",
-        words: "the type is int",
+        words: "write int",
     },
     Row {
         word: "unsigned",
-        words: "the type is int",
+        words: "write int",
     },
     Row {
         word: "number",
-        words: "the type is int",
+        words: "write int",
     },
     Row {
         word: "byte",
-        words: "the type is int",
+        words: "write int",
     },
     Row {
         word: "str",
-        words: "the type is string",
+        words: "write string",
     },
     Row {
         word: "String",
-        words: "the type is string",
+        words: "write string",
     },
     Row {
         word: "char",
-        words: "the type is string",
+        words: "write string",
     },
     Row {
         word: "text",
-        words: "the type is string",
+        words: "write string",
     },
     Row {
         word: "void",
-        words: "there is no void: a function without outputs is () f(int n) { .. }",
+        words: "write () f(int n) { .. } for a function without outputs, without the void",
     },
     Row {
         word: "file",
-        words: "there are no files: the types are int, string and boolean",
+        words: "there are no files: write int, string or boolean",
     },
     Row {
         word: "blob",
-        words: "there are no files: the types are int, string and boolean",
+        words: "there are no files: write int, string or boolean",
     },
     Row {
         word: "var",
-        words: DECLARED,
+        words: "write int, string or boolean",
     },
     Row {
         word: "let",
-        words: DECLARED,
+        words: "write int, string or boolean",
     },
     Row {
         word: "auto",
-        words: DECLARED,
+        words: "write int, string or boolean",
     },
     Row {
         word: "any",
-        words: DECLARED,
+        words: "write int, string or boolean",
+    },
+    Row {
+        word: "Float",
+        words: NUMBER,
+    },
+    Row {
+        word: "Double",
+        words: NUMBER,
+    },
+    Row {
+        word: "f32",
+        words: NUMBER,
+    },
+    Row {
+        word: "f64",
+        words: NUMBER,
+    },
+    Row {
+        word: "decimal",
+        words: NUMBER,
+    },
+    Row {
+        word: "i32",
+        words: "write int",
+    },
+    Row {
+        word: "i64",
+        words: "write int",
+    },
+    Row {
+        word: "u32",
+        words: "write int",
+    },
+    Row {
+        word: "u64",
+        words: "write int",
+    },
+    Row {
+        word: "uint",
+        words: "write int",
+    },
+    Row {
+        word: "size_t",
+        words: "write int",
+    },
+    Row {
+        word: "int64",
+        words: "write int",
+    },
+    Row {
+        word: "int32",
+        words: "write int",
+    },
+    Row {
+        word: "INTEGER",
+        words: "write int",
+    },
+    Row {
+        word: "Str",
+        words: "write string",
+    },
+    Row {
+        word: "chars",
+        words: "write string",
+    },
+    Row {
+        word: "varchar",
+        words: "write string",
+    },
+    Row {
+        word: "list",
+        words: ARRAY,
+    },
+    Row {
+        word: "List",
+        words: ARRAY,
+    },
+    Row {
+        word: "array",
+        words: ARRAY,
+    },
+    Row {
+        word: "Array",
+        words: ARRAY,
+    },
+    Row {
+        word: "vector",
+        words: ARRAY,
+    },
+    Row {
+        word: "Vector",
+        words: ARRAY,
+    },
+    Row {
+        word: "tuple",
+        words: ARRAY,
+    },
+    Row {
+        word: "set",
+        words: ARRAY,
+    },
+    Row {
+        word: "map",
+        words: TEXTS,
+    },
+    Row {
+        word: "Map",
+        words: TEXTS,
+    },
+    Row {
+        word: "dict",
+        words: TEXTS,
+    },
+    Row {
+        word: "Dict",
+        words: TEXTS,
+    },
+    Row {
+        word: "hash",
+        words: TEXTS,
+    },
+    Row {
+        word: "object",
+        words: TEXTS,
+    },
+    Row {
+        word: "struct",
+        words: TEXTS,
+    },
+    Row {
+        word: "const",
+        words: "leave out the word",
+    },
+    Row {
+        word: "final",
+        words: "leave out the word",
+    },
+    Row {
+        word: "val",
+        words: "leave out the word",
+    },
+    Row {
+        word: "mut",
+        words: "leave out the word",
+    },
+    Row {
+        word: "ref",
+        words: "leave out the word",
+    },
+    Row {
+        word: "out",
+        words: "leave out the word",
+    },
+    Row {
+        word: "inout",
+        words: "leave out the word",
     },
 ];
 
 /// Operators that are words elsewhere.
-static OPERATORS: [Row; 7] = [
+static OPERATORS: [Row; 25] = [
     Row {
         word: "and",
         words: "and is &&",
@@ -340,7 +818,79 @@ static OPERATORS: [Row; 7] = [
     },
     Row {
         word: "then",
-        words: "a block stands between { and }",
+        words: BLOCKS,
+    },
+    Row {
+        word: "is",
+        words: "a comparison is ==",
+    },
+    Row {
+        word: "eq",
+        words: "a comparison is ==",
+    },
+    Row {
+        word: "ne",
+        words: "unequal is !=",
+    },
+    Row {
+        word: "isnt",
+        words: "unequal is !=",
+    },
+    Row {
+        word: "lt",
+        words: ORDERED,
+    },
+    Row {
+        word: "gt",
+        words: ORDERED,
+    },
+    Row {
+        word: "le",
+        words: ORDERED,
+    },
+    Row {
+        word: "ge",
+        words: ORDERED,
+    },
+    Row {
+        word: "xor",
+        words: "there is no xor: of two booleans one alone is true where a != b",
+    },
+    Row {
+        word: "as",
+        words: "there are no casts: toint(s) reads a number, fromint(n) writes one",
+    },
+    Row {
+        word: "plus",
+        words: "plus is +",
+    },
+    Row {
+        word: "minus",
+        words: "minus is -",
+    },
+    Row {
+        word: "times",
+        words: "times is *",
+    },
+    Row {
+        word: "to",
+        words: "a range is [0:9]",
+    },
+    Row {
+        word: "for",
+        words: "a loop writes the elements: foreach i in [0:9] { A[i] = i * 2; }",
+    },
+    Row {
+        word: "begin",
+        words: BLOCKS,
+    },
+    Row {
+        word: "do",
+        words: BLOCKS,
+    },
+    Row {
+        word: "of",
+        words: "an array is declared by its name with brackets: int A[];",
     },
 ];
 
@@ -364,35 +914,47 @@ pub fn is_variable(around: &Around<'_>) -> bool {
     )
 }
 
-/// Where a type of another language stands before a name, or where a type is wanted.
+/// Where a type of another language stands before a name, or where a type is wanted. The words go on with its place.
 pub fn other_type(around: &Around<'_>) -> Option<Advice> {
     let is_before_name = matches!(around.found.kind, TokenKind::Name | TokenKind::OpenSquare);
     if around.last.kind == TokenKind::Name && is_before_name && !around.is_on_new_line {
-        return Advice::here(row_of(&TYPES, around.last.text)?);
+        return Advice::of(row_of(&TYPES, around.last.text)?, around.last.span);
     }
     if around.first.kind == TokenKind::OpenRound && around.found.kind == TokenKind::Name {
-        return Advice::here(row_of(&TYPES, around.found.text)?);
+        return Advice::of(row_of(&TYPES, around.found.text)?, around.found.span);
     }
     None
 }
 
-/// Where a statement begins with two names.
+/// Where a statement begins with two names, or with a name before its type.
 pub fn two_names(around: &Around<'_>) -> Option<Advice> {
-    if around.first.kind == TokenKind::Name
-        && around.second.span == around.found.span
-        && around.found.kind == TokenKind::Name
-        && !around.is_on_new_line
+    if around.first.kind != TokenKind::Name
+        || around.second.span != around.found.span
+        || around.is_on_new_line
     {
-        return Advice::here(
-            "no statement begins with two names: a declaration begins with int, string or boolean, and what a function is called with stands in brackets",
-        );
+        return None;
     }
-    None
+    if is_type(around.found.kind) {
+        return Advice::here("a declaration begins with its type: int x = 1;");
+    }
+    if around.found.kind != TokenKind::Name {
+        return None;
+    }
+    Advice::here(match around.next.kind {
+        TokenKind::OpenRound => {
+            "a function begins with its outputs, (int r) f(int n) { r = n; }, and is called by its name alone: f(3);"
+        }
+        _ => {
+            "no statement begins with two names: a declaration begins with int, string or boolean, a value stands behind a =, and a call has brackets"
+        }
+    })
 }
 
 /// Where an operator is a word.
 pub fn other_operator(around: &Around<'_>) -> Option<Advice> {
-    if around.is_on_new_line && begins_as_variable(around) {
+    let is_loop_head = around.first.kind == TokenKind::Foreach
+        && around.second.span == around.last.span;
+    if is_loop_head || around.is_on_new_line && begins_as_variable(around) {
         return None;
     }
     if around.found.kind == TokenKind::Name {

@@ -21,7 +21,8 @@ pub fn told_of_assignments<A: Allocator>(
         AssignFault::PartlyAssigned(at) => told_of_partly(refused, at),
         AssignFault::NeverAssigned(at) => {
             let name = bytes_at(refused.text, at);
-            Told::of(refused.alloc, name, "is read and never assigned", None)
+            let told = Told::of(refused.alloc, name, "is read and never assigned", None)?;
+            Ok(told.with(Hint::named(refused.alloc, "assign it once: ", name, " = ..;")?))
         }
         AssignFault::OuterInLoop(at) => {
             let declared = place_before(refused, at, Wanted::Declaration, at.from)?;
@@ -48,6 +49,7 @@ fn told_of_twice<A: Allocator>(refused: &Refused<'_, A>, at: Span) -> Result<Tol
     );
     let hint = match first {
         None => None,
+        Some(first) if first.kind == Kind::Given => hint_of_given(refused, name, first.at)?,
         Some(first) => hint_of_twice(refused, mentions.as_slice(), name, first)?,
     };
     let words = "is assigned a second time";
@@ -61,14 +63,6 @@ fn hint_of_twice<A: Allocator>(
     name: &[u8],
     first: Mention,
 ) -> Result<Option<Hint>, AllocError> {
-    if first.kind == Kind::Given {
-        return Hint::named(
-            refused.alloc,
-            "an input, or the variable of a loop, has its value already: give the new value another name than ",
-            name,
-            "",
-        );
-    }
     let behind = if is_declared_at(mentions, first.at) {
         " without a value, or give the new value another name"
     } else {
@@ -80,6 +74,26 @@ fn hint_of_twice<A: Allocator>(
         "a variable has one value: declare "
     };
     Hint::named(refused.alloc, before, name, behind)
+}
+
+/// What to write instead of an assignment of an input or of the variable of a loop, which is declared at a place.
+fn hint_of_given<A: Allocator>(
+    refused: &Refused<'_, A>,
+    name: &[u8],
+    declared: Span,
+) -> Result<Option<Hint>, AllocError> {
+    let mut is_input = false;
+    if let Some(function) = function_around(declared.from, refused.script) {
+        for input in &function.inputs {
+            is_input = is_input || input.name.span == declared;
+        }
+    }
+    let behind = if is_input {
+        " is an input, which has its value already: give the new value another name"
+    } else {
+        " is the variable of a loop, which has its value in each turn: give the new value another name"
+    };
+    Hint::named(refused.alloc, "", name, behind)
 }
 
 /// Whether a declaration stands at a place.
@@ -133,10 +147,15 @@ fn first_assigned(first: Option<Mention>) -> Option<Note> {
 /// What is said of an `if` whose branches assign a variable differently often.
 fn told_of_partly<A: Allocator>(refused: &Refused<'_, A>, at: Span) -> Result<Told, AllocError> {
     match partly_assigned(refused.alloc, refused.text, refused.script, at)? {
-        None => Told::plain(
-            refused.alloc,
-            "one branch of this if assigns a variable that the other branch does not assign as often",
-        ),
+        None => {
+            let words =
+                "one branch of this if assigns a variable that the other branch does not assign as often";
+            let hint = Hint::plain(
+                refused.alloc,
+                "a branch assigns a variable once: give each further value another name",
+            )?;
+            Ok(Told::plain(refused.alloc, words)?.with(hint))
+        }
         Some(partly) => {
             let name = bytes_at(refused.text, partly.mention.at);
             let note = Some(Note {
@@ -206,7 +225,13 @@ fn told_of_both<A: Allocator>(refused: &Refused<'_, A>, at: Span) -> Result<Told
         ),
     };
     let first = place_before(refused, at, wanted, at.from)?;
-    Told::of(refused.alloc, name, words, note_of(note, first))
+    let hint = Hint::named(
+        refused.alloc,
+        "an array is written whole, or by its elements alone: ",
+        name,
+        "[0] = ..;",
+    )?;
+    Ok(Told::of(refused.alloc, name, words, note_of(note, first))?.with(hint))
 }
 
 fn told_of_output<A: Allocator>(refused: &Refused<'_, A>, at: Span) -> Result<Told, AllocError> {
@@ -218,10 +243,7 @@ fn told_of_output<A: Allocator>(refused: &Refused<'_, A>, at: Span) -> Result<To
         }),
     };
     let name = bytes_at(refused.text, at);
-    Told::of(
-        refused.alloc,
-        name,
-        "is an output, and is never assigned",
-        note,
-    )
+    let words = "is an output, and is never assigned";
+    let hint = Hint::named(refused.alloc, "assign it in its function: ", name, " = ..;")?;
+    Ok(Told::of(refused.alloc, name, words, note)?.with(hint))
 }

@@ -95,6 +95,35 @@ pub fn is_behind_comma(text: &[u8], at: usize) -> bool {
     last == TokenKind::Comma
 }
 
+/// Whether an argument of `printf` begins at an offset, behind the format.
+pub fn is_printed(alloc: Global, text: &[u8], at: usize) -> Result<bool, AllocError> {
+    let around = Around::new(alloc, text, at)?;
+    Ok(
+        around.last.kind == TokenKind::Comma
+            && around.opener.kind == TokenKind::OpenRound
+            && around.opener_before.text == b"printf".as_slice(),
+    )
+}
+
+/// How many values the format takes that stands in the brackets that open at an offset or behind it; none where no string stands there.
+pub fn conversions_behind(text: &[u8], at: usize) -> Option<usize> {
+    let mut lexer = Lexer::behind(text, at.min(text.len()));
+    let _bracket = next_token(&mut lexer)?;
+    let format = next_token(&mut lexer)?;
+    if format.kind != TokenKind::Text {
+        return None;
+    }
+    let mut count: usize = 0;
+    let mut begun = false;
+    for byte in format.text {
+        if begun && *byte != b'%' {
+            count = count.saturating_add(1);
+        }
+        begun = *byte == b'%' && !begun;
+    }
+    Some(count)
+}
+
 /// Whether a name stands between an offset and the next `;`.
 pub fn is_read_behind(text: &[u8], at: usize, name: &[u8]) -> bool {
     let mut lexer = Lexer::behind(text, at.min(text.len()));
@@ -112,7 +141,7 @@ pub fn is_read_behind(text: &[u8], at: usize, name: &[u8]) -> bool {
 }
 
 /// The next token, if there is one.
-fn next_token<'t>(lexer: &mut Lexer<'t>) -> Option<Token<'t>> {
+pub fn next_token<'t>(lexer: &mut Lexer<'t>) -> Option<Token<'t>> {
     match lexer.next() {
         Some(Ok(token)) => Some(token),
         _ => None,

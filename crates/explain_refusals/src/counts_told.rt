@@ -1,7 +1,9 @@
 //! Calls with a wrong number of arguments or outputs, explained.
 
-use crate::calls::{Taker, count_behind, taker_of};
+use crate::calls::{Taker, conversions_behind, count_behind, taker_of};
+use crate::declared::{rest_of_statement, say_declaration};
 use crate::told::Hint;
+use explain_names::mention::Sort;
 use explain_names::refused::Refused;
 use explain_text::words::{say, say_count};
 use lexer::token::Span;
@@ -32,10 +34,8 @@ pub fn hint_of_count<A: Allocator>(
     add_count(&mut words, gives, " value")?;
     match taker_of(refused.alloc, refused.text, at.from)? {
         Taker::Nobody if gives == 1 => {
-            say(
-                &mut words,
-                ", and nothing takes it: assign it to a variable",
-            )?;
+            say(&mut words, ", and nothing takes it: ")?;
+            say_taken(&mut words, refused.text, function, at)?;
         }
         Taker::Nobody => {
             say(
@@ -54,6 +54,31 @@ pub fn hint_of_count<A: Allocator>(
         }
     }
     Ok(Some(Hint { words, at: None }))
+}
+
+/// Adds the call whose name stands at a place, with a variable that takes its value.
+fn say_taken<A: Allocator>(
+    words: &mut Vec<u8>,
+    text: &[u8],
+    function: &Function<A>,
+    at: Span,
+) -> Result<(), AllocError> {
+    if let Some(output) = function.outputs.first() {
+        let sort = Sort {
+            base: output.base,
+            shape: output.shape,
+        };
+        say_declaration(words, sort, output.name.text.as_slice())?;
+        say(words, " = ")?;
+    }
+    let call = rest_of_statement(text, at.from);
+    if call.is_empty() {
+        words.extend_from_slice(function.name.text.as_slice())?;
+        say(words, "(..);")
+    } else {
+        words.extend_from_slice(call)?;
+        Ok(())
+    }
 }
 
 /// That a call has so many arguments.
@@ -94,6 +119,25 @@ pub fn hint_of_built_in<A: Allocator>(
                 "it gives one value, which one variable takes",
             )
         }
+        _ if name == b"printf".as_slice() && given > 0 => hint_of_printed(refused, at, given),
         _ => hint_of_arguments(refused, given),
     }
+}
+
+/// How many values a format takes, and how many stand behind it, of so many arguments.
+fn hint_of_printed<A: Allocator>(
+    refused: &Refused<'_, A>,
+    at: Span,
+    given: usize,
+) -> Result<Option<Hint>, AllocError> {
+    let Some(wanted) = conversions_behind(refused.text, at.to) else {
+        return hint_of_arguments(refused, given);
+    };
+    let behind = given.saturating_sub(1);
+    let mut words = Vec::from_slice(refused.alloc, b"the format takes ")?;
+    add_count(&mut words, wanted, " value")?;
+    say(&mut words, ", and behind it ")?;
+    say(&mut words, if behind == 1 { "stands " } else { "stand " })?;
+    say_count(&mut words, behind)?;
+    Ok(Some(Hint { words, at: None }))
 }

@@ -5,6 +5,7 @@
 mod assignments_told;
 mod calls;
 mod counts_told;
+mod declared;
 mod names_told;
 pub mod refusal;
 mod sorts;

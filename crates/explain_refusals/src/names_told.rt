@@ -1,15 +1,18 @@
 //! Names that nothing has, explained.
 
+use crate::calls::is_read_behind;
+use crate::declared::{rest_of_statement, say_declaration, sort_behind};
 use crate::told::{Hint, Note, Told, note_of};
 use explain_hints::functions::{on_function, on_variable};
 use explain_hints::nearest::{Near, nearer};
 use explain_names::lookup::{Wanted, bytes_at, kind_at, last_before, place_before};
-use explain_names::mention::{Kind, Mention};
+use explain_names::mention::{Kind, Mention, Sort};
 use explain_names::mentions::{function_around, mentions_around};
 use explain_names::refused::Refused;
+use explain_text::words::say;
 use lexer::token::Span;
 use std::alloc::{AllocError, Allocator, Global};
-use syntax_trees::tree::Item;
+use syntax_trees::tree::{Item, Shape};
 
 /// The functions that are there without a definition.
 static BUILT_IN: [&str; 6] = ["strcat", "fromint", "toint", "size", "printf", "assert"];
@@ -85,35 +88,53 @@ fn hint_of_unknown<A: Allocator>(
 ) -> Result<Option<Hint>, AllocError> {
     let mentions = mentions_around(refused.alloc, at.from, refused.script)?;
     let near = nearest_variable(refused.alloc, refused.text, mentions.as_slice(), at)?;
-    match (near, kind_at(mentions.as_slice(), at)) {
-        (Some(near), _) => Hint::named(refused.alloc, "did you mean ", near.name, "?"),
-        (None, Some(Kind::Written)) => {
-            Hint::named(refused.alloc, "declare it before: int ", name, "[];")
-        }
-        (None, Some(_)) => Hint::named(refused.alloc, "declare it: int ", name, " = ..;"),
-        (None, None) => hint_of_read(refused, name),
+    if let Some(near) = near {
+        return Hint::named(refused.alloc, "did you mean ", near.name, "?");
     }
+    let kind = kind_at(mentions.as_slice(), at);
+    if kind.is_none() {
+        if let Some(words) = on_variable(name) {
+            return Hint::plain(refused.alloc, words);
+        }
+        if let Some(near) = nearest_function(refused, name)? {
+            if near.distance == 0 {
+                let before = "a function is called with brackets: ";
+                return Hint::named(refused.alloc, before, name, "(..)");
+            }
+        }
+    }
+    let sort = sort_behind(refused, mentions.as_slice(), at);
+    hint_of_declaration(refused, at, kind, sort)
 }
 
-/// What to write instead of a name that is read and that nothing is near to.
-fn hint_of_read<A: Allocator>(
+/// That a name has to be declared, with what may be its type.
+fn hint_of_declaration<A: Allocator>(
     refused: &Refused<'_, A>,
-    name: &[u8],
+    at: Span,
+    kind: Option<Kind>,
+    sort: Sort,
 ) -> Result<Option<Hint>, AllocError> {
-    if let Some(words) = on_variable(name) {
-        return Hint::plain(refused.alloc, words);
+    let rest = rest_of_statement(refused.text, at.to);
+    let is_here = kind == Some(Kind::Assigned)
+        && (rest.starts_with(b" =") || rest.starts_with(b"="))
+        && !is_read_behind(refused.text, at.to, bytes_at(refused.text, at));
+    let has_value = kind != Some(Kind::Written) && sort.shape == Shape::Scalar;
+    let mut words = Vec::new(refused.alloc);
+    say(
+        &mut words,
+        if is_here {
+            "declare it: "
+        } else {
+            "declare it before: "
+        },
+    )?;
+    say_declaration(&mut words, sort, bytes_at(refused.text, at))?;
+    if is_here {
+        words.extend_from_slice(rest)?;
+    } else {
+        say(&mut words, if has_value { " = ..;" } else { ";" })?;
     }
-    match nearest_function(refused, name)? {
-        Some(near) if near.distance == 0 => {
-            Hint::named(
-                refused.alloc,
-                "a function is called with brackets: ",
-                name,
-                "(..)",
-            )
-        }
-        _ => Hint::named(refused.alloc, "declare it before: int ", name, " = ..;"),
-    }
+    Ok(Some(Hint { words, at: None }))
 }
 
 /// The nearest variable that is declared before a place.

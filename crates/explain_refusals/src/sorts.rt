@@ -24,7 +24,7 @@ pub enum Wish {
     Sort(Sort),
     /// A key of an array of this type, whose name stands there.
     Key(Sort, Span),
-    /// An array of this type, whose elements are not written by a literal.
+    /// A value of this type, which no literal of an array is.
     Literal(Sort),
     /// An array that has elements.
     Element,
@@ -175,11 +175,7 @@ fn in_right<A: Allocator>(
                     base: wanted.base,
                     shape: numbered,
                 };
-                let wish = match wanted.shape {
-                    Shape::Array(Keys::Texts) => Wish::Literal(wanted),
-                    _ => Wish::Sort(wanted),
-                };
-                note(found, array, wish);
+                note(found, array, Wish::Literal(wanted));
             }
         }
     }

@@ -40,7 +40,9 @@ fn hint_of_token(alloc: Global, text: &[u8], fault: LexFault) -> Result<Option<H
         },
         LexFault::BadNumber(at) => Hint::plain(alloc, on_number(text, bytes_at(text, at), at.from)),
         LexFault::OpenString(_) => Hint::plain(alloc, on_string()),
-        LexFault::OpenComment(_) => Ok(None),
+        LexFault::OpenComment(_) => {
+            Hint::plain(alloc, "close it by */, or begin each of its lines with //")
+        }
         LexFault::BadEscape(at) => Hint::plain(alloc, on_escape(bytes_at(text, at))),
     }
 }

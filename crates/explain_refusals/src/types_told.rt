@@ -1,11 +1,13 @@
 //! Scripts that are not well typed, explained.
 
+use crate::calls::is_printed;
 use crate::counts_told::{add_count, hint_of_built_in, hint_of_count};
+use crate::declared::type_of;
 use crate::names_told::{told_of_no_function, told_of_unknown};
 use crate::sorts::{Mismatch, Search, Wish, first_mismatch, keys_of, one};
 use crate::told::{Hint, Note, Told, note_of};
-use explain_names::lookup::{Wanted, bytes_at, function_named, place_before};
-use explain_names::mention::Sort;
+use explain_names::lookup::{Wanted, bytes_at, function_named, kind_at, place_before};
+use explain_names::mention::{Kind, Sort};
 use explain_names::mentions::{function_around, mentions_around};
 use explain_names::refused::Refused;
 use lexer::token::Span;
@@ -40,7 +42,15 @@ fn told_of_declared<A: Allocator>(refused: &Refused<'_, A>, at: Span) -> Result<
         _ => {
             let first = place_before(refused, at, Wanted::Declaration, at.from)?;
             let note = note_of("declared at", first);
-            Told::of(refused.alloc, name, "is declared a second time", note)
+            let mentions = mentions_around(refused.alloc, at.from, refused.script)?;
+            let words = match kind_at(mentions.as_slice(), at) {
+                Some(Kind::Declared | Kind::Assigned) => {
+                    "a name that is visible is taken, in inner blocks too: take another one, or assign it without a type"
+                }
+                _ => "a name that is visible is taken, in inner blocks too: take another one",
+            };
+            let hint = Hint::plain(refused.alloc, words)?;
+            Ok(Told::of(refused.alloc, name, "is declared a second time", note)?.with(hint))
         }
     }
 }
@@ -60,7 +70,7 @@ fn told_of_mismatch<A: Allocator>(refused: &Refused<'_, A>, at: Span) -> Result<
             let mut told = Told::plain(refused.alloc, "this is ")?;
             add_sort(&mut told.sentence, mismatch.found)?;
             add_wish(&mut told.sentence, refused.text, mismatch.wanted)?;
-            let hint = hint_of_mismatch(refused, mismatch)?;
+            let hint = hint_of_mismatch(refused, mismatch, at)?;
             Ok(told.with(hint))
         }
     }
@@ -95,19 +105,35 @@ fn words_of_keys(keys: Keys) -> &'static str {
 fn hint_of_mismatch<A: Allocator>(
     refused: &Refused<'_, A>,
     mismatch: Mismatch,
+    at: Span,
 ) -> Result<Option<Hint>, AllocError> {
+    let is_printed = is_printed(refused.alloc, refused.text, at.from)?;
     let words = match mismatch.wanted {
         Wish::Key(array, name) => return hint_of_key(refused, mismatch.found, array, name),
         Wish::Element => "an array alone has elements: int A[]; A[0] = 1;",
         Wish::Loop => "foreach goes over a range, as [1:n], or over an array by its name",
         Wish::Size => "size counts the elements of an array; a string has no length",
         Wish::Compared => "compare their elements, one by one: A[i] == B[i]",
+        Wish::Literal(wanted) if wanted.shape == Shape::Scalar => {
+            "brackets stand behind the name of an array: int A[] = [1, 2];"
+        }
         Wish::Literal(_) => {
             "the values of a literal have the keys 0, 1, 2: write the elements, each under its text: A[\"a\"] = 1;"
+        }
+        Wish::Sort(wanted) if is_printed && are_printed(mismatch.found, wanted) => {
+            "%i prints a number, and %s a string"
         }
         Wish::Sort(wanted) => hint_of_sorts(mismatch.found, wanted),
     };
     Hint::plain(refused.alloc, words)
+}
+
+/// Whether `printf` prints values of both types, each by a conversion of its own.
+fn are_printed(one: Sort, other: Sort) -> bool {
+    one.shape == Shape::Scalar
+        && other.shape == Shape::Scalar
+        && one.base != Base::Boolean
+        && other.base != Base::Boolean
 }
 
 /// What to write instead of a key of another type, of an array of this name and type.
@@ -130,15 +156,6 @@ fn hint_of_key<A: Allocator>(
             Hint::named(refused.alloc, before, name, behind)
         }
         _ => Hint::plain(refused.alloc, hint_of_sorts(found, one(keys.base()))),
-    }
-}
-
-/// What the declaration of an array begins with.
-fn type_of(base: Base) -> &'static str {
-    match base {
-        Base::Int => "int ",
-        Base::Text => "string ",
-        Base::Boolean => "boolean ",
     }
 }
 
@@ -199,18 +216,21 @@ fn told_of_function<A: Allocator>(
     name: &[u8],
     at: Span,
 ) -> Result<Told, AllocError> {
-    match function_named(name, refused.script) {
+    let hint = Hint::plain(
+        refused.alloc,
+        "a function has a name of its own: take another one",
+    )?;
+    let told = match function_named(name, refused.script) {
         Some(first) if first.name.span != at => {
             let note = Some(defined_at(first));
-            Told::of(refused.alloc, name, "is defined a second time", note)
+            Told::of(refused.alloc, name, "is defined a second time", note)?
         }
-        _ => Told::of(
-            refused.alloc,
-            name,
-            "is a function that is there without a definition",
-            None,
-        ),
-    }
+        _ => {
+            let words = "is a function that is there without a definition";
+            Told::of(refused.alloc, name, words, None)?
+        }
+    };
+    Ok(told.with(hint))
 }
 
 fn defined_at<A: Allocator>(function: &Function<A>) -> Note {
@@ -265,6 +285,9 @@ fn hint_of_format(format: &[u8]) -> &'static str {
         Some(b'f' | b'e' | b'g') => "there are whole numbers alone: %i",
         Some(b'0'..=b'9' | b'-' | b'.' | b'l' | b'+') => {
             "a conversion has no width: %i alone, or a function that puts blanks before"
+        }
+        Some(b'a'..=b'z' | b'A'..=b'Z') => {
+            "%i prints a number, and %s a string; a % that stands for itself is written %%"
         }
         _ => "a % that stands for itself is written %%",
     }

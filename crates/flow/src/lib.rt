@@ -14,5 +14,3 @@ mod scopes;
 pub mod script;
 pub mod statement;
 pub mod whole;
-
-pub use whole::is_whole;

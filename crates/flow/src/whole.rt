@@ -12,12 +12,14 @@ use crate::script::{Flow, Function};
 use crate::statement::{Action, Block, Header, Statement, Variable};
 use std::alloc::Allocator;
 
-/// Whether each name that a flow uses is declared once in the block that it leads to, and each function that it calls is there. Takes no
-/// memory.
-pub fn is_whole<A: Allocator>(flow: &Flow<A>) -> bool
-    ensures { (result ≡ true) ↔ IsWhole (core_of flow.now) }
-{
-    is_script_fit(flow)
+impl<A: Allocator> Flow<A> {
+    /// Whether each name that it uses is declared once in the block that it leads to, and each function that it calls is there. Takes no
+    /// memory.
+    pub fn is_whole(&self) -> bool
+        ensures { (result ≡ true) ↔ IsWhole (core_of self.now) }
+    {
+        is_script_fit(self)
+    }
 }
 
 fn is_script_fit<A: Allocator>(flow: &Flow<A>) -> bool

@@ -11,7 +11,8 @@ use Rattle.language.specs.Typing.{WellTyped}
 use Rattle.language.specs.WellFormed.{header_blocks}
 use Rattle.language.proofs.Blocks.{header_inner, inner_block, main_block, function_block, among_script}
 use Rattle.language.proofs.Tested as tested
-use Rattle.language.proofs.Tested.{distinct, distinct_right, flat}
+use Rattle.language.proofs.Tested.{distinct_right, flat}
+use Rattle.language.specs.Distinct.{distinct}
 use Rattle.language.proofs.TreeNumbers.{distinct_few, in_times}
 use Rattle.language_laws.proofs.TreeNodes.{nodes_once}
 use Rattle.language_accepted.specs.Placed.{IsPlaced}

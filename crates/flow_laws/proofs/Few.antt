@@ -8,7 +8,8 @@ use Rattle.language.specs.Members.{◌∈◌}
 use Rattle.language.specs.Parts.{block_list, parts, part_cells, part_calls, blocks_below, blocks_inside, function_blocks, script_blocks}
 use Rattle.language.proofs.Members.{split_in}
 use Rattle.language.proofs.Tested as tested
-use Rattle.language.proofs.Tested.{distinct, flat, cell_nodes, declared_of, with_turn, roles_of, hidden_of, local_node, name_nodes}
+use Rattle.language.proofs.Tested.{flat, cell_nodes, declared_of, with_turn, roles_of, hidden_of, local_node, name_nodes}
+use Rattle.language.specs.Distinct.{distinct}
 use Rattle.language.proofs.TreeNumbers.{hit, hit_self, times, times-append, times-flat, part_times, call_nodes}
 use Rattle.language_accepted.proofs.Rising.{here_or_none}
 use Rattle.flow.specs.Names.{nodes_here, here_nodes, part_nodes, action_nodes, block_nodes, Opened, opens}

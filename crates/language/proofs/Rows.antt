@@ -3,7 +3,7 @@ use Rattle.std.specs.Prelude.{◌≡◌, ℕ, zero, suc, ◌+◌, ◌<◌, Bool,
 use Rattle.std.proofs.Common.{ap₂, arith}
 use Rattle.std.proofs.lemmas.Bool.{eqb-true}
 use Rattle.language.specs.Numbers.{numbers_from}
-use Rattle.language.proofs.Tested.{has, distinct}
+use Rattle.language.specs.Distinct.{has, distinct}
 
 -- none of the numbers from m on is below m
 none_below : (n m k : ℕ) → n < m → has n (numbers_from m k) ≡ false

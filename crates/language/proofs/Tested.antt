@@ -3,6 +3,7 @@ use Rattle.std.specs.Prelude.{◌≡◌, ◌⊎◌, ℕ, zero, suc, Bool, true, 
 use Rattle.std.proofs.Common.{inl, inr, sym, ap, ◌∙◌, subst, arith}
 use Rattle.std.proofs.lemmas.Bool.{eqb-true}
 use Rattle.language.specs.Core.{Owned, local, input, output, Name, here, Cell, Call, Outer, Stmt, stmt, Action, declare, call_alone, assign, fill, insert, range, each, Block, Core}
+use Rattle.language.specs.Distinct.{has, distinct}
 use Rattle.language.specs.Members.{◌∈◌, first, later}
 use Rattle.language.specs.Parts.{block_list, script_blocks, script_stmts, stmts_among, stmt_calls, part_calls, part_cells, parts, cells, by_name, calls_among, call_at, name_at, output_name}
 use Rattle.language.specs.Places.{Path, Place, place, place_of}
@@ -10,14 +11,6 @@ use Rattle.language.specs.WellFormed.{Declares, Role, range_value_role, range_tu
 use Rattle.language.proofs.Members.{split_in, to_left, to_right, either}
 
 -- LISTS OF NUMBERS
-
-abbrev pub has : ℕ → List ℕ → Bool
-has n [] = false
-has n (x ∷ xs) = nat_eq n x || has n xs
-
-abbrev pub distinct : List ℕ → Bool
-distinct [] = true
-distinct (x ∷ xs) = not (has x xs) && distinct xs
 
 abbrev pub flat : {X : Type 0} → (X → List ℕ) → List X → List ℕ
 flat f [] = []

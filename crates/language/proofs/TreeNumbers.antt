@@ -12,7 +12,8 @@ use Rattle.language.specs.Table.{Table, Callee, composite, built_in}
 use Rattle.language.specs.declared.tree.Shape.{Shape}
 pub use Rattle.language.specs.Numbers.{expression_numbers, form_numbers, expressions_numbers}
 use Rattle.language.specs.Members.{◌∈◌, first, later}
-use Rattle.language.proofs.Tested.{has, distinct, flat, both, self_eq, cell_nodes, name_nodes}
+use Rattle.language.proofs.Tested.{flat, both, self_eq, cell_nodes, name_nodes}
+use Rattle.language.specs.Distinct.{has, distinct}
 
 -- COUNTS
 

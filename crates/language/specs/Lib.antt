@@ -1,4 +1,5 @@
 pub mod Core
+pub mod Distinct
 pub mod Facts
 pub mod Grammar
 pub mod Kinds

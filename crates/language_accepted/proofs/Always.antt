@@ -13,11 +13,13 @@ use Rattle.language.specs.Typing.{WellTyped}
 use Rattle.language.specs.WellFormed.{Declares, Uses}
 use Rattle.language.proofs.Blocks.{among_script}
 use Rattle.language_laws.proofs.OneAssign.{function_in}
-use Rattle.language.proofs.Tested.{distinct, flat, flat_once, every_in, writer_of, block_nodes, one_block, cell_once, role_once, role_cells, call_among}
+use Rattle.language.proofs.Tested.{flat, flat_once, every_in, writer_of, block_nodes, one_block, cell_once, role_once, role_cells, call_among}
+use Rattle.language.specs.Distinct.{distinct}
 use Rattle.language_laws.proofs.TestedNames.{uses_used, declares_it, declared_it, declares, fill_fine, find_once, get_below, is_many_form, fill_parts, insert_parts, fill_no_insert, kinds_of}
 use Rattle.language_laws.proofs.TreeCalls.{hidden, fills}
 use Rattle.language_laws.proofs.TreeNodes.{nodes_once}
-use Rattle.language_laws.proofs.TreeOffsets.{tree_offsets, offsets_once}
+use Rattle.language_laws.proofs.TreeOffsets.{offsets_once}
+use Rattle.language_laws.specs.Offsets.{tree_offsets}
 use Rattle.language_laws.proofs.TreeStmts.{writers_once}
 use Rattle.language_accepted.specs.Always.{FormedAlways}
 use Rattle.language_accepted.specs.Placed.{Rise}

@@ -9,9 +9,9 @@ use Rattle.language.specs.Numbered.{expression_size, word_size, option_size, ove
 use Rattle.language.specs.Reads.{Reads}
 use Rattle.language.specs.Tree as T
 use Rattle.language.specs.Tree.{Word, Expression, expression, number, text, truth, variable, element, call, prefixed, chain, Expressions, no_expressions, and_expression, expressions_of, RightSide, value, list, Calling, Over, Statement, statement, Command, choice, choice_else, loop, waits, Body, body, Statements, no_statements, and_statement, Tree, import, function, single}
-use Rattle.language.proofs.Tested.{distinct}
+use Rattle.language.specs.Distinct.{distinct}
 use Rattle.language.proofs.TreeNumbers.{times, few_distinct}
-use Rattle.language_laws.proofs.TreeOffsets.{expression_offsets, form_offsets, expressions_offsets, right_offsets, calling_offsets, over_offsets, header_offsets, statement_offsets, command_offsets, body_offsets, statements_offsets, tree_offsets}
+use Rattle.language_laws.specs.Offsets.{expression_offsets, form_offsets, expressions_offsets, right_offsets, calling_offsets, over_offsets, header_offsets, statement_offsets, command_offsets, body_offsets, statements_offsets, tree_offsets}
 use Rattle.language_accepted.specs.Placed.{Rise, IsPlaced}
 use Rattle.language_accepted.proofs.Called.{starts_of, c_script}
 use Rattle.language_accepted.proofs.Once.{numbered_rise}

@@ -13,8 +13,8 @@ use Rattle.language.specs.Tree.{Word, Expression, expressions_of, RightSide, Cal
 use Rattle.language.specs.Tree.{choice_of}
 use Rattle.language.proofs.Tested.{flat}
 use Rattle.language.proofs.TreeNumbers.{times, times-append}
-use Rattle.language_laws.proofs.TreeNodes.{maybe_numbers}
-use Rattle.language_laws.proofs.TreeOffsets.{expression_offsets, expressions_offsets, right_offsets, calling_offsets, over_offsets, header_offsets, statement_offsets, command_offsets, body_offsets, statements_offsets, tree_offsets}
+use Rattle.language_laws.specs.Offsets.{maybe_numbers}
+use Rattle.language_laws.specs.Offsets.{expression_offsets, expressions_offsets, right_offsets, calling_offsets, over_offsets, header_offsets, statement_offsets, command_offsets, body_offsets, statements_offsets, tree_offsets}
 
 -- where tokens begin
 abbrev pub starts_of : List Lexeme → List ℕ

@@ -13,11 +13,13 @@ use Rattle.language.specs.Tree.{Tree}
 use Rattle.language.specs.Typing.{WellTyped}
 use Rattle.language.specs.WellFormed.{WellFormed, header_blocks}
 use Rattle.language.proofs.Members.{split_in, to_left, to_right}
-use Rattle.language.proofs.Tested.{distinct, has_in, self_eq, flat_in, every, every_in, among_split, declared_of, hidden_calls, hidden_of, name_nodes, local_node, may_be, may_be_target, target_nodes, stmt_targets, targets_fine, split_flat}
+use Rattle.language.proofs.Tested.{has_in, self_eq, flat_in, every, every_in, among_split, declared_of, hidden_calls, hidden_of, name_nodes, local_node, may_be, may_be_target, target_nodes, stmt_targets, targets_fine, split_flat}
+use Rattle.language.specs.Distinct.{distinct}
 use Rattle.language_laws.proofs.TestedNames.{declared_by, all_declared, is_declared, named_fine, declares, used, is_here, here_and_declared, here_then_declared, declared_then_here, implies, block_names, headers_fine, waits_fine, output_below, is_output, function_name, function_fine, counts_of, call_fine, calls_fine, one_hidden, is_local, hidden_fine, Passes, kinds, well_formed}
 use Rattle.language_laws.proofs.TreeCalls.{hidden, fills}
 use Rattle.language_laws.proofs.TreeNodes.{nodes_once}
-use Rattle.language_laws.proofs.TreeOffsets.{tree_offsets, offsets_once}
+use Rattle.language_laws.proofs.TreeOffsets.{offsets_once}
+use Rattle.language_laws.specs.Offsets.{tree_offsets}
 use Rattle.language_laws.proofs.TreeStmts.{writers_once}
 use Rattle.language_laws.specs.Scoped.{InScope, IsScoped, Scoped}
 use Rattle.language_accepted.specs.Placed.{Rise}

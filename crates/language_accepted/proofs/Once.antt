@@ -8,7 +8,7 @@ use Rattle.language.specs.Numbered.{numbered, tree_size}
 use Rattle.language.specs.Numbers as N
 use Rattle.language.specs.Numbers.{numbers}
 use Rattle.language.proofs.Numbers.{numbers-numbered}
-use Rattle.language.proofs.Tested.{distinct}
+use Rattle.language.specs.Distinct.{distinct}
 use Rattle.language.proofs.TreeNumbers.{times, times-append, few_distinct, distinct_few, expression_numbers, form_numbers, expressions_numbers}
 use Rattle.language_accepted.specs.Placed.{Rise}
 use Rattle.language_accepted.proofs.Rising.{rise_distinct, rise_from}

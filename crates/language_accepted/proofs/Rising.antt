@@ -3,7 +3,7 @@ use Rattle.std.specs.Prelude.{◌≡◌, ℕ, zero, suc, ◌+◌, ◌<◌, ◌�
 use Rattle.std.proofs.Common.{ap, arith}
 use Rattle.std.proofs.lemmas.Bool.{eqb-true}
 use Rattle.language.specs.Numbers.{numbers_from}
-use Rattle.language.proofs.Tested.{distinct}
+use Rattle.language.specs.Distinct.{distinct}
 use Rattle.language.proofs.TreeNumbers.{hit, hit_self, times, few_distinct, distinct_few}
 use Rattle.language_accepted.specs.Placed.{Rise}
 

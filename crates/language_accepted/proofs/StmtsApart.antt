@@ -9,7 +9,8 @@ use Rattle.language.specs.Parts.{script_stmts, script_blocks, block_list, cells,
 use Rattle.language.specs.Resolved.{call_right, right_of, core}
 use Rattle.language.specs.Table.{Table, Callee, composite, built_in}
 use Rattle.language.proofs.Members.{to_left, to_right}
-use Rattle.language.proofs.Tested.{distinct, flat, flat_in, flat_once, nodes, block_nodes, among_split, action_nodes, declared_of, cell_nodes, roles_of, hidden_of}
+use Rattle.language.proofs.Tested.{flat, flat_in, flat_once, nodes, block_nodes, among_split, action_nodes, declared_of, cell_nodes, roles_of, hidden_of}
+use Rattle.language.specs.Distinct.{distinct}
 use Rattle.language.proofs.TreeNumbers.{hit, times, in_times, few_distinct, distinct_few}
 use Rattle.language_laws.proofs.TreeNodes.{tree_numbers, core_both}
 use Rattle.language_accepted.specs.Statements.{IsDeclaration, StmtsApart}

@@ -20,7 +20,8 @@ use Rattle.language.specs.Typing as rules
 use Rattle.language.specs.Typing.{HasType, ArgumentTypes, RightType, ReferAll, Declares, LoopScope, StepType, SourceType, CallTyped, StatementTyped, StatementsTyped, BodyTyped, wanted}
 use Rattle.language.proofs.Members.{split_in, either}
 use Rattle.language.proofs.TreeNumbers.{expression_numbers, expressions_numbers}
-use Rattle.language_laws.proofs.TreeNodes.{words_numbers, right_numbers, maybe_numbers, over_numbers, word_numbers, statement_numbers, body_numbers, statements_numbers}
+use Rattle.language_laws.proofs.TreeNodes.{words_numbers, right_numbers, over_numbers, word_numbers, statement_numbers, body_numbers, statements_numbers}
+use Rattle.language_laws.specs.Offsets.{maybe_numbers}
 use Rattle.language_accepted.specs.Types as types
 use Rattle.language_accepted.specs.Types.{OwnedHas, NameHas, NamesHave, no_name, one_name, FormHas, CallHas, PartsHave, OuterHas, OutersHave, AwaitedHas, TurnHas, BlockHas, no_statement, a_statement, ActionHas, DeclaredAs, statement_declarations, body_declarations, statements_declarations}
 use Rattle.language_accepted.proofs.NodeTypes.{NodesTyped, always, nothing, joined, noted, passed, all_passed, and_so}

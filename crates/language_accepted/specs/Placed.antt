@@ -2,8 +2,8 @@
 use Rattle.std.specs.Prelude.{◌≡◌, ◌<◌, ℕ, true, List, [], ◌∷◌}
 use Rattle.language.specs.Numbers.{numbers}
 use Rattle.language.specs.Tree.{Tree}
-use Rattle.language.proofs.Tested.{distinct}
-use Rattle.language_laws.proofs.TreeOffsets.{tree_offsets}
+use Rattle.language.specs.Distinct.{distinct}
+use Rattle.language_laws.specs.Offsets.{tree_offsets}
 
 -- each number is above the one before it, and the first above this one
 abbrev pub Rise : ℕ → List ℕ → Type 0

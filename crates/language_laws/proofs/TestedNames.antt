@@ -12,7 +12,8 @@ use Rattle.language.proofs.Blocks.{among_script}
 use Rattle.language_laws.proofs.Declared.{local_same}
 use Rattle.language_laws.proofs.OneAssign.{function_in}
 use Rattle.language.proofs.Members.{split_in, to_left, to_right, either}
-use Rattle.language.proofs.Tested.{has, distinct, flat, both, either_true, has_in, in_has, self_eq, distinct_apart, distinct_right, flat_in, flat_once, every, every_in, declared_of, name_nodes, hidden_calls, hidden_of, nodes, block_nodes, writer_of, declared_node, hidden_node, stmt_once, stmt_distinct, cell_once, role_once, role_cells, one_block, targets_fine, call_among, assign_apart, role_assign, split_flat, among_split, hidden_distinct}
+use Rattle.language.proofs.Tested.{flat, both, either_true, has_in, in_has, self_eq, distinct_apart, distinct_right, flat_in, flat_once, every, every_in, declared_of, name_nodes, hidden_calls, hidden_of, nodes, block_nodes, writer_of, declared_node, hidden_node, stmt_once, stmt_distinct, cell_once, role_once, role_cells, one_block, targets_fine, call_among, assign_apart, role_assign, split_flat, among_split, hidden_distinct}
+use Rattle.language.specs.Distinct.{has, distinct}
 
 -- NAMES
 

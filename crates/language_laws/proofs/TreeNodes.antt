@@ -10,8 +10,10 @@ use Rattle.language.specs.Parts.{part_cells, parts, stmts_among, script_stmts, b
 use Rattle.language.specs.Resolved.{refers, Arguments, operands_of, arguments_of, computes, call_form, call_to, outer_of, outer, after_first, composite_call, call_right, right_of, call_action, several, awaited, loop_action, stmt_of, block_of, block_in, with_statement, with_command, script_block, functions_of, core, format_of}
 use Rattle.language.specs.Table as table
 use Rattle.language.specs.Table.{Table, Callee, composite, built_in}
-use Rattle.language.proofs.Tested.{distinct, flat, cell_nodes, declared_of, roles_of, with_turn, hidden_of, action_nodes, block_nodes}
+use Rattle.language.proofs.Tested.{flat, cell_nodes, declared_of, roles_of, with_turn, hidden_of, action_nodes, block_nodes}
+use Rattle.language.specs.Distinct.{distinct}
 use Rattle.language.proofs.TreeNumbers.{hit, times, times-append, times-flat, few_distinct, distinct_few, expression_numbers, expressions_numbers, part_times, part-append, call_part, expression_part, operands_part, arguments_part}
+use Rattle.language_laws.specs.Offsets.{maybe_numbers}
 use Rattle.language_laws.proofs.TreeBlocks.{among-append, right_no_block, several_no_block, call_no_block, loop_block}
 
 -- THE NUMBERS OF STATEMENTS
@@ -26,10 +28,6 @@ right_numbers (list nd es) = nd.number ∷ expressions_numbers (expressions_of e
 
 abbrev pub calling_numbers : Calling → List ℕ
 calling_numbers c = c.node.number ∷ c.name.number ∷ expressions_numbers (expressions_of c.arguments)
-
-abbrev pub maybe_numbers : {X : Type 0} → (X → List ℕ) → Option X → List ℕ
-maybe_numbers f None = []
-maybe_numbers f (Some x) = f x
 
 abbrev pub over_numbers : Over → List ℕ
 over_numbers (T.array w) = w.number ∷ []

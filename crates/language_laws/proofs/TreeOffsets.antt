@@ -10,80 +10,14 @@ use Rattle.language.specs.Parts.{stmts_among, script_stmts, part_calls, parts, o
 use Rattle.language.specs.Resolved.{refers, Formed, Operands, Arguments, form_of, operands_of, arguments_of, computes, call_form, call_to, number_of, outer_of, outer, after_first, composite_call, call_right, right_of, call_action, several, awaited, loop_action, stmt_of, block_of, block_in, with_statement, with_command, script_block, functions_of, core, format_of}
 use Rattle.language.specs.Table as table
 use Rattle.language.specs.Table.{Table, Callee, composite, built_in}
-use Rattle.language.proofs.Tested.{distinct, flat}
+use Rattle.language.proofs.Tested.{flat}
+use Rattle.language.specs.Distinct.{distinct}
 use Rattle.language.proofs.TreeNumbers.{hit, times, times-append, times-flat, few_distinct, distinct_few}
-use Rattle.language_laws.proofs.TreeNodes.{maybe_numbers}
+use Rattle.language_laws.specs.Offsets.{maybe_numbers, expression_offsets, form_offsets, expressions_offsets, right_offsets, calling_offsets, over_offsets, header_offsets, statement_offsets, command_offsets, body_offsets, statements_offsets, tree_offsets}
 use Rattle.language.specs.Resolved.{form_in, as_cell, as_operand, as_argument, variable_or_cell}
 use Rattle.language_laws.proofs.TestedNames.{offset}
 use Rattle.language_laws.proofs.TreeCalls.{calls-append}
 use Rattle.language_laws.proofs.TreeBlocks.{among-append, right_no_block, several_no_block, call_no_block, loop_block}
-
--- THE OFFSETS OF CALLED NAMES
-
-abbrev mutual
-  pub expression_offsets : Expression → List ℕ
-  expression_offsets (expression nd f) = form_offsets f
-
-  pub form_offsets : T.Form → List ℕ
-  form_offsets (number z) = []
-  form_offsets (text bytes) = []
-  form_offsets (truth b) = []
-  form_offsets (variable w) = []
-  form_offsets (element w e) = expression_offsets e
-  form_offsets (call w es) = w.span.from ∷ expressions_offsets es
-  form_offsets (prefixed p e) = expression_offsets e
-  form_offsets (chain os es) = expressions_offsets es
-
-  pub expressions_offsets : Expressions → List ℕ
-  expressions_offsets no_expressions = []
-  expressions_offsets (and_expression e es) = expression_offsets e ++ expressions_offsets es
-
-abbrev pub right_offsets : RightSide → List ℕ
-right_offsets (value e) = expression_offsets e
-right_offsets (list nd es) = expressions_offsets (expressions_of es)
-
-abbrev pub calling_offsets : Calling → List ℕ
-calling_offsets c = c.name.span.from ∷ expressions_offsets (expressions_of c.arguments)
-
-abbrev pub over_offsets : Over → List ℕ
-over_offsets (T.array w) = []
-over_offsets (T.range low high step) = expression_offsets low ++ (expression_offsets high ++ maybe_numbers expression_offsets step)
-
--- where an `if` or a `foreach` begins
-abbrev pub header_offsets : ℕ → Command → List ℕ
-header_offsets at (choice e b) = at ∷ []
-header_offsets at (choice_else e b other) = at ∷ []
-header_offsets at (loop v k o b) = at ∷ []
-header_offsets at _ = []
-
-abbrev mutual
-  pub statement_offsets : Statement → List ℕ
-  statement_offsets (statement nd c) = header_offsets nd.first.from c ++ command_offsets c
-
-  pub command_offsets : Command → List ℕ
-  command_offsets (T.declare d r) = maybe_numbers right_offsets r
-  command_offsets (T.assign w r) = right_offsets r
-  command_offsets (T.write w i e) = expression_offsets i ++ expression_offsets e
-  command_offsets (T.assign_all ws c) = calling_offsets c
-  command_offsets (T.calls p c) = calling_offsets c
-  command_offsets (choice e b) = expression_offsets e ++ body_offsets b
-  command_offsets (choice_else e b other) = expression_offsets e ++ (body_offsets b ++ body_offsets other)
-  command_offsets (loop v k o b) = over_offsets o ++ body_offsets b
-  command_offsets (waits ws b) = body_offsets b
-
-  pub body_offsets : Body → List ℕ
-  body_offsets (body from ss) = statements_offsets ss
-
-  pub statements_offsets : Statements → List ℕ
-  statements_offsets no_statements = []
-  statements_offsets (and_statement s ss) = statement_offsets s ++ statements_offsets ss
-
--- the offsets of the called names and of the headers of a tree, in reading order
-abbrev pub tree_offsets : Tree → List ℕ
-tree_offsets [] = []
-tree_offsets (import sp ∷ ps) = tree_offsets ps
-tree_offsets (function f ∷ ps) = body_offsets f.body ++ tree_offsets ps
-tree_offsets (single s ∷ ps) = statement_offsets s ++ tree_offsets ps
 
 -- PARTS
 

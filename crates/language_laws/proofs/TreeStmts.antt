@@ -7,7 +7,8 @@ use Rattle.language.specs.Core.{Name, Action, declare, call_alone, assign, fill,
 use Rattle.language.specs.Parts.{script_stmts}
 use Rattle.language.specs.Resolved.{right_of, core}
 use Rattle.language.specs.Table.{Table}
-use Rattle.language.proofs.Tested.{distinct, flat, writer_of}
+use Rattle.language.proofs.Tested.{flat, writer_of}
+use Rattle.language.specs.Distinct.{distinct}
 use Rattle.language.proofs.TreeNumbers.{hit, times, few_distinct, distinct_few}
 pub use Rattle.language_laws.proofs.TreeBlocks.{right_no_block, several_no_block, call_no_block, loop_block}
 use Rattle.language_laws.proofs.TreeNodes.{tree_numbers, core_both}

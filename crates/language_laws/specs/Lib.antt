@@ -4,3 +4,4 @@ pub mod Scoped
 pub mod TypedValues
 pub mod ArrayExamples
 pub mod HeaderExamples
+pub mod Offsets

@@ -1,8 +1,8 @@
 -- What is known with one fact more.
-use Rattle.std.specs.Prelude.{◌≡◌, ℕ, Bool, true, false, ◌&&◌, Vec, List, [], nat_eq, Option, Some, None, is_some, if◌then◌else◌, cond, refl}
+use Rattle.std.specs.Prelude.{◌≡◌, ℕ, Bool, true, false, ◌&&◌, List, [], nat_eq, Option, Some, None, is_some, if◌then◌else◌, cond, refl}
 use Rattle.std.specs.HashMap.{get}
 use Rattle.std.specs.HashSet.{contains}
-use Rattle.std.proofs.Common.{Global, inl, inr, sym, ap, ◌∙◌, subst}
+use Rattle.std.proofs.Common.{inl, inr, sym, ap, ◌∙◌, subst}
 use Rattle.std.proofs.lemmas.Bool.{cases_Bool, eqb-true}
 use Rattle.values.specs.declared.value.Value.{Value}
 use Rattle.meaning_facts.specs.declared.facts.Place.{Place}
@@ -64,7 +64,7 @@ pub value_added : (k l : Facts) (p : Place) (v : Value) → is_some (value_at k 
 value_added k l p v h u a b c = record {
   values = λ q. u (q.instance, q.node) ∙ put_absent (value_at k) p q v (none_of (value_at k p) h);
   lines = λ q. ap (λ z. get same_pair z (q.instance, q.node)) a;
-  writes = λ q. ap (λ z. listed_writes (λ v. v.items) (get same_pair z (q.instance, q.node))) b;
+  writes = λ q. ap (λ z. listed_writes (get same_pair z (q.instance, q.node))) b;
   faults = λ g. ap (λ z. contains same_fault z g) c;
 }
 
@@ -82,7 +82,7 @@ pub line_added : (k l : Facts) (p : Place) (v : List ℕ) → is_some (line_at k
 line_added k l p v h u a b c = record {
   values = λ q. ap (λ z. get same_pair z (q.instance, q.node)) a;
   lines = λ q. u (q.instance, q.node) ∙ put_absent (line_at k) p q v (none_of (line_at k p) h);
-  writes = λ q. ap (λ z. listed_writes (λ v. v.items) (get same_pair z (q.instance, q.node))) b;
+  writes = λ q. ap (λ z. listed_writes (get same_pair z (q.instance, q.node))) b;
   faults = λ g. ap (λ z. contains same_fault z g) c;
 }
 
@@ -91,50 +91,47 @@ pub fault_added : (k l : Facts) (f : FaultFact) → ((q : FaultFact) → contain
 fault_added k l f u a b c = record {
   values = λ q. ap (λ z. get same_pair z (q.instance, q.node)) a;
   lines = λ q. ap (λ z. get same_pair z (q.instance, q.node)) b;
-  writes = λ q. ap (λ z. listed_writes (λ v. v.items) (get same_pair z (q.instance, q.node))) c;
+  writes = λ q. ap (λ z. listed_writes (get same_pair z (q.instance, q.node))) c;
   faults = u;
 }
 
 -- LISTS OF WRITES
 
-abbrev pub items_of : Option (Vec Write Global) → List Write
-items_of o = listed_writes (λ v. v.items) o
-
 -- an empty list where none was
-empty_put : (f : Place → Option (Vec Write Global)) (p q : Place) (v : Vec Write Global) → f p ≡ None → v.items ≡ [] → items_of (cond (same_place p q) (Some v) (f q)) ≡ items_of (f q)
+empty_put : (f : Place → Option (List Write)) (p q : Place) (v : List Write) → f p ≡ None → v ≡ [] → listed_writes (cond (same_place p q) (Some v) (f q)) ≡ listed_writes (f q)
 empty_put f p q v e n = elim (cases_Bool (same_place p q)) [
   | inl same ↦
       let none : f q ≡ None = subst (λ (z : Place). f z ≡ None) (same_place-eq p q same) e in
-      rw same (n ∙ sym (ap items_of none))
+      rw same (n ∙ sym (ap listed_writes none))
   | inr other ↦ rw other refl
 ]
 
-list_put : (f : Place → Option (Vec Write Global)) (p q : Place) (v u : Vec Write Global) (w : Write) → f p ≡ Some v → u.items ≡ with_write v.items w
-    → items_of (cond (same_place p q) (Some u) (f q)) ≡ (if same_place p q then with_write (items_of (f q)) w else items_of (f q))
+list_put : (f : Place → Option (List Write)) (p q : Place) (v u : List Write) (w : Write) → f p ≡ Some v → u ≡ with_write v w
+    → listed_writes (cond (same_place p q) (Some u) (f q)) ≡ (if same_place p q then with_write (listed_writes (f q)) w else listed_writes (f q))
 list_put f p q v u w e n = elim (cases_Bool (same_place p q)) [
   | inl same ↦
       let there : f q ≡ Some v = subst (λ (z : Place). f z ≡ Some v) (same_place-eq p q same) e in
-      rw same (n ∙ sym (ap (λ (o : Option (Vec Write Global)). with_write (items_of o) w) there))
+      rw same (n ∙ sym (ap (λ (o : Option (List Write)). with_write (listed_writes o) w) there))
   | inr other ↦ rw other refl
 ]
 
-pub list_made : (k l : Facts) (p : Place) (v : Vec Write Global) → is_some (get same_pair k.writes (p.instance, p.node)) ≡ false → v.items ≡ []
+pub list_made : (k l : Facts) (p : Place) (v : List Write) → is_some (get same_pair k.writes (p.instance, p.node)) ≡ false → v ≡ []
     → ((q : ℕ × ℕ) → get same_pair l.writes q ≡ cond (same_pair (p.instance, p.node) q) (Some v) (get same_pair k.writes q))
     → l.values ≡ k.values → l.lines ≡ k.lines → l.faults ≡ k.faults → HasSame k l
 list_made k l p v h n u a b c = record {
   values = λ q. ap (λ z. get same_pair z (q.instance, q.node)) a;
   lines = λ q. ap (λ z. get same_pair z (q.instance, q.node)) b;
-  writes = λ q. ap items_of (u (q.instance, q.node)) ∙ empty_put (λ (x : Place). get same_pair k.writes (x.instance, x.node)) p q v (none_of (get same_pair k.writes (p.instance, p.node)) h) n;
+  writes = λ q. ap listed_writes (u (q.instance, q.node)) ∙ empty_put (λ (x : Place). get same_pair k.writes (x.instance, x.node)) p q v (none_of (get same_pair k.writes (p.instance, p.node)) h) n;
   faults = λ g. ap (λ z. contains same_fault z g) c;
 }
 
-pub write_added : (k l : Facts) (p : Place) (w : Write) (v u : Vec Write Global) → get same_pair k.writes (p.instance, p.node) ≡ Some v → u.items ≡ with_write v.items w
+pub write_added : (k l : Facts) (p : Place) (w : Write) (v u : List Write) → get same_pair k.writes (p.instance, p.node) ≡ Some v → u ≡ with_write v w
     → ((q : ℕ × ℕ) → get same_pair l.writes q ≡ cond (same_pair (p.instance, p.node) q) (Some u) (get same_pair k.writes q))
     → l.values ≡ k.values → l.lines ≡ k.lines → l.faults ≡ k.faults → IsAdded k (Is.Element p w) l
 write_added k l p w v u e n h a b c = record {
   values = λ q. ap (λ z. get same_pair z (q.instance, q.node)) a;
   lines = λ q. ap (λ z. get same_pair z (q.instance, q.node)) b;
-  writes = λ q. ap items_of (h (q.instance, q.node)) ∙ list_put (λ (x : Place). get same_pair k.writes (x.instance, x.node)) p q v u w e n;
+  writes = λ q. ap listed_writes (h (q.instance, q.node)) ∙ list_put (λ (x : Place). get same_pair k.writes (x.instance, x.node)) p q v u w e n;
   faults = λ g. ap (λ z. contains same_fault z g) c;
 }
 

@@ -1,4 +1,5 @@
 pub mod Stored
+pub mod Indexed
 pub mod Fronts
 pub mod Standing
 pub mod Adding

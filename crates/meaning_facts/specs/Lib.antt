@@ -1,3 +1,4 @@
+pub mod Indexed
 pub mod Kinds
 pub mod Store
 pub mod Sighted

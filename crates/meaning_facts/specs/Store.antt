@@ -1,5 +1,5 @@
 -- What the facts and the instances of a program say: values, lines and writes by their places, and where names lie.
-use Rattle.std.specs.Prelude.{◌≡◌, ℕ, zero, suc, Bool, true, false, not, ◌&&◌, ◌||◌, List, [], ◌∷◌, Option, Some, None, nat_eq, slice_get, map, if◌then◌else◌}
+use Rattle.std.specs.Prelude.{◌≡◌, ℕ, zero, suc, Bool, false, ◌&&◌, ◌||◌, List, [], ◌∷◌, Option, Some, None, nat_eq, slice_get, map, if◌then◌else◌}
 use Rattle.std.specs.HashMap.{get, values}
 use Rattle.values.specs.declared.key.Key.{Key}
 use Rattle.values.specs.declared.map.Element.{Element}
@@ -34,29 +34,21 @@ line_at k p = get same_pair k.lines (p.instance, p.node)
 abbrev pub all_lines : Facts → List (List ℕ)
 all_lines k = values k.lines
 
-abbrev pub listed_writes : {V : Type 0} → (V → List Write) → Option V → List Write
-listed_writes f (Some v) = f v
-listed_writes f None = []
+abbrev pub listed_writes : Option (List Write) → List Write
+listed_writes (Some ws) = ws
+listed_writes None = []
 
 abbrev pub writes_at : Facts → Place → List Write
-writes_at k p = listed_writes (λ v. v.items) (get same_pair k.writes (p.instance, p.node))
+writes_at k p = listed_writes (get same_pair k.writes (p.instance, p.node))
 
 -- the scalars that are written under a key
 abbrev pub writes_under : List Write → Key → List Scalar
 writes_under [] k = []
 writes_under (w ∷ ws) k = if same_key w.key k then w.value ∷ writes_under ws k else writes_under ws k
 
-abbrev pub has_key_in : List Write → Key → Bool
-has_key_in [] k = false
-has_key_in (w ∷ ws) k = same_key w.key k || has_key_in ws k
-
 abbrev pub is_written_in : List Write → Key → Place → Bool
 is_written_in [] k p = false
 is_written_in (w ∷ ws) k p = (same_key w.key k && same_place w.writer p) || is_written_in ws k p
-
-abbrev pub one_writer_in : List Write → Bool
-one_writer_in [] = true
-one_writer_in (w ∷ ws) = not (has_key_in ws w.key) && one_writer_in ws
 
 -- an element beside others, unless its key is there
 abbrev pub put_unless : Option Scalar → Write → List Element → List Element

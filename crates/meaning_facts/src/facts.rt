@@ -1,15 +1,17 @@
 //! What can be known of a script's run.
-ghost use Rattle.std.specs.Prelude.{◌≡◌, ◌↔◌, [], not, option_copied, IfOk, IfErr, OnOk, IsSome, IsTrue};
+ghost use Rattle.std.specs.Prelude.{◌≡◌, ◌↔◌, [], option_copied, IfOk, IfErr, OnOk, IsSome, IsTrue};
 ghost use Rattle.std.specs.HashMap.{get, IsUnique};
 ghost use Rattle.meaning_steps.specs.Kept.{several_in};
-ghost use Rattle.meaning_facts.specs.Added.{HasSame, IsAdded, IsNothing, is_new, with_write};
+ghost use Rattle.meaning_facts.specs.Added.{HasSame, IsAdded, IsNothing, is_new};
+ghost use Rattle.meaning_facts.specs.Indexed.{one_writer_in};
 ghost use Rattle.values.specs.Keys.{key_seen};
 ghost use Rattle.values.specs.Maps.{rising};
 ghost use Rattle.language.specs.Facts.{operation};
 ghost use Rattle.meaning_facts.specs.Keeping.{has_some, some_fault_at};
 ghost use Rattle.meaning_facts.specs.Kinds.{kind_view};
-ghost use Rattle.meaning_facts.specs.Store.{value_at, line_at, all_lines, writes_at, is_written_in, has_key_in, one_writer_in, same_pair, same_place, WrittenAs, writes_under, put_write, elements_from};
+ghost use Rattle.meaning_facts.specs.Store.{value_at, line_at, all_lines, writes_at, is_written_in, same_pair, same_place, WrittenAs, writes_under, put_write, elements_from};
 
+use crate::writes::Writes;
 use paths::FaultKind;
 use std::alloc::{AllocError, Global};
 use std::collections::{HashMap, HashSet};
@@ -55,7 +57,7 @@ pub enum Fact {
 #[derive(Drop)]
 pub struct Facts {
     values: HashMap<(usize, u32), Value>,
-    writes: HashMap<(usize, u32), Vec<Write>>,
+    writes: HashMap<(usize, u32), Writes>,
     lines: HashMap<(usize, u32), Text>,
     pub faults: HashSet<FaultFact>,
 }
@@ -69,7 +71,7 @@ pub enum Written<'a> {
 }
 
 impl Place {
-    fn is_same(self, other: Place) -> bool
+    pub(crate) fn is_same(self, other: Place) -> bool
         ensures { result ≡ same_place self other }
     {
         self.instance == other.instance && self.node == other.node
@@ -147,14 +149,20 @@ impl Facts {
     pub fn written(&self, array: Place, key: KeyRef<'_>) -> Written<'_>
         ensures { WrittenAs result (writes_under (writes_at self.now array) (key_seen key.entry)) }
     {
-        written_in(self.writes_of(array), key)
+        match self.writes.get(&array.key()) {
+            Some(writes) => writes.written(key),
+            None => Written::Never,
+        }
     }
 
     /// Whether a statement has written a key of an array.
     pub fn is_written_by(&self, array: Place, key: KeyRef<'_>, writer: Place) -> bool
         ensures { result ≡ is_written_in (writes_at self.now array) (key_seen key.entry) writer }
     {
-        has_writer(self.writes_of(array), key, writer)
+        match self.writes.get(&array.key()) {
+            Some(writes) => writes.is_written_by(key, writer),
+            None => false,
+        }
     }
 
     /// Whether a key of an array has two writers.
@@ -191,7 +199,10 @@ impl Facts {
     pub fn has_one_writer(&self, array: Place) -> bool
         ensures { result ≡ one_writer_in (writes_at self.now array) }
     {
-        are_apart(self.writes_of(array))
+        match self.writes.get(&array.key()) {
+            Some(writes) => writes.has_one_writer(),
+            None => true,
+        }
     }
 
     /// The elements of an array of which no key has two writers.
@@ -260,7 +271,7 @@ impl Facts {
         ensures there { OnOk result (IsSome (get same_pair self.new.writes (array.instance, array.node))) }
     {
         if !self.writes.contains_key(&array.key()) {
-            self.writes.insert(array.key(), Vec::new(alloc))?;
+            self.writes.insert(array.key(), Writes::new(alloc))?;
         }
         Ok(())
     }
@@ -272,7 +283,7 @@ impl Facts {
         ensures new { IfOk result (λ new. new ≡ is_new self.old (Fact.Element array write)) }
     {
         match self.writes.get_mut(&array.key()) {
-            Some(writes) => put_behind(writes, write),
+            Some(writes) => writes.put(write),
             None => Ok(false),
         }
     }
@@ -282,52 +293,12 @@ impl Facts {
         ensures { IsTrue result ↔ ((a : Place) → IsTrue (one_writer_in (writes_at self.now a))) }
     {
         for writes in self.writes.values() {
-            if !are_apart(writes.as_slice()) {
+            if !writes.has_one_writer() {
                 return false;
             }
         }
         true
     }
-}
-
-/// What is written under a key by these writes.
-fn written_in<'w>(writes: &'w [Write], key: KeyRef<'_>) -> Written<'w>
-    ensures { WrittenAs result (writes_under writes.now (key_seen key.entry)) }
-{
-    for i in 0..writes.len() {
-        if writes[i].key.as_ref().is_same(key) {
-            return if has_key(&writes[i + 1..], key) {
-                Written::Twice
-            } else {
-                Written::Once(&writes[i].value)
-            };
-        }
-    }
-    Written::Never
-}
-
-/// Whether one of these writes has this key and writer.
-fn has_writer(writes: &[Write], key: KeyRef<'_>, writer: Place) -> bool
-    ensures { result ≡ is_written_in writes.now (key_seen key.entry) writer }
-{
-    for write in writes {
-        if write.key.as_ref().is_same(key) && write.writer.is_same(writer) {
-            return true;
-        }
-    }
-    false
-}
-
-/// Whether one of these writes has this key.
-fn has_key(writes: &[Write], key: KeyRef<'_>) -> bool
-    ensures { result ≡ has_key_in writes.now (key_seen key.entry) }
-{
-    for write in writes {
-        if write.key.as_ref().is_same(key) {
-            return true;
-        }
-    }
-    false
 }
 
 /// The elements of these writes, by rising key.
@@ -361,28 +332,4 @@ fn put_element(elements: &mut Vec<Element>, write: &Write) -> Result<(), AllocEr
             Ok(())
         }
     }
-}
-
-/// Puts a write behind others, unless the writer has written the key.
-fn put_behind(writes: &mut Vec<Write>, write: Write) -> Result<bool, AllocError>
-    ensures put { OnOk result (writes.new.items ≡ with_write writes.old.items write) }
-    ensures new { IfOk result (λ new. new ≡ not (is_written_in writes.old.items write.key write.writer)) }
-{
-    if has_writer(writes.as_slice(), write.key.as_ref(), write.writer) {
-        return Ok(false);
-    }
-    writes.push(write)?;
-    Ok(true)
-}
-
-/// Whether no two writes have one key.
-fn are_apart(writes: &[Write]) -> bool
-    ensures { result ≡ one_writer_in writes.now }
-{
-    for i in 0..writes.len() {
-        if has_key(&writes[i + 1..], writes[i].key.as_ref()) {
-            return false;
-        }
-    }
-    true
 }

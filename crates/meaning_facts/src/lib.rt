@@ -3,6 +3,8 @@
 
 pub mod evaluation;
 pub mod facts;
+pub mod firsts;
 pub mod instances;
 pub mod laws;
 pub mod learned;
+pub mod writes;

@@ -17,7 +17,8 @@ use Rattle.meaning_facts.specs.declared.learned.Learned.{Learned}
 use Rattle.meaning_facts.specs.Growing.{KeepsFacts}
 use Rattle.meaning_facts.specs.Keeping.{kept_of, place_view, write_view}
 use Rattle.meaning_facts.specs.Paths.{path_of, IsTree}
-use Rattle.meaning_facts.specs.Store.{has_key_in, one_writer_in, writes_at}
+use Rattle.meaning_facts.specs.Indexed.{has_key_in, one_writer_in}
+use Rattle.meaning_facts.specs.Store.{writes_at}
 use Rattle.meaning_facts.proofs.Growing.{both, or_cases, or_right, in_views, of_views}
 use Rattle.meaning_facts.proofs.Keeping.{by_located}
 use Rattle.meaning_invariants.proofs.Aiming.{or_left}

@@ -12,7 +12,8 @@ use Rattle.meaning_facts.specs.declared.learned.Learned.{Learned}
 use Rattle.meaning_cells.specs.Ending.{IsDone}
 use Rattle.meaning_facts.specs.Growing.{KeepsFacts}
 use Rattle.meaning_facts.specs.Sighted.{closed_at}
-use Rattle.meaning_facts.specs.Store.{one_writer_in, same_place, writes_at}
+use Rattle.meaning_facts.specs.Indexed.{one_writer_in}
+use Rattle.meaning_facts.specs.Store.{same_place, writes_at}
 use Rattle.meaning_facts.proofs.Adding.{same_place-eq}
 use Rattle.meaning_invariants.specs.Held.{Holds}
 use Rattle.meaning_invariants.specs.Active.{Active, Candidate, goal_of, HasBlock, taken_by}

@@ -11,7 +11,8 @@ use Rattle.language.specs.Resolved.{core}
 use Rattle.language.specs.Table.{Table}
 use Rattle.language.specs.Tree.{Tree}
 use Rattle.language.proofs.Members.{either, split_in, to_left, to_right}
-use Rattle.language.proofs.Tested.{distinct, distinct_apart, distinct_right, flat, flat_in, flat_once}
+use Rattle.language.proofs.Tested.{distinct_apart, distinct_right, flat, flat_in, flat_once}
+use Rattle.language.specs.Distinct.{distinct}
 use Rattle.language_laws.proofs.TestedNames.{offset}
 use Rattle.language_laws.proofs.TreeOffsets.{branch_offset, stmt_offsets, stmts_once}
 use Rattle.language_accepted.specs.Placed.{IsPlaced}

@@ -19,7 +19,8 @@ use Rattle.meaning_cells.specs.Ending.{Goal, IsDone}
 use Rattle.meaning_facts.specs.Keeping.{kept_of}
 use Rattle.meaning_facts.specs.Paths.{child_at, path_of}
 use Rattle.meaning_facts.specs.Sighted.{closed_at, sight_of}
-use Rattle.meaning_facts.specs.Store.{one_writer_in, variable_in, variables_of, writes_at}
+use Rattle.meaning_facts.specs.Indexed.{one_writer_in}
+use Rattle.meaning_facts.specs.Store.{variable_in, variables_of, writes_at}
 use Rattle.meaning_invariants.specs.Never.{never_ends}
 
 -- a statement that is live in an instance

@@ -13,7 +13,8 @@ ghost use Rattle.meaning_cells.specs.Chosen.{Chosen, block_in, chosen_in, count_
 ghost use Rattle.meaning_facts.specs.Sighted.{sight_of};
 ghost use Rattle.meaning_invariants.specs.Turns.{turn_variables};
 ghost use Rattle.meaning_facts.specs.Paths.{child_at, path_of, IsOpen};
-ghost use Rattle.meaning_facts.specs.Store.{given_at, one_writer_in, same_place, spot, spots, variable_in, writes_at};
+ghost use Rattle.meaning_facts.specs.Indexed.{one_writer_in};
+ghost use Rattle.meaning_facts.specs.Store.{given_at, same_place, spot, spots, variable_in, writes_at};
 ghost use Rattle.meaning_invariants.specs.Held.{with_instances};
 ghost use Rattle.meaning_invariants.specs.Opened.{ArePassed, GoesOn, IsChildOf, IsOpening, IsSoFar, IsUnready, OffsetsApart, Origin};
 ghost use Rattle.meaning_invariants.specs.Listed.{all_active, declares};

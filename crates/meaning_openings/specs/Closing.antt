@@ -6,7 +6,8 @@ use Rattle.language.specs.Members.{◌∈◌}
 use Rattle.meaning_facts.specs.declared.learned.Learned.{Learned}
 use Rattle.meaning_cells.specs.Ending.{IsDone}
 use Rattle.meaning_facts.specs.Sighted.{closed_at}
-use Rattle.meaning_facts.specs.Store.{one_writer_in, writes_at}
+use Rattle.meaning_facts.specs.Indexed.{one_writer_in}
+use Rattle.meaning_facts.specs.Store.{writes_at}
 use Rattle.meaning_invariants.specs.Active.{Active, Candidate, goal_of}
 use Rattle.meaning_invariants.specs.Opened.{IsSoFar}
 

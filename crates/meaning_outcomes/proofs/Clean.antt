@@ -10,7 +10,8 @@ use Rattle.meaning_facts.specs.declared.facts.Write.{Write}
 use Rattle.meaning_facts.specs.declared.learned.Learned.{Learned}
 use Rattle.meaning_facts.specs.Keeping.{kept_of, place_view, write_view}
 use Rattle.meaning_facts.specs.Paths.{IsTree}
-use Rattle.meaning_facts.specs.Store.{one_writer_in, writes_at}
+use Rattle.meaning_facts.specs.Indexed.{one_writer_in}
+use Rattle.meaning_facts.specs.Store.{writes_at}
 use Rattle.meaning_facts.proofs.Growing.{looked, spot_view}
 use Rattle.meaning_facts.proofs.Keeping.{found_there}
 use Rattle.meaning_invariants.specs.Held.{Holds}

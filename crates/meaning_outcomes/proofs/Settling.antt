@@ -17,7 +17,7 @@ use Rattle.meaning_cells.specs.Ending.{IsDone}
 use Rattle.meaning_facts.specs.Keeping.{IsPlaced}
 use Rattle.meaning_facts.specs.Paths.{path_of}
 use Rattle.meaning_facts.specs.Sighted.{closed_at}
-use Rattle.meaning_facts.specs.Store.{one_writer_in, spot, value_at, line_at, writes_at}
+use Rattle.meaning_facts.specs.Store.{spot, value_at, line_at, writes_at}
 use Rattle.meaning_facts.proofs.Keeping.{name_located, one_instance}
 use Rattle.meaning_invariants.specs.Held.{Grows}
 use Rattle.meaning_invariants.specs.Active.{Active, Candidate, goal_of}

@@ -42,7 +42,8 @@ use Rattle.language_laws.proofs.Whole.{later_known, one_scalar_known}
 use Rattle.meaning_facts.specs.declared.facts.Place.{Place as Spot}
 use Rattle.meaning_cells.specs.Ending.{IsDone}
 use Rattle.meaning_facts.specs.Sighted.{closed_at}
-use Rattle.meaning_facts.specs.Store.{one_writer_in, writes_at}
+use Rattle.meaning_facts.specs.Indexed.{one_writer_in}
+use Rattle.meaning_facts.specs.Store.{writes_at}
 use Rattle.meaning_round.specs.Going.{IsTelling, StandsBetween}
 use Rattle.meaning_round.specs.Silence.{KnowsMore}
 use Rattle.meaning_round.specs.Standing.{active_told, site_of, still_telling, HavePlaces, IsAfter}

@@ -1,16 +1,21 @@
 -- What never ends in waits one in another, and in statements one after another.
-use Rattle.std.specs.Prelude.{◌≡◌, ℕ, ℤ, suc, ◌+◌, ◌<◌, ◌≤◌, Bool, true, false, ◌&&◌, ◌||◌, List, [], ◌∷◌, length, drop, Vec, Box, refl}
+use Rattle.std.specs.Prelude.{◌≡◌, ℕ, ℤ, suc, ◌+◌, ◌<◌, ◌≤◌, Bool, true, false, ◌&&◌, ◌||◌, List, [], ◌∷◌, length, drop, Vec, Box, Option, option_map, refl}
 use Rattle.std.proofs.Common.{rules, sym, ap, ◌∙◌, get_or}
 use Rattle.std.proofs.lemmas.List.{drop_more}
 use Rattle.language.specs.Core as core
 use Rattle.flow.specs.declared.cell.Call.{Call}
+use Rattle.flow.specs.declared.cell.Outer.{Outer}
 use Rattle.flow.specs.declared.cell.Part.{Part}
 use Rattle.flow.specs.declared.statement.Action.{the_lemmas}
+use Rattle.flow.specs.declared.name.Name.{Name}
+use Rattle.flow.specs.declared.statement.Action as deed
 use Rattle.flow.specs.declared.statement.Action.{Call as Does}
 use Rattle.flow.specs.declared.statement.Block.{Block, out-Block}
 use Rattle.flow.specs.declared.statement.Header.{Header}
+use Rattle.flow.specs.declared.statement.Range.{Range}
 use Rattle.flow.specs.declared.statement.Statement.{Statement, out-Statement}
-use Rattle.flow.specs.View.{call_view, parts_view, waits_around, action_view, block_view, block_of, statement_view, statements_view}
+use Rattle.flow.specs.declared.statement.Variable.{Variable}
+use Rattle.flow.specs.View.{call_view, name_view, outer_view, parts_view, waits_around, action_view, block_view, block_of, statements_view}
 use Rattle.meaning_cells.specs.Targeted.{same_owned}
 use Rattle.meaning_cells.proofs.Aims.{view_statement}
 use Rattle.meaning_invariants.specs.Never.{never, never_by, never_in, some_output}
@@ -55,3 +60,65 @@ view_call p ps c = search (rules, the_lemmas)
 -- a call says nothing
 pub call_never : {A : Type 0} (x : core.Owned) (p : ℤ) (ps : Vec (Part A) A) (c : Box (Call A) A) → false ≡ never_by no_calls x (action_view (Does p ps c))
 call_never x p ps c = no_output x 0 c.value.function (call_view c.value).outputs ∙ sym (ap (never_by no_calls x) (view_call p ps c))
+
+-- SETS OF THEM
+
+-- one step more of what is sought
+pub adds_step : (old new s b r : Bool) → new ≡ old || (s && b) → old || (s && (b || r)) ≡ new || (s && r)
+adds_step old new s b r e = by old s b ∙ ap (λ (z : Bool). z || (s && r)) (sym e)
+  where
+    by : (old s b : Bool) → old || (s && (b || r)) ≡ (old || (s && b)) || (s && r)
+    by true s b = refl
+    by false true true = refl
+    by false true false = refl
+    by false false b = refl
+
+pub adds_past : (old s : Bool) → old || (s && false) ≡ old
+adds_past true s = refl
+adds_past false true = refl
+adds_past false false = refl
+
+pub adds_none : (vs s : ℕ → Bool) (a : core.Action) → ((n : ℕ) → never_by no_calls (core.local n) a ≡ false) → (n : ℕ) → vs n ≡ vs n || (s n && never_by no_calls (core.local n) a)
+adds_none vs s a none n = sym (ap (λ (z : Bool). vs n || (s n && z)) (none n) ∙ adds_past (vs n) (s n))
+
+-- what never ends in one branch is sought in the other
+pub among_both : (old new nodes none s b d : Bool) → none ≡ false → nodes ≡ none || (s && b) → new ≡ old || (nodes && d) → new ≡ old || (s && (b && d))
+among_both old new nodes none s b d e f h = h ∙ ap (λ (z : Bool). old || (z && d)) (f ∙ ap (λ (z : Bool). z || (s && b)) e) ∙ ap (λ (z : Bool). old || z) (turned s b)
+  where
+    turned : (s b : Bool) → (s && b) && d ≡ s && (b && d)
+    turned true b = refl
+    turned false b = refl
+
+module _ {A : Type 0} where
+  pub view_assign : (x : Name) (o : Box (Outer A) A) → action_view (deed.Assign x o) ≡ core.assign (name_view x) (outer_view o.value)
+  view_assign x o = search (rules, the_lemmas)
+
+  pub view_choose : (c : Box (Outer A) A) (b d : Box (Block A) A) → action_view (deed.Choose c b d) ≡ core.choose (outer_view c.value) (block_view b.value) (block_view d.value)
+  view_choose c b d = search (rules, the_lemmas)
+
+  pub view_declare : (v : Variable A) → action_view (deed.Declare v) ≡ core.declare v.node
+  view_declare v = search (rules, the_lemmas)
+
+  pub view_fill : (a : Name) (o : Box (Outer A) A) → action_view (deed.Fill a o) ≡ core.fill (name_view a) (outer_view o.value)
+  view_fill a o = search (rules, the_lemmas)
+
+  pub view_insert : (a : Name) (i o : Box (Outer A) A) → action_view (deed.Insert a i o) ≡ core.insert (name_view a) (outer_view i.value) (outer_view o.value)
+  view_insert a i o = search (rules, the_lemmas)
+
+  pub view_print : (p : ℤ) (o : Box (Outer A) A) → action_view (deed.Print p o) ≡ core.print p (outer_view o.value)
+  view_print p o = search (rules, the_lemmas)
+
+  pub view_assert : (p : ℤ) (o : Box (Outer A) A) → action_view (deed.Assert p o) ≡ core.assert p (outer_view o.value)
+  view_assert p o = search (rules, the_lemmas)
+
+  pub view_when : (c : Box (Outer A) A) (b : Box (Block A) A) → action_view (deed.When c b) ≡ core.when (outer_view c.value) (block_view b.value)
+  view_when c b = search (rules, the_lemmas)
+
+  pub view_range : (r : Box (Range A) A) (v : Variable A) (k : Option (Variable A)) (b : Box (Block A) A)
+      → action_view (deed.Range r v k b)
+      ≡ core.range (outer_view r.value.low) (outer_view r.value.high) (option_map outer_view r.value.step) v.node (option_map (λ x. x.node) k) (block_view b.value)
+  view_range r v k b = search (rules, the_lemmas)
+
+  pub view_each : (a : Name) (v : Variable A) (k : Option (Variable A)) (b : Box (Block A) A)
+      → action_view (deed.Each a v k b) ≡ core.each (name_view a) v.node (option_map (λ x. x.node) k) (block_view b.value)
+  view_each a v k b = search (rules, the_lemmas)

@@ -1,5 +1,6 @@
 -- What a state has more when the statements of a block become live in an instance.
-use Rattle.std.specs.Prelude.{ℕ, Bool, false, List, [], ◌∷◌, ◌++◌, map}
+use Rattle.std.specs.Prelude.{ℕ, Bool, true, false, List, [], ◌∷◌, ◌++◌, map, nat_eq}
+use Rattle.std.specs.HashSet.{contains}
 use Rattle.language.specs.Core as core
 use Rattle.language.specs.Core.{Stmt, declare, local}
 use Rattle.language.specs.Parts.{stmt_action}
@@ -7,6 +8,8 @@ use Rattle.flow.specs.View.{block_view}
 use Rattle.meaning_invariants.specs.Active.{Active, Candidate}
 use Rattle.meaning_invariants.specs.Never.{never_in}
 use Rattle.meaning_invariants.specs.Listed.{unless_never}
+use Rattle.meaning_round.specs.declared.ending.Sought.{Sought}
+use Rattle.meaning_round.specs.declared.ending.Sought.TheVariants.{All, Among}
 use Rattle.meaning_round.specs.declared.state.Array.{Array}
 use Rattle.meaning_round.specs.declared.state.State.{State}
 use Rattle.meaning_round.specs.Standing.{active_of}
@@ -32,6 +35,11 @@ arrays_of s = map candidate_of s.arrays.items
 -- nothing is said of functions that are called
 abbrev pub no_calls : ℕ → ℕ → Bool
 no_calls f j = false
+
+-- a variable is looked for
+abbrev pub is_sought : Sought → ℕ → Bool
+is_sought All n = true
+is_sought (Among nodes) n = contains nat_eq nodes.now n
 
 -- what statements declare in a block, as `declares` with no level of calls
 abbrev pub declares_here_by : ℕ → core.Block → core.Action → List Candidate

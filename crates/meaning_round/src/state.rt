@@ -1,6 +1,7 @@
 //! What follows from what is known: the block instances, their live statements, and the arrays that are closed.
 
-ghost use Rattle.std.specs.Prelude.{◌≡◌, ◌++◌, ◌∷◌, [], map, IfOk, OnOk};
+ghost use Rattle.std.specs.Prelude.{◌≡◌, ◌++◌, ◌∷◌, [], ℕ, map, nat_eq, IfOk, OnOk};
+ghost use Rattle.std.specs.HashSet.{contains};
 ghost use Rattle.flow.specs.View.{action_view, block_view, core_of, statement_view, waits_around};
 ghost use Rattle.language.specs.Core.{local, stmt};
 ghost use Rattle.language.specs.Parts.{block_list};
@@ -11,14 +12,15 @@ ghost use Rattle.meaning_invariants.specs.Listed.{all_active, unless_never};
 ghost use Rattle.meaning_round.specs.Made.{arrays_of, candidate_of, declares_here, declares_here_by, no_calls, tasks_of, telling_of, waiting_of};
 ghost use Rattle.meaning_round.specs.Standing.{active_of, deed_view};
 
-use crate::ending::never_ends_in;
-use flow::name::{Name, Owned};
+use crate::ending::nevers_of;
+use flow::name::Name;
 use flow::script::Flow;
 use flow::statement::{Action, Block, Header, Statement};
 use meaning_facts::facts::Place;
 use meaning_facts::learned::Learned;
 use meaning_faults::site::Site;
 use std::alloc::{AllocError, Allocator, Global};
+use std::collections::HashSet;
 
 /// A block: waits one in another, outermost first, with a block's statements in the innermost.
 #[derive(Drop)]
@@ -151,8 +153,9 @@ impl<'a, A: Allocator> State<'a, A> {
         ensures passed { self.new.passed ≡ self.old.passed }
         ensures waiting { waiting_of self.new ≡ waiting_of self.old }
     {
+        let nevers = nevers_of(*self.tasks.allocator(), block)?;
         for statement in &block.statements {
-            self.add_statement(instance, block, statement)?;
+            self.add_statement(instance, block, &nevers, statement)?;
         }
         Ok(())
     }
@@ -161,8 +164,10 @@ impl<'a, A: Allocator> State<'a, A> {
         &mut self,
         instance: usize,
         block: &'a Block<A>,
+        nevers: &HashSet<u32>,
         statement: &'a Statement<A>,
     ) -> Result<(), AllocError>
+        requires { (n : ℕ) → contains nat_eq nevers.now n ≡ never_in no_calls (local n) (block_view block.now) }
         ensures tasks { OnOk result (tasks_of self.new ≡ tasks_of self.old ++ active instance (statement_view statement.entry.now) ∷ []) }
         ensures telling { OnOk result (telling_of self.new ≡ telling_of self.old ++ active instance (statement_view statement.entry.now) ∷ []) }
         ensures arrays { OnOk result (arrays_of self.new ≡ arrays_of self.old ++ declares_here instance (block_view block.entry.now) (statement_view statement.entry.now ∷ [])) }
@@ -171,7 +176,7 @@ impl<'a, A: Allocator> State<'a, A> {
         ensures passed { self.new.passed ≡ self.old.passed }
         ensures waiting { waiting_of self.new ≡ waiting_of self.old }
     {
-        add_declared(&mut self.arrays, instance, block, &statement.action)?;
+        add_declared(&mut self.arrays, instance, block, nevers, &statement.action)?;
         let site = Site {
             instance,
             at: statement.at,
@@ -201,12 +206,14 @@ fn add_declared<'a, A: Allocator>(
     arrays: &mut Vec<Array<'a, A>>,
     instance: usize,
     block: &'a Block<A>,
+    nevers: &HashSet<u32>,
     action: &'a Action<A>,
 ) -> Result<(), AllocError>
+    requires { (n : ℕ) → contains nat_eq nevers.now n ≡ never_in no_calls (local n) (block_view block.now) }
     ensures { OnOk result (map candidate_of arrays.new.items ≡ map candidate_of arrays.old.items ++ declares_here_by instance (block_view block.entry.now) (action_view action.entry.now)) }
 {
     match action {
-        Action::Declare(variable) => add_array(arrays, instance, block, variable.node),
+        Action::Declare(variable) => add_array(arrays, instance, block, nevers, variable.node),
         Action::Call { .. }
         | Action::Assign { .. }
         | Action::Fill { .. }
@@ -225,12 +232,14 @@ fn add_array<'a, A: Allocator>(
     arrays: &mut Vec<Array<'a, A>>,
     instance: usize,
     block: &'a Block<A>,
+    nevers: &HashSet<u32>,
     node: u32,
 ) -> Result<(), AllocError>
+    requires { (n : ℕ) → contains nat_eq nevers.now n ≡ never_in no_calls (local n) (block_view block.now) }
     ensures { OnOk result (map candidate_of arrays.new.items
         ≡ map candidate_of arrays.old.items ++ unless_never instance (block_view block.entry.now) node (never_in no_calls (local node) (block_view block.entry.now))) }
 {
-    if !never_ends_in(Owned::Local(node), block) {
+    if !nevers.contains(&node) {
         arrays.push(Array {
             place: Place { instance, node },
             block,

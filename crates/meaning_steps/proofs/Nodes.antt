@@ -10,7 +10,8 @@ use Rattle.language.specs.Parts.{script_stmts, stmt_node, stmt_at}
 use Rattle.language.specs.Reads.{Reads}
 use Rattle.language.specs.Resolved.{call_right, right_of, core}
 use Rattle.language.specs.Table.{Table, Callee, composite, built_in}
-use Rattle.language.proofs.Tested.{distinct, flat, flat_once}
+use Rattle.language.proofs.Tested.{flat, flat_once}
+use Rattle.language.specs.Distinct.{distinct}
 use Rattle.language.proofs.TreeNumbers.{hit, times, few_distinct, distinct_few}
 use Rattle.language_laws.proofs.TreeNodes.{tree_numbers, core_both}
 use Rattle.language_accepted.proofs.Once.{numbers_once}

@@ -18,6 +18,8 @@ use swt_status::status::Status;
 #[derive(Clone, Copy, Drop)]
 pub struct Ended<'e, 'o, 't> {
     pub line: &'e Line,
+    /// Whether each blocked statement is told.
+    pub all: bool,
     pub status: u8,
     pub teller: &'e Teller<'t>,
     pub tail: &'o Tail,
@@ -100,8 +102,8 @@ fn add_trouble(
     }
     match ended.line {
         Line::Replay { trace, .. } => match (kept.first(), kept.second()) {
-            (Some((_, script)), Some(events)) => {
-                explain_trace(alloc, trace.as_str(), script, events, text)
+            (Some((file, script)), Some(events)) => {
+                explain_trace(alloc, trace.as_str(), file, script, events, text)
             }
             _ => Ok(()),
         },
@@ -129,14 +131,16 @@ fn add_ending(
     };
     match ended.line {
         Line::Check { .. } | Line::Code { .. } => Ok(()),
-        Line::Mean { rounds, .. } => explain_meaning(alloc, name, script, *rounds, text),
+        Line::Mean { rounds, .. } => {
+            explain_meaning(alloc, name, script, *rounds, ended.all, text)
+        }
         Line::Run { .. } | Line::Replay { .. } => {
             if ended.is(Status::Limit) {
                 explain_limit(alloc, kept, ended, text)
             } else if ended.is(Status::Fault) {
                 explain_fault(alloc, name, script, ended.tail.line()?, text)
             } else {
-                explain_blocked(alloc, name, script, text)
+                explain_blocked(alloc, name, script, ended.all, text)
             }
         }
     }

@@ -17,10 +17,10 @@ use std::alloc::{AllocError, Global};
 /// What is told of a script.
 #[derive(Clone, Copy, Drop)]
 enum Told<'p> {
-    /// All that is known of it, with the limit where so many rounds were not enough.
-    Meaning(u32),
-    /// The blocked statements.
-    Blocked,
+    /// All that is known of it, with the limit where so many rounds were not enough, and with each blocked statement or in short.
+    Meaning(u32, bool),
+    /// The blocked statements, each or in short.
+    Blocked(bool),
     /// The fault that a run has printed.
     Fault(&'p Printed),
 }
@@ -40,9 +40,10 @@ pub fn explain_meaning(
     file: &str,
     text: &[u8],
     limit: u32,
+    all: bool,
     out: &mut Vec<u8>,
 ) -> Result<(), AllocError> {
-    explain(alloc, file, text, Told::Meaning(limit), out)
+    explain(alloc, file, text, Told::Meaning(limit, all), out)
 }
 
 /// Adds what is said of a script that was run and ended blocked: of the blocked statements of its meaning.
@@ -50,9 +51,10 @@ pub fn explain_blocked(
     alloc: Global,
     file: &str,
     text: &[u8],
+    all: bool,
     out: &mut Vec<u8>,
 ) -> Result<(), AllocError> {
-    explain(alloc, file, text, Told::Blocked, out)
+    explain(alloc, file, text, Told::Blocked(all), out)
 }
 
 /// Adds what is said of a script whose run ended with the fault that is the last of what was printed.
@@ -104,8 +106,8 @@ fn explain_script(
 /// What has to be known of the statements for what is told.
 fn known_of(alloc: Global, flow: &Flow<Global>, told: Told<'_>) -> Result<Knowledge, AllocError> {
     match told {
-        Told::Meaning(limit) => rounds(alloc, flow, limit),
-        Told::Blocked => rounds(alloc, flow, u32::MAX),
+        Told::Meaning(limit, _) => rounds(alloc, flow, limit),
+        Told::Blocked(_) => rounds(alloc, flow, u32::MAX),
         Told::Fault(fault) => known_for(alloc, flow, fault),
     }
 }
@@ -147,10 +149,10 @@ fn add_told(
     out: &mut Vec<u8>,
 ) -> Result<(), AllocError> {
     match told {
-        Told::Blocked => add_all_blocked(scene, out, file),
+        Told::Blocked(all) => add_all_blocked(scene, out, file, all),
         Told::Fault(fault) => add_printed_fault(scene, out, file, fault),
-        Told::Meaning(limit) => {
-            add_all_blocked(scene, out, file)?;
+        Told::Meaning(limit, all) => {
+            add_all_blocked(scene, out, file, all)?;
             add_all_faults(scene, out, file)?;
             if scene.known.finished {
                 return Ok(());

@@ -15,12 +15,15 @@ ghost use Rattle.host_system.specs.Streams as Streams;
 
 mod ending;
 mod explain;
+mod items;
 mod keeper;
 mod kept;
 mod left;
 mod output;
 mod progress;
+mod tracking;
 mod troubles;
+mod waiting;
 
 use crate::ending::Ended;
 use crate::keeper::Keeper;
@@ -109,6 +112,7 @@ fn perform<'r, R: Threads + Wait + Sync>(
     if request.explain || request.json {
         host.explain(Ended {
             line,
+            all: request.all,
             status,
             teller: &teller,
             tail: out.tail(),

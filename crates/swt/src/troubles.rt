@@ -1,8 +1,9 @@
 //! What is said of files that can not be read or written, of traces that are none, and of too many threads, where that is wanted.
 
 use crate::left::follow;
+use crate::tracking::{Traced, words_on};
 use explain_faults::limits::add_bad_count;
-use explain_faults::traces::{add_bad_line, add_no_step, add_wrong_end};
+use explain_faults::traces::{Told, add_bad_line, add_no_step, add_wrong_end};
 use explain_text::words::say;
 use std::alloc::{AllocError, Global};
 use std::io::Error;
@@ -62,6 +63,7 @@ pub fn explain_same_file(name: &str, out: &mut Vec<u8>) -> Result<(), AllocError
 pub fn explain_trace(
     alloc: Global,
     name: &str,
+    file: &str,
     script: &[u8],
     trace: &[u8],
     out: &mut Vec<u8>,
@@ -76,7 +78,21 @@ pub fn explain_trace(
     };
     let line = followed.left.events.saturating_add(2);
     match (followed.refused, ending) {
-        (Some(refused), _) => add_no_step(out, name, trace, line, refused),
+        (Some(step), _) => {
+            let script = Traced {
+                file,
+                text: script,
+                trace,
+                count: followed.left.events,
+            };
+            let words = words_on(alloc, script, step)?;
+            let told = Told {
+                step,
+                statement: words.statement.as_slice(),
+                waits: words.waits.as_slice(),
+            };
+            add_no_step(out, name, trace, line, &told)
+        }
         (None, Some(named)) if named != followed.end => {
             add_wrong_end(out, name, trace, line, words_of(followed.end))
         }

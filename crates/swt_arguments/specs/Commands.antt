@@ -23,13 +23,17 @@ options_of Check = []
 options_of Code = []
 options_of Replay = []
 
+-- the options by which a command explains, in short or all
+abbrev pub explain_flags : List (List ℕ)
+explain_flags = codes "--explain" ∷ codes "--explain=all" ∷ []
+
 -- the options of a command that have no value
 abbrev pub flags_of : Command → List (List ℕ)
-flags_of Code = codes "--dot" ∷ codes "--explain" ∷ []
-flags_of Check = codes "--explain" ∷ codes "--json" ∷ []
-flags_of Mean = codes "--explain" ∷ []
-flags_of Run = codes "--explain" ∷ codes "--progress" ∷ []
-flags_of Replay = codes "--explain" ∷ []
+flags_of Code = codes "--dot" ∷ explain_flags
+flags_of Check = codes "--json" ∷ explain_flags
+flags_of Mean = explain_flags
+flags_of Run = codes "--progress" ∷ explain_flags
+flags_of Replay = explain_flags
 
 -- whether a word is an option of the command that has no value
 abbrev pub is_flag : Command → List ℕ → Bool

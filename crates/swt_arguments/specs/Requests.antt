@@ -1,5 +1,6 @@
--- What the words behind the program's name ask for: a line, whether it is to be explained, whether it shows how far it is, and whether it tells refusals as JSON.
-use Rattle.std.specs.Prelude.{ℕ, Bool, false, List, [], ◌∷◌, Option, Some, None, codes, option_and_then}
+-- What the words behind the program's name ask for: a line, whether it is to be explained, in short or all, whether it shows how far it is, and whether it tells
+-- refusals as JSON.
+use Rattle.std.specs.Prelude.{ℕ, Bool, true, false, List, [], ◌∷◌, Option, Some, None, codes, option_and_then}
 use Rattle.swt_arguments.specs.declared.command.Command.{Command}
 use Rattle.swt_arguments.specs.declared.command.Command.TheVariants.{Check, Mean, Code, Run, Replay}
 use Rattle.swt_arguments.specs.declared.request.Request.{Request}
@@ -7,9 +8,19 @@ use Rattle.swt_arguments.specs.Commands.{command_of}
 use Rattle.swt_arguments.specs.Lines.{formed_line}
 use Rattle.swt_arguments.specs.Words.{all_divided, before_dashes, behind_dashes, flag_given, often, unflagged}
 
--- whether a command is to explain, with these words behind it
+-- whether one of two options is given, and none where both are
+abbrev pub one_given : Bool → Bool → Option Bool
+one_given false given = Some given
+one_given true false = Some true
+one_given true true = None
+
+-- whether each blocked statement is to be explained, with these words behind a command
+abbrev pub all_given : List (List ℕ) → Option Bool
+all_given ws = flag_given (often (codes "--explain=all") ws)
+
+-- whether a command is to explain, in short or all
 abbrev pub explain_given : List (List ℕ) → Option Bool
-explain_given ws = flag_given (often (codes "--explain") ws)
+explain_given ws = option_and_then (λ short. option_and_then (one_given short) (all_given ws)) (flag_given (often (codes "--explain") ws))
 
 -- whether it is to show how far it is; only a run does
 abbrev pub progress_given : Command → List (List ℕ) → Option Bool
@@ -32,10 +43,12 @@ abbrev pub request_with : Command → List (List ℕ) → List (List ℕ) → Op
 request_with c ws behind =
     option_and_then (λ line.
     option_and_then (λ explain.
+    option_and_then (λ all.
     option_and_then (λ progress.
-    option_and_then (λ json. Some (record { line = line; explain = explain; progress = progress; json = json }))
+    option_and_then (λ json. Some (record { line = line; explain = explain; all = all; progress = progress; json = json }))
     (json_given c ws))
     (progress_given c ws))
+    (all_given ws))
     (explain_given ws))
     (formed_line c (all_divided c (unflagged c ws)) behind (often (codes "--dot") ws))
 

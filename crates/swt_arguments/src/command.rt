@@ -1,6 +1,8 @@
 //! The commands.
 ghost use Rattle.std.specs.Prelude.{◌≡◌, Some};
-ghost use Rattle.swt_arguments.specs.Commands.{command_of, has_option, is_flag};
+ghost use Rattle.std.specs.List.{list_any};
+ghost use Rattle.std.specs.Str.{bytes_eq};
+ghost use Rattle.swt_arguments.specs.Commands.{command_of, explain_flags, has_option, is_flag};
 
 use crate::words::is;
 
@@ -44,10 +46,10 @@ impl Command {
         ensures { result ≡ is_flag self word.now }
     {
         match self {
-            Command::Code => is(word, "--dot") || is(word, "--explain"),
-            Command::Check => is(word, "--explain") || is(word, "--json"),
-            Command::Run => is(word, "--explain") || is(word, "--progress"),
-            Command::Mean | Command::Replay => is(word, "--explain"),
+            Command::Code => is(word, "--dot") || explains(word),
+            Command::Check => is(word, "--json") || explains(word),
+            Command::Run => is(word, "--progress") || explains(word),
+            Command::Mean | Command::Replay => explains(word),
         }
     }
 
@@ -108,4 +110,11 @@ impl Command {
             Command::Replay => "replay wants a file and its trace",
         }
     }
+}
+
+/// Whether a word asks for what is explained, in short or all of it.
+pub(crate) fn explains(word: &str) -> bool
+    ensures { result ≡ list_any (bytes_eq word.now) explain_flags }
+{
+    is(word, "--explain") || is(word, "--explain=all")
 }

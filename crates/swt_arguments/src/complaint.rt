@@ -1,6 +1,6 @@
 //! What is wrong with words that are no request.
 
-use crate::command::Command;
+use crate::command::{Command, explains};
 use crate::request::divided;
 use crate::word::Word;
 use crate::words::is;
@@ -198,11 +198,11 @@ fn twice<'a>(command: Command, word: &'a str, before: &[Word]) -> Option<Complai
     }
 }
 
-/// Whether a word is this one, or this option with a value.
+/// Whether a word is this one, or this option with a value, or both are to explain.
 fn names(command: Command, word: &str, option: &str) -> bool {
     match divided(command, word) {
         Some((other, _)) => is(other, option),
-        None => is(word, option),
+        None => is(word, option) || (explains(word) && explains(option)),
     }
 }
 

@@ -1,7 +1,7 @@
 //! The command line, read.
 ghost use Rattle.std.specs.Prelude.{◌≡◌, [], ◌∷◌, codes, IfOk, MatchOption};
 ghost use Rattle.swt_arguments.specs.Lines.{formed_line, IsInRange};
-ghost use Rattle.swt_arguments.specs.Requests.{behind_command, explain_given, json_given, progress_given, request_of, request_with};
+ghost use Rattle.swt_arguments.specs.Requests.{all_given, behind_command, explain_given, json_given, one_given, progress_given, request_of, request_with};
 ghost use Rattle.swt_arguments.specs.Words.{all_divided, before_dashes, behind_dashes, divided, often, unflagged, Answers};
 
 use crate::command::Command;
@@ -17,6 +17,8 @@ pub struct Request {
     pub line: Line,
     /// Whether refusals, faults and blocked statements are to be explained.
     pub explain: bool,
+    /// Whether each blocked statement is.
+    pub all: bool,
     /// Whether a run is to show how far it is.
     pub progress: bool,
     /// Whether refusals are to be told as JSON.
@@ -59,11 +61,13 @@ fn read_parts(
 {
     let line = read_line(alloc, command, words, behind)?;
     let explain = explains(words)?;
+    let all = explains_all(words)?;
     let progress = shows_progress(command, words)?;
     let json = tells_json(command, words)?;
     Ok(Request {
         line,
         explain,
+        all,
         progress,
         json,
     })
@@ -162,11 +166,30 @@ fn unflagged(alloc: Global, command: Command, words: &[Word]) -> Result<Vec<Word
     Ok(others)
 }
 
-/// Whether it is to explain, with these words behind the command.
+/// Whether it is to explain, in short or all, with these words behind the command.
 fn explains(words: &[Word]) -> Result<bool, LineFault>
     ensures { Answers (explain_given words.now) result }
 {
-    words::flag(words::often("--explain", words))
+    let short = words::flag(words::often("--explain", words))?;
+    let all = explains_all(words)?;
+    one_given(short, all)
+}
+
+/// Whether it is to explain each blocked statement.
+fn explains_all(words: &[Word]) -> Result<bool, LineFault>
+    ensures { Answers (all_given words.now) result }
+{
+    words::flag(words::often("--explain=all", words))
+}
+
+/// Whether one of two options is given. `Usage` where both are.
+fn one_given(given: bool, other: bool) -> Result<bool, LineFault>
+    ensures { Answers (one_given given other) result }
+{
+    if given && other {
+        return Err(LineFault::Usage);
+    }
+    Ok(given || other)
 }
 
 /// Whether it is to show how far it is.

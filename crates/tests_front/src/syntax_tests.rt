@@ -50,9 +50,31 @@ fn refused_texts(rt: HostRuntime) {
 const FIB: &[u8] =
     b"(int r) fib(int n) { if (n < 2) { r = n; } else { r = fib(n-1) + fib(n-2); } } printf(\"%i\", fib(10));";
 
+/// The fault of a text that is refused, read into this memory.
+fn fault_in<A: Allocator + Clone>(alloc: A, text: &[u8]) -> Option<ParseFault> {
+    parse(alloc, text).err()
+}
+
 /// The fault of a text that is refused.
 fn fault_of(alloc: Global, text: &[u8]) -> Option<ParseFault> {
-    parse(alloc, text).err()
+    fault_in(alloc, text)
+}
+
+/// The text is read over an arena as over the machine's memory, where it has this fault or none.
+fn is_judged(rt: &impl Abort, alloc: Global, text: &[u8], wanted: Option<ParseFault>) {
+    is_equal(rt, fault_of(alloc, text), wanted);
+    is_equal(rt, fault_in(&Bump::new(alloc), text), wanted);
+}
+
+/// A beginning of a text that is no script is refused with a place, and not for want of memory.
+fn is_cut(rt: &impl Abort, alloc: Global, text: &[u8], accepted: bool) {
+    let fault = fault_of(alloc, text);
+    let answered = match fault {
+        None => accepted,
+        Some(fault) => !accepted && fault.span().is_some(),
+    };
+    assert!(rt; answered, "at {}", text.len());
+    is_judged(rt, alloc, text, fault);
 }
 
 // A function is a script, as are spaces behind it, and as is the whole.
@@ -60,10 +82,7 @@ fn fault_of(alloc: Global, text: &[u8]) -> Option<ParseFault> {
 fn beginnings_of_a_text(rt: HostRuntime) {
     for n in 0..FIB.len() + 1 {
         let accepted = n == 0 || n == 78 || n == 79 || n == 101;
-        assert!(rt;
-            fault_of(rt.alloc(), &FIB[..n]).is_none() == accepted,
-            "at {n}"
-        );
+        is_cut(&rt, rt.alloc(), &FIB[..n], accepted);
     }
 }
 
@@ -110,7 +129,7 @@ fn nests(
     let text = text.expect(rt, "memory");
     let fault = ParseFault::TooNested(place);
     let wanted = if deeper { Some(fault) } else { None };
-    is_equal(rt, fault_of(alloc, text.as_slice()), wanted);
+    is_judged(rt, alloc, text.as_slice(), wanted);
 }
 
 #[test]
@@ -135,9 +154,9 @@ const LONG: ParseFault = ParseFault::TooLong(Span {
 fn lengths(rt: HostRuntime) {
     let alloc = rt.alloc();
     let mut text = repeated(alloc, b"", b" ", MAX_SOURCE, b"").expect(&rt, "memory");
-    is_equal(&rt, fault_of(alloc, text.as_slice()), None);
+    is_judged(&rt, alloc, text.as_slice(), None);
     text.push(b'#').expect(&rt, "memory");
-    is_equal(&rt, fault_of(alloc, text.as_slice()), Some(LONG));
+    is_judged(&rt, alloc, text.as_slice(), Some(LONG));
 }
 
 /// The fault is told so.

@@ -1,7 +1,6 @@
 //! Flows of scripts that are accepted are whole; a flow is not, once a declaration is taken out.
 
 use crate::flows::flow;
-use flow::is_whole;
 use flow::script::Flow;
 use std::alloc::Global;
 use std::process::Abort;
@@ -19,7 +18,7 @@ int x = 1; int y = 2; wait (x) { wait (y) { wait (x, y) { int z = x + y; wait (z
 /// Whether the flow of a text is whole, where it has one.
 fn judgement(alloc: Global, text: &[u8]) -> Option<bool> {
     let found = flow(alloc, text)?;
-    Some(is_whole(&found))
+    Some(found.is_whole())
 }
 
 #[test]
@@ -40,7 +39,7 @@ fn cut(rt: &impl Abort, flow: &mut Flow<Global>) {
 fn a_name_without_its_declaration(rt: HostRuntime) {
     let text = b"int x = 1; printf(\"%i\", x);";
     let mut found = flow(rt.alloc(), text.as_slice()).expect(&rt, "a flow");
-    assert!(rt; is_whole(&found));
+    assert!(rt; found.is_whole());
     cut(&rt, &mut found);
-    assert!(rt; !is_whole(&found));
+    assert!(rt; !found.is_whole());
 }

@@ -89,6 +89,9 @@ fn add_options(text: &mut String, request: &Request) -> Result<(), AllocError> {
     if request.explain {
         text.push_str(" explain")?;
     }
+    if request.all {
+        text.push_str(" all")?;
+    }
     if request.progress {
         text.push_str(" progress")?;
     }
@@ -160,7 +163,12 @@ code a explain | code a --explain
 mean a 1000000 explain | mean a --explain
 run a 1 3 1 none explain | run --steps 1 --explain a
 run a 1 3 10000000 none explain progress | run --progress a --explain
-replay a t explain | replay --explain a t";
+replay a t explain | replay --explain a t
+replay a t explain all | replay --explain=all a t
+mean a 7 explain all | mean --explain=all --rounds 7 a
+run a 1 3 1 none explain all progress | run --progress --steps=1 a --explain=all
+check a --explain=all explain all | check --explain=all a -- --explain=all
+code a dot explain all | code --dot a --explain=all";
 
 #[test]
 fn commands(rt: HostRuntime) {
@@ -201,6 +209,11 @@ run a --trace --steps 1
 check --json a --json
 run a --json
 run --explain a --explain
+run --explain a --explain=all
+run --explain=all a --explain=all
+mean a --explain=
+mean a --explain=all=
+mean a --explain all
 run --progress a --progress
 mean a --progress
 --explain run a
@@ -389,6 +402,9 @@ swt: --trace has no value behind it | run a --trace -x
 swt: -x is no name for a trace: write ./-x | run a --trace=-x
 swt: - is no name for a trace: write ./- | run a --trace -
 swt: --steps stands twice | run --steps=1 --steps 2 a
+swt: --explain stands twice | mean --explain=all a --explain
+swt: --explain=all stands twice | mean --explain --explain=all a
+swt: --explain=most is no option of run | run --explain=most a
 swt: - stands twice | check - a -
 swt: --explain is one file too many for run | run a -- --explain";
 

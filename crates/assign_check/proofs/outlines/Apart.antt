@@ -11,7 +11,8 @@ use Rattle.language.specs.Tree.{Statement, statement, Command, assign, write, as
 use Rattle.language.proofs.Numbers.{numbers-numbered}
 use Rattle.language.proofs.Rows.{row_distinct}
 use Rattle.language.proofs.TreeNumbers.{times, times-append, in_times, distinct_few}
-use Rattle.language.proofs.Tested.{has, distinct, either_true}
+use Rattle.language.proofs.Tested.{either_true}
+use Rattle.language.specs.Distinct.{has, distinct}
 use Rattle.assign_check.proofs.outlines.Built.{inner_statement, inner_command, inner_body, inner_statements, own_statement, own_command, own_body, own_statements}
 use Rattle.assign_check.proofs.outlines.Pairs.{inner_tree, own_tree}
 

@@ -18,4 +18,4 @@ returns-in-None c =
     let k : ℤ = to_z w64 (of_z w64 c.args.n) in
     let slots = c.self.inside.slots in
     let others = c.self.inside.by_key.entries in
-    rw (← c.self.view_is) (found_second (int_eq k) slots others _ c.in-None.ensures c.get-in-None.ensures.value ∙ found_as_number c.args.n k (slots ++ others) (to_z-of_z w64 c.args.n (search rules)))
+    rw (← c.self.view_is) (found_second (int_eq k) slots others _ c.in-None.ensures c.in_table.ensures ∙ found_as_number c.args.n k (slots ++ others) (to_z-of_z w64 c.args.n (search rules)))

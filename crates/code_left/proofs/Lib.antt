@@ -1,0 +1,4 @@
+mod Holders
+mod Sourced
+mod Left
+mod Tested

@@ -1,0 +1,53 @@
+-- What tells of code that whatever waits for ever waits for a statement: each scalar that can be read is stored by somebody, and cells wait for cells before them.
+use Rattle.std.specs.Prelude.{◌≡◌, ◌⊎◌, ℕ, ◌<◌, Bool, true, false, Some}
+use Rattle.dataflow.specs.System.{In}
+use Rattle.task_code.specs.Code.{Variable, Name, Loop, Act, Cell, Read, Call, If, Wait, ByStep, Code, Way, entry, body, here, scalar, is_array_name, stored_of, loop_of, loop_variables, ways}
+use Rattle.task_code.specs.Whole.{Seen}
+use Rattle.task_code.specs.Exact.{needs_of}
+
+-- a cell, or an element that is read: it gives its value to entries behind it
+abbrev pub is_cell : Act → Bool
+is_cell (Cell e) = true
+is_cell Read = true
+is_cell _ = false
+
+-- an act that opens a block whatever it computes, where that is no fault
+abbrev pub always_opens : Act → Bool
+always_opens (Call b rs os) = true
+always_opens (If e b (Some d)) = true
+always_opens (Wait hs b) = true
+always_opens _ = false
+
+module _ (C : Code) where
+  -- the variable is one of the loop that opens the body, which stores it
+  pub record IsTurns (b : ℕ) (v : Variable) : Type 0 where
+    pub opener : ℕ
+    pub opens : (body C b).opener ≡ ByStep opener
+    pub loop : Loop
+    pub loops : loop_of (entry C opener).act ≡ Some loop
+    pub variable : In v (loop_variables loop)
+
+  -- an entry of the body may write the variable
+  pub record IsAssigned (b : ℕ) (v : Variable) : Type 0 where
+    pub assigner : ℕ
+    pub there : In assigner (body C b).entries
+    pub right : In (here v) (entry C assigner).writes
+
+  -- an entry of a body that the entry opens this way may write what the name means there
+  pub record HandsOn (i : ℕ) (w : Way) (b : ℕ) (r : Name) : Type 0 where
+    pub holder : ℕ
+    pub there : In holder (body C b).entries
+    pub inside : Name
+    pub seen : Seen C (entry C i).mark w inside r
+    pub right : In inside (entry C holder).writes
+
+  -- each scalar that can be read is stored in the end, if nothing waits
+  pub record FindsSources : Type 0 where
+    -- one that an entry of its own block may read is a loop's variable, or an entry of that block may write it
+    pub assigned : (b j : ℕ) (v : Variable) → In v (body C b).makes → v.array ≡ false → In j (body C b).entries → In (here v) (entry C j).reads → IsTurns b v ⊎ IsAssigned b v
+    -- who may write one stores it by itself, or always opens a block, and hands the right on to whichever it opens
+    pub handed : (i : ℕ) (r : Name) → In r (entry C i).writes → is_array_name r ≡ false → In r (stored_of (entry C i).node (entry C i).act) ⊎ ((always_opens (entry C i).act ≡ true) × ((w : Way) (b : ℕ) → In (w, b) (ways (entry C i).act) → HandsOn i w b r))
+
+  -- a cell that needs another one's value stands behind it
+  abbrev pub CellsFollow : Type 0
+  CellsFollow = (i j : ℕ) → is_cell (entry C i).act ≡ true → is_cell (entry C j).act ≡ true → In (here (scalar (entry C j).node)) (needs_of (entry C i)) → j < i

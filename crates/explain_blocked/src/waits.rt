@@ -1,0 +1,203 @@
+//! Which blocked statements keep which others waiting.
+
+use crate::graph::{Graph, Parts};
+use crate::inputs::{is_own_cell, missing_in_cell};
+use crate::numbers::{NONE, Numbers};
+use crate::scene::Scene;
+use explain_inputs::blocking::Waiting;
+use explain_inputs::input::Input;
+use meaning_facts::facts::Place;
+use std::alloc::{AllocError, Allocator, Global};
+use std::collections::HashMap;
+
+/// The waits of blocked statements, as a graph: a statement leads to the places of what it waits for, a place to the blocked statements that
+/// would write it, and the place of an argument to those of what that waits for. The first nodes are the statements, in the order in which
+/// they are listed.
+#[derive(Drop)]
+pub struct Waits {
+    pub graph: Graph,
+    statements: usize,
+    /// The places, and their nodes.
+    places: Vec<Place>,
+    nodes: HashMap<(usize, u32), usize>,
+}
+
+impl Waits {
+    pub fn of<'t, 'a, A: Allocator>(
+        scene: &Scene<'t, 'a, A>,
+        listed: &[Waiting<'t, 'a, A>],
+    ) -> Result<Waits, AllocError> {
+        let mut waits = Waits {
+            graph: Graph::new(scene.alloc),
+            statements: listed.len(),
+            places: Vec::new(scene.alloc),
+            nodes: HashMap::new(scene.alloc),
+        };
+        for _ in listed {
+            waits.graph.add()?;
+        }
+        for i in 0..listed.len() {
+            let waiting = &listed[i];
+            waits.note_inputs(scene, i, waiting.instance, waiting.missing.as_slice())?;
+        }
+        let numbers = numbers_of(scene, listed)?;
+        waits.note_places(scene, &numbers)?;
+        Ok(waits)
+    }
+
+    /// Whether a node is a statement.
+    pub fn is_statement(&self, node: usize) -> bool {
+        node < self.statements
+    }
+
+    /// The place that a node is.
+    pub fn place(&self, node: usize) -> Option<Place> {
+        let number = node.checked_sub(self.statements)?;
+        self.places.get(number).copied()
+    }
+
+    /// Lets a node lead to the places of these inputs in an instance, but for a statement's own cells.
+    fn note_inputs<'t, 'a, A: Allocator>(
+        &mut self,
+        scene: &Scene<'t, 'a, A>,
+        from: usize,
+        instance: usize,
+        inputs: &[Input],
+    ) -> Result<(), AllocError> {
+        for input in inputs {
+            if !is_own_cell(scene, *input) {
+                let to = self.node_of(place_of(scene, instance, *input))?;
+                self.graph.lead(from, to)?;
+            }
+        }
+        Ok(())
+    }
+
+    /// The node of a place, which is added where it is not there.
+    fn node_of(&mut self, place: Place) -> Result<usize, AllocError> {
+        let key = (place.instance, place.node);
+        if let Some(node) = self.nodes.get(&key) {
+            return Ok(*node);
+        }
+        let node = self.graph.add()?;
+        self.nodes.insert(key, node)?;
+        self.places.push(place)?;
+        Ok(node)
+    }
+
+    /// Lets each place lead on, also those that are added meanwhile.
+    fn note_places<'t, 'a, A: Allocator>(
+        &mut self,
+        scene: &Scene<'t, 'a, A>,
+        numbers: &Numbers,
+    ) -> Result<(), AllocError> {
+        for number in 0..usize::MAX {
+            match self.places.get(number).copied() {
+                Some(place) => self.note_place(scene, numbers, place)?,
+                None => break,
+            }
+        }
+        Ok(())
+    }
+
+    fn note_place<'t, 'a, A: Allocator>(
+        &mut self,
+        scene: &Scene<'t, 'a, A>,
+        numbers: &Numbers,
+        place: Place,
+    ) -> Result<(), AllocError> {
+        let node = self.node_of(place)?;
+        if let Some(spot) = scene.index.spot(place.node) {
+            let missing = missing_in_cell(scene, place.instance, spot.cell)?;
+            self.note_inputs(scene, node, place.instance, missing.as_slice())?;
+        }
+        for writer in scene.writers.blocked_at(place) {
+            let statement = numbers.at(*writer);
+            if statement != NONE {
+                self.graph.lead(node, statement)?;
+            }
+        }
+        Ok(())
+    }
+
+    /// Of each statement whether it is a cause: it waits for no other blocked one but those that wait for it in turn.
+    pub fn causes(&self, alloc: Global, parts: &Parts) -> Result<Vec<bool>, AllocError> {
+        let mut holds = Numbers::new(alloc, self.graph.len())?;
+        let mut leaves = Numbers::new(alloc, self.graph.len())?;
+        for node in &parts.order {
+            let part = parts.part.at(*node);
+            if self.leaves(parts, &holds, *node) {
+                leaves.put(part, 1);
+                holds.put(part, 1);
+            }
+            if self.is_statement(*node) {
+                holds.put(part, 1);
+            }
+        }
+        let mut causes = Vec::new(alloc);
+        for number in 0..self.statements {
+            causes.push(leaves.at(parts.part.at(number)) == NONE)?;
+        }
+        Ok(causes)
+    }
+
+    /// Whether a node leads to another part than its own, from which one comes to a statement.
+    fn leaves(&self, parts: &Parts, holds: &Numbers, node: usize) -> bool {
+        let own = parts.part.at(node);
+        for to in self.graph.ends(node) {
+            let part = parts.part.at(*to);
+            if part != own && holds.at(part) != NONE {
+                return true;
+            }
+        }
+        false
+    }
+}
+
+/// The place of an input in an instance: of an element that of its array.
+fn place_of<'t, 'a, A: Allocator>(
+    scene: &Scene<'t, 'a, A>,
+    instance: usize,
+    input: Input,
+) -> Place {
+    let instances = &scene.known.learned.instances;
+    match input {
+        Input::Scalar(name) => instances.place(instance, name),
+        Input::Array(name) => instances.place(instance, name),
+        Input::Element { array, .. } => instances.place(instance, array),
+    }
+}
+
+/// That of these inputs in an instance that has this place; of a statement's own cells none.
+pub fn input_at<'t, 'a, A: Allocator>(
+    scene: &Scene<'t, 'a, A>,
+    instance: usize,
+    inputs: &[Input],
+    wanted: Place,
+) -> Option<Input> {
+    for input in inputs {
+        if !is_own_cell(scene, *input) && place_of(scene, instance, *input) == wanted {
+            return Some(*input);
+        }
+    }
+    None
+}
+
+/// Where each blocked statement of what is known stands among those that are listed.
+fn numbers_of<'t, 'a, A: Allocator>(
+    scene: &Scene<'t, 'a, A>,
+    listed: &[Waiting<'t, 'a, A>],
+) -> Result<Numbers, AllocError> {
+    let mut places = HashMap::new(scene.alloc);
+    for i in 0..listed.len() {
+        places.insert((listed[i].instance, listed[i].site.at()), i)?;
+    }
+    let stuck = scene.known.stuck.as_slice();
+    let mut numbers = Numbers::new(scene.alloc, stuck.len())?;
+    for number in 0..stuck.len() {
+        if let Some(i) = places.get(&(stuck[number].instance, stuck[number].at)) {
+            numbers.put(number, *i);
+        }
+    }
+    Ok(numbers)
+}

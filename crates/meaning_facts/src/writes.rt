@@ -1,0 +1,138 @@
+//! The writes of an array, to be found by their keys.
+ghost use Rattle.std.specs.Prelude.{◌≡◌, ◌++◌, ◌∷◌, ◌&&◌, [], not, IfOk, OnOk};
+ghost use Rattle.meaning_facts.specs.Added.{with_write};
+ghost use Rattle.meaning_facts.specs.Indexed.{again, one_writer_in};
+ghost use Rattle.meaning_facts.specs.Store.{is_written_in, WrittenAs, writes_under};
+ghost use Rattle.values.specs.Keys.{key_seen};
+
+use crate::facts::{Place, Write, Written};
+use crate::firsts::{First, Firsts};
+use std::alloc::{AllocError, Global};
+use std::marker::Model;
+use values::key::KeyRef;
+
+/// The writes of an array, in the order in which they came. The first of each key is found by it.
+#[derive(Drop)]
+pub struct Writes {
+    all: Vec<Write>,
+    firsts: Firsts,
+    is_apart: bool,
+}
+
+impl Model for Writes {
+    ghost use Rattle.std.specs.Prelude.{List};
+    ghost use Rattle.meaning_facts.specs.declared.facts.Write.{Write};
+    ghost use Rattle.meaning_facts.specs.Indexed.{IsIndexed};
+
+    ghost Value = { List Write };
+
+    ghost view = { λ w. w.all.items };
+
+    ghost invariant = { λ w. IsIndexed w.all.items w.firsts w.is_apart };
+}
+
+impl Writes {
+    /// None.
+    pub fn new(alloc: Global) -> Writes
+        ensures { result ≡ [] }
+    {
+        Writes {
+            all: Vec::new(alloc),
+            firsts: Firsts::new(alloc),
+            is_apart: true,
+        }
+    }
+
+    pub fn as_slice(&self) -> &[Write]
+        ensures { result.now ≡ self.now }
+    {
+        self.all.as_slice()
+    }
+
+    /// What is written under a key.
+    pub fn written(&self, key: KeyRef<'_>) -> Written<'_>
+        ensures { WrittenAs result (writes_under self.now (key_seen key.entry)) }
+    {
+        match self.firsts.get(key) {
+            None => Written::Never,
+            Some(first) if first.is_several => Written::Twice,
+            Some(first) => Written::Once(&self.all[first.at].value),
+        }
+    }
+
+    /// Whether a statement has written a key.
+    pub fn is_written_by(&self, key: KeyRef<'_>, writer: Place) -> bool
+        ensures { result ≡ is_written_in self.now (key_seen key.entry) writer }
+    {
+        match self.firsts.get(key) {
+            None => false,
+            Some(first) if first.is_several => has_writer(self.all.as_slice(), key, writer),
+            Some(first) => self.all[first.at].writer.is_same(writer),
+        }
+    }
+
+    /// Whether no two writes have one key.
+    pub fn has_one_writer(&self) -> bool
+        ensures { result ≡ one_writer_in self.now }
+    {
+        self.is_apart
+    }
+
+    /// Puts a write behind the others, unless its writer has written the key. Whether it was put.
+    pub fn put(&mut self, write: Write) -> Result<bool, AllocError>
+        ensures put { OnOk result (self.new ≡ with_write self.old write) }
+        ensures new { IfOk result (λ new. new ≡ not (is_written_in self.old write.key write.writer)) }
+    {
+        if self.is_written_by(write.key.as_ref(), write.writer) {
+            return Ok(false);
+        }
+        self.push(write)?;
+        Ok(true)
+    }
+
+    fn push(&mut self, write: Write) -> Result<(), AllocError>
+        ensures { OnOk result (self.new ≡ self.old ++ write ∷ []) }
+    {
+        self.all.reserve(1)?;
+        let first = with_another(self.firsts.get(write.key.as_ref()), self.all.len());
+        self.firsts.put(&write.key, first)?;
+        self.is_apart = stays_apart(self.is_apart, first);
+        self.all.push(write)?;
+        Ok(())
+    }
+}
+
+/// The first write of a key, where another one comes behind so many.
+fn with_another(first: Option<First>, len: usize) -> First
+    ensures { result ≡ again len first }
+{
+    match first {
+        Some(first) => First {
+            at: first.at,
+            is_several: true,
+        },
+        None => First {
+            at: len,
+            is_several: false,
+        },
+    }
+}
+
+/// Whether no two writes have one key, where this is the first of the last one's.
+fn stays_apart(is_apart: bool, first: First) -> bool
+    ensures { result ≡ is_apart && not first.is_several }
+{
+    is_apart && !first.is_several
+}
+
+/// Whether one of these writes has this key and writer.
+fn has_writer(writes: &[Write], key: KeyRef<'_>, writer: Place) -> bool
+    ensures { result ≡ is_written_in writes.now (key_seen key.entry) writer }
+{
+    for write in writes {
+        if write.key.as_ref().is_same(key) && write.writer.is_same(writer) {
+            return true;
+        }
+    }
+    false
+}
