@@ -3,7 +3,6 @@ ghost use Rattle.std.specs.Prelude.{◌≡◌, ◌≢◌, ◌⊎◌, ◌+◌, �
 ghost use Rattle.dataflow.specs.Events.{backs};
 ghost use Rattle.dataflow.specs.Machine.{start};
 ghost use Rattle.task_code.specs.System.{code_system};
-ghost use Rattle.task_code.specs.View.{kind_view};
 ghost use Rattle.board.specs.Board.{Accepts, IsItems, IsWorker};
 ghost use Rattle.dataflow.specs.Machine as Machine;
 ghost use Rattle.workers.specs.Begun.{AreItems};
@@ -144,7 +143,7 @@ impl<J: Job, E: Ledger, N: Ledger> Desk<J, E, N> {
         mine: &mut Share<E>,
     ) -> Result<Begun<J>, Refusal>
         requires part { 0 < mine.old.parts }
-        requires place { IsPlace J.engines J.workers worker (kind_view kind) }
+        requires place { IsPlace J.engines J.workers worker kind }
         ensures ok { OnOk result ((mine.new.amount ≡ mine.old.amount + 1) × (mine.new.amount < 2 ^ 64)) }
         ensures err { OnErr result (mine.new.amount ≡ mine.old.amount) }
         ensures parts { mine.new.parts ≡ mine.old.parts }
@@ -178,7 +177,7 @@ impl<J: Job, E: Ledger, N: Ledger> Desk<J, E, N> {
         mine: &mut Share<E>,
     ) -> Result<Begun<J>, Refusal>
         requires part { 0 < mine.old.parts }
-        requires place { IsPlace J.engines J.workers worker (kind_view kind) }
+        requires place { IsPlace J.engines J.workers worker kind }
         ensures ok { OnOk result ((mine.new.amount ≡ mine.old.amount + 1) × (mine.new.amount < 2 ^ 64)) }
         ensures err { OnErr result (mine.new.amount ≡ mine.old.amount) }
         ensures parts { mine.new.parts ≡ mine.old.parts }

@@ -5,7 +5,6 @@ use Rattle.dataflow.specs.System.{In}
 use Rattle.task_code.specs.Code.{Code, Kind}
 use Rattle.task_code.specs.Machine.{CodeItem}
 use Rattle.task_code.specs.System.{task_kind}
-use Rattle.task_code.specs.View.{kind_view}
 use Rattle.workers.specs.Threads.{IsPlace}
 use Rattle.workers.proofs.Threads.{begun, counted_more, no_back_more}
 use Rattle.workers.proofs.desk.Desk.begin_this.Goals as goal
@@ -17,9 +16,9 @@ invariant_of-self-2 g c =
     let old = c.self.inside.board in
     let new = c.begin.new.self in
     let a : Accepts old (Begin c.args.worker c.args.item) new = search rules in
-    let there : (i : CodeItem) × In i old.state.items × (i.number ≡ c.args.item) × (kind_view c.args.kind ≡ task_kind old.code i.task) = search (rules, c.in-Some.ensures.some, c.if-ne.false) in
+    let there : (i : CodeItem) × In i old.state.items × (i.number ≡ c.args.item) × (c.args.kind ≡ task_kind old.code i.task) = search (rules, c.in-Some.ensures.some, c.if-ne.false) in
     let still : new.newly ≡ [] = search rules in
-    let same : kind_view c.args.kind ≡ task_kind C there.0.task = there.3 ∙ ap (λ (x : Code). task_kind x there.0.task) k.code in
+    let same : c.args.kind ≡ task_kind C there.0.task = there.3 ∙ ap (λ (x : Code). task_kind x there.0.task) k.code in
     let place = subst (λ (x : Kind). IsPlace g.J.Job.engines g.J.Job.workers c.args.worker x) same c.requires.place in
     let more = counted_more old new (Begin c.args.worker c.args.item) a in
     record {
