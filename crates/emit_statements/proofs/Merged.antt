@@ -20,8 +20,8 @@ use Rattle.task_code.specs.declared.entry.Entry.{Entry as Made}
 use Rattle.code_rules.specs.CodeNames.{awaited_need, each_once, name_as}
 use Rattle.code_rules.specs.Laying.{Headers, is_one_wait, one_header, more_headers}
 use Rattle.code_rules.specs.Room.{AwaitedRoom, BlockRoom, Each, NameRoom}
-use Rattle.emit_cells.specs.Wanted.{Noted, Notes, need_named}
-use Rattle.emit_cells.specs.declared.needs.Wanted.{Wanted}
+use Rattle.emit_cells.specs.PlainNeeds.{Noted, Notes, need_named}
+use Rattle.emit_cells.specs.declared.needs.PlainNeed.{PlainNeed}
 use Rattle.emit_cells.proofs.Keys.{closed_named, notes_both, stored_named}
 use Rattle.emit_cells.specs.Made.{made}
 use Rattle.emit_cells.specs.declared.entries.Standing.{Standing}
@@ -79,7 +79,7 @@ waited k ns = map (awaited_need k) (map awaited_view ns)
 pub waited_more : (k : ℕ) (ns : List Named) (i : ℕ) (x : Named) → i < length ns → x ≡ get_or ns i x → waited k (take (i + 1) ns) ≡ waited k (take i ns) ++ awaited_need k (awaited_view x) ∷ []
 waited_more k ns i x below is = ap (map (awaited_need k)) (mapped_more awaited_view ns i x below is) ∙ map-append (awaited_need k) (map awaited_view (take i ns)) (awaited_view x ∷ [])
 
-pub noted_more : (k : ℕ) (ns : List Named) (i : ℕ) (x : Named) (old mid new : List Wanted) (n : Need) → i < length ns → x ≡ get_or ns i x → Notes old mid (waited k (take i ns)) → Notes mid new (n ∷ []) → n ≡ awaited_need k (awaited_view x)
+pub noted_more : (k : ℕ) (ns : List Named) (i : ℕ) (x : Named) (old mid new : List PlainNeed) (n : Need) → i < length ns → x ≡ get_or ns i x → Notes old mid (waited k (take i ns)) → Notes mid new (n ∷ []) → n ≡ awaited_need k (awaited_view x)
     → Notes old new (waited k (take (i + 1) ns))
 noted_more k ns i x old mid new n below is before one e =
     subst (λ l. Notes old new l) (sym (waited_more k ns i x below is))
@@ -94,7 +94,7 @@ listed_waits k ns i x before after n below is b e a = a ∙ ap (λ l. l ++ n ∷
 abbrev pub needs_in : List code.Header → List Need
 needs_in hs = flat_map (λ h. h.needs) hs
 
-pub inner_noted : {A : Type 0} (k : ℕ) (hs : List (Header A)) (i : ℕ) (h : Header A) (old mid new : List Wanted) → i < length hs → h ≡ get_or hs i h → Notes old mid (needs_in (inner_headers k (take i hs))) → Notes mid new (waited k h.names.items)
+pub inner_noted : {A : Type 0} (k : ℕ) (hs : List (Header A)) (i : ℕ) (h : Header A) (old mid new : List PlainNeed) → i < length hs → h ≡ get_or hs i h → Notes old mid (needs_in (inner_headers k (take i hs))) → Notes mid new (waited k h.names.items)
     → Notes old new (needs_in (inner_headers k (take (i + 1) hs)))
 inner_noted {A} k hs i h old mid new below is before one =
     let one_more = mapped_more (λ (g : Header A). header_of k g.at g.names.items) hs i h below is in
@@ -119,7 +119,7 @@ merged_headers k at n ns [] b lone = one_header lone refl
 merged_headers k at n ns (h ∷ hs) b lone = more_headers (merged_headers k h.at h.node h.names.items hs b lone) refl
 
 -- the own entry
-pub wait_added : {A : Type 0} (s : Standing) (n : ℕ) (names : List Named) (inner : List (Header A)) (b : Block) (body : ℕ) (hs : List code.Header) (ks : List Wanted) (old new : List Made) → s.priority ≡ pos 0
+pub wait_added : {A : Type 0} (s : Standing) (n : ℕ) (names : List Named) (inner : List (Header A)) (b : Block) (body : ℕ) (hs : List code.Header) (ks : List PlainNeed) (old new : List Made) → s.priority ≡ pos 0
     → Noted (waited s.inputs names ++ needs_in (inner_headers s.inputs inner)) ks → hs ≡ header_of s.inputs s.at names ∷ inner_headers s.inputs inner → AddsEntry s n ks (Wait hs body) old new
     → WaitAddedAs s.inputs s.at n (wait (map awaited_view names) (waits_around inner b)) b body old new
 wait_added s n names inner b body hs ks old new priority noted are adds = record {
