@@ -7,7 +7,7 @@ ghost use Rattle.emit_cells.specs.PlainNeeds.{Noted};
 ghost use Rattle.emit_cells.specs.Made.{made};
 ghost use Rattle.emit_statements.specs.Blocks.{Numbered};
 
-use crate::own::Statement;
+use crate::own::StatementAt;
 use crate::writer::Writer;
 use emit_cells::entries::{Shown, put};
 use emit_cells::names::small;
@@ -21,7 +21,7 @@ impl Writer {
     /// block. The result is that number.
     pub(crate) fn add_entry(
         &mut self,
-        statement: Statement,
+        statement: StatementAt,
         needs: &IndexSet<PlainNeed>,
         act: Act,
     ) -> Result<u32, AllocError>

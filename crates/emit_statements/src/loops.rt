@@ -11,7 +11,7 @@ ghost use Rattle.emit_cells.specs.PlainNeeds.{need_of, IsReady, Notes};
 ghost use Rattle.emit_statements.specs.Blocks.{Numbered, OwnAddedAs, loop_with, range_action, range_loop_act, ranged, seen_range};
 
 use crate::filling::Filling;
-use crate::own::Statement;
+use crate::own::StatementAt;
 use crate::steps::{note_step, placed_step};
 use crate::writer::Writer;
 use emit_cells::data::add_scalar;
@@ -133,7 +133,7 @@ impl Writer {
     /// Adds the own entry of a loop over a range. The result is the entry's number.
     pub fn add_range<A: Allocator>(
         &mut self,
-        statement: Statement,
+        statement: StatementAt,
         range: &Range<A>,
         turns: Loop,
     ) -> Result<u32, AllocError>
@@ -159,7 +159,7 @@ impl Writer {
     /// Adds the own entry of a loop over an array. The result is the entry's number.
     pub fn add_each(
         &mut self,
-        statement: Statement,
+        statement: StatementAt,
         array: Name,
         turns: Loop,
     ) -> Result<u32, AllocError>

@@ -30,7 +30,7 @@ use task_code::entry::{Act, Argument, Entry};
 
 /// Where a statement stands, and its node.
 #[derive(Clone, Copy)]
-pub struct Statement {
+pub struct StatementAt {
     pub standing: Standing,
     pub node: u32,
 }
@@ -161,7 +161,7 @@ fn act_of<A: Allocator>(
 fn add_own<A: Allocator>(
     alloc: Global,
     entries: &mut Vec<Entry>,
-    statement: Statement,
+    statement: StatementAt,
     done: Use,
     outer: &Outer<A>,
 ) -> Result<(), AllocError>
@@ -184,7 +184,7 @@ impl Writer {
     pub fn own<A: Allocator>(
         &mut self,
         functions: &Vec<Function<A>, A>,
-        statement: Statement,
+        statement: StatementAt,
         done: Use,
         outer: &Outer<A>,
     ) -> Result<(), AllocError>

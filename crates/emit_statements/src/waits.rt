@@ -9,7 +9,7 @@ ghost use Rattle.code_rules.specs.Room.{ActionRoom, AwaitedRoom, Each};
 ghost use Rattle.emit_cells.specs.PlainNeeds.{need_named, Notes};
 ghost use Rattle.emit_statements.specs.Blocks.{InnerRoom, Numbered, WaitAddedAs, header_of, inner_headers};
 
-use crate::own::Statement;
+use crate::own::StatementAt;
 use crate::writer::Writer;
 use emit_cells::names::named;
 use emit_cells::needs::{PlainNeed, note_name};
@@ -119,7 +119,7 @@ impl Writer {
     /// the entry's number.
     pub fn add_wait<A: Allocator>(
         &mut self,
-        statement: Statement,
+        statement: StatementAt,
         names: &Vec<Name, A>,
         inner: &Vec<Header<A>, A>,
         body: u32,
