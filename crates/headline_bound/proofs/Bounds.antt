@@ -1,5 +1,5 @@
 -- Of a script that writes no key twice, each item of a run is live in the script, and a run has at most two events for each item of live bodies and loops, none of them twice, and for each that is given back.
-use Rattle.std.proofs.lemmas.List.{length-map}
+use Rattle.std.proofs.lemmas.List.{length-map, length-drop}
 use Rattle.std.proofs.lemmas.List.Concat.{length-flat_map}
 use Rattle.std.proofs.lemmas.List.Sums.{sum_by-cons}
 use Rattle.std.proofs.Common.{◌≡◌, ◌⊎◌, inl, inr, ℕ, zero, suc, ◌+◌, ◌-◌, ◌*◌, ◌<◌, ◌≤◌, arith, Bool, true, false, List, [], ◌∷◌, ◌++◌, length, map, refl, sym, ap, ◌∙◌, subst, Option, Some, None, length-append}
@@ -64,16 +64,11 @@ sum_same f g h (x ∷ xs) = sum_by-cons f x xs ∙ (λ i. h x i + sum_same f g h
 one_more : (n m : ℕ) → n ≡ m → suc n ≡ 1 + m
 one_more n m h = omega arith
 
-length_dropped : {X : Type 0} (n : ℕ) (xs : List X) → length (drop n xs) ≡ length xs - n
-length_dropped zero xs = omega arith
-length_dropped (suc n) [] = omega arith
-length_dropped (suc n) (x ∷ xs) = let h = length_dropped n xs in omega arith
-
 -- what is left before a chunk is behind the chunks before it
 left_long : {X : Type 0} (c : ℕ) (xs : List X) → is_some_list (left_at c xs) ≡ true → chunk_size * c < length xs
 left_long zero [] h = absurd (cc)
 left_long zero (x ∷ xs) h = omega arith
-left_long (suc c) xs h = let l = left_long c (drop chunk_size xs) h in let d = length_dropped chunk_size xs in omega arith
+left_long (suc c) xs h = let l = left_long c (drop chunk_size xs) h in let d = length-drop chunk_size xs in omega arith
 
 left_some : {X : Type 0} (c : ℕ) (xs : List X) → is_some_list (left_at c xs) ≡ true → (x : X) × In x xs
 left_some c [] h = let l = left_long c [] h in absurd (omega arith)
