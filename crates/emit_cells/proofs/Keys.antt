@@ -4,7 +4,7 @@ use Rattle.std.specs.Prelude.{if◌then◌else◌, Option, Some, None, position,
 use Rattle.std.specs.List.{list_any, position_or_len}
 use Rattle.std.proofs.Math.Bool.{beq}
 use Rattle.std.proofs.Math.Dec.{eqb}
-use Rattle.std.proofs.lemmas.Bool.{eqb-true, eq-eqb, cases_Bool}
+use Rattle.std.proofs.lemmas.Bool.{eqb-true, eq-eqb, cases_Bool, and_from}
 use Rattle.std.proofs.lemmas.List.{map-append, append-nil, take_more}
 use Rattle.std.proofs.lemmas.Option.{get_or_from_slice_get, slice_get_within}
 use Rattle.std.proofs.lemmas.List.Recursion.{is_position_or_len}
@@ -46,16 +46,12 @@ flag_self : (b : Bool) → beq b b ≡ true
 flag_self true = refl
 flag_self false = refl
 
-both : (a b : Bool) → a ≡ true → b ≡ true → (a && b) ≡ true
-both true b h k = k
-both false b h k = absurd (true≢false (sym h))
-
 pub fields_self : (a : PlainNeed) → same_fields a a ≡ true
 fields_self a =
-    both (eqb a.up a.up) _ (eq-eqb a.up a.up refl)
-    (both (beq a.local a.local) _ (flag_self a.local)
-    (both (eqb a.node a.node) _ (eq-eqb a.node a.node refl)
-    (both (eqb a.place a.place) _ (eq-eqb a.place a.place refl) (flag_self a.array))))
+    and_from (eqb a.up a.up) _ (eq-eqb a.up a.up refl)
+    (and_from (beq a.local a.local) _ (flag_self a.local)
+    (and_from (eqb a.node a.node) _ (eq-eqb a.node a.node refl)
+    (and_from (eqb a.place a.place) _ (eq-eqb a.place a.place refl) (flag_self a.array))))
 
 -- WHAT A NEED TELLS
 

@@ -2,7 +2,7 @@
 use Rattle.std.proofs.Common.{◌≡◌, ◌<◌, ◌+◌, ℕ, zero, suc, List, [], ◌∷◌, ◌++◌, map, length, refl, sym, ap, subst, ◌∙◌, get_or, take, append_assoc, arith}
 use Rattle.std.specs.Prelude.{pos, false, true}
 use Rattle.std.specs.List.{flat_map}
-use Rattle.std.proofs.lemmas.List.{append-nil, map-append, take_more}
+use Rattle.std.proofs.lemmas.List.{append-nil, map-append, take_more, get_or_default}
 use Rattle.std.proofs.lemmas.Grind.{flat_map-append}
 use Rattle.language.specs.Core.{Block, wait, stmt}
 use Rattle.language.specs.Core as core
@@ -33,14 +33,8 @@ use Rattle.emit_statements.proofs.Entries.{AddsEntry}
 pub mapped_more : {X Y : Type 0} (f : X → Y) (xs : List X) (i : ℕ) (x : X) → i < length xs → x ≡ get_or xs i x → map f (take (i + 1) xs) ≡ map f (take i xs) ++ f x ∷ []
 mapped_more f xs i x below is = ap (map f) (take_more xs i x below ∙ ap (λ y. take i xs ++ y ∷ []) (sym is)) ∙ map-append f (take i xs) (x ∷ [])
 
--- the member at a place, whatever stands for one beyond the end
-same_at : {X : Type 0} (xs : List X) (i : ℕ) (a b : X) → i < length xs → get_or xs i a ≡ get_or xs i b
-same_at [] i a b below = absurd (omega arith)
-same_at (x ∷ xs) zero a b below = refl
-same_at (x ∷ xs) (suc i) a b below = same_at xs i a b (omega arith)
-
 pub there_at : {X : Type 0} (xs ys : List X) (i : ℕ) (d : X) → ys ≡ xs → i < length xs → get_or ys i d ≡ get_or xs i (get_or ys i d)
-there_at xs ys i d e below = subst (λ zs. get_or zs i d ≡ get_or xs i (get_or zs i d)) (sym e) (same_at xs i d (get_or xs i d) below)
+there_at xs ys i d e below = subst (λ zs. get_or zs i d ≡ get_or xs i (get_or zs i d)) (sym e) (get_or_default xs i d (get_or xs i d) below)
 
 pub each_at : {X : Type 0} (P : X → Type 0) (xs : List X) (i : ℕ) (x : X) → i < length xs → x ≡ get_or xs i x → Each P xs → P x
 each_at P [] i x below is h = absurd (omega arith)
