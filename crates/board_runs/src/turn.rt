@@ -5,7 +5,7 @@ ghost use Rattle.board.specs.Board.{Accepts, IsGoing, IsOwn, IsWorker, MayBegin,
 ghost use Rattle.board.specs.Ready.{HasKind};
 ghost use Rattle.board_runs.specs.Turns.{IsChosen, IsNamed, NoneReady, TurnsTo, worker_for};
 
-use board::board::Board;
+use board::Board;
 use board::refusal::Refusal;
 use board_work::work::{Done, Work};
 use std::alloc::AllocError;
