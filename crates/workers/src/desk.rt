@@ -15,7 +15,6 @@ use crate::crowd::Crowds;
 use crate::fresh::{count_fresh, list_fresh};
 use crate::job::Job;
 use board::board::Board;
-use board::laws::work_stays;
 use board::refusal::Refusal;
 use board_work::work::{Done, Work};
 use pool_offers::Fresh;
@@ -151,7 +150,6 @@ impl<J: Job, E: Ledger, N: Ledger> Desk<J, E, N> {
         if self.told >= MOST {
             return Err(Refusal::Stranger);
         }
-        work_stays();
         let _before = self.board.history();
         let Some(found) = self.board.kind(item) else {
             return Err(Refusal::NotReady);
@@ -216,7 +214,6 @@ impl<J: Job, E: Ledger, N: Ledger> Desk<J, E, N> {
         if self.told >= MOST {
             return Err((finished.into_done(), Refusal::Stranger));
         }
-        work_stays();
         let _before = self.board.history();
         end_on(&mut self.board, &self.front, worker, finished)?;
         let Desk {
@@ -256,7 +253,6 @@ impl<J: Job, E: Ledger, N: Ledger> Desk<J, E, N> {
         if self.told >= MOST {
             return Err(Refusal::Stranger);
         }
-        work_stays();
         let _before = self.board.history();
         self.board.back(worker, item)?;
         let Desk {

@@ -1,5 +1,6 @@
 use Rattle.std.proofs.Common.{rules, arith, ◌≡◌, ap, ◌∙◌, [], subst, refl}
 use Rattle.board.specs.Board.{Accepts}
+use Rattle.board.proofs.Staying.{work_begun, work_later}
 use Rattle.dataflow.specs.Machine.{Begin}
 use Rattle.dataflow.specs.System.{In}
 use Rattle.task_code.specs.Code.{Code, Kind}
@@ -30,7 +31,7 @@ invariant_of-self-2 g c =
       fits = k.fits;
       runs = begun C g.J.Job.engines g.J.Job.workers c.args.worker c.args.item c.self.inside.told old new k.code k.runs a still there.0 there.1 there.2 place;
       no_back = λ going. no_back_more old new (Begin c.args.worker c.args.item) a refl (k.no_back going);
-      items = λ work h. c.work_stays.ensures.stays old new c.history-before.ensures.whole c.history-before.ensures.replays (Begin c.args.worker c.args.item) a work (k.items work h);
+      items = λ work h. work_later old new c.history-before.ensures.whole c.history-before.ensures.replays (Begin c.args.worker c.args.item) a work (k.items work h);
     }
 
 pub returns-clause-ok : goal.returns-clause-ok
@@ -44,4 +45,4 @@ returns-clause-ok g c =
     (amount, omega (arith, amount, more, k.counted, c.add.ensures.total, c.audit.ensures.bound, c.history-within.ensures.within, c.history-within.ensures.few))
 
 pub note-requires : goal.note-requires
-note-requires g c = c.work_stays.ensures.begun c.begin.new.self c.history-within.ensures.whole c.history-within.ensures.replays c.args.worker c.in_ok-work.work c.in_ok-work.ensures.work
+note-requires g c = work_begun c.begin.new.self c.history-within.ensures.replays c.args.worker c.in_ok-work.work c.in_ok-work.ensures.work
