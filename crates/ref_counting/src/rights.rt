@@ -67,21 +67,21 @@ fn pass_body(
 
 /// What is looked up while names are passed on.
 #[derive(Drop)]
-struct Tables {
+struct Index {
     homes: Rows<u32>,
     openings: Rows<Opening>,
     made: IndexSet<Made>,
 }
 
-impl Tables {
-    fn new(alloc: Global, code: &Draft) -> Result<Tables, AllocError>
+impl Index {
+    fn new(alloc: Global, code: &Draft) -> Result<Index, AllocError>
         requires entries { length code.now.entries < 2 ^ 32 }
         requires bodies { length code.now.bodies < 2 ^ 32 }
-        ensures homes { IfOk result (λ tables. AreHomes code.now tables.homes) }
-        ensures openings { IfOk result (λ tables. AreOpenings code.now tables.openings) }
-        ensures made { IfOk result (λ tables. AreMade code.now tables.made.keys) }
+        ensures homes { IfOk result (λ index. AreHomes code.now index.homes) }
+        ensures openings { IfOk result (λ index. AreOpenings code.now index.openings) }
+        ensures made { IfOk result (λ index. AreMade code.now index.made.keys) }
     {
-        Ok(Tables {
+        Ok(Index {
             homes: homes(alloc, code)?,
             openings: openings(alloc, code)?,
             made: declarations(alloc, code)?,
@@ -92,19 +92,19 @@ impl Tables {
 /// Passes a lead on to each entry that opens a body in which its entry stands.
 fn pass_on(
     code: &Draft,
-    tables: &Tables,
+    index: &Index,
     lead: Lead,
     leads: &mut IndexSet<Lead>,
 ) -> Result<(), AllocError>
-    requires homes { AreHomes code.now tables.now.homes }
-    requires openings { AreOpenings code.now tables.now.openings }
-    requires made { AreMade code.now tables.now.made.keys }
+    requires homes { AreHomes code.now index.now.homes }
+    requires openings { AreOpenings code.now index.now.openings }
+    requires made { AreMade code.now index.now.made.keys }
     requires marks { HasMarks code.now }
-    ensures { OnOk result (Adds (ByHomes code.now tables.now.openings (name_of lead) (row tables.now.homes lead.entry)) leads.old.keys leads.new.keys) }
+    ensures { OnOk result (Adds (ByHomes code.now index.now.openings (name_of lead) (row index.now.homes lead.entry)) leads.old.keys leads.new.keys) }
 {
-    for body in tables.homes.at(lead.entry as usize) {
-        let found = tables.openings.at(*body as usize);
-        pass_body(code, &tables.made, found, *body, lead.name(), leads)?;
+    for body in index.homes.at(lead.entry as usize) {
+        let found = index.openings.at(*body as usize);
+        pass_body(code, &index.made, found, *body, lead.name(), leads)?;
     }
     Ok(())
 }
@@ -112,13 +112,13 @@ fn pass_on(
 /// Passes the lead of a number on.
 fn pass_next(
     code: &Draft,
-    tables: &Tables,
+    index: &Index,
     next: usize,
     leads: &mut IndexSet<Lead>,
 ) -> Result<(), AllocError>
-    requires homes { AreHomes code.now tables.now.homes }
-    requires openings { AreOpenings code.now tables.now.openings }
-    requires made { AreMade code.now tables.now.made.keys }
+    requires homes { AreHomes code.now index.now.homes }
+    requires openings { AreOpenings code.now index.now.openings }
+    requires made { AreMade code.now index.now.made.keys }
     requires marks { HasMarks code.now }
     requires next { next < length leads.old.keys }
     ensures { OnOk result (StepsOn code.now next leads.old.keys leads.new.keys) }
@@ -127,17 +127,17 @@ fn pass_next(
         None => Ok(()),
         Some(found) => {
             let lead = *found;
-            pass_on(code, tables, lead, leads)?;
+            pass_on(code, index, lead, leads)?;
             Ok(())
         }
     }
 }
 
 /// Passes all leads on, until nothing new is found.
-fn pass_all(code: &Draft, tables: &Tables, leads: &mut IndexSet<Lead>) -> Result<(), AllocError>
-    requires homes { AreHomes code.now tables.now.homes }
-    requires openings { AreOpenings code.now tables.now.openings }
-    requires made { AreMade code.now tables.now.made.keys }
+fn pass_all(code: &Draft, index: &Index, leads: &mut IndexSet<Lead>) -> Result<(), AllocError>
+    requires homes { AreHomes code.now index.now.homes }
+    requires openings { AreOpenings code.now index.now.openings }
+    requires made { AreMade code.now index.now.made.keys }
     requires marks { HasMarks code.now }
     requires within { AllWithin code.now leads.old.keys }
     ensures within { OnOk result (AllWithin code.now leads.new.keys) }
@@ -147,7 +147,7 @@ fn pass_all(code: &Draft, tables: &Tables, leads: &mut IndexSet<Lead>) -> Result
 {
     let mut next = 0;
     while next < leads.len() {
-        pass_next(code, tables, next, leads)?;
+        pass_next(code, index, next, leads)?;
         next += 1;
     }
     Ok(())
@@ -190,9 +190,9 @@ pub fn rights(alloc: Global, code: &Draft, right: Right) -> Result<Rows<Name>, A
     requires marks { HasMarks code.now }
     ensures { IfOk result (λ found. AreRights code.now (own_of right) found) }
 {
-    let tables = Tables::new(alloc, code)?;
+    let index = Index::new(alloc, code)?;
     let mut leads = uses(alloc, code, right)?;
-    pass_all(code, &tables, &mut leads)?;
+    pass_all(code, &index, &mut leads)?;
     let found = lay_out(alloc, code.entry_count(), &leads)?;
     Ok(found)
 }

@@ -21,7 +21,7 @@ pass_body-requires-clause-body c =
 pub loop-body-preserved : goal.loop-body-preserved
 loop-body-preserved c =
     let C : Code = c.args.code.now in
-    let os : List (List Opening) = c.args.tables.now.openings in
+    let os : List (List Opening) = c.args.index.now.openings in
     let q : Name = name_of c.args.lead in
     let bs : List ℕ = c.at-body-items.result.now in
     let i : ℕ = c.loop-body.body-index in
@@ -30,7 +30,7 @@ loop-body-preserved c =
     let step : Adds (ByOpenings C b q (row os b)) c.loop-body.leads.keys c.pass_body.new.leads.keys =
     subst (λ n. Adds (ByOpenings C b n (row os b)) c.loop-body.leads.keys c.pass_body.new.leads.keys) c.name.ensures
     (subst (λ ps. Adds (ByOpenings C b (name_view c.name.result) ps) c.loop-body.leads.keys c.pass_body.new.leads.keys) c.at-found.ensures c.in_ok-pass_body.ensures) in
-    let taken : take i bs ++ b ∷ [] ≡ take (i + 1) (row c.args.tables.now.homes c.args.lead.entry) = take_next bs i 0 within ∙ ap (take (i + 1)) c.at-body-items.ensures in
+    let taken : take i bs ++ b ∷ [] ≡ take (i + 1) (row c.args.index.now.homes c.args.lead.entry) = take_next bs i 0 within ∙ ap (take (i + 1)) c.at-body-items.ensures in
     let before : Adds (ByHomes C os q (take i bs)) c.args.leads.now.keys c.loop-body.leads.keys =
     subst (λ xs. Adds (ByHomes C os q (take i xs)) c.args.leads.now.keys c.loop-body.leads.keys) (sym c.at-body-items.ensures) c.loop-body.invariant in
     subst (λ xs. Adds (ByHomes C os q xs) c.args.leads.now.keys c.pass_body.new.leads.keys) taken
