@@ -1,5 +1,6 @@
 -- The inputs of an item that misses more than two, and where they are found.
 use Rattle.std.specs.Prelude.{◌≡◌, ◌⊎◌, ℕ, suc, ◌<◌, Bool, true, false, if◌then◌else◌, List, [], ◌∷◌, length, replicate, Option, Some, None, slice_index_or}
+use Rattle.std.specs.declared.boxed.Box.{Box}
 use Rattle.rules.specs.declared.input.Input.{Input}
 use Rattle.rules.specs.declared.input.Input.TheVariants.{Whole}
 use Rattle.rules.specs.declared.many.Index.{Index}
@@ -19,6 +20,11 @@ is_known index k = slice_index_or index.known.items k false
 abbrev pub left_of : List Input → (ℕ → Bool) → List Input
 left_of [] known = []
 left_of (i ∷ rest) known = if known 0 then left_of rest (λ k. known (suc k)) else i ∷ left_of rest (λ k. known (suc k))
+
+-- what lies in the box, if there is one
+abbrev pub index_in : {A : Type 0} → Option (Box Index A) → Option Index
+index_in None = None
+index_in (Some index) = Some index.value
 
 -- the index, if there is one, tells that the input at this place is known
 abbrev pub known_in : Option Index → ℕ → Bool

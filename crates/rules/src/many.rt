@@ -3,7 +3,7 @@ ghost use Rattle.std.specs.Prelude.{◌≡◌, ◌<◌, ℕ, true, false, not, l
 ghost use Rattle.std.specs.Bool.{OnTrue};
 ghost use Rattle.std.specs.List.{list_any};
 ghost use Rattle.rules.specs.Inputs.{covers};
-ghost use Rattle.rules.specs.Many.{AreNoted, IsFresh, IsIndexed, Marks, input_at, is_known, known_in, knows, left_in, left_of};
+ghost use Rattle.rules.specs.Many.{AreNoted, IsFresh, IsIndexed, Marks, index_in, input_at, is_known, known_in, knows, left_in, left_of};
 ghost use Rattle.rules.specs.Places.{Grows, IsAt, is_at};
 
 use crate::input::Input;
@@ -38,13 +38,13 @@ pub struct Many {
 impl Model for Many {
     ghost use Rattle.std.specs.Prelude.{List, IfSome};
     ghost use Rattle.rules.specs.declared.input.Input.{Input};
-    ghost use Rattle.rules.specs.Many.{IsIndexed, left_in};
+    ghost use Rattle.rules.specs.Many.{IsIndexed, index_in, left_in};
 
     ghost Value = { List Input };
 
-    ghost view = { λ a. left_in a.inputs.items a.index };
+    ghost view = { λ a. left_in a.inputs.items (index_in a.index) };
 
-    ghost invariant = { λ a. IfSome a.index (IsIndexed a.inputs.items) };
+    ghost invariant = { λ a. IfSome (index_in a.index) (IsIndexed a.inputs.items) };
 }
 
 /// So many lists that inputs at regular distances mostly fall into lists of their own.
@@ -134,7 +134,7 @@ impl Index {
 
 /// An index to inputs of which none is known, if they are many and there is memory for it.
 fn index_to(alloc: Global, inputs: &[Input]) -> Option<Box<Index>>
-    ensures { IfSome result (IsFresh inputs.now) }
+    ensures { IfSome (index_in result) (IsFresh inputs.now) }
 {
     if inputs.len() <= FEW {
         return None;
@@ -154,7 +154,7 @@ fn is_any_at(inputs: &[Input], address: u32) -> bool
 
 /// Whether the input at a place is known, where there is an index.
 fn is_known(index: &Option<Box<Index>>, place: usize) -> bool
-    ensures { result ≡ known_in index.now place }
+    ensures { result ≡ known_in (index_in index.now) place }
 {
     match index {
         Some(index) => place < index.known.len() && index.known[place],
@@ -173,7 +173,7 @@ fn note_place(
     requires { place < length inputs.now }
     ensures grows { Grows places.old places.new }
     ensures strays { places.new.strays ≡ places.old.strays }
-    ensures noted { result ≡ true → known_in index.now place ≡ false → (a : ℕ) → is_at a (input_at inputs.now place) ≡ true → IsAt places.new.notes a slot }
+    ensures noted { result ≡ true → known_in (index_in index.now) place ≡ false → (a : ℕ) → is_at a (input_at inputs.now place) ≡ true → IsAt places.new.notes a slot }
 {
     is_known(index, place) || places.note_input(&inputs[place], slot)
 }
@@ -182,7 +182,7 @@ fn note_place(
 fn note_left(inputs: &[Input], index: &Option<Box<Index>>, places: &mut Places, slot: usize) -> bool
     ensures grows { Grows places.old places.new }
     ensures strays { places.new.strays ≡ places.old.strays }
-    ensures noted { result ≡ true → (a : ℕ) → list_any (is_at a) (left_in inputs.now index.now) ≡ true → IsAt places.new.notes a slot }
+    ensures noted { result ≡ true → (a : ℕ) → list_any (is_at a) (left_in inputs.now (index_in index.now)) ≡ true → IsAt places.new.notes a slot }
 {
     for place in 0..inputs.len() {
         if !note_place(inputs, index, place, places, slot) {

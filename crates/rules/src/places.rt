@@ -424,11 +424,12 @@ impl Places {
             return Ok(());
         }
         self.count(heavy(waiters));
-        let wanted = self.heavy.saturating_add(more);
-        if self.notes.capacity() >= ample(slots, wanted) {
+        let heavier = self.heavy.saturating_add(more);
+        let wanted = ample(slots, heavier);
+        if self.notes.capacity() >= wanted {
             return Ok(());
         }
-        self.widen(alloc, waiters, wanted)
+        self.widen(alloc, waiters, heavier)
     }
 
     // How many more notes there is memory for.
