@@ -166,14 +166,14 @@ left_noted is index notes end slot fits all a h =
 -- one more is marked
 pub one_marked : (i : Input) (is : List Input) (old new : Index) (at : ℕ) → at < length is → is_known old at ≡ false → covers i (input_at is at) ≡ true
     → length old.known.items ≡ length is → old.left ≡ length (left_of is (is_known old))
-    → new ≡ record old { known = new.known; left = old.left - 1 } → new.known.items ≡ set old.known.items at true → Marks i is old new
-one_marked i is old new at below was hit size left same now =
+    → new.places ≡ old.places → new.left ≡ old.left - 1 → new.known.items ≡ set old.known.items at true → Marks i is old new
+one_marked i is old new at below was hit size left same fewer now =
     let there : is_known new at ≡ true = rw now (get_or-set_same old.known.items at true false (omega (arith, below, size))) in
     let others : (j : ℕ) → j ≢ at → is_known new j ≡ is_known old j = λ j differs. rw now (get_or-set_other old.known.items at j true false differs) in
     record {
-      places = ap (λ x. x.places) same;
+      places = same;
       size = ap length now ∙ length-set old.known.items at true;
-      left = omega (arith, ap (λ x. x.left) same, left, left_one is (is_known old) (is_known new) at below was there others);
+      left = omega (arith, fewer, left, left_one is (is_known old) (is_known new) at below was there others);
       kept = λ k e. elim (cases_eq k at) as (λ _. is_known new k ≡ true) [
         | inl q ↦ subst (λ m. is_known new m ≡ true) (sym q) there
         | inr differs ↦ others k differs ∙ e

@@ -132,6 +132,14 @@ impl Index {
     }
 }
 
+/// An index to inputs of which none is known.
+fn boxed(alloc: Global, inputs: &[Input]) -> Result<Box<Index>, AllocError>
+    ensures { IfOk result (λ index. IsFresh inputs.now index.value) }
+{
+    let index = Index::new(alloc, inputs)?;
+    Ok(Box::new(alloc, index)?)
+}
+
 /// An index to inputs of which none is known, if they are many and there is memory for it.
 fn index_to(alloc: Global, inputs: &[Input]) -> Option<Box<Index>>
     ensures { IfSome (index_in result) (IsFresh inputs.now) }
@@ -139,8 +147,8 @@ fn index_to(alloc: Global, inputs: &[Input]) -> Option<Box<Index>>
     if inputs.len() <= FEW {
         return None;
     }
-    match Index::new(alloc, inputs) {
-        Ok(index) => Box::new(alloc, index).ok(),
+    match boxed(alloc, inputs) {
+        Ok(index) => Some(index),
         Err(_) => None,
     }
 }
