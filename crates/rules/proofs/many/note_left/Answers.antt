@@ -16,4 +16,4 @@ loop-place-preserved c =
     )
 
 pub returns-clause-noted : goal.returns-clause-noted
-returns-clause-noted c = λ all. left_noted c.args.inputs.now (index_in c.args.index.now) c.loop-place.places.notes c.loop-place.place c.args.slot (omega (arith, c.loop-place-test.false, c.len.ensures)) c.loop-place.invariant.2
+returns-clause-noted c = λ all. left_noted c.args.inputs.now (index_in c.args.index.now) c.loop-place.places.notes c.loop-place.place c.args.slot (omega (arith, c.loop-place-test.false)) c.loop-place.invariant.2
