@@ -1,5 +1,6 @@
 -- Inputs of a list that become known, one after another.
 use Rattle.std.proofs.Common.{arith, ◌≡◌, ◌≢◌, ◌⊎◌, inl, inr, ℕ, zero, suc, ◌+◌, ◌-◌, ◌<◌, ◌≤◌, ◌||◌, Bool, true, false, not, cond, nat_eq, List, [], ◌∷◌, length, filter, replicate, set, get_or, Option, Some, None, refl, sym, ap, subst, ◌∙◌}
+use Rattle.std.specs.Prelude.{IfSome}
 use Rattle.std.specs.List.{list_any}
 use Rattle.std.proofs.lemmas.Bool.{cases_eq, cases_lt, cases_Bool, or_cases, and_parts}
 use Rattle.std.proofs.lemmas.List.{get_or-set_same, get_or-set_other, length-set, get_or-replicate, get_or_past, length-replicate}
@@ -101,6 +102,15 @@ fresh_indexed is index new = record {
   noted = new.noted;
   last = λ k below h. absurd (true_false (sym h ∙ ap (λ l. knows l (input_at is k)) new.last));
 }
+
+-- of a list whose index is new, if it has one, all are left
+pub of_list : (is : List Input) (index : Option Index) → IfSome index (IsFresh is) → left_in is index ≡ is
+of_list is None new = refl
+of_list is (Some index) new = fresh_left is index new
+
+pub of_indexed : (is : List Input) (index : Option Index) → IfSome index (IsFresh is) → IfSome index (IsIndexed is)
+of_indexed is None new = tt
+of_indexed is (Some index) new = fresh_indexed is index new
 
 pub marks_none : (i : Input) (is : List Input) (index : Index) → index.left ≡ length (left_of is (is_known index)) → Marks i is index index
 marks_none i is index left = record { places = refl; size = refl; left = left; kept = λ k h. h; only = λ k h. inl h }

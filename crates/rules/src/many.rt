@@ -201,6 +201,8 @@ fn note_left(inputs: &[Input], index: &Option<Box<Index>>, places: &mut Places, 
 }
 
 impl Many {
+    /// These inputs. Where memory for an index to them is refused, there is none.
+    #[tactic(auto, using(crate::proofs::Marking::of_list, crate::proofs::Marking::of_indexed))]
     pub fn of(alloc: Global, inputs: Vec<Input>) -> Many
         ensures { result ≡ inputs.items }
     {
