@@ -181,7 +181,8 @@ fn note_place(
     requires { place < length inputs.now }
     ensures grows { Grows places.old places.new }
     ensures strays { places.new.strays ≡ places.old.strays }
-    ensures noted { result ≡ true → known_in (index_in index.now) place ≡ false → (a : ℕ) → is_at a (input_at inputs.now place) ≡ true → IsAt places.new.notes a slot }
+    ensures noted { result ≡ true → known_in (index_in index.now) place ≡ false → (a : ℕ) →
+        is_at a (input_at inputs.now place) ≡ true → IsAt places.new.notes a slot }
 {
     is_known(index, place) || places.note_input(&inputs[place], slot)
 }
