@@ -68,6 +68,7 @@ pub fn run_threads<R: Threads + Wait + Sync, G: Gate>(
     gate: &G,
 ) -> Result<(Report, PoolCount), RunFault>
     ensures report { IfOk result (λ r. IsReport code.now.program limit engines workers r.0 r.1) }
+    ensures reports { IfOk result (λ r. Reports code.now.program limit r.0) }
     ensures count { (result ≡ Err RunFault.BadCount) ↔ ((engines ≡ 0) ⊎ ((workers ≡ 0) ⊎ (64 < engines + workers))) }
 {
     run::run_threads(rt, alloc, &code.program, engines, workers, limit, gate)
