@@ -3,7 +3,6 @@ ghost use Rattle.std.specs.Prelude.{◌≡◌, ◌≢◌, ◌≤◌, ◌++◌, [
 ghost use Rattle.assign_check.specs.Breaks.{Breaks, IsTyped};
 ghost use Rattle.assign_check.specs.Faults as faults;
 ghost use Rattle.code_rules.specs.Emitted.{IsEmitted};
-ghost use Rattle.compile.specs.Accepted.{IsUnfit};
 ghost use Rattle.compile.specs.Compiled.{IsCompiled, IsFoldedFlowOf};
 ghost use Rattle.flow.specs.Shapes.{declared_of, kinds_of};
 ghost use Rattle.flow.specs.View.{core_of};
@@ -23,8 +22,7 @@ use assign_check::fault::AssignFault;
 use board_program::program::Program;
 use code_listing::text::listing;
 pub use compile::check::{Accepted, accept};
-use compile::compile::{Compiled, read_folded};
-use compile::fault::CompileFault;
+use compile::compile::Compiled;
 pub use constant_fold::fold;
 use flow::script::Flow;
 use meaning_outcomes::knowledge::Knowledge;
@@ -87,24 +85,6 @@ pub fn lower<A: Allocator + Clone>(
     ensures kinds { IfOk result (λ flow. kinds_of flow ≡ map kinds_of_signature (signatures (tree_of script.now))) }
 {
     lowering::lower(alloc, script, typed)
-}
-
-/// The flow of a text's script, folded, lowered and merged: all stages up to the rights. It lies in `alloc`, as its tree does until the answer.
-///
-/// # Errors
-///
-/// The refusal of the first stage that refuses the text, or want of memory.
-pub fn flow_of<A: Allocator + Clone>(
-    machine: Global,
-    alloc: A,
-    src: &[u8],
-) -> Result<Flow<A>, CompileFault>
-    ensures flow { IfOk result (λ flow. IsFoldedFlowOf src.now flow) }
-    ensures of_script { IfOk result IsOfScript }
-    ensures unfit { IfErr result (λ fault. IsUnfit src.now fault) }
-{
-    let flow = read_folded(machine, alloc, src)?;
-    Ok(flow)
 }
 
 /// The flow of an accepted script, folded, lowered and merged, with its code, in which each entry has its rights.

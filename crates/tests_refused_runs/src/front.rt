@@ -1,4 +1,20 @@
 //! The calls from a script's bytes to its code and to its meaning.
+ghost use Rattle.std.specs.Prelude.{◌≡◌, ◌++◌, [], ℕ, List, map, IfOk, IfSome};
+ghost use Rattle.assign_check.specs.Faults.{faults};
+ghost use Rattle.constant_fold.specs.Folded.{folded_tree};
+ghost use Rattle.flow.specs.Shapes.{declared_of, kinds_of};
+ghost use Rattle.flow.specs.View.{core_of};
+ghost use Rattle.language.specs.Numbered.{numbered};
+ghost use Rattle.language.specs.Reads.{Reads};
+ghost use Rattle.language.specs.Resolved.{core};
+ghost use Rattle.language.specs.Scopes.{signatures};
+ghost use Rattle.language.specs.Tree.{Tree};
+ghost use Rattle.language.specs.Typing.{WellTyped};
+ghost use Rattle.lowering.specs.Shapes.{flagged, function_declarations, kinds_of_signature, own_declarations};
+ghost use Rattle.syntax_trees.specs.View.{tree_of};
+ghost use Rattle.types.specs.Typed.{table_of};
+ghost use Rattle.wait_merge.specs.Merged.{IsMerged};
+ghost use Rattle.tests_refused_runs.specs.Folds.{IsFold};
 
 use crate::told::{note, print_listing, wrong};
 use std::alloc::{Allocator, Global};
@@ -23,12 +39,8 @@ pub fn try_stages<A: Allocator + Clone>(
     src: &[u8],
 ) -> io::Result<()> {
     match read(rt, alloc, src)? {
-        Some(script) => try_script(rt, machine, alloc, &script)?,
-        None => wrong(rt, "no tree")?,
-    }
-    match counted(rt, machine, alloc, src)? {
-        Some(counted) => try_counted(rt, machine, &counted),
-        None => wrong(rt, "no rights"),
+        Some(script) => try_script(rt, machine, alloc, &script),
+        None => wrong(rt, "no tree"),
     }
 }
 
@@ -45,6 +57,60 @@ pub fn try_compile<A: Allocator + Clone>(
     }
 }
 
+/// Makes each call on a tree.
+fn try_script<A: Allocator + Clone>(
+    rt: &HostRuntime,
+    machine: Global,
+    alloc: &A,
+    script: &Script<A>,
+) -> io::Result<()>
+    requires { (src : List ℕ) × Reads src (tree_of script.now) }
+{
+    let Some(typed) = typed_of(rt, machine, script)? else {
+        return wrong(rt, "no types");
+    };
+    let Some(single) = single_of(rt, machine, script, &typed)? else {
+        return wrong(rt, "not singly assigned");
+    };
+    try_meaning(rt, machine, script, &typed, &single)?;
+    match folded(rt, machine, alloc, script)? {
+        Some(folded) => try_fold(rt, machine, alloc, &folded, &typed, &single),
+        None => wrong(rt, "no fold"),
+    }
+}
+
+/// Works out what a script means.
+fn try_meaning<A: Allocator + Clone>(
+    rt: &HostRuntime,
+    machine: Global,
+    script: &Script<A>,
+    typed: &Typed,
+    single: &Single,
+) -> io::Result<()> {
+    match known_of(rt, machine, script, typed, single)? {
+        Some(known) if known.finished => Ok(()),
+        Some(_) => wrong(rt, "a meaning that is not whole"),
+        None => wrong(rt, "no meaning"),
+    }
+}
+
+/// Makes code of the fold of a script, and prints its listing.
+fn try_fold<A: Allocator + Clone>(
+    rt: &HostRuntime,
+    machine: Global,
+    alloc: &A,
+    folded: &Script<A>,
+    typed: &Typed,
+    single: &Single,
+) -> io::Result<()>
+    requires { IsFold (table_of typed.now) (tree_of folded.now) }
+{
+    match counted(rt, machine, alloc, folded, typed, single)? {
+        Some(counted) => try_counted(rt, machine, &counted),
+        None => wrong(rt, "no rights"),
+    }
+}
+
 /// Makes code of a flow whose entries have their rights, and prints its listing.
 fn try_counted<A: Allocator>(
     rt: &HostRuntime,
@@ -57,41 +123,14 @@ fn try_counted<A: Allocator>(
     }
 }
 
-/// Makes each call on a tree.
-fn try_script<A: Allocator + Clone>(
-    rt: &HostRuntime,
-    machine: Global,
-    alloc: &A,
-    script: &Script<A>,
-) -> io::Result<()> {
-    let Some(typed) = typed_of(rt, machine, script)? else {
-        return wrong(rt, "no types");
-    };
-    let Some(single) = single_of(rt, machine, script, &typed)? else {
-        return wrong(rt, "not singly assigned");
-    };
-    if folded(rt, machine, alloc, script)?.is_none() {
-        wrong(rt, "no fold")?;
-    }
-    if merged(rt, alloc, script, &typed, &single)?.is_none() {
-        wrong(rt, "no flow")?;
-    }
-    let Some(known) = known_of(rt, machine, script, &typed, &single)? else {
-        return wrong(rt, "no meaning");
-    };
-    if known.finished {
-        Ok(())
-    } else {
-        wrong(rt, "a meaning that is not whole")
-    }
-}
-
 /// The tree of a text.
 fn read<A: Allocator + Clone>(
     rt: &HostRuntime,
     alloc: &A,
     src: &[u8],
-) -> io::Result<Option<Script<A>>> {
+) -> io::Result<Option<Script<A>>>
+    ensures { IfOk result (λ found. IfSome found (λ script. Reads src.now (tree_of script))) }
+{
     for _ in 0..TRIES {
         match stages::parse(alloc.clone()?, src) {
             Ok(script) => return Ok(Some(script)),
@@ -107,7 +146,10 @@ fn typed_of<A: Allocator>(
     rt: &HostRuntime,
     machine: Global,
     script: &Script<A>,
-) -> io::Result<Option<Typed>> {
+) -> io::Result<Option<Typed>>
+    ensures { IfOk result (λ found. IfSome found (λ typed. (n : ℕ) (tree : Tree) → tree_of script.now ≡ numbered n tree
+        → WellTyped (tree_of script.now) (table_of typed))) }
+{
     for _ in 0..TRIES {
         match stages::check_types(machine, script) {
             Ok(typed) => return Ok(Some(typed)),
@@ -124,7 +166,9 @@ fn single_of<A: Allocator>(
     machine: Global,
     script: &Script<A>,
     typed: &Typed,
-) -> io::Result<Option<Single>> {
+) -> io::Result<Option<Single>>
+    ensures { IfOk result (λ found. IfSome found (λ _. faults (table_of typed.now) (tree_of script.now) ≡ [])) }
+{
     for _ in 0..TRIES {
         match stages::check_single(machine, script, typed) {
             Ok(single) => return Ok(Some(single)),
@@ -140,7 +184,9 @@ fn copied<A: Allocator + Clone>(
     rt: &HostRuntime,
     alloc: &A,
     script: &Script<A>,
-) -> io::Result<Option<Script<A>>> {
+) -> io::Result<Option<Script<A>>>
+    ensures { IfOk result (λ found. IfSome found (λ copy. tree_of copy ≡ tree_of script.now)) }
+{
     for _ in 0..TRIES {
         match script.copy_to(alloc.clone()?) {
             Ok(copy) => return Ok(Some(copy)),
@@ -156,7 +202,9 @@ fn folded<A: Allocator + Clone>(
     machine: Global,
     alloc: &A,
     script: &Script<A>,
-) -> io::Result<Option<Script<A>>> {
+) -> io::Result<Option<Script<A>>>
+    ensures { IfOk result (λ found. IfSome found (λ folded. tree_of folded ≡ folded_tree (tree_of script.now))) }
+{
     for _ in 0..TRIES {
         let Some(copy) = copied(rt, alloc, script)? else {
             return Ok(None);
@@ -176,7 +224,12 @@ fn lowered<A: Allocator + Clone>(
     script: &Script<A>,
     typed: &Typed,
     single: &Single,
-) -> io::Result<Option<Flow<A>>> {
+) -> io::Result<Option<Flow<A>>>
+    ensures core { IfOk result (λ found. IfSome found (λ flow. core_of flow ≡ core (table_of typed.now) (tree_of script.now))) }
+    ensures declared { IfOk result (λ found. IfSome found (λ flow.
+        declared_of flow ≡ flagged (own_declarations (tree_of script.now)) ++ flagged (function_declarations (tree_of script.now)))) }
+    ensures kinds { IfOk result (λ found. IfSome found (λ flow. kinds_of flow ≡ map kinds_of_signature (signatures (tree_of script.now)))) }
+{
     for _ in 0..TRIES {
         match stages::lower(alloc.clone()?, script, typed, single) {
             Ok(flow) => return Ok(Some(flow)),
@@ -193,7 +246,13 @@ fn merged<A: Allocator + Clone>(
     script: &Script<A>,
     typed: &Typed,
     single: &Single,
-) -> io::Result<Option<Flow<A>>> {
+) -> io::Result<Option<Flow<A>>>
+    ensures core { IfOk result (λ found. IfSome found (λ flow. core_of flow ≡ core (table_of typed.now) (tree_of script.now))) }
+    ensures declared { IfOk result (λ found. IfSome found (λ flow.
+        declared_of flow ≡ flagged (own_declarations (tree_of script.now)) ++ flagged (function_declarations (tree_of script.now)))) }
+    ensures kinds { IfOk result (λ found. IfSome found (λ flow. kinds_of flow ≡ map kinds_of_signature (signatures (tree_of script.now)))) }
+    ensures merged { IfOk result (λ found. IfSome found (λ flow. IsMerged flow)) }
+{
     for _ in 0..TRIES {
         let Some(flow) = lowered(rt, alloc, script, typed, single)? else {
             return Ok(None);
@@ -223,21 +282,24 @@ fn known_of<A: Allocator + Clone>(
     Ok(None)
 }
 
-/// The flow of a text with its rights. A refused call has let go of the flow that it was handed.
+/// The flow of the fold of a script, with its rights. A refused call has let go of the flow that it was handed.
 fn counted<A: Allocator + Clone>(
     rt: &HostRuntime,
     machine: Global,
     alloc: &A,
-    src: &[u8],
-) -> io::Result<Option<Compiled<A>>> {
+    folded: &Script<A>,
+    typed: &Typed,
+    single: &Single,
+) -> io::Result<Option<Compiled<A>>>
+    requires { IsFold (table_of typed.now) (tree_of folded.now) }
+{
     for _ in 0..TRIES {
-        match stages::flow_of(machine, alloc.clone()?, src) {
-            Ok(flow) => match stages::rights(machine, flow) {
-                Ok(counted) => return Ok(Some(counted)),
-                Err(_) => note(rt, "rights")?,
-            },
-            Err(CompileFault::Memory) => note(rt, "flow_of")?,
-            Err(_) => return Ok(None),
+        let Some(flow) = merged(rt, alloc, folded, typed, single)? else {
+            return Ok(None);
+        };
+        match stages::rights(machine, flow) {
+            Ok(counted) => return Ok(Some(counted)),
+            Err(_) => note(rt, "rights")?,
         }
     }
     Ok(None)
