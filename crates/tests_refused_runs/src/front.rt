@@ -1,5 +1,5 @@
 //! The calls from a script's bytes to its code and to its meaning.
-ghost use Rattle.std.specs.Prelude.{◌≡◌, ◌++◌, [], ℕ, List, map, IfOk, IfSome};
+ghost use Rattle.std.specs.Prelude.{◌≡◌, ◌++◌, [], ℕ, map, IfOk, IfSome};
 ghost use Rattle.assign_check.specs.Faults.{faults};
 ghost use Rattle.constant_fold.specs.Folded.{folded_tree};
 ghost use Rattle.flow.specs.Shapes.{declared_of, kinds_of};
@@ -14,7 +14,7 @@ ghost use Rattle.lowering.specs.Shapes.{flagged, function_declarations, kinds_of
 ghost use Rattle.syntax_trees.specs.View.{tree_of};
 ghost use Rattle.types.specs.Typed.{table_of};
 ghost use Rattle.wait_merge.specs.Merged.{IsMerged};
-ghost use Rattle.tests_refused_runs.specs.Folds.{IsFold};
+ghost use Rattle.tests_refused_runs.specs.Folds.{IsFold, IsOfText};
 
 use crate::told::{note, print_listing, wrong};
 use std::alloc::{Allocator, Global};
@@ -32,6 +32,7 @@ const TRIES: u32 = 2;
 const ROUNDS: u32 = 1_000_000;
 
 /// Makes each call on the way to the meaning and to the code, and prints the code's listing. Trees and flows lie in `alloc`.
+#[tactic(auto, using(crate::proofs::Folds::of_text))]
 pub fn try_stages<A: Allocator + Clone>(
     rt: &HostRuntime,
     machine: Global,
@@ -58,13 +59,14 @@ pub fn try_compile<A: Allocator + Clone>(
 }
 
 /// Makes each call on a tree.
+#[tactic(auto, using(crate::proofs::Folds::is_fold))]
 fn try_script<A: Allocator + Clone>(
     rt: &HostRuntime,
     machine: Global,
     alloc: &A,
     script: &Script<A>,
 ) -> io::Result<()>
-    requires { (src : List ℕ) × Reads src (tree_of script.now) }
+    requires { IsOfText (tree_of script.now) }
 {
     let Some(typed) = typed_of(rt, machine, script)? else {
         return wrong(rt, "no types");
@@ -283,6 +285,7 @@ fn known_of<A: Allocator + Clone>(
 }
 
 /// The flow of the fold of a script, with its rights. A refused call has let go of the flow that it was handed.
+#[tactic(auto, using(crate::proofs::Folds::flow_of_fold))]
 fn counted<A: Allocator + Clone>(
     rt: &HostRuntime,
     machine: Global,
