@@ -10,7 +10,7 @@ use crate::path::say_path;
 use crate::scene::Scene;
 use crate::waits::Waits;
 use explain_inputs::blocking::{Waiting, inputs_blocking};
-use explain_text::words::{add_mark, say, say_count, say_start};
+use explain_text::words::{say, say_count};
 use std::alloc::{AllocError, Allocator};
 
 /// The most texts, where not all are wanted.
@@ -231,13 +231,13 @@ fn add_blocked<'l, 't, 'a, A: Allocator>(
     };
     let scene = list.scene;
     let stand = list.stand(number);
-    say_start(out, list.file, scene.text, stand.at)?;
+    scene.lines.say_start(out, list.file, stand.at)?;
     say(out, "blocked: ")?;
     if !say_inputs(scene, out, stand, waiting.missing.as_slice())? {
         say_nothing(scene, out)?;
     }
     say(out, "\n")?;
-    add_mark(out, scene.text, stand.at)?;
+    scene.lines.add_mark(out, stand.at)?;
     say_path(scene, out, stand.instance)
 }
 
