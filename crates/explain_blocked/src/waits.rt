@@ -13,13 +13,24 @@ use std::collections::HashMap;
 /// The waits of blocked statements, as a graph: a statement leads to what it waits for, that to the blocked statements that would write it,
 /// and an argument to what that waits for. The first nodes are the statements, in the order in which
 /// they are listed.
-#[derive(Drop)]
 pub struct Waits {
     pub graph: Graph,
     statements: usize,
     /// What is waited for, and its nodes.
     targets: Vec<Target>,
     nodes: HashMap<Target, usize>,
+}
+
+// Written out, so that who owns one lets it go by one call.
+impl Drop for Waits {
+    fn drop(self) {
+        let Waits {
+            graph: _,
+            statements: _,
+            targets: _,
+            nodes: _,
+        } = self;
+    }
 }
 
 impl Waits {
@@ -33,16 +44,24 @@ impl Waits {
             targets: Vec::new(scene.alloc),
             nodes: HashMap::new(scene.alloc),
         };
+        waits.note_all(scene, listed)?;
+        Ok(waits)
+    }
+
+    fn note_all<'t, 'a, A: Allocator>(
+        &mut self,
+        scene: &Scene<'t, 'a, A>,
+        listed: &[Waiting<'t, 'a, A>],
+    ) -> Result<(), AllocError> {
         for _ in listed {
-            waits.graph.add()?;
+            self.graph.add()?;
         }
         for i in 0..listed.len() {
             let waiting = &listed[i];
-            waits.note_inputs(scene, i, waiting.instance, waiting.missing.as_slice())?;
+            self.note_inputs(scene, i, waiting.instance, waiting.missing.as_slice())?;
         }
         let numbers = numbers_of(scene, listed)?;
-        waits.note_targets(scene, &numbers)?;
-        Ok(waits)
+        self.note_targets(scene, &numbers)
     }
 
     /// Whether a node is a statement.
@@ -174,10 +193,7 @@ fn numbers_of<'t, 'a, A: Allocator>(
     scene: &Scene<'t, 'a, A>,
     listed: &[Waiting<'t, 'a, A>],
 ) -> Result<Numbers, AllocError> {
-    let mut places = HashMap::new(scene.alloc);
-    for i in 0..listed.len() {
-        places.insert((listed[i].instance, listed[i].site.at()), i)?;
-    }
+    let places = places_of(scene.alloc, listed)?;
     let stuck = scene.known.stuck.as_slice();
     let mut numbers = Numbers::new(scene.alloc, stuck.len())?;
     for number in 0..stuck.len() {
@@ -186,4 +202,16 @@ fn numbers_of<'t, 'a, A: Allocator>(
         }
     }
     Ok(numbers)
+}
+
+/// The numbers of the statements that are listed, by their instances and offsets.
+fn places_of<'t, 'a, A: Allocator>(
+    alloc: Global,
+    listed: &[Waiting<'t, 'a, A>],
+) -> Result<HashMap<(usize, usize), usize>, AllocError> {
+    let mut places = HashMap::new(alloc);
+    for i in 0..listed.len() {
+        places.insert((listed[i].instance, listed[i].site.at()), i)?;
+    }
+    Ok(places)
 }

@@ -35,13 +35,23 @@ impl Target {
 }
 
 /// Such statements, by what they would write: a variable, and also an element where its key is known.
-#[derive(Drop)]
 pub struct Writers {
     found: HashMap<Target, Vec<Writer>>,
     /// The numbers of all that are blocked.
     blocked: HashMap<Target, Vec<usize>>,
     /// The places that some would write under a key that is not known, or under several.
     open: HashSet<Place>,
+}
+
+// Written out, so that who owns one lets it go by one call.
+impl Drop for Writers {
+    fn drop(self) {
+        let Writers {
+            found: _,
+            blocked: _,
+            open: _,
+        } = self;
+    }
 }
 
 /// Where a statement stands: its instance, and how many blocks lie between it and the one that is blocked.
