@@ -201,10 +201,7 @@ fn hint_of_partly<A: Allocator>(
     };
     match Hint::named(refused.alloc, "assign ", name, behind)? {
         None => Ok(None),
-        Some(hint) => Ok(Some(Hint {
-            words: hint.words,
-            at: inner,
-        })),
+        Some(hint) => Ok(Some(hint.placed(inner))),
     }
 }
 
