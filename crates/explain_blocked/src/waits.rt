@@ -11,8 +11,7 @@ use std::alloc::{AllocError, Allocator, Global};
 use std::collections::HashMap;
 
 /// The waits of blocked statements, as a graph: a statement leads to what it waits for, that to the blocked statements that would write it,
-/// and an argument to what that waits for. The first nodes are the statements, in the order in which
-/// they are listed.
+/// and an argument to what that waits for. The first nodes are the statements, in the order in which they are listed.
 pub struct Waits {
     pub graph: Graph,
     statements: usize,
