@@ -1,5 +1,5 @@
 //! The line of a source, with a place on it marked.
-ghost use Rattle.std.specs.Prelude.{◌≡◌, ◌≤◌, ◌+◌, length};
+ghost use Rattle.std.specs.Prelude.{◌≡◌, ◌≤◌, ◌+◌, length, min};
 ghost use Rattle.explain_text.specs.Positions.{BeginsLine};
 ghost use Rattle.explain_text.specs.Windows.{IsNearEnd, IsWindow};
 
@@ -60,21 +60,30 @@ pub(crate) fn window_in(text: &[u8], begin: usize, at: usize) -> Window
 }
 
 /// Where the line of an offset ends, at its line feed or with the text; or where more of it is behind the offset than is shown.
+#[tactic(auto, using(crate::proofs::Ends::near_here, crate::proofs::Ends::near_most))]
 fn near_end(text: &[u8], at: usize) -> usize
     requires { at ≤ length text.now }
     ensures { IsNearEnd text.now at result }
 {
-    let most = if text.len() - at > WIDTH {
-        at + WIDTH + 1
-    } else {
-        text.len()
-    };
+    let most = reach(text, at);
     for i in at..most {
         if text[i] == b'\n' {
             return i;
         }
     }
     most
+}
+
+/// How far the line of an offset is looked at.
+fn reach(text: &[u8], at: usize) -> usize
+    requires { at ≤ length text.now }
+    ensures { result ≡ min (length text.now) (at + 121) }
+{
+    if text.len() - at > WIDTH {
+        at + WIDTH + 1
+    } else {
+        text.len()
+    }
 }
 
 /// Adds the line on which a place begins, and under it a mark for each of its bytes on that line.

@@ -1,4 +1,4 @@
-use Rattle.std.proofs.Common.{◌≤◌, ◌<◌, ℕ}
+use Rattle.std.proofs.Common.{◌≡◌, ◌≤◌, ◌<◌, ℕ}
 use Rattle.std.specs.Prelude.{◌≢◌, slice_index}
 use Rattle.explain_text.specs.Positions.{line_feed}
 use Rattle.explain_text.proofs.quote.near_end.Given as goal
