@@ -22,9 +22,9 @@ module _ {T D K V E : Type 0} (S : System T D K V E) where
   pub record IsSourced : Type 1 where
     pub Begun : T → Type 0
     pub main_begun : Begun S.main
-    pub opened_begun : (t u : T) (e : Effect T D K V) (o : Opening T D) → Can S t e → In o e.opens → In u o.tasks → Begun u
+    pub opened_begun : (t u : T) (e : Effect T D K V) (o : Opening T D) → Begun t → Can S t e → In o e.opens → In u o.tasks → Begun u
     pub main_reads_nothing : (a : D) → In a (S.may_read S.main) → ⊥
-    pub assigned : (t u : T) (e : Effect T D K V) (o : Opening T D) (d : D) → Can S t e → In o e.opens → In u o.tasks → S.is_array d ≡ false → In d o.makes → In d (S.may_read u) → Supplies e d
+    pub assigned : (t u : T) (e : Effect T D K V) (o : Opening T D) (d : D) → Begun t → Can S t e → In o e.opens → In u o.tasks → S.is_array d ≡ false → In d o.makes → In d (S.may_read u) → Supplies e d
     pub handed : (t : T) (e : Effect T D K V) (d : D) → Begun t → Can S t e → S.is_array d ≡ false → In d (S.may_write t) → Supplies e d
 
   -- the scalar has been stored, or a task that waits may write it
@@ -40,7 +40,7 @@ module _ {T D K V E : Type 0} (S : System T D K V E) where
 module _ {T D K V E : Type 0} (S : System T D K V E) (L : Laws S) (R : IsSourced S) where
   begun : (F : T → Effect T D K V → Type 0) → Settled S F → {t : T} → Live S F t → R.Begun t
   begun F s live_main = R.main_begun
-  begun F s (live_opened t u e o l f io iu) = R.opened_begun t u e o (can_of_comes S L F s (s.comes t e f)) io iu
+  begun F s (live_opened t u e o l f io iu) = R.opened_begun t u e o (begun F s l) (can_of_comes S L F s (s.comes t e f)) io iu
 
   module _ (d : D) (scalar : S.is_array d ≡ false) where
     -- one step more
@@ -126,7 +126,7 @@ module _ {T D K V E : Type 0} (S : System T D K V E) (L : Laws S) (R : IsSourced
         by (inr x) = (let p = in_tasks x.0 e.opens x.1 in held r x.0 (live_opened t x.0 e p.0 l f p.1 p.2) x.2)
 
         by_cover : (In d o.makes ⊎ In d (S.may_read t)) → (In d (S.may_read t) → IsHeld S log d) → IsHeld S log d
-        by_cover (inl i) g = by (R.assigned t u e o d can io iu scalar i m)
+        by_cover (inl i) g = by (R.assigned t u e o d (begun (Logged S log) (run_settled S L r).0 l) can io iu scalar i m)
         by_cover (inr h) g = g h
 
   -- what a live task may read has been made

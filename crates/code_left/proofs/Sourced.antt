@@ -24,7 +24,7 @@ use Rattle.task_code.proofs.Counted.{gather_in}
 use Rattle.task_code.proofs.Equal.{true_and}
 use Rattle.task_code.proofs.Opens.{IsRest, OpensBlock, effect_is, found, in_block, in_rest, made_in, no_loop_rest, opened, rest_makes, seen_place, some_same, stepped}
 use Rattle.task_code.proofs.Places.{declared_at, only_here, scalar_name}
-use Rattle.code_left.specs.Sources.{FindsSources, HandsOn, IsAssigned, IsTurns, always_opens}
+use Rattle.code_left.specs.Sources.{FindsSources, HandsOn, IsAssigned, IsTurns, Reached, at_start, by_entry, always_opens}
 use Rattle.code_left.proofs.Holders.{IsSourced, Supplies}
 
 abbrev E : Type 0
@@ -125,20 +125,32 @@ module _ (C : Code) where
       by (inl b) = (let k = made_in C b.instance o d b.is id in (b.instance.1, k.0, k.2))
       by (inr r) = absurd (rest_makes C i c p o d r id)
 
-  -- an entry of the first chunk, or a loop
+  -- an entry of a body that is reached, of the first chunk or a loop
+  record IsBegun (i c : ℕ) : Type 0 where
+    pub home : ℕ
+    pub reached : Reached C home
+    pub stands : In i (body C home).entries
+    pub begins : (c ≡ 0) ⊎ ((l : Loop) × (loop_of (entry C i).act ≡ Some l))
+
   abbrev Begun : Task → Type 0
   Begun Main = Unit {0}
-  Begun (Item i p c) = (c ≡ 0) ⊎ ((l : Loop) × (loop_of (entry C i).act ≡ Some l))
+  Begun (Item i p c) = IsBegun i c
 
-  opened_begun : (t u : Task) (e : E) (o : O) → Can (code_system C) t e → In o e.opens → In u o.tasks → Begun u
-  opened_begun Main u e o can io iu =
+  -- the body that it opens is reached
+  reached_by : {i c : ℕ} (z : IsBegun i c) (p : List Step) (x : Computed) (o : O) (b : OpensBlock C i p c x o) → Reached C b.instance.0
+  reached_by {i} z p x o b = by_entry i b.by.way z.reached z.stands b.by.is_way
+
+  opened_begun : (t u : Task) (e : E) (o : O) → Begun t → Can (code_system C) t e → In o e.opens → In u o.tasks → Begun u
+  opened_begun Main u e o z can io iu =
       let m = in_block C (0, []) o u (main_opens e o can io) iu in
-      subst (λ (x : Task). Begun x) (sym m.2) (inl refl)
-  opened_begun (Item i p c) u e o can io iu = by (opened C i c p e can o io)
+      subst (λ (x : Task). Begun x) (sym m.2) (record { home = 0; reached = at_start; stands = m.1; begins = inl refl })
+  opened_begun (Item i p c) u e o z can io iu = by (opened C i c p e can o io)
     where
       by : OpensBlock C i p c (found C can) o ⊎ IsRest C i p c o → Begun u
-      by (inl b) = (let m = in_block C b.instance o u b.is iu in subst (λ (x : Task). Begun x) (sym m.2) (inl refl))
-      by (inr r) = subst (λ (x : Task). Begun x) (sym (in_rest C i c p o u r iu)) (inr (r.loop, r.loops))
+      by (inl b) =
+          let m = in_block C b.instance o u b.is iu in
+          subst (λ (x : Task). Begun x) (sym m.2) (record { home = b.instance.0; reached = reached_by z p (found C can) o b; stands = m.1; begins = inl refl })
+      by (inr r) = subst (λ (x : Task). Begun x) (sym (in_rest C i c p o u r iu)) (record { home = z.home; reached = z.reached; stands = z.stands; begins = inr (r.loop, r.loops) })
 
   -- what a block's entry may read of its own block, it has the right to by the variable's name
   read_here : (q : List Step) (j : ℕ) (v : Variable) → In (Datum q v) (task_reads C (Item j q 0)) → In (here v) (entry C j).reads
@@ -232,12 +244,12 @@ module _ (C : Code) where
             let written = subst (λ (x : E). In (record { place = Datum (stepped (entry C i).mark turn.0.0 p) v; key = only; value = w.0 }) x.writes) (effect_is C i c p e can) stored in
             inl (w.0, subst (λ (q : List Step). In (record { place = Datum q v; key = only; value = w.0 }) e.writes) path written)
 
-    assigned : (t u : Task) (e : E) (o : O) (d : Place) → Can (code_system C) t e → In o e.opens → In u o.tasks → place_array d ≡ false → In d o.makes → In d (task_reads C u) → Supplies (code_system C) e d
-    assigned Main u e o d can io iu sc id ir =
+    assigned : (t u : Task) (e : E) (o : O) (d : Place) → Begun t → Can (code_system C) t e → In o e.opens → In u o.tasks → place_array d ≡ false → In d o.makes → In d (task_reads C u) → Supplies (code_system C) e d
+    assigned Main u e o d z can io iu sc id ir =
         let q = main_opens e o can io in
         let m = in_block C (0, []) o u q iu in
         let k = made_in C (0, []) o d q id in
-        subst (λ (x : Place). Supplies (code_system C) e x) (sym k.2) (by q k.0 (F.assigned 0 m.0 k.0 k.1 (subst (λ (a : Place). place_array a ≡ false) k.2 sc) m.1 (read_here [] m.0 k.0 (reads m.2 k.2))))
+        subst (λ (x : Place). Supplies (code_system C) e x) (sym k.2) (by q k.0 (F.assigned 0 m.0 k.0 at_start k.1 (subst (λ (a : Place). place_array a ≡ false) k.2 sc) m.1 (read_here [] m.0 k.0 (reads m.2 k.2))))
       where
         reads : {j : ℕ} {v : Variable} → u ≡ Item j [] 0 → d ≡ Datum [] v → In (Datum [] v) (task_reads C (Item j [] 0))
         reads {j} {v} p q = subst (λ (a : Place). In a (task_reads C (Item j [] 0))) q (subst (λ (x : Task). In d (task_reads C x)) p ir)
@@ -245,11 +257,11 @@ module _ (C : Code) where
         by : o ≡ block C (0, []) → (v : Variable) → IsTurns C 0 v ⊎ IsAssigned C 0 v → Supplies (code_system C) e (Datum [] v)
         by q v (inl t) = (let h : ByMain ≡ ByStep t.opener = sym I.script ∙ t.opens in absurd (cc))
         by q v (inr a) = assigned_in (0, []) e o v q io a
-    assigned (Item i p c) u e o d can io iu sc id ir = by (opened C i c p e can o io)
+    assigned (Item i p c) u e o d z can io iu sc id ir = by (opened C i c p e can o io)
       where
         by : OpensBlock C i p c (found C can) o ⊎ IsRest C i p c o → Supplies (code_system C) e d
         by (inr r) = absurd (rest_makes C i c p o d r id)
-        by (inl b) = subst (λ (x : Place). Supplies (code_system C) e x) (sym k.2) (at (F.assigned b.instance.0 m.0 k.0 k.1 (subst (λ (a : Place). place_array a ≡ false) k.2 sc) m.1 (read_here b.instance.1 m.0 k.0 reads)))
+        by (inl b) = subst (λ (x : Place). Supplies (code_system C) e x) (sym k.2) (at (F.assigned b.instance.0 m.0 k.0 (reached_by z p (found C can) o b) k.1 (subst (λ (a : Place). place_array a ≡ false) k.2 sc) m.1 (read_here b.instance.1 m.0 k.0 reads)))
           where
             m : (j : ℕ) × In j (body C b.instance.0).entries × (u ≡ Item j b.instance.1 0)
             m = in_block C b.instance o u b.is iu
@@ -266,7 +278,7 @@ module _ (C : Code) where
 
     handed : (t : Task) (e : E) (d : Place) → Begun t → Can (code_system C) t e → place_array d ≡ false → In d (task_writes C t) → Supplies (code_system C) e d
     handed Main e d z can sc h = absurd h
-    handed (Item i p c) e d z can sc h = by (F.handed i r.0 r.1 scalar_r)
+    handed (Item i p c) e d z can sc h = by (F.handed z.home i r.0 z.reached z.stands r.1 scalar_r)
       where
         r : (r : Name) × In r (entry C i).writes × (place_at C p r ≡ d)
         r = in_unmap (place_at C p) d (entry C i).writes h
@@ -278,7 +290,7 @@ module _ (C : Code) where
         is_found = found_is (found C can) (is_too_deep (entry C i).act p (instances (entry C i).act (entry C i).mark p c (found C can))) (effect_at C i p c (found C can)) e can.is
 
         first : always_opens (entry C i).act ≡ true → c ≡ 0
-        first a = at z
+        first a = at z.begins
           where
             at : (c ≡ 0) ⊎ ((l : Loop) × (loop_of (entry C i).act ≡ Some l)) → c ≡ 0
             at (inl q) = q

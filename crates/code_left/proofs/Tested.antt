@@ -138,4 +138,4 @@ module _ (C : Code) where
         by (inr e) = absurd (blank_cell (entry C i) e ci)
 
     pub sources_found : FindsSources C × CellsFollow C
-    sources_found = (record { assigned = assigned; handed = handed }, follow)
+    sources_found = (record { assigned = λ b j v x. assigned b j v; handed = λ b i r x ij. handed i r }, follow)

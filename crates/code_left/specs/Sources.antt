@@ -41,12 +41,18 @@ module _ (C : Code) where
     pub seen : Seen C (entry C i).mark w inside r
     pub right : In inside (entry C holder).writes
 
+  -- a body that a run may come to: the script's, and what an entry of such a body can open
+  pub data Reached : ℕ → Type 0 where
+    at_start : Reached 0
+    by_entry : {b d : ℕ} (i : ℕ) (w : Way) → Reached b → In i (body C b).entries → In {X = Way × ℕ} (w, d) (ways (entry C i).act) → Reached d
+
   -- each scalar that can be read is stored in the end, if nothing waits
   pub record FindsSources : Type 0 where
     -- one that an entry of its own block may read is a loop's variable, or an entry of that block may write it
-    pub assigned : (b j : ℕ) (v : Variable) → In v (body C b).makes → v.array ≡ false → In j (body C b).entries → In (here v) (entry C j).reads → IsTurns b v ⊎ IsAssigned b v
+    pub assigned : (b j : ℕ) (v : Variable) → Reached b → In v (body C b).makes → v.array ≡ false → In j (body C b).entries → In (here v) (entry C j).reads → IsTurns b v ⊎ IsAssigned b v
     -- who may write one stores it by itself, or always opens a block, and hands the right on to whichever it opens
-    pub handed : (i : ℕ) (r : Name) → In r (entry C i).writes → is_array_name r ≡ false → In r (stored_of (entry C i).node (entry C i).act) ⊎ ((always_opens (entry C i).act ≡ true) × ((w : Way) (b : ℕ) → In (w, b) (ways (entry C i).act) → HandsOn i w b r))
+    pub handed : (b i : ℕ) (r : Name) → Reached b → In i (body C b).entries → In r (entry C i).writes → is_array_name r ≡ false
+        → In r (stored_of (entry C i).node (entry C i).act) ⊎ ((always_opens (entry C i).act ≡ true) × ((w : Way) (d : ℕ) → In (w, d) (ways (entry C i).act) → HandsOn i w d r))
 
   -- a cell that needs another one's value stands behind it
   abbrev pub CellsFollow : Type 0

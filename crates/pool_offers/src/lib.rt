@@ -1,7 +1,7 @@
 //! What one thread offers to a pool of numbers and draws from it, and how it counts that.
 #![tactic(auto)]
 
-ghost use Rattle.std.specs.Prelude.{◌≡◌, ◌+◌, ◌<◌, ◌≤◌, ◌^◌, IfNone, IfSome, length, vec_len};
+ghost use Rattle.std.specs.Prelude.{◌≡◌, ◌+◌, ◌<◌, ◌≤◌, ◌^◌, IfNone, IfSome, length, reverse, vec_len};
 ghost use Rattle.pool.specs.Seats.{IsSeatOf, TakeDid, kind_order, view};
 
 use pool::{Kind, Offer, Pool, PoolSeat};
@@ -35,6 +35,8 @@ pub struct Offers {
 }
 
 impl Offers {
+    ghost use Rattle.pool_offers.specs.Offering.{OfferedEach};
+
     /// Those of a seat by which nothing was offered nor drawn.
     pub fn new(alloc: Global, seat: PoolSeat) -> Offers
         requires { (length (view seat).offered ≡ 0) × (length (view seat).taken ≡ 0) }
@@ -76,6 +78,7 @@ impl Offers {
     fn offer_listed(&mut self, pool: &Pool)
         requires seat { IsSeatOf pool.now self.old.seat }
         ensures seat { IsSeatOf pool.now self.new.seat }
+        ensures did { OfferedEach (reverse self.old.list.items) (view self.old.seat) (view self.new.seat) }
         ensures each { self.new.offered + self.new.full ≡ self.old.offered + self.old.full + vec_len self.old.list }
         ensures left { (self.new.pending + vec_len self.old.list ≡ self.old.pending) × (vec_len self.new.list ≡ 0) }
         ensures rest { (self.new.lost ≡ self.old.lost) × (self.new.drawn ≡ self.old.drawn) }
@@ -102,10 +105,11 @@ impl Offers {
         }
     }
 
-    /// Offers each number of the list. What was still to be offered and is not in the list is lost.
+    /// Offers each number of the list, the last first, to the holes of its side and class. What was still to be offered and is not in the list is lost.
     pub fn offer_all(&mut self, pool: &Pool)
         requires seat { IsSeatOf pool.now self.old.seat }
         ensures seat { IsSeatOf pool.now self.new.seat }
+        ensures did { OfferedEach (reverse self.old.list.items) (view self.old.seat) (view self.new.seat) }
         ensures all { (self.new.pending ≡ 0) × (vec_len self.new.list ≡ 0) }
         ensures each { self.new.offered + self.new.full ≡ self.old.offered + self.old.full + vec_len self.old.list }
         ensures lost { self.new.lost + vec_len self.old.list ≡ self.old.lost + self.old.pending }

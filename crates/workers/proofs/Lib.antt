@@ -1,5 +1,7 @@
 mod Added
 mod Crosses
+mod Listing
+mod Tallied
 mod Threads
 mod Adding
 mod Fronts

@@ -1,13 +1,17 @@
 -- Runs by engines and workers, one event after the other.
 use Rattle.std.proofs.Common.{◌≡◌, ℕ, ◌+◌, ◌∷◌, [], ◌++◌, List, length, subst, sym, ap, arith, ◌∙◌, refl}
 use Rattle.board.specs.Board.{Accepts, Seen}
-use Rattle.dataflow.specs.Events.{NewlyAt, backs}
-use Rattle.dataflow.specs.Machine.{Back, Begin, End, Event, start}
+use Rattle.board_runs.specs.Report.{Reports}
+use Rattle.board_runs.specs.declared.report.Report.{Report}
+use Rattle.dataflow.specs.Events.{NewlyAlong, NewlyAt, backs}
+use Rattle.dataflow.specs.Machine.{Back, Begin, End, Event, Steps, start}
 use Rattle.dataflow.specs.System.{In}
 use Rattle.task_code.specs.Code.{Code}
-use Rattle.task_code.specs.Machine.{CodeItem, CodeState, CodeStep}
+use Rattle.task_code.specs.Machine.{CodeItem, CodeState, CodeStep, Newly, Run}
 use Rattle.task_code.specs.System.{code_system, task_kind}
+use Rattle.workers.specs.Reports.{IsReport}
 use Rattle.workers.specs.Threads.{IsPlace, IsTheirs, RunsTo, begins, ends, gives_back, nothing}
+use Rattle.workers.specs.declared.run.PoolCount.{PoolCount}
 
 began : (C D : Code) (e k : ℕ) (h : List Event) (s : CodeState) → D ≡ C → h ≡ [] → s ≡ start (code_system D) → RunsTo C e k h 0 s
 began C D e k h s code empty is =
@@ -64,3 +68,47 @@ length_more (y ∷ xs) x = let r = length_more xs x in omega (arith, r)
 
 pub counted_more : (old new : Seen) (e : Event) → Accepts old e new → length new.history ≡ length old.history + 1
 counted_more old new e a = ap length a.history ∙ length_more old.history e
+
+-- the steps of these events up to a state, and how often along them an item can begin after one and could not before it
+AlongTo : Code → CodeState → List Event → ℕ → CodeState → Type 0
+AlongTo C old [] n last = (n ≡ 0) × (old ≡ last)
+AlongTo C old (e ∷ es) n last = (new : CodeState) × CodeStep C old e new × ((numbers : List ℕ) × NewlyAt (code_system C) old new numbers × ((m : ℕ) × AlongTo C new es m last × (n ≡ length numbers + m)))
+
+one_more : (C : Code) (es : List Event) (e : Event) (n : ℕ) (numbers : List ℕ) (first old new : CodeState) → AlongTo C first es n old → CodeStep C old e new
+    → NewlyAt (code_system C) old new numbers → AlongTo C first (es ++ e ∷ []) (n + length numbers) new
+unfolding AlongTo
+one_more C [] e n numbers first old new a step newly =
+    let here : CodeStep C first e new = subst (λ (x : CodeState). CodeStep C x e new) (sym a.1) step in
+    let told : NewlyAt (code_system C) first new numbers = subst (λ (x : CodeState). NewlyAt (code_system C) x new numbers) (sym a.1) newly in
+    (new, here, (numbers, told, (0, (refl, refl), omega (arith, a.0))))
+one_more C (x ∷ es) e n numbers first old new a step newly =
+    let rest = one_more C es e a.2.2.0 numbers a.0 old new a.2.2.1 step newly in
+    (a.0, a.1, (a.2.0, a.2.1, (a.2.2.0 + length numbers, rest, omega (arith, a.2.2.2))))
+
+along : (C : Code) (e k : ℕ) (events : List Event) (n : ℕ) (s : CodeState) → RunsTo C e k events n s → AlongTo C (start (code_system C)) events n s
+unfolding AlongTo
+along C e k _ _ _ nothing = (refl, refl)
+along C e k _ _ _ (begins {events = es} {news = n} {w = w} {number = i} {old = old} {new = new} {numbers = ns} runs step item there is place newly) = one_more C es (Begin w i) n ns (start (code_system C)) old new (along C e k es n old runs) step newly
+along C e k _ _ _ (ends {events = es} {news = n} {w = w} {number = i} {old = old} {new = new} {numbers = ns} runs step theirs newly) = one_more C es (End w i) n ns (start (code_system C)) old new (along C e k es n old runs) step newly
+along C e k _ _ _ (gives_back {events = es} {news = n} {w = w} {number = i} {old = old} {new = new} {numbers = ns} runs step theirs newly) = one_more C es (Back w i) n ns (start (code_system C)) old new (along C e k es n old runs) step newly
+
+steps_along : (C : Code) (es : List Event) (n : ℕ) (first last : CodeState) → AlongTo C first es n last → Steps (code_system C) first es last
+unfolding AlongTo
+steps_along C [] n first last a = a.1
+steps_along C (e ∷ es) n first last a = (a.0, a.1, steps_along C es a.2.2.0 a.0 last a.2.2.1)
+
+newly_along : (C : Code) (es : List Event) (n : ℕ) (first last : CodeState) → AlongTo C first es n last → NewlyAlong (code_system C) first es n
+unfolding AlongTo
+newly_along C [] n first last a = a.0
+newly_along C (e ∷ es) n first last a = (a.0, a.1, (a.2.0, a.2.1, (a.2.2.0, newly_along C es a.2.2.0 a.0 last a.2.2.1, a.2.2.2)))
+
+-- a run by engines and workers is a run, and counts what can begin after an event and could not before it
+pub is_run : (C : Code) (e k : ℕ) (events : List Event) (n : ℕ) (s : CodeState) → RunsTo C e k events n s → Run C events s
+is_run C e k events n s runs = steps_along C events n (start (code_system C)) s (along C e k events n s runs)
+
+pub newly_told : (C : Code) (e k : ℕ) (events : List Event) (n : ℕ) (s : CodeState) → RunsTo C e k events n s → Newly C events n
+newly_told C e k events n s runs = newly_along C events n (start (code_system C)) s (along C e k events n s runs)
+
+-- a report of a run on threads is one of a run
+pub reports : (C : Code) (limit e k : ℕ) (r : Report) (p : PoolCount) → IsReport C limit e k r p → Reports C limit r
+reports C limit e k r p t = record { board = t.board; code = t.code; limit_is = t.limit_is; run = t.steps; within = t.within; tells = t.tells }

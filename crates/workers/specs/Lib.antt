@@ -1,3 +1,4 @@
 pub mod Begun
+pub mod Offering
 pub mod Reports
 pub mod Threads

@@ -1,5 +1,5 @@
 //! What lies under the lock: the board, and the books of its events and of the items that they made ready.
-ghost use Rattle.std.specs.Prelude.{◌≡◌, ◌≢◌, ◌+◌, ◌<◌, ◌≤◌, ◌^◌, [], None, IfOk, IfErr, OnOk, OnErr, length, vec_len};
+ghost use Rattle.std.specs.Prelude.{◌≡◌, ◌≢◌, ◌⊎◌, ◌+◌, ◌<◌, ◌≤◌, ◌^◌, [], None, IfOk, IfErr, OnOk, OnErr, length, vec_len};
 ghost use Rattle.dataflow.specs.Events.{backs};
 ghost use Rattle.dataflow.specs.Machine.{start};
 ghost use Rattle.task_code.specs.System.{code_system};
@@ -7,6 +7,7 @@ ghost use Rattle.task_code.specs.View.{kind_view};
 ghost use Rattle.board.specs.Board.{Accepts, IsItems, IsWorker};
 ghost use Rattle.dataflow.specs.Machine as Machine;
 ghost use Rattle.workers.specs.Begun.{AreItems};
+ghost use Rattle.workers.specs.Offering.{AreListed};
 ghost use Rattle.workers.specs.Threads.{IsPlace, IsTheirs, RunsTo};
 
 use crate::begun::{Begun, Finished};
@@ -194,7 +195,7 @@ impl<J: Job, E: Ledger, N: Ledger> Desk<J, E, N> {
         }
     }
 
-    /// An item ends. The items that can begin from now on go behind the list, as far as there is memory for them, and how many they are
+    /// An item ends. The items that can begin from now on go behind the list, where there is memory for all of them, and how many they are
     /// is the answer.
     pub fn end(
         &mut self,
@@ -209,6 +210,7 @@ impl<J: Job, E: Ledger, N: Ledger> Desk<J, E, N> {
         requires theirs { IsTheirs J.engines J.workers worker }
         ensures ok { OnOk result ((mine.new.amount ≡ mine.old.amount + 1) × (mine.new.amount < 2 ^ 64)) }
         ensures told { IfOk result (λ n. (news.new.amount ≡ news.old.amount + n) × (news.new.amount < 2 ^ 64) × (vec_len list.new ≤ vec_len list.old + n)) }
+        ensures listed { OnOk result (AreListed self.new.board list.old.items list.new.items ⊎ (list.new.items ≡ list.old.items)) }
         ensures err { OnErr result ((mine.new.amount ≡ mine.old.amount) × (news.new.amount ≡ news.old.amount) × (list.new ≡ list.old)) }
         ensures parts { (mine.new.parts ≡ mine.old.parts) × (news.new.parts ≡ news.old.parts) }
     {
@@ -226,7 +228,8 @@ impl<J: Job, E: Ledger, N: Ledger> Desk<J, E, N> {
             ..
         } = self;
         let _within = board.history();
-        let count = list_fresh(board, list, crowds);
+        let _listed = list_fresh(board, list, crowds);
+        let count = count_fresh(board);
         events.add(mine, 1);
         events.audit(mine);
         all_news.add(news, count);
@@ -278,42 +281,41 @@ impl<J: Job, E: Ledger, N: Ledger> Desk<J, E, N> {
         Ok(count)
     }
 
-    /// A share is no more than was told.
-    pub fn check(&mut self, news: &mut Share<N>)
-        ensures amount { news.new.amount ≡ news.old.amount }
-        ensures parts { news.new.parts ≡ news.old.parts }
-        ensures bound { news.new.amount < 2 ^ 64 }
+    /// Shares are no more than was told.
+    pub fn check(&mut self, events: &mut Share<E>, news: &mut Share<N>)
+        ensures amounts { (events.new.amount ≡ events.old.amount) × (news.new.amount ≡ news.old.amount) }
+        ensures parts { (events.new.parts ≡ events.old.parts) × (news.new.parts ≡ news.old.parts) }
+        ensures bounds { (events.new.amount < 2 ^ 64) × (news.new.amount < 2 ^ 64) }
+        ensures few { J.engines + J.workers ≤ 64 }
     {
+        let _within = self.board.history();
+        self.events.audit(events);
         self.news.audit(news);
     }
 
-    /// What the board shows is in the shares, once all are gathered. Why the run stopped before its end is the answer.
-    pub fn close(&mut self, events: &mut Share<E>, news: &mut Share<N>) -> Option<Stop>
+    /// The board, once all shares are gathered: what it shows is in them. And why the run stopped before its end.
+    pub fn close(self, events: &mut Share<E>, news: &mut Share<N>) -> (Board, Option<Stop>)
         requires { (events.old.parts ≡ E.parts) × (news.old.parts ≡ N.parts) }
-        ensures code { (self.new.board.code ≡ J.code) × (self.new.board.limit ≡ J.limit) }
-        ensures within { length self.new.board.history ≤ J.limit }
-        ensures run { RunsTo J.code J.engines J.workers self.new.board.history news.old.amount self.new.board.state }
-        ensures no_back { result ≡ None → backs self.new.board.history ≡ 0 }
-        ensures events { length self.new.board.history ≡ events.old.amount }
+        ensures code { (result.0.code ≡ J.code) × (result.0.limit ≡ J.limit) }
+        ensures within { length result.0.history ≤ J.limit }
+        ensures run { RunsTo J.code J.engines J.workers result.0.history news.old.amount result.0.state }
+        ensures no_back { result.1 ≡ None → backs result.0.history ≡ 0 }
+        ensures events { length result.0.history ≡ events.old.amount }
     {
         let Desk {
             board,
+            log: _,
+            front: _,
             stop,
-            events: book,
-            news: news_book,
-            ..
+            told: _,
+            events: mut book,
+            news: mut news_book,
+            of: _,
         } = self;
         book.audit(events);
         news_book.audit(news);
         let _within = board.history();
-        *stop
-    }
-
-    /// The board.
-    pub fn board(&self) -> &Board
-        ensures { result.now ≡ self.now.board }
-    {
-        &self.board
+        (board, stop)
     }
 }
 

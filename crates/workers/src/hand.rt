@@ -1,7 +1,9 @@
 //! What a thread has: its number and kind, a seat at the pool, its shares of the books and its counts.
-ghost use Rattle.std.specs.Prelude.{◌≡◌, ◌+◌, length};
-ghost use Rattle.pool.specs.Seats.{view, seat_pool, pool_id};
+ghost use Rattle.std.specs.Prelude.{◌≡◌, ◌⊎◌, ◌+◌, ◌<◌, length, reverse, OnOk};
+ghost use Rattle.pool.specs.Seats.{TakeDid, kind_order, view, seat_pool, pool_id};
+ghost use Rattle.pool_offers.specs.Offering.{OfferedEach};
 ghost use Rattle.task_code.specs.View.{kind_view};
+ghost use Rattle.workers.specs.Offering.{AreListed, side_of};
 ghost use Rattle.workers.specs.Threads.{IsPlace};
 
 use crate::begun::{Begun, Finished};
@@ -69,16 +71,18 @@ impl<J: Job, E: Ledger, N: Ledger> Hand<J, E, N> {
     /// A number from the pool, of its kind.
     pub fn draw(&mut self, pool: &Pool) -> Option<u64>
         requires { pool_id pool.now ≡ J.pool }
-        ensures { self.new.offers.pending ≡ self.old.offers.pending }
+        ensures did { self.old.offers.drawn < u64.MAX → TakeDid (view self.old.offers.seat) (view self.new.offers.seat) (kind_order (side_of (kind_view self.old.kind))) result }
+        ensures pending { self.new.offers.pending ≡ self.old.offers.pending }
     {
         let side = side_of(self.kind);
         self.offers.draw(pool, side)
     }
 
-    /// Offers what is still to be offered. What it has no list of is lost.
+    /// Offers what is still to be offered, the last first. What it has no list of is lost.
     pub fn offer_all(&mut self, pool: &Pool)
         requires pool { pool_id pool.now ≡ J.pool }
-        ensures { self.new.offers.pending ≡ 0 }
+        ensures did { OfferedEach (reverse self.old.offers.list.items) (view self.old.offers.seat) (view self.new.offers.seat) }
+        ensures all { self.new.offers.pending ≡ 0 }
     {
         self.offers.offer_all(pool);
     }
@@ -151,8 +155,10 @@ impl<J: Job, E: Ledger, N: Ledger> Hand<J, E, N> {
         dones.pop()
     }
 
-    /// Ends an item.
-    pub fn end(&mut self, floor: &mut Floor<J, E, N>, done: Finished<J>) -> Result<(), Refusal> {
+    /// Ends an item. What can begin from now on it lists, where there is memory for that.
+    pub fn end(&mut self, floor: &mut Floor<J, E, N>, done: Finished<J>) -> Result<(), Refusal>
+        ensures listed { OnOk result (AreListed floor.new.desk.board self.old.offers.list.items self.new.offers.list.items ⊎ (self.new.offers.list.items ≡ self.old.offers.list.items)) }
+    {
         let worker = self.worker;
         let Floor { desk, crowds } = floor;
         let Hand {

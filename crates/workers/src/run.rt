@@ -1,10 +1,10 @@
 //! A run of code on threads.
-ghost use Rattle.std.specs.Prelude.{◌≡◌, ◌≢◌, ◌+◌, ◌<◌, ◌≤◌, ◌^◌, None, Err, ◌↔◌, ◌⊎◌, [], All, IsTrue, IfOk, IfErr, OnOk, count_by, length, nat_lt, slice_index, vec_len, sum, map};
+ghost use Rattle.std.specs.Prelude.{ℕ, ◌≡◌, ◌≢◌, ◌+◌, ◌<◌, ◌≤◌, ◌^◌, None, Err, ◌↔◌, ◌⊎◌, [], if◌then◌else◌, All, IsTrue, IfOk, IfErr, OnErr, OnOk, count_by, length, nat_eq, nat_lt, slice_index, sum_by, vec_len, sum, map};
 ghost use Rattle.dataflow.specs.Machine.{start};
 ghost use Rattle.pool.specs.Seats.{view, seat_pool, pool_id, seats_of, IsSeatOf};
 ghost use Rattle.pool.specs.Views.{beginner};
 ghost use Rattle.task_code.specs.System.{code_system};
-ghost use Rattle.board_runs.specs.Report.{Tells};
+ghost use Rattle.board_runs.specs.Report.{Reports, Tells};
 ghost use Rattle.workers.specs.Reports.{IsReport};
 
 use crate::bells::Bells;
@@ -19,7 +19,7 @@ use crate::sums::Sums;
 use crate::work::crew;
 use board::board::Board;
 use board_program::program::Program;
-use board_runs::report::{Report, report_of};
+use board_runs::report::{Report, last_report};
 use pool::{Pool, PoolSeat};
 use std::alloc::{AllocError, Global};
 use std::marker::Brand;
@@ -96,7 +96,8 @@ fn gather<J: Job, E: Ledger, N: Ledger>(
     news: Share<N>,
 ) -> Result<Sums<J, E, N>, AllocError>
     requires { (events.parts ≡ 0) × (news.parts ≡ 0) × (events.amount ≡ 0) × (news.amount ≡ 0) }
-    ensures { IfOk result (λ s. vec_len s.seats ≡ vec_len hands) }
+    ensures seats { IfOk result (λ s. vec_len s.seats ≡ vec_len hands) }
+    ensures own { IfOk result (λ s. (w : ℕ) → w < 64 → slice_index s.tallies w ≡ sum_by (λ h. if nat_eq h.hand.worker w then h.hand.tally else 0) hands.items) }
 {
     let mut sums = Sums::new(alloc, events, news);
     for hand in hands {
@@ -106,9 +107,11 @@ fn gather<J: Job, E: Ledger, N: Ledger>(
 }
 
 /// Whether each thread counted the events that a report tells of it.
-fn is_counted(told: &[u32; 64], tallies: &[u64]) -> bool {
-    for worker in 0..tallies.len() {
-        if worker >= told.len() || told[worker] as u64 != tallies[worker] {
+fn is_counted(told: &[u32; 64], tallies: &[u64; 64]) -> bool
+    ensures { IsTrue result ↔ (told.now ≡ tallies.now) }
+{
+    for worker in 0..64usize {
+        if told[worker] as u64 != tallies[worker] {
             return false;
         }
     }
@@ -116,9 +119,9 @@ fn is_counted(told: &[u32; 64], tallies: &[u64]) -> bool {
 }
 
 /// The report of a board on which nothing is left to be done, where no item was lost on its way to the pool, and why there is none else.
-fn report(alloc: Global, board: &Board, stop: Option<Stop>, lost: u64) -> Result<Report, RunFault>
+fn report(alloc: Global, board: Board, stop: Option<Stop>, lost: u64) -> Result<Report, RunFault>
     ensures stopped { IfOk result (λ r. stop ≡ None) }
-    ensures tells { IfOk result (Tells board.now) }
+    ensures tells { IfOk result (Tells board) }
     ensures none_lost { IfOk result (λ r. lost ≡ 0) }
     ensures fault { IfErr result (λ e. e ≢ RunFault.BadCount) }
 {
@@ -134,13 +137,15 @@ fn report(alloc: Global, board: &Board, stop: Option<Stop>, lost: u64) -> Result
     if lost > 0 {
         return Err(RunFault::Memory);
     }
-    Ok(report_of(alloc, board)?)
+    Ok(last_report(alloc, board)?)
 }
 
 /// The report, where each thread counted the events that it tells of it.
-fn agreed(report: Report, tallies: &[u64]) -> Result<Report, RunFault>
+fn agreed(report: Report, tallies: &[u64; 64]) -> Result<Report, RunFault>
     ensures same { IfOk result (λ r. r ≡ report) }
-    ensures fault { IfErr result (λ e. e ≢ RunFault.BadCount) }
+    ensures counted { OnOk result (report.tallies ≡ tallies.now) }
+    ensures differs { OnErr result (report.tallies ≢ tallies.now) }
+    ensures fault { IfErr result (λ e. e ≡ RunFault.Stranger) }
 {
     if is_counted(&report.tallies, tallies) {
         Ok(report)
@@ -159,7 +164,8 @@ fn added(numbers: &[u64]) -> u64
 
 /// How many holes have a number.
 fn filled(holes: &[u64; 96]) -> u64
-    ensures { result ≡ count_by (λ n. nat_lt 0 n) holes.now }
+    ensures count { result ≡ count_by (λ n. nat_lt 0 n) holes.now }
+    ensures few { result ≤ 96 }
 {
     holes.iter().filter(|n| **n > 0).count() as u64
 }
@@ -167,8 +173,10 @@ fn filled(holes: &[u64; 96]) -> u64
 /// What the pool's counts come to, where the offered numbers are those that were drawn with those that are left.
 fn counted(offered: u64, full: u64, draws: &[u64], holes: &[u64; 96]) -> PoolCount
     requires { offered ≡ sum draws.now + count_by (λ n. nat_lt 0 n) holes.now }
-    ensures counts { (result.offered ≡ offered) × (result.full ≡ full) }
+    ensures offers { (result.offered ≡ offered) × (result.full ≡ full) }
+    ensures draws { (result.drawn ≡ sum draws.now) × (result.left ≡ count_by (λ n. nat_lt 0 n) holes.now) }
     ensures drawn { offered ≡ result.drawn + result.left }
+    ensures few { result.left ≤ 96 }
 {
     PoolCount {
         offered,
@@ -182,13 +190,15 @@ fn counted(offered: u64, full: u64, draws: &[u64], holes: &[u64; 96]) -> PoolCou
 fn settle<J: Job, E: Ledger, N: Ledger>(
     alloc: Global,
     pool: Pool,
-    desk: &mut Desk<J, E, N>,
+    desk: Desk<J, E, N>,
     sums: Sums<J, E, N>,
 ) -> Result<(Report, PoolCount), RunFault>
     requires pool { pool_id pool ≡ J.pool }
     requires seats { seats_of pool ≡ vec_len sums.seats }
     requires parts { (E.parts ≡ vec_len sums.seats) × (N.parts ≡ vec_len sums.seats) }
     ensures report { IfOk result (λ r. IsReport J.code J.limit J.engines J.workers r.0 r.1) }
+    ensures own { IfOk result (λ r. r.0.tallies ≡ sums.tallies) }
+    ensures counts { IfOk result (λ r. (r.1.offered ≡ sums.offered) × (r.1.full ≡ sums.full) × (r.1.drawn ≡ sum sums.draws.items)) }
     ensures fault { IfErr result (λ e. e ≢ RunFault.BadCount) }
 {
     let Sums {
@@ -202,10 +212,10 @@ fn settle<J: Job, E: Ledger, N: Ledger>(
         lost,
         of: _,
     } = sums;
-    let stop = desk.close(&mut events, &mut news);
+    let (board, stop) = desk.close(&mut events, &mut news);
     let rest = pool.close(seats);
-    let report = report(alloc, desk.board(), stop, lost)?;
-    let report = agreed(report, tallies.as_slice())?;
+    let report = report(alloc, board, stop, lost)?;
+    let report = agreed(report, &tallies)?;
     let count = counted(offered, full, draws.as_slice(), &rest.holes);
     Ok((report, count))
 }
@@ -239,7 +249,7 @@ fn work_on<
     }
 }
 
-/// A run on a floor on which nobody has worked.
+/// What a crew brought back from a floor on which nobody had worked.
 fn run_on<
     J: Job + Send + Sync,
     E: Ledger + Send + Sync,
@@ -249,7 +259,7 @@ fn run_on<
 >(
     rt: &R,
     alloc: Global,
-    pool: Pool,
+    pool: &Pool,
     seats: Vec<PoolSeat>,
     floor: &mut Mutex<Floor<J, E, N>>,
     mut events: Share<E>,
@@ -257,21 +267,20 @@ fn run_on<
     engines: u8,
     count: usize,
     gate: &G,
-) -> Result<(Report, PoolCount), RunFault>
-    requires count { (count ≤ 64) × (engines ≡ J.engines) × (count ≡ J.engines + J.workers) × (vec_len seats ≡ count) × (seats_of pool ≡ count) }
-    requires ledgers { (E.parts ≡ count) × (N.parts ≡ count) }
+) -> Result<Sums<J, E, N>, RunFault>
+    requires count { (count ≤ 64) × (engines ≡ J.engines) × (count ≡ J.engines + J.workers) × (vec_len seats ≡ count) }
     requires parts { (events.parts ≡ count) × (news.parts ≡ count) }
     requires amounts { (events.amount ≡ 0) × (news.amount ≡ 0) }
-    requires pool { pool_id pool ≡ J.pool }
-    requires seats { All (λ s. IsSeatOf pool s × (view s ≡ beginner 1)) seats.items }
-    ensures report { IfOk result (λ r. IsReport J.code J.limit J.engines J.workers r.0 r.1) }
+    requires pool { pool_id pool.now ≡ J.pool }
+    requires seats { All (λ s. IsSeatOf pool.now s × (view s ≡ beginner 1)) seats.items }
+    ensures seats { IfOk result (λ s. vec_len s.seats ≡ count) }
     ensures fault { IfErr result (λ e. e ≢ RunFault.BadCount) }
 {
     let hands = hands_of::<J, E, N>(alloc, engines, seats, &mut events, &mut news)?;
-    let back = work_on(rt, alloc, &pool, floor, gate, hands, count)?;
+    let back = work_on(rt, alloc, pool, floor, gate, hands, count)?;
     let desk = &mut floor.get_mut().desk;
     let sums = gather(alloc, desk, back, events, news)?;
-    settle(alloc, pool, desk, sums)
+    Ok(sums)
 }
 
 /// A run with its books and its pool.
@@ -309,9 +318,11 @@ fn run<
     let desk = Desk::<J, E, N>::new(board, opened, event_book, news_book);
     let crowds = Crowds::new(engines as usize, count.saturating_sub(engines as usize));
     let mut floor = Mutex::new(Floor { desk, crowds });
-    run_on(
-        rt, alloc, pool, seats, &mut floor, all_events, all_news, engines, count, gate,
-    )
+    let sums = run_on(
+        rt, alloc, &pool, seats, &mut floor, all_events, all_news, engines, count, gate,
+    )?;
+    let Floor { desk, crowds: _ } = floor.into_inner();
+    settle(alloc, pool, desk, sums)
 }
 
 /// Runs the program on threads: engines, with the numbers from 0 on, run control items, and workers, which follow, leaf items. At most
@@ -332,6 +343,7 @@ pub fn run_threads<R: Threads + Wait + Sync, G: Gate>(
     gate: &G,
 ) -> Result<(Report, PoolCount), RunFault>
     ensures report { IfOk result (λ r. IsReport program.now limit engines workers r.0 r.1) }
+    ensures reports { IfOk result (λ r. Reports program.now limit r.0) }
     ensures count { (result ≡ Err RunFault.BadCount) ↔ ((engines ≡ 0) ⊎ ((workers ≡ 0) ⊎ (64 < engines + workers))) }
 {
     let count = engines as usize + workers as usize;

@@ -1,10 +1,13 @@
-use Rattle.std.proofs.Common.{◌≡◌, ◌+◌, length, vec_len}
+use Rattle.std.proofs.Common.{◌≡◌, ◌+◌, length, reverse, vec_len}
+use Rattle.pool.specs.declared.rule.SeatView.{SeatView}
 use Rattle.pool.specs.Seats.{IsSeatOf, view}
+use Rattle.pool_offers.specs.Offering.{OfferedEach}
 use Rattle.pool_offers.proofs.Offers.offer_listed.Given as goal
 
 abbrev pub invariant-loop-fresh : goal.invariant-loop-fresh
 invariant-loop-fresh l = record {
   seat : IsSeatOf l.pool l.seat;
+  did : (end : SeatView) → OfferedEach (reverse l.list.items) (view l.seat) end → OfferedEach (reverse l.fn.self.list.items) (view l.fn.self.seat) end;
   offers : length (view l.seat).offered ≡ l.offered;
   takes : length (view l.seat).taken ≡ l.fn.self.drawn;
   each : l.offered + l.full + vec_len l.list ≡ l.fn.self.offered + l.fn.self.full + vec_len l.fn.self.list;

@@ -1,7 +1,10 @@
 use Rattle.std.proofs.Common.{arith, ◌≡◌, ◌∙◌, ap, subst, ℕ, ◌+◌, ◌-◌, IfOk}
+use Rattle.std.proofs.lemmas.Result.{IfOk-weaker}
 use Rattle.board.specs.Board.{Seen}
 use Rattle.task_code.specs.Code.{Code}
+use Rattle.board_runs.specs.Report.{Reports}
 use Rattle.workers.specs.Reports.{IsReport}
+use Rattle.workers.proofs.Threads.{reports}
 use Rattle.workers.proofs.run.run_threads.Goals as goal
 
 pub returns-clause-report : goal.returns-clause-report
@@ -15,3 +18,11 @@ returns-clause-report g c =
     subst (λ (C : Code). IfOk c.run.result (λ r. IsReport C c.args.limit e w r.0 r.1)) code
     (subst (λ (n : ℕ). IfOk c.run.result (λ r. IsReport b.code n e w r.0 r.1)) limit
     (subst (λ (n : ℕ). IfOk c.run.result (λ r. IsReport b.code b.limit e n r.0 r.1)) others c.run.ensures.report))
+
+pub returns-clause-reports : goal.returns-clause-reports
+returns-clause-reports g c =
+    let code = c.args.program.now in
+    let limit = c.args.limit in
+    let e = c.args.engines in
+    let w = c.args.workers in
+    IfOk-weaker c.run.result (λ r. IsReport code limit e w r.0 r.1) (λ r. Reports code limit r.0) (λ r t. reports code limit e w r.0 r.1 t) (returns-clause-report g c)

@@ -1,23 +1,34 @@
 use Rattle.std.proofs.Common.{rules, arith, ◌≡◌, ◌∙◌, ◌+◌, subst, None, ℕ}
+use Rattle.board_runs.specs.Report.{Tells}
 use Rattle.workers.specs.Threads.{RunsTo}
+use Rattle.workers.proofs.Threads.{is_run, newly_told}
 use Rattle.workers.proofs.run.settle.Goals as goal
 
 pub returns-clause-report : goal.returns-clause-report
 returns-clause-report g c =
-    let b = c.close-stop.new.self.board in
+    let C = g.J.Job.code in
+    let e = g.J.Job.engines in
+    let k = g.J.Job.workers in
+    let b = c.close-board.result.0 in
     let s = c.args.sums in
-    let stopped : c.close-stop.result ≡ None = search rules in
+    let stopped : c.close-board.result.1 ≡ None = search rules in
     let none_lost : s.lost ≡ 0 = search rules in
-    let made = c.counted-count.ensures in
+    let offers = c.counted-count.ensures.offers in
     let p = c.counted-count.result in
-    let count : s.news.amount ≡ p.offered + p.full = omega (arith, s.told, none_lost, made.counts.0, made.counts.1) in
+    let count : s.news.amount ≡ p.offered + p.full = omega (arith, s.told, none_lost, offers.0, offers.1) in
+    let run : RunsTo C e k b.history (p.offered + p.full) b.state = subst (λ (n : ℕ). RunsTo C e k b.history n b.state) count c.close-board.ensures.run in
+    let tells : Tells b c.in_ok-report-2.report = search rules in
     record {
       board = b;
-      code = c.close-stop.ensures.code.0;
-      limit_is = c.close-stop.ensures.code.1;
-      within = c.close-stop.ensures.within;
-      run = subst (λ (n : ℕ). RunsTo g.J.Job.code g.J.Job.engines g.J.Job.workers b.history n b.state) count c.close-stop.ensures.run;
-      no_back = c.close-stop.ensures.no_back stopped;
-      tells = search rules;
-      drawn = made.counts.0 ∙ made.drawn;
+      code = c.close-board.ensures.code.0;
+      limit_is = c.close-board.ensures.code.1;
+      within = c.close-board.ensures.within;
+      steps = is_run C e k b.history (p.offered + p.full) b.state run;
+      run = run;
+      newly = newly_told C e k b.history (p.offered + p.full) b.state run;
+      no_back = c.close-board.ensures.no_back stopped;
+      tells = tells;
+      tallies = tells.tallies.each;
+      drawn = offers.0 ∙ c.counted-count.ensures.drawn;
+      few_left = c.counted-count.ensures.few;
     }

@@ -1,11 +1,12 @@
 use Rattle.std.proofs.Common.{rules, arith, ap, ◌∙◌, refl, ◌+◌}
 use Rattle.board.specs.Board.{Accepts}
 use Rattle.dataflow.specs.Machine.{End}
+use Rattle.workers.proofs.Listing.{either_way}
 use Rattle.workers.proofs.Threads.{ended, counted_more, no_back_more}
 use Rattle.workers.proofs.desk.Desk.end.Goals as goal
 
 pub overflow_add-told : goal.overflow_add-told
-overflow_add-told g c = omega (arith, c.if-self-ge-MOST.false, c.list_fresh-count.ensures.few)
+overflow_add-told g c = omega (arith, c.if-self-ge-MOST.false, c.count_fresh-count.ensures.few)
 
 pub invariant_of-self-2 : goal.invariant_of-self-2
 invariant_of-self-2 g c =
@@ -21,8 +22,8 @@ invariant_of-self-2 g c =
       some = k.some;
       counted = omega (arith, more, k.counted, c.add.ensures.total, c.audit.ensures.total);
       told_is = omega (arith, k.told_is, c.add-2.ensures.total, c.audit-2.ensures.total);
-      fits = omega (arith, c.if-self-ge-MOST.false, c.list_fresh-count.ensures.few);
-      runs = ended C g.J.Job.engines g.J.Job.workers c.args.worker c.args.finished.item c.self.inside.told (c.self.inside.told + c.list_fresh-count.result) old new k.code k.runs a c.requires.theirs (ap (λ n. c.self.inside.told + n) c.list_fresh-count.ensures.count);
+      fits = omega (arith, c.if-self-ge-MOST.false, c.count_fresh-count.ensures.few);
+      runs = ended C g.J.Job.engines g.J.Job.workers c.args.worker c.args.finished.item c.self.inside.told (c.self.inside.told + c.count_fresh-count.result) old new k.code k.runs a c.requires.theirs (ap (λ n. c.self.inside.told + n) c.count_fresh-count.ensures.count);
       no_back = λ going. no_back_more old new (End c.args.worker c.args.finished.item) a refl (k.no_back going);
       items = λ work h. c.work_stays.ensures.stays old new c.history-before.ensures.whole c.history-before.ensures.replays (End c.args.worker c.args.finished.item) a work (k.items work h);
     }
@@ -41,7 +42,10 @@ pub returns-clause-told : goal.returns-clause-told
 returns-clause-told g c =
     let k = c.self.invariant in
     let amount = c.audit-2.ensures.amount ∙ c.add-2.ensures.amount in
-    (amount, omega (arith, amount, k.told_is, c.add-2.ensures.total, c.audit-2.ensures.bound, c.if-self-ge-MOST.false, c.list_fresh-count.ensures.few), c.list_fresh-count.ensures.listed)
+    (amount, omega (arith, amount, k.told_is, c.add-2.ensures.total, c.audit-2.ensures.bound, c.if-self-ge-MOST.false, c.count_fresh-count.ensures.few), omega (arith, c.list_fresh-listed.ensures.len, c.count_fresh-count.ensures.count))
+
+pub returns-clause-listed : goal.returns-clause-listed
+returns-clause-listed g c = either_way c.list_fresh-listed.result c.list_fresh-listed.ensures.listed c.list_fresh-listed.ensures.refused
 
 pub end_on-requires-clause-items : goal.end_on-requires-clause-items
 end_on-requires-clause-items g c = c.self.invariant.items
