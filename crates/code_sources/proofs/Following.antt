@@ -112,13 +112,13 @@ module _ (C : Code) (l : Layout) (g : Scope) (k : ℕ) (all ps : List Part) (onc
   Head qs (inner c) = Before g qs c.form
   Head qs (calls c) = Unit {0}
 
-  head_of : {qs xs : List Part} (x : Part) → Ordered g qs (x ∷ xs) → Head qs x
-  head_of (inner c) h = h.0
-  head_of (calls c) h = tt
+  head_of : (qs xs : List Part) (x : Part) → Ordered g qs (x ∷ xs) → Head qs x
+  head_of qs xs (inner c) h = h.0
+  head_of qs xs (calls c) h = tt
 
-  tail_of : {qs xs : List Part} (x : Part) → Ordered g qs (x ∷ xs) → Ordered g (x ∷ qs) xs
-  tail_of (inner c) h = h.1
-  tail_of (calls c) h = h
+  tail_of : (qs xs : List Part) (x : Part) → Ordered g qs (x ∷ xs) → Ordered g (x ∷ qs) xs
+  tail_of qs xs (inner c) h = h.1
+  tail_of qs xs (calls c) h = h
 
   grown : {qs : List Part} (x : Part) → Among qs (x ∷ qs)
   grown x p m = later m
@@ -137,16 +137,16 @@ module _ (C : Code) (l : Layout) (g : Scope) (k : ℕ) (all ps : List Part) (onc
       | inr j ↦ (let r = s.entries d j e in let less = r.1 in (r.0, omega arith, r.2, r.3))
     ];
     names = λ d m. elim (split_in m) [
-      | inl q ↦ subst (λ (z : Cell). Before g (inner c ∷ qs) z.form) (sym (inner_same q)) (before_more c.form (grown (inner c)) h)
-      | inr j ↦ before_more d.form (grown (inner c)) (s.names d j)
+      | inl q ↦ subst (λ (z : Cell). Before g (inner c ∷ qs) z.form) (sym (inner_same q)) (before_more g qs (inner c ∷ qs) c.form (grown (inner c)) h)
+      | inr j ↦ before_more g qs (inner c ∷ qs) d.form (grown (inner c)) (s.names d j)
     ];
   }
 
   with_call : {a a' : ℕ} {qs : List Part} (c : Call) → calls c ∈ ps → SoFar a qs → a ≤ a' → SoFar a' (calls c ∷ qs)
-  with_call c i s le = record {
+  with_call {qs = qs} c i s le = record {
     among_parts = among_more (calls c) i s.among_parts;
     entries = λ d m e. elim (split_in m) [ inl q ↦ absurd (cc (q)) | inr j ↦ (let r = s.entries d j e in let less = r.1 in (r.0, omega arith, r.2, r.3)) ];
-    names = λ d m. elim (split_in m) [ inl q ↦ absurd (cc (q)) | inr j ↦ before_more d.form (grown (calls c)) (s.names d j) ];
+    names = λ d m. elim (split_in m) [ inl q ↦ absurd (cc (q)) | inr j ↦ before_more g qs (calls c ∷ qs) d.form (grown (calls c)) (s.names d j) ];
   }
 
   no_entry : {A : Type 0} (n : ℕ) (e : Expr) → HasEntry l (record { node = n; form = compute e }) → l.plain n ≡ true → A
@@ -188,8 +188,8 @@ module _ (C : Code) (l : Layout) (g : Scope) (k : ℕ) (all ps : List Part) (onc
   walk : {at : ℕ} {p : ℤ} (qs xs : List Part) {es : List ℕ} (a b i m : ℕ) → Among xs ps → Ordered g qs xs → PartsAs C l k all at p xs es → Range es a b → SoFar a qs → In i es → is_cell (entry C i).act ≡ true → In (here (scalar m)) (needs_of (entry C i)) → Given m i
   walk qs [] a b i m f h no_part r s u cell need = absurd u
   walk qs (x ∷ xs) a b i m f h (one_part {is = is} {js = js} one rest e) r s u cell need =
-      step qs js a b i m one (f x first) (head_of x h) (subst (λ (z : List ℕ). Range z a b) e r) s (subst (λ (z : List ℕ). In i z) e u) cell need
-      (λ a' r' s' u'. walk (x ∷ qs) xs a' b i m (λ p j. f p (later j)) (tail_of x h) rest r' s' u' cell need)
+      step qs js a b i m one (f x first) (head_of qs xs x h) (subst (λ (z : List ℕ). Range z a b) e r) s (subst (λ (z : List ℕ). In i z) e u) cell need
+      (λ a' r' s' u'. walk (x ∷ qs) xs a' b i m (λ p j. f p (later j)) (tail_of qs xs x h) rest r' s' u' cell need)
 
   start : (a : ℕ) → SoFar a []
   start a = record { among_parts = λ p m. elim m [ ]; entries = λ d m e. elim m [ ]; names = λ d m. elim m [ ] }
@@ -235,8 +235,8 @@ module _ (C : Code) (l : Layout) (T : Table) where
     | inr u ↦ absurd (f (subst (λ (z : ℕ). is_cell (entry C z).act ≡ true) (only u) cell))
   ]
 
-  by_act : {j : ℕ} {a : Act} → (entry C j).act ≡ a → is_cell (entry C j).act ≡ true → is_cell a ≡ true
-  by_act e h = subst (λ (z : Act). is_cell z ≡ true) e h
+  by_act : (j : ℕ) {a : Act} → (entry C j).act ≡ a → is_cell (entry C j).act ≡ true → is_cell a ≡ true
+  by_act j e h = subst (λ (z : Act). is_cell z ≡ true) e h
 
   none_placed : {k j i : ℕ} {st : Stmt} {es : List ℕ} → es ≡ j ∷ [] → In i es → (is_cell (entry C j).act ≡ true → ⊥) → is_cell (entry C i).act ≡ true → Placed k st i
   none_placed {i = i} e h f cell = absurd (f (subst (λ (z : ℕ). is_cell (entry C z).act ≡ true) (only (subst (λ (z : List ℕ). In i z) e h)) cell))
@@ -244,12 +244,12 @@ module _ (C : Code) (l : Layout) (T : Table) where
   stmt_placed : {k i : ℕ} {st : Stmt} {es : List ℕ} {vs : List Variable} → StmtLaid C l T k st es vs → In i es → Ascending es → is_cell (entry C i).act ≡ true → Placed k st i
   stmt_placed (declares_laid b) h r cell = absurd h
   stmt_placed (call_laid as') h r cell = record { at = _; priority = _; numbers = _; parts_as = as'; among_them = h; ascend = r }
-  stmt_placed {k} (simple_laid j {a = a} z as' en q e) h r cell = placed j as' e h r (λ c. no_simple_cell l k a z (by_act en.act_is c)) cell
-  stmt_placed (branch_laid j as' en mk st e) h r cell = placed j as' e h r (λ c. absurd (let q = by_act en.act_is c in cc (q))) cell
-  stmt_placed (branches_laid j as' en mk st su e) h r cell = placed j as' e h r (λ c. absurd (let q = by_act en.act_is c in cc (q))) cell
-  stmt_placed (range_laid j as' en mk st e) h r cell = placed j as' e h r (λ c. absurd (let q = by_act en.act_is c in cc (q))) cell
-  stmt_placed (each_laid j en mk st e) h r cell = none_placed e h (λ c. absurd (let q = by_act en.act_is c in cc (q))) cell
-  stmt_placed (wait_laid j hd en st e) h r cell = none_placed e h (λ c. absurd (let q = by_act en.act_is c in cc (q))) cell
+  stmt_placed {k} (simple_laid j {a = a} z as' en q e) h r cell = placed j as' e h r (λ c. no_simple_cell l k a z (by_act j en.act_is c)) cell
+  stmt_placed (branch_laid j as' en mk st e) h r cell = placed j as' e h r (λ c. absurd (let q = by_act j en.act_is c in cc (q))) cell
+  stmt_placed (branches_laid j as' en mk st su e) h r cell = placed j as' e h r (λ c. absurd (let q = by_act j en.act_is c in cc (q))) cell
+  stmt_placed (range_laid j as' en mk st e) h r cell = placed j as' e h r (λ c. absurd (let q = by_act j en.act_is c in cc (q))) cell
+  stmt_placed (each_laid j en mk st e) h r cell = none_placed e h (λ c. absurd (let q = by_act j en.act_is c in cc (q))) cell
+  stmt_placed (wait_laid j hd en st e) h r cell = none_placed e h (λ c. absurd (let q = by_act j en.act_is c in cc (q))) cell
 
   -- the statement that a cell's entry is of
   stmts_placed : {k i : ℕ} {sts : List Stmt} {es : List ℕ} {own : List Variable} → StmtsLaid C l T k sts es own → In i es → Ascending es → is_cell (entry C i).act ≡ true → (st : Stmt) × (st ∈ sts) × Placed k st i

@@ -166,8 +166,8 @@ module _ {s : Core} {fs : List Kinds} {ds : List (ℕ × Bool)} (C : Code) (l : 
   -- TURNS
 
   -- a way into a body, that is through a step
-  by_act : {i : ℕ} {a : Act} (y : Way × ℕ) → (entry C i).act ≡ a → In y (ways (entry C i).act) → In y (ways a)
-  by_act y e h = subst (λ (z : Act). In y (ways z)) e h
+  by_act : (i : ℕ) {a : Act} (y : Way × ℕ) → (entry C i).act ≡ a → In y (ways (entry C i).act) → In y (ways a)
+  by_act i y e h = subst (λ (z : Act). In y (ways z)) e h
 
   no_variable : {A : Type 0} {t k : ℕ} {b : Block} {w : Opener} (v : Variable) → Stands C l T k b [] w t → In v (T.variables_of t) → A
   no_variable v st h = absurd (subst (λ (vs : List Variable). In v vs) st.variables h)
@@ -186,16 +186,16 @@ module _ {s : Core} {fs : List Kinds} {ds : List (ℕ × Bool)} (C : Code) (l : 
   turns_of i lw v e st h = record { opener = i; opens = st.opener; loop = lw; loops = e; variable = subst (λ (vs : List Variable). In v vs) st.variables h }
 
   own_turned : {t k i : ℕ} {st : Stmt} (w : Way) (v : Variable) → OwnOf C l T k st i → In {X = Way × ℕ} (w, t) (ways (entry C i).act) → In v (T.variables_of t) → IsTurns C t v
-  own_turned {t} {k} w v (own_simple {a = a} z en nd) p h = no_simple_way l k a (w, t) z (by_act (w, t) en.act_is p)
-  own_turned {t} w v (own_branch en mk st) p h = no_variable v (stands_at (only_way (by_act (w, t) en.act_is p)) st) h
-  own_turned {t} w v (own_branches {t = x} {u = y} en mk st su) p h = by (by_act (w, t) en.act_is p)
+  own_turned {t} {k} {i} w v (own_simple {a = a} z en nd) p h = no_simple_way l k a (w, t) z (by_act i (w, t) en.act_is p)
+  own_turned {t} {i = i} w v (own_branch en mk st) p h = no_variable v (stands_at (only_way (by_act i (w, t) en.act_is p)) st) h
+  own_turned {t} {i = i} w v (own_branches {t = x} {u = y} en mk st su) p h = by (by_act i (w, t) en.act_is p)
     where
       by : In {X = Way × ℕ} (w, t) ((Through, x) ∷ (Through, y) ∷ []) → IsTurns C t v
       by (inl e) = no_variable v (stands_at (way_body e) st) h
       by (inr i) = no_variable v (stands_at (only_way i) su) h
-  own_turned {t} {i = i} w v (own_range en mk st) p h = turns_of i _ v (ap loop_of en.act_is) (stands_at (only_way (by_act (w, t) en.act_is p)) st) h
-  own_turned {t} {i = i} w v (own_each en mk st) p h = turns_of i _ v (ap loop_of en.act_is) (stands_at (only_way (by_act (w, t) en.act_is p)) st) h
-  own_turned {t} w v (own_wait hd en st) p h = no_variable v (stands_at (only_way (by_act (w, t) en.act_is p)) st) h
+  own_turned {t} {i = i} w v (own_range en mk st) p h = turns_of i _ v (ap loop_of en.act_is) (stands_at (only_way (by_act i (w, t) en.act_is p)) st) h
+  own_turned {t} {i = i} w v (own_each en mk st) p h = turns_of i _ v (ap loop_of en.act_is) (stands_at (only_way (by_act i (w, t) en.act_is p)) st) h
+  own_turned {t} {i = i} w v (own_wait hd en st) p h = no_variable v (stands_at (only_way (by_act i (w, t) en.act_is p)) st) h
 
   only_at : (i : ℕ) (y : Way × ℕ) (j : ℕ) (a : Act) → In i (j ∷ []) → (entry C j).act ≡ a → In y (ways (entry C i).act) → In y (ways a)
   only_at i y j a (inl e) q h = subst (λ (z : Act). In y (ways z)) q (subst (λ (z : ℕ). In y (ways (entry C z).act)) e h)

@@ -118,13 +118,13 @@ module _ {s : Core} {fs : List Kinds} {ds : List (ℕ × Bool)} (C : Code) (l : 
   fill_target k n ms x (Co.name y) = inl refl
   fill_target k n ms x (Co.operator y es) = inl refl
 
-  only_owner : {k : ℕ} {b : Bool} {o p : Owned} → o ∈ (p ∷ []) → owned_as k b p ≡ owned_as k b o
-  only_owner {k} {b} m = elim (split_in m) [ inl e ↦ ap (λ (z : Owned). owned_as k b z) (sym e) | inr i ↦ elim i [ ] ]
+  only_owner : (k : ℕ) (b : Bool) {o p : Owned} → o ∈ (p ∷ []) → owned_as k b p ≡ owned_as k b o
+  only_owner k b m = elim (split_in m) [ inl e ↦ ap (λ (z : Owned). owned_as k b z) (sym e) | inr i ↦ elim i [ ] ]
 
   simple_held : {t k m : ℕ} (j : ℕ) (a : Action) (o : Owned) → Rattle.code_rules.specs.IsCodeOf.IsSimple a → In j (body C t).entries → (entry C j).act ≡ simple_act l k (own_needs l k a) a → o ∈ targets_of a → Held t m k o
-  simple_held {k = k} j (assign x e) o z h q i = stored j o (name_as k false x) false h q (inl refl) (only_owner i)
-  simple_held {k = k} j (fill x e) o z h q i = stored j o (name_as k true x) true h q (fill_target k (entry C j).node (own_needs l k (fill x e)) x (own_expr e)) (only_owner i)
-  simple_held {k = k} j (insert x y e) o z h q i = stored j o (name_as k true x) true h q (inl refl) (only_owner i)
+  simple_held {k = k} j (assign x e) o z h q i = stored j o (name_as k false x) false h q (inl refl) (only_owner k false i)
+  simple_held {k = k} j (fill x e) o z h q i = stored j o (name_as k true x) true h q (fill_target k (entry C j).node (own_needs l k (fill x e)) x (own_expr e)) (only_owner k true i)
+  simple_held {k = k} j (insert x y e) o z h q i = stored j o (name_as k true x) true h q (inl refl) (only_owner k true i)
   simple_held j (print p e) o z h q i = elim i [ ]
   simple_held j (assert p e) o z h q i = elim i [ ]
   simple_held j (declare v) o z h q i = absurd z

@@ -20,8 +20,8 @@ ghost use Rattle.task_code.specs.Code.{Code};
 /// scalar stores it by itself, or always opens a block and hands the right on to whichever it opens. And a cell, or an element that is read,
 /// stands behind those whose values it needs.
 pub fn laid_code_finds_sources()
-    ensures sources { (t : Table) (tree : Tree) (fs : List Kinds) (ds : List (ℕ × Bool)) (C : Code) → IsPlaced tree → WellTyped tree t → SinglyAssigned (core t tree)
-        → KindsOf fs tree → DeclaredIn ds tree → IsEmitted (core t tree) fs ds C → FindsSources C }
-    ensures order { (t : Table) (tree : Tree) (fs : List Kinds) (ds : List (ℕ × Bool)) (C : Code) → IsPlaced tree → WellTyped tree t → SinglyAssigned (core t tree)
-        → IsEmitted (core t tree) fs ds C → CellsFollow C }
+    ensures sources { (t : Table) (tree : Tree) (fs : List Kinds) (ds : List (ℕ × Bool)) (C : Code) → IsPlaced tree → WellTyped tree t
+        → SinglyAssigned (core t tree) → KindsOf fs tree → DeclaredIn ds tree → IsEmitted (core t tree) fs ds C → FindsSources C }
+    ensures order { (t : Table) (tree : Tree) (fs : List Kinds) (ds : List (ℕ × Bool)) (C : Code) → IsPlaced tree → WellTyped tree t
+        → SinglyAssigned (core t tree) → IsEmitted (core t tree) fs ds C → CellsFollow C }
 {}
